@@ -1,7 +1,7 @@
 //! Tests of clocks, and of the verdicts on journals written by hand.
 
 ghost use Rattle.sp_journal.specs.Births.{occurrences, IsNameable};
-ghost use Rattle.sp_judge.specs.Prefixes.{IsQuiet};
+ghost use Rattle.sp_judge.specs.Prefixes.{WaitersAreSilent};
 
 use sp_base::{ChanName, Fault, List, Memory, Pair, ProcName};
 use sp_journal::{End, Entry, Event, Journal, Verdict, Way};
@@ -71,7 +71,7 @@ fn a_clock_merged_has_the_greater_counts(rt: HostRuntime) -> Result<(), Fail> {
 // Whether this is the verdict on a journal and an end.
 fn is_judged(alloc: Global, journal: &Journal, end: &End, wanted: &Verdict) -> Result<bool, Memory>
     requires nameable { IsNameable journal.now }
-    requires quiet { IsQuiet (occurrences journal.now) }
+    requires quiet { WaitersAreSilent (occurrences journal.now) }
 {
     let verdict = verdict_of(alloc, journal, end)?;
     Ok(verdict == *wanted)
@@ -80,7 +80,7 @@ fn is_judged(alloc: Global, journal: &Journal, end: &End, wanted: &Verdict) -> R
 // Whether the journal of a run that was done is ordered.
 fn is_ordered(alloc: Global, journal: Journal) -> Result<bool, Memory>
     requires nameable { IsNameable journal }
-    requires quiet { IsQuiet (occurrences journal) }
+    requires quiet { WaitersAreSilent (occurrences journal) }
 {
     is_judged(alloc, &journal, &End::Done, &Verdict::Ordered)
 }
@@ -107,7 +107,7 @@ fn is_race(
     later: u64,
 ) -> Result<bool, Memory>
     requires nameable { IsNameable journal }
-    requires quiet { IsQuiet (occurrences journal) }
+    requires quiet { WaitersAreSilent (occurrences journal) }
 {
     let wanted = race(alloc, way, earlier, later);
     is_judged(alloc, &journal, &End::Done, &wanted)
@@ -116,7 +116,7 @@ fn is_race(
 // Whether the journal of a run that ended in a deadlock is ordered.
 fn is_ordered_in_deadlock(alloc: Global, journal: Journal) -> Result<bool, Memory>
     requires nameable { IsNameable journal }
-    requires quiet { IsQuiet (occurrences journal) }
+    requires quiet { WaitersAreSilent (occurrences journal) }
 {
     let waits = End::Deadlock(List::new(alloc));
     is_judged(alloc, &journal, &waits, &Verdict::Ordered)
@@ -125,7 +125,7 @@ fn is_ordered_in_deadlock(alloc: Global, journal: Journal) -> Result<bool, Memor
 // Whether the journal of a run that ended by a fault of this process is not judged.
 fn is_unjudged(alloc: Global, journal: Journal, process: &[Pair]) -> Result<bool, Memory>
     requires nameable { IsNameable journal }
-    requires quiet { IsQuiet (occurrences journal) }
+    requires quiet { WaitersAreSilent (occurrences journal) }
 {
     let process = ProcName {
         pairs: List::from_slice(alloc, process)?,

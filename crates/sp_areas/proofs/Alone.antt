@@ -15,14 +15,14 @@ use Rattle.sp_code.specs.declared.code.ForkTable.{ForkTable}
 use Rattle.sp_code.specs.declared.code.Parts.{Parts}
 use Rattle.sp_code.specs.Machine.{layout_of}
 use Rattle.sp_rules.specs.Areas.{instr_at, child_of}
-use Rattle.sp_areas.specs.Least.{IsLeast, Upto, least}
+use Rattle.sp_areas.specs.LeastPlaces.{IsLeast, Upto, earlier_of}
 use Rattle.sp_rules.specs.Named.{Missing, NoProgram, Sized, Indexed, IsLayout, IsChild, is_some, has_sizes, is_program}
 use Rattle.sp_rules.specs.Named.{names_there}
 use Rattle.sp_areas.specs.Blocks.{IsNumbered, number_of}
 use Rattle.sp_areas.specs.Alone.{BreaksAlone, LayoutFails, ChildFails, ChildrenFail, TableFails, AreFlags, layout_fails}
 use Rattle.sp_areas.specs.Alone.{child_fails, first_fails, flag_at, named_in, table_by, is_table}
 use Rattle.sp_areas.proofs.BlockLaws.{has_layout}
-use Rattle.sp_areas.proofs.Leasts.{same, both}
+use Rattle.sp_areas.proofs.Leasts.{least_of_same, both}
 
 -- ---- tests
 
@@ -249,30 +249,31 @@ module _ (c : Parts) (first : BTreeMap ℕ ℕ) (numbered : IsNumbered first c.l
 
   -- the least of the passes is the least of what is wrong
   pub least_alone : (a b d e : Option ℕ) → IsLeast Names a → IsLeast Program b → IsLeast Layouts d → IsLeast Tables e
-      → IsLeast (BreaksAlone c) (least (least a b) (least d e))
+      → IsLeast (BreaksAlone c) (earlier_of (earlier_of a b) (earlier_of d e))
   least_alone a b d e ha hb hd he =
-      same (λ p. (Names p ⊎ Program p) ⊎ (Layouts p ⊎ Tables p)) (BreaksAlone c)
-      (least (least a b) (least d e)) found finds
+      least_of_same (λ p. (Names p ⊎ Program p) ⊎ (Layouts p ⊎ Tables p)) (BreaksAlone c)
+      (earlier_of (earlier_of a b) (earlier_of d e)) found finds
       (both (λ p. Names p ⊎ Program p) (λ p. Layouts p
-      ⊎ Tables p) (least a b) (least d e) (both Names Program a b ha hb) (both Layouts Tables d e hd he))
+      ⊎ Tables p) (earlier_of a b) (earlier_of d e) (both Names Program a b ha hb) (both Layouts Tables d e hd he))
 
 -- the same over what the passes are given, which are the code's lists
-abbrev Passed : Parts → BTreeMap ℕ ℕ → (forked foralled : List Bool) → (a b d e : Option ℕ) → List Instr → List Layout
+abbrev PassesDecide : Parts → BTreeMap ℕ ℕ → (forked foralled : List Bool) → (a b d e : Option ℕ) → List Instr
+    → List Layout
     → List ForkTable → Bool → Type 0
-Passed c first forked foralled a b d e os ls fs t =
+PassesDecide c first forked foralled a b d e os ls fs t =
     IsNumbered first ls → AreFlags false os (length fs) forked → AreFlags true os (length fs) foralled
     → IsLeast (λ p. names_there c (instr_at c p) ≡ false) a → IsLeast (λ p. (0 ≡ p) × (not t ≡ true)) b
     → IsLeast (Upto (LayoutFails (layout_fails (length os)) ls) (length ls)) d
     → IsLeast (Upto (TableFails (length os) forked foralled fs) (length fs)) e
-    → IsLeast (BreaksAlone c) (least (least a b) (least d e))
+    → IsLeast (BreaksAlone c) (earlier_of (earlier_of a b) (earlier_of d e))
 
 pub passed : (c : Parts) (first : BTreeMap ℕ ℕ) (forked foralled : List Bool) (a b d e : Option ℕ) (os : List Instr)
     (ls : List Layout) (fs : List ForkTable) (t : Bool)
     → os ≡ c.instrs → ls ≡ c.layouts → fs ≡ c.forks → t ≡ option.is_some (number_of first 0)
-    → Passed c first forked foralled a b d e os ls fs t
+    → PassesDecide c first forked foralled a b d e os ls fs t
 passed c first forked foralled a b d e os ls fs t eo el ef et =
-    subst (λ (x : List Instr). Passed c first forked foralled a b d e x ls fs t) (sym eo)
-    (subst (λ (x : List Layout). Passed c first forked foralled a b d e c.instrs x fs t) (sym el)
-    (subst (λ (x : List ForkTable). Passed c first forked foralled a b d e c.instrs c.layouts x t) (sym ef)
-    (subst (λ (x : Bool). Passed c first forked foralled a b d e c.instrs c.layouts c.forks x) (sym et)
+    subst (λ (x : List Instr). PassesDecide c first forked foralled a b d e x ls fs t) (sym eo)
+    (subst (λ (x : List Layout). PassesDecide c first forked foralled a b d e c.instrs x fs t) (sym el)
+    (subst (λ (x : List ForkTable). PassesDecide c first forked foralled a b d e c.instrs c.layouts x t) (sym ef)
+    (subst (λ (x : Bool). PassesDecide c first forked foralled a b d e c.instrs c.layouts c.forks x) (sym et)
     (λ n g h. least_alone c first n forked foralled g h a b d e))))

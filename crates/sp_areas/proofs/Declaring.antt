@@ -12,12 +12,12 @@ use Rattle.sp_code.specs.declared.code.Layout.{Layout}
 use Rattle.sp_code.specs.declared.code.ChildTable.{ChildTable}
 use Rattle.sp_code.specs.declared.code.ForkTable.{ForkTable}
 use Rattle.sp_code.specs.declared.code.Parts.{Parts}
-use Rattle.sp_rules.specs.Areas.{given, child_of}
-use Rattle.sp_rules.specs.Named.{Declared, InLayout, OfChild, IsBefore, declared, declared_in, declared_by}
+use Rattle.sp_rules.specs.Areas.{on_option, child_of}
+use Rattle.sp_rules.specs.Named.{Declared, InLayout, OfChild, IsBefore, declaration_at, declared_in, declared_by}
 use Rattle.sp_rules.specs.Named.{DeclaredTwice, IsChild}
-use Rattle.sp_areas.specs.Least.{IsLeast, least}
-use Rattle.sp_areas.specs.Twice.{IsDeclaredBefore, IsLate, IsLateBefore, Knows, Notes, is_late}
-use Rattle.sp_areas.proofs.Leasts.{same, both}
+use Rattle.sp_areas.specs.LeastPlaces.{IsLeast, earlier_of}
+use Rattle.sp_areas.specs.Twice.{IsDeclaredBefore, IsLate, IsLateBefore, SeenBefore, NotesVariable, is_late}
+use Rattle.sp_areas.proofs.Leasts.{least_of_same, both}
 
 -- a variable is in the set after another one is put in, if it is that one or was in it
 added_split : (a b : Bool) → cond a true b ≡ true → (a ≡ true) ⊎ (b ≡ true)
@@ -39,15 +39,15 @@ if_ok P Q (Err e) f h = tt
 module _ (c : Parts) where
   -- what is declared before the one is declared before the other
   abbrev Precedes : Declared → Declared → Type 0
-  Precedes d n = (f : Declared) (x q : ℕ) → declared c f ≡ Some (x, q) → IsBefore f d → IsBefore f n
+  Precedes d n = (f : Declared) (x q : ℕ) → declaration_at c f ≡ Some (x, q) → IsBefore f d → IsBefore f n
 
   -- nothing is declared from the one to the other
-  pub moves : (d n : Declared) (s : BTreeSet ℕ) (o : Option ℕ) → Precedes d n → Precedes n d → Knows c d s o
-      → Knows c n s o
+  pub moves : (d n : Declared) (s : BTreeSet ℕ) (o : Option ℕ) → Precedes d n → Precedes n d → SeenBefore c d s o
+      → SeenBefore c n s o
   moves d n s o to back k = record {
     has = has;
     just = just;
-    lowest = same (IsLateBefore c d) (IsLateBefore c n) o up
+    lowest = least_of_same (IsLateBefore c d) (IsLateBefore c n) o up
         down k.lowest;
   }
     where
@@ -64,12 +64,12 @@ module _ (c : Parts) where
       down p (e, b, l) = (e, back e l.0 p l.1 b, l)
 
   -- one is the next one
-  pub record IsNext (d n : Declared) : Type 0 where
+  pub record IsNextDeclared (d n : Declared) : Type 0 where
     pub split : (f : Declared) → IsBefore f n → IsBefore f d ⊎ (f ≡ d)
     pub before : (f : Declared) → IsBefore f d → IsBefore f n
     pub itself : IsBefore d n
 
-  pub next_layout : (j k : ℕ) → IsNext (InLayout j k) (InLayout j (k + 1))
+  pub next_layout : (j k : ℕ) → IsNextDeclared (InLayout j k) (InLayout j (k + 1))
   next_layout j k = record { split = split; before = before; itself = inr (refl, omega arith) }
     where
       at : (a b : ℕ) → a ≡ j → b < k + 1 → IsBefore (InLayout a b) (InLayout j k) ⊎ (InLayout a b ≡ InLayout j k)
@@ -86,7 +86,7 @@ module _ (c : Parts) where
       before (InLayout a b) (inr h) = inr (h.0, (let l = h.1 in omega (arith, l)))
       before (OfChild t b) h = absurd h
 
-  pub next_child : (t k : ℕ) → IsNext (OfChild t k) (OfChild t (k + 1))
+  pub next_child : (t k : ℕ) → IsNextDeclared (OfChild t k) (OfChild t (k + 1))
   next_child t k = record { split = split; before = before; itself = inr (refl, omega arith) }
     where
       at : (a b : ℕ) → a ≡ t → b < k + 1 → IsBefore (OfChild a b) (OfChild t k) ⊎ (OfChild a b ≡ OfChild t k)
@@ -104,28 +104,31 @@ module _ (c : Parts) where
       before (OfChild a b) (inr h) = inr (h.0, (let l = h.1 in omega (arith, l)))
 
   -- one that declares nothing is passed
-  pub passes : (d n : Declared) (s : BTreeSet ℕ) (o : Option ℕ) → IsNext d n → declared c d ≡ None → Knows c d s o
-      → Knows c n s o
+  pub passes : (d n : Declared) (s : BTreeSet ℕ) (o : Option ℕ) → IsNextDeclared d n → declaration_at c d ≡ None
+      → SeenBefore c d s o
+      → SeenBefore c n s o
   passes d n s o next e k = moves d n s o (λ f x q h b. next.before f b) back k
     where
       back : Precedes n d
-      back f x q h b = ⊎_elim (λ z. z) (λ (z : f ≡ d). absurd (none-some (x, q) (sym e ∙ ap (declared c) (sym z) ∙ h)))
+      back f x q h b = ⊎_elim (λ z. z)
+          (λ (z : f ≡ d). absurd (none-some (x, q) (sym e ∙ ap (declaration_at c) (sym z) ∙ h)))
           (next.split f b)
 
   -- and one that declares a variable is noted
-  module _ (d n : Declared) (next : IsNext d n) (s t : BTreeSet ℕ) (o w : Option ℕ) (x p : ℕ) (is : declared c d ≡ Some
-      (x, p)) (k : Knows c d s o) (note : Notes s t o w x p) where
-    is_number : (y q : ℕ) → declared c d ≡ Some (y, q) → x ≡ y
+  module _ (d n : Declared) (next : IsNextDeclared d n) (s t : BTreeSet ℕ) (o w : Option ℕ) (x p : ℕ)
+      (is : declaration_at c d ≡ Some
+      (x, p)) (k : SeenBefore c d s o) (note : NotesVariable s t o w x p) where
+    is_number : (y q : ℕ) → declaration_at c d ≡ Some (y, q) → x ≡ y
     is_number y q h = ap (λ (z : ℕ × ℕ). z.0) (same_Some (x, p) (y, q) (sym is ∙ h))
 
-    is_place : (y q : ℕ) → declared c d ≡ Some (y, q) → p ≡ q
+    is_place : (y q : ℕ) → declaration_at c d ≡ Some (y, q) → p ≡ q
     is_place y q h = ap (λ (z : ℕ × ℕ). z.1) (same_Some (x, p) (y, q) (sym is ∙ h))
 
     has : (y : ℕ) → IsDeclaredBefore c n y → contains nat_cmp t y ≡ true
     has y (e, q, b, h) = ⊎_elim
         (λ z. note.added y ∙ added_right (is_eq (nat_cmp x y)) (contains nat_cmp s y) (k.has y (e, q, z, h)))
         (λ (z : e ≡ d). note.added y ∙ added_left (is_eq (nat_cmp x y)) (contains nat_cmp s y) (tie_is_equal x y
-        ∙ eq-eqb y x (sym (is_number y q (ap (declared c) (sym z) ∙ h)))))
+        ∙ eq-eqb y x (sym (is_number y q (ap (declaration_at c) (sym z) ∙ h)))))
         (next.split e b)
 
     just : (y : ℕ) → contains nat_cmp t y ≡ true → IsDeclaredBefore c n y
@@ -167,35 +170,39 @@ module _ (c : Parts) where
     down q (e, b, l) = ⊎_elim (λ z. inl (e, z, l)) (λ (z : e ≡ d). inr (so_is q (subst (λ f. IsLate c f q) z l)))
         (next.split e b)
 
-    pub noted : Knows c n t w
+    pub noted : SeenBefore c n t w
     noted = record {
       has = has;
       just = just;
       lowest = subst (IsLeast (IsLateBefore c n)) (sym note.is)
-          (same (λ q. IsLateBefore c d q ⊎ ((p ≡ q) × (is_late s x ≡ true))) (IsLateBefore c n) (least o note.here) up
+          (least_of_same (λ q. IsLateBefore c d q ⊎ ((p ≡ q) × (is_late s x ≡ true))) (IsLateBefore c n)
+          (earlier_of o note.here) up
           down
           (both (IsLateBefore c d) (λ q. (p ≡ q) × (is_late s x ≡ true)) o note.here k.lowest note.late));
     }
 
   -- ---- from one layout or table to the next, and at the end
 
-  in_layout : (j k x q : ℕ) (l : Layout) → slice_get c.layouts j ≡ Some l → declared c (InLayout j k) ≡ Some (x, q)
+  in_layout : (j k x q : ℕ) (l : Layout) → slice_get c.layouts j ≡ Some l → declaration_at c (InLayout j k)
+      ≡ Some (x, q)
       → k < length l.variables
   in_layout j k x q l e h = go (slice_get l.variables k) refl (sym (ap (λ (o : Option Layout). declared_in o k) e) ∙ h)
     where
-      go : (o : Option ℕ) → slice_get l.variables k ≡ o → given {B = Option (ℕ × ℕ)} None o (λ y. Some (y, l.entry)) ≡
+      go : (o : Option ℕ) → slice_get l.variables k ≡ o → on_option {B = Option (ℕ × ℕ)} None o
+          (λ y. Some (y, l.entry)) ≡
           Some (x, q) → k < length l.variables
       go None s z = absurd (none-some (x, q) z)
       go (Some y) s z = slice_get_within l.variables k y s
 
-  a_layout : (j k x q : ℕ) → declared c (InLayout j k) ≡ Some (x, q) → j < length c.layouts
+  a_layout : (j k x q : ℕ) → declaration_at c (InLayout j k) ≡ Some (x, q) → j < length c.layouts
   a_layout j k x q h = go (slice_get c.layouts j) refl h
     where
       go : (o : Option Layout) → slice_get c.layouts j ≡ o → declared_in o k ≡ Some (x, q) → j < length c.layouts
       go None s z = absurd (none-some (x, q) z)
       go (Some l) s z = slice_get_within c.layouts j l s
 
-  in_table : (t k x q : ℕ) (tb : ForkTable) → slice_get c.forks t ≡ Some tb → declared c (OfChild t k) ≡ Some (x, q)
+  in_table : (t k x q : ℕ) (tb : ForkTable) → slice_get c.forks t ≡ Some tb → declaration_at c (OfChild t k)
+      ≡ Some (x, q)
       → k < length tb.children
   in_table t k x q tb e h = go (slice_get tb.children k) refl (sym (ap (λ (o : Option ForkTable). declared_by
       (child_of o k)) e) ∙ h)
@@ -204,7 +211,7 @@ module _ (c : Parts) where
       go None s z = absurd (none-some (x, q) z)
       go (Some ch) s z = slice_get_within tb.children k ch s
 
-  a_table : (t k x q : ℕ) → declared c (OfChild t k) ≡ Some (x, q) → t < length c.forks
+  a_table : (t k x q : ℕ) → declaration_at c (OfChild t k) ≡ Some (x, q) → t < length c.forks
   a_table t k x q h = go (slice_get c.forks t) refl h
     where
       go : (o : Option ForkTable) → slice_get c.forks t ≡ o → declared_by (child_of o k) ≡ Some (x, q)
@@ -213,7 +220,7 @@ module _ (c : Parts) where
       go (Some tb) s z = slice_get_within c.forks t tb s
 
   pub layout_ends : (j k : ℕ) (l : Layout) (s : BTreeSet ℕ) (o : Option ℕ) → slice_get c.layouts j ≡ Some l
-      → length l.variables ≤ k → Knows c (InLayout j k) s o → Knows c (InLayout (j + 1) 0) s o
+      → length l.variables ≤ k → SeenBefore c (InLayout j k) s o → SeenBefore c (InLayout (j + 1) 0) s o
   layout_ends j k l s o e h = moves (InLayout j k) (InLayout (j + 1) 0) s o to back
     where
       to : Precedes (InLayout j k) (InLayout (j + 1) 0)
@@ -225,14 +232,14 @@ module _ (c : Parts) where
       back (InLayout a b) x q d (inl z) = ⊎_elim (λ y. inl y)
           (λ y. ⊎_elim (λ (u : a ≡ j). inr (
             u,
-            (let i = in_layout j b x q l e (subst (λ v. declared c (InLayout v b) ≡
+            (let i = in_layout j b x q l e (subst (λ v. declaration_at c (InLayout v b) ≡
                 Some (x, q)) u d) in omega (arith, i, h)),
           )) (λ y. absurd (omega (arith, y, z))) y) (less_same_or_more a j)
       back (InLayout a b) x q d (inr z) = absurd (let u = z.1 in omega (arith, u))
       back (OfChild t b) x q d z = absurd z
 
-  pub layouts_end : (n : ℕ) (s : BTreeSet ℕ) (o : Option ℕ) → length c.layouts ≤ n → Knows c (InLayout n 0) s o
-      → Knows c (OfChild 0 0) s o
+  pub layouts_end : (n : ℕ) (s : BTreeSet ℕ) (o : Option ℕ) → length c.layouts ≤ n → SeenBefore c (InLayout n 0) s o
+      → SeenBefore c (OfChild 0 0) s o
   layouts_end n s o h = moves (InLayout n 0) (OfChild 0 0) s o to back
     where
       to : Precedes (InLayout n 0) (OfChild 0 0)
@@ -245,7 +252,7 @@ module _ (c : Parts) where
       back (OfChild t b) x q d (inr z) = absurd (let u = z.1 in omega (arith, u))
 
   pub table_ends : (t k : ℕ) (tb : ForkTable) (s : BTreeSet ℕ) (o : Option ℕ) → slice_get c.forks t ≡ Some tb
-      → length tb.children ≤ k → Knows c (OfChild t k) s o → Knows c (OfChild (t + 1) 0) s o
+      → length tb.children ≤ k → SeenBefore c (OfChild t k) s o → SeenBefore c (OfChild (t + 1) 0) s o
   table_ends t k tb s o e h = moves (OfChild t k) (OfChild (t + 1) 0) s o to back
     where
       to : Precedes (OfChild t k) (OfChild (t + 1) 0)
@@ -258,13 +265,13 @@ module _ (c : Parts) where
       back (OfChild a b) x q d (inl z) = ⊎_elim (λ y. inl y)
           (λ y. ⊎_elim (λ (u : a ≡ t). inr (
             u,
-            (let i = in_table t b x q tb e (subst (λ v. declared c (OfChild v b) ≡
+            (let i = in_table t b x q tb e (subst (λ v. declaration_at c (OfChild v b) ≡
                 Some (x, q)) u d) in omega (arith, i, h)),
           )) (λ y. absurd (omega (arith, y, z))) y) (less_same_or_more a t)
       back (OfChild a b) x q d (inr z) = absurd (let u = z.1 in omega (arith, u))
 
   -- before the first one nothing is known
-  pub begins : (s : BTreeSet ℕ) → s.keys ≡ [] → Knows c (InLayout 0 0) s None
+  pub begins : (s : BTreeSet ℕ) → s.keys ≡ [] → SeenBefore c (InLayout 0 0) s None
   begins s e = record {
     has = λ x h. absurd (nothing h.0 h.2);
     just = λ x i. absurd (empty x i);
@@ -281,12 +288,13 @@ module _ (c : Parts) where
       empty x i = let z = sym (ap (list_any (λ j. is_eq (nat_cmp x j))) e) ∙ i in cc (z)
 
   -- behind the last one all is known
-  pub ends : (n : ℕ) (s : BTreeSet ℕ) (o : Option ℕ) → length c.forks ≤ n → Knows c (OfChild n 0) s o
+  pub ends : (n : ℕ) (s : BTreeSet ℕ) (o : Option ℕ) → length c.forks ≤ n → SeenBefore c (OfChild n 0) s o
       → IsLeast (DeclaredTwice c) o
-  ends n s o h k = same (IsLateBefore c (OfChild n 0)) (DeclaredTwice c) o (λ p z. (z.0, z.2.0, z.2.1, z.2.2)) down
+  ends n s o h k = least_of_same (IsLateBefore c (OfChild n 0)) (DeclaredTwice c) o
+      (λ p z. (z.0, z.2.0, z.2.1, z.2.2)) down
       k.lowest
     where
-      before : (d : Declared) (x q : ℕ) → declared c d ≡ Some (x, q) → IsBefore d (OfChild n 0)
+      before : (d : Declared) (x q : ℕ) → declaration_at c d ≡ Some (x, q) → IsBefore d (OfChild n 0)
       before (InLayout a b) x q e = tt
       before (OfChild a b) x q e = inl (let i = a_table a b x q e in omega (arith, i, h))
 
@@ -296,11 +304,12 @@ module _ (c : Parts) where
   -- ---- what the code of a pass gives
 
   pub variable_of : (j k x : ℕ) (l : Layout) → slice_get c.layouts j ≡ Some l → slice_get l.variables k ≡ Some x
-      → declared c (InLayout j k) ≡ Some (x, l.entry)
-  variable_of j k x l e h = ap (λ (o : Option Layout). declared_in o k) e ∙ ap (λ (o : Option ℕ). given {B = Option
+      → declaration_at c (InLayout j k) ≡ Some (x, l.entry)
+  variable_of j k x l e h = ap (λ (o : Option Layout). declared_in o k) e ∙ ap (λ (o : Option ℕ). on_option {B = Option
       (ℕ × ℕ)} None o (λ y. Some (y, l.entry))) h
 
-  pub index_of : (t k : ℕ) (ch : ChildTable) (o : Option ℕ) → IsChild c t k ch → ch.index ≡ o → declared c (OfChild t k)
-      ≡ given {B = Option (ℕ × ℕ)} None o (λ x. Some (x, ch.entry))
-  index_of t k ch o e h = ap declared_by e ∙ ap (λ (z : Option ℕ). given {B = Option (ℕ × ℕ)} None z
+  pub index_of : (t k : ℕ) (ch : ChildTable) (o : Option ℕ) → IsChild c t k ch → ch.index ≡ o
+      → declaration_at c (OfChild t k)
+      ≡ on_option {B = Option (ℕ × ℕ)} None o (λ x. Some (x, ch.entry))
+  index_of t k ch o e h = ap declared_by e ∙ ap (λ (z : Option ℕ). on_option {B = Option (ℕ × ℕ)} None z
       (λ x. Some (x, ch.entry))) h

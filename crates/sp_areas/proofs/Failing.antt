@@ -6,13 +6,13 @@ use Rattle.sp_code.specs.declared.code.Layout.{Layout}
 use Rattle.sp_code.specs.declared.code.ChildTable.{ChildTable}
 use Rattle.sp_code.specs.declared.code.ForkTable.{ForkTable}
 use Rattle.sp_areas.specs.Alone.{LayoutFails, ChildFails, ChildrenFail, TableFails, flag_at}
-use Rattle.sp_areas.specs.Least.{IsLeast}
-use Rattle.sp_areas.proofs.Leasts.{same}
+use Rattle.sp_areas.specs.LeastPlaces.{IsLeast}
+use Rattle.sp_areas.proofs.Leasts.{least_of_same}
 
 pub one_layout : (fails : Layout → Bool) (ls : List Layout) (j : ℕ) (l : Layout) (b : Bool) (o : Option ℕ)
     → slice_get ls j ≡ Some l → b ≡ fails l
     → IsLeast (λ p. (l.entry ≡ p) × (b ≡ true)) o → IsLeast (LayoutFails fails ls j) o
-one_layout fails ls j l b o e f = same (λ p. (l.entry ≡ p) × (b ≡ true)) (LayoutFails fails ls j) o up down
+one_layout fails ls j l b o e f = least_of_same (λ p. (l.entry ≡ p) × (b ≡ true)) (LayoutFails fails ls j) o up down
   where
     up : (p : ℕ) → (l.entry ≡ p) × (b ≡ true) → LayoutFails fails ls j p
     up p h = (l, e, h.0, sym f ∙ h.1)
@@ -25,7 +25,7 @@ one_layout fails ls j l b o e f = same (λ p. (l.entry ≡ p) × (b ≡ true)) (
 pub one_child : (fails : ChildTable → Bool) (ts : List ChildTable) (k : ℕ) (t : ChildTable) (b : Bool) (o : Option ℕ)
     → slice_get ts k ≡ Some t → b ≡ fails t
     → IsLeast (λ p. (t.entry ≡ p) × (b ≡ true)) o → IsLeast (ChildFails fails ts k) o
-one_child fails ts k t b o e f = same (λ p. (t.entry ≡ p) × (b ≡ true)) (ChildFails fails ts k) o up down
+one_child fails ts k t b o e f = least_of_same (λ p. (t.entry ≡ p) × (b ≡ true)) (ChildFails fails ts k) o up down
   where
     up : (p : ℕ) → (t.entry ≡ p) × (b ≡ true) → ChildFails fails ts k p
     up p h = (t, e, h.0, sym f ∙ h.1)
@@ -39,7 +39,8 @@ pub one_table : (n : ℕ) (forked foralled : List Bool) (fs : List ForkTable) (t
     → slice_get fs t ≡ Some tb
     → IsLeast (ChildrenFail n (flag_at forked t) (flag_at foralled t) tb.children) o
     → IsLeast (TableFails n forked foralled fs t) o
-one_table n forked foralled fs t tb o e = same (C tb) (TableFails n forked foralled fs t) o (λ p h. (tb, e, h)) down
+one_table n forked foralled fs t tb o e = least_of_same (C tb) (TableFails n forked foralled fs t) o
+    (λ p h. (tb, e, h)) down
   where
     C : ForkTable → ℕ → Type 0
     C x p = ChildrenFail n (flag_at forked t) (flag_at foralled t) x.children p

@@ -11,12 +11,12 @@ use Rattle.sp_code.specs.declared.code.Layout.{Layout}
 use Rattle.sp_code.specs.declared.code.Parts.{Parts}
 use Rattle.sp_code.specs.Machine.{layout_of}
 use Rattle.sp_code.specs.Memory.{Home, OfBlock}
-use Rattle.sp_rules.specs.Areas.{is_root, is_led, leads_by, homes_by, alone, block_homes}
+use Rattle.sp_rules.specs.Areas.{is_root, is_led, leads_by, homes_by, single_home, block_homes}
 use Rattle.sp_areas.specs.declared.tree.Frame.TheVariants as frame
 use Rattle.sp_areas.specs.declared.tree.Grown.{Grown}
 use Rattle.sp_areas.specs.Around.{AreFilled}
 use Rattle.sp_areas.specs.Blocks.{number_from}
-use Rattle.sp_areas.specs.Grown.{node_at, Gets, AreAllLed}
+use Rattle.sp_areas.specs.Grown.{node_at, GetsNode, AreAllLed}
 use Rattle.sp_areas.specs.Tree.{with_list}
 use Rattle.sp_areas.proofs.BlockLaws.{place_some}
 use Rattle.sp_areas.proofs.Growing.{at_last, before_last}
@@ -25,11 +25,13 @@ use Rattle.sp_areas.proofs.Leading.{node_new, node_old, none_led}
 module _ (c : Parts) where
   led_homes : (b : ℕ) → is_led c b ≡ true
       → block_homes c b ≡ homes_by (length c.layouts) c.layouts (layout_of c.layouts b)
-  led_homes b e = ap (λ (t : Bool). if t then homes_by (length c.layouts) c.layouts (layout_of c.layouts b) else alone
+  led_homes b e = ap (λ (t : Bool). if t then homes_by (length c.layouts) c.layouts (layout_of c.layouts b) else
+      single_home
       (layout_of c.layouts b)) e
 
-  alone_homes : (b : ℕ) → is_led c b ≡ false → block_homes c b ≡ alone (layout_of c.layouts b)
-  alone_homes b e = ap (λ (t : Bool). if t then homes_by (length c.layouts) c.layouts (layout_of c.layouts b) else alone
+  alone_homes : (b : ℕ) → is_led c b ≡ false → block_homes c b ≡ single_home (layout_of c.layouts b)
+  alone_homes b e = ap (λ (t : Bool). if t then homes_by (length c.layouts) c.layouts (layout_of c.layouts b) else
+      single_home
       (layout_of c.layouts b)) e
 
   pub filled_led : (g : Grown) → is_root (layout_of c.layouts 0) ≡ true → AreAllLed c.layouts g → AreFilled c 0 g
@@ -96,7 +98,7 @@ module _ (c : Parts) where
 
   pub filled_more : (n place : ℕ) (old new : Grown) (l : Layout) → AreFilled c n old → slice_get c.layouts n ≡ Some l
       → node_at old.of n ≡ None → number_from 0 c.layouts l.block ≡ Some place
-      → Gets old new n (frame.Block l.block place) None → AreFilled c (n + 1) new
+      → GetsNode old new n (frame.Block l.block place) None → AreFilled c (n + 1) new
   filled_more n place old new l are e none p g = record {
     lists = lists;
     tree = g.puts.lists c.layouts are.lists are.tree (place_some c.layouts l.block place p) tt;
@@ -150,7 +152,7 @@ module _ (c : Parts) where
               × (layout_of c.layouts z.block ≡ Some z → lists size ≡ block_homes c z.block)) lx (
                 omega (arith, more),
                 λ f. at_last are.lists size new_list
-                    ∙ sym (alone_homes l.block (are.alone n l none e f) ∙ ap alone f),
+                    ∙ sym (alone_homes l.block (are.alone n l none e f) ∙ ap single_home f),
               ))
 
           other : n ≢ j → (k < length new.nodes)

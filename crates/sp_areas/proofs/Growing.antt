@@ -13,7 +13,7 @@ use Rattle.sp_areas.specs.declared.tree.Frame.{Frame}
 use Rattle.sp_areas.specs.declared.tree.Grown.{Grown}
 use Rattle.sp_areas.specs.declared.tree.Jump.{Jump}
 use Rattle.sp_areas.specs.declared.tree.Node.{Node}
-use Rattle.sp_areas.specs.Grown.{Steps, EachItem, left}
+use Rattle.sp_areas.specs.Grown.{GrowthStep, EachItem, none_count}
 use Rattle.sp_areas.specs.Tree.{home_of, IsFrame, IsAround, around_list, IsJump, IsNode, AreLists, with_list}
 use Rattle.sp_areas.proofs.Outward.{drop_none}
 
@@ -108,35 +108,38 @@ put_lists ls lists ns n hs are i k m e =
 -- ---- steps
 
 module _ (Just : Grown → Type 0) where
-  pub steps_none : (g : Grown) (P : Grown → Type 0) → Just g → P g → Steps Just g g P false
+  pub steps_none : (g : Grown) (P : Grown → Type 0) → Just g → P g → GrowthStep Just g g P false
   steps_none g P j p = record { just = j; less = λ e. absurd (cc e); same = λ e. (refl, p) }
 
-  pub steps_as : (a b : Grown) (P Q : Grown → Type 0) (s : Bool) → (b ≡ a → P b → Q b) → Steps Just a b P s
-      → Steps Just a b Q s
+  pub steps_as : (a b : Grown) (P Q : Grown → Type 0) (s : Bool) → (b ≡ a → P b → Q b) → GrowthStep Just a b P s
+      → GrowthStep Just a b Q s
   steps_as a b P Q s f h = record { just = h.just; less = h.less; same = λ e. let z = h.same e in (z.0, f z.0 z.1) }
 
-  steps_room : (a b : Grown) (P : Grown → Type 0) (s : Bool) → Steps Just a b P s → left b.of ≤ left a.of
+  steps_room : (a b : Grown) (P : Grown → Type 0) (s : Bool) → GrowthStep Just a b P s
+      → none_count b.of ≤ none_count a.of
   steps_room a b P true h = let l = h.less refl in omega (arith, l)
-  steps_room a b P false h = let e = ap (λ (g : Grown). left g.of) (h.same refl).0 in omega (arith, e)
+  steps_room a b P false h = let e = ap (λ (g : Grown). none_count g.of) (h.same refl).0 in omega (arith, e)
 
-  pub steps_then : (a b d : Grown) (P Q : Grown → Type 0) (s t : Bool) → Steps Just a b P s → Steps Just b d Q t
-      → Steps Just a d (λ g. P g × Q g) (s || t)
+  pub steps_then : (a b d : Grown) (P Q : Grown → Type 0) (s t : Bool) → GrowthStep Just a b P s
+      → GrowthStep Just b d Q t
+      → GrowthStep Just a d (λ g. P g × Q g) (s || t)
   steps_then a b d P Q s t h k = record { just = k.just; less = less s t h k; same = same s t h k }
     where
-      less : (s t : Bool) → Steps Just a b P s → Steps Just b d Q t → (s || t) ≡ true → left d.of < left a.of
+      less : (s t : Bool) → GrowthStep Just a b P s → GrowthStep Just b d Q t → (s || t) ≡ true
+          → none_count d.of < none_count a.of
       less true t h k e = let l = h.less refl in let m = steps_room b d Q t k in omega (arith, l, m)
       less false true h k e = let l = k.less refl in let m = steps_room a b P false h in omega (arith, l, m)
       less false false h k e = absurd (cc e)
 
-      same : (s t : Bool) → Steps Just a b P s → Steps Just b d Q t → (s || t) ≡ false → (d ≡ a) × (P d × Q d)
+      same : (s t : Bool) → GrowthStep Just a b P s → GrowthStep Just b d Q t → (s || t) ≡ false → (d ≡ a) × (P d × Q d)
       same true t h k e = absurd (cc e)
       same false true h k e = absurd (cc e)
       same false false h k e =
           let x = h.same refl in let y = k.same refl in
           (y.0 ∙ x.0, (subst P (sym y.0) x.1, y.1))
 
-  pub items_more : (P : ℕ → Grown → Type 0) (a b d : Grown) (k : ℕ) (s t : Bool) → Steps Just a b (EachItem P k) s
-      → Steps Just b d (P k) t → Steps Just a d (EachItem P (k + 1)) (s || t)
+  pub items_more : (P : ℕ → Grown → Type 0) (a b d : Grown) (k : ℕ) (s t : Bool) → GrowthStep Just a b (EachItem P k) s
+      → GrowthStep Just b d (P k) t → GrowthStep Just a d (EachItem P (k + 1)) (s || t)
   items_more P a b d k s t h m = steps_as a d (λ g. EachItem P k g × P k g) (EachItem P (k + 1)) (s
       || t) more (steps_then a b d (EachItem P k) (P k) s t h m)
     where

@@ -14,12 +14,14 @@ use Rattle.sp_code.specs.declared.code.Parts.{Parts}
 use Rattle.sp_code.specs.Machine.{layout_of}
 use Rattle.sp_areas.specs.declared.owners.Owner.{Owner}
 use Rattle.sp_areas.specs.declared.owners.Owner.TheVariants as owner
-use Rattle.sp_rules.specs.Areas.{given, instr_at, table_named, child_of}
+use Rattle.sp_rules.specs.Areas.{on_option, instr_at, table_named, child_of}
 use Rattle.sp_rules.specs.Reach.{IsIn, nexts}
 use Rattle.sp_rules.specs.Named.{Names}
-use Rattle.sp_areas.specs.Owners.{IsTrueOf, AreTrue, is_same, IsOwner, join, left, room, as_child, of_child, Knows}
-use Rattle.sp_areas.specs.Owners.{Gives, Spreads, KnowsAt, IsSpread, IsHanded, IsSpreadBy, AreBegun, Each, IsClosed}
-use Rattle.sp_areas.specs.Owners.{listed, entry_at}
+use Rattle.sp_areas.specs.Owners.{IsTrueOf, AreTrue, is_same, IsOwner, common_owner, changes_left, room, as_child}
+use Rattle.sp_areas.specs.Owners.{of_child, KnowsOwner}
+use Rattle.sp_areas.specs.Owners.{HandsOwner, Spreads, KnowsAt, IsSpread, IsHanded, IsSpreadBy, AreBegun, EachFirst}
+use Rattle.sp_areas.specs.Owners.{IsAllSpread}
+use Rattle.sp_areas.specs.Owners.{list_of_ways, entry_at}
 use Rattle.sp_areas.proofs.Owning.{same_is, same_self, gives_spreads, spreads_as, spreads_then}
 use Rattle.sp_areas.proofs.Owning.{spreads_room, true_along, true_table, true_child, true_begin}
 use Rattle.sp_areas.proofs.Owned.{some_child}
@@ -31,61 +33,61 @@ set_same [] x w e = refl
 set_same (y ∷ ys) zero w e = ap (λ z. z ∷ ys) (sym (same_Some y w e))
 set_same (y ∷ ys) (suc x) w e = ap (λ zs. y ∷ zs) (set_same ys x w e)
 
-few : (o : Owner) → is_same owner.Nobody o ≡ false → left o < 2
+few : (o : Owner) → is_same owner.Nobody o ≡ false → changes_left o < 2
 few owner.Nobody e = absurd (cc e)
 few (owner.Block b) e = omega arith
 few (owner.Child p k) e = omega arith
 few owner.Several e = omega arith
 
-fewer : (w o : Owner) → left w ≡ 1 → is_same w (if is_same w o then w else owner.Several) ≡ false
-    → left (if is_same w o then w else owner.Several) < left w
+fewer : (w o : Owner) → changes_left w ≡ 1 → is_same w (if is_same w o then w else owner.Several) ≡ false
+    → changes_left (if is_same w o then w else owner.Several) < changes_left w
 fewer w o one e = go (is_same w o) e
   where
     go : (b : Bool) → is_same w (if b then w else owner.Several) ≡ false
-        → left (if b then w else owner.Several) < left w
+        → changes_left (if b then w else owner.Several) < changes_left w
     go true e = absurd (not_true_and_false (is_same w w) (same_self w) e)
     go false e = omega (arith, one)
 
-falls : (w o : Owner) → is_same w (join w o) ≡ false → left (join w o) < left w
+falls : (w o : Owner) → is_same w (common_owner w o) ≡ false → changes_left (common_owner w o) < changes_left w
 falls owner.Nobody o e = few o e
 falls (owner.Block b) o e = fewer (owner.Block b) o refl e
 falls (owner.Child p k) o e = fewer (owner.Child p k) o refl e
 falls owner.Several o e = absurd (cc e)
 
-pub gives_old : (os : List Owner) (x : ℕ) (o w : Owner) → slice_get os x ≡ Some w → is_same w (join w o) ≡ true
-    → Gives os os x o false
+pub gives_old : (os : List Owner) (x : ℕ) (o w : Owner) → slice_get os x ≡ Some w → is_same w (common_owner w o) ≡ true
+    → HandsOwner os os x o false
 gives_old os x o w e h = record { now = now; less = λ z. absurd (cc z); same = λ z. refl }
   where
-    now : os ≡ given os (slice_get os x) (λ v. slice_set os x (join v o))
-    now = sym (ap (λ (u : Option Owner). given os u (λ v. slice_set os x (join v o))) e
-        ∙ ap (slice_set os x) (sym (same_is w (join w o) h)) ∙ set_same os x w e)
+    now : os ≡ on_option os (slice_get os x) (λ v. slice_set os x (common_owner v o))
+    now = sym (ap (λ (u : Option Owner). on_option os u (λ v. slice_set os x (common_owner v o))) e
+        ∙ ap (slice_set os x) (sym (same_is w (common_owner w o) h)) ∙ set_same os x w e)
 
-pub gives_new : (os : List Owner) (x : ℕ) (o w : Owner) → slice_get os x ≡ Some w → is_same w (join w o) ≡ false
-    → Gives os (slice_set os x (join w o)) x o true
+pub gives_new : (os : List Owner) (x : ℕ) (o w : Owner) → slice_get os x ≡ Some w → is_same w (common_owner w o) ≡ false
+    → HandsOwner os (slice_set os x (common_owner w o)) x o true
 gives_new os x o w e h = record {
-  now = sym (ap (λ (u : Option Owner). given os u (λ v. slice_set os x (join v o))) e);
+  now = sym (ap (λ (u : Option Owner). on_option os u (λ v. slice_set os x (common_owner v o))) e);
   less = λ z. less;
   same = λ z. absurd (cc z);
 }
   where
-    less : room (slice_set os x (join w o)) < room os
+    less : room (slice_set os x (common_owner w o)) < room os
     less =
-        let s = sum_by-set left os x (join w o) w (slice_get_within os x w e) in
-        let g = ap left (get_or_from_slice_get os x w w e) in
+        let s = sum_by-set changes_left os x (common_owner w o) w (slice_get_within os x w e) in
+        let g = ap changes_left (get_or_from_slice_get os x w w e) in
         let f = falls w o h in
         omega (arith, s, g, f)
 
 -- ---- ways
 
-pub way_first : (q : ℕ) (s : Option ℕ) (ns : List ℕ) → listed (Some q) s ≡ ns → IsIn q ns
+pub way_first : (q : ℕ) (s : Option ℕ) (ns : List ℕ) → list_of_ways (Some q) s ≡ ns → IsIn q ns
 way_first q None ns e = subst (IsIn q) e (inl refl)
 way_first q (Some r) ns e = subst (IsIn q) e (inl refl)
 
-pub way_second : (q : ℕ) (f : Option ℕ) (ns : List ℕ) → listed f (Some q) ≡ ns → IsIn q ns
+pub way_second : (q : ℕ) (f : Option ℕ) (ns : List ℕ) → list_of_ways f (Some q) ≡ ns → IsIn q ns
 way_second q None ns e = subst (IsIn q) e (inl refl)
 way_second q (Some r) ns e = subst (IsIn q) e (inr (inl refl))
 
-pub in_listed : (q : ℕ) (f s : Option ℕ) → IsIn q (listed f s) → (f ≡ Some q) ⊎ (s ≡ Some q)
+pub in_listed : (q : ℕ) (f s : Option ℕ) → IsIn q (list_of_ways f s) → (f ≡ Some q) ⊎ (s ≡ Some q)
 in_listed q None None i = absurd i
 in_listed q None (Some r) (inl e) = inr (ap Some (sym e))
 in_listed q None (Some r) (inr i) = absurd i
@@ -104,43 +106,43 @@ module _ (c : Parts) where
   -- ---- the next instructions
 
   pub first_true : (os : List Owner) (p : ℕ) (o : Owner) (i : Instr) (f s : Option ℕ) → AreTrue c os
-      → p < length c.instrs → slice_get os p ≡ Some o → instr_at c p ≡ Some i → listed f s ≡ nexts p (Some i)
+      → p < length c.instrs → slice_get os p ≡ Some o → instr_at c p ≡ Some i → list_of_ways f s ≡ nexts p (Some i)
       → (q : ℕ) → f ≡ Some q → q < length c.instrs → IsTrueOf c q o
   first_true os p o i f s are l e ei ways q ef m =
       true_along c p q o l m (subst (IsIn q) (sym (ap (nexts p) ei))
-      (way_first q s (nexts p (Some i)) (ap (λ (z : Option ℕ). listed z s) (sym ef) ∙ ways))) (are.each p o e)
+      (way_first q s (nexts p (Some i)) (ap (λ (z : Option ℕ). list_of_ways z s) (sym ef) ∙ ways))) (are.each p o e)
 
   pub second_true : (os : List Owner) (p : ℕ) (o : Owner) (i : Instr) (f s : Option ℕ) → AreTrue c os
-      → p < length c.instrs → slice_get os p ≡ Some o → instr_at c p ≡ Some i → listed f s ≡ nexts p (Some i)
+      → p < length c.instrs → slice_get os p ≡ Some o → instr_at c p ≡ Some i → list_of_ways f s ≡ nexts p (Some i)
       → (q : ℕ) → s ≡ Some q → q < length c.instrs → IsTrueOf c q o
   second_true os p o i f s are l e ei ways q es m =
       true_along c p q o l m (subst (IsIn q) (sym (ap (nexts p) ei))
-      (way_second q f (nexts p (Some i)) (ap (listed f) (sym es) ∙ ways))) (are.each p o e)
+      (way_second q f (nexts p (Some i)) (ap (list_of_ways f) (sym es) ∙ ways))) (are.each p o e)
 
   -- ---- to the end of a way
 
   pub hand_given : (a b : List Owner) (q : ℕ) (o : Owner) (s : Bool) → AreTrue c a → IsOwner o → q < length c.instrs
-      → IsTrueOf c q o → Gives a b q o s → Spreads c a b (KnowsAt c (Some q) o) s
+      → IsTrueOf c q o → HandsOwner a b q o s → Spreads c a b (KnowsAt c (Some q) o) s
   hand_given a b q o s are some l t g =
-      spreads_as c a b (λ os. Knows os q o) (KnowsAt c (Some q) o) s
-      (λ same k r e m. subst (λ z. Knows b z o) (same_Some q r e) k)
+      spreads_as c a b (λ os. KnowsOwner os q o) (KnowsAt c (Some q) o) s
+      (λ same k r e m. subst (λ z. KnowsOwner b z o) (same_Some q r e) k)
       (gives_spreads c a b q o s are some t g (omega (arith, l)))
 
   -- ---- to a table
 
   abbrev Tabled : ℕ → Owner → List Owner → Type 0
-  Tabled p o os = (t : ℕ) → Names c t p → t < length c.forks → Knows os (length c.instrs + t) (as_child p o)
+  Tabled p o os = (t : ℕ) → Names c t p → t < length c.forks → KnowsOwner os (length c.instrs + t) (as_child p o)
 
   pub table_given : (a b : List Owner) (p t : ℕ) (o v : Owner) (i : Instr) (s : Bool) → AreTrue c a → IsOwner o
       → p < length c.instrs → IsTrueOf c p o → instr_at c p ≡ Some i → Some t ≡ table_named (Some i)
-      → t < length c.forks → v ≡ as_child p o → Gives a b (length c.instrs + t) v s → Spreads c a b (Tabled p o) s
+      → t < length c.forks → v ≡ as_child p o → HandsOwner a b (length c.instrs + t) v s → Spreads c a b (Tabled p o) s
   table_given a b p t o v i s are some l h e n m ev g =
-      spreads_as c a b (λ os. Knows os (length c.instrs + t) (as_child p o)) (Tabled p o) s
-      (λ same k u r w. subst (λ z. Knows b (length c.instrs + z) (as_child p o)) (same_Some t u (n
+      spreads_as c a b (λ os. KnowsOwner os (length c.instrs + t) (as_child p o)) (Tabled p o) s
+      (λ same k u r w. subst (λ z. KnowsOwner b (length c.instrs + z) (as_child p o)) (same_Some t u (n
       ∙ sym (ap table_named e) ∙ r)) k)
       (gives_spreads c a b (length c.instrs + t) (as_child p o) s are (some_child p o some)
       (true_table c p t o l (ap table_named e
-      ∙ sym n) h) (subst (λ z. Gives a b (length c.instrs + t) z s) ev g) (omega (arith, m)))
+      ∙ sym n) h) (subst (λ z. HandsOwner a b (length c.instrs + t) z s) ev g) (omega (arith, m)))
 
   -- ---- an instruction
 
@@ -148,7 +150,7 @@ module _ (c : Parts) where
   an_owner w h e = not_true_and_false (is_same w owner.Nobody) (ap (λ z. is_same z owner.Nobody) e) h
 
   pub visited : (a b d e : List Owner) (p : ℕ) (o : Owner) (i : Instr) (f s : Option ℕ) (r t u : Bool)
-      → slice_get a p ≡ Some o → instr_at c p ≡ Some i → listed f s ≡ nexts p (Some i)
+      → slice_get a p ≡ Some o → instr_at c p ≡ Some i → list_of_ways f s ≡ nexts p (Some i)
       → Spreads c a b (KnowsAt c f o) r → Spreads c b d (KnowsAt c s o) t → Spreads c d e (Tabled p o) u
       → Spreads c a e (IsSpread c p) ((r || t) || u)
   visited a b d e p o i f s r t u ea ei ways h k m =
@@ -160,8 +162,8 @@ module _ (c : Parts) where
       is_spread : e ≡ a → (KnowsAt c f o e × KnowsAt c s o e) × Tabled p o e → IsSpread c p e
       is_spread same k v ev some =
           let w : v ≡ o = same_Some v o (sym ev ∙ ap (λ (os : List Owner). slice_get os p) same ∙ ea) in
-          subst (λ z. ((q : ℕ) → IsIn q (nexts p (instr_at c p)) → q < length c.instrs → Knows e q z)
-          × ((t : ℕ) → Names c t p → t < length c.forks → Knows e (length c.instrs + t) (as_child p z))) (sym w) (
+          subst (λ z. ((q : ℕ) → IsIn q (nexts p (instr_at c p)) → q < length c.instrs → KnowsOwner e q z)
+          × ((t : ℕ) → Names c t p → t < length c.forks → KnowsOwner e (length c.instrs + t) (as_child p z))) (sym w) (
             (λ q j l. ⊎_elim (λ z. k.0.0 q z l) (λ z. k.0.1 q z l) (in_listed q f s (subst (IsIn q) (ap (nexts p) ei
                 ∙ sym ways) j))),
             k.1,
@@ -180,12 +182,12 @@ module _ (c : Parts) where
       more : d ≡ a → IsHanded c o ts k d × KnowsAt c (Some ch.entry) v d → IsHanded c o ts (k + 1) d
       more same z j x l ex lx = ⊎_elim (λ (m : j < k). z.0 j x m ex lx) here (below_or_last j k l)
         where
-          here : j ≡ k → Knows d x.entry (of_child j o)
+          here : j ≡ k → KnowsOwner d x.entry (of_child j o)
           here s =
               let r : x ≡ ch = same_Some x ch (sym ex ∙ ap (slice_get ts) s ∙ e) in
               let y = z.1 ch.entry refl (subst (λ (y : ChildTable). y.entry < length c.instrs) r lx) in
-              subst (λ (y : ChildTable). Knows d y.entry (of_child j o)) (sym r)
-              (subst (λ i. Knows d ch.entry (of_child i o)) (sym s) (subst (Knows d ch.entry) ev y))
+              subst (λ (y : ChildTable). KnowsOwner d y.entry (of_child j o)) (sym r)
+              (subst (λ i. KnowsOwner d ch.entry (of_child i o)) (sym s) (subst (KnowsOwner d ch.entry) ev y))
 
   pub spread_by : (a b : List Owner) (t : ℕ) (o : Owner) (tb : ForkTable) (ts : List ChildTable) (s : Bool)
       → slice_get a (length c.instrs + t) ≡ Some o → slice_get c.forks t ≡ Some tb → ts ≡ tb.children
@@ -198,7 +200,7 @@ module _ (c : Parts) where
           ∙ ea) in
           let g : slice_get ts j ≡ Some ch = ap (λ (zs : List ChildTable). slice_get zs j) ets
           ∙ sym (ap (λ (u : Option ForkTable). child_of u j) et) ∙ i in
-          subst (λ z. Knows b ch.entry (of_child j z)) (sym w) (k j ch (slice_get_within ts j ch g) g l)
+          subst (λ z. KnowsOwner b ch.entry (of_child j z)) (sym w) (k j ch (slice_get_within ts j ch g) g l)
 
   pub child_true : (os : List Owner) (t : ℕ) (o : Owner) (tb : ForkTable) (ts : List ChildTable) → AreTrue c os
       → slice_get os (length c.instrs + t) ≡ Some o → slice_get c.forks t ≡ Some tb → ts ≡ tb.children
@@ -221,33 +223,35 @@ module _ (c : Parts) where
       more : d ≡ a → AreBegun c j d × KnowsAt c to (owner.Block l.block) d → AreBegun c (j + 1) d
       more same z i x m lt ex em lm = ⊎_elim (λ (y : i < j). z.0 i x m y ex em lm) here (below_or_last i j lt)
         where
-          here : i ≡ j → Knows d m.entry (owner.Block x.block)
+          here : i ≡ j → KnowsOwner d m.entry (owner.Block x.block)
           here s =
               let r : x ≡ l = same_Some x l (sym ex ∙ ap (slice_get c.layouts) s ∙ e) in
-              subst (λ (y : Layout). Knows d m.entry (owner.Block y.block)) (sym r)
+              subst (λ (y : Layout). KnowsOwner d m.entry (owner.Block y.block)) (sym r)
               (z.1 m.entry (at m (subst (λ (y : Layout). layout_of c.layouts y.block ≡ Some m) r em)) lm)
 
   -- ---- all
 
-  pub each_more : (P : ℕ → List Owner → Type 0) (a b d : List Owner) (k : ℕ) (s t : Bool) → Spreads c a b (Each P k) s
-      → Spreads c b d (P k) t → Spreads c a d (Each P (k + 1)) (s || t)
-  each_more P a b d k s t h m = spreads_as c a d (λ os. Each P k os × P k os) (Each P (k + 1)) (s
-      || t) more (spreads_then c a b d (Each P k) (P k) s t h m)
+  pub each_more : (P : ℕ → List Owner → Type 0) (a b d : List Owner) (k : ℕ) (s t : Bool)
+      → Spreads c a b (EachFirst P k) s
+      → Spreads c b d (P k) t → Spreads c a d (EachFirst P (k + 1)) (s || t)
+  each_more P a b d k s t h m = spreads_as c a d (λ os. EachFirst P k os × P k os) (EachFirst P (k + 1)) (s
+      || t) more (spreads_then c a b d (EachFirst P k) (P k) s t h m)
     where
-      more : d ≡ a → Each P k d × P k d → Each P (k + 1) d
+      more : d ≡ a → EachFirst P k d × P k d → EachFirst P (k + 1) d
       more same z x l = ⊎_elim (λ (y : x < k). z.0 x y) (λ (e : x ≡ k). subst (λ i. P i d) (sym e) z.1)
           (below_or_last x k l)
 
   pub swept : (a b d e : List Owner) (r s t : Bool) → Spreads c a b (AreBegun c (length c.layouts)) r
-      → Spreads c b d (Each (IsSpread c) (length c.instrs)) s → Spreads c d e (Each (IsSpreadBy c) (length c.forks)) t
-      → Spreads c a e (IsClosed c) ((r || s) || t)
+      → Spreads c b d (EachFirst (IsSpread c) (length c.instrs)) s
+      → Spreads c d e (EachFirst (IsSpreadBy c) (length c.forks)) t
+      → Spreads c a e (IsAllSpread c) ((r || s) || t)
   swept a b d e r s t h k m =
-      spreads_as c a e (λ os. (AreBegun c (length c.layouts) os × Each (IsSpread c) (length c.instrs) os)
-      × Each (IsSpreadBy c) (length c.forks) os) (IsClosed c) ((r || s) || t)
+      spreads_as c a e (λ os. (AreBegun c (length c.layouts) os × EachFirst (IsSpread c) (length c.instrs) os)
+      × EachFirst (IsSpreadBy c) (length c.forks) os) (IsAllSpread c) ((r || s) || t)
       (λ same z. record { begun = z.0.0; spread = z.0.1; tables = z.1 })
       (spreads_then c a d e (λ os. AreBegun c (length c.layouts) os
-      × Each (IsSpread c) (length c.instrs) os) (Each (IsSpreadBy c) (length c.forks)) (r || s) t
-      (spreads_then c a b d (AreBegun c (length c.layouts)) (Each (IsSpread c) (length c.instrs)) r s h k) m)
+      × EachFirst (IsSpread c) (length c.instrs) os) (EachFirst (IsSpreadBy c) (length c.forks)) (r || s) t
+      (spreads_then c a b d (AreBegun c (length c.layouts)) (EachFirst (IsSpread c) (length c.instrs)) r s h k) m)
 
   -- with nothing said of what is closed
   abbrev Any : List Owner → Type 0

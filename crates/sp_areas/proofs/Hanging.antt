@@ -11,7 +11,7 @@ use Rattle.sp_code.specs.Memory.{Home}
 use Rattle.sp_rules.specs.Areas.{with_home}
 use Rattle.sp_areas.specs.declared.tree.Frame.TheVariants as frame
 use Rattle.sp_areas.specs.declared.tree.Node.{Node}
-use Rattle.sp_areas.specs.Grown.{Puts}
+use Rattle.sp_areas.specs.Grown.{PutsNode}
 use Rattle.sp_areas.specs.Around.{PutsChild, IsExtended, PutsChildren}
 use Rattle.sp_areas.specs.Tree.{AreLists, with_list}
 use Rattle.sp_areas.proofs.Growing.{at_last, before_last, put_lists, raised}
@@ -29,7 +29,7 @@ puts_again old number n is = record { more = length-append old (n ∷ []); lists
         put_lists ls lists old n (lists number) are
         (raised ls lists (length old) (lists number) (lists number) n (are number n e))
 
-pub puts_index : (old new : List Node) (around x : ℕ) → Puts old new (frame.Index x) (Some around)
+pub puts_index : (old new : List Node) (around x : ℕ) → PutsNode old new (frame.Index x) (Some around)
     → PutsChild old new around (Some x)
 puts_index old new around x p = record { more = p.more; lists = λ ls lists are l. p.lists ls lists are tt l }
 

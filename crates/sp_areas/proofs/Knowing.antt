@@ -20,12 +20,12 @@ use Rattle.sp_areas.specs.declared.tree.Frame.{Frame}
 use Rattle.sp_areas.specs.Homes.{AreHomes}
 use Rattle.sp_areas.specs.Misnamed.{Decides}
 use Rattle.sp_areas.specs.Only.{LiesOnlyIn, UnknownOnly}
-use Rattle.sp_areas.specs.Tree.{home_of, IsFound, IsFrame}
-use Rattle.sp_areas.specs.Least.{IsLeast, Upto}
+use Rattle.sp_areas.specs.Tree.{home_of, IsFrameOfHome, IsFrame}
+use Rattle.sp_areas.specs.LeastPlaces.{IsLeast, Upto}
 use Rattle.sp_areas.specs.declared.owners.Owner.TheVariants as owner
 use Rattle.sp_areas.specs.Owners.{owner_of, Owns}
 use Rattle.sp_areas.specs.Unknown.{ChildUnknown, HasUnknown, IsBelow, IsBetter, OneUnknown, UnknownBy}
-use Rattle.sp_areas.proofs.Leasts.{same}
+use Rattle.sp_areas.proofs.Leasts.{least_of_same}
 use Rattle.sp_areas.proofs.Owned.{named_within}
 use Rattle.sp_areas.proofs.Surrounding.{owner_is}
 use Rattle.sp_areas.proofs.Outward.{drop_none}
@@ -91,17 +91,20 @@ some_at ls x (g ∷ hs) zero h e t = or_left (has_variable ls x g) (some_has ls 
     (ap (has_variable ls x) (same_Some g h e) ∙ t)
 some_at ls x (g ∷ hs) (suc k) h e t = or_right (has_variable ls x g) (some_has ls x hs) (some_at ls x hs k h e t)
 
-pub near_has : (ls : List Layout) (x : ℕ) (hs : List Home) (k : ℕ) (f : Frame) → IsFound ls (slice_get hs k) (Some f)
+pub near_has : (ls : List Layout) (x : ℕ) (hs : List Home) (k : ℕ) (f : Frame)
+    → IsFrameOfHome ls (slice_get hs k) (Some f)
     → (IsFrame ls f → has_variable ls x (home_of f) ≡ true) → some_has ls x hs ≡ true
 near_has ls x hs k f i t = some_at ls x hs k (home_of f) (sym i.is) (t (i.frame f refl))
 
-pub around_next : (ls : List Layout) (x : ℕ) (hs : List Home) (k : ℕ) (f : Frame) → IsFound ls (slice_get hs k) (Some f)
+pub around_next : (ls : List Layout) (x : ℕ) (hs : List Home) (k : ℕ) (f : Frame)
+    → IsFrameOfHome ls (slice_get hs k) (Some f)
     → some_has ls x hs ≡ some_has ls x (drop k hs) → (IsFrame ls f → false ≡ has_variable ls x (home_of f))
     → some_has ls x hs ≡ some_has ls x (drop (k + 1) hs)
 around_next ls x hs k f i h t = h ∙ ap (some_has ls x) (drop_split hs k (home_of f) (sym i.is))
     ∙ ap (λ (b : Bool). b || some_has ls x (drop (k + 1) hs)) (sym (t (i.frame f refl)))
 
-pub around_here : (ls : List Layout) (x : ℕ) (hs : List Home) (k : ℕ) (f : Frame) → IsFound ls (slice_get hs k) (Some f)
+pub around_here : (ls : List Layout) (x : ℕ) (hs : List Home) (k : ℕ) (f : Frame)
+    → IsFrameOfHome ls (slice_get hs k) (Some f)
     → (IsFrame ls f → true ≡ has_variable ls x (home_of f)) → true ≡ some_has ls x hs
 around_here ls x hs k f i t = sym (near_has ls x hs k f i (λ z. sym (t z)))
 
@@ -196,7 +199,7 @@ least_better P first result p U h (inr (e, below, u)) = subst (IsLeast (λ n. P 
 
 module _ (P : ℕ → Type 0) (ls : List Layout) (hs : List Home) (ts : List ChildTable) where
   pub children_none : (first : Option ℕ) → IsLeast P first → IsLeast (λ p. P p ⊎ Upto (ChildUnknown ls hs ts) 0 p) first
-  children_none first h = same P (λ p. P p
+  children_none first h = least_of_same P (λ p. P p
       ⊎ Upto (ChildUnknown ls hs ts) 0 p) first (λ p z. inl z)
       (λ p z. ⊎_elim (λ w. w) (λ (u : Upto (ChildUnknown ls hs ts) 0 p). absurd (omega (arith, u.below))) z) h
 
@@ -205,7 +208,7 @@ module _ (P : ℕ → Type 0) (ls : List Layout) (hs : List Home) (ts : List Chi
       → IsBetter first ch.entry (HasUnknown ls (ch.moved ++ ch.shared) hs) result
       → IsLeast (λ p. P p ⊎ Upto (ChildUnknown ls hs ts) (n + 1) p) result
   children_more first result n ch e h b =
-      same (λ p. (P p ⊎ Upto (ChildUnknown ls hs ts) n p)
+      least_of_same (λ p. (P p ⊎ Upto (ChildUnknown ls hs ts) n p)
       ⊎ ((ch.entry ≡ p) × HasUnknown ls (ch.moved ++ ch.shared) hs)) (λ p. P p
       ⊎ Upto (ChildUnknown ls hs ts) (n + 1) p) result up down
       (least_better (λ p. P p ⊎ Upto (ChildUnknown ls hs ts) n p) first result ch.entry
@@ -238,7 +241,7 @@ module _ (c : Parts) where
   -- an instruction that hands nothing unknown on
   pub after_none : (q : ℕ) (o : Option ℕ) → ((p : ℕ) → UnknownBy c q p → ⊥) → IsLeast (Upto (UnknownBy c) q) o
       → IsLeast (Upto (UnknownBy c) (q + 1)) o
-  after_none q o never h = same (Upto (UnknownBy c) q) (Upto (UnknownBy c) (q + 1)) o
+  after_none q o never h = least_of_same (Upto (UnknownBy c) q) (Upto (UnknownBy c) (q + 1)) o
       (λ p u. record { item = u.item; below = (let l = u.below in omega (arith, l)); holds = u.holds })
       (λ p u. down p u (below_or_last u.item q u.below)) h
     where
@@ -252,7 +255,8 @@ module _ (c : Parts) where
       ⊎ Upto (ChildUnknown c.layouts (homes c a) tb.children) (length tb.children) p) o
       → IsLeast (Upto (UnknownBy c) (q + 1)) o
   after_table q t tb a o names only there h =
-      same (λ p. Upto (UnknownBy c) q p ⊎ Upto (ChildUnknown c.layouts (homes c a) tb.children) (length tb.children) p)
+      least_of_same (λ p. Upto (UnknownBy c) q p ⊎ Upto (ChildUnknown c.layouts (homes c a) tb.children)
+      (length tb.children) p)
       (Upto (UnknownBy c) (q + 1)) o up (λ p u. down p u (below_or_last u.item q u.below)) h
     where
       up : (p : ℕ) → Upto (UnknownBy c) q p
@@ -314,7 +318,7 @@ module _ (c : Parts) where
       none-some u.2 (sym (ap (λ (o : Option ForkTable). child_of o u.1) (ap (slice_get c.forks) s ∙ n)) ∙ u.6)
 
   pub all_unknown : (o : Option ℕ) → IsLeast (Upto (UnknownBy c) (length c.instrs)) o → IsLeast (UnknownOnly c) o
-  all_unknown o h = same (Upto (UnknownBy c) (length c.instrs)) (UnknownOnly c) o up down h
+  all_unknown o h = least_of_same (Upto (UnknownBy c) (length c.instrs)) (UnknownOnly c) o up down h
     where
       up : (p : ℕ) → Upto (UnknownBy c) (length c.instrs) p → UnknownOnly c p
       up p u = let x = u.holds in let h = x.8 in (x.0, u.item, x.1, h.0, x.2, x.3, x.4, x.5, x.6, x.7, h.1, h.2, h.3)

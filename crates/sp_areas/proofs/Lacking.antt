@@ -15,10 +15,10 @@ use Rattle.sp_areas.specs.Alone.{Marks, flag_at}
 use Rattle.sp_areas.specs.Blocks.{number_from}
 use Rattle.sp_areas.specs.Grown.{node_at, AreAllLed}
 use Rattle.sp_areas.specs.Homeless.{LacksHome, HomelessAt, is_place, IsDoubled, AreDoubled}
-use Rattle.sp_areas.specs.Least.{IsLeast, Upto}
+use Rattle.sp_areas.specs.LeastPlaces.{IsLeast, Upto}
 use Rattle.sp_areas.specs.Misnamed.{Decides}
 use Rattle.sp_areas.proofs.Leading.{layout_block, place_there, placed_layout}
-use Rattle.sp_areas.proofs.Leasts.{same}
+use Rattle.sp_areas.proofs.Leasts.{least_of_same}
 
 place_is : (o : Option ℕ) (j : ℕ) → is_place o j ≡ true → o ≡ Some j
 place_is None j e = absurd (cc e)
@@ -153,7 +153,7 @@ module _ (ls : List Layout) (j : ℕ) (l : Layout) (e : slice_get ls j ≡ Some 
 
   pub one_homeless : (b : Bool) (o : Option ℕ) → Decides b (LacksHome ls j l)
       → IsLeast (λ p. (l.entry ≡ p) × (b ≡ true)) o → IsLeast (HomelessAt ls j) o
-  one_homeless b o d h = same (λ p. (l.entry ≡ p)
+  one_homeless b o d h = least_of_same (λ p. (l.entry ≡ p)
       × (b ≡ true)) (HomelessAt ls j) o (λ p z. (l, e, z.0, d.yes z.1)) (λ p z. down p z b refl) h
     where
       down : (p : ℕ) → HomelessAt ls j p → (t : Bool) → b ≡ t → (l.entry ≡ p) × (b ≡ true)
@@ -169,6 +169,6 @@ module _ (ls : List Layout) (j : ℕ) (l : Layout) (e : slice_get ls j ≡ Some 
 
 pub all_homeless : (c : Parts) (o : Option ℕ) → IsLeast (Upto (HomelessAt c.layouts) (length c.layouts)) o
     → IsLeast (Homeless c) o
-all_homeless c o h = same (Upto (HomelessAt c.layouts) (length c.layouts)) (Homeless c) o
+all_homeless c o h = least_of_same (Upto (HomelessAt c.layouts) (length c.layouts)) (Homeless c) o
     (λ p u. (u.item, u.holds.0, u.holds.1, u.holds.2, u.holds.3))
     (λ p z. record { item = z.0; below = slice_get_within c.layouts z.0 z.1 z.2; holds = (z.1, z.2, z.3, z.4) }) h

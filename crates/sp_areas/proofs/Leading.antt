@@ -13,14 +13,15 @@ use Rattle.sp_base.proofs.Facts.{get_beside_set, get_where_set, item_is_not_none
 use Rattle.sp_code.specs.declared.code.Layout.{Layout}
 use Rattle.sp_code.specs.Machine.{layout_of}
 use Rattle.sp_code.specs.Memory.{Home, OfBlock}
-use Rattle.sp_rules.specs.Areas.{given, parent_of, is_root, leads_by, homes_by}
+use Rattle.sp_rules.specs.Areas.{on_option, parent_of, is_root, leads_by, homes_by}
 use Rattle.sp_rules.specs.Named as named
 use Rattle.sp_rules.proofs.Scoping.{none_homes}
 use Rattle.sp_areas.specs.declared.tree.Frame.TheVariants as frame
 use Rattle.sp_areas.specs.declared.tree.Grown.{Grown}
 use Rattle.sp_areas.specs.declared.tree.Node.{Node}
 use Rattle.sp_areas.specs.Blocks.{number_from}
-use Rattle.sp_areas.specs.Grown.{node_at, left, lacking, Gets, Steps, EachItem, IsLed, AreLed, parent_node, inside_of}
+use Rattle.sp_areas.specs.Grown.{node_at, none_count, one_if_none, GetsNode, GrowthStep, EachItem, IsLed, AreLed}
+use Rattle.sp_areas.specs.Grown.{parent_node, inside_of}
 use Rattle.sp_areas.specs.Grown.{IsTried, AreAllLed}
 use Rattle.sp_areas.specs.Tree.{IsAround, around_list, with_list}
 use Rattle.sp_areas.proofs.BlockLaws.{has_layout, place_none, place_some}
@@ -81,13 +82,13 @@ is_parent : (ls : List Layout) (os : List (Option ℕ)) (l : Layout) (n : ℕ) �
 is_parent ls os l n e = go l.parent refl e
   where
     at : (b : ℕ) → l.parent ≡ Some b → (o : Option ℕ) → number_from 0 ls b ≡ o
-        → given None o (λ k. node_at os k) ≡ Some n → IsParent ls os l n
+        → on_option None o (λ k. node_at os k) ≡ Some n → IsParent ls os l n
     at b p None s e = absurd (none-some n e)
     at b p (Some k) s e = let m = placed_layout ls b k s in
         record { block = b; place = k; layout = m.0; parent = p; there = m.1; first = m.2; node = e }
 
     go : (o : Option ℕ) → l.parent ≡ o
-        → given None o (λ b. given None (number_from 0 ls b) (λ k. node_at os k)) ≡ Some n → IsParent ls os l n
+        → on_option None o (λ b. on_option None (number_from 0 ls b) (λ k. node_at os k)) ≡ Some n → IsParent ls os l n
     go None p e = absurd (none-some n e)
     go (Some b) p e = at b p (number_from 0 ls b) refl e
 
@@ -100,20 +101,22 @@ is_inside : (ls : List Layout) (os : List (Option ℕ)) (l : Layout) (o : Option
     → IsInside ls os l o
 is_inside ls os l o e = go (l.block == 0) refl e
   where
-    at : l.block == 0 ≡ false → (u : Option ℕ) → parent_node ls os l ≡ u → given None u (λ n. Some (Some n)) ≡ Some o
+    at : l.block == 0 ≡ false → (u : Option ℕ) → parent_node ls os l ≡ u → on_option None u (λ n. Some (Some n))
+        ≡ Some o
         → IsInside ls os l o
     at z None s e = absurd (none-some o e)
     at z (Some n) s e = InParent z n (sym (same_Some (Some n) o e)) (is_parent ls os l n s)
 
     go : (t : Bool) → l.block == 0 ≡ t
-        → (if t then Some None else given None (parent_node ls os l) (λ n. Some (Some n))) ≡ Some o → IsInside ls os l o
+        → (if t then Some None else on_option None (parent_node ls os l) (λ n. Some (Some n))) ≡ Some o
+        → IsInside ls os l o
     go true z e = AsRoot z (sym (same_Some None o e))
     go false z e = at z (parent_node ls os l) refl e
 
 no_parent : (l : Layout) → is_root (Some l) ≡ true → l.parent ≡ None
 no_parent l e = go l.parent refl e
   where
-    go : (o : Option ℕ) → l.parent ≡ o → given true o (λ b. false) ≡ true → l.parent ≡ None
+    go : (o : Option ℕ) → l.parent ≡ o → on_option true o (λ b. false) ≡ true → l.parent ≡ None
     go None s e = s
     go (Some b) s e = absurd (cc e)
 
@@ -169,23 +172,23 @@ module _ (ls : List Layout) (os : List (Option ℕ)) (lists : ℕ → List Home)
 lacks : (os : List (Option ℕ)) (j : ℕ) → j < length os → node_at os j ≡ None → slice_get os j ≡ Some None
 lacks os j l e = go (slice_get os j) refl e
   where
-    go : (o : Option (Option ℕ)) → slice_get os j ≡ o → given None o (λ u. u) ≡ None → slice_get os j ≡ Some None
+    go : (o : Option (Option ℕ)) → slice_get os j ≡ o → on_option None o (λ u. u) ≡ None → slice_get os j ≡ Some None
     go None s e = absurd (item_is_not_none os j l s)
     go (Some u) s e = s ∙ ap Some e
 
 -- one that had none has one now: one fewer lacks it
 pub left_falls : (os : List (Option ℕ)) (j n : ℕ) → j < length os → node_at os j ≡ None
-    → left (slice_set os j (Some n)) + 1 ≡ left os
+    → none_count (slice_set os j (Some n)) + 1 ≡ none_count os
 left_falls os j n l e =
-    let s = sum_by-set lacking os j (Some n) None l in
-    let g = ap lacking (get_or_from_slice_get os j None None (lacks os j l e)) in
+    let s = sum_by-set one_if_none os j (Some n) None l in
+    let g = ap one_if_none (get_or_from_slice_get os j None None (lacks os j l e)) in
     omega (arith, s, g)
 
 pub node_new : (os : List (Option ℕ)) (j n : ℕ) → j < length os → node_at (slice_set os j (Some n)) j ≡ Some n
-node_new os j n l = ap (λ (u : Option (Option ℕ)). given None u (λ o. o)) (get_where_set os j (Some n) l)
+node_new os j n l = ap (λ (u : Option (Option ℕ)). on_option None u (λ o. o)) (get_where_set os j (Some n) l)
 
 pub node_old : (os : List (Option ℕ)) (j n k : ℕ) → j ≢ k → node_at (slice_set os j (Some n)) k ≡ node_at os k
-node_old os j n k d = ap (λ (u : Option (Option ℕ)). given None u (λ o. o)) (get_beside_set os j k (Some n) d)
+node_old os j n k d = ap (λ (u : Option (Option ℕ)). on_option None u (λ o. o)) (get_beside_set os j k (Some n) d)
 
 pub is_none : {T : Type 0} (o : Option T) → is_some o ≡ false → o ≡ None
 is_none None e = refl
@@ -203,13 +206,13 @@ length_none (suc k) = ap suc (length_none k)
 module _ (ls : List Layout) where
   pub led_more : (old new : Grown) (j place : ℕ) (l : Layout) (o : Option ℕ) → AreLed ls old → slice_get ls j ≡ Some l
       → node_at old.of j ≡ None → number_from 0 ls l.block ≡ Some place
-      → inside_of ls old.of l ≡ Some o → Gets old new j (frame.Block l.block place) o → AreLed ls new
+      → inside_of ls old.of l ≡ Some o → GetsNode old new j (frame.Block l.block place) o → AreLed ls new
   led_more old new j place l o are e n p i g = record {
     lists = lists;
     tree = g.puts.lists ls are.lists are.tree (place_some ls l.block place p) around;
     long = ap length g.of ∙ length-set old.of j (Some size) ∙ are.long;
     count = (let a = are.count in let b = g.puts.more in let f = left_falls old.of j size long n in
-        let s = ap left g.of in omega (arith, a, b, f, s));
+        let s = ap none_count g.of in omega (arith, a, b, f, s));
     each = each;
   }
     where
@@ -262,11 +265,12 @@ module _ (ls : List Layout) where
 
   pub led_step : (old new : Grown) (j place : ℕ) (l : Layout) (o : Option ℕ) → AreLed ls old → slice_get ls j ≡ Some l
       → node_at old.of j ≡ None → number_from 0 ls l.block ≡ Some place
-      → inside_of ls old.of l ≡ Some o → Gets old new j (frame.Block l.block place) o
-      → Steps (AreLed ls) old new (IsTried ls j) true
+      → inside_of ls old.of l ≡ Some o → GetsNode old new j (frame.Block l.block place) o
+      → GrowthStep (AreLed ls) old new (IsTried ls j) true
   led_step old new j place l o are e n p i g = record {
     just = led_more old new j place l o are e n p i g;
-    less = λ z. (let f = left_falls old.of j (length old.nodes) long n in let s = ap left g.of in omega (arith, f, s));
+    less = λ z. (let f = left_falls old.of j (length old.nodes) long n in let s = ap none_count g.of in
+        omega (arith, f, s));
     same = λ z. absurd (cc z);
   }
     where
@@ -275,8 +279,9 @@ module _ (ls : List Layout) where
 
   -- ---- the beginning
 
-  all_left : (count : ℕ) → left (replicate count None) ≡ count
-  all_left count = let e : left (replicate count None) ≡ count * 1 = sum_by-replicate lacking count None in omega
+  all_left : (count : ℕ) → none_count (replicate count None) ≡ count
+  all_left count = let e : none_count (replicate count None) ≡ count * 1 =
+      sum_by-replicate one_if_none count None in omega
       (arith, e)
 
   pub none_led : (g : Grown) → g.nodes ≡ [] → g.of ≡ replicate (length ls) None → AreLed ls g
@@ -284,7 +289,8 @@ module _ (ls : List Layout) where
     lists = λ k. [];
     tree = λ k n e. absurd (none-some n (ap (λ (ns : List Node). slice_get ns k) (sym en) ∙ e));
     long = ap length eo ∙ length_none (length ls);
-    count = (let a = ap length en in let b = ap left eo in let d = all_left (length ls) in omega (arith, a, b, d));
+    count = (let a = ap length en in let b = ap none_count eo in let d = all_left (length ls) in
+        omega (arith, a, b, d));
     each = λ j n l e s. absurd (nothing_at (length ls) j n (ap (λ (os : List (Option ℕ)). node_at os j) (sym eo) ∙ e));
   }
 
@@ -292,46 +298,48 @@ module _ (ls : List Layout) where
 
 module _ (ls : List Layout) (g : Grown) (are : AreLed ls g) (tried : EachItem (IsTried ls) (length ls) g) where
   root : (l : Layout) → l.block == 0 ≡ true → inside_of ls g.of l ≡ Some None
-  root l z = ap (λ (t : Bool). if t then Some None else given None (parent_node ls g.of l) (λ n. Some (Some n))) z
+  root l z = ap (λ (t : Bool). if t then Some None else on_option None (parent_node ls g.of l) (λ n. Some (Some n))) z
 
   inner : (l : Layout) (b k n : ℕ) → l.block == 0 ≡ false → l.parent ≡ Some b → number_from 0 ls b ≡ Some k
       → node_at g.of k ≡ Some n → inside_of ls g.of l ≡ Some (Some n)
   inner l b k n z p q s =
-      ap (λ (t : Bool). if t then Some None else given None (parent_node ls g.of l) (λ n. Some (Some n))) z
-      ∙ ap (λ (u : Option ℕ). given None u (λ n. Some (Some n)))
-      (ap (λ (u : Option ℕ). given None u (λ b. given None (number_from 0 ls b) (λ k. node_at g.of k))) p
-      ∙ ap (λ (u : Option ℕ). given None u (λ k. node_at g.of k)) q ∙ s)
+      ap (λ (t : Bool). if t then Some None else on_option None (parent_node ls g.of l) (λ n. Some (Some n))) z
+      ∙ ap (λ (u : Option ℕ). on_option None u (λ n. Some (Some n)))
+      (ap (λ (u : Option ℕ). on_option None u (λ b. on_option None (number_from 0 ls b) (λ k. node_at g.of k))) p
+      ∙ ap (λ (u : Option ℕ). on_option None u (λ k. node_at g.of k)) q ∙ s)
 
   nowhere : (k : ℕ) → leads_by k ls None ≡ true → ⊥
   nowhere zero e = cc (e)
   nowhere (suc k) e = cc (e)
 
-  abbrev Has : ℕ → Type 0
-  Has j = (n : ℕ) × (node_at g.of j ≡ Some n)
+  abbrev HasNode : ℕ → Type 0
+  HasNode j = (n : ℕ) × (node_at g.of j ≡ Some n)
 
-  abbrev All : ℕ → Type 0
-  All k = (j : ℕ) (l : Layout) → slice_get ls j ≡ Some l → leads_by k ls (Some l) ≡ true → (n : ℕ)
+  abbrev AllLedHaveNodes : ℕ → Type 0
+  AllLedHaveNodes k = (j : ℕ) (l : Layout) → slice_get ls j ≡ Some l → leads_by k ls (Some l) ≡ true → (n : ℕ)
       × (node_at g.of j ≡ Some n)
 
-  at_parent : (k : ℕ) → All k → (j : ℕ) (l : Layout) → slice_get ls j ≡ Some l → (b : ℕ) → l.block == 0 ≡ false
-      → l.parent ≡ Some b → (u : Option ℕ) → number_from 0 ls b ≡ u → leads_by k ls (layout_of ls b) ≡ true → Has j
+  at_parent : (k : ℕ) → AllLedHaveNodes k → (j : ℕ) (l : Layout) → slice_get ls j ≡ Some l → (b : ℕ)
+      → l.block == 0 ≡ false
+      → l.parent ≡ Some b → (u : Option ℕ) → number_from 0 ls b ≡ u → leads_by k ls (layout_of ls b) ≡ true → HasNode j
   at_parent k on j l e b z p None q h = absurd (nowhere k (ap (leads_by k ls) (sym (place_none 0 ls b q)) ∙ h))
   at_parent k on j l e b z p (Some place) q h =
       let m = placed_layout ls b place q in
       let n = on place m.0 m.1 (ap (leads_by k ls) (sym m.2) ∙ h) in
       tried j (slice_get_within ls j l e) l (Some n.0) e (inner l b place n.0 z p q n.1)
 
-  up : (k : ℕ) → All k → (j : ℕ) (l : Layout) → slice_get ls j ≡ Some l → (u : Option ℕ) → l.block == 0 ≡ false
-      → l.parent ≡ u → leads_by k ls (parent_of ls u) ≡ true → Has j
+  up : (k : ℕ) → AllLedHaveNodes k → (j : ℕ) (l : Layout) → slice_get ls j ≡ Some l → (u : Option ℕ)
+      → l.block == 0 ≡ false
+      → l.parent ≡ u → leads_by k ls (parent_of ls u) ≡ true → HasNode j
   up k on j l e None z p h = absurd (nowhere k h)
   up k on j l e (Some b) z p h = at_parent k on j l e b z p (number_from 0 ls b) refl h
 
-  one : (k : ℕ) → All k → (j : ℕ) (l : Layout) → slice_get ls j ≡ Some l → (t : Bool) → l.block == 0 ≡ t
-      → (if t then true else leads_by k ls (parent_of ls l.parent)) ≡ true → Has j
+  one : (k : ℕ) → AllLedHaveNodes k → (j : ℕ) (l : Layout) → slice_get ls j ≡ Some l → (t : Bool) → l.block == 0 ≡ t
+      → (if t then true else leads_by k ls (parent_of ls l.parent)) ≡ true → HasNode j
   one k on j l e true z h = tried j (slice_get_within ls j l e) l None e (root l z)
   one k on j l e false z h = up k on j l e l.parent z refl h
 
-  all : (k : ℕ) → All k
+  all : (k : ℕ) → AllLedHaveNodes k
   all zero j l e h = absurd (cc h)
   all (suc k) j l e h = one k (all k) j l e (l.block == 0) refl h
 

@@ -8,17 +8,17 @@ use Rattle.std.proofs.lemmas.Bool.{cases_eq}
 use Rattle.sp_base.proofs.Facts.{get_beside_set, get_where_set, item_is_not_none, less_same_or_more}
 use Rattle.sp_code.specs.declared.code.ForkTable.{ForkTable}
 use Rattle.sp_code.specs.declared.code.Parts.{Parts}
-use Rattle.sp_rules.specs.Areas.{Area, given, child_of}
+use Rattle.sp_rules.specs.Areas.{Area, on_option, child_of}
 use Rattle.sp_rules.specs.Named.{LiesIn, Names, Unnamed}
 use Rattle.sp_areas.specs.declared.naming.Namer.{Namer}
 use Rattle.sp_areas.specs.declared.naming.Namer.TheVariants as namer
 use Rattle.sp_areas.specs.declared.owners.Owner.{Owner}
 use Rattle.sp_areas.specs.declared.owners.Owner.TheVariants as owner
 use Rattle.sp_areas.specs.Alone.{ChildFails}
-use Rattle.sp_areas.specs.Least.{IsLeast, Upto}
+use Rattle.sp_areas.specs.LeastPlaces.{IsLeast, Upto}
 use Rattle.sp_areas.specs.Owners.{Owns, AreOwners, is_same}
-use Rattle.sp_areas.specs.Namers.{with_namer, noted, none_yet, is_lost, NamedBy, AreNamers, IsLost, LostAt}
-use Rattle.sp_areas.proofs.Leasts.{same, all}
+use Rattle.sp_areas.specs.Namers.{with_namer, with_namer_of, none_yet, is_lost, NamedBy, AreNamers, IsLost, LostAt}
+use Rattle.sp_areas.proofs.Leasts.{least_of_same, all}
 use Rattle.sp_areas.proofs.Owning.{same_is}
 use Rattle.sp_areas.proofs.Owned.{named_within, table_of}
 
@@ -66,13 +66,14 @@ module _ (c : Parts) where
   pub named_none : (n : ℕ) (ws : List Namer) → ((t : ℕ) → Names c t n → ⊥) → AreNamers c n ws → AreNamers c (n + 1) ws
   named_none n ws not h = (h.0, λ t w e. no_more n t w (not t) (h.1 t w e))
 
-  pub named_one : (n u : ℕ) (ws : List Namer) → Names c u n → AreNamers c n ws → AreNamers c (n + 1) (noted ws u n)
+  pub named_one : (n u : ℕ) (ws : List Namer) → Names c u n → AreNamers c n ws
+      → AreNamers c (n + 1) (with_namer_of ws u n)
   named_one n u ws is h = go (slice_get ws u) refl
     where
       other : (t : ℕ) → u ≢ t → Names c t n → ⊥
       other t d m = d (one_name u t n is m)
 
-      go : (o : Option Namer) → slice_get ws u ≡ o → AreNamers c (n + 1) (given ws o (λ w. slice_set ws u
+      go : (o : Option Namer) → slice_get ws u ≡ o → AreNamers c (n + 1) (on_option ws o (λ w. slice_set ws u
           (with_namer w n)))
       go None e = (
         h.0,
@@ -100,7 +101,8 @@ module _ (c : Parts) where
     lost_is t namer.Nothing h e = inl (λ q m. h q (named_within c t q m) m)
     lost_is t (namer.One p) h e = inr (inr (p, h.1, go (slice_get os p) refl e))
       where
-        go : (o : Option Owner) → slice_get os p ≡ o → given true o (λ v. is_same v owner.Nobody) ≡ true → (a : Area)
+        go : (o : Option Owner) → slice_get os p ≡ o → on_option true o (λ v. is_same v owner.Nobody) ≡ true
+            → (a : Area)
             → LiesIn c p a → ⊥
         go None s z = absurd (let l = named_within c t p h.1 in let n = are.0 in
             item_is_not_none os p (omega (arith, l, n)) s)
@@ -120,7 +122,7 @@ module _ (c : Parts) where
         ∙ sym (h.2 r (named_within c t r n) n)))
     is_so_lost t (namer.One p) h (inr (inr (q, m, none))) = go (slice_get os p) refl
       where
-        go : (o : Option Owner) → slice_get os p ≡ o → given true o (λ v. is_same v owner.Nobody) ≡ true
+        go : (o : Option Owner) → slice_get os p ≡ o → on_option true o (λ v. is_same v owner.Nobody) ≡ true
         go None s = refl
         go (Some v) s = none_here v p (are.1 p v s) (subst (λ y. (a : Area) → LiesIn c y a → ⊥)
             (h.2 q (named_within c t q m) m) none)
@@ -129,7 +131,7 @@ module _ (c : Parts) where
     pub one_table : (t : ℕ) (tb : ForkTable) (w : Namer) (b : Bool) (o : Option ℕ) → slice_get c.forks t ≡ Some tb
         → NamedBy c (length c.instrs) t w → b ≡ is_lost os w
         → IsLeast (ChildFails (λ ch. b) tb.children 0) o → IsLeast (LostAt c t) o
-    one_table t tb w b o e h s = same (ChildFails (λ ch. b) tb.children 0) (LostAt c t) o up down
+    one_table t tb w b o e h s = least_of_same (ChildFails (λ ch. b) tb.children 0) (LostAt c t) o up down
       where
         up : (p : ℕ) → ChildFails (λ ch. b) tb.children 0 p → LostAt c t p
         up p (ch, f, at, z) = (ch, ap (λ (y : Option ForkTable). child_of y 0) e ∙ f, at, lost_is t w h (sym s ∙ z))

@@ -8,7 +8,7 @@ use Rattle.sp_base.proofs.Facts.{not_true_and_false}
 use Rattle.sp_code.specs.declared.instr.Instr.{Instr}
 use Rattle.sp_code.specs.declared.instr.Instr.TheVariants as i
 use Rattle.sp_code.specs.declared.code.Parts.{Parts}
-use Rattle.sp_rules.specs.Areas.{Area, Body, Child, Found, given, instr_at, variable_at}
+use Rattle.sp_rules.specs.Areas.{Area, Body, Child, VariableInfo, on_option, instr_at, variable_at}
 use Rattle.sp_rules.specs.Named.{is_some, is_loop_variable, is_plain, is_reference, level_fits, in_range, names_well}
 use Rattle.sp_rules.specs.Named.{loops_well}
 use Rattle.sp_areas.specs.declared.owners.Owner.{Owner}
@@ -18,19 +18,19 @@ use Rattle.sp_areas.specs.Only.{LiesOnlyIn}
 use Rattle.sp_areas.specs.Owners.{owner_of, IsOnly, Owns}
 use Rattle.sp_areas.proofs.Surrounding.{owner_is}
 
-nothing : (o : Option Found) → is_some o ≡ false → o ≡ None
+nothing : (o : Option VariableInfo) → is_some o ≡ false → o ≡ None
 nothing None e = refl
 nothing (Some f) e = absurd (cc e)
 
 module _ (c : Parts) where
   -- a variable that is not there may not be named
-  no_plain : (o : Option Found) → is_some o ≡ false → given false o (λ f. is_plain f.naming) ≡ false
-  no_plain o e = ap (λ (u : Option Found). given false u (λ f. is_plain f.naming)) (nothing o e)
+  no_plain : (o : Option VariableInfo) → is_some o ≡ false → on_option false o (λ f. is_plain f.naming) ≡ false
+  no_plain o e = ap (λ (u : Option VariableInfo). on_option false u (λ f. is_plain f.naming)) (nothing o e)
 
-  no_reference : (o : Option Found) → is_some o ≡ false → given false o (λ f. is_reference f.naming) ≡ false
-  no_reference o e = ap (λ (u : Option Found). given false u (λ f. is_reference f.naming)) (nothing o e)
+  no_reference : (o : Option VariableInfo) → is_some o ≡ false → on_option false o (λ f. is_reference f.naming) ≡ false
+  no_reference o e = ap (λ (u : Option VariableInfo). on_option false u (λ f. is_reference f.naming)) (nothing o e)
 
-  no_loop : (o : Option Found) → is_some o ≡ false → is_loop_variable o ≡ false
+  no_loop : (o : Option VariableInfo) → is_some o ≡ false → is_loop_variable o ≡ false
   no_loop o e = ap is_loop_variable (nothing o e)
 
   ranged : (a : Area) (o : Option Instr) → in_range c a o ≡ false → (names_well c a o && loops_well c a o) ≡ false

@@ -8,7 +8,7 @@ use Rattle.sp_code.specs.declared.code.Layout.{Layout}
 use Rattle.sp_code.specs.Memory.{Home}
 use Rattle.sp_areas.specs.declared.tree.Jump.{Jump}
 use Rattle.sp_areas.specs.declared.tree.Node.{Node}
-use Rattle.sp_areas.specs.Tree.{home_of, IsFrame, around_list, IsJump, IsNode, IsFound}
+use Rattle.sp_areas.specs.Tree.{home_of, IsFrame, around_list, IsJump, IsNode, IsFrameOfHome}
 
 pub drop_none : {T : Type 0} (xs : List T) → drop 0 xs ≡ xs
 drop_none [] = refl
@@ -52,7 +52,7 @@ drop_along lists size left up hs xs j e l i =
 module _ (ls : List Layout) (lists : ℕ → List Home) (size : ℕ) where
   -- with no level left, it is the node's own
   pub found_here : (hs xs : List Home) (up left : ℕ) (n : Node) → IsNode ls lists size hs n → drop up xs ≡ drop left hs
-      → left ≡ 0 → IsFound ls (slice_get xs up) (Some n.frame)
+      → left ≡ 0 → IsFrameOfHome ls (slice_get xs up) (Some n.frame)
   found_here hs xs up left n i e z = record {
     is = sym at;
     frame = λ f s. subst (IsFrame ls)
@@ -65,7 +65,7 @@ module _ (ls : List Layout) (lists : ℕ → List Home) (size : ℕ) where
 
   -- with levels left and nothing around, there is none
   pub found_none : (hs xs : List Home) (up left : ℕ) (n : Node) → IsNode ls lists size hs n → drop up xs ≡ drop left hs
-      → 0 < left → n.around ≡ None → IsFound ls (slice_get xs up) None
+      → 0 < left → n.around ≡ None → IsFrameOfHome ls (slice_get xs up) None
   found_none hs xs up left n i e l s = record { is = sym at; frame = λ f t. absurd (none-some f t) }
     where
       nothing : (k : ℕ) (h : Home) → 0 < k → drop k (h ∷ []) ≡ []

@@ -15,10 +15,10 @@ use Rattle.sp_areas.specs.declared.owners.Owner.{Owner}
 use Rattle.sp_areas.specs.declared.owners.Owner.TheVariants as owner
 use Rattle.sp_rules.specs.Areas.{Area, Body, Child, instr_at, table_named, table_at, child_of, child_at, entry}
 use Rattle.sp_rules.specs.Areas.{entry_of_child, entry_of_layout}
-use Rattle.sp_rules.specs.Reach.{IsIn, IsArea, Passes, Goes, nexts}
+use Rattle.sp_rules.specs.Reach.{IsIn, IsArea, IsInCodeOf, LeadsInSteps, nexts}
 use Rattle.sp_rules.specs.Named.{LiesIn, Names, IsChild}
 use Rattle.sp_areas.specs.Owners.{owner_of, IsOnly, Owns, AreOwners, HasOne, IsTrueOf, AreTrue, IsOwner, as_child}
-use Rattle.sp_areas.specs.Owners.{of_child, Knows, IsClosed}
+use Rattle.sp_areas.specs.Owners.{of_child, KnowsOwner, IsAllSpread}
 use Rattle.sp_areas.proofs.Owning.{lies_in}
 
 pub layout_in : (ls : List Layout) (b : ℕ) (l : Layout) → layout_of ls b ≡ Some l → (j : ℕ) × (slice_get ls j ≡ Some l)
@@ -76,9 +76,9 @@ some_child p (owner.Block b) some e = cc (e)
 some_child p (owner.Child q k) some e = cc (e)
 some_child p owner.Several some e = cc (e)
 
-module _ (c : Parts) (os : List Owner) (are : AreTrue c os) (closed : IsClosed c os) where
+module _ (c : Parts) (os : List Owner) (are : AreTrue c os) (closed : IsAllSpread c os) where
   -- what is known above is known
-  higher : (x y : ℕ) (o : Owner) (k : Knows os x o) → Knows os y k.found → Knows os y o
+  higher : (x y : ℕ) (o : Owner) (k : KnowsOwner os x o) → KnowsOwner os y k.found → KnowsOwner os y o
   higher x y o k h = record {
     found = h.found;
     is = h.is;
@@ -86,16 +86,17 @@ module _ (c : Parts) (os : List Owner) (are : AreTrue c os) (closed : IsClosed c
         ∙ s)) (λ s. inr (e ∙ s)) k.above) h.above;
   }
 
-  found_some : (x : ℕ) (o : Owner) → IsOwner o → (k : Knows os x o) → IsOwner k.found
+  found_some : (x : ℕ) (o : Owner) → IsOwner o → (k : KnowsOwner os x o) → IsOwner k.found
   found_some x o some k e = ⊎_elim (λ s. let z = sym e ∙ s in cc (z)) (λ s. some (sym s ∙ e)) k.above
 
-  on_way : (n p q : ℕ) (o : Owner) → IsOwner o → q < length c.instrs → Goes c n p q → Knows os p o → Knows os q o
-  on_way zero p q o some l g k = subst (λ z. Knows os z o) g k
+  on_way : (n p q : ℕ) (o : Owner) → IsOwner o → q < length c.instrs → LeadsInSteps c n p q → KnowsOwner os p o
+      → KnowsOwner os q o
+  on_way zero p q o some l g k = subst (λ z. KnowsOwner os z o) g k
   on_way (suc n) p q o some l g k = on_way n g.0 q o some l g.2
       (higher p g.0 o k ((closed.spread p (step_within c p g.0 g.1) k.found k.is (found_some p o some k)).0 g.0 g.1
       (inside n g.0 q l g.2)))
     where
-      inside : (n p q : ℕ) → q < length c.instrs → Goes c n p q → p < length c.instrs
+      inside : (n p q : ℕ) → q < length c.instrs → LeadsInSteps c n p q → p < length c.instrs
       inside zero p q l g = subst (λ z. z < length c.instrs) (sym g) l
       inside (suc n) p q l g = step_within c p g.0 g.1
 
@@ -105,8 +106,8 @@ module _ (c : Parts) (os : List Owner) (are : AreTrue c os) (closed : IsClosed c
   lift f s w o (inl e) = inl (ap f e ∙ s)
   lift f s w o (inr e) = inr (ap f e)
 
-  raised : (f : Owner → Owner) → f owner.Several ≡ owner.Several → (x y : ℕ) (o : Owner) (k : Knows os x o)
-      → Knows os y (f k.found) → Knows os y (f o)
+  raised : (f : Owner → Owner) → f owner.Several ≡ owner.Several → (x y : ℕ) (o : Owner) (k : KnowsOwner os x o)
+      → KnowsOwner os y (f k.found) → KnowsOwner os y (f o)
   raised f s x y o k h = record {
     found = h.found;
     is = h.is;
@@ -115,7 +116,7 @@ module _ (c : Parts) (os : List Owner) (are : AreTrue c os) (closed : IsClosed c
   }
 
   handed_on : (p k : ℕ) (ch : ChildTable) (o : Owner) → IsOwner o → child_at c p k ≡ Some ch
-      → ch.entry < length c.instrs → Knows os p o → Knows os ch.entry (of_child k (as_child p o))
+      → ch.entry < length c.instrs → KnowsOwner os p o → KnowsOwner os ch.entry (of_child k (as_child p o))
   handed_on p k ch o some e l h =
       let n = name_of (table_named (instr_at c p)) k c.forks ch e in
       let i : IsChild c n.0 k ch = sym (ap (λ (z : Option ℕ). child_of (table_at c.forks z) k) n.1) ∙ e in
@@ -130,41 +131,41 @@ module _ (c : Parts) (os : List Owner) (are : AreTrue c os) (closed : IsClosed c
   last_step (Body b) p k = refl
   last_step (Child a q j) p k = refl
 
-  begins : (n p q : ℕ) → q < length c.instrs → Goes c n p q → p < length c.instrs
+  begins : (n p q : ℕ) → q < length c.instrs → LeadsInSteps c n p q → p < length c.instrs
   begins zero p q l g = subst (λ z. z < length c.instrs) (sym g) l
   begins (suc n) p q l g = step_within c p g.0 g.1
 
-  way_on : (a : Area) (p : ℕ) → Passes c a p → p < length c.instrs
-      → (entry c a < length c.instrs → Knows os (entry c a) (owner_of a)) → Knows os p (owner_of a)
+  way_on : (a : Area) (p : ℕ) → IsInCodeOf c a p → p < length c.instrs
+      → (entry c a < length c.instrs → KnowsOwner os (entry c a) (owner_of a)) → KnowsOwner os p (owner_of a)
   way_on a p h l k = on_way h.steps (entry c a) p (owner_of a) (an_owner a) l h.way
       (k (begins h.steps (entry c a) p l h.way))
 
   -- each instruction of an area knows it
-  known_entry : (a : Area) → IsArea c a → entry c a < length c.instrs → Knows os (entry c a) (owner_of a)
+  known_entry : (a : Area) → IsArea c a → entry c a < length c.instrs → KnowsOwner os (entry c a) (owner_of a)
   known_entry (Body b) (l, e) h =
       let j = layout_in c.layouts b l e in
       let at = ap entry_of_layout e in
       let k = closed.begun j.0 l l (slice_get_within c.layouts j.0 l j.1) j.1 (ap (layout_of c.layouts) j.2
       ∙ e) (subst (λ z. z < length c.instrs) at h) in
-      subst (λ z. Knows os z (owner.Block b)) (sym at) (subst (λ z. Knows os l.entry (owner.Block z)) j.2 k)
+      subst (λ z. KnowsOwner os z (owner.Block b)) (sym at) (subst (λ z. KnowsOwner os l.entry (owner.Block z)) j.2 k)
   known_entry (Child a p k) (ia, pa, (ch, e)) h =
       let at = ap entry_of_child e in
       let n = name_of (table_named (instr_at c p)) k c.forks ch e in
       let d = handed_on p k ch (owner_of a) (an_owner a) e (subst (λ z. z < length c.instrs) at h)
       (way_on a p pa (named_within c n.0 p n.1) (known_entry a ia)) in
-      subst (λ z. Knows os z (owner.Child p k)) (sym at) (subst (Knows os ch.entry) (last_step a p k) d)
+      subst (λ z. KnowsOwner os z (owner.Child p k)) (sym at) (subst (KnowsOwner os ch.entry) (last_step a p k) d)
 
-  known : (a : Area) (p : ℕ) → LiesIn c p a → p < length c.instrs → Knows os p (owner_of a)
+  known : (a : Area) (p : ℕ) → LiesIn c p a → p < length c.instrs → KnowsOwner os p (owner_of a)
   known a p h l = way_on a p h.1 l (known_entry a h.0)
 
   -- it lies in one alone, unless it knows of several
-  not_two : (p : ℕ) (o : Owner) → (slice_get os p ≡ Some owner.Several → ⊥) → (k : Knows os p o)
+  not_two : (p : ℕ) (o : Owner) → (slice_get os p ≡ Some owner.Several → ⊥) → (k : KnowsOwner os p o)
       → slice_get os p ≡ Some o
   not_two p o never k = ⊎_elim (λ e. absurd (never (k.is ∙ ap Some e))) (λ e. k.is ∙ ap Some e) k.above
 
   -- several at a fork are several in the code of its children
   several_down : (p k q : ℕ) (ch : ChildTable) → child_at c p k ≡ Some ch → q < length c.instrs → (n : ℕ)
-      → Goes c n ch.entry q → slice_get os p ≡ Some owner.Several → slice_get os q ≡ Some owner.Several
+      → LeadsInSteps c n ch.entry q → slice_get os p ≡ Some owner.Several → slice_get os q ≡ Some owner.Several
   several_down p k q ch e l n g s =
       let d = handed_on p k ch owner.Several (λ z. cc (z)) e (begins n ch.entry q l g)
       (record { found = owner.Several; is = s; above = inl refl }) in
@@ -181,7 +182,7 @@ module _ (c : Parts) (os : List Owner) (are : AreTrue c os) (closed : IsClosed c
   not_around : (a : Area) (q j p : ℕ) → p < length c.instrs → LiesIn c p (Child a q j)
       → (slice_get os p ≡ Some owner.Several → ⊥) → slice_get os q ≡ Some owner.Several → ⊥
   not_around a q j p l ((ia, pa, (ch, e)), w) never s = never
-      (several_down q j p ch e l w.steps (subst (λ z. Goes c w.steps z p) (ap entry_of_child e) w.way) s)
+      (several_down q j p ch e l w.steps (subst (λ z. LeadsInSteps c w.steps z p) (ap entry_of_child e) w.way) s)
 
   at_fork : (a : Area) (q j : ℕ) → IsArea c (Child a q j) → q < length c.instrs
   at_fork a q j (ia, pa, (ch, e)) = let n = name_of (table_named (instr_at c q)) j c.forks ch e in

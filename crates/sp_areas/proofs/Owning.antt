@@ -13,12 +13,13 @@ use Rattle.sp_code.specs.declared.code.Parts.{Parts}
 use Rattle.sp_code.specs.Machine.{layout_of}
 use Rattle.sp_areas.specs.declared.owners.Owner.{Owner}
 use Rattle.sp_areas.specs.declared.owners.Owner.TheVariants as owner
-use Rattle.sp_rules.specs.Areas.{Area, Body, Child, given, instr_at, table_at, child_of, child_at, entry}
+use Rattle.sp_rules.specs.Areas.{Area, Body, Child, on_option, instr_at, table_at, child_of, child_at, entry}
 use Rattle.sp_rules.specs.Areas.{entry_of_child, entry_of_layout}
-use Rattle.sp_rules.specs.Reach.{IsIn, Goes, nexts}
+use Rattle.sp_rules.specs.Reach.{IsIn, LeadsInSteps, nexts}
 use Rattle.sp_rules.specs.Named.{LiesIn, Names, IsChild}
-use Rattle.sp_areas.specs.Owners.{owner_of, Has, HasOne, HasTwo, IsTrueOf, AreTrue, is_same, IsOwner, join, room}
-use Rattle.sp_areas.specs.Owners.{as_child, of_child, Knows, Gives, Spreads}
+use Rattle.sp_areas.specs.Owners.{owner_of, AreaHas, HasOne, HasTwo, IsTrueOf, AreTrue, is_same, IsOwner, common_owner}
+use Rattle.sp_areas.specs.Owners.{room}
+use Rattle.sp_areas.specs.Owners.{as_child, of_child, KnowsOwner, HandsOwner, Spreads}
 
 -- ---- lists
 
@@ -47,7 +48,7 @@ by_same w o = go (is_same w o) refl
     go true e = inr (same_is w o e)
     go false e = inl refl
 
-pub join_above : (w o : Owner) → (join w o ≡ owner.Several) ⊎ (join w o ≡ o)
+pub join_above : (w o : Owner) → (common_owner w o ≡ owner.Several) ⊎ (common_owner w o ≡ o)
 join_above owner.Nobody o = inr refl
 join_above (owner.Block b) o = by_same (owner.Block b) o
 join_above (owner.Child p k) o = by_same (owner.Child p k) o
@@ -80,48 +81,48 @@ module _ (c : Parts) where
       go true e = t
       go false e = other o some k e
 
-  true_join : (x : ℕ) (w o : Owner) → IsTrueOf c x w → IsOwner o → IsTrueOf c x o → IsTrueOf c x (join w o)
+  true_join : (x : ℕ) (w o : Owner) → IsTrueOf c x w → IsOwner o → IsTrueOf c x o → IsTrueOf c x (common_owner w o)
   true_join x owner.Nobody o t some k = k
   true_join x (owner.Block b) o t some k = by_join x (owner.Block b) o t t some k
   true_join x (owner.Child p j) o t some k = by_join x (owner.Child p j) o t t some k
   true_join x owner.Several o t some k = t
 
   module _ (old new : List Owner) (x : ℕ) (o : Owner) (changed : Bool) (are : AreTrue c old) (some : IsOwner o)
-      (k : IsTrueOf c x o) (g : Gives old new x o changed) where
+      (k : IsTrueOf c x o) (g : HandsOwner old new x o changed) where
     gives_true : AreTrue c new
     gives_true = go (slice_get old x) refl
       where
         go : (u : Option Owner) → slice_get old x ≡ u → AreTrue c new
         go None e = subst (AreTrue c) (sym (g.now
-            ∙ ap (λ (u : Option Owner). given old u (λ w. slice_set old x (join w o))) e)) are
+            ∙ ap (λ (u : Option Owner). on_option old u (λ w. slice_set old x (common_owner w o))) e)) are
         go (Some w) e = subst (AreTrue c) (sym (g.now
-            ∙ ap (λ (u : Option Owner). given old u (λ w. slice_set old x (join w o))) e))
-            (record { size = length-set old x (join w o) ∙ are.size; each = each })
+            ∙ ap (λ (u : Option Owner). on_option old u (λ w. slice_set old x (common_owner w o))) e))
+            (record { size = length-set old x (common_owner w o) ∙ are.size; each = each })
           where
-            each : (y : ℕ) (v : Owner) → slice_get (slice_set old x (join w o)) y ≡ Some v → IsTrueOf c y v
+            each : (y : ℕ) (v : Owner) → slice_get (slice_set old x (common_owner w o)) y ≡ Some v → IsTrueOf c y v
             each y v h = ⊎_elim
-                (λ (s : x ≡ y). let r = same_Some (join w o) v
-                (sym (get_where_set old x (join w o) (slice_get_within old x w e))
-                ∙ ap (slice_get (slice_set old x (join w o))) s ∙ h) in
+                (λ (s : x ≡ y). let r = same_Some (common_owner w o) v
+                (sym (get_where_set old x (common_owner w o) (slice_get_within old x w e))
+                ∙ ap (slice_get (slice_set old x (common_owner w o))) s ∙ h) in
                 subst (λ z. IsTrueOf c z v) s (subst (IsTrueOf c x) r (true_join x w o (are.each x w e) some k)))
-                (λ (d : x ≢ y). are.each y v (sym (get_beside_set old x y (join w o) d) ∙ h))
+                (λ (d : x ≢ y). are.each y v (sym (get_beside_set old x y (common_owner w o) d) ∙ h))
                 (cases_eq x y)
 
-    gives_knows : x < length old → Knows new x o
+    gives_knows : x < length old → KnowsOwner new x o
     gives_knows l = go (slice_get old x) refl
       where
-        go : (u : Option Owner) → slice_get old x ≡ u → Knows new x o
+        go : (u : Option Owner) → slice_get old x ≡ u → KnowsOwner new x o
         go None e = absurd (item_is_not_none old x l e)
         go (Some w) e =
-            let s = g.now ∙ ap (λ (u : Option Owner). given old u (λ v. slice_set old x (join v o))) e in
+            let s = g.now ∙ ap (λ (u : Option Owner). on_option old u (λ v. slice_set old x (common_owner v o))) e in
             record {
-              found = join w o;
+              found = common_owner w o;
               is = ap (λ (os : List Owner). slice_get os x) s
-                  ∙ get_where_set old x (join w o) l;
+                  ∙ get_where_set old x (common_owner w o) l;
               above = join_above w o;
             }
 
-    pub gives_spreads : x < length c.instrs + length c.forks → Spreads c old new (λ os. Knows os x o) changed
+    pub gives_spreads : x < length c.instrs + length c.forks → Spreads c old new (λ os. KnowsOwner os x o) changed
     gives_spreads l = record {
       just = gives_true;
       less = g.less;
@@ -157,11 +158,11 @@ module _ (c : Parts) where
 
   -- ---- what is handed on is true
 
-  pub lies_in : (x : ℕ) (a : Area) → x < length c.instrs → Has c x a → LiesIn c x a
+  pub lies_in : (x : ℕ) (a : Area) → x < length c.instrs → AreaHas c x a → LiesIn c x a
   lies_in x a l (inl h) = h.1
   lies_in x a l (inr (t, q, b, e, n, k, s)) = absurd (let m : x ≡ length c.instrs + t = e in omega (arith, m, l))
 
-  goes_on : (n p q r : ℕ) → Goes c n p q → IsIn r (nexts q (instr_at c q)) → Goes c (suc n) p r
+  goes_on : (n p q r : ℕ) → LeadsInSteps c n p q → IsIn r (nexts q (instr_at c q)) → LeadsInSteps c (suc n) p r
   goes_on zero p q r e i = (r, subst (λ z. IsIn r (nexts z (instr_at c z))) (sym e) i, refl)
   goes_on (suc n) p q r g i = (g.0, g.1, goes_on n g.0 q r g.2 i)
 
@@ -191,8 +192,8 @@ module _ (c : Parts) where
         apart = t.apart;
       }
 
-  to_table : (p t : ℕ) (a : Area) → p < length c.instrs → Names c t p → Has c p a
-      → Has c (length c.instrs + t) (Child a p 0)
+  to_table : (p t : ℕ) (a : Area) → p < length c.instrs → Names c t p → AreaHas c p a
+      → AreaHas c (length c.instrs + t) (Child a p 0)
   to_table p t a l n h = inr (t, p, a, refl, n, lies_in p a l h, refl)
 
   pub true_table : (p t : ℕ) (o : Owner) → p < length c.instrs → Names c t p → IsTrueOf c p o
@@ -222,13 +223,13 @@ module _ (c : Parts) where
     at : ℕ
     from : Area
     is : key ≡ Child from at 0
-    has : Has c ch.entry (Child from at k)
+    has : AreaHas c ch.entry (Child from at k)
 
   child_there : (t q k : ℕ) (ch : ChildTable) → Names c t q → IsChild c t k ch → child_at c q k ≡ Some ch
   child_there t q k ch n i = ap (λ (o : Option ℕ). child_of (table_at c.forks o) k) n ∙ i
 
   kid : (t k : ℕ) (ch : ChildTable) (key : Area) → IsChild c t k ch → ch.entry < length c.instrs
-      → Has c (length c.instrs + t) key → IsKid t k ch key
+      → AreaHas c (length c.instrs + t) key → IsKid t k ch key
   kid t k ch key i l (inl h) = absurd (let m : length c.instrs + t < length c.instrs = h.0 in omega (arith, m))
   kid t k ch key i l (inr (u, q, b, e, n, lies, s)) =
       let same : u ≡ t = omega (arith, e) in

@@ -11,16 +11,17 @@ use Rattle.sp_code.specs.declared.instr.Instr.{Instr}
 use Rattle.sp_code.specs.declared.code.Parts.{Parts}
 use Rattle.sp_areas.specs.declared.owners.Owner.{Owner}
 use Rattle.sp_areas.specs.declared.owners.Owner.TheVariants as owner
-use Rattle.sp_rules.specs.Areas.{Area, given, instr_at}
+use Rattle.sp_rules.specs.Areas.{Area, on_option, instr_at}
 use Rattle.sp_rules.specs.Reach.{IsIn}
 use Rattle.sp_rules.specs.Named.{LiesIn}
 use Rattle.sp_rules.specs.Rules.{free_nexts, Wanders, BreaksV9, ComesBack}
 use Rattle.sp_rules.proofs.Ranked.{free_in}
 use Rattle.sp_areas.specs.Alone.{flag_at}
-use Rattle.sp_areas.specs.Least.{IsLeast}
-use Rattle.sp_areas.specs.Owners.{Owns, AreOwners, is_same, listed}
-use Rattle.sp_areas.specs.Rounds.{has_owner, number_at, FallsFrom, before, BreaksAt, Strays, gap, gaps, with_flag}
-use Rattle.sp_areas.specs.Rounds.{AreLed, Widens, IsAt, IsDone}
+use Rattle.sp_areas.specs.LeastPlaces.{IsLeast}
+use Rattle.sp_areas.specs.Owners.{Owns, AreOwners, is_same, list_of_ways}
+use Rattle.sp_areas.specs.Rounds.{has_owner, number_at, FallsFrom, instrs_before, BreaksAt, Strays, gap, gaps}
+use Rattle.sp_areas.specs.Rounds.{with_flag}
+use Rattle.sp_areas.specs.Rounds.{AreLed, Widens, IsAt, HasGoneOn}
 use Rattle.sp_areas.proofs.Handing.{way_first, way_second}
 use Rattle.sp_areas.proofs.Owning.{along}
 
@@ -30,14 +31,14 @@ module _ (c : Parts) (os : List Owner) (are : AreOwners c os) (p : ℕ) where
   pub lies_there : has_owner os p ≡ true → (a : Area) × LiesIn c p a
   lies_there e = go (slice_get os p) refl e
     where
-      by : (o : Owner) → Owns c p o → given false (Some o) (λ w. not (is_same w owner.Nobody)) ≡ true
+      by : (o : Owner) → Owns c p o → on_option false (Some o) (λ w. not (is_same w owner.Nobody)) ≡ true
           → (a : Area) × LiesIn c p a
       by owner.Nobody h e = absurd (cc e)
       by (owner.Block b) h e = (h.area, h.lies)
       by (owner.Child q k) h e = (h.area, h.lies)
       by owner.Several h e = (h.one, h.lies)
 
-      go : (w : Option Owner) → slice_get os p ≡ w → given false w (λ o. not (is_same o owner.Nobody)) ≡ true
+      go : (w : Option Owner) → slice_get os p ≡ w → on_option false w (λ o. not (is_same o owner.Nobody)) ≡ true
           → (a : Area) × LiesIn c p a
       go None s e = absurd (cc e)
       go (Some o) s e = by o (are.1 p o s) e
@@ -48,7 +49,7 @@ module _ (c : Parts) (os : List Owner) (are : AreOwners c os) (p : ℕ) where
       there : length os ≡ length c.instrs → p < length os
       there m = omega (arith, m, h)
 
-      by : (o : Owner) → Owns c p o → given false (Some o) (λ w. not (is_same w owner.Nobody)) ≡ true
+      by : (o : Owner) → Owns c p o → on_option false (Some o) (λ w. not (is_same w owner.Nobody)) ≡ true
       by owner.Nobody n = absurd (n a l)
       by (owner.Block b) n = refl
       by (owner.Child q k) n = refl
@@ -57,7 +58,7 @@ module _ (c : Parts) (os : List Owner) (are : AreOwners c os) (p : ℕ) where
       go : (w : Option Owner) → slice_get os p ≡ w → has_owner os p ≡ true
       go None s = absurd (none-some (get_or os p owner.Nobody) (sym s
           ∙ slice_get-get_or os p owner.Nobody (there are.0)))
-      go (Some o) s = ap (λ w. given false w (λ o. not (is_same o owner.Nobody))) s ∙ by o (are.1 p o s)
+      go (Some o) s = ap (λ w. on_option false w (λ o. not (is_same o owner.Nobody))) s ∙ by o (are.1 p o s)
 
 -- ---- ways
 
@@ -98,7 +99,7 @@ module _ (c : Parts) where
         omega (arith, on, f)
 
   pub first_is : (ns : List ℕ) (first : Option ℕ)
-      → ((p : ℕ) (a : Area) → LiesIn c p a → FallsFrom c ns (before c first) p)
+      → ((p : ℕ) (a : Area) → LiesIn c p a → FallsFrom c ns (instrs_before c first) p)
       → BreaksAt c first → IsLeast (BreaksV9 c) first
   first_is ns None falls b = λ p h. no_round ns (length c.instrs) falls p (within p h) h
     where
@@ -149,7 +150,7 @@ fewer_set fs q = go (slice_get fs q) refl
 less_set : (fs : List Bool) (q : ℕ) → q < length fs → flag_at fs q ≡ false → gaps (slice_set fs q true) < gaps fs
 less_set fs q h e =
     let g = slice_get-get_or fs q true h in
-    let z : gap (get_or fs q true) ≡ 1 = ap gap (sym (ap (λ (o : Option Bool). given false o (λ b. b)) g) ∙ e) in
+    let z : gap (get_or fs q true) ≡ 1 = ap gap (sym (ap (λ (o : Option Bool). on_option false o (λ b. b)) g) ∙ e) in
     let s = set_sum fs q (get_or fs q true) g in
     omega (arith, s, z)
 
@@ -175,21 +176,21 @@ module _ (c : Parts) (s : ℕ) where
 
   -- the ways of an instruction that has a flag
   pub widens_ways : (fs : List Bool) (p : ℕ) (f t : Option ℕ) → AreLed c s fs → flag_at fs p ≡ true
-      → listed f t ≡ free_nexts p (instr_at c p) → Widens c s fs (with_flag (with_flag fs f) t)
+      → list_of_ways f t ≡ free_nexts p (instr_at c p) → Widens c s fs (with_flag (with_flag fs f) t)
   widens_ways fs p f t led e ways =
       let here = led.each p e in
       let x = widens_flag fs f led (λ q h. strays_on c s p q here (first f t q h ways)) in
       widens_then fs (with_flag fs f) (with_flag (with_flag fs f) t) x
       (widens_flag (with_flag fs f) t x.led (λ q h. strays_on c s p q here (second f t q h ways)))
     where
-      first : (f t : Option ℕ) (q : ℕ) → f ≡ Some q → listed f t ≡ free_nexts p (instr_at c p)
+      first : (f t : Option ℕ) (q : ℕ) → f ≡ Some q → list_of_ways f t ≡ free_nexts p (instr_at c p)
           → IsIn q (free_nexts p (instr_at c p))
-      first f t q h ways = way_first q t (free_nexts p (instr_at c p)) (ap (λ (z : Option ℕ). listed z t) (sym h)
+      first f t q h ways = way_first q t (free_nexts p (instr_at c p)) (ap (λ (z : Option ℕ). list_of_ways z t) (sym h)
           ∙ ways)
 
-      second : (f t : Option ℕ) (q : ℕ) → t ≡ Some q → listed f t ≡ free_nexts p (instr_at c p)
+      second : (f t : Option ℕ) (q : ℕ) → t ≡ Some q → list_of_ways f t ≡ free_nexts p (instr_at c p)
           → IsIn q (free_nexts p (instr_at c p))
-      second f t q h ways = way_second q f (free_nexts p (instr_at c p)) (ap (λ (z : Option ℕ). listed f z)
+      second f t q h ways = way_second q f (free_nexts p (instr_at c p)) (ap (λ (z : Option ℕ). list_of_ways f z)
           (sym h) ∙ ways)
 
   -- a new flag, and then a search
@@ -207,7 +208,7 @@ module _ (c : Parts) (s : ℕ) where
   strays_from fs p q led (inr e) m = strays_on c s p q (led.each p e) m
 
   -- where it is done, it came to all
-  all_flagged : (fs : List Bool) → length fs ≡ length c.instrs → IsDone c s fs → (n p q : ℕ) → IsAt s fs p
+  all_flagged : (fs : List Bool) → length fs ≡ length c.instrs → HasGoneOn c s fs → (n p q : ℕ) → IsAt s fs p
       → Wanders c (suc n) p q → q < length c.instrs → flag_at fs q ≡ true
   all_flagged fs size done zero p q at w l =
       let e : w.0 ≡ q = w.2 in
@@ -216,7 +217,7 @@ module _ (c : Parts) (s : ℕ) where
       let h = leads_within c w.0 w.2.0 w.2.1 in
       all_flagged fs size done n w.0 q (inr (done p at w.0 w.1 (omega (arith, h, size)))) w.2 l
 
-  pub flagged : (fs : List Bool) → AreLed c s fs → IsDone c s fs → Strays c s s → flag_at fs s ≡ true
+  pub flagged : (fs : List Bool) → AreLed c s fs → HasGoneOn c s fs → Strays c s s → flag_at fs s ≡ true
   flagged fs led done w = all_flagged fs led.size done w.0 s s (inl refl) w.1 (leads_within c s w.1.0 w.1.1)
 
 -- V9 is broken where a search from an instruction of an area comes back
@@ -235,7 +236,7 @@ module _ (c : Parts) (os : List Owner) (are : AreOwners c os) (p : ℕ) where
       not_true_and_false (has_owner os p) (has_there c os are p l.1.0 l.1.1 l.0) e
 
   -- V9 is broken there as the search says
-  pub broken_is : (fs : List Bool) (b : Bool) → has_owner os p ≡ true → AreLed c p fs → IsDone c p fs
+  pub broken_is : (fs : List Bool) (b : Bool) → has_owner os p ≡ true → AreLed c p fs → HasGoneOn c p fs
       → b ≡ flag_at fs p → IsTrue b ↔ BreaksV9 c p
   broken_is fs true e led done s = (
     λ t. let l = lies_there c os are p e in breaks_if c p l.0 l.1 (led.each p (sym s)),

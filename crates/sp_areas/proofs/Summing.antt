@@ -11,7 +11,7 @@ use Rattle.sp_code.specs.declared.code.ChildTable.{ChildTable}
 use Rattle.sp_code.specs.declared.code.Parts.{Parts}
 use Rattle.sp_rules.specs.Areas.{Area, Body, Child, instr_at, table_named, table_at, child_of, child_at, entry}
 use Rattle.sp_rules.specs.Areas.{entry_of_child, entry_of_layout}
-use Rattle.sp_rules.specs.Reach.{IsIn, IsArea, Goes, nexts}
+use Rattle.sp_rules.specs.Reach.{IsIn, IsArea, LeadsInSteps, nexts}
 use Rattle.sp_rules.specs.Named.{BreaksV1, NotThere, BlocksApart, WithoutProgram, Twice, SizesDiffer, TableUnnamed}
 use Rattle.sp_rules.specs.Named.{TableIndexed, TableUnknown, LevelDiffers, InTwo, EndsWrong, OutOfRange, NamedWrong}
 use Rattle.sp_rules.specs.Named.{LoopsWrong}
@@ -20,12 +20,12 @@ use Rattle.sp_rules.specs.Named.{level_fits, in_range, names_well, loops_well}
 use Rattle.sp_areas.specs.declared.owners.Owner.{Owner}
 use Rattle.sp_areas.specs.declared.owners.Owner.TheVariants as owner
 use Rattle.sp_areas.specs.Alone.{BreaksAlone}
-use Rattle.sp_areas.specs.Least.{IsLeast, least}
+use Rattle.sp_areas.specs.LeastPlaces.{IsLeast, earlier_of}
 use Rattle.sp_areas.specs.Misnamed.{MisnamesOnly}
 use Rattle.sp_areas.specs.Only.{LiesOnlyIn, MisplacedOnly, UnknownOnly}
 use Rattle.sp_areas.specs.Owners.{IsShared, Owns, AreOwners}
 use Rattle.sp_areas.specs.Placed.{IsMisplaced}
-use Rattle.sp_areas.specs.Sums.{IsFound}
+use Rattle.sp_areas.specs.Sums.{SomePassFinds}
 use Rattle.sp_areas.proofs.Leasts.{both}
 use Rattle.sp_areas.proofs.Owned.{layout_in, name_of, named_within, step_within}
 
@@ -40,11 +40,13 @@ lower P Q (Some n) up down h = (up n h.0, λ p l q. let r = down p q in let s = 
 -- ---- the last step of a way
 
 module _ (c : Parts) where
-  last_step : (n p q : ℕ) → Goes c n p q → (p ≡ q) ⊎ ((m r : ℕ) × Goes c m p r × IsIn q (nexts r (instr_at c r)))
+  last_step : (n p q : ℕ) → LeadsInSteps c n p q → (p ≡ q)
+      ⊎ ((m r : ℕ) × LeadsInSteps c m p r × IsIn q (nexts r (instr_at c r)))
   last_step zero p q g = inl g
   last_step (suc n) p q g = ⊎_elim
       (λ (e : g.0 ≡ q). inr (0, p, refl, subst (λ z. IsIn z (nexts p (instr_at c p))) e g.1))
-      (λ (z : (m r : ℕ) × Goes c m g.0 r × IsIn q (nexts r (instr_at c r))). inr (suc z.0, z.1, (g.0, g.1, z.2), z.3))
+      (λ (z : (m r : ℕ) × LeadsInSteps c m g.0 r × IsIn q (nexts r (instr_at c r))). inr
+      (suc z.0, z.1, (g.0, g.1, z.2), z.3))
       (last_step n g.0 q g.2)
 
   -- it leads to the next instruction, or to one that the instruction names
@@ -71,7 +73,7 @@ module _ (c : Parts) where
 
   -- ---- what breaks the rule
 
-  pub breaks : (p : ℕ) → IsFound c p → BreaksV1 c p
+  pub breaks : (p : ℕ) → SomePassFinds c p → BreaksV1 c p
   breaks p (inl (inl (inl (inl h)))) = NotThere h
   breaks p (inl (inl (inl (inr (inl h))))) = WithoutProgram h
   breaks p (inl (inl (inl (inr (inr (inl h)))))) = SizesDiffer h
@@ -91,9 +93,9 @@ module _ (c : Parts) where
   -- ---- what is broken is found, there or before
 
   abbrev FoundBy : ℕ → Type 0
-  FoundBy p = (q : ℕ) × (q ≤ p) × IsFound c q
+  FoundBy p = (q : ℕ) × (q ≤ p) × SomePassFinds c q
 
-  here : (p : ℕ) → IsFound c p → FoundBy p
+  here : (p : ℕ) → SomePassFinds c p → FoundBy p
   here p h = (p, omega arith, h)
 
   alone : (p : ℕ) → BreaksAlone c p → FoundBy p
@@ -122,7 +124,7 @@ module _ (c : Parts) where
       })))
 
   -- a step leads there
-  by_step : (a : Area) (p m r : ℕ) → IsArea c a → length c.instrs ≤ p → Goes c m (entry c a) r
+  by_step : (a : Area) (p m r : ℕ) → IsArea c a → length c.instrs ≤ p → LeadsInSteps c m (entry c a) r
       → IsIn p (nexts r (instr_at c r)) → FoundBy p
   by_step a p m r ia h g s = ⊎_elim on to (target r p (instr_at c r) s)
     where
@@ -154,7 +156,8 @@ module _ (c : Parts) where
 
   past : (a : Area) (p : ℕ) → LiesIn c p a → length c.instrs ≤ p → FoundBy p
   past a p (ia, w) h = ⊎_elim (at_entry a p ia h)
-      (λ (z : (m r : ℕ) × Goes c m (entry c a) r × IsIn p (nexts r (instr_at c r))). by_step a p z.0 z.1 ia h z.2 z.3)
+      (λ (z : (m r : ℕ) × LeadsInSteps c m (entry c a) r × IsIn p (nexts r (instr_at c r))). by_step a p z.0 z.1 ia h
+      z.2 z.3)
       (last_step w.steps (entry c a) p w.way)
 
   shared : (p : ℕ) → Shared c p → FoundBy p
@@ -177,7 +180,7 @@ module _ (c : Parts) where
     two : (p : ℕ) → IsShared c p → Shared c p
     two p h = (h.one, h.lies, inl (h.other, h.too, h.apart))
 
-    misplaced : (well : Area → Option Instr → Bool) → ((q : ℕ) → MisplacedOnly c well q → IsFound c q) → (p : ℕ)
+    misplaced : (well : Area → Option Instr → Bool) → ((q : ℕ) → MisplacedOnly c well q → SomePassFinds c q) → (p : ℕ)
         → Misplaced c well p → FoundBy p
     misplaced well found p (a, lies, f) = ⊎_elim
         (λ l. ⊎_elim (λ o. here p (found p (a, o, f))) (λ s. shared p (two p s)) (decide p a l lies))
@@ -226,13 +229,17 @@ module _ (c : Parts) where
         → IsLeast (BreaksAlone c) alone → IsLeast (Homeless c) homeless → IsLeast (DeclaredTwice c) twice
         → IsLeast (Unnamed c) unnamed
         → IsLeast (UnknownOnly c) unknown → IsLeast (MisnamesOnly c) range → IsLeast (IsMisplaced c) misplaced
-        → IsLeast (BreaksV1 c) (least (least (least alone homeless) (least twice unnamed)) (least (least unknown range)
+        → IsLeast (BreaksV1 c) (earlier_of (earlier_of (earlier_of alone homeless) (earlier_of twice unnamed))
+        (earlier_of (earlier_of unknown range)
         misplaced))
     least_of_all a h t u k r m ha hh ht hu hk hr hm =
-        lower (IsFound c) (BreaksV1 c) (least (least (least a h) (least t u)) (least (least k r) m)) breaks found
+        lower (SomePassFinds c) (BreaksV1 c)
+        (earlier_of (earlier_of (earlier_of a h) (earlier_of t u)) (earlier_of (earlier_of k r) m)) breaks found
         (both (λ p. (BreaksAlone c p ⊎ Homeless c p) ⊎ (DeclaredTwice c p ⊎ Unnamed c p)) (λ p. (UnknownOnly c p
-        ⊎ MisnamesOnly c p) ⊎ IsMisplaced c p) (least (least a h) (least t u)) (least (least k r) m)
-        (both (λ p. BreaksAlone c p ⊎ Homeless c p) (λ p. DeclaredTwice c p ⊎ Unnamed c p) (least a h) (least t u)
+        ⊎ MisnamesOnly c p) ⊎ IsMisplaced c p) (earlier_of (earlier_of a h) (earlier_of t u))
+        (earlier_of (earlier_of k r) m)
+        (both (λ p. BreaksAlone c p ⊎ Homeless c p) (λ p. DeclaredTwice c p ⊎ Unnamed c p) (earlier_of a h)
+        (earlier_of t u)
         (both (BreaksAlone c) (Homeless c) a h ha hh) (both (DeclaredTwice c) (Unnamed c) t u ht hu))
-        (both (λ p. UnknownOnly c p ⊎ MisnamesOnly c p) (IsMisplaced c) (least k r) m (both (UnknownOnly c)
+        (both (λ p. UnknownOnly c p ⊎ MisnamesOnly c p) (IsMisplaced c) (earlier_of k r) m (both (UnknownOnly c)
         (MisnamesOnly c) k r hk hr) hm))

@@ -12,9 +12,10 @@ use Rattle.sp_code.specs.declared.code.ChildTable.{ChildTable}
 use Rattle.sp_code.specs.declared.code.ForkTable.{ForkTable}
 use Rattle.sp_code.specs.declared.code.Parts.{Parts}
 use Rattle.sp_code.specs.Machine.{layout_of}
-use Rattle.sp_rules.specs.Areas.{Area, Body, Child, given, instr_at, table_named, table_at, child_of, child_at, entry}
+use Rattle.sp_rules.specs.Areas.{Area, Body, Child, on_option, instr_at, table_named, table_at, child_of, child_at}
+use Rattle.sp_rules.specs.Areas.{entry}
 use Rattle.sp_rules.specs.Areas.{entry_of_child, index_of_child, with_home, block_homes, homes}
-use Rattle.sp_rules.specs.Reach.{Goes}
+use Rattle.sp_rules.specs.Reach.{LeadsInSteps}
 use Rattle.sp_rules.specs.Named.{LiesIn, Names, IsChild}
 use Rattle.sp_areas.specs.declared.owners.Owner.{Owner}
 use Rattle.sp_areas.specs.declared.owners.Owner.TheVariants as owner
@@ -22,7 +23,7 @@ use Rattle.sp_areas.specs.declared.tree.Grown.{Grown}
 use Rattle.sp_areas.specs.Around.{child_node, node_of, owner_in, AreFilled, AreHung, Hangs, IsExtended, IsFull}
 use Rattle.sp_areas.specs.Around.{IsHungBy, AreAllHung, AreNodes}
 use Rattle.sp_areas.specs.Blocks.{number_from}
-use Rattle.sp_areas.specs.Grown.{node_at, left, Steps, EachItem}
+use Rattle.sp_areas.specs.Grown.{node_at, none_count, GrowthStep, EachItem}
 use Rattle.sp_areas.specs.Only.{LiesOnlyIn}
 use Rattle.sp_areas.specs.Owners.{owner_of, Owns, AreOwners}
 use Rattle.sp_areas.specs.declared.homes.Homes.{Homes}
@@ -39,8 +40,8 @@ around_of (Body b) = Body b
 around_of (Child a p k) = a
 
 module _ (c : Parts) where
-  goes_then : (n p q r m : ℕ) → Goes c n p q → Goes c m q r → (k : ℕ) × Goes c k p r
-  goes_then zero p q r m e h = (m, subst (λ z. Goes c m z r) (sym e) h)
+  goes_then : (n p q r m : ℕ) → LeadsInSteps c n p q → LeadsInSteps c m q r → (k : ℕ) × LeadsInSteps c k p r
+  goes_then zero p q r m e h = (m, subst (λ z. LeadsInSteps c m z r) (sym e) h)
   goes_then (suc n) p q r m g h = let t = goes_then n g.0 q r m g.2 h in (suc t.0, (g.0, g.1, t.1))
 
   -- the entry of a child that alone has an instruction in its code lies in it alone
@@ -50,7 +51,7 @@ module _ (c : Parts) where
     where
       only : (b : Area) → LiesIn c ch.entry b → b ≡ Child a q k
       only b l =
-          let on = subst (λ z. Goes c h.0.1.steps z p) (ap entry_of_child e) h.0.1.way in
+          let on = subst (λ z. LeadsInSteps c h.0.1.steps z p) (ap entry_of_child e) h.0.1.way in
           let w = goes_then l.1.steps (entry c b) ch.entry p h.0.1.steps l.1.way on in
           h.1 b (l.0, record { steps = w.0; way = w.1 })
 
@@ -75,7 +76,7 @@ module _ (c : Parts) where
   pub owner_there : (os : List Owner) (p : ℕ) → AreOwners c os → p < length c.instrs → Owns c p (owner_in os p)
   owner_there os p are l =
       let o = item_there os p (let s = are.0 in omega (arith, s, l)) in
-      subst (Owns c p) (sym (ap (λ (u : Option Owner). given owner.Nobody u (λ x. x)) o.1)) (are.1 p o.0 o.1)
+      subst (Owns c p) (sym (ap (λ (u : Option Owner). on_option owner.Nobody u (λ x. x)) o.1)) (are.1 p o.0 o.1)
 
   -- an owner that has a node is that of one area alone
   one_area : (size : ℕ) (blocks tables : List (Option ℕ)) (p n : ℕ) (o : Owner) → Owns c p o
@@ -96,7 +97,7 @@ module _ (c : Parts) where
         → (n < length g.nodes) × (are.lists n ≡ homes c a)
     node_right g are (Body b) p n l e = go (number_from 0 c.layouts b) refl e
       where
-        go : (u : Option ℕ) → number_from 0 c.layouts b ≡ u → given None u (λ k. node_at blocks k) ≡ Some n
+        go : (u : Option ℕ) → number_from 0 c.layouts b ≡ u → on_option None u (λ k. node_at blocks k) ≡ Some n
             → (n < length g.nodes) × (are.lists n ≡ homes c (Body b))
         go None s e = absurd (none-some n e)
         go (Some k) s e = are.block b k n s e
@@ -115,13 +116,14 @@ module _ (c : Parts) where
             (subst (λ z. z < length g.nodes) is h.0, ap are.lists (sym is) ∙ h.1 q a s (entry_only a p q k ch l there))
 
         in_table : (t : ℕ) → Names c t q → (v : Option ℕ) → node_at g.of t ≡ v
-            → given None v (λ base. child_node (length g.nodes) base k) ≡ Some n → (n < length g.nodes)
+            → on_option None v (λ base. child_node (length g.nodes) base k) ≡ Some n → (n < length g.nodes)
             × (are.lists n ≡ homes c (Child a q k))
         in_table t s None w e = absurd (none-some n e)
         in_table t s (Some base) w e = last t base s w (nat_lt (base + k) (length g.nodes)) e
 
         at : (u : Option ℕ) → table_named (instr_at c q) ≡ u
-            → given None u (λ t. given None (node_at g.of t) (λ base. child_node (length g.nodes) base k)) ≡ Some n
+            → on_option None u (λ t. on_option None (node_at g.of t) (λ base. child_node (length g.nodes) base k))
+            ≡ Some n
             → (n < length g.nodes) × (are.lists n ≡ homes c (Child a q k))
         at None s e = absurd (none-some n e)
         at (Some t) s e = in_table t s (node_at g.of t) refl e
@@ -201,10 +203,10 @@ module _ (c : Parts) where
         child = child;
       }
 
-      pub hung_step : (os : List Owner) → Steps (AreHung c blocks) old new (IsHungBy c os blocks q) true
+      pub hung_step : (os : List Owner) → GrowthStep (AreHung c blocks) old new (IsHungBy c os blocks q) true
       hung_step os = record {
         just = hung_more;
-        less = λ z. (let f = left_falls old.of t (length old.nodes) long none in let s = ap left g.of in omega
+        less = λ z. (let f = left_falls old.of t (length old.nodes) long none in let s = ap none_count g.of in omega
             (arith, f, s));
         same = λ z. absurd (cc z);
       }
@@ -235,12 +237,12 @@ module _ (c : Parts) where
     node_known os g owners full are (Body b) p l = go (number_from 0 c.layouts b) refl
       where
         go : (u : Option ℕ) → number_from 0 c.layouts b ≡ u → (n : ℕ)
-            × (given None (number_from 0 c.layouts b) (λ k. node_at blocks k) ≡ Some n)
+            × (on_option None (number_from 0 c.layouts b) (λ k. node_at blocks k) ≡ Some n)
         go None s = absurd (none-some l.0.0.0 (sym (place_none 0 c.layouts b s) ∙ l.0.0.1))
         go (Some k) s =
             let m = placed_layout c.layouts b k s in
             let n = full k (slice_get_within c.layouts k m.0 m.1) in
-            (n.0, ap (λ (u : Option ℕ). given None u (λ k. node_at blocks k)) s ∙ n.1)
+            (n.0, ap (λ (u : Option ℕ). on_option None u (λ k. node_at blocks k)) s ∙ n.1)
     node_known os g owners full are (Child a q k) p l = known
         (node_known os g owners full are a q (fork_only a p q k l))
       where
@@ -257,9 +259,9 @@ module _ (c : Parts) where
             (ap (node_of c (length g.nodes) blocks g.of) o ∙ m.1) in
             let h = are.hung.child t.0 base.0 k ch base.1 i in (
               base.0 + k,
-              ap (λ (u : Option ℕ). given None u
-                  (λ t. given None (node_at g.of t) (λ base. child_node (length g.nodes) base k))) t.1
-                  ∙ ap (λ (u : Option ℕ). given None u (λ base. child_node (length g.nodes) base k)) base.1
+              ap (λ (u : Option ℕ). on_option None u
+                  (λ t. on_option None (node_at g.of t) (λ base. child_node (length g.nodes) base k))) t.1
+                  ∙ ap (λ (u : Option ℕ). on_option None u (λ base. child_node (length g.nodes) base k)) base.1
                   ∙ ap (λ (b : Bool). if b then Some (base.0 + k) else None) (lt-ltb (base.0 + k) (length g.nodes) h.0),
             )
 

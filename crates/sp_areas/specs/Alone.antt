@@ -9,8 +9,8 @@ use Rattle.sp_code.specs.declared.code.Layout.{Layout}
 use Rattle.sp_code.specs.declared.code.ChildTable.{ChildTable}
 use Rattle.sp_code.specs.declared.code.ForkTable.{ForkTable}
 use Rattle.sp_code.specs.declared.code.Parts.{Parts}
-use Rattle.sp_rules.specs.Areas.{given}
-use Rattle.sp_areas.specs.Least.{Upto}
+use Rattle.sp_rules.specs.Areas.{on_option}
+use Rattle.sp_areas.specs.LeastPlaces.{Upto}
 use Rattle.sp_rules.specs.Named.{Missing, NoProgram, Sized, Indexed, is_some, has_sizes, is_program}
 
 -- code names what is not there, or a layout or a table is wrong in itself
@@ -49,7 +49,7 @@ named_in forall t (o ∷ os) = is_table t (table_by forall o) || named_in forall
 
 -- a flag that is there
 abbrev pub flag_at : List Bool → ℕ → Bool
-flag_at fs t = given false (slice_get fs t) (λ b. b)
+flag_at fs t = on_option false (slice_get fs t) (λ b. b)
 
 -- so many flags, which say of each table whether one of the instructions names it so
 abbrev pub AreFlags : Bool → List Instr → ℕ → List Bool → Type 0

@@ -8,7 +8,7 @@ use Rattle.sp_code.specs.declared.code.ChildTable.{ChildTable}
 use Rattle.sp_code.specs.declared.code.Parts.{Parts}
 use Rattle.sp_code.specs.Machine.{layout_of}
 use Rattle.sp_code.specs.Memory.{Home}
-use Rattle.sp_rules.specs.Areas.{Area, Child, given, instr_at, table_named, is_led, with_home, block_homes, homes}
+use Rattle.sp_rules.specs.Areas.{Area, Child, on_option, instr_at, table_named, is_led, with_home, block_homes, homes}
 use Rattle.sp_rules.specs.Named.{Names, IsChild}
 use Rattle.sp_areas.specs.declared.owners.Owner.{Owner}
 use Rattle.sp_areas.specs.declared.owners.Owner.TheVariants as owner
@@ -67,14 +67,14 @@ child_node size base k = if nat_lt (base + k) size then Some (base + k) else Non
 -- the node of an owner, by those of layouts and the first ones of tables
 abbrev pub node_of : Parts → ℕ → List (Option ℕ) → List (Option ℕ) → Owner → Option ℕ
 node_of c size blocks tables owner.Nobody = None
-node_of c size blocks tables (owner.Block b) = given None (number_from 0 c.layouts b) (λ k. node_at blocks k)
-node_of c size blocks tables (owner.Child p k) = given None (table_named (instr_at c p))
-    (λ t. given None (node_at tables t) (λ base. child_node size base k))
+node_of c size blocks tables (owner.Block b) = on_option None (number_from 0 c.layouts b) (λ k. node_at blocks k)
+node_of c size blocks tables (owner.Child p k) = on_option None (table_named (instr_at c p))
+    (λ t. on_option None (node_at tables t) (λ base. child_node size base k))
 node_of c size blocks tables owner.Several = None
 
 -- the owner of an instruction
 abbrev pub owner_in : List Owner → ℕ → Owner
-owner_in os p = given owner.Nobody (slice_get os p) (λ o. o)
+owner_in os p = on_option owner.Nobody (slice_get os p) (λ o. o)
 
 -- nodes of blocks, and of tables' children where a table has them, stand for what is around them
 pub record AreHung (c : Parts) (blocks : List (Option ℕ)) (g : Grown) : Type 0 where

@@ -17,8 +17,8 @@ abbrev pub number_of : BTreeMap ℕ ℕ → ℕ → Option ℕ
 number_of m b = get nat_cmp m b
 
 -- the layout is in the table, with this place, unless one of its block was; all others are as before
-abbrev pub Notes : BTreeMap ℕ ℕ → BTreeMap ℕ ℕ → ℕ → ℕ → Type 0
-Notes old new n b = (d : ℕ) → number_of new d ≡ option_or (number_of old d) (if b == d then Some n else None)
+abbrev pub NotesLayout : BTreeMap ℕ ℕ → BTreeMap ℕ ℕ → ℕ → ℕ → Type 0
+NotesLayout old new n b = (d : ℕ) → number_of new d ≡ option_or (number_of old d) (if b == d then Some n else None)
 
 -- under each block stands the place of its first layout
 abbrev pub IsNumbered : BTreeMap ℕ ℕ → List Layout → Type 0

@@ -5,7 +5,7 @@ use Rattle.std.specs.Prelude.{true, false, slice_get, slice_set, length, sum_by}
 use Rattle.sp_code.specs.declared.code.Layout.{Layout}
 use Rattle.sp_code.specs.Machine.{layout_of}
 use Rattle.sp_code.specs.Memory.{Home}
-use Rattle.sp_rules.specs.Areas.{given, is_root, leads_by, homes_by}
+use Rattle.sp_rules.specs.Areas.{on_option, is_root, leads_by, homes_by}
 use Rattle.sp_areas.specs.declared.tree.Frame.{Frame}
 use Rattle.sp_areas.specs.declared.tree.Grown.{Grown}
 use Rattle.sp_areas.specs.declared.tree.Node.{Node}
@@ -14,32 +14,33 @@ use Rattle.sp_areas.specs.Tree.{AreLists, IsAround, IsFrame, around_list, home_o
 
 -- the node of an item, if it has one
 abbrev pub node_at : List (Option ℕ) → ℕ → Option ℕ
-node_at os j = given None (slice_get os j) (λ o. o)
+node_at os j = on_option None (slice_get os j) (λ o. o)
 
 -- how many items have none
-abbrev pub lacking : Option ℕ → ℕ
-lacking None = 1
-lacking (Some n) = 0
+abbrev pub one_if_none : Option ℕ → ℕ
+one_if_none None = 1
+one_if_none (Some n) = 0
 
-abbrev pub left : List (Option ℕ) → ℕ
-left os = sum_by lacking os
+abbrev pub none_count : List (Option ℕ) → ℕ
+none_count os = sum_by one_if_none os
 
 -- a node is put last, which stands for this list wherever those around it stand for theirs
-pub record Puts (old new : List Node) (frame : Frame) (around : Option ℕ) : Type 0 where
+pub record PutsNode (old new : List Node) (frame : Frame) (around : Option ℕ) : Type 0 where
   pub more : length new ≡ length old + 1
   pub lists : (ls : List Layout) (lists : ℕ → List Home) → AreLists ls old lists → IsFrame ls frame
       → IsAround (length old) around
       → AreLists ls new (with_list lists (length old) (home_of frame ∷ around_list lists around))
 
 -- an item gets a new node
-pub record Gets (old new : Grown) (j : ℕ) (frame : Frame) (around : Option ℕ) : Type 0 where
+pub record GetsNode (old new : Grown) (j : ℕ) (frame : Frame) (around : Option ℕ) : Type 0 where
   pub of : new.of ≡ slice_set old.of j (Some (length old.nodes))
-  pub puts : Puts old.nodes new.nodes frame around
+  pub puts : PutsNode old.nodes new.nodes frame around
 
 -- one step, by which all stays true; where it changed nothing, this is closed
-pub record Steps (Just : Grown → Type 0) (old new : Grown) (Closed : Grown → Type 0) (changed : Bool) : Type 0 where
+pub record GrowthStep (Just : Grown → Type 0) (old new : Grown) (Closed : Grown → Type 0) (changed : Bool) : Type
+    0 where
   pub just : Just new
-  pub less : changed ≡ true → left new.of < left old.of
+  pub less : changed ≡ true → none_count new.of < none_count old.of
   pub same : changed ≡ false → (new ≡ old) × Closed new
 
 -- what holds of the first items
@@ -59,17 +60,17 @@ pub record AreLed (ls : List Layout) (g : Grown) : Type 0 where
   pub lists : ℕ → List Home
   pub tree : AreLists ls g.nodes lists
   pub long : length g.of ≡ length ls
-  pub count : length g.nodes + left g.of ≡ length ls
+  pub count : length g.nodes + none_count g.of ≡ length ls
   pub each : (j n : ℕ) (l : Layout) → node_at g.of j ≡ Some n → slice_get ls j ≡ Some l → (n < length g.nodes)
       × IsLed ls lists l n
 
 -- the node of a layout's parent
 abbrev pub parent_node : List Layout → List (Option ℕ) → Layout → Option ℕ
-parent_node ls os l = given None l.parent (λ b. given None (number_from 0 ls b) (λ k. node_at os k))
+parent_node ls os l = on_option None l.parent (λ b. on_option None (number_from 0 ls b) (λ k. node_at os k))
 
 -- the node around that of a layout, if it may get one: none for block 0, else that of its parent
 abbrev pub inside_of : List Layout → List (Option ℕ) → Layout → Option (Option ℕ)
-inside_of ls os l = if l.block == 0 then Some None else given None (parent_node ls os l) (λ n. Some (Some n))
+inside_of ls os l = if l.block == 0 then Some None else on_option None (parent_node ls os l) (λ n. Some (Some n))
 
 -- a layout that may get a node has one
 abbrev pub IsTried : List Layout → ℕ → Grown → Type 0

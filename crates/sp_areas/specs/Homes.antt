@@ -18,7 +18,7 @@ naming_of naming.Never = Never
 naming_of naming.ByReference = ByReference
 
 -- a variable that was found, as the rules see it
-abbrev pub found_of : Option Found → Option areas.Found
+abbrev pub found_of : Option Found → Option areas.VariableInfo
 found_of None = None
 found_of (Some f) = Some (record { number = f.number; cells = f.cells; naming = naming_of f.naming })
 

@@ -1,4 +1,4 @@
-pub mod Least
+pub mod LeastPlaces
 pub mod Blocks
 pub mod Alone
 pub mod Owners

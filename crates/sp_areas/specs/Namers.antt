@@ -3,7 +3,7 @@
 use Rattle.std.specs.Prelude.{◌≡◌, ◌⊎◌, ◌≢◌, ℕ, ◌<◌, List, Some, Bool, true, slice_get, slice_set, length, replicate}
 use Rattle.sp_code.specs.declared.code.ChildTable.{ChildTable}
 use Rattle.sp_code.specs.declared.code.Parts.{Parts}
-use Rattle.sp_rules.specs.Areas.{Area, given}
+use Rattle.sp_rules.specs.Areas.{Area, on_option}
 use Rattle.sp_rules.specs.Named.{LiesIn, Names, IsChild}
 use Rattle.sp_areas.specs.declared.naming.Namer.{Namer}
 use Rattle.sp_areas.specs.declared.naming.Namer.TheVariants as namer
@@ -18,8 +18,8 @@ with_namer (namer.One q) p = namer.Several
 with_namer namer.Several p = namer.Several
 
 -- one more names this one
-abbrev pub noted : List Namer → ℕ → ℕ → List Namer
-noted ws t p = given ws (slice_get ws t) (λ w. slice_set ws t (with_namer w p))
+abbrev pub with_namer_of : List Namer → ℕ → ℕ → List Namer
+with_namer_of ws t p = on_option ws (slice_get ws t) (λ w. slice_set ws t (with_namer w p))
 
 -- no instruction names one of so many tables
 abbrev pub none_yet : ℕ → List Namer
@@ -28,7 +28,7 @@ none_yet n = replicate n namer.Nothing
 -- a table is at fault, by which instructions name it and whose code these are
 abbrev pub is_lost : List Owner → Namer → Bool
 is_lost os namer.Nothing = true
-is_lost os (namer.One p) = given true (slice_get os p) (λ o. is_same o owner.Nobody)
+is_lost os (namer.One p) = on_option true (slice_get os p) (λ o. is_same o owner.Nobody)
 is_lost os namer.Several = true
 
 module _ (c : Parts) where

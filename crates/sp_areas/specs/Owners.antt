@@ -9,7 +9,7 @@ use Rattle.sp_code.specs.declared.code.Parts.{Parts}
 use Rattle.sp_code.specs.Machine.{layout_of}
 use Rattle.sp_areas.specs.declared.owners.Owner.{Owner}
 use Rattle.sp_areas.specs.declared.owners.Owner.TheVariants as owner
-use Rattle.sp_rules.specs.Areas.{Area, Body, Child, given, instr_at}
+use Rattle.sp_rules.specs.Areas.{Area, Body, Child, on_option, instr_at}
 use Rattle.sp_rules.specs.Reach.{IsIn, nexts}
 use Rattle.sp_rules.specs.Named.{LiesIn, Names, IsChild}
 
@@ -47,20 +47,20 @@ AreOwners c os = (length os ≡ length c.instrs) × ((p : ℕ) (o : Owner) → s
 -- ---- what the search keeps: an owner for each instruction, and behind them one for each table, as of its first child
 
 -- the area has the instruction in its code, or makes the table's children, if it is as of the first of them
-abbrev pub Has : Parts → ℕ → Area → Type 0
-Has c x a = ((x < length c.instrs) × LiesIn c x a)
+abbrev pub AreaHas : Parts → ℕ → Area → Type 0
+AreaHas c x a = ((x < length c.instrs) × LiesIn c x a)
     ⊎ ((t q : ℕ) × (b : Area) × (x ≡ length c.instrs + t) × Names c t q × LiesIn c q b × (a ≡ Child b q 0))
 
 pub record HasOne (c : Parts) (x : ℕ) (o : Owner) : Type 0 where
   pub area : Area
-  pub has : Has c x area
+  pub has : AreaHas c x area
   pub is : owner_of area ≡ o
 
 pub record HasTwo (c : Parts) (x : ℕ) : Type 0 where
   pub one : Area
   pub other : Area
-  pub has : Has c x one
-  pub too : Has c x other
+  pub has : AreaHas c x one
+  pub too : AreaHas c x other
   pub apart : one ≢ other
 
 -- what an owner says is true, so far as it goes
@@ -86,21 +86,21 @@ abbrev pub IsOwner : Owner → Type 0
 IsOwner o = o ≢ owner.Nobody
 
 -- of two owners, what is known by both
-abbrev pub join : Owner → Owner → Owner
-join owner.Nobody o = o
-join (owner.Block b) o = if is_same (owner.Block b) o then owner.Block b else owner.Several
-join (owner.Child p k) o = if is_same (owner.Child p k) o then owner.Child p k else owner.Several
-join owner.Several o = owner.Several
+abbrev pub common_owner : Owner → Owner → Owner
+common_owner owner.Nobody o = o
+common_owner (owner.Block b) o = if is_same (owner.Block b) o then owner.Block b else owner.Several
+common_owner (owner.Child p k) o = if is_same (owner.Child p k) o then owner.Child p k else owner.Several
+common_owner owner.Several o = owner.Several
 
 -- how often an owner can still change
-abbrev pub left : Owner → ℕ
-left owner.Nobody = 2
-left (owner.Block b) = 1
-left (owner.Child p k) = 1
-left owner.Several = 0
+abbrev pub changes_left : Owner → ℕ
+changes_left owner.Nobody = 2
+changes_left (owner.Block b) = 1
+changes_left (owner.Child p k) = 1
+changes_left owner.Several = 0
 
 abbrev pub room : List Owner → ℕ
-room os = sum_by left os
+room os = sum_by changes_left os
 
 -- the owner of a child, by that of its fork, and by that of its table
 abbrev pub as_child : ℕ → Owner → Owner
@@ -116,14 +116,14 @@ of_child k (owner.Child q j) = owner.Child q k
 of_child k owner.Several = owner.Several
 
 -- it is known there that this is an owner
-pub record Knows (os : List Owner) (x : ℕ) (o : Owner) : Type 0 where
+pub record KnowsOwner (os : List Owner) (x : ℕ) (o : Owner) : Type 0 where
   pub found : Owner
   pub is : slice_get os x ≡ Some found
   pub above : (found ≡ owner.Several) ⊎ (found ≡ o)
 
 -- an owner is handed there; changed says whether that was new
-pub record Gives (old new : List Owner) (x : ℕ) (o : Owner) (changed : Bool) : Type 0 where
-  pub now : new ≡ given old (slice_get old x) (λ w. slice_set old x (join w o))
+pub record HandsOwner (old new : List Owner) (x : ℕ) (o : Owner) (changed : Bool) : Type 0 where
+  pub now : new ≡ on_option old (slice_get old x) (λ w. slice_set old x (common_owner w o))
   pub less : changed ≡ true → room new < room old
   pub same : changed ≡ false → new ≡ old
 
@@ -135,45 +135,45 @@ pub record Spreads (c : Parts) (old new : List Owner) (Closed : List Owner → T
 
 -- somewhere, if there is an instruction, an owner is known
 abbrev pub KnowsAt : Parts → Option ℕ → Owner → List Owner → Type 0
-KnowsAt c to o os = (q : ℕ) → to ≡ Some q → q < length c.instrs → Knows os q o
+KnowsAt c to o os = (q : ℕ) → to ≡ Some q → q < length c.instrs → KnowsOwner os q o
 
 -- an instruction has handed its owner on to the next ones, and to the table that it names
 abbrev pub IsSpread : Parts → ℕ → List Owner → Type 0
 IsSpread c p os = (o : Owner) → slice_get os p ≡ Some o → IsOwner o
-    → ((q : ℕ) → IsIn q (nexts p (instr_at c p)) → q < length c.instrs → Knows os q o)
-    × ((t : ℕ) → Names c t p → t < length c.forks → Knows os (length c.instrs + t) (as_child p o))
+    → ((q : ℕ) → IsIn q (nexts p (instr_at c p)) → q < length c.instrs → KnowsOwner os q o)
+    × ((t : ℕ) → Names c t p → t < length c.forks → KnowsOwner os (length c.instrs + t) (as_child p o))
 
 -- a table has, to so many of these children
 abbrev pub IsHanded : Parts → Owner → List ChildTable → ℕ → List Owner → Type 0
 IsHanded c o ts n os = (k : ℕ) (ch : ChildTable) → k < n → slice_get ts k ≡ Some ch → ch.entry < length c.instrs
-    → Knows os ch.entry (of_child k o)
+    → KnowsOwner os ch.entry (of_child k o)
 
 abbrev pub IsSpreadBy : Parts → ℕ → List Owner → Type 0
 IsSpreadBy c t os = (o : Owner) → slice_get os (length c.instrs + t) ≡ Some o → IsOwner o
-    → (k : ℕ) (ch : ChildTable) → IsChild c t k ch → ch.entry < length c.instrs → Knows os ch.entry (of_child k o)
+    → (k : ℕ) (ch : ChildTable) → IsChild c t k ch → ch.entry < length c.instrs → KnowsOwner os ch.entry (of_child k o)
 
 -- each block is known at its entry, of the first layouts
 abbrev pub AreBegun : Parts → ℕ → List Owner → Type 0
 AreBegun c n os = (j : ℕ) (l m : Layout) → j < n → slice_get c.layouts j ≡ Some l → layout_of c.layouts l.block ≡ Some m
     → m.entry < length c.instrs
-    → Knows os m.entry (owner.Block l.block)
+    → KnowsOwner os m.entry (owner.Block l.block)
 
 -- what holds of the first ones
-abbrev pub Each : (ℕ → List Owner → Type 0) → ℕ → List Owner → Type 0
-Each P n os = (x : ℕ) → x < n → P x os
+abbrev pub EachFirst : (ℕ → List Owner → Type 0) → ℕ → List Owner → Type 0
+EachFirst P n os = (x : ℕ) → x < n → P x os
 
 -- nothing is left to be handed on
-pub record IsClosed (c : Parts) (os : List Owner) : Type 0 where
+pub record IsAllSpread (c : Parts) (os : List Owner) : Type 0 where
   pub begun : AreBegun c (length c.layouts) os
-  pub spread : Each (IsSpread c) (length c.instrs) os
-  pub tables : Each (IsSpreadBy c) (length c.forks) os
+  pub spread : EachFirst (IsSpread c) (length c.instrs) os
+  pub tables : EachFirst (IsSpreadBy c) (length c.forks) os
 
 -- the ways on from an instruction
-abbrev pub listed : Option ℕ → Option ℕ → List ℕ
-listed None None = []
-listed None (Some q) = q ∷ []
-listed (Some p) None = p ∷ []
-listed (Some p) (Some q) = p ∷ q ∷ []
+abbrev pub list_of_ways : Option ℕ → Option ℕ → List ℕ
+list_of_ways None None = []
+list_of_ways None (Some q) = q ∷ []
+list_of_ways (Some p) None = p ∷ []
+list_of_ways (Some p) (Some q) = p ∷ q ∷ []
 
 -- where a layout begins, if there is one
 abbrev pub entry_at : Option Layout → Option ℕ

@@ -6,7 +6,7 @@ use Rattle.std.specs.Prelude.{slice_set, length, sum_by}
 use Rattle.sp_code.specs.declared.code.Parts.{Parts}
 use Rattle.sp_areas.specs.declared.owners.Owner.{Owner}
 use Rattle.sp_areas.specs.declared.owners.Owner.TheVariants as owner
-use Rattle.sp_rules.specs.Areas.{given, instr_at}
+use Rattle.sp_rules.specs.Areas.{on_option, instr_at}
 use Rattle.sp_rules.specs.Reach.{IsIn}
 use Rattle.sp_rules.specs.Rules.{free_nexts, Wanders, BreaksV9}
 use Rattle.sp_areas.specs.Alone.{flag_at}
@@ -14,13 +14,13 @@ use Rattle.sp_areas.specs.Owners.{is_same}
 
 -- an instruction has an owner
 abbrev pub has_owner : List Owner → ℕ → Bool
-has_owner os p = given false (slice_get os p) (λ o. not (is_same o owner.Nobody))
+has_owner os p = on_option false (slice_get os p) (λ o. not (is_same o owner.Nobody))
 
 -- ---- numbers
 
 -- the number of an instruction: 0 where there is none
 abbrev pub number_at : List ℕ → ℕ → ℕ
-number_at ns p = given 0 (slice_get ns p) (λ n. n)
+number_at ns p = on_option 0 (slice_get ns p) (λ n. n)
 
 -- from an instruction to another it stays or falls; it falls from those before the limit
 abbrev pub Falls : List ℕ → ℕ → ℕ → ℕ → Type 0
@@ -31,9 +31,9 @@ abbrev pub FallsFrom : Parts → List ℕ → ℕ → ℕ → Type 0
 FallsFrom c ns limit p = (q : ℕ) → IsIn q (free_nexts p (instr_at c p)) → Falls ns limit p q
 
 -- the instructions before this one; all, if there is none
-abbrev pub before : Parts → Option ℕ → ℕ
-before c None = length c.instrs
-before c (Some p) = p
+abbrev pub instrs_before : Parts → Option ℕ → ℕ
+instrs_before c None = length c.instrs
+instrs_before c (Some p) = p
 
 -- if it is one, V9 is broken there
 abbrev pub BreaksAt : Parts → Option ℕ → Type 0
@@ -78,5 +78,5 @@ abbrev pub IsAt : ℕ → List Bool → ℕ → Type 0
 IsAt s fs p = (p ≡ s) ⊎ (flag_at fs p ≡ true)
 
 -- it has gone on from each
-abbrev pub IsDone : Parts → ℕ → List Bool → Type 0
-IsDone c s fs = (p : ℕ) → IsAt s fs p → AreFlagged c fs p
+abbrev pub HasGoneOn : Parts → ℕ → List Bool → Type 0
+HasGoneOn c s fs = (p : ℕ) → IsAt s fs p → AreFlagged c fs p

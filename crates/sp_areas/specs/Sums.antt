@@ -9,6 +9,6 @@ use Rattle.sp_areas.specs.Only.{UnknownOnly}
 use Rattle.sp_areas.specs.Placed.{IsMisplaced}
 
 -- one of the passes finds something there
-abbrev pub IsFound : Parts → ℕ → Type 0
-IsFound c p = ((BreaksAlone c p ⊎ Homeless c p) ⊎ (DeclaredTwice c p ⊎ Unnamed c p))
+abbrev pub SomePassFinds : Parts → ℕ → Type 0
+SomePassFinds c p = ((BreaksAlone c p ⊎ Homeless c p) ⊎ (DeclaredTwice c p ⊎ Unnamed c p))
     ⊎ ((UnknownOnly c p ⊎ MisnamesOnly c p) ⊎ IsMisplaced c p)

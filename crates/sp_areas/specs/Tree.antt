@@ -56,6 +56,6 @@ abbrev pub with_list : (ℕ → List Home) → ℕ → List Home → ℕ → Lis
 with_list lists size hs k = if k == size then hs else lists k
 
 -- this is the frame of a home, if there is one
-pub record IsFound (ls : List Layout) (h : Option Home) (o : Option Frame) : Type 0 where
+pub record IsFrameOfHome (ls : List Layout) (h : Option Home) (o : Option Frame) : Type 0 where
   pub is : home_at o ≡ h
   pub frame : (f : Frame) → o ≡ Some f → IsFrame ls f

@@ -1,7 +1,7 @@
 //! The layouts by the numbers of their blocks.
 
 ghost use Rattle.std.specs.Prelude.{◌≡◌, ◌+◌, ◌≤◌, IfOk, OnOk, length};
-ghost use Rattle.sp_areas.specs.Blocks.{IsNumbered, Notes, number_from, number_of};
+ghost use Rattle.sp_areas.specs.Blocks.{IsNumbered, NotesLayout, number_from, number_of};
 ghost use Rattle.sp_areas.specs.Owners.{entry_at};
 ghost use Rattle.std.specs.Option.{is_some, option_copied};
 ghost use Rattle.sp_code.specs.Machine.{layout_of};
@@ -19,7 +19,7 @@ pub struct Blocks {
 
 // Notes the place of a layout, unless there is an earlier one of its block.
 fn note(first: &mut BTreeMap<u32, u32>, place: u32, block: u32) -> Result<(), Memory>
-    ensures { OnOk result (Notes first.old first.new place block) }
+    ensures { OnOk result (NotesLayout first.old first.new place block) }
 {
     if !first.contains_key(&block) {
         first.insert(block, place)?;

@@ -3,8 +3,8 @@
 ghost use Rattle.std.specs.Prelude.{◌≡◌, ◌+◌, ◌<◌, [], Some, IfOk, length, slice_get};
 ghost use Rattle.sp_rules.specs.Areas.{child_of};
 ghost use Rattle.sp_rules.specs.Named.{DeclaredTwice, InLayout, IsChild, OfChild};
-ghost use Rattle.sp_areas.specs.Least.{IsLeast};
-ghost use Rattle.sp_areas.specs.Twice.{Knows, Notes};
+ghost use Rattle.sp_areas.specs.LeastPlaces.{IsLeast};
+ghost use Rattle.sp_areas.specs.Twice.{SeenBefore, NotesVariable};
 
 use crate::least::{least, place_if};
 use sp_base::Memory;
@@ -18,7 +18,7 @@ fn note(
     variable: u32,
     entry: u32,
 ) -> Result<Option<u32>, Memory>
-    ensures { IfOk result (λ now. Notes seen.old seen.new first now variable entry) }
+    ensures { IfOk result (λ now. NotesVariable seen.old seen.new first now variable entry) }
 {
     let late = variable < 2 || seen.contains(&variable);
     seen.insert(variable)?;
@@ -33,8 +33,8 @@ fn note_layout(
     place: usize,
 ) -> Result<Option<u32>, Memory>
     requires there { place < length code.now.layouts }
-    requires known { Knows code.now (InLayout place 0) seen.old before }
-    ensures { IfOk result (λ now. Knows code.now (InLayout (place + 1) 0) seen.new now) }
+    requires known { SeenBefore code.now (InLayout place 0) seen.old before }
+    ensures { IfOk result (λ now. SeenBefore code.now (InLayout (place + 1) 0) seen.new now) }
 {
     let layout = &code.parts().layouts.items()[place];
     let mut first = before;
@@ -47,7 +47,7 @@ fn note_layout(
 // Notes those of all layouts.
 fn note_layouts(code: &Code, seen: &mut BTreeSet<u32>) -> Result<Option<u32>, Memory>
     requires { seen.old.keys ≡ [] }
-    ensures { IfOk result (λ now. Knows code.now (OfChild 0 0) seen.new now) }
+    ensures { IfOk result (λ now. SeenBefore code.now (OfChild 0 0) seen.new now) }
 {
     let count = code.parts().layouts.len();
     let mut first = None;
@@ -67,8 +67,8 @@ fn note_child(
     child: &ChildTable,
 ) -> Result<Option<u32>, Memory>
     requires there { IsChild code.now table number child.now }
-    requires known { Knows code.now (OfChild table number) seen.old before }
-    ensures { IfOk result (λ now. Knows code.now (OfChild table (number + 1)) seen.new now) }
+    requires known { SeenBefore code.now (OfChild table number) seen.old before }
+    ensures { IfOk result (λ now. SeenBefore code.now (OfChild table (number + 1)) seen.new now) }
 {
     match child.index {
         None => Ok(before),
@@ -84,8 +84,8 @@ fn note_table(
     table: usize,
 ) -> Result<Option<u32>, Memory>
     requires there { table < length code.now.forks }
-    requires known { Knows code.now (OfChild table 0) seen.old before }
-    ensures { IfOk result (λ now. Knows code.now (OfChild (table + 1) 0) seen.new now) }
+    requires known { SeenBefore code.now (OfChild table 0) seen.old before }
+    ensures { IfOk result (λ now. SeenBefore code.now (OfChild (table + 1) 0) seen.new now) }
 {
     let children = code.parts().forks.items()[table].children.items();
     let mut first = before;
@@ -101,7 +101,7 @@ fn note_tables(
     seen: &mut BTreeSet<u32>,
     before: Option<u32>,
 ) -> Result<Option<u32>, Memory>
-    requires { Knows code.now (OfChild 0 0) seen.old before }
+    requires { SeenBefore code.now (OfChild 0 0) seen.old before }
     ensures { IfOk result (λ now. IsLeast (DeclaredTwice code.now) now) }
 {
     let count = code.parts().forks.len();

@@ -6,7 +6,7 @@ ghost use Rattle.sp_rules.specs.Named.{Homeless};
 ghost use Rattle.sp_areas.specs.Blocks.{IsNumbered, number_from};
 ghost use Rattle.sp_areas.specs.Grown.{AreAllLed};
 ghost use Rattle.sp_areas.specs.Homeless.{AreDoubled, LacksHome, is_place};
-ghost use Rattle.sp_areas.specs.Least.{IsLeast};
+ghost use Rattle.sp_areas.specs.LeastPlaces.{IsLeast};
 ghost use Rattle.sp_areas.specs.Misnamed.{Decides};
 
 use crate::blocks::Blocks;

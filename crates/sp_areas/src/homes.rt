@@ -5,7 +5,7 @@ ghost use Rattle.sp_code.specs.declared.code.Parts.{Parts};
 ghost use Rattle.sp_rules.specs.Areas.{Area, found_at, found_by, found_in, found_of as within, homes, variable_at};
 ghost use Rattle.sp_areas.specs.Homes.{AreHomes, found_of};
 ghost use Rattle.sp_areas.specs.Only.{LiesOnlyIn};
-ghost use Rattle.sp_areas.specs.Tree.{IsFound, IsFrame, home_of};
+ghost use Rattle.sp_areas.specs.Tree.{IsFrameOfHome, IsFrame, home_of};
 
 use crate::tree::{Frame, Node, node_at, outward};
 use sp_base::List;
@@ -113,7 +113,7 @@ impl Homes {
     /// The frame so many levels outward from the code in which an instruction lies.
     pub(crate) fn frame(&self, p: u32, up: usize) -> Option<Frame>
         ensures { (c : Parts) (a : Area) → AreHomes c self.now → p < length c.instrs → LiesOnlyIn c p a
-            → IsFound c.layouts (slice_get (homes c a) up) result }
+            → IsFrameOfHome c.layouts (slice_get (homes c a) up) result }
     {
         match self.at.get(p as usize) {
             None => None,

@@ -7,7 +7,7 @@ ghost use Rattle.sp_areas.specs.Around.{AreHung, Hangs, IsHungBy, PutsChild, Put
 ghost use Rattle.sp_areas.specs.Around.{owner_in};
 ghost use Rattle.sp_areas.specs.Around.{AreAllHung, AreNodes};
 ghost use Rattle.sp_areas.specs.Blocks.{IsNumbered};
-ghost use Rattle.sp_areas.specs.Grown.{EachItem, Steps};
+ghost use Rattle.sp_areas.specs.Grown.{EachItem, GrowthStep};
 ghost use Rattle.sp_areas.specs.Owners.{AreOwners};
 ghost use Rattle.sp_areas.specs.declared.tree.Node.{Node};
 
@@ -140,7 +140,7 @@ fn hang(
     requires blocks { IsNumbered blocks.now.first code.now.layouts }
     requires owners { AreOwners code.now owners.now }
     requires just { AreHung code.now of_blocks.now grown.old }
-    ensures { IfOk result (λ changed. Steps (AreHung code.now of_blocks.now) grown.old grown.new
+    ensures { IfOk result (λ changed. GrowthStep (AreHung code.now of_blocks.now) grown.old grown.new
         (IsHungBy code.now owners.now of_blocks.now q) changed) }
 {
     let t = match table_number(code, q) {
@@ -173,7 +173,7 @@ fn sweep(
     requires blocks { IsNumbered blocks.now.first code.now.layouts }
     requires owners { AreOwners code.now owners.now }
     requires just { AreHung code.now of_blocks.now grown.old }
-    ensures { IfOk result (λ changed. Steps (AreHung code.now of_blocks.now) grown.old grown.new
+    ensures { IfOk result (λ changed. GrowthStep (AreHung code.now of_blocks.now) grown.old grown.new
         (EachItem (IsHungBy code.now owners.now of_blocks.now) (length code.now.instrs)) changed) }
 {
     let count = code.parts().instrs.len();

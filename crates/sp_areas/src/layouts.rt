@@ -2,7 +2,7 @@
 
 ghost use Rattle.std.specs.Prelude.{◌≡◌, ◌++◌, length};
 ghost use Rattle.sp_areas.specs.Alone.{LayoutFails, layout_fails};
-ghost use Rattle.sp_areas.specs.Least.{IsLeast, Upto};
+ghost use Rattle.sp_areas.specs.LeastPlaces.{IsLeast, Upto};
 ghost use Rattle.sp_rules.specs.Named.{answer_cells, begins_with, formal_cells, formals_cells, has_sizes};
 ghost use Rattle.sp_rules.specs.Named.{is_program};
 

@@ -1,11 +1,11 @@
 //! The first of several answers: the less of two places at which something is broken.
 
 ghost use Rattle.std.specs.Prelude.{◌≡◌, true};
-ghost use Rattle.sp_areas.specs.Least.{IsLeast, least};
+ghost use Rattle.sp_areas.specs.LeastPlaces.{IsLeast, earlier_of};
 
 /// Of two answers the one that comes first.
 pub fn least(a: Option<u32>, b: Option<u32>) -> Option<u32>
-    ensures { result ≡ least a b }
+    ensures { result ≡ earlier_of a b }
 {
     match a {
         None => b,

@@ -3,7 +3,7 @@
 ghost use Rattle.std.specs.Prelude.{◌≡◌, ℕ, List, [], None, IfOk, OnOk, length, replicate};
 ghost use Rattle.sp_code.specs.declared.code.Layout.{Layout};
 ghost use Rattle.sp_areas.specs.Blocks.{IsNumbered};
-ghost use Rattle.sp_areas.specs.Grown.{AreAllLed, AreLed, EachItem, IsTried, Steps, inside_of, parent_node};
+ghost use Rattle.sp_areas.specs.Grown.{AreAllLed, AreLed, EachItem, IsTried, GrowthStep, inside_of, parent_node};
 
 use crate::blocks::Blocks;
 use crate::order::order;
@@ -41,7 +41,7 @@ fn inside_of(l: &Layout, blocks: &Blocks, of: &List<Option<usize>>) -> Option<Op
 fn settle(code: &Code, blocks: &Blocks, grown: &mut Grown, item: usize) -> Result<bool, Memory>
     requires blocks { IsNumbered blocks.now.first code.now.layouts }
     requires just { AreLed code.now.layouts grown.old }
-    ensures { IfOk result (λ changed. Steps (AreLed code.now.layouts) grown.old grown.new
+    ensures { IfOk result (λ changed. GrowthStep (AreLed code.now.layouts) grown.old grown.new
         (IsTried code.now.layouts item) changed) }
 {
     let l = match code.parts().layouts.get(item) {
@@ -71,7 +71,7 @@ fn settle(code: &Code, blocks: &Blocks, grown: &mut Grown, item: usize) -> Resul
 fn sweep(code: &Code, blocks: &Blocks, grown: &mut Grown) -> Result<bool, Memory>
     requires blocks { IsNumbered blocks.now.first code.now.layouts }
     requires just { AreLed code.now.layouts grown.old }
-    ensures { IfOk result (λ changed. Steps (AreLed code.now.layouts) grown.old grown.new
+    ensures { IfOk result (λ changed. GrowthStep (AreLed code.now.layouts) grown.old grown.new
         (EachItem (IsTried code.now.layouts) (length code.now.layouts)) changed) }
 {
     let count = code.parts().layouts.len();

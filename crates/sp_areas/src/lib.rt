@@ -20,7 +20,8 @@
 //!
 //! To know:
 //! - Each answer is exact. The only other one is want of memory.
-//! - Each pass answers the least instruction at which something is broken (`specs/Least.antt`, `proofs/Leasts.antt`);
+//! - Each pass answers the least instruction at which something is broken (`specs/LeastPlaces.antt`,
+//!   `proofs/Leasts.antt`);
 //!   `least.rt` takes the less of two.
 //! - `whole.rt` is V1 by all its passes. An instruction that lies in two areas breaks V1 anyhow, so there the passes
 //!   look no further (`specs/Sums.antt`, `proofs/Summing.antt`).

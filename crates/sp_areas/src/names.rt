@@ -3,7 +3,7 @@
 ghost use Rattle.std.specs.Prelude.{◌≡◌, Some, false};
 ghost use Rattle.sp_rules.specs.Areas.{instr_at};
 ghost use Rattle.sp_areas.specs.Blocks.{IsNumbered};
-ghost use Rattle.sp_areas.specs.Least.{IsLeast};
+ghost use Rattle.sp_areas.specs.LeastPlaces.{IsLeast};
 ghost use Rattle.sp_rules.specs.Named.{names_there};
 
 use crate::blocks::Blocks;

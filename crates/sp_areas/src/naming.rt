@@ -3,8 +3,8 @@
 ghost use Rattle.std.specs.Prelude.{◌≡◌, ◌+◌, ◌<◌, Some, IfOk, length, slice_get};
 ghost use Rattle.sp_rules.specs.Named.{Unnamed};
 ghost use Rattle.sp_areas.specs.Alone.{ChildFails};
-ghost use Rattle.sp_areas.specs.Least.{IsLeast};
-ghost use Rattle.sp_areas.specs.Namers.{AreNamers, is_lost, none_yet, noted, with_namer};
+ghost use Rattle.sp_areas.specs.LeastPlaces.{IsLeast};
+ghost use Rattle.sp_areas.specs.Namers.{AreNamers, is_lost, none_yet, with_namer_of, with_namer};
 ghost use Rattle.sp_areas.specs.Owners.{AreOwners};
 
 use crate::least::{least, place_if};
@@ -38,7 +38,7 @@ fn with_namer(w: Namer, p: u32) -> Namer
 
 // Notes that an instruction names a table, if there is one.
 fn note(namers: &mut List<Namer>, table: u32, p: u32)
-    ensures { namers.new ≡ noted namers.old table p }
+    ensures { namers.new ≡ with_namer_of namers.old table p }
 {
     let at = table as usize;
     let w = match namers.get(at) {

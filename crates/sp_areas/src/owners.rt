@@ -6,9 +6,10 @@ ghost use Rattle.sp_code.specs.declared.code.ChildTable.{ChildTable};
 ghost use Rattle.sp_rules.specs.Areas.{instr_at, table_named};
 ghost use Rattle.sp_areas.specs.Blocks.{IsNumbered};
 ghost use Rattle.sp_rules.specs.Named.{Names};
-ghost use Rattle.sp_areas.specs.Owners.{AreBegun, AreOwners, AreTrue, Each, Gives, IsClosed, IsHanded, IsOwner};
-ghost use Rattle.sp_areas.specs.Owners.{IsSpread, IsSpreadBy, IsTrueOf, Knows, KnowsAt, Spreads, as_child};
-ghost use Rattle.sp_areas.specs.Owners.{is_same, join, of_child};
+ghost use Rattle.sp_areas.specs.Owners.{AreBegun, AreOwners, AreTrue, EachFirst, HandsOwner, IsAllSpread, IsHanded};
+ghost use Rattle.sp_areas.specs.Owners.{IsOwner};
+ghost use Rattle.sp_areas.specs.Owners.{IsSpread, IsSpreadBy, IsTrueOf, KnowsOwner, KnowsAt, Spreads, as_child};
+ghost use Rattle.sp_areas.specs.Owners.{is_same, common_owner, of_child};
 
 use crate::blocks::Blocks;
 use crate::ways::ways_on;
@@ -54,7 +55,7 @@ pub fn is_same(w: Owner, o: Owner) -> bool
 
 // Of two owners, what is known by both.
 fn join(w: Owner, o: Owner) -> Owner
-    ensures { result ≡ join w o }
+    ensures { result ≡ common_owner w o }
 {
     match w {
         Owner::Nobody => o,
@@ -94,7 +95,7 @@ fn give(
     x: usize,
     o: Owner,
 ) -> Result<bool, Memory>
-    ensures { IfOk result (λ changed. Gives owners.old owners.new x o changed) }
+    ensures { IfOk result (λ changed. HandsOwner owners.old owners.new x o changed) }
 {
     let w = match owners.get(x) {
         None => return Ok(false),
@@ -169,7 +170,7 @@ fn hand_table(
     requires some { IsOwner o }
     requires owner { (p < length code.now.instrs) × IsTrueOf code.now p o }
     ensures { IfOk result (λ changed. Spreads code.now owners.old owners.new (λ os. (t : ℕ) → Names code.now t p
-        → t < length code.now.forks → Knows os (length code.now.instrs + t) (as_child p o)) changed) }
+        → t < length code.now.forks → KnowsOwner os (length code.now.instrs + t) (as_child p o)) changed) }
 {
     match table_named(instr) {
         None => Ok(false),
@@ -293,7 +294,7 @@ fn visit_all(
 ) -> Result<bool, Memory>
     requires just { AreTrue code.now owners.old }
     ensures { IfOk result (λ changed. Spreads code.now owners.old owners.new
-        (Each (IsSpread code.now) (length code.now.instrs)) changed) }
+        (EachFirst (IsSpread code.now) (length code.now.instrs)) changed) }
 {
     let count = code.parts().instrs.len();
     let mut changed = false;
@@ -312,7 +313,7 @@ fn visit_tables(
 ) -> Result<bool, Memory>
     requires just { AreTrue code.now owners.old }
     ensures { IfOk result (λ changed. Spreads code.now owners.old owners.new
-        (Each (IsSpreadBy code.now) (length code.now.forks)) changed) }
+        (EachFirst (IsSpreadBy code.now) (length code.now.forks)) changed) }
 {
     let count = code.parts().forks.len();
     let mut changed = false;
@@ -332,7 +333,7 @@ fn sweep(
 ) -> Result<bool, Memory>
     requires just { AreTrue code.now owners.old }
     requires blocks { IsNumbered blocks.now.first code.now.layouts }
-    ensures { IfOk result (λ changed. Spreads code.now owners.old owners.new (IsClosed code.now) changed) }
+    ensures { IfOk result (λ changed. Spreads code.now owners.old owners.new (IsAllSpread code.now) changed) }
 {
     let first = begin(code, blocks, owners, waiting)?;
     let second = visit_all(code, owners, waiting)?;
@@ -384,7 +385,7 @@ fn hurry(code: &Code, owners: &mut List<Owner>, waiting: &mut List<usize>) -> Re
 fn search(code: &Code, blocks: &Blocks, owners: &mut List<Owner>) -> Result<(), Memory>
     requires just { AreTrue code.now owners.old }
     requires blocks { IsNumbered blocks.now.first code.now.layouts }
-    ensures { OnOk result (AreTrue code.now owners.new × IsClosed code.now owners.new) }
+    ensures { OnOk result (AreTrue code.now owners.new × IsAllSpread code.now owners.new) }
 {
     let mut waiting = List::new(owners.alloc());
     'sweeps: loop {

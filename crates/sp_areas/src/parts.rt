@@ -3,7 +3,7 @@
 ghost use Rattle.std.specs.Prelude.{IfOk};
 ghost use Rattle.sp_areas.specs.Alone.{BreaksAlone};
 ghost use Rattle.sp_areas.specs.Blocks.{IsNumbered};
-ghost use Rattle.sp_areas.specs.Least.{IsLeast};
+ghost use Rattle.sp_areas.specs.LeastPlaces.{IsLeast};
 
 use crate::blocks::Blocks;
 use crate::layouts::first_layout;

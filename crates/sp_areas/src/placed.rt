@@ -2,8 +2,8 @@
 //! may not end.
 
 ghost use Rattle.std.specs.Prelude.{◌≡◌, ◌<◌, Some, length, slice_get};
-ghost use Rattle.sp_areas.specs.Least.{IsLeast};
-ghost use Rattle.sp_areas.specs.Owners.{AreOwners, listed};
+ghost use Rattle.sp_areas.specs.LeastPlaces.{IsLeast};
+ghost use Rattle.sp_areas.specs.Owners.{AreOwners, list_of_ways};
 ghost use Rattle.sp_areas.specs.Placed.{IsMisplaced, ends_as, fails_placed, leads, runs_past};
 
 use crate::owners::Owner;

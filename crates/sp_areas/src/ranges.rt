@@ -1,11 +1,11 @@
 //! What instructions name by what is around them: the level of a call, and variables. Both are points of rule V1.
 
 ghost use Rattle.std.specs.Prelude.{◌≡◌, ◌<◌, Some, false, length, slice_get};
-ghost use Rattle.sp_rules.specs.Areas.{Area, given, instr_at};
+ghost use Rattle.sp_rules.specs.Areas.{Area, on_option, instr_at};
 ghost use Rattle.sp_rules.specs.Named.{is_loop_variable, is_plain, is_reference, level_fits};
 ghost use Rattle.sp_areas.specs.Blocks.{IsNumbered};
 ghost use Rattle.sp_areas.specs.Homes.{AreHomes, found_of};
-ghost use Rattle.sp_areas.specs.Least.{IsLeast};
+ghost use Rattle.sp_areas.specs.LeastPlaces.{IsLeast};
 ghost use Rattle.sp_areas.specs.Misnamed.{Decides, MisnamesOnly, fits};
 ghost use Rattle.sp_areas.specs.Only.{LiesOnlyIn};
 ghost use Rattle.sp_areas.specs.Owners.{AreOwners, Owns};
@@ -19,7 +19,7 @@ use sp_base::List;
 use sp_code::{Code, Instr};
 
 fn is_plain(found: Option<Found>) -> bool
-    ensures { result ≡ given false (found_of found) (λ f. is_plain f.naming) }
+    ensures { result ≡ on_option false (found_of found) (λ f. is_plain f.naming) }
 {
     match found {
         None => false,
@@ -32,7 +32,7 @@ fn is_plain(found: Option<Found>) -> bool
 }
 
 fn is_reference(found: Option<Found>) -> bool
-    ensures { result ≡ given false (found_of found) (λ f. is_reference f.naming) }
+    ensures { result ≡ on_option false (found_of found) (λ f. is_reference f.naming) }
 {
     match found {
         None => false,

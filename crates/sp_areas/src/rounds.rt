@@ -7,10 +7,11 @@ ghost use Rattle.sp_rules.specs.Named.{LiesIn};
 ghost use Rattle.sp_rules.specs.Reach.{IsIn};
 ghost use Rattle.sp_rules.specs.Rules.{BreaksV9, free_nexts};
 ghost use Rattle.sp_areas.specs.Alone.{flag_at};
-ghost use Rattle.sp_areas.specs.Least.{IsLeast};
+ghost use Rattle.sp_areas.specs.LeastPlaces.{IsLeast};
 ghost use Rattle.sp_areas.specs.Owners.{AreOwners};
-ghost use Rattle.sp_areas.specs.Rounds.{AreFlagged, AreLed, BreaksAt, Falls, FallsFrom, IsAt, IsDone, Strays, Widens};
-ghost use Rattle.sp_areas.specs.Rounds.{before, gaps, with_flag};
+ghost use Rattle.sp_areas.specs.Rounds.{AreFlagged, AreLed, BreaksAt, Falls, FallsFrom, IsAt, HasGoneOn, Strays};
+ghost use Rattle.sp_areas.specs.Rounds.{Widens};
+ghost use Rattle.sp_areas.specs.Rounds.{instrs_before, gaps, with_flag};
 
 use crate::components::{components, has_owner, number_at};
 use crate::flags::{flag_at, no_flags};
@@ -44,7 +45,7 @@ fn falls_from(code: &Code, numbers: &List<u32>, limit: usize, p: u32) -> bool
 
 // The instructions before this one; all, if there is none.
 fn before(code: &Code, first: Option<u32>) -> usize
-    ensures { result ≡ before code.now first }
+    ensures { result ≡ instrs_before code.now first }
 {
     match first {
         None => code.parts().instrs.len(),
@@ -56,7 +57,7 @@ fn before(code: &Code, first: Option<u32>) -> usize
 fn fall(code: &Code, owners: &List<Owner>, numbers: &List<u32>, first: Option<u32>) -> bool
     requires { AreOwners code.now owners.now }
     ensures { result ≡ true → (p : ℕ) (a : Area) → LiesIn code.now p a
-        → FallsFrom code.now numbers.now (before code.now first) p }
+        → FallsFrom code.now numbers.now (instrs_before code.now first) p }
 {
     let limit = before(code, first);
     let count = code.parts().instrs.len();
@@ -112,7 +113,7 @@ fn open_way_from(code: &Code, flags: &List<bool>, p: u32) -> Option<u32>
 // An instruction without a flag to which the search leads.
 fn open_end(code: &Code, start: u32, flags: &List<bool>) -> Option<u32>
     requires { AreLed code.now start flags.now }
-    ensures { MatchOption result (IsDone code.now start flags.now)
+    ensures { MatchOption result (HasGoneOn code.now start flags.now)
         (λ q. Strays code.now start q × (q < length flags.now) × (flag_at flags.now q ≡ false)) }
 {
     let count = code.parts().instrs.len();
@@ -186,7 +187,7 @@ fn go_on(code: &Code, flags: &mut List<bool>, waiting: &mut List<u32>, q: u32) -
 
 // What an instruction leads to in one or more steps.
 fn reach(code: &Code, start: u32) -> Result<List<bool>, Memory>
-    ensures { IfOk result (λ flags. AreLed code.now start flags × IsDone code.now start flags) }
+    ensures { IfOk result (λ flags. AreLed code.now start flags × HasGoneOn code.now start flags) }
 {
     let instrs = &code.parts().instrs;
     let alloc = instrs.alloc();

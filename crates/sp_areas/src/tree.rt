@@ -4,8 +4,8 @@ ghost use Rattle.std.specs.Prelude.{◌≡◌, ℕ, ◌+◌, ◌<◌, ◌≤◌,
 ghost use Rattle.std.specs.Prelude.{length, replicate, slice_get};
 ghost use Rattle.sp_code.specs.declared.code.Layout.{Layout};
 ghost use Rattle.sp_code.specs.Memory.{Home};
-ghost use Rattle.sp_areas.specs.Grown.{Gets, Puts, node_at};
-ghost use Rattle.sp_areas.specs.Tree.{AreLists, IsAround, IsFound, IsFrame, IsJump, IsNode, around_list, home_of};
+ghost use Rattle.sp_areas.specs.Grown.{GetsNode, PutsNode, node_at};
+ghost use Rattle.sp_areas.specs.Tree.{AreLists, IsAround, IsFrameOfHome, IsFrame, IsJump, IsNode, around_list, home_of};
 ghost use Rattle.sp_areas.specs.Tree.{with_list};
 
 use sp_base::{List, Memory};
@@ -82,7 +82,7 @@ fn step(n: Node, left: usize) -> Option<Jump>
 /// The frame so many levels outward from a node, whose own is at level 0.
 pub(crate) fn outward(tree: &List<Node>, node: usize, up: usize) -> Option<Frame>
     ensures { (ls : List Layout) (lists : ℕ → List Home) → AreLists ls tree.now lists → node < length tree.now
-        → IsFound ls (slice_get (lists node) up) result }
+        → IsFrameOfHome ls (slice_get (lists node) up) result }
 {
     let mut at = node;
     let mut left = up;
@@ -155,7 +155,7 @@ fn node_inside(tree: &List<Node>, frame: Frame, around: Option<usize>) -> Node
 
 /// Puts a node last, with this frame, inside another one or inside none.
 pub(crate) fn put(tree: &mut List<Node>, frame: Frame, around: Option<usize>) -> Result<(), Memory>
-    ensures { OnOk result (Puts tree.old tree.new frame around) }
+    ensures { OnOk result (PutsNode tree.old tree.new frame around) }
 {
     let node = node_inside(tree, frame, around);
     tree.push(node)?;
@@ -170,7 +170,7 @@ pub(crate) fn give_node(
     around: Option<usize>,
 ) -> Result<(), Memory>
     requires { item < length grown.old.of }
-    ensures { OnOk result (Gets grown.old grown.new item frame around) }
+    ensures { OnOk result (GetsNode grown.old grown.new item frame around) }
 {
     let node = grown.nodes.len();
     put(&mut grown.nodes, frame, around)?;

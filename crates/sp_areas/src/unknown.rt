@@ -4,7 +4,7 @@ ghost use Rattle.std.specs.Prelude.{◌≡◌, ◌+◌, ◌<◌, ◌⊎◌, ◌+
 ghost use Rattle.sp_rules.specs.Areas.{Area, homes as homes_of};
 ghost use Rattle.sp_rules.specs.Named.{has_variable, is_in, some_has};
 ghost use Rattle.sp_areas.specs.Homes.{AreHomes};
-ghost use Rattle.sp_areas.specs.Least.{IsLeast, Upto};
+ghost use Rattle.sp_areas.specs.LeastPlaces.{IsLeast, Upto};
 ghost use Rattle.sp_areas.specs.Misnamed.{Decides};
 ghost use Rattle.sp_areas.specs.Only.{LiesOnlyIn, UnknownOnly};
 ghost use Rattle.sp_areas.specs.Owners.{AreOwners, Owns};

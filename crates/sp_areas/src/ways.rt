@@ -1,7 +1,7 @@
 //! The instructions to which the code goes on from an instruction.
 
 ghost use Rattle.std.specs.Prelude.{◌≡◌, ◌+◌, ◌<◌, Some, None};
-ghost use Rattle.sp_areas.specs.Owners.{listed};
+ghost use Rattle.sp_areas.specs.Owners.{list_of_ways};
 ghost use Rattle.sp_rules.specs.Areas.{instr_at};
 ghost use Rattle.sp_rules.specs.Reach.{nexts};
 ghost use Rattle.sp_rules.specs.Rules.{free_nexts};
@@ -51,7 +51,7 @@ fn round(p: u32, to: u32) -> Ways
 /// The ways on from the instruction that stands at p.
 pub(crate) fn ways_on(p: u32, instr: Instr) -> Ways
     requires { p < 1048576 }
-    ensures { listed result.first result.second ≡ nexts p (Some instr) }
+    ensures { list_of_ways result.first result.second ≡ nexts p (Some instr) }
 {
     match instr {
         Instr::Jump(to) => Ways {
@@ -78,7 +78,7 @@ pub(crate) fn ways_on(p: u32, instr: Instr) -> Ways
 
 fn free_on(p: u32, instr: Instr) -> Ways
     requires { p < 1048576 }
-    ensures { listed result.first result.second ≡ free_nexts p (Some instr) }
+    ensures { list_of_ways result.first result.second ≡ free_nexts p (Some instr) }
 {
     match instr {
         Instr::Tick => Ways {
@@ -95,7 +95,7 @@ fn free_on(p: u32, instr: Instr) -> Ways
 
 /// The ways on from the instruction at p that pass no `tick` and no `call`.
 pub(crate) fn free_ways(code: &Code, p: u32) -> Ways
-    ensures { listed result.first result.second ≡ free_nexts p (instr_at code.now p) }
+    ensures { list_of_ways result.first result.second ≡ free_nexts p (instr_at code.now p) }
 {
     let parts = code.parts();
     match parts.instrs.get(p as usize) {

@@ -5,7 +5,7 @@ ghost use Rattle.sp_rules.specs.Named.{BreaksV1, DeclaredTwice, Homeless, Unname
 ghost use Rattle.sp_areas.specs.Alone.{BreaksAlone};
 ghost use Rattle.sp_areas.specs.Blocks.{IsNumbered};
 ghost use Rattle.sp_areas.specs.Homes.{AreHomes};
-ghost use Rattle.sp_areas.specs.Least.{IsLeast};
+ghost use Rattle.sp_areas.specs.LeastPlaces.{IsLeast};
 ghost use Rattle.sp_areas.specs.Misnamed.{MisnamesOnly};
 ghost use Rattle.sp_areas.specs.Only.{UnknownOnly};
 ghost use Rattle.sp_areas.specs.Owners.{AreOwners};

@@ -17,34 +17,35 @@ use Rattle.sp_cell.specs.Map.{Map, Content, Own, Plain, spot_cmp}
 use Rattle.std.proofs.lemmas.Cmp.{tied_itself}
 use Rattle.sp_base.specs.Order.{tie_of}
 use Rattle.sp_cell.proofs.Order.{spot_same, spot_total}
-use Rattle.sp_cell.specs.Frame.{above, frames, with_pieces, without, next_frame, newest, pushed, IsRising}
+use Rattle.sp_cell.specs.Frame.{least_above, frames, with_pieces, without_spots_of, next_frame, last_own_frame}
+use Rattle.sp_cell.specs.Frame.{with_new_frame, IsRising}
 use Rattle.sp_cell.proofs.Laws.{get_other, same_or, same_map}
 
 -- ---- numbers
 
-above_upper : (ns : List ℕ) (b : ℕ) → ((k : ℕ) → k < length ns → get_or ns k 0 < b) → above ns ≤ b
+above_upper : (ns : List ℕ) (b : ℕ) → ((k : ℕ) → k < length ns → get_or ns k 0 < b) → least_above ns ≤ b
 above_upper [] b f = omega arith
 above_upper (n ∷ ns) b f = omega (arith, f 0 (omega arith), above_upper ns b (λ k l. f (suc k) (omega arith)))
 
-above_lower : (ns : List ℕ) (k : ℕ) → k < length ns → get_or ns k 0 < above ns
+above_lower : (ns : List ℕ) (k : ℕ) → k < length ns → get_or ns k 0 < least_above ns
 above_lower [] k l = absurd (omega arith)
 above_lower (n ∷ ns) zero l = omega arith
 above_lower (n ∷ ns) (suc k) l = omega (arith, above_lower ns k (omega arith))
 
 -- where the number at a place is the greatest
 pub above_at : (ns : List ℕ) (k : ℕ) → k < length ns → ((j : ℕ) → j < length ns → get_or ns j 0 ≤ get_or ns k 0)
-    → above ns ≡ get_or ns k 0 + 1
+    → least_above ns ≡ get_or ns k 0 + 1
 above_at ns k l f = omega (arith, above_lower ns k l, above_upper ns (get_or ns k 0 + 1) (λ j b. omega (arith, f j b)))
 
 -- the newest of rising numbers is the greatest
-pub above_newest : (ns : List ℕ) → IsRising ns → 0 < length ns → above ns ≡ newest ns + 1
+pub above_newest : (ns : List ℕ) → IsRising ns → 0 < length ns → least_above ns ≡ last_own_frame ns + 1
 above_newest ns r l = above_at ns (length ns - 1) (omega arith) (λ j b. elim (cases_lt j (length ns - 1)) [
   | inl h ↦ omega (arith, r j (length ns - 1) h (omega arith))
   | inr h ↦ let e : j ≡ length ns - 1 = omega arith in rw e (omega arith)
 ])
 
 -- a number above all goes last
-pub rising_push : (ns : List ℕ) (n : ℕ) → IsRising ns → above ns ≤ n → IsRising (ns ++ n ∷ [])
+pub rising_push : (ns : List ℕ) (n : ℕ) → IsRising ns → least_above ns ≤ n → IsRising (ns ++ n ∷ [])
 rising_push ns n r a i j l b =
     let len = length-append ns (n ∷ []) in
     elim (cases_lt j (length ns)) [
@@ -66,7 +67,7 @@ or_cases : (a b : Bool) → (a || b) ≡ true → (a ≡ true) ⊎ (b ≡ true)
 or_cases true b e = inl refl
 or_cases false b e = inr e
 
-below_any : (ss : List Spot) (q : Spot) → list_any (eq_by_cmp spot_cmp q) ss ≡ true → q.frame < above (frames ss)
+below_any : (ss : List Spot) (q : Spot) → list_any (eq_by_cmp spot_cmp q) ss ≡ true → q.frame < least_above (frames ss)
 below_any [] q e = absurd (false≢true e)
 below_any (s ∷ ss) q e = elim (or_cases (eq_by_cmp spot_cmp q s) (list_any (eq_by_cmp spot_cmp q) ss) e) [
   | inl h ↦ omega (arith, tied_frame q s h)
@@ -74,7 +75,7 @@ below_any (s ∷ ss) q e = elim (or_cases (eq_by_cmp spot_cmp q s) (list_any (eq
 ]
 
 -- a known spot's frame is below the next
-pub known_below : (m : Map) (q : Spot) → IsSome (map.get m q) → q.frame < above (frames (map.keys m))
+pub known_below : (m : Map) (q : Spot) → IsSome (map.get m q) → q.frame < least_above (frames (map.keys m))
 known_below m q k = below_any (map.keys m) q (sym (map.contains_key-keys m q) ∙ k)
 
 -- ---- a frame taken away
@@ -93,33 +94,35 @@ is_other a b n = by_test (a == b) refl
     by_test true e = absurd (n (eqb-true a b e))
     by_test false e = refl
 
-get_without : (m : Map) (n : ℕ) (q : Spot) → map.get (without m n) q ≡ cond (not (q.frame == n)) (map.get m q) None
+get_without : (m : Map) (n : ℕ) (q : Spot) → map.get (without_spots_of m n) q ≡ cond (not (q.frame == n))
+    (map.get m q) None
 get_without m n q = map.get-retain_keys m (λ s. not (s.frame == n)) q
     (λ x e. ap (λ (t : Spot). not (t.frame == n)) (sym (spot_same q x e)))
 
-pub without_here : (m : Map) (n : ℕ) (q : Spot) → q.frame ≡ n → map.get (without m n) q ≡ None
+pub without_here : (m : Map) (n : ℕ) (q : Spot) → q.frame ≡ n → map.get (without_spots_of m n) q ≡ None
 without_here m n q e = get_without m n q ∙ ap (λ b. cond (not b) (map.get m q) None) (is_same q.frame n e)
 
-pub without_other : (m : Map) (n : ℕ) (q : Spot) → q.frame ≢ n → map.get (without m n) q ≡ map.get m q
+pub without_other : (m : Map) (n : ℕ) (q : Spot) → q.frame ≢ n → map.get (without_spots_of m n) q ≡ map.get m q
 without_other m n q d = get_without m n q ∙ ap (λ b. cond (not b) (map.get m q) None) (is_other q.frame n d)
 
 -- a spot of the frame does not count
 pub without_insert : (m : Map) (n : ℕ) (s : Spot) (h : Content) → s.frame ≡ n
-    → without (map.insert m s h) n ≡ without m n
+    → without_spots_of (map.insert m s h) n ≡ without_spots_of m n
 without_insert m n s h e = same_map _ _ (λ q. elim (cases_eq q.frame n) [
   | inl f ↦ without_here (map.insert m s h) n q f ∙ sym (without_here m n q f)
   | inr d ↦ without_other (map.insert m s h) n q d ∙ get_other m s h q (λ p. d (ap (λ (t : Spot). t.frame) p ∙ e))
       ∙ sym (without_other m n q d)
 ])
 
-pub without_pieces : (m : Map) (n v : ℕ) (cs : List ℕ) → without (with_pieces m n v cs) n ≡ without m n
+pub without_pieces : (m : Map) (n v : ℕ) (cs : List ℕ) → without_spots_of (with_pieces m n v cs) n
+    ≡ without_spots_of m n
 without_pieces m n v [] = refl
 without_pieces m n v (c ∷ cs) =
     without_pieces (map.insert m (record { frame = n; variable = v }) (Own (replicate c Undefined))) n (v + 1) cs
     ∙ without_insert m n (record { frame = n; variable = v }) (Own (replicate c Undefined)) refl
 
 -- where no spot of the frame is known, nothing goes
-pub without_none : (m : Map) (n : ℕ) → ((q : Spot) → IsSome (map.get m q) → q.frame ≢ n) → without m n ≡ m
+pub without_none : (m : Map) (n : ℕ) → ((q : Spot) → IsSome (map.get m q) → q.frame ≢ n) → without_spots_of m n ≡ m
 without_none m n f = same_map _ _ (λ q. elim (cases_eq q.frame n) [
   | inl e ↦ without_here m n q e ∙ sym (unknown (map.get m q) (λ k. f q k e))
   | inr d ↦ without_other m n q d
@@ -130,13 +133,13 @@ without_none m n f = same_map _ _ (λ q. elim (cases_eq q.frame n) [
     unknown (Some h) k = absurd (k refl)
 
 -- a new frame that goes again leaves the map as it was
-pub without_next : (p : Plain) → without p.map (next_frame p) ≡ p.map
+pub without_next : (p : Plain) → without_spots_of p.map (next_frame p) ≡ p.map
 without_next p = without_none p.map (next_frame p) (λ q k e. absurd (omega (arith, known_below p.map q k, e)))
 
 -- ---- the next number
 
 above_any : (ss : List Spot) (b : ℕ) → ((q : Spot) → list_any (eq_by_cmp spot_cmp q) ss ≡ true → q.frame < b)
-    → above (frames ss) ≤ b
+    → least_above (frames ss) ≤ b
 above_any [] b f = omega arith
 above_any (s ∷ ss) b f =
     let here = f s (ap (λ r. is_eq r || list_any (eq_by_cmp spot_cmp s) ss) (tied_itself spot_total s)) in
@@ -149,7 +152,7 @@ above_any (s ∷ ss) b f =
 
 -- a number above the frame of each known spot is above all
 pub above_known : (m : Map) (b : ℕ) → ((q : Spot) → IsSome (map.get m q) → q.frame < b)
-    → above (frames (map.keys m)) ≤ b
+    → least_above (frames (map.keys m)) ≤ b
 above_known m b f = above_any (map.keys m) b (λ q e. f q (map.contains_key-keys m q ∙ e))
 
 -- a spot that is known after pieces are added was known, or is of their frame
@@ -166,12 +169,12 @@ known_pieces m n v (c ∷ cs) q k =
       | inr e ↦ inr e
     ]
 
-above_append : (ns : List ℕ) (n : ℕ) → above (ns ++ n ∷ []) ≡ max (above ns) (n + 1)
+above_append : (ns : List ℕ) (n : ℕ) → least_above (ns ++ n ∷ []) ≡ max (least_above ns) (n + 1)
 above_append [] n = omega arith
 above_append (x ∷ ns) n = omega (arith, above_append ns n)
 
 -- a push takes one number
-pub next_pushed : (p : Plain) (cs : List ℕ) → next_frame (pushed p cs) ≡ next_frame p + 1
+pub next_pushed : (p : Plain) (cs : List ℕ) → next_frame (with_new_frame p cs) ≡ next_frame p + 1
 next_pushed p cs =
     let n = next_frame p in
     let own = above_append p.own n in
@@ -181,7 +184,7 @@ next_pushed p cs =
     omega (arith, own, known)
 
 -- the newest of numbers is the last
-pub newest_last : (ms : List ℕ) (n : ℕ) → newest (ms ++ n ∷ []) ≡ n
+pub newest_last : (ms : List ℕ) (n : ℕ) → last_own_frame (ms ++ n ∷ []) ≡ n
 newest_last ms n =
     let len = length-append ms (n ∷ []) in
     ap (λ j. get_or (ms ++ n ∷ []) j 0) {x = length (ms ++ n ∷ []) - 1} {y = length ms} (omega (arith, len))

@@ -10,9 +10,10 @@ use Rattle.std.specs.FinMap as map
 use Rattle.sp_cell.specs.declared.spot.Spot.{Spot}
 use Rattle.sp_cell.specs.declared.spot.Handing.{Handing}
 use Rattle.sp_cell.specs.Map.{Map, Content, Own, Shared, Output, Away, Plain, IsPiece, cells_of, cells_at}
-use Rattle.sp_cell.specs.Fork.{child_map, children_of, handed, joined, moved_of, shared_of, index_frame}
+use Rattle.sp_cell.specs.Fork.{child_map, children_of, map_after_fork, map_after_join, moved_of, shared_of, index_frame}
 use Rattle.sp_cell.proofs.FrameLaws.{is_same, is_other}
-use Rattle.sp_cell.specs.Held.{View, IsNotHeld, Agree, IsNamed, AgreeOnAll, IsPartition, child_means, child_views}
+use Rattle.sp_cell.specs.Held.{View, IsNotHeld, ContentsAgree, HasUniqueSpots, AgreeOnAll, IsPartition, child_means}
+use Rattle.sp_cell.specs.Held.{child_views}
 use Rattle.sp_cell.specs.Held.{IsFresh, KeepsPartition, RejoinsPartition}
 use Rattle.sp_cell.proofs.Laws.{known_of_held, known_of_piece}
 use Rattle.sp_cell.proofs.Partition.{parent_moved, parent_shared, parent_rest, child_moved, child_shared, child_rest}
@@ -31,7 +32,7 @@ not_held_of_none : (o : Option Content) → o ≡ None → IsNotHeld o
 not_held_of_none o e = rw e tt
 
 -- to share what is owned agrees with whatever the owner agreed with
-share_agree : (o b : Option Content) → IsPiece o → Agree o b → Agree (Some (Shared (cells_of o))) b
+share_agree : (o b : Option Content) → IsPiece o → ContentsAgree o b → ContentsAgree (Some (Shared (cells_of o))) b
 share_agree None b p a = absurd p
 share_agree (Some (Own cs)) b p (inl x) = absurd x
 share_agree (Some (Own cs)) b p (inr (inl y)) = inr (inl y)
@@ -71,12 +72,12 @@ at_frame : (n k : ℕ) (p : Spot) → n ≡ k → ◌≡◌ {A = Spot} (record {
 at_frame n k p e = λ i. record { frame = e i; variable = p.variable }
 
 -- where a spot of a child comes from: it was moved, it is shared, it is of the index's frame, or it is unknown
-abbrev Comes : Map → Handing → Spot → Type 0
-Comes m h p = (In p h.moved × (map.get (child_map m h) p ≡ map.get m p))
+abbrev ChildSpotSource : Map → Handing → Spot → Type 0
+ChildSpotSource m h p = (In p h.moved × (map.get (child_map m h) p ≡ map.get m p))
     ⊎ ((In p h.shared × (map.get (child_map m h) p ≡ Some (Shared (cells_at m p))))
     ⊎ ((p.frame ≡ index_frame h) ⊎ (map.get (child_map m h) p ≡ None)))
 
-comes : (m : Map) (h : Handing) → AllHeld m h.moved → (p : Spot) → Comes m h p
+comes : (m : Map) (h : Handing) → AllHeld m h.moved → (p : Spot) → ChildSpotSource m h p
 comes m h k p = elim (in_or p h.moved) [
   | inl i ↦ inl (i, child_moved m h p i (known_of_held _ (k p i)))
   | inr n ↦ elim (in_or p h.shared) [
@@ -91,7 +92,7 @@ child_other : (m : Map) (f : ℕ → ℕ) (h : Handing) (v : ℕ) → AllHeld m 
     → IsFresh v u → AgreeOnAll (parent_view m f) u → AgreeOnAll (child_view m f h v) u
 child_other m f h v k c u fresh agree p q e = by_case (comes m h k p)
   where
-    by_case : Comes m h p → Agree (map.get (child_map m h) p) (map.get u.map q)
+    by_case : ChildSpotSource m h p → ContentsAgree (map.get (child_map m h) p) (map.get u.map q)
     by_case (inl a) = rw a.1 (agree p q (at_frame _ _ p (sym (moved_means f h v p a.0)) ∙ e))
     by_case (inr (inl b)) = rw b.1 (share_agree (map.get m p) (map.get u.map q) (c p b.0)
         (agree p q (at_frame _ _ p (sym (shared_means f h v p b.0)) ∙ e)))
@@ -103,7 +104,7 @@ child_other m f h v k c u fresh agree p q e = by_case (comes m h k p)
 
 -- and knows each variable once
 child_named : (m : Map) (f : ℕ → ℕ) (h : Handing) (v : ℕ) → AllHeld m h.moved → AllPieces m h.shared
-    → IsFresh v (parent_view m f) → IsNamed (parent_view m f) → IsNamed (child_view m f h v)
+    → IsFresh v (parent_view m f) → HasUniqueSpots (parent_view m f) → HasUniqueSpots (child_view m f h v)
 child_named m f h v k c fresh named p q kp kq e = by_case (comes m h k p) (comes m h k q)
   where
     unknown : (o : Option Content) → o ≡ None → IsSome o → ⊥
@@ -117,7 +118,7 @@ child_named m f h v k c fresh named p q kp kq e = by_case (comes m h k p) (comes
         → child_means f h v r.frame ≡ child_means f h v s.frame → ⊥
     never r s sr x i same = fresh r sr (sym x ∙ same ∙ index_means f h v s.frame i)
 
-    by_case : Comes m h p → Comes m h q → p ≡ q
+    by_case : ChildSpotSource m h p → ChildSpotSource m h q → p ≡ q
     by_case (inl a) (inl b) = both (known_of_held _ (k p a.0)) (known_of_held _ (k q b.0)) (moved_means f h v p a.0)
         (moved_means f h v q b.0)
     by_case (inl a) (inr (inl b)) = both (known_of_held _ (k p a.0)) (known_of_piece _ (c q b.0))
@@ -145,7 +146,7 @@ child_child : (m : Map) (f : ℕ → ℕ) (h g : Handing) (v w : ℕ) → AllHel
     → AllHeld m g.moved → AllPieces m g.shared
     → ((q : Spot) → In q h.moved → NotIn q g.moved) → ((q : Spot) → In q h.moved → NotIn q g.shared)
     → ((q : Spot) → In q g.moved → NotIn q h.shared)
-    → v ≢ w → IsFresh v (parent_view m f) → IsFresh w (parent_view m f) → IsNamed (parent_view m f)
+    → v ≢ w → IsFresh v (parent_view m f) → IsFresh w (parent_view m f) → HasUniqueSpots (parent_view m f)
     → AgreeOnAll (child_view m f h v) (child_view m f g w)
 child_child m f h g v w k c l d mm ms sm apart fv fw named p q e = by_case (comes m h k p) (comes m g l q)
   where
@@ -153,7 +154,8 @@ child_child m f h g v w k c l d mm ms sm apart fv fw named p q e = by_case (come
         → child_means f g w q.frame ≡ f q.frame → p ≡ q
     same sp sq x y = named p q sp sq (at_frame _ _ p (sym x) ∙ e ∙ at_frame _ _ q y)
 
-    by_case : Comes m h p → Comes m g q → Agree (map.get (child_map m h) p) (map.get (child_map m g) q)
+    by_case : ChildSpotSource m h p → ChildSpotSource m g q
+        → ContentsAgree (map.get (child_map m h) p) (map.get (child_map m g) q)
     by_case a (inr (inr (inr n))) = inr (inl (not_held_of_none _ n))
     by_case (inr (inr (inr n))) b = inl (not_held_of_none _ n)
     by_case (inl a) (inl b) = let s = same (known_of_held _ (k p a.0)) (known_of_held _ (l q b.0))
@@ -186,24 +188,24 @@ child_child m f h g v w k c l d mm ms sm apart fv fw named p q e = by_case (come
 -- ---- the parent
 
 unknown_handed : (m : Map) (hs : List Handing) → AllHeld m (moved_of hs) → AllPieces m (shared_of hs) → (p : Spot)
-    → map.get m p ≡ None → map.get (handed m hs) p ≡ None
+    → map.get m p ≡ None → map.get (map_after_fork m hs) p ≡ None
 unknown_handed m hs k c p e = elim (in_or p (moved_of hs)) [
   | inl i ↦ absurd (rw e at (k p i))
   | inr n ↦ elim (in_or p (shared_of hs)) [ inl j ↦ absurd (rw e at (c p j)) | inr o ↦ parent_rest m hs p n o ∙ e ]
 ]
 
 known_handed : (m : Map) (hs : List Handing) → AllHeld m (moved_of hs) → AllPieces m (shared_of hs) → (p : Spot)
-    → IsSome (map.get (handed m hs) p) → IsSome (map.get m p)
+    → IsSome (map.get (map_after_fork m hs) p) → IsSome (map.get m p)
 known_handed m hs k c p s = elim (known_or (map.get m p))
     [ inl n ↦ absurd (false≢true (rw (unknown_handed m hs k c p n) at s)) | inr t ↦ t ]
 
 handed_named : (m : Map) (f : ℕ → ℕ) (hs : List Handing) → AllHeld m (moved_of hs) → AllPieces m (shared_of hs)
-    → IsNamed (parent_view m f) → IsNamed (parent_view (handed m hs) f)
+    → HasUniqueSpots (parent_view m f) → HasUniqueSpots (parent_view (map_after_fork m hs) f)
 handed_named m f hs k c named p q sp sq e = named p q (known_handed m hs k c p sp) (known_handed m hs k c q sq) e
 
 handed_other : (m : Map) (f : ℕ → ℕ) (hs : List Handing) → AllPieces m (shared_of hs)
     → ((q : Spot) → In q (moved_of hs) → NotIn q (shared_of hs)) → (u : View) → AgreeOnAll (parent_view m f) u
-    → AgreeOnAll (parent_view (handed m hs) f) u
+    → AgreeOnAll (parent_view (map_after_fork m hs) f) u
 handed_other m f hs c apart u agree p q e = elim (in_or p (moved_of hs)) [
   | inl i ↦ rw (parent_moved m hs p i (apart p i)) (inl tt)
   | inr n ↦ elim (in_or p (shared_of hs)) [
@@ -228,15 +230,16 @@ all_parts hs = parts_of hs (λ q i. i) (λ q i. i)
     )
 
 handed_child : (m : Map) (f : ℕ → ℕ) (hs : List Handing) → AllHeld m (moved_of hs) → AllPieces m (shared_of hs)
-    → ((q : Spot) → In q (moved_of hs) → NotIn q (shared_of hs)) → IsNamed (parent_view m f)
+    → ((q : Spot) → In q (moved_of hs) → NotIn q (shared_of hs)) → HasUniqueSpots (parent_view m f)
     → (h : Handing) (v : ℕ) → IsPart hs h → IsFresh v (parent_view m f)
-    → AgreeOnAll (parent_view (handed m hs) f) (child_view m f h v)
+    → AgreeOnAll (parent_view (map_after_fork m hs) f) (child_view m f h v)
 handed_child m f hs k c apart named h v part fresh p q e = elim (known_or (map.get m p)) [
   | inl n ↦ inl (not_held_of_none _ (unknown_handed m hs k c p n))
   | inr s ↦ by_case s (comes m h (λ r i. k r (part.0 r i)) q)
 ]
   where
-    by_case : IsSome (map.get m p) → Comes m h q → Agree (map.get (handed m hs) p) (map.get (child_map m h) q)
+    by_case : IsSome (map.get m p) → ChildSpotSource m h q
+        → ContentsAgree (map.get (map_after_fork m hs) p) (map.get (child_map m h) q)
     by_case s (inl a) =
         let same = named p q s (known_of_held _ (k q (part.0 q a.0))) (e ∙ at_frame _ _ q (moved_means f h v q a.0)) in
         let i = subst (λ (x : Spot). In x (moved_of hs)) (sym same) (part.0 q a.0) in
@@ -290,7 +293,7 @@ not_in_part q xs ys sub n = elim (in_or q xs) [ inl i ↦ absurd (not_both q ys 
 
 children_part : (m : Map) (f new : ℕ → ℕ) (hs : List Handing) (ws : List View) → AllHeld m (moved_of hs)
     → AllPieces m (shared_of hs) → IsDistinct (moved_of hs) → ((q : Spot) → In q (moved_of hs) → NotIn q (shared_of hs))
-    → IsNamed (parent_view m f) → AllByRecursion (AgreeOnAll (parent_view m f)) ws
+    → HasUniqueSpots (parent_view m f) → AllByRecursion (AgreeOnAll (parent_view m f)) ws
     → ((k : ℕ) → IsFresh (new k) (parent_view m f)) → ((k : ℕ) → AllByRecursion (IsFresh (new k)) ws)
     → ((i j : ℕ) → new i ≡ new j → i ≡ j)
     → IsPartition ws → IsPartition (child_views f new hs (children_of m hs) ++ ws)
@@ -322,14 +325,14 @@ children_part m f new (h ∷ hs) ws k c d apart named agree fp fw inj part =
 -- a fork keeps the partition
 pub split_keeps : (m : Map) (hs : List Handing) → AllHeld m (moved_of hs) → AllPieces m (shared_of hs)
     → IsDistinct (moved_of hs) → ((q : Spot) → In q (moved_of hs) → NotIn q (shared_of hs))
-    → KeepsPartition m (handed m hs) hs (children_of m hs)
+    → KeepsPartition m (map_after_fork m hs) hs (children_of m hs)
 split_keeps m hs k c d apart = record {
   keeps = λ f new ws part fresh. (
     handed_named m f hs k c part.0,
-    all_both (AgreeOnAll (parent_view (handed m hs) f)) (child_views f new hs (children_of m hs)) ws
-        (all_children (AgreeOnAll (parent_view (handed m hs) f)) (IsPart hs) m f new hs (all_parts hs)
+    all_both (AgreeOnAll (parent_view (map_after_fork m hs) f)) (child_views f new hs (children_of m hs)) ws
+        (all_children (AgreeOnAll (parent_view (map_after_fork m hs) f)) (IsPart hs) m f new hs (all_parts hs)
         (λ h j sub. handed_child m f hs k c apart part.0 h (new j) sub (fresh.1 j).0))
-        (all_weaker (AgreeOnAll (parent_view m f)) (AgreeOnAll (parent_view (handed m hs) f))
+        (all_weaker (AgreeOnAll (parent_view m f)) (AgreeOnAll (parent_view (map_after_fork m hs) f))
         (λ u a. handed_other m f hs c apart u a) ws part.1),
     children_part m f new hs ws k c d apart part.0 part.1 (λ j. (fresh.1 j).0) (λ j. (fresh.1 j).1) fresh.0 part.2,
   );
@@ -343,17 +346,19 @@ all_at P (s ∷ ss) a q (inl e) = subst P (sym e) a.0
 all_at P (s ∷ ss) a q (inr i) = all_at P ss a.1 q i
 
 -- a join keeps the partition
-pub join_keeps : (m : Map) (c : Plain) → AllHeld c.map c.moved → AllAway m c.moved → RejoinsPartition m (joined m c) c
+pub join_keeps : (m : Map) (c : Plain) → AllHeld c.map c.moved → AllAway m c.moved
+    → RejoinsPartition m (map_after_join m c) c
 join_keeps m c k away = record {
   keeps = λ f g ws part same. (
     λ p q sp sq e. part.0 p q (known p sp) (known q sq) e,
-    all_meet (AgreeOnAll (parent_view m f)) (AgreeOnAll (parent_view c.map g)) (AgreeOnAll (parent_view (joined m c) f))
+    all_meet (AgreeOnAll (parent_view m f)) (AgreeOnAll (parent_view c.map g))
+        (AgreeOnAll (parent_view (map_after_join m c) f))
         (back f g same) ws part.1.1 part.2.1,
     part.2.2,
   );
 }
   where
-    known : (p : Spot) → IsSome (map.get (joined m c) p) → IsSome (map.get m p)
+    known : (p : Spot) → IsSome (map.get (map_after_join m c) p) → IsSome (map.get m p)
     known p s = elim (in_or p c.moved) [
       | inl i ↦ rw (away p i) refl
       | inr n ↦ rw (← get_taken_out c.map c.moved m p n)
@@ -362,7 +367,7 @@ join_keeps m c k away = record {
 
     back : (f g : ℕ → ℕ) → AllByRecursion (λ s. f s.frame ≡ g s.frame) c.moved → (u : View)
         → AgreeOnAll (parent_view m f) u → AgreeOnAll (parent_view c.map g) u
-        → AgreeOnAll (parent_view (joined m c) f) u
+        → AgreeOnAll (parent_view (map_after_join m c) f) u
     back f g same u a b p q e = elim (in_or p c.moved) [
       | inl i ↦ rw (get_taken_in c.map c.moved m p i (known_of_held _ (k p i)))
           (b p q (at_frame _ _ p (sym (all_at (λ s. f s.frame ≡ g s.frame) c.moved same p i)) ∙ e))

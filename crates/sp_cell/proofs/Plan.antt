@@ -9,9 +9,10 @@ use Rattle.std.specs.FinMap as map
 use Rattle.sp_cell.specs.declared.spot.Spot.{Spot}
 use Rattle.sp_cell.specs.declared.spot.Handing.{Handing}
 use Rattle.sp_cell.specs.Map.{Map, Content, Shared, Away, Plain, cells_at, spot_cmp}
-use Rattle.sp_cell.specs.Fork.{mixed, hold, taken, lent, away, with_index, index_frame, child_map, child_of}
+use Rattle.sp_cell.specs.Fork.{children_so_far, insert_if_found, with_contents, with_shared, with_away, with_index}
+use Rattle.sp_cell.specs.Fork.{index_frame, child_map, child_of}
 use Rattle.sp_cell.specs.Fork.{children_of}
-use Rattle.sp_cell.specs.Fork.{prepared_map, prepared, moved_of, shared_of, HasIndex}
+use Rattle.sp_cell.specs.Fork.{prepared_map, prepared_child, moved_of, shared_of, HasIndex}
 use Rattle.sp_cell.specs.Spots.{In, NotIn, IsDistinct, AllPieces, DistinctByIndex}
 use Rattle.sp_cell.proofs.Laws.{get_other, get_here, known_insert, known_of_piece, same_or, same_map}
 
@@ -70,12 +71,12 @@ not_both q (s ∷ ss) (inr i) o = not_both q ss i o.1
 -- ---- what is found
 
 -- another spot is as it was
-pub get_away_out : (m : Map) (ss : List Spot) (q : Spot) → NotIn q ss → map.get (away m ss) q ≡ map.get m q
+pub get_away_out : (m : Map) (ss : List Spot) (q : Spot) → NotIn q ss → map.get (with_away m ss) q ≡ map.get m q
 get_away_out m [] q n = refl
 get_away_out m (s ∷ ss) q n = get_away_out (map.insert m s Away) ss q n.1 ∙ get_other m s Away q (λ e. n.0 (sym e))
 
 -- a spot that goes is away
-pub get_away_in : (m : Map) (ss : List Spot) (q : Spot) → In q ss → map.get (away m ss) q ≡ Some Away
+pub get_away_in : (m : Map) (ss : List Spot) (q : Spot) → In q ss → map.get (with_away m ss) q ≡ Some Away
 get_away_in m [] q i = absurd i
 get_away_in m (s ∷ ss) q i = elim (in_or q ss) [
   | inl j ↦ get_away_in (map.insert m s Away) ss q j
@@ -83,40 +84,42 @@ get_away_in m (s ∷ ss) q i = elim (in_or q ss) [
       ∙ elim i [ inl e ↦ rw e (get_here m s Away) | inr j ↦ absurd (not_both q ss j o) ]
 ]
 
-get_hold_other : (c : Map) (s : Spot) (o : Option Content) (q : Spot) → q ≢ s → map.get (hold c s o) q ≡ map.get c q
+get_hold_other : (c : Map) (s : Spot) (o : Option Content) (q : Spot) → q ≢ s → map.get (insert_if_found c s o) q
+    ≡ map.get c q
 get_hold_other c s None q n = refl
 get_hold_other c s (Some h) q n = get_other c s h q n
 
-get_hold_here : (c : Map) (s : Spot) (o : Option Content) → IsSome o → map.get (hold c s o) s ≡ o
+get_hold_here : (c : Map) (s : Spot) (o : Option Content) → IsSome o → map.get (insert_if_found c s o) s ≡ o
 get_hold_here c s None k = absurd (false≢true k)
 get_hold_here c s (Some h) k = get_here c s h
 
 -- a spot that is not taken is as it was
 pub get_taken_out : (m : Map) (ss : List Spot) (c : Map) (q : Spot) → NotIn q ss
-    → map.get (taken m ss c) q ≡ map.get c q
+    → map.get (with_contents m ss c) q ≡ map.get c q
 get_taken_out m [] c q n = refl
-get_taken_out m (s ∷ ss) c q n = get_taken_out m ss (hold c s (map.get m s)) q n.1
+get_taken_out m (s ∷ ss) c q n = get_taken_out m ss (insert_if_found c s (map.get m s)) q n.1
     ∙ get_hold_other c s (map.get m s) q (λ e. n.0 (sym e))
 
 -- a spot that is taken is as it was where it came from
 pub get_taken_in : (m : Map) (ss : List Spot) (c : Map) (q : Spot) → In q ss → IsSome (map.get m q)
-    → map.get (taken m ss c) q ≡ map.get m q
+    → map.get (with_contents m ss c) q ≡ map.get m q
 get_taken_in m [] c q i k = absurd i
 get_taken_in m (s ∷ ss) c q i k = elim (in_or q ss) [
-  | inl j ↦ get_taken_in m ss (hold c s (map.get m s)) q j k
-  | inr o ↦ get_taken_out m ss (hold c s (map.get m s)) q o
+  | inl j ↦ get_taken_in m ss (insert_if_found c s (map.get m s)) q j k
+  | inr o ↦ get_taken_out m ss (insert_if_found c s (map.get m s)) q o
       ∙ elim i [ inl e ↦ rw e (get_hold_here c s (map.get m s) (rw (← e) k)) | inr j ↦ absurd (not_both q ss j o) ]
 ]
 
 -- a spot that is not lent is as it was
-pub get_lent_out : (m : Map) (ss : List Spot) (c : Map) (q : Spot) → NotIn q ss → map.get (lent m ss c) q ≡ map.get c q
+pub get_lent_out : (m : Map) (ss : List Spot) (c : Map) (q : Spot) → NotIn q ss → map.get (with_shared m ss c) q
+    ≡ map.get c q
 get_lent_out m [] c q n = refl
 get_lent_out m (s ∷ ss) c q n = get_lent_out m ss (map.insert c s (Shared (cells_at m s))) q n.1
     ∙ get_other c s (Shared (cells_at m s)) q (λ e. n.0 (sym e))
 
 -- a spot that is lent is shared
 pub get_lent_in : (m : Map) (ss : List Spot) (c : Map) (q : Spot) → In q ss
-    → map.get (lent m ss c) q ≡ Some (Shared (cells_at m q))
+    → map.get (with_shared m ss c) q ≡ Some (Shared (cells_at m q))
 get_lent_in m [] c q i = absurd i
 get_lent_in m (s ∷ ss) c q i = elim (in_or q ss) [
   | inl j ↦ get_lent_in m ss (map.insert c s (Shared (cells_at m s))) q j
@@ -143,7 +146,7 @@ pub at_places : (P : Spot → Type 0) (ss : List Spot) → ((q : Spot) → In q 
 at_places P ss f k d b = f _ (in_at ss k d b)
 
 pub lent_alike : (m : Map) (ss : List Spot) (c e : Map) (q : Spot) → map.get c q ≡ map.get e q
-    → map.get (lent m ss c) q ≡ map.get (lent m ss e) q
+    → map.get (with_shared m ss c) q ≡ map.get (with_shared m ss e) q
 lent_alike m ss c e q h = elim (in_or q ss) [
   | inl i ↦ get_lent_in m ss c q i ∙ sym (get_lent_in m ss e q i)
   | inr o ↦ get_lent_out m ss c q o ∙ h ∙ sym (get_lent_out m ss e q o)
@@ -163,7 +166,7 @@ index_alike c e n (Some i) q h = insert_alike c e _ _ q h
 
 -- a prepared child is complete once its moved spots are taken
 pub completed : (m : Map) (h : Handing) → ((q : Spot) → In q h.moved → IsSome (map.get m q))
-    → taken m h.moved (prepared_map m h) ≡ child_map m h
+    → with_contents m h.moved (prepared_map m h) ≡ child_map m h
 completed m h k = same_map _ _ (λ q. elim (in_or q h.moved) [
   | inl i ↦ get_taken_in m h.moved _ q i (k q i) ∙ sym (get_taken_in m h.moved _ q i (k q i))
   | inr o ↦ get_taken_out m h.moved _ q o ∙ index_alike _ _ (index_frame h) h.index q
@@ -171,17 +174,17 @@ completed m h k = same_map _ _ (λ q. elim (in_or q h.moved) [
 ])
 
 pub taken_alike : (m n : Map) (ss : List Spot) (c : Map) → ((q : Spot) → In q ss → map.get m q ≡ map.get n q)
-    → taken m ss c ≡ taken n ss c
+    → with_contents m ss c ≡ with_contents n ss c
 taken_alike m n [] c h = refl
-taken_alike m n (s ∷ ss) c h = ap (λ o. taken m ss (hold c s o)) (h s (inl refl))
-    ∙ taken_alike m n ss (hold c s (map.get n s)) (λ q i. h q (inr i))
+taken_alike m n (s ∷ ss) c h = ap (λ o. with_contents m ss (insert_if_found c s o)) (h s (inl refl))
+    ∙ taken_alike m n ss (insert_if_found c s (map.get n s)) (λ q i. h q (inr i))
 
 -- room is kept for the moved spots
 pub room_for : (m : Map) (h : Handing) (q : Spot) → In q h.moved → IsSome (map.get (prepared_map m h) q)
 room_for m h q i = elim (in_or q h.shared) [
-  | inl j ↦ index_known _ (index_frame h) h.index q (rw (get_lent_in m h.shared (away map.empty h.moved) q j) refl)
+  | inl j ↦ index_known _ (index_frame h) h.index q (rw (get_lent_in m h.shared (with_away map.empty h.moved) q j) refl)
   | inr o ↦ index_known _ (index_frame h) h.index q
-      (rw (get_lent_out m h.shared (away map.empty h.moved) q o, get_away_in map.empty h.moved q i) refl)
+      (rw (get_lent_out m h.shared (with_away map.empty h.moved) q o, get_away_in map.empty h.moved q i) refl)
 ]
   where
     index_known : (c : Map) (n : ℕ) (o : Option (ℕ × ℤ)) (q : Spot) → IsSome (map.get c q)
@@ -192,32 +195,32 @@ room_for m h q i = elim (in_or q h.shared) [
 -- ---- a plan, child by child
 
 -- all children complete
-pub mixed_all : (m : Map) (hs : List Handing) → mixed m hs (length hs) ≡ children_of m hs
+pub mixed_all : (m : Map) (hs : List Handing) → children_so_far m hs (length hs) ≡ children_of m hs
 mixed_all m [] = refl
 mixed_all m (h ∷ hs) = ap (λ r. child_of m h ∷ r) (mixed_all m hs)
 
 -- one more child is prepared
 pub mixed_push : (m : Map) (hs : List Handing) (k : ℕ) (d : Handing) → k < length hs
-    → mixed m (take (suc k) hs) 0 ≡ mixed m (take k hs) 0 ++ prepared m (get_or hs k d) ∷ []
+    → children_so_far m (take (suc k) hs) 0 ≡ children_so_far m (take k hs) 0 ++ prepared_child m (get_or hs k d) ∷ []
 mixed_push m [] k d b = absurd (omega arith)
 mixed_push m (h ∷ hs) zero d b = refl
-mixed_push m (h ∷ hs) (suc k) d b = ap (λ r. prepared m h ∷ r) (mixed_push m hs k d (omega arith))
+mixed_push m (h ∷ hs) (suc k) d b = ap (λ r. prepared_child m h ∷ r) (mixed_push m hs k d (omega arith))
 
 -- the next child is prepared still
 pub mixed_at : (m : Map) (hs : List Handing) (i : ℕ) (d : Handing) (e : Plain) → i < length hs
-    → get_or (mixed m hs i) i e ≡ prepared m (get_or hs i d)
+    → get_or (children_so_far m hs i) i e ≡ prepared_child m (get_or hs i d)
 mixed_at m [] i d e b = absurd (omega arith)
 mixed_at m (h ∷ hs) zero d e b = refl
 mixed_at m (h ∷ hs) (suc i) d e b = mixed_at m hs i d e (omega arith)
 
 -- the next child completes
 pub mixed_set : (m : Map) (hs : List Handing) (i : ℕ) (d : Handing) → i < length hs
-    → set (mixed m hs i) i (child_of m (get_or hs i d)) ≡ mixed m hs (suc i)
+    → set (children_so_far m hs i) i (child_of m (get_or hs i d)) ≡ children_so_far m hs (suc i)
 mixed_set m [] i d b = absurd (omega arith)
 mixed_set m (h ∷ hs) zero d b = refl
 mixed_set m (h ∷ hs) (suc i) d b = ap (λ r. child_of m h ∷ r) (mixed_set m hs i d (omega arith))
 
-pub length-mixed : (m : Map) (hs : List Handing) (i : ℕ) → length (mixed m hs i) ≡ length hs
+pub length-mixed : (m : Map) (hs : List Handing) (i : ℕ) → length (children_so_far m hs i) ≡ length hs
 length-mixed m [] i = refl
 length-mixed m (h ∷ hs) zero = omega (arith, length-mixed m hs 0)
 length-mixed m (h ∷ hs) (suc i) = omega (arith, length-mixed m hs i)
@@ -247,11 +250,12 @@ shared_suc (h ∷ hs) zero d b = append_nil h.shared
 shared_suc (h ∷ hs) (suc i) d b = ap (λ r. h.shared ++ r) (shared_suc hs i d (omega arith))
     ∙ sym (append_assoc h.shared (shared_of (take i hs)) _)
 
-pub away_append : (m : Map) (xs ys : List Spot) → away m (xs ++ ys) ≡ away (away m xs) ys
+pub away_append : (m : Map) (xs ys : List Spot) → with_away m (xs ++ ys) ≡ with_away (with_away m xs) ys
 away_append m [] ys = refl
 away_append m (x ∷ xs) ys = away_append (map.insert m x Away) xs ys
 
-pub lent_append : (m : Map) (xs ys : List Spot) (c : Map) → lent m (xs ++ ys) c ≡ lent m ys (lent m xs c)
+pub lent_append : (m : Map) (xs ys : List Spot) (c : Map) → with_shared m (xs ++ ys) c
+    ≡ with_shared m ys (with_shared m xs c)
 lent_append m [] ys c = refl
 lent_append m (x ∷ xs) ys c = lent_append m xs ys _
 
@@ -267,21 +271,22 @@ in_back q (x ∷ xs) ys i = inr (in_back q xs ys i)
 -- ---- the steps of the two loops
 
 pub away_plan_step : (m : Map) (hs : List Handing) (i : ℕ) (d : Handing) → i < length hs
-    → away m (moved_of (take (i + 1) hs)) ≡ away (away m (moved_of (take i hs))) (get_or hs i d).moved
-away_plan_step m hs i d b = subst (λ n. away m (moved_of (take n hs))
-    ≡ away (away m (moved_of (take i hs))) (get_or hs i d).moved) {x = suc i} (omega arith)
-    (ap (away m) (moved_suc hs i d b) ∙ away_append m (moved_of (take i hs)) (get_or hs i d).moved)
+    → with_away m (moved_of (take (i + 1) hs)) ≡ with_away (with_away m (moved_of (take i hs))) (get_or hs i d).moved
+away_plan_step m hs i d b = subst (λ n. with_away m (moved_of (take n hs))
+    ≡ with_away (with_away m (moved_of (take i hs))) (get_or hs i d).moved) {x = suc i} (omega arith)
+    (ap (with_away m) (moved_suc hs i d b) ∙ away_append m (moved_of (take i hs)) (get_or hs i d).moved)
 
 pub lent_plan_step : (m : Map) (hs : List Handing) (i : ℕ) (d : Handing) (c : Map) → i < length hs
-    → lent m (shared_of (take (i + 1) hs)) c ≡ lent m (get_or hs i d).shared (lent m (shared_of (take i hs)) c)
-lent_plan_step m hs i d c b = subst (λ n. lent m (shared_of (take n hs)) c
-    ≡ lent m (get_or hs i d).shared (lent m (shared_of (take i hs)) c)) {x = suc i} (omega arith)
-    (ap (λ r. lent m r c) (shared_suc hs i d b) ∙ lent_append m (shared_of (take i hs)) (get_or hs i d).shared c)
+    → with_shared m (shared_of (take (i + 1) hs)) c ≡ with_shared m (get_or hs i d).shared
+    (with_shared m (shared_of (take i hs)) c)
+lent_plan_step m hs i d c b = subst (λ n. with_shared m (shared_of (take n hs)) c
+    ≡ with_shared m (get_or hs i d).shared (with_shared m (shared_of (take i hs)) c)) {x = suc i} (omega arith)
+    (ap (λ r. with_shared m r c) (shared_suc hs i d b) ∙ lent_append m (shared_of (take i hs)) (get_or hs i d).shared c)
 
 pub mixed_push_step : (m : Map) (hs : List Handing) (k : ℕ) (d : Handing) → k < length hs
-    → mixed m (take (k + 1) hs) 0 ≡ mixed m (take k hs) 0 ++ prepared m (get_or hs k d) ∷ []
-mixed_push_step m hs k d b = subst (λ n. mixed m (take n hs) 0 ≡ mixed m (take k hs) 0
-    ++ prepared m (get_or hs k d) ∷ []) {x = suc k} (omega arith) (mixed_push m hs k d b)
+    → children_so_far m (take (k + 1) hs) 0 ≡ children_so_far m (take k hs) 0 ++ prepared_child m (get_or hs k d) ∷ []
+mixed_push_step m hs k d b = subst (λ n. children_so_far m (take n hs) 0 ≡ children_so_far m (take k hs) 0
+    ++ prepared_child m (get_or hs k d) ∷ []) {x = suc k} (omega arith) (mixed_push m hs k d b)
 
 module _ (m : Map) (hs : List Handing) (h : IsDistinct (moved_of hs))
     (k : (q : Spot) → In q (moved_of hs) → IsSome (map.get m q)) (i : ℕ) (d : Handing) (b : i < length hs) where
@@ -299,13 +304,13 @@ module _ (m : Map) (hs : List Handing) (h : IsDistinct (moved_of hs))
       (in_front q (get_or hs i d).moved (moved_of (drop (suc i) hs)) j))
 
   -- the spots of the next handing are as they were
-  same_before : (q : Spot) → In q (get_or hs i d).moved → map.get (away m (moved_of (take i hs))) q ≡ map.get m q
+  same_before : (q : Spot) → In q (get_or hs i d).moved → map.get (with_away m (moved_of (take i hs))) q ≡ map.get m q
   same_before q j = get_away_out m (moved_of (take i hs)) q
       (apart (moved_of (take i hs)) (get_or hs i d).moved (moved_of (drop (suc i) hs)) parts q j)
 
   pub known_at : (n : ℕ) (e : Spot) → n < length (get_or hs i d).moved
-      → IsSome (map.get (away m (moved_of (take i hs))) (get_or (get_or hs i d).moved n e))
-  known_at = at_places (λ q. IsSome (map.get (away m (moved_of (take i hs))) q)) (get_or hs i d).moved
+      → IsSome (map.get (with_away m (moved_of (take i hs))) (get_or (get_or hs i d).moved n e))
+  known_at = at_places (λ q. IsSome (map.get (with_away m (moved_of (take i hs))) q)) (get_or hs i d).moved
       (λ q j. rw (same_before q j) (k q (in_plan q j)))
 
   pub room_at : (n : ℕ) (e : Spot) → n < length (get_or hs i d).moved
@@ -314,33 +319,48 @@ module _ (m : Map) (hs : List Handing) (h : IsDistinct (moved_of hs))
       (room_for m (get_or hs i d))
 
   -- the child is complete
-  pub complete_at : taken (away m (moved_of (take i hs))) (get_or hs i d).moved (prepared_map m (get_or hs i d))
+  pub complete_at : with_contents (with_away m (moved_of (take i hs))) (get_or hs i d).moved
+      (prepared_map m (get_or hs i d))
       ≡ child_map m (get_or hs i d)
-  complete_at = taken_alike (away m (moved_of (take i hs))) m (get_or hs i d).moved (prepared_map m (get_or hs i d))
+  complete_at = taken_alike (with_away m (moved_of (take i hs))) m (get_or hs i d).moved
+      (prepared_map m (get_or hs i d))
       same_before ∙ completed m (get_or hs i d) (λ q j. k q (in_plan q j))
 
-  pub mixed_step : set (mixed m hs i) i (child_of m (get_or hs i d)) ≡ mixed m hs (i + 1)
-  mixed_step = subst (λ n. set (mixed m hs i) i (child_of m (get_or hs i d)) ≡ mixed m hs n) {x = suc i} (omega arith)
+  pub mixed_step : set (children_so_far m hs i) i (child_of m (get_or hs i d)) ≡ children_so_far m hs (i + 1)
+  mixed_step = subst (λ n. set (children_so_far m hs i) i (child_of m (get_or hs i d)) ≡ children_so_far m hs n) {x =
+      suc i} (omega arith)
       (mixed_set m hs i d b)
 
 -- the child at place i is prepared
 pub is_prepared : (m : Map) (hs : List Handing) (i : ℕ) (g : Handing) (items : List Plain) (x : Plain)
-    → items ≡ mixed m hs i → x ≡ get_or items i x → g ≡ get_or hs i g → i < length hs → x ≡ prepared m g
-is_prepared m hs i g items x e f k b = f ∙ ap (λ r. get_or r i x) e ∙ mixed_at m hs i g x b ∙ ap (prepared m) (sym k)
+    → items ≡ children_so_far m hs i → x ≡ get_or items i x → g ≡ get_or hs i g → i < length hs → x ≡ prepared_child m g
+is_prepared m hs i g items x e f k b = f ∙ ap (λ r. get_or r i x) e ∙ mixed_at m hs i g x b
+    ∙ ap (prepared_child m) (sym k)
 
 -- and it is complete once its moved spots are taken
 pub filled : (m : Map) (hs : List Handing) (h : IsDistinct (moved_of hs))
     (k : (q : Spot) → In q (moved_of hs) → IsSome (map.get m q)) (i : ℕ) (b : i < length hs) (g : Handing)
-    (items : List Plain) (x : Plain) → items ≡ mixed m hs i → x ≡ prepared m g → g ≡ get_or hs i g
-    → set items i (record { map = taken (away m (moved_of (take i hs))) g.moved x.map; own = x.own; moved = x.moved })
-    ≡ mixed m hs (i + 1)
+    (items : List Plain) (x : Plain) → items ≡ children_so_far m hs i → x ≡ prepared_child m g → g ≡ get_or hs i g
+    → set items i (record {
+      map = with_contents (with_away m (moved_of (take i hs))) g.moved x.map;
+      own = x.own;
+      moved =
+          x.moved;
+    })
+    ≡ children_so_far m hs (i + 1)
 filled m hs h k i b g items x e p same =
-    let prior = away m (moved_of (take i hs)) in
+    let prior = with_away m (moved_of (take i hs)) in
     let at = get_or hs i g in
-    subst (λ (y : Handing). x ≡ prepared m y
-    → set items i (record { map = taken prior y.moved x.map; own = x.own; moved = x.moved }) ≡ mixed m hs (i + 1))
+    subst (λ (y : Handing). x ≡ prepared_child m y
+    → set items i (record { map = with_contents prior y.moved x.map; own = x.own; moved = x.moved })
+    ≡ children_so_far m hs (i + 1))
     (sym same)
-    (λ q. ap (λ (y : Plain). set items i (record { map = taken prior at.moved y.map; own = y.own; moved = y.moved })) q
+    (λ q. ap (λ (y : Plain). set items i (record {
+      map = with_contents prior at.moved y.map;
+      own = y.own;
+      moved =
+          y.moved;
+    })) q
     ∙ ap (λ (z : Map). set items i (record { map = z; own = []; moved = at.moved })) (complete_at m hs h k i g b)
     ∙ ap (λ r. set r i (child_of m at)) e
     ∙ mixed_step m hs h k i g b)
@@ -391,19 +411,21 @@ index_at hs i g b e k = by_place hs i g b (subst (λ (y : Handing). IsSome y.ind
 
 -- what was made ready stands in the parent in the end
 pub merged : (m : Map) (hs : List Handing) (ss : List Spot)
-    → ((q : Spot) → In q ss → IsSome (map.get (lent m (shared_of hs) map.empty) q))
-    → ((q : Spot) → IsSome (map.get (lent m (shared_of hs) map.empty) q) → In q ss) → (c : Map)
-    → taken (lent m (shared_of hs) map.empty) ss c ≡ lent m (shared_of hs) c
+    → ((q : Spot) → In q ss → IsSome (map.get (with_shared m (shared_of hs) map.empty) q))
+    → ((q : Spot) → IsSome (map.get (with_shared m (shared_of hs) map.empty) q) → In q ss) → (c : Map)
+    → with_contents (with_shared m (shared_of hs) map.empty) ss c ≡ with_shared m (shared_of hs) c
 merged m hs ss there back c = same_map _ _ (λ q. elim (in_or q (shared_of hs)) [
   | inl i ↦
       let g = get_lent_in m (shared_of hs) map.empty q i in
-      let k : IsSome (map.get (lent m (shared_of hs) map.empty) q) = rw g refl in
-      get_taken_in (lent m (shared_of hs) map.empty) ss c q (back q k) k ∙ g ∙ sym (get_lent_in m (shared_of hs) c q i)
+      let k : IsSome (map.get (with_shared m (shared_of hs) map.empty) q) = rw g refl in
+      get_taken_in (with_shared m (shared_of hs) map.empty) ss c q (back q k) k ∙ g
+      ∙ sym (get_lent_in m (shared_of hs) c q i)
   | inr o ↦
       elim (in_or q ss) [
         | inl j ↦ absurd (false≢true (rw (get_lent_out m (shared_of hs) map.empty q o, map.get-empty spot_cmp q) at
             (there q j)))
-        | inr n ↦ get_taken_out (lent m (shared_of hs) map.empty) ss c q n ∙ sym (get_lent_out m (shared_of hs) c q o)
+        | inr n ↦ get_taken_out (with_shared m (shared_of hs) map.empty) ss c q n
+            ∙ sym (get_lent_out m (shared_of hs) c q o)
       ]
 ])
 
@@ -414,7 +436,8 @@ take_all (h ∷ hs) zero b = absurd (omega arith)
 take_all (h ∷ hs) (suc i) b = ap (λ r. h ∷ r) (take_all hs i (omega arith))
 
 -- what is made ready is known in the parent
-pub known_ready : (m : Map) (ss : List Spot) → AllPieces m ss → (q : Spot) → IsSome (map.get (lent m ss map.empty) q)
+pub known_ready : (m : Map) (ss : List Spot) → AllPieces m ss → (q : Spot)
+    → IsSome (map.get (with_shared m ss map.empty) q)
     → IsSome (map.get m q)
 known_ready m ss p q k = elim (in_or q ss) [
   | inl i ↦ known_of_piece _ (p q i)
@@ -423,14 +446,16 @@ known_ready m ss p q k = elim (in_or q ss) [
 
 -- the step of the loop that prepares, for the handing at place i
 pub ready_step : (m : Map) (hs : List Handing) (i : ℕ) (g : Handing) → i < length hs → g ≡ get_or hs i g
-    → lent m g.shared (lent m (shared_of (take i hs)) map.empty) ≡ lent m (shared_of (take (i + 1) hs)) map.empty
-ready_step m hs i g b e = subst (λ (y : Handing). lent m y.shared (lent m (shared_of (take i hs)) map.empty)
-    ≡ lent m (shared_of (take (i + 1) hs)) map.empty) (sym e) (sym (lent_plan_step m hs i g map.empty b))
+    → with_shared m g.shared (with_shared m (shared_of (take i hs)) map.empty)
+    ≡ with_shared m (shared_of (take (i + 1) hs)) map.empty
+ready_step m hs i g b e =
+    subst (λ (y : Handing). with_shared m y.shared (with_shared m (shared_of (take i hs)) map.empty)
+    ≡ with_shared m (shared_of (take (i + 1) hs)) map.empty) (sym e) (sym (lent_plan_step m hs i g map.empty b))
 
 pub children_step : (m : Map) (hs : List Handing) (i : ℕ) (g : Handing) → i < length hs → g ≡ get_or hs i g
-    → mixed m (take i hs) 0 ++ prepared m g ∷ [] ≡ mixed m (take (i + 1) hs) 0
-children_step m hs i g b e = subst (λ (y : Handing). mixed m (take i hs) 0
-    ++ prepared m y ∷ [] ≡ mixed m (take (i + 1) hs) 0) (sym e) (sym (mixed_push_step m hs i g b))
+    → children_so_far m (take i hs) 0 ++ prepared_child m g ∷ [] ≡ children_so_far m (take (i + 1) hs) 0
+children_step m hs i g b e = subst (λ (y : Handing). children_so_far m (take i hs) 0
+    ++ prepared_child m y ∷ [] ≡ children_so_far m (take (i + 1) hs) 0) (sym e) (sym (mixed_push_step m hs i g b))
 
 pub in_of_at : (q : Spot) (ss : List Spot) → ContainsAt ss q → In q ss
 in_of_at q ss c = subst (λ (s : Spot). In s ss) (c.2 q) (in_at ss c.0 q c.1)

@@ -34,15 +34,15 @@ from_stored (inr (inl bs)) = Output bs
 from_stored (inr (inr n)) = Away
 
 -- nothing is lost
-abbrev pub back : (h : Content) → from_stored (to_stored h) ≡ h
-back (Own cs) = refl
-back (Shared cs) = refl
-back (Output bs) = refl
-back Away = refl
+abbrev pub from_to_stored : (h : Content) → from_stored (to_stored h) ≡ h
+from_to_stored (Own cs) = refl
+from_to_stored (Shared cs) = refl
+from_to_stored (Output bs) = refl
+from_to_stored Away = refl
 
 abbrev pub content_code : Coded Content
 content_code = code_by Stored (coded⊎ (coded⊎ (coded_list cell_code) (coded_list cell_code))
-    (coded⊎ (coded_list coded_ℕ) coded_ℕ)) to_stored from_stored back
+    (coded⊎ (coded_list coded_ℕ) coded_ℕ)) to_stored from_stored from_to_stored
 
 abbrev pub map_code : Coded Map
 map_code = map.code spot_code content_code

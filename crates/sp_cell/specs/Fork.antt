@@ -7,27 +7,27 @@ use Rattle.sp_cell.specs.declared.cell.Cell.TheVariants.{Ordinal}
 use Rattle.sp_cell.specs.declared.spot.Spot.{Spot}
 use Rattle.sp_cell.specs.declared.spot.Handing.{Handing}
 use Rattle.sp_cell.specs.Map.{Map, Content, Own, Shared, Away, Plain, cells_at}
-use Rattle.sp_cell.specs.Frame.{above, frames}
+use Rattle.sp_cell.specs.Frame.{least_above, frames}
 
 -- c with what was found at a spot, if anything was
-abbrev pub hold : Map → Spot → Option Content → Map
-hold c s None = c
-hold c s (Some h) = map.insert c s h
+abbrev pub insert_if_found : Map → Spot → Option Content → Map
+insert_if_found c s None = c
+insert_if_found c s (Some h) = map.insert c s h
 
 -- c with what m has at each of the spots
-abbrev pub taken : Map → List Spot → Map → Map
-taken m [] c = c
-taken m (s ∷ ss) c = taken m ss (hold c s (map.get m s))
+abbrev pub with_contents : Map → List Spot → Map → Map
+with_contents m [] c = c
+with_contents m (s ∷ ss) c = with_contents m ss (insert_if_found c s (map.get m s))
 
 -- c with the cells that m has at each of the spots, shared
-abbrev pub lent : Map → List Spot → Map → Map
-lent m [] c = c
-lent m (s ∷ ss) c = lent m ss (map.insert c s (Shared (cells_at m s)))
+abbrev pub with_shared : Map → List Spot → Map → Map
+with_shared m [] c = c
+with_shared m (s ∷ ss) c = with_shared m ss (map.insert c s (Shared (cells_at m s)))
 
 -- m with each of the spots away
-abbrev pub away : Map → List Spot → Map
-away m [] = m
-away m (s ∷ ss) = away (map.insert m s Away) ss
+abbrev pub with_away : Map → List Spot → Map
+with_away m [] = m
+with_away m (s ∷ ss) = with_away (map.insert m s Away) ss
 
 -- c with the index of a forall, if there is one, in frame n
 abbrev pub with_index : Map → ℕ → Option (ℕ × ℤ) → Map
@@ -36,11 +36,11 @@ with_index c n (Some i) = map.insert c (record { frame = n; variable = i.0 }) (O
 
 -- the number of the frame of a child's index
 abbrev pub index_frame : Handing → ℕ
-index_frame h = max (above (frames h.moved)) (above (frames h.shared))
+index_frame h = max (least_above (frames h.moved)) (least_above (frames h.shared))
 
 -- what a child of m has, by its handing
 abbrev pub child_map : Map → Handing → Map
-child_map m h = taken m h.moved (with_index (lent m h.shared map.empty) (index_frame h) h.index)
+child_map m h = with_contents m h.moved (with_index (with_shared m h.shared map.empty) (index_frame h) h.index)
 
 -- a child as its handing makes it: it has no own frame, and keeps the list of what moved to it
 abbrev pub child_of : Map → Handing → Plain
@@ -67,12 +67,12 @@ HasIndex [] = ⊥
 HasIndex (h ∷ hs) = IsSome h.index ⊎ HasIndex hs
 
 -- what is left of m once the plan is carried out
-abbrev pub handed : Map → List Handing → Map
-handed m hs = lent m (shared_of hs) (away m (moved_of hs))
+abbrev pub map_after_fork : Map → List Handing → Map
+map_after_fork m hs = with_shared m (shared_of hs) (with_away m (moved_of hs))
 
 -- the parent's map once the child is joined
-abbrev pub joined : Map → Plain → Map
-joined m c = taken c.map c.moved m
+abbrev pub map_after_join : Map → Plain → Map
+map_after_join m c = with_contents c.map c.moved m
 
 -- ---- while a fork is made ready
 
@@ -82,19 +82,19 @@ IsLentAt m r q = (map.get r q ≡ None) ⊎ (map.get r q ≡ Some (Shared (cells
 
 -- a child before its moved spots are filled
 abbrev pub prepared_map : Map → Handing → Map
-prepared_map m h = with_index (lent m h.shared (away map.empty h.moved)) (index_frame h) h.index
+prepared_map m h = with_index (with_shared m h.shared (with_away map.empty h.moved)) (index_frame h) h.index
 
 -- such a child as a store
-abbrev pub prepared : Map → Handing → Plain
-prepared m h = record { map = prepared_map m h; own = []; moved = h.moved }
+abbrev pub prepared_child : Map → Handing → Plain
+prepared_child m h = record { map = prepared_map m h; own = []; moved = h.moved }
 
 -- children joined one after another
-abbrev pub joined_all : Map → List Plain → Map
-joined_all m [] = m
-joined_all m (c ∷ cs) = joined_all (joined m c) cs
+abbrev pub map_after_joins : Map → List Plain → Map
+map_after_joins m [] = m
+map_after_joins m (c ∷ cs) = map_after_joins (map_after_join m c) cs
 
 -- the first i children complete, and the others prepared
-abbrev pub mixed : Map → List Handing → ℕ → List Plain
-mixed m [] i = []
-mixed m (h ∷ hs) zero = prepared m h ∷ mixed m hs zero
-mixed m (h ∷ hs) (suc i) = child_of m h ∷ mixed m hs i
+abbrev pub children_so_far : Map → List Handing → ℕ → List Plain
+children_so_far m [] i = []
+children_so_far m (h ∷ hs) zero = prepared_child m h ∷ children_so_far m hs zero
+children_so_far m (h ∷ hs) (suc i) = child_of m h ∷ children_so_far m hs i

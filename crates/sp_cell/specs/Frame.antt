@@ -9,9 +9,9 @@ use Rattle.sp_cell.specs.declared.spot.Spot.{Spot}
 use Rattle.sp_cell.specs.Map.{Map, Own, Output, Away, Plain}
 
 -- the least number above all
-abbrev pub above : List ℕ → ℕ
-above [] = 0
-above (n ∷ ns) = max (n + 1) (above ns)
+abbrev pub least_above : List ℕ → ℕ
+least_above [] = 0
+least_above (n ∷ ns) = max (n + 1) (least_above ns)
 
 -- the frames of spots
 abbrev pub frames : List Spot → List ℕ
@@ -20,7 +20,7 @@ frames (s ∷ ss) = s.frame ∷ frames ss
 
 -- the number of a new frame: the least above every frame that the map knows and every own frame
 abbrev pub next_frame : Plain → ℕ
-next_frame p = max (above (frames (map.keys p.map))) (above p.own)
+next_frame p = max (least_above (frames (map.keys p.map))) (least_above p.own)
 
 -- each frame number that there is is below 2 ^ 64 - 1, so there is a number for a new frame
 abbrev pub HasNextFrame : Plain → Type 0
@@ -38,28 +38,33 @@ root_map sizes = with_pieces (map.insert (map.insert map.empty (record { frame =
     (Own (Ordinal (pos 0) ∷ []))) (record { frame = 0; variable = 1 }) (Output [])) 0 2 sizes
 
 -- the store with a new frame, of an undefined piece for each size
-abbrev pub pushed : Plain → List ℕ → Plain
-pushed p sizes = record {
+abbrev pub with_new_frame : Plain → List ℕ → Plain
+with_new_frame p sizes = record {
   map = with_pieces p.map (next_frame p) 0 sizes;
   own = p.own ++ next_frame p ∷ [];
   moved = p.moved;
 }
 
 -- the last of the own frames
-abbrev pub newest : List ℕ → ℕ
-newest ns = slice_index ns (length ns - 1)
+abbrev pub last_own_frame : List ℕ → ℕ
+last_own_frame ns = slice_index ns (length ns - 1)
 
 -- m without the spots of a frame
-abbrev pub without : Map → ℕ → Map
-without m n = map.retain_keys m (λ s. not (s.frame == n))
+abbrev pub without_spots_of : Map → ℕ → Map
+without_spots_of m n = map.retain_keys m (λ s. not (s.frame == n))
 
 -- nothing of the frame is away
 abbrev pub NoneAway : Map → ℕ → Type 0
 NoneAway m n = (q : Spot) → q.frame ≡ n → map.get m q ≢ Some Away
 
 -- the store without its newest own frame
-abbrev pub popped : Plain → Plain
-popped p = record { map = without p.map (newest p.own); own = take (length p.own - 1) p.own; moved = p.moved }
+abbrev pub without_newest_frame : Plain → Plain
+without_newest_frame p = record {
+  map = without_spots_of p.map (last_own_frame p.own);
+  own =
+      take (length p.own - 1) p.own;
+  moved = p.moved;
+}
 
 -- each own frame is newer than those before it
 abbrev pub IsRising : List ℕ → Type 0

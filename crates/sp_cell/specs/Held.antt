@@ -32,23 +32,24 @@ ShareAlike (Some (Shared cs)) (Some (Shared ds)) = cs ≡ ds
 ShareAlike _ _ = ⊥
 
 -- what two stores may have of one variable: at most one holds it, or both share it with equal cells
-abbrev pub Agree : Option Content → Option Content → Type 0
-Agree a b = IsNotHeld a ⊎ (IsNotHeld b ⊎ ShareAlike a b)
+abbrev pub ContentsAgree : Option Content → Option Content → Type 0
+ContentsAgree a b = IsNotHeld a ⊎ (IsNotHeld b ⊎ ShareAlike a b)
 
 -- a variable that the store knows stands at one spot
-abbrev pub IsNamed : View → Type 0
-IsNamed w = (p q : Spot) → IsSome (map.get w.map p) → IsSome (map.get w.map q) → variable_of w p ≡ variable_of w q
+abbrev pub HasUniqueSpots : View → Type 0
+HasUniqueSpots w = (p q : Spot) → IsSome (map.get w.map p) → IsSome (map.get w.map q)
+    → variable_of w p ≡ variable_of w q
     → p ≡ q
 
 -- two stores agree on each variable that both know
 abbrev pub AgreeOnAll : View → View → Type 0
-AgreeOnAll w u = (p q : Spot) → variable_of w p ≡ variable_of u q → Agree (map.get w.map p) (map.get u.map q)
+AgreeOnAll w u = (p q : Spot) → variable_of w p ≡ variable_of u q → ContentsAgree (map.get w.map p) (map.get u.map q)
 
 -- held, of all stores of a run: each variable is own in one store at most; where it is shared, all that share it have
 -- equal cells and none owns it; every other store that knows it has it away
 abbrev pub IsPartition : List View → Type 0
 IsPartition [] = Unit {0}
-IsPartition (w ∷ ws) = IsNamed w × AllByRecursion (AgreeOnAll w) ws × IsPartition ws
+IsPartition (w ∷ ws) = HasUniqueSpots w × AllByRecursion (AgreeOnAll w) ws × IsPartition ws
 
 -- ---- a fork
 

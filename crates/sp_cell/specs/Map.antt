@@ -8,7 +8,7 @@ use Rattle.std.specs.FinMap as map
 use Rattle.sp_cell.specs.declared.cell.Cell.{Cell}
 use Rattle.sp_cell.specs.declared.spot.Spot.{Spot}
 use Rattle.sp_cell.specs.declared.spot.Address.{Address}
-use Rattle.sp_cell.specs.Lists.{overwritten, part}
+use Rattle.sp_cell.specs.Lists.{splice, part}
 
 -- what a store has at a spot that it knows
 pub data Content : Type 0 where
@@ -91,21 +91,21 @@ output_of _ = None
 -- ---- one spot
 
 -- m with an own piece of these cells at a spot
-abbrev pub owned : Map → Spot → List Cell → Map
-owned m s cs = map.insert m s (Own cs)
+abbrev pub with_own_piece : Map → Spot → List Cell → Map
+with_own_piece m s cs = map.insert m s (Own cs)
 
 -- m with one cell written
-abbrev pub written : Map → Address → Cell → Map
-written m a c = owned m a.spot (slice_set (cells_at m a.spot) a.offset c)
+abbrev pub with_cell : Map → Address → Cell → Map
+with_cell m a c = with_own_piece m a.spot (slice_set (cells_at m a.spot) a.offset c)
 
 -- m with cells written from an address on
 abbrev pub put_cells : Map → Address → List Cell → Map
-put_cells m a cs = owned m a.spot (overwritten (cells_at m a.spot) a.offset cs)
+put_cells m a cs = with_own_piece m a.spot (splice (cells_at m a.spot) a.offset cs)
 
 -- m with n cells, as they were, copied from one address to another
-abbrev pub copied : Map → Address → Address → ℕ → Map
-copied m to from n = put_cells m to (part (cells_at m from.spot) from.offset n)
+abbrev pub with_copied_cells : Map → Address → Address → ℕ → Map
+with_copied_cells m to from n = put_cells m to (part (cells_at m from.spot) from.offset n)
 
 -- m with bytes put after the output
-abbrev pub appended : Map → List ℕ → Map
-appended m bs = map.insert m output_spot (Output (bytes_of (map.get m output_spot) ++ bs))
+abbrev pub with_more_output : Map → List ℕ → Map
+with_more_output m bs = map.insert m output_spot (Output (bytes_of (map.get m output_spot) ++ bs))

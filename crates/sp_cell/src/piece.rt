@@ -1,7 +1,7 @@
 //! The cells of one variable, as a list.
 
 ghost use Rattle.std.specs.Prelude.{◌≡◌, ◌+◌, ◌<◌, ◌≤◌, IfOk, length, replicate, slice_index_or, slice_set};
-ghost use Rattle.sp_cell.specs.Lists.{overwritten};
+ghost use Rattle.sp_cell.specs.Lists.{splice};
 ghost use Rattle.sp_cell.specs.declared.cell.Cell.TheVariants.{Undefined};
 
 use crate::cell::Cell;
@@ -62,7 +62,7 @@ impl Piece {
     /// Writes the given cells over those from `at` on. The others stay.
     pub fn copy_range(&mut self, at: u32, from: &[Cell])
         requires { at + length from.now ≤ length self.old }
-        ensures { self.new ≡ overwritten self.old at from.now }
+        ensures { self.new ≡ splice self.old at from.now }
     {
         let at = at as usize;
         let end = at + from.len();

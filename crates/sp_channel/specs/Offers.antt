@@ -23,7 +23,7 @@ answer (Some q) way message = if same_way q.way way then Contends q.process else
 
 -- what is pending after it: an offer that waits is pending, one that meets leaves nothing pending, and any other
 -- changes nothing
-abbrev pub after : Option Pending → Way → ℕ → ℕ → Option Pending
-after None way process message = Some (record { way = way; process = process; message = message })
-after (Some q) way process message = if same_way q.way way then Some q else
+abbrev pub pending_after : Option Pending → Way → ℕ → ℕ → Option Pending
+pending_after None way process message = Some (record { way = way; process = process; message = message })
+pending_after (Some q) way process message = if same_way q.way way then Some q else
     (if q.message == message then None else Some q)

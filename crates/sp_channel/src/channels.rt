@@ -2,7 +2,7 @@
 
 ghost use Rattle.std.specs.Prelude.{◌≡◌, ◌<◌, IfOk, OnOk, OnErr, length, slice_index_or, slice_set, [], ◌∷◌, ◌++◌};
 ghost use Rattle.std.specs.Prelude.{Some, None};
-ghost use Rattle.sp_channel.specs.Offers.{answer, after};
+ghost use Rattle.sp_channel.specs.Offers.{answer, pending_after};
 
 use sp_base::Memory;
 use sp_journal::Way;
@@ -94,7 +94,7 @@ impl Channels {
         requires { channel < length self.old }
         ensures answer { result ≡ answer (slice_index_or self.old channel None) way message }
         ensures after { self.new ≡ slice_set self.old channel
-            (after (slice_index_or self.old channel None) way process message) }
+            (pending_after (slice_index_or self.old channel None) way process message) }
     {
         let at = channel as usize;
         match self.pending[at] {

@@ -14,11 +14,11 @@ use Rattle.sp_code.specs.declared.code.Layout.{Layout}
 use Rattle.sp_code.specs.declared.code.ForkTable.{ForkTable}
 use Rattle.sp_code.specs.declared.code.Parts.{Parts}
 use Rattle.sp_code.specs.Scopes.{scopes_of}
-use Rattle.sp_code.specs.Places.{after, after_block}
+use Rattle.sp_code.specs.Places.{after_statement, after_block}
 use Rattle.sp_code.specs.Lengths.{stmt_length, tree_length}
 use Rattle.sp_code.specs.Emitted.{tables_in, texts_in, texts_of, end_instr, code, tables, block_code, blocks_code}
 use Rattle.sp_code.specs.Emitted.{blocks_texts, layout_of, layouts_from, blocks_tables, program_code}
-use Rattle.sp_code.specs.Stands.{HasAt, BlockAt, BlocksAt, IsFine}
+use Rattle.sp_code.specs.CodeOfTree.{HasAt, BlockAt, BlocksAt, IsFine}
 use Rattle.sp_code.proofs.Counts.{last_count, blocks_count, code_count, stmt_after}
 use Rattle.sp_code.proofs.Standing.{has_front, has_back, stands, code_stop, tables_stop, texts_stop}
 
@@ -90,7 +90,7 @@ module _ (p : Program) (moves shares : Stmt → List ℕ) where
                 (has_front all.instrs q (code p (scopes_of p b) t n q k.body) _ body)
                 (has_front all.forks t (tables p moves shares q k.body) tables_more a)
                 (has_front all.texts n (texts_of k.body) texts_more w);
-            end = (has_back all.instrs q (after p q k.body) (code p (scopes_of p b) t n q k.body) _
+            end = (has_back all.instrs q (after_statement p q k.body) (code p (scopes_of p b) t n q k.body) _
                 (code_stop p moves shares all hush (scopes_of p b) t n q k.body) body).0;
             hushed = f.hushed;
             answer = f.answer;

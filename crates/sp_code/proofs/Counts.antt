@@ -18,7 +18,8 @@ use Rattle.sp_code.specs.declared.code.ForkTable.{ForkTable}
 use Rattle.sp_code.specs.Scopes.{Sort, Ordinals, Channels, Many, NoSort, kind_of, Scope, OfIndex, is_given, kind_at}
 use Rattle.sp_code.specs.Scopes.{sort, size, slot, element_type, field_type, type_by, type_of, scopes_of}
 use Rattle.sp_code.specs.Places.{after_unary, after_standard, after_value, after_form, after_var, after_selectors}
-use Rattle.sp_code.specs.Places.{after_actuals, after_width, after_right, after_test, after_tests, after, after_all}
+use Rattle.sp_code.specs.Places.{after_actuals, after_width, after_right, after_test, after_tests, after_statement}
+use Rattle.sp_code.specs.Places.{after_all}
 use Rattle.sp_code.specs.Places.{after_children, after_arms, after_block, after_blocks}
 use Rattle.sp_code.specs.Lengths.{unary_length, standard_length, value_length, form_length, var_length}
 use Rattle.sp_code.specs.Lengths.{selectors_length, actuals_length, width_length, right_length, tests_length}
@@ -100,7 +101,7 @@ tests_after q (Or (On ms s) rest) = omega (arith, test_after q ms, tests_after (
 
 module _ (p : Program) where
   mutual
-    pub stmt_after : (q : ℕ) (s : Stmt) → after p q s ≡ q + stmt_length p s
+    pub stmt_after : (q : ℕ) (s : Stmt) → after_statement p q s ≡ q + stmt_length p s
     stmt_after q Empty = omega arith
     stmt_after q (Assign v (Typed k form)) = omega (arith, var_after q v, right_after (after_var q v) (sort p k) form)
     stmt_after q (Call f args) = omega (arith, actuals_after q args)
@@ -110,10 +111,10 @@ module _ (p : Program) where
       arith,
       value_after q e,
       stmt_after (after_value q e + 1) a,
-      stmt_after (after p (after_value q e + 1) a + 1) b,
+      stmt_after (after_statement p (after_value q e + 1) a + 1) b,
     )
     stmt_after q (While e s) = omega (arith, value_after q e, stmt_after (after_value q e + 1 + 1) s)
-    stmt_after q (Repeat s e) = omega (arith, stmt_after (q + 1) s, value_after (after p (q + 1) s) e)
+    stmt_after q (Repeat s e) = omega (arith, stmt_after (q + 1) s, value_after (after_statement p (q + 1) s) e)
     stmt_after q (For x from down to s) = omega (
       arith,
       value_after q from,
@@ -145,15 +146,15 @@ module _ (p : Program) where
 
     pub all_after : (q : ℕ) (ss : Stmts) → after_all p q ss ≡ q + all_length p ss
     all_after q No = omega arith
-    all_after q (And s rest) = omega (arith, stmt_after q s, all_after (after p q s) rest)
+    all_after q (And s rest) = omega (arith, stmt_after q s, all_after (after_statement p q s) rest)
 
     pub children_after : (q : ℕ) (ss : Stmts) → after_children p q ss ≡ q + children_length p ss
     children_after q No = omega arith
-    children_after q (And s rest) = omega (arith, stmt_after q s, children_after (after p q s + 1) rest)
+    children_after q (And s rest) = omega (arith, stmt_after q s, children_after (after_statement p q s + 1) rest)
 
     pub arms_after : (q : ℕ) (arms : Arms) → after_arms p q arms ≡ q + arms_length p arms
     arms_after q NoArm = omega arith
-    arms_after q (Or (On ms s) rest) = omega (arith, stmt_after q s, arms_after (after p q s + 1) rest)
+    arms_after q (Or (On ms s) rest) = omega (arith, stmt_after q s, arms_after (after_statement p q s + 1) rest)
 
   pub blocks_after : (q : ℕ) (bs : List Block) → after_blocks p q bs ≡ q + blocks_length p bs
   blocks_after q [] = omega arith
@@ -244,8 +245,8 @@ module _ (p : Program) where
 
   pub tests_count : (arms : Arms) (b : ℕ) → length (tests_code p arms b) ≡ tests_length arms
   tests_count NoArm b = refl
-  tests_count (Or (On ms s) rest) b = both_count (test_code ms b) (tests_code p rest (after p b s + 1)) _ _
-      (test_count ms b) (tests_count rest (after p b s + 1))
+  tests_count (Or (On ms s) rest) b = both_count (test_code ms b) (tests_code p rest (after_statement p b s + 1)) _ _
+      (test_count ms b) (tests_count rest (after_statement p b s + 1))
 
   mutual
     pub code_count : (sc : List Scope) (t n q : ℕ) (s : Stmt) → length (code p sc t n q s) ≡ stmt_length p s
@@ -259,20 +260,21 @@ module _ (p : Program) where
     code_count sc t n q (Sequence ss) = all_count sc t n q ss
     code_count sc t n q (If e a) =
         let u = after_value q e in
-        both_count (value_code p sc e) (i.Jumpf (after p (u + 1) a) ∷ code p sc t n (u + 1) a) _ (suc (stmt_length p a))
+        both_count (value_code p sc e) (i.Jumpf (after_statement p (u + 1) a) ∷ code p sc t n (u + 1) a) _
+        (suc (stmt_length p a))
         (value_count sc e) (ap suc (code_count sc t n (u + 1) a)) ∙ omega arith
     code_count sc t n q (IfElse e a b) =
         let u = after_value q e in
-        let j = after p (u + 1) a in
+        let j = after_statement p (u + 1) a in
         both_count (value_code p sc e) (i.Jumpf (j + 1)
-        ∷ (code p sc t n (u + 1) a ++ (i.Jump (after p (j + 1) b)
+        ∷ (code p sc t n (u + 1) a ++ (i.Jump (after_statement p (j + 1) b)
         ∷ code p sc (t + tables_in a) (n + texts_in a) (j + 1) b))) _
         (suc (stmt_length p a + suc (stmt_length p b))) (value_count sc e)
         (ap suc (both_count (code p sc t n (u + 1) a) _ _ (suc (stmt_length p b)) (code_count sc t n (u + 1) a)
         (ap suc (code_count sc (t + tables_in a) (n + texts_in a) (j + 1) b)))) ∙ omega arith
     code_count sc t n q (While e s) =
         let u = after_value q e in
-        let j = after p (u + 1 + 1) s in
+        let j = after_statement p (u + 1 + 1) s in
         both_count (value_code p sc e) (i.Jumpf (j + 1) ∷ i.Tick ∷ (code p sc t n (u + 1 + 1) s ++ i.Jump q ∷ [])) _
         (suc (suc (stmt_length p s + 1))) (value_count sc e)
         (ap (λ (m : ℕ). suc (suc m)) (last_count (code p sc t n (u + 1 + 1) s) _ _ (code_count sc t n (u + 1 + 1) s)))
@@ -283,7 +285,7 @@ module _ (p : Program) where
         ap suc w ∙ omega arith
     code_count sc t n q (For x from down to s) =
         let u = after_value (after_value q from) to in
-        let j = after p (u + 1 + 1) s in
+        let j = after_statement p (u + 1 + 1) s in
         both_count (value_code p sc from) _ _ (value_length to + suc (suc (stmt_length p s + 1))) (value_count sc from)
         (both_count (value_code p sc to) _ _ (suc (suc (stmt_length p s + 1))) (value_count sc to)
         (ap (λ (m : ℕ). suc (suc m)) (last_count (code p sc t n (u + 1 + 1) s)
@@ -321,21 +323,21 @@ module _ (p : Program) where
     pub all_count : (sc : List Scope) (t n q : ℕ) (ss : Stmts) → length (code_all p sc t n q ss) ≡ all_length p ss
     all_count sc t n q No = refl
     all_count sc t n q (And s rest) = both_count (code p sc t n q s) _ _ _ (code_count sc t n q s)
-        (all_count sc (t + tables_in s) (n + texts_in s) (after p q s) rest)
+        (all_count sc (t + tables_in s) (n + texts_in s) (after_statement p q s) rest)
 
     pub children_count : (sc : List Scope) (t n q : ℕ) (ss : Stmts)
         → length (code_children p sc t n q ss) ≡ children_length p ss
     children_count sc t n q No = refl
     children_count sc t n q (And s rest) =
         both_count (code p sc t n q s) _ _ (suc (children_length p rest)) (code_count sc t n q s)
-        (ap suc (children_count sc (t + tables_in s) (n + texts_in s) (after p q s + 1) rest)) ∙ omega arith
+        (ap suc (children_count sc (t + tables_in s) (n + texts_in s) (after_statement p q s + 1) rest)) ∙ omega arith
 
     pub arms_count : (sc : List Scope) (t n q : ℕ) (arms : Arms) (end : ℕ)
         → length (code_arms p sc t n q arms end) ≡ arms_length p arms
     arms_count sc t n q NoArm end = refl
     arms_count sc t n q (Or (On ms s) rest) end =
         both_count (code p sc t n q s) _ _ (suc (arms_length p rest)) (code_count sc t n q s)
-        (ap suc (arms_count sc (t + tables_in s) (n + texts_in s) (after p q s + 1) rest end)) ∙ omega arith
+        (ap suc (arms_count sc (t + tables_in s) (n + texts_in s) (after_statement p q s + 1) rest end)) ∙ omega arith
 
   pub blocks_count : (b t n q : ℕ) (ks : List Block) → length (blocks_code p b t n q ks) ≡ blocks_length p ks
   blocks_count b t n q [] = refl
@@ -394,8 +396,9 @@ module _ (p : Program) (moves shares : Stmt → List ℕ) where
     tables_count q (Call f args) = refl
     tables_count q (Sequence ss) = tables_all_count q ss
     tables_count q (If e a) = tables_count (after_value q e + 1) a
-    tables_count q (IfElse e a b) = parts_count (T (after_value q e + 1) a) (T (after p (after_value q e + 1) a + 1) b)
-        _ _ (tables_count (after_value q e + 1) a) (tables_count (after p (after_value q e + 1) a + 1) b)
+    tables_count q (IfElse e a b) =
+        parts_count (T (after_value q e + 1) a) (T (after_statement p (after_value q e + 1) a + 1) b)
+        _ _ (tables_count (after_value q e + 1) a) (tables_count (after_statement p (after_value q e + 1) a + 1) b)
     tables_count q (While e s) = tables_count (after_value q e + 1 + 1) s
     tables_count q (Repeat s e) = tables_count (q + 1) s
     tables_count q (For x from down to s) = tables_count (after_value (after_value q from) to + 1 + 1) s
@@ -415,16 +418,17 @@ module _ (p : Program) (moves shares : Stmt → List ℕ) where
 
     pub tables_all_count : (q : ℕ) (ss : Stmts) → length (tables_all p moves shares q ss) ≡ tables_in_all ss
     tables_all_count q No = refl
-    tables_all_count q (And s rest) = parts_count (T q s) (tables_all p moves shares (after p q s) rest) _ _
-        (tables_count q s) (tables_all_count (after p q s) rest)
+    tables_all_count q (And s rest) = parts_count (T q s) (tables_all p moves shares (after_statement p q s) rest) _ _
+        (tables_count q s) (tables_all_count (after_statement p q s) rest)
 
     pub tables_children_count : (q : ℕ) (ss : Stmts) → length (tables_children p moves shares q ss) ≡ tables_in_all ss
     tables_children_count q No = refl
-    tables_children_count q (And s rest) = parts_count (T q s) (tables_children p moves shares (after p q s + 1) rest) _
-        _ (tables_count q s) (tables_children_count (after p q s + 1) rest)
+    tables_children_count q (And s rest) =
+        parts_count (T q s) (tables_children p moves shares (after_statement p q s + 1) rest) _
+        _ (tables_count q s) (tables_children_count (after_statement p q s + 1) rest)
 
     pub tables_arms_count : (q : ℕ) (arms : Arms) → length (tables_arms p moves shares q arms) ≡ tables_in_arms arms
     tables_arms_count q NoArm = refl
     tables_arms_count q (Or (On ms s) rest) =
-        parts_count (T q s) (tables_arms p moves shares (after p q s + 1) rest) _ _ (tables_count q s)
-        (tables_arms_count (after p q s + 1) rest)
+        parts_count (T q s) (tables_arms p moves shares (after_statement p q s + 1) rest) _ _ (tables_count q s)
+        (tables_arms_count (after_statement p q s + 1) rest)

@@ -2,14 +2,14 @@
 use Rattle.std.proofs.Common.{◌≡◌, suc, refl}
 use Rattle.sp_code.specs.Machine.{Config}
 use Rattle.sp_code.specs.Turns.{Turn, Ran, Ended, Lacks, GoesOn, IsTurn, IsSafe, turn_within}
-use Rattle.sp_code.specs.Memory.{Setting, Stores, Memory, memory}
+use Rattle.sp_code.specs.Memory.{CodeRun, Stores, Memory, memory}
 use Rattle.sp_code.specs.Ranks.{IsRankedAlong}
 use Rattle.sp_code.specs.Budgets.{IsOver, ticks_left, most_steps}
 use Rattle.sp_code.proofs.Turning.{within_ended, within_lacks}
 use Rattle.sp_code.proofs.Falls.{turn_over}
 use Rattle.sp_code.proofs.Spending.{spends}
 
-module _ {S : Type 0} (stores : Stores S) (g : Setting) where
+module _ {S : Type 0} (stores : Stores S) (g : CodeRun) where
   pub ranked_over : (c : Config (Memory S)) → IsRankedAlong (memory stores g) g.code c
       → IsOver (turn_within (memory stores g) g.code (suc (most_steps g c)) c)
   ranked_over c ranked = turn_over (memory stores g) g.code (ticks_left g) (spends stores g) c ranked

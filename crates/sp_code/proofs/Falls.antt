@@ -7,9 +7,11 @@ use Rattle.std.specs.Fmt.{signed_decimal}
 use Rattle.sp_tree.specs.declared.operators.BinaryOp.{BinaryOp}
 use Rattle.sp_tree.specs.declared.operators.BinaryOp.TheVariants as op
 use Rattle.sp_tree.specs.declared.operators.UnaryOp.TheVariants as sign
-use Rattle.sp_tree.specs.Operators.{Worked, Yields, Faults, ranged, successor, predecessor, absolute, square, is_odd}
+use Rattle.sp_tree.specs.Operators.{OperatorResult, Yields, OperatorFault, value_in_range, successor, predecessor}
+use Rattle.sp_tree.specs.Operators.{absolute_value, square, is_odd}
 use Rattle.sp_tree.specs.Operators.{unary_op, binary_op, same_ordinal}
-use Rattle.sp_tree.specs.Items.{Taken, Takes, Fails as Faulty, number_in, char_in, at_line_end, padded, truth_text}
+use Rattle.sp_tree.specs.Items.{ReadResult, ReadItem, ReadFault as Faulty, number_in, char_in, at_line_end}
+use Rattle.sp_tree.specs.Items.{right_justified, truth_text}
 use Rattle.sp_cell.specs.declared.cell.Cell.{Cell}
 use Rattle.sp_cell.specs.declared.cell.Cell.TheVariants as cell
 use Rattle.sp_cell.specs.declared.spot.Address.{Address}
@@ -18,26 +20,30 @@ use Rattle.sp_code.specs.declared.instr.Instr.TheVariants as i
 use Rattle.sp_code.specs.declared.code.Layout.{Layout}
 use Rattle.sp_code.specs.declared.code.Parts.{Parts}
 use Rattle.sp_tree.specs.Items.{byte}
-use Rattle.sp_code.specs.Machine.{Entry, Number, Chan, Pointer, Cells, Link, Reply, further, Did, Done, Failed, Ops}
-use Rattle.sp_code.specs.Machine.{Config, At, One, Goes, Stops, Fails, Stuck, outside, is_range, is_before, next_value}
+use Rattle.sp_code.specs.Machine.{Entry, Number, Chan, Pointer, Cells, Link, Reply, address_after, MemoryResult, Done}
+use Rattle.sp_code.specs.Machine.{Failed, Ops}
+use Rattle.sp_code.specs.Machine.{Config, At, StepResult, Goes, Stops, Fails, Stuck, is_in_no_function, is_range}
+use Rattle.sp_code.specs.Machine.{is_before, next_value}
 use Rattle.sp_code.specs.Machine.{values_in, fit_formals, layout_of, on_number, on_channel, on_address, on_cell}
-use Rattle.sp_code.specs.Machine.{on_cells, on_equals, pop, when, there, then_go, worked, ordinal_in, channel_in}
-use Rattle.sp_code.specs.Machine.{on_one, on_two, told, selected, paced, entered, called, returned, taken, reads}
-use Rattle.sp_code.specs.Machine.{prints, wide, writes, writes_wide, begins_loop, ends_loop, forked, instruction, one}
-use Rattle.sp_code.specs.Turns.{ran_by, ran, started, turn_within, begins}
-use Rattle.sp_code.specs.Ranks.{ways, larger, most, rank, AllBelow, IsRanked, RanksFall, IsRankedAlong}
-use Rattle.sp_code.specs.Budgets.{HasBudget, back, left_by, IsOver}
+use Rattle.sp_code.specs.Machine.{on_cells, on_equals, pop, when, on_some, then_go, on_result, ordinal_in, channel_in}
+use Rattle.sp_code.specs.Machine.{on_one, on_two, truth_step, selection_step, pause_step, enter_step, call_step}
+use Rattle.sp_code.specs.Machine.{return_step, item_step, reads}
+use Rattle.sp_code.specs.Machine.{prints, prints_wide, writes, writes_wide, begins_loop, ends_loop, fork_step}
+use Rattle.sp_code.specs.Machine.{instruction, next_step}
+use Rattle.sp_code.specs.Turns.{run_after_step, run_within, run_if_begun, turn_within, frames_fit}
+use Rattle.sp_code.specs.Ranks.{ways, larger_of, maximum_of, rank, AllBelow, IsRanked, RanksFall, IsRankedAlong}
+use Rattle.sp_code.specs.Budgets.{HasBudget, left_on_return, left_by, IsOver}
 
-pub larger_max : (a b n : ℕ) → a ≤ n → b ≤ n → larger a b ≤ n
+pub larger_max : (a b n : ℕ) → a ≤ n → b ≤ n → larger_of a b ≤ n
 larger_max a b n h k = go (nat_lt a b)
   where
     go : (t : Bool) → (if t then b else a) ≤ n
     go true = k
     go false = h
 
-most_max : (f : ℕ → ℕ) (n : ℕ) → ((p : ℕ) → f p ≤ n) → (ps : List ℕ) → most f ps ≤ n
+most_max : (f : ℕ → ℕ) (n : ℕ) → ((p : ℕ) → f p ≤ n) → (ps : List ℕ) → maximum_of f ps ≤ n
 most_max f n h [] = omega arith
-most_max f n h (p ∷ ps) = larger_max (f p) (most f ps) n (h p) (most_max f n h ps)
+most_max f n h (p ∷ ps) = larger_max (f p) (maximum_of f ps) n (h p) (most_max f n h ps)
 
 -- no rank is above its bound
 pub rank_max : (n : ℕ) (code : List Instr) (p : ℕ) → rank n code p ≤ n
@@ -47,18 +53,19 @@ rank_max (suc n) code p = let h = most_max (rank n code) n (rank_max n code) (wa
     omega (arith, h)
 
 -- where an instruction goes on, the number is below b
-abbrev pub Falls : {M : Type 0} → (Config M → ℕ) → ℕ → One M → Type 0
+abbrev pub Falls : {M : Type 0} → (Config M → ℕ) → ℕ → StepResult M → Type 0
 Falls left b (Goes d) = left d < b
 Falls left b (Stops s d) = Unit {0}
 Falls left b (Fails f) = Unit {0}
 Falls left b Stuck = Unit {0}
 
 module _ {M : Type 0} (left : Config M → ℕ) (b : ℕ) (f : ℕ → ℕ) where
-  abbrev Down : One M → Type 0
+  abbrev Down : StepResult M → Type 0
   Down o = Falls left b o
 
-  falls_number : (st : List Entry) (go : ℤ → List Entry → One M)
-      → ((x : ℤ) (st1 : List Entry) → back f st1 ≤ back f st → Down (go x st1)) → Down (on_number st go)
+  falls_number : (st : List Entry) (go : ℤ → List Entry → StepResult M)
+      → ((x : ℤ) (st1 : List Entry) → left_on_return f st1 ≤ left_on_return f st → Down (go x st1))
+      → Down (on_number st go)
   falls_number [] go h = tt
   falls_number (Number v ∷ st) go h = h v st (omega arith)
   falls_number (Chan c ∷ st) go h = tt
@@ -67,8 +74,9 @@ module _ {M : Type 0} (left : Config M → ℕ) (b : ℕ) (f : ℕ → ℕ) wher
   falls_number (Link r ∷ st) go h = tt
   falls_number (Reply r ∷ st) go h = tt
 
-  falls_channel : (st : List Entry) (go : ℕ → List Entry → One M)
-      → ((x : ℕ) (st1 : List Entry) → back f st1 ≤ back f st → Down (go x st1)) → Down (on_channel st go)
+  falls_channel : (st : List Entry) (go : ℕ → List Entry → StepResult M)
+      → ((x : ℕ) (st1 : List Entry) → left_on_return f st1 ≤ left_on_return f st → Down (go x st1))
+      → Down (on_channel st go)
   falls_channel [] go h = tt
   falls_channel (Number v ∷ st) go h = tt
   falls_channel (Chan c ∷ st) go h = h c st (omega arith)
@@ -77,8 +85,9 @@ module _ {M : Type 0} (left : Config M → ℕ) (b : ℕ) (f : ℕ → ℕ) wher
   falls_channel (Link r ∷ st) go h = tt
   falls_channel (Reply r ∷ st) go h = tt
 
-  falls_address : (st : List Entry) (go : Address → List Entry → One M)
-      → ((x : Address) (st1 : List Entry) → back f st1 ≤ back f st → Down (go x st1)) → Down (on_address st go)
+  falls_address : (st : List Entry) (go : Address → List Entry → StepResult M)
+      → ((x : Address) (st1 : List Entry) → left_on_return f st1 ≤ left_on_return f st → Down (go x st1))
+      → Down (on_address st go)
   falls_address [] go h = tt
   falls_address (Number v ∷ st) go h = tt
   falls_address (Chan c ∷ st) go h = tt
@@ -87,8 +96,9 @@ module _ {M : Type 0} (left : Config M → ℕ) (b : ℕ) (f : ℕ → ℕ) wher
   falls_address (Link r ∷ st) go h = tt
   falls_address (Reply r ∷ st) go h = tt
 
-  falls_cell : (st : List Entry) (go : Cell → List Entry → One M)
-      → ((x : Cell) (st1 : List Entry) → back f st1 ≤ back f st → Down (go x st1)) → Down (on_cell st go)
+  falls_cell : (st : List Entry) (go : Cell → List Entry → StepResult M)
+      → ((x : Cell) (st1 : List Entry) → left_on_return f st1 ≤ left_on_return f st → Down (go x st1))
+      → Down (on_cell st go)
   falls_cell [] go h = tt
   falls_cell (Number v ∷ st) go h = h (cell.Ordinal v) st (omega arith)
   falls_cell (Chan c ∷ st) go h = h (cell.Channel c) st (omega arith)
@@ -97,8 +107,9 @@ module _ {M : Type 0} (left : Config M → ℕ) (b : ℕ) (f : ℕ → ℕ) wher
   falls_cell (Link r ∷ st) go h = tt
   falls_cell (Reply r ∷ st) go h = tt
 
-  falls_cells : (st : List Entry) (go : List Cell → List Entry → One M)
-      → ((x : List Cell) (st1 : List Entry) → back f st1 ≤ back f st → Down (go x st1)) → Down (on_cells st go)
+  falls_cells : (st : List Entry) (go : List Cell → List Entry → StepResult M)
+      → ((x : List Cell) (st1 : List Entry) → left_on_return f st1 ≤ left_on_return f st → Down (go x st1))
+      → Down (on_cells st go)
   falls_cells [] go h = tt
   falls_cells (Number v ∷ st) go h = h (cell.Ordinal v ∷ []) st (omega arith)
   falls_cells (Chan c ∷ st) go h = h (cell.Channel c ∷ []) st (omega arith)
@@ -107,8 +118,9 @@ module _ {M : Type 0} (left : Config M → ℕ) (b : ℕ) (f : ℕ → ℕ) wher
   falls_cells (Link r ∷ st) go h = tt
   falls_cells (Reply r ∷ st) go h = tt
 
-  falls_equals : (st : List Entry) (go : Bool → List Entry → One M)
-      → ((x : Bool) (st1 : List Entry) → back f st1 ≤ back f st → Down (go x st1)) → Down (on_equals st go)
+  falls_equals : (st : List Entry) (go : Bool → List Entry → StepResult M)
+      → ((x : Bool) (st1 : List Entry) → left_on_return f st1 ≤ left_on_return f st → Down (go x st1))
+      → Down (on_equals st go)
   falls_equals [] go h = tt
   falls_equals (Number v ∷ st) go h = falls_number st _ (λ u st1 e. h (same_ordinal u v) st1 e)
   falls_equals (Chan c ∷ st) go h = falls_channel st _ (λ d st1 e. h (d == c) st1 e)
@@ -117,8 +129,8 @@ module _ {M : Type 0} (left : Config M → ℕ) (b : ℕ) (f : ℕ → ℕ) wher
   falls_equals (Link r ∷ st) go h = tt
   falls_equals (Reply r ∷ st) go h = tt
 
-  falls_pop : (k : ℕ) (st es : List Entry) (go : List Entry → List Entry → One M)
-      → ((xs st1 : List Entry) → back f st1 ≤ back f st → Down (go xs st1)) → Down (pop k st es go)
+  falls_pop : (k : ℕ) (st es : List Entry) (go : List Entry → List Entry → StepResult M)
+      → ((xs st1 : List Entry) → left_on_return f st1 ≤ left_on_return f st → Down (go xs st1)) → Down (pop k st es go)
   falls_pop zero st es go h = h es st (omega arith)
   falls_pop (suc k) [] es go h = tt
   falls_pop (suc k) (Number v ∷ st) es go h = falls_pop k st (Number v ∷ es) go (λ xs st1 e. h xs st1 e)
@@ -128,33 +140,33 @@ module _ {M : Type 0} (left : Config M → ℕ) (b : ℕ) (f : ℕ → ℕ) wher
   falls_pop (suc k) (Link r ∷ st) es go h = falls_pop k st (Link r ∷ es) go (λ xs st1 e. h xs st1 (omega arith))
   falls_pop (suc k) (Reply r ∷ st) es go h = falls_pop k st (Reply r ∷ es) go (λ xs st1 e. h xs st1 (omega arith))
 
-  falls_when : (t : Bool) (o : One M) → Down o → Down (when t o)
+  falls_when : (t : Bool) (o : StepResult M) → Down o → Down (when t o)
   falls_when true o h = h
   falls_when false o h = tt
 
-  falls_there : {A : Type 0} (x : Option A) (go : A → One M) → ((a : A) → Down (go a)) → Down (there x go)
+  falls_there : {A : Type 0} (x : Option A) (go : A → StepResult M) → ((a : A) → Down (go a)) → Down (on_some x go)
   falls_there None go h = tt
   falls_there (Some a) go h = h a
 
-  falls_then : (d : Did M) (go : M → One M) → ((m : M) → d ≡ Done m → Down (go m)) → Down (then_go d go)
+  falls_then : (d : MemoryResult M) (go : M → StepResult M) → ((m : M) → d ≡ Done m → Down (go m)) → Down (then_go d go)
   falls_then (Done m) go h = h m refl
   falls_then (Failed e) go h = tt
 
-  falls_worked : (w : Worked) (go : ℤ → One M) → ((n : ℤ) → Down (go n)) → Down (worked w go)
+  falls_worked : (w : OperatorResult) (go : ℤ → StepResult M) → ((n : ℤ) → Down (go n)) → Down (on_result w go)
   falls_worked (Yields n) go h = h n
-  falls_worked (Faults e) go h = tt
+  falls_worked (OperatorFault e) go h = tt
 
-  falls_ordinal : (c : Cell) (go : ℤ → One M) → ((n : ℤ) → Down (go n)) → Down (ordinal_in c go)
+  falls_ordinal : (c : Cell) (go : ℤ → StepResult M) → ((n : ℤ) → Down (go n)) → Down (ordinal_in c go)
   falls_ordinal cell.Undefined go h = tt
   falls_ordinal (cell.Ordinal v) go h = h v
   falls_ordinal (cell.Channel c) go h = tt
 
-  falls_channel_in : (c : Cell) (go : ℕ → One M) → ((n : ℕ) → Down (go n)) → Down (channel_in c go)
+  falls_channel_in : (c : Cell) (go : ℕ → StepResult M) → ((n : ℕ) → Down (go n)) → Down (channel_in c go)
   falls_channel_in cell.Undefined go h = tt
   falls_channel_in (cell.Ordinal v) go h = tt
   falls_channel_in (cell.Channel c) go h = h c
 
-  falls_if : (t : Bool) (x y : One M) → Down x → Down y → Down (if t then x else y)
+  falls_if : (t : Bool) (x y : StepResult M) → Down x → Down y → Down (if t then x else y)
   falls_if true x y h k = h
   falls_if false x y h k = k
 
@@ -170,27 +182,28 @@ module _ {M : Type 0} (ops : Ops M) (code : Parts) (budget : M → ℕ) (law : H
 
   -- an instruction that leaves the ticks as they are
   goes_down : (pc next : ℕ) (st st1 : List Entry) (n m : M) → budget m ≤ budget n
-      → r next + back r st1 < r pc + back r st → left (At next st1 m) < left (At pc st n)
+      → r next + left_on_return r st1 < r pc + left_on_return r st → left (At next st1 m) < left (At pc st n)
   goes_down pc next st st1 n m e h = omega (arith, mul-le-mul_left (2 * length code.instrs + 5) e)
 
   -- one that takes a tick
   ticks_down : (pc next : ℕ) (st st1 : List Entry) (n m : M) → budget m + 1 ≤ budget n
-      → back r st1 ≤ back r st + length code.instrs + 2 → left (At next st1 m) < left (At pc st n)
+      → left_on_return r st1 ≤ left_on_return r st + length code.instrs + 2 → left (At next st1 m) < left (At pc st n)
   ticks_down pc next st st1 n m e h = omega (arith, mul-le-mul_left (2 * length code.instrs + 5) e, r_max next)
 
   module _ (pc : ℕ) (st : List Entry) (n : M) where
-    abbrev D : One M → Type 0
+    abbrev D : StepResult M → Type 0
     D o = Falls left (left (At pc st n)) o
 
     -- on to a place with a smaller rank, with a stack that is no higher, and the ticks as they are
-    on_to : (next : ℕ) (st1 : List Entry) (m : M) → r next < r pc → back r st1 ≤ back r st → budget m ≤ budget n
+    on_to : (next : ℕ) (st1 : List Entry) (m : M) → r next < r pc → left_on_return r st1 ≤ left_on_return r st
+        → budget m ≤ budget n
         → D (Goes (At next st1 m))
     on_to next st1 m lt e k = goes_down pc next st st1 n m k (omega arith)
 
     same_budget : budget n ≤ budget n
     same_budget = omega arith
 
-    one_down : (g : ℤ → Worked) → r (pc + 1) < r pc → D (on_one ops code g pc st n)
+    one_down : (g : ℤ → OperatorResult) → r (pc + 1) < r pc → D (on_one ops code g pc st n)
     one_down g lt = falls_number left _ r st _
         (λ v st1 e. falls_worked left _ r (g v) _ (λ w. on_to (pc + 1) (Number w ∷ st1) n lt e same_budget))
 
@@ -200,57 +213,60 @@ module _ {M : Type 0} (ops : Ops M) (code : Parts) (budget : M → ℕ) (law : H
         (λ u st2 k. falls_worked left _ r (binary_op o u v) _
         (λ w. on_to (pc + 1) (Number w ∷ st2) n lt (omega arith) same_budget)))
 
-    told_down : (t : Bool) (st1 : List Entry) → r (pc + 1) < r pc → back r st1 ≤ back r st
-        → D (told ops code t (pc + 1) st1 n)
+    told_down : (t : Bool) (st1 : List Entry) → r (pc + 1) < r pc → left_on_return r st1 ≤ left_on_return r st
+        → D (truth_step ops code t (pc + 1) st1 n)
     told_down t st1 lt e = on_to (pc + 1) (Number (if t then pos 1 else pos 0) ∷ st1) n lt e same_budget
 
-    selected_down : (a : Address) (st1 : List Entry) → r (pc + 1) < r pc → back r st1 ≤ back r st
-        → D (selected ops code a (pc + 1) st1 n)
+    selected_down : (a : Address) (st1 : List Entry) → r (pc + 1) < r pc → left_on_return r st1 ≤ left_on_return r st
+        → D (selection_step ops code a (pc + 1) st1 n)
     selected_down a st1 lt e = falls_when left _ r (nat_le a.offset 4294967295) _
         (on_to (pc + 1) (Pointer a ∷ st1) n lt e same_budget)
 
     -- a pause or a step on
     paced_down : (next : ℕ) (st1 : List Entry) (m : M) → left (At next st1 m) < left (At pc st n)
-        → D (paced ops code next st1 m)
-    paced_down next st1 m h = falls_if left _ r (outside st1) _ _ (falls_if left _ r (ops.due m) _ _ tt h) h
+        → D (pause_step ops code next st1 m)
+    paced_down next st1 m h = falls_if left _ r (is_in_no_function st1) _ _ (falls_if left _ r (ops.due m) _ _ tt h) h
 
-    entered_down : (l : Layout) (st1 : List Entry) (m : M) → back r st1 ≤ back r st → budget m + 1 ≤ budget n
-        → D (entered ops code l (pc + 1) st1 m)
+    entered_down : (l : Layout) (st1 : List Entry) (m : M) → left_on_return r st1 ≤ left_on_return r st
+        → budget m + 1 ≤ budget n
+        → D (enter_step ops code l (pc + 1) st1 m)
     entered_down l st1 m e k =
         falls_if left _ r l.answer _ _ (ticks_down pc l.entry st (Reply (pc + 1) ∷ st1) n m k
         (omega (arith, r_max (pc + 1))))
         (paced_down l.entry (Link (pc + 1) ∷ st1) m
         (ticks_down pc l.entry st (Link (pc + 1) ∷ st1) n m k (omega (arith, r_max (pc + 1)))))
 
-    called_down : (l : Layout) (up : ℕ) → D (called ops code l up (pc + 1) st n)
+    called_down : (l : Layout) (up : ℕ) → D (call_step ops code l up (pc + 1) st n)
     called_down l up =
         falls_pop left _ r (length l.formals) st [] _
         (λ es st1 e. falls_when left _ r (fit_formals l.formals es) _
-        (falls_when left _ r (ops.may_open up n) _
+        (falls_when left _ r (ops.can_push up n) _
         (falls_then left _ r (ops.open_frame l up es n) _
         (λ m k. entered_down l st1 m e (law.open_frame l up es n m k)))))
 
-    taken_down : (t : Taken) (a : Address) (st1 : List Entry) → r (pc + 1) < r pc → back r st1 ≤ back r st
-        → D (taken ops code t a (pc + 1) st1 n)
-    taken_down (Takes v bytes) a st1 lt e = let x = law.put a (cell.Ordinal v) (ops.advance bytes n) in
+    taken_down : (t : ReadResult) (a : Address) (st1 : List Entry) → r (pc + 1) < r pc
+        → left_on_return r st1 ≤ left_on_return r st
+        → D (item_step ops code t a (pc + 1) st1 n)
+    taken_down (ReadItem v bytes) a st1 lt e = let x = law.put a (cell.Ordinal v) (ops.advance bytes n) in
         let y = law.advance bytes n in on_to (pc + 1) st1 (ops.put a (cell.Ordinal v) (ops.advance bytes n)) lt e
         (omega (arith, x, y))
     taken_down (Faulty g) a st1 lt e = tt
 
-    reads_down : (item : List ℕ → Taken) → r (pc + 1) < r pc → D (reads ops code item (pc + 1) st n)
+    reads_down : (item : List ℕ → ReadResult) → r (pc + 1) < r pc → D (reads ops code item (pc + 1) st n)
     reads_down item lt = falls_address left _ r st _
         (λ a st1 e. falls_when left _ r (ops.has a 1 n) _
         (falls_there left _ r (ops.left n) _ (λ bs. taken_down (item bs) a st1 lt e)))
 
-    prints_down : (t : List ℕ) (st1 : List Entry) → r (pc + 1) < r pc → back r st1 ≤ back r st
+    prints_down : (t : List ℕ) (st1 : List Entry) → r (pc + 1) < r pc → left_on_return r st1 ≤ left_on_return r st
         → D (prints ops code t (pc + 1) st1 n)
     prints_down t st1 lt e = falls_when left _ r (ops.has_output n) _
         (falls_then left _ r (ops.print t n) _ (λ m k. on_to (pc + 1) st1 m lt e (law.print t n m k)))
 
-    wide_down : (cut : Bool) (t : List ℕ) (w : ℤ) (st1 : List Entry) → r (pc + 1) < r pc → back r st1 ≤ back r st
-        → D (wide ops code cut t w (pc + 1) st1 n)
+    wide_down : (cut : Bool) (t : List ℕ) (w : ℤ) (st1 : List Entry) → r (pc + 1) < r pc
+        → left_on_return r st1 ≤ left_on_return r st
+        → D (prints_wide ops code cut t w (pc + 1) st1 n)
     wide_down cut t w st1 lt e = falls_if left _ r (int_le w (pos 0)) _ _ tt
-        (prints_down (padded (nat_abs w) (if cut then take (nat_abs w) t else t)) st1 lt e)
+        (prints_down (right_justified (nat_abs w) (if cut then take (nat_abs w) t else t)) st1 lt e)
 
     writes_down : (text : ℤ → List ℕ) → r (pc + 1) < r pc → D (writes ops code text (pc + 1) st n)
     writes_down text lt = falls_number left _ r st _ (λ v st1 e. prints_down (text v) st1 lt e)
@@ -273,17 +289,17 @@ module _ {M : Type 0} (ops : Ops M) (code : Parts) (budget : M → ℕ) (law : H
         → D (ends_loop ops code down var to pc st n)
     ends_down down var to lt lt1 =
         falls_number left _ r st _ (λ last st1 e. falls_there left _ r (ops.addr 0 var n) _
-        (λ a. falls_when left _ r (ops.has a 1 n) _ (falls_ordinal left _ r (ops.look a n) _ (λ v.
+        (λ a. falls_when left _ r (ops.has a 1 n) _ (falls_ordinal left _ r (ops.read a n) _ (λ v.
         falls_if left _ r (is_before down v last) _ _
         (on_to to (Number last ∷ st1) (ops.put a (cell.Ordinal (next_value down v)) n) lt e
         (law.put a (cell.Ordinal (next_value down v)) n)) (on_to (pc + 1) st1 n lt1 e same_budget)))))
 
     forked_down : (t : ℕ) (first : ℤ) (count : ℕ) (next : ℕ) (st1 : List Entry)
-        → D (forked ops code t first count next st1 n)
+        → D (fork_step ops code t first count next st1 n)
     forked_down t first count next st1 = falls_if left _ r (ops.may_fork n) _ _ tt tt
 
   returned_down : (pc : ℕ) (st : List Entry) (n : M) → 0 < r pc
-      → Falls left (left (At pc st n)) (returned ops code st n)
+      → Falls left (left (At pc st n)) (return_step ops code st n)
   returned_down pc [] n p = tt
   returned_down pc (Number v ∷ st) n p = tt
   returned_down pc (Chan c ∷ st) n p = tt
@@ -295,7 +311,7 @@ module _ {M : Type 0} (ops : Ops M) (code : Parts) (budget : M → ℕ) (law : H
       falls_when left _ r (ops.may_close n) _
       (falls_there left _ r (ops.answer n) _
       (λ a. falls_when left _ r (ops.has a 1 n) _
-      (falls_ordinal left _ r (ops.look a n) _
+      (falls_ordinal left _ r (ops.read a n) _
       (λ v. goes_down pc k (Reply k ∷ st) (Number v ∷ st) n (ops.close_frame n) (law.close_frame n)
       (omega arith)))))
 
@@ -313,16 +329,16 @@ module _ {M : Type 0} (ops : Ops M) (code : Parts) (budget : M → ℕ) (law : H
   instruction_down (Some (i.Index low high size)) pc st n p h =
       falls_number left _ r st _ (λ v st1 e. falls_address left _ r st1 _
       (λ a st2 k. falls_if left _ r (int_le low v && int_le v high) _ _
-      (selected_down pc st n (further (nat_abs (v -ℤ low) * size) a) st2 h.0 (omega arith)) tt))
+      (selected_down pc st n (address_after (nat_abs (v -ℤ low) * size) a) st2 h.0 (omega arith)) tt))
   instruction_down (Some (i.Field k)) pc st n p h =
-      falls_address left _ r st _ (λ a st1 e. selected_down pc st n (further k a) st1 h.0 e)
+      falls_address left _ r st _ (λ a st1 e. selected_down pc st n (address_after k a) st1 h.0 e)
   instruction_down (Some i.Load) pc st n p h =
       falls_address left _ r st _ (λ a st1 e. falls_when left _ r (ops.has a 1 n) _
-      (falls_ordinal left _ r (ops.look a n) _
+      (falls_ordinal left _ r (ops.read a n) _
       (λ v. on_to pc st n (pc + 1) (Number v ∷ st1) n h.0 e (same_budget pc st n))))
   instruction_down (Some i.Loadc) pc st n p h =
       falls_address left _ r st _ (λ a st1 e. falls_when left _ r (ops.has a 1 n) _
-      (falls_channel_in left _ r (ops.look a n) _
+      (falls_channel_in left _ r (ops.read a n) _
       (λ c. on_to pc st n (pc + 1) (Chan c ∷ st1) n h.0 e (same_budget pc st n))))
   instruction_down (Some i.Store) pc st n p h =
       falls_cell left _ r st _ (λ c st1 e. falls_address left _ r st1 _
@@ -338,7 +354,7 @@ module _ {M : Type 0} (ops : Ops M) (code : Parts) (budget : M → ℕ) (law : H
   instruction_down (Some i.Div) pc st n p h = two_down pc st n op.Div h.0
   instruction_down (Some i.Mod) pc st n p h = two_down pc st n op.Mod h.0
   instruction_down (Some i.Neg) pc st n p h = one_down pc st n (unary_op sign.Minus) h.0
-  instruction_down (Some i.Abs) pc st n p h = one_down pc st n absolute h.0
+  instruction_down (Some i.Abs) pc st n p h = one_down pc st n absolute_value h.0
   instruction_down (Some i.Sqr) pc st n p h = one_down pc st n square h.0
   instruction_down (Some i.Odd) pc st n p h = one_down pc st n is_odd h.0
   instruction_down (Some i.And) pc st n p h = two_down pc st n op.And h.0
@@ -350,7 +366,7 @@ module _ {M : Type 0} (ops : Ops M) (code : Parts) (budget : M → ℕ) (law : H
   instruction_down (Some i.Le) pc st n p h = two_down pc st n op.Le h.0
   instruction_down (Some i.Gt) pc st n p h = two_down pc st n op.Gt h.0
   instruction_down (Some i.Ge) pc st n p h = two_down pc st n op.Ge h.0
-  instruction_down (Some (i.Range low high)) pc st n p h = one_down pc st n (ranged low high) h.0
+  instruction_down (Some (i.Range low high)) pc st n p h = one_down pc st n (value_in_range low high) h.0
   instruction_down (Some (i.Succ high)) pc st n p h = one_down pc st n (successor high) h.0
   instruction_down (Some (i.Pred low)) pc st n p h = one_down pc st n (predecessor low) h.0
   instruction_down (Some (i.Jump to)) pc st n p h = on_to pc st n to st n h.0 (omega arith) (same_budget pc st n)
@@ -363,7 +379,7 @@ module _ {M : Type 0} (ops : Ops M) (code : Parts) (budget : M → ℕ) (law : H
       (on_to pc st n (pc + 1) (Number u ∷ st1) n h.1.0 e (same_budget pc st n)))
   instruction_down (Some i.Nocase) pc st n p h = tt
   instruction_down (Some i.Tick) pc st n p h =
-      falls_then left _ r (ops.beat n) _ (λ m k. paced_down pc st n (pc + 1) st m
+      falls_then left _ r (ops.tick n) _ (λ m k. paced_down pc st n (pc + 1) st m
       (ticks_down pc (pc + 1) st st n m (law.beat n m k) (omega arith)))
   instruction_down (Some i.Assume) pc st n p h =
       falls_number left _ r st _ (λ v st1 e. falls_if left _ r (not (int_le v (pos 0))) _ _
@@ -419,19 +435,20 @@ module _ {M : Type 0} (ops : Ops M) (code : Parts) (budget : M → ℕ) (law : H
   unfolding rank
   rank_above p = omega arith
 
-  one_down_of : (c : Config M) → RanksFall code c → Falls left (left c) (one ops code c)
+  one_down_of : (c : Config M) → RanksFall code c → Falls left (left c) (next_step ops code c)
   one_down_of (At pc st n) ranked = instruction_down (slice_get code.instrs pc) pc st n (rank_above pc) ranked
 
-  pub falls : (c d : Config M) → RanksFall code c → one ops code c ≡ Goes d → left d < left c
+  pub falls : (c d : Config M) → RanksFall code c → next_step ops code c ≡ Goes d → left d < left c
   falls c d ranked e = subst (Falls left (left c)) e (one_down_of c ranked)
 
   -- so a run of more instructions than the number comes to an end
-  pub ran_over : (n : ℕ) (c : Config M) → IsRankedAlong ops code c → left c < n → IsOver (ran ops code n c)
+  pub ran_over : (n : ℕ) (c : Config M) → IsRankedAlong ops code c → left c < n → IsOver (run_within ops code n c)
   ran_over zero c ranked h = absurd (omega arith)
-  ran_over (suc n) c ranked h = go (λ d k lt. ran_over n d k lt) (one ops code c) refl
+  ran_over (suc n) c ranked h = go (λ d k lt. ran_over n d k lt) (next_step ops code c) refl
     where
-      go : ((d : Config M) → IsRankedAlong ops code d → left d < n → IsOver (ran ops code n d)) → (o : One M)
-          → one ops code c ≡ o → IsOver (ran_by ops code (ran ops code n) c o)
+      go : ((d : Config M) → IsRankedAlong ops code d → left d < n → IsOver (run_within ops code n d))
+          → (o : StepResult M)
+          → next_step ops code c ≡ o → IsOver (run_after_step ops code (run_within ops code n) c o)
       go on (Goes d) e = on d (λ b w. ranked b (record { steps = suc w.steps; by = (d, e, w.by) }))
           (omega (arith, falls c d (ranked c (record { steps = 0; by = refl })) e))
       go on (Stops s d) e = tt
@@ -439,9 +456,9 @@ module _ {M : Type 0} (ops : Ops M) (code : Parts) (budget : M → ℕ) (law : H
       go on Stuck e = tt
 
   pub turn_over : (c : Config M) → IsRankedAlong ops code c → IsOver (turn_within ops code (suc (left c)) c)
-  turn_over c ranked = go (begins ops code c)
+  turn_over c ranked = go (frames_fit ops code c)
     where
-      go : (t : Bool) → IsOver (started ops code (suc (left c)) t c)
+      go : (t : Bool) → IsOver (run_if_begun ops code (suc (left c)) t c)
       go true = ran_over (suc (left c)) c ranked (omega arith)
       go false = tt
 

@@ -90,74 +90,90 @@ distinct_spots ls fs (x ∷ xs) d h = go (distinct_spots ls fs xs d.1 (λ y z a 
     )
 
 module _ (ls : List Layout) (fs : List mem.Frame) (t : ForkTable) (val : ℤ) where
-  abbrev pub one : ℕ → Handing
-  one j = handing_of ls fs val j (child_or (child_at t j))
+  abbrev pub child_handing : ℕ → Handing
+  child_handing j = handing_of ls fs val j (child_or (child_at t j))
 
   pub in_moved : (i n : ℕ) (a : Spot) → In a (moved_of (plan_from ls fs t val i n)) → (j : ℕ) × (j < n)
-      × In a (one (i + j)).moved
+      × In a (child_handing (i + j)).moved
   in_moved i zero a h = absurd h
-  in_moved i (suc n) a h = ⊎_elim (λ k. (0, omega arith, subst (λ z. In a (one z).moved) (is_plus_none i) k))
-      (λ k. (let w = in_moved (suc i) n a k in
-      (suc w.0, (let b = w.1 in omega (arith, b)), subst (λ z. In a (one z).moved) (next_goes_right i w.0) w.2)))
-      (in_either a (one i).moved (moved_of (plan_from ls fs t val (suc i) n)) h)
+  in_moved i (suc n) a h = ⊎_elim (λ k. (0, omega arith, subst (λ z. In a (child_handing z).moved) (is_plus_none i) k))
+      (λ k. (let w = in_moved (suc i) n a k in (
+        suc w.0,
+        (let b = w.1 in omega (arith, b)),
+        subst (λ z. In a (child_handing z).moved)
+            (next_goes_right i w.0) w.2,
+      )))
+      (in_either a (child_handing i).moved (moved_of (plan_from ls fs t val (suc i) n)) h)
 
   pub in_shared : (i n : ℕ) (a : Spot) → In a (shared_of (plan_from ls fs t val i n)) → (j : ℕ) × (j < n)
-      × In a (one (i + j)).shared
+      × In a (child_handing (i + j)).shared
   in_shared i zero a h = absurd h
-  in_shared i (suc n) a h = ⊎_elim (λ k. (0, omega arith, subst (λ z. In a (one z).shared) (is_plus_none i) k))
-      (λ k. (let w = in_shared (suc i) n a k in
-      (suc w.0, (let b = w.1 in omega (arith, b)), subst (λ z. In a (one z).shared) (next_goes_right i w.0) w.2)))
-      (in_either a (one i).shared (shared_of (plan_from ls fs t val (suc i) n)) h)
+  in_shared i (suc n) a h =
+      ⊎_elim (λ k. (0, omega arith, subst (λ z. In a (child_handing z).shared) (is_plus_none i) k))
+      (λ k. (let w = in_shared (suc i) n a k in (
+        suc w.0,
+        (let b = w.1 in omega (arith, b)),
+        subst (λ z. In a (child_handing z).shared)
+            (next_goes_right i w.0) w.2,
+      )))
+      (in_either a (child_handing i).shared (shared_of (plan_from ls fs t val (suc i) n)) h)
 
   pub moved_by : (n : ℕ) (a : Spot) → In a (moved_of (plan_from ls fs t val 0 n)) → (j : ℕ) × (j < n)
-      × In a (one j).moved
-  moved_by n a h = let w = in_moved 0 n a h in (w.0, w.1, subst (λ z. In a (one z).moved) (zero-add w.0) w.2)
+      × In a (child_handing j).moved
+  moved_by n a h = let w = in_moved 0 n a h in (w.0, w.1, subst (λ z. In a (child_handing z).moved) (zero-add w.0) w.2)
 
   pub shared_by : (n : ℕ) (a : Spot) → In a (shared_of (plan_from ls fs t val 0 n)) → (j : ℕ) × (j < n)
-      × In a (one j).shared
-  shared_by n a h = let w = in_shared 0 n a h in (w.0, w.1, subst (λ z. In a (one z).shared) (zero-add w.0) w.2)
+      × In a (child_handing j).shared
+  shared_by n a h = let w = in_shared 0 n a h in
+      (w.0, w.1, subst (λ z. In a (child_handing z).shared) (zero-add w.0) w.2)
 
-  pub moved_back : (i n j : ℕ) (a : Spot) → j < n → In a (one (i + j)).moved
+  pub moved_back : (i n j : ℕ) (a : Spot) → j < n → In a (child_handing (i + j)).moved
       → In a (moved_of (plan_from ls fs t val i n))
   moved_back i zero j a lt h = absurd (omega (arith, lt))
-  moved_back i (suc n) zero a lt h = in_front a (one i).moved (moved_of (plan_from ls fs t val (suc i) n))
-      (subst (λ z. In a (one z).moved) (add-zero i) h)
-  moved_back i (suc n) (suc j) a lt h = in_back a (one i).moved (moved_of (plan_from ls fs t val (suc i) n))
-      (moved_back (suc i) n j a (omega (arith, lt)) (subst (λ z. In a (one z).moved) (next_goes_left i j) h))
+  moved_back i (suc n) zero a lt h = in_front a (child_handing i).moved (moved_of (plan_from ls fs t val (suc i) n))
+      (subst (λ z. In a (child_handing z).moved) (add-zero i) h)
+  moved_back i (suc n) (suc j) a lt h = in_back a (child_handing i).moved (moved_of (plan_from ls fs t val (suc i) n))
+      (moved_back (suc i) n j a (omega (arith, lt)) (subst (λ z. In a (child_handing z).moved) (next_goes_left i j) h))
 
-  pub moved_in : (n j : ℕ) (a : Spot) → j < n → In a (one j).moved → In a (moved_of (plan_from ls fs t val 0 n))
-  moved_in n j a lt h = moved_back 0 n j a lt (subst (λ z. In a (one z).moved) (sym (zero-add j)) h)
+  pub moved_in : (n j : ℕ) (a : Spot) → j < n → In a (child_handing j).moved
+      → In a (moved_of (plan_from ls fs t val 0 n))
+  moved_in n j a lt h = moved_back 0 n j a lt (subst (λ z. In a (child_handing z).moved) (sym (zero-add j)) h)
 
-  distinct_at : (i n : ℕ) → ((j : ℕ) → j < n → IsDistinct (one (i + j)).moved)
-      → ((j k : ℕ) (a : Spot) → j < k → k < n → In a (one (i + j)).moved → In a (one (i + k)).moved → ⊥)
+  distinct_at : (i n : ℕ) → ((j : ℕ) → j < n → IsDistinct (child_handing (i + j)).moved)
+      → ((j k : ℕ) (a : Spot) → j < k → k < n → In a (child_handing (i + j)).moved
+      → In a (child_handing (i + k)).moved → ⊥)
       → IsDistinct (moved_of (plan_from ls fs t val i n))
   distinct_at i zero each apart = tt
-  distinct_at i (suc n) each apart = distinct_both (one i).moved (moved_of (plan_from ls fs t val (suc i) n))
-      (subst (λ z. IsDistinct (one z).moved) (add-zero i) (each 0 (omega arith)))
-      (distinct_at (suc i) n (λ j lt. subst (λ z. IsDistinct (one z).moved) (next_goes_left i j)
+  distinct_at i (suc n) each apart = distinct_both (child_handing i).moved (moved_of (plan_from ls fs t val (suc i) n))
+      (subst (λ z. IsDistinct (child_handing z).moved) (add-zero i) (each 0 (omega arith)))
+      (distinct_at (suc i) n (λ j lt. subst (λ z. IsDistinct (child_handing z).moved) (next_goes_left i j)
       (each (suc j) (omega (arith, lt))))
       (λ j k a l lt f g. apart (suc j) (suc k) a (omega (arith, l)) (omega (arith, lt))
-      (subst (λ z. In a (one z).moved) (sym (next_goes_left i j)) f)
-      (subst (λ z. In a (one z).moved) (sym (next_goes_left i k)) g)))
+      (subst (λ z. In a (child_handing z).moved) (sym (next_goes_left i j)) f)
+      (subst (λ z. In a (child_handing z).moved) (sym (next_goes_left i k)) g)))
       (λ a f g. (let w = in_moved (suc i) n a g in
       apart 0 (suc w.0) a (omega arith) (let b = w.1 in omega (arith, b))
-      (subst (λ z. In a (one z).moved) (sym (add-zero i)) f)
-      (subst (λ z. In a (one z).moved) (sym (next_goes_left i w.0)) w.2)))
+      (subst (λ z. In a (child_handing z).moved) (sym (add-zero i)) f)
+      (subst (λ z. In a (child_handing z).moved) (sym (next_goes_left i w.0)) w.2)))
 
   -- each child's spots differ, and those of two children
-  pub distinct_plan : (n : ℕ) → ((j : ℕ) → j < n → IsDistinct (one j).moved)
-      → ((j k : ℕ) (a : Spot) → j < k → k < n → In a (one j).moved → In a (one k).moved → ⊥)
+  pub distinct_plan : (n : ℕ) → ((j : ℕ) → j < n → IsDistinct (child_handing j).moved)
+      → ((j k : ℕ) (a : Spot) → j < k → k < n → In a (child_handing j).moved → In a (child_handing k).moved → ⊥)
       → IsDistinct (moved_of (plan_from ls fs t val 0 n))
   distinct_plan n each apart = distinct_at 0 n
-      (λ j lt. subst (λ z. IsDistinct (one z).moved) (sym (zero-add j)) (each j lt))
-      (λ j k a l lt f g. apart j k a l lt (subst (λ z. In a (one z).moved) (zero-add j) f)
-      (subst (λ z. In a (one z).moved) (zero-add k) g))
+      (λ j lt. subst (λ z. IsDistinct (child_handing z).moved) (sym (zero-add j)) (each j lt))
+      (λ j k a l lt f g. apart j k a l lt (subst (λ z. In a (child_handing z).moved) (zero-add j) f)
+      (subst (λ z. In a (child_handing z).moved) (zero-add k) g))
 
-  index_in : (i n : ℕ) → HasIndex (plan_from ls fs t val i n) → (j : ℕ) × (j < n) × IsSome (one (i + j)).index
+  index_in : (i n : ℕ) → HasIndex (plan_from ls fs t val i n) → (j : ℕ) × (j < n) × IsSome (child_handing (i + j)).index
   index_in i zero h = absurd h
-  index_in i (suc n) (inl h) = (0, omega arith, subst (λ z. IsSome (one z).index) (is_plus_none i) h)
-  index_in i (suc n) (inr h) = let w = index_in (suc i) n h in
-      (suc w.0, (let b = w.1 in omega (arith, b)), subst (λ z. IsSome (one z).index) (next_goes_right i w.0) w.2)
+  index_in i (suc n) (inl h) = (0, omega arith, subst (λ z. IsSome (child_handing z).index) (is_plus_none i) h)
+  index_in i (suc n) (inr h) = let w = index_in (suc i) n h in (
+    suc w.0,
+    (let b = w.1 in omega (arith, b)),
+    subst (λ z. IsSome (child_handing z).index)
+        (next_goes_right i w.0) w.2,
+  )
 
-  pub index_by : (n : ℕ) → HasIndex (plan_from ls fs t val 0 n) → (j : ℕ) × (j < n) × IsSome (one j).index
-  index_by n h = let w = index_in 0 n h in (w.0, w.1, subst (λ z. IsSome (one z).index) (zero-add w.0) w.2)
+  pub index_by : (n : ℕ) → HasIndex (plan_from ls fs t val 0 n) → (j : ℕ) × (j < n) × IsSome (child_handing j).index
+  index_by n h = let w = index_in 0 n h in (w.0, w.1, subst (λ z. IsSome (child_handing z).index) (zero-add w.0) w.2)

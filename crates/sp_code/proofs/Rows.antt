@@ -6,18 +6,19 @@ use Rattle.sp_code.specs.declared.instr.Instr.TheVariants as i
 use Rattle.sp_code.specs.declared.code.Formal.TheVariants as formal
 use Rattle.sp_code.specs.declared.code.Parts.{Parts}
 use Rattle.sp_code.specs.Machine.{Ends, Pauses}
-use Rattle.sp_code.specs.Memory.{Setting}
+use Rattle.sp_code.specs.Memory.{CodeRun}
 use Rattle.sp_code.proofs.Small.{wide, code_of, main, first_turn, seen}
 
-abbrev of : Parts → Setting
+abbrev of : Parts → CodeRun
 of code = record { code = code; input = []; limits = wide; pause = 100000 }
 
 -- x := 6; write(x * 7)
-abbrev answer : Parts
-answer = code_of (i.Addr 0 2 ∷ i.Const (pos 6) ∷ i.Store ∷ i.Addr 0 2 ∷ i.Load ∷ i.Const (pos 7) ∷ i.Mul ∷ i.WriteChar
+abbrev product_as_char : Parts
+product_as_char = code_of (i.Addr 0 2 ∷ i.Const (pos 6) ∷ i.Store ∷ i.Addr 0 2 ∷ i.Load ∷ i.Const (pos 7) ∷ i.Mul
+    ∷ i.WriteChar
     ∷ i.End ∷ []) (main (1 ∷ []) ∷ [])
 
-writes_42 : seen (first_turn (of answer)) ≡ (Some Ends, None, 42 ∷ [])
+writes_42 : seen (first_turn (of product_as_char)) ≡ (Some Ends, None, 42 ∷ [])
 writes_42 = refl
 
 -- an ordinal above 255, which only code from a file can write as a char, is written modulo 256
@@ -26,14 +27,16 @@ writes_modulo_256 : seen (first_turn (of (code_of (i.Const (pos 298) ∷ i.Write
 writes_modulo_256 = refl
 
 -- the program's frame has one cell
-fits_one_cell : seen (first_turn (record (of answer) { limits = record wide { cells = 1 } }))
+fits_one_cell : seen (first_turn (record (of product_as_char) { limits = record wide { cells = 1 } }))
     ≡ (Some Ends, None, 42 ∷ [])
 fits_one_cell = refl
 
-too_large : seen (first_turn (record (of answer) { limits = record wide { cells = 0 } })) ≡ (None, Some fault.F12, [])
+too_large : seen (first_turn (record (of product_as_char) { limits = record wide { cells = 0 } }))
+    ≡ (None, Some fault.F12, [])
 too_large = refl
 
-no_room : seen (first_turn (record (of answer) { limits = record wide { output = 0 } })) ≡ (None, Some fault.F16, [])
+no_room : seen (first_turn (record (of product_as_char) { limits = record wide { output = 0 } }))
+    ≡ (None, Some fault.F16, [])
 no_room = refl
 
 -- x := maxint; x := x + 1

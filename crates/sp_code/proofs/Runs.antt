@@ -9,18 +9,19 @@ use Rattle.sp_code.specs.declared.instr.Instr.TheVariants as i
 use Rattle.sp_code.specs.declared.code.ChildTable.{ChildTable}
 use Rattle.sp_code.specs.declared.code.ForkTable.{ForkTable}
 use Rattle.sp_code.specs.Turns.{Turn, Ran, Ended, Lacks, GoesOn, turn_within}
-use Rattle.sp_code.specs.Memory.{Setting, Memory, memory}
+use Rattle.sp_code.specs.Memory.{CodeRun, Memory, memory}
 use Rattle.sp_code.specs.Control.{control, front, standing, Running, IsDone, IsDeadlock, IsFault, IsMemory}
-use Rattle.sp_code.specs.System.{System, Condition, Absent, Working, Waits, Joins, Laid, Gone, Over, event_of, after}
-use Rattle.sp_code.specs.System.{opening}
+use Rattle.sp_code.specs.System.{System, Condition, Absent, Working, Waits, Joins, Laid, Gone, Over, event_of}
+use Rattle.sp_code.specs.System.{system_after_turn}
+use Rattle.sp_code.specs.System.{opening_system}
 use Rattle.sp_code.proofs.Small.{Small, small, wide, written}
 
 -- ---- a run, by the processes that make the entries
 
-module _ (g : Setting) where
+module _ (g : CodeRun) where
   abbrev after_turn : (System Small → List Event × List ℕ) → ℕ → System Small → Turn (Memory Small) → List Event
       × List ℕ
-  after_turn go q m t = let r = go (after small g q t m) in (event_of g.limits m t ∷ r.0, r.1)
+  after_turn go q m t = let r = go (system_after_turn small g q t m) in (event_of g.limits m t ∷ r.0, r.1)
 
   abbrev by_turn : (System Small → List Event × List ℕ) → ℕ → System Small → Ran (Memory Small) → List Event × List ℕ
   by_turn go q m (Ended t) = after_turn go q m t
@@ -53,9 +54,9 @@ module _ (g : Setting) where
 
   -- the events that these processes make, one after the other, and the output
   abbrev told : List ℕ → List Event × List ℕ
-  told qs = told_from qs (opening small g)
+  told qs = told_from qs (opening_system small g)
 
-abbrev of : List Instr → List ForkTable → List ℕ → List ℕ → Setting
+abbrev of : List Instr → List ForkTable → List ℕ → List ℕ → CodeRun
 of is forks sizes variables = record {
   code = record {
     instrs = is;
@@ -80,7 +81,7 @@ abbrev child : ℕ → List ℕ → List ℕ → ChildTable
 child entry moved shared = record { entry = entry; moved = moved; shared = shared; index = None }
 
 -- open(c); parallel send(c, 1) | receive(c, x) end; write(x)
-abbrev rendezvous : Setting
+abbrev rendezvous : CodeRun
 rendezvous = of
     (i.Addr 0 2 ∷ i.Open ∷ i.Fork 0 ∷ i.Jump 14 ∷ i.Addr 0 2 ∷ i.Loadc ∷ i.Const (pos 1) ∷ i.Send 0 ∷ i.End ∷ i.Addr 0 2
     ∷ i.Loadc ∷ i.Addr 0 3 ∷ i.Receive 0 ∷ i.End ∷ i.Addr 0 3 ∷ i.Load ∷ i.WriteChar ∷ i.End ∷ [])
@@ -117,7 +118,7 @@ too_deep : told (record rendezvous { limits = record wide { depth = 0 } }) (0 �
 too_deep = refl
 
 -- open(c); parallel send(c, 1) | send(c, 2) end: the second one contends; and what came back after it is laid down
-abbrev contention : Setting
+abbrev contention : CodeRun
 contention = of
     (i.Addr 0 2 ∷ i.Open ∷ i.Fork 0 ∷ i.Jump 14 ∷ i.Addr 0 2 ∷ i.Loadc ∷ i.Const (pos 1) ∷ i.Send 0 ∷ i.End ∷ i.Addr 0 2
     ∷ i.Loadc ∷ i.Const (pos 2) ∷ i.Send 0 ∷ i.End ∷ i.End ∷ [])
@@ -128,7 +129,7 @@ contends : told contention (0 ∷ 0 ∷ 1 ∷ 2 ∷ [])
 contends = refl
 
 -- another message type
-abbrev mismatch : Setting
+abbrev mismatch : CodeRun
 mismatch = of
     (i.Addr 0 2 ∷ i.Open ∷ i.Fork 0 ∷ i.Jump 14 ∷ i.Addr 0 2 ∷ i.Loadc ∷ i.Const (pos 1) ∷ i.Send 0 ∷ i.End ∷ i.Addr 0 2
     ∷ i.Loadc ∷ i.Addr 0 3 ∷ i.Receive 1 ∷ i.End ∷ i.End ∷ [])
@@ -139,7 +140,7 @@ differs : told mismatch (0 ∷ 0 ∷ 1 ∷ 2 ∷ [])
 differs = refl
 
 -- forall k := 1 to 2 do assume k = 1: each child has its own index
-abbrev indexed : Setting
+abbrev indexed : CodeRun
 indexed = of
     (i.Const (pos 1) ∷ i.Const (pos 2) ∷ i.Forall 0 ∷ i.Jump 9 ∷ i.Addr 0 0 ∷ i.Load ∷ i.Const (pos 1) ∷ i.Eq ∷ i.Assume
     ∷ i.End ∷ [])
@@ -149,7 +150,7 @@ each_has_its_index : told indexed (0 ∷ 1 ∷ 2 ∷ []) ≡ (event.Fork 2 ∷ e
 each_has_its_index = refl
 
 -- an empty range goes on behind the forall
-abbrev empty_range : Setting
+abbrev empty_range : CodeRun
 empty_range = of (i.Const (pos 1) ∷ i.Const (pos 0) ∷ i.Forall 0 ∷ i.Jump 4 ∷ i.End ∷ [])
     (record { children = record { entry = 4; moved = []; shared = []; index = Some 2 } ∷ [] } ∷ []) [] []
 

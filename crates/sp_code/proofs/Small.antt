@@ -6,14 +6,14 @@ use Rattle.sp_base.specs.declared.limits.Limits.{Limits}
 use Rattle.sp_cell.specs.declared.cell.Cell.TheVariants as cell
 use Rattle.sp_cell.specs.declared.spot.Spot.{Spot}
 use Rattle.sp_cell.specs.Map.{Content, Own, Shared, Output, Away, output_spot}
-use Rattle.sp_cell.specs.Frame.{above, newest, frames}
+use Rattle.sp_cell.specs.Frame.{least_above, last_own_frame, frames}
 use Rattle.sp_cell.specs.Fork.{index_frame, moved_of, shared_of}
 use Rattle.sp_code.specs.declared.instr.Instr.{Instr}
 use Rattle.sp_code.specs.declared.code.Layout.{Layout}
 use Rattle.sp_code.specs.declared.code.Parts.{Parts}
 use Rattle.sp_code.specs.Machine.{Stop, Config, At}
 use Rattle.sp_code.specs.Turns.{Turn, Stopped, Faulted, Ran, Ended, Lacks, GoesOn, turn_within}
-use Rattle.sp_code.specs.Memory.{Setting, Stores, Memory, memory, first, bytes_in, is_there}
+use Rattle.sp_code.specs.Memory.{CodeRun, Stores, Memory, memory, first_process, bytes_in, is_there}
 use Rattle.sp_code.specs.PlainStore.{piece_of}
 
 pub record Small : Type 0 where
@@ -68,11 +68,11 @@ small = record {
     at = with_content output_spot
         (Some (Output (bytes_in (output_by (s.at output_spot)) ++ bs))) s.at;
   };
-  next_frame = λ s. max (above s.known) (above s.own);
-  pushed = λ s sizes. let n = max (above s.known) (above s.own) in
+  next_frame = λ s. max (least_above s.known) (least_above s.own);
+  pushed = λ s sizes. let n = max (least_above s.known) (least_above s.own) in
       record s { at = pieces_from n 0 sizes s.at; known = n ∷ s.known; own = s.own ++ n ∷ [] };
-  may_pop = λ s n. is_there s.own && (newest s.own == n);
-  popped = λ s. let n = newest s.own in record s {
+  may_pop = λ s n. is_there s.own && (last_own_frame s.own == n);
+  popped = λ s. let n = last_own_frame s.own in record s {
     at = λ p. if p.frame == n then None else
         s.at p;
     known = without n s.known;
@@ -113,8 +113,8 @@ abbrev pub main : List ℕ → Layout
 main sizes = record { block = 0; entry = 0; parent = None; answer = false; sizes = sizes; variables = []; formals = [] }
 
 -- the first turn of this code, with no more than 200 instructions
-abbrev pub first_turn : Setting → Ran (Memory Small)
-first_turn g = turn_within (memory small g) g.code 200 (first small g)
+abbrev pub first_turn : CodeRun → Ran (Memory Small)
+first_turn g = turn_within (memory small g) g.code 200 (first_process small g)
 
 -- where it ended, and the output there
 abbrev pub Seen : Type 0

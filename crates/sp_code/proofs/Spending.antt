@@ -4,12 +4,13 @@ use Rattle.std.specs.Prelude.{nat_lt, length, sum}
 use Rattle.std.proofs.lemmas.Bool.{ltb-true}
 use Rattle.sp_base.specs.declared.fault.Fault.TheVariants as fault
 use Rattle.sp_code.specs.declared.code.Layout.{Layout}
-use Rattle.sp_code.specs.Machine.{Entry, Did, Done, Failed}
-use Rattle.sp_code.specs.Memory.{Setting, Stores, Frame, Memory, memory, opened, without_frame, with_store, bytes_in}
+use Rattle.sp_code.specs.Machine.{Entry, MemoryResult, Done, Failed}
+use Rattle.sp_code.specs.Memory.{CodeRun, Stores, Frame, Memory, memory, memory_after_call, without_frame, with_store}
+use Rattle.sp_code.specs.Memory.{bytes_in}
 use Rattle.sp_code.specs.Budgets.{HasBudget, ticks_left}
 
-module _ {S : Type 0} (stores : Stores S) (g : Setting) where
-  same_done : (n m : Memory S) → ◌≡◌ {A = Did (Memory S)} (Done n) (Done m) → n ≡ m
+module _ {S : Type 0} (stores : Stores S) (g : CodeRun) where
+  same_done : (n m : Memory S) → ◌≡◌ {A = MemoryResult (Memory S)} (Done n) (Done m) → n ≡ m
   same_done n m e = cc
 
   -- a memory that has made one more tick
@@ -17,7 +18,7 @@ module _ {S : Type 0} (stores : Stores S) (g : Setting) where
       → ticks_left g m + 1 ≤ ticks_left g n
   spent n m e k = let lt = ltb-true n.ticks g.limits.ticks e in omega (arith, lt, k)
 
-  beat_spends : (n m : Memory S) → (memory stores g).beat n ≡ Done m → ticks_left g m + 1 ≤ ticks_left g n
+  beat_spends : (n m : Memory S) → (memory stores g).tick n ≡ Done m → ticks_left g m + 1 ≤ ticks_left g n
   beat_spends n m = go (nat_lt n.ticks g.limits.ticks) refl
     where
       go : (t : Bool) → nat_lt n.ticks g.limits.ticks ≡ t
@@ -33,10 +34,10 @@ module _ {S : Type 0} (stores : Stores S) (g : Setting) where
       (nat_lt g.limits.cells (n.cells + sum l.sizes)) refl
     where
       go : (t d c : Bool) → nat_lt n.ticks g.limits.ticks ≡ t
-          → (if t then (if d then (if c then Failed fault.F12 else Done (opened stores g l up es n)) else
+          → (if t then (if d then (if c then Failed fault.F12 else Done (memory_after_call stores g l up es n)) else
           Failed fault.F11) else Failed fault.F10) ≡ Done m → ticks_left g m + 1 ≤ ticks_left g n
       go true true false e h = spent n m e (ap (λ (x : Memory S). x.ticks)
-          (sym (same_done (opened stores g l up es n) m h)))
+          (sym (same_done (memory_after_call stores g l up es n) m h)))
       go true true true e h = absurd cc
       go true false c e h = absurd cc
       go false d c e h = absurd cc

@@ -22,17 +22,18 @@ use Rattle.sp_code.specs.declared.code.Parts.{Parts}
 use Rattle.sp_code.specs.Scopes.{Sort, Ordinals, Channels, Many, NoSort, Scope, OfIndex, is_given, kind_at, sort, size}
 use Rattle.sp_code.specs.Scopes.{slot, second_or, element_type, field_type, selected_type, type_by, type_of}
 use Rattle.sp_code.specs.Places.{after_value, after_form, after_var, after_actuals, after_width}
-use Rattle.sp_code.specs.Places.{after_test, after_tests, after, after_arms}
+use Rattle.sp_code.specs.Places.{after_test, after_tests, after_statement, after_arms}
 use Rattle.sp_code.specs.Emitted.{or_none, unary_code, standard_code, input_instr, read_instr, index_instr, field_instr}
 use Rattle.sp_code.specs.Emitted.{write_instr, reading_instr, assign_instr, addr_by, addr_of, call_up, call_instr}
 use Rattle.sp_code.specs.Emitted.{test_code, tables_in, texts_of, texts_of_all, texts_of_arms, texts_in, addr_code}
 use Rattle.sp_code.specs.Emitted.{value_code, form_code, var_code, selectors_code, actuals_code, width_code, right_code}
 use Rattle.sp_code.specs.Emitted.{tests_code, code, code_all, code_children, code_arms, tables, tables_all}
 use Rattle.sp_code.specs.Emitted.{tables_children, tables_arms}
-use Rattle.sp_code.specs.Stands.{AnyInstr, AnyTable, AnyText, Stands, HasFork, HasWords, HasAt, VarRole, VarAt, ReadAt}
-use Rattle.sp_code.specs.Stands.{UnaryAt, StandardAt, InputAt, Around, CallAt, ValueAt, FormAt, PlaceAt, SelectedAt}
-use Rattle.sp_code.specs.Stands.{ActualsAt, OrdinalAt, WidthAt, ReadsAt, RightAt, TestAt, TestsAt, StandsAt, AllAt}
-use Rattle.sp_code.specs.Stands.{ChildrenAt, ArmsAt}
+use Rattle.sp_code.specs.CodeOfTree.{AnyInstr, AnyTable, AnyText, CodeAt, HasFork, HasWords, HasAt, VarRole, VarAt}
+use Rattle.sp_code.specs.CodeOfTree.{ReadAt}
+use Rattle.sp_code.specs.CodeOfTree.{UnaryAt, StandardAt, InputAt, Around, CallAt, ValueAt, FormAt, PlaceAt, SelectedAt}
+use Rattle.sp_code.specs.CodeOfTree.{ActualsAt, OrdinalAt, WidthAt, ReadsAt, RightAt, TestAt, TestsAt, StandsAt, AllAt}
+use Rattle.sp_code.specs.CodeOfTree.{ChildrenAt, ArmsAt}
 use Rattle.sp_code.proofs.Counts.{value_after, form_after, var_after, actuals_after, width_after}
 use Rattle.sp_code.proofs.Counts.{tests_after, stmt_after, value_count, form_count, var_count, actuals_count}
 use Rattle.sp_code.proofs.Counts.{width_count, tests_count, code_count, texts_count, tables_count}
@@ -67,13 +68,13 @@ module _ (p : Program) (moves shares : Stmt → List ℕ) (all : Parts) (hush : 
   FV sc q e = ValueAt p moves shares AnyInstr AnyTable AnyText hush sc q e
 
   abbrev SV : List Scope → ℕ → Expr → Type 0
-  SV sc q e = ValueAt p moves shares (Stands all) (HasFork all) (HasWords all) hush sc q e
+  SV sc q e = ValueAt p moves shares (CodeAt all) (HasFork all) (HasWords all) hush sc q e
 
   abbrev F : Bool → List Scope → ℕ → Stmt → Type 0
   F free sc q s = StandsAt p moves shares AnyInstr AnyTable AnyText hush free sc q s
 
   abbrev S : Bool → List Scope → ℕ → Stmt → Type 0
-  S free sc q s = StandsAt p moves shares (Stands all) (HasFork all) (HasWords all) hush free sc q s
+  S free sc q s = StandsAt p moves shares (CodeAt all) (HasFork all) (HasWords all) hush free sc q s
 
   -- the place behind a part's code
   pub value_stop : (sc : List Scope) (q : ℕ) (e : Expr) → q + length (value_code p sc e) ≡ after_value q e
@@ -95,7 +96,7 @@ module _ (p : Program) (moves shares : Stmt → List ℕ) (all : Parts) (hush : 
   pub tests_stop : (q : ℕ) (arms : Arms) (b : ℕ) → q + length (tests_code p arms b) ≡ after_tests q arms
   tests_stop q arms b = omega (arith, tests_count p arms b, tests_after q arms)
 
-  pub code_stop : (sc : List Scope) (t n q : ℕ) (s : Stmt) → q + length (code p sc t n q s) ≡ after p q s
+  pub code_stop : (sc : List Scope) (t n q : ℕ) (s : Stmt) → q + length (code p sc t n q s) ≡ after_statement p q s
   code_stop sc t n q s = omega (arith, code_count p sc t n q s, stmt_after p q s)
 
   pub tables_stop : (t q : ℕ) (s : Stmt) → t + length (tables p moves shares q s) ≡ t + tables_in s
@@ -109,7 +110,7 @@ module _ (p : Program) (moves shares : Stmt → List ℕ) (all : Parts) (hush : 
   role_stands : (sc : List Scope) (q x : ℕ) (v : Variable) (r : Role)
       → VarRole p moves shares AnyInstr AnyTable AnyText hush sc q x v r
       → slice_get all.instrs q ≡ Some (addr_by sc x (slot p x) v r)
-      → VarRole p moves shares (Stands all) (HasFork all) (HasWords all) hush sc q x v r
+      → VarRole p moves shares (CodeAt all) (HasFork all) (HasWords all) hush sc q x v r
   role_stands sc q x v role.Console f h = absurd f
   role_stands sc q x v role.Local f h = (f.0, f.1, h ∙ ap (λ (o : Option ℕ). Some (i.Addr (or_none o) (slot p x))) f.1)
   role_stands sc q x v role.Value f h = (f.0, f.1, h ∙ ap (λ (o : Option ℕ). Some (i.Addr (or_none o) (slot p x))) f.1)
@@ -124,7 +125,7 @@ module _ (p : Program) (moves shares : Stmt → List ℕ) (all : Parts) (hush : 
 
   addr_stands : (sc : List Scope) (q x k : ℕ) → VarAt p moves shares AnyInstr AnyTable AnyText hush sc q x k
       → slice_get all.instrs q ≡ Some (addr_code p sc x)
-      → VarAt p moves shares (Stands all) (HasFork all) (HasWords all) hush sc q x k
+      → VarAt p moves shares (CodeAt all) (HasFork all) (HasWords all) hush sc q x k
   addr_stands sc q x k f h = (
     f.0,
     f.1,
@@ -134,21 +135,21 @@ module _ (p : Program) (moves shares : Stmt → List ℕ) (all : Parts) (hush : 
 
   read_stands : (q k : ℕ) (z : Sort) → ReadAt p moves shares AnyInstr AnyTable AnyText hush q k z
       → slice_get all.instrs q ≡ Some (read_instr z (size p k))
-      → ReadAt p moves shares (Stands all) (HasFork all) (HasWords all) hush q k z
+      → ReadAt p moves shares (CodeAt all) (HasFork all) (HasWords all) hush q k z
   read_stands q k Ordinals f h = h
   read_stands q k Channels f h = h
   read_stands q k Many f h = h
   read_stands q k NoSort f h = absurd f
 
   unary_stands : (q : ℕ) (op : UnaryOp) → Here q (unary_code op)
-      → UnaryAt p moves shares (Stands all) (HasFork all) (HasWords all) hush q op
+      → UnaryAt p moves shares (CodeAt all) (HasFork all) (HasWords all) hush q op
   unary_stands q unary.Plus h = tt
   unary_stands q unary.Minus h = h.0
   unary_stands q unary.Not h = h.0
 
   standard_stands : (q : ℕ) (f : StandardFn) (t : KindOf)
       → StandardAt p moves shares AnyInstr AnyTable AnyText hush q f t → Here q (standard_code f (Some t))
-      → StandardAt p moves shares (Stands all) (HasFork all) (HasWords all) hush q f t
+      → StandardAt p moves shares (CodeAt all) (HasFork all) (HasWords all) hush q f t
   standard_stands q standard.Abs t f h = h.0
   standard_stands q standard.Sqr t f h = h.0
   standard_stands q standard.Odd t f h = h.0
@@ -161,7 +162,7 @@ module _ (p : Program) (moves shares : Stmt → List ℕ) (all : Parts) (hush : 
 
   input_stands : (q : ℕ) (f : StandardFn) → InputAt p moves shares AnyInstr AnyTable AnyText hush q f
       → slice_get all.instrs q ≡ Some (input_instr f)
-      → InputAt p moves shares (Stands all) (HasFork all) (HasWords all) hush q f
+      → InputAt p moves shares (CodeAt all) (HasFork all) (HasWords all) hush q f
   input_stands q standard.Abs f h = absurd f
   input_stands q standard.Sqr f h = absurd f
   input_stands q standard.Odd f h = absurd f
@@ -179,7 +180,7 @@ module _ (p : Program) (moves shares : Stmt → List ℕ) (all : Parts) (hush : 
 
   call_stands : (sc : List Scope) (q f : ℕ) (b : Block) → CallAt p moves shares AnyInstr AnyTable AnyText hush sc q f b
       → slice_get all.instrs q ≡ Some (call_instr sc f (slice_get p.blocks f))
-      → CallAt p moves shares (Stands all) (HasFork all) (HasWords all) hush sc q f b
+      → CallAt p moves shares (CodeAt all) (HasFork all) (HasWords all) hush sc q f b
   call_stands sc q f b h k = (
     h.0,
     h.1,
@@ -196,7 +197,7 @@ module _ (p : Program) (moves shares : Stmt → List ℕ) (all : Parts) (hush : 
 
     pub form_stands : (sc : List Scope) (q k : ℕ) (form : ExprForm)
         → FormAt p moves shares AnyInstr AnyTable AnyText hush sc q k form → Here q (form_code p sc k form)
-        → FormAt p moves shares (Stands all) (HasFork all) (HasWords all) hush sc q k form
+        → FormAt p moves shares (CodeAt all) (HasFork all) (HasWords all) hush sc q k form
     form_stands sc q k (Number n) f h = (h.0, f.1)
     form_stands sc q k (Read v) f h = (
       place_stands sc q v k f.0 (has_front all.instrs q (var_code p sc v) _ h),
@@ -239,7 +240,7 @@ module _ (p : Program) (moves shares : Stmt → List ℕ) (all : Parts) (hush : 
 
     pub place_stands : (sc : List Scope) (q : ℕ) (v : Var) (k : ℕ)
         → PlaceAt p moves shares AnyInstr AnyTable AnyText hush sc q v k → Here q (var_code p sc v)
-        → PlaceAt p moves shares (Stands all) (HasFork all) (HasWords all) hush sc q v k
+        → PlaceAt p moves shares (CodeAt all) (HasFork all) (HasWords all) hush sc q v k
     place_stands sc q (Entire x ss) k f h =
         let e : type_by (slice_get p.variables x) ≡ f.0 = ap type_by f.1.1 ∙ f.1.2 in (
           f.0,
@@ -249,7 +250,7 @@ module _ (p : Program) (moves shares : Stmt → List ℕ) (all : Parts) (hush : 
 
     pub selected_stands : (sc : List Scope) (q : ℕ) (ss : Selectors) (k k2 : ℕ)
         → SelectedAt p moves shares AnyInstr AnyTable AnyText hush sc q ss k k2 → Here q (selectors_code p sc k ss)
-        → SelectedAt p moves shares (Stands all) (HasFork all) (HasWords all) hush sc q ss k k2
+        → SelectedAt p moves shares (CodeAt all) (HasFork all) (HasWords all) hush sc q ss k k2
     selected_stands sc q Whole k k2 f h = f
     selected_stands sc q (Select (Index e) rest) k k2 f h =
         let g = has_back all.instrs q (after_value q e) (value_code p sc e) _ (value_stop sc q e) h in
@@ -280,7 +281,7 @@ module _ (p : Program) (moves shares : Stmt → List ℕ) (all : Parts) (hush : 
 
     pub actuals_stands : (sc : List Scope) (q : ℕ) (args : Actuals) (xs : List ℕ)
         → ActualsAt p moves shares AnyInstr AnyTable AnyText hush sc q args xs → Here q (actuals_code p sc args)
-        → ActualsAt p moves shares (Stands all) (HasFork all) (HasWords all) hush sc q args xs
+        → ActualsAt p moves shares (CodeAt all) (HasFork all) (HasWords all) hush sc q args xs
     actuals_stands sc q Nothing [] f h = tt
     actuals_stands sc q Nothing (x ∷ xs) f h = absurd f
     actuals_stands sc q (Pass (ByValue e) rest) [] f h = absurd f
@@ -301,12 +302,12 @@ module _ (p : Program) (moves shares : Stmt → List ℕ) (all : Parts) (hush : 
     )
 
   ordinal_stands : (sc : List Scope) (q : ℕ) (e : Expr) → OrdinalAt p moves shares AnyInstr AnyTable AnyText hush sc q e
-      → Here q (value_code p sc e) → OrdinalAt p moves shares (Stands all) (HasFork all) (HasWords all) hush sc q e
+      → Here q (value_code p sc e) → OrdinalAt p moves shares (CodeAt all) (HasFork all) (HasWords all) hush sc q e
   ordinal_stands sc q e f h = (value_stands sc q e f.0 h, f.1)
 
   width_stands : (sc : List Scope) (q : ℕ) (w : Option Expr)
       → WidthAt p moves shares AnyInstr AnyTable AnyText hush sc q w → Here q (width_code p sc w)
-      → WidthAt p moves shares (Stands all) (HasFork all) (HasWords all) hush sc q w
+      → WidthAt p moves shares (CodeAt all) (HasFork all) (HasWords all) hush sc q w
   width_stands sc q None f h = tt
   width_stands sc q (Some e) f h = ordinal_stands sc q e f h
 
@@ -331,7 +332,7 @@ module _ (p : Program) (moves shares : Stmt → List ℕ) (all : Parts) (hush : 
   right_stands : (sc : List Scope) (q k : ℕ) (z : Sort) (form : ExprForm)
       → RightAt p moves shares AnyInstr AnyTable AnyText hush sc q k z form
       → Here q (right_code p sc k z form ++ assign_instr z (size p k) ∷ [])
-      → RightAt p moves shares (Stands all) (HasFork all) (HasWords all) hush sc q k z form
+      → RightAt p moves shares (CodeAt all) (HasFork all) (HasWords all) hush sc q k z form
   right_stands sc q k Ordinals form f h = (
     form_stands sc q k form f.0
         (has_front all.instrs q (form_code p sc k form) _ h),
@@ -356,7 +357,7 @@ module _ (p : Program) (moves shares : Stmt → List ℕ) (all : Parts) (hush : 
 
   reads_stands : (q : ℕ) (t : KindOf) → ReadsAt p moves shares AnyInstr AnyTable AnyText hush q t
       → slice_get all.instrs q ≡ Some (reading_instr (Some t))
-      → ReadsAt p moves shares (Stands all) (HasFork all) (HasWords all) hush q t
+      → ReadsAt p moves shares (CodeAt all) (HasFork all) (HasWords all) hush q t
   reads_stands q kind.Integer f h = h
   reads_stands q kind.Boolean f h = absurd f
   reads_stands q kind.Char f h = h
@@ -366,16 +367,16 @@ module _ (p : Program) (moves shares : Stmt → List ℕ) (all : Parts) (hush : 
   reads_stands q (kind.Channel ks) f h = absurd f
 
   test_stands : (q : ℕ) (ms : List ℤ) (b : ℕ) → Here q (test_code ms b)
-      → TestAt p moves shares (Stands all) (HasFork all) (HasWords all) hush q ms b
+      → TestAt p moves shares (CodeAt all) (HasFork all) (HasWords all) hush q ms b
   test_stands q [] b h = tt
   test_stands q (m ∷ ms) b h = (h.0, test_stands (q + 1) ms b h.1)
 
   tests_stand : (q : ℕ) (arms : Arms) (b : ℕ) → Here q (tests_code p arms b)
-      → TestsAt p moves shares (Stands all) (HasFork all) (HasWords all) hush q arms b
+      → TestsAt p moves shares (CodeAt all) (HasFork all) (HasWords all) hush q arms b
   tests_stand q NoArm b h = tt
   tests_stand q (Or (On ms s) rest) b h = (
     test_stands q ms b (has_front all.instrs q (test_code ms b) _ h),
-    tests_stand (after_test q ms) rest (after p b s + 1)
+    tests_stand (after_test q ms) rest (after_statement p b s + 1)
         (has_back all.instrs q _ (test_code ms b) _ (test_stop q ms b) h),
   )
 
@@ -407,7 +408,7 @@ module _ (p : Program) (moves shares : Stmt → List ℕ) (all : Parts) (hush : 
         )
     stands free sc t n q (IfElse e s d) f h a w =
         let u = after_value q e in
-        let j = after p (u + 1) s in
+        let j = after_statement p (u + 1) s in
         let g = has_back all.instrs q u (value_code p sc e) _ (value_stop sc q e) h in
         let r = has_back all.instrs (u + 1) j (code p sc t n (u + 1) s) _ (code_stop sc t n (u + 1) s) g.1 in (
           ordinal_stands sc q e f.0 (has_front all.instrs q (value_code p sc e) _ h),
@@ -421,7 +422,7 @@ module _ (p : Program) (moves shares : Stmt → List ℕ) (all : Parts) (hush : 
         )
     stands free sc t n q (While e s) f h a w =
         let u = after_value q e in
-        let j = after p (u + 1 + 1) s in
+        let j = after_statement p (u + 1 + 1) s in
         let g = has_back all.instrs q u (value_code p sc e) _ (value_stop sc q e) h in (
           ordinal_stands sc q e f.0 (has_front all.instrs q (value_code p sc e) _ h),
           g.0,
@@ -431,7 +432,7 @@ module _ (p : Program) (moves shares : Stmt → List ℕ) (all : Parts) (hush : 
           (has_back all.instrs (u + 1 + 1) j (code p sc t n (u + 1 + 1) s) _ (code_stop sc t n (u + 1 + 1) s) g.1.1).0,
         )
     stands free sc t n q (Repeat s e) f h a w =
-        let u = after p (q + 1) s in
+        let u = after_statement p (q + 1) s in
         let g = has_back all.instrs (q + 1) u (code p sc t n (q + 1) s) _ (code_stop sc t n (q + 1) s) h.1 in (
           h.0,
           stands free sc t n (q + 1) s f.1 (has_front all.instrs (q + 1) (code p sc t n (q + 1) s) _ h.1) a w,
@@ -441,7 +442,7 @@ module _ (p : Program) (moves shares : Stmt → List ℕ) (all : Parts) (hush : 
     stands free sc t n q (For x from down to s) f h a w =
         let m = after_value q from in
         let u = after_value m to in
-        let j = after p (u + 1 + 1) s in
+        let j = after_statement p (u + 1 + 1) s in
         let g = has_back all.instrs q m (value_code p sc from) _ (value_stop sc q from) h in
         let r = has_back all.instrs m u (value_code p sc to) _ (value_stop sc m to) g in (
           ordinal_stands sc q from f.0 (has_front all.instrs q (value_code p sc from) _ h),
@@ -471,7 +472,7 @@ module _ (p : Program) (moves shares : Stmt → List ℕ) (all : Parts) (hush : 
     stands free sc t n q (Forall x from to s) f h a w =
         let m = after_value q from in
         let b = after_value m to in
-        let j = after p (b + 1 + 1) s in
+        let j = after_statement p (b + 1 + 1) s in
         let g = has_back all.instrs q m (value_code p sc from) _ (value_stop sc q from) h in
         let r = has_back all.instrs m b (value_code p sc to) _ (value_stop sc m to) g in (
           t,
@@ -553,12 +554,12 @@ module _ (p : Program) (moves shares : Stmt → List ℕ) (all : Parts) (hush : 
     pub all_stand : (free : Bool) (sc : List Scope) (t n q : ℕ) (ss : Stmts)
         → AllAt p moves shares AnyInstr AnyTable AnyText hush free sc q ss → Here q (code_all p sc t n q ss)
         → Tables t (tables_all p moves shares q ss) → Texts n (texts_of_all ss)
-        → AllAt p moves shares (Stands all) (HasFork all) (HasWords all) hush free sc q ss
+        → AllAt p moves shares (CodeAt all) (HasFork all) (HasWords all) hush free sc q ss
     all_stand free sc t n q No f h a w = tt
     all_stand free sc t n q (And s rest) f h a w = (
       stands free sc t n q s f.0 (has_front all.instrs q (code p sc t n q s) _ h)
           (has_front all.forks t (tables p moves shares q s) _ a) (has_front all.texts n (texts_of s) _ w),
-      all_stand free sc (t + tables_in s) (n + texts_in s) (after p q s) rest f.1
+      all_stand free sc (t + tables_in s) (n + texts_in s) (after_statement p q s) rest f.1
           (has_back all.instrs q _ (code p sc t n q s) _ (code_stop sc t n q s) h)
           (has_back all.forks t _ (tables p moves shares q s) _ (tables_stop t q s) a)
           (has_back all.texts n _ (texts_of s) _ (texts_stop n s) w),
@@ -567,14 +568,14 @@ module _ (p : Program) (moves shares : Stmt → List ℕ) (all : Parts) (hush : 
     pub children_stand : (free : Bool) (sc : List Scope) (t n q : ℕ) (ss : Stmts)
         → ChildrenAt p moves shares AnyInstr AnyTable AnyText hush free sc q ss → Here q (code_children p sc t n q ss)
         → Tables t (tables_children p moves shares q ss) → Texts n (texts_of_all ss)
-        → ChildrenAt p moves shares (Stands all) (HasFork all) (HasWords all) hush free sc q ss
+        → ChildrenAt p moves shares (CodeAt all) (HasFork all) (HasWords all) hush free sc q ss
     children_stand free sc t n q No f h a w = tt
     children_stand free sc t n q (And s rest) f h a w =
-        let g = has_back all.instrs q (after p q s) (code p sc t n q s) _ (code_stop sc t n q s) h in (
+        let g = has_back all.instrs q (after_statement p q s) (code p sc t n q s) _ (code_stop sc t n q s) h in (
           stands free sc t n q s f.0 (has_front all.instrs q (code p sc t n q s) _ h)
               (has_front all.forks t (tables p moves shares q s) _ a) (has_front all.texts n (texts_of s) _ w),
           g.0,
-          children_stand free sc (t + tables_in s) (n + texts_in s) (after p q s + 1) rest f.2 g.1
+          children_stand free sc (t + tables_in s) (n + texts_in s) (after_statement p q s + 1) rest f.2 g.1
               (has_back all.forks t _ (tables p moves shares q s) _ (tables_stop t q s) a)
               (has_back all.texts n _ (texts_of s) _ (texts_stop n s) w),
         )
@@ -582,15 +583,15 @@ module _ (p : Program) (moves shares : Stmt → List ℕ) (all : Parts) (hush : 
     pub arms_stand : (free : Bool) (sc : List Scope) (t n q : ℕ) (arms : Arms) (end : ℕ)
         → ArmsAt p moves shares AnyInstr AnyTable AnyText hush free sc q arms end
         → Here q (code_arms p sc t n q arms end) → Tables t (tables_arms p moves shares q arms)
-        → Texts n (texts_of_arms arms) → ArmsAt p moves shares (Stands all) (HasFork all) (HasWords all) hush free sc q
+        → Texts n (texts_of_arms arms) → ArmsAt p moves shares (CodeAt all) (HasFork all) (HasWords all) hush free sc q
         arms end
     arms_stand free sc t n q NoArm end f h a w = tt
     arms_stand free sc t n q (Or (On ms s) rest) end f h a w =
-        let g = has_back all.instrs q (after p q s) (code p sc t n q s) _ (code_stop sc t n q s) h in (
+        let g = has_back all.instrs q (after_statement p q s) (code p sc t n q s) _ (code_stop sc t n q s) h in (
           stands free sc t n q s f.0 (has_front all.instrs q (code p sc t n q s) _ h)
               (has_front all.forks t (tables p moves shares q s) _ a) (has_front all.texts n (texts_of s) _ w),
           g.0,
-          arms_stand free sc (t + tables_in s) (n + texts_in s) (after p q s + 1) rest end f.2 g.1
+          arms_stand free sc (t + tables_in s) (n + texts_in s) (after_statement p q s + 1) rest end f.2 g.1
               (has_back all.forks t _ (tables p moves shares q s) _ (tables_stop t q s) a)
               (has_back all.texts n _ (texts_of s) _ (texts_stop n s) w),
         )

@@ -11,7 +11,7 @@ use Rattle.sp_cell.specs.declared.spot.Spot.{Spot}
 use Rattle.sp_cell.specs.declared.spot.Address.{Address}
 use Rattle.sp_cell.specs.Map.{Content, Own, Shared, Output, Away, Map, Plain, IsPiece, IsOutput, HasCells, cells_of}
 use Rattle.sp_cell.specs.Map.{output_of, output_spot, spot_cmp, IsHeld}
-use Rattle.sp_cell.specs.Frame.{newest, NoneAway}
+use Rattle.sp_cell.specs.Frame.{last_own_frame, NoneAway}
 use Rattle.sp_cell.proofs.FrameLaws.{is_same}
 use Rattle.sp_cell.proofs.Laws.{known_of_away}
 use Rattle.sp_cell.proofs.Order.{spot_same}
@@ -79,11 +79,12 @@ no_frame [] e w = cc
 no_frame (n ∷ ns) e w = cc
 
 -- where the test allows it, the newest own frame has this number, and nothing of it is away
-pub may_go : (p : Plain) (n : ℕ) → plain.may_pop p n ≡ true → (p.own ≢ []) × (newest p.own ≡ n) × NoneAway p.map n
+pub may_go : (p : Plain) (n : ℕ) → plain.may_pop p n ≡ true → (p.own ≢ []) × (last_own_frame p.own ≡ n)
+    × NoneAway p.map n
 may_go p n e =
     let w = and_parts (is_newest p.own n) (none_away p.map n) e in
-    let k = and_parts (is_there p.own) (newest p.own == n) w.0 in
-    (no_frame p.own k.0, eqb-true (newest p.own) n k.1, none_is_away p.map n w.1)
+    let k = and_parts (is_there p.own) (last_own_frame p.own == n) w.0 in
+    (no_frame p.own k.0, eqb-true (last_own_frame p.own) n k.1, none_is_away p.map n w.1)
 
 -- the cells of a piece
 pub piece_cells : (o : Option Content) (cs : List Cell) → piece_of o ≡ Some cs → cells_of o ≡ cs

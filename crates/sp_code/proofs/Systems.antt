@@ -4,26 +4,27 @@ use Rattle.sp_journal.specs.declared.entry.Event.{Event}
 use Rattle.sp_journal.specs.declared.entry.Entry.{Entry}
 use Rattle.sp_code.specs.Machine.{Config}
 use Rattle.sp_code.specs.Turns.{Turn, IsTurn}
-use Rattle.sp_code.specs.Memory.{Setting, Stores, Memory, memory}
-use Rattle.sp_code.specs.System.{System, Condition, Working, event_of, after, Enters, Leads}
+use Rattle.sp_code.specs.Memory.{CodeRun, Stores, Memory, memory}
+use Rattle.sp_code.specs.System.{System, Condition, Working, event_of, system_after_turn, EntryLeads, EntriesLead}
 use Rattle.sp_code.proofs.Turning.{turn_same}
 
-module _ {S : Type 0} (stores : Stores S) (g : Setting) where
+module _ {S : Type 0} (stores : Stores S) (g : CodeRun) where
   same_runs : (c d : Config (Memory S)) → ◌≡◌ {A = Condition S} (Working c) (Working d) → c ≡ d
   same_runs c d e = cc
 
-  pub enters_same : (s : System S) (q : ℕ) (e f : Event) (t u : System S) → Enters stores g s q e t
-      → Enters stores g s q f u → t ≡ u
+  pub enters_same : (s : System S) (q : ℕ) (e f : Event) (t u : System S) → EntryLeads stores g s q e t
+      → EntryLeads stores g s q f u → t ≡ u
   enters_same s q e f t u h k =
       let w : k.0 ≡ h.0 = same_runs k.0 h.0 (sym k.1 ∙ h.1) in
       let turn : IsTurn (memory stores g) g.code h.0 k.2 =
       subst (λ (c : Config (Memory S)). IsTurn (memory stores g) g.code c k.2) w k.3 in
-      h.5 ∙ ap (λ (x : Turn (Memory S)). after stores g q x s) (turn_same (memory stores g) g.code h.0 h.2 k.2 h.3 turn)
+      h.5 ∙ ap (λ (x : Turn (Memory S)). system_after_turn stores g q x s)
+      (turn_same (memory stores g) g.code h.0 h.2 k.2 h.3 turn)
       ∙ sym k.5
 
   -- a turn makes one event
-  pub event_same : (s : System S) (q : ℕ) (e f : Event) (t u : System S) → Enters stores g s q e t
-      → Enters stores g s q f u → e ≡ f
+  pub event_same : (s : System S) (q : ℕ) (e f : Event) (t u : System S) → EntryLeads stores g s q e t
+      → EntryLeads stores g s q f u → e ≡ f
   event_same s q e f t u h k =
       let w : k.0 ≡ h.0 = same_runs k.0 h.0 (sym k.1 ∙ h.1) in
       let turn : IsTurn (memory stores g) g.code h.0 k.2 =
@@ -31,9 +32,10 @@ module _ {S : Type 0} (stores : Stores S) (g : Setting) where
       sym h.4 ∙ ap (λ (x : Turn (Memory S)). event_of g.limits s x)
       (turn_same (memory stores g) g.code h.0 h.2 k.2 h.3 turn) ∙ k.4
 
-  pub leads_same : (s : System S) (es : List Entry) (t u : System S) → Leads stores g s es t → Leads stores g s es u
+  pub leads_same : (s : System S) (es : List Entry) (t u : System S) → EntriesLead stores g s es t
+      → EntriesLead stores g s es u
       → t ≡ u
   leads_same s [] t u h k = h ∙ sym k
   leads_same s (e ∷ es) t u h k =
-      leads_same h.0 es t u h.2 (subst (λ (m : System S). Leads stores g m es u)
+      leads_same h.0 es t u h.2 (subst (λ (m : System S). EntriesLead stores g m es u)
       (enters_same s e.process e.event e.event k.0 h.0 k.1 h.1) k.2)

@@ -7,13 +7,13 @@ use Rattle.sp_cell.specs.declared.spot.Address.{Address}
 use Rattle.sp_code.specs.declared.instr.Instr.{Instr}
 use Rattle.sp_code.specs.declared.code.Layout.{Layout}
 use Rattle.sp_code.specs.Machine.{Entry, Number, Chan, Pointer, Cells, Link, Reply, Done, Ops, Config, At}
-use Rattle.sp_code.specs.Memory.{Setting, Memory}
+use Rattle.sp_code.specs.Memory.{CodeRun, Memory}
 use Rattle.sp_code.specs.Turns.{Ran, Ended, Lacks, GoesOn}
 use Rattle.sp_code.specs.Ranks.{rank}
 
 -- a memory has only so many ticks left: a tick and a call take one, and nothing gives one back
 pub record HasBudget {M : Type 0} (ops : Ops M) (budget : M → ℕ) : Type 0 where
-  pub beat : (n m : M) → ops.beat n ≡ Done m → budget m + 1 ≤ budget n
+  pub beat : (n m : M) → ops.tick n ≡ Done m → budget m + 1 ≤ budget n
   pub open_frame : (l : Layout) (up : ℕ) (es : List Entry) (n m : M) → ops.open_frame l up es n ≡ Done m
       → budget m + 1 ≤ budget n
   pub put : (a : Address) (c : Cell) (n : M) → budget (ops.put a c n) ≤ budget n
@@ -23,26 +23,27 @@ pub record HasBudget {M : Type 0} (ops : Ops M) (budget : M → ℕ) : Type 0 wh
   pub close_frame : (n : M) → budget (ops.close_frame n) ≤ budget n
 
 -- what is left on the way back through the calls
-abbrev pub back : (ℕ → ℕ) → List Entry → ℕ
-back f [] = 0
-back f (Number v ∷ st) = back f st
-back f (Chan c ∷ st) = back f st
-back f (Pointer a ∷ st) = back f st
-back f (Cells cs ∷ st) = back f st
-back f (Link r ∷ st) = f r + 1 + back f st
-back f (Reply r ∷ st) = f r + 1 + back f st
+abbrev pub left_on_return : (ℕ → ℕ) → List Entry → ℕ
+left_on_return f [] = 0
+left_on_return f (Number v ∷ st) = left_on_return f st
+left_on_return f (Chan c ∷ st) = left_on_return f st
+left_on_return f (Pointer a ∷ st) = left_on_return f st
+left_on_return f (Cells cs ∷ st) = left_on_return f st
+left_on_return f (Link r ∷ st) = f r + 1 + left_on_return f st
+left_on_return f (Reply r ∷ st) = f r + 1 + left_on_return f st
 
 -- a number that falls with each instruction: a stretch of code for each tick that is left, and the way from here
 abbrev pub left_by : {M : Type 0} → (List Instr) → (M → ℕ) → Config M → ℕ
 left_by code budget (At pc st n) =
-    (2 * length code + 5) * budget n + rank (suc (length code)) code pc + back (rank (suc (length code)) code) st
+    (2 * length code + 5) * budget n + rank (suc (length code)) code pc + left_on_return
+    (rank (suc (length code)) code) st
 
 -- how many ticks a process may make yet
-abbrev pub ticks_left : {S : Type 0} → Setting → Memory S → ℕ
+abbrev pub ticks_left : {S : Type 0} → CodeRun → Memory S → ℕ
 ticks_left g n = g.limits.ticks - n.ticks
 
 -- so many instructions a turn has, at most
-abbrev pub most_steps : {S : Type 0} → Setting → Config (Memory S) → ℕ
+abbrev pub most_steps : {S : Type 0} → CodeRun → Config (Memory S) → ℕ
 most_steps g c = left_by g.code.instrs (ticks_left g) c
 
 -- it has come to an end

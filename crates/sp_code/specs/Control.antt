@@ -11,7 +11,7 @@ use Rattle.sp_journal.specs.declared.entry.Entry.{Entry}
 use Rattle.sp_journal.specs.declared.entry.Birth.{Birth}
 use Rattle.sp_journal.specs.declared.entry.Note.{Note}
 use Rattle.sp_journal.specs.Maps.{at_key}
-use Rattle.sp_journal.specs.Births.{Births, at_start, after_event, is_next}
+use Rattle.sp_journal.specs.Births.{Births, first_births, births_after_event, is_next}
 use Rattle.sp_journal.specs.Queue.{numbers}
 
 -- what a process is doing; one that an abandoning worker had is none of the others any more
@@ -45,7 +45,7 @@ control_at_start = record {
   ready = 0 ∷ [];
   out = 0;
   pending = λ c. None;
-  births = at_start;
+  births = first_births;
   faulted = false;
   abandons = 0;
 }
@@ -103,7 +103,8 @@ happens p event.Pause k = queues p k
 
 -- process p comes back with this event
 abbrev pub comes_back : ℕ → Event → Control → Control
-comes_back p e k = let after = happens p e k in record after { out = k.out - 1; births = after_event k.births p e }
+comes_back p e k = let after = happens p e k in
+    record after { out = k.out - 1; births = births_after_event k.births p e }
 
 -- a worker gives up, with the process that it had, if any
 abbrev pub abandons : Option ℕ → Control → Control
@@ -111,39 +112,39 @@ abandons None k = record k { abandons = k.abandons + 1 }
 abandons (Some p) k = record (does p Gone k) { out = k.out - 1; abandons = k.abandons + 1 }
 
 -- the front of the queue goes out with a worker
-abbrev pub behind : List ℕ → List ℕ
-behind [] = []
-behind (p ∷ ps) = ps
+abbrev pub queue_tail : List ℕ → List ℕ
+queue_tail [] = []
+queue_tail (p ∷ ps) = ps
 
 -- a worker takes a process
 abbrev pub takes : ℕ → Option ℕ → Control → Control
 takes worker None k = k
 takes worker (Some p) k = record k {
   doing = at_key ◌==◌ p (Out worker) k.doing;
-  ready = behind k.ready;
+  ready = queue_tail k.ready;
   out = k.out + 1;
 }
 
 -- what a note says, one part at a time: a process given with its event, or an abandon, which has neither event nor
 -- process got
-abbrev pub given : Option ℕ → Option Event → Option ℕ → Control → Control
-given (Some p) (Some e) got k = comes_back p e k
-given None (Some e) got k = k
-given p None None k = abandons p k
-given p None (Some q) k = k
+abbrev pub after_give : Option ℕ → Option Event → Option ℕ → Control → Control
+after_give (Some p) (Some e) got k = comes_back p e k
+after_give None (Some e) got k = k
+after_give p None None k = abandons p k
+after_give p None (Some q) k = k
 
 -- after a note
-abbrev pub noted : Note → Control → Control
-noted n k = takes n.worker n.got (given n.given n.event n.got k)
+abbrev pub after_note : Note → Control → Control
+after_note n k = takes n.worker n.got (after_give n.given n.event n.got k)
 
 -- after all these notes
-abbrev pub noted_all : List Note → Control → Control
-noted_all [] k = k
-noted_all (n ∷ ns) k = noted_all ns (noted n k)
+abbrev pub after_notes : List Note → Control → Control
+after_notes [] k = k
+after_notes (n ∷ ns) k = after_notes ns (after_note n k)
 
 -- the control after these notes
 abbrev pub control : List Note → Control
-control ns = noted_all ns control_at_start
+control ns = after_notes ns control_at_start
 
 -- ---- what can be told of it
 

@@ -14,7 +14,7 @@ use Rattle.sp_tree.specs.declared.operators.BinaryOp.{BinaryOp}
 use Rattle.sp_tree.specs.declared.operators.BinaryOp.TheVariants as binary
 use Rattle.sp_tree.specs.declared.operators.StandardFn.{StandardFn}
 use Rattle.sp_tree.specs.declared.operators.StandardFn.TheVariants as standard
-use Rattle.sp_tree.specs.Operators.{least, greatest}
+use Rattle.sp_tree.specs.Operators.{least_ordinal, greatest_ordinal}
 use Rattle.sp_tree.specs.Plain.{Expr, Typed, ExprForm, Number, Read, Unary, Binary, Apply, Standard, AtInput, Var}
 use Rattle.sp_tree.specs.Plain.{Entire, Index, Field, Selectors, Whole, Select, ByValue, ByReference, Actuals, Nothing}
 use Rattle.sp_tree.specs.Plain.{Pass, Program, Variable, Block, Stmt, Empty, Assign, Call, Sequence, If, IfElse, While}
@@ -31,7 +31,7 @@ use Rattle.sp_code.specs.declared.code.Parts.{Parts}
 use Rattle.sp_code.specs.Scopes.{Sort, Ordinals, Channels, Many, NoSort, kind_of, Scope, OfIndex, is_block, is_index}
 use Rattle.sp_code.specs.Scopes.{level, is_given, frame_of, kind_at, sort, size, slot, field_offset, field_type}
 use Rattle.sp_code.specs.Scopes.{element_type, type_by, type_of, scopes_of}
-use Rattle.sp_code.specs.Places.{after_value, after_tests, after, after_children, after_arms, after_block}
+use Rattle.sp_code.specs.Places.{after_value, after_tests, after_statement, after_children, after_arms, after_block}
 
 -- a level, where there is one; 0 stands for a level that no accepted tree asks for
 abbrev pub or_none : Option ℕ → ℕ
@@ -62,12 +62,12 @@ binary_instr binary.And = i.And
 -- a standard function with a result of a type
 abbrev pub least_of : Option KindOf → ℤ
 least_of None = pos 0
-least_of (Some t) = least t
+least_of (Some t) = least_ordinal t
 
 -- the greatest number of an ordinal type
 abbrev pub greatest_of : Option KindOf → ℤ
 greatest_of None = pos 0
-greatest_of (Some t) = greatest t
+greatest_of (Some t) = greatest_ordinal t
 
 abbrev pub standard_code : StandardFn → Option KindOf → List Instr
 standard_code standard.Abs t = i.Abs ∷ []
@@ -353,7 +353,7 @@ module _ (p : Program) where
   -- the tests of all arms, whose statements stand from b on
   abbrev pub tests_code : Arms → ℕ → List Instr
   tests_code NoArm b = []
-  tests_code (Or (On ms s) rest) b = test_code ms b ++ tests_code rest (after p b s + 1)
+  tests_code (Or (On ms s) rest) b = test_code ms b ++ tests_code rest (after_statement p b s + 1)
 
   -- a statement that stands at q, whose next fork table has the number t and whose next text the number n
   abbrev mutual
@@ -365,20 +365,20 @@ module _ (p : Program) where
     code sc t n q (Sequence ss) = code_all sc t n q ss
     code sc t n q (If e a) =
         let u = after_value q e in
-        value_code sc e ++ (i.Jumpf (after p (u + 1) a) ∷ code sc t n (u + 1) a)
+        value_code sc e ++ (i.Jumpf (after_statement p (u + 1) a) ∷ code sc t n (u + 1) a)
     code sc t n q (IfElse e a b) =
         let u = after_value q e in
-        let j = after p (u + 1) a in
+        let j = after_statement p (u + 1) a in
         value_code sc e ++ (i.Jumpf (j + 1) ∷ (code sc t n (u + 1) a
-        ++ (i.Jump (after p (j + 1) b) ∷ code sc (t + tables_in a) (n + texts_in a) (j + 1) b)))
+        ++ (i.Jump (after_statement p (j + 1) b) ∷ code sc (t + tables_in a) (n + texts_in a) (j + 1) b)))
     code sc t n q (While e s) =
         let u = after_value q e in
-        let j = after p (u + 1 + 1) s in
+        let j = after_statement p (u + 1 + 1) s in
         value_code sc e ++ (i.Jumpf (j + 1) ∷ i.Tick ∷ (code sc t n (u + 1 + 1) s ++ i.Jump q ∷ []))
     code sc t n q (Repeat s e) = i.Tick ∷ (code sc t n (q + 1) s ++ (value_code sc e ++ i.Jumpf q ∷ []))
     code sc t n q (For x from down to s) =
         let u = after_value (after_value q from) to in
-        let j = after p (u + 1 + 1) s in
+        let j = after_statement p (u + 1 + 1) s in
         value_code sc from ++ (value_code sc to
         ++ ((if down then i.Fordown (slot p x) (j + 1) else i.Forup (slot p x) (j + 1)) ∷ i.Tick
         ∷ (code sc t n (u + 1 + 1) s ++ (if down then i.Nextdown (slot p x) (u + 1) else i.Nextup (slot p x) (u + 1))
@@ -392,7 +392,7 @@ module _ (p : Program) where
     code sc t n q (Forall x from to s) =
         let b = after_value (after_value q from) to in
         value_code sc from ++ (value_code sc to
-        ++ (i.Forall t ∷ i.Jump (after p (b + 1 + 1) s + 1)
+        ++ (i.Forall t ∷ i.Jump (after_statement p (b + 1 + 1) s + 1)
         ∷ (code (OfIndex x ∷ sc) (t + 1) n (b + 1 + 1) s ++ i.End ∷ [])))
     code sc t n q (Assume e) = value_code sc e ++ i.Assume ∷ []
     code sc t n q (ReadValue v) = var_code sc v ++ reading_instr (kind_at p (type_of p v)) ∷ []
@@ -408,17 +408,17 @@ module _ (p : Program) where
     pub code_all : List Scope → (t n q : ℕ) → Stmts → List Instr
     code_all sc t n q No = []
     code_all sc t n q (And s rest) = code sc t n q s
-        ++ code_all sc (t + tables_in s) (n + texts_in s) (after p q s) rest
+        ++ code_all sc (t + tables_in s) (n + texts_in s) (after_statement p q s) rest
 
     pub code_children : List Scope → (t n q : ℕ) → Stmts → List Instr
     code_children sc t n q No = []
     code_children sc t n q (And s rest) = code sc t n q s
-        ++ (i.End ∷ code_children sc (t + tables_in s) (n + texts_in s) (after p q s + 1) rest)
+        ++ (i.End ∷ code_children sc (t + tables_in s) (n + texts_in s) (after_statement p q s + 1) rest)
 
     pub code_arms : List Scope → (t n q : ℕ) → Arms → (end : ℕ) → List Instr
     code_arms sc t n q NoArm end = []
     code_arms sc t n q (Or (On ms s) rest) end = code sc t n q s
-        ++ (i.Jump end ∷ code_arms sc (t + tables_in s) (n + texts_in s) (after p q s + 1) rest end)
+        ++ (i.Jump end ∷ code_arms sc (t + tables_in s) (n + texts_in s) (after_statement p q s + 1) rest end)
 
   -- a block's code: its body, and its end
   abbrev pub block_code : ℕ → (t n q : ℕ) → Block → List Instr
@@ -467,7 +467,7 @@ module _ (p : Program) where
 
     abbrev pub children_tables : ℕ → Stmts → List ChildTable
     children_tables q No = []
-    children_tables q (And s rest) = child_table q None s ∷ children_tables (after p q s + 1) rest
+    children_tables q (And s rest) = child_table q None s ∷ children_tables (after_statement p q s + 1) rest
 
     abbrev mutual
       -- the fork tables of a statement that stands at q, in order: a table before those inside
@@ -477,7 +477,8 @@ module _ (p : Program) where
       tables q (Call f args) = []
       tables q (Sequence ss) = tables_all q ss
       tables q (If e a) = tables (after_value q e + 1) a
-      tables q (IfElse e a b) = tables (after_value q e + 1) a ++ tables (after p (after_value q e + 1) a + 1) b
+      tables q (IfElse e a b) =
+          tables (after_value q e + 1) a ++ tables (after_statement p (after_value q e + 1) a + 1) b
       tables q (While e s) = tables (after_value q e + 1 + 1) s
       tables q (Repeat s e) = tables (q + 1) s
       tables q (For x from down to s) = tables (after_value (after_value q from) to + 1 + 1) s
@@ -498,15 +499,15 @@ module _ (p : Program) where
 
       pub tables_all : ℕ → Stmts → List ForkTable
       tables_all q No = []
-      tables_all q (And s rest) = tables q s ++ tables_all (after p q s) rest
+      tables_all q (And s rest) = tables q s ++ tables_all (after_statement p q s) rest
 
       pub tables_children : ℕ → Stmts → List ForkTable
       tables_children q No = []
-      tables_children q (And s rest) = tables q s ++ tables_children (after p q s + 1) rest
+      tables_children q (And s rest) = tables q s ++ tables_children (after_statement p q s + 1) rest
 
       pub tables_arms : ℕ → Arms → List ForkTable
       tables_arms q NoArm = []
-      tables_arms q (Or (On ms s) rest) = tables q s ++ tables_arms (after p q s + 1) rest
+      tables_arms q (Or (On ms s) rest) = tables q s ++ tables_arms (after_statement p q s + 1) rest
 
     abbrev pub blocks_tables : ℕ → List Block → List ForkTable
     blocks_tables q [] = []

@@ -15,7 +15,7 @@ pub mod Scopes
 pub mod Places
 pub mod Lengths
 pub mod Emitted
-pub mod Stands
+pub mod CodeOfTree
 pub mod Shares
 pub mod Budgets
-pub mod Quiet
+pub mod NeverStops

@@ -153,9 +153,9 @@ abbrev pub instr_text : Instr → List ℕ
 instr_text x = word x ++ flat_map operand_text (operands x)
 
 -- the texts of items with their numbers, from n on
-abbrev pub numbered : {X : Type 0} → (ℕ → X → List ℕ) → ℕ → List X → List ℕ
-numbered text n [] = []
-numbered text n (x ∷ xs) = text n x ++ numbered text (suc n) xs
+abbrev pub numbered_texts : {X : Type 0} → (ℕ → X → List ℕ) → ℕ → List X → List ℕ
+numbered_texts text n [] = []
+numbered_texts text n (x ∷ xs) = text n x ++ numbered_texts text (suc n) xs
 
 -- an instruction after its number, as `3 addr 0 2`
 abbrev pub instr_line : ℕ → Instr → List ℕ
@@ -169,8 +169,8 @@ child_line t k c =
 
 -- a line for each child of a fork table
 abbrev pub table_lines : ℕ → ForkTable → List ℕ
-table_lines t table = numbered (child_line t) 0 table.children
+table_lines t table = numbered_texts (child_line t) 0 table.children
 
 -- all instructions, and then all fork tables
 abbrev pub listing_text : Parts → List ℕ
-listing_text code = numbered instr_line 0 code.instrs ++ numbered table_lines 0 code.forks
+listing_text code = numbered_texts instr_line 0 code.instrs ++ numbered_texts table_lines 0 code.forks

@@ -10,16 +10,17 @@ use Rattle.sp_cell.specs.declared.cell.Cell.TheVariants as cell
 use Rattle.sp_cell.specs.declared.spot.Spot.{Spot}
 use Rattle.sp_cell.specs.declared.spot.Address.{Address}
 use Rattle.sp_cell.specs.declared.spot.Handing.{Handing}
-use Rattle.sp_cell.specs.Lists.{overwritten, part}
+use Rattle.sp_cell.specs.Lists.{splice, part}
 use Rattle.sp_code.specs.declared.code.Layout.{Layout}
 use Rattle.sp_code.specs.declared.code.Parts.{Parts}
-pub use Rattle.sp_tree.specs.Around.{referred}
-use Rattle.sp_code.specs.Machine.{Entry, Number, Chan, Pointer, Cells, Link, Reply, Did, Done, Failed, Ops, Config, At}
+pub use Rattle.sp_tree.specs.Around.{reference_target}
+use Rattle.sp_code.specs.Machine.{Entry, Number, Chan, Pointer, Cells, Link, Reply, MemoryResult, Done, Failed, Ops}
+use Rattle.sp_code.specs.Machine.{Config, At}
 use Rattle.sp_code.specs.Machine.{layout_of}
 
 -- what a run is of: the code, the input, the limits, and after how many ticks since its last entry a process has to
 -- pause
-pub record Setting : Type 0 where
+pub record CodeRun : Type 0 where
   pub code : Parts
   pub input : List ℕ
   pub limits : Limits
@@ -99,7 +100,7 @@ addr_in (f ∷ fs) var = Some (cell_at f.number var)
 -- what a variable parameter of the newest frame stands for
 abbrev pub deref_in : List Frame → ℕ → Option Address
 deref_in [] var = None
-deref_in (f ∷ fs) var = referred var f.references
+deref_in (f ∷ fs) var = reference_target var f.references
 
 -- the addresses among arguments, by the numbers of their parameters, from k on
 abbrev pub references : ℕ → List Entry → List (ℕ × Address)
@@ -189,26 +190,26 @@ module _ {S : Type 0} (stores : Stores S) where
 
   -- cells over those at an address
   abbrev pub put_cells : Address → List Cell → S → S
-  put_cells a cs s = stores.owned s a.spot (overwritten (cells_at s a.spot) a.offset cs)
+  put_cells a cs s = stores.owned s a.spot (splice (cells_at s a.spot) a.offset cs)
 
   -- k cells copied
-  abbrev pub copied : (to from : Address) → ℕ → S → S
-  copied to from k s = put_cells to (part (cells_at s from.spot) from.offset k) s
+  abbrev pub copy_cells : (to from : Address) → ℕ → S → S
+  copy_cells to from k s = put_cells to (part (cells_at s from.spot) from.offset k) s
 
   -- the arguments by value go into the variables of frame n, from variable k on
-  abbrev pub filled : ℕ → ℕ → List Entry → S → S
-  filled n k [] s = s
-  filled n k (Number v ∷ es) s = filled n (suc k) es (put_cell (cell_at n k) (cell.Ordinal v) s)
-  filled n k (Chan c ∷ es) s = filled n (suc k) es (put_cell (cell_at n k) (cell.Channel c) s)
-  filled n k (Pointer a ∷ es) s = filled n (suc k) es s
-  filled n k (Cells cs ∷ es) s = filled n (suc k) es (put_cells (cell_at n k) cs s)
-  filled n k (Link r ∷ es) s = filled n (suc k) es s
-  filled n k (Reply r ∷ es) s = filled n (suc k) es s
+  abbrev pub with_arguments : ℕ → ℕ → List Entry → S → S
+  with_arguments n k [] s = s
+  with_arguments n k (Number v ∷ es) s = with_arguments n (suc k) es (put_cell (cell_at n k) (cell.Ordinal v) s)
+  with_arguments n k (Chan c ∷ es) s = with_arguments n (suc k) es (put_cell (cell_at n k) (cell.Channel c) s)
+  with_arguments n k (Pointer a ∷ es) s = with_arguments n (suc k) es s
+  with_arguments n k (Cells cs ∷ es) s = with_arguments n (suc k) es (put_cells (cell_at n k) cs s)
+  with_arguments n k (Link r ∷ es) s = with_arguments n (suc k) es s
+  with_arguments n k (Reply r ∷ es) s = with_arguments n (suc k) es s
 
-  module _ (g : Setting) where
+  module _ (g : CodeRun) where
     -- the memory after a call of a block whose enclosing frame is so many levels outward
-    abbrev pub opened : Layout → (up : ℕ) → List Entry → Memory S → Memory S
-    opened l up es n = record n {
+    abbrev pub memory_after_call : Layout → (up : ℕ) → List Entry → Memory S → Memory S
+    memory_after_call l up es n = record n {
       frames = record {
         owner = n.process;
         number = stores.next_frame n.store;
@@ -219,15 +220,16 @@ module _ {S : Type 0} (stores : Stores S) where
       depth = n.depth + 1;
       ticks = n.ticks + 1;
       cells = n.cells + sum l.sizes;
-      store = filled (stores.next_frame n.store) 0 es (stores.pushed n.store l.sizes);
+      store = with_arguments (stores.next_frame n.store) 0 es (stores.pushed n.store l.sizes);
     }
 
     -- a call: tick, depth, cells
-    abbrev pub pushes : Layout → (up : ℕ) → List Entry → Memory S → Did (Memory S)
+    abbrev pub pushes : Layout → (up : ℕ) → List Entry → Memory S → MemoryResult (Memory S)
     pushes l up es n =
         if nat_lt n.ticks g.limits.ticks then (
         if nat_lt n.depth g.limits.depth then (
-        if nat_lt g.limits.cells (n.cells + sum l.sizes) then Failed fault.F12 else Done (opened l up es n)) else
+        if nat_lt g.limits.cells (n.cells + sum l.sizes) then Failed fault.F12 else Done
+        (memory_after_call l up es n)) else
         Failed fault.F11) else Failed fault.F10
 
     -- the newest frame goes
@@ -241,9 +243,9 @@ module _ {S : Type 0} (stores : Stores S) where
     }
 
     -- the newest frame may go
-    abbrev pub may_close : List Frame → S → Bool
-    may_close [] s = false
-    may_close (f ∷ fs) s = stores.may_pop s f.number
+    abbrev pub can_pop : List Frame → S → Bool
+    can_pop [] s = false
+    can_pop (f ∷ fs) s = stores.may_pop s f.number
 
     -- the operations of the machine
     abbrev pub memory : Ops (Memory S)
@@ -252,21 +254,21 @@ module _ {S : Type 0} (stores : Stores S) where
       deref = λ up var n. deref_in (frames_up up n.frames) var;
       answer = λ n. answer_in g.code.layouts n.frames;
       has = λ a k n. has_cells (stores.piece n.store a.spot) a.offset k;
-      look = λ a n. slice_index_or (cells_at n.store a.spot) a.offset cell.Undefined;
+      read = λ a n. slice_index_or (cells_at n.store a.spot) a.offset cell.Undefined;
       cells = λ a k n. part (cells_at n.store a.spot) a.offset k;
       put = λ a c n. with_store n (put_cell a c n.store);
-      copy = λ to from k n. with_store n (copied to from k n.store);
-      own = λ a n. with_store n (stores.owned n.store a.spot (cells_at n.store a.spot));
+      copy = λ to from k n. with_store n (copy_cells to from k n.store);
+      make_own = λ a n. with_store n (stores.owned n.store a.spot (cells_at n.store a.spot));
       left = λ n. left_after g.input (position_in (stores.piece n.store position_at.spot));
       advance = λ k n. with_store n (put_cell position_at
           (cell.Ordinal (pos (or_zero (position_in (stores.piece n.store position_at.spot)) + k))) n.store);
       has_output = λ n. is_held (stores.output n.store);
       print = λ t n. if nat_lt g.limits.output (length (bytes_in (stores.output n.store)) + length t) then
           Failed fault.F16 else Done (with_store n (stores.appended n.store t));
-      beat = λ n. if nat_lt n.ticks g.limits.ticks then Done (record n { ticks = n.ticks + 1 }) else Failed fault.F10;
-      may_open = λ up n. is_there (frames_up up n.frames) && nat_le (stores.next_frame n.store) 18446744073709551615;
+      tick = λ n. if nat_lt n.ticks g.limits.ticks then Done (record n { ticks = n.ticks + 1 }) else Failed fault.F10;
+      can_push = λ up n. is_there (frames_up up n.frames) && nat_le (stores.next_frame n.store) 18446744073709551615;
       open_frame = pushes;
-      may_close = λ n. may_close n.frames n.store;
+      may_close = λ n. can_pop n.frames n.store;
       close_frame = λ n. without_frame n.frames n;
       may_fork = λ n. nat_lt n.depth g.limits.depth;
       due = λ n. nat_le (n.since + g.pause) n.ticks;
@@ -291,5 +293,5 @@ module _ {S : Type 0} (stores : Stores S) where
     entry_of (Some l) = l.entry
 
     -- the first process of a run
-    abbrev pub first : Config (Memory S)
-    first = At (entry_of (layout_of g.code.layouts 0)) [] (first_memory (layout_of g.code.layouts 0))
+    abbrev pub first_process : Config (Memory S)
+    first_process = At (entry_of (layout_of g.code.layouts 0)) [] (first_memory (layout_of g.code.layouts 0))

@@ -88,46 +88,46 @@ after_tests q (Or (On ms s) rest) = after_tests (after_test q ms) rest
 
 module _ (p : Program) where
   abbrev mutual
-    pub after : ℕ → Stmt → ℕ
-    after q Empty = q
-    after q (Assign v (Typed k form)) = after_right (after_var q v) (sort p k) form + 1
-    after q (Call f args) = after_actuals q args + 1
-    after q (Sequence ss) = after_all q ss
-    after q (If e a) = after (after_value q e + 1) a
-    after q (IfElse e a b) = after (after (after_value q e + 1) a + 1) b
-    after q (While e s) = after (after_value q e + 1 + 1) s + 1
-    after q (Repeat s e) = after_value (after (q + 1) s) e + 1
-    after q (For x from down to s) = after (after_value (after_value q from) to + 1 + 1) s + 1
-    after q (Case e arms) = after_arms (after_tests (after_value q e) arms + 1) arms
-    after q (Parallel ss) = after_children (q + 1 + 1) ss
-    after q (Forall x from to s) = after (after_value (after_value q from) to + 1 + 1) s + 1
-    after q (Assume e) = after_value q e + 1
-    after q (ReadValue v) = after_var q v + 1
-    after q ReadLine = q + 1
-    after q (WriteValue e w) = after_width (after_value q e) w + 1
-    after q (WriteText t w) = after_width q w + 1
-    after q WriteLine = q + 1
-    after q (Open v) = after_var q v + 1
-    after q (Send c e) = after_value (after_value q c) e + 1
-    after q (Receive c v) = after_var (after_value q c) v + 1
+    pub after_statement : ℕ → Stmt → ℕ
+    after_statement q Empty = q
+    after_statement q (Assign v (Typed k form)) = after_right (after_var q v) (sort p k) form + 1
+    after_statement q (Call f args) = after_actuals q args + 1
+    after_statement q (Sequence ss) = after_all q ss
+    after_statement q (If e a) = after_statement (after_value q e + 1) a
+    after_statement q (IfElse e a b) = after_statement (after_statement (after_value q e + 1) a + 1) b
+    after_statement q (While e s) = after_statement (after_value q e + 1 + 1) s + 1
+    after_statement q (Repeat s e) = after_value (after_statement (q + 1) s) e + 1
+    after_statement q (For x from down to s) = after_statement (after_value (after_value q from) to + 1 + 1) s + 1
+    after_statement q (Case e arms) = after_arms (after_tests (after_value q e) arms + 1) arms
+    after_statement q (Parallel ss) = after_children (q + 1 + 1) ss
+    after_statement q (Forall x from to s) = after_statement (after_value (after_value q from) to + 1 + 1) s + 1
+    after_statement q (Assume e) = after_value q e + 1
+    after_statement q (ReadValue v) = after_var q v + 1
+    after_statement q ReadLine = q + 1
+    after_statement q (WriteValue e w) = after_width (after_value q e) w + 1
+    after_statement q (WriteText t w) = after_width q w + 1
+    after_statement q WriteLine = q + 1
+    after_statement q (Open v) = after_var q v + 1
+    after_statement q (Send c e) = after_value (after_value q c) e + 1
+    after_statement q (Receive c v) = after_var (after_value q c) v + 1
 
     pub after_all : ℕ → Stmts → ℕ
     after_all q No = q
-    after_all q (And s rest) = after_all (after q s) rest
+    after_all q (And s rest) = after_all (after_statement q s) rest
 
     -- an `end` behind each child
     pub after_children : ℕ → Stmts → ℕ
     after_children q No = q
-    after_children q (And s rest) = after_children (after q s + 1) rest
+    after_children q (And s rest) = after_children (after_statement q s + 1) rest
 
     -- a `jump` behind each arm
     pub after_arms : ℕ → Arms → ℕ
     after_arms q NoArm = q
-    after_arms q (Or (On ms s) rest) = after_arms (after q s + 1) rest
+    after_arms q (Or (On ms s) rest) = after_arms (after_statement q s + 1) rest
 
   -- behind a block: its `return` or `end`
   abbrev pub after_block : ℕ → Block → ℕ
-  after_block q b = after q b.body + 1
+  after_block q b = after_statement q b.body + 1
 
   -- behind the code of all these blocks
   abbrev pub after_blocks : ℕ → List Block → ℕ

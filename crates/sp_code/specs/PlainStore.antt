@@ -6,10 +6,11 @@ use Rattle.std.specs.List.{list_all}
 use Rattle.std.specs.FinMap as map
 use Rattle.sp_cell.specs.declared.cell.Cell.{Cell}
 use Rattle.sp_cell.specs.declared.spot.Spot.{Spot}
-use Rattle.sp_cell.specs.Map.{Content, Own, Shared, Output, Away, Map, Plain, with_map, owned, appended, output_of}
+use Rattle.sp_cell.specs.Map.{Content, Own, Shared, Output, Away, Map, Plain, with_map, with_own_piece}
+use Rattle.sp_cell.specs.Map.{with_more_output, output_of}
 use Rattle.sp_cell.specs.Map.{output_spot}
-use Rattle.sp_cell.specs.Frame.{next_frame, newest, pushed, popped, root_map}
-use Rattle.sp_cell.specs.Fork.{child_of, handed, joined}
+use Rattle.sp_cell.specs.Frame.{next_frame, last_own_frame, with_new_frame, without_newest_frame, root_map}
+use Rattle.sp_cell.specs.Fork.{child_of, map_after_fork, map_after_join}
 use Rattle.sp_code.specs.Memory.{Stores, is_there}
 
 -- the cells of a piece that is held, own or shared
@@ -33,21 +34,21 @@ abbrev pub none_away : Map → ℕ → Bool
 none_away m n = list_all (λ (q : Spot). not ((q.frame == n) && is_away (map.get m q))) (map.keys m)
 
 abbrev pub is_newest : List ℕ → ℕ → Bool
-is_newest ns n = is_there ns && (newest ns == n)
+is_newest ns n = is_there ns && (last_own_frame ns == n)
 
 -- plain maps as the machine's stores
 abbrev pub plain : Stores Plain
 plain = record {
   piece = λ p s. piece_of (map.get p.map s);
-  owned = λ p s cs. with_map p (owned p.map s cs);
+  owned = λ p s cs. with_map p (with_own_piece p.map s cs);
   output = λ p. output_of (map.get p.map output_spot);
-  appended = λ p bs. with_map p (appended p.map bs);
+  appended = λ p bs. with_map p (with_more_output p.map bs);
   next_frame = next_frame;
-  pushed = pushed;
+  pushed = with_new_frame;
   may_pop = λ p n. is_newest p.own n && none_away p.map n;
-  popped = popped;
+  popped = without_newest_frame;
   root = λ sizes. record { map = root_map sizes; own = []; moved = [] };
   child = λ p h. child_of p.map h;
-  handed = λ p hs. with_map p (handed p.map hs);
-  joined = λ p c. with_map p (joined p.map c);
+  handed = λ p hs. with_map p (map_after_fork p.map hs);
+  joined = λ p c. with_map p (map_after_join p.map c);
 }

@@ -7,7 +7,7 @@ use Rattle.sp_code.specs.declared.instr.Instr.{Instr}
 use Rattle.sp_code.specs.declared.instr.Instr.TheVariants as i
 use Rattle.sp_code.specs.declared.code.Parts.{Parts}
 use Rattle.sp_code.specs.Machine.{Ops, Config, At}
-use Rattle.sp_code.specs.Turns.{Comes}
+use Rattle.sp_code.specs.Turns.{RunsTo}
 
 -- the instructions to which one leads with no tick, no call and no return
 abbrev pub ways : ℕ → Option Instr → List ℕ
@@ -77,17 +77,17 @@ ways p (Some (i.Forall t)) = (p + 1) ∷ []
 ways p (Some i.End) = []
 
 -- the larger of two
-abbrev pub larger : ℕ → ℕ → ℕ
-larger a b = if nat_lt a b then b else a
+abbrev pub larger_of : ℕ → ℕ → ℕ
+larger_of a b = if nat_lt a b then b else a
 
-abbrev pub most : (ℕ → ℕ) → List ℕ → ℕ
-most f [] = 0
-most f (p ∷ ps) = larger (f p) (most f ps)
+abbrev pub maximum_of : (ℕ → ℕ) → List ℕ → ℕ
+maximum_of f [] = 0
+maximum_of f (p ∷ ps) = larger_of (f p) (maximum_of f ps)
 
 -- the length of the longest way from an instruction, up to n
 unfoldable pub rank : ℕ → List Instr → ℕ → ℕ
 rank zero code p = 0
-rank (suc n) code p = suc (most (rank n code) (ways p (slice_get code p)))
+rank (suc n) code p = suc (maximum_of (rank n code) (ways p (slice_get code p)))
 
 -- each is below a bound
 abbrev pub AllBelow : (ℕ → ℕ) → ℕ → List ℕ → Type 0
@@ -106,4 +106,4 @@ RanksFall code (At pc st n) = AllBelow (rank (suc (length code.instrs)) code.ins
 
 -- so does each from what the turn of a process comes to; nothing is asked of instructions to which nothing comes
 abbrev pub IsRankedAlong : {M : Type 0} → Ops M → Parts → Config M → Type 0
-IsRankedAlong {M} ops code c = (d : Config M) → Comes ops code c d → RanksFall code d
+IsRankedAlong {M} ops code c = (d : Config M) → RunsTo ops code c d → RanksFall code d

@@ -23,7 +23,7 @@ use Rattle.sp_code.specs.declared.code.Layout.{Layout}
 use Rattle.sp_code.specs.declared.code.Parts.{Parts}
 use Rattle.sp_code.specs.Machine.{Stop, Forks, Sends, Receives, Ends, Config, At}
 use Rattle.sp_code.specs.Turns.{Stopped, IsTurn, IsSafe}
-use Rattle.sp_code.specs.Memory.{Setting, Frame, Memory, memory}
+use Rattle.sp_code.specs.Memory.{CodeRun, Frame, Memory, memory}
 use Rattle.sp_code.specs.PlainStore.{plain}
 use Rattle.sp_code.specs.Ranks.{IsRankedAlong}
 use Rattle.sp_code.specs.Formals.{HaveFormals}
@@ -31,7 +31,7 @@ use Rattle.sp_code.specs.System.{System, Condition, Absent, Working, Waits, Join
 use Rattle.sp_code.specs.System.{IsSystem, fault_of}
 
 -- a run of code on an input, with these limits
-abbrev pub run_of : Parts → List ℕ → Limits → Setting
+abbrev pub run_of : Parts → List ℕ → Limits → CodeRun
 run_of code input lim = record { code = code; input = input; limits = lim; pause = TURN_TICKS }
 
 -- ---- who holds what
@@ -96,7 +96,7 @@ pub record CanPut (p : Plain) (a : Address) (cells : List Cell) : Type 0 where
   pub own : IsOwn (map.get p.map a.spot)
   pub in_range : HasCells p.map a (length cells)
 
-module _ (g : Setting) where
+module _ (g : CodeRun) where
   -- the turn of process q stops so, with no fault of a total, an offer or another process
   pub record StopsAt (s : System Plain) (q : ℕ) (stop : Stop) (d : Config (Memory Plain)) : Type 0 where
     pub at : Config (Memory Plain)

@@ -20,7 +20,7 @@ use Rattle.sp_journal.specs.declared.entry.Entry.{Entry}
 use Rattle.sp_journal.specs.declared.entry.Birth.{Birth}
 use Rattle.sp_journal.specs.declared.entry.Note.{Note}
 use Rattle.sp_journal.specs.Maps.{at_key}
-use Rattle.sp_journal.specs.Births.{Births, at_start, after_event, is_next}
+use Rattle.sp_journal.specs.Births.{Births, first_births, births_after_event, is_next}
 use Rattle.sp_code.specs.declared.code.Formal.{Formal}
 use Rattle.sp_code.specs.declared.code.Formal.TheVariants as formal
 use Rattle.sp_code.specs.declared.code.Layout.{Layout}
@@ -29,9 +29,9 @@ use Rattle.sp_code.specs.declared.code.ForkTable.{ForkTable}
 use Rattle.sp_code.specs.Tables.{child_at}
 use Rattle.sp_code.specs.Machine.{Stop, Forks, Opens, Sends, Receives, Ends, Pauses, Config, At, layout_of}
 use Rattle.sp_code.specs.Turns.{Turn, Stopped, Faulted, IsTurn}
-use Rattle.sp_code.specs.Memory.{Setting, Stores, Home, OfBlock, OfIndex, Frame, Memory, last_frames, referred}
-use Rattle.sp_code.specs.Memory.{put_cell, put_cells, memory, first}
-use Rattle.sp_code.specs.Control.{Control, Out, control_at_start, noted, given, front}
+use Rattle.sp_code.specs.Memory.{CodeRun, Stores, Home, OfBlock, OfIndex, Frame, Memory, last_frames, reference_target}
+use Rattle.sp_code.specs.Memory.{put_cell, put_cells, memory, first_process}
+use Rattle.sp_code.specs.Control.{Control, Out, control_at_start, after_note, after_give, front}
 
 -- ---- the variables of a fork
 
@@ -45,15 +45,15 @@ abbrev pub first_number : Layout → ℕ
 first_number l = if l.block == 0 then 2 else 0
 
 -- a variable parameter stands for the entire variable that it refers to
-abbrev pub entire : Option Address → Option Spot
-entire None = None
-entire (Some a) = Some a.spot
+abbrev pub spot_of_address : Option Address → Option Spot
+spot_of_address None = None
+spot_of_address (Some a) = Some a.spot
 
 -- where variable k of a frame stands, by its formal if it is a parameter
 abbrev pub spot_by : Frame → ℕ → Option Formal → Option Spot
 spot_by f k None = Some (record { frame = f.number; variable = k })
 spot_by f k (Some (formal.Value n)) = Some (record { frame = f.number; variable = k })
-spot_by f k (Some (formal.Reference n)) = entire (referred k f.references)
+spot_by f k (Some (formal.Reference n)) = spot_of_address (reference_target k f.references)
 
 -- the same of a variable with this place among the layout's
 abbrev pub spot_at : Frame → Layout → Option ℕ → Option Spot
@@ -246,8 +246,8 @@ module _ {S : Type 0} where
   config_of (Faulted f c) = c
 
   -- a process at its entry has made no ticks since
-  abbrev pub entered_now : Config (Memory S) → Config (Memory S)
-  entered_now (At pc st n) = At pc st (record n { since = n.ticks })
+  abbrev pub process_at_entry : Config (Memory S) → Config (Memory S)
+  process_at_entry (At pc st n) = At pc st (record n { since = n.ticks })
 
   abbrev pub frames_of : Config (Memory S) → List Frame
   frames_of (At pc st n) = n.frames
@@ -262,7 +262,7 @@ module _ {S : Type 0} where
   abbrev pub on_store : (S → S) → Config (Memory S) → Config (Memory S)
   on_store f (At pc st n) = At pc st (record n { store = f n.store })
 
-module _ {S : Type 0} (stores : Stores S) (g : Setting) where
+module _ {S : Type 0} (stores : Stores S) (g : CodeRun) where
   -- ---- events
 
   -- process q is in this condition
@@ -270,8 +270,8 @@ module _ {S : Type 0} (stores : Stores S) (g : Setting) where
   becomes q c s = record s { condition = at_key ◌==◌ q c s.condition }
 
   -- one more entry of a counted kind
-  abbrev pub counted : System S → System S
-  counted s = record s { entries = s.entries + 1 }
+  abbrev pub with_entry_counted : System S → System S
+  with_entry_counted s = record s { entries = s.entries + 1 }
 
   -- what a fork of this table hands to its children
   abbrev pub plan_of : Config (Memory S) → (table : ℕ) → ℤ → ℕ → List Handing
@@ -290,8 +290,8 @@ module _ {S : Type 0} (stores : Stores S) (g : Setting) where
 
   -- child k of a fork at c, with the number q: its frames are its parent's, with the index's above; it is one level
   -- deeper
-  abbrev pub newborn : Config (Memory S) → ℤ → ℕ → ℕ → ChildTable → Config (Memory S)
-  newborn c value q k child =
+  abbrev pub child_process : Config (Memory S) → ℤ → ℕ → ℕ → ChildTable → Config (Memory S)
+  child_process c value q k child =
       let h = handing_of g.code.layouts (frames_of c) value k child in
       At child.entry [] (record {
         process = q;
@@ -304,33 +304,33 @@ module _ {S : Type 0} (stores : Stores S) (g : Setting) where
       })
 
   -- the children have the next numbers, and the parent joins them
-  abbrev pub forked : ℕ → (table : ℕ) → ℤ → ℕ → Config (Memory S) → System S → System S
-  forked q t value n c s = record s {
+  abbrev pub apply_fork : ℕ → (table : ℕ) → ℤ → ℕ → Config (Memory S) → System S → System S
+  apply_fork q t value n c s = record s {
     condition = λ r.
         cond (is_next s.births n r) (Working
-        (newborn c value r (r - s.births.processes)
+        (child_process c value r (r - s.births.processes)
         (child_or (child_at (table_or (slice_get g.code.forks t)) (r - s.births.processes)))))
         (cond (q == r) (Joins n (on_store (λ m. stores.handed m (plan_of c t value n)) c)) (s.condition r));
   }
 
   -- the new channel's number goes to the target
-  abbrev pub opened : ℕ → Address → Config (Memory S) → System S → System S
-  opened q a c s = becomes q (Working (on_store (put_cell stores a (cell.Channel s.births.channels)) c)) s
+  abbrev pub apply_open : ℕ → Address → Config (Memory S) → System S → System S
+  apply_open q a c s = becomes q (Working (on_store (put_cell stores a (cell.Channel s.births.channels)) c)) s
 
   -- a message goes over to a process that waits to receive, or from one that waits to send
-  abbrev pub received : List Cell → Condition S → Condition S
-  received cs Absent = Absent
-  received cs (Working c) = Working c
-  received cs (Waits (Receives d k a) c) = Working (on_store (put_cells stores a cs) c)
-  received cs (Waits (Sends d k bs) c) = Working c
-  received cs (Waits (Forks t value n) c) = Working c
-  received cs (Waits (Opens a) c) = Working c
-  received cs (Waits Ends c) = Working c
-  received cs (Waits Pauses c) = Working c
-  received cs (Joins left c) = Joins left c
-  received cs (Laid c) = Laid c
-  received cs Gone = Gone
-  received cs (Over c) = Over c
+  abbrev pub after_message : List Cell → Condition S → Condition S
+  after_message cs Absent = Absent
+  after_message cs (Working c) = Working c
+  after_message cs (Waits (Receives d k a) c) = Working (on_store (put_cells stores a cs) c)
+  after_message cs (Waits (Sends d k bs) c) = Working c
+  after_message cs (Waits (Forks t value n) c) = Working c
+  after_message cs (Waits (Opens a) c) = Working c
+  after_message cs (Waits Ends c) = Working c
+  after_message cs (Waits Pauses c) = Working c
+  after_message cs (Joins left c) = Joins left c
+  after_message cs (Laid c) = Laid c
+  after_message cs Gone = Gone
+  after_message cs (Over c) = Over c
 
   -- the cells that are sent
   abbrev pub message_of : Option Stop → List Cell
@@ -343,88 +343,90 @@ module _ {S : Type 0} (stores : Stores S) (g : Setting) where
   message_of (Some Pauses) = []
 
   -- an offer waits, or it meets the pending one, and then both go on
-  abbrev pub sent : ℕ → Stop → (channel : ℕ) → List Cell → Config (Memory S) → Option ℕ → System S → System S
-  sent q stop ch cs c None s = record (becomes q (Waits stop c) s) { pending = at_key ◌==◌ ch (Some q) s.pending }
-  sent q stop ch cs c (Some z) s = record (becomes q (Working c) (becomes z (received cs (s.condition z)) s))
+  abbrev pub apply_send : ℕ → Stop → (channel : ℕ) → List Cell → Config (Memory S) → Option ℕ → System S → System S
+  apply_send q stop ch cs c None s = record (becomes q (Waits stop c) s) { pending = at_key ◌==◌ ch (Some q) s.pending }
+  apply_send q stop ch cs c (Some z) s = record (becomes q (Working c) (becomes z (after_message cs (s.condition z)) s))
       { pending = at_key ◌==◌ ch None s.pending }
 
   -- an offer to receive, by what is pending: it waits, or it takes the message
-  abbrev pub taken : ℕ → Stop → (channel : ℕ) → Address → Config (Memory S) → Option ℕ → System S → System S
-  taken q stop ch a c None s = record (becomes q (Waits stop c) s) { pending = at_key ◌==◌ ch (Some q) s.pending }
-  taken q stop ch a c (Some z) s =
+  abbrev pub apply_receive : ℕ → Stop → (channel : ℕ) → Address → Config (Memory S) → Option ℕ → System S → System S
+  apply_receive q stop ch a c None s =
+      record (becomes q (Waits stop c) s) { pending = at_key ◌==◌ ch (Some q) s.pending }
+  apply_receive q stop ch a c (Some z) s =
       record (becomes q (Working (on_store (put_cells stores a (message_of (stop_of (s.condition z)))) c))
-      (becomes z (received [] (s.condition z)) s)) { pending = at_key ◌==◌ ch None s.pending }
+      (becomes z (after_message [] (s.condition z)) s)) { pending = at_key ◌==◌ ch None s.pending }
 
   -- a child's pieces go back to its parent, which goes on after the last one. The first process has none
-  abbrev pub rejoined : Config (Memory S) → Condition S → Condition S
-  rejoined c Absent = Absent
-  rejoined c (Working d) = Working d
-  rejoined c (Waits stop d) = Waits stop d
-  rejoined c (Joins left d) =
+  abbrev pub parent_after_join : Config (Memory S) → Condition S → Condition S
+  parent_after_join c Absent = Absent
+  parent_after_join c (Working d) = Working d
+  parent_after_join c (Waits stop d) = Waits stop d
+  parent_after_join c (Joins left d) =
       let e = on_store (λ m. stores.joined m (store_of c)) d in
       if left == 1 then Working e else Joins (left - 1) e
-  rejoined c (Laid d) = Laid d
-  rejoined c Gone = Gone
-  rejoined c (Over d) = Over d
+  parent_after_join c (Laid d) = Laid d
+  parent_after_join c Gone = Gone
+  parent_after_join c (Over d) = Over d
 
   -- a process without a parent is over, and the parent of another one waits for a child fewer
-  abbrev pub reported : ℕ → Config (Memory S) → Option Birth → System S → System S
-  reported q c None s = becomes q (Over c) s
-  reported q c (Some b) s = becomes b.parent (rejoined c (s.condition b.parent)) (becomes q Gone s)
+  abbrev pub apply_end : ℕ → Config (Memory S) → Option Birth → System S → System S
+  apply_end q c None s = becomes q (Over c) s
+  apply_end q c (Some b) s = becomes b.parent (parent_after_join c (s.condition b.parent)) (becomes q Gone s)
 
   -- what a stop that is no fault does
-  abbrev pub happens : ℕ → Stop → Config (Memory S) → System S → System S
-  happens q (Forks t value n) c s = counted (forked q t value n c s)
-  happens q (Opens a) c s = counted (opened q a c s)
-  happens q (Sends ch k cs) c s = counted (sent q (Sends ch k cs) ch cs c (s.pending ch) s)
-  happens q (Receives ch k a) c s = counted (taken q (Receives ch k a) ch a c (s.pending ch) s)
-  happens q Ends c s = reported q c (s.births.birth q) s
-  happens q Pauses c s = becomes q (Working c) s
+  abbrev pub apply_stop : ℕ → Stop → Config (Memory S) → System S → System S
+  apply_stop q (Forks t value n) c s = with_entry_counted (apply_fork q t value n c s)
+  apply_stop q (Opens a) c s = with_entry_counted (apply_open q a c s)
+  apply_stop q (Sends ch k cs) c s = with_entry_counted (apply_send q (Sends ch k cs) ch cs c (s.pending ch) s)
+  apply_stop q (Receives ch k a) c s = with_entry_counted (apply_receive q (Receives ch k a) ch a c (s.pending ch) s)
+  apply_stop q Ends c s = apply_end q c (s.births.birth q) s
+  apply_stop q Pauses c s = becomes q (Working c) s
 
   -- process q is laid
   abbrev pub lays : ℕ → Config (Memory S) → System S → System S
   lays q c s = becomes q (Laid c) s
 
   -- a fault lays its process, and faults the system
-  abbrev pub unless_fault : Option Fault → ℕ → Turn (Memory S) → System S → System S
-  unless_fault (Some f) q t s = record (lays q (config_of t) s) { faulted = true }
-  unless_fault None q (Faulted f c) s = record (lays q c s) { faulted = true }
-  unless_fault None q (Stopped stop c) s = happens q stop (entered_now c) s
+  abbrev pub apply_unless_fault : Option Fault → ℕ → Turn (Memory S) → System S → System S
+  apply_unless_fault (Some f) q t s = record (lays q (config_of t) s) { faulted = true }
+  apply_unless_fault None q (Faulted f c) s = record (lays q c s) { faulted = true }
+  apply_unless_fault None q (Stopped stop c) s = apply_stop q stop (process_at_entry c) s
 
   -- after a fault every process is laid at the end of its turn
-  abbrev pub done : ℕ → Turn (Memory S) → System S → System S
-  done q t s = if s.faulted then lays q (config_of t) s else unless_fault (fault_of g.limits s t) q t s
+  abbrev pub apply_turn : ℕ → Turn (Memory S) → System S → System S
+  apply_turn q t s = if s.faulted then lays q (config_of t) s else apply_unless_fault (fault_of g.limits s t) q t s
 
   -- the system after the event that a turn of process q makes
-  abbrev pub after : ℕ → Turn (Memory S) → System S → System S
-  after q t s = let r = done q t s in record r { births = after_event s.births q (event_of g.limits s t) }
+  abbrev pub system_after_turn : ℕ → Turn (Memory S) → System S → System S
+  system_after_turn q t s = let r = apply_turn q t s in
+      record r { births = births_after_event s.births q (event_of g.limits s t) }
 
   -- ---- along a journal
 
   -- the first process alone
-  abbrev pub opening : System S
-  opening = record {
-    condition = λ q. if q == 0 then Working (first stores g) else Absent;
-    births = at_start;
+  abbrev pub opening_system : System S
+  opening_system = record {
+    condition = λ q. if q == 0 then Working (first_process stores g) else Absent;
+    births = first_births;
     pending = λ c. None;
     faulted = false;
     entries = 0;
   }
 
   -- the turn of the entry's process, which runs, and then its event, which is the entry's, lead from s to t
-  abbrev pub Enters : System S → ℕ → Event → System S → Type 0
-  Enters s q e t =
+  abbrev pub EntryLeads : System S → ℕ → Event → System S → Type 0
+  EntryLeads s q e t =
       (c : Config (Memory S)) × (s.condition q ≡ Working c) × (turn : Turn (Memory S))
-      × IsTurn (memory stores g) g.code c turn × (event_of g.limits s turn ≡ e) × (t ≡ after q turn s)
+      × IsTurn (memory stores g) g.code c turn × (event_of g.limits s turn ≡ e) × (t ≡ system_after_turn q turn s)
 
   -- the entries, in order
-  abbrev pub Leads : System S → List Entry → System S → Type 0
-  Leads s [] t = t ≡ s
-  Leads s (e ∷ es) t = (u : System S) × Enters s e.process e.event u × Leads u es t
+  abbrev pub EntriesLead : System S → List Entry → System S → Type 0
+  EntriesLead s [] t = t ≡ s
+  EntriesLead s (e ∷ es) t = (u : System S) × EntryLeads s e.process e.event u × EntriesLead u es t
 
   -- the system along a journal is this one
   abbrev pub IsSystem : List Entry → System S → Type 0
-  IsSystem es t = Leads opening es t
+  IsSystem es t = EntriesLead opening_system es t
 
   -- the output of a state is that of the process that holds it
   abbrev pub OutputIs : System S → List ℕ → Type 0
@@ -433,25 +435,26 @@ module _ {S : Type 0} (stores : Stores S) (g : Setting) where
   -- ---- histories of the kernel
 
   -- a process is given with its event; or nothing is; or a worker abandons
-  abbrev pub Gives : Control → System S → (worker : ℕ) → Option ℕ → Option Event → Option ℕ → System S → Type 0
-  Gives k s w None None got t = t ≡ s
-  Gives k s w None (Some e) got t = ⊥
-  Gives k s w (Some p) (Some e) got t = (k.doing p ≡ Out w) × Enters s p e t
-  Gives k s w (Some p) None got t = (k.doing p ≡ Out w) × (got ≡ None) × (t ≡ s)
+  abbrev pub GiveIsLegal : Control → System S → (worker : ℕ) → Option ℕ → Option Event → Option ℕ → System S → Type 0
+  GiveIsLegal k s w None None got t = t ≡ s
+  GiveIsLegal k s w None (Some e) got t = ⊥
+  GiveIsLegal k s w (Some p) (Some e) got t = (k.doing p ≡ Out w) × EntryLeads s p e t
+  GiveIsLegal k s w (Some p) None got t = (k.doing p ≡ Out w) × (got ≡ None) × (t ≡ s)
 
   -- a process got is the front of the queue; a note that is no abandon gets it, where there is one
-  abbrev pub Gets : Control → Option Event → Option ℕ → Type 0
-  Gets k None None = Unit {0}
-  Gets k None (Some q) = front k ≡ Some q
-  Gets k (Some e) got = got ≡ front k
+  abbrev pub GetIsLegal : Control → Option Event → Option ℕ → Type 0
+  GetIsLegal k None None = Unit {0}
+  GetIsLegal k None (Some q) = front k ≡ Some q
+  GetIsLegal k (Some e) got = got ≡ front k
 
   -- each further note is legal where the ones before it lead
   abbrev pub LegalFrom : Control → System S → List Note → Type 0
   LegalFrom k s [] = Unit {0}
   LegalFrom k s (n ∷ ns) =
-      (t : System S) × Gives k s n.worker n.given n.event n.got t × Gets (given n.given n.event n.got k) n.event n.got
-      × LegalFrom (noted n k) t ns
+      (t : System S) × GiveIsLegal k s n.worker n.given n.event n.got t
+      × GetIsLegal (after_give n.given n.event n.got k) n.event n.got
+      × LegalFrom (after_note n k) t ns
 
   -- a history is legal where the kernel, asked by one thread in that order from its opening state, gives these notes
   abbrev pub IsLegal : List Note → Type 0
-  IsLegal ns = LegalFrom control_at_start opening ns
+  IsLegal ns = LegalFrom control_at_start opening_system ns

@@ -6,29 +6,29 @@ ghost use Rattle.sp_tree.specs.Plain.{Program, Stmt, Block};
 ghost use Rattle.sp_cell.specs.Map.{Plain};
 ghost use Rattle.sp_journal.specs.declared.entry.Event.{Event};
 ghost use Rattle.sp_journal.specs.declared.entry.Entry.{Entry};
-ghost use Rattle.sp_code.specs.Machine.{Config, Goes, one, layout_of};
+ghost use Rattle.sp_code.specs.Machine.{Config, Goes, next_step, layout_of};
 ghost use Rattle.sp_code.specs.declared.code.Layout.{Layout};
 ghost use Rattle.sp_code.specs.Turns.{Turn, Ended, IsTurn, IsSafe, turn_within};
-ghost use Rattle.sp_code.specs.Memory.{Setting, Memory, memory};
+ghost use Rattle.sp_code.specs.Memory.{CodeRun, Memory, memory};
 ghost use Rattle.sp_code.specs.PlainStore.{plain};
-ghost use Rattle.sp_code.specs.System.{System, Enters, IsSystem};
+ghost use Rattle.sp_code.specs.System.{System, EntryLeads, IsSystem};
 ghost use Rattle.sp_code.specs.Ranks.{IsRanked, IsRankedAlong};
 ghost use Rattle.sp_code.specs.Budgets.{IsOver, most_steps};
 ghost use Rattle.sp_code.specs.Scopes.{Scope};
 ghost use Rattle.sp_code.specs.Lengths.{stmt_length, tree_length};
 ghost use Rattle.sp_code.specs.Emitted.{code, program_code};
-ghost use Rattle.sp_code.specs.Stands.{IsFine, BlocksAt};
-ghost use Rattle.sp_code.specs.Quiet.{IsQuiet};
+ghost use Rattle.sp_code.specs.CodeOfTree.{IsFine, BlocksAt};
+ghost use Rattle.sp_code.specs.NeverStops.{NeverStops};
 
 /// One instruction, and one turn, is a function of the process; and where a turn is computed to an end, that is its
 /// end.
 pub fn turns_are_functions()
-    ensures instruction { (g : Setting) (c d e : Config (Memory Plain)) → one (memory plain g) g.code c ≡ Goes d
-        → one (memory plain g) g.code c ≡ Goes e → d ≡ e }
-    ensures turn { (g : Setting) (c : Config (Memory Plain)) (t u : Turn (Memory Plain))
+    ensures instruction { (g : CodeRun) (c d e : Config (Memory Plain)) → next_step (memory plain g) g.code c ≡ Goes d
+        → next_step (memory plain g) g.code c ≡ Goes e → d ≡ e }
+    ensures turn { (g : CodeRun) (c : Config (Memory Plain)) (t u : Turn (Memory Plain))
         → IsTurn (memory plain g) g.code c t
         → IsTurn (memory plain g) g.code c u → t ≡ u }
-    ensures computed { (g : Setting) (n : ℕ) (c : Config (Memory Plain)) (t : Turn (Memory Plain))
+    ensures computed { (g : CodeRun) (n : ℕ) (c : Config (Memory Plain)) (t : Turn (Memory Plain))
         → turn_within (memory plain g) g.code n c ≡ Ended t → IsTurn (memory plain g) g.code c t }
 {}
 
@@ -36,19 +36,20 @@ pub fn turns_are_functions()
 /// of instructions that is computed from the code and the process. So a turn in which none lacks anything has an end.
 /// Where each instruction of the code makes the rank fall, the ranks fall along every turn.
 pub fn turns_of_ranked_code_end()
-    ensures within { (g : Setting) (c : Config (Memory Plain)) → IsRankedAlong (memory plain g) g.code c
+    ensures within { (g : CodeRun) (c : Config (Memory Plain)) → IsRankedAlong (memory plain g) g.code c
         → IsOver (turn_within (memory plain g) g.code (suc (most_steps g c)) c) }
-    ensures safe { (g : Setting) (c : Config (Memory Plain)) → IsRankedAlong (memory plain g) g.code c
+    ensures safe { (g : CodeRun) (c : Config (Memory Plain)) → IsRankedAlong (memory plain g) g.code c
         → IsSafe (memory plain g) g.code c → (t : Turn (Memory Plain)) × IsTurn (memory plain g) g.code c t }
-    ensures everywhere { (g : Setting) → IsRanked g.code.instrs → (c : Config (Memory Plain))
+    ensures everywhere { (g : CodeRun) → IsRanked g.code.instrs → (c : Config (Memory Plain))
         → IsRankedAlong (memory plain g) g.code c }
 {}
 
 /// A turn makes at most one event, and there is at most one system along a journal.
 pub fn systems_are_functions()
-    ensures event { (g : Setting) (s : System Plain) (q : ℕ) (e f : Event) (t u : System Plain) → Enters plain g s q e t
-        → Enters plain g s q f u → e ≡ f }
-    ensures system { (g : Setting) (es : List Entry) (t u : System Plain) → IsSystem plain g es t
+    ensures event { (g : CodeRun) (s : System Plain) (q : ℕ) (e f : Event) (t u : System Plain)
+        → EntryLeads plain g s q e t
+        → EntryLeads plain g s q f u → e ≡ f }
+    ensures system { (g : CodeRun) (es : List Entry) (t u : System Plain) → IsSystem plain g es t
         → IsSystem plain g es u → t ≡ u }
 {}
 
@@ -65,8 +66,8 @@ pub fn code_has_its_length()
 /// should; and a call finds the layout that the block has in the tree.
 pub fn code_stands()
     ensures blocks { (p : Program) (moves shares : Stmt → List ℕ)
-        → ((f q : ℕ) (b : Block) → slice_get p.blocks f ≡ Some b → IsFine p moves shares (IsQuiet p) f q b)
-        → BlocksAt p moves shares (program_code p moves shares) (IsQuiet p) }
+        → ((f q : ℕ) (b : Block) → slice_get p.blocks f ≡ Some b → IsFine p moves shares (NeverStops p) f q b)
+        → BlocksAt p moves shares (program_code p moves shares) (NeverStops p) }
     ensures layouts { (p : Program) (moves shares : Stmt → List ℕ) (f : ℕ) (l : Layout)
         → slice_get (program_code p moves shares).layouts f ≡ Some l
         → layout_of (program_code p moves shares).layouts f ≡ Some l }

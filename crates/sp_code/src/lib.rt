@@ -29,7 +29,7 @@
 //!   counts, over any store), `PlainStore.antt` (the store as `sp_cell`'s plain map), `Control.antt` (the kernel's
 //!   notes), `System.antt` (all processes along a journal, legal histories), `Ranks.antt`, `Budgets.antt` and
 //!   `Sound.antt` (turns that end, safe code).
-//! - The code of a tree: `specs/Scopes`, `Places`, `Lengths`, `Emitted`, `Stands`, `Quiet`.
+//! - The code of a tree: `specs/Scopes`, `Places`, `Lengths`, `Emitted`, `CodeOfTree`, `NeverStops`.
 //! - What code of any origin is asked: `specs/Sizes`, `Formals` (frames begin with their parameters), `Ranks`,
 //!   `Sound`.
 //! - Of the proofs, `Turning` and `Falls` are for turns, `Systems` for journals, `Counts`, `Standing` and `Blocks` for
@@ -52,7 +52,7 @@
 //! To change:
 //! - An instruction: `src/instr.rt`, `src/words.rt`, `specs/Listing`, `Machine`, `Ranks`, and a clause in
 //!   `proofs/Falls`.
-//! - A form of statement: `specs/Places`, `Lengths`, `Emitted`, `Stands`, and a clause in `proofs/Counts` and
+//! - A form of statement: `specs/Places`, `Lengths`, `Emitted`, `CodeOfTree`, and a clause in `proofs/Counts` and
 //!   `Standing`.
 #![tactic(auto)]
 

@@ -2,7 +2,7 @@
 
 ghost use Rattle.std.specs.Prelude.{◌≡◌, ◌++◌, IfOk, OnOk, codes};
 ghost use Rattle.std.specs.List.{flat_map};
-ghost use Rattle.sp_code.specs.Listing.{number_text, instr_line, child_line, table_lines, numbered, listing_text};
+ghost use Rattle.sp_code.specs.Listing.{number_text, instr_line, child_line, table_lines, numbered_texts, listing_text};
 
 use crate::code::{ChildTable, Code, ForkTable};
 use crate::instr::Instr;
@@ -53,7 +53,7 @@ fn put_child_line(
 }
 
 fn put_instrs(out: &mut Vec<u8>, instrs: &[Instr]) -> Result<(), Memory>
-    ensures { OnOk result (out.new.items ≡ out.old.items ++ numbered instr_line 0 instrs.now) }
+    ensures { OnOk result (out.new.items ≡ out.old.items ++ numbered_texts instr_line 0 instrs.now) }
 {
     for (number, instr) in instrs.iter().enumerate() {
         put_instr_line(out, number, *instr)?;
@@ -62,7 +62,7 @@ fn put_instrs(out: &mut Vec<u8>, instrs: &[Instr]) -> Result<(), Memory>
 }
 
 fn put_children(out: &mut Vec<u8>, table: usize, children: &[ChildTable]) -> Result<(), Memory>
-    ensures { OnOk result (out.new.items ≡ out.old.items ++ numbered (child_line table) 0 children.now) }
+    ensures { OnOk result (out.new.items ≡ out.old.items ++ numbered_texts (child_line table) 0 children.now) }
 {
     for (number, child) in children.iter().enumerate() {
         put_child_line(out, table, number, child)?;
@@ -71,7 +71,7 @@ fn put_children(out: &mut Vec<u8>, table: usize, children: &[ChildTable]) -> Res
 }
 
 fn put_tables(out: &mut Vec<u8>, forks: &[ForkTable]) -> Result<(), Memory>
-    ensures { OnOk result (out.new.items ≡ out.old.items ++ numbered table_lines 0 forks.now) }
+    ensures { OnOk result (out.new.items ≡ out.old.items ++ numbered_texts table_lines 0 forks.now) }
 {
     for (number, table) in forks.iter().enumerate() {
         put_children(out, number, table.children.items())?;

@@ -13,7 +13,7 @@ use Rattle.sp_code.specs.Listing.{word, operands, operand_text}
 use Rattle.sp_codefile.specs.declared.opcodes.Operand.{Operand}
 use Rattle.sp_codefile.specs.CodeText.{IsNumber, IsInteger, InstrFits}
 use Rattle.sp_codefile.specs.Cuts.{word_of, class_cut}
-use Rattle.sp_codefile.specs.Opcodes.{instr_named, filled}
+use Rattle.sp_codefile.specs.Opcodes.{instr_named, with_operands}
 use Rattle.sp_codefile.proofs.WordLaws.{AtBlank, Outside, AtClass, follow, blank_at, class_at, signed_no_blank}
 use Rattle.sp_codefile.proofs.WordLaws.{begins_signed, integer_small}
 
@@ -235,13 +235,13 @@ pub record IsRead (z : ℤ) (a : Operand) : Type 0 where
   pub integer : IsInteger z → a.integer ≡ z
   pub number : (n : ℕ) → IsNumber n → z ≡ pos n → a.number ≡ n
 
-abbrev pub Agree : List ℤ → List Operand → Type 0
-Agree [] ops = Unit {0}
-Agree (z ∷ zs) [] = Unit {0}
-Agree (z ∷ zs) (a ∷ ops) = IsRead z a × Agree zs ops
+abbrev pub AreReadAs : List ℤ → List Operand → Type 0
+AreReadAs [] ops = Unit {0}
+AreReadAs (z ∷ zs) [] = Unit {0}
+AreReadAs (z ∷ zs) (a ∷ ops) = IsRead z a × AreReadAs zs ops
 
-pub filled_plain : (x : Instr) → InstrFits x → (a b c : Operand) → Agree (operands x) (a ∷ b ∷ c ∷ [])
-    → filled (plain x) a b c ≡ x
+pub filled_plain : (x : Instr) → InstrFits x → (a b c : Operand) → AreReadAs (operands x) (a ∷ b ∷ c ∷ [])
+    → with_operands (plain x) a b c ≡ x
 filled_plain (i.Const x) f a b c h = ap i.Const (h.0.integer f)
 filled_plain (i.Addr x y) f a b c h = let e0 = h.0.number x f.0 refl in let e1 = h.1.0.number y f.1 refl in λ j. i.Addr
     (e0 j) (e1 j)
@@ -397,7 +397,7 @@ instr_cut x f = class_at 45 57 (word x) (flat_map operand_text (operands x)) ref
     (at_operands (operands x) (operands_small x f))
 
 -- what a word says, read as an operand
-pub record Reads (w : List ℕ) (a : Operand) : Type 0 where
+pub record WordReads (w : List ℕ) (a : Operand) : Type 0 where
   pub number : (n : ℕ) → IsNumber n → w ≡ decimal n → a.number ≡ n
   pub integer : (z : ℤ) → IsInteger z → w ≡ signed_decimal z → a.integer ≡ z
 
@@ -409,13 +409,14 @@ pub operand_cut : (z : ℤ) (zs : List ℤ) → mag z < 2 ^ 63
     → word_of (flat_map operand_text (z ∷ zs)) ≡ (signed_decimal z, flat_map operand_text zs)
 operand_cut z zs l = blank_at (signed_decimal z) (flat_map operand_text zs) (signed_no_blank z l) (blank_operands zs)
 
-one_read : (z : ℤ) (w : List ℕ) (a : Operand) → w ≡ signed_decimal z → Reads w a → IsRead z a
+one_read : (z : ℤ) (w : List ℕ) (a : Operand) → w ≡ signed_decimal z → WordReads w a → IsRead z a
 one_read z w a e r = record { integer = λ f. r.integer z f e; number = λ n f g. r.number n f (e ∙ ap signed_decimal g) }
 
 -- the operands in the words of a text, each of which was read
 pub agree : (zs : List ℤ) (t u v : List ℕ) (a b c : Operand) → AreSmall zs → t ≡ flat_map operand_text zs
-    → Reads (word_of t).0 a → u ≡ (word_of t).1 → Reads (word_of u).0 b → v ≡ (word_of u).1 → Reads (word_of v).0 c
-    → Agree zs (a ∷ b ∷ c ∷ [])
+    → WordReads (word_of t).0 a → u ≡ (word_of t).1 → WordReads (word_of u).0 b → v ≡ (word_of u).1
+    → WordReads (word_of v).0 c
+    → AreReadAs zs (a ∷ b ∷ c ∷ [])
 agree [] t u v a b c s e ra eu rb ev rc = tt
 agree (x ∷ []) t u v a b c s e ra eu rb ev rc = let f = ap word_of e
     ∙ operand_cut x [] s.0 in (one_read x _ a (ap (λ (p : List ℕ × List ℕ). p.0) f) ra, tt)
@@ -436,7 +437,7 @@ agree (x ∷ (y ∷ (z ∷ zs))) t u v a b c s e ra eu rb ev rc =
       ),
     )
   where
-    all : (zs : List ℤ) → Agree zs []
+    all : (zs : List ℤ) → AreReadAs zs []
     all [] = tt
     all (z ∷ zs) = tt
 
@@ -445,14 +446,15 @@ pub read_back : (x : Instr) → InstrFits x → (t name r0 r1 r2 w1 w2 w3 : List
     → t ≡ word x ++ flat_map operand_text (operands x)
     → name ≡ (class_cut 45 57 t).0 → r0 ≡ (class_cut 45 57 t).1 → w1 ≡ (word_of r0).0 → r1 ≡ (word_of r0).1
     → w2 ≡ (word_of r1).0 → r2 ≡ (word_of r1).1 → w3 ≡ (word_of r2).0
-    → Some y ≡ instr_named name → Reads w1 a → Reads w2 b → Reads w3 c → filled y a b c ≡ x
+    → Some y ≡ instr_named name → WordReads w1 a → WordReads w2 b → WordReads w3 c → with_operands y a b c ≡ x
 read_back x f t name r0 r1 r2 w1 w2 w3 y a b c e en e0 f1 e1 f2 e2 f3 h ra rb rc =
     let k = follow (class_cut 45 57) t _ (word x) (flat_map operand_text (operands x)) name r0 e
     (instr_cut x f) en e0 in
     let is : y ≡ plain x = same_Some y (plain x) (h ∙ ap instr_named k.0 ∙ named_plain x) in
-    let all = agree (operands x) r0 r1 r2 a b c (operands_small x f) k.1 (subst (λ (w : List ℕ). Reads w a) f1 ra) e1
-    (subst (λ (w : List ℕ). Reads w b) f2 rb) e2 (subst (λ (w : List ℕ). Reads w c) f3 rc) in
-    ap (λ (z : Instr). filled z a b c) is ∙ filled_plain x f a b c all
+    let all = agree (operands x) r0 r1 r2 a b c (operands_small x f) k.1
+    (subst (λ (w : List ℕ). WordReads w a) f1 ra) e1
+    (subst (λ (w : List ℕ). WordReads w b) f2 rb) e2 (subst (λ (w : List ℕ). WordReads w c) f3 rc) in
+    ap (λ (z : Instr). with_operands z a b c) is ∙ filled_plain x f a b c all
 
 pub has_name : (x : Instr) → InstrFits x → (t name : List ℕ) → t ≡ word x ++ flat_map operand_text (operands x)
     → name ≡ (class_cut 45 57 t).0 → None ≡ instr_named name → ⊥

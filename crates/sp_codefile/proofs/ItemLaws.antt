@@ -10,7 +10,7 @@ use Rattle.sp_code.specs.declared.code.ForkTable.{ForkTable}
 use Rattle.sp_code.specs.declared.code.Layout.{Layout}
 use Rattle.sp_code.specs.declared.code.Parts.{Parts}
 use Rattle.sp_code.specs.declared.instr.Instr.{Instr}
-use Rattle.sp_code.specs.Listing.{numbered, instr_line}
+use Rattle.sp_code.specs.Listing.{numbered_texts, instr_line}
 use Rattle.sp_code.specs.Sizes.{HasNumbers, HasSmallSizes, HasChild}
 use Rattle.sp_codefile.specs.declared.item.Item.{Item}
 use Rattle.sp_codefile.specs.declared.item.Item.TheVariants as item
@@ -20,19 +20,19 @@ use Rattle.sp_codefile.specs.Items.{last_children, with_child, item_text, CanFol
 use Rattle.sp_codefile.proofs.Printing.{instr_is_line}
 
 numbered_last : {X : Type 0} (text : ℕ → X → List ℕ) (n : ℕ) (xs : List X) (x : X)
-    → numbered text n (xs ++ x ∷ []) ≡ numbered text n xs ++ text (n + length xs) x
+    → numbered_texts text n (xs ++ x ∷ []) ≡ numbered_texts text n xs ++ text (n + length xs) x
 numbered_last text n [] x = let e : n ≡ n + 0 = omega arith in append-nil (text n x) ∙ ap (λ (k : ℕ). text k x) e
 numbered_last text n (y ∷ ys) x =
     let e : suc n + length ys ≡ n + suc (length ys) = omega arith in
     ap (λ (z : List ℕ). text n y ++ z) (numbered_last text (suc n) ys x)
-    ∙ sym (append_assoc (text n y) (numbered text (suc n) ys) (text (suc n + length ys) x))
-    ∙ ap (λ (k : ℕ). (text n y ++ numbered text (suc n) ys) ++ text k x) e
+    ∙ sym (append_assoc (text n y) (numbered_texts text (suc n) ys) (text (suc n + length ys) x))
+    ∙ ap (λ (k : ℕ). (text n y ++ numbered_texts text (suc n) ys) ++ text k x) e
 
 -- the same from 0 on
 from_0 : {X : Type 0} (text : ℕ → X → List ℕ) (xs : List X) (x : X)
-    → numbered text 0 (xs ++ x ∷ []) ≡ numbered text 0 xs ++ text (length xs) x
+    → numbered_texts text 0 (xs ++ x ∷ []) ≡ numbered_texts text 0 xs ++ text (length xs) x
 from_0 text xs x = let e : 0 + length xs ≡ length xs = omega arith in numbered_last text 0 xs x
-    ∙ ap (λ (k : ℕ). numbered text 0 xs ++ text k x) e
+    ∙ ap (λ (k : ℕ). numbered_texts text 0 xs ++ text k x) e
 
 flat_last : {X : Type 0} (text : X → List ℕ) (xs : List X) (x : X) → flat_map text (xs ++ x ∷ []) ≡ flat_map text xs
     ++ text x
@@ -40,19 +40,19 @@ flat_last text xs x = flat_map-append text xs (x ∷ [])
     ∙ ap (λ (z : List ℕ). flat_map text xs ++ z) (append-nil (text x))
 
 child_last : (n : ℕ) (ts : List ForkTable) (c : ChildTable) → 0 < length ts
-    → numbered table_text n (with_child ts c) ≡ numbered table_text n ts
+    → numbered_texts table_text n (with_child ts c) ≡ numbered_texts table_text n ts
     ++ child_of (n + (length ts - 1)) (last_children ts) c
 child_last n [] c l = absurd (omega arith)
 child_last n (t ∷ []) c l =
     let e : n ≡ n + (1 - 1) = omega arith in
-    append-nil (numbered (child_of n) 0 (t.children ++ c ∷ [])) ∙ from_0 (child_of n) t.children c
+    append-nil (numbered_texts (child_of n) 0 (t.children ++ c ∷ [])) ∙ from_0 (child_of n) t.children c
     ∙ (λ j. sym (append-nil (table_text n t)) j ++ child_of (e j) (length t.children) c)
 child_last n (t ∷ (u ∷ ts)) c l =
     let e : suc n + (length (u ∷ ts) - 1) ≡ n + (length (t ∷ (u ∷ ts)) - 1) = omega arith in
     ap (λ (z : List ℕ). table_text n t ++ z) (child_last (suc n) (u ∷ ts) c (omega arith))
-    ∙ sym (append_assoc (table_text n t) (numbered table_text (suc n) (u ∷ ts))
+    ∙ sym (append_assoc (table_text n t) (numbered_texts table_text (suc n) (u ∷ ts))
     (child_of (suc n + (length (u ∷ ts) - 1)) (last_children (u ∷ ts)) c))
-    ∙ ap (λ (k : ℕ). (table_text n t ++ numbered table_text (suc n) (u ∷ ts))
+    ∙ ap (λ (k : ℕ). (table_text n t ++ numbered_texts table_text (suc n) (u ∷ ts))
     ++ child_of k (last_children (u ∷ ts)) c) e
 
 -- where what stands behind is empty, more at the end of a part is more at the end of the whole
@@ -82,10 +82,10 @@ abbrev texts_text : List (List ℕ) → List ℕ
 texts_text ts = flat_map (λ t. line (text_text t)) ts
 
 abbrev instrs_text : List Instr → List ℕ
-instrs_text xs = numbered instr_line 0 xs
+instrs_text xs = numbered_texts instr_line 0 xs
 
 abbrev forks_text : List ForkTable → List ℕ
-forks_text fs = numbered table_text 0 fs
+forks_text fs = numbered_texts table_text 0 fs
 
 -- one more item is one more line
 pub text_step : (p : Parts) (x : Item) → CanFollow p x → code_text (after_item p x) ≡ code_text p

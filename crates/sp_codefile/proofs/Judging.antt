@@ -3,8 +3,8 @@ use Rattle.std.proofs.Common.{◌≡◌, subst, ℕ, ◌<◌, Some, arith}
 use Rattle.sp_code.specs.declared.code.Parts.{Parts}
 use Rattle.sp_rules.specs.Named.{BreaksV1}
 use Rattle.sp_rules.specs.Rules.{BreaksV2, BreaksV3, BreaksV4, BreaksV5}
-use Rattle.sp_rules.specs.Verdict.{Rule, V1, V2, V3, V4, V5, V6, V7, V8, V9, number, Breaks, IsRejected}
-use Rattle.sp_areas.specs.Least.{IsLeast}
+use Rattle.sp_rules.specs.Verdict.{Rule, V1, V2, V3, V4, V5, V6, V7, V8, V9, number, BreaksRuleAt, IsRejected}
+use Rattle.sp_areas.specs.LeastPlaces.{IsLeast}
 use Rattle.sp_shapes.specs.Shapes.{AreShapes, IsOutcome}
 use Rattle.sp_shapes.specs.declared.shapes.Outcome.{Outcome}
 use Rattle.sp_shapes.specs.declared.shapes.Outcome.TheVariants as outcome
@@ -40,7 +40,7 @@ module _ (c : Parts) (kept : KeepsBefore c 2) where
       from : ((p : ℕ) → BreaksV2 c p → ⊥) × AreShapes c s → KeepsBefore c 3 × AreShapes c s
       from k = (all, k.1)
         where
-          all : (v : Rule) (p : ℕ) → number v < 3 → Breaks c v p → ⊥
+          all : (v : Rule) (p : ℕ) → number v < 3 → BreaksRuleAt c v p → ⊥
           all V1 p l b = kept V1 p (omega arith) b
           all V2 p l b = k.0 p b
           all V3 p l b = omega (arith, l)

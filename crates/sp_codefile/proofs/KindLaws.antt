@@ -8,8 +8,8 @@ use Rattle.std.specs.Fmt.{digit_glyph}
 use Rattle.std.proofs.lemmas.Bool.Decides.{nat_tests}
 use Rattle.std.proofs.lemmas.Fmt.{decimal_nonempty}
 use Rattle.std.proofs.lemmas.List.Elements.{All-head, All-tail}
-use Rattle.sp_journal.proofs.SplitLaws.{Within}
-use Rattle.sp_journal.proofs.TextLaws.{digits_within}
+use Rattle.sp_codefile.proofs.WordLaws.{BytesWithin}
+use Rattle.sp_codefile.proofs.WordLaws.{digits_within}
 use Rattle.sp_code.specs.declared.code.ChildTable.{ChildTable}
 use Rattle.sp_code.specs.declared.code.ForkTable.{ForkTable}
 use Rattle.sp_code.specs.declared.code.Layout.{Layout}
@@ -24,7 +24,7 @@ use Rattle.sp_codefile.specs.declared.reading.Kind.TheVariants as kind
 use Rattle.sp_codefile.specs.CodeText.{byte_text, child_text, index_text, IsByte, IsCode, LayoutFits, ChildFits}
 use Rattle.sp_codefile.specs.CodeText.{InstrFits}
 use Rattle.sp_codefile.specs.Cuts.{blank_cut}
-use Rattle.sp_codefile.specs.Items.{item_text, last_children, HasRoom, ItemFits, CanFollow, IsNext}
+use Rattle.sp_codefile.specs.Items.{item_text, last_children, HasRoom, ItemFits, CanFollow, IsNextItem}
 use Rattle.sp_codefile.specs.Lines.{layout_words, child_words, digit_value, bytes_of, kind_of}
 use Rattle.sp_codefile.proofs.Printing.{child_body}
 use Rattle.sp_codefile.proofs.WordLaws.{blank_at, digits_no_blank}
@@ -67,7 +67,7 @@ kind_of_item (item.Instr x) = kind.Instr
 kind_of_item (item.Table c) = kind.Child
 kind_of_item (item.Child c) = kind.Child
 
-digit_kind : (ds rest : List ℕ) → 0 < length ds → Within 48 57 ds → kind_of (ds ++ rest) ≡ kind.Instr
+digit_kind : (ds rest : List ℕ) → 0 < length ds → BytesWithin 48 57 ds → kind_of (ds ++ rest) ≡ kind.Instr
 digit_kind [] rest s w = absurd (omega arith)
 digit_kind (d ∷ ds) rest s w =
     let a = w.0 in
@@ -91,12 +91,12 @@ kind_is p (item.Table c) h = child_kind (length p.forks) 0 c
 kind_is p (item.Child c) h = child_kind (length p.forks - 1) (last_children p.forks) c
 
 -- this line says this, if it says anything that can come next
-abbrev pub Says : List ℕ → Item → Type 0
-Says line x = (p : Parts) (y : Item) → IsCode p → CanFollow p y → line ≡ item_text p y → x ≡ y
+abbrev pub LineSays : List ℕ → Item → Type 0
+LineSays line x = (p : Parts) (y : Item) → IsCode p → CanFollow p y → line ≡ item_text p y → x ≡ y
 
 module _ (line : List ℕ) where
   pub says_layout : (l : Layout) → kind_of line ≡ kind.Layout
-      → ((m : Layout) → LayoutFits m → drop 6 line ≡ layout_words m → l ≡ m) → Says line (item.Layout l)
+      → ((m : Layout) → LayoutFits m → drop 6 line ≡ layout_words m → l ≡ m) → LineSays line (item.Layout l)
   says_layout l k f p (item.Layout m) c h e = ap item.Layout (f m h.1 (ap (drop 6) e ∙ layout_behind m))
   says_layout l k f p (item.Text t) c h e = let a : kind.Layout ≡ kind.Text = sym k ∙ ap kind_of e
       ∙ kind_is p (item.Text t) h in absurd (cc a)
@@ -107,7 +107,7 @@ module _ (line : List ℕ) where
   says_layout l k f p (item.Child d) c h e = let a : kind.Layout ≡ kind.Child = sym k ∙ ap kind_of e
       ∙ kind_is p (item.Child d) h in absurd (cc a)
 
-  pub says_text : (t : List ℕ) → kind_of line ≡ kind.Text → t ≡ bytes_of (drop 5 line) → Says line (item.Text t)
+  pub says_text : (t : List ℕ) → kind_of line ≡ kind.Text → t ≡ bytes_of (drop 5 line) → LineSays line (item.Text t)
   says_text t k f p (item.Layout m) c h e = let a : kind.Text ≡ kind.Layout = sym k ∙ ap kind_of e
       ∙ kind_is p (item.Layout m) h in absurd (cc a)
   says_text t k f p (item.Text u) c h e = ap item.Text (f ∙ ap (λ (z : List ℕ). bytes_of (drop 5 z)) e
@@ -127,7 +127,7 @@ module _ (line : List ℕ) where
       ++ instr_text x) (digits_no_blank n l) refl)
 
   pub says_instr : (x : Instr) → kind_of line ≡ kind.Instr
-      → ((y : Instr) → InstrFits y → drop 1 (blank_cut line).1 ≡ instr_text y → x ≡ y) → Says line (item.Instr x)
+      → ((y : Instr) → InstrFits y → drop 1 (blank_cut line).1 ≡ instr_text y → x ≡ y) → LineSays line (item.Instr x)
   says_instr x k f p (item.Layout m) c h e = let a : kind.Instr ≡ kind.Layout = sym k ∙ ap kind_of e
       ∙ kind_is p (item.Layout m) h in absurd (cc a)
   says_instr x k f p (item.Text t) c h e = let a : kind.Instr ≡ kind.Text = sym k ∙ ap kind_of e
@@ -147,7 +147,7 @@ module _ (line : List ℕ) where
   pub says_child : (x : Item) → kind_of line ≡ kind.Child
       → ((t : ℕ) (c : ChildTable) → t < 2 ^ 64 → ChildFits c → drop 5 line ≡ child_words t 0 c → x ≡ item.Table c)
       → ((t n : ℕ) (c : ChildTable) → t < 2 ^ 64 → 0 < n → n < 2 ^ 64 → ChildFits c → drop 5 line ≡ child_words t n c
-      → x ≡ item.Child c) → Says line x
+      → x ≡ item.Child c) → LineSays line x
   says_child x k f g p (item.Layout m) c h e = let a : kind.Child ≡ kind.Layout = sym k ∙ ap kind_of e
       ∙ kind_is p (item.Layout m) h in absurd (cc a)
   says_child x k f g p (item.Text t) c h e = let a : kind.Child ≡ kind.Text = sym k ∙ ap kind_of e
@@ -172,9 +172,9 @@ says_child_of line (Ok x) k f g = says_child line x k f g
 says_child_of line (Err e) k f g = λ p y c h d. tt
 
 -- what is next, by what the line says
-module _ (p : Parts) (line : List ℕ) (x : Item) (c : IsCode p) (says : Says line x) where
-  pub no_room : (HasRoom p x → ⊥) → IsNext p line None
+module _ (p : Parts) (line : List ℕ) (x : Item) (c : IsCode p) (says : LineSays line x) where
+  pub no_room : (HasRoom p x → ⊥) → IsNextItem p line None
   no_room n y h e = n (subst (HasRoom p) (sym (says p y c h e)) h.0)
 
-  pub is_next : HasRoom p x → ItemFits x → line ≡ item_text p x → IsNext p line (Some x)
+  pub is_next : HasRoom p x → ItemFits x → line ≡ item_text p x → IsNextItem p line (Some x)
   is_next room fits e = ((room, fits), e, λ y h g. sym (says p y c h g))

@@ -4,18 +4,19 @@ use Rattle.std.specs.List.{flat_map}
 use Rattle.std.proofs.lemmas.List.Elements.{All-head, All-tail}
 
 -- where the whole is the text of items, those read are the first of them, and the rest is the text of the others
-abbrev pub Left : {X : Type 0} → (X → List ℕ) → (X → Type 0) → List ℕ → List X → List ℕ → Type 0
-Left {X} text Fits whole done rest = (xs : List X) → All Fits xs → whole ≡ flat_map text xs → (more : List X)
+abbrev pub LeavesRest : {X : Type 0} → (X → List ℕ) → (X → Type 0) → List ℕ → List X → List ℕ → Type 0
+LeavesRest {X} text Fits whole done rest = (xs : List X) → All Fits xs → whole ≡ flat_map text xs → (more : List X)
     × (xs ≡ done ++ more) × (rest ≡ flat_map text more) × All Fits more
 
-pub left_start : {X : Type 0} (text : X → List ℕ) (Fits : X → Type 0) (whole : List ℕ) → Left text Fits whole [] whole
+pub left_start : {X : Type 0} (text : X → List ℕ) (Fits : X → Type 0) (whole : List ℕ)
+    → LeavesRest text Fits whole [] whole
 left_start text Fits whole xs a e = (xs, refl, e, a)
 
 pub left_next : {X : Type 0} (text : X → List ℕ) (Fits : X
     → Type 0) (whole : List ℕ) (done : List X) (rest : List ℕ) (x : X) (after : List ℕ) → rest ≢ []
     → ((y : X) (more : List X) → Fits y → All Fits more → rest ≡ text y ++ flat_map text more → (x ≡ y)
     × (after ≡ flat_map text more))
-    → Left text Fits whole done rest → Left text Fits whole (done ++ x ∷ []) after
+    → LeavesRest text Fits whole done rest → LeavesRest text Fits whole (done ++ x ∷ []) after
 left_next {X} text Fits whole done rest x after some one left xs a e = by (left xs a e).0 (left xs a e).1
     (left xs a e).2 (left xs a e).3
   where
@@ -33,7 +34,8 @@ left_next {X} text Fits whole done rest x after some one left xs a e = by (left 
 
 pub left_end : {X : Type 0} (text : X → List ℕ) (Fits : X → Type 0) (whole : List ℕ) (done : List X) (rest : List ℕ)
     → rest ≡ []
-    → ((y : X) (more : List ℕ) → text y ++ more ≢ []) → Left text Fits whole done rest → (xs : List X) → All Fits xs
+    → ((y : X) (more : List ℕ) → text y ++ more ≢ []) → LeavesRest text Fits whole done rest → (xs : List X)
+    → All Fits xs
     → whole ≡ flat_map text xs → done ≡ xs
 left_end {X} text Fits whole done rest none some left xs a e = by (left xs a e).0 (left xs a e).1 (left xs a e).2
   where

@@ -9,9 +9,8 @@ use Rattle.std.proofs.lemmas.Bool.Decides.{nat_tests}
 use Rattle.std.proofs.lemmas.List.Elements.{All-head, All-tail}
 use Rattle.std.proofs.lemmas.Bool.{leb-true}
 use Rattle.sp_base.proofs.Facts.{first_true, second_true}
-use Rattle.sp_journal.proofs.EntryText.{in_line}
-use Rattle.sp_journal.proofs.SplitLaws.{Within, within_append, within_wider}
-use Rattle.sp_journal.proofs.TextLaws.{digits_within}
+use Rattle.sp_codefile.proofs.WordLaws.{BytesWithin, within_append, within_wider}
+use Rattle.sp_codefile.proofs.WordLaws.{digits_within}
 use Rattle.sp_code.specs.declared.code.ChildTable.{ChildTable}
 use Rattle.sp_code.specs.declared.code.Formal.{Formal}
 use Rattle.sp_code.specs.declared.code.Formal.TheVariants as formal
@@ -29,9 +28,13 @@ use Rattle.sp_codefile.specs.Items.{item_text, last_children, CanFollow}
 use Rattle.sp_codefile.proofs.Printing.{child_body}
 use Rattle.sp_codefile.proofs.InstrLaws.{AreSmall, operands_small}
 
+abbrev in_line : List ℕ → Bool
+in_line [] = true
+in_line (x ∷ xs) = nat_le 32 x && (nat_le x 122 && in_line xs)
+
 -- bytes that are printed
 abbrev Plain : List ℕ → Type 0
-Plain xs = Within 32 122 xs
+Plain xs = BytesWithin 32 122 xs
 
 tested : (xs : List ℕ) → in_line xs ≡ true → Plain xs
 tested [] e = tt

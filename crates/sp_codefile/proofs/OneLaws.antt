@@ -8,8 +8,8 @@ use Rattle.std.specs.Fmt.{signed_decimal}
 use Rattle.std.proofs.lemmas.Fmt.{decimal_injective}
 use Rattle.std.proofs.lemmas.List.Elements.{All-head, All-tail}
 use Rattle.std.proofs.lemmas.Option.{same_Some}
-use Rattle.sp_journal.proofs.SplitLaws.{Within}
-use Rattle.sp_journal.proofs.TextLaws.{digits_within}
+use Rattle.sp_codefile.proofs.WordLaws.{BytesWithin}
+use Rattle.sp_codefile.proofs.WordLaws.{digits_within}
 use Rattle.sp_code.specs.declared.code.ChildTable.{ChildTable}
 use Rattle.sp_code.specs.declared.code.Formal.{Formal}
 use Rattle.sp_code.specs.declared.code.Formal.TheVariants as formal
@@ -26,9 +26,9 @@ use Rattle.sp_codefile.specs.CodeText.{ChildFits, InstrFits, IsCode, IsTextOf}
 use Rattle.sp_codefile.specs.Cuts.{blank_cut, word_of, class_cut}
 use Rattle.sp_codefile.specs.Items.{item_text, last_children, CanFollow, after_item}
 use Rattle.sp_codefile.specs.Lines.{parent_word, answer_word, layout_words, child_words, bytes_of, kind_of}
-use Rattle.sp_codefile.specs.Opcodes.{instr_named, filled}
+use Rattle.sp_codefile.specs.Opcodes.{instr_named, with_operands}
 use Rattle.sp_codefile.proofs.WordLaws.{number_cut, no_sign}
-use Rattle.sp_codefile.proofs.InstrLaws.{IsRead, Agree, AreSmall, plain, named_plain, filled_plain, operands_small}
+use Rattle.sp_codefile.proofs.InstrLaws.{IsRead, AreReadAs, AreSmall, plain, named_plain, filled_plain, operands_small}
 use Rattle.sp_codefile.proofs.InstrLaws.{instr_cut, operand_cut}
 use Rattle.sp_codefile.proofs.ItemLaws.{code_step}
 use Rattle.sp_codefile.proofs.LayoutLaws.{number_before, blank_formals, l1, l2, l3, l4, l5, l6, l7, l8, c1, c2, c3, c4}
@@ -37,7 +37,7 @@ use Rattle.sp_codefile.proofs.LayoutLaws.{layout_answer, behind_sizes, layout_si
 use Rattle.sp_codefile.proofs.LayoutLaws.{behind_formals, child_behind, child_table, behind_child, child_number}
 use Rattle.sp_codefile.proofs.LayoutLaws.{behind_entry, child_entry_cut, behind_moves, child_moved, behind_shares}
 use Rattle.sp_codefile.proofs.LayoutLaws.{child_shared, no_formal}
-use Rattle.sp_codefile.proofs.LeadLaws.{Leads, no_parts, from_nothing}
+use Rattle.sp_codefile.proofs.LeadLaws.{ItemsLead, no_parts, from_nothing}
 use Rattle.sp_codefile.proofs.ReadLaws.{GoesOn, none_goes_on, goes_on_next, none_left, no_parts_code}
 use Rattle.sp_codefile.proofs.KindLaws.{kind_of_item, kind_is, bytes_back, instr_behind}
 
@@ -215,7 +215,7 @@ nth n [] = operand_of (pos 0)
 nth zero (x ∷ xs) = operand_of x
 nth (suc n) (x ∷ xs) = nth n xs
 
-agree_all : (zs : List ℤ) → Agree zs (nth 0 zs ∷ nth 1 zs ∷ nth 2 zs ∷ [])
+agree_all : (zs : List ℤ) → AreReadAs zs (nth 0 zs ∷ nth 1 zs ∷ nth 2 zs ∷ [])
 agree_all [] = tt
 agree_all (x ∷ []) = (of_read x, tt)
 agree_all (x ∷ (y ∷ [])) = (of_read x, (of_read y, tt))
@@ -227,12 +227,14 @@ signed_same (pos m) (pos n) p q e = ap pos (decimal_injective m n (omega arith) 
 signed_same (pos m) (negsuc n) p q e = absurd (no_minus m (decimal (suc n)) (omega arith) e)
   where
     no_minus : (m : ℕ) (ds : List ℕ) → m < 2 ^ 64 → decimal m ≡ 45 ∷ ds → ⊥
-    no_minus m ds l e = let w : Within 48 57 (45 ∷ ds) = subst (Within 48 57) e (digits_within m l) in let a = w.0 in
+    no_minus m ds l e = let w : BytesWithin 48 57 (45 ∷ ds) = subst (BytesWithin 48 57) e (digits_within m l) in
+        let a = w.0 in
         omega arith
 signed_same (negsuc m) (pos n) p q e = absurd (no_minus n (decimal (suc m)) (omega arith) (sym e))
   where
     no_minus : (m : ℕ) (ds : List ℕ) → m < 2 ^ 64 → decimal m ≡ 45 ∷ ds → ⊥
-    no_minus m ds l e = let w : Within 48 57 (45 ∷ ds) = subst (Within 48 57) e (digits_within m l) in let a = w.0 in
+    no_minus m ds l e = let w : BytesWithin 48 57 (45 ∷ ds) = subst (BytesWithin 48 57) e (digits_within m l) in
+        let a = w.0 in
         omega arith
 signed_same (negsuc m) (negsuc n) p q e = ap negsuc
     (omega (arith, decimal_injective (suc m) (suc n) (omega arith) (omega arith) (ap (drop 1) e)))
@@ -260,7 +262,7 @@ instr_same x y f g e =
     let ops : operands x ≡ operands y = operands_same (operands x) (operands y) (operands_small x f)
     (operands_small y g) k.1 in
     sym (filled_plain x f (nth 0 (operands x)) (nth 1 (operands x)) (nth 2 (operands x)) (agree_all (operands x)))
-    ∙ (λ j. filled (named j) (nth 0 (ops j)) (nth 1 (ops j)) (nth 2 (ops j)))
+    ∙ (λ j. with_operands (named j) (nth 0 (ops j)) (nth 1 (ops j)) (nth 2 (ops j)))
     ∙ filled_plain y g (nth 0 (operands y)) (nth 1 (operands y)) (nth 2 (operands y)) (agree_all (operands y))
 
 -- no two items that can follow the same parts have one text
@@ -342,7 +344,7 @@ module _ (p : Parts) (code : IsCode p) where
       ∙ child_behind (length p.forks - 1) (last_children p.forks) d))
 
 -- every code's text goes on only in codes that go on from it
-all_go_on : (p : Parts) (xs : List Item) (q : Parts) → IsCode p → GoesOn p → Leads p xs q → GoesOn q
+all_go_on : (p : Parts) (xs : List Item) (q : Parts) → IsCode p → GoesOn p → ItemsLead p xs q → GoesOn q
 all_go_on p [] q c on e = subst GoesOn e on
 all_go_on p (x ∷ xs) q c on h = all_go_on (after_item p x) xs q (code_step p x c h.0)
     (goes_on_next p x c h.0 (λ y k e. item_alone p c y x k h.0 (sym e)) on) h.1

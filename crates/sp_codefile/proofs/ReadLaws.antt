@@ -10,17 +10,33 @@ use Rattle.sp_code.specs.Sizes.{HasNumbers, HasSmallSizes, HasChild}
 use Rattle.sp_codefile.specs.declared.item.Item.{Item}
 use Rattle.std.specs.List.{flat_map}
 use Rattle.std.proofs.lemmas.Bool.{eqb-true, ne_eqb, true≢false}
-use Rattle.sp_journal.proofs.TextLaws.{parts_first, parts_second, none_parts}
 use Rattle.sp_journal.proofs.Facts.{here}
-use Rattle.sp_code.specs.Listing.{numbered, instr_line}
+use Rattle.sp_code.specs.Listing.{numbered_texts, instr_line}
 use Rattle.sp_codefile.specs.CodeText.{layout_text, text_text, table_text, line, code_text, IsCode, IsTextOf, IsOneLine}
 use Rattle.sp_codefile.specs.CodeText.{AreLines, IsFirstBad}
-use Rattle.sp_codefile.specs.Items.{item_text, CanFollow, after_item, IsNext}
+use Rattle.sp_codefile.specs.Items.{item_text, CanFollow, after_item, IsNextItem}
 use Rattle.sp_codefile.proofs.ItemLaws.{text_step, code_step}
-use Rattle.sp_codefile.proofs.LeadLaws.{Leads, no_parts, from_nothing, items_text, text_along}
+use Rattle.sp_codefile.proofs.LeadLaws.{ItemsLead, no_parts, from_nothing, items_text, text_along}
 use Rattle.sp_codefile.proofs.LineLaws.{item_one_line}
 
 -- what stands before and behind the first line feed
+
+pub parts_first : (a b c d : List ℕ) → ◌≡◌ {A = Option (List ℕ × List ℕ)} (Some (a, b)) (Some (c, d)) → a ≡ c
+parts_first a b c d e = ap first e
+  where
+    first : Option (List ℕ × List ℕ) → List ℕ
+    first None = []
+    first (Some p) = p.0
+
+pub parts_second : (a b c d : List ℕ) → ◌≡◌ {A = Option (List ℕ × List ℕ)} (Some (a, b)) (Some (c, d)) → b ≡ d
+parts_second a b c d e = ap second e
+  where
+    second : Option (List ℕ × List ℕ) → List ℕ
+    second None = []
+    second (Some p) = p.1
+
+pub none_parts : (a b : List ℕ) → ◌≡◌ {A = Option (List ℕ × List ℕ)} None (Some (a, b)) → ⊥
+none_parts a b e = cc
 
 pub line_at : (xs ys : List ℕ) → IsOneLine xs → first_split 10 (xs ++ 10 ∷ ys) ≡ Some (xs, ys)
 line_at [] ys w = refl
@@ -95,13 +111,15 @@ one_more (suc n) xs ys a b f g e =
 
 -- each code whose text begins with the text of these parts goes on from them
 abbrev pub GoesOn : Parts → Type 0
-GoesOn p = (q : Parts) (more : List ℕ) → IsCode q → code_text q ≡ code_text p ++ more → (xs : List Item) × Leads p xs q
+GoesOn p = (q : Parts) (more : List ℕ) → IsCode q → code_text q ≡ code_text p ++ more → (xs : List Item)
+    × ItemsLead p xs q
 
 pub none_goes_on : GoesOn no_parts
 none_goes_on q more c e = from_nothing q c
 
 -- the rest of a code's text is the lines of the other items
-rest_text : (p : Parts) (xs : List Item) (q : Parts) (rest : List ℕ) → Leads p xs q → code_text q ≡ code_text p ++ rest
+rest_text : (p : Parts) (xs : List Item) (q : Parts) (rest : List ℕ) → ItemsLead p xs q → code_text q ≡ code_text p
+    ++ rest
     → rest ≡ items_text p xs
 rest_text p xs q rest h e = append_cancel_left (code_text p) rest (items_text p xs) (sym e ∙ text_along p xs q h)
 
@@ -114,14 +132,14 @@ goes_on_next p x c follows alone on q more d e = by (on q (line (item_text p x)
     whole = e ∙ ap (λ (z : List ℕ). z ++ more) (text_step p x follows)
         ∙ append_assoc (code_text p) (line (item_text p x)) more
 
-    by : (xs : List Item) → Leads p xs q → (ys : List Item) × Leads (after_item p x) ys q
+    by : (xs : List Item) → ItemsLead p xs q → (ys : List Item) × ItemsLead (after_item p x) ys q
     by [] h = absurd (no_line (item_text p x) more (rest_text p [] q (line (item_text p x) ++ more) h whole))
     by (y ∷ ys) h =
         let same_rest = rest_text p (y ∷ ys) q (line (item_text p x) ++ more) h whole in
         let k = sym (first_line (item_text p x) more (item_one_line p x c follows)) ∙ ap (first_split 10) same_rest
         ∙ first_line (item_text p y) (items_text (after_item p y) ys) (item_one_line p y c h.0) in
         let is : y ≡ x = alone y h.0 (parts_first _ _ _ _ k) in
-        (ys, subst (λ (z : Item). Leads (after_item p z) ys q) is h.1)
+        (ys, subst (λ (z : Item). ItemsLead (after_item p z) ys q) is h.1)
 
 -- with text left there is a next item on its first line
 pub record FirstLeft (p : Parts) (rest : List ℕ) : Type 0 where
@@ -134,7 +152,7 @@ pub first_left : (p q : Parts) (rest : List ℕ) → IsCode p → GoesOn p → I
     → rest ≢ [] → FirstLeft p rest
 first_left p q rest c on d e some = by (on q rest d e).0 (on q rest d e).1
   where
-    by : (xs : List Item) → Leads p xs q → FirstLeft p rest
+    by : (xs : List Item) → ItemsLead p xs q → FirstLeft p rest
     by [] h = absurd (some (rest_text p [] q rest h e))
     by (y ∷ ys) h = record {
       item = y;
@@ -151,7 +169,7 @@ none_left p q on d e = by (on q [] d whole).0 (on q [] d whole).1
     whole : code_text q ≡ code_text p ++ []
     whole = e ∙ sym (append-nil (code_text p))
 
-    by : (xs : List Item) → Leads p xs q → q ≡ p
+    by : (xs : List Item) → ItemsLead p xs q → q ≡ p
     by [] h = sym h
     by (y ∷ ys) h = absurd (no_line (item_text p y) (items_text (after_item p y) ys)
         (sym (rest_text p (y ∷ ys) q [] h whole)))
@@ -232,7 +250,8 @@ behind_head : (p : Parts) → (rest : List ℕ) × (code_text p ≡ line head ++
 behind_head p = (
   _,
   grouped (line head) (flat_map (λ l. line (layout_text l)) p.layouts)
-      (flat_map (λ t. line (text_text t)) p.texts) (numbered instr_line 0 p.instrs) (numbered table_text 0 p.forks),
+      (flat_map (λ t. line (text_text t)) p.texts) (numbered_texts instr_line 0 p.instrs)
+      (numbered_texts table_text 0 p.forks),
 )
 
 begins_with_head : (p : Parts) (bytes more : List ℕ) → bytes ++ more ≡ code_text p
@@ -280,7 +299,7 @@ bad_first bytes bad = record {
 
 -- one item more
 pub begun_next : (bytes : List ℕ) (n : ℕ) (p : Parts) (rest text after : List ℕ) (x : Item) (q : Parts)
-    → Begun bytes n p rest → Some (text, after) ≡ first_split 10 rest → IsNext p text (Some x) → q ≡ after_item p x
+    → Begun bytes n p rest → Some (text, after) ≡ first_split 10 rest → IsNextItem p text (Some x) → q ≡ after_item p x
     → Begun bytes (suc n) q after
 begun_next bytes n p rest text after x q b f next is = subst (λ (r : Parts). Begun bytes (suc n) r after) (sym is)
     (record {

@@ -16,7 +16,7 @@ use Rattle.sp_code.specs.declared.code.Layout.{Layout}
 use Rattle.sp_code.specs.declared.code.Parts.{Parts}
 use Rattle.sp_code.specs.declared.instr.Instr.{Instr}
 use Rattle.sp_code.specs.declared.instr.Instr.TheVariants as i
-use Rattle.sp_code.specs.Listing.{number_text, numbered, instr_line, child_line}
+use Rattle.sp_code.specs.Listing.{number_text, numbered_texts, instr_line, child_line}
 use Rattle.sp_code.specs.Sizes.{KeepsSizes}
 
 -- the block around a block, if there is one
@@ -71,14 +71,14 @@ abbrev pub child_of : ℕ → ℕ → ChildTable → List ℕ
 child_of t k c = line (child_text t k c)
 
 abbrev pub table_text : ℕ → ForkTable → List ℕ
-table_text t table = numbered (child_of t) 0 table.children
+table_text t table = numbered_texts (child_of t) 0 table.children
 
 -- the first line, all layouts, all texts, all instructions as the listing has them, and all fork tables
 abbrev pub code_text : Parts → List ℕ
 code_text code =
     codes "superpascal code 1\n" ++ flat_map (λ l. line (layout_text l)) code.layouts
     ++ flat_map (λ t. line (text_text t)) code.texts
-    ++ numbered instr_line 0 code.instrs ++ numbered table_text 0 code.forks
+    ++ numbered_texts instr_line 0 code.instrs ++ numbered_texts table_text 0 code.forks
 
 -- a number of 32 bits
 abbrev pub IsNumber : ℕ → Type 0

@@ -62,7 +62,7 @@ after_item p (item.Table c) = record p { forks = p.forks ++ record { children = 
 after_item p (item.Child c) = record p { forks = with_child p.forks c }
 
 -- the line is the text of this item, which can come next, and of no other; or it is the text of none
-abbrev pub IsNext : Parts → List ℕ → Option Item → Type 0
-IsNext p line (Some x) = CanFollow p x × (line ≡ item_text p x)
+abbrev pub IsNextItem : Parts → List ℕ → Option Item → Type 0
+IsNextItem p line (Some x) = CanFollow p x × (line ≡ item_text p x)
     × ((y : Item) → CanFollow p y → line ≡ item_text p y → y ≡ x)
-IsNext p line None = (y : Item) → CanFollow p y → line ≡ item_text p y → ⊥
+IsNextItem p line None = (y : Item) → CanFollow p y → line ≡ item_text p y → ⊥

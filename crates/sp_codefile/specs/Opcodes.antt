@@ -23,29 +23,29 @@ abbrev pub instr_named : List ℕ → Option Instr
 instr_named text = find (λ x. bytes_eq (word x) text) all_instrs
 
 -- the instruction with these operands in place of its own
-abbrev pub filled : Instr → Operand → Operand → Operand → Instr
-filled (i.Const x) a b c = i.Const a.integer
-filled (i.Addr x y) a b c = i.Addr a.number b.number
-filled (i.Deref x y) a b c = i.Deref a.number b.number
-filled (i.Index x y z) a b c = i.Index a.integer b.integer c.number
-filled (i.Field x) a b c = i.Field a.number
-filled (i.Copy x) a b c = i.Copy a.number
-filled (i.Range x y) a b c = i.Range a.integer b.integer
-filled (i.Succ x) a b c = i.Succ a.integer
-filled (i.Pred x) a b c = i.Pred a.integer
-filled (i.Jump x) a b c = i.Jump a.number
-filled (i.Jumpf x) a b c = i.Jumpf a.number
-filled (i.Casej x y) a b c = i.Casej a.integer b.number
-filled (i.Forup x y) a b c = i.Forup a.number b.number
-filled (i.Fordown x y) a b c = i.Fordown a.number b.number
-filled (i.Nextup x y) a b c = i.Nextup a.number b.number
-filled (i.Nextdown x y) a b c = i.Nextdown a.number b.number
-filled (i.Call x y) a b c = i.Call a.number b.number
-filled (i.WriteText x) a b c = i.WriteText a.number
-filled (i.WritewText x) a b c = i.WritewText a.number
-filled (i.Pack x) a b c = i.Pack a.number
-filled (i.Send x) a b c = i.Send a.number
-filled (i.Receive x) a b c = i.Receive a.number
-filled (i.Fork x) a b c = i.Fork a.number
-filled (i.Forall x) a b c = i.Forall a.number
-filled x a b c = x
+abbrev pub with_operands : Instr → Operand → Operand → Operand → Instr
+with_operands (i.Const x) a b c = i.Const a.integer
+with_operands (i.Addr x y) a b c = i.Addr a.number b.number
+with_operands (i.Deref x y) a b c = i.Deref a.number b.number
+with_operands (i.Index x y z) a b c = i.Index a.integer b.integer c.number
+with_operands (i.Field x) a b c = i.Field a.number
+with_operands (i.Copy x) a b c = i.Copy a.number
+with_operands (i.Range x y) a b c = i.Range a.integer b.integer
+with_operands (i.Succ x) a b c = i.Succ a.integer
+with_operands (i.Pred x) a b c = i.Pred a.integer
+with_operands (i.Jump x) a b c = i.Jump a.number
+with_operands (i.Jumpf x) a b c = i.Jumpf a.number
+with_operands (i.Casej x y) a b c = i.Casej a.integer b.number
+with_operands (i.Forup x y) a b c = i.Forup a.number b.number
+with_operands (i.Fordown x y) a b c = i.Fordown a.number b.number
+with_operands (i.Nextup x y) a b c = i.Nextup a.number b.number
+with_operands (i.Nextdown x y) a b c = i.Nextdown a.number b.number
+with_operands (i.Call x y) a b c = i.Call a.number b.number
+with_operands (i.WriteText x) a b c = i.WriteText a.number
+with_operands (i.WritewText x) a b c = i.WritewText a.number
+with_operands (i.Pack x) a b c = i.Pack a.number
+with_operands (i.Send x) a b c = i.Send a.number
+with_operands (i.Receive x) a b c = i.Receive a.number
+with_operands (i.Fork x) a b c = i.Fork a.number
+with_operands (i.Forall x) a b c = i.Forall a.number
+with_operands x a b c = x

@@ -3,7 +3,8 @@
 -- other.
 use Rattle.std.specs.Prelude.{◌≡◌, ℕ, ◌<◌, Result, Ok, Err}
 use Rattle.sp_code.specs.declared.code.Parts.{Parts}
-use Rattle.sp_rules.specs.Verdict.{Rule, V1, V2, V3, V4, V5, V6, V7, V8, V9, number, Breaks, IsVerified, IsRejected}
+use Rattle.sp_rules.specs.Verdict.{Rule, V1, V2, V3, V4, V5, V6, V7, V8, V9, number, BreaksRuleAt, IsVerified}
+use Rattle.sp_rules.specs.Verdict.{IsRejected}
 use Rattle.sp_codefile.specs.declared.verifier.VRule.{VRule}
 use Rattle.sp_codefile.specs.declared.verifier.VRule.TheVariants as rule
 use Rattle.sp_codefile.specs.declared.verifier.Rejected.{Rejected}
@@ -23,7 +24,7 @@ rule_of rule.V9 = V9
 
 -- no rule with a number below n is broken
 abbrev pub KeepsBefore : Parts → ℕ → Type 0
-KeepsBefore c n = (v : Rule) (p : ℕ) → number v < n → Breaks c v p → ⊥
+KeepsBefore c n = (v : Rule) (p : ℕ) → number v < n → BreaksRuleAt c v p → ⊥
 
 -- this is the first broken rule, and the least instruction at which it is; or memory was refused
 abbrev pub IsRefused : Parts → Rejected → Type 0

@@ -5,7 +5,8 @@ ghost use Rattle.std.specs.Prelude.{◌≡◌, ◌++◌, ◌∷◌, [], ◌<◌,
 ghost use Rattle.sp_codefile.specs.declared.decoding.DecodeError.TheVariants.{Memory as OutOfMemory};
 ghost use Rattle.sp_codefile.specs.CodeText.{IsCode};
 ghost use Rattle.sp_codefile.specs.Decoding.{Decodes};
-ghost use Rattle.sp_codefile.specs.Items.{last_children, with_child, item_text, ItemFits, HasRoom, after_item, IsNext};
+ghost use Rattle.sp_codefile.specs.Items.{last_children, with_child, item_text, ItemFits, HasRoom, after_item};
+ghost use Rattle.sp_codefile.specs.Items.{IsNextItem};
 
 use crate::item::Item;
 use crate::reading::read_line;
@@ -90,7 +91,7 @@ fn has_room(parts: &Parts, item: &Item) -> bool
 /// The item of which the line is the text, where it can come next.
 fn next(alloc: Global, parts: &Parts, line: &[u8]) -> Result<Option<Item>, Memory>
     requires { IsCode parts.now }
-    ensures { IfOk result (IsNext parts.now line.now) }
+    ensures { IfOk result (IsNextItem parts.now line.now) }
 {
     let item = read_line(alloc, line)?;
     if !has_room(parts, &item) {

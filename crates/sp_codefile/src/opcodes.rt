@@ -5,7 +5,7 @@ ghost use Rattle.std.specs.Fmt.{signed_decimal};
 ghost use Rattle.sp_code.specs.declared.instr.Instr.{Instr as InstrOf};
 ghost use Rattle.sp_code.specs.Listing.{instr_text};
 ghost use Rattle.sp_codefile.specs.CodeText.{IsNumber, IsInteger, InstrFits};
-ghost use Rattle.sp_codefile.specs.Opcodes.{instr_named, filled};
+ghost use Rattle.sp_codefile.specs.Opcodes.{instr_named, with_operands};
 
 use crate::words::{class_cut, integer, next_word, number};
 use sp_code::Instr;
@@ -110,7 +110,7 @@ fn read_operand(word: &[u8]) -> Operand
 
 /// The instruction with these operands in place of its own.
 fn filled(instr: Instr, first: Operand, second: Operand, third: Operand) -> Instr
-    ensures { result ≡ filled instr first second third }
+    ensures { result ≡ with_operands instr first second third }
 {
     match instr {
         Instr::Const(_) => Instr::Const(first.integer),

@@ -4,14 +4,14 @@
 ghost use Rattle.std.specs.Prelude.{◌≡◌, ◌+◌, IfOk, IfErr, OnOk};
 ghost use Rattle.sp_code.specs.Sound.{IsSound};
 ghost use Rattle.sp_rules.specs.Named.{Homeless};
-ghost use Rattle.sp_rules.specs.Verdict.{Breaks, IsVerified, number};
+ghost use Rattle.sp_rules.specs.Verdict.{BreaksRuleAt, IsVerified, number};
 ghost use Rattle.sp_areas.specs.Blocks.{IsNumbered};
 ghost use Rattle.sp_areas.specs.Homes.{AreHomes};
-ghost use Rattle.sp_areas.specs.Least.{IsLeast};
+ghost use Rattle.sp_areas.specs.LeastPlaces.{IsLeast};
 ghost use Rattle.sp_areas.specs.Owners.{AreOwners};
 ghost use Rattle.sp_shapes.specs.Shapes.{AreShapes};
 ghost use Rattle.sp_effects.specs.Effects.{AreEffects};
-ghost use Rattle.sp_effects.specs.Grounds.{IsGround};
+ghost use Rattle.sp_effects.specs.PassContexts.{IsPassContext};
 ghost use Rattle.sp_codefile.specs.declared.verifier.Rejected.TheVariants.{Memory as OutOfMemory};
 ghost use Rattle.sp_codefile.specs.Verifying.{IsRefused, KeepsBefore, Verifies, rule_of};
 
@@ -125,7 +125,7 @@ impl Verified {
 // Whether a rule is kept, by the least instruction at which it is broken.
 fn keep(code: &Code, rule: VRule, first: Option<u32>) -> Result<(), Rejected>
     requires before { KeepsBefore code.now (number (rule_of rule)) }
-    requires first { IsLeast (Breaks code.now (rule_of rule)) first }
+    requires first { IsLeast (BreaksRuleAt code.now (rule_of rule)) first }
     ensures ok { OnOk result (KeepsBefore code.now (number (rule_of rule) + 1)) }
     ensures err { IfErr result (λ e. IsRefused code.now e) }
 {
@@ -171,7 +171,7 @@ fn keep_cells(code: &Code, blocks: &Blocks, shapes: &Shapes) -> Result<(), Rejec
 
 // Whether V6, V7 and V8 are.
 fn keep_effects(g: &Ground, effects: &Effects) -> Result<(), Rejected>
-    requires known { IsGround g.now }
+    requires known { IsPassContext g.now }
     requires kept { KeepsBefore g.now.code.now 6 }
     requires effects { AreEffects g.now.code.now effects.now }
     ensures ok { OnOk result (KeepsBefore g.now.code.now 9) }
@@ -186,7 +186,7 @@ fn keep_effects(g: &Ground, effects: &Effects) -> Result<(), Rejected>
 
 // Whether V3 to V8 are.
 fn keep_shaped(g: &Ground) -> Result<(), Rejected>
-    requires known { IsGround g.now }
+    requires known { IsPassContext g.now }
     requires kept { KeepsBefore g.now.code.now 3 }
     ensures ok { OnOk result (KeepsBefore g.now.code.now 9) }
     ensures err { IfErr result (λ e. IsRefused g.now.code.now e) }

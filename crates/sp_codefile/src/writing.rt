@@ -3,7 +3,7 @@
 ghost use Rattle.std.specs.Prelude.{◌≡◌, ◌++◌, ◌^◌, ◌<◌, All, IfOk, OnOk, codes, decimal, false, length};
 ghost use Rattle.std.specs.List.{flat_map};
 ghost use Rattle.std.specs.Fmt.{digit_glyph};
-ghost use Rattle.sp_code.specs.Listing.{number_text, numbered, instr_text, instr_line};
+ghost use Rattle.sp_code.specs.Listing.{number_text, numbered_texts, instr_text, instr_line};
 ghost use Rattle.sp_codefile.specs.CodeText.{parent_text, answer_text, formal_text, layout_text, byte_text, text_text};
 ghost use Rattle.sp_codefile.specs.CodeText.{index_text, child_text, line, child_of, table_text, code_text};
 ghost use Rattle.sp_codefile.specs.CodeText.{IsNumber, MayBeNumber, FormalFits, LayoutFits, ChildFits, TableFits};
@@ -237,7 +237,7 @@ fn put_texts(out: &mut Vec<u8>, texts: &[Text]) -> Result<(), Memory>
 
 /// Puts a line for each instruction.
 fn put_instrs(out: &mut Vec<u8>, instrs: &[Instr]) -> Result<(), Memory>
-    ensures text { OnOk result (out.new.items ≡ out.old.items ++ numbered instr_line 0 instrs.now) }
+    ensures text { OnOk result (out.new.items ≡ out.old.items ++ numbered_texts instr_line 0 instrs.now) }
     ensures fits { OnOk result (All InstrFits instrs.now) }
 {
     for (number, instr) in instrs.iter().enumerate() {
@@ -249,7 +249,7 @@ fn put_instrs(out: &mut Vec<u8>, instrs: &[Instr]) -> Result<(), Memory>
 
 /// Puts a line for each child of a fork table.
 fn put_table(out: &mut Vec<u8>, table: usize, children: &[ChildTable]) -> Result<(), Memory>
-    ensures text { OnOk result (out.new.items ≡ out.old.items ++ numbered (child_of table) 0 children.now) }
+    ensures text { OnOk result (out.new.items ≡ out.old.items ++ numbered_texts (child_of table) 0 children.now) }
     ensures fits { OnOk result (All ChildFits children.now) }
     ensures count { OnOk result (length children.now < 2 ^ 64) }
 {
@@ -262,7 +262,7 @@ fn put_table(out: &mut Vec<u8>, table: usize, children: &[ChildTable]) -> Result
 
 /// Puts the lines of all fork tables.
 fn put_tables(out: &mut Vec<u8>, forks: &[ForkTable]) -> Result<(), Memory>
-    ensures text { OnOk result (out.new.items ≡ out.old.items ++ numbered table_text 0 forks.now) }
+    ensures text { OnOk result (out.new.items ≡ out.old.items ++ numbered_texts table_text 0 forks.now) }
     ensures fits { OnOk result (All TableFits forks.now) }
 {
     for (number, table) in forks.iter().enumerate() {

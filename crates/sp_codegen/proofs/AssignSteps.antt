@@ -11,20 +11,21 @@ use Rattle.sp_cell.specs.declared.spot.Address.{Address as Ptr}
 use Rattle.sp_meaning.specs.Maps.{at_key}
 use Rattle.sp_meaning.specs.Model.{Channel}
 use Rattle.sp_meaning.specs.Values.{Value, get_at}
-use Rattle.sp_meaning.specs.Own.{Tree, Address, Own, Item, bind, give, who, fetch, assign, assigned, same_loc, value_in}
-use Rattle.sp_meaning.specs.Eval.{Place, At, Fixed, Calls, checked, read_at, form_value, place}
-use Rattle.sp_meaning.specs.Deeds.{Stepped, has}
+use Rattle.sp_meaning.specs.LocalWork.{Tree, Address, LocalState, Item, bind, give, who, fetch, assign, content_with}
+use Rattle.sp_meaning.specs.LocalWork.{same_loc, value_in}
+use Rattle.sp_meaning.specs.Eval.{Place, AtAddress, Fixed, Calls, checked_value, read_at, form_value, place}
+use Rattle.sp_meaning.specs.Actions.{Stepped}
 use Rattle.sp_meaning.specs.Run.{Store}
 use Rattle.sp_code.specs.declared.instr.Instr.TheVariants as i
-use Rattle.sp_code.specs.Machine.{Entry, Config, Goes, one}
+use Rattle.sp_code.specs.Machine.{Entry, Config, Goes, next_step}
 use Rattle.sp_code.specs.Machine as m
 use Rattle.sp_code.specs.Scopes.{Sort, Ordinals, Channels, Many, NoSort, Scope, sort, sort_by, size}
 use Rattle.sp_code.specs.Places.{after_form, after_var, after_right}
-use Rattle.sp_code.specs.Stands.{Stands, HasFork, HasWords, RightAt}
-use Rattle.sp_codegen.specs.Joints.{Joint}
+use Rattle.sp_code.specs.CodeOfTree.{CodeAt, HasFork, HasWords, RightAt}
+use Rattle.sp_codegen.specs.FramePairs.{FramePair}
 use Rattle.sp_codegen.specs.Executions.{Execution}
 use Rattle.sp_codegen.specs.Relation.{Stood, OneCell, cell_of}
-use Rattle.sp_codegen.proofs.Runs.{Known, stays, goes, known_bind, holds_when}
+use Rattle.sp_codegen.proofs.Runs.{HasKnownValue, stays, goes, known_bind, holds_when}
 use Rattle.sp_codegen.proofs.Values.{form_gives, place_gives}
 use Rattle.sp_codegen.proofs.Follows.{makes_bind, makes_known, makes_went}
 use Rattle.sp_codegen.proofs.StepForms.{G, K, After, Pl, Oks, makes_assoc}
@@ -36,7 +37,7 @@ module _ {M : Type 0} (ex : Execution M) where
     code,
     moves,
     shares,
-    Quiet as hush,
+    IsCallableInFunctions as hush,
     who as w,
     IsReadable as R,
     operations as ops,
@@ -50,29 +51,30 @@ module _ {M : Type 0} (ex : Execution M) where
   -- one cell is assigned
   store_one : (q : ℕ) (z : Sort) (k : ℕ) (v : Value) (e : Entry) (a : Ptr) (stack : List Entry) (n : M)
       → Stood rel p z k v e → OneCell z → ops.has a 1 n ≡ true → slice_get code.instrs q ≡ Some i.Store
-      → one ops code (m.At q (e ∷ m.Pointer a ∷ stack) n) ≡ Goes (m.At (q + 1) stack (ops.put a (cell_of e) n))
+      → next_step ops code (m.At q (e ∷ m.Pointer a ∷ stack) n) ≡ Goes (m.At (q + 1) stack (ops.put a (cell_of e) n))
   store_one q Ordinals k v e a stack n x y ha h =
-      subst (λ u. one ops code (m.At q (u ∷ m.Pointer a ∷ stack) n)
+      subst (λ u. next_step ops code (m.At q (u ∷ m.Pointer a ∷ stack) n)
       ≡ Goes (m.At (q + 1) stack (ops.put a (cell_of u) n))) (sym x.2)
       (at_one ex q _ n h ∙ holds_when (ops.has a 1 n) _ ha)
   store_one q Channels k v e a stack n x y ha h =
-      subst (λ u. one ops code (m.At q (u ∷ m.Pointer a ∷ stack) n)
+      subst (λ u. next_step ops code (m.At q (u ∷ m.Pointer a ∷ stack) n)
       ≡ Goes (m.At (q + 1) stack (ops.put a (cell_of u) n))) (sym x.3)
       (at_one ex q _ n h ∙ holds_when (ops.has a 1 n) _ ha)
   store_one q Many k v e a stack n x y ha h = absurd y
   store_one q NoSort k v e a stack n x y ha h = absurd y
 
-  pub assign_gives : {fs : List Joint} {c : Config M} {o : Own} {s : Store} {n : M} (q : ℕ) (a : Address) (t : Ptr)
+  pub assign_gives : {fs : List FramePair} {c : Config M} {o : LocalState} {s : Store} {n : M} (q : ℕ) (a : Address)
+      (t : Ptr)
       (v : Value) (e : Entry) (stack : List Entry) → rel.Stand fs o s n → rel.Points fs a t → R a.spot
       → OneCell (sort p a.kind) → Stood rel p (sort p a.kind) a.kind v e
-      → one ops code c ≡ Goes (m.At q stack (ops.put t (cell_of e) n))
+      → next_step ops code c ≡ Goes (m.At q stack (ops.put t (cell_of e) n))
       → G ex fs c o s q (λ (u : Unit {0}) (z : Unit {0}). stack) (λ u z. Unit {0}) (assign a v)
   assign_gives {n = n} q a t v e stack st pt r oc sd ge =
       record { by = (tt, ops.put t (cell_of e) n, goes ops rel w code ge, law.store st a t pt r oc v e sd, tt) }
 
   -- an array's or a record's type
   many_kind : (y : Option KindOf) → sort_by y ≡ Many → (ty : KindOf) × (y ≡ Some ty)
-      × ((v : Value) (o : Own) (s : Store) → Known ops rel w code o s (checked ty v) v)
+      × ((v : Value) (o : LocalState) (s : Store) → HasKnownValue ops rel w code o s (checked_value ty v) v)
   many_kind None e = absurd (subst IsMany (sym e) tt)
   many_kind (Some kind.Integer) e = absurd (subst IsMany (sym e) tt)
   many_kind (Some kind.Boolean) e = absurd (subst IsMany (sym e) tt)
@@ -85,11 +87,12 @@ module _ {M : Type 0} (ex : Execution M) where
 
   -- assignment
   pub assign_makes : (call : Calls) → Oks ex call
-      → (end : ℕ) (base : List Entry) (below : List Joint) (z : Sort) (k : ℕ)
+      → (end : ℕ) (base : List Entry) (below : List FramePair) (z : Sort) (k : ℕ)
       (form : ExprForm) (sc : List Scope) (q : ℕ) (stack : List Entry) (todo : List Item) (a : Address) (u : Ptr)
-      (fs : List Joint) (o : Own) (s : Store) (n : M) → rel.Stand fs o s n → Pl ex sc fs (In_form form) → sort p k ≡ z
+      (fs : List FramePair) (o : LocalState) (s : Store) (n : M) → rel.Stand fs o s n → Pl ex sc fs (In_form form)
+      → sort p k ≡ z
       → a.kind ≡ k → rel.Points fs a u → R a.spot
-      → RightAt p moves shares (Stands code) (HasFork code) (HasWords code) hush sc q k z form
+      → RightAt p moves shares (CodeAt code) (HasFork code) (HasWords code) hush sc q k z form
       → After ex end base below todo fs (after_right q z form + 1) stack
       → K ex (m.At q (m.Pointer u ∷ stack) n) o s (After ex end base below)
       (bind (form_value g call k form) (λ v. bind (assign a v) (λ x. give (Stepped todo))))
@@ -116,11 +119,11 @@ module _ {M : Type 0} (ex : Execution M) where
       v : Var
       v = Entire y ss
 
-      by_place : (pl : Place) (b : Ptr) (o1 : Own) (s1 : Store) (n1 : M) → rel.Stand fs o1 s1 n1
+      by_place : (pl : Place) (b : Ptr) (o1 : LocalState) (s1 : Store) (n1 : M) → rel.Stand fs o1 s1 n1
           → PlaceIs ex fs y k pl b → K ex (m.At (after_var q v) (m.Pointer b ∷ m.Pointer u ∷ stack) n1) o1 s1
           (After ex end base below) (bind (read_at g pl) (λ v. bind (assign a v) (λ x. give (Stepped todo))))
       by_place (Fixed z) b o1 s1 n1 t1 x = absurd (subst IsMany (sym ez ∙ x.0) tt)
-      by_place (At c) b o1 s1 n1 t1 x =
+      by_place (AtAddress c) b o1 s1 n1 t1 x =
           let ty = many_kind (slice_get p.kinds k) ez in
           let val = get_at c.path (value_in (s1 c.spot)) in
           let has_from : ops.has b (size p k) n1 ≡ true =
@@ -128,9 +131,9 @@ module _ {M : Type 0} (ex : Execution M) where
           let has_to : ops.has u (size p k) n1 ≡ true =
           subst (λ z. ops.has u (size p z) n1 ≡ true) ek (law.has t1 a u pt ra) in
           makes_known ex (λ v. bind (assign a v) (λ x. give (Stepped todo))) val
-          (known_bind ops rel w code (λ y. bind (fetch c) (checked y)) ty.0 val
+          (known_bind ops rel w code (λ y. bind (fetch c) (checked_value y)) ty.0 val
           (kind_known ex c.kind k ty.0 x.0 ty.1)
-          (known_bind ops rel w code (checked ty.0) val val (fetch_known ex c) (ty.2 val o1 s1)))
+          (known_bind ops rel w code (checked_value ty.0) val val (fetch_known ex c) (ty.2 val o1 s1)))
           (record {
             by = (
               after_var q v + 1,
@@ -140,7 +143,7 @@ module _ {M : Type 0} (ex : Execution M) where
               goes ops rel w code (at_one ex (after_var q v) _ n1 h.1
                   ∙ holds_when (ops.has b (size p k) n1 && ops.has u (size p k) n1) _ (and_from _ _ has_from has_to)),
               subst (λ y. rel.Stand fs o1 (at_key same_loc a.spot
-                  (assigned a (s1 a.spot) (Tree (get_at c.path (value_in (s1 c.spot))))) s1)
+                  (content_with a (s1 a.spot) (Tree (get_at c.path (value_in (s1 c.spot))))) s1)
                   (ops.copy u b (size p y) n1)) ek (law.copy t1 a c u b pt x.1 ra x.2 (ek ∙ sym x.0)),
               fo,
             );

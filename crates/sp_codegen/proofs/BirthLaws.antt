@@ -11,34 +11,36 @@ use Rattle.sp_tree.specs.Sets.{Reach, IsTarget, IsUsed}
 use Rattle.sp_tree.specs.Uses.{Use, Seen, In_stmt}
 use Rattle.sp_cell.specs.declared.spot.Handing.{Handing}
 use Rattle.sp_cell.specs.declared.spot.Spot.{Spot}
-use Rattle.sp_cell.specs.Fork.{index_frame, handed, joined, moved_of, shared_of}
+use Rattle.sp_cell.specs.Fork.{index_frame, map_after_fork, map_after_join, moved_of, shared_of}
 use Rattle.sp_cell.specs.Map.{Map, Plain, output_spot, with_map}
 use Rattle.sp_cell.specs.Spots.{In, NotIn}
 use Rattle.sp_meaning.specs.Model.{Name, Channel}
-use Rattle.sp_meaning.specs.Own.{Setting, Loc, Output, Own, Who}
-use Rattle.sp_meaning.specs.Deeds.{Birth, push, size_of_frame}
+use Rattle.sp_meaning.specs.LocalWork.{RunInput, Loc, Output, LocalState, Identity}
+use Rattle.sp_meaning.specs.Actions.{Birth, push, size_of_frame}
 use Rattle.sp_meaning.specs.Run.{Store}
 use Rattle.sp_meaning.specs.SuperPascal.{root, first_store}
 use Rattle.sp_code.specs.declared.code.ChildTable.{ChildTable}
 use Rattle.sp_code.specs.declared.instr.Instr.TheVariants as i
 use Rattle.sp_code.specs.Emitted.{program_code, child_table}
 use Rattle.sp_code.specs.Machine.{Entry, At, layout_of}
-use Rattle.sp_code.specs.Memory.{Memory, first, first_memory, entry_of}
-use Rattle.sp_code.specs.Places.{after}
+use Rattle.sp_code.specs.Memory.{Memory, first_process, first_memory, entry_of}
+use Rattle.sp_code.specs.Places.{after_statement}
 use Rattle.sp_code.specs.PlainStore.{plain}
-use Rattle.sp_code.specs.Quiet.{IsQuiet}
+use Rattle.sp_code.specs.NeverStops.{NeverStops}
 use Rattle.sp_code.specs.Scopes.{Scope, OfIndex, scopes_of}
 use Rattle.sp_code.specs.Shares.{SetsAre}
-use Rattle.sp_code.specs.Stands.{BlockAt, BlocksAt, StandsAt, Stands as Instr_at, HasFork, HasWords}
-use Rattle.sp_code.specs.System.{newborn, handing_of}
+use Rattle.sp_code.specs.CodeOfTree.{BlockAt, BlocksAt, StandsAt, CodeAt as Instr_at, HasFork, HasWords}
+use Rattle.sp_code.specs.System.{child_process, handing_of}
 use Rattle.sp_code.proofs.Blocks.{blocks_stand, layout_found}
-use Rattle.sp_codegen.specs.Following.{Follows}
-use Rattle.sp_codegen.specs.Joints.{Joint, sources, from}
-use Rattle.sp_codegen.specs.Lives.{IsCompilable, Life, IsLife, Named, Called, Writes, IsReadable, Indexes, Stands, Laws}
-use Rattle.sp_codegen.specs.Lives.{execution_of, IsPlaced, IsAt, Begins, first_life, child_life, own_at_birth, IsKnown}
-use Rattle.sp_codegen.specs.Lives.{IsAway}
-use Rattle.sp_codegen.specs.Meets.{code_run}
-use Rattle.sp_codegen.specs.Parents.{ChildIs, Joins, GivesBack}
+use Rattle.sp_codegen.specs.Following.{CodeFollows}
+use Rattle.sp_codegen.specs.FramePairs.{FramePair, sources, pairs_from}
+use Rattle.sp_codegen.specs.ProcessInfos.{IsCompilable, ProcessInfo, IsProcessInfo, Named, Called, IsWritableLoc}
+use Rattle.sp_codegen.specs.ProcessInfos.{IsReadable, Indexes, MemoryMatches, Laws}
+use Rattle.sp_codegen.specs.ProcessInfos.{execution_of, IsPlaced, IsAt, IsAboutToBegin, first_info, child_info}
+use Rattle.sp_codegen.specs.ProcessInfos.{own_at_birth, HasHanded}
+use Rattle.sp_codegen.specs.ProcessInfos.{IsAway}
+use Rattle.sp_codegen.specs.TurnAgrees.{code_run}
+use Rattle.sp_codegen.specs.Parents.{ChildIs, JoiningStands, GivesBack}
 use Rattle.sp_codegen.specs.Relation.{Placed}
 use Rattle.sp_codegen.specs.Standing.{Stand}
 use Rattle.sp_codegen.proofs.Begins.{child_begins, index_child_begins, memory_in}
@@ -48,23 +50,24 @@ use Rattle.sp_codegen.proofs.Closing.{Laid}
 use Rattle.sp_codegen.proofs.FirstTurn.{laid_of}
 use Rattle.sp_codegen.proofs.Follows.{push_follows, slides}
 use Rattle.sp_codegen.proofs.Joining.{all_joined, stand_same, joining_more, handed_joining, joined_joining}
-use Rattle.sp_codegen.proofs.LifeLaws.{reads_all}
+use Rattle.sp_codegen.proofs.ProcessInfoLaws.{reads_all}
 use Rattle.sp_codegen.proofs.Root.{j0, root_stands, root_placed}
 
-module _ (g : Setting) (moves shares : Stmt → List ℕ) (pause : ℕ) (tree : IsCompilable g.program moves shares) where
-  blocks : BlocksAt g.program moves shares (program_code g.program moves shares) (IsQuiet g.program)
-  blocks = blocks_stand g.program moves shares (IsQuiet g.program) tree.fine
+module _ (g : RunInput) (moves shares : Stmt → List ℕ) (pause : ℕ) (tree : IsCompilable g.program moves shares) where
+  blocks : BlocksAt g.program moves shares (program_code g.program moves shares) (NeverStops g.program)
+  blocks = blocks_stand g.program moves shares (NeverStops g.program) tree.fine
 
   laid : Laid g.program (program_code g.program moves shares).layouts
-  laid = laid_of g.program (program_code g.program moves shares) moves shares (IsQuiet g.program) blocks
+  laid = laid_of g.program (program_code g.program moves shares) moves shares (NeverStops g.program) blocks
       (λ f l e. layout_found g.program f l e)
 
   -- ---- the first process
 
   pub first_begins : (channels : List Channel) (processes : List Name) (b : Block)
       → slice_get g.program.blocks 0 ≡ Some b → size_of_frame g 0 ≤ g.limits.cells → slice_get processes 0 ≡ Some []
-      → (js : List Joint) × Begins g moves shares pause (first_life channels processes) js (push b.body []) (root g).own
-      (first_store g) (first plain (code_run g (program_code g.program moves shares) pause))
+      → (js : List FramePair) × IsAboutToBegin g moves shares pause (first_info channels processes) js (push b.body [])
+      (root g).own
+      (first_store g) (first_process plain (code_run g (program_code g.program moves shares) pause))
   first_begins channels processes b eb fits called = (js, λ h. go h)
     where
       code : Rattle.sp_code.specs.declared.code.Parts.Parts
@@ -76,32 +79,33 @@ module _ (g : Setting) (moves shares : Stmt → List ℕ) (pause : ℕ) (tree : 
       C : Name → ℕ → Type 0
       C q k = slice_get processes k ≡ Some q
 
-      js : List Joint
+      js : List FramePair
       js = j0 g code tree.formed laid b eb pause N C called ∷ []
 
-      layout : BlockAt g.program moves shares code (IsQuiet g.program) 0 b
+      layout : BlockAt g.program moves shares code (NeverStops g.program) 0 b
       layout = blocks 0 b eb
 
       end : ℕ
-      end = after g.program layout.layout.entry b.body
+      end = after_statement g.program layout.layout.entry b.body
 
       entry_is : entry_of plain (code_run g code pause) (layout_of code.layouts 0) ≡ layout.layout.entry
       entry_is = ap (λ z. entry_of plain (code_run g code pause) z) (layout_found g.program 0 layout.layout layout.at)
 
-      go : (h : Laws g moves shares pause (first_life channels processes)) → (end : ℕ)
-          × IsAt g moves shares pause (first_life channels processes) h end [] js js (push b.body [])
+      go : (h : Laws g moves shares pause (first_info channels processes)) → (end : ℕ)
+          × IsAt g moves shares pause (first_info channels processes) h end [] js js (push b.body [])
           (entry_of plain (code_run g code pause) (layout_of code.layouts 0)) [] (root g).own (first_store g)
           (first_memory plain (code_run g code pause) (layout_of code.layouts 0))
       go h = (
         end,
         record {
           stands = root_stands g code tree.formed laid b eb pause N C called fits;
-          follows = subst (λ z. Follows (execution_of g moves shares pause (first_life channels processes) h) end [] js
+          follows = subst (λ z. CodeFollows (execution_of g moves shares pause (first_info channels processes) h)
+              end [] js
               z [] js (push b.body [])) (sym entry_is)
-              (push_follows (execution_of g moves shares pause (first_life channels processes) h) b.body end [] js
+              (push_follows (execution_of g moves shares pause (first_info channels processes) h) b.body end [] js
               (scopes_of g.program 0) layout.layout.entry [] js []
               (root_placed g code tree.formed laid b eb pause N C called tree.free) (layout.stands.body true tt)
-              (slides (execution_of g moves shares pause (first_life channels processes) h) end [], refl, refl));
+              (slides (execution_of g moves shares pause (first_info channels processes) h) end [], refl, refl));
           ends = layout.stands.end;
           outer = refl;
         },
@@ -119,10 +123,11 @@ module _ (g : Setting) (moves shares : Stmt → List ℕ) (pause : ℕ) (tree : 
   unread formed (inl a) = a
   unread {Here} formed (inr a) = absurd (reached_formed a.0 Here (Seen 1) formed a.1 refl)
 
-  module _ (life : Life) (live : IsLife life) (sets : SetsAre g.program moves shares) (js : List Joint) (o : Own)
-      (s : Store) (n : Memory Plain) (stands : Stands g moves shares pause life js o s n)
+  module _ (life : ProcessInfo) (live : IsProcessInfo life) (sets : SetsAre g.program moves shares)
+      (js : List FramePair) (o : LocalState)
+      (s : Store) (n : Memory Plain) (stands : MemoryMatches g moves shares pause life js o s n)
       (may_fork : o.depth + 1 ≤ g.limits.depth)
-      (v : Who) (longer : suc (length life.who.name) ≤ length v.name) (number : ℕ)
+      (v : Identity) (longer : suc (length life.who.name) ≤ length v.name) (number : ℕ)
       (called : slice_get life.processes number ≡ Some v.name) (pc : ℕ) (stack : List Entry) (value : ℤ)
       (sc : List Scope) where
     abbrev code : Rattle.sp_code.specs.declared.code.Parts.Parts
@@ -131,13 +136,13 @@ module _ (g : Setting) (moves shares : Stmt → List ℕ) (pause : ℕ) (tree : 
     consoles : (y : ℕ) (x : Variable) → slice_get g.program.variables y ≡ Some x → x.role ≡ role.Console → y < 2
     consoles y x e r = (tree.free.consoles y x e r).1
 
-    is_life : (older frames : List Joint) (scopes : List Scope) (st : Stmt) (h : Handing) → 1 ≤ length frames
-        → IsKnown n h → IsLife (child_life life v older scopes frames st o.depth h)
+    is_life : (older frames : List FramePair) (scopes : List Scope) (st : Stmt) (h : Handing) → 1 ≤ length frames
+        → HasHanded n h → IsProcessInfo (child_info life v older scopes frames st o.depth h)
     is_life older frames scopes st h some known = record {
       channels = live.channels;
       based = some;
       low = low_small g code life.who (λ c j. Named g moves shares pause life c j)
-          (λ q k. Called g moves shares pause life q k) (λ l. Writes g moves shares pause life l)
+          (λ q k. Called g moves shares pause life q k) (λ l. IsWritableLoc g moves shares pause life l)
           (λ l. IsReadable g moves shares pause life l) (λ k. Indexes g moves shares pause life k) life.low life.base
           life.born life.since pause life.moved live.based stands may_fork h
           (λ q m. known q (inl m)) v (omega (arith, longer)) number called (λ a. ⊥) (λ a. ⊥) (λ a. ⊥)
@@ -150,15 +155,15 @@ module _ (g : Setting) (moves shares : Stmt → List ℕ) (pause : ℕ) (tree : 
     pub child_begins_so : (ss : Stmts) (q k : ℕ) (b : Birth)
         → IsPlaced g moves shares pause life sc js (In_stmt (Parallel ss))
         → ((u : Use) → In_stmt (Parallel ss) u → IsFormedUse g.program u)
-        → (z : ChildIs g.program moves shares code (IsQuiet g.program) true sc ss q k b)
-        → IsKnown n (handing_of code.layouts n.frames value k
+        → (z : ChildIs g.program moves shares code (NeverStops g.program) true sc ss q k b)
+        → HasHanded n (handing_of code.layouts n.frames value k
         (child_table g.program moves shares z.entry None z.statement))
-        → IsLife (child_life life v js sc js z.statement o.depth
+        → IsProcessInfo (child_info life v js sc js z.statement o.depth
         (handing_of code.layouts n.frames value k (child_table g.program moves shares z.entry None z.statement)))
-        × Begins g moves shares pause (child_life life v js sc js z.statement o.depth
+        × IsAboutToBegin g moves shares pause (child_info life v js sc js z.statement o.depth
         (handing_of code.layouts n.frames value k (child_table g.program moves shares z.entry None z.statement))) js
         b.todo (own_at_birth o.frames o.depth) s
-        (newborn plain (code_run g code pause) (At pc stack n) value number k
+        (child_process plain (code_run g code pause) (At pc stack n) value number k
         (child_table g.program moves shares z.entry None z.statement))
     child_begins_so ss q k b pl formed z known = (
       is_life js js sc z.statement h1
@@ -172,19 +177,19 @@ module _ (g : Setting) (moves shares : Stmt → List ℕ) (pause : ℕ) (tree : 
         h1 : Handing
         h1 = handing_of code.layouts n.frames value k table
 
-        lf : Life
-        lf = child_life life v js sc js z.statement o.depth h1
+        lf : ProcessInfo
+        lf = child_info life v js sc js z.statement o.depth h1
 
-        begun : Stands g moves shares pause lf js (own_at_birth o.frames o.depth) s
-            (memory_in (newborn plain (code_run g code pause) (At pc stack n) value number k table))
-            × Placed g (λ l. Writes g moves shares pause lf l) (λ l. IsReadable g moves shares pause lf l)
+        begun : MemoryMatches g moves shares pause lf js (own_at_birth o.frames o.depth) s
+            (memory_in (child_process plain (code_run g code pause) (At pc stack n) value number k table))
+            × Placed g (λ l. IsWritableLoc g moves shares pause lf l) (λ l. IsReadable g moves shares pause lf l)
             (λ y. Indexes g moves shares pause lf y) sc js (In_stmt z.statement)
         begun = child_begins g code life.who (λ c j. Named g moves shares pause life c j)
-            (λ q k. Called g moves shares pause life q k) (λ l. Writes g moves shares pause life l)
+            (λ q k. Called g moves shares pause life q k) (λ l. IsWritableLoc g moves shares pause life l)
             (λ l. IsReadable g moves shares pause life l) (λ h. Indexes g moves shares pause life h) life.low life.base
             life.born life.since pause life.moved live.based
             tree.formed laid tree.free (λ l w. reads_all g moves shares pause life tree life.who.name life.given l w)
-            moves shares sets consoles stands may_fork ss sc pl (IsQuiet g.program) q k b z
+            moves shares sets consoles stands may_fork ss sc pl (NeverStops g.program) q k b z
             (unread (λ u a. formed u (inr (inl (z.inside u a))))) v longer number called pc stack value
             (λ q m. known q (inl m))
 
@@ -193,14 +198,15 @@ module _ (g : Setting) (moves shares : Stmt → List ℕ) (pause : ℕ) (tree : 
 
         go : (l : Laws g moves shares pause lf) → (end : ℕ)
             × IsAt g moves shares pause lf l end [] js js b.todo z.entry [] (own_at_birth o.frames o.depth) s
-            (memory_in (newborn plain (code_run g code pause) (At pc stack n) value number k table))
+            (memory_in (child_process plain (code_run g code pause) (At pc stack n) value number k table))
         go l = (
-          after g.program z.entry z.statement,
+          after_statement g.program z.entry z.statement,
           record {
             stands = begun.0;
             ends = z.end;
             outer = refl;
-            follows = subst (λ y. Follows (execution_of g moves shares pause lf l) (after g.program z.entry z.statement)
+            follows = subst (λ y. CodeFollows (execution_of g moves shares pause lf l)
+                (after_statement g.program z.entry z.statement)
                 [] js z.entry [] js y) (sym todo_is)
                 (child_follows (execution_of g moves shares pause lf l) z.statement sc z.entry (moves z.statement)
                 (shares z.statement) None js begun.1 z.body);
@@ -209,27 +215,27 @@ module _ (g : Setting) (moves shares : Stmt → List ℕ) (pause : ℕ) (tree : 
 
     -- ---- a child of a forall, with its index
 
-    pub index_child_begins_so : (x : ℕ) (from to : Expr) (st : Stmt) (entry k : ℕ)
-        → (pl : IsPlaced g moves shares pause life sc js (In_stmt (Forall x from to st)))
+    pub index_child_begins_so : (x : ℕ) (pairs_from to : Expr) (st : Stmt) (entry k : ℕ)
+        → (pl : IsPlaced g moves shares pause life sc js (In_stmt (Forall x pairs_from to st)))
         → ((u : Use) → In_stmt st u → IsFormedUse g.program u)
-        → StandsAt g.program moves shares (Instr_at code) (HasFork code) (HasWords code) (IsQuiet g.program) true
-        (OfIndex x ∷ sc) entry st → slice_get code.instrs (after g.program entry st) ≡ Some i.End
-        → IsKnown n (handing_of code.layouts n.frames value k (child_table g.program moves shares entry (Some x) st))
-        → (j : Joint) × (j.source ≡ record {
+        → StandsAt g.program moves shares (Instr_at code) (HasFork code) (HasWords code) (NeverStops g.program) true
+        (OfIndex x ∷ sc) entry st → slice_get code.instrs (after_statement g.program entry st) ≡ Some i.End
+        → HasHanded n (handing_of code.layouts n.frames value k (child_table g.program moves shares entry (Some x) st))
+        → (j : FramePair) × (j.source ≡ record {
           owner = v.name;
           number = length js;
-          home = Rattle.sp_meaning.specs.Own.OfIndex x (value +ℤ pos k);
+          home = Rattle.sp_meaning.specs.LocalWork.OfIndex x (value +ℤ pos k);
           link = length js;
           references = [];
         })
-        × IsLife (child_life life v js (OfIndex x ∷ sc) (j ∷ js) st o.depth
+        × IsProcessInfo (child_info life v js (OfIndex x ∷ sc) (j ∷ js) st o.depth
         (handing_of code.layouts n.frames value k (child_table g.program moves shares entry (Some x) st)))
-        × Begins g moves shares pause (child_life life v js (OfIndex x ∷ sc) (j ∷ js) st o.depth
+        × IsAboutToBegin g moves shares pause (child_info life v js (OfIndex x ∷ sc) (j ∷ js) st o.depth
         (handing_of code.layouts n.frames value k (child_table g.program moves shares entry (Some x) st))) (j ∷ js)
         (push st []) (own_at_birth (sources (j ∷ js)) o.depth) s
-        (newborn plain (code_run g code pause) (At pc stack n) value number k
+        (child_process plain (code_run g code pause) (At pc stack n) value number k
         (child_table g.program moves shares entry (Some x) st))
-    index_child_begins_so x from to st entry k pl formed body ends known = (jx, refl, is, λ l. go l)
+    index_child_begins_so x pairs_from to st entry k pl formed body ends known = (jx, refl, is, λ l. go l)
       where
         table : ChildTable
         table = child_table g.program moves shares entry (Some x) st
@@ -237,12 +243,12 @@ module _ (g : Setting) (moves shares : Stmt → List ℕ) (pause : ℕ) (tree : 
         h : Handing
         h = handing_of code.layouts n.frames value k table
 
-        jx : Joint
+        jx : FramePair
         jx = record {
           source = record {
             owner = v.name;
             number = length js;
-            home = Rattle.sp_meaning.specs.Own.OfIndex x (value +ℤ pos k);
+            home = Rattle.sp_meaning.specs.LocalWork.OfIndex x (value +ℤ pos k);
             link = length js;
             references = [];
           };
@@ -255,30 +261,30 @@ module _ (g : Setting) (moves shares : Stmt → List ℕ) (pause : ℕ) (tree : 
           };
         }
 
-        lf : Life
-        lf = child_life life v js (OfIndex x ∷ sc) (jx ∷ js) st o.depth h
+        lf : ProcessInfo
+        lf = child_info life v js (OfIndex x ∷ sc) (jx ∷ js) st o.depth h
 
-        is : IsLife lf
+        is : IsProcessInfo lf
         is = is_life js (jx ∷ js) (OfIndex x ∷ sc) st h (omega arith) known
 
-        begun : Stands g moves shares pause lf (jx ∷ js) (own_at_birth (sources (jx ∷ js)) o.depth) s
-            (memory_in (newborn plain (code_run g code pause) (At pc stack n) value number k table))
-            × Placed g (λ l. Writes g moves shares pause lf l) (λ l. IsReadable g moves shares pause lf l)
+        begun : MemoryMatches g moves shares pause lf (jx ∷ js) (own_at_birth (sources (jx ∷ js)) o.depth) s
+            (memory_in (child_process plain (code_run g code pause) (At pc stack n) value number k table))
+            × Placed g (λ l. IsWritableLoc g moves shares pause lf l) (λ l. IsReadable g moves shares pause lf l)
             (λ y. Indexes g moves shares pause lf y) (OfIndex x ∷ sc) (jx ∷ js) (In_stmt st)
         begun = index_child_begins g code life.who (λ c j. Named g moves shares pause life c j)
-            (λ q k. Called g moves shares pause life q k) (λ l. Writes g moves shares pause life l)
+            (λ q k. Called g moves shares pause life q k) (λ l. IsWritableLoc g moves shares pause life l)
             (λ l. IsReadable g moves shares pause life l) (λ h. Indexes g moves shares pause life h) life.low life.base
             life.born life.since pause life.moved live.based
             tree.formed laid tree.free (λ l w. reads_all g moves shares pause life tree life.who.name life.given l w)
-            moves shares sets consoles stands may_fork x from to st sc pl entry k
+            moves shares sets consoles stands may_fork x pairs_from to st sc pl entry k
             (unread formed) v longer number called pc stack value (λ q m. known q (inl m))
 
         go : (l : Laws g moves shares pause lf) → (end : ℕ)
             × IsAt g moves shares pause lf l end [] (jx ∷ js) (jx ∷ js) (push st []) entry []
             (own_at_birth (sources (jx ∷ js)) o.depth) s
-            (memory_in (newborn plain (code_run g code pause) (At pc stack n) value number k table))
+            (memory_in (child_process plain (code_run g code pause) (At pc stack n) value number k table))
         go l = (
-          after g.program entry st,
+          after_statement g.program entry st,
           record {
             stands = begun.0;
             ends = ends;
@@ -290,39 +296,40 @@ module _ (g : Setting) (moves shares : Stmt → List ℕ) (pause : ℕ) (tree : 
 
   -- ---- a parent and its children; what others do
 
-  module _ (life : Life) where
-    pub same_stands : (js : List Joint) (o : Own) (s t : Store) (n : Memory Plain)
-        → Stands g moves shares pause life js o s n → ((l : Loc) → IsReadable g moves shares pause life l → t l ≡ s l)
-        → Stands g moves shares pause life js o t n
+  module _ (life : ProcessInfo) where
+    pub same_stands : (js : List FramePair) (o : LocalState) (s t : Store) (n : Memory Plain)
+        → MemoryMatches g moves shares pause life js o s n
+        → ((l : Loc) → IsReadable g moves shares pause life l → t l ≡ s l)
+        → MemoryMatches g moves shares pause life js o t n
     same_stands js o s t n st same = stand_same g (program_code g.program moves shares) life.who
         (λ c j. Named g moves shares pause life c j) (λ q k. Called g moves shares pause life q k)
-        (λ l. Writes g moves shares pause life l) (λ l. IsReadable g moves shares pause life l)
+        (λ l. IsWritableLoc g moves shares pause life l) (λ l. IsReadable g moves shares pause life l)
         (λ h. Indexes g moves shares pause life h) life.low life.base life.born life.since pause life.moved st t same
 
     -- with what the children have moved and not brought back
-    pub parent_joins : (js : List Joint) (o : Own) (s : Store) (n : Memory Plain) (hs : List Handing)
-        → Stands g moves shares pause life js o s n
+    pub parent_joins : (js : List FramePair) (o : LocalState) (s : Store) (n : Memory Plain) (hs : List Handing)
+        → MemoryMatches g moves shares pause life js o s n
         → ((q : Spot) → In q (moved_of hs) ⊎ In q (shared_of hs) → IsSome (fin.get n.store.map q))
         → (IsReadable g moves shares pause life Output → NotIn output_spot (shared_of hs))
-        → Joins g moves shares pause life (IsAway hs []) js o s n (handed n.store.map hs)
+        → JoiningStands g moves shares pause life (IsAway hs []) js o s n (map_after_fork n.store.map hs)
     parent_joins js o s n hs st known dry =
         joining_more g (program_code g.program moves shares) life.who (λ c j. Named g moves shares pause life c j)
-        (λ q k. Called g moves shares pause life q k) (λ l. Writes g moves shares pause life l)
+        (λ q k. Called g moves shares pause life q k) (λ l. IsWritableLoc g moves shares pause life l)
         (λ l. IsReadable g moves shares pause life l) (λ h. Indexes g moves shares pause life h) life.low life.base
         life.born life.since pause life.moved
         (λ q i. (i, tt)) (handed_joining g (program_code g.program moves shares) life.who
         (λ c j. Named g moves shares pause life c j) (λ q k. Called g moves shares pause life q k)
-        (λ l. Writes g moves shares pause life l) (λ l. IsReadable g moves shares pause life l)
+        (λ l. IsWritableLoc g moves shares pause life l) (λ l. IsReadable g moves shares pause life l)
         (λ h. Indexes g moves shares pause life h) life.low life.base life.born life.since pause life.moved st hs
         known dry)
 
-    pub parent_goes_on : (hs : List Handing) (back : List Spot) (js : List Joint) (o : Own) (s : Store)
+    pub parent_goes_on : (hs : List Handing) (back : List Spot) (js : List FramePair) (o : LocalState) (s : Store)
         (n : Memory Plain) (mp : Map) → ((q : Spot) → IsAway hs back q → ⊥)
-        → Joins g moves shares pause life (IsAway hs back) js o s n mp
-        → Stands g moves shares pause life js o s (record n { store = with_map n.store mp })
+        → JoiningStands g moves shares pause life (IsAway hs back) js o s n mp
+        → MemoryMatches g moves shares pause life js o s (record n { store = with_map n.store mp })
     parent_goes_on hs back js o s n mp none t =
         all_joined g (program_code g.program moves shares) life.who (λ c j. Named g moves shares pause life c j)
-        (λ q k. Called g moves shares pause life q k) (λ l. Writes g moves shares pause life l)
+        (λ q k. Called g moves shares pause life q k) (λ l. IsWritableLoc g moves shares pause life l)
         (λ l. IsReadable g moves shares pause life l) (λ h. Indexes g moves shares pause life h) life.low life.base
         life.born life.since pause life.moved none t
 
@@ -330,36 +337,38 @@ module _ (g : Setting) (moves shares : Stmt → List ℕ) (pause : ℕ) (tree : 
     not_in_both q [] ys a b = b
     not_in_both q (x ∷ xs) ys a b = (a.0, not_in_both q xs ys a.1 b)
 
-    pub child_gives_back : (hs : List Handing) (back : List Spot) (js : List Joint) (o : Own) (s : Store)
-        (n : Memory Plain) (mp : Map) (child : Life) (ks : List Joint) (oc : Own) (nc : Memory Plain)
+    pub child_gives_back : (hs : List Handing) (back : List Spot) (js : List FramePair) (o : LocalState) (s : Store)
+        (n : Memory Plain) (mp : Map) (child : ProcessInfo) (ks : List FramePair) (oc : LocalState) (nc : Memory Plain)
         → child.channels ≡ life.channels → child.processes ≡ life.processes
-        → Joins g moves shares pause life (IsAway hs back) js o s n mp → Stands g moves shares pause child ks oc s nc
+        → JoiningStands g moves shares pause life (IsAway hs back) js o s n mp
+        → MemoryMatches g moves shares pause child ks oc s nc
         → GivesBack g moves shares pause life child js ks n nc
-        → Joins g moves shares pause life (IsAway hs (back ++ nc.store.moved)) js o s n (joined mp nc.store)
+        → JoiningStands g moves shares pause life (IsAway hs (back ++ nc.store.moved)) js o s n
+        (map_after_join mp nc.store)
     child_gives_back hs back js o s n mp child ks oc nc ec ep t st gb =
         joining_more g (program_code g.program moves shares) life.who (λ c j. Named g moves shares pause life c j)
-        (λ q k. Called g moves shares pause life q k) (λ l. Writes g moves shares pause life l)
+        (λ q k. Called g moves shares pause life q k) (λ l. IsWritableLoc g moves shares pause life l)
         (λ l. IsReadable g moves shares pause life l) (λ h. Indexes g moves shares pause life h) life.low life.base
         life.born life.since pause life.moved
         (λ q i. (i.0.0, not_in_both q back nc.store.moved i.0.1 i.1))
         (joined_joining g (program_code g.program moves shares) life.who
         (λ c j. Named g moves shares pause life c j) (λ q k. Called g moves shares pause life q k)
-        (λ l. Writes g moves shares pause life l) (λ l. IsReadable g moves shares pause life l)
+        (λ l. IsWritableLoc g moves shares pause life l) (λ l. IsReadable g moves shares pause life l)
         (λ h. Indexes g moves shares pause life h) life.low life.base life.born life.since pause life.moved
-        t child.who (λ l. Writes g moves shares pause child l) (λ l. IsReadable g moves shares pause child l)
+        t child.who (λ l. IsWritableLoc g moves shares pause child l) (λ l. IsReadable g moves shares pause child l)
         (λ h. Indexes g moves shares pause child h) child.low child.base child.born child.since pause child.moved
         stands gb.live gb.no_index gb.input gb.output gb.kept gb.old)
       where
         stands : Stand g (program_code g.program moves shares) child.who (λ c j. slice_get life.channels j ≡ Some c)
-            (λ q k. slice_get life.processes k ≡ Some q) (λ l. Writes g moves shares pause child l)
+            (λ q k. slice_get life.processes k ≡ Some q) (λ l. IsWritableLoc g moves shares pause child l)
             (λ l. IsReadable g moves shares pause child l) (λ h. Indexes g moves shares pause child h) child.low
             child.base child.born child.since pause child.moved ks oc s nc
         stands = subst (λ cs. Stand g (program_code g.program moves shares) child.who (λ c j. slice_get cs j ≡ Some c)
-            (λ q k. slice_get life.processes k ≡ Some q) (λ l. Writes g moves shares pause child l)
+            (λ q k. slice_get life.processes k ≡ Some q) (λ l. IsWritableLoc g moves shares pause child l)
             (λ l. IsReadable g moves shares pause child l) (λ h. Indexes g moves shares pause child h) child.low
             child.base child.born child.since pause child.moved ks oc s nc) ec
             (subst (λ ps. Stand g (program_code g.program moves shares) child.who
             (λ c j. slice_get child.channels j ≡ Some c) (λ q k. slice_get ps k ≡ Some q)
-            (λ l. Writes g moves shares pause child l) (λ l. IsReadable g moves shares pause child l)
+            (λ l. IsWritableLoc g moves shares pause child l) (λ l. IsReadable g moves shares pause child l)
             (λ h. Indexes g moves shares pause child h) child.low child.base child.born child.since pause
             child.moved ks oc s nc) ep st)

@@ -14,8 +14,8 @@ use Rattle.sp_tree.specs.Interference.{IsMember}
 use Rattle.sp_cell.specs.declared.spot.Spot.{Spot}
 use Rattle.sp_cell.proofs.FrameLaws.{is_other}
 use Rattle.sp_meaning.specs.Model.{Name}
-use Rattle.sp_meaning.specs.Own.{Setting, Loc, Home, OfBlock, OfIndex, Frame}
-use Rattle.sp_meaning.specs.Deeds.{Birth, push, children, indexed_children}
+use Rattle.sp_meaning.specs.LocalWork.{RunInput, Loc, Home, OfBlock, OfIndex, Frame}
+use Rattle.sp_meaning.specs.Actions.{Birth, push, children, indexed_children}
 use Rattle.sp_meaning.specs.Owning.{Linked, Aimed, Used, Sound}
 use Rattle.sp_meaning.proofs.Within.{part}
 use Rattle.sp_meaning.proofs.Children.{child_sound, index_linked}
@@ -26,25 +26,25 @@ use Rattle.sp_code.specs.Memory.{last_frames}
 use Rattle.sp_code.specs.Memory as m
 use Rattle.sp_code.specs.System.{or_outward, spot_in, spot_from}
 use Rattle.sp_code.specs.Tables.{child_at}
-use Rattle.sp_code.specs.Places.{after}
+use Rattle.sp_code.specs.Places.{after_statement}
 use Rattle.sp_code.specs.Scopes.{Scope, level, one_more, is_index, as_list, is_local, frame_of}
 use Rattle.sp_code.specs.Scopes as s
 use Rattle.sp_code.specs.Emitted.{children_tables}
-use Rattle.sp_code.specs.Stands.{Stands, HasFork, HasWords, StandsAt, ChildrenAt}
-use Rattle.sp_codegen.specs.Joints.{Joint, sources, machines, from, up_at, HomeIs, Chain}
-use Rattle.sp_tree.specs.Formed.{IsFormed, IsFormedUse, is_parameter, is_answer, among}
+use Rattle.sp_code.specs.CodeOfTree.{CodeAt, HasFork, HasWords, StandsAt, ChildrenAt}
+use Rattle.sp_codegen.specs.FramePairs.{FramePair, sources, machines, pairs_from, up_at, HomeIs, Chain}
+use Rattle.sp_tree.specs.Formed.{IsFormed, IsFormedUse, is_parameter, is_answer, numbers_with_role}
 use Rattle.sp_tree.proofs.Members.{member_either}
 use Rattle.sp_codegen.specs.Executions.{Execution}
-use Rattle.sp_codegen.proofs.Joints.{from_short}
-pub use Rattle.sp_codegen.specs.Lives.{Seen}
+use Rattle.sp_codegen.proofs.FramePairs.{from_short}
+pub use Rattle.sp_codegen.specs.ProcessInfos.{Seen}
 pub use Rattle.sp_codegen.specs.Parents.{ChildIs}
 use Rattle.sp_codegen.specs.Relation.{Placed}
 use Rattle.sp_codegen.specs.Standing.{spot_at, HomesAre, Paired}
-use Rattle.sp_codegen.proofs.Joints.{paired_from, last_machines, sources_length}
+use Rattle.sp_codegen.proofs.FramePairs.{paired_from, last_machines, sources_length}
 use Rattle.sp_codegen.proofs.Numbers.{AreKnown, are_known, frame_is}
 use Rattle.sp_codegen.proofs.Closing.{Laid}
 use Rattle.sp_codegen.proofs.Handing.{spot_no_frame, from_all}
-use Rattle.sp_codegen.proofs.Follows.{slides, Follows, push_follows}
+use Rattle.sp_codegen.proofs.Follows.{slides, CodeFollows, push_follows}
 
 -- ---- the code of each child
 
@@ -54,7 +54,7 @@ module _ (p : Program) (moves shares : Stmt → List ℕ) (code : Code) (hush : 
   Is ss q k b = ChildIs p moves shares code hush free sc ss q k b
 
   pub child_is : (ss : Stmts) (q k : ℕ) (b : Birth) → slice_get (children ss) k ≡ Some b
-      → ChildrenAt p moves shares (Stands code) (HasFork code) (HasWords code) hush free sc q ss → Is ss q k b
+      → ChildrenAt p moves shares (CodeAt code) (HasFork code) (HasWords code) hush free sc q ss → Is ss q k b
   child_is No q k b e h = absurd (cc e)
   child_is (And st rest) q zero b e h = record {
     statement = st;
@@ -66,7 +66,7 @@ module _ (p : Program) (moves shares : Stmt → List ℕ) (code : Code) (hush : 
     inside = λ u. inl;
   }
   child_is (And st rest) q (suc k) b e h =
-      let z = child_is rest (after p q st + 1) k b e h.2 in
+      let z = child_is rest (after_statement p q st + 1) k b e h.2 in
       record {
         statement = z.statement;
         entry = z.entry;
@@ -102,7 +102,8 @@ indexed_is x st low (suc n) (suc k) b e = indexed_is x st (low +ℤ pos 1) n k b
 
 -- ---- its place
 
-module _ (g : Setting) (W R : Loc → Type 0) (J : ℕ → Type 0) (sc : List Scope) (js : List Joint) (V T : Loc → Type 0)
+module _ (g : RunInput) (W R : Loc → Type 0) (J : ℕ → Type 0) (sc : List Scope) (js : List FramePair) (V T : Loc
+    → Type 0)
     (st : Stmt) (aims : (l : Loc) → Aimed g.program (sources js) st l → V l)
     (uses : (l : Loc) → Used g.program (sources js) st l → T l) where
   pub child_placed : (ss : Stmts) → Placed g W R J sc js (In_stmt (Parallel ss))
@@ -117,7 +118,7 @@ module _ (g : Setting) (W R : Loc → Type 0) (J : ℕ → Type 0) (sc : List Sc
   }
 
   pub index_child_placed : (x : ℕ) (from1 to : Expr) → x ≢ 1 → Placed g W R J sc js (In_stmt (Forall x from1 to st))
-      → (q : Name) (v : ℤ) (jx : Joint) → jx.source
+      → (q : Name) (v : ℤ) (jx : FramePair) → jx.source
       ≡ record { owner = q; number = length js; home = OfIndex x v; link = length js; references = [] }
       → Placed g V T (Seen (s.OfIndex x ∷ sc) (jx ∷ js) st) (s.OfIndex x ∷ sc) (jx ∷ js) (In_stmt st)
   index_child_placed x from1 to input pl q v jx e = record {
@@ -126,7 +127,7 @@ module _ (g : Setting) (W R : Loc → Type 0) (J : ℕ → Type 0) (sc : List Sc
       js,
       refl,
       subst (λ z. HomeIs (s.OfIndex x) z) (sym (ap (λ (f : Frame). f.home) e)) refl,
-      subst (λ z. Chain sc z) (sym (ap (λ (f : Frame). from f.link js) e ∙ from_all js)) pl.chain,
+      subst (λ z. Chain sc z) (sym (ap (λ (f : Frame). pairs_from f.link js) e ∙ from_all js)) pl.chain,
     );
     linked = subst (λ z. Linked (z ∷ sources js)) (sym new)
         (index_linked g.program (sources js) q (Some (x, v)) pl.linked);
@@ -164,27 +165,36 @@ module _ (g : Setting) (W R : Loc → Type 0) (J : ℕ → Type 0) (sc : List Sc
 -- ---- its first step
 
 module _ {M : Type 0} (ex : Execution M) where
-  open ex use {setting as g, code, moves, shares, Quiet as hush, Writes as W, IsReadable as R, Indexes as J}
+  open ex use {
+    setting as g,
+    code,
+    moves,
+    shares,
+    IsCallableInFunctions as hush,
+    Writes as W,
+    IsReadable as R,
+    Indexes as J,
+  }
 
   -- a child's code is that of its statement, and then comes its end
   pub child_follows : (st : Stmt) (sc : List Scope) (entry : ℕ) (moved shared : List ℕ) (index : Option ℕ)
-      (js : List Joint) → Placed g W R J sc js (In_stmt st)
-      → StandsAt g.program moves shares (Stands code) (HasFork code) (HasWords code) hush true sc entry st
-      → Follows ex (after g.program entry st) [] js entry [] js (push st [])
+      (js : List FramePair) → Placed g W R J sc js (In_stmt st)
+      → StandsAt g.program moves shares (CodeAt code) (HasFork code) (HasWords code) hush true sc entry st
+      → CodeFollows ex (after_statement g.program entry st) [] js entry [] js (push st [])
   child_follows st sc entry moved shared index js pl h =
-      push_follows ex st (after g.program entry st) [] js sc entry [] js [] pl h (slides ex _ _, refl, refl)
+      push_follows ex st (after_statement g.program entry st) [] js sc entry [] js [] pl h (slides ex _ _, refl, refl)
 
 -- ---- indexes
 
 module _ (p : Program) (formed : IsFormed p) (ls : List Layout) (laid : Laid p ls) (Called : Name → ℕ → Type 0) (x : ℕ)
     (v : Variable) (ev : slice_get p.variables x ≡ Some v) (iv : v.role ≡ role.Index) where
   not_among : (fits : Role → Bool) → fits role.Index ≡ false → (xs : List (ℕ × Variable)) → AreKnown p formed xs
-      → IsMember x (among fits xs) → ⊥
+      → IsMember x (numbers_with_role fits xs) → ⊥
   not_among fits f [] k h = h
   not_among fits f (y ∷ ys) k h = go (fits y.1.role) refl (not_among fits f ys k.1) h
     where
-      go : (c : Bool) → fits y.1.role ≡ c → (IsMember x (among fits ys) → ⊥)
-          → IsMember x (if c then y.0 ∷ among fits ys else among fits ys) → ⊥
+      go : (c : Bool) → fits y.1.role ≡ c → (IsMember x (numbers_with_role fits ys) → ⊥)
+          → IsMember x (if c then y.0 ∷ numbers_with_role fits ys else numbers_with_role fits ys) → ⊥
       go true e ih (inl a) =
           let vy : v ≡ y.1 = same_Some v y.1 (sym ev ∙ ap (λ z. slice_get p.variables z) a ∙ k.0) in
           let bad : false ≡ true = sym f ∙ ap fits (sym iv ∙ ap (λ (z : Variable). z.role) vy) ∙ e in
@@ -200,15 +210,15 @@ module _ (p : Program) (formed : IsFormed p) (ls : List Layout) (laid : Laid p l
       (λ (c : IsMember x (as_list b.answer)). not_among is_answer refl vs (are_known p formed f)
       (subst (λ z. IsMember x z) (formed.answers f b e) c))
       (member_either x b.formals (as_list b.answer) a))
-      (λ (a : IsMember x (among is_local vs)). not_among is_local refl vs (are_known p formed f) a)
-      (member_either x (b.formals ++ as_list b.answer) (among is_local vs)
+      (λ (a : IsMember x (numbers_with_role is_local vs)). not_among is_local refl vs (are_known p formed f) a)
+      (member_either x (b.formals ++ as_list b.answer) (numbers_with_role is_local vs)
       (subst (λ z. IsMember x z) (frame_is p formed f b e) h))
     where
       vs : List (ℕ × Variable)
       vs = variables_of f 0 p.variables
 
-  pub index_spot : (sc : List Scope) (n : ℕ) (js : List Joint) → Chain sc js → Paired p Called js → length js ≤ n
-      → (up : ℕ) → level (is_index x) sc ≡ Some up → (j : Joint) (rest : List Joint) → up_at up js ≡ j ∷ rest
+  pub index_spot : (sc : List Scope) (n : ℕ) (js : List FramePair) → Chain sc js → Paired p Called js → length js ≤ n
+      → (up : ℕ) → level (is_index x) sc ≡ Some up → (j : FramePair) (rest : List FramePair) → up_at up js ≡ j ∷ rest
       → spot_from ls n (machines js) x ≡ Some (spot_at j.machine.number 0)
   index_spot [] n js ch pa l up e j rest u = absurd (cc e)
   index_spot (sp ∷ sc) n [] ch pa l up e j rest u = let z : [] ≡ ch.0 ∷ ch.1 = ch.2 in absurd (cc z)
@@ -219,25 +229,25 @@ module _ (p : Program) (formed : IsFormed p) (ls : List Layout) (laid : Laid p l
       same : (k ≡ ch.0) × (js ≡ ch.1)
       same = (ap (λ z. a_joint z) ch.2, ap (λ z. rest_of z) ch.2)
         where
-          a_joint : List Joint → Joint
+          a_joint : List FramePair → FramePair
           a_joint [] = k
           a_joint (i ∷ is) = i
 
-          rest_of : List Joint → List Joint
+          rest_of : List FramePair → List FramePair
           rest_of [] = []
           rest_of (i ∷ is) = is
 
       home : HomeIs sp k.source.home
-      home = subst (λ (z : Joint). HomeIs sp z.source.home) (sym same.0) ch.3
+      home = subst (λ (z : FramePair). HomeIs sp z.source.home) (sym same.0) ch.3
 
-      outward : Chain sc (from k.source.link js)
-      outward = subst (λ z. Chain sc (from k.source.link z)) (sym same.1)
-          (subst (λ (z : Joint). Chain sc (from z.source.link ch.1)) (sym same.0) ch.4)
+      outward : Chain sc (pairs_from k.source.link js)
+      outward = subst (λ z. Chain sc (pairs_from k.source.link z)) (sym same.1)
+          (subst (λ (z : FramePair). Chain sc (pairs_from z.source.link ch.1)) (sym same.0) ch.4)
 
       outer : Option Spot
       outer = spot_from ls n (last_frames k.machine.link (machines js)) x
 
-      outer_is : outer ≡ spot_from ls n (machines (from k.source.link js)) x
+      outer_is : outer ≡ spot_from ls n (machines (pairs_from k.source.link js)) x
       outer_is = ap (λ z. spot_from ls n (last_frames z (machines js)) x) (sym pa.1)
           ∙ ap (λ z. spot_from ls n z x) (last_machines k.source.link js pa.2)
 
@@ -262,7 +272,7 @@ module _ (p : Program) (formed : IsFormed p) (ls : List Layout) (laid : Laid p l
           ap (λ b. if b then Some (record { frame = k.machine.number; variable = 0 }) else None)
           (is_other x c (λ d. let bad : false ≡ true = sym f ∙ eq-eqb x y (d ∙ sym (hi ∙ ho.0)) in absurd (cc bad)))
 
-      by_test : ((z : List Joint) → Chain sc z → Paired p Called z → length z ≤ n → (a : ℕ)
+      by_test : ((z : List FramePair) → Chain sc z → Paired p Called z → length z ≤ n → (a : ℕ)
           → level (is_index x) sc ≡ Some a → up_at a z ≡ j ∷ rest
           → spot_from ls n (machines z) x ≡ Some (spot_at j.machine.number 0)) → (b : Bool) → is_index x sp ≡ b
           → (if b then Some 0 else one_more (level (is_index x) sc)) ≡ Some up
@@ -271,7 +281,7 @@ module _ (p : Program) (formed : IsFormed p) (ls : List Layout) (laid : Laid p l
           let zero_up : 0 ≡ up = cc d in
           let kj : k ∷ js ≡ j ∷ rest = ap (λ z. up_at z (k ∷ js)) zero_up ∙ u in
           ap (λ z. or_outward z outer) (here sp k.source.home k.machine.home home pa.0 t)
-          ∙ ap (λ (z : Joint). Some (spot_at z.machine.number 0)) (first_of kj)
+          ∙ ap (λ (z : FramePair). Some (spot_at z.machine.number 0)) (first_of kj)
         where
           first_of : k ∷ js ≡ j ∷ rest → k ≡ j
           first_of e = cc e
@@ -279,10 +289,11 @@ module _ (p : Program) (formed : IsFormed p) (ls : List Layout) (laid : Laid p l
           ∙ outer_is ∙ further (level (is_index x) sc) refl d
         where
           further : (o : Option ℕ) → level (is_index x) sc ≡ o → one_more o ≡ Some up
-              → spot_from ls n (machines (from k.source.link js)) x ≡ Some (spot_at j.machine.number 0)
+              → spot_from ls n (machines (pairs_from k.source.link js)) x ≡ Some (spot_at j.machine.number 0)
           further None f d = absurd (cc d)
           further (Some a) f d =
               let above : suc a ≡ up = cc d in
               let sh = from_short k.source.link js in
-              ih (from k.source.link js) outward (paired_from p Called k.source.link js pa.6) (omega (arith, l, sh)) a f
+              ih (pairs_from k.source.link js) outward (paired_from p Called k.source.link js pa.6)
+              (omega (arith, l, sh)) a f
               (ap (λ z. up_at z (k ∷ js)) above ∙ u)

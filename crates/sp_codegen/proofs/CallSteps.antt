@@ -5,31 +5,33 @@ use Rattle.std.specs.Prelude.{slice_get}
 use Rattle.sp_base.proofs.Facts.{length_of_map}
 use Rattle.sp_tree.specs.Plain.{Actuals, Program, Block}
 use Rattle.sp_tree.specs.Uses.{In_stmt, In_call}
-use Rattle.sp_meaning.specs.Own.{OfBlock, Frame, Own, Item, Leave, Came, Got, Bad, Lost, Long, Work, bind, give, who}
-use Rattle.sp_meaning.specs.Own.{is_block, seek}
-use Rattle.sp_meaning.specs.Owning.{stands, find, Linked, Sound, Gave}
-use Rattle.sp_meaning.specs.Eval.{At, Given}
-use Rattle.sp_meaning.specs.Deeds.{Deed, Ticked, push, enter, references}
+use Rattle.sp_meaning.specs.LocalWork.{OfBlock, Frame, LocalState, Item, Leave, WorkOutcome, Computed, EndsInFault}
+use Rattle.sp_meaning.specs.LocalWork.{IllFormed, OutOfFuel, Work, bind, give, who}
+use Rattle.sp_meaning.specs.LocalWork.{is_block, seek}
+use Rattle.sp_meaning.specs.Owning.{frame_found, Linked, Sound, Gave}
+use Rattle.sp_meaning.specs.Eval.{ArgumentValue}
+use Rattle.sp_meaning.specs.Actions.{Action, Ticked, push, enter, references}
 use Rattle.sp_meaning.specs.Run.{Store, run}
 use Rattle.sp_meaning.proofs.Run.{then_run, run_bind}
 use Rattle.sp_meaning.proofs.Static.{sought}
-use Rattle.sp_meaning.proofs.Entered.{fresh, fresh_linked, fresh_sound}
+use Rattle.sp_meaning.proofs.CallRights.{fresh, fresh_linked, fresh_sound}
 use Rattle.sp_code.specs.declared.code.Layout.{Layout}
 use Rattle.sp_code.specs.declared.instr.Instr.TheVariants as i
-use Rattle.sp_code.specs.Machine.{Entry, Did, Done, Failed, Config, One, Goes, Fails, outside, when, there, paced}
-use Rattle.sp_code.specs.Machine.{then_go, fit_formals, one}
+use Rattle.sp_code.specs.Machine.{Entry, MemoryResult, Done, Failed, Config, StepResult, Goes, Fails, is_in_no_function}
+use Rattle.sp_code.specs.Machine.{when, on_some, pause_step}
+use Rattle.sp_code.specs.Machine.{then_go, fit_formals, next_step}
 use Rattle.sp_code.specs.Machine as m
 use Rattle.sp_code.specs.Scopes.{Scope, level, is_given, scopes_of, scopes_by}
 use Rattle.sp_code.specs.Scopes as places
-use Rattle.sp_code.specs.Places.{after}
+use Rattle.sp_code.specs.Places.{after_statement}
 use Rattle.sp_code.specs.Emitted.{end_instr}
-use Rattle.sp_code.specs.Stands.{Stands, HasFork, HasWords, CallAt, Around, Hushed, BlockAt, BlocksAt}
-use Rattle.sp_codegen.specs.Joints.{Joint, sources, from, HomeIs, Chain}
+use Rattle.sp_code.specs.CodeOfTree.{CodeAt, HasFork, HasWords, CallAt, Around, IsCallable, BlockAt, BlocksAt}
+use Rattle.sp_codegen.specs.FramePairs.{FramePair, sources, pairs_from, HomeIs, Chain}
 use Rattle.sp_codegen.specs.Executions.{Execution}
 use Rattle.sp_codegen.specs.Following.{StandsFor}
-use Rattle.sp_codegen.specs.Relation.{Entered, GivensAre, frame_for}
+use Rattle.sp_codegen.specs.Relation.{CallMatches, GivensAre, frame_for}
 use Rattle.sp_codegen.proofs.Runs.{stays, goes, breaks, holds_when}
-use Rattle.sp_codegen.proofs.Joints.{sources_length, up_from}
+use Rattle.sp_codegen.proofs.FramePairs.{sources_length, up_from}
 use Rattle.sp_codegen.proofs.Chains.{block_agrees, found, seek_all, find_in}
 use Rattle.sp_codegen.proofs.Follows.{slides, push_follows, Made}
 use Rattle.sp_codegen.proofs.StepForms.{K, After, Pl}
@@ -65,7 +67,7 @@ module _ {M : Type 0} (ex : Execution M) where
     code,
     moves,
     shares,
-    Quiet as hush,
+    IsCallableInFunctions as hush,
     who as w,
     Writes as W,
     IsReadable as R,
@@ -89,15 +91,17 @@ module _ {M : Type 0} (ex : Execution M) where
   Blocks = BlocksAt p moves shares code hush
 
   -- what the machine does at a call
-  abbrev pub calls_to : Layout → ℕ → List Entry → Did M → One M
-  calls_to l r st d = then_go d (λ n1. m.entered ops code l r st n1)
+  abbrev pub calls_to : Layout → ℕ → List Entry → MemoryResult M → StepResult M
+  calls_to l r st d = then_go d (λ n1. m.enter_step ops code l r st n1)
 
-  pop_pushed : (es : List Entry) (a k : ℕ) (stack : List Entry) (ws : List Entry) (go : List Entry → List Entry → One M)
+  pop_pushed : (es : List Entry) (a k : ℕ) (stack : List Entry) (ws : List Entry) (go : List Entry → List Entry
+      → StepResult M)
       → a ≡ k + length es → m.pop a (pushed es stack) ws go ≡ m.pop k stack (rev_onto es ws) go
   pop_pushed [] a k stack ws go e = let e1 : a ≡ k = omega (arith, e) in ap (λ j. m.pop j stack ws go) e1
   pop_pushed (x ∷ es) a k stack ws go e = pop_pushed es a (suc k) (x ∷ stack) ws go (omega (arith, e))
 
-  givens_length : (fs : List Joint) (xs : List ℕ) (gs : List Given) (es : List Entry) → GivensAre rel p fs xs gs es
+  givens_length : (fs : List FramePair) (xs : List ℕ) (gs : List ArgumentValue) (es : List Entry)
+      → GivensAre rel p fs xs gs es
       → length es ≡ length xs
   givens_length fs [] [] [] h = refl
   givens_length fs [] [] (e ∷ es) h = absurd h
@@ -107,18 +111,19 @@ module _ {M : Type 0} (ex : Execution M) where
   givens_length fs (x ∷ xs) (g ∷ gs) (e ∷ es) h = ap suc (givens_length fs xs gs es h.1)
 
   -- a call, with what it finds
-  pub record CallFinds (fs : List Joint) (f : ℕ) (b : Block) (q : ℕ) (stack : List Entry) (gs : List Given)
-      (es : List Entry) (o : Own) (s : Store) (n : M) (l : Layout) : Type 0 where
-    pub did : Did M
-    pub around : List Joint
-    pub entered : Entered rel w fs s f b around gs (run (enter g f gs) w o s) did
-    pub goes : one ops code (m.At q (pushed es stack) n) ≡ calls_to l (q + 1) stack did
+  pub record CallFinds (fs : List FramePair) (f : ℕ) (b : Block) (q : ℕ) (stack : List Entry) (gs : List ArgumentValue)
+      (es : List Entry) (o : LocalState) (s : Store) (n : M) (l : Layout) : Type 0 where
+    pub did : MemoryResult M
+    pub around : List FramePair
+    pub entered : CallMatches rel w fs s f b around gs (run (enter g f gs) w o s) did
+    pub goes : next_step ops code (m.At q (pushed es stack) n) ≡ calls_to l (q + 1) stack did
     pub parent : (c : ℕ) × (b.parent ≡ Some c)
-    pub placed : (j : Joint) → j.source ≡ frame_for rel w f b fs around gs
+    pub placed : (j : FramePair) → j.source ≡ frame_for rel w f b fs around gs
         → Pl ex (scopes_of p f) (j ∷ fs) (In_stmt b.body)
 
-  chain_of : (fs around : List Joint) (f : ℕ) (up_sc : List Scope) (j : Joint) (b : Block) (gs : List Given)
-      → j.source ≡ frame_for rel w f b fs around gs → from (length around) fs ≡ around
+  chain_of : (fs around : List FramePair) (f : ℕ) (up_sc : List Scope) (j : FramePair) (b : Block)
+      (gs : List ArgumentValue)
+      → j.source ≡ frame_for rel w f b fs around gs → pairs_from (length around) fs ≡ around
       → scopes_of p f ≡ places.OfBlock f ∷ up_sc → Chain up_sc around → Chain (scopes_of p f) (j ∷ fs)
   chain_of fs around f up_sc j b gs e fr es ch =
       subst (λ y. Chain y (j ∷ fs)) (sym es) (
@@ -126,18 +131,18 @@ module _ {M : Type 0} (ex : Execution M) where
         fs,
         refl,
         subst (λ y. HomeIs (places.OfBlock f) y) (sym (ap (λ (z : Frame). z.home) e)) refl,
-        subst (λ y. Chain up_sc y) (sym (ap (λ (z : Frame). from z.link fs) e ∙ fr)) ch,
+        subst (λ y. Chain up_sc y) (sym (ap (λ (z : Frame). pairs_from z.link fs) e ∙ fr)) ch,
       )
 
-  pub call_finds : {fs : List Joint} {o : Own} {s : Store} {n : M} (f : ℕ) (args : Actuals) (b : Block)
-      (sc : List Scope) (q : ℕ) (stack : List Entry) (gs : List Given) (es : List Entry) → rel.Stand fs o s n
-      → Pl ex sc fs (In_call f args) → CallAt p moves shares (Stands code) (HasFork code) (HasWords code) hush sc q f b
+  pub call_finds : {fs : List FramePair} {o : LocalState} {s : Store} {n : M} (f : ℕ) (args : Actuals) (b : Block)
+      (sc : List Scope) (q : ℕ) (stack : List Entry) (gs : List ArgumentValue) (es : List Entry) → rel.Stand fs o s n
+      → Pl ex sc fs (In_call f args) → CallAt p moves shares (CodeAt code) (HasFork code) (HasWords code) hush sc q f b
       → (z : BlockIs f b) → GivensAre rel p fs b.formals gs es → Gave p (sources fs) args gs
       → CallFinds fs f b q stack gs es o s n z.layout
   call_finds {fs} {o} {s} {n} f args b sc q stack gs es t pl h z gv ga = by_parent b.parent refl h.2
     where
       by_parent : (y : Option ℕ) → b.parent ≡ y
-          → Around p moves shares (Stands code) (HasFork code) (HasWords code) hush sc f y h.0
+          → Around p moves shares (CodeAt code) (HasFork code) (HasWords code) hush sc f y h.0
           → CallFinds fs f b q stack gs es o s n z.layout
       by_parent None e x = absurd x
       by_parent (Some c) e x =
@@ -159,7 +164,7 @@ module _ {M : Type 0} (ex : Execution M) where
             link = k i;
             references = references b.formals gs;
           }) in
-          let found_is : find (is_block c) (length (sources fs)) (sources fs) ≡ Some r.frame.source =
+          let found_is : frame_found (is_block c) (length (sources fs)) (sources fs) ≡ Some r.frame.source =
           find_in (is_block c) fs r.frame r.rest r.sought in
           let before : c < f = free.parents f b c h.1 e in
           record {
@@ -167,17 +172,18 @@ module _ {M : Type 0} (ex : Execution M) where
             around = r.frame ∷ r.rest;
             entered = op.2;
             goes = at_one ex q (pushed es stack) n h.3
-                ∙ ap (λ y. there y (λ l. m.called ops code l h.0 (q + 1) (pushed es stack) n)) (finds f z.layout z.at)
+                ∙ ap (λ y. on_some y (λ l. m.call_step ops code l h.0 (q + 1) (pushed es stack) n))
+                (finds f z.layout z.at)
                 ∙ pop_pushed es (length z.layout.formals) 0 stack []
                 (λ es st. when (fit_formals z.layout.formals es)
-                (when (ops.may_open h.0 n)
-                (then_go (ops.open_frame z.layout h.0 es n) (λ n1. m.entered ops code z.layout (q + 1) st n1))))
+                (when (ops.can_push h.0 n)
+                (then_go (ops.open_frame z.layout h.0 es n) (λ n1. m.enter_step ops code z.layout (q + 1) st n1))))
                 (zero_plus (length z.layout.formals) (length es) (length b.formals) formals_are
                 (givens_length fs b.formals gs es gv))
                 ∙ ap (λ y. when (fit_formals z.layout.formals y)
-                (when (ops.may_open h.0 n) (calls_to z.layout (q + 1) stack (ops.open_frame z.layout h.0 y n))))
+                (when (ops.can_push h.0 n) (calls_to z.layout (q + 1) stack (ops.open_frame z.layout h.0 y n))))
                 (rev_onto_nil es)
-                ∙ holds_when (fit_formals z.layout.formals es) _ op.0 ∙ holds_when (ops.may_open h.0 n) _ op.1;
+                ∙ holds_when (fit_formals z.layout.formals es) _ op.0 ∙ holds_when (ops.can_push h.0 n) _ op.1;
             parent = (c, e);
             placed = λ j ej. record {
               chain = chain_of fs (r.frame ∷ r.rest) f (drop h.0 sc) j b gs ej (up_from h.0 fs r.frame r.rest r.at) x.1
@@ -202,11 +208,11 @@ module _ {M : Type 0} (ex : Execution M) where
       go false t = refl
 
   -- a procedure's call
-  pub call_makes : Blocks → (end : ℕ) (base : List Entry) (below : List Joint) (f : ℕ) (args : Actuals) (b : Block)
-      (sc : List Scope) (q : ℕ) (stack : List Entry) (gs : List Given) (es : List Entry) (todo : List Item)
-      (fs : List Joint) (o : Own) (s : Store) (n : M) → rel.Stand fs o s n → Pl ex sc fs (In_call f args)
-      → CallAt p moves shares (Stands code) (HasFork code) (HasWords code) hush sc q f b → b.answer ≡ None
-      → Hushed hush (outside stack) f → GivensAre rel p fs b.formals gs es → Gave p (sources fs) args gs
+  pub call_makes : Blocks → (end : ℕ) (base : List Entry) (below : List FramePair) (f : ℕ) (args : Actuals) (b : Block)
+      (sc : List Scope) (q : ℕ) (stack : List Entry) (gs : List ArgumentValue) (es : List Entry) (todo : List Item)
+      (fs : List FramePair) (o : LocalState) (s : Store) (n : M) → rel.Stand fs o s n → Pl ex sc fs (In_call f args)
+      → CallAt p moves shares (CodeAt code) (HasFork code) (HasWords code) hush sc q f b → b.answer ≡ None
+      → IsCallable hush (is_in_no_function stack) f → GivensAre rel p fs b.formals gs es → Gave p (sources fs) args gs
       → After ex end base below todo fs (q + 1) stack
       → K ex (m.At q (pushed es stack) n) o s (After ex end base below)
       (bind (enter g f gs) (λ y. give (Ticked (push y.body (Leave ∷ todo)))))
@@ -228,15 +234,15 @@ module _ {M : Type 0} (ex : Execution M) where
       c : Config M
       c = m.At q (pushed es stack) n
 
-      next : Block → Work Deed
+      next : Block → Work Action
       next y = give (Ticked (push y.body (Leave ∷ todo)))
 
       no_answer : l.answer ≡ false
       no_answer = ap (λ (y : Layout). y.answer) z.is ∙ ap is_given ha
 
-      go : (x : Came Block × Store) (d : Did M) → Entered rel w fs s f b r.around gs x d
-          → one ops code c ≡ calls_to l (q + 1) stack d → Made ex c (After ex end base below) (then_run next w x)
-      go (Got b1 o1, s1) (Done n1) al e =
+      go : (x : WorkOutcome Block × Store) (d : MemoryResult M) → CallMatches rel w fs s f b r.around gs x d
+          → next_step ops code c ≡ calls_to l (q + 1) stack d → Made ex c (After ex end base below) (then_run next w x)
+      go (Computed b1 o1, s1) (Done n1) al e =
           let fr = al.1.0 in (
             l.entry,
             m.Link (q + 1) ∷ stack,
@@ -245,13 +251,13 @@ module _ {M : Type 0} (ex : Execution M) where
             c,
             stays ops rel w code c,
             e ∙ ap (λ y. if y then Goes (m.At l.entry (m.Reply (q + 1) ∷ stack) n1) else
-                paced ops code l.entry (m.Link (q + 1) ∷ stack) n1) no_answer,
+                pause_step ops code l.entry (m.Link (q + 1) ∷ stack) n1) no_answer,
             al.1.2,
             subst (λ (y : Block). After ex end base below (push y.body (Leave ∷ todo)) (fr ∷ fs) l.entry
                 (m.Link (q + 1) ∷ stack)) (sym al.0)
                 (push_follows ex b.body end base below (scopes_of p f) l.entry (m.Link (q + 1) ∷ stack) (fr ∷ fs)
-                (Leave ∷ todo) (r.placed fr al.1.1) (z.stands.body (outside stack) hu) (
-                  after p l.entry b.body,
+                (Leave ∷ todo) (r.placed fr al.1.1) (z.stands.body (is_in_no_function stack) hu) (
+                  after_statement p l.entry b.body,
                   q + 1,
                   stack,
                   fr,
@@ -265,9 +271,10 @@ module _ {M : Type 0} (ex : Execution M) where
                   al.1.3,
                 )),
           )
-      go (Got b1 o1, s1) (Failed x) al e = absurd al
-      go (Bad x, s1) (Done n1) al e = absurd al
-      go (Bad x, s1) (Failed y) al e = breaks ops rel w code c x s1 (subst (StandsFor rel c) (sym al.1) (fs, o, t))
+      go (Computed b1 o1, s1) (Failed x) al e = absurd al
+      go (EndsInFault x, s1) (Done n1) al e = absurd al
+      go (EndsInFault x, s1) (Failed y) al e =
+          breaks ops rel w code c x s1 (subst (StandsFor rel c) (sym al.1) (fs, o, t))
           (e ∙ ap Fails (sym al.0))
-      go (Lost, s1) d al e = absurd al
-      go (Long, s1) d al e = absurd al
+      go (IllFormed, s1) d al e = absurd al
+      go (OutOfFuel, s1) d al e = absurd al

@@ -4,31 +4,32 @@ use Rattle.std.specs.Prelude.{slice_get}
 use Rattle.sp_tree.specs.Plain.{Program, Block, Stmt}
 use Rattle.sp_tree.specs.Interference.{IsFreeOfInterference}
 use Rattle.sp_cell.specs.Map.{Plain}
-use Rattle.sp_meaning.specs.Own.{Setting, Loc, Who, Came, Got, Bad, Lost, Long}
-use Rattle.sp_meaning.specs.Deeds.{Stepped, Ticked, Opened, Forked, Offered, push, size_of_frame}
-use Rattle.sp_meaning.specs.Deeds as deeds
+use Rattle.sp_meaning.specs.LocalWork.{RunInput, Loc, Identity, WorkOutcome, Computed, EndsInFault, IllFormed}
+use Rattle.sp_meaning.specs.LocalWork.{OutOfFuel}
+use Rattle.sp_meaning.specs.Actions.{Stepped, Ticked, Opened, Forked, Offered, push, size_of_frame}
+use Rattle.sp_meaning.specs.Actions as deeds
 use Rattle.sp_meaning.specs.Run.{Store, run}
 use Rattle.sp_meaning.specs.SuperPascal.{root, first_store}
 use Rattle.sp_meaning.specs.Turn as source
 use Rattle.sp_code.specs.declared.code.Layout.{Layout}
 use Rattle.sp_code.specs.declared.code.Parts.{Parts as Code}
 use Rattle.sp_code.specs.Machine.{Config, At, Pauses, Opens, Ends as Ended, layout_of}
-use Rattle.sp_code.specs.Turns.{Turn, Stopped, Faulted, IsTurn, Begins, Runs, begins}
-use Rattle.sp_code.specs.Memory.{Memory, memory, first, first_memory, entry_of}
+use Rattle.sp_code.specs.Turns.{Turn, Stopped, Faulted, IsTurn, BeginsOrFaults, Runs, frames_fit}
+use Rattle.sp_code.specs.Memory.{Memory, memory, first_process, first_memory, entry_of}
 use Rattle.sp_code.specs.PlainStore.{plain}
-use Rattle.sp_code.specs.Places.{after}
+use Rattle.sp_code.specs.Places.{after_statement}
 use Rattle.sp_code.specs.Scopes.{scopes_of}
 use Rattle.sp_code.specs.Emitted.{program_code}
-use Rattle.sp_code.specs.Stands.{BlockAt, BlocksAt, IsFine}
-use Rattle.sp_code.specs.Quiet.{IsQuiet}
+use Rattle.sp_code.specs.CodeOfTree.{BlockAt, BlocksAt, IsFine}
+use Rattle.sp_code.specs.NeverStops.{NeverStops}
 use Rattle.sp_code.proofs.Blocks.{blocks_stand, layout_found}
 use Rattle.sp_tree.specs.Formed.{IsFormed}
 use Rattle.sp_code.specs.Sizes.{HasSmallTypes}
-use Rattle.sp_codegen.specs.Joints.{Joint}
+use Rattle.sp_codegen.specs.FramePairs.{FramePair}
 use Rattle.sp_codegen.specs.Executions.{Execution}
-use Rattle.sp_codegen.specs.Relation.{Keeps}
+use Rattle.sp_codegen.specs.Relation.{KeepsRelation}
 use Rattle.sp_codegen.specs.Standing.{relation}
-use Rattle.sp_codegen.specs.Meets.{code_run, due_after, EndsAlike}
+use Rattle.sp_codegen.specs.TurnAgrees.{code_run, due_after, EndsAlike}
 use Rattle.sp_codegen.proofs.Closing.{Laid}
 use Rattle.sp_codegen.proofs.Instance.{instance}
 use Rattle.sp_codegen.proofs.Follows.{push_follows, slides}
@@ -40,7 +41,7 @@ pub laid_of : (p : Program) (code : Code) (moves shares : Stmt → List ℕ) (hu
     → layout_of code.layouts f ≡ Some l) → Laid p code.layouts
 laid_of p code moves shares hush blocks finds f b e = let z = blocks f b e in (z.layout, finds f z.layout z.at, z.is)
 
-module _ (g : Setting) (code : Code) (formed : IsFormed g.program) (types : HasSmallTypes g.program) (b : Block)
+module _ (g : RunInput) (code : Code) (formed : IsFormed g.program) (types : HasSmallTypes g.program) (b : Block)
     (eb : slice_get g.program.blocks 0 ≡ Some b) (pause : ℕ) (moves shares : Stmt → List ℕ) (hush : ℕ → Type 0)
     (free : IsFreeOfInterference g.program)
     (finds : (f : ℕ) (l : Layout) → slice_get code.layouts f ≡ Some l → layout_of code.layouts f ≡ Some l)
@@ -52,13 +53,13 @@ module _ (g : Setting) (code : Code) (formed : IsFormed g.program) (types : HasS
   pub laid : Laid p code.layouts
   laid = laid_of p code moves shares hush blocks finds
 
-  abbrev w : Who
+  abbrev w : Identity
   w = who g code formed laid b eb pause NoChannel IsFirst (refl, refl)
 
   abbrev V : Loc → Type 0
   V l = W g code formed laid b eb pause NoChannel IsFirst (refl, refl) l
 
-  law : Keeps g w (due_after 0 pause) V V NoIndexes (memory plain (code_run g code pause))
+  law : KeepsRelation g w (due_after 0 pause) V V NoIndexes (memory plain (code_run g code pause))
       (relation g code w NoChannel IsFirst V V NoIndexes 1 1 0 0 pause [])
   law = instance g code w NoChannel IsFirst V V NoIndexes 1 1 0 0 pause [] formed types laid (omega arith)
       (λ n x. inl refl) (omega (arith, small)) (λ c d i j h k. absurd h)
@@ -69,7 +70,7 @@ module _ (g : Setting) (code : Code) (formed : IsFormed g.program) (types : HasS
     code = code;
     moves = moves;
     shares = shares;
-    Quiet = hush;
+    IsCallableInFunctions = hush;
     who = w;
     due = due_after 0 pause;
     Writes = V;
@@ -88,14 +89,14 @@ module _ (g : Setting) (code : Code) (formed : IsFormed g.program) (types : HasS
   layout : BlockAt p moves shares code hush 0 b
   layout = blocks 0 b eb
 
-  abbrev js : List Joint
+  abbrev js : List FramePair
   js = j0 g code formed laid b eb pause NoChannel IsFirst (refl, refl) ∷ []
 
   -- a turn that begins and runs so
   turn_by : (c : Config (Memory Plain)) (t : Turn (Memory Plain))
-      → begins (memory plain (code_run g code pause)) code c ≡ true
+      → frames_fit (memory plain (code_run g code pause)) code c ≡ true
       → Runs (memory plain (code_run g code pause)) code c t → IsTurn (memory plain (code_run g code pause)) code c t
-  turn_by c t e r = subst (λ z. Begins z c t (Runs (memory plain (code_run g code pause)) code c t)) (sym e) r
+  turn_by c t e r = subst (λ z. BeginsOrFaults z c t (Runs (memory plain (code_run g code pause)) code c t)) (sym e) r
 
   entry_is : entry_of plain (code_run g code pause) (layout_of code.layouts 0) ≡ layout.layout.entry
   entry_is = ap (λ z. entry_of plain (code_run g code pause) z) (finds 0 layout.layout layout.at)
@@ -104,7 +105,7 @@ module _ (g : Setting) (code : Code) (formed : IsFormed g.program) (types : HasS
   n0 = first_memory plain (code_run g code pause) (layout_of code.layouts 0)
 
   abbrev end : ℕ
-  end = after p layout.layout.entry b.body
+  end = after_statement p layout.layout.entry b.body
 
   turned : (k : ℕ) → Turned execution (At layout.layout.entry [] n0) end [] js
       (run (source.turn g (due_after 0 pause) k (push b.body [])) w (root g).own (first_store g))
@@ -119,47 +120,47 @@ module _ (g : Setting) (code : Code) (formed : IsFormed g.program) (types : HasS
   fits_first : (memory plain (code_run g code pause)).fits n0 ≡ true
   fits_first = law.fits (root_stands g code formed laid b eb pause NoChannel IsFirst (refl, refl) fits)
 
-  by_outcome : (r : Came source.Stop × Store) → Turned execution (At layout.layout.entry [] n0) end [] js r
+  by_outcome : (r : WorkOutcome source.Stop × Store) → Turned execution (At layout.layout.entry [] n0) end [] js r
       → EndsAlike (code_run g code pause) (At layout.layout.entry [] n0) r
-  by_outcome (Got (source.Paused todo) o, s) q = (
+  by_outcome (Computed (source.Paused todo) o, s) q = (
     At q.0 q.1 q.2,
     turn_by (At layout.layout.entry [] n0) (Stopped Pauses (At q.0 q.1 q.2)) fits_first
         (q.4, q.5, q.6),
   )
-  by_outcome (Got (source.Stops (Stepped todo)) o, s) q = tt
-  by_outcome (Got (source.Stops (Ticked todo)) o, s) q = tt
-  by_outcome (Got (source.Stops (Opened todo)) o, s) q = (
+  by_outcome (Computed (source.Stops (Stepped todo)) o, s) q = tt
+  by_outcome (Computed (source.Stops (Ticked todo)) o, s) q = tt
+  by_outcome (Computed (source.Stops (Opened todo)) o, s) q = (
     q.6,
     At q.0 q.1 q.2,
     turn_by (At layout.layout.entry [] n0) (Stopped (Opens q.6) (At q.0 q.1 q.2)) fits_first
         (q.4, q.8, q.9),
   )
-  by_outcome (Got (source.Stops (Forked bs todo)) o, s) q = (
+  by_outcome (Computed (source.Stops (Forked bs todo)) o, s) q = (
     q.5,
     At q.0 q.1 q.2,
     turn_by (At layout.layout.entry [] n0) (Stopped q.5 (At q.0 q.1 q.2)) fits_first
         (q.4, q.6, q.7),
   )
-  by_outcome (Got (source.Stops (Offered c x cg todo)) o, s) q = (
+  by_outcome (Computed (source.Stops (Offered c x cg todo)) o, s) q = (
     q.5,
     At q.0 q.1 q.2,
     turn_by (At layout.layout.entry [] n0) (Stopped q.5 (At q.0 q.1 q.2)) fits_first
         (q.4, q.6, q.7),
   )
-  by_outcome (Got (source.Stops deeds.Ended) o, s) q = (
+  by_outcome (Computed (source.Stops deeds.Ended) o, s) q = (
     At q.0 q.1 q.2,
     turn_by (At layout.layout.entry [] n0) (Stopped Ended (At q.0 q.1 q.2)) fits_first
         (At q.0 q.1 q.2, q.4, q.5),
   )
-  by_outcome (Bad f, s) q = (
+  by_outcome (EndsInFault f, s) q = (
     q.at,
     turn_by (At layout.layout.entry [] n0) (Faulted f q.at) fits_first
         (q.at, q.comes, (q.fails, refl)),
   )
-  by_outcome (Lost, s) q = q
-  by_outcome (Long, s) q = tt
+  by_outcome (IllFormed, s) q = q
+  by_outcome (OutOfFuel, s) q = tt
 
-  pub first_turn : (k : ℕ) → EndsAlike (code_run g code pause) (first plain (code_run g code pause))
+  pub first_turn : (k : ℕ) → EndsAlike (code_run g code pause) (first_process plain (code_run g code pause))
       (run (source.turn g (due_after 0 pause) k (push b.body [])) w (root g).own (first_store g))
   first_turn k = subst (λ z. EndsAlike (code_run g code pause) (At z [] n0)
       (run (source.turn g (due_after 0 pause) k (push b.body [])) w (root g).own (first_store g))) (sym entry_is)
@@ -167,16 +168,16 @@ module _ (g : Setting) (code : Code) (formed : IsFormed g.program) (types : HasS
       (turned k))
 
 -- for the code of every tree whose blocks keep the rules
-pub first_turn_of_tree : (g : Setting) (moves shares : Stmt → List ℕ) (pause k : ℕ) (b : Block) → IsFormed g.program
+pub first_turn_of_tree : (g : RunInput) (moves shares : Stmt → List ℕ) (pause k : ℕ) (b : Block) → IsFormed g.program
     → HasSmallTypes g.program → IsFreeOfInterference g.program
     → ((f q : ℕ) (b : Block) → slice_get g.program.blocks f ≡ Some b
-    → IsFine g.program moves shares (IsQuiet g.program) f q b)
+    → IsFine g.program moves shares (NeverStops g.program) f q b)
     → slice_get g.program.blocks 0 ≡ Some b → g.limits.depth ≤ 4294967295 → size_of_frame g 0 ≤ g.limits.cells
     → EndsAlike (code_run g (program_code g.program moves shares) pause)
-    (first plain (code_run g (program_code g.program moves shares) pause))
+    (first_process plain (code_run g (program_code g.program moves shares) pause))
     (run (source.turn g (due_after 0 pause) k (push b.body [])) (record { name = []; forks = 0; opens = 0 })
     (root g).own (first_store g))
 first_turn_of_tree g moves shares pause k b formed types free fine eb small fits =
-    first_turn g (program_code g.program moves shares) formed types b eb pause moves shares (IsQuiet g.program) free
-    (λ f l e. layout_found g.program f l e) (blocks_stand g.program moves shares (IsQuiet g.program) fine) small
+    first_turn g (program_code g.program moves shares) formed types b eb pause moves shares (NeverStops g.program) free
+    (λ f l e. layout_found g.program f l e) (blocks_stand g.program moves shares (NeverStops g.program) fine) small
     fits k

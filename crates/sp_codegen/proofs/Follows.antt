@@ -7,25 +7,27 @@ use Rattle.sp_tree.specs.Plain.{Parallel, Forall, Assume, ReadValue, ReadLine, W
 use Rattle.sp_tree.specs.Plain.{Send, Receive, Stmts, No, And, Typed}
 use Rattle.sp_tree.specs.Uses.{Use, In_stmt, In_stmts}
 use Rattle.sp_meaning.specs.Model.{Channel, Cargo}
-use Rattle.sp_meaning.specs.Own.{Held, Address, Own, Item, Do, First, Again, Test, Leave, Break, Came, Got, Bad, Lost}
-use Rattle.sp_meaning.specs.Own.{Long, Work, bind, give, fail, tick}
-use Rattle.sp_meaning.specs.Deeds.{Deed, Stepped, Ticked, Opened, Forked, Offered, Ended, Birth, push, push_all}
+use Rattle.sp_meaning.specs.LocalWork.{LocationContent, Address, LocalState, Item, Do, First, Again, Test, Leave, Break}
+use Rattle.sp_meaning.specs.LocalWork.{WorkOutcome, Computed, EndsInFault, IllFormed}
+use Rattle.sp_meaning.specs.LocalWork.{OutOfFuel, Work, bind, give, fail, tick}
+use Rattle.sp_meaning.specs.Actions.{Action, Stepped, Ticked, Opened, Forked, Offered, Ended, Birth, push, push_all}
 use Rattle.sp_meaning.specs.Run.{Store, run}
 use Rattle.sp_meaning.proofs.Run.{then_run, run_bind}
 use Rattle.sp_code.specs.declared.instr.Instr.TheVariants as i
-use Rattle.sp_code.specs.Machine.{Entry, Did, Done, Failed, Stop, Config, At, Fails, outside, paced, then_go, one}
+use Rattle.sp_code.specs.Machine.{Entry, MemoryResult, Done, Failed, Stop, Config, At, Fails, is_in_no_function}
+use Rattle.sp_code.specs.Machine.{pause_step, then_go, next_step}
 use Rattle.sp_code.specs.Machine.{instruction}
-use Rattle.sp_code.specs.Turns.{Comes}
+use Rattle.sp_code.specs.Turns.{RunsTo}
 use Rattle.sp_code.specs.Scopes.{Scope}
-use Rattle.sp_code.specs.Places.{after, after_all}
-use Rattle.sp_code.specs.Stands.{Stands, HasFork, HasWords, StandsAt, AllAt}
-use Rattle.sp_codegen.specs.Joints.{Joint}
+use Rattle.sp_code.specs.Places.{after_statement, after_all}
+use Rattle.sp_code.specs.CodeOfTree.{CodeAt, HasFork, HasWords, StandsAt, AllAt}
+use Rattle.sp_codegen.specs.FramePairs.{FramePair}
 use Rattle.sp_codegen.specs.Executions.{Execution}
 use Rattle.sp_codegen.specs.Following as following
 pub use Rattle.sp_codegen.specs.Following.{cells_in}
 use Rattle.sp_codegen.specs.Following.{StandsFor}
 use Rattle.sp_codegen.specs.Relation.{Alike}
-use Rattle.sp_codegen.proofs.Runs.{Realizes, Known, Ends, stays, goes, comes_on, breaks, breaks_after}
+use Rattle.sp_codegen.proofs.Runs.{Realizes, HasKnownValue, RealizesResult, stays, goes, comes_on, breaks, breaks_after}
 use Rattle.sp_codegen.proofs.ValueForms.{P, within}
 
 module _ {M : Type 0} (ex : Execution M) where
@@ -34,7 +36,7 @@ module _ {M : Type 0} (ex : Execution M) where
     code,
     moves,
     shares,
-    Quiet as hush,
+    IsCallableInFunctions as hush,
     who as w,
     IsReadable as R,
     operations as ops,
@@ -45,7 +47,7 @@ module _ {M : Type 0} (ex : Execution M) where
   abbrev p : Program
   p = g.program
 
-  abbrev Pl : List Scope → List Joint → (Use → Type 0) → Type 0
+  abbrev Pl : List Scope → List FramePair → (Use → Type 0) → Type 0
   Pl sc js Here = P ex sc js Here
 
   abbrev pub Slides : ℕ → ℕ → List Entry → Type 0
@@ -63,12 +65,12 @@ module _ {M : Type 0} (ex : Execution M) where
   abbrev pub Turns : Bool → List Scope → ℕ → ℕ → Bool → Stmt → Type 0
   Turns free sc q x down s = following.Turns ex free sc q x down s
 
-  abbrev pub Follows : ℕ → List Entry → List Joint → ℕ → List Entry → List Joint → List Item → Type 0
-  Follows end base below pc stack fs todo = following.Follows ex end base below pc stack fs todo
+  abbrev pub CodeFollows : ℕ → List Entry → List FramePair → ℕ → List Entry → List FramePair → List Item → Type 0
+  CodeFollows end base below pc stack fs todo = following.CodeFollows ex end base below pc stack fs todo
 
-  pub slide_follows : (end : ℕ) (base : List Entry) (below : List Joint) (pc q : ℕ) (stack : List Entry)
-      (fs : List Joint) (todo : List Item) → Slides pc q stack → Follows end base below q stack fs todo
-      → Follows end base below pc stack fs todo
+  pub slide_follows : (end : ℕ) (base : List Entry) (below : List FramePair) (pc q : ℕ) (stack : List Entry)
+      (fs : List FramePair) (todo : List Item) → Slides pc q stack → CodeFollows end base below q stack fs todo
+      → CodeFollows end base below pc stack fs todo
   slide_follows end base below pc q stack fs [] h k = (slides_on h k.0, k.1, k.2)
   slide_follows end base below pc q stack fs (Do s ∷ todo) h k = (k.0, k.1, slides_on h k.2, k.3, k.4, k.5)
   slide_follows end base below pc q stack fs (First x lo hi d s ∷ todo) h k =
@@ -81,10 +83,11 @@ module _ {M : Type 0} (ex : Execution M) where
   slide_follows end base below pc q stack fs (Break f ∷ todo) h k = k
 
   mutual
-    pub push_follows : (s : Stmt) (end : ℕ) (base : List Entry) (below : List Joint) (sc : List Scope) (q : ℕ)
-        (stack : List Entry) (fs : List Joint) (todo : List Item) → Pl sc fs (In_stmt s)
-        → StandsAt p moves shares (Stands code) (HasFork code) (HasWords code) hush (outside stack) sc q s
-        → Follows end base below (after p q s) stack fs todo → Follows end base below q stack fs (push s todo)
+    pub push_follows : (s : Stmt) (end : ℕ) (base : List Entry) (below : List FramePair) (sc : List Scope) (q : ℕ)
+        (stack : List Entry) (fs : List FramePair) (todo : List Item) → Pl sc fs (In_stmt s)
+        → StandsAt p moves shares (CodeAt code) (HasFork code) (HasWords code) hush (is_in_no_function stack) sc q s
+        → CodeFollows end base below (after_statement p q s) stack fs todo
+        → CodeFollows end base below q stack fs (push s todo)
     push_follows Empty end base below sc q stack fs todo ch h k = k
     push_follows (Assign v (Typed x f)) end base below sc q stack fs todo ch h k = (q, sc, slides q stack, ch, h, k)
     push_follows (Call f args) end base below sc q stack fs todo ch h k = (q, sc, slides q stack, ch, h, k)
@@ -108,56 +111,61 @@ module _ {M : Type 0} (ex : Execution M) where
     push_follows (Send c e) end base below sc q stack fs todo ch h k = (q, sc, slides q stack, ch, h, k)
     push_follows (Receive c v) end base below sc q stack fs todo ch h k = (q, sc, slides q stack, ch, h, k)
 
-    pub push_all_follows : (ss : Stmts) (end : ℕ) (base : List Entry) (below : List Joint) (sc : List Scope) (q : ℕ)
-        (stack : List Entry) (fs : List Joint) (todo : List Item) → Pl sc fs (In_stmts ss)
-        → AllAt p moves shares (Stands code) (HasFork code) (HasWords code) hush (outside stack) sc q ss
-        → Follows end base below (after_all p q ss) stack fs todo → Follows end base below q stack fs (push_all ss todo)
+    pub push_all_follows : (ss : Stmts) (end : ℕ) (base : List Entry) (below : List FramePair) (sc : List Scope) (q : ℕ)
+        (stack : List Entry) (fs : List FramePair) (todo : List Item) → Pl sc fs (In_stmts ss)
+        → AllAt p moves shares (CodeAt code) (HasFork code) (HasWords code) hush (is_in_no_function stack) sc q ss
+        → CodeFollows end base below (after_all p q ss) stack fs todo
+        → CodeFollows end base below q stack fs (push_all ss todo)
     push_all_follows No end base below sc q stack fs todo ch h k = k
     push_all_follows (And s rest) end base below sc q stack fs todo ch h k =
         push_follows s end base below sc q stack fs (push_all rest todo) (within (λ u. inl) ch) h.0
-        (push_all_follows rest end base below sc (after p q s) stack fs todo (within (λ u. inr) ch) h.1 k)
+        (push_all_follows rest end base below sc (after_statement p q s) stack fs todo (within (λ u. inr) ch) h.1 k)
 
   -- what was pushed since is no function's link
-  pub outside_follows : (end : ℕ) (base : List Entry) (below : List Joint) (pc : ℕ) (stack : List Entry)
-      (fs : List Joint) (todo : List Item) → Follows end base below pc stack fs todo → outside stack ≡ outside base
-  outside_follows end base below pc stack fs [] h = ap outside h.1
+  pub outside_follows : (end : ℕ) (base : List Entry) (below : List FramePair) (pc : ℕ) (stack : List Entry)
+      (fs : List FramePair) (todo : List Item) → CodeFollows end base below pc stack fs todo
+      → is_in_no_function stack ≡ is_in_no_function base
+  outside_follows end base below pc stack fs [] h = ap is_in_no_function h.1
   outside_follows end base below pc stack fs (Do s ∷ todo) h =
-      outside_follows end base below (after p h.0 s) stack fs todo h.5
-  outside_follows end base below pc stack fs (First x lo hi d s ∷ todo) h = ap outside h.4
-      ∙ outside_follows end base below (after p (h.0 + 1 + 1) s + 1) h.2 fs todo h.7
-  outside_follows end base below pc stack fs (Again x hi d s ∷ todo) h = ap outside h.4
-      ∙ outside_follows end base below (after p (h.0 + 1 + 1) s + 1) h.2 fs todo h.7
+      outside_follows end base below (after_statement p h.0 s) stack fs todo h.5
+  outside_follows end base below pc stack fs (First x lo hi d s ∷ todo) h = ap is_in_no_function h.4
+      ∙ outside_follows end base below (after_statement p (h.0 + 1 + 1) s + 1) h.2 fs todo h.7
+  outside_follows end base below pc stack fs (Again x hi d s ∷ todo) h = ap is_in_no_function h.4
+      ∙ outside_follows end base below (after_statement p (h.0 + 1 + 1) s + 1) h.2 fs todo h.7
   outside_follows end base below pc stack fs (Test s e ∷ todo) h =
-      outside_follows end base below (after p h.0 (Repeat s e)) stack fs todo h.5
-  outside_follows end base below pc stack fs (Leave ∷ todo) h = ap outside h.6
+      outside_follows end base below (after_statement p h.0 (Repeat s e)) stack fs todo h.5
+  outside_follows end base below pc stack fs (Leave ∷ todo) h = ap is_in_no_function h.6
       ∙ outside_follows end base below h.1 h.2 h.4 todo h.9
   outside_follows end base below pc stack fs (Break f ∷ todo) h = absurd h
 
-  abbrev pub CargoIs : List Joint → Channel → ℕ → Cargo Held Address → Stop → Type 0
+  abbrev pub CargoIs : List FramePair → Channel → ℕ → Cargo LocationContent Address → Stop → Type 0
   CargoIs fs c k x z = following.CargoIs ex fs c k x z
 
-  abbrev pub ParallelIs : Bool → List Joint → List Birth → Stop → Type 0
+  abbrev pub ParallelIs : Bool → List FramePair → List Birth → Stop → Type 0
   ParallelIs free fs bs z = following.ParallelIs ex free fs bs z
 
-  abbrev pub ForallIs : Bool → List Joint → List Birth → Stop → Type 0
+  abbrev pub ForallIs : Bool → List FramePair → List Birth → Stop → Type 0
   ForallIs free fs bs z = following.ForallIs ex free fs bs z
 
-  abbrev pub ForkIs : Bool → List Joint → List Birth → Stop → Type 0
+  abbrev pub ForkIs : Bool → List FramePair → List Birth → Stop → Type 0
   ForkIs free fs bs z = following.ForkIs ex free fs bs z
 
-  abbrev pub Made : Config M → (List Item → List Joint → ℕ → List Entry → Type 0) → Came Deed × Store → Type 0
+  abbrev pub Made : Config M → (List Item → List FramePair → ℕ → List Entry → Type 0) → WorkOutcome Action × Store
+      → Type 0
   Made c Q r = following.Made ex c Q r
 
-  pub record Makes (c : Config M) (o : Own) (s : Store) (Q : List Item → List Joint → ℕ → List Entry → Type 0)
-      (h : Work Deed) : Type 0 where
+  pub record Makes (c : Config M) (o : LocalState) (s : Store) (Q : List Item → List FramePair → ℕ → List Entry
+      → Type 0)
+      (h : Work Action) : Type 0 where
     pub by : Made c Q (run h w o s)
 
-  pub made_after : (c d : Config M) (Q : List Item → List Joint → ℕ → List Entry → Type 0) (r : Came Deed × Store)
-      → Comes ops code c d → Made d Q r → Made c Q r
-  made_after c d Q (Got (Stepped todo) o, s) h k = (k.0, k.1, k.2, k.3, comes_on ops rel w code h k.4, k.5, k.6)
-  made_after c d Q (Got (Ticked todo) o, s) h k =
+  pub made_after : (c d : Config M) (Q : List Item → List FramePair → ℕ → List Entry → Type 0) (r : WorkOutcome Action
+      × Store)
+      → RunsTo ops code c d → Made d Q r → Made c Q r
+  made_after c d Q (Computed (Stepped todo) o, s) h k = (k.0, k.1, k.2, k.3, comes_on ops rel w code h k.4, k.5, k.6)
+  made_after c d Q (Computed (Ticked todo) o, s) h k =
       (k.0, k.1, k.2, k.3, k.4, comes_on ops rel w code h k.5, k.6, k.7, k.8)
-  made_after c d Q (Got (Opened todo) o, s) h k = (
+  made_after c d Q (Computed (Opened todo) o, s) h k = (
     k.0,
     k.1,
     k.2,
@@ -176,58 +184,64 @@ module _ {M : Type 0} (ex : Execution M) where
     k.15,
     k.16,
   )
-  made_after c d Q (Got (Forked bs todo) o, s) h k =
+  made_after c d Q (Computed (Forked bs todo) o, s) h k =
       (k.0, k.1, k.2, k.3, k.4, k.5, comes_on ops rel w code h k.6, k.7, k.8, k.9, k.10, k.11, k.12)
-  made_after c d Q (Got (Offered ch x g todo) o, s) h k =
+  made_after c d Q (Computed (Offered ch x g todo) o, s) h k =
       (k.0, k.1, k.2, k.3, k.4, k.5, comes_on ops rel w code h k.6, k.7, k.8, k.9, k.10, k.11, k.12)
-  made_after c d Q (Got Ended o, s) h k = (k.0, k.1, k.2, k.3, comes_on ops rel w code h k.4, k.5, k.6, k.7, k.8)
-  made_after c d Q (Bad f, s) h k = breaks_after ops rel w code h k
-  made_after c d Q (Lost, s) h k = k
-  made_after c d Q (Long, s) h k = k
+  made_after c d Q (Computed Ended o, s) h k = (k.0, k.1, k.2, k.3, comes_on ops rel w code h k.4, k.5, k.6, k.7, k.8)
+  made_after c d Q (EndsInFault f, s) h k = breaks_after ops rel w code h k
+  made_after c d Q (IllFormed, s) h k = k
+  made_after c d Q (OutOfFuel, s) h k = k
 
-  pub makes_after : {c d : Config M} {o : Own} {s : Store} {Q : List Item → List Joint → ℕ → List Entry → Type 0}
-      {h : Work Deed} → Comes ops code c d → Makes d o s Q h → Makes c o s Q h
+  pub makes_after : {c d : Config M} {o : LocalState} {s : Store} {Q : List Item → List FramePair → ℕ → List Entry
+      → Type 0}
+      {h : Work Action} → RunsTo ops code c d → Makes d o s Q h → Makes c o s Q h
   makes_after {c} {d} {o} {s} {Q} {h} e k = record { by = made_after c d Q (run h w o s) e k.by }
 
-  pub makes_bind : {A E : Type 0} {fs : List Joint} {c : Config M} {o : Own} {s : Store} {pc : ℕ}
-      {st : A → E → List Entry} {F : A → E → Type 0} {Q : List Item → List Joint → ℕ → List Entry → Type 0} {h : Work A}
-      (gg : A → Work Deed)
+  pub makes_bind : {A E : Type 0} {fs : List FramePair} {c : Config M} {o : LocalState} {s : Store} {pc : ℕ}
+      {st : A → E → List Entry} {F : A → E → Type 0} {Q : List Item → List FramePair → ℕ → List Entry → Type 0}
+      {h : Work A}
+      (gg : A → Work Action)
       → Realizes ops rel w code fs c o s pc st F h
-      → ((a : A) (e : E) (o1 : Own) (s1 : Store) (n1 : M) → rel.Stand fs o1 s1 n1 → F a e
+      → ((a : A) (e : E) (o1 : LocalState) (s1 : Store) (n1 : M) → rel.Stand fs o1 s1 n1 → F a e
       → Makes (At pc (st a e) n1) o1 s1 Q (gg a)) → Makes c o s Q (bind h gg)
   makes_bind {A} {E} {fs} {c} {o} {s} {pc} {st} {F} {Q} {h} gg k next =
       record { by = subst (Made c Q) (sym (run_bind h gg w o s)) (go (run h w o s) k.by) }
     where
-      go : (r : Came A × Store) → Ends ops rel w code fs c pc st F r → Made c Q (then_run gg w r)
-      go (Got a o1, s1) q = made_after c (At pc (st a q.0) q.1) Q (run (gg a) w o1 s1) q.2
+      go : (r : WorkOutcome A × Store) → RealizesResult ops rel w code fs c pc st F r → Made c Q (then_run gg w r)
+      go (Computed a o1, s1) q = made_after c (At pc (st a q.0) q.1) Q (run (gg a) w o1 s1) q.2
           (next a q.0 o1 s1 q.1 q.3 q.4).by
-      go (Bad f, s1) q = q
-      go (Lost, s1) q = q
-      go (Long, s1) q = q
+      go (EndsInFault f, s1) q = q
+      go (IllFormed, s1) q = q
+      go (OutOfFuel, s1) q = q
 
-  pub makes_known : {A : Type 0} {c : Config M} {o : Own} {s : Store}
-      {Q : List Item → List Joint → ℕ → List Entry → Type 0} {h : Work A} (gg : A → Work Deed) (a : A)
-      → Known ops rel w code o s h a → Makes c o s Q (gg a) → Makes c o s Q (bind h gg)
+  pub makes_known : {A : Type 0} {c : Config M} {o : LocalState} {s : Store}
+      {Q : List Item → List FramePair → ℕ → List Entry → Type 0} {h : Work A} (gg : A → Work Action) (a : A)
+      → HasKnownValue ops rel w code o s h a → Makes c o s Q (gg a) → Makes c o s Q (bind h gg)
   makes_known {A} {c} {o} {s} {Q} {h} gg a k next =
       record { by = subst (Made c Q) (sym (run_bind h gg w o s ∙ ap (then_run gg w) k.by)) next.by }
 
-  pub makes_by : {c : Config M} {o : Own} {s : Store} {Q : List Item → List Joint → ℕ → List Entry → Type 0}
-      {h k : Work Deed} → h ≡ k → Makes c o s Q k → Makes c o s Q h
+  pub makes_by : {c : Config M} {o : LocalState} {s : Store} {Q : List Item → List FramePair → ℕ → List Entry → Type 0}
+      {h k : Work Action} → h ≡ k → Makes c o s Q k → Makes c o s Q h
   makes_by {c} {o} {s} {Q} e q = subst (λ x. Makes c o s Q x) (sym e) q
 
-  pub makes_went : {c : Config M} {o : Own} {s : Store} {Q : List Item → List Joint → ℕ → List Entry → Type 0}
-      (todo : List Item) (fs : List Joint) (pc : ℕ) (st : List Entry) (n : M) → Comes ops code c (At pc st n)
+  pub makes_went : {c : Config M} {o : LocalState} {s : Store} {Q : List Item → List FramePair → ℕ → List Entry
+      → Type 0}
+      (todo : List Item) (fs : List FramePair) (pc : ℕ) (st : List Entry) (n : M) → RunsTo ops code c (At pc st n)
       → rel.Stand fs o s n → Q todo fs pc st → Makes c o s Q (give (Stepped todo))
   makes_went todo fs pc st n e t q = record { by = (pc, st, n, fs, e, t, q) }
 
-  pub makes_fail : {c : Config M} {o : Own} {s : Store} {Q : List Item → List Joint → ℕ → List Entry → Type 0}
-      (f : Fault) → StandsFor rel c s → one ops code c ≡ Fails f → Makes c o s Q (fail f)
+  pub makes_fail : {c : Config M} {o : LocalState} {s : Store} {Q : List Item → List FramePair → ℕ → List Entry
+      → Type 0}
+      (f : Fault) → StandsFor rel c s → next_step ops code c ≡ Fails f → Makes c o s Q (fail f)
   makes_fail {c} {s = s} f t e = record { by = breaks ops rel w code c f s t e }
 
   -- a tick of the process, where a Tick stands
-  pub makes_tick : {c : Config M} {o : Own} {s : Store} {Q : List Item → List Joint → ℕ → List Entry → Type 0}
-      (todo : List Item) (fs : List Joint) (pc : ℕ) (st : List Entry) (d : Did M) → StandsFor rel c s
-      → Alike rel fs s (run (tick g.limits) w o s) d → one ops code c ≡ then_go d (λ n1. paced ops code pc st n1)
+  pub makes_tick : {c : Config M} {o : LocalState} {s : Store} {Q : List Item → List FramePair → ℕ → List Entry
+      → Type 0}
+      (todo : List Item) (fs : List FramePair) (pc : ℕ) (st : List Entry) (d : MemoryResult M) → StandsFor rel c s
+      → Alike rel fs s (run (tick g.limits) w o s) d → next_step ops code c ≡ then_go d
+      (λ n1. pause_step ops code pc st n1)
       → Q todo fs pc st → Makes c o s Q (bind (tick g.limits) (λ u. give (Ticked todo)))
   makes_tick {c} {o} {s} {Q} todo fs pc st d t al e q =
       record {
@@ -235,13 +249,13 @@ module _ {M : Type 0} (ex : Execution M) where
             (go (run (tick g.limits) w o s) d al e);
       }
     where
-      go : (r : Came (Unit {0}) × Store) (d : Did M) → Alike rel fs s r d
-          → one ops code c ≡ then_go d (λ n1. paced ops code pc st n1)
+      go : (r : WorkOutcome (Unit {0}) × Store) (d : MemoryResult M) → Alike rel fs s r d
+          → next_step ops code c ≡ then_go d (λ n1. pause_step ops code pc st n1)
           → Made c Q (then_run (λ u. give (Ticked todo)) w r)
-      go (Got a o1, s1) (Done n1) al e = (pc, st, n1, fs, c, stays ops rel w code c, e, al, q)
-      go (Got a o1, s1) (Failed f) al e = absurd al
-      go (Bad f, s1) (Done n1) al e = absurd al
-      go (Bad f, s1) (Failed g1) al e = breaks ops rel w code c f s1 (subst (StandsFor rel c) (sym al.1) t)
+      go (Computed a o1, s1) (Done n1) al e = (pc, st, n1, fs, c, stays ops rel w code c, e, al, q)
+      go (Computed a o1, s1) (Failed f) al e = absurd al
+      go (EndsInFault f, s1) (Done n1) al e = absurd al
+      go (EndsInFault f, s1) (Failed g1) al e = breaks ops rel w code c f s1 (subst (StandsFor rel c) (sym al.1) t)
           (e ∙ ap Fails (sym al.0))
-      go (Lost, s1) d al e = absurd al
-      go (Long, s1) d al e = absurd al
+      go (IllFormed, s1) d al e = absurd al
+      go (OutOfFuel, s1) d al e = absurd al

@@ -8,23 +8,23 @@ use Rattle.sp_tree.specs.Uses.{Use, Target, In_loop}
 use Rattle.sp_cell.specs.declared.cell.Cell.TheVariants as cell
 use Rattle.sp_cell.specs.declared.spot.Address.{Address as Ptr}
 use Rattle.sp_meaning.specs.Values.{Ordinal}
-use Rattle.sp_meaning.specs.Own.{Address, Own, Item, First, Again, bind, give, who, assign, tick, is_block}
-use Rattle.sp_meaning.specs.Owning.{stands, stands_at, stands_by, cell_of as cell_in}
-use Rattle.sp_meaning.specs.Eval.{At, place_of, address, in_frame, place_by}
-use Rattle.sp_meaning.specs.Deeds.{Stepped, Ticked, push, has, is_range, turn_of}
+use Rattle.sp_meaning.specs.LocalWork.{Address, LocalState, Item, First, Again, bind, give, who, assign, tick, is_block}
+use Rattle.sp_meaning.specs.Owning.{location_of, location_at, location_by, cell_of as cell_in}
+use Rattle.sp_meaning.specs.Eval.{AtAddress, place_of, address, in_frame, place_by}
+use Rattle.sp_meaning.specs.Actions.{Stepped, Ticked, push, is_range, turn_of}
 use Rattle.sp_meaning.specs.Run.{Store}
 use Rattle.sp_meaning.proofs.Static.{sought, home_is}
 use Rattle.sp_code.specs.declared.instr.Instr.TheVariants as i
-use Rattle.sp_code.specs.Machine.{Entry, Config, Goes, outside, when, there, one}
+use Rattle.sp_code.specs.Machine.{Entry, Config, Goes, is_in_no_function, when, on_some, next_step}
 use Rattle.sp_code.specs.Machine as m
 use Rattle.sp_code.specs.Scopes.{Ordinals, Scope, sort, slot}
 use Rattle.sp_code.specs.Scopes as places
-use Rattle.sp_code.specs.Places.{after}
-use Rattle.sp_code.specs.Stands.{Stands, HasFork, HasWords, ForVar, TurnsAt}
-use Rattle.sp_codegen.specs.Joints.{Joint, sources}
+use Rattle.sp_code.specs.Places.{after_statement}
+use Rattle.sp_code.specs.CodeOfTree.{CodeAt, HasFork, HasWords, ForVar, TurnsAt}
+use Rattle.sp_codegen.specs.FramePairs.{FramePair, sources}
 use Rattle.sp_codegen.specs.Executions.{Execution}
 use Rattle.sp_codegen.specs.Relation.{Stood, OneCell, Owns}
-use Rattle.sp_codegen.proofs.Runs.{Known, stays, goes, known_bind, holds_when}
+use Rattle.sp_codegen.proofs.Runs.{HasKnownValue, stays, goes, known_bind, holds_when}
 use Rattle.sp_codegen.proofs.Chains.{block_agrees, found, seek_all, find_in}
 use Rattle.sp_codegen.proofs.Follows.{slides, push_follows, makes_bind, makes_known, makes_went, makes_tick}
 use Rattle.sp_codegen.proofs.StepForms.{K, After, S, Pl, address_known}
@@ -37,7 +37,7 @@ module _ {M : Type 0} (ex : Execution M) where
     code,
     moves,
     shares,
-    Quiet as hush,
+    IsCallableInFunctions as hush,
     who as w,
     IsReadable as R,
     operations as ops,
@@ -50,34 +50,37 @@ module _ {M : Type 0} (ex : Execution M) where
   p = g.program
 
   -- the variable of a for loop
-  pub record ForPlace (fs : List Joint) (x : ℕ) (n : M) (o : Own) (s : Store) : Type 0 where
+  pub record ForPlace (fs : List FramePair) (x : ℕ) (n : M) (o : LocalState) (s : Store) : Type 0 where
     pub address : Address
     pub cell : Ptr
-    pub known : Known ops rel w code o s (place_of g x) (At address)
+    pub known : HasKnownValue ops rel w code o s (place_of g x) (AtAddress address)
     pub at : ops.addr 0 (slot p x) n ≡ Some cell
     pub points : rel.Points fs address cell
     pub may : R address.spot
     pub sorted : sort p address.kind ≡ Ordinals
 
-  pub for_place : {Here : Use → Type 0} {fs : List Joint} {o : Own} {s : Store} {n : M} (sc : List Scope) (x : ℕ)
+  pub for_place : {Here : Use → Type 0} {fs : List FramePair} {o : LocalState} {s : Store} {n : M} (sc : List Scope)
+      (x : ℕ)
       → rel.Stand fs o s n → Pl ex sc fs Here → Here (Target x)
-      → ForVar p moves shares (Stands code) (HasFork code) (HasWords code) hush sc x → ForPlace fs x n o s
+      → ForVar p moves shares (CodeAt code) (HasFork code) (HasWords code) hush sc x → ForPlace fs x n o s
   for_place {fs = fs} {o = o} {s = s} {n = n} sc x t pl ai h =
       let v = h.0 in
       let r = found (is_block v.block) (places.is_block v.block) (block_agrees v.block) sc fs 0 pl.chain h.3 in
       let a = law.addr t 0 x r.frame r.rest r.at v h.1 (home_is v.block r.frame.source.home r.fit)
       (subst Owns (sym h.2) tt) in
-      let at : stands p (sources fs) x ≡ Some (in_frame g x v r.frame.source).spot = ap (stands_at (sources fs) x) h.1
-      ∙ ap (stands_by (sources fs) x v) h.2
+      let at : location_of p (sources fs) x ≡ Some (in_frame g x v r.frame.source).spot =
+      ap (location_at (sources fs) x) h.1
+      ∙ ap (location_by (sources fs) x v) h.2
       ∙ ap (cell_in x) (find_in (is_block v.block) fs r.frame r.rest r.sought) in
       record {
         address = in_frame g x v r.frame.source;
         cell = a.0;
-        known = known_bind ops rel w code (λ i. place_by g x i i.role) v (At (in_frame g x v r.frame.source))
+        known = known_bind ops rel w code (λ i. place_by g x i i.role) v (AtAddress (in_frame g x v r.frame.source))
             (or_known ex (slice_get p.variables x) v h.1)
-            (subst (λ y. Known ops rel w code o s (place_by g x v y) (At (in_frame g x v r.frame.source))) (sym h.2)
-            (known_bind ops rel w code (λ f. give (At (in_frame g x v f))) r.frame.source
-            (At (in_frame g x v r.frame.source))
+            (subst (λ y. HasKnownValue ops rel w code o s (place_by g x v y)
+            (AtAddress (in_frame g x v r.frame.source))) (sym h.2)
+            (known_bind ops rel w code (λ f. give (AtAddress (in_frame g x v f))) r.frame.source
+            (AtAddress (in_frame g x v r.frame.source))
             (visible_known ex t (is_block v.block) r.frame r.rest (seek_all (is_block v.block) fs ∙ r.sought))
             (record { by = refl })));
         at = a.1;
@@ -88,16 +91,18 @@ module _ {M : Type 0} (ex : Execution M) where
       }
 
   -- the value of a for loop's turn is assigned, and then there is a tick
-  pub turn_makes : (end : ℕ) (base : List Entry) (below : List Joint) (x : ℕ) (v limit : ℤ) (down : Bool) (d : Stmt)
-      (sc : List Scope) (q : ℕ) (st : List Entry) (todo : List Item) (fs : List Joint) (c : Config M) (o : Own)
+  pub turn_makes : (end : ℕ) (base : List Entry) (below : List FramePair) (x : ℕ) (v limit : ℤ) (down : Bool) (d : Stmt)
+      (sc : List Scope) (q : ℕ) (st : List Entry) (todo : List Item) (fs : List FramePair) (c : Config M)
+      (o : LocalState)
       (s : Store) (n : M) → rel.Stand fs o s n → Pl ex sc fs (In_loop x d)
-      → TurnsAt p moves shares (Stands code) (HasFork code) (HasWords code) hush sc q x down (after p (q + 1 + 1) d)
-      (S ex (outside st) sc (q + 1 + 1) d)
-      → After ex end base below todo fs (after p (q + 1 + 1) d + 1) st → (z : ForPlace fs x n o s)
-      → one ops code c ≡ Goes (m.At (q + 1) (m.Number limit ∷ st) (ops.put z.cell (cell.Ordinal v) n))
+      → TurnsAt p moves shares (CodeAt code) (HasFork code) (HasWords code) hush sc q x down
+      (after_statement p (q + 1 + 1) d)
+      (S ex (is_in_no_function st) sc (q + 1 + 1) d)
+      → After ex end base below todo fs (after_statement p (q + 1 + 1) d + 1) st → (z : ForPlace fs x n o s)
+      → next_step ops code c ≡ Goes (m.At (q + 1) (m.Number limit ∷ st) (ops.put z.cell (cell.Ordinal v) n))
       → K ex c o s (After ex end base below) (turn_of g x v limit down d todo)
   turn_makes end base below x v limit down d sc q st todo fs c o s n t pl h fo z ge =
-      makes_known ex _ (At z.address) z.known
+      makes_known ex _ (AtAddress z.address) z.known
       (makes_known ex (λ a. bind (assign a (Ordinal v))
       (λ u. bind (tick g.limits) (λ u. give (Ticked (push d (Again x limit down d ∷ todo)))))) z.address
       (address_known ex z.address)
@@ -106,7 +111,7 @@ module _ {M : Type 0} (ex : Execution M) where
       z.may (subst OneCell (sym z.sorted) tt)
       (subst (λ y. Stood rel p y z.address.kind (Ordinal v) (m.Number v)) (sym z.sorted) (v, refl, refl)) ge)
       (λ x1 x2 o2 s2 n2 t2 x3.
-      makes_tick ex (push d (Again x limit down d ∷ todo)) fs (q + 1 + 1) (m.Number limit ∷ st) (ops.beat n2) (_, _, t2)
+      makes_tick ex (push d (Again x limit down d ∷ todo)) fs (q + 1 + 1) (m.Number limit ∷ st) (ops.tick n2) (_, _, t2)
       (law.beat t2) (at_one ex (q + 1) (m.Number limit ∷ st) n2 h.2)
       (push_follows ex d end base below sc (q + 1 + 1) (m.Number limit ∷ st) fs (Again x limit down d ∷ todo)
       (within (λ u. inr) pl) h.3 (q, sc, st, slides ex _ _, refl, pl, h, fo)))))
@@ -114,25 +119,28 @@ module _ {M : Type 0} (ex : Execution M) where
   pub first_one : (down : Bool) (q to x : ℕ) (stack : List Entry) (n : M) (lo hi : ℤ)
       → slice_get code.instrs q ≡ Some (if down then i.Fordown (slot p x) to else i.Forup (slot p x) to) → (u : Ptr)
       → ops.addr 0 (slot p x) n ≡ Some u → ops.has u 1 n ≡ true
-      → one ops code (m.At q (m.Number hi ∷ m.Number lo ∷ stack) n)
+      → next_step ops code (m.At q (m.Number hi ∷ m.Number lo ∷ stack) n)
       ≡ (if is_range down lo hi then Goes (m.At (q + 1) (m.Number hi ∷ stack) (ops.put u (cell.Ordinal lo) n)) else
       Goes (m.At to stack n))
   first_one true q to x stack n lo hi h u e ha = at_one ex q _ n h
-      ∙ ap (λ z. there z (λ a. when (ops.has a 1 n)
+      ∙ ap (λ z. on_some z (λ a. when (ops.has a 1 n)
       (if is_range true lo hi then Goes (m.At (q + 1) (m.Number hi ∷ stack) (ops.put a (cell.Ordinal lo) n)) else
       Goes (m.At to stack n)))) e ∙ holds_when (ops.has u 1 n) _ ha
   first_one false q to x stack n lo hi h u e ha = at_one ex q _ n h
-      ∙ ap (λ z. there z (λ a. when (ops.has a 1 n)
+      ∙ ap (λ z. on_some z (λ a. when (ops.has a 1 n)
       (if is_range false lo hi then Goes (m.At (q + 1) (m.Number hi ∷ stack) (ops.put a (cell.Ordinal lo) n)) else
       Goes (m.At to stack n)))) e ∙ holds_when (ops.has u 1 n) _ ha
 
   -- both limits of a for loop are there
-  pub for_begins : (end : ℕ) (base : List Entry) (below : List Joint) (x : ℕ) (down : Bool) (d : Stmt) (sc : List Scope)
-      (q : ℕ) (stack : List Entry) (todo : List Item) (fs : List Joint) (lo hi : ℤ) (o : Own) (s : Store) (n : M)
+  pub for_begins : (end : ℕ) (base : List Entry) (below : List FramePair) (x : ℕ) (down : Bool) (d : Stmt)
+      (sc : List Scope)
+      (q : ℕ) (stack : List Entry) (todo : List Item) (fs : List FramePair) (lo hi : ℤ) (o : LocalState) (s : Store)
+      (n : M)
       → rel.Stand fs o s n → Pl ex sc fs (In_loop x d)
-      → TurnsAt p moves shares (Stands code) (HasFork code) (HasWords code) hush sc q x down (after p (q + 1 + 1) d)
-      (S ex (outside stack) sc (q + 1 + 1) d)
-      → After ex end base below todo fs (after p (q + 1 + 1) d + 1) stack
+      → TurnsAt p moves shares (CodeAt code) (HasFork code) (HasWords code) hush sc q x down
+      (after_statement p (q + 1 + 1) d)
+      (S ex (is_in_no_function stack) sc (q + 1 + 1) d)
+      → After ex end base below todo fs (after_statement p (q + 1 + 1) d + 1) stack
       → K ex (m.At q (m.Number hi ∷ m.Number lo ∷ stack) n) o s (After ex end base below)
       (give (Stepped (if is_range down lo hi then First x lo hi down d ∷ todo else todo)))
   for_begins end base below x down d sc q stack todo fs lo hi o s n t pl h k = go (is_range down lo hi) refl
@@ -140,11 +148,11 @@ module _ {M : Type 0} (ex : Execution M) where
       z : ForPlace fs x n o s
       z = for_place sc x t pl (inl refl) h.0
 
-      step : one ops code (m.At q (m.Number hi ∷ m.Number lo ∷ stack) n)
+      step : next_step ops code (m.At q (m.Number hi ∷ m.Number lo ∷ stack) n)
           ≡ (if is_range down lo hi then Goes
           (m.At (q + 1) (m.Number hi ∷ stack) (ops.put z.cell (cell.Ordinal lo) n)) else
-          Goes (m.At (after p (q + 1 + 1) d + 1) stack n))
-      step = first_one down q (after p (q + 1 + 1) d + 1) x stack n lo hi h.1 z.cell z.at
+          Goes (m.At (after_statement p (q + 1 + 1) d + 1) stack n))
+      step = first_one down q (after_statement p (q + 1 + 1) d + 1) x stack n lo hi h.1 z.cell z.at
           (law.has_one t z.address z.cell z.points z.may)
 
       go : (b : Bool) → is_range down lo hi ≡ b
@@ -152,7 +160,7 @@ module _ {M : Type 0} (ex : Execution M) where
           (give (Stepped (if b then First x lo hi down d ∷ todo else todo)))
       go true e = makes_went ex (First x lo hi down d ∷ todo) fs q (m.Number hi ∷ m.Number lo ∷ stack) n
           (stays ops rel w code _) t (q, sc, stack, slides ex _ _, refl, pl, h, k, e)
-      go false e = makes_went ex todo fs (after p (q + 1 + 1) d + 1) stack n
+      go false e = makes_went ex todo fs (after_statement p (q + 1 + 1) d + 1) stack n
           (goes ops rel w code (step ∙ ap (λ b. if b then
           Goes (m.At (q + 1) (m.Number hi ∷ stack) (ops.put z.cell (cell.Ordinal lo) n)) else
-          Goes (m.At (after p (q + 1 + 1) d + 1) stack n)) e)) t k
+          Goes (m.At (after_statement p (q + 1 + 1) d + 1) stack n)) e)) t k

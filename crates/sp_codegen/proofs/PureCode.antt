@@ -8,21 +8,22 @@ use Rattle.sp_tree.specs.Plain.{Pass, Program, Variable, Stmt, Empty, Assign, Ca
 use Rattle.sp_tree.specs.Plain.{For, Case, Parallel, Forall, Assume, ReadValue, ReadLine, WriteValue, WriteText}
 use Rattle.sp_tree.specs.Plain.{WriteLine, Open, Send, Receive, Stmts, No, And, On, Arms, NoArm, Or}
 use Rattle.sp_tree.specs.Interference.{IsMember, IsFunction}
-use Rattle.sp_meaning.specs.Own.{Item, Do, First, Again, Test, Leave, Break}
+use Rattle.sp_meaning.specs.LocalWork.{Item, Do, First, Again, Test, Leave, Break}
 use Rattle.sp_meaning.proofs.Pure.{DoFunctionsTakeValues, IsLocal, PureExpr, PureForm, PureVar, PureSelectors}
 use Rattle.sp_meaning.proofs.Pure.{PureValues, PureActuals, PureWidth, PureStmt, PureStmts, PureArms, PureItems}
 use Rattle.sp_meaning.proofs.Pure.{AreBlocksPure}
 use Rattle.sp_code.specs.declared.code.ForkTable.{ForkTable}
 use Rattle.sp_code.specs.declared.code.Parts.{Parts}
 use Rattle.sp_code.specs.declared.instr.Instr.{Instr}
-use Rattle.sp_code.specs.Machine.{Entry, outside}
-use Rattle.sp_code.specs.Places.{after_value, after_var, after_tests, after, after_arms}
+use Rattle.sp_code.specs.Machine.{Entry, is_in_no_function}
+use Rattle.sp_code.specs.Places.{after_value, after_var, after_tests, after_statement, after_arms}
 use Rattle.sp_code.specs.Scopes.{Sort, Ordinals, Channels, Many, NoSort, Scope, OfIndex, scopes_of, sort}
-use Rattle.sp_code.specs.Stands.{ForVar, ValueAt, FormAt, PlaceAt, SelectedAt, ActualsAt, WidthAt, RightAt, StandsAt}
-use Rattle.sp_code.specs.Stands.{AllAt, ChildrenAt, ArmsAt, Stands, HasFork, HasWords, BlocksAt}
-use Rattle.sp_codegen.specs.Joints.{Joint}
+use Rattle.sp_code.specs.CodeOfTree.{ForVar, ValueAt, FormAt, PlaceAt, SelectedAt, ActualsAt, WidthAt, RightAt}
+use Rattle.sp_code.specs.CodeOfTree.{StandsAt}
+use Rattle.sp_code.specs.CodeOfTree.{AllAt, ChildrenAt, ArmsAt, CodeAt, HasFork, HasWords, BlocksAt}
+use Rattle.sp_codegen.specs.FramePairs.{FramePair}
 use Rattle.sp_codegen.specs.Executions.{Execution}
-use Rattle.sp_codegen.specs.Following.{Follows}
+use Rattle.sp_codegen.specs.Following.{CodeFollows}
 
 module _ (p : Program) (values : DoFunctionsTakeValues p) (moves shares : Stmt → List ℕ) (Is : ℕ → Instr → Type 0)
     (HasTable : ℕ → ForkTable → Type 0) (HasText : ℕ → List ℕ → Type 0) (hush : ℕ → Type 0) where
@@ -106,10 +107,11 @@ module _ (p : Program) (values : DoFunctionsTakeValues p) (moves shares : Stmt �
     stmt_pure (IfElse e a b) free sc q h = (
       expr_pure e sc q h.0.0,
       stmt_pure a free sc (after_value q e + 1) h.2,
-      stmt_pure b free sc (after p (after_value q e + 1) a + 1) h.4,
+      stmt_pure b free sc (after_statement p (after_value q e + 1) a + 1) h.4,
     )
     stmt_pure (While e s) free sc q h = (expr_pure e sc q h.0.0, stmt_pure s free sc (after_value q e + 1 + 1) h.3)
-    stmt_pure (Repeat s e) free sc q h = (expr_pure e sc (after p (q + 1) s) h.2.0, stmt_pure s free sc (q + 1) h.1)
+    stmt_pure (Repeat s e) free sc q h =
+        (expr_pure e sc (after_statement p (q + 1) s) h.2.0, stmt_pure s free sc (q + 1) h.1)
     stmt_pure (For x from down to s) free sc q h =
         let t = after_value (after_value q from) to in (
           expr_pure from sc q h.0.0,
@@ -139,60 +141,64 @@ module _ (p : Program) (values : DoFunctionsTakeValues p) (moves shares : Stmt �
     all_pure : (ss : Stmts) (free : Bool) (sc : List Scope) (q : ℕ)
         → AllAt p moves shares Is HasTable HasText hush free sc q ss → PureStmts p ss
     all_pure No free sc q h = tt
-    all_pure (And s rest) free sc q h = (stmt_pure s free sc q h.0, all_pure rest free sc (after p q s) h.1)
+    all_pure (And s rest) free sc q h = (stmt_pure s free sc q h.0, all_pure rest free sc (after_statement p q s) h.1)
 
     children_pure : (ss : Stmts) (free : Bool) (sc : List Scope) (q : ℕ)
         → ChildrenAt p moves shares Is HasTable HasText hush free sc q ss → PureStmts p ss
     children_pure No free sc q h = tt
     children_pure (And s rest) free sc q h =
-        (stmt_pure s free sc q h.0, children_pure rest free sc (after p q s + 1) h.2)
+        (stmt_pure s free sc q h.0, children_pure rest free sc (after_statement p q s + 1) h.2)
 
     arms_pure : (arms : Arms) (free : Bool) (sc : List Scope) (q end : ℕ)
         → ArmsAt p moves shares Is HasTable HasText hush free sc q arms end → PureArms p arms
     arms_pure NoArm free sc q end h = tt
     arms_pure (Or (On ms s) rest) free sc q end h =
-        (stmt_pure s free sc q h.0, arms_pure rest free sc (after p q s + 1) end h.2)
+        (stmt_pure s free sc q h.0, arms_pure rest free sc (after_statement p q s + 1) end h.2)
 
 -- the program's blocks
 pub blocks_pure : (p : Program) → DoFunctionsTakeValues p
     → (moves shares : Stmt → List ℕ) (code : Parts) (hush : ℕ → Type 0) → BlocksAt p moves shares code hush
     → AreBlocksPure p
 blocks_pure p values moves shares code hush blocks f b e = let z = blocks f b e in
-    stmt_pure p values moves shares (Stands code) (HasFork code) (HasWords code) hush b.body true (scopes_of p f)
+    stmt_pure p values moves shares (CodeAt code) (HasFork code) (HasWords code) hush b.body true (scopes_of p f)
     z.layout.entry (z.stands.body true tt)
 
 -- what a process has left to do where it stands in its code
 module _ {M : Type 0} (ex : Execution M) (values : DoFunctionsTakeValues ex.setting.program) where
-  open ex use {setting as g, code, moves, shares, Quiet as hush}
+  open ex use {setting as g, code, moves, shares, IsCallableInFunctions as hush}
 
-  pub follows_pure : (end : ℕ) (base : List Entry) (below : List Joint) (pc : ℕ) (stack : List Entry) (fs : List Joint)
-      (todo : List Item) → Follows ex end base below pc stack fs todo → PureItems g.program todo
+  pub follows_pure : (end : ℕ) (base : List Entry) (below : List FramePair) (pc : ℕ) (stack : List Entry)
+      (fs : List FramePair)
+      (todo : List Item) → CodeFollows ex end base below pc stack fs todo → PureItems g.program todo
   follows_pure end base below pc stack fs [] h = tt
   follows_pure end base below pc stack fs (Do s ∷ todo) h = (
-    stmt_pure g.program values moves shares (Stands code) (HasFork code) (HasWords code) hush s (outside stack) h.1
+    stmt_pure g.program values moves shares (CodeAt code) (HasFork code) (HasWords code) hush s
+        (is_in_no_function stack) h.1
         h.0 h.4,
-    follows_pure end base below (after g.program h.0 s) stack fs todo h.5,
+    follows_pure end base below (after_statement g.program h.0 s) stack fs todo h.5,
   )
   follows_pure end base below pc stack fs (First x lo hi d s ∷ todo) h = (
     (
-      for_local g.program values moves shares (Stands code) (HasFork code) (HasWords code) hush h.1 x h.6.0,
-      stmt_pure g.program values moves shares (Stands code) (HasFork code) (HasWords code) hush s (outside h.2) h.1
+      for_local g.program values moves shares (CodeAt code) (HasFork code) (HasWords code) hush h.1 x h.6.0,
+      stmt_pure g.program values moves shares (CodeAt code) (HasFork code) (HasWords code) hush s
+          (is_in_no_function h.2) h.1
           (h.0 + 1 + 1) h.6.3,
     ),
-    follows_pure end base below (after g.program (h.0 + 1 + 1) s + 1) h.2 fs todo h.7,
+    follows_pure end base below (after_statement g.program (h.0 + 1 + 1) s + 1) h.2 fs todo h.7,
   )
   follows_pure end base below pc stack fs (Again x hi d s ∷ todo) h = (
     (
-      for_local g.program values moves shares (Stands code) (HasFork code) (HasWords code) hush h.1 x h.6.0,
-      stmt_pure g.program values moves shares (Stands code) (HasFork code) (HasWords code) hush s (outside h.2) h.1
+      for_local g.program values moves shares (CodeAt code) (HasFork code) (HasWords code) hush h.1 x h.6.0,
+      stmt_pure g.program values moves shares (CodeAt code) (HasFork code) (HasWords code) hush s
+          (is_in_no_function h.2) h.1
           (h.0 + 1 + 1) h.6.3,
     ),
-    follows_pure end base below (after g.program (h.0 + 1 + 1) s + 1) h.2 fs todo h.7,
+    follows_pure end base below (after_statement g.program (h.0 + 1 + 1) s + 1) h.2 fs todo h.7,
   )
   follows_pure end base below pc stack fs (Test s e ∷ todo) h = (
-    stmt_pure g.program values moves shares (Stands code) (HasFork code) (HasWords code) hush (Repeat s e)
-        (outside stack) h.1 h.0 h.4,
-    follows_pure end base below (after g.program h.0 (Repeat s e)) stack fs todo h.5,
+    stmt_pure g.program values moves shares (CodeAt code) (HasFork code) (HasWords code) hush (Repeat s e)
+        (is_in_no_function stack) h.1 h.0 h.4,
+    follows_pure end base below (after_statement g.program h.0 (Repeat s e)) stack fs todo h.5,
   )
   follows_pure end base below pc stack fs (Leave ∷ todo) h = follows_pure end base below h.1 h.2 h.4 todo h.9
   follows_pure end base below pc stack fs (Break f ∷ todo) h = absurd h

@@ -14,22 +14,27 @@ use Rattle.sp_cell.specs.declared.cell.Cell.TheVariants as cell
 use Rattle.sp_cell.specs.declared.spot.Address.{Address as Ptr}
 use Rattle.sp_meaning.specs.Model.{Channel, Takes, Message as Offers}
 use Rattle.sp_meaning.specs.Values.{Value, Ordinal, Chan}
-use Rattle.sp_meaning.specs.Own.{Input, Output, Tree, Address, Own, Item, Do, Test, Work, bind, give, fail, who}
-use Rattle.sp_meaning.specs.Own.{or_lost, assign}
-use Rattle.sp_meaning.specs.Texts.{Taken, Takes as Took, Fails as Faulty, number_in, char_in, line_length}
-use Rattle.sp_meaning.specs.Eval.{At, Calls, channel, value, address}
-use Rattle.sp_meaning.specs.Deeds.{Deed, Stepped, Opened, Forked, Offered, Birth, push, push_all, has, arm_for, if_true}
-use Rattle.sp_meaning.specs.Deeds.{taken_by, children, indexed_children, advance, take_in, fork, chosen, start}
+use Rattle.sp_meaning.specs.LocalWork.{Input, Output, Tree, Address, LocalState, Item, Do, Test, Work, bind, give, fail}
+use Rattle.sp_meaning.specs.LocalWork.{who}
+use Rattle.sp_meaning.specs.LocalWork.{or_ill_formed, assign}
+use Rattle.sp_meaning.specs.Texts.{ReadResult, ReadItem as Took, ReadFault as Faulty, number_in, char_in, line_length}
+use Rattle.sp_meaning.specs.Eval.{Calls, channel, value, address}
+use Rattle.sp_meaning.specs.Actions.{Action, Stepped, Opened, Forked, Offered, Birth, push, push_all, has_constant}
+use Rattle.sp_meaning.specs.Actions.{arm_for, if_true}
+use Rattle.sp_meaning.specs.Actions.{reading_by, children, indexed_children, advance, take_in, fork, arm_action}
+use Rattle.sp_meaning.specs.Actions.{statement_action}
 use Rattle.sp_meaning.specs.Run.{Store, run}
 use Rattle.sp_code.specs.declared.instr.Instr.TheVariants as i
-use Rattle.sp_code.specs.Machine.{Entry, Sends, Receives, Forks, Config, Goes, Stops, Fails, outside, there, values_in}
-use Rattle.sp_code.specs.Machine.{one}
+use Rattle.sp_code.specs.Machine.{Entry, Sends, Receives, Forks, Config, Goes, Stops, Fails, is_in_no_function, on_some}
+use Rattle.sp_code.specs.Machine.{values_in}
+use Rattle.sp_code.specs.Machine.{next_step}
 use Rattle.sp_code.specs.Machine as m
 use Rattle.sp_code.specs.Scopes.{Sort, Ordinals, Channels, Many, NoSort, Scope, sort, sort_by, kind_of}
-use Rattle.sp_code.specs.Places.{after_value, after_form, after_var, after_actuals, after_test, after_tests, after}
+use Rattle.sp_code.specs.Places.{after_value, after_form, after_var, after_actuals, after_test, after_tests}
+use Rattle.sp_code.specs.Places.{after_statement}
 use Rattle.sp_code.specs.Emitted as emitted
-use Rattle.sp_code.specs.Stands.{Stands, HasFork, HasWords, ArmsAt, TestAt, TestsAt, ReadsAt}
-use Rattle.sp_codegen.specs.Joints.{Joint, from}
+use Rattle.sp_code.specs.CodeOfTree.{CodeAt, HasFork, HasWords, ArmsAt, TestAt, TestsAt, ReadsAt}
+use Rattle.sp_codegen.specs.FramePairs.{FramePair, pairs_from}
 use Rattle.sp_codegen.specs.Executions.{Execution}
 use Rattle.sp_codegen.specs.Following.{StandsFor}
 use Rattle.sp_codegen.specs.Relation.{Stood, OneCell}
@@ -55,7 +60,7 @@ module _ {M : Type 0} (ex : Execution M) where
     code,
     moves,
     shares,
-    Quiet as hush,
+    IsCallableInFunctions as hush,
     who as w,
     IsReadable as R,
     operations as ops,
@@ -74,13 +79,14 @@ module _ {M : Type 0} (ex : Execution M) where
       (C ex (m.At q (m.Number v ∷ stack) n) (m.At past (m.Number v ∷ stack) n))
 
   test_comes : (v : ℤ) (ms : List ℤ) (q to : ℕ) (stack : List Entry) (n : M)
-      → TestAt p moves shares (Stands code) (HasFork code) (HasWords code) hush q ms to
-      → Tested (has v ms) v q to (after_test q ms) stack n
+      → TestAt p moves shares (CodeAt code) (HasFork code) (HasWords code) hush q ms to
+      → Tested (has_constant v ms) v q to (after_test q ms) stack n
   test_comes v [] q to stack n h = stays ops rel w code _
-  test_comes v (x ∷ ms) q to stack n h = go (same_ordinal v x) (has v ms) (at_one ex q (m.Number v ∷ stack) n h.0)
+  test_comes v (x ∷ ms) q to stack n h =
+      go (same_ordinal v x) (has_constant v ms) (at_one ex q (m.Number v ∷ stack) n h.0)
       (test_comes v ms (q + 1) to stack n h.1)
     where
-      go : (b y : Bool) → one ops code (m.At q (m.Number v ∷ stack) n)
+      go : (b y : Bool) → next_step ops code (m.At q (m.Number v ∷ stack) n)
           ≡ (if b then Goes (m.At to stack n) else Goes (m.At (q + 1) (m.Number v ∷ stack) n))
           → Tested y v (q + 1) to (after_test (q + 1) ms) stack n
           → Tested (if b then true else y) v q to (after_test (q + 1) ms) stack n
@@ -88,35 +94,41 @@ module _ {M : Type 0} (ex : Execution M) where
       go false true e k = comes_on ops rel w code (goes ops rel w code e) k
       go false false e k = comes_on ops rel w code (goes ops rel w code e) k
 
-  case_makes : (end : ℕ) (base : List Entry) (below : List Joint) (v : ℤ) (arms : Arms) (sc : List Scope) (q b past : ℕ)
-      (stack : List Entry) (todo : List Item) (fs : List Joint) (o : Own) (s : Store) (n : M) → rel.Stand fs o s n
-      → Pl ex sc fs (In_arms arms) → TestsAt p moves shares (Stands code) (HasFork code) (HasWords code) hush q arms b
+  case_makes : (end : ℕ) (base : List Entry) (below : List FramePair) (v : ℤ) (arms : Arms) (sc : List Scope)
+      (q b past : ℕ)
+      (stack : List Entry) (todo : List Item) (fs : List FramePair) (o : LocalState) (s : Store) (n : M)
+      → rel.Stand fs o s n
+      → Pl ex sc fs (In_arms arms) → TestsAt p moves shares (CodeAt code) (HasFork code) (HasWords code) hush q arms b
       → slice_get code.instrs (after_tests q arms) ≡ Some i.Nocase
-      → ArmsAt p moves shares (Stands code) (HasFork code) (HasWords code) hush (outside stack) sc b arms past
+      → ArmsAt p moves shares (CodeAt code) (HasFork code) (HasWords code) hush (is_in_no_function stack) sc b arms past
       → After ex end base below todo fs past stack
-      → K ex (m.At q (m.Number v ∷ stack) n) o s (After ex end base below) (chosen g (arm_for v arms) todo)
+      → K ex (m.At q (m.Number v ∷ stack) n) o s (After ex end base below) (arm_action g (arm_for v arms) todo)
   case_makes end base below v NoArm sc q b past stack todo fs o s n t pl h hn ha fo =
       makes_fail ex fault.F9 (fs, o, t) (at_one ex q (m.Number v ∷ stack) n hn)
   case_makes end base below v (Or (On ms d) rest) sc q b past stack todo fs o s n t pl h hn ha fo =
-      go (has v ms) (test_comes v ms q b stack n h.0)
-      (case_makes end base below v rest sc (after_test q ms) (after p b d + 1) past stack todo fs o s n t
+      go (has_constant v ms) (test_comes v ms q b stack n h.0)
+      (case_makes end base below v rest sc (after_test q ms) (after_statement p b d + 1) past stack todo fs o s n t
       (within (λ u. inr) pl) h.1 hn ha.2 fo)
     where
       go : (y : Bool) → Tested y v q b (after_test q ms) stack n
           → K ex (m.At (after_test q ms) (m.Number v ∷ stack) n) o s (After ex end base below)
-          (chosen g (arm_for v rest) todo) → K ex (m.At q (m.Number v ∷ stack) n) o s (After ex end base below)
-          (chosen g (if y then Some d else arm_for v rest) todo)
+          (arm_action g (arm_for v rest) todo) → K ex (m.At q (m.Number v ∷ stack) n) o s (After ex end base below)
+          (arm_action g (if y then Some d else arm_for v rest) todo)
       go true c k = makes_went ex (push d todo) fs b stack n c t
           (push_follows ex d end base below sc b stack fs todo (within (λ u. inl) pl) ha.0
-          (slide_follows ex end base below (after p b d) past stack fs todo (jumps ex (after p b d) past stack ha.1)
+          (slide_follows ex end base below (after_statement p b d) past stack fs todo
+          (jumps ex (after_statement p b d) past stack ha.1)
           fo))
       go false c k = makes_after ex c k
 
   -- a fork, where the depth allows it
-  fork_makes : (Q : List Item → List Joint → ℕ → List Entry → Type 0) (fs : List Joint) (q table : ℕ) (first : ℤ)
-      (count : ℕ) (stack : List Entry) (bs : List Birth) (todo : List Item) (c : Config M) (o : Own) (s : Store) (n : M)
-      → rel.Stand fs o s n → StandsFor rel c s → one ops code c ≡ m.forked ops code table first count q stack n
-      → Q todo fs q stack → outside stack ≡ true → ForkIs ex (outside stack) fs bs (Forks table first count)
+  fork_makes : (Q : List Item → List FramePair → ℕ → List Entry → Type 0) (fs : List FramePair) (q table : ℕ)
+      (first : ℤ)
+      (count : ℕ) (stack : List Entry) (bs : List Birth) (todo : List Item) (c : Config M) (o : LocalState) (s : Store)
+      (n : M)
+      → rel.Stand fs o s n → StandsFor rel c s → next_step ops code c ≡ m.fork_step ops code table first count q stack n
+      → Q todo fs q stack → is_in_no_function stack ≡ true
+      → ForkIs ex (is_in_no_function stack) fs bs (Forks table first count)
       → K ex c o s Q (fork g bs todo)
   fork_makes Q fs q table first count stack bs todo c o s n t f ge k fr fi =
       makes_known ex (λ y. if nat_lt y.depth g.limits.depth then give (Forked bs todo) else fail fault.F11) o
@@ -126,7 +138,7 @@ module _ {M : Type 0} (ex : Execution M) where
       (sym (law.may_fork t))))
     where
       go : (b : Bool) → nat_lt o.depth g.limits.depth ≡ b
-          → one ops code c ≡ (if b then Stops (Forks table first count) (m.At q stack n) else Fails fault.F11)
+          → next_step ops code c ≡ (if b then Stops (Forks table first count) (m.At q stack n) else Fails fault.F11)
           → K ex c o s Q (if b then give (Forked bs todo) else fail fault.F11)
       go true room e = record {
         by = (
@@ -148,9 +160,10 @@ module _ {M : Type 0} (ex : Execution M) where
       go false room e = makes_fail ex fault.F11 f e
 
   -- a value is read
-  took_gives : {fs : List Joint} {c : Config M} {o : Own} {s : Store} {n : M} (q : ℕ) (x : Taken) (a : Address)
+  took_gives : {fs : List FramePair} {c : Config M} {o : LocalState} {s : Store} {n : M} (q : ℕ) (x : ReadResult)
+      (a : Address)
       (u : Ptr) (stack : List Entry) → rel.Stand fs o s n → StandsFor rel c s → R Input → rel.Points fs a u → R a.spot
-      → sort p a.kind ≡ Ordinals → one ops code c ≡ m.taken ops code x u q stack n
+      → sort p a.kind ≡ Ordinals → next_step ops code c ≡ m.item_step ops code x u q stack n
       → G ex fs c o s q (λ (u : Unit {0}) (z : Unit {0}). stack) (λ u z. Unit {0}) (take_in g a x)
   took_gives {n = n} q (Took v bytes) a u stack st f ri pt ra so ge =
       record {
@@ -165,10 +178,12 @@ module _ {M : Type 0} (ex : Execution M) where
       }
   took_gives q (Faulty x) a u stack st f ri pt ra so ge = gives_fail ops rel w code x f ge
 
-  forall_makes : (Q : List Item → List Joint → ℕ → List Entry → Type 0) (fs : List Joint) (q tb x : ℕ) (d : Stmt)
-      (lo hi : ℤ) (stack : List Entry) (todo : List Item) (o : Own) (s : Store) (n : M) → rel.Stand fs o s n
-      → slice_get code.instrs q ≡ Some (i.Forall tb) → Q todo fs (q + 1) stack → outside stack ≡ true
-      → (int_lt hi lo ≡ false → ForkIs ex (outside stack) fs (indexed_children x d lo (nat_abs ((hi -ℤ lo) +ℤ pos 1)))
+  forall_makes : (Q : List Item → List FramePair → ℕ → List Entry → Type 0) (fs : List FramePair) (q tb x : ℕ)
+      (d : Stmt)
+      (lo hi : ℤ) (stack : List Entry) (todo : List Item) (o : LocalState) (s : Store) (n : M) → rel.Stand fs o s n
+      → slice_get code.instrs q ≡ Some (i.Forall tb) → Q todo fs (q + 1) stack → is_in_no_function stack ≡ true
+      → (int_lt hi lo ≡ false
+      → ForkIs ex (is_in_no_function stack) fs (indexed_children x d lo (nat_abs ((hi -ℤ lo) +ℤ pos 1)))
       (Forks tb lo (values_in lo hi)))
       → K ex (m.At q (m.Number hi ∷ m.Number lo ∷ stack) n) o s Q
       (if int_lt hi lo then give (Stepped todo) else
@@ -176,8 +191,8 @@ module _ {M : Type 0} (ex : Execution M) where
   forall_makes Q fs q tb x d lo hi stack todo o s n t h k fr fi =
       go (int_lt hi lo) refl (at_one ex q (m.Number hi ∷ m.Number lo ∷ stack) n h)
     where
-      go : (b : Bool) → int_lt hi lo ≡ b → one ops code (m.At q (m.Number hi ∷ m.Number lo ∷ stack) n)
-          ≡ (if b then Goes (m.At (q + 1) stack n) else m.forked ops code tb lo (values_in lo hi) (q + 1) stack n)
+      go : (b : Bool) → int_lt hi lo ≡ b → next_step ops code (m.At q (m.Number hi ∷ m.Number lo ∷ stack) n)
+          ≡ (if b then Goes (m.At (q + 1) stack n) else m.fork_step ops code tb lo (values_in lo hi) (q + 1) stack n)
           → K ex (m.At q (m.Number hi ∷ m.Number lo ∷ stack) n) o s Q
           (if b then give (Stepped todo) else fork g (indexed_children x d lo (nat_abs ((hi -ℤ lo) +ℤ pos 1))) todo)
       go true b e = makes_went ex todo fs (q + 1) stack n (goes ops rel w code e) t k
@@ -185,31 +200,32 @@ module _ {M : Type 0} (ex : Execution M) where
           (indexed_children x d lo (nat_abs ((hi -ℤ lo) +ℤ pos 1))) todo (m.At q (m.Number hi ∷ m.Number lo ∷ stack) n)
           o s n t (fs, o, t) e k fr (fi b)
 
-  assume_makes : (Q : List Item → List Joint → ℕ → List Entry → Type 0) (fs : List Joint) (v : ℤ) (q : ℕ)
-      (stack : List Entry) (todo : List Item) (o : Own) (s : Store) (n : M) → rel.Stand fs o s n
+  assume_makes : (Q : List Item → List FramePair → ℕ → List Entry → Type 0) (fs : List FramePair) (v : ℤ) (q : ℕ)
+      (stack : List Entry) (todo : List Item) (o : LocalState) (s : Store) (n : M) → rel.Stand fs o s n
       → slice_get code.instrs q ≡ Some i.Assume → Q todo fs (q + 1) stack
       → K ex (m.At q (m.Number v ∷ stack) n) o s Q (if_true v (give (Stepped todo)) (fail fault.F8))
   assume_makes Q fs v q stack todo o s n t h k = go (int_le v (pos 0)) (at_one ex q (m.Number v ∷ stack) n h)
     where
-      go : (b : Bool) → one ops code (m.At q (m.Number v ∷ stack) n)
+      go : (b : Bool) → next_step ops code (m.At q (m.Number v ∷ stack) n)
           ≡ (if not b then Goes (m.At (q + 1) stack n) else Fails fault.F8)
           → K ex (m.At q (m.Number v ∷ stack) n) o s Q (if b then fail fault.F8 else give (Stepped todo))
       go true e = makes_fail ex fault.F8 (fs, o, t) e
       go false e = makes_went ex todo fs (q + 1) stack n (goes ops rel w code e) t k
 
-  reads_makes : (Q : List Item → List Joint → ℕ → List Entry → Type 0) (fs : List Joint) (ty : KindOf) (q : ℕ)
-      (a : Address) (u : Ptr) (stack : List Entry) (todo : List Item) (o : Own) (s : Store) (n : M) → rel.Stand fs o s n
+  reads_makes : (Q : List Item → List FramePair → ℕ → List Entry → Type 0) (fs : List FramePair) (ty : KindOf) (q : ℕ)
+      (a : Address) (u : Ptr) (stack : List Entry) (todo : List Item) (o : LocalState) (s : Store) (n : M)
+      → rel.Stand fs o s n
       → R Input → rel.Points fs a u → R a.spot → slice_get p.kinds a.kind ≡ Some ty
-      → ReadsAt p moves shares (Stands code) (HasFork code) (HasWords code) hush q ty → Q todo fs (q + 1) stack
+      → ReadsAt p moves shares (CodeAt code) (HasFork code) (HasWords code) hush q ty → Q todo fs (q + 1) stack
       → K ex (m.At q (m.Pointer u ∷ stack) n) o s Q
-      (bind (or_lost (taken_by ty (rest_of ex s))) (λ x. bind (take_in g a x) (λ y. give (Stepped todo))))
+      (bind (or_ill_formed (reading_by ty (rest_of ex s))) (λ x. bind (take_in g a x) (λ y. give (Stepped todo))))
   reads_makes Q fs kind.Integer q a u stack todo o s n t ri pt ra ek h k =
       let bs = rest_of ex s in
       makes_known ex (λ x. bind (take_in g a x) (λ y. give (Stepped todo))) (number_in bs)
       (or_known ex (Some (number_in bs)) (number_in bs) refl)
       (makes_bind ex _ (took_gives (q + 1) (number_in bs) a u stack t (fs, o, t) ri pt ra (ap sort_by ek)
       (at_one ex q _ n h ∙ holds_when (ops.has u 1 n) _ (law.has_one t a u pt ra)
-      ∙ ap (λ z. there z (λ bs. m.taken ops code (number_in bs) u (q + 1) stack n)) (law.left t ri)))
+      ∙ ap (λ z. on_some z (λ bs. m.item_step ops code (number_in bs) u (q + 1) stack n)) (law.left t ri)))
       (λ x1 x2 o2 s2 n2 t2 x3. makes_went ex todo fs (q + 1) stack n2 (stays ops rel w code _) t2 k))
   reads_makes Q fs kind.Char q a u stack todo o s n t ri pt ra ek h k =
       let bs = rest_of ex s in
@@ -217,7 +233,7 @@ module _ {M : Type 0} (ex : Execution M) where
       (or_known ex (Some (char_in bs)) (char_in bs) refl)
       (makes_bind ex _ (took_gives (q + 1) (char_in bs) a u stack t (fs, o, t) ri pt ra (ap sort_by ek)
       (at_one ex q _ n h ∙ holds_when (ops.has u 1 n) _ (law.has_one t a u pt ra)
-      ∙ ap (λ z. there z (λ bs. m.taken ops code (char_in bs) u (q + 1) stack n)) (law.left t ri)))
+      ∙ ap (λ z. on_some z (λ bs. m.item_step ops code (char_in bs) u (q + 1) stack n)) (law.left t ri)))
       (λ x1 x2 o2 s2 n2 t2 x3. makes_went ex todo fs (q + 1) stack n2 (stays ops rel w code _) t2 k))
   reads_makes Q fs kind.Boolean q a u stack todo o s n t ri pt ra ek h k = absurd h
   reads_makes Q fs (kind.Enumeration x) q a u stack todo o s n t ri pt ra ek h k = absurd h
@@ -226,8 +242,9 @@ module _ {M : Type 0} (ex : Execution M) where
   reads_makes Q fs (kind.Channel x) q a u stack todo o s n t ri pt ra ek h k = absurd h
 
   -- a channel on top of the stack
-  with_channel : (Q : List Item → List Joint → ℕ → List Entry → Type 0) (k : ℕ) (v : Value) (e : Entry)
-      (gg : Channel → Work Deed) (q : ℕ) (stack : List Entry) (o : Own) (s : Store) (n : M) → sort p k ≡ Channels
+  with_channel : (Q : List Item → List FramePair → ℕ → List Entry → Type 0) (k : ℕ) (v : Value) (e : Entry)
+      (gg : Channel → Work Action) (q : ℕ) (stack : List Entry) (o : LocalState) (s : Store) (n : M)
+      → sort p k ≡ Channels
       → Stood rel p (sort p k) k v e → ((c : Channel) (j : ℕ) → rel.Named c j
       → K ex (m.At q (m.Chan j ∷ stack) n) o s Q (gg c)) → K ex (m.At q (e ∷ stack) n) o s Q (bind (channel v) gg)
   with_channel Q k v e gg q stack o s n es x next =
@@ -237,37 +254,42 @@ module _ {M : Type 0} (ex : Execution M) where
 
   send_one : (q k : ℕ) (z : Sort) (v : Value) (e : Entry) (j : ℕ) (stack : List Entry) (n : M) → Stood rel p z k v e
       → slice_get code.instrs q ≡ Some (i.Send k)
-      → one ops code (m.At q (e ∷ m.Chan j ∷ stack) n) ≡ Stops (Sends j k (cells_in e)) (m.At (q + 1) stack n)
+      → next_step ops code (m.At q (e ∷ m.Chan j ∷ stack) n) ≡ Stops (Sends j k (cells_in e)) (m.At (q + 1) stack n)
   send_one q k Ordinals v e j stack n x h = subst
-      (λ u. one ops code (m.At q (u ∷ m.Chan j ∷ stack) n) ≡ Stops (Sends j k (cells_in u)) (m.At (q + 1) stack n))
+      (λ u. next_step ops code (m.At q (u ∷ m.Chan j ∷ stack) n) ≡ Stops (Sends j k (cells_in u))
+      (m.At (q + 1) stack n))
       (sym x.2) (at_one ex q _ n h)
   send_one q k Channels v e j stack n x h = subst
-      (λ u. one ops code (m.At q (u ∷ m.Chan j ∷ stack) n) ≡ Stops (Sends j k (cells_in u)) (m.At (q + 1) stack n))
+      (λ u. next_step ops code (m.At q (u ∷ m.Chan j ∷ stack) n) ≡ Stops (Sends j k (cells_in u))
+      (m.At (q + 1) stack n))
       (sym x.3) (at_one ex q _ n h)
   send_one q k Many v e j stack n x h = subst
-      (λ u. one ops code (m.At q (u ∷ m.Chan j ∷ stack) n) ≡ Stops (Sends j k (cells_in u)) (m.At (q + 1) stack n))
+      (λ u. next_step ops code (m.At q (u ∷ m.Chan j ∷ stack) n) ≡ Stops (Sends j k (cells_in u))
+      (m.At (q + 1) stack n))
       (sym x.1) (at_one ex q _ n h)
   send_one q k NoSort v e j stack n x h = absurd x
 
-  receive_is : (fs : List Joint) (c : Channel) (k : ℕ) (a : Address) (u : Ptr) (j : ℕ) → (ek : a.kind ≡ k)
+  receive_is : (fs : List FramePair) (c : Channel) (k : ℕ) (a : Address) (u : Ptr) (j : ℕ) → (ek : a.kind ≡ k)
       → rel.Named c j → rel.Points fs a u → R a.spot → CargoIs ex fs c a.kind (Takes a) (Receives j k u)
   receive_is fs c k a u j ek nm pt ra = (j, u, ap (λ y. Receives j y u) (sym ek), nm, refl, pt, ra)
 
   -- the input and the output that a statement has to do with
-  aims_input : {Here : Use → Type 0} (sc : List Scope) (fs : List Joint) → Pl ex sc fs Here → Here (Target 0) → R Input
+  aims_input : {Here : Use → Type 0} (sc : List Scope) (fs : List FramePair) → Pl ex sc fs Here → Here (Target 0)
+      → R Input
   aims_input sc fs pl h = reads Input (pl.sound.allowed [] (Target 0) h 0 Input (refl, at_console ex fs 0 free.input))
 
-  aims_output : {Here : Use → Type 0} (sc : List Scope) (fs : List Joint) → Pl ex sc fs Here → Here (Target 1)
+  aims_output : {Here : Use → Type 0} (sc : List Scope) (fs : List FramePair) → Pl ex sc fs Here → Here (Target 1)
       → R Output
   aims_output sc fs pl h = reads Output (pl.sound.allowed [] (Target 1) h 1 Output
       (refl, at_console ex fs 1 free.output))
 
   -- the step of a statement that is first
   pub start_makes : (call : Calls) → Oks ex call → Blocks ex
-      → (end : ℕ) (base : List Entry) (below : List Joint) (d : Stmt) (sc : List Scope) (q : ℕ) (stack : List Entry)
-      (todo : List Item) (fs : List Joint) (o : Own) (s : Store) (n : M) → rel.Stand fs o s n → Pl ex sc fs (In_stmt d)
-      → S ex (outside stack) sc q d → After ex end base below todo fs (after p q d) stack
-      → K ex (m.At q stack n) o s (After ex end base below) (start g call d todo)
+      → (end : ℕ) (base : List Entry) (below : List FramePair) (d : Stmt) (sc : List Scope) (q : ℕ) (stack : List Entry)
+      (todo : List Item) (fs : List FramePair) (o : LocalState) (s : Store) (n : M) → rel.Stand fs o s n
+      → Pl ex sc fs (In_stmt d)
+      → S ex (is_in_no_function stack) sc q d → After ex end base below todo fs (after_statement p q d) stack
+      → K ex (m.At q stack n) o s (After ex end base below) (statement_action g call d todo)
   start_makes call ok bl end base below Empty sc q stack todo fs o s n t pl h k =
       makes_went ex todo fs q stack n (stays ops rel w code _) t k
   start_makes call ok bl end base below (Assign v (Typed x form)) sc q stack todo fs o s n t pl h k =
@@ -288,7 +310,8 @@ module _ {M : Type 0} (ex : Execution M) where
       makes_bind ex _ (ordinal_gives ex call ok e sc q stack fs o s n t (within (λ u. inl) pl) h.0)
       (λ v u o1 s1 n1 t1 x1.
       makes_by ex (went_if ex (int_le v (pos 0)) todo (push a todo))
-      (branch ex (After ex end base below) v (after_value q e) (after p (after_value q e + 1) a) stack o1 s1 n1 _ _ h.1
+      (branch ex (After ex end base below) v (after_value q e) (after_statement p (after_value q e + 1) a) stack o1 s1
+      n1 _ _ h.1
       (makes_went ex todo fs _ stack n1 (stays ops rel w code _) t1 k)
       (makes_went ex (push a todo) fs _ stack n1 (stays ops rel w code _) t1
       (push_follows ex a end base below sc _ stack fs todo (within (λ u. inr) pl) h.2 k))))
@@ -297,7 +320,7 @@ module _ {M : Type 0} (ex : Execution M) where
       (λ v u o1 s1 n1 t1 x1.
       makes_by ex (went_if ex (int_le v (pos 0)) (push b todo) (push a todo))
       (branch ex (After ex end base below) v (after_value q e)
-      (after p (after_value q e + 1) a + 1) stack o1 s1 n1 _ _ h.1
+      (after_statement p (after_value q e + 1) a + 1) stack o1 s1 n1 _ _ h.1
       (makes_went ex (push b todo) fs _ stack n1 (stays ops rel w code _) t1
       (push_follows ex b end base below sc _ stack fs todo (within (λ u i. inr (inr i)) pl) h.4 k))
       (makes_went ex (push a todo) fs _ stack n1 (stays ops rel w code _) t1
@@ -307,59 +330,60 @@ module _ {M : Type 0} (ex : Execution M) where
       makes_bind ex _ (ordinal_gives ex call ok e sc q stack fs o s n t (within (λ u. inl) pl) h.0)
       (λ v u o1 s1 n1 t1 x1.
       branch ex (After ex end base below) v (after_value q e)
-      (after p (after_value q e + 1 + 1) d + 1) stack o1 s1 n1 _ _ h.1
+      (after_statement p (after_value q e + 1 + 1) d + 1) stack o1 s1 n1 _ _ h.1
       (makes_went ex todo fs _ stack n1 (stays ops rel w code _) t1 k)
-      (makes_tick ex (push d (Do (While e d) ∷ todo)) fs (after_value q e + 1 + 1) stack (ops.beat n1) (_, _, t1)
+      (makes_tick ex (push d (Do (While e d) ∷ todo)) fs (after_value q e + 1 + 1) stack (ops.tick n1) (_, _, t1)
       (law.beat t1) (at_one ex (after_value q e + 1) stack n1 h.2)
       (push_follows ex d end base below sc _ stack fs (Do (While e d) ∷ todo) (within (λ u. inr) pl) h.3
       (q, sc, jumps ex _ q stack h.4, pl, h, k))))
   start_makes call ok bl end base below (Repeat d e) sc q stack todo fs o s n t pl h k =
-      makes_tick ex (push d (Test d e ∷ todo)) fs (q + 1) stack (ops.beat n) (_, _, t) (law.beat t)
+      makes_tick ex (push d (Test d e ∷ todo)) fs (q + 1) stack (ops.tick n) (_, _, t) (law.beat t)
       (at_one ex q stack n h.0)
       (push_follows ex d end base below sc (q + 1) stack fs (Test d e ∷ todo) (within (λ u. inr) pl) h.1
       (q, sc, slides ex _ _, pl, h, k))
-  start_makes call ok bl end base below (For x from down to d) sc q stack todo fs o s n t pl h k =
-      makes_bind ex _ (ordinal_gives ex call ok from sc q stack fs o s n t (within (λ u i. inr (inl i)) pl) h.0)
+  start_makes call ok bl end base below (For x pairs_from down to d) sc q stack todo fs o s n t pl h k =
+      makes_bind ex _ (ordinal_gives ex call ok pairs_from sc q stack fs o s n t (within (λ u i. inr (inl i)) pl) h.0)
       (λ lo u o1 s1 n1 t1 x1.
-      makes_bind ex _ (ordinal_gives ex call ok to sc (after_value q from) (m.Number lo ∷ stack) fs o1 s1 n1 t1
+      makes_bind ex _ (ordinal_gives ex call ok to sc (after_value q pairs_from) (m.Number lo ∷ stack) fs o1 s1 n1 t1
       (within (λ u i. inr (inr (inl i))) pl) h.1) (λ hi u2 o2 s2 n2 t2 x2.
-      for_begins ex end base below x down d sc (after_value (after_value q from) to) stack todo fs lo hi o2 s2 n2 t2
-      (within (loop x from down to d) pl) h.2 k))
+      for_begins ex end base below x down d sc (after_value (after_value q pairs_from) to) stack todo fs lo hi o2
+      s2 n2 t2
+      (within (loop x pairs_from down to d) pl) h.2 k))
     where
-      loop : (x : ℕ) (from : Expr) (down : Bool) (to : Expr) (d : Stmt) (u : Use) → In_loop x d u
-          → In_stmt (For x from down to d) u
-      loop x from down to d u (inl e) = inl e
-      loop x from down to d u (inr i) = inr (inr (inr i))
+      loop : (x : ℕ) (pairs_from : Expr) (down : Bool) (to : Expr) (d : Stmt) (u : Use) → In_loop x d u
+          → In_stmt (For x pairs_from down to d) u
+      loop x pairs_from down to d u (inl e) = inl e
+      loop x pairs_from down to d u (inr i) = inr (inr (inr i))
   start_makes call ok bl end base below (Case e arms) sc q stack todo fs o s n t pl h k =
       makes_bind ex _ (ordinal_gives ex call ok e sc q stack fs o s n t (within (λ u. inl) pl) h.0)
       (λ v u o1 s1 n1 t1 x1.
       case_makes end base below v arms sc (after_value q e) (after_tests (after_value q e) arms + 1)
-      (after p q (Case e arms)) stack todo fs o1 s1 n1 t1 (within (λ u. inr) pl) h.1 h.2 h.3 k)
+      (after_statement p q (Case e arms)) stack todo fs o1 s1 n1 t1 (within (λ u. inr) pl) h.1 h.2 h.3 k)
   start_makes call ok bl end base below (Parallel ss) sc q stack todo fs o s n t pl h k =
       fork_makes (After ex end base below) fs (q + 1) h.0 (pos 0)
       (length (emitted.children_tables p moves shares (q + 1 + 1) ss)) stack (children ss) todo (m.At q stack n) o s
       n t (fs, o, t) (at_one ex q stack n h.2
-      ∙ ap (λ y. there y (λ table. m.forked ops code h.0 (pos 0) (length table.children) (q + 1) stack n)) h.1)
+      ∙ ap (λ y. on_some y (λ table. m.fork_step ops code h.0 (pos 0) (length table.children) (q + 1) stack n)) h.1)
       (slide_follows ex end base below (q + 1) _ stack fs todo (jumps ex (q + 1) _ stack h.3) k) h.5
       (inl (ss, h.0, q + 1 + 1, sc, refl, h.1, refl, h.4, pl))
-  start_makes call ok bl end base below (Forall x from to d) sc q stack todo fs o s n t pl h k =
-      makes_bind ex _ (ordinal_gives ex call ok from sc q stack fs o s n t (within (λ u i. inr (inl i)) pl) h.2)
+  start_makes call ok bl end base below (Forall x pairs_from to d) sc q stack todo fs o s n t pl h k =
+      makes_bind ex _ (ordinal_gives ex call ok pairs_from sc q stack fs o s n t (within (λ u i. inr (inl i)) pl) h.2)
       (λ lo u o1 s1 n1 t1 x1.
-      makes_bind ex _ (ordinal_gives ex call ok to sc (after_value q from) (m.Number lo ∷ stack) fs o1 s1 n1 t1
+      makes_bind ex _ (ordinal_gives ex call ok to sc (after_value q pairs_from) (m.Number lo ∷ stack) fs o1 s1 n1 t1
       (within (λ u i. inr (inr (inl i))) pl) h.3) (λ hi u2 o2 s2 n2 t2 x2.
       forall_makes (After ex end base below) fs
-      (after_value (after_value q from) to) h.0 x d lo hi stack todo o2 s2 n2 t2
+      (after_value (after_value q pairs_from) to) h.0 x d lo hi stack todo o2 s2 n2 t2
       h.4
       (slide_follows ex end base below _ _ stack fs todo (jumps ex _ _ stack h.5) k) h.8
       (λ b. inr (
         x,
-        from,
+        pairs_from,
         to,
         d,
         lo,
         hi,
         h.0,
-        after_value (after_value q from) to + 1 + 1,
+        after_value (after_value q pairs_from) to + 1 + 1,
         sc,
         refl,
         h.1,
@@ -377,7 +401,8 @@ module _ {M : Type 0} (ex : Execution M) where
       makes_bind ex _ (address_gives ex call ok v h.0 sc q stack fs o s n t (within (λ u i. inr (inl i)) pl) h.2 h.3)
       (λ a u o1 s1 n1 t1 x1.
       makes_known ex _ h.1 (kind_known ex a.kind h.0 h.1 x1.0 h.4)
-      (makes_known ex (λ bs. bind (or_lost (taken_by h.1 bs)) (λ z. bind (take_in g a z) (λ y. give (Stepped todo))))
+      (makes_known ex (λ bs. bind (or_ill_formed (reading_by h.1 bs))
+      (λ z. bind (take_in g a z) (λ y. give (Stepped todo))))
       (rest_of ex s1) (left_known ex)
       (reads_makes (After ex end base below) fs h.1 (after_var q v) a u stack todo o1 s1 n1 t1 ri x1.1 x1.2
       (ap (λ y. slice_get p.kinds y) x1.0 ∙ h.4) h.5 k)))
@@ -392,7 +417,7 @@ module _ {M : Type 0} (ex : Execution M) where
           ops.advance (line_length bs) n,
           fs,
           goes ops rel w code (at_one ex q stack n h
-              ∙ ap (λ z. there z (λ bs. Goes (m.At (q + 1) stack (ops.advance (line_length bs) n)))) (law.left t ri)),
+              ∙ ap (λ z. on_some z (λ bs. Goes (m.At (q + 1) stack (ops.advance (line_length bs) n)))) (law.left t ri)),
           law.advance t ri (line_length bs),
           k,
         );
@@ -420,7 +445,7 @@ module _ {M : Type 0} (ex : Execution M) where
         by = (
           after_var q v + 1,
           stack,
-          ops.own u n1,
+          ops.make_own u n1,
           fs,
           m.At (after_var q v) (m.Pointer u ∷ stack) n1,
           a,
@@ -466,7 +491,8 @@ module _ {M : Type 0} (ex : Execution M) where
   start_makes call ok bl end base below (Receive c v) sc q stack todo fs o s n t pl h k =
       makes_bind ex _ (value_gives ex call ok c sc q stack fs o s n t (within (λ u. inl) pl) h.1) (λ y e o1 s1 n1 t1 x1.
       with_channel (After ex end base below) (kind_of c) y e
-      (λ from. bind (address g call v) (λ a. give (Offered from a.kind (Takes a) todo))) (after_value q c) stack o1
+      (λ pairs_from. bind (address g call v) (λ a. give (Offered pairs_from a.kind (Takes a) todo))) (after_value q c)
+      stack o1
       s1 n1 h.2 x1 (λ ch1 j nm.
       makes_bind ex (λ a. give (Offered ch1 a.kind (Takes a) todo))
       (address_gives ex call ok v h.0 sc (after_value q c) (m.Chan j ∷ stack) fs o1 s1 n1 t1
@@ -475,7 +501,7 @@ module _ {M : Type 0} (ex : Execution M) where
         by = (
           after_var (after_value q c) v + 1,
           stack,
-          ops.own u n2,
+          ops.make_own u n2,
           fs,
           m.At (after_var (after_value q c) v) (m.Pointer u ∷ m.Chan j ∷ stack) n2,
           Receives j h.0 u,

@@ -1,17 +1,16 @@
 -- A turn of the code as a turn of the meaning: loops that are left, items, calls of functions, and the whole turn.
 use Rattle.std.proofs.Common.{◌≡◌, ℕ, zero, suc, List, Some, Bool, true, false, if◌then◌else◌, sym, ap, ◌∙◌, subst}
 use Rattle.std.specs.Prelude.{slice_get}
-use Rattle.sp_meaning.specs.Own.{Own, Item, Came, Got, Bad, Lost, Long, give}
-use Rattle.sp_meaning.specs.Eval.{At}
-use Rattle.sp_meaning.specs.Deeds.{Deed, Stepped, Ticked, Opened, Forked, Offered, Ended}
+use Rattle.sp_meaning.specs.LocalWork.{LocalState, Item, WorkOutcome, Computed, EndsInFault, IllFormed, OutOfFuel, give}
+use Rattle.sp_meaning.specs.Actions.{Action, Stepped, Ticked, Opened, Forked, Offered, Ended}
 use Rattle.sp_meaning.specs.Run.{Store, run}
-use Rattle.sp_meaning.specs.SuperPascal.{enough}
+use Rattle.sp_meaning.specs.SuperPascal.{fuel_of}
 use Rattle.sp_meaning.specs.Turn as source
 use Rattle.sp_meaning.proofs.Run.{then_run, run_bind}
 use Rattle.sp_code.specs.declared.instr.Instr.TheVariants as i
-use Rattle.sp_code.specs.Machine.{Entry, Stop, Config, Goes, Stops, outside, one}
+use Rattle.sp_code.specs.Machine.{Entry, Stop, Config, Goes, Stops, is_in_no_function, next_step}
 use Rattle.sp_code.specs.Machine as m
-use Rattle.sp_codegen.specs.Joints.{Joint}
+use Rattle.sp_codegen.specs.FramePairs.{FramePair}
 use Rattle.sp_codegen.specs.Executions.{Execution}
 use Rattle.sp_codegen.specs.Following as following
 use Rattle.sp_codegen.proofs.Runs.{goes, comes_on, breaks_after}
@@ -33,39 +32,43 @@ module _ {M : Type 0} (ex : Execution M) where
   }
 
   -- where a turn ends: the machine comes to the same stop, and stands where what is left stands
-  abbrev pub Turned : Config M → ℕ → List Entry → List Joint → Came source.Stop × Store → Type 0
+  abbrev pub Turned : Config M → ℕ → List Entry → List FramePair → WorkOutcome source.Stop × Store → Type 0
   Turned c end base below r = following.Turned ex c end base below r
 
-  turned_after : (c d : Config M) (end : ℕ) (base : List Entry) (below : List Joint) (r : Came source.Stop × Store)
+  turned_after : (c d : Config M) (end : ℕ) (base : List Entry) (below : List FramePair) (r : WorkOutcome source.Stop
+      × Store)
       → C ex c d → Turned d end base below r → Turned c end base below r
-  turned_after c d end base below (Got (source.Paused todo) o, s) h k =
+  turned_after c d end base below (Computed (source.Paused todo) o, s) h k =
       (k.0, k.1, k.2, k.3, k.4, comes_on ops rel w code h k.5, k.6, k.7, k.8)
-  turned_after c d end base below (Got (source.Stops e) o, s) h k =
-      made_after ex c d (After ex end base below) (Got e o, s) h k
-  turned_after c d end base below (Bad f, s) h k = breaks_after ops rel w code h k
-  turned_after c d end base below (Lost, s) h k = k
-  turned_after c d end base below (Long, s) h k = k
+  turned_after c d end base below (Computed (source.Stops e) o, s) h k =
+      made_after ex c d (After ex end base below) (Computed e o, s) h k
+  turned_after c d end base below (EndsInFault f, s) h k = breaks_after ops rel w code h k
+  turned_after c d end base below (IllFormed, s) h k = k
+  turned_after c d end base below (OutOfFuel, s) h k = k
 
   -- one turn of the code is the local steps up to the first moment at which the process is due or its next step is a
   -- kernel step
-  pub turn_meets : Blocks ex → (end : ℕ) (base : List Entry) (below : List Joint)
-      → slice_get code.instrs end ≡ Some i.End → outside base ≡ true
-      → (k : ℕ) (todo : List Item) (pc : ℕ) (stack : List Entry) (fs : List Joint) (o : Own) (s : Store) (n : M)
+  pub turn_meets : Blocks ex → (end : ℕ) (base : List Entry) (below : List FramePair)
+      → slice_get code.instrs end ≡ Some i.End → is_in_no_function base ≡ true
+      → (k : ℕ) (todo : List Item) (pc : ℕ) (stack : List Entry) (fs : List FramePair) (o : LocalState) (s : Store)
+      (n : M)
       → rel.Stand fs o s n → F ex end base below pc stack fs todo
       → Turned (m.At pc stack n) end base below (run (source.turn g due k todo) w o s)
   turn_meets bl end base below e ob zero todo pc stack fs o s n t h = tt
   turn_meets bl end base below e ob (suc k) todo pc stack fs o s n t h =
       subst (Turned (m.At pc stack n) end base below)
-      (sym (run_bind (source.one g due todo) (source.onward g due (source.turn g due k)) w o s))
-      (go (run (source.one g due todo) w o s)
-      (step_makes ex (enough g o) (calls_meet ex bl (enough g o)) bl end base below e ob todo pc stack fs o s n t h).by
+      (sym (run_bind (source.turn_step g due todo) (source.rest_of_turn g due (source.turn g due k)) w o s))
+      (go (run (source.turn_step g due todo) w o s)
+      (step_makes ex (fuel_of g o) (calls_meet ex bl (fuel_of g o)) bl end base below e ob todo pc stack fs o s n
+      t h).by
       (λ todo1 pc1 st1 fs1 o1 s1 n1 t1 h1. turn_meets bl end base below e ob k todo1 pc1 st1 fs1 o1 s1 n1 t1 h1))
     where
       c : Config M
       c = m.At pc stack n
 
-      by_due : (todo : List Item) (o1 : Own) (s1 : Store) (pc1 : ℕ) (st1 : List Entry) (n1 : M) (fs1 : List Joint)
-          (d : Config M) → C ex c d → one ops code d
+      by_due : (todo : List Item) (o1 : LocalState) (s1 : Store) (pc1 : ℕ) (st1 : List Entry) (n1 : M)
+          (fs1 : List FramePair)
+          (d : Config M) → C ex c d → next_step ops code d
           ≡ (if ops.due n1 then Stops m.Pauses (m.At pc1 st1 n1) else Goes (m.At pc1 st1 n1)) → rel.Stand fs1 o1 s1 n1
           → F ex end base below pc1 st1 fs1 todo
           → Turned (m.At pc1 st1 n1) end base below (run (source.turn g due k todo) w o1 s1)
@@ -88,23 +91,23 @@ module _ {M : Type 0} (ex : Execution M) where
           (comes_on ops rel w code cd (goes ops rel w code
           (ge ∙ ap (λ b. if b then Stops m.Pauses (m.At pc1 st1 n1) else Goes (m.At pc1 st1 n1)) (sym eb)))) ih
 
-      go : (r : Came Deed × Store) → Made ex c (After ex end base below) r
-          → ((todo : List Item) (pc : ℕ) (st : List Entry) (fs : List Joint) (o : Own) (s : Store) (n : M)
+      go : (r : WorkOutcome Action × Store) → Made ex c (After ex end base below) r
+          → ((todo : List Item) (pc : ℕ) (st : List Entry) (fs : List FramePair) (o : LocalState) (s : Store) (n : M)
           → rel.Stand fs o s n → F ex end base below pc st fs todo
           → Turned (m.At pc st n) end base below (run (source.turn g due k todo) w o s))
-          → Turned c end base below (then_run (source.onward g due (source.turn g due k)) w r)
-      go (Got (Stepped todo) o1, s1) q ih = turned_after c (m.At q.0 q.1 q.2) end base below
+          → Turned c end base below (then_run (source.rest_of_turn g due (source.turn g due k)) w r)
+      go (Computed (Stepped todo) o1, s1) q ih = turned_after c (m.At q.0 q.1 q.2) end base below
           (run (source.turn g due k todo) w o1 s1) q.4 (ih todo q.0 q.1 q.3 o1 s1 q.2 q.5 q.6)
-      go (Got (Ticked todo) o1, s1) q ih =
+      go (Computed (Ticked todo) o1, s1) q ih =
           by_due todo o1 s1 q.0 q.1 q.2 q.3 q.4 q.5
           (q.6 ∙ ap (λ b. if b then (if ops.due q.2 then Stops m.Pauses (m.At q.0 q.1 q.2) else
           Goes (m.At q.0 q.1 q.2)) else Goes (m.At q.0 q.1 q.2))
           (outside_follows ex end base below q.0 q.1 q.3 todo q.8 ∙ ob)) q.7 q.8
           (ih todo q.0 q.1 q.3 o1 s1 q.2 q.7 q.8) (due o1) (law.due_same q.7)
-      go (Got (Opened todo) o1, s1) q ih = q
-      go (Got (Forked bs todo) o1, s1) q ih = q
-      go (Got (Offered ch x cg todo) o1, s1) q ih = q
-      go (Got Ended o1, s1) q ih = q
-      go (Bad f, s1) q ih = q
-      go (Lost, s1) q ih = q
-      go (Long, s1) q ih = q
+      go (Computed (Opened todo) o1, s1) q ih = q
+      go (Computed (Forked bs todo) o1, s1) q ih = q
+      go (Computed (Offered ch x cg todo) o1, s1) q ih = q
+      go (Computed Ended o1, s1) q ih = q
+      go (EndsInFault f, s1) q ih = q
+      go (IllFormed, s1) q ih = q
+      go (OutOfFuel, s1) q ih = q

@@ -10,25 +10,29 @@ use Rattle.sp_cell.specs.declared.cell.Cell.{Cell}
 use Rattle.sp_cell.specs.declared.cell.Cell.TheVariants as cell
 use Rattle.sp_cell.specs.declared.spot.Address.{Address as Ptr}
 use Rattle.sp_meaning.specs.Values.{Value, Undefined, Ordinal, Chan, Parts, get_at}
-use Rattle.sp_meaning.specs.Own.{Own, Item, Do, First, Again, Test, Leave, Break, Work, bind, give, fail, fetch}
-use Rattle.sp_meaning.specs.Own.{value_in}
-use Rattle.sp_meaning.specs.Eval.{At, Calls, ordinal, checked, ordinal_read, kind_at, read_at, address_of, place_of}
-use Rattle.sp_meaning.specs.Deeds.{Deed, is_before, next_value, goes_on, peek, turn_of, act, settle, call_by, all}
-use Rattle.sp_meaning.specs.Deeds.{deed_by, deed}
+use Rattle.sp_meaning.specs.LocalWork.{LocalState, Item, Do, First, Again, Test, Leave, Break, Work, bind, give, fail}
+use Rattle.sp_meaning.specs.LocalWork.{fetch}
+use Rattle.sp_meaning.specs.LocalWork.{value_in}
+use Rattle.sp_meaning.specs.Eval.{AtAddress, Calls, ordinal, checked_value, ordinal_read, kind_at, read_at, address_of}
+use Rattle.sp_meaning.specs.Eval.{place_of}
+use Rattle.sp_meaning.specs.Actions.{Action, is_before, next_value, goes_on, peek, turn_of, item_action, settle}
+use Rattle.sp_meaning.specs.Actions.{call_by, run_items}
+use Rattle.sp_meaning.specs.Actions.{action_by, next_action}
 use Rattle.sp_meaning.specs.Run.{Store, run}
 use Rattle.sp_code.specs.declared.instr.Instr.TheVariants as i
-use Rattle.sp_code.specs.Machine.{Entry, Config, One, Goes, Fails, outside, when, there, ordinal_in, one}
+use Rattle.sp_code.specs.Machine.{Entry, Config, StepResult, Goes, Fails, is_in_no_function, when, on_some, ordinal_in}
+use Rattle.sp_code.specs.Machine.{next_step}
 use Rattle.sp_code.specs.Machine as m
 use Rattle.sp_code.specs.Scopes.{Sort, Ordinals, Channels, Many, NoSort, Scope, sort_by, slot}
-use Rattle.sp_code.specs.Places.{after_value, after}
-use Rattle.sp_code.specs.Stands.{Stands, HasFork, HasWords, TurnsAt}
-use Rattle.sp_codegen.specs.Joints.{Joint}
+use Rattle.sp_code.specs.Places.{after_value, after_statement}
+use Rattle.sp_code.specs.CodeOfTree.{CodeAt, HasFork, HasWords, TurnsAt}
+use Rattle.sp_codegen.specs.FramePairs.{FramePair}
 use Rattle.sp_codegen.specs.Shapes.{CellIs}
 use Rattle.sp_codegen.specs.Executions.{Execution}
 use Rattle.sp_codegen.specs.Relation.{OneCell}
-use Rattle.sp_codegen.proofs.Runs.{Known, stays, goes, comes_on, breaks, known_bind, holds_when}
+use Rattle.sp_codegen.proofs.Runs.{HasKnownValue, stays, goes, comes_on, breaks, known_bind, holds_when}
 use Rattle.sp_codegen.proofs.Values.{ordinal_gives}
-use Rattle.sp_codegen.proofs.Follows.{slides, Follows, makes_after, makes_bind, makes_known, makes_by, makes_went}
+use Rattle.sp_codegen.proofs.Follows.{slides, CodeFollows, makes_after, makes_bind, makes_known, makes_by, makes_went}
 use Rattle.sp_codegen.proofs.Steps.{start_makes}
 use Rattle.sp_codegen.proofs.StepForms.{C, K, S, Pl, Oks, After, went_if, branch, makes_assoc, address_known}
 use Rattle.sp_codegen.proofs.LoopSteps.{ForPlace, for_place, turn_makes, first_one}
@@ -56,7 +60,7 @@ module _ {M : Type 0} (ex : Execution M) where
     code,
     moves,
     shares,
-    Quiet as hush,
+    IsCallableInFunctions as hush,
     who as w,
     operations as ops,
     relation as rel,
@@ -66,67 +70,69 @@ module _ {M : Type 0} (ex : Execution M) where
   abbrev p : Program
   p = g.program
 
-  abbrev pub F : ℕ → List Entry → List Joint → ℕ → List Entry → List Joint → List Item → Type 0
-  F end base below pc st fs todo = Follows ex end base below pc st fs todo
+  abbrev pub F : ℕ → List Entry → List FramePair → ℕ → List Entry → List FramePair → List Item → Type 0
+  F end base below pc st fs todo = CodeFollows ex end base below pc st fs todo
 
-  abbrev pub Ka : ℕ → List Entry → List Joint → Config M → Own → Store → Work Deed → Type 0
+  abbrev pub Ka : ℕ → List Entry → List FramePair → Config M → LocalState → Store → Work Action → Type 0
   Ka end base below c o s h = K ex c o s (After ex end base below) h
 
-  abbrev FP : List Joint → ℕ → M → Own → Store → Type 0
+  abbrev FP : List FramePair → ℕ → M → LocalState → Store → Type 0
   FP fs x n o s = ForPlace ex fs x n o s
 
   -- what the for variable holds
-  abbrev held : {fs : List Joint} {x : ℕ} {n : M} {o : Own} {s : Store} → FP fs x n o s → Value
+  abbrev held : {fs : List FramePair} {x : ℕ} {n : M} {o : LocalState} {s : Store} → FP fs x n o s → Value
   held {s = s} z = get_at z.address.path (value_in (s z.address.spot))
 
   -- the last instruction of a turn of a for loop
   next_one : (down : Bool) (q to x : ℕ) (st : List Entry) (n : M) (hi : ℤ)
       → slice_get code.instrs q ≡ Some (if down then i.Nextdown (slot p x) to else i.Nextup (slot p x) to) → (u : Ptr)
       → ops.addr 0 (slot p x) n ≡ Some u → ops.has u 1 n ≡ true
-      → one ops code (m.At q (m.Number hi ∷ st) n)
-      ≡ ordinal_in (ops.look u n) (λ v. if is_before down v hi then
+      → next_step ops code (m.At q (m.Number hi ∷ st) n)
+      ≡ ordinal_in (ops.read u n) (λ v. if is_before down v hi then
       Goes (m.At to (m.Number hi ∷ st) (ops.put u (cell.Ordinal (next_value down v)) n)) else
       Goes (m.At (q + 1) st n))
   next_one true q to x st n hi h u e ha = at_one ex q _ n h
-      ∙ ap (λ z. there z (λ a. when (ops.has a 1 n)
-      (ordinal_in (ops.look a n) (λ v. if is_before true v hi then
+      ∙ ap (λ z. on_some z (λ a. when (ops.has a 1 n)
+      (ordinal_in (ops.read a n) (λ v. if is_before true v hi then
       Goes (m.At to (m.Number hi ∷ st) (ops.put a (cell.Ordinal (next_value true v)) n)) else
       Goes (m.At (q + 1) st n))))) e ∙ holds_when (ops.has u 1 n) _ ha
   next_one false q to x st n hi h u e ha = at_one ex q _ n h
-      ∙ ap (λ z. there z (λ a. when (ops.has a 1 n)
-      (ordinal_in (ops.look a n) (λ v. if is_before false v hi then
+      ∙ ap (λ z. on_some z (λ a. when (ops.has a 1 n)
+      (ordinal_in (ops.read a n) (λ v. if is_before false v hi then
       Goes (m.At to (m.Number hi ∷ st) (ops.put a (cell.Ordinal (next_value false v)) n)) else
       Goes (m.At (q + 1) st n))))) e ∙ holds_when (ops.has u 1 n) _ ha
 
   -- a cell that holds an ordinal
-  cell_is : (a : ℤ) (c : Cell) → CellIs rel.Named (Ordinal a) c → (go : ℤ → One M) → ordinal_in c go ≡ go a
+  cell_is : (a : ℤ) (c : Cell) → CellIs rel.Named (Ordinal a) c → (go : ℤ → StepResult M) → ordinal_in c go ≡ go a
   cell_is a cell.Undefined h go = absurd h
   cell_is a (cell.Ordinal b) h go = ap go (sym h)
   cell_is a (cell.Channel b) h go = absurd h
 
   -- a loop that is first goes on
-  abbrev pub Ready : List Joint → Own → Store → M → List Item → Type 0
-  Ready fs o s n [] = Unit {0}
-  Ready fs o s n (Do d ∷ todo) = Unit {0}
-  Ready fs o s n (First x lo hi down d ∷ todo) = Unit {0}
-  Ready fs o s n (Again x hi down d ∷ todo) = (z : FP fs x n o s) × (goes_on down hi (held z) ≡ true)
-  Ready fs o s n (Test d e ∷ todo) = Unit {0}
-  Ready fs o s n (Leave ∷ todo) = Unit {0}
-  Ready fs o s n (Break f ∷ todo) = Unit {0}
+  abbrev pub LoopMayGoOn : List FramePair → LocalState → Store → M → List Item → Type 0
+  LoopMayGoOn fs o s n [] = Unit {0}
+  LoopMayGoOn fs o s n (Do d ∷ todo) = Unit {0}
+  LoopMayGoOn fs o s n (First x lo hi down d ∷ todo) = Unit {0}
+  LoopMayGoOn fs o s n (Again x hi down d ∷ todo) = (z : FP fs x n o s) × (goes_on down hi (held z) ≡ true)
+  LoopMayGoOn fs o s n (Test d e ∷ todo) = Unit {0}
+  LoopMayGoOn fs o s n (Leave ∷ todo) = Unit {0}
+  LoopMayGoOn fs o s n (Break f ∷ todo) = Unit {0}
 
-  pub record Settled (end : ℕ) (base : List Entry) (below : List Joint) (fs : List Joint) (o : Own) (s : Store) (n : M)
+  pub record Settled (end : ℕ) (base : List Entry) (below : List FramePair) (fs : List FramePair) (o : LocalState)
+      (s : Store) (n : M)
       (pc : ℕ) (stack : List Entry) (todo : List Item) : Type 0 where
     pub left : List Item
-    pub known : Known ops rel w code o s (settle g todo) left
+    pub known : HasKnownValue ops rel w code o s (settle g todo) left
     pub place : ℕ
     pub st : List Entry
     pub comes : C ex (m.At pc stack n) (m.At place st n)
     pub follows : F end base below place st fs left
-    pub ready : Ready fs o s n left
+    pub ready : LoopMayGoOn fs o s n left
 
-  settled : (end : ℕ) (base : List Entry) (below : List Joint) (fs : List Joint) (o : Own) (s : Store) (n : M) (pc : ℕ)
+  settled : (end : ℕ) (base : List Entry) (below : List FramePair) (fs : List FramePair) (o : LocalState) (s : Store)
+      (n : M) (pc : ℕ)
       (stack : List Entry) (todo : List Item) → settle g todo ≡ give todo → F end base below pc stack fs todo
-      → Ready fs o s n todo → Settled end base below fs o s n pc stack todo
+      → LoopMayGoOn fs o s n todo → Settled end base below fs o s n pc stack todo
   settled end base below fs o s n pc stack todo e h r =
       record {
         left = todo;
@@ -138,7 +144,8 @@ module _ {M : Type 0} (ex : Execution M) where
         ready = r;
       }
 
-  pub settle_follows : (end : ℕ) (base : List Entry) (below : List Joint) (fs : List Joint) (o : Own) (s : Store)
+  pub settle_follows : (end : ℕ) (base : List Entry) (below : List FramePair) (fs : List FramePair) (o : LocalState)
+      (s : Store)
       (n : M) → rel.Stand fs o s n → (pc : ℕ) (stack : List Entry) (todo : List Item)
       → F end base below pc stack fs todo → Settled end base below fs o s n pc stack todo
   settle_follows end base below fs o s n t pc stack [] h = settled end base below fs o s n pc stack [] refl h tt
@@ -153,26 +160,26 @@ module _ {M : Type 0} (ex : Execution M) where
   settle_follows end base below fs o s n t pc stack (Break f ∷ todo) h =
       settled end base below fs o s n pc stack (Break f ∷ todo) refl h tt
   settle_follows end base below fs o s n t pc stack (Again x hi down d ∷ todo) h =
-      go (held z) refl (ops.look z.cell n) (law.load t z.address z.cell z.points z.may
+      go (held z) refl (ops.read z.cell n) (law.load t z.address z.cell z.points z.may
       (subst OneCell (sym z.sorted) tt)) at_end (settle_follows end base below fs o s n t (j + 1) h.2 todo h.7)
     where
       q : ℕ
       q = h.0
 
       j : ℕ
-      j = after p (h.0 + 1 + 1) d
+      j = after_statement p (h.0 + 1 + 1) d
 
       z : FP fs x n o s
       z = for_place ex h.1 x t h.5 (inl refl) h.6.0
 
-      at_end : one ops code (m.At j (m.Number hi ∷ h.2) n)
-          ≡ ordinal_in (ops.look z.cell n) (λ v. if is_before down v hi then
+      at_end : next_step ops code (m.At j (m.Number hi ∷ h.2) n)
+          ≡ ordinal_in (ops.read z.cell n) (λ v. if is_before down v hi then
           Goes (m.At (q + 1) (m.Number hi ∷ h.2) (ops.put z.cell (cell.Ordinal (next_value down v)) n)) else
           Goes (m.At (j + 1) h.2 n))
       at_end = next_one down j (q + 1) x h.2 n hi h.6.4 z.cell z.at (law.has_one t z.address z.cell z.points z.may)
 
-      peeked : Known ops rel w code o s (peek g x) (held z)
-      peeked = known_bind ops rel w code (λ y. bind (address_of g y) fetch) (At z.address) (held z) z.known
+      peeked : HasKnownValue ops rel w code o s (peek g x) (held z)
+      peeked = known_bind ops rel w code (λ y. bind (address_of g y) fetch) (AtAddress z.address) (held z) z.known
           (known_bind ops rel w code fetch z.address (held z) (address_known ex z.address) (fetch_known ex z.address))
 
       on : goes_on down hi (held z) ≡ true → Settled end base below fs o s n pc stack (Again x hi down d ∷ todo)
@@ -188,7 +195,8 @@ module _ {M : Type 0} (ex : Execution M) where
         ready = (z, e);
       }
 
-      off : goes_on down hi (held z) ≡ false → one ops code (m.At j (m.Number hi ∷ h.2) n) ≡ Goes (m.At (j + 1) h.2 n)
+      off : goes_on down hi (held z) ≡ false → next_step ops code (m.At j (m.Number hi ∷ h.2) n)
+          ≡ Goes (m.At (j + 1) h.2 n)
           → Settled end base below fs o s n (j + 1) h.2 todo
           → Settled end base below fs o s n pc stack (Again x hi down d ∷ todo)
       off e ge k = record {
@@ -202,13 +210,14 @@ module _ {M : Type 0} (ex : Execution M) where
         place = k.place;
         st = k.st;
         comes = comes_on ops rel w code (h.3.by n)
-            (comes_on ops rel w code (goes ops rel w code (ap (λ y. one ops code (m.At j y n)) h.4 ∙ ge)) k.comes);
+            (comes_on ops rel w code (goes ops rel w code (ap (λ y. next_step ops code (m.At j y n)) h.4 ∙ ge))
+            k.comes);
         follows = k.follows;
         ready = k.ready;
       }
 
       by_test : (a : ℤ) → held z ≡ Ordinal a
-          → one ops code (m.At j (m.Number hi ∷ h.2) n)
+          → next_step ops code (m.At j (m.Number hi ∷ h.2) n)
           ≡ (if is_before down a hi then Goes
           (m.At (q + 1) (m.Number hi ∷ h.2) (ops.put z.cell (cell.Ordinal (next_value down a)) n)) else
           Goes (m.At (j + 1) h.2 n)) → Settled end base below fs o s n (j + 1) h.2 todo → (b : Bool)
@@ -219,7 +228,7 @@ module _ {M : Type 0} (ex : Execution M) where
           (ops.put z.cell (cell.Ordinal (next_value down a)) n)) else Goes (m.At (j + 1) h.2 n)) eb) k
 
       go : (v : Value) → held z ≡ v → (c : Cell) → CellIs rel.Named (held z) c
-          → one ops code (m.At j (m.Number hi ∷ h.2) n)
+          → next_step ops code (m.At j (m.Number hi ∷ h.2) n)
           ≡ ordinal_in c (λ v. if is_before down v hi then
           Goes (m.At (q + 1) (m.Number hi ∷ h.2) (ops.put z.cell (cell.Ordinal (next_value down v)) n)) else
           Goes (m.At (j + 1) h.2 n)) → Settled end base below fs o s n (j + 1) h.2 todo
@@ -234,44 +243,47 @@ module _ {M : Type 0} (ex : Execution M) where
           Goes (m.At (j + 1) h.2 n))) k (is_before down a hi) refl
 
   -- the next value of a for loop
-  again_makes : (end : ℕ) (base : List Entry) (below : List Joint) (x : ℕ) (hi : ℤ) (down : Bool) (d : Stmt)
-      (sc : List Scope) (q : ℕ) (st : List Entry) (todo : List Item) (fs : List Joint) (o : Own) (s : Store) (n : M)
+  again_makes : (end : ℕ) (base : List Entry) (below : List FramePair) (x : ℕ) (hi : ℤ) (down : Bool) (d : Stmt)
+      (sc : List Scope) (q : ℕ) (st : List Entry) (todo : List Item) (fs : List FramePair) (o : LocalState) (s : Store)
+      (n : M)
       → rel.Stand fs o s n → Pl ex sc fs (In_loop x d)
-      → TurnsAt p moves shares (Stands code) (HasFork code) (HasWords code) hush sc q x down (after p (q + 1 + 1) d)
-      (S ex (outside st) sc (q + 1 + 1) d)
-      → F end base below (after p (q + 1 + 1) d + 1) st fs todo → (z : FP fs x n o s) → goes_on down hi (held z) ≡ true
-      → Ka end base below (m.At (after p (q + 1 + 1) d) (m.Number hi ∷ st) n) o s
+      → TurnsAt p moves shares (CodeAt code) (HasFork code) (HasWords code) hush sc q x down
+      (after_statement p (q + 1 + 1) d)
+      (S ex (is_in_no_function st) sc (q + 1 + 1) d)
+      → F end base below (after_statement p (q + 1 + 1) d + 1) st fs todo → (z : FP fs x n o s)
+      → goes_on down hi (held z) ≡ true
+      → Ka end base below (m.At (after_statement p (q + 1 + 1) d) (m.Number hi ∷ st) n) o s
       (bind (place_of g x) (λ y. bind (read_at g y)
       (λ v. bind (ordinal v) (λ a. turn_of g x (next_value down a) hi down d todo))))
   again_makes end base below x hi down d sc q st todo fs o s n t pl h k z gz =
       let ty = kind_of_sort (slice_get p.kinds z.address.kind) z.sorted in
-      makes_known ex (λ y. bind (read_at g y) rest) (At z.address) z.known
-      (makes_assoc ex (kind_at g z.address.kind) (λ u. bind (fetch z.address) (checked u)) rest
-      (makes_known ex (λ u. bind (bind (fetch z.address) (checked u)) rest) ty.0
+      makes_known ex (λ y. bind (read_at g y) rest) (AtAddress z.address) z.known
+      (makes_assoc ex (kind_at g z.address.kind) (λ u. bind (fetch z.address) (checked_value u)) rest
+      (makes_known ex (λ u. bind (bind (fetch z.address) (checked_value u)) rest) ty.0
       (kind_known ex z.address.kind z.address.kind ty.0 refl ty.1)
-      (makes_assoc ex (fetch z.address) (checked ty.0) rest
-      (makes_known ex (λ v. bind (checked ty.0 v) rest) (held z) (fetch_known ex z.address)
+      (makes_assoc ex (fetch z.address) (checked_value ty.0) rest
+      (makes_known ex (λ v. bind (checked_value ty.0 v) rest) (held z) (fetch_known ex z.address)
       (makes_by ex (ap (λ (y : Work Value). bind y rest)
       (checked_as ex ty.0 (held z) ∙ ap (λ y. read_as ex y (held z)) (sym (ap sort_by ty.1) ∙ z.sorted)))
-      (go (held z) gz (ops.look z.cell n) (law.load t z.address z.cell z.points z.may (subst OneCell (sym z.sorted) tt))
-      (next_one down (after p (q + 1 + 1) d) (q + 1) x st n hi h.4 z.cell z.at
+      (go (held z) gz (ops.read z.cell n) (law.load t z.address z.cell z.points z.may (subst OneCell (sym z.sorted) tt))
+      (next_one down (after_statement p (q + 1 + 1) d) (q + 1) x st n hi h.4 z.cell z.at
       (law.has_one t z.address z.cell z.points z.may))))))))
     where
-      rest : Value → Work Deed
+      rest : Value → Work Action
       rest v = bind (ordinal v) (λ a. turn_of g x (next_value down a) hi down d todo)
 
       c : Config M
-      c = m.At (after p (q + 1 + 1) d) (m.Number hi ∷ st) n
+      c = m.At (after_statement p (q + 1 + 1) d) (m.Number hi ∷ st) n
 
-      fails : (v : Value) → ordinal_read v ≡ fail fault.F4 → one ops code c ≡ Fails fault.F4
+      fails : (v : Value) → ordinal_read v ≡ fail fault.F4 → next_step ops code c ≡ Fails fault.F4
           → Ka end base below c o s (bind (ordinal_read v) rest)
       fails v e ge = makes_by ex (ap (λ (y : Work Value). bind y rest) e)
           (record { by = breaks ops rel w code c fault.F4 s (fs, o, t) ge })
 
       go : (v : Value) → goes_on down hi v ≡ true → (u : Cell) → CellIs rel.Named v u
-          → one ops code c ≡ ordinal_in u (λ a. if is_before down a hi then
+          → next_step ops code c ≡ ordinal_in u (λ a. if is_before down a hi then
           Goes (m.At (q + 1) (m.Number hi ∷ st) (ops.put z.cell (cell.Ordinal (next_value down a)) n)) else
-          Goes (m.At (after p (q + 1 + 1) d + 1) st n)) → Ka end base below c o s (bind (ordinal_read v) rest)
+          Goes (m.At (after_statement p (q + 1 + 1) d + 1) st n)) → Ka end base below c o s (bind (ordinal_read v) rest)
       go Undefined e cell.Undefined oi ge = fails Undefined refl ge
       go Undefined e (cell.Ordinal a) oi ge = absurd oi
       go Undefined e (cell.Channel a) oi ge = absurd oi
@@ -283,17 +295,18 @@ module _ {M : Type 0} (ex : Execution M) where
           turn_makes ex end base below x (next_value down a) hi down d sc q st todo fs c o s n t pl h k z
           (ge ∙ cell_is a u oi (λ a. if is_before down a hi then
           Goes (m.At (q + 1) (m.Number hi ∷ st) (ops.put z.cell (cell.Ordinal (next_value down a)) n)) else
-          Goes (m.At (after p (q + 1 + 1) d + 1) st n))
+          Goes (m.At (after_statement p (q + 1 + 1) d + 1) st n))
           ∙ ap (λ b. if b then Goes (m.At (q + 1) (m.Number hi ∷ st)
-          (ops.put z.cell (cell.Ordinal (next_value down a)) n)) else Goes (m.At (after p (q + 1 + 1) d + 1) st n))
+          (ops.put z.cell (cell.Ordinal (next_value down a)) n)) else Goes
+          (m.At (after_statement p (q + 1 + 1) d + 1) st n))
           e)
 
   -- what is first, where the machine stands before it
   pub act_makes : (call : Calls) → Oks ex call → Blocks ex
-      → (end : ℕ) (base : List Entry) (below : List Joint) (item : Item) (pc : ℕ) (stack : List Entry)
-      (todo : List Item) (fs : List Joint) (o : Own) (s : Store) (n : M) → rel.Stand fs o s n
-      → F end base below pc stack fs (item ∷ todo) → Ready fs o s n (item ∷ todo)
-      → Ka end base below (m.At pc stack n) o s (act g call item todo)
+      → (end : ℕ) (base : List Entry) (below : List FramePair) (item : Item) (pc : ℕ) (stack : List Entry)
+      (todo : List Item) (fs : List FramePair) (o : LocalState) (s : Store) (n : M) → rel.Stand fs o s n
+      → F end base below pc stack fs (item ∷ todo) → LoopMayGoOn fs o s n (item ∷ todo)
+      → Ka end base below (m.At pc stack n) o s (item_action g call item todo)
   act_makes call ok bl end base below (Do d) pc stack todo fs o s n t h r =
       makes_after ex (h.2.by n) (start_makes ex call ok bl end base below d h.1 h.0 stack todo fs o s n t h.3 h.4 h.5)
   act_makes call ok bl end base below (First x lo hi down d) pc stack todo fs o s n t h r =
@@ -302,20 +315,22 @@ module _ {M : Type 0} (ex : Execution M) where
       (sym h.4)
       (turn_makes ex end base below x lo hi down d h.1 h.0 h.2 todo fs (m.At h.0 (m.Number hi ∷ m.Number lo ∷ h.2) n) o
       s n t h.5 h.6 h.7 z
-      (first_one ex down h.0 (after p (h.0 + 1 + 1) d + 1) x h.2 n lo hi h.6.1 z.cell z.at
+      (first_one ex down h.0 (after_statement p (h.0 + 1 + 1) d + 1) x h.2 n lo hi h.6.1 z.cell z.at
       (law.has_one t z.address z.cell z.points z.may)
       ∙ ap (λ b. if b then Goes (m.At (h.0 + 1) (m.Number hi ∷ h.2) (ops.put z.cell (cell.Ordinal lo) n)) else
-      Goes (m.At (after p (h.0 + 1 + 1) d + 1) h.2 n)) h.8)))
+      Goes (m.At (after_statement p (h.0 + 1 + 1) d + 1) h.2 n)) h.8)))
   act_makes call ok bl end base below (Again x hi down d) pc stack todo fs o s n t h r =
-      makes_after ex (h.3.by n) (subst (λ y. Ka end base below (m.At (after p (h.0 + 1 + 1) d) y n) o s
-      (act g call (Again x hi down d) todo)) (sym h.4)
+      makes_after ex (h.3.by n) (subst (λ y. Ka end base below (m.At (after_statement p (h.0 + 1 + 1) d) y n) o s
+      (item_action g call (Again x hi down d) todo)) (sym h.4)
       (again_makes end base below x hi down d h.1 h.0 h.2 todo fs o s n t h.5 h.6 h.7 r.0 r.1))
   act_makes call ok bl end base below (Test d e) pc stack todo fs o s n t h r =
       makes_after ex (h.2.by n)
-      (makes_bind ex _ (ordinal_gives ex call ok e h.1 (after p (h.0 + 1) d) stack fs o s n t (within (λ u. inl) h.3)
+      (makes_bind ex _ (ordinal_gives ex call ok e h.1 (after_statement p (h.0 + 1) d) stack fs o s n t
+      (within (λ u. inl) h.3)
       h.4.2) (λ v u o1 s1 n1 t1 x1.
       makes_by ex (went_if ex (int_le v (pos 0)) (Do (Repeat d e) ∷ todo) todo)
-      (branch ex (After ex end base below) v (after_value (after p (h.0 + 1) d) e) h.0 stack o1 s1 n1 _ _ h.4.3
+      (branch ex (After ex end base below) v (after_value (after_statement p (h.0 + 1) d) e) h.0 stack o1 s1 n1 _
+      _ h.4.3
       (makes_went ex (Do (Repeat d e) ∷ todo) fs _ stack n1 (stays ops rel w code _) t1
       (h.0, h.1, slides ex _ _, h.3, h.4, h.5))
       (makes_went ex todo fs _ stack n1 (stays ops rel w code _) t1 h.5))))
@@ -328,7 +343,7 @@ module _ {M : Type 0} (ex : Execution M) where
           ops.close_frame n,
           h.4,
           comes_on ops rel w code (h.5.by n)
-              (goes ops rel w code (at_one ex h.0 stack n h.7 ∙ ap (λ y. m.returned ops code y n) h.6
+              (goes ops rel w code (at_one ex h.0 stack n h.7 ∙ ap (λ y. m.return_step ops code y n) h.6
               ∙ holds_when (ops.may_close n) _ c.0)),
           c.1,
           h.9,
@@ -337,10 +352,11 @@ module _ {M : Type 0} (ex : Execution M) where
   act_makes call ok bl end base below (Break f) pc stack todo fs o s n t h r = absurd h
 
   pub deed_makes : (go : List Item → Work (List Item)) → Oks ex (call_by g go) → Blocks ex
-      → (end : ℕ) (base : List Entry) (below : List Joint) → slice_get code.instrs end ≡ Some i.End
-      → outside base ≡ true → (todo : List Item) (pc : ℕ) (stack : List Entry) (fs : List Joint) (o : Own) (s : Store)
-      (n : M) → rel.Stand fs o s n → F end base below pc stack fs todo → Ready fs o s n todo
-      → Ka end base below (m.At pc stack n) o s (deed_by g go todo)
+      → (end : ℕ) (base : List Entry) (below : List FramePair) → slice_get code.instrs end ≡ Some i.End
+      → is_in_no_function base ≡ true → (todo : List Item) (pc : ℕ) (stack : List Entry) (fs : List FramePair)
+      (o : LocalState) (s : Store)
+      (n : M) → rel.Stand fs o s n → F end base below pc stack fs todo → LoopMayGoOn fs o s n todo
+      → Ka end base below (m.At pc stack n) o s (action_by g go todo)
   deed_makes go ok bl end base below e ob [] pc stack fs o s n t h r =
       record {
         by = (
@@ -352,20 +368,21 @@ module _ {M : Type 0} (ex : Execution M) where
           at_one ex end stack n e,
           t,
           (slides ex end stack, h.1, h.2),
-          ap outside h.1 ∙ ob,
+          ap is_in_no_function h.1 ∙ ob,
         );
       }
   deed_makes go ok bl end base below e ob (item ∷ todo) pc stack fs o s n t h r =
       act_makes (call_by g go) ok bl end base below item pc stack todo fs o s n t h r
 
   -- one step of a process
-  pub step_makes : (k : ℕ) → Oks ex (call_by g (all g k)) → Blocks ex
-      → (end : ℕ) (base : List Entry) (below : List Joint) → slice_get code.instrs end ≡ Some i.End
-      → outside base ≡ true → (todo : List Item) (pc : ℕ) (stack : List Entry) (fs : List Joint) (o : Own) (s : Store)
+  pub step_makes : (k : ℕ) → Oks ex (call_by g (run_items g k)) → Blocks ex
+      → (end : ℕ) (base : List Entry) (below : List FramePair) → slice_get code.instrs end ≡ Some i.End
+      → is_in_no_function base ≡ true → (todo : List Item) (pc : ℕ) (stack : List Entry) (fs : List FramePair)
+      (o : LocalState) (s : Store)
       (n : M) → rel.Stand fs o s n → F end base below pc stack fs todo
-      → Ka end base below (m.At pc stack n) o s (deed g k todo)
+      → Ka end base below (m.At pc stack n) o s (next_action g k todo)
   step_makes k ok bl end base below e ob todo pc stack fs o s n t h =
       let z = settle_follows end base below fs o s n t pc stack todo h in
-      makes_known ex (deed_by g (all g k)) z.left z.known
-      (makes_after ex z.comes (deed_makes (all g k) ok bl end base below e ob z.left z.place z.st fs o s n t
+      makes_known ex (action_by g (run_items g k)) z.left z.known
+      (makes_after ex z.comes (deed_makes (run_items g k) ok bl end base below e ob z.left z.place z.st fs o s n t
       z.follows z.ready))

@@ -9,20 +9,21 @@ use Rattle.sp_tree.specs.Plain.{Entire, Index, Field, Selectors, Whole, Select, 
 use Rattle.sp_tree.specs.Plain.{Pass, Program, Variable, Block}
 use Rattle.sp_tree.specs.Uses.{Use, Seen, In_expr, In_form, In_target, In_selectors, In_actuals, In_call}
 use Rattle.sp_cell.specs.declared.spot.Address.{Address as Ptr}
-use Rattle.sp_meaning.specs.Own.{Input, Address, Own}
-use Rattle.sp_meaning.specs.Owning.{stands, stands_at, stands_by, console, Gave}
-use Rattle.sp_meaning.specs.Eval.{Place, At, Fixed, Given, ValueOf, PlaceOf, Calls, standard_op, input_op, address_of}
-use Rattle.sp_meaning.specs.Eval.{value, form_value, place, selected, actuals, address, ordinal_of}
+use Rattle.sp_meaning.specs.LocalWork.{Input, Address, LocalState}
+use Rattle.sp_meaning.specs.Owning.{location_of, location_at, location_by, console, Gave}
+use Rattle.sp_meaning.specs.Eval.{Place, AtAddress, Fixed, ArgumentValue, ValueOf, PlaceOf, Calls, standard_op}
+use Rattle.sp_meaning.specs.Eval.{input_op, address_of}
+use Rattle.sp_meaning.specs.Eval.{value, form_value, place, component_place, actuals, address, ordinal_of}
 use Rattle.sp_meaning.specs.Run.{Store}
 use Rattle.sp_meaning.proofs.Within.{variable_of, selectors_of}
 use Rattle.sp_code.specs.Machine.{Entry, Config}
 use Rattle.sp_code.specs.Machine as m
-use Rattle.sp_code.specs.Turns.{Comes}
+use Rattle.sp_code.specs.Turns.{RunsTo}
 use Rattle.sp_code.specs.Scopes.{Ordinals, Scope, sort, kind_of}
 use Rattle.sp_code.specs.Places.{after_value, after_form, after_var, after_selectors, after_actuals}
-use Rattle.sp_code.specs.Stands.{Stands, HasFork, HasWords, NoIndex, IsTarget, CallAt, ValueAt, FormAt, PlaceAt}
-use Rattle.sp_code.specs.Stands.{SelectedAt, ActualsAt, OrdinalAt}
-use Rattle.sp_codegen.specs.Joints.{Joint, sources}
+use Rattle.sp_code.specs.CodeOfTree.{CodeAt, HasFork, HasWords, NoIndex, IsTarget, CallAt, ValueAt, FormAt, PlaceAt}
+use Rattle.sp_code.specs.CodeOfTree.{SelectedAt, ActualsAt, OrdinalAt}
+use Rattle.sp_codegen.specs.FramePairs.{FramePair, sources}
 use Rattle.sp_codegen.specs.Executions.{Execution}
 use Rattle.sp_codegen.specs.Relation.{Stood, GivensAre}
 use Rattle.sp_codegen.proofs.Runs.{stays, gives_bind, gives_known, gives_give}
@@ -38,7 +39,7 @@ module _ {M : Type 0} (ex : Execution M) where
     code,
     moves,
     shares,
-    Quiet as hush,
+    IsCallableInFunctions as hush,
     who as w,
     IsReadable as R,
     operations as ops,
@@ -51,46 +52,49 @@ module _ {M : Type 0} (ex : Execution M) where
 
   -- the machine calls a function as the meaning does
   pub record CallsMeet (call : Calls) : Type 0 where
-    pub by : (f : ℕ) (args : Actuals) (b : Block) (sc : List Scope) (q k : ℕ) (stack : List Entry) (js : List Joint)
-        (o : Own) (s : Store) (n : M) → rel.Stand js o s n → P ex sc js (In_call f args)
-        → CallAt p moves shares (Stands code) (HasFork code) (HasWords code) hush sc q f b
+    pub by : (f : ℕ) (args : Actuals) (b : Block) (sc : List Scope) (q k : ℕ) (stack : List Entry) (js : List FramePair)
+        (o : LocalState) (s : Store) (n : M) → rel.Stand js o s n → P ex sc js (In_call f args)
+        → CallAt p moves shares (CodeAt code) (HasFork code) (HasWords code) hush sc q f b
         → ((x : ℕ) × (b.answer ≡ Some x)) → sort p k ≡ Ordinals
-        → (gs : List Given) (es : List Entry) → GivensAre rel p js b.formals gs es → Gave p (sources js) args gs
+        → (gs : List ArgumentValue) (es : List Entry) → GivensAre rel p js b.formals gs es → Gave p (sources js) args gs
         → G ex js (m.At q (pushed es stack) n) o s (q + 1) (Top ex stack) (St ex k) (call f gs)
 
   -- it is no index
-  pub target_gives : {js : List Joint} {o : Own} {s : Store} {c : Config M} {n : M} (q k : ℕ) (stack : List Entry)
-      (x : ℕ) (ss : Selectors) (pl : Place) (a : Ptr) → Comes ops code c (m.At q (m.Pointer a ∷ stack) n)
+  pub target_gives : {js : List FramePair} {o : LocalState} {s : Store} {c : Config M} {n : M} (q k : ℕ)
+      (stack : List Entry)
+      (x : ℕ) (ss : Selectors) (pl : Place) (a : Ptr) → RunsTo ops code c (m.At q (m.Pointer a ∷ stack) n)
       → rel.Stand js o s n → PlaceIs ex js x k pl a
-      → IsTarget p moves shares (Stands code) (HasFork code) (HasWords code) hush (Entire x ss)
+      → IsTarget p moves shares (CodeAt code) (HasFork code) (HasWords code) hush (Entire x ss)
       → G ex js c o s q (λ (b : Address) (u : Ptr). m.Pointer u ∷ stack)
-      (λ b u. (b.kind ≡ k) × rel.Points js b u × R b.spot × (stands p (sources js) x ≡ Some b.spot))
+      (λ b u. (b.kind ≡ k) × rel.Points js b u × R b.spot × (location_of p (sources js) x ≡ Some b.spot))
       (address_of g pl)
-  target_gives q k stack x ss (At b) a c t pi h = gives_give ops rel w code b a c t pi
+  target_gives q k stack x ss (AtAddress b) a c t pi h = gives_give ops rel w code b a c t pi
   target_gives q k stack x ss (Fixed z) a c t pi h =
       let e = same_some h.0 pi.2.0 h.1 pi.2.1 in
       absurd (subst NoIndex (ap (λ (y : Variable). y.role) e ∙ pi.2.2) h.2)
 
   -- the input is variable 0
-  pub at_console : (js : List Joint) (x : ℕ) → (v : Variable) × (slice_get p.variables x ≡ Some v)
-      × (v.role ≡ role.Console) → stands p (sources js) x ≡ Some (console x)
-  at_console js x c = ap (stands_at (sources js) x) c.1 ∙ ap (stands_by (sources js) x c.0) c.2
+  pub at_console : (js : List FramePair) (x : ℕ) → (v : Variable) × (slice_get p.variables x ≡ Some v)
+      × (v.role ≡ role.Console) → location_of p (sources js) x ≡ Some (console x)
+  at_console js x c = ap (location_at (sources js) x) c.1 ∙ ap (location_by (sources js) x c.0) c.2
 
-  input_read : {Here : Use → Type 0} (sc : List Scope) (js : List Joint) → P ex sc js Here → Here (Seen 0) → R Input
+  input_read : {Here : Use → Type 0} (sc : List Scope) (js : List FramePair) → P ex sc js Here → Here (Seen 0) → R Input
   input_read sc js pl a = pl.sound.allowed [] (Seen 0) a 0 Input (refl, at_console js 0 free.input)
 
   mutual
     pub value_gives : (call : Calls) → CallsMeet call
-        → (e : Expr) (sc : List Scope) (q : ℕ) (stack : List Entry) (js : List Joint) (o : Own) (s : Store) (n : M)
+        → (e : Expr) (sc : List Scope) (q : ℕ) (stack : List Entry) (js : List FramePair) (o : LocalState) (s : Store)
+        (n : M)
         → rel.Stand js o s n → P ex sc js (In_expr e)
-        → ValueAt p moves shares (Stands code) (HasFork code) (HasWords code) hush sc q e
+        → ValueAt p moves shares (CodeAt code) (HasFork code) (HasWords code) hush sc q e
         → G ex js (m.At q stack n) o s (after_value q e) (Top ex stack) (St ex (kind_of e)) (value g call e)
     value_gives call ok (Typed k form) sc q stack js o s n t pl h = form_gives call ok k form sc q stack js o s n t pl h
 
     pub form_gives : (call : Calls) → CallsMeet call
-        → (k : ℕ) (form : ExprForm) (sc : List Scope) (q : ℕ) (stack : List Entry) (js : List Joint) (o : Own)
+        → (k : ℕ) (form : ExprForm) (sc : List Scope) (q : ℕ) (stack : List Entry) (js : List FramePair)
+        (o : LocalState)
         (s : Store) (n : M) → rel.Stand js o s n → P ex sc js (In_form form)
-        → FormAt p moves shares (Stands code) (HasFork code) (HasWords code) hush sc q k form
+        → FormAt p moves shares (CodeAt code) (HasFork code) (HasWords code) hush sc q k form
         → G ex js (m.At q stack n) o s (after_form q form) (Top ex stack) (St ex k) (form_value g call k form)
     form_gives call ok k (Number v) sc q stack js o s n t pl h =
         worked_gives ex (m.At q stack n) (q + 1) k stack n t (_, _, t) h.1 (Yields v) (at_one ex q stack n h.0)
@@ -121,9 +125,10 @@ module _ {M : Type 0} (ex : Execution M) where
         (input_gives ex f q k stack n t (input_read sc js pl refl) h.1 h.0)
 
     pub place_gives : (call : Calls) → CallsMeet call
-        → (v : Var) (k : ℕ) (sc : List Scope) (q : ℕ) (stack : List Entry) (js : List Joint) (o : Own) (s : Store)
+        → (v : Var) (k : ℕ) (sc : List Scope) (q : ℕ) (stack : List Entry) (js : List FramePair) (o : LocalState)
+        (s : Store)
         (n : M) → rel.Stand js o s n → P ex sc js (In_selectors (selectors_of v)) → MayRead ex sc js (variable_of v)
-        → PlaceAt p moves shares (Stands code) (HasFork code) (HasWords code) hush sc q v k
+        → PlaceAt p moves shares (CodeAt code) (HasFork code) (HasWords code) hush sc q v k
         → G ex js (m.At q stack n) o s (after_var q v) (PlaceTop ex stack)
         (PlaceIs ex js (variable_of v) k) (place g call v)
     place_gives call ok (Entire x ss) k sc q stack js o s n t pl may h =
@@ -132,11 +137,11 @@ module _ {M : Type 0} (ex : Execution M) where
 
     selected_gives : (call : Calls) → CallsMeet call
         → (ss : Selectors) (x k k2 : ℕ) (sc : List Scope) (q : ℕ) (stack : List Entry) (z : Place) (a : Ptr)
-        (js : List Joint) (o : Own) (s : Store) (n : M) → rel.Stand js o s n → P ex sc js (In_selectors ss)
+        (js : List FramePair) (o : LocalState) (s : Store) (n : M) → rel.Stand js o s n → P ex sc js (In_selectors ss)
         → PlaceIs ex js x k z a
-        → SelectedAt p moves shares (Stands code) (HasFork code) (HasWords code) hush sc q ss k k2
+        → SelectedAt p moves shares (CodeAt code) (HasFork code) (HasWords code) hush sc q ss k k2
         → G ex js (m.At q (m.Pointer a ∷ stack) n) o s (after_selectors q ss) (PlaceTop ex stack) (PlaceIs ex js x k2)
-        (selected g call ss z)
+        (component_place g call ss z)
     selected_gives call ok Whole x k k2 sc q stack z a js o s n t pl pi h =
         gives_give ops rel w code z a (stays ops rel w code _) t (subst (λ y. PlaceIs ex js x y z a) h pi)
     selected_gives call ok (Select (Index e) rest) x k k2 sc q stack z a js o s n t pl pi h =
@@ -152,10 +157,12 @@ module _ {M : Type 0} (ex : Execution M) where
         selected_gives call ok rest x h.2 k2 sc (q + 1) stack z2 a2 js o2 s2 n2 t2 pl pi2 h.6)
 
     pub actuals_gives : (call : Calls) → CallsMeet call
-        → (args : Actuals) (xs : List ℕ) (sc : List Scope) (q : ℕ) (stack : List Entry) (js : List Joint) (o : Own)
+        → (args : Actuals) (xs : List ℕ) (sc : List Scope) (q : ℕ) (stack : List Entry) (js : List FramePair)
+        (o : LocalState)
         (s : Store) (n : M) → rel.Stand js o s n → P ex sc js (In_actuals args)
-        → ActualsAt p moves shares (Stands code) (HasFork code) (HasWords code) hush sc q args xs
-        → G ex js (m.At q stack n) o s (after_actuals q args) (λ (gs : List Given) (es : List Entry). pushed es stack)
+        → ActualsAt p moves shares (CodeAt code) (HasFork code) (HasWords code) hush sc q args xs
+        → G ex js (m.At q stack n) o s (after_actuals q args)
+        (λ (gs : List ArgumentValue) (es : List Entry). pushed es stack)
         (λ gs es. GivensAre rel p js xs gs es × Gave p (sources js) args gs) (actuals g call args)
     actuals_gives call ok Nothing [] sc q stack js o s n t pl h =
         gives_give ops rel w code [] [] (stays ops rel w code _) t (tt, tt)
@@ -180,12 +187,13 @@ module _ {M : Type 0} (ex : Execution M) where
 
   -- the address of a target
   pub address_gives : (call : Calls) → CallsMeet call
-      → (v : Var) (k : ℕ) (sc : List Scope) (q : ℕ) (stack : List Entry) (js : List Joint) (o : Own) (s : Store) (n : M)
+      → (v : Var) (k : ℕ) (sc : List Scope) (q : ℕ) (stack : List Entry) (js : List FramePair) (o : LocalState)
+      (s : Store) (n : M)
       → rel.Stand js o s n → P ex sc js (In_target v)
-      → PlaceAt p moves shares (Stands code) (HasFork code) (HasWords code) hush sc q v k
-      → IsTarget p moves shares (Stands code) (HasFork code) (HasWords code) hush v
+      → PlaceAt p moves shares (CodeAt code) (HasFork code) (HasWords code) hush sc q v k
+      → IsTarget p moves shares (CodeAt code) (HasFork code) (HasWords code) hush v
       → G ex js (m.At q stack n) o s (after_var q v) (λ (b : Address) (u : Ptr). m.Pointer u ∷ stack)
-      (λ b u. (b.kind ≡ k) × rel.Points js b u × R b.spot × (stands p (sources js) (variable_of v) ≡ Some b.spot))
+      (λ b u. (b.kind ≡ k) × rel.Points js b u × R b.spot × (location_of p (sources js) (variable_of v) ≡ Some b.spot))
       (address g call v)
   address_gives call ok (Entire x ss) k sc q stack js o s n t pl h ht =
       gives_bind ops rel w code (place_gives call ok (Entire x ss) k sc q stack js o s n t (within (λ u. inr) pl)
@@ -195,9 +203,10 @@ module _ {M : Type 0} (ex : Execution M) where
 
   -- an ordinal
   pub ordinal_gives : (call : Calls) → CallsMeet call
-      → (e : Expr) (sc : List Scope) (q : ℕ) (stack : List Entry) (js : List Joint) (o : Own) (s : Store) (n : M)
+      → (e : Expr) (sc : List Scope) (q : ℕ) (stack : List Entry) (js : List FramePair) (o : LocalState) (s : Store)
+      (n : M)
       → rel.Stand js o s n → P ex sc js (In_expr e)
-      → OrdinalAt p moves shares (Stands code) (HasFork code) (HasWords code) hush sc q e
+      → OrdinalAt p moves shares (CodeAt code) (HasFork code) (HasWords code) hush sc q e
       → G ex js (m.At q stack n) o s (after_value q e) (λ (v : ℤ) (u : Unit {0}). m.Number v ∷ stack) (λ v u. Unit {0})
       (ordinal_of g call e)
   ordinal_gives call ok e sc q stack js o s n t pl h =

@@ -1,29 +1,29 @@
 -- None of this belongs to what the program promises: it is for contracts between crates.
 -- One process that runs the code of a tree: all that the simulation of its turns speaks of, and what it asks of it. The
--- simulation is proved over this record, and `Lives` gives one for each process of a run.
+-- simulation is proved over this record, and `ProcessInfos` gives one for each process of a run.
 use Rattle.std.specs.Prelude.{◌≡◌, ℕ, List, Some, Bool, slice_get}
 use Rattle.sp_tree.specs.Formed.{IsFormedUse}
 use Rattle.sp_tree.specs.Plain.{Block, Stmt}
 use Rattle.sp_tree.specs.Uses.{Use, In_stmt}
 use Rattle.sp_tree.specs.Interference.{IsFreeOfInterference}
-use Rattle.sp_meaning.specs.Own.{Setting, Loc, Cell, Own, Who}
+use Rattle.sp_meaning.specs.LocalWork.{RunInput, Loc, Cell, LocalState, Identity}
 use Rattle.sp_code.specs.declared.code.Layout.{Layout}
 use Rattle.sp_code.specs.declared.code.Parts.{Parts}
 use Rattle.sp_code.specs.Machine.{Ops, layout_of}
-use Rattle.sp_codegen.specs.Relation.{Relation, Keeps}
+use Rattle.sp_codegen.specs.Relation.{Relation, KeepsRelation}
 
 -- all of it
 pub record Execution (M : Type 0) : Type 1 where
   -- the program with its input and limits, its code, and which variables each child of a fork takes over
-  pub setting : Setting
+  pub setting : RunInput
   pub code : Parts
   pub moves : Stmt → List ℕ
   pub shares : Stmt → List ℕ
   -- the blocks that lead to no statement of the kernel
-  pub Quiet : ℕ → Type 0
+  pub IsCallableInFunctions : ℕ → Type 0
   -- the process, and when it is due to pause
-  pub who : Who
-  pub due : Own → Bool
+  pub who : Identity
+  pub due : LocalState → Bool
   -- what it may write and read, and the heights of the frames of indexes that it holds
   pub Writes : Loc → Type 0
   pub IsReadable : Loc → Type 0
@@ -31,7 +31,7 @@ pub record Execution (M : Type 0) : Type 1 where
   -- the memory of the machine, how it stands for that of the meaning, and that all operations keep this
   pub operations : Ops M
   pub relation : Relation M
-  pub laws : Keeps setting who due Writes IsReadable Indexes operations relation
+  pub laws : KeepsRelation setting who due Writes IsReadable Indexes operations relation
   pub reads_written : (l : Loc) → Writes l → IsReadable l
   pub free : IsFreeOfInterference setting.program
   pub own_written : (n x : ℕ) → Writes (Cell who.name n x)

@@ -1,9 +1,9 @@
-pub mod Joints
+pub mod FramePairs
 pub mod Shapes
 pub mod Relation
 pub mod Executions
 pub mod Following
 pub mod Standing
-pub mod Meets
-pub mod Lives
+pub mod TurnAgrees
+pub mod ProcessInfos
 pub mod Parents

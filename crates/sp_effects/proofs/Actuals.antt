@@ -5,14 +5,14 @@ use Rattle.std.specs.Prelude.{slice_get}
 use Rattle.std.proofs.lemmas.List.{at_drop_more, length-drop, append-nil}
 use Rattle.std.proofs.lemmas.Option.{slice_get_past}
 use Rattle.sp_code.specs.declared.code.Formal.{Formal}
-use Rattle.sp_rules.specs.Areas.{given}
+use Rattle.sp_rules.specs.Areas.{on_option}
 use Rattle.sp_rules.specs.Shapes.{Shape}
 use Rattle.sp_effects.specs.declared.effects.Effects.{Effects}
-use Rattle.sp_effects.specs.Calls.{actual_at, actual_of, actuals, is_outer, listed, meets_outer}
+use Rattle.sp_effects.specs.Calls.{actual_at, actual_of, actuals, is_outer, list_of_option, meets_outer}
 
 -- ---- going over operands
 
-given_none : {A : Type 0} (o : Option A) → given {B = Option ℕ} None o (λ x. None) ≡ None
+given_none : {A : Type 0} (o : Option A) → on_option {B = Option ℕ} None o (λ x. None) ≡ None
 given_none None = refl
 given_none (Some x) = refl
 
@@ -21,7 +21,7 @@ short ss i e = let f = length-drop i ss in let g = ap (λ (z : List Shape). leng
 
 no_actual : (fs : List Formal) (ss : List Shape) (n : ℕ) → length ss ≤ n → actual_at fs ss n ≡ None
 no_actual fs ss n h =
-    ap (λ (o : Option Shape). given None (slice_get fs (length fs - 1 - n)) (λ f. given None o (actual_of f)))
+    ap (λ (o : Option Shape). on_option None (slice_get fs (length fs - 1 - n)) (λ f. on_option None o (actual_of f)))
     (slice_get_past ss n h)
     ∙ given_none (slice_get fs (length fs - 1 - n))
 
@@ -30,7 +30,7 @@ no_more fs ss i zero h = let e : i + zero ≡ i = omega arith in ap (actuals fs 
 no_more fs ss i (suc d) h =
     let e : i + suc d ≡ suc (i + d) = omega arith in
     ap (actuals fs ss) e ∙ ap (λ (o : Option ℕ). actuals fs ss (i + d)
-    ++ listed o) (no_actual fs ss (i + d) (omega (arith, h))) ∙ append-nil (actuals fs ss (i + d))
+    ++ list_of_option o) (no_actual fs ss (i + d) (omega (arith, h))) ∙ append-nil (actuals fs ss (i + d))
     ∙ no_more fs ss i d h
 
 pub all_listed : (fs : List Formal) (ss : List Shape) (i n : ℕ) → i ≤ n → drop i ss ≡ []
@@ -51,12 +51,12 @@ next_shape (t ∷ ts) rest s (suc i) e =
 
 pub one_listed : (fs : List Formal) (ss rest : List Shape) (i : ℕ) (f : Formal) (s : Shape)
     → slice_get fs (length fs - 1 - i) ≡ Some f → drop i ss ≡ s ∷ rest
-    → (actuals fs ss i ++ listed (actual_of f s) ≡ actuals fs ss (i + 1)) × (drop (i + 1) ss ≡ rest)
+    → (actuals fs ss i ++ list_of_option (actual_of f s) ≡ actuals fs ss (i + 1)) × (drop (i + 1) ss ≡ rest)
 one_listed fs ss rest i f s at e =
     let r = next_shape ss rest s i e in
-    let g = ap (λ (o : Option Formal). given None o (λ h. given None (slice_get ss i) (actual_of h))) at
-    ∙ ap (λ (o : Option Shape). given None o (actual_of f)) r.0 in
-    (sym (ap (actuals fs ss) (add-one i) ∙ ap (λ (o : Option ℕ). actuals fs ss i ++ listed o) g), r.1)
+    let g = ap (λ (o : Option Formal). on_option None o (λ h. on_option None (slice_get ss i) (actual_of h))) at
+    ∙ ap (λ (o : Option Shape). on_option None o (actual_of f)) r.0 in
+    (sym (ap (actuals fs ss) (add-one i) ∙ ap (λ (o : Option ℕ). actuals fs ss i ++ list_of_option o) g), r.1)
 
 -- ---- going over variables
 

@@ -12,7 +12,7 @@ use Rattle.sp_rules.specs.Named.{BreaksV1, Names}
 use Rattle.sp_rules.specs.Reach.{IsArea}
 use Rattle.sp_rules.specs.Verdict.{BreaksV6, HasStop}
 use Rattle.sp_areas.specs.declared.owners.Owner.{Owner}
-use Rattle.sp_areas.specs.Least.{IsLeast, Upto}
+use Rattle.sp_areas.specs.LeastPlaces.{IsLeast, Upto}
 use Rattle.sp_areas.specs.Owners.{AreOwners}
 use Rattle.sp_areas.proofs.Leasts.{all}
 use Rattle.sp_effects.specs.declared.effects.Deeds.{Deeds}

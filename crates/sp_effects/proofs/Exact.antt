@@ -14,7 +14,7 @@ use Rattle.sp_code.specs.declared.code.Parts.{Parts}
 use Rattle.sp_rules.specs.Areas.{Area, Body, Child, instr_at, child_at, table_named, entry, entry_of_layout}
 use Rattle.sp_rules.specs.Areas.{entry_of_child}
 use Rattle.sp_rules.specs.Shapes.{Shape}
-use Rattle.sp_rules.specs.Reach.{IsIn, IsArea, Passes}
+use Rattle.sp_rules.specs.Reach.{IsIn, IsArea, IsInCodeOf}
 use Rattle.sp_rules.specs.Touched.{stored_by, loaded_by}
 use Rattle.sp_rules.specs.Effects.{Kind, Stored, Loaded, IsAside, IsNumber, IsActual, Becomes, IsStarted, IsCalled}
 use Rattle.sp_rules.specs.Effects.{Does, IsEffect}
@@ -34,8 +34,8 @@ use Rattle.sp_effects.specs.declared.facts.Deed.TheVariants as deed
 use Rattle.sp_effects.specs.Facts.{has_fact, fact, Tells}
 use Rattle.sp_effects.specs.Own.{DoesAt, OwnBefore}
 use Rattle.sp_effects.specs.Edges.{EdgeAt, AreEdges}
-use Rattle.sp_effects.specs.Effects.{Comes}
-use Rattle.sp_effects.specs.Closing.{is_own, is_index, fact_along, Leads, FollowsBy, Closes, ClosesBy, IsDeed}
+use Rattle.sp_effects.specs.Effects.{ComesToStop}
+use Rattle.sp_effects.specs.Closing.{is_own, is_index, fact_along, FactLeads, FollowsBy, Closes, ClosesBy, IsDeed}
 use Rattle.sp_effects.specs.Closing.{AreFacts}
 use Rattle.sp_effects.specs.Variables.{AreOwn, owns}
 use Rattle.sp_effects.proofs.Linking.{entry_within}
@@ -149,7 +149,7 @@ module _ (c : Parts) (kept : (p : ℕ) → BreaksV1 c p → ⊥) (os : List Owne
         by_pass k y x own deed.Stops num act h e = absurd (none-some g e)
 
     module _ (rows : List (List Edge)) (edges : AreEdges c rows) where
-      true_led : (f g : Fact) → IsTrue f → Leads rows ks f g → IsTrue g
+      true_led : (f g : Fact) → IsTrue f → FactLeads rows ks f g → IsTrue g
       true_led f g (b, ib, at, h) (e, has, w) = go (edges.only f.area e has)
         where
           own : Bool
@@ -199,10 +199,10 @@ module _ (c : Parts) (kept : (p : ℕ) → BreaksV1 c p → ⊥) (os : List Owne
         deed_by Stored x = deed.Stores x
         deed_by Loaded x = deed.Loads x
 
-        abbrev Has : Area → Deed → Type 0
-        Has a d = IsArea c a → has_fact new (fact (entry c a) d) ≡ true
+        abbrev HasFactOf : Area → Deed → Type 0
+        HasFactOf a d = IsArea c a → has_fact new (fact (entry c a) d) ≡ true
 
-        own_there : (a : Area) (p : ℕ) (d : Deed) → IsArea c a → Passes c a p → p < length c.instrs → DoesAt c a p d
+        own_there : (a : Area) (p : ℕ) (d : Deed) → IsArea c a → IsInCodeOf c a p → p < length c.instrs → DoesAt c a p d
             → has_fact new (fact (entry c a) d) ≡ true
         own_there a p d ia w l h = closes.kept (fact (entry c a) d)
             (start.has (fact (entry c a) d) (p, l, (a, (ia, w), refl, h)))
@@ -243,7 +243,7 @@ module _ (c : Parts) (kept : (p : ℕ) → BreaksV1 c p → ⊥) (os : List Owne
         call_within : (p f up : ℕ) → instr_at c p ≡ Some (i.Call f up) → p < length c.instrs
         call_within p f up e = slice_get_within c.instrs p (i.Call f up) e
 
-        does_has : (u : Kind) (a : Area) (x : ℕ) → Does c u a x → Has a (deed_by u x)
+        does_has : (u : Kind) (a : Area) (x : ℕ) → Does c u a x → HasFactOf a (deed_by u x)
         does_has Stored a x (inl (p, ss, r, h)) ia = own_there a p (deed.Stores x) ia (passes c a p ss r)
             (stored_within a p x ss h) (inl (ss, r, h))
         does_has Stored a x (inr (p, k, t, s, h)) ia = own_there a p (deed.Stores x) ia s.0 (table_within p k t s.1)
@@ -253,7 +253,7 @@ module _ (c : Parts) (kept : (p : ℕ) → BreaksV1 c p → ⊥) (os : List Owne
         does_has Loaded a x (inr (p, k, t, s, h)) ia = own_there a p (deed.Loads x) ia s.0 (table_within p k t s.1)
             (inr (k, t, s, h))
 
-        stop_has : (a : Area) → HasStop c a → Has a deed.Stops
+        stop_has : (a : Area) → HasStop c a → HasFactOf a deed.Stops
         stop_has a (p, ss, r, h) ia = own_there a p deed.Stops ia (passes c a p ss r) (stop_within p h) (inl (ss, r, h))
 
         -- along an edge
@@ -264,7 +264,7 @@ module _ (c : Parts) (kept : (p : ℕ) → BreaksV1 c p → ⊥) (os : List Owne
 
         from_child : (a : Area) (p k : ℕ) (t : ChildTable) (d : Deed) → IsStarted c a p k t
             → ((own : Bool) → fact_along (edge.Started (entry c a) t.index) own d ≡ Some (fact (entry c a) d))
-            → Has (Child a p k) d → Has a d
+            → HasFactOf (Child a p k) d → HasFactOf a d
         from_child a p k t d s z h ia =
             goes p t.entry (entry c a) (edge.Started (entry c a) t.index) d d (table_within p k t s.1)
             (inr (a, k, t, ia, s, (refl, refl)))
@@ -280,14 +280,14 @@ module _ (c : Parts) (kept : (p : ℕ) → BreaksV1 c p → ⊥) (os : List Owne
             go false e = refl
 
         child_has : (u : Kind) (a : Area) (p k x : ℕ) (t : ChildTable) → IsStarted c a p k t → IsAside u t.index x
-            → Has (Child a p k) (deed_by u x) → Has a (deed_by u x)
+            → HasFactOf (Child a p k) (deed_by u x) → HasFactOf a (deed_by u x)
         child_has Stored a p k x t s z h = from_child a p k t (deed.Stores x) s (λ own. refl) h
         child_has Loaded a p k x t s z h = from_child a p k t (deed.Loads x) s
             (λ own. ap (λ (b : Bool). if b then None else Some (fact (entry c a) (deed.Loads x)))
             (no_index t.index x z)) h
 
         module _ (a : Area) (p f up : ℕ) (ss : List Shape) (l : Layout) (call : IsCalled c a p f up ss l) where
-          at_entry : (d : Deed) → Has (Body f) d → has_fact new (fact l.entry d) ≡ true
+          at_entry : (d : Deed) → HasFactOf (Body f) d → has_fact new (fact l.entry d) ≡ true
           at_entry d h = subst (λ n. has_fact new (fact n d) ≡ true) (ap entry_of_layout call.layout)
               (h (l, call.layout))
 
@@ -300,14 +300,14 @@ module _ (c : Parts) (kept : (p : ℕ) → BreaksV1 c p → ⊥) (os : List Owne
 
           from_called : (d : Deed)
               → fact_along (edge.Called (entry c a)) (is_own ks l.entry d) d ≡ Some (fact (entry c a) d)
-              → Has (Body f) d
-              → Has a d
+              → HasFactOf (Body f) d
+              → HasFactOf a d
           from_called d z h ia = goes p l.entry (entry c a) (edge.Called (entry c a)) d d (call_within p f up call.call)
               (inl (a, f, up, ss, l, ia, call, (refl, inl refl))) (at_entry d h) z
 
           from_passed : (k y x : ℕ) (d e : Deed) → IsNumber l k y → IsActual l ss k x
               → ((own : Bool) → fact_along (edge.Passed (entry c a) y x) own d ≡ Some (fact (entry c a) e))
-              → Has (Body f) d → Has a e
+              → HasFactOf (Body f) d → HasFactOf a e
           from_passed k y x d e num act z h ia =
               goes p l.entry (entry c a) (edge.Passed (entry c a) y x) d e (call_within p f up call.call)
               (inl (a, f, up, ss, l, ia, call, (refl, inr (k, y, x, num, act, refl)))) (at_entry d h)
@@ -316,28 +316,29 @@ module _ (c : Parts) (kept : (p : ℕ) → BreaksV1 c p → ⊥) (os : List Owne
           if_same : (y : ℕ) (g : Fact) → ◌≡◌ {A = Option Fact} (if y == y then Some g else None) (Some g)
           if_same y g = ap (λ (b : Bool). if b then Some g else None) (eq-eqb y y refl)
 
-          called_has : (u : Kind) (x y : ℕ) → Becomes l ss y x → Has (Body f) (deed_by u y) → Has a (deed_by u x)
+          called_has : (u : Kind) (x y : ℕ) → Becomes l ss y x → HasFactOf (Body f) (deed_by u y)
+              → HasFactOf a (deed_by u x)
           called_has Stored x y (inl (s, never)) h =
-              subst (λ z. Has a (deed.Stores z)) (sym s)
+              subst (λ z. HasFactOf a (deed.Stores z)) (sym s)
               (from_called (deed.Stores y) (ap
               (λ (b : Bool). if b then None else Some (fact (entry c a) (deed.Stores y))) (outer y never)) h)
           called_has Stored x y (inr (k, num, act)) h = from_passed k y x (deed.Stores y) (deed.Stores x) num act
               (λ own. if_same y (fact (entry c a) (deed.Stores x))) h
           called_has Loaded x y (inl (s, never)) h =
-              subst (λ z. Has a (deed.Loads z)) (sym s)
+              subst (λ z. HasFactOf a (deed.Loads z)) (sym s)
               (from_called (deed.Loads y) (ap
               (λ (b : Bool). if b then None else Some (fact (entry c a) (deed.Loads y))) (outer y never)) h)
           called_has Loaded x y (inr (k, num, act)) h = from_passed k y x (deed.Loads y) (deed.Loads x) num act
               (λ own. if_same y (fact (entry c a) (deed.Loads x))) h
 
-        effect_has : (u : Kind) (a : Area) (x : ℕ) → IsEffect c (Does c) u a x → Has a (deed_by u x)
+        effect_has : (u : Kind) (a : Area) (x : ℕ) → IsEffect c (Does c) u a x → HasFactOf a (deed_by u x)
         effect_has u a x e =
-            effects_within c (Does c) (λ v b y. Has b (deed_by v y)) does_has child_has
+            effects_within c (Does c) (λ v b y. HasFactOf b (deed_by v y)) does_has child_has
             (λ v b p f up z y ss l call m h. called_has b p f up ss l call v z y m h) u a x e
 
-        comes_has : (a : Area) → Comes c a → Has a deed.Stops
+        comes_has : (a : Area) → ComesToStop c a → HasFactOf a deed.Stops
         comes_has a (bs, h) =
-            stops_within c (Does c) (HasStop c) (λ b. Has b deed.Stops) stop_has
+            stops_within c (Does c) (HasStop c) (λ b. HasFactOf b deed.Stops) stop_has
             (λ b p k t s z. from_child b p k t deed.Stops s (λ own. refl) z)
             (λ b p f up ss l call z. from_called b p f up ss l call deed.Stops refl z) bs a h
 

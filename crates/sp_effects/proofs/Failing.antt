@@ -5,8 +5,8 @@ use Rattle.std.proofs.lemmas.Bool.{or_cases, or_left, or_right}
 use Rattle.std.proofs.lemmas.Option.{same_Some}
 use Rattle.sp_code.specs.declared.code.ChildTable.{ChildTable}
 use Rattle.sp_code.specs.declared.code.ForkTable.{ForkTable}
-use Rattle.sp_areas.specs.Least.{IsLeast, Upto}
-use Rattle.sp_areas.proofs.Leasts.{same}
+use Rattle.sp_areas.specs.LeastPlaces.{IsLeast, Upto}
+use Rattle.sp_areas.proofs.Leasts.{least_of_same}
 use Rattle.sp_effects.specs.declared.effects.Deeds.{Deeds}
 use Rattle.sp_effects.specs.declared.effects.Effects.{Effects}
 use Rattle.sp_effects.specs.declared.handed.Before.{Before}
@@ -33,7 +33,7 @@ pub one_child : (e : Effects) (ts : List ChildTable) (k : ℕ) (t : ChildTable) 
     → IsBefore ts k before → b ≡ fails_by (slice_get e.rows t.entry) before.moved.keys before.handed.keys t
     → IsLeast (λ p. (t.entry ≡ p) × (b ≡ true)) o
     → IsLeast (ChildFails e ts k) o
-one_child e ts k t before b o is befores by = same (λ p. (t.entry ≡ p)
+one_child e ts k t before b o is befores by = least_of_same (λ p. (t.entry ≡ p)
     × (b ≡ true)) (ChildFails e ts k) o (λ p h. (t, is, h.0, f.0 h.1)) back
   where
     f : (b ≡ true) ↔ FailsAs (slice_get e.rows t.entry) ts k t
@@ -50,7 +50,7 @@ one_child e ts k t before b o is befores by = same (λ p. (t.entry ≡ p)
 -- a table's children
 pub one_table : (e : Effects) (fs : List ForkTable) (t : ℕ) (tb : ForkTable) (o : Option ℕ) → slice_get fs t ≡ Some tb
     → IsLeast (Upto (ChildFails e tb.children) (length tb.children)) o → IsLeast (TableFails e fs t) o
-one_table e fs t tb o is = same (Upto (ChildFails e tb.children) (length tb.children)) (TableFails e fs t) o
+one_table e fs t tb o is = least_of_same (Upto (ChildFails e tb.children) (length tb.children)) (TableFails e fs t) o
     (λ p h. (tb, is, h)) back
   where
     back : (p : ℕ) → TableFails e fs t p → Upto (ChildFails e tb.children) (length tb.children) p

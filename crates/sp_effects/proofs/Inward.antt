@@ -10,10 +10,10 @@ use Rattle.sp_base.proofs.Facts.{less_same_or_more}
 use Rattle.sp_code.specs.declared.code.Layout.{Layout}
 use Rattle.sp_code.specs.declared.code.Parts.{Parts}
 use Rattle.sp_code.specs.Memory.{Home, OfBlock, OfIndex}
-use Rattle.sp_rules.specs.Areas.{Area, Body, Child, block_of, given, homes, index_of_child, child_at, instr_at}
+use Rattle.sp_rules.specs.Areas.{Area, Body, Child, block_of, on_option, homes, index_of_child, child_at, instr_at}
 use Rattle.sp_rules.specs.Areas.{with_home}
 use Rattle.sp_rules.specs.Effects.{IsCalled}
-use Rattle.sp_rules.specs.Keeps.{Keeps}
+use Rattle.sp_rules.specs.KeepsCodeRules.{KeepsCodeRules}
 use Rattle.sp_rules.specs.Named.{LiesIn, level_fits, is_block}
 use Rattle.sp_rules.specs.Reach.{IsArea}
 use Rattle.sp_rules.specs.Shapes.{Shape}
@@ -61,13 +61,14 @@ module _ (c : Parts) where
       go None r = r
       go (Some x) r = (suc r.0, r.1)
 
-  module _ (k : Keeps c) (a : Area) (p b up : ℕ) (ss : List Shape) (l : Layout) (there : IsArea c a)
+  module _ (k : KeepsCodeRules c) (a : Area) (p b up : ℕ) (ss : List Shape) (l : Layout) (there : IsArea c a)
       (call : IsCalled c a p b up ss l) where
     level : is_block l.parent (slice_get (homes c a) up) ≡ true
     level =
         let e = k.levels a p (there, passes c a p ss call.reached) in
         let f = ap (level_fits c a) (sym call.call) ∙ e in
-        sym (ap (λ (o : Option Layout). given false o (λ m. is_block m.parent (slice_get (homes c a) up))) call.layout)
+        sym (ap (λ (o : Option Layout). on_option false o (λ m. is_block m.parent (slice_get (homes c a) up)))
+        call.layout)
         ∙ f
 
     -- so the block, if it is around the call, is just inside that level
@@ -99,7 +100,7 @@ module _ (c : Parts) where
 
 -- ---- flags
 
-module _ (c : Parts) (k : Keeps c) (first : BTreeMap ℕ ℕ) (s : Shapes) (shapes : AreShapes c s) where
+module _ (c : Parts) (k : KeepsCodeRules c) (first : BTreeMap ℕ ℕ) (s : Shapes) (shapes : AreShapes c s) where
   pub only : (p n : ℕ) → reached_at s p ≡ Some n → (a : Area) × LiesOnlyIn c p a
   only p n e =
       let r = shapes.come p n (stands s p n e) in

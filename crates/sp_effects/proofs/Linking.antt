@@ -33,14 +33,14 @@ use Rattle.sp_rules.proofs.Walking.{passes}
 use Rattle.sp_areas.proofs.Owned.{layout_in, name_of}
 use Rattle.sp_effects.specs.declared.edges.Edge.{Edge}
 use Rattle.sp_effects.specs.declared.edges.Edge.TheVariants as edge
-use Rattle.sp_effects.specs.Edges.{InRow, HasEdge, Puts, Links, passed_by, formal_at, deep_edge, IsDeep, IsDeeper}
+use Rattle.sp_effects.specs.Edges.{InRow, HasEdge, PutsEdge, Links, passed_by, formal_at, deep_edge, IsDeep, IsDeeper}
 use Rattle.sp_effects.specs.Edges.{IsPassed, called_block, IsCall, IsStart, OneStarts, CalledAt, StartedAt, EdgeAt}
 use Rattle.sp_effects.specs.Edges.{HasEdges}
 
 -- ---- one edge
 
 pub links_one : (rows : List (List Edge)) (m : ℕ) (e : Edge) (r new none : List Edge) → slice_get rows m ≡ Some r
-    → Puts r new e → Links rows (slice_set (slice_set rows m none) m new) (λ n f. (n ≡ m) × (f ≡ e))
+    → PutsEdge r new e → Links rows (slice_set (slice_set rows m none) m new) (λ n f. (n ≡ m) × (f ≡ e))
 links_one rows m e r new none at p = record { size = size; kept = kept; has = has; only = only }
   where
     middle : List (List Edge)

@@ -12,7 +12,7 @@ use Rattle.sp_rules.specs.Effects.{Does}
 use Rattle.sp_rules.specs.Forks as fork
 use Rattle.sp_rules.specs.Named.{BreaksV1}
 use Rattle.sp_rules.specs.Verdict.{BreaksV8, HasStop}
-use Rattle.sp_areas.specs.Least.{IsLeast, Upto}
+use Rattle.sp_areas.specs.LeastPlaces.{IsLeast, Upto}
 use Rattle.sp_areas.proofs.Leasts.{all}
 use Rattle.sp_effects.specs.declared.effects.Deeds.{Deeds}
 use Rattle.sp_effects.specs.declared.effects.Effects.{Effects}

@@ -19,17 +19,17 @@ module _ (c : Parts) where
   area_entry (Child a p k) (i, w, (t, e)) = ap child_entry e ∙ ap Some (sym (ap entry_of_child e))
 
   -- the area of an instruction, by its owner, if there is one
-  abbrev pub Found : ℕ → Option ℕ → Type 0
-  Found p r = MatchOption r ((a : Area) → LiesIn c p a → ⊥) (λ n. (a : Area) × LiesOnlyIn c p a × (entry c a ≡ n))
+  abbrev pub IsAreaEntry : ℕ → Option ℕ → Type 0
+  IsAreaEntry p r = MatchOption r ((a : Area) → LiesIn c p a → ⊥) (λ n. (a : Area) × LiesOnlyIn c p a × (entry c a ≡ n))
 
-  one_found : (p : ℕ) (o : Owner) (r : Option ℕ) → IsOnly c p o → r ≡ entry_by c o → Found p r
+  one_found : (p : ℕ) (o : Owner) (r : Option ℕ) → IsOnly c p o → r ≡ entry_by c o → IsAreaEntry p r
   one_found p o r h e =
       let s : entry_by c o ≡ Some (entry c h.area) = ap (entry_by c) (sym h.is) ∙ area_entry h.area h.lies.0 in
-      subst (Found p) (sym (e ∙ s)) (h.area, (h.lies, h.only), refl)
+      subst (IsAreaEntry p) (sym (e ∙ s)) (h.area, (h.lies, h.only), refl)
 
   pub area_found : (p : ℕ) (o : Owner) (r : Option ℕ) → ((q : ℕ) → BreaksV1 c q → ⊥) → Owns c p o → r ≡ entry_by c o
-      → Found p r
-  area_found p owner.Nobody r kept h e = subst (Found p) (sym e) h
+      → IsAreaEntry p r
+  area_found p owner.Nobody r kept h e = subst (IsAreaEntry p) (sym e) h
   area_found p (owner.Block b) r kept h e = one_found p (owner.Block b) r h e
   area_found p (owner.Child q k) r kept h e = one_found p (owner.Child q k) r h e
   area_found p owner.Several r kept h e = absurd (kept p (InTwo (h.one, h.lies, inl (h.other, h.too, h.apart))))

@@ -14,8 +14,8 @@ use Rattle.sp_rules.specs.Areas.{Area, Body, entry, entry_of_layout}
 use Rattle.sp_rules.specs.Named.{BreaksV1, BlocksApart, InTwo, LiesIn}
 use Rattle.sp_rules.specs.Reach.{IsArea, IsIn}
 use Rattle.sp_rules.proofs.Effects.{is_member, is_in_list}
-use Rattle.sp_areas.specs.Least.{IsLeast}
-use Rattle.sp_areas.proofs.Leasts.{same}
+use Rattle.sp_areas.specs.LeastPlaces.{IsLeast}
+use Rattle.sp_areas.proofs.Leasts.{least_of_same}
 use Rattle.sp_areas.proofs.Owned.{layout_in}
 use Rattle.sp_effects.specs.Variables.{AreOwn, LayoutDoes, goes_out, owns}
 
@@ -26,7 +26,7 @@ pub one_layout : (Does : ℕ → Layout → Type 0) (ls : List Layout) (j : ℕ)
     → slice_get ls j ≡ Some l
     → (b ≡ true → Does j l) → (Does j l → b ≡ true) → IsLeast (λ p. (l.entry ≡ p) × (b ≡ true)) o
     → IsLeast (LayoutDoes Does ls j) o
-one_layout Does ls j l b o is f g = same (λ p. (l.entry ≡ p)
+one_layout Does ls j l b o is f g = least_of_same (λ p. (l.entry ≡ p)
     × (b ≡ true)) (LayoutDoes Does ls j) o (λ p h. (l, is, h.0, f h.1)) back
   where
     at : (p : ℕ) (m : Layout) → m ≡ l → m.entry ≡ p → Does j m → (l.entry ≡ p) × (b ≡ true)

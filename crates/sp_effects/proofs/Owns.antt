@@ -25,7 +25,8 @@ use Rattle.sp_effects.specs.declared.facts.Fact.{Fact}
 use Rattle.sp_effects.specs.declared.facts.Deed.{Deed}
 use Rattle.sp_effects.specs.declared.facts.Deed.TheVariants as deed
 use Rattle.sp_effects.specs.Facts.{fact, with_fact, Tells}
-use Rattle.sp_effects.specs.Own.{IsOf, IsAmong, IsStop, IsHanded, OneIsHanded, ForkedAt, ReachedAt, OwnAt, OwnBefore}
+use Rattle.sp_effects.specs.Own.{IsOf, IsDeedAmong, IsStop, IsHanded, OneIsHanded, ForkedAt, ReachedAt, OwnAt}
+use Rattle.sp_effects.specs.Own.{OwnBefore}
 use Rattle.sp_effects.specs.Own.{DoesBy, deed_of}
 use Rattle.sp_effects.proofs.Telling.{tells_none, tells_as, tells_then, tells_one}
 
@@ -73,19 +74,21 @@ of_one n e g D f s h d = let p = h
 
 pub told_more : (a b : List Fact) (n i y : ℕ) (s : Bool) (xs : List ℕ) (e : Deed) → slice_get xs i ≡ Some y
     → e ≡ deed_of s y
-    → Tells a b (IsOf n (IsAmong s (take i xs)))
-    → Tells a (with_fact b (fact n e)) (IsOf n (IsAmong s (take (i + 1) xs)))
+    → Tells a b (IsOf n (IsDeedAmong s (take i xs)))
+    → Tells a (with_fact b (fact n e)) (IsOf n (IsDeedAmong s (take (i + 1) xs)))
 told_more a b n i y s xs e g h t =
-    tells_as a (with_fact b (fact n e)) (λ f. IsOf n (IsAmong s (take i xs)) f
-    ⊎ (f ≡ fact n e)) (IsOf n (IsAmong s (take (i + 1) xs))) to from
-    (tells_then a b (with_fact b (fact n e)) (IsOf n (IsAmong s (take i xs))) (λ f. f ≡ fact n e) t
+    tells_as a (with_fact b (fact n e)) (λ f. IsOf n (IsDeedAmong s (take i xs)) f
+    ⊎ (f ≡ fact n e)) (IsOf n (IsDeedAmong s (take (i + 1) xs))) to from
+    (tells_then a b (with_fact b (fact n e)) (IsOf n (IsDeedAmong s (take i xs))) (λ f. f ≡ fact n e) t
     (tells_one b (fact n e)))
   where
-    to : (f : Fact) → IsOf n (IsAmong s (take i xs)) f ⊎ (f ≡ fact n e) → IsOf n (IsAmong s (take (i + 1) xs)) f
+    to : (f : Fact) → IsOf n (IsDeedAmong s (take i xs)) f ⊎ (f ≡ fact n e) → IsOf n (IsDeedAmong s (take (i + 1) xs)) f
     to f (inl o) = record { area = o.area; does = (o.does.0, taken_in xs i o.does.0 y g (inl o.does.1), o.does.2) }
-    to f (inr p) = of_one n e (fact n e) (IsAmong s (take (i + 1) xs)) f refl p (y, taken_in xs i y y g (inr refl), h)
+    to f (inr p) = of_one n e (fact n e) (IsDeedAmong s (take (i + 1) xs)) f refl p
+        (y, taken_in xs i y y g (inr refl), h)
 
-    from : (f : Fact) → IsOf n (IsAmong s (take (i + 1) xs)) f → IsOf n (IsAmong s (take i xs)) f ⊎ (f ≡ fact n e)
+    from : (f : Fact) → IsOf n (IsDeedAmong s (take (i + 1) xs)) f → IsOf n (IsDeedAmong s (take i xs)) f
+        ⊎ (f ≡ fact n e)
     from f o = ⊎_elim (λ m. inl (record { area = o.area; does = (o.does.0, m, o.does.2) }))
         (λ m. inr (fact_is n e f o.area (o.does.2 ∙ ap (deed_of s) m ∙ sym h))) (in_taken xs i o.does.0 y g o.does.1)
 
@@ -104,14 +107,14 @@ no_stop a n o e = tells_none a (IsOf n (IsStop (Some o))) (λ f h. absurd (let z
 module _ (c : Parts) (a : Area) (p : ℕ) (ss : List Shape) where
   pub shaped_told : (f g h k : List Fact) (n : ℕ) (o : Instr) (xs ys : List ℕ) → instr_at c p ≡ Some o
       → stored_by c a (Some o) ss ≡ xs → loaded_by c a (Some o) ss ≡ ys
-      → Tells f g (IsOf n (IsAmong true xs)) → Tells g h (IsOf n (IsAmong false ys))
+      → Tells f g (IsOf n (IsDeedAmong true xs)) → Tells g h (IsOf n (IsDeedAmong false ys))
       → Tells h k (IsOf n (IsStop (Some o))) → Tells f k (IsOf n (DoesBy c a p ss))
   shaped_told f g h k n o xs ys ei ex ey t u v =
-      tells_as f k (λ z. (IsOf n (IsAmong true xs) z ⊎ IsOf n (IsAmong false ys) z)
+      tells_as f k (λ z. (IsOf n (IsDeedAmong true xs) z ⊎ IsOf n (IsDeedAmong false ys) z)
       ⊎ IsOf n (IsStop (Some o)) z) (IsOf n (DoesBy c a p ss)) to from
-      (tells_then f h k (λ z. IsOf n (IsAmong true xs) z
-      ⊎ IsOf n (IsAmong false ys) z) (IsOf n (IsStop (Some o)))
-      (tells_then f g h (IsOf n (IsAmong true xs)) (IsOf n (IsAmong false ys)) t u) v)
+      (tells_then f h k (λ z. IsOf n (IsDeedAmong true xs) z
+      ⊎ IsOf n (IsDeedAmong false ys) z) (IsOf n (IsStop (Some o)))
+      (tells_then f g h (IsOf n (IsDeedAmong true xs)) (IsOf n (IsDeedAmong false ys)) t u) v)
     where
       es : stored_by c a (instr_at c p) ss ≡ xs
       es = ap (λ (z : Option Instr). stored_by c a z ss) ei ∙ ex
@@ -128,18 +131,19 @@ module _ (c : Parts) (a : Area) (p : ℕ) (ss : List Shape) where
       stops : (d : Deed) → is_stop (Some o) ≡ true → d ≡ deed.Stops → DoesBy c a p ss d
       stops d e s = subst (DoesBy c a p ss) (sym s) (ap is_stop ei ∙ e)
 
-      to : (z : Fact) → (IsOf n (IsAmong true xs) z ⊎ IsOf n (IsAmong false ys) z) ⊎ IsOf n (IsStop (Some o)) z
+      to : (z : Fact) → (IsOf n (IsDeedAmong true xs) z ⊎ IsOf n (IsDeedAmong false ys) z) ⊎ IsOf n (IsStop (Some o)) z
           → IsOf n (DoesBy c a p ss) z
       to z (inl (inl w)) = record { area = w.area; does = stored w.does.0 z.deed w.does.1 w.does.2 }
       to z (inl (inr w)) = record { area = w.area; does = loaded w.does.0 z.deed w.does.1 w.does.2 }
       to z (inr w) = record { area = w.area; does = stops z.deed w.does.0 w.does.1 }
 
-      split : (d : Deed) → DoesBy c a p ss d → (IsAmong true xs d ⊎ IsAmong false ys d) ⊎ IsStop (Some o) d
+      split : (d : Deed) → DoesBy c a p ss d → (IsDeedAmong true xs d ⊎ IsDeedAmong false ys d) ⊎ IsStop (Some o) d
       split (deed.Stores x) i = inl (inl (x, subst (IsIn x) es i, refl))
       split (deed.Loads x) i = inl (inr (x, subst (IsIn x) el i, refl))
       split deed.Stops e = inr (sym (ap is_stop ei) ∙ e, refl)
 
-      from : (z : Fact) → IsOf n (DoesBy c a p ss) z → (IsOf n (IsAmong true xs) z ⊎ IsOf n (IsAmong false ys) z)
+      from : (z : Fact) → IsOf n (DoesBy c a p ss) z
+          → (IsOf n (IsDeedAmong true xs) z ⊎ IsOf n (IsDeedAmong false ys) z)
           ⊎ IsOf n (IsStop (Some o)) z
       from z w =
           ⊎_elim (λ r. inl (⊎_elim (λ q. inl (record { area = w.area; does = q }))
@@ -149,12 +153,13 @@ module _ (c : Parts) (a : Area) (p : ℕ) (ss : List Shape) where
 -- ---- children
 
 pub child_told : (f g h : List Fact) (n : ℕ) (t : ChildTable) (ms ss : List ℕ) → ms ≡ t.moved → ss ≡ t.shared
-    → Tells f g (IsOf n (IsAmong true ms)) → Tells g h (IsOf n (IsAmong false ss)) → Tells f h (IsOf n (IsHanded t))
-child_told f g h n t ms ss em es u v = tells_as f h (λ z. IsOf n (IsAmong true ms) z
-    ⊎ IsOf n (IsAmong false ss) z) (IsOf n (IsHanded t)) to from
-    (tells_then f g h (IsOf n (IsAmong true ms)) (IsOf n (IsAmong false ss)) u v)
+    → Tells f g (IsOf n (IsDeedAmong true ms)) → Tells g h (IsOf n (IsDeedAmong false ss))
+    → Tells f h (IsOf n (IsHanded t))
+child_told f g h n t ms ss em es u v = tells_as f h (λ z. IsOf n (IsDeedAmong true ms) z
+    ⊎ IsOf n (IsDeedAmong false ss) z) (IsOf n (IsHanded t)) to from
+    (tells_then f g h (IsOf n (IsDeedAmong true ms)) (IsOf n (IsDeedAmong false ss)) u v)
   where
-    to : (z : Fact) → IsOf n (IsAmong true ms) z ⊎ IsOf n (IsAmong false ss) z → IsOf n (IsHanded t) z
+    to : (z : Fact) → IsOf n (IsDeedAmong true ms) z ⊎ IsOf n (IsDeedAmong false ss) z → IsOf n (IsHanded t) z
     to z (inl w) = record {
       area = w.area;
       does = subst (IsHanded t) (sym w.does.2)
@@ -166,12 +171,12 @@ child_told f g h n t ms ss em es u v = tells_as f h (λ z. IsOf n (IsAmong true 
           (is_member w.does.0 t.shared (subst (IsIn w.does.0) es w.does.1));
     }
 
-    split : (d : Deed) → IsHanded t d → IsAmong true ms d ⊎ IsAmong false ss d
+    split : (d : Deed) → IsHanded t d → IsDeedAmong true ms d ⊎ IsDeedAmong false ss d
     split (deed.Stores x) i = inl (x, subst (IsIn x) (sym em) (is_in_list x t.moved i), refl)
     split (deed.Loads x) i = inr (x, subst (IsIn x) (sym es) (is_in_list x t.shared i), refl)
     split deed.Stops i = absurd i
 
-    from : (z : Fact) → IsOf n (IsHanded t) z → IsOf n (IsAmong true ms) z ⊎ IsOf n (IsAmong false ss) z
+    from : (z : Fact) → IsOf n (IsHanded t) z → IsOf n (IsDeedAmong true ms) z ⊎ IsOf n (IsDeedAmong false ss) z
     from z w = ⊎_elim (λ q. inl (record { area = w.area; does = q })) (λ q. inr (record { area = w.area; does = q }))
         (split z.deed w.does)
 

@@ -13,7 +13,7 @@ use Rattle.sp_code.specs.declared.code.Formal.TheVariants as formal
 use Rattle.sp_code.specs.declared.code.Layout.{Layout}
 use Rattle.sp_code.specs.declared.code.Parts.{Parts}
 use Rattle.sp_code.specs.Machine.{layout_of}
-use Rattle.sp_rules.specs.Areas.{Area, Body, given, instr_at, entry_of_layout}
+use Rattle.sp_rules.specs.Areas.{Area, Body, on_option, instr_at, entry_of_layout}
 use Rattle.sp_rules.specs.Effects.{Does, HasEffect, IsActual, IsCalled}
 use Rattle.sp_rules.specs.Forks as fork
 use Rattle.sp_rules.specs.Named.{BreaksV1}
@@ -31,7 +31,7 @@ use Rattle.sp_shapes.specs.Stacks.{list_of}
 use Rattle.sp_shapes.proofs.Reaching.{reached_there, stands}
 use Rattle.sp_effects.specs.declared.effects.Effects.{Effects}
 use Rattle.sp_effects.specs.Effects.{AreEffects, touches}
-use Rattle.sp_effects.specs.Calls.{CallFails, actual_at, actual_of, actuals, call_clashes, is_outer, listed}
+use Rattle.sp_effects.specs.Calls.{CallFails, actual_at, actual_of, actuals, call_clashes, is_outer, list_of_option}
 use Rattle.sp_effects.specs.Calls.{meets_outer, variable_of}
 use Rattle.sp_effects.specs.Edges.{called_block}
 use Rattle.sp_effects.specs.Variables.{owns}
@@ -42,18 +42,18 @@ use Rattle.sp_effects.proofs.Owned.{in_own, own_in}
 
 -- ---- answers that are given
 
-pub given_true : {A : Type 0} (o : Option A) (f : A → Bool) → given false o f ≡ true → (x : A) × (o ≡ Some x)
+pub given_true : {A : Type 0} (o : Option A) (f : A → Bool) → on_option false o f ≡ true → (x : A) × (o ≡ Some x)
     × (f x ≡ true)
 given_true None f e = absurd (cc e)
 given_true (Some x) f e = (x, refl, e)
 
-pub given_some : {A B : Type 0} (o : Option A) (f : A → Option B) (y : B) → given None o f ≡ Some y → (x : A)
+pub given_some : {A B : Type 0} (o : Option A) (f : A → Option B) (y : B) → on_option None o f ≡ Some y → (x : A)
     × (o ≡ Some x) × (f x ≡ Some y)
 given_some None f y e = absurd (none-some y e)
 given_some (Some x) f y e = (x, refl, e)
 
-pub given_at : {A B : Type 0} (other : B) (o : Option A) (f : A → B) (x : A) → o ≡ Some x → given other o f ≡ f x
-given_at other o f x e = ap (λ z. given other z f) e
+pub given_at : {A B : Type 0} (other : B) (o : Option A) (f : A → B) (x : A) → o ≡ Some x → on_option other o f ≡ f x
+given_at other o f x e = ap (λ z. on_option other z f) e
 
 -- ---- operands, by their places
 
@@ -69,57 +69,57 @@ actual_is (formal.Value n) s x e = absurd (none-some x e)
 actual_is (formal.Reference n) s x e = let r = variable_is s x e in (n, r.0, refl, r.1)
 
 module _ (l : Layout) (ss : List Shape) where
-  abbrev pub At : ℕ → ℕ → Type 0
-  At i x = actual_at l.formals ss i ≡ Some x
+  abbrev pub IsActualAt : ℕ → ℕ → Type 0
+  IsActualAt i x = actual_at l.formals ss i ≡ Some x
 
-  at_is : (i x : ℕ) → i < length l.formals → At i x → IsActual l ss (length l.formals - 1 - i) x
+  at_is : (i x : ℕ) → i < length l.formals → IsActualAt i x → IsActual l ss (length l.formals - 1 - i) x
   at_is i x h e =
       let r = given_some (slice_get l.formals (length l.formals - 1 - i))
-      (λ f. given None (slice_get ss i) (actual_of f)) x e in
+      (λ f. on_option None (slice_get ss i) (actual_of f)) x e in
       let s = given_some (slice_get ss i) (actual_of r.0) x r.2 in
       let t = actual_is r.0 s.0 x s.2 in
       let back : length l.formals - 1 - (length l.formals - 1 - i) ≡ i = omega (arith, h) in
       (t.0, t.1, r.1 ∙ ap Some t.2, ap (slice_get ss) back ∙ s.1 ∙ ap Some t.3)
 
-  is_at : (k x : ℕ) → IsActual l ss k x → (k < length l.formals) × At (length l.formals - 1 - k) x
+  is_at : (k x : ℕ) → IsActual l ss k x → (k < length l.formals) × IsActualAt (length l.formals - 1 - k) x
   is_at k x (cells, left, f, s) =
       let h = slice_get_within l.formals k (formal.Reference cells) f in
       let back : length l.formals - 1 - (length l.formals - 1 - k) ≡ k = omega (arith, h) in (
         h,
         given_at None (slice_get l.formals (length l.formals - 1 - (length l.formals - 1 - k)))
-            (λ g. given None (slice_get ss (length l.formals - 1 - k)) (actual_of g)) (formal.Reference cells)
+            (λ g. on_option None (slice_get ss (length l.formals - 1 - k)) (actual_of g)) (formal.Reference cells)
             (ap (slice_get l.formals) back ∙ f)
             ∙ given_at None (slice_get ss (length l.formals - 1 - k)) (actual_of (formal.Reference cells)) (A x left) s,
       )
 
-  listed_is : (o : Option ℕ) (x : ℕ) → IsMember x (listed o) → o ≡ Some x
+  listed_is : (o : Option ℕ) (x : ℕ) → IsMember x (list_of_option o) → o ≡ Some x
   listed_is None x h = absurd h
   listed_is (Some y) x (inl e) = ap Some (sym e)
   listed_is (Some y) x (inr h) = absurd h
 
-  is_listed : (o : Option ℕ) (x : ℕ) → o ≡ Some x → IsMember x (listed o)
+  is_listed : (o : Option ℕ) (x : ℕ) → o ≡ Some x → IsMember x (list_of_option o)
   is_listed None x e = absurd (none-some x e)
   is_listed (Some y) x e = inl (sym (same_Some y x e))
 
-  listed_different : (o : Option ℕ) → AllDifferent (listed o)
+  listed_different : (o : Option ℕ) → AllDifferent (list_of_option o)
   listed_different None = tt
   listed_different (Some y) = ((λ h. h), tt)
 
-  member_at : (n x : ℕ) → IsMember x (actuals l.formals ss n) → (i : ℕ) × (i < n) × At i x
+  member_at : (n x : ℕ) → IsMember x (actuals l.formals ss n) → (i : ℕ) × (i < n) × IsActualAt i x
   member_at zero x h = absurd h
   member_at (suc n) x h =
       ⊎_elim (λ k. let r = member_at n x k in let m = r.1 in (r.0, omega (arith, m), r.2))
       (λ k. (n, omega arith, listed_is (actual_at l.formals ss n) x k))
-      (member_either x (actuals l.formals ss n) (listed (actual_at l.formals ss n)) h)
+      (member_either x (actuals l.formals ss n) (list_of_option (actual_at l.formals ss n)) h)
 
-  at_member : (n i x : ℕ) → i < n → At i x → IsMember x (actuals l.formals ss n)
+  at_member : (n i x : ℕ) → i < n → IsActualAt i x → IsMember x (actuals l.formals ss n)
   at_member zero i x h e = absurd (omega (arith, h))
   at_member (suc n) i x h e = go (less_same_or_more i n) (λ m. at_member n i x m e)
     where
       go : (i < n) ⊎ ((i ≡ n) ⊎ (n < i)) → (i < n → IsMember x (actuals l.formals ss n))
           → IsMember x (actuals l.formals ss (suc n))
-      go (inl m) on = member_front x (actuals l.formals ss n) (listed (actual_at l.formals ss n)) (on m)
-      go (inr (inl s)) on = member_back x (actuals l.formals ss n) (listed (actual_at l.formals ss n))
+      go (inl m) on = member_front x (actuals l.formals ss n) (list_of_option (actual_at l.formals ss n)) (on m)
+      go (inr (inl s)) on = member_back x (actuals l.formals ss n) (list_of_option (actual_at l.formals ss n))
           (is_listed (actual_at l.formals ss n) x (sym (ap (actual_at l.formals ss) s) ∙ e))
       go (inr (inr m)) on = absurd (omega (arith, h, m))
 
@@ -130,8 +130,8 @@ module _ (l : Layout) (ss : List Shape) where
     pub variable : ℕ
     pub apart : one < other
     pub within : other < n
-    pub has : At one variable
-    pub too : At other variable
+    pub has : IsActualAt one variable
+    pub too : IsActualAt other variable
 
   twice_or : (n : ℕ) → Twice n ⊎ AllDifferent (actuals l.formals ss n)
   twice_or zero = inr tt
@@ -151,8 +151,8 @@ module _ (l : Layout) (ss : List Shape) where
 
       joined : AllDifferent (actuals l.formals ss n) → (o : Option ℕ)
           → ((x : ℕ) → o ≡ Some x → IsMember x (actuals l.formals ss n) → ⊥)
-          → AllDifferent (actuals l.formals ss n ++ listed o)
-      joined d o f = different_join (actuals l.formals ss n) (listed o) d (listed_different o)
+          → AllDifferent (actuals l.formals ss n ++ list_of_option o)
+      joined d o f = different_join (actuals l.formals ss n) (list_of_option o) d (listed_different o)
           (λ x m k. f x (listed_is o x k) m)
 
       at : (x : ℕ) → actual_at l.formals ss n ≡ Some x → AllDifferent (actuals l.formals ss n)
@@ -169,15 +169,17 @@ module _ (l : Layout) (ss : List Shape) where
       go None e (inr d) = inr (joined d (actual_at l.formals ss n) (λ x s m. none-some x (sym e ∙ s)))
       go (Some x) e (inr d) = at x e d (member_or x (actuals l.formals ss n))
 
-  not_twice : (n i k x : ℕ) → AllDifferent (actuals l.formals ss n) → i < k → k < n → At i x → At k x → ⊥
+  not_twice : (n i k x : ℕ) → AllDifferent (actuals l.formals ss n) → i < k → k < n → IsActualAt i x
+      → IsActualAt k x → ⊥
   not_twice zero i k x d h w e f = absurd (omega (arith, w))
   not_twice (suc n) i k x d h w e f = go (less_same_or_more k n)
-      (λ m. not_twice n i k x (different_front (actuals l.formals ss n) (listed (actual_at l.formals ss n)) d) h m e f)
+      (λ m. not_twice n i k x (different_front (actuals l.formals ss n) (list_of_option (actual_at l.formals ss n)) d)
+      h m e f)
     where
       go : (k < n) ⊎ ((k ≡ n) ⊎ (n < k)) → (k < n → ⊥) → ⊥
       go (inl m) on = on m
       go (inr (inl s)) on =
-          different_apart x (actuals l.formals ss n) (listed (actual_at l.formals ss n)) d
+          different_apart x (actuals l.formals ss n) (list_of_option (actual_at l.formals ss n)) d
           (at_member n i x (omega (arith, h, s)) e)
           (is_listed (actual_at l.formals ss n) x (sym (ap (actual_at l.formals ss) s) ∙ f))
       go (inr (inr m)) on = absurd (omega (arith, w, m))
@@ -211,8 +213,8 @@ module _ (l : Layout) (ss : List Shape) where
       go : (length l.formals - 1 - j < length l.formals - 1 - k)
           ⊎ ((length l.formals - 1 - j ≡ length l.formals - 1 - k)
           ⊎ (length l.formals - 1 - k < length l.formals - 1 - j))
-          → (j < length l.formals) × At (length l.formals - 1 - j) x → (k < length l.formals)
-          × At (length l.formals - 1 - k) x → ⊥
+          → (j < length l.formals) × IsActualAt (length l.formals - 1 - j) x → (k < length l.formals)
+          × IsActualAt (length l.formals - 1 - k) x → ⊥
       go (inl m) a b = let z = b.0 in not_twice (length l.formals) (length l.formals - 1 - j)
           (length l.formals - 1 - k) x d m (omega (arith, z)) a.1 b.1
       go (inr (inl m)) a b = apart (let y = a.0 in let z = b.0 in omega (arith, m, y, z))
@@ -311,8 +313,8 @@ place_there ls b l e = go (number_from 0 ls b) refl
 pub call_within : (c : Parts) (e : Effects) (s : Shapes) → AreShapes c s → (p : ℕ) → CallFails c e s p
     → p < length c.instrs
 call_within c e s shapes p h =
-    let x = given_true (reached_at s p) (λ n. given false (called_block (instr_at c p))
-    (λ b. given false (layout_of c.layouts b) (λ l. call_clashes e l (list_of s.stacks n)))) h in
+    let x = given_true (reached_at s p) (λ n. on_option false (called_block (instr_at c p))
+    (λ b. on_option false (layout_of c.layouts b) (λ l. call_clashes e l (list_of s.stacks n)))) h in
     let l = slice_get_within s.at p (Some x.0) (stands s p x.0 x.1) in
     let z = shapes.size in
     omega (arith, l, z)
@@ -320,10 +322,10 @@ call_within c e s shapes p h =
 module _ (c : Parts) (e : Effects) (are : AreEffects c e) (kept : (p : ℕ) → BreaksV1 c p → ⊥) (s : Shapes)
     (shapes : AreShapes c s) (p : ℕ) where
   abbrev pub by_block : ℕ → ℕ → Bool
-  by_block n b = given false (layout_of c.layouts b) (λ l. call_clashes e l (list_of s.stacks n))
+  by_block n b = on_option false (layout_of c.layouts b) (λ l. call_clashes e l (list_of s.stacks n))
 
   abbrev pub by_stack : ℕ → Bool
-  by_stack n = given false (called_block (instr_at c p)) (by_block n)
+  by_stack n = on_option false (called_block (instr_at c p)) (by_block n)
 
   pub call_found : CallFails c e s p → CallBreaks c p
   call_found h =

@@ -17,7 +17,7 @@ use Rattle.sp_effects.specs.declared.facts.Fact.{Fact}
 use Rattle.sp_effects.specs.declared.facts.Deed.{Deed}
 use Rattle.sp_effects.specs.declared.facts.Deed.TheVariants as deed
 use Rattle.sp_effects.specs.Facts.{has_fact, fact}
-use Rattle.sp_effects.specs.Effects.{InRow, HasDeed, Puts, Writes, AreRows, AreDeeds, AreEffects, touches}
+use Rattle.sp_effects.specs.Effects.{InRow, HasDeed, PutsDeed, WritesFact, AreRows, AreDeeds, AreEffects, touches}
 use Rattle.sp_effects.specs.Closing.{IsDeed, AreFacts}
 use Rattle.sp_effects.specs.Variables.{AreOwn}
 use Rattle.sp_effects.proofs.Telling.{told_place, place_told}
@@ -45,7 +45,7 @@ loads_is : (x y : ℕ) → deed.Loads x ≡ deed.Loads y → x ≡ y
 loads_is x y e = cc (e)
 
 pub puts_stored : (r : Deeds) (xs : List ℕ) (y : ℕ) → xs ≡ r.stored ++ y ∷ []
-    → Puts r (record { stored = xs; loaded = r.loaded; stops = r.stops }) (deed.Stores y)
+    → PutsDeed r (record { stored = xs; loaded = r.loaded; stops = r.stops }) (deed.Stores y)
 puts_stored r xs y s (deed.Stores x) = (
   λ i. ⊎_elim (λ j. inl j) (λ e. inr (ap deed.Stores e)) (in_last x y r.stored (subst (IsIn x) s i)),
   λ w. subst
@@ -55,7 +55,7 @@ puts_stored r xs y s (deed.Loads x) = (λ i. inl i, λ w. ⊎_elim (λ j. j) (λ
 puts_stored r xs y s deed.Stops = (λ i. inl i, λ w. ⊎_elim (λ j. j) (λ e. absurd (cc (e))) w)
 
 pub puts_loaded : (r : Deeds) (xs : List ℕ) (y : ℕ) → xs ≡ r.loaded ++ y ∷ []
-    → Puts r (record { stored = r.stored; loaded = xs; stops = r.stops }) (deed.Loads y)
+    → PutsDeed r (record { stored = r.stored; loaded = xs; stops = r.stops }) (deed.Loads y)
 puts_loaded r xs y s (deed.Stores x) = (λ i. inl i, λ w. ⊎_elim (λ j. j) (λ e. absurd (cc (e))) w)
 puts_loaded r xs y s (deed.Loads x) = (
   λ i. ⊎_elim (λ j. inl j) (λ e. inr (ap deed.Loads e)) (in_last x y r.loaded (subst (IsIn x) s i)),
@@ -64,18 +64,18 @@ puts_loaded r xs y s (deed.Loads x) = (
 )
 puts_loaded r xs y s deed.Stops = (λ i. inl i, λ w. ⊎_elim (λ j. j) (λ e. absurd (cc (e))) w)
 
-pub puts_stops : (r : Deeds) → Puts r (record { stored = r.stored; loaded = r.loaded; stops = true }) deed.Stops
+pub puts_stops : (r : Deeds) → PutsDeed r (record { stored = r.stored; loaded = r.loaded; stops = true }) deed.Stops
 puts_stops r (deed.Stores x) = (λ i. inl i, λ w. ⊎_elim (λ j. j) (λ e. absurd (cc (e))) w)
 puts_stops r (deed.Loads x) = (λ i. inl i, λ w. ⊎_elim (λ j. j) (λ e. absurd (cc (e))) w)
 puts_stops r deed.Stops = (λ i. inr refl, λ w. refl)
 
-pub puts_deed : (old new : Deeds) (d e : Deed) → d ≡ e → Puts old new e → Puts old new d
-puts_deed old new d e s h = subst (Puts old new) (sym s) h
+pub puts_deed : (old new : Deeds) (d e : Deed) → d ≡ e → PutsDeed old new e → PutsDeed old new d
+puts_deed old new d e s h = subst (PutsDeed old new) (sym s) h
 
 -- ---- rows
 
 pub writes_one : (rows : List Deeds) (f : Fact) (r new none : Deeds) → slice_get rows f.area ≡ Some r
-    → Puts r new f.deed → Writes rows (slice_set (slice_set rows f.area none) f.area new) f
+    → PutsDeed r new f.deed → WritesFact rows (slice_set (slice_set rows f.area none) f.area new) f
 writes_one rows f r new none at p = record { size = size; kept = kept; has = has; only = only }
   where
     m : ℕ
@@ -120,7 +120,7 @@ writes_one rows f r new none at p = record { size = size; kept = kept; has = has
         )) (λ e. inr (q, e)) ((p d).0 (subst (λ x. InRow x d) z i)))
         (λ o. inl (s, sym (there n o) ∙ g, i)) (cases_eq n m)
 
-pub writes_none : (rows : List Deeds) (f : Fact) → (f.area < length rows → ⊥) → Writes rows rows f
+pub writes_none : (rows : List Deeds) (f : Fact) → (f.area < length rows → ⊥) → WritesFact rows rows f
 writes_none rows f h = record { size = refl; kept = λ m d i. i; has = λ l. absurd (h l); only = λ m d i. inl i }
 
 pub deeds_more : (rows : List Deeds) (none : Deeds) → none.stored ≡ [] → none.loaded ≡ [] → none.stops ≡ false
@@ -147,7 +147,7 @@ no_rows fs n rows s h = record {
 }
 
 pub rows_more : (fs : List Fact) (i n : ℕ) (f : Fact) (a b : List Deeds) → slice_get fs i ≡ Some f → AreRows fs i n a
-    → Writes a b f → AreRows fs (i + 1) n b
+    → WritesFact a b f → AreRows fs (i + 1) n b
 rows_more fs i n f a b e h w = record { size = w.size ∙ h.size; has = has; only = only }
   where
     has : (j : ℕ) (g : Fact) → j < i + 1 → slice_get fs j ≡ Some g → g.area < n → HasDeed b g.area g.deed

@@ -12,7 +12,7 @@ use Rattle.sp_effects.specs.declared.edges.Edge.{Edge}
 use Rattle.sp_effects.specs.declared.facts.Fact.{Fact}
 use Rattle.sp_effects.specs.declared.facts.Deed.{Deed}
 use Rattle.sp_effects.specs.Facts.{has_fact, with_fact, pair_cmp, has_pair, Tells}
-use Rattle.sp_effects.specs.Closing.{AlongOne, Closes, ClosesTo, Follows, Leads, fact_along, is_own}
+use Rattle.sp_effects.specs.Closing.{AlongOne, Closes, ClosesTo, FollowsFrom, FactLeads, fact_along, is_own}
 use Rattle.sp_effects.specs.Variables.{AddsPairs, AreOwn, IsOwnIn, IsOwnOf}
 use Rattle.sp_effects.proofs.Telling.{told_place, place_told, told_on, tells_as, tells_then, tells_one}
 use Rattle.sp_effects.proofs.Telling.{pair_put}
@@ -111,10 +111,11 @@ along_more a b x row own d k e h u v = tells_as a x (λ g. AlongOne row own d k 
 module _ (rows : List (List Edge)) (own : List (ℕ × ℕ)) where
   pub row_leads : (a b : List Fact) (f : Fact) (r row : List Edge) (mine : Bool) → slice_get rows f.area ≡ Some r
       → row ≡ r → mine ≡ is_own own f.area f.deed → Tells a b (AlongOne row mine f.deed (length row))
-      → Tells a b (Leads rows own f)
-  row_leads a b f r row mine e s m t = tells_as a b (AlongOne row mine f.deed (length row)) (Leads rows own f) to from t
+      → Tells a b (FactLeads rows own f)
+  row_leads a b f r row mine e s m t = tells_as a b (AlongOne row mine f.deed (length row)) (FactLeads rows own f)
+      to from t
     where
-      to : (g : Fact) → AlongOne row mine f.deed (length row) g → Leads rows own f g
+      to : (g : Fact) → AlongOne row mine f.deed (length row) g → FactLeads rows own f g
       to g (k, x, l, h, w) = (
         x,
         (
@@ -129,7 +130,7 @@ module _ (rows : List (List Edge)) (own : List (ℕ × ℕ)) where
         ap (λ (z : Bool). fact_along x z f.deed) (sym m) ∙ w,
       )
 
-      from : (g : Fact) → Leads rows own f g → AlongOne row mine f.deed (length row) g
+      from : (g : Fact) → FactLeads rows own f g → AlongOne row mine f.deed (length row) g
       from g (x, (q, h, (k, i)), w) =
           let z : q ≡ row = same_Some q r (sym h ∙ e) ∙ sym s in
           let at : slice_get row k ≡ Some x = ap (λ (y : List Edge). slice_get y k) (sym z) ∙ i in
@@ -145,21 +146,22 @@ module _ (rows : List (List Edge)) (own : List (ℕ × ℕ)) where
   there (x ∷ fs) (suc i) (suc j) f e l = there fs i j f e (omega (arith, l))
 
   pub closes_more : (old now new : List Fact) (i : ℕ) (f : Fact) → slice_get now i ≡ Some f
-      → ClosesTo rows own old now i → Tells now new (Leads rows own f) → ClosesTo rows own old new (i + 1)
+      → ClosesTo rows own old now i → Tells now new (FactLeads rows own f) → ClosesTo rows own old new (i + 1)
   closes_more old now new i f e h t = record {
-    kept = λ g w. told_on now new (Leads rows own f) t g (h.kept g w);
+    kept = λ g w. told_on now new (FactLeads rows own f) t g (h.kept g w);
     done = done;
     only = only;
   }
     where
-      done : (j : ℕ) (x g : Fact) → j < i + 1 → slice_get new j ≡ Some x → Leads rows own x g → has_fact new g ≡ true
+      done : (j : ℕ) (x g : Fact) → j < i + 1 → slice_get new j ≡ Some x → FactLeads rows own x g
+          → has_fact new g ≡ true
       done j x g l s w = ⊎_elim (λ z. let r = there now i j f e z in let q : r.0 ≡ x = same_Some r.0 x
-          (sym (t.extends j r.0 r.1) ∙ s) in told_on now new (Leads rows own f) t g
+          (sym (t.extends j r.0 r.1) ∙ s) in told_on now new (FactLeads rows own f) t g
           (h.done j x g z (r.1 ∙ ap Some q) w))
           (λ z. let q : f ≡ x = same_Some f x (sym (t.extends i f e) ∙ ap (slice_get new) (sym z)
-          ∙ s) in t.has g (subst (λ y. Leads rows own y g) (sym q) w)) (below_or_last j i l)
+          ∙ s) in t.has g (subst (λ y. FactLeads rows own y g) (sym q) w)) (below_or_last j i l)
 
-      only : (g : Fact) → has_fact new g ≡ true → Follows rows own old g
+      only : (g : Fact) → has_fact new g ≡ true → FollowsFrom rows own old g
       only g w = ⊎_elim (λ z. h.only g z) (λ z. let r = h.only f (place_told now i f e) in (suc r.0, (f, r.1, z)))
           (t.only g w)
 
@@ -173,5 +175,5 @@ module _ (rows : List (List Edge)) (own : List (ℕ × ℕ)) where
       inside (x ∷ fs) (suc k) zero f n s = omega arith
       inside (x ∷ fs) (suc k) (suc j) f n s = let l = inside fs k j f n s in omega (arith, l)
 
-      closed : (f g : Fact) → has_fact new f ≡ true → Leads rows own f g → has_fact new g ≡ true
+      closed : (f g : Fact) → has_fact new f ≡ true → FactLeads rows own f g → has_fact new g ≡ true
       closed f g w l = let r = told_place new f w in h.done r.0 f g (inside new i r.0 f e r.1) r.1 l

@@ -12,13 +12,13 @@ use Rattle.std.proofs.lemmas.List.Folds.{list_any-append}
 use Rattle.std.proofs.lemmas.List.{length-set}
 use Rattle.std.proofs.lemmas.Option.{slice_get_within, none-some, same_Some}
 use Rattle.sp_base.proofs.Facts.{get_beside_set, get_where_set, tie_of_both}
-use Rattle.sp_rules.specs.Areas.{given}
+use Rattle.sp_rules.specs.Areas.{on_option}
 use Rattle.sp_effects.specs.declared.facts.Fact.{Fact}
 use Rattle.sp_effects.specs.declared.facts.Index.{Index}
 use Rattle.sp_effects.specs.declared.facts.Sets.{Sets}
 use Rattle.sp_effects.specs.declared.facts.Deed.{Deed}
 use Rattle.sp_effects.specs.declared.facts.Deed.TheVariants as deed
-use Rattle.sp_effects.specs.Facts.{same_deed, same, has_fact, with_fact, pair_cmp, has_pair, has_number, in_sets}
+use Rattle.sp_effects.specs.Facts.{same_deed, same_fact, has_fact, with_fact, pair_cmp, has_pair, has_number, in_sets}
 use Rattle.sp_effects.specs.Facts.{index_has}
 use Rattle.sp_effects.specs.Facts.{sets_have, AreIndexed, Tells}
 
@@ -42,14 +42,14 @@ deed_self (deed.Stores x) = eq-eqb x x refl
 deed_self (deed.Loads x) = eq-eqb x x refl
 deed_self deed.Stops = refl
 
-pub same_is : (f g : Fact) → same f g ≡ true → f ≡ g
+pub same_is : (f g : Fact) → same_fact f g ≡ true → f ≡ g
 same_is f g h =
     let b = and_parts (f.area == g.area) (same_deed f.deed g.deed) h in
     let p : f.area ≡ g.area = eqb-true f.area g.area b.0 in
     let d : f.deed ≡ g.deed = deed_is f.deed g.deed b.1 in
     λ i. record { area = p i; deed = d i }
 
-pub same_self : (f : Fact) → same f f ≡ true
+pub same_self : (f : Fact) → same_fact f f ≡ true
 same_self f = and_from (f.area == f.area) (same_deed f.deed f.deed) (eq-eqb f.area f.area refl) (deed_self f.deed)
 
 -- ---- lists of facts
@@ -58,21 +58,21 @@ same_self f = and_from (f.area == f.area) (same_deed f.deed f.deed) (eq-eqb f.ar
 pub told_place : (fs : List Fact) (f : Fact) → has_fact fs f ≡ true → (i : ℕ) × (slice_get fs i ≡ Some f)
 told_place [] f h = absurd (cc h)
 told_place (g ∷ fs) f h = ⊎_elim (λ e. (0, ap Some (sym (same_is f g e))))
-    (λ e. let r = told_place fs f e in (suc r.0, r.1)) (or_cases (same f g) (has_fact fs f) h)
+    (λ e. let r = told_place fs f e in (suc r.0, r.1)) (or_cases (same_fact f g) (has_fact fs f) h)
 
 pub place_told : (fs : List Fact) (i : ℕ) (f : Fact) → slice_get fs i ≡ Some f → has_fact fs f ≡ true
 place_told [] i f e = absurd (none-some f e)
-place_told (g ∷ fs) zero f e = or_left (same f g) (has_fact fs f)
-    (subst (λ x. same f x ≡ true) (sym (same_Some g f e)) (same_self f))
-place_told (g ∷ fs) (suc i) f e = or_right (same f g) (has_fact fs f) (place_told fs i f e)
+place_told (g ∷ fs) zero f e = or_left (same_fact f g) (has_fact fs f)
+    (subst (λ x. same_fact f x ≡ true) (sym (same_Some g f e)) (same_self f))
+place_told (g ∷ fs) (suc i) f e = or_right (same_fact f g) (has_fact fs f) (place_told fs i f e)
 
 or_none : (a b : Bool) → (a || (b || false)) ≡ (a || b)
 or_none true b = refl
 or_none false true = refl
 or_none false false = refl
 
-pub told_last : (fs : List Fact) (g f : Fact) → has_fact (fs ++ g ∷ []) f ≡ (has_fact fs f || same f g)
-told_last fs g f = list_any-append (same f) fs (g ∷ []) ∙ or_none (has_fact fs f) (same f g)
+pub told_last : (fs : List Fact) (g f : Fact) → has_fact (fs ++ g ∷ []) f ≡ (has_fact fs f || same_fact f g)
+told_last fs g f = list_any-append (same_fact f) fs (g ∷ []) ∙ or_none (has_fact fs f) (same_fact f g)
 
 -- ---- sets
 
@@ -135,7 +135,7 @@ noted_more (s ∷ areas) none h (suc p) d = noted_more areas none h p d
 -- one place is changed
 pub noted_put : (areas : List Sets) (none old new : Sets) (g : Fact) → slice_get areas g.area ≡ Some old
     → PutsIn old new g.deed
-    → (f : Fact) → sets_have (slice_set (slice_set areas g.area none) g.area new) f.area f.deed ≡ (same f g
+    → (f : Fact) → sets_have (slice_set (slice_set areas g.area none) g.area new) f.area f.deed ≡ (same_fact f g
     || sets_have areas f.area f.deed)
 noted_put areas none old new g at h f = ⊎_elim here there (cases_eq f.area g.area)
   where
@@ -149,24 +149,27 @@ noted_put areas none old new g at h f = ⊎_elim here there (cases_eq f.area g.a
     inside = subst (λ n. m < n) (sym (length-set areas m none)) (slice_get_within areas m old at)
 
     of : Option Sets → Bool
-    of o = given false o (λ s. in_sets s f.deed)
+    of o = on_option false o (λ s. in_sets s f.deed)
 
     now : f.area ≡ m → sets_have (slice_set middle m new) f.area f.deed ≡ in_sets new f.deed
     now q = ap (λ n. sets_have (slice_set middle m new) n f.deed) q
-        ∙ ap (λ (o : Option Sets). given false o (λ s. in_sets s f.deed)) (get_where_set middle m new inside)
+        ∙ ap (λ (o : Option Sets). on_option false o (λ s. in_sets s f.deed)) (get_where_set middle m new inside)
 
     was : f.area ≡ m → sets_have areas f.area f.deed ≡ in_sets old f.deed
-    was q = ap (λ n. sets_have areas n f.deed) q ∙ ap (λ (o : Option Sets). given false o (λ s. in_sets s f.deed)) at
+    was q = ap (λ n. sets_have areas n f.deed) q
+        ∙ ap (λ (o : Option Sets). on_option false o (λ s. in_sets s f.deed)) at
 
-    here : f.area ≡ m → sets_have (slice_set middle m new) f.area f.deed ≡ (same f g || sets_have areas f.area f.deed)
+    here : f.area ≡ m → sets_have (slice_set middle m new) f.area f.deed
+        ≡ (same_fact f g || sets_have areas f.area f.deed)
     here q =
         now q ∙ h f.deed ∙ ap (λ (b : Bool). same_deed f.deed g.deed || b) (sym (was q)) ∙
         ap (λ (b : Bool). (b && same_deed f.deed g.deed)
         || sets_have areas f.area f.deed) (sym (eq-eqb f.area g.area q))
 
-    there : f.area ≢ m → sets_have (slice_set middle m new) f.area f.deed ≡ (same f g || sets_have areas f.area f.deed)
+    there : f.area ≢ m → sets_have (slice_set middle m new) f.area f.deed
+        ≡ (same_fact f g || sets_have areas f.area f.deed)
     there q =
-        ap (λ (o : Option Sets). given false o (λ s. in_sets s f.deed))
+        ap (λ (o : Option Sets). on_option false o (λ s. in_sets s f.deed))
         (get_beside_set middle m f.area new (λ s. q (sym s)) ∙ get_beside_set areas m f.area none (λ s. q (sym s))) ∙
         sym (ap (λ (b : Bool). (b && same_deed f.deed g.deed)
         || sets_have areas f.area f.deed) (false_from_ne_true (f.area == g.area) (λ s. q (eqb-true f.area g.area s))))
@@ -179,10 +182,10 @@ or_turned false true = refl
 or_turned false false = refl
 
 pub indexed_more : (fs : List Fact) (old new : Index) (g : Fact) → AreIndexed fs old
-    → ((f : Fact) → index_has new f.area f.deed ≡ (same f g || index_has old f.area f.deed))
+    → ((f : Fact) → index_has new f.area f.deed ≡ (same_fact f g || index_has old f.area f.deed))
     → AreIndexed (fs ++ g ∷ []) new
-indexed_more fs old new g h put f = put f ∙ or_turned (same f g) (index_has old f.area f.deed)
-    ∙ ap (λ (b : Bool). b || same f g) (h f) ∙ sym (told_last fs g f)
+indexed_more fs old new g h put f = put f ∙ or_turned (same_fact f g) (index_has old f.area f.deed)
+    ∙ ap (λ (b : Bool). b || same_fact f g) (h f) ∙ sym (told_last fs g f)
 
 -- ---- what is told more
 
@@ -228,8 +231,9 @@ tells_one fs g = go (has_fact fs g) refl
             before (x ∷ xs) (suc j) s = before xs j s
 
         has : (f : Fact) → f ≡ g → has_fact (fs ++ g ∷ []) f ≡ true
-        has f s = told_last fs g f ∙ or_right (has_fact fs f) (same f g) (subst (λ x. same f x ≡ true) s (same_self f))
+        has f s = told_last fs g f
+            ∙ or_right (has_fact fs f) (same_fact f g) (subst (λ x. same_fact f x ≡ true) s (same_self f))
 
         only : (f : Fact) → has_fact (fs ++ g ∷ []) f ≡ true → (has_fact fs f ≡ true) ⊎ (f ≡ g)
         only f e = ⊎_elim (λ o. inl o) (λ s. inr (same_is f g s))
-            (or_cases (has_fact fs f) (same f g) (sym (told_last fs g f) ∙ e))
+            (or_cases (has_fact fs f) (same_fact f g) (sym (told_last fs g f) ∙ e))

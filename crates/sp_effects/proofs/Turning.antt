@@ -16,7 +16,7 @@ use Rattle.sp_code.specs.Sizes.{KeepsSizes}
 use Rattle.sp_rules.specs.Areas.{Area, Body, homes, instr_at}
 use Rattle.sp_rules.specs.Effects.{Does, IsCalled}
 use Rattle.sp_rules.specs.Forks as fork
-use Rattle.sp_rules.specs.Keeps.{Keeps}
+use Rattle.sp_rules.specs.KeepsCodeRules.{KeepsCodeRules}
 use Rattle.sp_rules.specs.Named.{BreaksV1, BlocksApart, IsLayout, LiesIn}
 use Rattle.sp_rules.specs.Rules.{BreaksV2, BreaksV3, BreaksV4, BreaksV5}
 use Rattle.sp_rules.specs.Verdict.{BreaksV7, HasStop, Inside}
@@ -26,9 +26,9 @@ use Rattle.sp_rules.proofs.Scoping.{found_layout}
 use Rattle.sp_rules.proofs.Walking.{passes}
 use Rattle.sp_areas.specs.Alone.{flag_at}
 use Rattle.sp_areas.specs.Blocks.{IsNumbered, number_from, number_of}
-use Rattle.sp_areas.specs.Least.{IsLeast, Upto, least}
+use Rattle.sp_areas.specs.LeastPlaces.{IsLeast, Upto, earlier_of}
 use Rattle.sp_areas.proofs.BlockLaws.{place_some}
-use Rattle.sp_areas.proofs.Leasts.{all, both, same}
+use Rattle.sp_areas.proofs.Leasts.{all, both, least_of_same}
 use Rattle.sp_shapes.specs.declared.shapes.Shapes.{Shapes}
 use Rattle.sp_shapes.specs.Shapes.{AreShapes}
 use Rattle.sp_shapes.specs.Stacks.{list_of}
@@ -104,7 +104,7 @@ inside_call hs first (Some (i.Call b up)) j e = go (is_inside hs b up) refl e
     go false t e = absurd (none-some j e)
 inside_call hs first o j e = absurd (none-some j e)
 
-module _ (c : Parts) (k : Keeps c) (kept : (p : ℕ) → BreaksV1 c p → ⊥) (e : Effects) (are : AreEffects c e)
+module _ (c : Parts) (k : KeepsCodeRules c) (kept : (p : ℕ) → BreaksV1 c p → ⊥) (e : Effects) (are : AreEffects c e)
     (first : BTreeMap ℕ ℕ) (numbered : IsNumbered first c.layouts) (s : Shapes) (shapes : AreShapes c s)
     (flags : List Bool) (inside : AreInside c first s (length c.instrs) flags) where
   module _ (j : ℕ) (l : Layout) (is : slice_get c.layouts j ≡ Some l) where
@@ -201,15 +201,15 @@ module _ (c : Parts) (k : Keeps c) (kept : (p : ℕ) → BreaksV1 c p → ⊥) (
       }
 
   pub v7_least : (a b : Option ℕ) → IsLeast (CallFails c e s) a
-      → IsLeast (Upto (LayoutTurns e flags c.layouts) (length c.layouts)) b → IsLeast (BreaksV7 c) (least a b)
+      → IsLeast (Upto (LayoutTurns e flags c.layouts) (length c.layouts)) b → IsLeast (BreaksV7 c) (earlier_of a b)
   v7_least a b h g =
       both (CallBreaks c) (TurnBreaks c) a b
-      (same (CallFails c e s) (CallBreaks c) a (λ p. call_found c e are kept s shapes p)
+      (least_of_same (CallFails c e s) (CallBreaks c) a (λ p. call_found c e are kept s shapes p)
       (λ p. call_finds c e are kept s shapes p) h)
       (all (LayoutTurns e flags c.layouts) (TurnBreaks c) (length c.layouts) b turn_found turn_finds g)
 
 -- ---- code that keeps V1 to V5
 
 pub keeps_all : (c : Parts) → KeepsSizes c → ((p : ℕ) → BreaksV1 c p → ⊥) → ((p : ℕ) → BreaksV2 c p → ⊥)
-    → ((p : ℕ) → BreaksV3 c p → ⊥) → ((p : ℕ) → BreaksV4 c p → ⊥) → ((p : ℕ) → BreaksV5 c p → ⊥) → Keeps c
+    → ((p : ℕ) → BreaksV3 c p → ⊥) → ((p : ℕ) → BreaksV4 c p → ⊥) → ((p : ℕ) → BreaksV5 c p → ⊥) → KeepsCodeRules c
 keeps_all c sizes = keeps c (have_children c sizes) (fits_types c sizes)

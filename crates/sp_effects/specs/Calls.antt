@@ -9,7 +9,7 @@ use Rattle.sp_code.specs.declared.code.Formal.TheVariants as formal
 use Rattle.sp_code.specs.declared.code.Layout.{Layout}
 use Rattle.sp_code.specs.declared.code.Parts.{Parts}
 use Rattle.sp_code.specs.Machine.{layout_of}
-use Rattle.sp_rules.specs.Areas.{given, instr_at}
+use Rattle.sp_rules.specs.Areas.{on_option, instr_at}
 use Rattle.sp_rules.specs.Shapes.{Shape, O, C, L, A}
 use Rattle.sp_shapes.specs.declared.shapes.Shapes.{Shapes}
 use Rattle.sp_shapes.specs.declared.stacks.Stacks.{Stacks}
@@ -34,16 +34,17 @@ actual_of (formal.Reference n) s = variable_of s
 
 -- that of the operand below i others
 abbrev pub actual_at : List Formal → List Shape → ℕ → Option ℕ
-actual_at fs ss i = given None (slice_get fs (length fs - 1 - i)) (λ f. given None (slice_get ss i) (actual_of f))
+actual_at fs ss i = on_option None (slice_get fs (length fs - 1 - i))
+    (λ f. on_option None (slice_get ss i) (actual_of f))
 
-abbrev pub listed : Option ℕ → List ℕ
-listed None = []
-listed (Some x) = x ∷ []
+abbrev pub list_of_option : Option ℕ → List ℕ
+list_of_option None = []
+list_of_option (Some x) = x ∷ []
 
 -- those of the n topmost operands
 abbrev pub actuals : List Formal → List Shape → ℕ → List ℕ
 actuals fs ss zero = []
-actuals fs ss (suc n) = actuals fs ss n ++ listed (actual_at fs ss n)
+actuals fs ss (suc n) = actuals fs ss n ++ list_of_option (actual_at fs ss n)
 
 -- a block that begins there stores or loads a variable that is not its own; one of these
 abbrev pub is_outer : Effects → ℕ → ℕ → Bool
@@ -61,8 +62,8 @@ call_clashes e l ss = not (all_new [] (actuals l.formals ss (length l.formals)))
 -- where these shapes are brought to an instruction, it is a call that clashes
 abbrev pub clashes_at : Effects → List Layout → Stacks → Option ℕ → Option Instr → Bool
 clashes_at e ls st o instr =
-    given false o (λ n. given false (called_block instr)
-    (λ b. given false (layout_of ls b) (λ l. call_clashes e l (list_of st n))))
+    on_option false o (λ n. on_option false (called_block instr)
+    (λ b. on_option false (layout_of ls b) (λ l. call_clashes e l (list_of st n))))
 
 -- the instruction at p is
 abbrev pub fails_at : Parts → Effects → Shapes → ℕ → Bool

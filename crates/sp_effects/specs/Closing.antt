@@ -13,7 +13,7 @@ use Rattle.sp_effects.specs.declared.facts.Deed.{Deed}
 use Rattle.sp_effects.specs.declared.facts.Deed.TheVariants as deed
 use Rattle.sp_effects.specs.Facts.{fact, has_fact}
 use Rattle.sp_effects.specs.Edges.{HasEdge, AreEdges}
-use Rattle.sp_effects.specs.Effects.{Comes}
+use Rattle.sp_effects.specs.Effects.{ComesToStop}
 use Rattle.sp_effects.specs.Variables.{AreOwn, owns}
 
 -- it is done to a variable of the area's own
@@ -47,28 +47,28 @@ AlongOne row own d n g = (k : ℕ) × (e : Edge) × (k < n) × (slice_get row k 
 
 module _ (rows : List (List Edge)) (own : List (ℕ × ℕ)) where
   -- one fact leads to another
-  abbrev pub Leads : Fact → Fact → Type 0
-  Leads f g = (e : Edge) × HasEdge rows f.area e × (fact_along e (is_own own f.area f.deed) f.deed ≡ Some g)
+  abbrev pub FactLeads : Fact → Fact → Type 0
+  FactLeads f g = (e : Edge) × HasEdge rows f.area e × (fact_along e (is_own own f.area f.deed) f.deed ≡ Some g)
 
   -- in so many steps from these
   abbrev pub FollowsBy : List Fact → ℕ → Fact → Type 0
   FollowsBy old zero g = has_fact old g ≡ true
-  FollowsBy old (suc n) g = (f : Fact) × FollowsBy old n f × Leads f g
+  FollowsBy old (suc n) g = (f : Fact) × FollowsBy old n f × FactLeads f g
 
-  abbrev pub Follows : List Fact → Fact → Type 0
-  Follows old g = (n : ℕ) × FollowsBy old n g
+  abbrev pub FollowsFrom : List Fact → Fact → Type 0
+  FollowsFrom old g = (n : ℕ) × FollowsBy old n g
 
   -- those that the first so many lead to are there, and all follow from the old ones
   pub record ClosesTo (old new : List Fact) (n : ℕ) : Type 0 where
     pub kept : (f : Fact) → has_fact old f ≡ true → has_fact new f ≡ true
-    pub done : (j : ℕ) (f g : Fact) → j < n → slice_get new j ≡ Some f → Leads f g → has_fact new g ≡ true
-    pub only : (g : Fact) → has_fact new g ≡ true → Follows old g
+    pub done : (j : ℕ) (f g : Fact) → j < n → slice_get new j ≡ Some f → FactLeads f g → has_fact new g ≡ true
+    pub only : (g : Fact) → has_fact new g ≡ true → FollowsFrom old g
 
   -- nothing is left to which they lead
   pub record Closes (old new : List Fact) : Type 0 where
     pub kept : (f : Fact) → has_fact old f ≡ true → has_fact new f ≡ true
-    pub closed : (f g : Fact) → has_fact new f ≡ true → Leads f g → has_fact new g ≡ true
-    pub only : (g : Fact) → has_fact new g ≡ true → Follows old g
+    pub closed : (f g : Fact) → has_fact new f ≡ true → FactLeads f g → has_fact new g ≡ true
+    pub only : (g : Fact) → has_fact new g ≡ true → FollowsFrom old g
 
 -- ---- of areas
 
@@ -77,7 +77,7 @@ module _ (c : Parts) where
   abbrev pub IsDeed : Area → Deed → Type 0
   IsDeed a (deed.Stores x) = IsEffect c (Does c) Stored a x
   IsDeed a (deed.Loads x) = IsEffect c (Does c) Loaded a x
-  IsDeed a deed.Stops = Comes c a
+  IsDeed a deed.Stops = ComesToStop c a
 
   -- the facts are closed along the edges of the code
   pub record ClosesBy (old new : List Fact) : Type 0 where

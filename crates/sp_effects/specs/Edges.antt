@@ -25,7 +25,7 @@ abbrev pub HasEdge : List (List Edge) → ℕ → Edge → Type 0
 HasEdge rows m e = (r : List Edge) × (slice_get rows m ≡ Some r) × InRow r e
 
 -- one edge is among those of the row, and no other new one
-pub record Puts (old new : List Edge) (e : Edge) : Type 0 where
+pub record PutsEdge (old new : List Edge) (e : Edge) : Type 0 where
   pub kept : (g : Edge) → InRow old g → InRow new g
   pub has : InRow new e
   pub only : (g : Edge) → InRow new g → InRow old g ⊎ (g ≡ e)

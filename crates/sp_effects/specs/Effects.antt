@@ -26,10 +26,10 @@ abbrev pub HasDeed : List Deeds → ℕ → Deed → Type 0
 HasDeed rows m d = (r : Deeds) × (slice_get rows m ≡ Some r) × InRow r d
 
 -- one deed more
-abbrev pub Puts : Deeds → Deeds → Deed → Type 0
-Puts old new e = (d : Deed) → InRow new d ↔ (InRow old d ⊎ (d ≡ e))
+abbrev pub PutsDeed : Deeds → Deeds → Deed → Type 0
+PutsDeed old new e = (d : Deed) → InRow new d ↔ (InRow old d ⊎ (d ≡ e))
 
-pub record Writes (old new : List Deeds) (f : Fact) : Type 0 where
+pub record WritesFact (old new : List Deeds) (f : Fact) : Type 0 where
   pub size : length new ≡ length old
   pub kept : (m : ℕ) (d : Deed) → HasDeed old m d → HasDeed new m d
   pub has : f.area < length old → HasDeed new f.area f.deed
@@ -47,14 +47,14 @@ touches e p x = has_fact e.facts (fact p (deed.Stores x)) || has_fact e.facts (f
 
 module _ (c : Parts) where
   -- code of the area, or that it starts or calls, comes to a stop other than a fault
-  abbrev pub Comes : Area → Type 0
-  Comes a = (bs : List Area) × StopsBy c (Does c) (HasStop c) bs a
+  abbrev pub ComesToStop : Area → Type 0
+  ComesToStop a = (bs : List Area) × StopsBy c (Does c) (HasStop c) bs a
 
   -- these are the effects of an area, and whether it comes to a stop
   pub record AreDeeds (a : Area) (d : Deeds) : Type 0 where
     pub stored : (x : ℕ) → IsIn x d.stored ↔ IsEffect c (Does c) Stored a x
     pub loaded : (x : ℕ) → IsIn x d.loaded ↔ IsEffect c (Does c) Loaded a x
-    pub stops : IsTrue d.stops ↔ Comes a
+    pub stops : IsTrue d.stops ↔ ComesToStop a
 
   -- each area that is there stands under its first instruction; the touched variables are those of its effects; the
   -- own ones are those of the blocks

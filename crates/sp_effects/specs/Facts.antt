@@ -9,7 +9,7 @@ use Rattle.std.specs.Ordering.{nat_cmp, ordering_then, is_eq}
 use Rattle.sp_effects.specs.declared.facts.Fact.{Fact}
 use Rattle.sp_effects.specs.declared.facts.Sets.{Sets}
 use Rattle.sp_effects.specs.declared.facts.Index.{Index}
-use Rattle.sp_rules.specs.Areas.{given}
+use Rattle.sp_rules.specs.Areas.{on_option}
 use Rattle.sp_effects.specs.declared.facts.Deed.{Deed}
 use Rattle.sp_effects.specs.declared.facts.Deed.TheVariants as deed
 
@@ -19,12 +19,12 @@ same_deed (deed.Loads x) (deed.Loads y) = x == y
 same_deed deed.Stops deed.Stops = true
 same_deed d e = false
 
-abbrev pub same : Fact → Fact → Bool
-same f g = (f.area == g.area) && same_deed f.deed g.deed
+abbrev pub same_fact : Fact → Fact → Bool
+same_fact f g = (f.area == g.area) && same_deed f.deed g.deed
 
 -- the fact is among these
 abbrev pub has_fact : List Fact → Fact → Bool
-has_fact fs f = list_any (same f) fs
+has_fact fs f = list_any (same_fact f) fs
 
 abbrev pub fact : ℕ → Deed → Fact
 fact p d = record { area = p; deed = d }
@@ -51,7 +51,7 @@ in_sets s deed.Stops = s.stops
 
 -- those of an area do
 abbrev pub sets_have : List Sets → ℕ → Deed → Bool
-sets_have areas p d = given false (slice_get areas p) (λ s. in_sets s d)
+sets_have areas p d = on_option false (slice_get areas p) (λ s. in_sets s d)
 
 abbrev pub index_has : Index → ℕ → Deed → Bool
 index_has it p d = sets_have it.areas p d

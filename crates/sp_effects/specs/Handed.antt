@@ -11,7 +11,7 @@ use Rattle.sp_code.specs.declared.code.ForkTable.{ForkTable}
 use Rattle.sp_rules.specs.Effects.{IsAside, Loaded, handed_to}
 use Rattle.sp_rules.specs.Forks.{Clash, IsIllHanded}
 use Rattle.sp_rules.specs.Reach.{IsIn}
-use Rattle.sp_areas.specs.Least.{Upto}
+use Rattle.sp_areas.specs.LeastPlaces.{Upto}
 use Rattle.sp_effects.specs.declared.effects.Deeds.{Deeds}
 use Rattle.sp_effects.specs.declared.effects.Effects.{Effects}
 use Rattle.sp_effects.specs.Sets.{with_all, with_index, all_new, meets, goes_beyond}

@@ -10,4 +10,4 @@ pub mod Variables
 pub mod Loud
 pub mod Calls
 pub mod Turns
-pub mod Grounds
+pub mod PassContexts

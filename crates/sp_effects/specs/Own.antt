@@ -7,10 +7,10 @@ use Rattle.sp_code.specs.declared.code.Layout.{Layout}
 use Rattle.sp_code.specs.declared.code.ChildTable.{ChildTable}
 use Rattle.sp_code.specs.declared.code.Parts.{Parts}
 use Rattle.sp_code.specs.Machine.{layout_of}
-use Rattle.sp_rules.specs.Areas.{Area, given, instr_at, child_at, variable_at, entry}
-use Rattle.sp_rules.specs.Shapes.{Shape, below}
+use Rattle.sp_rules.specs.Areas.{Area, on_option, instr_at, child_at, variable_at, entry}
+use Rattle.sp_rules.specs.Shapes.{Shape, below_topmost}
 use Rattle.sp_rules.specs.Reach.{IsIn, Reaches}
-use Rattle.sp_rules.specs.Touched.{stored_by, loaded_by, topmost, addresses, numbered}
+use Rattle.sp_rules.specs.Touched.{stored_by, loaded_by, topmost_variable, addresses, number_list}
 use Rattle.sp_rules.specs.Effects.{IsStarted}
 use Rattle.sp_rules.specs.Verdict.{is_stop}
 use Rattle.sp_rules.specs.Named.{LiesIn}
@@ -38,17 +38,17 @@ entry_by c owner.Several = None
 
 -- the variables of the operands for the formals of a layout, if there is one
 abbrev pub operand_variables : Option Layout → List Shape → List ℕ
-operand_variables l ss = given [] l (λ m. addresses (length m.formals) ss)
+operand_variables l ss = on_option [] l (λ m. addresses (length m.formals) ss)
 
 module _ (c : Parts) where
   -- the variables at a place
   abbrev pub variables_at : Area → Place → List Shape → List ℕ
   variables_at a place.Nowhere ss = []
   variables_at a (place.Number x) ss = x ∷ []
-  variables_at a place.Input ss = 0 ∷ topmost ss
-  variables_at a place.Top ss = topmost ss
-  variables_at a place.Second ss = topmost (below ss)
-  variables_at a (place.Loop var) ss = numbered (variable_at c a 0 var)
+  variables_at a place.Input ss = 0 ∷ topmost_variable ss
+  variables_at a place.Top ss = topmost_variable ss
+  variables_at a place.Second ss = topmost_variable (below_topmost ss)
+  variables_at a (place.Loop var) ss = number_list (variable_at c a 0 var)
   variables_at a (place.Passed b) ss = operand_variables (layout_of c.layouts b) ss
 
   -- the instruction at p does this, where the operands have these shapes
@@ -82,8 +82,8 @@ abbrev pub IsStop : Option Instr → Deed → Type 0
 IsStop o d = (is_stop o ≡ true) × (d ≡ deed.Stops)
 
 -- a variable among these is stored, or loaded
-abbrev pub IsAmong : Bool → List ℕ → Deed → Type 0
-IsAmong s xs d = (x : ℕ) × IsIn x xs × (d ≡ deed_of s x)
+abbrev pub IsDeedAmong : Bool → List ℕ → Deed → Type 0
+IsDeedAmong s xs d = (x : ℕ) × IsIn x xs × (d ≡ deed_of s x)
 
 module _ (c : Parts) where
   -- the fork or forall at p hands it to a child

@@ -3,7 +3,7 @@
 ghost use Rattle.std.specs.Prelude.{◌≡◌, ◌<◌, MatchOption, length};
 ghost use Rattle.std.specs.Option.{option_copied};
 ghost use Rattle.sp_areas.specs.Only.{LiesOnlyIn};
-ghost use Rattle.sp_effects.specs.Grounds.{IsGround};
+ghost use Rattle.sp_effects.specs.PassContexts.{IsPassContext};
 ghost use Rattle.sp_effects.specs.Edges.{called_block};
 ghost use Rattle.sp_effects.specs.Own.{child_entry, entry_by};
 ghost use Rattle.sp_rules.specs.Areas.{Area, child_at, entry, instr_at, table_at, table_named};
@@ -39,7 +39,7 @@ fn entry_of_child(code: &Code, p: u32, child: usize) -> Option<u32>
 
 // Where the area of an owner begins.
 fn entry_of(g: &Ground, owner: Owner) -> Option<u32>
-    requires known { IsGround g.now }
+    requires known { IsPassContext g.now }
     ensures { result ≡ entry_by g.now.code.now owner }
 {
     match owner {
@@ -52,7 +52,7 @@ fn entry_of(g: &Ground, owner: Owner) -> Option<u32>
 
 /// The area in which an instruction lies.
 pub fn area_at(g: &Ground, p: u32) -> Option<u32>
-    requires known { IsGround g.now }
+    requires known { IsPassContext g.now }
     requires there { p < length g.now.code.now.instrs }
     ensures { MatchOption result ((a : Area) → LiesIn g.now.code.now p a → ⊥)
         (λ n. (a : Area) × LiesOnlyIn g.now.code.now p a × (entry g.now.code.now a ≡ n)) }

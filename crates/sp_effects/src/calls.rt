@@ -1,10 +1,11 @@
 //! Rule V7 at a call: the variables that it passes by reference.
 
 ghost use Rattle.std.specs.Prelude.{◌≡◌, ◌++◌, ◌<◌, IfOk, OnOk, Some, length, slice_get};
-ghost use Rattle.sp_areas.specs.Least.{IsLeast};
-ghost use Rattle.sp_shapes.specs.Stacks.{Holds, IsStacks, list_of, shape_of};
-ghost use Rattle.sp_effects.specs.Grounds.{IsGround};
-ghost use Rattle.sp_effects.specs.Calls.{CallFails, actual_of, actuals, call_clashes, fails_at, is_outer, listed};
+ghost use Rattle.sp_areas.specs.LeastPlaces.{IsLeast};
+ghost use Rattle.sp_shapes.specs.Stacks.{IsListNumber, IsStacks, list_of, shape_of};
+ghost use Rattle.sp_effects.specs.PassContexts.{IsPassContext};
+ghost use Rattle.sp_effects.specs.Calls.{CallFails, actual_of, actuals, call_clashes, fails_at, is_outer};
+ghost use Rattle.sp_effects.specs.Calls.{list_of_option};
 ghost use Rattle.sp_effects.specs.Calls.{meets_outer};
 
 use crate::areas::called_block;
@@ -43,7 +44,7 @@ fn formal_at(formals: &[Formal], at: usize) -> Formal
 
 // Puts a variable behind others, if there is one.
 fn put(xs: &mut List<u32>, x: Option<u32>) -> Result<(), Memory>
-    ensures { OnOk result (xs.new ≡ xs.old ++ listed x) }
+    ensures { OnOk result (xs.new ≡ xs.old ++ list_of_option x) }
 {
     if let Some(x) = x {
         xs.push(x)?;
@@ -59,7 +60,7 @@ fn actuals(
     formals: &[Formal],
 ) -> Result<List<u32>, Memory>
     requires stacks { IsStacks stacks.now }
-    requires there { Holds stacks.now stack }
+    requires there { IsListNumber stacks.now stack }
     ensures { IfOk result (λ xs. xs ≡ actuals formals.now (list_of stacks.now stack) (length formals.now)) }
 {
     let mut xs = List::new(alloc);
@@ -106,7 +107,7 @@ fn call_clashes(
     stack: u32,
 ) -> Result<bool, Memory>
     requires stacks { IsStacks stacks.now }
-    requires there { Holds stacks.now stack }
+    requires there { IsListNumber stacks.now stack }
     ensures { IfOk result (λ clashes. clashes ≡ call_clashes effects.now l.now (list_of stacks.now stack)) }
 {
     let xs = actuals(alloc, stacks, stack, l.formals.items())?;
@@ -117,7 +118,7 @@ fn call_clashes(
 
 // Whether an instruction is a call that clashes.
 fn fails_at(g: &Ground, effects: &Effects, p: u32) -> Result<bool, Memory>
-    requires known { IsGround g.now }
+    requires known { IsPassContext g.now }
     ensures { IfOk result (λ fails. fails ≡ fails_at g.now.code.now effects.now g.now.shapes.now p) }
 {
     let stack = match reached(g.shapes, p) {
@@ -137,7 +138,7 @@ fn fails_at(g: &Ground, effects: &Effects, p: u32) -> Result<bool, Memory>
 
 // The least call that clashes.
 pub(crate) fn first_call(g: &Ground, effects: &Effects) -> Result<Option<u32>, Memory>
-    requires known { IsGround g.now }
+    requires known { IsPassContext g.now }
     ensures { IfOk result (λ first. IsLeast (CallFails g.now.code.now effects.now g.now.shapes.now) first) }
 {
     let count = g.code.parts().instrs.len();

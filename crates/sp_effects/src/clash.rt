@@ -1,10 +1,10 @@
 //! Rule V7: what calls pass by reference, and what blocks that are called inside themselves do.
 
 ghost use Rattle.std.specs.Prelude.{◌≡◌, ℕ, IfOk, Some, length, slice_get};
-ghost use Rattle.sp_areas.specs.Least.{IsLeast, Upto};
+ghost use Rattle.sp_areas.specs.LeastPlaces.{IsLeast, Upto};
 ghost use Rattle.sp_rules.specs.Rules.{BreaksV2, BreaksV3, BreaksV4, BreaksV5};
 ghost use Rattle.sp_rules.specs.Verdict.{BreaksV7};
-ghost use Rattle.sp_effects.specs.Grounds.{IsGround};
+ghost use Rattle.sp_effects.specs.PassContexts.{IsPassContext};
 ghost use Rattle.sp_effects.specs.Effects.{AreEffects};
 ghost use Rattle.sp_effects.specs.Turns.{LayoutTurns, turns};
 
@@ -39,7 +39,7 @@ fn turns(effects: &Effects, flag: bool, l: &Layout) -> bool
 
 // The least first instruction of a block that does.
 fn first_turn(g: &Ground, effects: &Effects, flags: &List<bool>) -> Option<u32>
-    requires known { IsGround g.now }
+    requires known { IsPassContext g.now }
     requires effects { AreEffects g.now.code.now effects.now }
     ensures { IsLeast (Upto (LayoutTurns effects.now flags.now g.now.code.now.layouts)
         (length g.now.code.now.layouts)) result }
@@ -57,7 +57,7 @@ fn first_turn(g: &Ground, effects: &Effects, flags: &List<bool>) -> Option<u32>
 /// itself other than the input and the output. None where there is none. It wants V2 to V5 kept. The only other answer
 /// is want of memory.
 pub fn first_clash(g: &Ground, effects: &Effects) -> Result<Option<u32>, Memory>
-    requires known { IsGround g.now }
+    requires known { IsPassContext g.now }
     requires v2 { (p : ℕ) → BreaksV2 g.now.code.now p → ⊥ }
     requires v3 { (p : ℕ) → BreaksV3 g.now.code.now p → ⊥ }
     requires v4 { (p : ℕ) → BreaksV4 g.now.code.now p → ⊥ }

@@ -1,8 +1,9 @@
 //! How facts go on from area to area along edges, until nothing is new.
 
 ghost use Rattle.std.specs.Prelude.{◌≡◌, ◌<◌, OnOk, IfOk, Some, Bool, length, slice_get};
-ghost use Rattle.sp_effects.specs.Grounds.{IsGround};
-ghost use Rattle.sp_effects.specs.Closing.{AlongOne, AreFacts, Closes, ClosesBy, Leads, fact_along, is_index, is_own};
+ghost use Rattle.sp_effects.specs.PassContexts.{IsPassContext};
+ghost use Rattle.sp_effects.specs.Closing.{AlongOne, AreFacts, Closes, ClosesBy, FactLeads, fact_along, is_index};
+ghost use Rattle.sp_effects.specs.Closing.{is_own};
 ghost use Rattle.sp_effects.specs.declared.edges.Edge.TheVariants as edge;
 ghost use Rattle.sp_effects.specs.Facts.{Tells, fact};
 ghost use Rattle.sp_effects.specs.Variables.{AreOwn};
@@ -136,7 +137,7 @@ fn spread(
     own: &BTreeSet<(u32, u32)>,
     fact: Fact,
 ) -> Result<(), Memory>
-    ensures { OnOk result (Tells facts.old facts.new (Leads rows.now own.now.keys fact)) }
+    ensures { OnOk result (Tells facts.old facts.new (FactLeads rows.now own.now.keys fact)) }
 {
     match rows.get(fact.area as usize) {
         None => Ok(()),
@@ -167,7 +168,7 @@ fn close(
 
 // The same, by the code.
 fn close_by(g: &Ground, own: &BTreeSet<(u32, u32)>, facts: &mut Facts) -> Result<(), Memory>
-    requires known { IsGround g.now }
+    requires known { IsPassContext g.now }
     requires own { AreOwn g.now.code.now own.now.keys }
     ensures { OnOk result (ClosesBy g.now.code.now facts.old facts.new) }
 {
@@ -177,7 +178,7 @@ fn close_by(g: &Ground, own: &BTreeSet<(u32, u32)>, facts: &mut Facts) -> Result
 
 /// What each area does, with what it starts and calls, by the variables of blocks.
 pub fn facts_of(g: &Ground, own: &BTreeSet<(u32, u32)>) -> Result<Facts, Memory>
-    requires known { IsGround g.now }
+    requires known { IsPassContext g.now }
     requires own { AreOwn g.now.code.now own.now.keys }
     ensures { IfOk result (AreFacts g.now.code.now) }
 {

@@ -5,12 +5,12 @@ ghost use Rattle.sp_areas.specs.Only.{LiesOnlyIn};
 ghost use Rattle.sp_code.specs.declared.code.ChildTable.{ChildTable};
 ghost use Rattle.sp_code.specs.declared.code.Layout.{Layout};
 ghost use Rattle.sp_code.specs.Machine.{layout_of};
-ghost use Rattle.sp_effects.specs.Grounds.{IsGround};
+ghost use Rattle.sp_effects.specs.PassContexts.{IsPassContext};
 ghost use Rattle.sp_effects.specs.declared.edges.Edge.{Edge as EdgeOf};
 ghost use Rattle.sp_effects.specs.Edges.{AreEdges, CalledAt, EdgeAt, HasEdge, IsCall, IsDeeper, Links};
-ghost use Rattle.sp_effects.specs.Edges.{OneStarts, Puts, StartWithin, StartedAt, deep_edge, passed_by};
+ghost use Rattle.sp_effects.specs.Edges.{OneStarts, PutsEdge, StartWithin, StartedAt, deep_edge, passed_by};
 ghost use Rattle.sp_rules.specs.Areas.{Area, entry};
-ghost use Rattle.sp_shapes.specs.Stacks.{Holds, IsStacks, list_of, shape_of};
+ghost use Rattle.sp_shapes.specs.Stacks.{IsListNumber, IsStacks, list_of, shape_of};
 
 use crate::areas::{area_at, called_block, table_of};
 use crate::ground::Ground;
@@ -45,7 +45,7 @@ fn is_same_call(one: Edge, other: Edge) -> bool
 
 // Puts an edge last, unless that is a call to the same area.
 fn put(row: &mut List<Edge>, edge: Edge) -> Result<(), Memory>
-    ensures { OnOk result (Puts row.old row.new edge) }
+    ensures { OnOk result (PutsEdge row.old row.new edge) }
 {
     match row.items().last() {
         None => (),
@@ -134,7 +134,7 @@ fn link_operands(
 ) -> Result<(), Memory>
     requires there { layout.now.entry < length rows.old }
     requires stacks { IsStacks stacks.now }
-    requires held { Holds stacks.now stack }
+    requires held { IsListNumber stacks.now stack }
     ensures { OnOk result (Links rows.old rows.new
         (IsDeeper layout.now to (list_of stacks.now stack) (length layout.now.formals))) }
 {
@@ -160,7 +160,7 @@ fn link_call(
 ) -> Result<(), Memory>
     requires there { layout.now.entry < length rows.old }
     requires stacks { IsStacks stacks.now }
-    requires held { Holds stacks.now stack }
+    requires held { IsListNumber stacks.now stack }
     ensures { OnOk result (Links rows.old rows.new (IsCall layout.now to (list_of stacks.now stack))) }
 {
     link(rows, layout.entry, Edge::Called { to })?;
@@ -169,7 +169,7 @@ fn link_call(
 
 // Puts those of the call at p, if there is one that is reached.
 fn link_called(g: &Ground, rows: &mut List<List<Edge>>, to: u32, p: u32) -> Result<(), Memory>
-    requires known { IsGround g.now }
+    requires known { IsPassContext g.now }
     requires lies { (a : Area) × LiesOnlyIn g.now.code.now p a × (entry g.now.code.now a ≡ to) }
     requires there { (b : ℕ) (l : Layout) → layout_of g.now.code.now.layouts b ≡ Some l → l.entry < length rows.old }
     ensures { OnOk result (Links rows.old rows.new (CalledAt g.now.code.now p)) }
@@ -219,7 +219,7 @@ fn link_started(code: &Code, rows: &mut List<List<Edge>>, to: u32, p: u32) -> Re
 
 // Puts those at p.
 fn link_at(g: &Ground, rows: &mut List<List<Edge>>, p: u32) -> Result<(), Memory>
-    requires known { IsGround g.now }
+    requires known { IsPassContext g.now }
     requires there { p < length g.now.code.now.instrs }
     requires size { length rows.old ≡ length g.now.code.now.instrs }
     ensures { OnOk result (Links rows.old rows.new (EdgeAt g.now.code.now p)) }
@@ -245,7 +245,7 @@ fn empty_rows(alloc: Global, count: usize) -> Result<List<List<Edge>>, Memory>
 
 /// All edges, by the first instructions of the areas from which they lead.
 pub fn edges_of(g: &Ground) -> Result<List<List<Edge>>, Memory>
-    requires known { IsGround g.now }
+    requires known { IsPassContext g.now }
     ensures { IfOk result (AreEdges g.now.code.now) }
 {
     let instrs = &g.code.parts().instrs;

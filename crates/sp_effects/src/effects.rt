@@ -1,8 +1,8 @@
 //! The effects of areas of code, as a table by their first instructions.
 
 ghost use Rattle.std.specs.Prelude.{◌≡◌, ℕ, IfOk, OnOk, length, slice_get};
-ghost use Rattle.sp_effects.specs.Grounds.{IsGround};
-ghost use Rattle.sp_effects.specs.Effects.{AreEffects, AreRows, HasDeed, Puts, Writes, touches};
+ghost use Rattle.sp_effects.specs.PassContexts.{IsPassContext};
+ghost use Rattle.sp_effects.specs.Effects.{AreEffects, AreRows, HasDeed, PutsDeed, WritesFact, touches};
 ghost use Rattle.sp_effects.specs.declared.facts.Deed.{Deed as DeedOf};
 ghost use Rattle.std.specs.Option.{option_copied};
 
@@ -77,7 +77,7 @@ fn empty_rows(alloc: Global, count: usize) -> Result<List<Deeds>, Memory>
 
 // Puts a deed into a row.
 fn put(row: &mut Deeds, deed: Deed) -> Result<(), Memory>
-    ensures { OnOk result (Puts row.old row.new deed) }
+    ensures { OnOk result (PutsDeed row.old row.new deed) }
 {
     match deed {
         Deed::Stores(x) => {
@@ -95,7 +95,7 @@ fn put(row: &mut Deeds, deed: Deed) -> Result<(), Memory>
 
 // Writes a fact into the row of its area.
 fn write(alloc: Global, rows: &mut List<Deeds>, fact: Fact) -> Result<(), Memory>
-    ensures { OnOk result (Writes rows.old rows.new fact) }
+    ensures { OnOk result (WritesFact rows.old rows.new fact) }
 {
     let at = fact.area as usize;
     if at >= rows.len() {
@@ -129,7 +129,7 @@ fn rows_of(alloc: Global, facts: &Facts, count: usize) -> Result<List<Deeds>, Me
 
 /// What the code of each block and child does. The only other answer is want of memory.
 pub fn find_effects(g: &Ground) -> Result<Effects, Memory>
-    requires known { IsGround g.now }
+    requires known { IsPassContext g.now }
     ensures { IfOk result (λ effects. AreEffects g.now.code.now effects) }
 {
     let own = own_of(g.code)?;

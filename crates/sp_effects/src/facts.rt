@@ -3,7 +3,7 @@
 ghost use Rattle.std.specs.Prelude.{◌≡◌, ℕ, ◌<◌, ◌||◌, ◌++◌, ◌∷◌, [], false, IfOk, OnOk, length, slice_get};
 ghost use Rattle.sp_effects.specs.declared.facts.Deed.{Deed as DeedOf};
 ghost use Rattle.sp_effects.specs.declared.facts.Fact.{Fact as FactOf};
-ghost use Rattle.sp_effects.specs.Facts.{in_sets, index_has, sets_have, same, same_deed, has_fact, with_fact};
+ghost use Rattle.sp_effects.specs.Facts.{in_sets, index_has, sets_have, same_fact, same_deed, has_fact, with_fact};
 
 use sp_base::{List, Memory};
 use std::alloc::Global;
@@ -91,7 +91,7 @@ fn reach(areas: &mut List<Sets>, area: u32) -> Result<(), Memory>
 fn put_at(areas: &mut List<Sets>, fact: Fact) -> Result<(), Memory>
     requires { fact.area < length areas.old }
     ensures { OnOk result ((f : FactOf) → sets_have areas.new f.area f.deed
-        ≡ same f fact || sets_have areas.old f.area f.deed) }
+        ≡ same_fact f fact || sets_have areas.old f.area f.deed) }
 {
     let none = no_sets(areas.alloc());
     let mut sets = areas.replace(fact.area as usize, none);
@@ -126,7 +126,7 @@ impl Index {
 
     fn put(&mut self, fact: Fact) -> Result<(), Memory>
         ensures { OnOk result ((f : FactOf) → index_has self.new f.area f.deed
-            ≡ same f fact || index_has self.old f.area f.deed) }
+            ≡ same_fact f fact || index_has self.old f.area f.deed) }
     {
         reach(&mut self.areas, fact.area)?;
         put_at(&mut self.areas, fact)

@@ -8,7 +8,7 @@ use sp_code::Code;
 use sp_shapes::shapes::Shapes;
 
 /// Code, its layouts by their blocks, and of each instruction whose code it is, what is around it, and the shapes that
-/// it is reached with (`IsGround`).
+/// it is reached with (`IsPassContext`).
 #[derive(Drop)]
 pub struct Ground<'a> {
     pub code: &'a Code,

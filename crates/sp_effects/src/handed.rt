@@ -1,9 +1,9 @@
 //! Rule V6: what the children of forks are handed, held against what they do.
 
 ghost use Rattle.std.specs.Prelude.{◌≡◌, IfOk, OnOk, length, slice_get, Some};
-ghost use Rattle.sp_areas.specs.Least.{IsLeast, Upto};
+ghost use Rattle.sp_areas.specs.LeastPlaces.{IsLeast, Upto};
 ghost use Rattle.sp_rules.specs.Verdict.{BreaksV6};
-ghost use Rattle.sp_effects.specs.Grounds.{IsGround};
+ghost use Rattle.sp_effects.specs.PassContexts.{IsPassContext};
 ghost use Rattle.sp_effects.specs.Effects.{AreEffects};
 ghost use Rattle.sp_effects.specs.Handed.{ChildFails, TableFails, clashes, fails_by};
 ghost use Rattle.sp_effects.specs.Handed.{fails_alone, is_loose};
@@ -138,7 +138,7 @@ fn first_in(alloc: Global, effects: &Effects, tables: &[ForkTable]) -> Result<Op
 /// answer is want of memory.
 #[tactic(auto, using(crate::proofs::Broken::v6_least))]
 pub fn first_ill_handed(g: &Ground, effects: &Effects) -> Result<Option<u32>, Memory>
-    requires known { IsGround g.now }
+    requires known { IsPassContext g.now }
     requires effects { AreEffects g.now.code.now effects.now }
     ensures { IfOk result (λ first. IsLeast (BreaksV6 g.now.code.now) first) }
 {

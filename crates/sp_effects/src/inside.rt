@@ -2,10 +2,10 @@
 
 ghost use Rattle.std.specs.Prelude.{◌≡◌, ℕ, ◌+◌, ◌<◌, None, Some, IfOk, length};
 ghost use Rattle.sp_rules.specs.Areas.{Area, homes as homes_of, instr_at};
-ghost use Rattle.sp_rules.specs.Keeps.{Keeps};
+ghost use Rattle.sp_rules.specs.KeepsCodeRules.{KeepsCodeRules};
 ghost use Rattle.sp_areas.specs.Only.{LiesOnlyIn};
 ghost use Rattle.sp_shapes.specs.Reached.{reached_at};
-ghost use Rattle.sp_effects.specs.Grounds.{IsGround};
+ghost use Rattle.sp_effects.specs.PassContexts.{IsPassContext};
 ghost use Rattle.sp_effects.specs.Turns.{AreInside, inside_of, is_inside};
 
 use crate::ground::Ground;
@@ -17,7 +17,7 @@ use sp_shapes::reached::reached;
 
 // Whether a block that is called from so many levels inside the one around it is called inside itself.
 fn is_inside(g: &Ground, p: u32, block: u32, up: u32) -> bool
-    requires known { IsGround g.now }
+    requires known { IsPassContext g.now }
     requires there { p < length g.now.code.now.instrs }
     ensures { (a : Area) → LiesOnlyIn g.now.code.now p a
         → result ≡ is_inside (homes_of g.now.code.now a) block up }
@@ -27,7 +27,7 @@ fn is_inside(g: &Ground, p: u32, block: u32, up: u32) -> bool
 
 // The place of the layout of a block that an instruction calls inside itself.
 fn inside_of(g: &Ground, p: u32, instr: Instr) -> Option<u32>
-    requires known { IsGround g.now }
+    requires known { IsPassContext g.now }
     requires there { p < length g.now.code.now.instrs }
     ensures { (a : Area) → LiesOnlyIn g.now.code.now p a
         → result ≡ inside_of (homes_of g.now.code.now a) g.now.blocks.now.first (Some instr) }
@@ -46,7 +46,7 @@ fn inside_of(g: &Ground, p: u32, instr: Instr) -> Option<u32>
 
 // The place of the layout of a block that an instruction which is reached calls inside itself.
 fn place_at(g: &Ground, p: u32) -> Option<u32>
-    requires known { IsGround g.now }
+    requires known { IsPassContext g.now }
     requires there { p < length g.now.code.now.instrs }
     ensures come { (a : Area) (n : ℕ) → LiesOnlyIn g.now.code.now p a → reached_at g.now.shapes.now p ≡ Some n
         → result ≡ inside_of (homes_of g.now.code.now a) g.now.blocks.now.first (instr_at g.now.code.now p) }
@@ -63,8 +63,8 @@ fn place_at(g: &Ground, p: u32) -> Option<u32>
 
 // Sets the flag of the layout of a block that an instruction calls inside itself, if it calls one.
 fn note(g: &Ground, flags: &mut List<bool>, p: u32)
-    requires known { IsGround g.now }
-    requires keeps { Keeps g.now.code.now }
+    requires known { IsPassContext g.now }
+    requires keeps { KeepsCodeRules g.now.code.now }
     requires there { p < length g.now.code.now.instrs }
     requires flags { AreInside g.now.code.now g.now.blocks.now.first g.now.shapes.now p flags.old }
     ensures { AreInside g.now.code.now g.now.blocks.now.first g.now.shapes.now (p + 1) flags.new }
@@ -77,8 +77,8 @@ fn note(g: &Ground, flags: &mut List<bool>, p: u32)
 
 /// For each layout, whether its block is called inside itself: in its own code, or in that of a block inside it.
 pub(crate) fn called_inside(g: &Ground) -> Result<List<bool>, Memory>
-    requires known { IsGround g.now }
-    requires keeps { Keeps g.now.code.now }
+    requires known { IsPassContext g.now }
+    requires keeps { KeepsCodeRules g.now.code.now }
     ensures { IfOk result (λ flags. AreInside g.now.code.now g.now.blocks.now.first g.now.shapes.now
         (length g.now.code.now.instrs) flags) }
 {

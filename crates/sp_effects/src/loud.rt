@@ -1,9 +1,9 @@
 //! Rule V8: blocks with a result that store outside themselves or come to a stop.
 
 ghost use Rattle.std.specs.Prelude.{◌≡◌, Some, slice_get};
-ghost use Rattle.sp_areas.specs.Least.{IsLeast};
+ghost use Rattle.sp_areas.specs.LeastPlaces.{IsLeast};
 ghost use Rattle.sp_rules.specs.Verdict.{BreaksV8};
-ghost use Rattle.sp_effects.specs.Grounds.{IsGround};
+ghost use Rattle.sp_effects.specs.PassContexts.{IsPassContext};
 ghost use Rattle.sp_effects.specs.Effects.{AreEffects};
 ghost use Rattle.sp_effects.specs.Loud.{is_loud};
 
@@ -32,7 +32,7 @@ fn is_loud(effects: &Effects, l: &Layout) -> bool
 /// The least instruction at which V8 is broken: the first instruction of a block with an answer that stores outside
 /// itself, or comes to a stop. None where there is none.
 pub fn first_loud(g: &Ground, effects: &Effects) -> Option<u32>
-    requires known { IsGround g.now }
+    requires known { IsPassContext g.now }
     requires effects { AreEffects g.now.code.now effects.now }
     ensures { IsLeast (BreaksV8 g.now.code.now) result }
 {

@@ -4,14 +4,14 @@ ghost use Rattle.std.specs.Prelude.{◌≡◌, ◌++◌, ◌∷◌, [], ◌<◌,
 ghost use Rattle.sp_areas.specs.Homes.{found_of};
 ghost use Rattle.sp_areas.specs.Only.{LiesOnlyIn};
 ghost use Rattle.sp_code.specs.Machine.{layout_of};
-ghost use Rattle.sp_effects.specs.Grounds.{IsGround};
+ghost use Rattle.sp_effects.specs.PassContexts.{IsPassContext};
 ghost use Rattle.sp_effects.specs.Facts.{Tells};
-ghost use Rattle.sp_effects.specs.Own.{DoesBy, ForkedAt, IsAmong, IsHanded, IsOf, IsStop, OneIsHanded, OwnAt};
+ghost use Rattle.sp_effects.specs.Own.{DoesBy, ForkedAt, IsDeedAmong, IsHanded, IsOf, IsStop, OneIsHanded, OwnAt};
 ghost use Rattle.sp_effects.specs.Own.{OwnBefore, ReachedAt, deed_of, operand_variables, variables_at};
 ghost use Rattle.sp_rules.specs.Areas.{Area, entry, instr_at};
-ghost use Rattle.sp_rules.specs.Touched.{topmost, addresses, numbered};
-ghost use Rattle.sp_rules.specs.Shapes.{below};
-ghost use Rattle.sp_shapes.specs.Stacks.{Holds, IsStacks, list_of, shape_of};
+ghost use Rattle.sp_rules.specs.Touched.{topmost_variable, addresses, number_list};
+ghost use Rattle.sp_rules.specs.Shapes.{below_topmost};
+ghost use Rattle.sp_shapes.specs.Stacks.{IsListNumber, IsStacks, list_of, shape_of};
 
 use crate::areas::{area_at, table_of};
 use crate::facts::{Deed, Fact, Facts};
@@ -33,7 +33,7 @@ fn push(list: &mut List<u32>, x: u32) -> Result<(), Memory>
 
 // Puts the variable of an operand last, if it is an address.
 fn push_shape(list: &mut List<u32>, shape: Shape) -> Result<(), Memory>
-    ensures { OnOk result (list.new ≡ list.old ++ topmost (shape_of shape ∷ [])) }
+    ensures { OnOk result (list.new ≡ list.old ++ topmost_variable (shape_of shape ∷ [])) }
 {
     match shape {
         Shape::Address { variable, left: _ } => push(list, variable),
@@ -44,8 +44,8 @@ fn push_shape(list: &mut List<u32>, shape: Shape) -> Result<(), Memory>
 // That of the topmost operand.
 fn push_top(list: &mut List<u32>, stacks: &Stacks, stack: u32) -> Result<(), Memory>
     requires stacks { IsStacks stacks.now }
-    requires there { Holds stacks.now stack }
-    ensures { OnOk result (list.new ≡ list.old ++ topmost (list_of stacks.now stack)) }
+    requires there { IsListNumber stacks.now stack }
+    ensures { OnOk result (list.new ≡ list.old ++ topmost_variable (list_of stacks.now stack)) }
 {
     match stacks.top(stack) {
         None => Ok(()),
@@ -56,8 +56,8 @@ fn push_top(list: &mut List<u32>, stacks: &Stacks, stack: u32) -> Result<(), Mem
 // That of the second.
 fn push_second(list: &mut List<u32>, stacks: &Stacks, stack: u32) -> Result<(), Memory>
     requires stacks { IsStacks stacks.now }
-    requires there { Holds stacks.now stack }
-    ensures { OnOk result (list.new ≡ list.old ++ topmost (below (list_of stacks.now stack))) }
+    requires there { IsListNumber stacks.now stack }
+    ensures { OnOk result (list.new ≡ list.old ++ topmost_variable (below_topmost (list_of stacks.now stack))) }
 {
     match stacks.top(stack) {
         None => Ok(()),
@@ -67,7 +67,7 @@ fn push_second(list: &mut List<u32>, stacks: &Stacks, stack: u32) -> Result<(), 
 
 // A variable that was looked up.
 fn push_found(list: &mut List<u32>, found: Option<Found>) -> Result<(), Memory>
-    ensures { OnOk result (list.new ≡ list.old ++ numbered (found_of found)) }
+    ensures { OnOk result (list.new ≡ list.old ++ number_list (found_of found)) }
 {
     match found {
         None => Ok(()),
@@ -83,7 +83,7 @@ fn push_addresses(
     count: usize,
 ) -> Result<(), Memory>
     requires stacks { IsStacks stacks.now }
-    requires there { Holds stacks.now stack }
+    requires there { IsListNumber stacks.now stack }
     ensures { OnOk result (list.new ≡ list.old ++ addresses count (list_of stacks.now stack)) }
 {
     let mut at = stack;
@@ -100,8 +100,8 @@ fn push_addresses(
 
 // Those of the operands of a call.
 fn push_passed(list: &mut List<u32>, g: &Ground, block: u32, stack: u32) -> Result<(), Memory>
-    requires known { IsGround g.now }
-    requires there { Holds g.now.shapes.now.stacks stack }
+    requires known { IsPassContext g.now }
+    requires there { IsListNumber g.now.shapes.now.stacks stack }
     ensures { OnOk result (list.new ≡ list.old
         ++ operand_variables (layout_of g.now.code.now.layouts block) (list_of g.now.shapes.now.stacks stack)) }
 {
@@ -119,8 +119,8 @@ fn push_placed(
     place: Place,
     stack: u32,
 ) -> Result<(), Memory>
-    requires known { IsGround g.now }
-    requires there { Holds g.now.shapes.now.stacks stack }
+    requires known { IsPassContext g.now }
+    requires there { IsListNumber g.now.shapes.now.stacks stack }
     requires within { p < length g.now.code.now.instrs }
     ensures { OnOk result ((a : Area) → LiesOnlyIn g.now.code.now p a
         → list.new ≡ list.old ++ variables_at g.now.code.now a place (list_of g.now.shapes.now.stacks stack)) }
@@ -144,8 +144,8 @@ fn push_placed(
 }
 
 fn variables_at(g: &Ground, p: u32, place: Place, stack: u32) -> Result<List<u32>, Memory>
-    requires known { IsGround g.now }
-    requires there { Holds g.now.shapes.now.stacks stack }
+    requires known { IsPassContext g.now }
+    requires there { IsListNumber g.now.shapes.now.stacks stack }
     requires within { p < length g.now.code.now.instrs }
     ensures { IfOk result (λ xs. (a : Area) → LiesOnlyIn g.now.code.now p a
         → xs ≡ variables_at g.now.code.now a place (list_of g.now.shapes.now.stacks stack)) }
@@ -167,7 +167,7 @@ fn deed_of(stores: bool, x: u32) -> Deed
 
 // Tells that an area stores these variables, or that it loads them.
 fn tell(facts: &mut Facts, area: u32, stores: bool, variables: &[u32]) -> Result<(), Memory>
-    ensures { OnOk result (Tells facts.old facts.new (IsOf area (IsAmong stores variables.now))) }
+    ensures { OnOk result (Tells facts.old facts.new (IsOf area (IsDeedAmong stores variables.now))) }
 {
     for i in 0..variables.len() {
         let deed = deed_of(stores, variables[i]);
@@ -198,8 +198,8 @@ fn tell_shaped(
     instr: Instr,
     stack: u32,
 ) -> Result<(), Memory>
-    requires known { IsGround g.now }
-    requires there { Holds g.now.shapes.now.stacks stack }
+    requires known { IsPassContext g.now }
+    requires there { IsListNumber g.now.shapes.now.stacks stack }
     requires instr { instr_at g.now.code.now p ≡ Some instr }
     requires within { p < length g.now.code.now.instrs }
     ensures { OnOk result ((a : Area) → LiesOnlyIn g.now.code.now p a
@@ -242,7 +242,7 @@ fn tell_forked(code: &Code, facts: &mut Facts, area: u32, p: u32) -> Result<(), 
 
 // Tells what the instruction at p does itself, if it is reached.
 fn tell_reached(g: &Ground, facts: &mut Facts, area: u32, p: u32) -> Result<(), Memory>
-    requires known { IsGround g.now }
+    requires known { IsPassContext g.now }
     requires lies { (a : Area) × LiesOnlyIn g.now.code.now p a × (entry g.now.code.now a ≡ area) }
     requires within { p < length g.now.code.now.instrs }
     ensures { OnOk result (Tells facts.old facts.new (ReachedAt g.now.code.now p)) }
@@ -260,7 +260,7 @@ fn tell_reached(g: &Ground, facts: &mut Facts, area: u32, p: u32) -> Result<(), 
 
 // Tells what the instruction at p does.
 fn tell_at(g: &Ground, facts: &mut Facts, p: u32) -> Result<(), Memory>
-    requires known { IsGround g.now }
+    requires known { IsPassContext g.now }
     requires there { p < length g.now.code.now.instrs }
     ensures { OnOk result (Tells facts.old facts.new (OwnAt g.now.code.now p)) }
 {
@@ -274,7 +274,7 @@ fn tell_at(g: &Ground, facts: &mut Facts, p: u32) -> Result<(), Memory>
 
 /// What each area does itself, or hands to its children.
 pub fn tell_own(g: &Ground, facts: &mut Facts) -> Result<(), Memory>
-    requires known { IsGround g.now }
+    requires known { IsPassContext g.now }
     ensures { OnOk result (Tells facts.old facts.new (OwnBefore g.now.code.now (length g.now.code.now.instrs))) }
 {
     for p in 0..g.code.parts().instrs.len() {

@@ -9,18 +9,18 @@ use Rattle.sp_journal.specs.declared.entry.Event.TheVariants as event
 use Rattle.sp_journal.specs.declared.entry.Entry.{Entry}
 use Rattle.sp_journal.specs.declared.outcome.End.{End}
 use Rattle.sp_journal.specs.declared.outcome.End.TheVariants as end
-use Rattle.sp_journal.specs.Births.{Births, at_start, births_from, occurrences_from, NameableFrom}
+use Rattle.sp_journal.specs.Births.{Births, first_births, births_from, occurrences_from, NameableFrom}
 use Rattle.sp_journal.specs.Names.{proc_name}
 use Rattle.sp_journal.proofs.BirthLaws.{Lawful, lawful as lawful_births}
 use Rattle.sp_cell.specs.Map.{Plain}
-use Rattle.sp_meaning.specs.Own.{Setting}
+use Rattle.sp_meaning.specs.LocalWork.{RunInput}
 use Rattle.sp_meaning.specs.Runs.{StateOf, output_of}
 use Rattle.sp_meaning.specs.Along.{IsAlong}
 use Rattle.sp_meaning.specs.Ends.{EndIs}
 use Rattle.sp_meaning.specs.Ends as meant
 use Rattle.sp_code.specs.PlainStore.{plain}
 use Rattle.sp_code.specs.System.{System, Condition, Absent, Working, Waits, Joins, Laid, Gone, Over, IsSystem, store_in}
-use Rattle.sp_code.specs.System.{opening}
+use Rattle.sp_code.specs.System.{opening_system}
 use Rattle.sp_history.specs.Agreement.{Finished, phase_in}
 use Rattle.sp_history.specs.Holding.{IsOutputOf}
 use Rattle.sp_history.proofs.Phases.{no_waiter_ended}
@@ -58,14 +58,14 @@ has_fault (x ∷ es) p f e = by (has_fault es p f) x.event refl e
     by on event.Laid i e = inr (on e)
     by on event.Pause i e = inr (on e)
 
-module _ (g : Setting) (moves shares : Stmt
+module _ (g : RunInput) (moves shares : Stmt
     → List ℕ) (pause : ℕ) (ready : IsReady g moves shares) (es : List Entry) (t : System Plain)
     (h : IsSystem plain (run_by g moves shares pause) es t) where
-  pub names : NameableFrom at_start es
+  pub names : NameableFrom first_births es
   names = names_on g moves shares pause ready es t h
 
-  births_here : t.births ≡ births_from at_start es
-  births_here = births_along (run_by g moves shares pause) es (opening plain (run_by g moves shares pause)) t h
+  births_here : t.births ≡ births_from first_births es
+  births_here = births_along (run_by g moves shares pause) es (opening_system plain (run_by g moves shares pause)) t h
 
   lawful : Lawful t.births
   lawful = subst (λ (b : Births). Lawful b) (sym births_here) (lawful_births es names)
@@ -74,10 +74,10 @@ module _ (g : Setting) (moves shares : Stmt
   unborn q l = let z = linked_along
       (ground g moves shares pause ready es names) ready.main ready.first es names refl t h in z.linked.unborn q l
 
-  pub means : (n : ℕ) × (s : StateOf g) × IsAlong g pause (occurrences_from at_start es) n s
+  pub means : (n : ℕ) × (s : StateOf g) × IsAlong g pause (occurrences_from first_births es) n s
   means = program_means g moves shares pause ready es names t h
 
-  module _ (n : ℕ) (s : StateOf g) (k : IsAlong g pause (occurrences_from at_start es) n s) where
+  module _ (n : ℕ) (s : StateOf g) (k : IsAlong g pause (occurrences_from first_births es) n s) where
     pub same_output : (q : ℕ) (text : List ℕ) → IsOutputOf t q text → text ≡ output_of g s
     same_output q text o =
         let mine = program_output g moves shares pause ready es names t h n s k in
@@ -104,14 +104,14 @@ module _ (g : Setting) (moves shares : Stmt
     same_end (end.Deadlock ws) d = let z = stuck t lawful unborn ws d in
         (z.0, program_stuck g moves shares pause ready es t h n s k z.0 z.1, z.2)
     same_end (end.Fault name f) d = (
-      (births_from at_start es).name d.0,
+      (births_from first_births es).name d.0,
       program_fault g moves shares pause ready es t h n s k d.0 f
           (has_fault es d.0 f d.1),
       d.2 ∙ ap (λ (b : Births). proc_name (b.name d.0)) births_here,
     )
     same_end end.Memory d = absurd d
 
-pub concluded : (g : Setting) (moves shares : Stmt → List ℕ) (c : Closed) → IsRunOfCode g moves shares c → IsAbout g c
+pub concluded : (g : RunInput) (moves shares : Stmt → List ℕ) (c : Closed) → IsRunOfCode g moves shares c → IsAbout g c
 concluded g moves shares c r =
     let es = c.journal.entries in
     let t = r.gives.system in

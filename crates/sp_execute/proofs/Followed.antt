@@ -11,9 +11,10 @@ use Rattle.sp_journal.specs.declared.entry.Entry.{Entry}
 use Rattle.sp_journal.specs.declared.entry.Journal.{Journal}
 use Rattle.sp_journal.specs.declared.outcome.End.{End}
 use Rattle.sp_journal.specs.declared.outcome.End.TheVariants as end
-use Rattle.sp_journal.specs.Births.{Births, at_start, after_entry, occurrences_from, NameableFrom, IsNameable}
+use Rattle.sp_journal.specs.Births.{Births, first_births, births_after_entry, occurrences_from, NameableFrom}
+use Rattle.sp_journal.specs.Births.{IsNameable}
 use Rattle.sp_cell.specs.Map.{Plain}
-use Rattle.sp_meaning.specs.Own.{Setting}
+use Rattle.sp_meaning.specs.LocalWork.{RunInput}
 use Rattle.sp_meaning.specs.Runs.{StateOf}
 use Rattle.sp_meaning.specs.Along.{IsAlong}
 use Rattle.sp_meaning.specs.Ends.{EndIs, EndsSo}
@@ -32,14 +33,14 @@ use Rattle.sp_replay.specs.declared.replayer.ReplayError.{ReplayError}
 use Rattle.sp_replay.specs.declared.replayer.ReplayError.TheVariants as error
 use Rattle.sp_replay.specs.Replays as machine
 use Rattle.sp_execute.specs.Runs.{setting, IsCodeOf}
-use Rattle.sp_execute.specs.Follows.{Follows}
+use Rattle.sp_execute.specs.Follows.{FollowsTo}
 use Rattle.sp_execute.proofs.Concluding.{names, means, same_output, same_end}
 
 -- the first entries of a journal that gives names give names
 nameable_front : (s : Births) (n : ℕ) (es : List Entry) → NameableFrom s es → NameableFrom s (take n es)
 nameable_front s zero es h = tt
 nameable_front s (suc n) [] h = tt
-nameable_front s (suc n) (e ∷ es) h = (h.0, nameable_front (after_entry s e) n es h.1)
+nameable_front s (suc n) (e ∷ es) h = (h.0, nameable_front (births_after_entry s e) n es h.1)
 
 -- who runs works
 works : (X : Condition Plain) → phase_in X ≡ Running → (d : Config (Memory Plain)) × (X ≡ Working d)
@@ -59,10 +60,10 @@ works (Laid d) e = absurd (cc e)
 works Gone e = absurd (cc e)
 works (Over d) e = absurd (cc e)
 
-module _ (g : Setting) (moves shares : Stmt → List ℕ) (ready : IsReady g moves shares) where
+module _ (g : RunInput) (moves shares : Stmt → List ℕ) (ready : IsReady g moves shares) where
   -- a system that goes on is at no end of the program
   goes_on : (es : List Entry) (t : System Plain) (h : IsSystem plain (run_by g moves shares TURN_TICKS) es t) (n : ℕ)
-      (s : StateOf g) → IsAlong g TURN_TICKS (occurrences_from at_start es) n s
+      (s : StateOf g) → IsAlong g TURN_TICKS (occurrences_from first_births es) n s
       → machine.GoesOn t → (e : End) → EndIs g s e → ⊥
   goes_on es t h n s k on end.Done d =
       let over = program_over g moves shares TURN_TICKS ready es
@@ -77,13 +78,13 @@ module _ (g : Setting) (moves shares : Stmt → List ℕ) (ready : IsReady g mov
   goes_on es t h n s k on end.Memory d = absurd d
 
   ends : (es : List Entry) (t : System Plain) (h : IsSystem plain (run_by g moves shares TURN_TICKS) es t) (n : ℕ)
-      (s : StateOf g) → IsAlong g TURN_TICKS (occurrences_from at_start es) n s
-      → (o : Option End) → machine.EndsSo es t o → EndsSo g s o
+      (s : StateOf g) → IsAlong g TURN_TICKS (occurrences_from first_births es) n s
+      → (o : Option End) → machine.ReplayEndsSo es t o → EndsSo g s o
   ends es t h n s k None on = goes_on es t h n s k on
   ends es t h n s k (Some e) at = same_end g moves shares TURN_TICKS ready es t h n s k e at
 
   pub program_follows : (j : Journal) → IsNameable j → (r : Result Replayed ReplayError)
-      → machine.Replays (run_by g moves shares TURN_TICKS) j.entries r → Follows g j r
+      → machine.Replays (run_by g moves shares TURN_TICKS) j.entries r → FollowsTo g j r
   program_follows j named (Ok r) h =
       let z = means g moves shares TURN_TICKS ready j.entries h.system h.along in
       record {
@@ -99,7 +100,7 @@ module _ (g : Setting) (moves shares : Stmt → List ℕ) (ready : IsReady g mov
     fits = means g moves shares TURN_TICKS ready (take n j.entries) h.fits.0 h.fits.1;
     unfit = λ m.
         let z = program_runs g moves shares TURN_TICKS ready (take (suc n) j.entries)
-        (nameable_front at_start (suc n) j.entries named) m.0 m.1 m.2 in
+        (nameable_front first_births (suc n) j.entries named) m.0 m.1 m.2 in
         h.unfit z.0 z.1;
   }
   program_follows j named (Err error.Memory) h = tt {0}
@@ -107,7 +108,7 @@ module _ (g : Setting) (moves shares : Stmt → List ℕ) (ready : IsReady g mov
 module _ (code : Parts) (input : List ℕ) (lim : Limits) (p : Program) (moves shares : Stmt
     → List ℕ) (is : IsCodeOf (setting p input lim) moves shares code) where
   pub followed : (j : Journal) → IsNameable j → (r : Result Replayed ReplayError)
-      → machine.Replays (run_of code input lim) j.entries r → Follows (setting p input lim) j r
+      → machine.Replays (run_of code input lim) j.entries r → FollowsTo (setting p input lim) j r
   followed j named r h =
       program_follows (setting p input lim) moves shares is.ready j named r
       (subst (λ (x : Parts). machine.Replays (run_of x input lim) j.entries r) is.emitted h)

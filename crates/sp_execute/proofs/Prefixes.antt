@@ -5,15 +5,15 @@ use Rattle.std.proofs.Common.{ap, subst, arith}
 use Rattle.std.proofs.lemmas.Bool.{cases_order}
 use Rattle.sp_base.specs.declared.limits.TheConstants.{TURN_TICKS}
 use Rattle.sp_journal.specs.declared.entry.Entry.{Entry}
-use Rattle.sp_journal.specs.Births.{Births, at_start, after_entry, occurrences_from}
+use Rattle.sp_journal.specs.Births.{Births, first_births, births_after_entry, occurrences_from}
 use Rattle.sp_journal.specs.Names.{Happening, Forked, Opened, Offered, Ended, Faulted, Laid, Paused, Occurrence}
 use Rattle.sp_meaning.specs.Model.{Name}
-use Rattle.sp_meaning.specs.Own.{Setting}
+use Rattle.sp_meaning.specs.LocalWork.{RunInput}
 use Rattle.sp_meaning.specs.Runs.{StateOf, start}
-use Rattle.sp_meaning.specs.Along.{Course, no_course, Along, Entered}
+use Rattle.sp_meaning.specs.Along.{Course, no_course, Along, EntryStep}
 use Rattle.sp_execute.specs.Follows.{IsMeant, IsUnfitAt}
 
-module _ (g : Setting) (turn : ℕ) where
+module _ (g : RunInput) (turn : ℕ) where
   -- the meaning is defined along these occurrences from here on
   abbrev Defined : List Occurrence → Course → StateOf g → Type 0
   Defined os c s = (n : ℕ) × (t : StateOf g) × Along g turn c s os n t
@@ -21,8 +21,8 @@ module _ (g : Setting) (turn : ℕ) where
   module _ (os ps : List Occurrence) (shorter : (c : Course) (s : StateOf g) (n : ℕ) (t : StateOf g)
       → Along g turn c s os n t → Defined ps c s) where
     entered : (c : Course) (m : StateOf g) (paused : Bool) (q : Name) (what : Happening) (n : ℕ) (t : StateOf g)
-        → Entered g (λ c1 u r. Along g turn c1 u os r t) c m paused q what n
-        → (k : ℕ) × (z : StateOf g) × Entered g (λ c1 u r. Along g turn c1 u ps r z) c m paused q what k
+        → EntryStep g (λ c1 u r. Along g turn c1 u os r t) c m paused q what n
+        → (k : ℕ) × (z : StateOf g) × EntryStep g (λ c1 u r. Along g turn c1 u ps r z) c m paused q what k
     entered c m paused q Laid n t h = let r = shorter _ _ n t h.1 in (r.0, r.1, (h.0, r.2))
     entered c m paused q Paused n t h = let r = shorter _ _ n t h.2 in (r.0, r.1, (h.0, h.1, r.2))
     entered c m paused q (Forked count) n t (a, b, u, rest, e, i, l) = let r = shorter _ _ rest t l in
@@ -40,9 +40,9 @@ module _ (g : Setting) (turn : ℕ) where
       → Along g turn c s (occurrences_from b (xs ++ ys)) n t → Defined (occurrences_from b xs) c s
   first_part b [] ys c s n t h = (0, s, (refl, refl))
   first_part b (x ∷ xs) ys c s n t (laid, k, rest, m, paused, e, made, h) =
-      let r = entered (occurrences_from (after_entry b x) (xs
-      ++ ys)) (occurrences_from (after_entry b x) xs)
-      (first_part (after_entry b x) xs ys) c m paused _ _ rest t h in
+      let r = entered (occurrences_from (births_after_entry b x) (xs
+      ++ ys)) (occurrences_from (births_after_entry b x) xs)
+      (first_part (births_after_entry b x) xs ys) c m paused _ _ rest t h in
       (k + r.0, r.1, (laid, k, r.0, m, paused, refl, made, r.2))
 
 -- a shorter first part is a first part of a longer one
@@ -57,19 +57,19 @@ whole_take zero es = (es, refl)
 whole_take (suc n) [] = ([], refl)
 whole_take (suc n) (e ∷ es) = let r = whole_take n es in (r.0, ap (λ xs. e ∷ xs) r.1)
 
-meant_part : (g : Setting) (xs ys es : List Entry) → es ≡ xs ++ ys → IsMeant g es → IsMeant g xs
-meant_part g xs ys es e (n, s, h) = first_part g TURN_TICKS at_start xs ys no_course (start g) n s
-    (subst (λ zs. Along g TURN_TICKS no_course (start g) (occurrences_from at_start zs) n s) e h)
+meant_part : (g : RunInput) (xs ys es : List Entry) → es ≡ xs ++ ys → IsMeant g es → IsMeant g xs
+meant_part g xs ys es e (n, s, h) = first_part g TURN_TICKS first_births xs ys no_course (start g) n s
+    (subst (λ zs. Along g TURN_TICKS no_course (start g) (occurrences_from first_births zs) n s) e h)
 
-pub not_both : (g : Setting) (es : List Entry) (n : ℕ) → IsMeant g es → IsUnfitAt g es n → ⊥
+pub not_both : (g : RunInput) (es : List Entry) (n : ℕ) → IsMeant g es → IsUnfitAt g es n → ⊥
 not_both g es n m u = let r = whole_take (suc n) es in u.unfit (meant_part g (take (suc n) es) r.0 es r.1 m)
 
 -- no later entry is the first
-not_later : (g : Setting) (es : List Entry) (m n : ℕ) → m < n → IsUnfitAt g es m → IsUnfitAt g es n → ⊥
+not_later : (g : RunInput) (es : List Entry) (m n : ℕ) → m < n → IsUnfitAt g es m → IsUnfitAt g es n → ⊥
 not_later g es m n l u v = let r = shorter_take (suc m) n es (omega (arith, l)) in u.unfit
     (meant_part g (take (suc m) es) r.0 (take n es) r.1 v.fits)
 
-pub one_entry : (g : Setting) (es : List Entry) (m n : ℕ) → IsUnfitAt g es m → IsUnfitAt g es n → m ≡ n
+pub one_entry : (g : RunInput) (es : List Entry) (m n : ℕ) → IsUnfitAt g es m → IsUnfitAt g es n → m ≡ n
 one_entry g es m n u v = go (cases_order m n)
   where
     go : (m ≡ n) ⊎ ((m < n) ⊎ (n < m)) → m ≡ n

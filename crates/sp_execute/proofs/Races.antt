@@ -18,9 +18,9 @@ use Rattle.sp_judge.specs.Races.{IsFault, IsLeastRace, IsVerdict, Race}
 use Rattle.sp_link.specs.Premises.{IsReady}
 use Rattle.sp_meaning.specs.Along.{IsAlong, IsClean}
 use Rattle.sp_meaning.specs.Ends.{EndIs, EndsSo}
-use Rattle.sp_meaning.specs.Own.{Setting}
+use Rattle.sp_meaning.specs.LocalWork.{RunInput}
 use Rattle.sp_meaning.specs.Runs.{StateOf}
-use Rattle.sp_judge.specs.Prefixes.{IsQuiet}
+use Rattle.sp_judge.specs.Prefixes.{WaitersAreSilent}
 use Rattle.sp_numbered.specs.Journals.{IsWitness}
 use Rattle.sp_witness.specs.Contention.{NeverContends}
 use Rattle.sp_witness.specs.Moved.{IsPlain}
@@ -34,17 +34,17 @@ use Rattle.sp_execute.specs.Witnesses.{IsReadyRun, Shown, ShowsOffers, ShowsRace
 
 -- the laws of runs, and of witnesses
 abbrev pub CleanLaw : Type 0
-CleanLaw = (g : Setting) (turn : ℕ) (es : List Occurrence) (n : ℕ) (t : StateOf g) (e : End)
+CleanLaw = (g : RunInput) (turn : ℕ) (es : List Occurrence) (n : ℕ) (t : StateOf g) (e : End)
     → IsAlong g turn es n t → EndIs g t e → (IsFault e → ⊥) → IsClean es
 
 abbrev pub WitnessLaw : Type 0
-WitnessLaw = (g : Setting) (moves shares : Stmt → List ℕ) (turn : ℕ) → IsReady g moves shares
+WitnessLaw = (g : RunInput) (moves shares : Stmt → List ℕ) (turn : ℕ) → IsReady g moves shares
     → (j : Journal) (n : ℕ) (t : StateOf g) → IsAlong g turn (occurrences j) n t → IsClean (occurrences j)
     → (w : Way) (c : Channel) (earlier later : ℕ)
     → IsLeastRace (occurrences j) w c earlier later → IsWitness g turn j w c earlier later
 
 abbrev pub ContentionLaw : Type 0
-ContentionLaw = (g : Setting) (moves shares : Stmt → List ℕ) (turn : ℕ) → IsReady g moves shares
+ContentionLaw = (g : RunInput) (moves shares : Stmt → List ℕ) (turn : ℕ) → IsReady g moves shares
     → (j : Journal) (n : ℕ) (t : StateOf g) → IsAlong g turn (occurrences j) n t → IsClean (occurrences j)
     → (w : Way) (c : Channel) (earlier later : ℕ) → IsLeastRace (occurrences j) w c earlier later
     → (m : ℕ) (u : StateOf g) → IsAlong g turn (occurrences (witness_journal j earlier later)) m u
@@ -52,12 +52,13 @@ ContentionLaw = (g : Setting) (moves shares : Stmt → List ℕ) (turn : ℕ) �
     → e ≡ Some (end.Fault (proc_name (who_at (occurrences j) later)) fault.F6)
 
 abbrev pub OrderedLaw : Type 0
-OrderedLaw = (g : Setting) (turn : ℕ) (es : List Occurrence) (n : ℕ) (t : StateOf g) (e : End) (v : Verdict)
+OrderedLaw = (g : RunInput) (turn : ℕ) (es : List Occurrence) (n : ℕ) (t : StateOf g) (e : End) (v : Verdict)
     → IsFreeOfInterference g.program → IsAlong g turn es n t → EndIs g t e → (IsFault e → ⊥) → IsVerdict es e v
     → (v ≡ verdict.Ordered) ↔ NeverContends g
 
 abbrev pub QuietLaw : Type 0
-QuietLaw = (g : Setting) (turn : ℕ) (es : List Occurrence) (n : ℕ) (t : StateOf g) → IsAlong g turn es n t → IsQuiet es
+QuietLaw = (g : RunInput) (turn : ℕ) (es : List Occurrence) (n : ℕ) (t : StateOf g) → IsAlong g turn es n t
+    → WaitersAreSilent es
 
 abbrev pub OffersLaw : Type 0
 OffersLaw = (j : Journal) (w : Way) (c : Channel) (earlier later : ℕ) → Race (occurrences j) w c earlier later
@@ -65,7 +66,7 @@ OffersLaw = (j : Journal) (w : Way) (c : Channel) (earlier later : ℕ) → Race
 
 -- what the call that makes a witness asks of the journal and of the indices of its two offers
 pub record CanShow (j : Journal) (earlier later : ℕ) : Type 0 where
-  pub quiet : IsQuiet (occurrences j)
+  pub quiet : WaitersAreSilent (occurrences j)
   pub clean : IsClean (occurrences j)
   pub inside : later < length j.entries
   pub offer : IfSome (slice_get j.entries earlier) (λ e. IsPlain e.event)
@@ -78,7 +79,7 @@ verdict_race : (es : List Occurrence) (e : End) (v : Verdict) (w : Way) (c : Cha
     → IsVerdict es e (verdict.Race w c earlier later)
 verdict_race es e v w c earlier later h is = subst (IsVerdict es e) h is
 
-module _ (g : Setting) (moves shares : Stmt
+module _ (g : RunInput) (moves shares : Stmt
     → List ℕ) (workers : ℕ) (r : Ran) (ready : IsReady g moves shares) (x : Executes g workers r)
     (clean : CleanLaw) (witnesses : WitnessLaw) where
   abbrev names : List Occurrence

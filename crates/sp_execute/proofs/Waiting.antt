@@ -17,7 +17,7 @@ use Rattle.sp_history.specs.Agreement.{phase_in}
 use Rattle.sp_link.specs.Endings.{waiting_at, WaitsAs, IsStuck, IsWaiting, with_waiting, waiting_from}
 use Rattle.sp_link.proofs.SortedWaiters.{all_waiting}
 use Rattle.sp_link.proofs.Histories.{Sends_at, Receives_at, Waits_with}
-use Rattle.sp_runner.specs.Ends.{IsDeadlock, offer_in, waiting, waiters_among}
+use Rattle.sp_runner.specs.Ends.{IsDeadlock, offer_in, waiter_list, waiters_among}
 
 -- ---- the control that knows of those that wait alone
 
@@ -70,7 +70,7 @@ to_receive b i c Gone e = absurd (cc e)
 to_receive b i c (Over d) e = absurd (cc e)
 
 -- one process, in both lists
-one_more : (b : Births) (q : ℕ) (X : Condition Plain) (ws : List Waiting) → waiting b q (offer_in X)
+one_more : (b : Births) (q : ℕ) (X : Condition Plain) (ws : List Waiting) → waiter_list b q (offer_in X)
     ++ map waiter_of ws ≡ map waiter_of (with_waiting b q (doing_in X) ws)
 one_more b q (Waits (Sends c k cs) d) ws = refl
 one_more b q (Waits (Receives c k a) d) ws = refl
@@ -92,7 +92,7 @@ module _ (t : System Plain) (lawful : Lawful t.births) (unborn : (q : ℕ) → t
 
   same_list : (q n : ℕ) → waiters_among t.births t.condition (numbers q n) ≡ map waiter_of (waiting_from k q n)
   same_list q zero = refl
-  same_list q (suc n) = ap (λ ws. waiting t.births q (offer_in (t.condition q)) ++ ws) (same_list (suc q) n)
+  same_list q (suc n) = ap (λ ws. waiter_list t.births q (offer_in (t.condition q)) ++ ws) (same_list (suc q) n)
       ∙ one_more t.births q (t.condition q) (waiting_from k (suc q) n)
 
   to_system : (w : Waiting) → IsWaiting k w → WaitsAs t w

@@ -5,8 +5,8 @@ use Rattle.std.specs.Prelude.{◌≡◌, ℕ, suc, ◌<◌, List, length, take, 
 use Rattle.sp_base.specs.declared.limits.TheConstants.{TURN_TICKS}
 use Rattle.sp_journal.specs.declared.entry.Entry.{Entry}
 use Rattle.sp_journal.specs.declared.entry.Journal.{Journal}
-use Rattle.sp_journal.specs.Births.{at_start, occurrences_from, occurrences}
-use Rattle.sp_meaning.specs.Own.{Setting}
+use Rattle.sp_journal.specs.Births.{first_births, occurrences_from, occurrences}
+use Rattle.sp_meaning.specs.LocalWork.{RunInput}
 use Rattle.sp_meaning.specs.Runs.{StateOf, output_of}
 use Rattle.sp_meaning.specs.Along.{IsAlong}
 use Rattle.sp_meaning.specs.Ends.{EndsSo}
@@ -16,7 +16,7 @@ use Rattle.sp_replay.specs.declared.replayer.ReplayError.TheVariants as error
 
 -- along the journal the meaning of the program is defined; the output and the end, or that there is none, are those of
 -- its state there
-pub record IsFollowed (g : Setting) (j : Journal) (r : Replayed) : Type 0 where
+pub record IsFollowed (g : RunInput) (j : Journal) (r : Replayed) : Type 0 where
   pub steps : ℕ
   pub state : StateOf g
   pub along : IsAlong g TURN_TICKS (occurrences j) steps state
@@ -24,17 +24,17 @@ pub record IsFollowed (g : Setting) (j : Journal) (r : Replayed) : Type 0 where
   pub end : EndsSo g state r.end
 
 -- the meaning of the program is defined along these entries
-abbrev pub IsMeant : Setting → List Entry → Type 0
-IsMeant g es = (n : ℕ) × (s : StateOf g) × IsAlong g TURN_TICKS (occurrences_from at_start es) n s
+abbrev pub IsMeant : RunInput → List Entry → Type 0
+IsMeant g es = (n : ℕ) × (s : StateOf g) × IsAlong g TURN_TICKS (occurrences_from first_births es) n s
 
 -- it is defined along the first n entries, and not with the next entry
-pub record IsUnfitAt (g : Setting) (es : List Entry) (n : ℕ) : Type 0 where
+pub record IsUnfitAt (g : RunInput) (es : List Entry) (n : ℕ) : Type 0 where
   pub inside : n < length es
   pub fits : IsMeant g (take n es)
   pub unfit : IsMeant g (take (suc n) es) → ⊥
 
 -- what following the journal says
-abbrev pub Follows : Setting → Journal → Result Replayed ReplayError → Type 0
-Follows g j (Ok r) = IsFollowed g j r
-Follows g j (Err (error.Unfit n)) = IsUnfitAt g j.entries n
-Follows g j (Err error.Memory) = Unit {0}
+abbrev pub FollowsTo : RunInput → Journal → Result Replayed ReplayError → Type 0
+FollowsTo g j (Ok r) = IsFollowed g j r
+FollowsTo g j (Err (error.Unfit n)) = IsUnfitAt g j.entries n
+FollowsTo g j (Err error.Memory) = Unit {0}

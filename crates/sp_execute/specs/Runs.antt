@@ -8,7 +8,7 @@ use Rattle.sp_tree.specs.Plain.{Program, Stmt}
 use Rattle.sp_journal.specs.declared.outcome.Verdict.{Verdict}
 use Rattle.sp_journal.specs.Births.{IsNameable, occurrences}
 use Rattle.sp_journal.specs.Queue.{IsFirstInFirstOut}
-use Rattle.sp_meaning.specs.Own.{Setting}
+use Rattle.sp_meaning.specs.LocalWork.{RunInput}
 use Rattle.sp_meaning.specs.Runs.{StateOf, output_of}
 use Rattle.sp_meaning.specs.Along.{IsAlong}
 use Rattle.sp_meaning.specs.Ends.{EndIs}
@@ -22,22 +22,22 @@ use Rattle.sp_runner.specs.Ends.{EndsWith}
 use Rattle.sp_execute.specs.declared.execution.Ran.{Ran}
 
 -- a program on an input with limits
-abbrev pub setting : Program → List ℕ → Limits → Setting
+abbrev pub setting : Program → List ℕ → Limits → RunInput
 setting p input lim = record { program = p; input = input; limits = lim }
 
 -- the code is that of a program that is ready for it, where the forks take over and share these variables
-pub record IsCodeOf (g : Setting) (moves shares : Stmt → List ℕ) (code : Parts) : Type 0 where
+pub record IsCodeOf (g : RunInput) (moves shares : Stmt → List ℕ) (code : Parts) : Type 0 where
   pub ready : IsReady g moves shares
   pub emitted : code ≡ program_code g.program moves shares
 
 -- the machine with the code of a program gives that end and that output along that journal
-pub record IsRunOfCode (g : Setting) (moves shares : Stmt → List ℕ) (c : Closed) : Type 0 where
+pub record IsRunOfCode (g : RunInput) (moves shares : Stmt → List ℕ) (c : Closed) : Type 0 where
   pub ready : IsReady g moves shares
   pub gives : EndsWith (run_by g moves shares TURN_TICKS) c.journal.entries c.end c.output
 
 -- along the journal, which gives names, the meaning of the program is defined; the end and the output are those of its
 -- state there
-pub record IsAbout (g : Setting) (c : Closed) : Type 0 where
+pub record IsAbout (g : RunInput) (c : Closed) : Type 0 where
   pub names : IsNameable c.journal
   pub steps : ℕ
   pub state : StateOf g
@@ -47,11 +47,11 @@ pub record IsAbout (g : Setting) (c : Closed) : Type 0 where
 
 -- the program's run along the journal has so many steps and that state, and the verdict says of it what it promises of
 -- a run
-abbrev pub Promises : Setting → Closed → Verdict → Type 0
+abbrev pub Promises : RunInput → Closed → Verdict → Type 0
 Promises g c v = (a : IsAbout g c) × IsRunVerdict g (occurrences c.journal) a.steps a.state c.end v
 
 -- a run of the program, with its exact verdict and what that promises
-pub record Executes (g : Setting) (workers : ℕ) (e : Ran) : Type 0 where
+pub record Executes (g : RunInput) (workers : ℕ) (e : Ran) : Type 0 where
   pub about : IsAbout g e.closed
   pub verdict : IsVerdict (occurrences e.closed.journal) e.closed.end e.verdict
   pub promise : IsRunVerdict g (occurrences e.closed.journal) about.steps about.state e.closed.end e.verdict

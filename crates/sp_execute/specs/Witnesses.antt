@@ -14,7 +14,7 @@ use Rattle.sp_journal.specs.Births.{occurrences}
 use Rattle.sp_journal.specs.Names.{Channel, chan_name, proc_name}
 use Rattle.sp_judge.specs.Races.{IsFault}
 use Rattle.sp_link.specs.Premises.{IsReady}
-use Rattle.sp_meaning.specs.Own.{Setting}
+use Rattle.sp_meaning.specs.LocalWork.{RunInput}
 use Rattle.sp_numbered.specs.Journals.{IsWitness}
 use Rattle.sp_replay.specs.declared.replayer.Replayed.{Replayed}
 use Rattle.sp_witness.specs.Contention.{NeverContends}
@@ -36,12 +36,12 @@ witness_of r = witness_by r.verdict r.closed.journal
 
 -- it is a run of a program that is ready for its code
 abbrev pub IsReadyRun : Ran → Type 0
-IsReadyRun r = (g : Setting) × (moves : Stmt → List ℕ) × (shares : Stmt → List ℕ) × (workers : ℕ)
+IsReadyRun r = (g : RunInput) × (moves : Stmt → List ℕ) × (shares : Stmt → List ℕ) × (workers : ℕ)
     × IsReady g moves shares × Executes g workers r
 
 -- the witness of these two offers is a journal of the program, which is followed, to the fault F6 of the later offer as
 -- it meets the pending earlier one, of the same way on the same channel
-pub record ShowsOffers (g : Setting) (j : Journal) (v : Verdict) (earlier later : ℕ) : Type 0 where
+pub record ShowsOffers (g : RunInput) (j : Journal) (v : Verdict) (earlier later : ℕ) : Type 0 where
   pub channel : Channel
   pub way : Way
   pub is_race : v ≡ verdict.Race way (chan_name channel) earlier later
@@ -51,13 +51,13 @@ pub record ShowsOffers (g : Setting) (j : Journal) (v : Verdict) (earlier later 
       → s.end ≡ Some (end.Fault (proc_name (who_at (occurrences j) later)) fault.F6)
 
 -- the witness of the race that the verdict names shows it
-abbrev pub Shown : Setting → Journal → Verdict → Type 0
+abbrev pub Shown : RunInput → Journal → Verdict → Type 0
 Shown g j verdict.Ordered = Unit {0}
 Shown g j (verdict.Race w c earlier later) = ShowsOffers g j (verdict.Race w c earlier later) earlier later
 Shown g j verdict.Unjudged = Unit {0}
 
 -- What the verdict on a run says of the program: its race is shown by its witness, and a run that ends without a fault
 -- is ordered exactly where no lawful schedule of the program, on this input and with these limits, meets contention.
-pub record ShowsRace (g : Setting) (r : Ran) : Type 0 where
+pub record ShowsRace (g : RunInput) (r : Ran) : Type 0 where
   pub witness : Shown g r.closed.journal r.verdict
   pub ordered : (IsFault r.closed.end → ⊥) → (r.verdict ≡ verdict.Ordered) ↔ NeverContends g

@@ -2,7 +2,7 @@
 
 ghost use Rattle.std.specs.Prelude.{◌≡◌, ℕ, List};
 ghost use Rattle.sp_tree.specs.Plain.{Program, Stmt};
-ghost use Rattle.sp_meaning.specs.Own.{Setting};
+ghost use Rattle.sp_meaning.specs.LocalWork.{RunInput};
 ghost use Rattle.sp_execute.specs.Runs.{IsRunOfCode, IsAbout};
 
 use sp_kernel::Closed;
@@ -20,7 +20,7 @@ pub struct Concluded {
 /// end and the output are those of its state there. `closed` is held unchanged.
 pub fn conclude(closed: Closed) -> Concluded
     ensures same { result.closed ≡ closed }
-    ensures about { (g : Setting) (moves shares : Stmt → List ℕ) → IsRunOfCode g moves shares closed
+    ensures about { (g : RunInput) (moves shares : Stmt → List ℕ) → IsRunOfCode g moves shares closed
         → IsAbout g result.closed }
 {
     Concluded { closed }

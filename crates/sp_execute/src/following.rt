@@ -3,7 +3,7 @@
 ghost use Rattle.std.specs.Prelude.{ℕ, List};
 ghost use Rattle.sp_tree.specs.Plain.{Program, Stmt};
 ghost use Rattle.sp_journal.specs.Births.{IsNameable};
-ghost use Rattle.sp_execute.specs.Follows.{Follows};
+ghost use Rattle.sp_execute.specs.Follows.{FollowsTo};
 ghost use Rattle.sp_execute.specs.Runs.{setting, IsCodeOf};
 
 use sp_base::{Limits, Text};
@@ -31,7 +31,7 @@ pub fn follow(
     requires nameable { IsNameable journal.now }
     ensures { (p : Program) (moves shares : Stmt → List ℕ)
         → IsCodeOf (setting p input.value limits.now) moves shares code.value
-        → Follows (setting p input.value limits.now) journal.now result }
+        → FollowsTo (setting p input.value limits.now) journal.now result }
 {
     replay(alloc, code, input, limits, journal)
 }

@@ -3,13 +3,13 @@
 
 ghost use Rattle.std.specs.Prelude.{◌≡◌, ℕ, List};
 ghost use Rattle.sp_base.specs.declared.limits.Limits.{Limits};
-ghost use Rattle.sp_tree.specs.Bare.{bare};
+ghost use Rattle.sp_tree.specs.Bare.{without_places};
 ghost use Rattle.sp_tree.specs.PlainChecked.{Program as Checked};
 ghost use Rattle.sp_code.specs.Shares.{SetsAre};
 ghost use Rattle.sp_code.specs.Sound.{AreLimits};
-ghost use Rattle.sp_facts.specs.Gives.{IsAccepted};
+ghost use Rattle.sp_facts.specs.AcceptedTree.{IsAccepted};
 ghost use Rattle.sp_journal.specs.declared.entry.Entry.{Entry};
-ghost use Rattle.sp_meaning.specs.Own.{Setting};
+ghost use Rattle.sp_meaning.specs.LocalWork.{RunInput};
 ghost use Rattle.sp_execute.specs.declared.execution.Ran.{Ran as ARan};
 ghost use Rattle.sp_execute.specs.Follows.{IsMeant, IsUnfitAt};
 ghost use Rattle.sp_execute.specs.Runs.{Executes};
@@ -25,15 +25,15 @@ use sp_witness::ordered_runs_never_contend;
 /// statements say, its code runs as it means, on every input with all limits within their types.
 pub fn accepted_programs_are_ready()
     ensures { (text : List ℕ) (c : Checked) → IsAccepted text c → (moves shares : Stmt → List ℕ)
-        → SetsAre (bare c) moves shares
+        → SetsAre (without_places c) moves shares
         → (input : List ℕ) (lim : Limits) → AreLimits lim
-        → IsReady (record { program = bare c; input = input; limits = lim }) moves shares }
+        → IsReady (record { program = without_places c; input = input; limits = lim }) moves shares }
 {}
 
 /// A journal along which the meaning is defined is unfit at no entry, and any other one at one entry alone.
 pub fn one_unfit_entry()
-    ensures first { (g : Setting) (es : List Entry) (m n : ℕ) → IsUnfitAt g es m → IsUnfitAt g es n → m ≡ n }
-    ensures not_both { (g : Setting) (es : List Entry) (n : ℕ) → IsMeant g es → IsUnfitAt g es n → ⊥ }
+    ensures first { (g : RunInput) (es : List Entry) (m n : ℕ) → IsUnfitAt g es m → IsUnfitAt g es n → m ≡ n }
+    ensures not_both { (g : RunInput) (es : List Entry) (n : ℕ) → IsMeant g es → IsUnfitAt g es n → ⊥ }
 {}
 
 /// The race of a run of a program that is ready is shown by its witness: a journal along which the meaning of the same
@@ -41,7 +41,7 @@ pub fn one_unfit_entry()
 /// as it meets the pending earlier one. A run that ends without a fault is ordered exactly where no lawful schedule
 /// meets contention.
 pub fn races_are_shown()
-    ensures { (g : Setting) (moves shares : Stmt → List ℕ) (workers : ℕ) (r : ARan)
+    ensures { (g : RunInput) (moves shares : Stmt → List ℕ) (workers : ℕ) (r : ARan)
         → IsReady g moves shares → Executes g workers r → ShowsRace g r }
 {
     runs_without_a_fault_are_clean();

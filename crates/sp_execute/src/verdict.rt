@@ -3,7 +3,7 @@
 ghost use Rattle.std.specs.Prelude.{IfOk};
 ghost use Rattle.sp_journal.specs.Births.{occurrences};
 ghost use Rattle.sp_tree.specs.Interference.{IsFreeOfInterference};
-ghost use Rattle.sp_meaning.specs.Own.{Setting};
+ghost use Rattle.sp_meaning.specs.LocalWork.{RunInput};
 ghost use Rattle.sp_judge.specs.Races.{IsVerdict};
 ghost use Rattle.sp_execute.specs.Runs.{IsAbout, Promises};
 
@@ -20,9 +20,9 @@ use std::alloc::Global;
 ///
 /// The error is want of memory alone.
 pub fn judge(alloc: Global, concluded: &Concluded) -> Result<Verdict, Memory>
-    requires about { (g : Setting) × IsAbout g concluded.now.closed }
+    requires about { (g : RunInput) × IsAbout g concluded.now.closed }
     ensures exact { IfOk result (λ v. IsVerdict (occurrences concluded.now.closed.journal) concluded.now.closed.end v) }
-    ensures promise { IfOk result (λ v. (g : Setting) → IsFreeOfInterference g.program → IsAbout g concluded.now.closed
+    ensures promise { IfOk result (λ v. (g : RunInput) → IsFreeOfInterference g.program → IsAbout g concluded.now.closed
         → Promises g concluded.now.closed v) }
 {
     runs_are_quiet();

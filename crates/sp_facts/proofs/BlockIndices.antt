@@ -4,16 +4,16 @@ use Rattle.std.proofs.Common.{Bool, true, false, length, slice_get, arith}
 use Rattle.std.specs.Prelude.{nat_le, map}
 use Rattle.std.proofs.lemmas.Option.{same_Some}
 use Rattle.sp_tree.specs.declared.checked.Role.TheVariants as role
-use Rattle.sp_tree.specs.NameFirst.{together, all_at}
+use Rattle.sp_tree.specs.NameFirst.{both_lists, all_at}
 use Rattle.sp_tree.specs.Scopes as names
 use Rattle.sp_tree.specs.NameWalk as w
 use Rattle.sp_tree.specs.PlainNamed as n
 use Rattle.sp_tree.specs.PlainSyntax.{Variable, Index}
 use Rattle.sp_tree.specs.Plain as plain
-use Rattle.sp_facts.proofs.Calm.{calm_parts}
+use Rattle.sp_facts.proofs.NoBreachInParts.{none_in_parts}
 use Rattle.sp_tree.specs.declared.checked.Variable as checked
-use Rattle.sp_tree.specs.Scopes.{Local, inside, opened, next_variable}
-use Rattle.sp_tree.specs.NameWalk.{deeper}
+use Rattle.sp_tree.specs.Scopes.{Local, inner_env, local_of_inner, next_variable}
+use Rattle.sp_tree.specs.NameWalk.{blocks_around}
 use Rattle.sp_tree.specs.NamedTree.{named_statement, indices}
 use Rattle.sp_tree.specs.PlainSyntax.{Statement}
 use Rattle.sp_facts.proofs.Numbering.{statement_adds}
@@ -22,18 +22,18 @@ use Rattle.sp_tree.specs.NameWalk.{formals_local, title_local, heading_local, pa
 use Rattle.sp_tree.specs.NamedTree.{formals_named, answer_named, parts_named, part_named}
 use Rattle.sp_tree.specs.PlainSyntax.{Part, Const, Kind, Var, Proc, Parts, NoPart, Declare}
 use Rattle.sp_facts.proofs.Numbering.{answer_adds, parts_move, part_moves}
-use Rattle.sp_facts.proofs.NameStatements.{Holds, holds_parts}
+use Rattle.sp_facts.proofs.NameStatements.{HoldsVariables, holds_parts}
 use Rattle.sp_tree.specs.Bare.{variable_of}
-use Rattle.sp_facts.proofs.Blocks.{calm_pieces, title_moves, formals_move, head_blocks, head_number}
+use Rattle.sp_facts.proofs.Blocks.{none_in_pieces, title_moves, formals_move, head_blocks, head_number}
 use Rattle.sp_tree.specs.PlainSyntax as syntax
-use Rattle.sp_tree.specs.NameFirst.{names_broken}
-use Rattle.sp_tree.specs.Scopes.{empty, standard}
+use Rattle.sp_tree.specs.NameFirst.{broken_name_rules}
+use Rattle.sp_tree.specs.Scopes.{empty_local, standard_scope}
 use Rattle.sp_types.specs.Tables.{env_of, numbers_of}
 use Rattle.sp_types.specs.TypeWalk.{starts_of, blocks_after}
 use Rattle.sp_types.specs.CheckedTree.{checked_variables, or_zero}
-use Rattle.sp_facts.specs.Numbered.{ends, IsNumbered}
+use Rattle.sp_facts.specs.Numbered.{index_after, IsNumbered}
 use Rattle.sp_facts.specs.TypedBlocks.{AreBlocksTyped}
-use Rattle.sp_facts.specs.Each.{Each}
+use Rattle.sp_facts.specs.ForEach.{HoldsOfEach}
 use Rattle.sp_facts.proofs.Variables.{indices_each}
 use Rattle.sp_facts.proofs.IndexNumbers.{statement_numbered}
 use Rattle.sp_facts.proofs.IndexTypes.{AreSpans, blocks_typed}
@@ -42,7 +42,7 @@ use Rattle.sp_facts.proofs.Tree.{types_length}
 
 -- all are indices of this block
 abbrev AllOf : ℕ → List checked.Variable → Type 0
-AllOf b = Each (λ (u : checked.Variable). (u.block ≡ b) × (u.role ≡ role.Index))
+AllOf b = HoldsOfEach (λ (u : checked.Variable). (u.block ≡ b) × (u.role ≡ role.Index))
 
 indices_of_ : (block : ℕ) (s : Statement) → AllOf block (indices block s)
 indices_of_ block s = indices_each (λ (u : checked.Variable). (u.block ≡ block) × (u.role ≡ role.Index)) block
@@ -50,7 +50,7 @@ indices_of_ block s = indices_each (λ (u : checked.Variable). (u.block ≡ bloc
 
 module _ (p : plain.Program) (m : ℕ) where
   -- a number between is that of one of them
-  between : (k block : ℕ) (us : List checked.Variable) → Holds p m k us → AllOf block us → (y : ℕ) → k ≤ y
+  between : (k block : ℕ) (us : List checked.Variable) → HoldsVariables p m k us → AllOf block us → (y : ℕ) → k ≤ y
       → suc y ≤ k + length us → (v : plain.Variable) × (slice_get p.variables y ≡ Some v) × (v.block ≡ block)
       × (v.role ≡ role.Index)
   between k block [] h a y l r = absurd (omega (arith, l, r))
@@ -86,10 +86,10 @@ module _ (p : plain.Program) (m : ℕ) where
 
   -- the statement part of a block
   body_spans : (around : List names.Scope) (l : Local) (block : ℕ) (body : Statement)
-      → w.statement_sites [] together all_at around l body ≡ []
-      → Holds p m (next_variable l.counts) (indices block body)
+      → w.statement_sites [] both_lists all_at around l body ≡ []
+      → HoldsVariables p m (next_variable l.counts) (indices block body)
       → (lo : ℕ) × IsNumbered lo (named_statement around l body)
-      × ((y : ℕ) → lo ≤ y → suc y ≤ ends lo (named_statement around l body) → (v : plain.Variable)
+      × ((y : ℕ) → lo ≤ y → suc y ≤ index_after lo (named_statement around l body) → (v : plain.Variable)
       × (slice_get p.variables y ≡ Some v) × (v.block ≡ block) × (v.role ≡ role.Index))
   body_spans around l block body calm holds =
       let r = statement_numbered around l body calm in
@@ -103,24 +103,24 @@ module _ (p : plain.Program) (m : ℕ) where
 
   mutual
     pub parts_spans : (around : List names.Scope) (l : Local) (ps : Parts)
-        → w.parts_sites [] together all_at around l ps ≡ []
-        → Holds p m (next_variable l.counts) (parts_named around l ps).variables
+        → w.parts_sites [] both_lists all_at around l ps ≡ []
+        → HoldsVariables p m (next_variable l.counts) (parts_named around l ps).variables
         → AreSpans p (next_block l.counts) (parts_named around l ps).blocks
     parts_spans around l NoPart calm holds = tt
     parts_spans around l (Declare q rest) calm holds =
         let next = part_local l q in
-        let two = calm_parts (w.part_sites [] together all_at around l q)
-        (w.parts_sites [] together all_at around next rest) calm in
+        let two = none_in_parts (w.part_sites [] both_lists all_at around l q)
+        (w.parts_sites [] both_lists all_at around next rest) calm in
         let a = part_named around l q in
         let b = parts_named around next rest in
         let moved = part_moves around l q two.0 in
         let h = holds_parts p m (next_variable l.counts) a.variables b.variables holds in
         spans_join (next_block l.counts) a.blocks b.blocks (part_spans around l q two.0 h.0)
         (subst (λ z. AreSpans p z b.blocks) moved.3
-        (parts_spans around next rest two.1 (subst (λ z. Holds p m z b.variables) (sym moved.2) h.1)))
+        (parts_spans around next rest two.1 (subst (λ z. HoldsVariables p m z b.variables) (sym moved.2) h.1)))
 
-    part_spans : (around : List names.Scope) (l : Local) (q : Part) → w.part_sites [] together all_at around l q ≡ []
-        → Holds p m (next_variable l.counts) (part_named around l q).variables
+    part_spans : (around : List names.Scope) (l : Local) (q : Part) → w.part_sites [] both_lists all_at around l q ≡ []
+        → HoldsVariables p m (next_variable l.counts) (part_named around l q).variables
         → AreSpans p (next_block l.counts) (part_named around l q).blocks
     part_spans around l (Const x c) calm holds = tt
     part_spans around l (Kind x k) calm holds = tt
@@ -128,12 +128,12 @@ module _ (p : plain.Program) (m : ℕ) where
     part_spans around l (Proc x fs answer parts body) calm holds =
         let f = next_block l.counts in
         let k = next_variable l.counts in
-        let env = inside around l in
+        let env = inner_env around l in
         let title = title_local l x fs answer in
-        let in_ = deeper around title in
+        let in_ = blocks_around around title in
         let head = heading_local l x fs answer in
-        let formals = formals_local (opened f 0 title) fs in
-        let pieces = calm_pieces around l x fs answer parts body calm in
+        let formals = formals_local (local_of_inner f 0 title) fs in
+        let pieces = none_in_pieces around l x fs answer parts body calm in
         let av = formals_named env f fs in
         let bv = answer_named env f x answer in
         let inner = parts_named in_ head parts in
@@ -151,28 +151,28 @@ module _ (p : plain.Program) (m : ℕ) where
         let number = head_number around l x fs answer parts body calm in
         let blocks_ = head_blocks around l x fs answer parts body calm in (
           body_spans in_ (parts_local head parts) f body pieces.3
-              (subst (λ z. Holds p m (next_variable (parts_local head parts).counts) (indices z body)) number
-              (subst (λ z. Holds p m z d) at_body v3.1)),
+              (subst (λ z. HoldsVariables p m (next_variable (parts_local head parts).counts) (indices z body)) number
+              (subst (λ z. HoldsVariables p m z d) at_body v3.1)),
           subst (λ z. AreSpans p z inner.blocks) blocks_
-              (parts_spans in_ head parts pieces.2 (subst (λ z. Holds p m z inner.variables) at_head v3.0)),
+              (parts_spans in_ head parts pieces.2 (subst (λ z. HoldsVariables p m z inner.variables) at_head v3.0)),
         )
 
 -- ---- the program
 
-module _ (s : syntax.Program) (calm : names_broken s ≡ []) where
+module _ (s : syntax.Program) (calm : broken_name_rules s ≡ []) where
   abbrev std : List names.Scope
-  std = standard ∷ []
+  std = standard_scope ∷ []
 
   abbrev inner_ : n.Program
-  inner_ = parts_named std empty s.block.parts
+  inner_ = parts_named std empty_local s.block.parts
 
-  calm_two : (w.parts_sites [] together all_at std empty s.block.parts ≡ [])
-      × (w.statement_sites [] together all_at std (parts_local empty s.block.parts) s.block.body ≡ [])
-  calm_two = calm_parts (w.parts_sites [] together all_at std empty s.block.parts)
-      (w.statement_sites [] together all_at std (parts_local empty s.block.parts) s.block.body)
-      (calm_parts (w.files_sites [] together all_at [] s.heading)
-      (together (w.parts_sites [] together all_at std empty s.block.parts)
-      (w.statement_sites [] together all_at std (parts_local empty s.block.parts) s.block.body)) calm).1
+  calm_two : (w.parts_sites [] both_lists all_at std empty_local s.block.parts ≡ [])
+      × (w.statement_sites [] both_lists all_at std (parts_local empty_local s.block.parts) s.block.body ≡ [])
+  calm_two = none_in_parts (w.parts_sites [] both_lists all_at std empty_local s.block.parts)
+      (w.statement_sites [] both_lists all_at std (parts_local empty_local s.block.parts) s.block.body)
+      (none_in_parts (w.files_sites [] both_lists all_at [] s.heading)
+      (both_lists (w.parts_sites [] both_lists all_at std empty_local s.block.parts)
+      (w.statement_sites [] both_lists all_at std (parts_local empty_local s.block.parts) s.block.body)) calm).1
 
   abbrev p_ : plain.Program
   p_ = tree s calm
@@ -185,10 +185,10 @@ module _ (s : syntax.Program) (calm : names_broken s ≡ []) where
       let m_ = length n_.constants in
       let rest = (held s calm).1.1 in
       let vs = holds_parts p_ m_ 2 inner_.variables (indices 0 s.block.body) rest in
-      let moved = (parts_move std empty s.block.parts calm_two.0).2 in (
-        body_spans p_ m_ std (parts_local empty s.block.parts) 0 s.block.body calm_two.1
-            (subst (λ z. Holds p_ m_ z (indices 0 s.block.body)) (sym moved) vs.1),
-        parts_spans p_ m_ std empty s.block.parts calm_two.0 vs.0,
+      let moved = (parts_move std empty_local s.block.parts calm_two.0).2 in (
+        body_spans p_ m_ std (parts_local empty_local s.block.parts) 0 s.block.body calm_two.1
+            (subst (λ z. HoldsVariables p_ m_ z (indices 0 s.block.body)) (sym moved) vs.1),
+        parts_spans p_ m_ std empty_local s.block.parts calm_two.0 vs.0,
       )
 
   abbrev last : List (Option ℕ)

@@ -8,7 +8,7 @@ use Rattle.sp_tree.specs.declared.checked.Role.TheVariants as role
 use Rattle.sp_tree.specs.declared.meaning.Meaning.{Meaning}
 use Rattle.sp_tree.specs.declared.meaning.Meaning.TheVariants as meaning
 use Rattle.sp_tree.specs.declared.syntax.Name.{Name}
-use Rattle.sp_tree.specs.NameFirst.{together, all_at}
+use Rattle.sp_tree.specs.NameFirst.{both_lists, all_at}
 use Rattle.sp_tree.specs.Scopes as names
 use Rattle.sp_tree.specs.Scopes.{Env, find}
 use Rattle.sp_tree.specs.NameWalk as w
@@ -17,19 +17,20 @@ use Rattle.sp_tree.specs.PlainNamed as n
 use Rattle.sp_tree.specs.Plain as plain
 use Rattle.sp_code.specs.Scopes.{Scope, OfBlock, is_block, level, one_more, scopes_of}
 use Rattle.sp_facts.specs.Visible.{IsScope, AreFlags, IsAround, IsValid, AreValid, IsVisible, IsChain}
-use Rattle.sp_facts.proofs.Calm.{calm_parts}
+use Rattle.sp_facts.proofs.NoBreachInParts.{none_in_parts}
 use Rattle.std.proofs.lemmas.List.{length-append}
 use Rattle.std.proofs.lemmas.Option.{same_Some}
 use Rattle.sp_tree.specs.declared.checked.Variable as checked
 use Rattle.sp_tree.specs.declared.meaning.Sort.{Sort}
 use Rattle.sp_tree.specs.declared.meaning.Sort.TheVariants as sort
 use Rattle.sp_tree.specs.NameRules.{Declares}
-use Rattle.sp_tree.specs.Scopes.{Local, inside, opened, declared, most, variable, next_variable}
-use Rattle.sp_tree.specs.NameWalk.{deeper}
+use Rattle.sp_tree.specs.Scopes.{Local, inner_env, local_of_inner, with_declaration, declaration_limit, variable}
+use Rattle.sp_tree.specs.Scopes.{next_variable}
+use Rattle.sp_tree.specs.NameWalk.{blocks_around}
 use Rattle.sp_tree.specs.NamedTree.{named_statement, indices}
 use Rattle.sp_tree.specs.PlainSyntax.{Statement}
 use Rattle.sp_facts.specs.Scoped.{IsInForall, InStatement}
-use Rattle.sp_facts.proofs.Numbering.{room_at, Adds}
+use Rattle.sp_facts.proofs.Numbering.{room_at, AddsVariables}
 use Rattle.sp_tree.specs.declared.meaning.Counts.{Counts}
 use Rattle.sp_tree.specs.declared.syntax.SynFormal.{SynFormal}
 use Rattle.sp_tree.specs.declared.syntax.SynKind.{SynKind}
@@ -40,13 +41,14 @@ use Rattle.sp_tree.specs.NameWalk.{names_local, formals_local, title_local, answ
 use Rattle.sp_tree.specs.NameWalk.{constants_local, kind_local, type_local, parts_local, part_local, block_meaning}
 use Rattle.sp_tree.specs.NameWalk.{references}
 use Rattle.sp_tree.specs.NamedTree.{kind_number, variables_named, formals_named, numbers, answer_named, answer_of}
-use Rattle.sp_tree.specs.NamedTree.{enumerated, constants_named, parts_named, part_named}
+use Rattle.sp_tree.specs.NamedTree.{enumeration_constants, constants_named, parts_named, part_named}
 use Rattle.sp_tree.specs.PlainSyntax.{Part, Const, Kind, Var, Proc, Parts, NoPart, Declare}
 use Rattle.sp_types.specs.Tables.{answer_variable}
-use Rattle.sp_facts.specs.Held.{HoldsBlocks, AreScoped, AreBelow}
+use Rattle.sp_facts.specs.PartsInTables.{HoldsBlocks, AreScoped, AreBelow}
 use Rattle.sp_facts.proofs.Numbering.{Moved, declared_counts, one_variable, names_adds, formals_adds, answer_adds}
 use Rattle.sp_facts.proofs.Numbering.{parts_move, part_moves}
-use Rattle.sp_facts.proofs.NameStatements.{Holds, holds_parts, more_all, more_valid, all_behind, IsPlace, statement_in}
+use Rattle.sp_facts.proofs.NameStatements.{HoldsVariables, holds_parts, more_all, more_valid, all_behind, IsPlace}
+use Rattle.sp_facts.proofs.NameStatements.{statement_in}
 
 below_join : (k : ℕ) (xs ys : List n.Block) → AreBelow k xs → AreBelow (k + length xs) ys → AreBelow k (xs ++ ys)
 below_join k [] ys x y = subst (λ z. AreBelow z ys) (let z : k + 0 ≡ k = omega arith in z) y
@@ -59,21 +61,21 @@ below_join k (b ∷ xs) ys x y = (
 -- ---- parents come before
 
 -- declarations leave the number of the block as it is
-declared_block : (l : Local) (name : List ℕ) (s : Sort) (y : Meaning) → (declared l name s y).block ≡ l.block
-declared_block l name s y = go (nat_le most (names.count s l.counts))
+declared_block : (l : Local) (name : List ℕ) (s : Sort) (y : Meaning) → (with_declaration l name s y).block ≡ l.block
+declared_block l name s y = go (nat_le declaration_limit (names.count s l.counts))
   where
     go : (b : Bool) → (if b then l else record {
       here = put l.here name y;
       block = l.block;
       answer = l.answer;
-      counts = names.more s l.counts;
+      counts = names.with_one_more s l.counts;
     }).block ≡ l.block
     go true = refl
     go false = refl
 
 names_block : (r : Role) (l : Local) (xs : List Name) → (names_local r l xs).block ≡ l.block
 names_block r l [] = refl
-names_block r l (x ∷ xs) = names_block r (declared l x.text sort.Variable (variable l r)) xs
+names_block r l (x ∷ xs) = names_block r (with_declaration l x.text sort.Variable (variable l r)) xs
     ∙ declared_block l x.text sort.Variable (variable l r)
 
 formals_block : (l : Local) (fs : List SynFormal) → (formals_local l fs).block ≡ l.block
@@ -88,7 +90,7 @@ answer_block l (Some t) = refl
 constants_block : (l : Local) (xs : List Name) → (constants_local l xs).block ≡ l.block
 constants_block l [] = refl
 constants_block l (x ∷ xs) = constants_block
-    (declared l x.text sort.Constant (meaning.Constant (next_constant l.counts))) xs
+    (with_declaration l x.text sort.Constant (meaning.Constant (next_constant l.counts))) xs
     ∙ declared_block l x.text sort.Constant (meaning.Constant (next_constant l.counts))
 
 kind_block : (l : Local) (k : SynKind) → (kind_local l k).block ≡ l.block
@@ -107,52 +109,53 @@ part_block l (Proc x fs answer parts body) = declared_block l x.text sort.Block 
 
 -- what stands in a procedure: the calm of each of its pieces, and the numbers there
 module _ (around : List names.Scope) (l : Local) (x : Name) (fs : List SynFormal) (answer : Option Name) (parts : Parts)
-    (body : Statement) (calm : w.part_sites [] together all_at around l (Proc x fs answer parts body) ≡ []) where
+    (body : Statement) (calm : w.part_sites [] both_lists all_at around l (Proc x fs answer parts body) ≡ []) where
   abbrev pub env_ : Env
-  env_ = inside around l
+  env_ = inner_env around l
 
   abbrev pub title_ : Local
   title_ = title_local l x fs answer
 
   abbrev pub in_ : List names.Scope
-  in_ = deeper around title_
+  in_ = blocks_around around title_
 
   abbrev pub head_ : Local
   head_ = heading_local l x fs answer
 
   abbrev pub opened_ : Local
-  opened_ = opened (next_block l.counts) 0 title_
+  opened_ = local_of_inner (next_block l.counts) 0 title_
 
   abbrev pub formals_ : Local
   formals_ = formals_local opened_ fs
 
-  pub calm_pieces : (all_at env_ (Declares x sort.Block) ≡ [])
-      × (w.formals_sites [] together all_at in_ opened_ fs ≡ [])
-      × (w.parts_sites [] together all_at in_ head_ parts ≡ [])
-      × (w.statement_sites [] together all_at in_ (parts_local head_ parts) body ≡ [])
-  calm_pieces =
-      let one = calm_parts (w.title_sites [] together all_at env_ x fs answer)
-      (together (w.formals_sites [] together all_at in_ opened_ fs)
-      (together (w.parts_sites [] together all_at in_ head_ parts)
-      (w.statement_sites [] together all_at in_ (parts_local head_ parts) body))) calm in
-      let name = calm_parts (all_at env_ (Declares x sort.Block))
-      (together (w.heading_sites [] together all_at env_ fs) (w.answer_sites [] together all_at env_ answer))
+  pub none_in_pieces : (all_at env_ (Declares x sort.Block) ≡ [])
+      × (w.formals_sites [] both_lists all_at in_ opened_ fs ≡ [])
+      × (w.parts_sites [] both_lists all_at in_ head_ parts ≡ [])
+      × (w.statement_sites [] both_lists all_at in_ (parts_local head_ parts) body ≡ [])
+  none_in_pieces =
+      let one = none_in_parts (w.title_sites [] both_lists all_at env_ x fs answer)
+      (both_lists (w.formals_sites [] both_lists all_at in_ opened_ fs)
+      (both_lists (w.parts_sites [] both_lists all_at in_ head_ parts)
+      (w.statement_sites [] both_lists all_at in_ (parts_local head_ parts) body))) calm in
+      let name = none_in_parts (all_at env_ (Declares x sort.Block))
+      (both_lists (w.heading_sites [] both_lists all_at env_ fs) (w.answer_sites [] both_lists all_at env_ answer))
       one.0 in
-      let two = calm_parts (w.formals_sites [] together all_at in_ opened_ fs)
-      (together (w.parts_sites [] together all_at in_ head_ parts)
-      (w.statement_sites [] together all_at in_ (parts_local head_ parts) body)) one.1 in
-      let three = calm_parts (w.parts_sites [] together all_at in_ head_ parts)
-      (w.statement_sites [] together all_at in_ (parts_local head_ parts) body) two.1 in
+      let two = none_in_parts (w.formals_sites [] both_lists all_at in_ opened_ fs)
+      (both_lists (w.parts_sites [] both_lists all_at in_ head_ parts)
+      (w.statement_sites [] both_lists all_at in_ (parts_local head_ parts) body)) one.1 in
+      let three = none_in_parts (w.parts_sites [] both_lists all_at in_ head_ parts)
+      (w.statement_sites [] both_lists all_at in_ (parts_local head_ parts) body) two.1 in
       (name.0, two.0, three.0, three.1)
 
   -- the block is counted first, then the parameters, then the result
   pub title_moves : Moved l.counts title_.counts 0 0 0 1
   title_moves = subst (λ (d : Counts). Moved l.counts d 0 0 0 1)
-      (sym (declared_counts l x.text sort.Block (block_meaning l fs answer) (room_at env_ x sort.Block calm_pieces.0)))
+      (sym (declared_counts l x.text sort.Block (block_meaning l fs answer)
+      (room_at env_ x sort.Block none_in_pieces.0)))
       (omega arith, omega arith, omega arith, omega arith)
 
-  pub formals_move : Adds title_.counts formals_.counts (length (formals_named env_ (next_block l.counts) fs))
-  formals_move = formals_adds in_ opened_ fs env_ (next_block l.counts) calm_pieces.1
+  pub formals_move : AddsVariables title_.counts formals_.counts (length (formals_named env_ (next_block l.counts) fs))
+  formals_move = formals_adds in_ opened_ fs env_ (next_block l.counts) none_in_pieces.1
 
   pub head_blocks : next_block head_.counts ≡ suc (next_block l.counts)
   head_blocks = let a = title_moves.3 in let b = formals_move.3 in
@@ -163,12 +166,12 @@ module _ (around : List names.Scope) (l : Local) (x : Name) (fs : List SynFormal
 
 mutual
   pub parts_below : (around : List names.Scope) (l : Local) (ps : Parts)
-      → w.parts_sites [] together all_at around l ps ≡ [] → suc l.block ≤ next_block l.counts
+      → w.parts_sites [] both_lists all_at around l ps ≡ [] → suc l.block ≤ next_block l.counts
       → AreBelow (next_block l.counts) (parts_named around l ps).blocks
   parts_below around l NoPart calm low = tt
   parts_below around l (Declare q rest) calm low =
-      let two = calm_parts (w.part_sites [] together all_at around l q)
-      (w.parts_sites [] together all_at around (part_local l q) rest) calm in
+      let two = none_in_parts (w.part_sites [] both_lists all_at around l q)
+      (w.parts_sites [] both_lists all_at around (part_local l q) rest) calm in
       let e = (part_moves around l q two.0).3 in
       let b = part_block l q in
       below_join (next_block l.counts) (part_named around l q).blocks (parts_named around (part_local l q) rest).blocks
@@ -176,7 +179,7 @@ mutual
       (subst (λ z. AreBelow z (parts_named around (part_local l q) rest).blocks) e
       (parts_below around (part_local l q) rest two.1 (omega (arith, low, e, b))))
 
-  part_below : (around : List names.Scope) (l : Local) (q : Part) → w.part_sites [] together all_at around l q ≡ []
+  part_below : (around : List names.Scope) (l : Local) (q : Part) → w.part_sites [] both_lists all_at around l q ≡ []
       → suc l.block ≤ next_block l.counts → AreBelow (next_block l.counts) (part_named around l q).blocks
   part_below around l (Const x c) calm low = tt
   part_below around l (Kind x k) calm low = tt
@@ -184,11 +187,12 @@ mutual
   part_below around l (Proc x fs answer parts body) calm low =
       let e = head_blocks around l x fs answer parts body calm in
       let b = head_number around l x fs answer parts body calm in
-      let inner = parts_below (deeper around (title_local l x fs answer)) (heading_local l x fs answer) parts
-      (calm_pieces around l x fs answer parts body calm).2 (omega (arith, e, b)) in (
+      let inner = parts_below (blocks_around around (title_local l x fs answer)) (heading_local l x fs answer) parts
+      (none_in_pieces around l x fs answer parts body calm).2 (omega (arith, e, b)) in (
         (λ q h. own q h),
         subst (λ z. AreBelow z
-            (parts_named (deeper around (title_local l x fs answer)) (heading_local l x fs answer) parts).blocks) e
+            (parts_named (blocks_around around (title_local l x fs answer)) (heading_local l x fs answer)
+            parts).blocks) e
             inner,
       )
     where
@@ -218,7 +222,7 @@ module _ (p : plain.Program) (m : ℕ) where
 
   -- what stands around the parts of a block; a: the number of its result
   pub record IsOpen (sc : List Scope) (block a : ℕ) (around : List names.Scope) (l : Local) : Type 0 where
-    pub visible : IsVisible p m sc (inside around l)
+    pub visible : IsVisible p m sc (inner_env around l)
     pub own : l.block ≡ block
     pub home : IsScope (OfBlock block) sc
     pub near : (level (is_block block) sc ≡ Some 0) ⊎ IsInForall sc
@@ -263,15 +267,16 @@ module _ (p : plain.Program) (m : ℕ) where
       go false r = (h.0, r)
 
   place_declared : (sc : List Scope) (block a : ℕ) (around : List names.Scope) (l : Local) (name : List ℕ) (s : Sort)
-      (y : Meaning) → IsOpen sc block a around l → IsValid p m sc y → IsOpen sc block a around (declared l name s y)
-  place_declared sc block a around l name s y h v = go (nat_le most (names.count s l.counts))
+      (y : Meaning) → IsOpen sc block a around l → IsValid p m sc y
+      → IsOpen sc block a around (with_declaration l name s y)
+  place_declared sc block a around l name s y h v = go (nat_le declaration_limit (names.count s l.counts))
     where
       go : (b : Bool) → IsOpen sc block a around
           (if b then l else record {
             here = put l.here name y;
             block = l.block;
             answer = l.answer;
-            counts = names.more s l.counts;
+            counts = names.with_one_more s l.counts;
           })
       go true = h
       go false = record {
@@ -283,19 +288,19 @@ module _ (p : plain.Program) (m : ℕ) where
       }
 
   -- roles of declared names
-  abbrev IsNamed : Role → Type 0
-  IsNamed r = (sc : List Scope) (x b : ℕ) → IsScope (OfBlock b) sc → IsAround p m sc x b r
+  abbrev IsRoleAround : Role → Type 0
+  IsRoleAround r = (sc : List Scope) (x b : ℕ) → IsScope (OfBlock b) sc → IsAround p m sc x b r
 
   names_place : (sc : List Scope) (block a : ℕ) (around : List names.Scope) (r : Role) (l : Local) (xs : List Name)
-      (k : ℕ) → IsNamed r → IsOpen sc block a around l → w.names_sites [] together all_at around r l xs ≡ []
-      → Holds p m (next_variable l.counts) (variables_named block r k xs)
+      (k : ℕ) → IsRoleAround r → IsOpen sc block a around l → w.names_sites [] both_lists all_at around r l xs ≡ []
+      → HoldsVariables p m (next_variable l.counts) (variables_named block r k xs)
       → IsOpen sc block a around (names_local r l xs)
   names_place sc block a around r l [] k is place calm holds = place
   names_place sc block a around r l (x ∷ xs) k is place calm ((v, vat, vr, vb), holds) =
-      let next = declared l x.text sort.Variable (variable l r) in
-      let two = calm_parts (all_at (inside around l) (Declares x sort.Variable))
-      (w.names_sites [] together all_at around r next xs) calm in
-      let e = (one_variable l x.text (variable l r) (room_at (inside around l) x sort.Variable two.0)).2 in
+      let next = with_declaration l x.text sort.Variable (variable l r) in
+      let two = none_in_parts (all_at (inner_env around l) (Declares x sort.Variable))
+      (w.names_sites [] both_lists all_at around r next xs) calm in
+      let e = (one_variable l x.text (variable l r) (room_at (inner_env around l) x sort.Variable two.0)).2 in
       let one : next_variable next.counts ≡ suc (next_variable l.counts) = omega (arith, e) in
       let valid : IsValid p m sc (variable l r) = (
         v,
@@ -307,49 +312,51 @@ module _ (p : plain.Program) (m : ℕ) where
       ) in
       names_place sc block a around r next xs k is
       (place_declared sc block a around l x.text sort.Variable (variable l r) place valid) two.1
-      (subst (λ z. Holds p m z (variables_named block r k xs)) (sym one) holds)
+      (subst (λ z. HoldsVariables p m z (variables_named block r k xs)) (sym one) holds)
 
-  local_named : IsNamed role.Local
+  local_named : IsRoleAround role.Local
   local_named sc x b h = h
 
-  formal_named : (b : Bool) → IsNamed (role_of b)
+  formal_named : (b : Bool) → IsRoleAround (role_of b)
   formal_named true sc x b h = h
   formal_named false sc x b h = h
 
   formals_place : (sc : List Scope) (block a : ℕ) (around : List names.Scope) (l : Local) (fs : List SynFormal)
-      (env : Env) → IsOpen sc block a around l → w.formals_sites [] together all_at around l fs ≡ []
-      → Holds p m (next_variable l.counts) (formals_named env block fs) → IsOpen sc block a around (formals_local l fs)
+      (env : Env) → IsOpen sc block a around l → w.formals_sites [] both_lists all_at around l fs ≡ []
+      → HoldsVariables p m (next_variable l.counts) (formals_named env block fs)
+      → IsOpen sc block a around (formals_local l fs)
   formals_place sc block a around l [] env place calm holds = place
   formals_place sc block a around l (f ∷ fs) env place calm holds =
       let k = kind_number (find env f.kind.text) in
       let r = role_of f.by_reference in
       let next = names_local r l f.names in
-      let two = calm_parts (w.names_sites [] together all_at around r l f.names)
-      (w.formals_sites [] together all_at around next fs) calm in
+      let two = none_in_parts (w.names_sites [] both_lists all_at around r l f.names)
+      (w.formals_sites [] both_lists all_at around next fs) calm in
       let h = holds_parts p m (next_variable l.counts) (variables_named block r k f.names) (formals_named env block fs)
       holds in
       formals_place sc block a around next fs env
       (names_place sc block a around r l f.names k (formal_named f.by_reference) place two.0 h.0) two.1
-      (subst (λ z. Holds p m z (formals_named env block fs)) (sym (names_adds around r l f.names block k two.0).2)
+      (subst (λ z. HoldsVariables p m z (formals_named env block fs))
+      (sym (names_adds around r l f.names block k two.0).2)
       h.1)
 
   -- the flags of a heading are those of its parameters
   names_flags : (r : Bool) (block k j : ℕ) (xs : List Name) (bs : List Bool) (us : List checked.Variable)
-      → Holds p m j (variables_named block (role_of r) k xs ++ us)
-      → (Holds p m (j + length (variables_named block (role_of r) k xs)) us
+      → HoldsVariables p m j (variables_named block (role_of r) k xs ++ us)
+      → (HoldsVariables p m (j + length (variables_named block (role_of r) k xs)) us
       → AreFlags p m bs (numbers (j + length (variables_named block (role_of r) k xs)) us))
       → AreFlags p m (map (λ (x : Name). r) xs ++ bs) (numbers j (variables_named block (role_of r) k xs ++ us))
   names_flags r block k j [] bs us holds later = let e : j + 0 ≡ j = omega arith in
-      subst (λ z. AreFlags p m bs (numbers z us)) e (later (subst (λ z. Holds p m z us) (sym e) holds))
+      subst (λ z. AreFlags p m bs (numbers z us)) e (later (subst (λ z. HoldsVariables p m z us) (sym e) holds))
   names_flags r block k j (x ∷ xs) bs us ((v, vat, vr, vb), holds) later =
       let e : j + suc (length (variables_named block (role_of r) k xs)) ≡ suc j
       + length (variables_named block (role_of r) k xs) = omega arith in (
         (v, vat, vr),
         names_flags r block k (suc j) xs bs us holds
-            (subst (λ z. Holds p m z us → AreFlags p m bs (numbers z us)) e later),
+            (subst (λ z. HoldsVariables p m z us → AreFlags p m bs (numbers z us)) e later),
       )
 
-  flags : (env : Env) (block j : ℕ) (fs : List SynFormal) → Holds p m j (formals_named env block fs)
+  flags : (env : Env) (block j : ℕ) (fs : List SynFormal) → HoldsVariables p m j (formals_named env block fs)
       → AreFlags p m (references fs) (numbers j (formals_named env block fs))
   flags env block j [] holds = tt
   flags env block j (f ∷ fs) holds =
@@ -360,22 +367,23 @@ module _ (p : plain.Program) (m : ℕ) where
 
   -- the constants of an enumeration
   constants_place : (sc : List Scope) (block a : ℕ) (around : List names.Scope) (l : Local) (xs : List Name) (k i : ℕ)
-      → IsOpen sc block a around l → w.enumerated_sites [] together all_at around l xs ≡ []
-      → next_constant l.counts + length (enumerated k i xs) ≤ m → IsOpen sc block a around (constants_local l xs)
+      → IsOpen sc block a around l → w.enumerated_sites [] both_lists all_at around l xs ≡ []
+      → next_constant l.counts + length (enumeration_constants k i xs) ≤ m
+      → IsOpen sc block a around (constants_local l xs)
   constants_place sc block a around l [] k i place calm few = place
   constants_place sc block a around l (x ∷ xs) k i place calm few =
       let y = meaning.Constant (next_constant l.counts) in
-      let next = declared l x.text sort.Constant y in
-      let two = calm_parts (all_at (inside around l) (Declares x sort.Constant))
-      (w.enumerated_sites [] together all_at around next xs) calm in
+      let next = with_declaration l x.text sort.Constant y in
+      let two = none_in_parts (all_at (inner_env around l) (Declares x sort.Constant))
+      (w.enumerated_sites [] both_lists all_at around next xs) calm in
       let e = ap next_constant (declared_counts l x.text sort.Constant y
-      (room_at (inside around l) x sort.Constant two.0)) in
+      (room_at (inner_env around l) x sort.Constant two.0)) in
       constants_place sc block a around next xs k (suc i)
       (place_declared sc block a around l x.text sort.Constant y place (omega (arith, few))) two.1
       (omega (arith, few, e))
 
   kind_place : (sc : List Scope) (block a : ℕ) (around : List names.Scope) (l : Local) (k : SynKind) (j : ℕ)
-      → IsOpen sc block a around l → w.kind_constants_sites [] together all_at around l k ≡ []
+      → IsOpen sc block a around l → w.kind_constants_sites [] both_lists all_at around l k ≡ []
       → next_constant l.counts + length (constants_named j k) ≤ m → IsOpen sc block a around (kind_local l k)
   kind_place sc block a around l (kinds.Alias t) j place calm few = place
   kind_place sc block a around l (kinds.Enumeration xs) j place calm few =
@@ -385,8 +393,8 @@ module _ (p : plain.Program) (m : ℕ) where
   kind_place sc block a around l (kinds.Channel ts) j place calm few = place
 
   -- what a part declares stands in the tables of the program
-  abbrev pub Fits : Counts → n.Program → Type 0
-  Fits c t = (next_constant c + length t.constants ≤ m) × Holds p m (next_variable c) t.variables
+  abbrev pub PartInTables : Counts → n.Program → Type 0
+  PartInTables c t = (next_constant c + length t.constants ≤ m) × HoldsVariables p m (next_variable c) t.variables
       × HoldsBlocks p m (next_block c) t.blocks
 
   module _ (steps : (f q : ℕ) (b : plain.Block) → slice_get p.blocks f ≡ Some b → b.parent ≡ Some q
@@ -396,14 +404,14 @@ module _ (p : plain.Program) (m : ℕ) where
     mutual
       pub parts_scoped : (rest : List Scope) (block a : ℕ) (around : List names.Scope) (l : Local) (ps : Parts)
           → IsChain p m (OfBlock block ∷ rest) → IsOpen (OfBlock block ∷ rest) block a around l
-          → w.parts_sites [] together all_at around l ps ≡ [] → Fits l.counts (parts_named around l ps)
+          → w.parts_sites [] both_lists all_at around l ps ≡ [] → PartInTables l.counts (parts_named around l ps)
           → IsOpen (OfBlock block ∷ rest) block a around (parts_local l ps)
           × AreScoped p m (next_block l.counts) (parts_named around l ps).blocks
       parts_scoped rest block a around l NoPart chain place calm fits = (place, tt)
       parts_scoped rest block a around l (Declare q more) chain place calm (few, vars, blocks) =
           let next = part_local l q in
-          let two = calm_parts (w.part_sites [] together all_at around l q)
-          (w.parts_sites [] together all_at around next more) calm in
+          let two = none_in_parts (w.part_sites [] both_lists all_at around l q)
+          (w.parts_sites [] both_lists all_at around next more) calm in
           let ta = part_named around l q in
           let tb = parts_named around next more in
           let moved = part_moves around l q two.0 in
@@ -414,7 +422,7 @@ module _ (p : plain.Program) (m : ℕ) where
           let r = part_scoped rest block a around l q chain place two.0 ((omega (arith, few, len)), vs.0, bs.0) in
           let s = parts_scoped rest block a around next more chain r.0 two.1 (
             (omega (arith, few, len, e0)),
-            subst (λ z. Holds p m z tb.variables) (sym moved.2) vs.1,
+            subst (λ z. HoldsVariables p m z tb.variables) (sym moved.2) vs.1,
             subst (λ z. HoldsBlocks p m z tb.blocks) (sym moved.3) bs.1,
           ) in (
             s.0,
@@ -424,7 +432,7 @@ module _ (p : plain.Program) (m : ℕ) where
 
       part_scoped : (rest : List Scope) (block a : ℕ) (around : List names.Scope) (l : Local) (q : Part)
           → IsChain p m (OfBlock block ∷ rest) → IsOpen (OfBlock block ∷ rest) block a around l
-          → w.part_sites [] together all_at around l q ≡ [] → Fits l.counts (part_named around l q)
+          → w.part_sites [] both_lists all_at around l q ≡ [] → PartInTables l.counts (part_named around l q)
           → IsOpen (OfBlock block ∷ rest) block a around (part_local l q)
           × AreScoped p m (next_block l.counts) (part_named around l q).blocks
       part_scoped rest block a around l (Const x c) chain place calm (few, vars, blocks) = (
@@ -434,37 +442,38 @@ module _ (p : plain.Program) (m : ℕ) where
       )
       part_scoped rest block a around l (Kind x k) chain place calm (few, vars, blocks) =
           let y = meaning.Kind (next_kind l.counts) in
-          let one = calm_parts (all_at (inside around l) (Declares x sort.Kind))
-          (together (w.kind_sites [] together all_at (inside around l) x k)
-          (w.kind_constants_sites [] together all_at around (type_local l x) k)) calm in
-          let two = calm_parts (w.kind_sites [] together all_at (inside around l) x k)
-          (w.kind_constants_sites [] together all_at around (type_local l x) k) one.1 in
+          let one = none_in_parts (all_at (inner_env around l) (Declares x sort.Kind))
+          (both_lists (w.kind_sites [] both_lists all_at (inner_env around l) x k)
+          (w.kind_constants_sites [] both_lists all_at around (type_local l x) k)) calm in
+          let two = none_in_parts (w.kind_sites [] both_lists all_at (inner_env around l) x k)
+          (w.kind_constants_sites [] both_lists all_at around (type_local l x) k) one.1 in
           let e : next_constant (type_local l x).counts ≡ next_constant l.counts =
-          ap next_constant (declared_counts l x.text sort.Kind y (room_at (inside around l) x sort.Kind one.0)) in (
+          ap next_constant (declared_counts l x.text sort.Kind y (room_at (inner_env around l) x sort.Kind one.0)) in (
             kind_place (OfBlock block ∷ rest) block a around (type_local l x) k (next_kind l.counts)
                 (place_declared (OfBlock block ∷ rest) block a around l x.text sort.Kind y place tt) two.1
                 (subst (λ z. z + length (constants_named (next_kind l.counts) k) ≤ m) (sym e) few),
             tt,
           )
       part_scoped rest block a around l (Var xs t) chain place calm (few, vars, blocks) =
-          let k = kind_number (find (inside around l) t.text) in (
+          let k = kind_number (find (inner_env around l) t.text) in (
             names_place (OfBlock block ∷ rest) block a around role.Local l xs k local_named place
-                (calm_parts (all_at (inside around l) (Uses t AsKind))
-                (w.names_sites [] together all_at around role.Local l xs) calm).1
-                (subst (λ z. Holds p m (next_variable l.counts) (variables_named z role.Local k xs)) place.own vars),
+                (none_in_parts (all_at (inner_env around l) (Uses t AsKind))
+                (w.names_sites [] both_lists all_at around role.Local l xs) calm).1
+                (subst (λ z. HoldsVariables p m (next_variable l.counts) (variables_named z role.Local k xs))
+                place.own vars),
             tt,
           )
       part_scoped rest block a around l (Proc x fs answer parts body) chain place calm
           (few, vars, ((c, cat, cp, cf, ca), blocks)) =
           let f = next_block l.counts in
-          let env = inside around l in
+          let env = inner_env around l in
           let title = title_local l x fs answer in
           let sc = OfBlock block ∷ rest in
           let sc2 = OfBlock f ∷ sc in
-          let in_ = deeper around title in
+          let in_ = blocks_around around title in
           let head = heading_local l x fs answer in
-          let pieces = calm_pieces around l x fs answer parts body calm in
-          let formals = formals_local (opened f 0 title) fs in
+          let pieces = none_in_pieces around l x fs answer parts body calm in
+          let formals = formals_local (local_of_inner f 0 title) fs in
           let av = formals_named env f fs in
           let bv = answer_named env f x answer in
           let inner = parts_named in_ head parts in
@@ -493,7 +502,7 @@ module _ (p : plain.Program) (m : ℕ) where
           let fits_flags = subst (AreFlags p m (references fs)) (sym cf) (flags env f k fs v1.0) in
           let valid = block_valid l sc fs answer head.answer c cat fits_flags (block, parent, place.home) ca in
           let outer = place_declared sc block a around l x.text sort.Block (block_meaning l fs answer) place valid in
-          let base : IsOpen sc2 f 0 in_ (opened f 0 title) = record {
+          let base : IsOpen sc2 f 0 in_ (local_of_inner f 0 title) = record {
             visible = (
               all_behind p m sc2 around title.here (more_all p m (OfBlock f) sc around outer.visible.0)
                   (more_valid p m (OfBlock f) sc title.here outer.visible.1),
@@ -504,15 +513,15 @@ module _ (p : plain.Program) (m : ℕ) where
             near = inl (own_level f sc);
             result = refl;
           } in
-          let formals_open = formals_place sc2 f 0 in_ (opened f 0 title) fs env base pieces.1
-          (subst (λ z. Holds p m z av) at_title v1.0) in
+          let formals_open = formals_place sc2 f 0 in_ (local_of_inner f 0 title) fs env base pieces.1
+          (subst (λ z. HoldsVariables p m z av) at_title v1.0) in
           let head_open = answer_open sc2 f in_ formals answer formals_open in
           let chain2 : IsChain p m sc2 = (steps f block c cat parent ∙ ap (λ z. OfBlock f ∷ z) chain.0, chain) in
           let few2 : next_constant head.counts + length inner.constants ≤ m = omega (arith, few, t0, f0, a0) in
           let in_blocks = head_blocks around l x fs answer parts body calm in
           let r = parts_scoped sc f head.answer in_ head parts chain2 head_open pieces.2 (
             few2,
-            subst (λ z. Holds p m z inner.variables) at_head v3.0,
+            subst (λ z. HoldsVariables p m z inner.variables) at_head v3.0,
             subst (λ z. HoldsBlocks p m z inner.blocks) (sym in_blocks) blocks,
           ) in
           let body_place : IsPlace p m sc2 f in_ (parts_local head parts) = record {
@@ -525,8 +534,9 @@ module _ (p : plain.Program) (m : ℕ) where
                 (ap (λ (z : plain.Block). z.answer) (same_Some c u (sym cat ∙ uat)) ∙ ans);
           } in
           let body_in = statement_in p m steps results f sc2 in_ (parts_local head parts) body chain2 body_place
-          pieces.3 (subst (λ z. Holds p m (next_variable (parts_local head parts).counts) (indices z body)) number
-          (subst (λ z. Holds p m z d) at_body v3.1)) in (
+          pieces.3 (subst (λ z. HoldsVariables p m (next_variable (parts_local head parts).counts)
+          (indices z body)) number
+          (subst (λ z. HoldsVariables p m z d) at_body v3.1)) in (
             record {
               visible = outer.visible;
               own = outer.own;

@@ -15,33 +15,35 @@ use Rattle.sp_tree.specs.declared.named.NamedValue.TheVariants as given
 use Rattle.sp_tree.specs.declared.named.NamedKind.{NamedKind}
 use Rattle.sp_tree.specs.declared.named.NamedKindForm.{NamedKindForm}
 use Rattle.sp_tree.specs.declared.named.NamedKindForm.TheVariants as form
-use Rattle.sp_tree.specs.Found.{listed}
-use Rattle.sp_tree.specs.NameFirst.{together}
+use Rattle.sp_tree.specs.PhaseResults.{refusal_list}
+use Rattle.sp_tree.specs.NameFirst.{both_lists}
 use Rattle.sp_types.specs.declared.tables.Ordinal.{Ordinal}
-use Rattle.sp_types.specs.Tables.{entry, value_by, signed, const_value, constant_by, constants_from, is_long}
+use Rattle.sp_types.specs.Tables.{table_entry, value_by, signed_value, const_value, constant_by, constants_from}
+use Rattle.sp_types.specs.Tables.{is_long}
 use Rattle.sp_types.specs.Tables.{has_wrong_sign, type_number, type_or, number_or, are_bounds, kinds_by, kinds_from}
 use Rattle.sp_types.specs.TypeRules.{is_ordinal, const_rule, bounds_rule}
 use Rattle.sp_types.specs.TypeWalk as w
 use Rattle.sp_facts.specs.Earlier.{HaveValues, AllHaveValues}
-use Rattle.sp_facts.specs.Given.{IsBehind, AreBehind, IsBoundBehind, AreBoundsBehind}
-use Rattle.sp_facts.proofs.Calm.{calm_parts, calm_site, calm_if, nat_eq_is}
+use Rattle.sp_facts.specs.ConstantsDeclared.{IsBehind, AreBehind, IsBoundBehind, AreBoundsBehind}
+use Rattle.sp_facts.proofs.NoBreachInParts.{none_in_parts, none_at_site, not_if_none, nat_eq_is}
 
 module _ (kinds : List KindOf) (integer : is_ordinal (slice_get kinds 0) ≡ true)
     (char : is_ordinal (slice_get kinds 2) ≡ true) where
-  abbrev pub IsKnown : List (Option Ordinal) → Type 0
-  IsKnown known = (i : ℕ) → suc i ≤ length known → (o : Ordinal) × (slice_get known i ≡ Some (Some o))
+  abbrev pub AreKnownOrdinals : List (Option Ordinal) → Type 0
+  AreKnownOrdinals known = (i : ℕ) → suc i ≤ length known → (o : Ordinal) × (slice_get known i ≡ Some (Some o))
       × (is_ordinal (slice_get kinds o.kind) ≡ true)
 
-  value_some : (known : List (Option Ordinal)) (v : NamedValue) → IsKnown known → IsBehind (length known) v
+  value_some : (known : List (Option Ordinal)) (v : NamedValue) → AreKnownOrdinals known → IsBehind (length known) v
       → is_long v ≡ false → (o : Ordinal) × (value_by known v ≡ Some o) × (is_ordinal (slice_get kinds o.kind) ≡ true)
   value_some known (given.Number k) h b l = (record { kind = 0; number = pos k }, refl, integer)
   value_some known (given.Quoted []) h b l = absurd (cc l)
   value_some known (given.Quoted (c ∷ [])) h b l = (record { kind = 2; number = pos c }, refl, char)
   value_some known (given.Quoted (c ∷ d ∷ t)) h b l = let e =
       nat_eq_is (suc (suc (length t))) 1 (not-false (nat_eq (suc (suc (length t))) 1) l) in absurd (omega (arith, e))
-  value_some known (given.Constant k) h b l = let r = h k b in (r.0, ap entry r.1, r.2)
+  value_some known (given.Constant k) h b l = let r = h k b in (r.0, ap table_entry r.1, r.2)
 
-  signed_some : (sign : Option Bool) (o : Ordinal) → (u : Ordinal) × (signed sign (Some o) ≡ Some u) × (u.kind ≡ o.kind)
+  signed_some : (sign : Option Bool) (o : Ordinal) → (u : Ordinal) × (signed_value sign (Some o) ≡ Some u)
+      × (u.kind ≡ o.kind)
   signed_some None o = (o, refl, refl)
   signed_some (Some true) o = (
     record { kind = o.kind; number = if nat_eq o.kind 0 then neg_ℤ o.number else o.number },
@@ -51,37 +53,40 @@ module _ (kinds : List KindOf) (integer : is_ordinal (slice_get kinds 0) ≡ tru
   signed_some (Some false) o = (o, refl, refl)
 
   -- a constant that is not too long
-  const_some : (known : List (Option Ordinal)) (c : NamedConst) → IsKnown known → IsBehind (length known) c.value
+  const_some : (known : List (Option Ordinal)) (c : NamedConst) → AreKnownOrdinals known
+      → IsBehind (length known) c.value
       → is_long c.value ≡ false → (o : Ordinal) × (const_value known c ≡ Some o)
       × (is_ordinal (slice_get kinds o.kind) ≡ true)
   const_some known c h b l =
       let r = value_some known c.value h b l in
       let t = signed_some c.negative r.0 in
-      (t.0, ap (signed c.negative) r.1 ∙ t.1, subst (λ z. is_ordinal (slice_get kinds z) ≡ true) (sym t.2) r.2)
+      (t.0, ap (signed_value c.negative) r.1 ∙ t.1, subst (λ z. is_ordinal (slice_get kinds z) ≡ true) (sym t.2) r.2)
 
   not_long : (all : List (Option Ordinal)) (c : NamedConst) → const_rule all c ≡ None → is_long c.value ≡ false
   not_long all c e = (or_parts (is_long c.value) (has_wrong_sign c.negative (value_by all c.value))
-      (calm_if rule.Y14 c.at (is_long c.value || has_wrong_sign c.negative (value_by all c.value)) e)).0
+      (not_if_none rule.Y14 c.at (is_long c.value || has_wrong_sign c.negative (value_by all c.value)) e)).0
 
-  known_more : (known : List (Option Ordinal)) (o : Ordinal) → IsKnown known
-      → is_ordinal (slice_get kinds o.kind) ≡ true → IsKnown (known ++ Some o ∷ [])
+  known_more : (known : List (Option Ordinal)) (o : Ordinal) → AreKnownOrdinals known
+      → is_ordinal (slice_get kinds o.kind) ≡ true → AreKnownOrdinals (known ++ Some o ∷ [])
   known_more [] o h d zero l = (o, refl, d)
   known_more [] o h d (suc i) l = absurd (omega (arith, l))
   known_more (k ∷ known) o h d zero l = h 0 (omega arith)
   known_more (k ∷ known) o h d (suc i) l = known_more known o (λ j m. h (suc j) (omega (arith, m))) d i
       (omega (arith, l))
 
-  pub constants_known : (numbers : List ℕ) (all known : List (Option Ordinal)) (cs : List NamedConstant) → IsKnown known
-      → AreBehind kinds numbers (length known) cs → w.constants_sites [] together listed all cs ≡ []
-      → IsKnown (constants_from numbers known cs)
+  pub constants_known : (numbers : List ℕ) (all known : List (Option Ordinal)) (cs : List NamedConstant)
+      → AreKnownOrdinals known
+      → AreBehind kinds numbers (length known) cs → w.constants_sites [] both_lists refusal_list all cs ≡ []
+      → AreKnownOrdinals (constants_from numbers known cs)
       × (length (constants_from numbers known cs) ≡ length known + length cs)
   constants_known numbers all known [] h b calm = (h, omega arith)
   constants_known numbers all known (constant.Value c ∷ cs) h (b, bs) calm =
-      let two = calm_parts (listed (const_rule all c)) (w.constants_sites [] together listed all cs) calm in
-      let r = const_some known c h b (not_long all c (calm_site (const_rule all c) two.0)) in
+      let two = none_in_parts (refusal_list (const_rule all c)) (w.constants_sites [] both_lists refusal_list all cs)
+      calm in
+      let r = const_some known c h b (not_long all c (none_at_site (const_rule all c) two.0)) in
       let l = length-append known (const_value known c ∷ []) in
       let t = constants_known numbers all (known ++ const_value known c ∷ []) cs
-      (subst (λ z. IsKnown (known ++ z ∷ [])) (sym r.1) (known_more known r.0 h r.2))
+      (subst (λ z. AreKnownOrdinals (known ++ z ∷ [])) (sym r.1) (known_more known r.0 h r.2))
       (subst (λ z. AreBehind kinds numbers z cs)
       (let z : suc (length known) ≡ length (known ++ const_value known c ∷ []) = omega (arith, l) in z) bs) two.1 in
       (t.0, (let e = t.1 in omega (arith, l, e)))
@@ -95,15 +100,17 @@ module _ (kinds : List KindOf) (integer : is_ordinal (slice_get kinds 0) ≡ tru
       (t.0, (let e = t.1 in omega (arith, l, e)))
 
   -- the bounds of arrays
-  pub bounds_known : (all : List (Option Ordinal)) (ks : List NamedKind) → IsKnown all → AreBoundsBehind (length all) ks
-      → w.kinds_sites [] together listed all ks ≡ [] → AllHaveValues all ks
+  pub bounds_known : (all : List (Option Ordinal)) (ks : List NamedKind) → AreKnownOrdinals all
+      → AreBoundsBehind (length all) ks
+      → w.kinds_sites [] both_lists refusal_list all ks ≡ [] → AllHaveValues all ks
   bounds_known all [] h b calm = tt
   bounds_known all (k ∷ ks) h (b, bs) calm =
-      let two = calm_parts (w.bounds_sites [] together listed all k.form) (w.kinds_sites [] together listed all ks)
+      let two = none_in_parts (w.bounds_sites [] both_lists refusal_list all k.form)
+      (w.kinds_sites [] both_lists refusal_list all ks)
       calm in
       (one k.form b two.0, bounds_known all ks h bs two.1)
     where
-      one : (f : NamedKindForm) → IsBoundBehind (length all) f → w.bounds_sites [] together listed all f ≡ []
+      one : (f : NamedKindForm) → IsBoundBehind (length all) f → w.bounds_sites [] both_lists refusal_list all f ≡ []
           → HaveValues all f
       one form.Integer b c = tt
       one form.Boolean b c = tt
@@ -113,24 +120,25 @@ module _ (kinds : List KindOf) (integer : is_ordinal (slice_get kinds 0) ≡ tru
       one (form.Fields fs) b c = tt
       one (form.Channel cs) b c = tt
       one (form.Array lo hi e) b c =
-          let x = calm_parts (listed (const_rule all lo))
-          (together (listed (const_rule all hi))
-          (listed (bounds_rule hi.at (const_value all lo) (const_value all hi)))) c in
-          let y = calm_parts (listed (const_rule all hi))
-          (listed (bounds_rule hi.at (const_value all lo) (const_value all hi))) x.1 in
-          let u = const_some all lo h b.0 (not_long all lo (calm_site (const_rule all lo) x.0)) in
-          let v = const_some all hi h b.1 (not_long all hi (calm_site (const_rule all hi) y.0)) in
+          let x = none_in_parts (refusal_list (const_rule all lo))
+          (both_lists (refusal_list (const_rule all hi))
+          (refusal_list (bounds_rule hi.at (const_value all lo) (const_value all hi)))) c in
+          let y = none_in_parts (refusal_list (const_rule all hi))
+          (refusal_list (bounds_rule hi.at (const_value all lo) (const_value all hi))) x.1 in
+          let u = const_some all lo h b.0 (not_long all lo (none_at_site (const_rule all lo) x.0)) in
+          let v = const_some all hi h b.1 (not_long all hi (none_at_site (const_rule all hi) y.0)) in
           ((u.0, u.1), (v.0, v.1))
 
   -- the index of an array is of an ordinal type
-  pub index_ordinal : (numbers : List ℕ) (all : List (Option Ordinal)) (ks : List NamedKind) → IsKnown all
-      → AreBoundsBehind (length all) ks → w.kinds_sites [] together listed all ks ≡ []
+  pub index_ordinal : (numbers : List ℕ) (all : List (Option Ordinal)) (ks : List NamedKind) → AreKnownOrdinals all
+      → AreBoundsBehind (length all) ks → w.kinds_sites [] both_lists refusal_list all ks ≡ []
       → (k : ℕ) (low high : ℤ) (index element : ℕ)
       → slice_get (kinds_from numbers all ks) k ≡ Some (kind.Array low high index element)
       → is_ordinal (slice_get kinds index) ≡ true
   index_ordinal numbers all [] h b calm k low high index element e = absurd (cc e)
   index_ordinal numbers all (d ∷ ks) h (b, bs) calm k low high index element e =
-      let two = calm_parts (w.bounds_sites [] together listed all d.form) (w.kinds_sites [] together listed all ks)
+      let two = none_in_parts (w.bounds_sites [] both_lists refusal_list all d.form)
+      (w.kinds_sites [] both_lists refusal_list all ks)
       calm in
       go d.form b two.0 k e (λ j e2. index_ordinal numbers all ks h bs two.1 j low high index element e2)
     where
@@ -138,7 +146,8 @@ module _ (kinds : List KindOf) (integer : is_ordinal (slice_get kinds 0) ≡ tru
           → Some (kind.Array a c i el) ≡ Some (kind.Array a2 c2 i2 el2) → i ≡ i2
       index_is a c i el a2 c2 i2 el2 e = cc e
 
-      go : (f : NamedKindForm) → IsBoundBehind (length all) f → w.bounds_sites [] together listed all f ≡ [] → (k : ℕ)
+      go : (f : NamedKindForm) → IsBoundBehind (length all) f → w.bounds_sites [] both_lists refusal_list all f ≡ []
+          → (k : ℕ)
           → slice_get (kinds_by numbers all f ++ kinds_from numbers all ks) k ≡ Some (kind.Array low high index element)
           → ((j : ℕ) → slice_get (kinds_from numbers all ks) j ≡ Some (kind.Array low high index element)
           → is_ordinal (slice_get kinds index) ≡ true) → is_ordinal (slice_get kinds index) ≡ true
@@ -157,10 +166,10 @@ module _ (kinds : List KindOf) (integer : is_ordinal (slice_get kinds 0) ≡ tru
       go (form.Channel cs) b c (suc k) e next = next k e
       go (form.Array lo hi el) b c (suc k) e next = next k e
       go (form.Array lo hi el) b c zero e next =
-          let x = calm_parts (listed (const_rule all lo))
-          (together (listed (const_rule all hi))
-          (listed (bounds_rule hi.at (const_value all lo) (const_value all hi)))) c in
-          let u = const_some all lo h b.0 (not_long all lo (calm_site (const_rule all lo) x.0)) in
+          let x = none_in_parts (refusal_list (const_rule all lo))
+          (both_lists (refusal_list (const_rule all hi))
+          (refusal_list (bounds_rule hi.at (const_value all lo) (const_value all hi)))) c in
+          let u = const_some all lo h b.0 (not_long all lo (none_at_site (const_rule all lo) x.0)) in
           let is = by (are_bounds all lo hi) e in
           subst (λ z. is_ordinal (slice_get kinds z) ≡ true) (sym (ap (type_or 0) u.1) ∙ is) u.2
         where

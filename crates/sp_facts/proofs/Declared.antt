@@ -5,7 +5,7 @@ use Rattle.sp_tree.specs.declared.checked.Role.{Role}
 use Rattle.sp_tree.specs.declared.checked.Role.TheVariants as role
 use Rattle.sp_tree.specs.declared.meaning.Meaning.TheVariants as meaning
 use Rattle.sp_tree.specs.declared.syntax.Name.{Name}
-use Rattle.sp_tree.specs.NameFirst.{together, all_at}
+use Rattle.sp_tree.specs.NameFirst.{both_lists, all_at}
 use Rattle.sp_tree.specs.Scopes as names
 use Rattle.sp_tree.specs.Scopes.{Env, find}
 use Rattle.sp_tree.specs.NameWalk as w
@@ -13,12 +13,12 @@ use Rattle.sp_tree.specs.NameWalk.{role_of}
 use Rattle.sp_tree.specs.PlainNamed as n
 use Rattle.sp_tree.specs.PlainSyntax.{Number, Quoted}
 use Rattle.sp_tree.specs.PlainSyntax.{Variable}
-use Rattle.sp_facts.proofs.Calm.{calm_parts}
+use Rattle.sp_facts.proofs.NoBreachInParts.{none_in_parts}
 use Rattle.sp_tree.specs.declared.checked.Variable as checked
 use Rattle.sp_tree.specs.declared.meaning.Sort.TheVariants as sort
 use Rattle.sp_tree.specs.NameRules.{Declares}
-use Rattle.sp_tree.specs.Scopes.{Local, inside, opened}
-use Rattle.sp_tree.specs.NameWalk.{deeper}
+use Rattle.sp_tree.specs.Scopes.{Local, inner_env, local_of_inner}
+use Rattle.sp_tree.specs.NameWalk.{blocks_around}
 use Rattle.sp_tree.specs.NamedTree.{indices}
 use Rattle.sp_tree.specs.PlainSyntax.{Statement}
 use Rattle.sp_facts.proofs.Numbering.{room_at, statement_adds}
@@ -30,25 +30,26 @@ use Rattle.sp_tree.specs.NameRules.{Uses, AsKind}
 use Rattle.sp_tree.specs.Scopes.{next_constant, next_kind, next_block}
 use Rattle.sp_tree.specs.NameWalk.{formals_local, title_local, heading_local}
 use Rattle.sp_tree.specs.NameWalk.{type_local, parts_local, part_local, block_meaning}
-use Rattle.sp_tree.specs.NamedTree.{kind_number, variables_named, formals_named, answer_named, enumerated}
+use Rattle.sp_tree.specs.NamedTree.{kind_number, variables_named, formals_named, answer_named, enumeration_constants}
 use Rattle.sp_tree.specs.NamedTree.{constants_named, parts_named, part_named}
 use Rattle.sp_tree.specs.PlainSyntax.{Part, Const, Kind, Var, Proc, Parts, NoPart, Declare}
 use Rattle.sp_facts.proofs.Numbering.{declared_counts, answer_adds, parts_move, part_moves}
 use Rattle.sp_tree.specs.NamedTree.{program_named}
-use Rattle.sp_facts.proofs.Blocks.{calm_pieces, title_moves, formals_move}
+use Rattle.sp_facts.proofs.Blocks.{none_in_pieces, title_moves, formals_move}
 use Rattle.sp_tree.specs.declared.named.NamedKind.{NamedKind}
 use Rattle.sp_tree.specs.declared.named.NamedKindForm.{NamedKindForm}
 use Rattle.sp_tree.specs.declared.named.NamedKindForm.TheVariants as form
 use Rattle.sp_tree.specs.declared.named.NamedValue.{NamedValue}
 use Rattle.sp_tree.specs.declared.named.NamedValue.TheVariants as given
-use Rattle.sp_tree.specs.NameFirst.{names_broken}
-use Rattle.sp_tree.specs.Scopes.{empty, standard}
+use Rattle.sp_tree.specs.NameFirst.{broken_name_rules}
+use Rattle.sp_tree.specs.Scopes.{empty_local, standard_scope}
 use Rattle.sp_tree.specs.PlainSyntax as syntax
 use Rattle.sp_tree.specs.NamedTree.{kind_named}
 use Rattle.sp_tree.specs.declared.named.NamedConstant.{NamedConstant}
 use Rattle.sp_tree.specs.declared.named.NamedConstant.TheVariants as constant
-use Rattle.sp_facts.specs.Given.{IsBehind, IsBoundBehind, AreBoundsBehind, AreValuesBehind, AreBehind, AreEnumerated}
-use Rattle.sp_facts.specs.Given.{IsGiven}
+use Rattle.sp_facts.specs.ConstantsDeclared.{IsBehind, IsBoundBehind, AreBoundsBehind, AreValuesBehind, AreBehind}
+use Rattle.sp_facts.specs.ConstantsDeclared.{AreEnumerated}
+use Rattle.sp_facts.specs.ConstantsDeclared.{HasOrdinalConstants}
 use Rattle.sp_tree.specs.declared.checked.KindOf.{KindOf}
 use Rattle.sp_types.specs.Tables.{env_of, numbers_of}
 use Rattle.sp_facts.specs.Earlier.{HaveTypes, AreEarlier}
@@ -80,7 +81,7 @@ earlier_join k (b ∷ xs) ys x y = (
       (subst (λ z. AreEarlier z ys) (let z : k + suc (length xs) ≡ suc k + length xs = omega arith in z) y),
 )
 
-enumerated_behind : (k j i : ℕ) (xs : List Name) → AreValuesBehind k (enumerated j i xs)
+enumerated_behind : (k j i : ℕ) (xs : List Name) → AreValuesBehind k (enumeration_constants j i xs)
 enumerated_behind k j i [] = tt
 enumerated_behind k j i (x ∷ xs) = enumerated_behind (suc k) j (suc i) xs
 
@@ -129,17 +130,17 @@ indices_typed : (k : ℕ) → 1 ≤ k → (block : ℕ) (s : Statement) → Have
 indices_typed k some block s = indices_each (λ (u : checked.Variable). suc u.kind ≤ k) block (λ x. some) s
 
 module _ (c : Counts) (env : Env) (out : EachBound c env.around) (here : AllBound c env.local.here) (b : ℕ) where
-  formals_typed : (fs : List SynFormal) → w.heading_sites [] together all_at env fs ≡ []
+  formals_typed : (fs : List SynFormal) → w.heading_sites [] both_lists all_at env fs ≡ []
       → HaveTypes (next_kind c) (formals_named env b fs)
   formals_typed [] calm = tt
   formals_typed (f ∷ fs) calm =
-      let two = calm_parts (all_at env (Uses f.kind AsKind)) (w.heading_sites [] together all_at env fs) calm in
+      let two = none_in_parts (all_at env (Uses f.kind AsKind)) (w.heading_sites [] both_lists all_at env fs) calm in
       let k = kind_number (find env f.kind.text) in
       typed_join (next_kind c) (variables_named b (role_of f.by_reference) k f.names) (formals_named env b fs)
       (names_typed (next_kind c) b k (role_of f.by_reference) f.names (used_kind c env out here f.kind two.0))
       (formals_typed fs two.1)
 
-  answer_typed : (x : Name) (answer : Option Name) → w.answer_sites [] together all_at env answer ≡ []
+  answer_typed : (x : Name) (answer : Option Name) → w.answer_sites [] both_lists all_at env answer ≡ []
       → HaveTypes (next_kind c) (answer_named env b x answer)
   answer_typed x None calm = tt
   answer_typed x (Some t) calm = (used_kind c env out here t calm, tt)
@@ -156,15 +157,15 @@ record Behind (from : Counts) (l : Local) (p : n.Program) : Type 0 where
 
 mutual
   parts_declare : (around : List names.Scope) (l : Local) (ps : Parts) → EachBound l.counts around
-      → AllBound l.counts l.here → w.parts_sites [] together all_at around l ps ≡ []
+      → AllBound l.counts l.here → w.parts_sites [] both_lists all_at around l ps ≡ []
       → Behind l.counts (parts_local l ps) (parts_named around l ps)
   parts_declare around l NoPart out here calm =
       record { scope = here; values = tt; bounds = tt; types = tt; variables = tt }
   parts_declare around l (Declare q rest) out here calm =
       let next = part_local l q in
       let last = parts_local next rest in
-      let two = calm_parts (w.part_sites [] together all_at around l q)
-      (w.parts_sites [] together all_at around next rest) calm in
+      let two = none_in_parts (w.part_sites [] both_lists all_at around l q)
+      (w.parts_sites [] both_lists all_at around next rest) calm in
       let a = part_named around l q in
       let b = parts_named around next rest in
       let m1 = part_moves around l q two.0 in
@@ -191,19 +192,19 @@ mutual
       }
 
   part_declares : (around : List names.Scope) (l : Local) (q : Part) → EachBound l.counts around
-      → AllBound l.counts l.here → w.part_sites [] together all_at around l q ≡ []
+      → AllBound l.counts l.here → w.part_sites [] both_lists all_at around l q ≡ []
       → Behind l.counts (part_local l q) (part_named around l q)
   part_declares around l (Const x c) out here calm =
       let next = (part_local l (Const x c)).counts in
       let moved = part_moves around l (Const x c) calm in
       let c1 = moved.0 in
       let k1 = moved.1 in
-      let two = calm_parts (all_at (inside around l) (Declares x sort.Constant))
-      (w.value_sites [] together all_at (inside around l) c.value) calm in
+      let two = none_in_parts (all_at (inner_env around l) (Declares x sort.Constant))
+      (w.value_sites [] both_lists all_at (inner_env around l) c.value) calm in
       record {
         scope = declared_bound next l x.text sort.Constant (meaning.Constant (next_constant l.counts))
             (all_bound_more l.counts next l.here (omega (arith, c1), omega (arith, k1)) here) (omega (arith, c1));
-        values = (value_behind l.counts (inside around l) out here c.value two.1, tt);
+        values = (value_behind l.counts (inner_env around l) out here c.value two.1, tt);
         bounds = tt;
         types = tt;
         variables = tt;
@@ -214,23 +215,23 @@ mutual
       let moved = part_moves around l (Kind x d) calm in
       let c1 = moved.0 in
       let k1 = moved.1 in
-      let one = calm_parts (all_at (inside around l) (Declares x sort.Kind))
-      (together (w.kind_sites [] together all_at (inside around l) x d)
-      (w.kind_constants_sites [] together all_at around (type_local l x) d)) calm in
-      let two = calm_parts (w.kind_sites [] together all_at (inside around l) x d)
-      (w.kind_constants_sites [] together all_at around (type_local l x) d) one.1 in
+      let one = none_in_parts (all_at (inner_env around l) (Declares x sort.Kind))
+      (both_lists (w.kind_sites [] both_lists all_at (inner_env around l) x d)
+      (w.kind_constants_sites [] both_lists all_at around (type_local l x) d)) calm in
+      let two = none_in_parts (w.kind_sites [] both_lists all_at (inner_env around l) x d)
+      (w.kind_constants_sites [] both_lists all_at around (type_local l x) d) one.1 in
       let te : next_constant (type_local l x).counts ≡ next_constant l.counts =
-      ap next_constant (declared_counts l x.text sort.Kind y (room_at (inside around l) x sort.Kind one.0)) in
+      ap next_constant (declared_counts l x.text sort.Kind y (room_at (inner_env around l) x sort.Kind one.0)) in
       let few : next_constant (type_local l x).counts + length (constants_named (next_kind l.counts) d)
       ≤ next_constant next = omega (arith, c1, te) in
-      let of_kind = kind_behind l.counts (inside around l) out here x d two.0 in
+      let of_kind = kind_behind l.counts (inner_env around l) out here x d two.0 in
       record {
         scope = kind_bound around next (type_local l x) d two.1 (next_kind l.counts) few
             (declared_bound next l x.text sort.Kind y
             (all_bound_more l.counts next l.here (omega (arith, c1), omega (arith, k1)) here) (omega (arith, k1)));
         values = constants_behind (next_constant l.counts) (next_kind l.counts) d;
         bounds = bounds_more (next_constant l.counts) (next_constant next)
-            (record { at = x.at; form = kind_named (inside around l) d } ∷ []) (omega (arith, c1)) (of_kind.1, tt);
+            (record { at = x.at; form = kind_named (inner_env around l) d } ∷ []) (omega (arith, c1)) (of_kind.1, tt);
         types = (of_kind.0, tt);
         variables = tt;
       }
@@ -239,16 +240,16 @@ mutual
       let moved = part_moves around l (Var xs t) calm in
       let c1 = moved.0 in
       let k1 = moved.1 in
-      let two = calm_parts (all_at (inside around l) (Uses t AsKind))
-      (w.names_sites [] together all_at around role.Local l xs) calm in
-      let u = used_kind l.counts (inside around l) out here t two.0 in
+      let two = none_in_parts (all_at (inner_env around l) (Uses t AsKind))
+      (w.names_sites [] both_lists all_at around role.Local l xs) calm in
+      let u = used_kind l.counts (inner_env around l) out here t two.0 in
       record {
         scope = names_bound next role.Local l xs
             (all_bound_more l.counts next l.here (omega (arith, c1), omega (arith, k1)) here);
         values = tt;
         bounds = tt;
         types = tt;
-        variables = names_typed (next_kind next) l.block (kind_number (find (inside around l) t.text)) role.Local xs
+        variables = names_typed (next_kind next) l.block (kind_number (find (inner_env around l) t.text)) role.Local xs
             (omega (arith, k1, u));
       }
   part_declares around l (Proc x fs answer parts body) out here calm =
@@ -257,12 +258,12 @@ mutual
       let c1 = moved.0 in
       let k1 = moved.1 in
       let f = next_block l.counts in
-      let env = inside around l in
+      let env = inner_env around l in
       let title = title_local l x fs answer in
-      let in_ = deeper around title in
+      let in_ = blocks_around around title in
       let head = heading_local l x fs answer in
-      let formals = formals_local (opened f 0 title) fs in
-      let pieces = calm_pieces around l x fs answer parts body calm in
+      let formals = formals_local (local_of_inner f 0 title) fs in
+      let pieces = none_in_pieces around l x fs answer parts body calm in
       let m1 = title_moves around l x fs answer parts body calm in
       let m2 = formals_move around l x fs answer parts body calm in
       let m3 = answer_adds formals env f x answer in
@@ -284,14 +285,16 @@ mutual
       let inner = parts_declare in_ head parts
       (each_behind head.counts around title.here (each_bound_more l.counts head.counts around same out)
       (titled head.counts same)) (answer_bound head.counts formals answer
-      (formals_bound head.counts (opened f 0 title) fs tt)) pieces.2 in
-      let one = calm_parts (w.title_sites [] together all_at env x fs answer)
-      (together (w.formals_sites [] together all_at in_ (opened f 0 title) fs)
-      (together (w.parts_sites [] together all_at in_ head parts)
-      (w.statement_sites [] together all_at in_ (parts_local head parts) body))) calm in
-      let two = calm_parts (all_at env (Declares x sort.Block))
-      (together (w.heading_sites [] together all_at env fs) (w.answer_sites [] together all_at env answer)) one.0 in
-      let three = calm_parts (w.heading_sites [] together all_at env fs) (w.answer_sites [] together all_at env answer)
+      (formals_bound head.counts (local_of_inner f 0 title) fs tt)) pieces.2 in
+      let one = none_in_parts (w.title_sites [] both_lists all_at env x fs answer)
+      (both_lists (w.formals_sites [] both_lists all_at in_ (local_of_inner f 0 title) fs)
+      (both_lists (w.parts_sites [] both_lists all_at in_ head parts)
+      (w.statement_sites [] both_lists all_at in_ (parts_local head parts) body))) calm in
+      let two = none_in_parts (all_at env (Declares x sort.Block))
+      (both_lists (w.heading_sites [] both_lists all_at env fs) (w.answer_sites [] both_lists all_at env answer))
+      one.0 in
+      let three = none_in_parts (w.heading_sites [] both_lists all_at env fs)
+      (w.answer_sites [] both_lists all_at env answer)
       two.1 in
       let k = next_kind next in
       let last = (parts_local head parts).counts in
@@ -321,24 +324,25 @@ both_behind kinds2 ns j [] v e = tt
 both_behind kinds2 ns j (constant.Value c ∷ cs) v e = (v.0, both_behind kinds2 ns (suc j) cs v.1 e)
 both_behind kinds2 ns j (constant.Enumerated k i ∷ cs) v e = (e.0, both_behind kinds2 ns (suc j) cs v e.1)
 
-module _ (s : syntax.Program) (calm : names_broken s ≡ []) where
+module _ (s : syntax.Program) (calm : broken_name_rules s ≡ []) where
   abbrev n_ : n.Program
   n_ = program_named s
 
   abbrev inner_ : n.Program
-  inner_ = parts_named (standard ∷ []) empty s.block.parts
+  inner_ = parts_named (standard_scope ∷ []) empty_local s.block.parts
 
   abbrev last_ : Counts
-  last_ = (parts_local empty s.block.parts).counts
+  last_ = (parts_local empty_local s.block.parts).counts
 
-  calm_block : w.parts_sites [] together all_at (standard ∷ []) empty s.block.parts ≡ []
-  calm_block =
-      let parts = w.parts_sites [] together all_at (standard ∷ []) empty s.block.parts in
-      let body = w.statement_sites [] together all_at (standard ∷ []) (parts_local empty s.block.parts) s.block.body in
-      (calm_parts parts body (calm_parts (w.files_sites [] together all_at [] s.heading) (together parts body)
+  none_in_block : w.parts_sites [] both_lists all_at (standard_scope ∷ []) empty_local s.block.parts ≡ []
+  none_in_block =
+      let parts = w.parts_sites [] both_lists all_at (standard_scope ∷ []) empty_local s.block.parts in
+      let body = w.statement_sites [] both_lists all_at (standard_scope ∷ []) (parts_local empty_local s.block.parts)
+      s.block.body in
+      (none_in_parts parts body (none_in_parts (w.files_sites [] both_lists all_at [] s.heading) (both_lists parts body)
       calm).1).0
 
-  standard_bound : AllBound empty.counts standard
+  standard_bound : AllBound empty_local.counts standard_scope
   standard_bound = (
     omega arith,
     (
@@ -374,18 +378,18 @@ module _ (s : syntax.Program) (calm : names_broken s ≡ []) where
     ),
   )
 
-  declares : Behind empty.counts (parts_local empty s.block.parts) inner_
-  declares = parts_declare (standard ∷ []) empty s.block.parts (standard_bound, tt) tt calm_block
+  declares : Behind empty_local.counts (parts_local empty_local s.block.parts) inner_
+  declares = parts_declare (standard_scope ∷ []) empty_local s.block.parts (standard_bound, tt) tt none_in_block
 
   -- types are of earlier types
   pub program_earlier : AreEarlier 0 n_.kinds
   program_earlier = (tt, (tt, (tt, declares.types)))
 
   -- constants are named behind their declarations
-  pub program_behind : IsGiven n_ → AreBehind (env_of n_).kinds (numbers_of n_) 0 n_.constants
+  pub program_behind : HasOrdinalConstants n_ → AreBehind (env_of n_).kinds (numbers_of n_) 0 n_.constants
       × AreBoundsBehind (length n_.constants) n_.kinds
   program_behind given_ =
-      let e = (parts_move (standard ∷ []) empty s.block.parts calm_block).0 in (
+      let e = (parts_move (standard_scope ∷ []) empty_local s.block.parts none_in_block).0 in (
         both_behind (env_of n_).kinds (numbers_of n_) 0 n_.constants (tt, declares.values) given_,
         (
           tt,
@@ -403,7 +407,7 @@ module _ (s : syntax.Program) (calm : names_broken s ≡ []) where
   -- variables are of declared types
   pub program_typed : HaveTypes (length n_.kinds) n_.variables
   program_typed =
-      let e = (parts_move (standard ∷ []) empty s.block.parts calm_block).1 in
+      let e = (parts_move (standard_scope ∷ []) empty_local s.block.parts none_in_block).1 in
       let k = length n_.kinds in (
         omega arith,
         (

@@ -3,26 +3,26 @@ use Rattle.std.proofs.Common.{◌≡◌, refl, ap, sym, ◌∙◌, subst, ℕ, z
 use Rattle.std.proofs.Common.{true, length, slice_get, arith}
 use Rattle.sp_base.specs.declared.place.Place.{Place}
 use Rattle.sp_tree.specs.declared.syntax.Name.{Name}
-use Rattle.sp_tree.specs.NameFirst.{together, all_at}
+use Rattle.sp_tree.specs.NameFirst.{both_lists, all_at}
 use Rattle.sp_tree.specs.Scopes as names
 use Rattle.sp_tree.specs.NameWalk as w
-use Rattle.sp_facts.proofs.Calm.{calm_parts}
+use Rattle.sp_facts.proofs.NoBreachInParts.{none_in_parts}
 use Rattle.std.proofs.lemmas.List.{length-append}
 use Rattle.std.proofs.lemmas.Option.{same_Some}
-use Rattle.sp_tree.specs.Scopes.{Local, inside, opened}
-use Rattle.sp_tree.specs.NameWalk.{deeper}
+use Rattle.sp_tree.specs.Scopes.{Local, inner_env, local_of_inner}
+use Rattle.sp_tree.specs.NameWalk.{blocks_around}
 use Rattle.sp_tree.specs.declared.syntax.SynKind.TheVariants as kinds
 use Rattle.sp_tree.specs.Scopes.{next_kind, next_block}
 use Rattle.sp_tree.specs.NameWalk.{formals_local, title_local, heading_local}
 use Rattle.sp_tree.specs.NameWalk.{parts_local, part_local}
-use Rattle.sp_tree.specs.NamedTree.{enumerated, parts_named, part_named}
+use Rattle.sp_tree.specs.NamedTree.{enumeration_constants, parts_named, part_named}
 use Rattle.sp_tree.specs.PlainSyntax.{Part, Const, Kind, Var, Proc, Parts, NoPart, Declare}
 use Rattle.sp_facts.proofs.Numbering.{answer_adds, part_moves}
 use Rattle.sp_tree.specs.NamedTree.{program_named}
-use Rattle.sp_facts.proofs.Blocks.{calm_pieces, title_moves, formals_move}
+use Rattle.sp_facts.proofs.Blocks.{none_in_pieces, title_moves, formals_move}
 use Rattle.sp_tree.specs.declared.named.NamedKind.{NamedKind}
-use Rattle.sp_tree.specs.NameFirst.{names_broken}
-use Rattle.sp_tree.specs.Scopes.{empty, standard}
+use Rattle.sp_tree.specs.NameFirst.{broken_name_rules}
+use Rattle.sp_tree.specs.Scopes.{empty_local, standard_scope}
 use Rattle.sp_tree.specs.PlainSyntax as syntax
 use Rattle.sp_tree.specs.declared.checked.KindOf.{KindOf}
 use Rattle.sp_tree.specs.declared.named.NamedConstant.{NamedConstant}
@@ -34,7 +34,7 @@ use Rattle.sp_types.specs.declared.tables.Ordinal.{Ordinal}
 use Rattle.sp_types.specs.Tables.{number_by, next_by, numbers_from, type_number, kinds_by, kinds_from, numbers_of}
 use Rattle.sp_types.specs.Tables.{constants_of, env_of}
 use Rattle.sp_types.specs.TypeRules.{is_ordinal}
-use Rattle.sp_facts.specs.Given.{AreEnumerated, IsGiven}
+use Rattle.sp_facts.specs.ConstantsDeclared.{AreEnumerated, HasOrdinalConstants}
 use Rattle.sp_facts.proofs.TypesFormed.{keeps}
 
 abbrev IsOrdinalForm : NamedKindForm → Type 0
@@ -138,7 +138,7 @@ module _ (all : List NamedKind) where
   enums_join (constant.Enumerated k i ∷ xs) ys x y = (x.0, enums_join xs ys x.1 y)
 
   enumerated_at : (k i m : ℕ) (at : Place) (xs : List Name)
-      → slice_get all k ≡ Some (record { at = at; form = form.Enumeration m }) → AreEnums (enumerated k i xs)
+      → slice_get all k ≡ Some (record { at = at; form = form.Enumeration m }) → AreEnums (enumeration_constants k i xs)
   enumerated_at k i m at [] e = tt
   enumerated_at k i m at (x ∷ xs) e = (
     (record { at = at; form = form.Enumeration m }, e, tt),
@@ -147,13 +147,13 @@ module _ (all : List NamedKind) where
 
   mutual
     parts_enums : (around : List names.Scope) (l : Local) (ps : Parts)
-        → w.parts_sites [] together all_at around l ps ≡ []
+        → w.parts_sites [] both_lists all_at around l ps ≡ []
         → HoldsKinds (next_kind l.counts) (parts_named around l ps).kinds → AreEnums (parts_named around l ps).constants
     parts_enums around l NoPart calm h = tt
     parts_enums around l (Declare q rest) calm h =
         let next = part_local l q in
-        let two = calm_parts (w.part_sites [] together all_at around l q)
-        (w.parts_sites [] together all_at around next rest) calm in
+        let two = none_in_parts (w.part_sites [] both_lists all_at around l q)
+        (w.parts_sites [] both_lists all_at around next rest) calm in
         let a = part_named around l q in
         let b = parts_named around next rest in
         let hs = kinds_parts (next_kind l.counts) a.kinds b.kinds h in
@@ -161,7 +161,7 @@ module _ (all : List NamedKind) where
         (parts_enums around next rest two.1
         (subst (λ z. HoldsKinds z b.kinds) (sym (part_moves around l q two.0).1) hs.1))
 
-    part_enums : (around : List names.Scope) (l : Local) (q : Part) → w.part_sites [] together all_at around l q ≡ []
+    part_enums : (around : List names.Scope) (l : Local) (q : Part) → w.part_sites [] both_lists all_at around l q ≡ []
         → HoldsKinds (next_kind l.counts) (part_named around l q).kinds → AreEnums (part_named around l q).constants
     part_enums around l (Const x c) calm h = tt
     part_enums around l (Kind x (kinds.Alias t)) calm h = tt
@@ -174,14 +174,14 @@ module _ (all : List NamedKind) where
     part_enums around l (Proc x fs answer parts body) calm h =
         let f = next_block l.counts in
         let title = title_local l x fs answer in
-        let in_ = deeper around title in
+        let in_ = blocks_around around title in
         let head = heading_local l x fs answer in
-        let formals = formals_local (opened f 0 title) fs in
+        let formals = formals_local (local_of_inner f 0 title) fs in
         let t1 = (title_moves around l x fs answer parts body calm).1 in
         let f1 = (formals_move around l x fs answer parts body calm).1 in
-        let a1 = (answer_adds formals (inside around l) f x answer).1 in
+        let a1 = (answer_adds formals (inner_env around l) f x answer).1 in
         let at_head : next_kind l.counts ≡ next_kind head.counts = omega (arith, t1, f1, a1) in
-        parts_enums in_ head parts (calm_pieces around l x fs answer parts body calm).2
+        parts_enums in_ head parts (none_in_pieces around l x fs answer parts body calm).2
         (subst (λ z. HoldsKinds z (parts_named in_ head parts).kinds) at_head h)
 
 holds_from : (all : List NamedKind) (j : ℕ) (ks : List NamedKind) → ((i : ℕ) → slice_get all (j + i) ≡ slice_get ks i)
@@ -193,7 +193,7 @@ holds_from all j (d ∷ ds) h = (
       (let z : j + suc i ≡ suc j + i = omega arith in z) (h (suc i))),
 )
 
-pub program_given : (s : syntax.Program) → names_broken s ≡ [] → IsGiven (program_named s)
+pub program_given : (s : syntax.Program) → broken_name_rules s ≡ [] → HasOrdinalConstants (program_named s)
 program_given s calm =
     let n_ = program_named s in
     let h = holds_from n_.kinds 0 n_.kinds (λ i. ap (slice_get n_.kinds) (let z : 0 + i ≡ i = omega arith in z)) in
@@ -201,17 +201,20 @@ program_given s calm =
       (std_bool, refl, tt),
       (
         (std_bool, refl, tt),
-        parts_enums n_.kinds (standard ∷ []) empty s.block.parts two.0 h.1.1.1,
+        parts_enums n_.kinds (standard_scope ∷ []) empty_local s.block.parts two.0 h.1.1.1,
       ),
     )
   where
-    two : (w.parts_sites [] together all_at (standard ∷ []) empty s.block.parts ≡ [])
-        × (w.statement_sites [] together all_at (standard ∷ []) (parts_local empty s.block.parts) s.block.body ≡ [])
-    two = calm_parts (w.parts_sites [] together all_at (standard ∷ []) empty s.block.parts)
-        (w.statement_sites [] together all_at (standard ∷ []) (parts_local empty s.block.parts) s.block.body)
-        (calm_parts (w.files_sites [] together all_at [] s.heading)
-        (together (w.parts_sites [] together all_at (standard ∷ []) empty s.block.parts)
-        (w.statement_sites [] together all_at (standard ∷ []) (parts_local empty s.block.parts) s.block.body))
+    two : (w.parts_sites [] both_lists all_at (standard_scope ∷ []) empty_local s.block.parts ≡ [])
+        × (w.statement_sites [] both_lists all_at (standard_scope ∷ []) (parts_local empty_local s.block.parts)
+        s.block.body ≡ [])
+    two = none_in_parts (w.parts_sites [] both_lists all_at (standard_scope ∷ []) empty_local s.block.parts)
+        (w.statement_sites [] both_lists all_at (standard_scope ∷ []) (parts_local empty_local s.block.parts)
+        s.block.body)
+        (none_in_parts (w.files_sites [] both_lists all_at [] s.heading)
+        (both_lists (w.parts_sites [] both_lists all_at (standard_scope ∷ []) empty_local s.block.parts)
+        (w.statement_sites [] both_lists all_at (standard_scope ∷ []) (parts_local empty_local s.block.parts)
+        s.block.body))
         calm).1
 
     std_bool : NamedKind

@@ -17,16 +17,16 @@ use Rattle.sp_tree.specs.declared.operators.BinaryOp.{BinaryOp}
 use Rattle.sp_tree.specs.declared.operators.BinaryOp.TheVariants as binary
 use Rattle.sp_tree.specs.declared.operators.StandardFn.{StandardFn}
 use Rattle.sp_tree.specs.declared.operators.StandardFn.TheVariants as fn
-use Rattle.sp_tree.specs.Found.{breaks_if, listed}
-use Rattle.sp_tree.specs.NameFirst.{together}
+use Rattle.sp_tree.specs.PhaseResults.{refusal_if, refusal_list}
+use Rattle.sp_tree.specs.NameFirst.{both_lists}
 use Rattle.sp_tree.specs.NameRules.{function_takes}
 use Rattle.sp_tree.specs.Plain.{Program, Variable, Block, Stmt, Expr, ExprForm, Actuals}
 use Rattle.sp_tree.specs.Plain as plain
 use Rattle.sp_tree.specs.PlainNamed as n
 use Rattle.sp_code.specs.Scopes.{Sort, Ordinals, Channels, Many, NoSort, kind_of, Scope, sort, sort_by}
 use Rattle.sp_code.specs.Places.{after_value, after_var, after_actuals}
-use Rattle.sp_types.specs.Entries.{field_from}
-use Rattle.sp_types.specs.Tables.{Env, entry, variable_kind, formals_of, formals_in, answer_in, answer_kind}
+use Rattle.sp_types.specs.FieldTable.{field_from}
+use Rattle.sp_types.specs.Tables.{Env, table_entry, variable_kind, formals_of, formals_in, answer_in, answer_kind}
 use Rattle.sp_types.specs.Tables.{kind_of_variable, ordinal_kind, number_or, char_of}
 use Rattle.sp_types.specs.TypeRules.{is_ordinal, is_channel, ordinal, channel, unless, differ, unary_takes}
 use Rattle.sp_types.specs.TypeRules.{binary_takes, binary_gives, unary_rule, left_rule, right_rule, index_rule}
@@ -37,18 +37,20 @@ use Rattle.sp_types.specs.Kinds.{element_of, field, field_kind, standard_gives, 
 use Rattle.sp_types.specs.TypeWalk.{expression_sites, form_sites, variable_sites, selectors_sites, actuals_sites}
 use Rattle.sp_types.specs.TypeWalk.{standard_sites, place, is_variable, count}
 use Rattle.sp_types.specs.CheckedTree.{or_zero, checked_expression, checked_form, checked_variable, checked_selectors}
-use Rattle.sp_types.specs.CheckedTree.{checked_actuals, checked_arguments, numbered_field, field_number, passed}
-use Rattle.sp_types.specs.CheckedTree.{referenced}
+use Rattle.sp_types.specs.CheckedTree.{checked_actuals, checked_arguments, numbered_field, field_number}
+use Rattle.sp_types.specs.CheckedTree.{actual_for_role}
+use Rattle.sp_types.specs.CheckedTree.{variable_actual}
 use Rattle.sp_tree.specs.PlainChecked as c
 use Rattle.sp_tree.specs.CheckedOf as of_
 use Rattle.sp_tree.specs.Bare.{bare_expression, bare_form, bare_variable, bare_selectors, bare_actuals}
-use Rattle.sp_facts.specs.Knows.{IsKind, AreFormals, Knows, HasIndices}
-use Rattle.sp_code.specs.Stands.{ValueAt, FormAt, PlaceAt, VarAt, VarRole, SelectedAt, ActualsAt, ReadAt, UnaryAt}
-use Rattle.sp_code.specs.Stands.{Operands, NoIndex, IsTarget, CallAt, Around, AnyInstr, AnyTable, AnyText}
+use Rattle.sp_facts.specs.MatchingTables.{IsKind, AreFormals, TablesMatch, HasIndices}
+use Rattle.sp_code.specs.CodeOfTree.{ValueAt, FormAt, PlaceAt, VarAt, VarRole, SelectedAt, ActualsAt, ReadAt, UnaryAt}
+use Rattle.sp_code.specs.CodeOfTree.{Operands, NoIndex, IsTarget, CallAt, Around, AnyInstr, AnyTable, AnyText}
 use Rattle.sp_facts.specs.Scoped.{SeenIn, SeenRole, AimedExpression, CallIn, AroundIn, InExpression, InForm, InVariable}
 use Rattle.sp_facts.specs.Scoped.{InSelectors, InActuals, InArguments}
-use Rattle.sp_facts.proofs.Calm.{calm_parts, calm_site, calm_at, calm_lesser, calm_if, calm_unless, calm_differ}
-use Rattle.sp_facts.proofs.Calm.{nat_eq_is}
+use Rattle.sp_facts.proofs.NoBreachInParts.{none_in_parts, none_at_site, none_with_site, none_of_earlier, not_if_none}
+use Rattle.sp_facts.proofs.NoBreachInParts.{takes_if_none, same_if_none}
+use Rattle.sp_facts.proofs.NoBreachInParts.{nat_eq_is}
 
 pub ordinal_sort : (o : Option KindOf) → is_ordinal o ≡ true → sort_by o ≡ Ordinals
 ordinal_sort None e = absurd (cc e)
@@ -74,7 +76,8 @@ pub ordinal_there : (o : Option KindOf) → is_ordinal o ≡ true → (t : KindO
 ordinal_there None e = absurd (cc e)
 ordinal_there (Some t) e = (t, refl)
 
-module _ (p : Program) (m : ℕ) (moves shares : Stmt → List ℕ) (hush : ℕ → Type 0) (env : Env) (knows : Knows p m env)
+module _ (p : Program) (m : ℕ) (moves shares : Stmt → List ℕ) (hush : ℕ → Type 0) (env : Env)
+    (knows : TablesMatch p m env)
     (sc : List Scope) (indices : HasIndices p env sc) where
   -- nothing is said of the code
   abbrev Value : ℕ → Expr → Type 0
@@ -86,8 +89,8 @@ module _ (p : Program) (m : ℕ) (moves shares : Stmt → List ℕ) (hush : ℕ 
   abbrev Selects : ℕ → plain.Selectors → ℕ → ℕ → Type 0
   Selects q ss k1 k2 = SelectedAt p moves shares AnyInstr AnyTable AnyText hush sc q ss k1 k2
 
-  abbrev Passes : ℕ → Actuals → List ℕ → Type 0
-  Passes q args xs = ActualsAt p moves shares AnyInstr AnyTable AnyText hush sc q args xs
+  abbrev ActualsInScope : ℕ → Actuals → List ℕ → Type 0
+  ActualsInScope q args xs = ActualsAt p moves shares AnyInstr AnyTable AnyText hush sc q args xs
 
   abbrev Place_ : ℕ → plain.Var → ℕ → Type 0
   Place_ q v k = PlaceAt p moves shares AnyInstr AnyTable AnyText hush sc q v k
@@ -356,7 +359,8 @@ module _ (p : Program) (m : ℕ) (moves shares : Stmt → List ℕ) (hush : ℕ 
   quoted at [] e = absurd (cc e)
   quoted at (c ∷ []) e = (2, refl, (kind.Char, knows.char), λ q. (tt, ap sort_by knows.char))
   quoted at (c ∷ d ∷ t) e = let w = nat_eq_is (suc (suc (length t))) 1
-      (not-false (nat_eq (suc (suc (length t))) 1) (calm_if rule.Y14 at (not (nat_eq (suc (suc (length t))) 1)) e)) in
+      (not-false (nat_eq (suc (suc (length t))) 1)
+      (not_if_none rule.Y14 at (not (nat_eq (suc (suc (length t))) 1)) e)) in
       absurd (omega (arith, w))
 
   abbrev pub SelectsIs : ℕ → Option ℕ → plain.Selectors → Type 0
@@ -384,7 +388,7 @@ module _ (p : Program) (m : ℕ) (moves shares : Stmt → List ℕ) (hush : ℕ 
       go kind.Char e a c w = absurd (cc c)
       go (kind.Enumeration m) e a c w = absurd (cc c)
       go (kind.Array low high index el) e a c w =
-          let same = calm_if rule.Y2 ia (not (nat_eq index i)) c in
+          let same = not_if_none rule.Y2 ia (not (nat_eq index i)) c in
           let ii = nat_eq_is index i (not-false (nat_eq index i) same) in (
             low,
             high,
@@ -434,7 +438,7 @@ module _ (p : Program) (m : ℕ) (moves shares : Stmt → List ℕ) (hush : ℕ 
 
   -- an argument, by the role of its parameter
   abbrev pub ReferenceIs : n.Expression → Type 0
-  ReferenceIs e = (v : c.Variable) × (referenced (checked_expression env e) ≡ c.ByReference v) × (k : ℕ)
+  ReferenceIs e = (v : c.Variable) × (variable_actual (checked_expression env e) ≡ c.ByReference v) × (k : ℕ)
       × (expression_kind env e ≡ Some k) × ((q : ℕ) → Place_ q (bare_variable v) k)
       × IsTarget p moves shares AnyInstr AnyTable AnyText hush (bare_variable v)
 
@@ -442,34 +446,38 @@ module _ (p : Program) (m : ℕ) (moves shares : Stmt → List ℕ) (hush : ℕ 
       → slice_get p.variables x ≡ Some v → o ≡ Some v.role → (v.role ≡ role.Value) ⊎ (v.role ≡ role.Reference)
       → actual_rule o (place e) (is_variable e) (variable_kind env x) (expression_kind env e) ≡ None
       → ValueIs (expression_kind env e) (bare_expression (checked_expression env e))
-      → (v.role ≡ role.Reference → is_variable e ≡ true → ReferenceIs e) → ((q : ℕ) → Passes q (bare_actuals rest) xs)
-      → (q : ℕ) → Passes q (bare_actuals (c.Pass (passed o (checked_expression env e)) rest)) (x ∷ xs)
+      → (v.role ≡ role.Reference → is_variable e ≡ true → ReferenceIs e)
+      → ((q : ℕ) → ActualsInScope q (bare_actuals rest) xs)
+      → (q : ℕ) → ActualsInScope q (bare_actuals (c.Pass (actual_for_role o (checked_expression env e)) rest)) (x ∷ xs)
   argument_one x xs e rest v o vat oe (inl r) calm (k, ke, ik, kk, h) ref more q =
       let known = (knows.variables x v vat (subst NoIndex (sym r) tt)).0 in
       let or : o ≡ Some role.Value = oe ∙ ap Some r in
-      let same = calm_differ (variable_kind env x) (expression_kind env e) v.kind k known ke
-      (calm_if rule.Y6 (place e) (differ (variable_kind env x) (expression_kind env e))
+      let same = same_if_none (variable_kind env x) (expression_kind env e) v.kind k known ke
+      (not_if_none rule.Y6 (place e) (differ (variable_kind env x) (expression_kind env e))
       (subst (λ z. actual_rule z (place e) (is_variable e) (variable_kind env x) (expression_kind env e) ≡ None) or
       calm)) in
-      subst (λ z. Passes q (bare_actuals (c.Pass (passed z (checked_expression env e)) rest)) (x ∷ xs)) (sym or)
+      subst (λ z. ActualsInScope q (bare_actuals (c.Pass (actual_for_role z (checked_expression env e)) rest)) (x ∷ xs))
+      (sym or)
       (h q, (v, vat, same ∙ sym kk, r), more (after_value q (bare_expression (checked_expression env e))))
   argument_one x xs e rest v o vat oe (inr r) calm val ref more q =
       let known = (knows.variables x v vat (subst NoIndex (sym r) tt)).0 in
       let or : o ≡ Some role.Reference = oe ∙ ap Some r in
       let rules = or_parts (not (is_variable e)) (differ (variable_kind env x) (expression_kind env e))
-      (calm_if rule.Y7 (place e) (not (is_variable e) || differ (variable_kind env x) (expression_kind env e))
+      (not_if_none rule.Y7 (place e) (not (is_variable e) || differ (variable_kind env x) (expression_kind env e))
       (subst (λ z. actual_rule z (place e) (is_variable e) (variable_kind env x) (expression_kind env e) ≡ None) or
       calm)) in
       let w = ref r (not-false (is_variable e) rules.0) in
-      let same = calm_differ (variable_kind env x) (expression_kind env e) v.kind w.2 known w.3 rules.1 in
-      subst (λ z. Passes q (bare_actuals (c.Pass (passed z (checked_expression env e)) rest)) (x ∷ xs)) (sym or)
-      (subst (λ z. Passes q (bare_actuals (c.Pass z rest)) (x ∷ xs)) (sym w.1)
+      let same = same_if_none (variable_kind env x) (expression_kind env e) v.kind w.2 known w.3 rules.1 in
+      subst (λ z. ActualsInScope q (bare_actuals (c.Pass (actual_for_role z (checked_expression env e)) rest)) (x ∷ xs))
+      (sym or)
+      (subst (λ z. ActualsInScope q (bare_actuals (c.Pass z rest)) (x ∷ xs)) (sym w.1)
       (w.2, w.4 q, w.5, (v, vat, same, r), more (after_var q (bare_variable w.0))))
 
   mutual
-    pub expression_fine : (e : n.Expression) → expression_sites [] together listed env e ≡ [] → InExpression p m sc e
+    pub expression_fine : (e : n.Expression) → expression_sites [] both_lists refusal_list env e ≡ []
+        → InExpression p m sc e
         → ValueIs (expression_kind env e) (bare_expression (checked_expression env e))
-    expression_fine (n.At at form) calm here = let r = form_fine at form calm here in (
+    expression_fine (n.ExpressionAt at form) calm here = let r = form_fine at form calm here in (
       r.0,
       r.1,
       r.2,
@@ -478,13 +486,13 @@ module _ (p : Program) (m : ℕ) (moves shares : Stmt → List ℕ) (hush : ℕ 
           (sym r.1) (r.3 q),
     )
 
-    pub form_fine : (at : Place) (form : n.ExpressionForm) → form_sites [] together listed env at form ≡ []
+    pub form_fine : (at : Place) (form : n.ExpressionForm) → form_sites [] both_lists refusal_list env at form ≡ []
         → InForm p m sc form → FormIs (form_kind env form) (bare_form (checked_form env form))
     form_fine at (n.Number m) calm here = (0, refl, (kind.Integer, knows.integer), λ q. (tt, integer_is 0 refl))
-    form_fine at (n.Quoted t) calm here = quoted at t (calm_site (text_rule at t) calm)
+    form_fine at (n.Quoted t) calm here = quoted at t (none_at_site (text_rule at t) calm)
     form_fine at (n.Constant k) calm here = let w = knows.given k here in (
       w.0.kind,
-      ap (λ z. ordinal_kind (entry z)) w.1,
+      ap (λ z. ordinal_kind (table_entry z)) w.1,
       ordinal_there (slice_get p.kinds w.0.kind) w.2,
       λ q. (tt, ordinal_sort (slice_get p.kinds w.0.kind) w.2),
     )
@@ -494,7 +502,7 @@ module _ (p : Program) (m : ℕ) (moves shares : Stmt → List ℕ) (hush : ℕ 
         let sig = knows.blocks f b call.1 in
         let formals : formals_of env f ≡ b.formals = ap formals_in sig in
         let passes = actuals_fine b.formals args
-        (subst (λ z. actuals_sites [] together listed env z args ≡ []) formals calm) (knows.formals f b call.1)
+        (subst (λ z. actuals_sites [] both_lists refusal_list env z args ≡ []) formals calm) (knows.formals f b call.1)
         acts in
         let w = knows.answers f b x call.1 ans in
         let kv = (knows.variables x w.0 w.1 (subst NoIndex (sym w.2) tt)).0 in
@@ -504,7 +512,7 @@ module _ (p : Program) (m : ℕ) (moves shares : Stmt → List ℕ) (hush : ℕ 
           ordinal_there (slice_get p.kinds w.0.kind) w.4,
           λ q. (
             b,
-            subst (λ z. Passes q (bare_actuals (of_.actuals (checked_actuals env z args))) b.formals)
+            subst (λ z. ActualsInScope q (bare_actuals (of_.actuals (checked_actuals env z args))) b.formals)
                 (sym formals) (passes q),
             call_at f b call
                 (after_actuals q (bare_actuals (of_.actuals (checked_actuals env (formals_of env f) args)))),
@@ -514,11 +522,11 @@ module _ (p : Program) (m : ℕ) (moves shares : Stmt → List ℕ) (hush : ℕ 
         )
     form_fine at (n.Standard f args) calm here = standard_fine f args calm here.0 here.1
     form_fine at (n.Unary op a) calm here =
-        let parts = calm_at (expression_sites [] together listed env a)
+        let parts = none_with_site (expression_sites [] both_lists refusal_list env a)
         (unary_rule op (place a) (expression_kind env a)) calm in
         let r = expression_fine a parts.0 here in
         let takes = nat_eq_is (unary_takes op) r.0
-        (calm_unless rule.Y1 (place a) (nat_eq (unary_takes op)) (expression_kind env a) r.0 r.1 parts.1) in (
+        (takes_if_none rule.Y1 (place a) (nat_eq (unary_takes op)) (expression_kind env a) r.0 r.1 parts.1) in (
           unary_takes op,
           refl,
           unary_kind op,
@@ -530,21 +538,21 @@ module _ (p : Program) (m : ℕ) (moves shares : Stmt → List ℕ) (hush : ℕ 
           ),
         )
     form_fine at (n.Binary op a b) calm here =
-        let halves = calm_parts (together (expression_sites [] together listed env a)
-        (listed (left_rule env op (place a) (expression_kind env a))))
-        (together (expression_sites [] together listed env b)
-        (listed (right_rule env op (place b) (expression_kind env a) (expression_kind env b)))) calm in
-        let left = calm_at (expression_sites [] together listed env a)
+        let halves = none_in_parts (both_lists (expression_sites [] both_lists refusal_list env a)
+        (refusal_list (left_rule env op (place a) (expression_kind env a))))
+        (both_lists (expression_sites [] both_lists refusal_list env b)
+        (refusal_list (right_rule env op (place b) (expression_kind env a) (expression_kind env b)))) calm in
+        let left = none_with_site (expression_sites [] both_lists refusal_list env a)
         (left_rule env op (place a) (expression_kind env a)) halves.0 in
-        let right = calm_at (expression_sites [] together listed env b)
+        let right = none_with_site (expression_sites [] both_lists refusal_list env b)
         (right_rule env op (place b) (expression_kind env a) (expression_kind env b)) halves.1 in
         let ra = expression_fine a left.0 here.0 in
         let rb = expression_fine b right.0 here.1 in
-        let both = calm_lesser (unless rule.Y1 (place b) (binary_takes env op) (expression_kind env b))
-        (breaks_if rule.Y1 (place b) (differ (expression_kind env a) (expression_kind env b))) right.1 in
-        let takes = calm_unless rule.Y1 (place a) (binary_takes env op) (expression_kind env a) ra.0 ra.1 left.1 in
-        let same = calm_differ (expression_kind env a) (expression_kind env b) ra.0 rb.0 ra.1 rb.1
-        (calm_if rule.Y1 (place b) (differ (expression_kind env a) (expression_kind env b)) both.1) in
+        let both = none_of_earlier (unless rule.Y1 (place b) (binary_takes env op) (expression_kind env b))
+        (refusal_if rule.Y1 (place b) (differ (expression_kind env a) (expression_kind env b))) right.1 in
+        let takes = takes_if_none rule.Y1 (place a) (binary_takes env op) (expression_kind env a) ra.0 ra.1 left.1 in
+        let same = same_if_none (expression_kind env a) (expression_kind env b) ra.0 rb.0 ra.1 rb.1
+        (not_if_none rule.Y1 (place b) (differ (expression_kind env a) (expression_kind env b)) both.1) in
         let w = binary_sort op in (
           binary_gives op,
           refl,
@@ -560,7 +568,8 @@ module _ (p : Program) (m : ℕ) (moves shares : Stmt → List ℕ) (hush : ℕ 
           ),
         )
 
-    pub variable_fine : (v : n.Variable) → variable_sites [] together listed env v ≡ [] → InVariable p m sc v → (k : ℕ)
+    pub variable_fine : (v : n.Variable) → variable_sites [] both_lists refusal_list env v ≡ [] → InVariable p m sc v
+        → (k : ℕ)
         × (selected env v ≡ Some k) × IsKind p k × ((q : ℕ) → Place_ q (bare_variable (checked_variable env v)) k)
     variable_fine (n.Entire x at ss) calm here =
         let w = entire_fine x here.0 in
@@ -568,14 +577,14 @@ module _ (p : Program) (m : ℕ) (moves shares : Stmt → List ℕ) (hush : ℕ 
         (r.0, r.1, r.2, λ q. (w.0, w.3 q, r.3 (q + 1)))
 
     pub selectors_fine : (at : Place) (o : Option ℕ) (k : ℕ) (ss : n.Selectors) → o ≡ Some k → IsKind p k
-        → selectors_sites [] together listed env at o ss ≡ [] → InSelectors p m sc ss
+        → selectors_sites [] both_lists refusal_list env at o ss ≡ [] → InSelectors p m sc ss
         → SelectsIs k (selected_kind env o ss) (bare_selectors (of_.selectors (checked_selectors env o ss)))
     selectors_fine at o k n.Whole oe ik calm here = (k, oe, ik, λ q. refl)
     selectors_fine at o k (n.Select (n.Index e) rest) oe ik calm here =
-        let parts = calm_parts (together (expression_sites [] together listed env e)
-        (listed (index_rule env at o (place e) (expression_kind env e))))
-        (selectors_sites [] together listed env at (selection env o (n.Index e)) rest) calm in
-        let one = calm_at (expression_sites [] together listed env e)
+        let parts = none_in_parts (both_lists (expression_sites [] both_lists refusal_list env e)
+        (refusal_list (index_rule env at o (place e) (expression_kind env e))))
+        (selectors_sites [] both_lists refusal_list env at (selection env o (n.Index e)) rest) calm in
+        let one = none_with_site (expression_sites [] both_lists refusal_list env e)
         (index_rule env at o (place e) (expression_kind env e)) parts.0 in
         let re = expression_fine e one.0 here.0 in
         let w = index_one at (place e) o (expression_kind env e) k re.0 oe re.1 ik one.1 in
@@ -598,54 +607,56 @@ module _ (p : Program) (m : ℕ) (moves shares : Stmt → List ℕ) (hush : ℕ 
           ),
         )
     selectors_fine at o k (n.Select (n.Field name) rest) oe ik calm here =
-        let parts = calm_parts (listed (field_rule env at o name))
-        (selectors_sites [] together listed env at (selection env o (n.Field name)) rest) calm in
-        let w = field_one at name o k oe ik (calm_site (field_rule env at o name) parts.0) in
+        let parts = none_in_parts (refusal_list (field_rule env at o name))
+        (selectors_sites [] both_lists refusal_list env at (selection env o (n.Field name)) rest) calm in
+        let w = field_one at name o k oe ik (none_at_site (field_rule env at o name) parts.0) in
         let r = selectors_fine at (selection env o (n.Field name)) w.2 rest w.5
         (knows.fields k w.0 (numbered_field env o name) w.1 w.2 w.3 w.4) parts.1 here in
         (r.0, r.1, r.2, λ q. (w.0, w.1, w.2, w.3, w.4, tt, r.3 (q + 1)))
 
-    pub actuals_fine : (xs : List ℕ) (args : n.Arguments) → actuals_sites [] together listed env xs args ≡ []
+    pub actuals_fine : (xs : List ℕ) (args : n.Arguments) → actuals_sites [] both_lists refusal_list env xs args ≡ []
         → AreFormals p xs → InActuals p m sc xs args
-        → (q : ℕ) → Passes q (bare_actuals (of_.actuals (checked_actuals env xs args))) xs
+        → (q : ℕ) → ActualsInScope q (bare_actuals (of_.actuals (checked_actuals env xs args))) xs
     actuals_fine [] n.NoArgument calm formals here q = tt
     actuals_fine (x ∷ xs) n.NoArgument calm formals here q = absurd here
     actuals_fine [] (n.AndArgument a rest) calm formals here q = absurd here
     actuals_fine (x ∷ xs) (n.AndArgument (n.Pass e w) rest) calm ((v, vat, roles), more) (in_e, aimed, in_rest) q =
-        let parts = calm_parts (together (expression_sites [] together listed env e)
-        (listed (actual_rule (slice_get env.roles x) (place e) (is_variable e) (variable_kind env x)
-        (expression_kind env e)))) (actuals_sites [] together listed env xs rest) calm in
-        let one = calm_at (expression_sites [] together listed env e)
+        let parts = none_in_parts (both_lists (expression_sites [] both_lists refusal_list env e)
+        (refusal_list (actual_rule (slice_get env.roles x) (place e) (is_variable e) (variable_kind env x)
+        (expression_kind env e)))) (actuals_sites [] both_lists refusal_list env xs rest) calm in
+        let one = none_with_site (expression_sites [] both_lists refusal_list env e)
         (actual_rule (slice_get env.roles x) (place e) (is_variable e) (variable_kind env x)
         (expression_kind env e)) parts.0 in
         argument_one x xs e (of_.actuals (checked_actuals env xs rest)) v (slice_get env.roles x) vat
         (knows.roles x v vat) roles one.1 (expression_fine e one.0 in_e)
         (λ r i. reference_fine e one.0 in_e i (aimed v vat r i)) (actuals_fine xs rest parts.1 more in_rest) q
 
-    pub reference_fine : (e : n.Expression) → expression_sites [] together listed env e ≡ [] → InExpression p m sc e
+    pub reference_fine : (e : n.Expression) → expression_sites [] both_lists refusal_list env e ≡ []
+        → InExpression p m sc e
         → is_variable e ≡ true → AimedExpression p m e → ReferenceIs e
-    reference_fine (n.At at (n.Read (n.Entire x name ss))) calm here i aimed = let r =
+    reference_fine (n.ExpressionAt at (n.Read (n.Entire x name ss))) calm here i aimed = let r =
         variable_fine (n.Entire x name ss) calm here in
         (checked_variable env (n.Entire x name ss), refl, r.0, r.1, r.3, aimed)
-    reference_fine (n.At at (n.Number m)) calm here i aimed = absurd (cc i)
-    reference_fine (n.At at (n.Quoted t)) calm here i aimed = absurd (cc i)
-    reference_fine (n.At at (n.Constant k)) calm here i aimed = absurd (cc i)
-    reference_fine (n.At at (n.Apply f name args)) calm here i aimed = absurd (cc i)
-    reference_fine (n.At at (n.Standard f args)) calm here i aimed = absurd (cc i)
-    reference_fine (n.At at (n.Unary op a)) calm here i aimed = absurd (cc i)
-    reference_fine (n.At at (n.Binary op a b)) calm here i aimed = absurd (cc i)
+    reference_fine (n.ExpressionAt at (n.Number m)) calm here i aimed = absurd (cc i)
+    reference_fine (n.ExpressionAt at (n.Quoted t)) calm here i aimed = absurd (cc i)
+    reference_fine (n.ExpressionAt at (n.Constant k)) calm here i aimed = absurd (cc i)
+    reference_fine (n.ExpressionAt at (n.Apply f name args)) calm here i aimed = absurd (cc i)
+    reference_fine (n.ExpressionAt at (n.Standard f args)) calm here i aimed = absurd (cc i)
+    reference_fine (n.ExpressionAt at (n.Unary op a)) calm here i aimed = absurd (cc i)
+    reference_fine (n.ExpressionAt at (n.Binary op a b)) calm here i aimed = absurd (cc i)
 
-    pub standard_fine : (f : StandardFn) (args : n.Arguments) → standard_sites [] together listed env f args ≡ []
+    pub standard_fine : (f : StandardFn) (args : n.Arguments)
+        → standard_sites [] both_lists refusal_list env f args ≡ []
         → function_takes f (count args) ≡ true → InArguments p m sc args
         → FormIs (standard_gives env f (parameter_kind env None args))
         (bare_form (c.Standard f (of_.expressions (checked_arguments env args))))
     standard_fine f n.NoArgument calm fits here = no_argument f fits
     standard_fine f (n.AndArgument (n.Pass e w) n.NoArgument) calm fits here =
-        let parts = calm_parts (together (expression_sites [] together listed env e)
-        (listed (standard_rule env f (place e) (expression_kind env e)))) [] calm in
-        let one = calm_at (expression_sites [] together listed env e)
+        let parts = none_in_parts (both_lists (expression_sites [] both_lists refusal_list env e)
+        (refusal_list (standard_rule env f (place e) (expression_kind env e)))) [] calm in
+        let one = none_with_site (expression_sites [] both_lists refusal_list env e)
         (standard_rule env f (place e) (expression_kind env e)) parts.0 in
         let r = expression_fine e one.0 here.0 in
         standard_one f r.0 (expression_kind env e) (bare_expression (checked_expression env e)) r.1 r.2
-        (calm_unless rule.Y8 (place e) (standard_takes env f) (expression_kind env e) r.0 r.1 one.1) r.3 r.4
+        (takes_if_none rule.Y8 (place e) (standard_takes env f) (expression_kind env e) r.0 r.1 one.1) r.3 r.4
     standard_fine f (n.AndArgument a (n.AndArgument b rest)) calm fits here = absurd (too_many f (count rest) fits)

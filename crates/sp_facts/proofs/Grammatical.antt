@@ -12,9 +12,9 @@ use Rattle.sp_tree.specs.declared.named.NamedKindForm.TheVariants as form
 use Rattle.sp_tree.specs.declared.checked.KindOf.TheVariants as kind
 use Rattle.sp_tree.specs.declared.syntax.SynKind.{SynKind}
 use Rattle.sp_tree.specs.Grammar as g
-use Rattle.sp_tree.specs.Grammar.{declared}
-use Rattle.sp_tree.specs.Scopes.{Scope, Env, Local, inside, find, empty, standard}
-use Rattle.sp_tree.specs.NameWalk.{part_local, parts_local, title_local, heading_local, deeper}
+use Rattle.sp_tree.specs.Grammar.{with_part_first}
+use Rattle.sp_tree.specs.Scopes.{Scope, Env, Local, inner_env, find, empty_local, standard_scope}
+use Rattle.sp_tree.specs.NameWalk.{part_local, parts_local, title_local, heading_local, blocks_around}
 use Rattle.sp_tree.specs.NamedOf as of_
 use Rattle.sp_tree.specs.NamedTree.{procedure_named, named_arguments, named_statement, named_statement_form}
 use Rattle.sp_tree.specs.NamedTree.{named_other, named_statements, named_arms, named_branches, kind_named, parts_named}
@@ -24,10 +24,11 @@ use Rattle.sp_tree.specs.PlainSyntax as tree
 use Rattle.sp_types.specs.declared.tables.Ordinal.{Ordinal}
 use Rattle.sp_types.specs.Tables.{type_number, const_value, number_or, type_or, are_bounds, array_of, kinds_by}
 use Rattle.sp_types.specs.Tables.{kinds_from}
-use Rattle.sp_facts.specs.Has.{Has, HasForm, HasOther, HaveAll, HaveArms, HaveBranches, BlocksHave, AnyIndex, IsSplit}
-use Rattle.sp_facts.specs.Filled.{IsFilled, AreFilled}
+use Rattle.sp_facts.specs.ForkWalk.{ForksSatisfy, FormSatisfies, ElseSatisfies, AllSatisfy, ArmsSatisfy}
+use Rattle.sp_facts.specs.ForkWalk.{BranchesSatisfy, BlocksSatisfy, AnyIndex, IsSplit}
+use Rattle.sp_facts.specs.NonEmptyRecords.{IsNonEmptyKind, AreNonEmptyKinds}
 
-call_split : (o : Option Meaning) (args : n.Arguments) → HasForm AnyIndex IsSplit (procedure_named o args)
+call_split : (o : Option Meaning) (args : n.Arguments) → FormSatisfies AnyIndex IsSplit (procedure_named o args)
 call_split None args = tt
 call_split (Some (meaning.Constant k)) args = tt
 call_split (Some (meaning.Kind k)) args = tt
@@ -37,17 +38,18 @@ call_split (Some (meaning.Function b fs)) args = tt
 call_split (Some (meaning.StandardFunction f)) args = tt
 call_split (Some (meaning.StandardProcedure f)) args = tt
 
-filled_join : (xs ys : List NamedKind) → AreFilled xs → AreFilled ys → AreFilled (xs ++ ys)
+filled_join : (xs ys : List NamedKind) → AreNonEmptyKinds xs → AreNonEmptyKinds ys → AreNonEmptyKinds (xs ++ ys)
 filled_join [] ys h k = k
 filled_join (x ∷ xs) ys h k = (h.0, filled_join xs ys h.1 k)
 
-blocks_join : (xs ys : List n.Block) → BlocksHave AnyIndex IsSplit xs → BlocksHave AnyIndex IsSplit ys
-    → BlocksHave AnyIndex IsSplit (xs ++ ys)
+blocks_join : (xs ys : List n.Block) → BlocksSatisfy AnyIndex IsSplit xs → BlocksSatisfy AnyIndex IsSplit ys
+    → BlocksSatisfy AnyIndex IsSplit (xs ++ ys)
 blocks_join [] ys h k = k
 blocks_join (x ∷ xs) ys h k = (h.0, blocks_join xs ys h.1 k)
 
 module _ (text : List ℕ) where
-  type_filled : {ts r : List Token} {k : SynKind} → g.IsType text ts r k → (env : Env) → IsFilled (kind_named env k)
+  type_filled : {ts r : List Token} {k : SynKind} → g.IsType text ts r k → (env : Env)
+      → IsNonEmptyKind (kind_named env k)
   type_filled (g.alias x) env = tt
   type_filled (g.enumeration a b c) env = tt
   type_filled (g.array a b c d e f h i) env = tt
@@ -57,16 +59,16 @@ module _ (text : List ℕ) where
   module _ (Ok : ℕ → List Token → Type 0) where
     mutual
       statement_split : {d : ℕ} {ts r : List Token} {s : tree.Statement} → g.IsStatement text Ok d ts r s
-          → (around : List Scope) (l : Local) → Has AnyIndex IsSplit (named_statement around l s)
+          → (around : List Scope) (l : Local) → ForksSatisfy AnyIndex IsSplit (named_statement around l s)
       statement_split (g.empty t) around l = tt
       statement_split (g.statement t ok f) around l = form_split f around l
 
       form_split : {d : ℕ} {ts r : List Token} {f : tree.Form} → g.IsForm text Ok d ts r f
-          → (around : List Scope) (l : Local) → HasForm AnyIndex IsSplit (named_statement_form around l f)
+          → (around : List Scope) (l : Local) → FormSatisfies AnyIndex IsSplit (named_statement_form around l f)
       form_split (g.assignment v i e) around l = tt
-      form_split (g.plain_call {n = x} i) around l = call_split (find (inside around l) x.text) n.NoArgument
+      form_split (g.plain_call {n = x} i) around l = call_split (find (inner_env around l) x.text) n.NoArgument
       form_split (g.call {n = x} {args = args} i a) around l =
-          call_split (find (inside around l) x.text) (of_.arguments (named_arguments (inside around l) args))
+          call_split (find (inner_env around l) x.text) (of_.arguments (named_arguments (inner_env around l) args))
       form_split (g.compound_form (g.compound b ss e)) around l = sequence_split ss around l
       form_split (g.choice {s = a} i e t s o) around l = (statement_split s around l, other_split o around _)
       form_split (g.while_loop i e o s) around l = statement_split s around l
@@ -78,22 +80,24 @@ module _ (text : List ℕ) where
       form_split (g.forall a b c e f h i s) around l = (tt, statement_split s _ _)
       form_split (g.assume i e) around l = tt
 
-      other_split : {d : ℕ} {ts r : List Token} {o : tree.Other} → g.IsElse text Ok d ts r o
-          → (around : List Scope) (l : Local) → HasOther AnyIndex IsSplit (named_other around l o)
+      other_split : {d : ℕ} {ts r : List Token} {o : tree.ElsePart} → g.IsElse text Ok d ts r o
+          → (around : List Scope) (l : Local) → ElseSatisfies AnyIndex IsSplit (named_other around l o)
       other_split (g.no_else i) around l = tt
       other_split (g.other i s) around l = statement_split s around l
 
       sequence_split : {d : ℕ} {ts r : List Token} {ss : tree.Statements} → g.IsSequence text Ok d ts r ss
-          → (around : List Scope) (l : Local) → HaveAll AnyIndex IsSplit (of_.statements (named_statements around l ss))
+          → (around : List Scope) (l : Local)
+          → AllSatisfy AnyIndex IsSplit (of_.statements (named_statements around l ss))
       sequence_split (g.sequence s ss) around l = (statement_split s around l, statements_split ss around _)
 
       statements_split : {d : ℕ} {ts r : List Token} {ss : tree.Statements} → g.IsMoreStatements text Ok d ts r ss
-          → (around : List Scope) (l : Local) → HaveAll AnyIndex IsSplit (of_.statements (named_statements around l ss))
+          → (around : List Scope) (l : Local)
+          → AllSatisfy AnyIndex IsSplit (of_.statements (named_statements around l ss))
       statements_split g.statements_end around l = tt
       statements_split (g.statements_go_on i ss) around l = sequence_split ss around l
 
       more_arms_split : {d : ℕ} {ts r : List Token} {arms : tree.Arms} → g.IsMoreArms text Ok d ts r arms
-          → (around : List Scope) (l : Local) → HaveArms AnyIndex IsSplit (of_.arms (named_arms around l arms))
+          → (around : List Scope) (l : Local) → ArmsSatisfy AnyIndex IsSplit (of_.arms (named_arms around l arms))
       more_arms_split (g.arms_end i) around l = tt
       more_arms_split (g.last_arm i e) around l = tt
       more_arms_split (g.arms_go_on i (g.arm cs s) rest) around l =
@@ -101,24 +105,24 @@ module _ (text : List ℕ) where
 
       branches_split : {d : ℕ} {ts r : List Token} {bs : tree.Branches} → g.IsBranches text Ok d ts r bs
           → (around : List Scope) (l : Local) → IsSplit (of_.branches (named_branches around l bs))
-          × HaveBranches AnyIndex IsSplit (of_.branches (named_branches around l bs))
+          × BranchesSatisfy AnyIndex IsSplit (of_.branches (named_branches around l bs))
       branches_split (g.branches ss bs) around l = (tt, (sequence_split ss around l, more_branches_split bs around _))
 
       more_branches_split : {d : ℕ} {ts r : List Token} {bs : tree.Branches} → g.IsMoreBranches text Ok d ts r bs
           → (around : List Scope) (l : Local)
-          → HaveBranches AnyIndex IsSplit (of_.branches (named_branches around l bs))
+          → BranchesSatisfy AnyIndex IsSplit (of_.branches (named_branches around l bs))
       more_branches_split (g.branches_end i) around l = tt
       more_branches_split (g.branches_go_on i bs) around l = (branches_split bs around l).1
 
     -- what stands in a block
     abbrev Full : tree.Block → Type 0
-    Full b = (around : List Scope) (l : Local) → AreFilled (parts_named around l b.parts).kinds
-        × BlocksHave AnyIndex IsSplit (parts_named around l b.parts).blocks
-        × Has AnyIndex IsSplit (named_statement around (parts_local l b.parts) b.body)
+    Full b = (around : List Scope) (l : Local) → AreNonEmptyKinds (parts_named around l b.parts).kinds
+        × BlocksSatisfy AnyIndex IsSplit (parts_named around l b.parts).blocks
+        × ForksSatisfy AnyIndex IsSplit (named_statement around (parts_local l b.parts) b.body)
 
     with_part : (p : tree.Part) (b : tree.Block)
-        → ((around : List Scope) (l : Local) → AreFilled (part_named around l p).kinds
-        × BlocksHave AnyIndex IsSplit (part_named around l p).blocks) → Full b → Full (declared p b)
+        → ((around : List Scope) (l : Local) → AreNonEmptyKinds (part_named around l p).kinds
+        × BlocksSatisfy AnyIndex IsSplit (part_named around l p).blocks) → Full b → Full (with_part_first p b)
     with_part p b h full around l =
         let one = part_named around l p in
         let more = parts_named around (part_local l p) b.parts in
@@ -132,17 +136,17 @@ module _ (text : List ℕ) where
       parts_full (g.constants {b = b} i (g.constant_part {n = x} {c = c} a q v z) rest) =
           with_part (tree.Const x c) b (λ around l. (tt, tt)) (constants_full rest)
       parts_full (g.types {b = b} i (g.type_part {n = x} {k = k} a q t z) rest) =
-          with_part (tree.Kind x k) b (λ around l. ((type_filled t (inside around l), tt), tt)) (types_full rest)
+          with_part (tree.Kind x k) b (λ around l. ((type_filled t (inner_env around l), tt), tt)) (types_full rest)
       parts_full (g.variables {b = b} i (g.variable_part {g = xs} a z) rest) =
           with_part (tree.Var xs.names xs.kind) b (λ around l. (tt, tt)) (variables_full rest)
       parts_full (g.procedure {n = x} {fs = fs} {k = k} {m = m} i a f z (g.block ok parts) y rest) =
           with_part (tree.Proc x fs None k.parts k.body) m
-          (λ around l. (let in_ = parts_full parts (deeper around (title_local l x fs None))
+          (λ around l. (let in_ = parts_full parts (blocks_around around (title_local l x fs None))
           (heading_local l x fs None) in (in_.0, (in_.2, in_.1)))) (parts_full rest)
       parts_full (g.function {n = x} {fs = fs} {answer = answer} {k = k} {m = m} i a f c t z (g.block ok parts) y
           rest) =
           with_part (tree.Proc x fs (Some answer) k.parts k.body) m
-          (λ around l. (let in_ = parts_full parts (deeper around (title_local l x fs (Some answer)))
+          (λ around l. (let in_ = parts_full parts (blocks_around around (title_local l x fs (Some answer)))
           (heading_local l x fs (Some answer)) in (in_.0, (in_.2, in_.1)))) (parts_full rest)
 
       constants_full : {d : ℕ} {ts r : List Token} {b : tree.Block} → g.IsMoreConstants text Ok d ts r b → Full b
@@ -153,7 +157,7 @@ module _ (text : List ℕ) where
       types_full : {d : ℕ} {ts r : List Token} {b : tree.Block} → g.IsMoreTypes text Ok d ts r b → Full b
       types_full (g.types_end rest) = parts_full rest
       types_full (g.types_go_on {b = b} (g.type_part {n = x} {k = k} a q t z) rest) =
-          with_part (tree.Kind x k) b (λ around l. ((type_filled t (inside around l), tt), tt)) (types_full rest)
+          with_part (tree.Kind x k) b (λ around l. ((type_filled t (inner_env around l), tt), tt)) (types_full rest)
 
       variables_full : {d : ℕ} {ts r : List Token} {b : tree.Block} → g.IsMoreVariables text Ok d ts r b → Full b
       variables_full (g.variables_end rest) = parts_full rest
@@ -161,8 +165,9 @@ module _ (text : List ℕ) where
           with_part (tree.Var xs.names xs.kind) b (λ around l. (tt, tt)) (variables_full rest)
 
     pub program_full : {ts r : List Token} {s : tree.Program} → g.IsProgram text Ok ts r s
-        → AreFilled (program_named s).kinds × BlocksHave AnyIndex IsSplit (program_named s).blocks
-    program_full (g.program i a h z (g.block ok parts) e) = let f = parts_full parts (standard ∷ []) empty in
+        → AreNonEmptyKinds (program_named s).kinds × BlocksSatisfy AnyIndex IsSplit (program_named s).blocks
+    program_full (g.program i a h z (g.block ok parts) e) = let f =
+        parts_full parts (standard_scope ∷ []) empty_local in
         ((tt, (tt, (tt, f.0))), (f.2, f.1))
 
 -- ---- types
@@ -176,12 +181,12 @@ filled : (f : List ℕ × ℕ) (rest fs : List (List ℕ × ℕ)) → kind.Field
 filled f rest fs e = let z : f ∷ rest ≡ fs = cc e in subst (λ z. 1 ≤ length z) z (omega arith)
 
 -- a record has a field
-pub record_filled : (ns : List ℕ) (known : List (Option Ordinal)) (ks : List NamedKind) → AreFilled ks
+pub record_filled : (ns : List ℕ) (known : List (Option Ordinal)) (ks : List NamedKind) → AreNonEmptyKinds ks
     → (k : ℕ) (fs : List (List ℕ × ℕ)) → slice_get (kinds_from ns known ks) k ≡ Some (kind.Fields fs) → 1 ≤ length fs
 record_filled ns known [] h k fs e = absurd (cc e)
 record_filled ns known (t ∷ ks) h k fs e = by t.form h.0 k e (λ k e. record_filled ns known ks h.1 k fs e)
   where
-    by : (f : NamedKindForm) → IsFilled f → (k : ℕ)
+    by : (f : NamedKindForm) → IsNonEmptyKind f → (k : ℕ)
         → slice_get (kinds_by ns known f ++ kinds_from ns known ks) k ≡ Some (kind.Fields fs)
         → ((k : ℕ) → slice_get (kinds_from ns known ks) k ≡ Some (kind.Fields fs) → 1 ≤ length fs) → 1 ≤ length fs
     by form.Integer i zero e more = absurd (cc e)

@@ -5,18 +5,18 @@ use Rattle.std.specs.Prelude.{◌&&◌, map}
 use Rattle.sp_tree.specs.declared.checked.Role.{Role}
 use Rattle.sp_tree.specs.declared.checked.Role.TheVariants as role
 use Rattle.sp_tree.specs.declared.syntax.Name.{Name}
-use Rattle.sp_tree.specs.NameFirst.{together, all_at}
+use Rattle.sp_tree.specs.NameFirst.{both_lists, all_at}
 use Rattle.sp_tree.specs.Scopes as names
 use Rattle.sp_tree.specs.Scopes.{Env, find}
 use Rattle.sp_tree.specs.NameWalk as w
 use Rattle.sp_tree.specs.NameWalk.{role_of}
 use Rattle.sp_tree.specs.PlainNamed as n
-use Rattle.sp_facts.proofs.Calm.{calm_parts}
+use Rattle.sp_facts.proofs.NoBreachInParts.{none_in_parts}
 use Rattle.std.proofs.lemmas.List.{length-append, append-nil}
 use Rattle.std.proofs.lemmas.Bool.{eqb-true}
 use Rattle.sp_tree.specs.declared.checked.Variable as checked
-use Rattle.sp_tree.specs.Scopes.{Local, inside, opened, next_variable}
-use Rattle.sp_tree.specs.NameWalk.{deeper}
+use Rattle.sp_tree.specs.Scopes.{Local, inner_env, local_of_inner, next_variable}
+use Rattle.sp_tree.specs.NameWalk.{blocks_around}
 use Rattle.sp_tree.specs.NamedTree.{indices}
 use Rattle.sp_tree.specs.PlainSyntax.{Statement}
 use Rattle.sp_tree.specs.declared.syntax.SynFormal.{SynFormal}
@@ -30,10 +30,10 @@ use Rattle.sp_facts.proofs.Numbering.{answer_adds, part_moves}
 use Rattle.sp_tree.specs.NamedTree.{Inside, inside_with, procedure_block}
 use Rattle.sp_tree.specs.Bare.{variable_of}
 use Rattle.sp_tree.specs.Cells.{variables_of}
-use Rattle.sp_tree.specs.Formed.{among}
-use Rattle.sp_facts.specs.Each.{Each}
+use Rattle.sp_tree.specs.Formed.{numbers_with_role}
+use Rattle.sp_facts.specs.ForEach.{HoldsOfEach}
 use Rattle.sp_facts.proofs.Variables.{each_join, names_each, formals_each, answer_each, indices_each}
-use Rattle.sp_facts.proofs.Blocks.{calm_pieces, title_moves, formals_move, head_blocks}
+use Rattle.sp_facts.proofs.Blocks.{none_in_pieces, title_moves, formals_move, head_blocks}
 
 -- the numbers of a block's variables with such a role, from a number on
 abbrev pub own : (Role → Bool) → ℕ → ℕ → List checked.Variable → List ℕ
@@ -46,19 +46,21 @@ in_blocks g f k [] = []
 in_blocks g f k (b ∷ bs) = if k == f then g b else in_blocks g f (suc k) bs
 
 pub among_own : (fits : Role → Bool) (f k : ℕ) (us : List checked.Variable)
-    → among fits (variables_of f k (map variable_of us)) ≡ own fits f k us
+    → numbers_with_role fits (variables_of f k (map variable_of us)) ≡ own fits f k us
 among_own fits f k [] = refl
 among_own fits f k (u ∷ us) = go (u.block == f) (fits u.role) refl (among_own fits f (suc k) us)
   where
-    go : (b r : Bool) → fits u.role ≡ r → among fits (variables_of f (suc k) (map variable_of us))
+    go : (b r : Bool) → fits u.role ≡ r → numbers_with_role fits (variables_of f (suc k) (map variable_of us))
         ≡ own fits f (suc k) us
-        → among fits (if b then (k, variable_of u) ∷ variables_of f (suc k) (map variable_of us) else
+        → numbers_with_role fits (if b then (k, variable_of u) ∷ variables_of f (suc k) (map variable_of us) else
         variables_of f (suc k) (map variable_of us))
         ≡ (if b && r then k ∷ own fits f (suc k) us else own fits f (suc k) us)
-    go true true e h = ap (λ (z : Bool). if z then k ∷ among fits (variables_of f (suc k) (map variable_of us)) else
-        among fits (variables_of f (suc k) (map variable_of us))) e ∙ ap (λ z. k ∷ z) h
-    go true false e h = ap (λ (z : Bool). if z then k ∷ among fits (variables_of f (suc k) (map variable_of us)) else
-        among fits (variables_of f (suc k) (map variable_of us))) e ∙ h
+    go true true e h = ap
+        (λ (z : Bool). if z then k ∷ numbers_with_role fits (variables_of f (suc k) (map variable_of us)) else
+        numbers_with_role fits (variables_of f (suc k) (map variable_of us))) e ∙ ap (λ z. k ∷ z) h
+    go true false e h = ap
+        (λ (z : Bool). if z then k ∷ numbers_with_role fits (variables_of f (suc k) (map variable_of us)) else
+        numbers_with_role fits (variables_of f (suc k) (map variable_of us))) e ∙ h
     go false r e h = h
 
 pub own_join : (fits : Role → Bool) (f k : ℕ) (us vs : List checked.Variable)
@@ -76,13 +78,13 @@ own_join fits f k (u ∷ us) vs = go ((u.block == f) && fits u.role)
 
 -- all are of this block
 abbrev pub AllOf : ℕ → List checked.Variable → Type 0
-AllOf b = Each (λ (u : checked.Variable). u.block ≡ b)
+AllOf b = HoldsOfEach (λ (u : checked.Variable). u.block ≡ b)
 
 -- all are of roles for which the test says this
-abbrev pub AllFit : (Role → Bool) → Bool → List checked.Variable → Type 0
-AllFit fits r = Each (λ (u : checked.Variable). fits u.role ≡ r)
+abbrev pub AllRolesFit : (Role → Bool) → Bool → List checked.Variable → Type 0
+AllRolesFit fits r = HoldsOfEach (λ (u : checked.Variable). fits u.role ≡ r)
 
-pub own_all : (fits : Role → Bool) (b k : ℕ) (us : List checked.Variable) → AllOf b us → AllFit fits true us
+pub own_all : (fits : Role → Bool) (b k : ℕ) (us : List checked.Variable) → AllOf b us → AllRolesFit fits true us
     → own fits b k us ≡ numbers k us
 own_all fits b k [] x y = refl
 own_all fits b k (u ∷ us) x y = ap (λ (z : Bool). if z && fits u.role then k ∷ own fits b (suc k) us else
@@ -96,7 +98,8 @@ own_other fits b f k [] x d = refl
 own_other fits b f k (u ∷ us) x d = ap (λ (z : Bool). if z && fits u.role then k ∷ own fits f (suc k) us else
     own fits f (suc k) us) (subst (λ z. (z == f) ≡ false) (sym x.0) d) ∙ own_other fits b f (suc k) us x.1 d
 
-pub own_none : (fits : Role → Bool) (f k : ℕ) (us : List checked.Variable) → AllFit fits false us → own fits f k us ≡ []
+pub own_none : (fits : Role → Bool) (f k : ℕ) (us : List checked.Variable) → AllRolesFit fits false us
+    → own fits f k us ≡ []
 own_none fits f k [] y = refl
 own_none fits f k (u ∷ us) y = both (u.block == f) ∙ own_none fits f (suc k) us y.1
   where
@@ -136,18 +139,18 @@ pub formals_of_ : (env : Env) (b : ℕ) (fs : List SynFormal) → AllOf b (forma
 formals_of_ env b fs = formals_each (λ (u : checked.Variable). u.block ≡ b) b env fs (λ x k r. refl)
 
 pub formals_fit : (fits : Role → Bool) (z : Bool) → ((r : Bool) → fits (role_of r) ≡ z)
-    → (env : Env) (b : ℕ) (fs : List SynFormal) → AllFit fits z (formals_named env b fs)
+    → (env : Env) (b : ℕ) (fs : List SynFormal) → AllRolesFit fits z (formals_named env b fs)
 formals_fit fits z h env b fs = formals_each (λ (u : checked.Variable). fits u.role ≡ z) b env fs (λ x k r. h r)
 
 pub answer_of_ : (env : Env) (b : ℕ) (x : Name) (answer : Option Name) → AllOf b (answer_named env b x answer)
 answer_of_ env b x answer = answer_each (λ (u : checked.Variable). u.block ≡ b) b env x answer (λ k. refl)
 
 pub answer_fit : (fits : Role → Bool) (z : Bool) → fits role.Answer ≡ z
-    → (env : Env) (b : ℕ) (x : Name) (answer : Option Name) → AllFit fits z (answer_named env b x answer)
+    → (env : Env) (b : ℕ) (x : Name) (answer : Option Name) → AllRolesFit fits z (answer_named env b x answer)
 answer_fit fits z e env b x answer = answer_each (λ (u : checked.Variable). fits u.role ≡ z) b env x answer (λ k. e)
 
 pub indices_fit : (fits : Role → Bool) → fits role.Index ≡ false → (block : ℕ) (s : Statement)
-    → AllFit fits false (indices block s)
+    → AllRolesFit fits false (indices block s)
 indices_fit fits d block s = indices_each (λ (u : checked.Variable). fits u.role ≡ false) block (λ x. d) s
 
 same_names : (b k1 k2 : ℕ) (r : Role) (xs : List Name)
@@ -173,22 +176,22 @@ same_formals e1 e2 b (f ∷ fs) =
 module _ (fits : Role → Bool) (no_local : fits role.Local ≡ false) (no_index : fits role.Index ≡ false)
     (g : n.Block → List ℕ)
     (heading : (l : Local) (x : Name) (fs : List SynFormal) (answer : Option Name) (i : Inside)
-    → next_variable (formals_local (opened (next_block l.counts) 0 (title_local l x fs answer)) fs).counts
-    ≡ next_variable l.counts + length (formals_named (inside [] l) (next_block l.counts) fs)
+    → next_variable (formals_local (local_of_inner (next_block l.counts) 0 (title_local l x fs answer)) fs).counts
+    ≡ next_variable l.counts + length (formals_named (inner_env [] l) (next_block l.counts) fs)
     → (env : Env) → env.local ≡ l → i.answer ≡ (heading_local l x fs answer).answer
     → own fits (next_block l.counts) (next_variable l.counts)
     (formals_named env (next_block l.counts) fs ++ answer_named env (next_block l.counts) x answer)
     ≡ g (procedure_block env x fs answer i)) (f : ℕ) where
   mutual
     pub parts_own : (around : List names.Scope) (l : Local) (ps : Parts)
-        → w.parts_sites [] together all_at around l ps ≡ []
+        → w.parts_sites [] both_lists all_at around l ps ≡ []
         → own fits f (next_variable l.counts) (parts_named around l ps).variables
         ≡ in_blocks g f (next_block l.counts) (parts_named around l ps).blocks
     parts_own around l NoPart calm = refl
     parts_own around l (Declare q rest) calm =
         let next = part_local l q in
-        let two = calm_parts (w.part_sites [] together all_at around l q)
-        (w.parts_sites [] together all_at around next rest) calm in
+        let two = none_in_parts (w.part_sites [] both_lists all_at around l q)
+        (w.parts_sites [] both_lists all_at around next rest) calm in
         let a = part_named around l q in
         let b = parts_named around next rest in
         let moved = part_moves around l q two.0 in
@@ -202,24 +205,24 @@ module _ (fits : Role → Bool) (no_local : fits role.Local ≡ false) (no_index
         ∙ ap (λ z. z ++ own fits f (k + length a.variables) b.variables) (part_own around l q two.0)
         ∙ ap (λ z. in_blocks g f j a.blocks ++ z) later ∙ sym (blocks_join g f j a.blocks b.blocks)
 
-    part_own : (around : List names.Scope) (l : Local) (q : Part) → w.part_sites [] together all_at around l q ≡ []
+    part_own : (around : List names.Scope) (l : Local) (q : Part) → w.part_sites [] both_lists all_at around l q ≡ []
         → own fits f (next_variable l.counts) (part_named around l q).variables
         ≡ in_blocks g f (next_block l.counts) (part_named around l q).blocks
     part_own around l (Const x c) calm = refl
     part_own around l (Kind x k) calm = refl
     part_own around l (Var xs t) calm = own_none fits f (next_variable l.counts)
-        (variables_named l.block role.Local (kind_number (find (inside around l) t.text)) xs)
+        (variables_named l.block role.Local (kind_number (find (inner_env around l) t.text)) xs)
         (names_each (λ (u : checked.Variable). fits u.role ≡ false) l.block role.Local
-        (kind_number (find (inside around l) t.text)) xs (λ x. no_local))
+        (kind_number (find (inner_env around l) t.text)) xs (λ x. no_local))
     part_own around l (Proc x fs answer parts body) calm =
         let j = next_block l.counts in
         let k = next_variable l.counts in
-        let env = inside around l in
+        let env = inner_env around l in
         let title = title_local l x fs answer in
-        let in_ = deeper around title in
+        let in_ = blocks_around around title in
         let head = heading_local l x fs answer in
-        let formals = formals_local (opened j 0 title) fs in
-        let pieces = calm_pieces around l x fs answer parts body calm in
+        let formals = formals_local (local_of_inner j 0 title) fs in
+        let pieces = none_in_pieces around l x fs answer parts body calm in
         let a = formals_named env j fs in
         let b = answer_named env j x answer in
         let inner = parts_named in_ head parts in
@@ -241,9 +244,9 @@ module _ (fits : Role → Bool) (no_local : fits role.Local ≡ false) (no_index
         own_join fits f (k + length a + length b) inner.variables d
         ∙ ap (λ z. own fits f (k + length a + length b) inner.variables ++ z) none
         ∙ append-nil (own fits f (k + length a + length b) inner.variables) ∙ mid in
-        let same_length = same_formals env (inside [] l) j fs in
+        let same_length = same_formals env (inner_env [] l) j fs in
         let first = heading l x fs answer i (let z : next_variable formals.counts ≡ k
-        + length (formals_named (inside [] l) j fs) = omega (arith, m1, m2, same_length) in z) env refl refl in
+        + length (formals_named (inner_env [] l) j fs) = omega (arith, m1, m2, same_length) in z) env refl refl in
         split (j == f) refl k a b (inner.variables ++ d) (g (procedure_block env x fs answer i))
         (in_blocks g f (suc j) inner.blocks)
         (each_join (λ (u : checked.Variable). u.block ≡ j) a b (formals_of_ env j fs) (answer_of_ env j x answer))

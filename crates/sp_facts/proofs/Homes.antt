@@ -8,11 +8,11 @@ use Rattle.sp_tree.specs.declared.checked.Role.TheVariants as role
 use Rattle.sp_tree.specs.declared.checked.Variable as checked
 use Rattle.sp_tree.specs.declared.syntax.Name.{Name}
 use Rattle.sp_tree.specs.declared.syntax.SynFormal.{SynFormal}
-use Rattle.sp_tree.specs.NameFirst.{together, all_at, names_broken}
+use Rattle.sp_tree.specs.NameFirst.{both_lists, all_at, broken_name_rules}
 use Rattle.sp_tree.specs.Scopes as names
-use Rattle.sp_tree.specs.Scopes.{Env, Local, find, inside, empty, standard, next_block}
+use Rattle.sp_tree.specs.Scopes.{Env, Local, find, inner_env, empty_local, standard_scope, next_block}
 use Rattle.sp_tree.specs.NameWalk as w
-use Rattle.sp_tree.specs.NameWalk.{role_of, title_local, heading_local, parts_local, part_local, deeper}
+use Rattle.sp_tree.specs.NameWalk.{role_of, title_local, heading_local, parts_local, part_local, blocks_around}
 use Rattle.sp_tree.specs.NamedTree.{kind_number, formals_named, answer_named, parts_named, part_named, indices}
 use Rattle.sp_tree.specs.PlainNamed as n
 use Rattle.sp_tree.specs.Plain as plain
@@ -22,19 +22,21 @@ use Rattle.sp_tree.specs.PlainSyntax.{Part, Const, Kind, Var}
 use Rattle.sp_tree.specs.PlainSyntax.{Proc, Parts, NoPart, Declare}
 use Rattle.sp_types.specs.Tables.{env_of}
 use Rattle.sp_types.specs.TypeWalk.{starts_of, blocks_after}
-use Rattle.sp_facts.specs.Homed.{NoConsole, AreHomed}
-use Rattle.sp_facts.specs.Held.{HoldsBlocks}
-use Rattle.sp_facts.proofs.Calm.{calm_parts}
+use Rattle.sp_facts.specs.RealBlocks.{NoConsole, AreInRealBlocks}
+use Rattle.sp_facts.specs.PartsInTables.{HoldsBlocks}
+use Rattle.sp_facts.proofs.NoBreachInParts.{none_in_parts}
 use Rattle.sp_facts.proofs.Variables.{each_join, names_each, formals_each, answer_each, indices_each}
 use Rattle.sp_facts.proofs.Numbering.{part_moves}
-use Rattle.sp_facts.proofs.Blocks.{part_block, calm_pieces, head_blocks, head_number}
+use Rattle.sp_facts.proofs.Blocks.{part_block, none_in_pieces, head_blocks, head_number}
 use Rattle.sp_facts.proofs.TablesKnow.{variable_from}
 use Rattle.sp_facts.proofs.Program.{named, tree, held_blocks}
 
-homed_join : (b : ℕ) (us vs : List checked.Variable) → AreHomed b us → AreHomed b vs → AreHomed b (us ++ vs)
+homed_join : (b : ℕ) (us vs : List checked.Variable) → AreInRealBlocks b us → AreInRealBlocks b vs
+    → AreInRealBlocks b (us ++ vs)
 homed_join b us vs h k = each_join (λ (u : checked.Variable). (suc u.block ≤ b) × NoConsole u.role) us vs h k
 
-homed_at : (b : ℕ) (us : List checked.Variable) (x : ℕ) (u : checked.Variable) → AreHomed b us → slice_get us x ≡ Some u
+homed_at : (b : ℕ) (us : List checked.Variable) (x : ℕ) (u : checked.Variable) → AreInRealBlocks b us
+    → slice_get us x ≡ Some u
     → (suc u.block ≤ b) × NoConsole u.role
 homed_at b [] x u h e = absurd (cc e)
 homed_at b (w ∷ us) zero u h e = subst (λ (z : checked.Variable). (suc z.block ≤ b) × NoConsole z.role)
@@ -47,7 +49,7 @@ module _ (b : ℕ) where
   IsHomed u = (suc u.block ≤ b) × NoConsole u.role
 
   formals_homed : (env : Env) (block : ℕ) (fs : List SynFormal) → suc block ≤ b
-      → AreHomed b (formals_named env block fs)
+      → AreInRealBlocks b (formals_named env block fs)
   formals_homed env block fs l = formals_each IsHomed block env fs (λ x k r. (l, no_console r))
     where
       no_console : (r : Bool) → NoConsole (role_of r)
@@ -55,22 +57,22 @@ module _ (b : ℕ) where
       no_console false = tt
 
   answer_homed : (env : Env) (block : ℕ) (x : Name) (answer : Option Name) → suc block ≤ b
-      → AreHomed b (answer_named env block x answer)
+      → AreInRealBlocks b (answer_named env block x answer)
   answer_homed env block x answer l = answer_each IsHomed block env x answer (λ k. (l, tt))
 
-  indices_homed : (block : ℕ) → suc block ≤ b → (s : Statement) → AreHomed b (indices block s)
+  indices_homed : (block : ℕ) → suc block ≤ b → (s : Statement) → AreInRealBlocks b (indices block s)
   indices_homed block l s = indices_each IsHomed block (λ x. (l, tt)) s
 
   mutual
     parts_homed : (around : List names.Scope) (l : Local) (ps : Parts)
-        → w.parts_sites [] together all_at around l ps ≡ [] → suc l.block ≤ b
+        → w.parts_sites [] both_lists all_at around l ps ≡ [] → suc l.block ≤ b
         → next_block l.counts + length (parts_named around l ps).blocks ≤ b
-        → AreHomed b (parts_named around l ps).variables
+        → AreInRealBlocks b (parts_named around l ps).variables
     parts_homed around l NoPart calm low room = tt
     parts_homed around l (Declare q rest) calm low room =
         let next = part_local l q in
-        let two = calm_parts (w.part_sites [] together all_at around l q)
-        (w.parts_sites [] together all_at around next rest) calm in
+        let two = none_in_parts (w.part_sites [] both_lists all_at around l q)
+        (w.parts_sites [] both_lists all_at around next rest) calm in
         let one = part_named around l q in
         let others = parts_named around next rest in
         let moved = (part_moves around l q two.0).3 in
@@ -80,20 +82,20 @@ module _ (b : ℕ) where
         (parts_homed around next rest two.1 (subst (λ z. suc z ≤ b) (sym (part_block l q)) low)
         (omega (arith, space, sum, moved)))
 
-    part_homed : (around : List names.Scope) (l : Local) (q : Part) → w.part_sites [] together all_at around l q ≡ []
+    part_homed : (around : List names.Scope) (l : Local) (q : Part) → w.part_sites [] both_lists all_at around l q ≡ []
         → suc l.block ≤ b → next_block l.counts + length (part_named around l q).blocks ≤ b
-        → AreHomed b (part_named around l q).variables
+        → AreInRealBlocks b (part_named around l q).variables
     part_homed around l (Const x c) calm low room = tt
     part_homed around l (Kind x k) calm low room = tt
     part_homed around l (Var xs t) calm low room =
-        names_each IsHomed l.block role.Local (kind_number (find (inside around l) t.text)) xs (λ x. (low, tt))
+        names_each IsHomed l.block role.Local (kind_number (find (inner_env around l) t.text)) xs (λ x. (low, tt))
     part_homed around l (Proc x fs answer parts body) calm low room =
         let f = next_block l.counts in
-        let env = inside around l in
-        let in_ = deeper around (title_local l x fs answer) in
+        let env = inner_env around l in
+        let in_ = blocks_around around (title_local l x fs answer) in
         let head = heading_local l x fs answer in
         let inner = parts_named in_ head parts in
-        let pieces = calm_pieces around l x fs answer parts body calm in
+        let pieces = none_in_pieces around l x fs answer parts body calm in
         let up = head_blocks around l x fs answer parts body calm in
         let number = head_number around l x fs answer parts body calm in
         let space : f + suc (length inner.blocks) ≤ b = room in
@@ -106,22 +108,23 @@ module _ (b : ℕ) where
         (parts_homed in_ head parts pieces.2 (subst (λ z. suc z ≤ b) (sym number) own) (omega (arith, space, up)))
         (indices_homed head.block (subst (λ z. suc z ≤ b) (sym number) own) body)))
 
-module _ (s : syntax.Program) (calm : names_broken s ≡ []) where
+module _ (s : syntax.Program) (calm : broken_name_rules s ≡ []) where
   abbrev body_ : Statement
   body_ = s.block.body
 
   abbrev inner_ : n.Program
-  inner_ = parts_named (standard ∷ []) empty s.block.parts
+  inner_ = parts_named (standard_scope ∷ []) empty_local s.block.parts
 
-  rest_homed : AreHomed (suc (length inner_.blocks)) (inner_.variables ++ indices 0 body_)
+  rest_homed : AreInRealBlocks (suc (length inner_.blocks)) (inner_.variables ++ indices 0 body_)
   rest_homed =
-      let std = standard ∷ [] in
-      let parts = w.parts_sites [] together all_at std empty s.block.parts in
-      let body = w.statement_sites [] together all_at std (parts_local empty s.block.parts) body_ in
-      let two = calm_parts parts body (calm_parts (w.files_sites [] together all_at [] s.heading) (together parts body)
+      let std = standard_scope ∷ [] in
+      let parts = w.parts_sites [] both_lists all_at std empty_local s.block.parts in
+      let body = w.statement_sites [] both_lists all_at std (parts_local empty_local s.block.parts) body_ in
+      let two = none_in_parts parts body (none_in_parts (w.files_sites [] both_lists all_at [] s.heading)
+      (both_lists parts body)
       calm).1 in
       homed_join (suc (length inner_.blocks)) inner_.variables (indices 0 body_)
-      (parts_homed (suc (length inner_.blocks)) std empty s.block.parts two.0 (omega arith) (omega arith))
+      (parts_homed (suc (length inner_.blocks)) std empty_local s.block.parts two.0 (omega arith) (omega arith))
       (indices_homed (suc (length inner_.blocks)) 0 (omega arith) body_)
 
   -- a variable of the tree with numbers for names

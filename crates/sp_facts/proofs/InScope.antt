@@ -9,17 +9,17 @@ use Rattle.sp_tree.specs.declared.checked.Role.{Role}
 use Rattle.sp_tree.specs.declared.meaning.Meaning.{Meaning}
 use Rattle.sp_tree.specs.declared.meaning.Meaning.TheVariants as meaning
 use Rattle.sp_tree.specs.declared.syntax.Name.{Name}
-use Rattle.sp_tree.specs.Found.{Found, breaks}
-use Rattle.sp_tree.specs.NameFirst.{together, all_at}
+use Rattle.sp_tree.specs.PhaseResults.{FirstRefusal, refusal_at}
+use Rattle.sp_tree.specs.NameFirst.{both_lists, all_at}
 use Rattle.sp_tree.specs.Scopes as names
 use Rattle.sp_tree.specs.Scopes.{Env, look, find, find_in, or_else}
 use Rattle.sp_tree.specs.NameWalk as w
 use Rattle.sp_tree.specs.NameWalk.{role_of}
-use Rattle.sp_facts.proofs.Calm.{calm_parts, calm_site}
+use Rattle.sp_facts.proofs.NoBreachInParts.{none_in_parts, none_at_site}
 use Rattle.sp_tree.specs.declared.meaning.Sort.{Sort}
 use Rattle.sp_tree.specs.declared.meaning.Sort.TheVariants as sort
 use Rattle.sp_tree.specs.NameRules.{Declares}
-use Rattle.sp_tree.specs.Scopes.{Local, inside, declared, most, variable}
+use Rattle.sp_tree.specs.Scopes.{Local, inner_env, with_declaration, declaration_limit, variable}
 use Rattle.sp_facts.proofs.Numbering.{room_at}
 use Rattle.sp_tree.specs.declared.meaning.Counts.{Counts}
 use Rattle.sp_tree.specs.declared.syntax.SynFormal.{SynFormal}
@@ -29,7 +29,7 @@ use Rattle.sp_tree.specs.NameRules.{Uses, AsKind}
 use Rattle.sp_tree.specs.Scopes.{put, next_constant, next_kind}
 use Rattle.sp_tree.specs.NameWalk.{names_local, formals_local, answer_local}
 use Rattle.sp_tree.specs.NameWalk.{constants_local, kind_local, block_meaning}
-use Rattle.sp_tree.specs.NamedTree.{kind_number, enumerated, constants_named}
+use Rattle.sp_tree.specs.NamedTree.{kind_number, enumeration_constants, constants_named}
 use Rattle.sp_facts.proofs.Numbering.{declared_counts}
 use Rattle.sp_tree.specs.declared.syntax.SynGroup.{SynGroup}
 use Rattle.sp_tree.specs.NameRules.{UsesIn, own_rule, use_rule}
@@ -39,7 +39,7 @@ use Rattle.sp_tree.specs.declared.syntax.SynValue.{SynValue}
 use Rattle.sp_tree.specs.declared.syntax.SynValue.TheVariants as value
 use Rattle.sp_tree.specs.NameRules.{AsConstant}
 use Rattle.sp_tree.specs.NamedTree.{constant_number, named_value}
-use Rattle.sp_facts.specs.Given.{IsBehind, IsBoundBehind}
+use Rattle.sp_facts.specs.ConstantsDeclared.{IsBehind, IsBoundBehind}
 use Rattle.sp_facts.specs.Earlier.{IsEarlier}
 
 -- ---- the constants and types in scope have been declared
@@ -120,18 +120,24 @@ put_bound c (e ∷ es) name y h v = go (bytes_eq name e.0) (put_bound c es name 
 
 -- a declaration, where the number is bounded behind it
 pub declared_bound : (c : Counts) (l : Local) (name : List ℕ) (s : Sort) (y : Meaning) → AllBound c l.here → Bound c y
-    → AllBound c (declared l name s y).here
-declared_bound c l name s y h v = go (nat_le most (names.count s l.counts))
+    → AllBound c (with_declaration l name s y).here
+declared_bound c l name s y h v = go (nat_le declaration_limit (names.count s l.counts))
   where
     go : (b : Bool) → AllBound c (if b then l else
-        record { here = put l.here name y; block = l.block; answer = l.answer; counts = names.more s l.counts }).here
+        record {
+          here = put l.here name y;
+          block = l.block;
+          answer = l.answer;
+          counts =
+              names.with_one_more s l.counts;
+        }).here
     go true = h
     go false = put_bound c l.here name y h v
 
 pub names_bound : (c : Counts) (r : Role) (l : Local) (xs : List Name) → AllBound c l.here
     → AllBound c (names_local r l xs).here
 names_bound c r l [] h = h
-names_bound c r l (x ∷ xs) h = names_bound c r (declared l x.text sort.Variable (variable l r)) xs
+names_bound c r l (x ∷ xs) h = names_bound c r (with_declaration l x.text sort.Variable (variable l r)) xs
     (declared_bound c l x.text sort.Variable (variable l r) h tt)
 
 pub formals_bound : (c : Counts) (l : Local) (fs : List SynFormal) → AllBound c l.here
@@ -146,22 +152,22 @@ answer_bound c l None h = h
 answer_bound c l (Some t) h = h
 
 constants_bound : (around : List names.Scope) (c : Counts) (l : Local) (xs : List Name)
-    → w.enumerated_sites [] together all_at around l xs ≡ [] → (j i : ℕ)
-    → next_constant l.counts + length (enumerated j i xs) ≤ next_constant c → AllBound c l.here
+    → w.enumerated_sites [] both_lists all_at around l xs ≡ [] → (j i : ℕ)
+    → next_constant l.counts + length (enumeration_constants j i xs) ≤ next_constant c → AllBound c l.here
     → AllBound c (constants_local l xs).here
 constants_bound around c l [] calm j i few h = h
 constants_bound around c l (x ∷ xs) calm j i few h =
     let y = meaning.Constant (next_constant l.counts) in
-    let next = declared l x.text sort.Constant y in
-    let two = calm_parts (all_at (inside around l) (Declares x sort.Constant))
-    (w.enumerated_sites [] together all_at around next xs) calm in
+    let next = with_declaration l x.text sort.Constant y in
+    let two = none_in_parts (all_at (inner_env around l) (Declares x sort.Constant))
+    (w.enumerated_sites [] both_lists all_at around next xs) calm in
     let e = ap next_constant (declared_counts l x.text sort.Constant y
-    (room_at (inside around l) x sort.Constant two.0)) in
+    (room_at (inner_env around l) x sort.Constant two.0)) in
     constants_bound around c next xs two.1 j (suc i) (omega (arith, few, e))
     (declared_bound c l x.text sort.Constant y h (omega (arith, few)))
 
 pub kind_bound : (around : List names.Scope) (c : Counts) (l : Local) (d : SynKind)
-    → w.kind_constants_sites [] together all_at around l d ≡ [] → (j : ℕ)
+    → w.kind_constants_sites [] both_lists all_at around l d ≡ [] → (j : ℕ)
     → next_constant l.counts + length (constants_named j d) ≤ next_constant c → AllBound c l.here
     → AllBound c (kind_local l d).here
 kind_bound around c l (kinds.Alias t) calm j few h = h
@@ -199,10 +205,10 @@ kind_found c at (Some (meaning.Function f fs)) h e = absurd (cc e)
 kind_found c at (Some (meaning.StandardFunction f)) h e = absurd (cc e)
 kind_found c at (Some (meaning.StandardProcedure f)) h e = absurd (cc e)
 
-own_calm : (own_ x : Name) (f : Found) → own_rule own_ x f ≡ None → f ≡ None
-own_calm own_ x f e = go (bytes_eq own_.text x.text) e
+none_by_own_rule : (own_ x : Name) (f : FirstRefusal) → own_rule own_ x f ≡ None → f ≡ None
+none_by_own_rule own_ x f e = go (bytes_eq own_.text x.text) e
   where
-    go : (b : Bool) → (if b then breaks rule.N4 x.at else f) ≡ None → f ≡ None
+    go : (b : Bool) → (if b then refusal_at rule.N4 x.at else f) ≡ None → f ≡ None
     go true e = absurd (cc e)
     go false e = e
 
@@ -213,28 +219,28 @@ module _ (c : Counts) (env : Env) (around : EachBound c env.around) (here : AllB
 
   -- ---- constants in declarations
 
-  pub value_behind : (v : SynValue) → w.value_sites [] together all_at env v ≡ []
+  pub value_behind : (v : SynValue) → w.value_sites [] both_lists all_at env v ≡ []
       → IsBehind (next_constant c) (named_value env v)
   value_behind (value.Number k) calm = tt
   value_behind (value.Quoted t) calm = tt
   value_behind (value.Named x) calm = constant_found c x.at (find env x.text) (find_bound x.text)
-      (calm_site (use_rule AsConstant x.at (find env x.text)) calm)
+      (none_at_site (use_rule AsConstant x.at (find env x.text)) calm)
 
-  bound_behind : (own_ : Name) (v : SynValue) → w.bound_sites [] together all_at env own_ v ≡ []
+  bound_behind : (own_ : Name) (v : SynValue) → w.bound_sites [] both_lists all_at env own_ v ≡ []
       → IsBehind (next_constant c) (named_value env v)
   bound_behind own_ (value.Number k) calm = tt
   bound_behind own_ (value.Quoted t) calm = tt
   bound_behind own_ (value.Named x) calm = constant_found c x.at (find env x.text) (find_bound x.text)
-      (own_calm own_ x (use_rule AsConstant x.at (find env x.text))
-      (calm_site (own_rule own_ x (use_rule AsConstant x.at (find env x.text))) calm))
+      (none_by_own_rule own_ x (use_rule AsConstant x.at (find env x.text))
+      (none_at_site (own_rule own_ x (use_rule AsConstant x.at (find env x.text))) calm))
 
   -- ---- the definition of a type
 
   type_bound : (own_ t : Name) → all_at env (UsesIn own_ t AsKind) ≡ []
       → suc (kind_number (find env t.text)) ≤ next_kind c
   type_bound own_ t calm = kind_found c t.at (find env t.text) (find_bound t.text)
-      (own_calm own_ t (use_rule AsKind t.at (find env t.text))
-      (calm_site (own_rule own_ t (use_rule AsKind t.at (find env t.text))) calm))
+      (none_by_own_rule own_ t (use_rule AsKind t.at (find env t.text))
+      (none_at_site (own_rule own_ t (use_rule AsKind t.at (find env t.text))) calm))
 
   before_join : (k : ℕ) (fs gs : List (List ℕ × ℕ)) → AreBefore k fs → AreBefore k gs → AreBefore k (fs ++ gs)
   before_join k [] gs x y = y
@@ -245,27 +251,27 @@ module _ (c : Counts) (env : Env) (around : EachBound c env.around) (here : AllB
   fields_before k j (x ∷ xs) l = (l, fields_before k j xs l)
 
   groups_before : (own_ : Name) (before : List (List ℕ)) (gs : List SynGroup)
-      → w.groups_sites [] together all_at env own_ before gs ≡ [] → AreBefore (next_kind c) (groups_named env gs)
+      → w.groups_sites [] both_lists all_at env own_ before gs ≡ [] → AreBefore (next_kind c) (groups_named env gs)
   groups_before own_ before [] calm = tt
   groups_before own_ before (g ∷ gs) calm =
-      let later = w.groups_sites [] together all_at env own_ (w.behind before g.names) gs in
-      let one = calm_parts (w.fields_sites [] together all_at env before g.names)
-      (together (all_at env (UsesIn own_ g.kind AsKind)) later) calm in
-      let two = calm_parts (all_at env (UsesIn own_ g.kind AsKind)) later one.1 in
+      let later = w.groups_sites [] both_lists all_at env own_ (w.names_with_fields before g.names) gs in
+      let one = none_in_parts (w.fields_sites [] both_lists all_at env before g.names)
+      (both_lists (all_at env (UsesIn own_ g.kind AsKind)) later) calm in
+      let two = none_in_parts (all_at env (UsesIn own_ g.kind AsKind)) later one.1 in
       let k = kind_number (find env g.kind.text) in
       before_join (next_kind c) (fields_named k g.names) (groups_named env gs)
       (fields_before (next_kind c) k g.names (type_bound own_ g.kind two.0))
-      (groups_before own_ (w.behind before g.names) gs two.1)
+      (groups_before own_ (w.names_with_fields before g.names) gs two.1)
 
   -- of earlier types, with bounds of earlier constants
-  pub kind_behind : (own_ : Name) (d : SynKind) → w.kind_sites [] together all_at env own_ d ≡ []
+  pub kind_behind : (own_ : Name) (d : SynKind) → w.kind_sites [] both_lists all_at env own_ d ≡ []
       → IsEarlier (next_kind c) (kind_named env d) × IsBoundBehind (next_constant c) (kind_named env d)
   kind_behind own_ (kinds.Alias t) calm = (type_bound own_ t calm, tt)
   kind_behind own_ (kinds.Enumeration xs) calm = (tt, tt)
   kind_behind own_ (kinds.Array lo hi t) calm =
-      let one = calm_parts (w.bound_sites [] together all_at env own_ lo.value)
-      (together (w.bound_sites [] together all_at env own_ hi.value) (all_at env (UsesIn own_ t AsKind))) calm in
-      let two = calm_parts (w.bound_sites [] together all_at env own_ hi.value) (all_at env (UsesIn own_ t AsKind))
+      let one = none_in_parts (w.bound_sites [] both_lists all_at env own_ lo.value)
+      (both_lists (w.bound_sites [] both_lists all_at env own_ hi.value) (all_at env (UsesIn own_ t AsKind))) calm in
+      let two = none_in_parts (w.bound_sites [] both_lists all_at env own_ hi.value) (all_at env (UsesIn own_ t AsKind))
       one.1 in
       (type_bound own_ t two.1, (bound_behind own_ lo.value one.0, bound_behind own_ hi.value two.0))
   kind_behind own_ (kinds.Record gs) calm = (groups_before own_ [] gs calm, tt)
@@ -273,4 +279,4 @@ module _ (c : Counts) (env : Env) (around : EachBound c env.around) (here : AllB
 
   pub used_kind : (t : Name) → all_at env (Uses t AsKind) ≡ [] → suc (kind_number (find env t.text)) ≤ next_kind c
   used_kind t calm = kind_found c t.at (find env t.text) (find_bound t.text)
-      (calm_site (use_rule AsKind t.at (find env t.text)) calm)
+      (none_at_site (use_rule AsKind t.at (find env t.text)) calm)

@@ -13,10 +13,10 @@ use Rattle.sp_tree.specs.declared.meaning.Meaning.{Meaning}
 use Rattle.sp_tree.specs.declared.meaning.Meaning.TheVariants as meaning
 use Rattle.sp_tree.specs.declared.meaning.Passing.{Passing}
 use Rattle.sp_tree.specs.declared.syntax.Name.{Name}
-use Rattle.sp_tree.specs.NameFirst.{together, all_at}
+use Rattle.sp_tree.specs.NameFirst.{both_lists, all_at}
 use Rattle.sp_tree.specs.NameRules.{Operand, Targets, Computes, Bare, Widens, operand_rule, function_rule}
-use Rattle.sp_tree.specs.NameRules.{function_takes, target_rule, variable_rule, next_passing, others, references_of}
-use Rattle.sp_tree.specs.NameRules.{rest_of, aims, same_place}
+use Rattle.sp_tree.specs.NameRules.{function_takes, target_rule, variable_rule, next_passing, flags_left, references_of}
+use Rattle.sp_tree.specs.NameRules.{rest_of, needs_variable, same_place}
 use Rattle.sp_tree.specs.Scopes as names
 use Rattle.sp_tree.specs.Scopes.{Env, look, find, find_in, or_else}
 use Rattle.sp_tree.specs.NameWalk as w
@@ -25,18 +25,19 @@ use Rattle.sp_tree.specs.NamedOf as of_
 use Rattle.sp_tree.specs.PlainNamed as n
 use Rattle.sp_tree.specs.NamedTree.{variable_number, operand_named, function_named, named_expression, named_form}
 use Rattle.sp_tree.specs.NamedTree.{named_selectors, named_arguments, named_width}
-use Rattle.sp_tree.specs.PlainSyntax.{Expression, At, ExpressionForm, Number, Quoted, Read, Apply, Unary, Binary}
-use Rattle.sp_tree.specs.PlainSyntax.{Entire, Index, Field, Selectors, Whole, Select, Pass, Width, NoWidth, Within}
+use Rattle.sp_tree.specs.PlainSyntax.{Expression, ExpressionAt, ExpressionForm, Number, Quoted, Read, Apply, Unary}
+use Rattle.sp_tree.specs.PlainSyntax.{Binary}
+use Rattle.sp_tree.specs.PlainSyntax.{Entire, Index, Field, Selectors, Whole, Select, Pass, Width, NoWidth, WithWidth}
 use Rattle.sp_tree.specs.PlainSyntax.{Arguments, NoArgument, AndArgument}
 use Rattle.sp_tree.specs.Plain as plain
 use Rattle.sp_code.specs.Scopes.{Scope, OfBlock, OfIndex, is_block, is_index, level, one_more, scopes_of}
 use Rattle.sp_types.specs.TypeWalk.{count, is_variable}
-use Rattle.sp_code.specs.Stands.{NoIndex}
+use Rattle.sp_code.specs.CodeOfTree.{NoIndex}
 use Rattle.sp_facts.specs.Scoped.{SeenIn, SeenRole, AimedIn, AimedExpression, CallIn, AroundIn, InExpression, InForm}
 use Rattle.sp_facts.specs.Scoped.{InSelectors, InActuals, InArguments, InWidth}
 use Rattle.sp_facts.specs.Visible.{IsScope, AreFlags, IsAround, IsBlockIn, IsValid, AreValid, AllValid, IsVisible}
 use Rattle.sp_facts.specs.Visible.{IsChain}
-use Rattle.sp_facts.proofs.Calm.{calm_parts, calm_site, calm_at, calm_if, nat_eq_is}
+use Rattle.sp_facts.proofs.NoBreachInParts.{none_in_parts, none_at_site, none_with_site, not_if_none, nat_eq_is}
 
 -- ---- scopes of the code
 
@@ -98,29 +99,31 @@ module _ (p : plain.Program) (m : ℕ) where
 
   -- ---- what is found is valid
 
-  abbrev pub IsFound : List Scope → Option Meaning → Type 0
-  IsFound sc None = Unit {0}
-  IsFound sc (Some x) = IsValid p m sc x
+  abbrev pub IsValidMeaning : List Scope → Option Meaning → Type 0
+  IsValidMeaning sc None = Unit {0}
+  IsValidMeaning sc (Some x) = IsValid p m sc x
 
-  look_valid : (sc : List Scope) (b : names.Scope) (name : List ℕ) → AreValid p m sc b → IsFound sc (look b name)
+  look_valid : (sc : List Scope) (b : names.Scope) (name : List ℕ) → AreValid p m sc b → IsValidMeaning sc (look b name)
   look_valid sc [] name h = tt
   look_valid sc (e ∷ es) name h = go (bytes_eq name e.0) (look_valid sc es name h.1)
     where
-      go : (z : Bool) → IsFound sc (look es name) → IsFound sc (if z then Some e.1 else look es name)
+      go : (z : Bool) → IsValidMeaning sc (look es name) → IsValidMeaning sc (if z then Some e.1 else look es name)
       go true r = h.0
       go false r = r
 
-  or_valid : (sc : List Scope) (a b : Option Meaning) → IsFound sc a → IsFound sc b → IsFound sc (or_else a b)
+  or_valid : (sc : List Scope) (a b : Option Meaning) → IsValidMeaning sc a → IsValidMeaning sc b
+      → IsValidMeaning sc (or_else a b)
   or_valid sc None b x y = y
   or_valid sc (Some z) b x y = x
 
   in_valid : (sc : List Scope) (bs : List names.Scope) (name : List ℕ) (o : Option Meaning) → AllValid p m sc bs
-      → IsFound sc o → IsFound sc (find_in bs name o)
+      → IsValidMeaning sc o → IsValidMeaning sc (find_in bs name o)
   in_valid sc [] name o h x = x
   in_valid sc (b ∷ bs) name o h x = in_valid sc bs name (or_else (look b name) o) h.1
       (or_valid sc (look b name) o (look_valid sc b name h.0) x)
 
-  pub find_valid : (sc : List Scope) (env : Env) (name : List ℕ) → IsVisible p m sc env → IsFound sc (find env name)
+  pub find_valid : (sc : List Scope) (env : Env) (name : List ℕ) → IsVisible p m sc env
+      → IsValidMeaning sc (find env name)
   find_valid sc env name h = or_valid sc (look env.local.here name) (find_in env.around name None)
       (look_valid sc env.local.here name h.1) (in_valid sc env.around name None h.0 tt)
 
@@ -166,7 +169,7 @@ module _ (p : plain.Program) (m : ℕ) where
         )
 
     module _ (env : Env) (visible : IsVisible p m sc env) where
-      pub operand_in : (x : Name) (whole : Bool) (o : Option Meaning) (ss : n.Selectors) → IsFound sc o
+      pub operand_in : (x : Name) (whole : Bool) (o : Option Meaning) (ss : n.Selectors) → IsValidMeaning sc o
           → operand_rule x.at whole o ≡ None → InSelectors p m sc ss → InForm p m sc (operand_named o x ss)
       operand_in x true None ss f e h = absurd (cc e)
       operand_in x false None ss f e h = absurd (cc e)
@@ -180,7 +183,7 @@ module _ (p : plain.Program) (m : ℕ) where
       operand_in x false (Some (meaning.StandardProcedure b)) ss f e h = absurd (cc e)
       operand_in x true (Some (meaning.Function g fs)) ss (b, is, ans) e h =
           let none = nat_eq_is (length fs) 0
-          (not-false (nat_eq (length fs) 0) (calm_if rule.N6 x.at (not (nat_eq (length fs) 0)) e)) in
+          (not-false (nat_eq (length fs) 0) (not_if_none rule.N6 x.at (not (nat_eq (length fs) 0)) e)) in
           (b, called g fs b is, ans, go fs b.formals none is.1)
         where
           go : (fs : List Bool) (xs : List ℕ) → length fs ≡ 0 → AreFlags p m fs xs → InActuals p m sc xs n.NoArgument
@@ -189,10 +192,11 @@ module _ (p : plain.Program) (m : ℕ) where
           go (g ∷ fs) xs l a = absurd (omega (arith, l))
       operand_in x false (Some (meaning.Function g fs)) ss f e h = absurd (cc e)
       operand_in x true (Some (meaning.StandardFunction g)) ss f e h =
-          (not-false (function_takes g 0) (calm_if rule.N6 x.at (not (function_takes g 0)) e), tt)
+          (not-false (function_takes g 0) (not_if_none rule.N6 x.at (not (function_takes g 0)) e), tt)
       operand_in x false (Some (meaning.StandardFunction g)) ss f e h = absurd (cc e)
 
-      pub target_in : (x : Name) (o : Option Meaning) (ss : n.Selectors) → IsFound sc o → target_rule x.at o ≡ None
+      pub target_in : (x : Name) (o : Option Meaning) (ss : n.Selectors) → IsValidMeaning sc o
+          → target_rule x.at o ≡ None
           → SeenIn p m sc (variable_number o) × AimedIn p m (variable_number o)
           × (operand_named o x ss ≡ n.Read (n.Entire (variable_number o) x.at ss))
       target_in x None ss f e = absurd (cc e)
@@ -206,7 +210,8 @@ module _ (p : plain.Program) (m : ℕ) where
 
       -- what is not written as a variable is none
       not_variable : (at : Place) (x : Name) (o : Option Meaning) (ss : n.Selectors) → same_place at x.at ≡ false
-          → is_variable (n.At at (operand_named o x ss)) ≡ true → AimedExpression p m (n.At at (operand_named o x ss))
+          → is_variable (n.ExpressionAt at (operand_named o x ss)) ≡ true
+          → AimedExpression p m (n.ExpressionAt at (operand_named o x ss))
       not_variable at x None ss d i = absurd (cc (d, i))
       not_variable at x (Some (meaning.Constant k)) ss d i = tt
       not_variable at x (Some (meaning.Kind k)) ss d i = absurd (cc (d, i))
@@ -223,40 +228,42 @@ module _ (p : plain.Program) (m : ℕ) where
       -- an argument, and that it may be changed where a variable is wanted and it is written as one
       abbrev pub ArgumentIs : Passing → Expression → Type 0
       ArgumentIs pass e = InExpression p m sc (named_expression env e)
-          × (aims pass ≡ true → is_variable (named_expression env e) ≡ true
+          × (needs_variable pass ≡ true → is_variable (named_expression env e) ≡ true
           → AimedExpression p m (named_expression env e))
 
       passed_name : (pass : Passing) (at : Place) (x : Name) (whole : Bool) (ss : n.Selectors)
-          → w.passed_name_sites [] together all_at env pass at x whole ≡ [] → InSelectors p m sc ss
+          → w.passed_name_sites [] both_lists all_at env pass at x whole ≡ [] → InSelectors p m sc ss
           → InForm p m sc (operand_named (find env x.text) x ss)
-          × (aims pass ≡ true → is_variable (n.At at (operand_named (find env x.text) x ss)) ≡ true
-          → AimedExpression p m (n.At at (operand_named (find env x.text) x ss)))
-      passed_name pass at x whole ss calm h = go (aims pass) (same_place at x.at) refl refl calm
+          × (needs_variable pass ≡ true → is_variable (n.ExpressionAt at (operand_named (find env x.text) x ss)) ≡ true
+          → AimedExpression p m (n.ExpressionAt at (operand_named (find env x.text) x ss)))
+      passed_name pass at x whole ss calm h = go (needs_variable pass) (same_place at x.at) refl refl calm
         where
-          valid : IsFound sc (find env x.text)
+          valid : IsValidMeaning sc (find env x.text)
           valid = find_valid sc env x.text visible
 
-          other : together (all_at env (Bare at pass)) (all_at env (Operand x whole)) ≡ []
+          other : both_lists (all_at env (Bare at pass)) (all_at env (Operand x whole)) ≡ []
               → InForm p m sc (operand_named (find env x.text) x ss)
           other calm = operand_in x whole (find env x.text) ss valid
-              (calm_at (all_at env (Bare at pass)) (operand_rule x.at whole (find env x.text)) calm).1 h
+              (none_with_site (all_at env (Bare at pass)) (operand_rule x.at whole (find env x.text)) calm).1 h
 
-          go : (a s : Bool) → aims pass ≡ a → same_place at x.at ≡ s
+          go : (a s : Bool) → needs_variable pass ≡ a → same_place at x.at ≡ s
               → (if a && s then all_at env (Targets x) else
-              together (all_at env (Bare at pass)) (all_at env (Operand x whole))) ≡ []
+              both_lists (all_at env (Bare at pass)) (all_at env (Operand x whole))) ≡ []
               → InForm p m sc (operand_named (find env x.text) x ss)
-              × (aims pass ≡ true → is_variable (n.At at (operand_named (find env x.text) x ss)) ≡ true
-              → AimedExpression p m (n.At at (operand_named (find env x.text) x ss)))
+              × (needs_variable pass ≡ true
+              → is_variable (n.ExpressionAt at (operand_named (find env x.text) x ss)) ≡ true
+              → AimedExpression p m (n.ExpressionAt at (operand_named (find env x.text) x ss)))
           go true true ae se calm =
-              let t = target_in x (find env x.text) ss valid (calm_site (target_rule x.at (find env x.text)) calm) in (
+              let t = target_in x (find env x.text) ss valid
+              (none_at_site (target_rule x.at (find env x.text)) calm) in (
                 subst (InForm p m sc) (sym t.2) (t.0, h),
-                λ a i. subst (λ z. AimedExpression p m (n.At at z)) (sym t.2) t.1,
+                λ a i. subst (λ z. AimedExpression p m (n.ExpressionAt at z)) (sym t.2) t.1,
               )
           go true false ae se calm = (other calm, λ a i. not_variable at x (find env x.text) ss se i)
           go false s ae se calm = (other calm, λ a i. absurd (cc (ae, a)))
 
       -- calls
-      function_in : (g : Name) (o : Option Meaning) (k : ℕ) (args : n.Arguments) → IsFound sc o → count args ≡ k
+      function_in : (g : Name) (o : Option Meaning) (k : ℕ) (args : n.Arguments) → IsValidMeaning sc o → count args ≡ k
           → function_rule g.at k o ≡ None → InArguments p m sc args
           → ((fs : List Bool) (xs : List ℕ) → references_of o ≡ fs → length fs ≡ k → AreFlags p m fs xs
           → InActuals p m sc xs args) → InForm p m sc (function_named o g args)
@@ -272,17 +279,17 @@ module _ (p : plain.Program) (m : ℕ) where
         ans,
         h fs b.formals refl
             (nat_eq_is (length fs) k (not-false (nat_eq (length fs) k)
-            (calm_if rule.N6 g.at (not (nat_eq (length fs) k)) e))) is.1,
+            (not_if_none rule.N6 g.at (not (nat_eq (length fs) k)) e))) is.1,
       )
       function_in g (Some (meaning.StandardFunction s)) k args f c e a h = (
         subst (λ z. function_takes s z ≡ true) (sym c)
-            (not-false (function_takes s k) (calm_if rule.N6 g.at (not (function_takes s k)) e)),
+            (not-false (function_takes s k) (not_if_none rule.N6 g.at (not (function_takes s k)) e)),
         a,
       )
 
       call_is_none : (at : Place) (f : Name) (o : Option Meaning) (args : n.Arguments)
-          → is_variable (n.At at (function_named o f args)) ≡ true
-          → AimedExpression p m (n.At at (function_named o f args))
+          → is_variable (n.ExpressionAt at (function_named o f args)) ≡ true
+          → AimedExpression p m (n.ExpressionAt at (function_named o f args))
       call_is_none at f None args i = tt
       call_is_none at f (Some (meaning.Constant j)) args i = tt
       call_is_none at f (Some (meaning.Kind j)) args i = tt
@@ -294,7 +301,8 @@ module _ (p : plain.Program) (m : ℕ) where
 
       aims_reference : (f : Bool) (fs : List Bool) (rest : Passing) (x : ℕ) → (v : plain.Variable)
           × (slice_get p.variables x ≡ Some v) × (v.role ≡ role_of f) → (v : plain.Variable)
-          → slice_get p.variables x ≡ Some v → v.role ≡ role.Reference → aims (next_passing (f ∷ fs) rest) ≡ true
+          → slice_get p.variables x ≡ Some v → v.role ≡ role.Reference
+          → needs_variable (next_passing (f ∷ fs) rest) ≡ true
       aims_reference true fs rest x flag v at is = refl
       aims_reference false fs rest x (u, uat, ur) v at is =
           absurd (no (sym ur ∙ ap (λ (z : plain.Variable). z.role) (same_Some u v (sym uat ∙ at)) ∙ is))
@@ -303,69 +311,72 @@ module _ (p : plain.Program) (m : ℕ) where
           no e = cc e
 
       mutual
-        pub expression_in : (e : Expression) → w.expression_sites [] together all_at env e ≡ []
+        pub expression_in : (e : Expression) → w.expression_sites [] both_lists all_at env e ≡ []
             → InExpression p m sc (named_expression env e)
-        expression_in (At at form) calm = form_in form calm
+        expression_in (ExpressionAt at form) calm = form_in form calm
 
-        pub form_in : (form : ExpressionForm) → w.expression_form_sites [] together all_at env form ≡ []
+        pub form_in : (form : ExpressionForm) → w.expression_form_sites [] both_lists all_at env form ≡ []
             → InForm p m sc (named_form env form)
         form_in (Number k) calm = tt
         form_in (Quoted t) calm = tt
         form_in (Read (Entire x ss)) calm =
-            let two = calm_parts (all_at env (Operand x (w.is_whole ss))) (w.selectors_sites [] together all_at env ss)
+            let two = none_in_parts (all_at env (Operand x (w.is_whole ss)))
+            (w.selectors_sites [] both_lists all_at env ss)
             calm in
             operand_in x (w.is_whole ss) (find env x.text) (of_.selectors (named_selectors env ss))
             (find_valid sc env x.text visible)
-            (calm_site (operand_rule x.at (w.is_whole ss) (find env x.text)) two.0) (selectors_in ss two.1)
+            (none_at_site (operand_rule x.at (w.is_whole ss) (find env x.text)) two.0) (selectors_in ss two.1)
         form_in (Apply f args) calm =
-            let two = calm_parts (all_at env (Computes f (w.count args)))
-            (w.arguments_sites [] together all_at env (references_of (find env f.text)) (rest_of (find env f.text))
+            let two = none_in_parts (all_at env (Computes f (w.count args)))
+            (w.arguments_sites [] both_lists all_at env (references_of (find env f.text)) (rest_of (find env f.text))
             args) calm in
             function_in f (find env f.text) (w.count args) (of_.arguments (named_arguments env args))
             (find_valid sc env f.text visible) (counts args)
-            (calm_site (function_rule f.at (w.count args) (find env f.text)) two.0)
+            (none_at_site (function_rule f.at (w.count args) (find env f.text)) two.0)
             (arguments_in (references_of (find env f.text)) (rest_of (find env f.text)) args two.1)
             (λ fs xs e l flags. actuals_in fs xs (rest_of (find env f.text)) args flags l
-            (subst (λ z. w.arguments_sites [] together all_at env z (rest_of (find env f.text)) args ≡ []) e two.1))
+            (subst (λ z. w.arguments_sites [] both_lists all_at env z (rest_of (find env f.text)) args ≡ []) e two.1))
         form_in (Unary op a) calm = expression_in a calm
         form_in (Binary op a b) calm = let two =
-            calm_parts (w.expression_sites [] together all_at env a) (w.expression_sites [] together all_at env b)
+            none_in_parts (w.expression_sites [] both_lists all_at env a)
+            (w.expression_sites [] both_lists all_at env b)
             calm in (expression_in a two.0, expression_in b two.1)
 
-        pub selectors_in : (ss : Selectors) → w.selectors_sites [] together all_at env ss ≡ []
+        pub selectors_in : (ss : Selectors) → w.selectors_sites [] both_lists all_at env ss ≡ []
             → InSelectors p m sc (of_.selectors (named_selectors env ss))
         selectors_in Whole calm = tt
         selectors_in (Select (Index e) rest) calm = let two =
-            calm_parts (w.expression_sites [] together all_at env e) (w.selectors_sites [] together all_at env rest)
+            none_in_parts (w.expression_sites [] both_lists all_at env e)
+            (w.selectors_sites [] both_lists all_at env rest)
             calm in (expression_in e two.0, selectors_in rest two.1)
         selectors_in (Select (Field f) rest) calm = selectors_in rest calm
 
-        pub passed_in : (pass : Passing) (e : Expression) → w.passed_sites [] together all_at env pass e ≡ []
+        pub passed_in : (pass : Passing) (e : Expression) → w.passed_sites [] both_lists all_at env pass e ≡ []
             → ArgumentIs pass e
-        passed_in pass (At at (Read (Entire x ss))) calm =
-            let two = calm_parts (w.passed_name_sites [] together all_at env pass at x (w.is_whole ss))
-            (w.selectors_sites [] together all_at env ss) calm in
+        passed_in pass (ExpressionAt at (Read (Entire x ss))) calm =
+            let two = none_in_parts (w.passed_name_sites [] both_lists all_at env pass at x (w.is_whole ss))
+            (w.selectors_sites [] both_lists all_at env ss) calm in
             passed_name pass at x (w.is_whole ss) (of_.selectors (named_selectors env ss)) two.0 (selectors_in ss two.1)
-        passed_in pass (At at (Number k)) calm = (tt, λ a i. tt)
-        passed_in pass (At at (Quoted t)) calm = (tt, λ a i. tt)
-        passed_in pass (At at (Apply f args)) calm = (
-          form_in (Apply f args) (calm_parts (all_at env (Bare at pass))
-              (w.expression_form_sites [] together all_at env (Apply f args)) calm).1,
+        passed_in pass (ExpressionAt at (Number k)) calm = (tt, λ a i. tt)
+        passed_in pass (ExpressionAt at (Quoted t)) calm = (tt, λ a i. tt)
+        passed_in pass (ExpressionAt at (Apply f args)) calm = (
+          form_in (Apply f args) (none_in_parts (all_at env (Bare at pass))
+              (w.expression_form_sites [] both_lists all_at env (Apply f args)) calm).1,
           λ a i. call_is_none at f (find env f.text) (of_.arguments (named_arguments env args)) i,
         )
-        passed_in pass (At at (Unary op a)) calm = (
-          form_in (Unary op a) (calm_parts (all_at env (Bare at pass))
-              (w.expression_form_sites [] together all_at env (Unary op a)) calm).1,
+        passed_in pass (ExpressionAt at (Unary op a)) calm = (
+          form_in (Unary op a) (none_in_parts (all_at env (Bare at pass))
+              (w.expression_form_sites [] both_lists all_at env (Unary op a)) calm).1,
           λ a i. tt,
         )
-        passed_in pass (At at (Binary op a b)) calm = (
-          form_in (Binary op a b) (calm_parts (all_at env (Bare at pass))
-              (w.expression_form_sites [] together all_at env (Binary op a b)) calm).1,
+        passed_in pass (ExpressionAt at (Binary op a b)) calm = (
+          form_in (Binary op a b) (none_in_parts (all_at env (Bare at pass))
+              (w.expression_form_sites [] both_lists all_at env (Binary op a b)) calm).1,
           λ a i. tt,
         )
 
         pub actuals_in : (fs : List Bool) (xs : List ℕ) (rest : Passing) (args : Arguments) → AreFlags p m fs xs
-            → length fs ≡ w.count args → w.arguments_sites [] together all_at env fs rest args ≡ []
+            → length fs ≡ w.count args → w.arguments_sites [] both_lists all_at env fs rest args ≡ []
             → InActuals p m sc xs (of_.arguments (named_arguments env args))
         actuals_in [] [] rest NoArgument flags l calm = tt
         actuals_in [] [] rest (AndArgument a more) flags l calm = absurd (omega (arith, l))
@@ -373,11 +384,11 @@ module _ (p : plain.Program) (m : ℕ) where
         actuals_in (f ∷ fs) [] rest args flags l calm = absurd flags
         actuals_in (f ∷ fs) (x ∷ xs) rest NoArgument flags l calm = absurd (omega (arith, l))
         actuals_in (f ∷ fs) (x ∷ xs) rest (AndArgument (Pass e wd) more) (flag, flags) l calm =
-            let two = calm_parts (together (w.width_sites [] together all_at env (next_passing (f ∷ fs) rest)
-            (w.place e) wd) (w.passed_sites [] together all_at env (next_passing (f ∷ fs) rest) e))
-            (w.arguments_sites [] together all_at env fs rest more) calm in
-            let one = calm_parts (w.width_sites [] together all_at env (next_passing (f ∷ fs) rest) (w.place e) wd)
-            (w.passed_sites [] together all_at env (next_passing (f ∷ fs) rest) e) two.0 in
+            let two = none_in_parts (both_lists (w.width_sites [] both_lists all_at env (next_passing (f ∷ fs) rest)
+            (w.place e) wd) (w.passed_sites [] both_lists all_at env (next_passing (f ∷ fs) rest) e))
+            (w.arguments_sites [] both_lists all_at env fs rest more) calm in
+            let one = none_in_parts (w.width_sites [] both_lists all_at env (next_passing (f ∷ fs) rest) (w.place e) wd)
+            (w.passed_sites [] both_lists all_at env (next_passing (f ∷ fs) rest) e) two.0 in
             let r = passed_in (next_passing (f ∷ fs) rest) e one.1 in (
               r.0,
               (λ v at is i. r.1 (aims_reference f fs rest x flag v at is) i),
@@ -385,22 +396,24 @@ module _ (p : plain.Program) (m : ℕ) where
             )
 
         pub arguments_in : (fs : List Bool) (rest : Passing) (args : Arguments)
-            → w.arguments_sites [] together all_at env fs rest args ≡ []
+            → w.arguments_sites [] both_lists all_at env fs rest args ≡ []
             → InArguments p m sc (of_.arguments (named_arguments env args))
         arguments_in fs rest NoArgument calm = tt
         arguments_in fs rest (AndArgument (Pass e wd) more) calm =
-            let two = calm_parts (together (w.width_sites [] together all_at env (next_passing fs rest) (w.place e) wd)
-            (w.passed_sites [] together all_at env (next_passing fs rest) e))
-            (w.arguments_sites [] together all_at env (others fs) rest more) calm in
-            let one = calm_parts (w.width_sites [] together all_at env (next_passing fs rest) (w.place e) wd)
-            (w.passed_sites [] together all_at env (next_passing fs rest) e) two.0 in (
+            let two = none_in_parts
+            (both_lists (w.width_sites [] both_lists all_at env (next_passing fs rest) (w.place e) wd)
+            (w.passed_sites [] both_lists all_at env (next_passing fs rest) e))
+            (w.arguments_sites [] both_lists all_at env (flags_left fs) rest more) calm in
+            let one = none_in_parts (w.width_sites [] both_lists all_at env (next_passing fs rest) (w.place e) wd)
+            (w.passed_sites [] both_lists all_at env (next_passing fs rest) e) two.0 in (
               (passed_in (next_passing fs rest) e one.1).0,
               width_in (next_passing fs rest) (w.place e) wd one.0,
-              arguments_in (others fs) rest more two.1,
+              arguments_in (flags_left fs) rest more two.1,
             )
 
-        pub width_in : (pass : Passing) (at : Place) (wd : Width) → w.width_sites [] together all_at env pass at wd ≡ []
+        pub width_in : (pass : Passing) (at : Place) (wd : Width)
+            → w.width_sites [] both_lists all_at env pass at wd ≡ []
             → InWidth p m sc (named_width env wd)
         width_in pass at NoWidth calm = tt
-        width_in pass at (Within e) calm = expression_in e
-            (calm_parts (all_at env (Widens at pass)) (w.expression_sites [] together all_at env e) calm).1
+        width_in pass at (WithWidth e) calm = expression_in e
+            (none_in_parts (all_at env (Widens at pass)) (w.expression_sites [] both_lists all_at env e) calm).1

@@ -8,7 +8,7 @@ use Rattle.std.proofs.lemmas.Option.{none-some, same_Some}
 use Rattle.sp_tree.specs.declared.checked.Role.{Role}
 use Rattle.sp_tree.specs.declared.checked.Role.TheVariants as role
 use Rattle.sp_tree.specs.declared.syntax.Name.{Name}
-use Rattle.sp_tree.specs.NameFirst.{together, all_at}
+use Rattle.sp_tree.specs.NameFirst.{both_lists, all_at}
 use Rattle.sp_tree.specs.Scopes as names
 use Rattle.sp_tree.specs.Scopes.{Env}
 use Rattle.sp_tree.specs.NameWalk as w
@@ -18,9 +18,9 @@ use Rattle.sp_tree.specs.PlainSyntax.{Variable, Index}
 use Rattle.sp_tree.specs.Plain as plain
 use Rattle.sp_code.specs.Scopes.{OfBlock, is_block, level}
 use Rattle.sp_facts.specs.Visible.{AreValid, IsChain}
-use Rattle.sp_facts.proofs.Calm.{calm_parts}
+use Rattle.sp_facts.proofs.NoBreachInParts.{none_in_parts}
 use Rattle.sp_tree.specs.declared.checked.Variable as checked
-use Rattle.sp_tree.specs.Scopes.{Local, inside, opened, next_variable}
+use Rattle.sp_tree.specs.Scopes.{Local, inner_env, local_of_inner, next_variable}
 use Rattle.sp_tree.specs.NamedTree.{named_statement, indices}
 use Rattle.sp_tree.specs.PlainSyntax.{Statement}
 use Rattle.sp_facts.specs.Scoped.{InStatement}
@@ -31,21 +31,21 @@ use Rattle.sp_tree.specs.NameWalk.{parts_local}
 use Rattle.sp_tree.specs.NamedTree.{formals_named, numbers, answer_named, answer_of, parts_named}
 use Rattle.sp_tree.specs.PlainSyntax.{Parts}
 use Rattle.sp_types.specs.Tables.{answer_variable}
-use Rattle.sp_facts.specs.Held.{HoldsBlocks, AreScoped, AreBelow}
+use Rattle.sp_facts.specs.PartsInTables.{HoldsBlocks, AreScoped, AreBelow}
 use Rattle.sp_facts.proofs.Numbering.{parts_move}
-use Rattle.sp_facts.proofs.NameStatements.{Holds, holds_parts, IsPlace, statement_in}
+use Rattle.sp_facts.proofs.NameStatements.{HoldsVariables, holds_parts, IsPlace, statement_in}
 use Rattle.sp_tree.specs.NamedTree.{Inside, procedure_block, program_named}
 use Rattle.sp_tree.specs.Cells.{variables_of}
 use Rattle.sp_code.specs.Scopes.{as_list}
-use Rattle.sp_tree.specs.Formed.{is_parameter, is_answer, among}
-use Rattle.sp_tree.specs.Scopes.{empty, standard}
-use Rattle.sp_tree.specs.NameFirst.{names_broken}
+use Rattle.sp_tree.specs.Formed.{is_parameter, is_answer, numbers_with_role}
+use Rattle.sp_tree.specs.Scopes.{empty_local, standard_scope}
+use Rattle.sp_tree.specs.NameFirst.{broken_name_rules}
 use Rattle.sp_tree.specs.NamedTree.{program_block, inside_named}
 use Rattle.sp_tree.specs.PlainSyntax as syntax
 use Rattle.sp_types.specs.Tables.{env_of}
 use Rattle.sp_types.specs.TypeWalk.{starts_of, blocks_after}
 use Rattle.sp_types.specs.CheckedTree.{program_checked, checked_variables}
-use Rattle.sp_tree.specs.Bare.{bare}
+use Rattle.sp_tree.specs.Bare.{without_places}
 use Rattle.sp_tree.proofs.Certified.{answer_is}
 use Rattle.sp_facts.proofs.Headings.{own, in_blocks, among_own, own_join, own_none, own_all, blocks_below, formals_of_}
 use Rattle.sp_facts.proofs.Headings.{formals_fit, answer_of_, answer_fit, indices_fit, same_formals, parts_own}
@@ -55,8 +55,8 @@ use Rattle.sp_facts.proofs.Tree.{final_length, starts_length}
 
 abbrev Heading : (Role → Bool) → (n.Block → List ℕ) → Type 0
 Heading fits g = (l : Local) (x : Name) (fs : List SynFormal) (answer : Option Name) (i : Inside)
-    → next_variable (formals_local (opened (next_block l.counts) 0 (title_local l x fs answer)) fs).counts
-    ≡ next_variable l.counts + length (formals_named (inside [] l) (next_block l.counts) fs)
+    → next_variable (formals_local (local_of_inner (next_block l.counts) 0 (title_local l x fs answer)) fs).counts
+    ≡ next_variable l.counts + length (formals_named (inner_env [] l) (next_block l.counts) fs)
     → (env : Env) → env.local ≡ l → i.answer ≡ (heading_local l x fs answer).answer
     → own fits (next_block l.counts) (next_variable l.counts)
     (formals_named env (next_block l.counts) fs ++ answer_named env (next_block l.counts) x answer)
@@ -84,12 +84,13 @@ results_heading l x fs answer i at env e ie =
     let k = next_variable l.counts in
     let a = formals_named env f fs in
     let b = answer_named env f x answer in
-    let len = same_formals env (inside [] l) f fs in
+    let len = same_formals env (inner_env [] l) f fs in
     own_join is_answer f k a b ∙ ap (λ z. z ++ own is_answer f (k + length a) b)
     (own_none is_answer f k a (formals_fit is_answer false no_formal env f fs))
     ∙ own_all is_answer f (k + length a) b (answer_of_ env f x answer) (answer_fit is_answer true refl env f x answer)
     ∙ last answer (k + length a) (let z : next_variable
-    (formals_local (opened f 0 (title_local l x fs answer)) fs).counts ≡ k + length a = omega (arith, at, len) in z)
+    (formals_local (local_of_inner f 0 (title_local l x fs answer)) fs).counts ≡ k + length a =
+    omega (arith, at, len) in z)
     ie
   where
     no_formal : (r : Bool) → is_answer (role_of r) ≡ false
@@ -97,8 +98,9 @@ results_heading l x fs answer i at env e ie =
     no_formal false = refl
 
     last : (answer2 : Option Name) (j : ℕ) → next_variable
-        (formals_local (opened (next_block l.counts) 0 (title_local l x fs answer)) fs).counts ≡ j
-        → i.answer ≡ (answer_local (formals_local (opened (next_block l.counts) 0 (title_local l x fs answer)) fs)
+        (formals_local (local_of_inner (next_block l.counts) 0 (title_local l x fs answer)) fs).counts ≡ j
+        → i.answer ≡ (answer_local
+        (formals_local (local_of_inner (next_block l.counts) 0 (title_local l x fs answer)) fs)
         answer2).answer
         → numbers j (answer_named env (next_block l.counts) x answer2)
         ≡ as_list (answer_variable (answer_of i.answer answer2))
@@ -144,12 +146,12 @@ own_member fits f k x (u ∷ us) rest e = go (u.block == f) (fits u.role) refl r
     go true false be re e next = let r = next e in (suc r.0, r.1, (let z = r.2 in omega (arith, z)), r.3, r.4, r.5)
     go false s be re e next = let r = next e in (suc r.0, r.1, (let z = r.2 in omega (arith, z)), r.3, r.4, r.5)
 
-module _ (s : syntax.Program) (calm : names_broken s ≡ []) where
+module _ (s : syntax.Program) (calm : broken_name_rules s ≡ []) where
   abbrev pub named : n.Program
   named = program_named s
 
   abbrev pub tree : plain.Program
-  tree = bare (program_checked named)
+  tree = without_places (program_checked named)
 
   abbrev pub m : ℕ
   m = length named.constants
@@ -161,21 +163,21 @@ module _ (s : syntax.Program) (calm : names_broken s ≡ []) where
   body_ = s.block.body
 
   abbrev std : List names.Scope
-  std = standard ∷ []
+  std = standard_scope ∷ []
 
   abbrev inner_ : n.Program
-  inner_ = parts_named std empty parts_
+  inner_ = parts_named std empty_local parts_
 
-  calm_two : (w.parts_sites [] together all_at std empty parts_ ≡ [])
-      × (w.statement_sites [] together all_at std (parts_local empty parts_) body_ ≡ [])
-  calm_two = calm_parts (w.parts_sites [] together all_at std empty parts_)
-      (w.statement_sites [] together all_at std (parts_local empty parts_) body_)
-      (calm_parts (w.files_sites [] together all_at [] s.heading)
-      (together (w.parts_sites [] together all_at std empty parts_)
-      (w.statement_sites [] together all_at std (parts_local empty parts_) body_)) calm).1
+  calm_two : (w.parts_sites [] both_lists all_at std empty_local parts_ ≡ [])
+      × (w.statement_sites [] both_lists all_at std (parts_local empty_local parts_) body_ ≡ [])
+  calm_two = none_in_parts (w.parts_sites [] both_lists all_at std empty_local parts_)
+      (w.statement_sites [] both_lists all_at std (parts_local empty_local parts_) body_)
+      (none_in_parts (w.files_sites [] both_lists all_at [] s.heading)
+      (both_lists (w.parts_sites [] both_lists all_at std empty_local parts_)
+      (w.statement_sites [] both_lists all_at std (parts_local empty_local parts_) body_)) calm).1
 
   -- the tables of the tree are those of the names
-  pub held : Holds tree m 0 named.variables
+  pub held : HoldsVariables tree m 0 named.variables
   held = variables_held tree m 0 (blocks_after (env_of named) (starts_of named.blocks) named.blocks).variables
       named.variables (final_length named) (λ i. ap (slice_get tree.variables) (let z : 0 + i ≡ i = omega arith in z))
 
@@ -186,7 +188,7 @@ module _ (s : syntax.Program) (calm : names_broken s ≡ []) where
   -- ---- parents
 
   below_all : AreBelow 0 named.blocks
-  below_all = ((λ q e. absurd (none-some q e)), parts_below std empty parts_ calm_two.0 (omega arith))
+  below_all = ((λ q e. absurd (none-some q e)), parts_below std empty_local parts_ calm_two.0 (omega arith))
 
   pub parents : (f q : ℕ) (b : plain.Block) → slice_get tree.blocks f ≡ Some b → b.parent ≡ Some q → suc q ≤ f
   parents f q b at e =
@@ -198,7 +200,7 @@ module _ (s : syntax.Program) (calm : names_broken s ≡ []) where
 
   program_own : (fits : Role → Bool) → fits role.Console ≡ false → fits role.Local ≡ false → fits role.Index ≡ false
       → (g : n.Block → List ℕ) → Heading fits g
-      → g (program_block s.name (inside_named std empty parts_ body_).body) ≡ [] → (f : ℕ)
+      → g (program_block s.name (inside_named std empty_local parts_ body_).body) ≡ [] → (f : ℕ)
       → own fits f 0 named.variables ≡ in_blocks g f 0 named.blocks
   program_own fits nc nl ni g heading none f =
       console 0 (if (0 == f) && fits role.Console then 1 ∷ own fits f 2 (inner_.variables ++ indices 0 body_) else
@@ -208,7 +210,7 @@ module _ (s : syntax.Program) (calm : names_broken s ≡ []) where
       ∙ ap (λ z. own fits f 2 inner_.variables ++ z)
       (own_none fits f (2 + length inner_.variables) (indices 0 body_) (indices_fit fits ni 0 body_))
       ∙ append-nil (own fits f 2 inner_.variables)
-      ∙ parts_own fits nl ni g heading f std empty parts_ calm_two.0 ∙ sym (go (0 == f) refl)
+      ∙ parts_own fits nl ni g heading f std empty_local parts_ calm_two.0 ∙ sym (go (0 == f) refl)
     where
       console : (k : ℕ) (rest : List ℕ) (b : Bool) → (if b && fits role.Console then k ∷ rest else rest) ≡ rest
       console k rest true = ap (λ (z : Bool). if z then k ∷ rest else rest) nc
@@ -218,7 +220,7 @@ module _ (s : syntax.Program) (calm : names_broken s ≡ []) where
       zero_is f e = Prim.grind (arith, e)
 
       go : (z : Bool) → (0 == f) ≡ z → (if z then
-          g (program_block s.name (inside_named std empty parts_ body_).body) else in_blocks g f 1 inner_.blocks)
+          g (program_block s.name (inside_named std empty_local parts_ body_).body) else in_blocks g f 1 inner_.blocks)
           ≡ in_blocks g f 1 inner_.blocks
       go true e = let z = zero_is f e in none ∙ sym (blocks_below g f 1 inner_.blocks (omega (arith, z)))
       go false e = refl
@@ -226,7 +228,7 @@ module _ (s : syntax.Program) (calm : names_broken s ≡ []) where
   -- a block's variables of a role are its list
   of_block : (fits : Role → Bool) (g : n.Block → List ℕ)
       → ((f : ℕ) → own fits f 0 named.variables ≡ in_blocks g f 0 named.blocks) → (f : ℕ) (nb : n.Block)
-      → slice_get named.blocks f ≡ Some nb → g nb ≡ among fits (variables_of f 0 tree.variables)
+      → slice_get named.blocks f ≡ Some nb → g nb ≡ numbers_with_role fits (variables_of f 0 tree.variables)
   of_block fits g h f nb at =
       let ks = (blocks_after (env_of named) (starts_of named.blocks) named.blocks).variables in
       sym (in_blocks_at g 0 f named.blocks nb at)
@@ -235,21 +237,21 @@ module _ (s : syntax.Program) (calm : names_broken s ≡ []) where
       ∙ sym (among_own fits f 0 (checked_variables ks named.variables))
 
   pub formals : (f : ℕ) (b : plain.Block) → slice_get tree.blocks f ≡ Some b
-      → b.formals ≡ among is_parameter (variables_of f 0 tree.variables)
+      → b.formals ≡ numbers_with_role is_parameter (variables_of f 0 tree.variables)
   formals f b at =
       let r = block_from (env_of named) (starts_of named.blocks) named.blocks f b at in
       r.3 ∙ of_block is_parameter (λ (b : n.Block). b.formals)
       (program_own is_parameter refl refl refl (λ (b : n.Block). b.formals) parameters_heading refl) f r.0 r.1
 
   pub answers : (f : ℕ) (b : plain.Block) → slice_get tree.blocks f ≡ Some b
-      → as_list b.answer ≡ among is_answer (variables_of f 0 tree.variables)
+      → as_list b.answer ≡ numbers_with_role is_answer (variables_of f 0 tree.variables)
   answers f b at =
       let r = block_from (env_of named) (starts_of named.blocks) named.blocks f b at in
       ap as_list r.4 ∙ of_block is_answer (λ (b : n.Block). as_list (answer_variable b.answer))
       (program_own is_answer refl refl refl (λ (b : n.Block). as_list (answer_variable b.answer)) results_heading
       refl) f r.0 r.1
 
-  held_at : (k : ℕ) (us : List checked.Variable) (j : ℕ) (u : checked.Variable) → Holds tree m k us
+  held_at : (k : ℕ) (us : List checked.Variable) (j : ℕ) (u : checked.Variable) → HoldsVariables tree m k us
       → slice_get us j ≡ Some u → (v : plain.Variable) × (slice_get tree.variables (k + j) ≡ Some v) × (v.role ≡ u.role)
       × (v.block ≡ u.block)
   held_at k [] j u h e = absurd (cc e)
@@ -295,7 +297,7 @@ module _ (s : syntax.Program) (calm : names_broken s ≡ []) where
       let c = held_blocks.0 in
       let sc0 = top tree parents c.0 c.1 c.2 in
       let chain : IsChain tree m (OfBlock 0 ∷ []) = (sc0, tt) in
-      let base : IsOpen tree m (OfBlock 0 ∷ []) 0 0 std empty =
+      let base : IsOpen tree m (OfBlock 0 ∷ []) 0 0 std empty_local =
       record {
         visible = ((standard_valid, tt), tt);
         own = refl;
@@ -305,24 +307,28 @@ module _ (s : syntax.Program) (calm : names_broken s ≡ []) where
       } in
       let rest = held.1.1 in
       let vs = holds_parts tree m 2 inner_.variables (indices 0 body_) rest in
-      let r = parts_scoped tree m st results [] 0 0 std empty parts_ chain base calm_two.0
+      let r = parts_scoped tree m st results [] 0 0 std empty_local parts_ chain base calm_two.0
       ((omega arith), vs.0, held_blocks.1) in
-      let moved = (parts_move std empty parts_ calm_two.0).2 in
-      let place : IsPlace tree m (OfBlock 0 ∷ []) 0 std (parts_local empty parts_) = record {
+      let moved = (parts_move std empty_local parts_ calm_two.0).2 in
+      let place : IsPlace tree m (OfBlock 0 ∷ []) 0 std (parts_local empty_local parts_) = record {
         visible = r.0.visible;
         own = r.0.own;
         home = r.0.home;
         near = r.0.near;
         answer = λ b x at ans. absurd (no_answer b x at ans c.0 c.1 c.4);
       } in
-      let body_in = statement_in tree m st results 0 (OfBlock 0 ∷ []) std (parts_local empty parts_) body_ chain place
-      calm_two.1 (subst (λ z. Holds tree m z (indices 0 body_)) (sym moved) vs.1) in
-      (subst (λ z. InStatement tree m z (named_statement std (parts_local empty parts_) body_)) (sym sc0) body_in, r.1)
+      let body_in = statement_in tree m st results 0 (OfBlock 0 ∷ []) std (parts_local empty_local parts_) body_
+      chain place
+      calm_two.1 (subst (λ z. HoldsVariables tree m z (indices 0 body_)) (sym moved) vs.1) in (
+        subst (λ z. InStatement tree m z (named_statement std (parts_local empty_local parts_) body_)) (sym sc0)
+            body_in,
+        r.1,
+      )
     where
       eq_zero : level (is_block 0) (OfBlock 0 ∷ []) ≡ Some 0
       eq_zero = refl
 
-      standard_valid : AreValid tree m (OfBlock 0 ∷ []) standard
+      standard_valid : AreValid tree m (OfBlock 0 ∷ []) standard_scope
       standard_valid = (
         tt,
         (

@@ -10,8 +10,8 @@ use Rattle.sp_tree.specs.declared.named.NamedKind.{NamedKind}
 use Rattle.sp_tree.specs.declared.named.NamedKindForm.{NamedKindForm}
 use Rattle.sp_tree.specs.declared.named.NamedKindForm.TheVariants as form
 use Rattle.sp_tree.specs.Cells.{table, size_by, sizes, first_or}
-use Rattle.sp_tree.specs.Found.{listed}
-use Rattle.sp_tree.specs.NameFirst.{together}
+use Rattle.sp_tree.specs.PhaseResults.{refusal_list}
+use Rattle.sp_tree.specs.NameFirst.{both_lists}
 use Rattle.sp_tree.specs.NamedTree.{program_named}
 use Rattle.sp_tree.specs.PlainSyntax as syntax
 use Rattle.sp_code.specs.Sizes.{IsSize}
@@ -20,24 +20,25 @@ use Rattle.sp_types.specs.Tables.{constants_of, numbers_of, env_of, kinds_by, ki
 use Rattle.sp_types.specs.TypeRules.{most_cells, cells_rule}
 use Rattle.sp_types.specs.TypeFirst.{types_broken}
 use Rattle.sp_types.specs.TypeWalk as w
-use Rattle.sp_facts.proofs.Calm.{calm_parts, calm_site, calm_if}
+use Rattle.sp_facts.proofs.NoBreachInParts.{none_in_parts, none_at_site, not_if_none}
 
 few : (n : ℕ) → nat_lt 1048576 n ≡ false → n ≤ 4294967295
 few n e = Prim.grind (arith, e)
 
 -- as many places as sizes, and at each no rule broken
 cells_small : (places : List Place) (ns : List ℕ) → length ns ≤ length places
-    → w.cells_sites [] together listed places ns ≡ [] → (k : ℕ) → IsSize (first_or 0 (slice_get ns k))
+    → w.cells_sites [] both_lists refusal_list places ns ≡ [] → (k : ℕ) → IsSize (first_or 0 (slice_get ns k))
 cells_small places [] l calm zero = omega arith
 cells_small places [] l calm (suc k) = omega arith
 cells_small [] (n ∷ ns) l calm k = absurd (omega (arith, l))
 cells_small (at ∷ places) (n ∷ ns) l calm zero =
-    few n (calm_if rule.L3 at (nat_lt most_cells n)
-    (calm_site (cells_rule at n) (calm_parts (listed (cells_rule at n)) (w.cells_sites [] together listed places ns)
+    few n (not_if_none rule.L3 at (nat_lt most_cells n)
+    (none_at_site (cells_rule at n)
+    (none_in_parts (refusal_list (cells_rule at n)) (w.cells_sites [] both_lists refusal_list places ns)
     calm).0))
 cells_small (at ∷ places) (n ∷ ns) l calm (suc k) =
     cells_small places ns (omega (arith, l))
-    (calm_parts (listed (cells_rule at n)) (w.cells_sites [] together listed places ns) calm).1 k
+    (none_in_parts (refusal_list (cells_rule at n)) (w.cells_sites [] both_lists refusal_list places ns) calm).1 k
 
 table_length : (known : List ℕ) (ks : List KindOf) → length (table size_by known ks) ≡ length known + length ks
 table_length known [] = omega arith
@@ -69,13 +70,14 @@ pub types_small : (s : syntax.Program) → types_broken (program_named s) ≡ []
     → IsSize (first_or 0 (slice_get (sizes (env_of (program_named s)).kinds) k))
 types_small s types =
     let n_ = program_named s in
-    let rest = w.blocks_sites [] together listed (numbers_of n_) (sizes (env_of n_).kinds) n_.variables 0 (env_of n_)
+    let rest = w.blocks_sites [] both_lists refusal_list (numbers_of n_) (sizes (env_of n_).kinds) n_.variables 0
+    (env_of n_)
     (w.starts_of n_.blocks) n_.blocks in
-    let cells = w.cells_sites [] together listed (w.places_of n_.kinds) (sizes (env_of n_).kinds) in
-    let kinds = w.kinds_sites [] together listed (constants_of n_) n_.kinds in
-    let calm = (calm_parts cells rest (calm_parts kinds (together cells rest)
-    (calm_parts (w.constants_sites [] together listed (constants_of n_) n_.constants)
-    (together kinds (together cells rest)) types).1).1).0 in
+    let cells = w.cells_sites [] both_lists refusal_list (w.places_of n_.kinds) (sizes (env_of n_).kinds) in
+    let kinds = w.kinds_sites [] both_lists refusal_list (constants_of n_) n_.kinds in
+    let calm = (none_in_parts cells rest (none_in_parts kinds (both_lists cells rest)
+    (none_in_parts (w.constants_sites [] both_lists refusal_list (constants_of n_) n_.constants)
+    (both_lists kinds (both_lists cells rest)) types).1).1).0 in
     let a = table_length [] (env_of n_).kinds in
     let b = places_length (numbers_of n_) (constants_of n_) n_.kinds in
     cells_small (w.places_of n_.kinds) (sizes (env_of n_).kinds) (omega (arith, a, b)) calm

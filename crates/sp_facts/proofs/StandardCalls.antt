@@ -7,8 +7,8 @@ use Rattle.sp_base.specs.declared.place.Place.{Place}
 use Rattle.sp_base.specs.declared.rule.Rule.TheVariants as rule
 use Rattle.sp_tree.specs.declared.checked.KindOf.{KindOf}
 use Rattle.sp_tree.specs.declared.checked.KindOf.TheVariants as kind
-use Rattle.sp_tree.specs.Found.{Found, listed}
-use Rattle.sp_tree.specs.NameFirst.{together}
+use Rattle.sp_tree.specs.PhaseResults.{FirstRefusal, refusal_list}
+use Rattle.sp_tree.specs.NameFirst.{both_lists}
 use Rattle.sp_tree.specs.Plain.{Program, Stmt}
 use Rattle.sp_tree.specs.Plain as plain
 use Rattle.sp_tree.specs.PlainNamed as n
@@ -23,31 +23,33 @@ use Rattle.sp_types.specs.CheckedTree.{checked_expression, checked_variable}
 use Rattle.sp_tree.specs.PlainChecked as c
 use Rattle.sp_tree.specs.CheckedOf as of_
 use Rattle.sp_tree.specs.Bare.{bare_expression, bare_variable}
-use Rattle.sp_facts.specs.Knows.{IsKind}
-use Rattle.sp_code.specs.Stands.{ValueAt, PlaceAt, AnyInstr, AnyTable, AnyText}
+use Rattle.sp_facts.specs.MatchingTables.{IsKind}
+use Rattle.sp_code.specs.CodeOfTree.{ValueAt, PlaceAt, AnyInstr, AnyTable, AnyText}
 use Rattle.sp_facts.specs.Scoped.{InExpression, InVariable, InArguments, InWidth}
-use Rattle.sp_facts.proofs.Calm.{calm_parts, calm_at, calm_unless, nat_eq_is}
+use Rattle.sp_facts.proofs.NoBreachInParts.{none_in_parts, none_with_site, takes_if_none, nat_eq_is}
 use Rattle.sp_tree.specs.declared.meaning.StandardProcedure.{StandardProcedure}
 use Rattle.sp_tree.specs.Uses.{In_stmt, In_stmts}
-use Rattle.sp_code.specs.Places.{after}
+use Rattle.sp_code.specs.Places.{after_statement}
 use Rattle.sp_types.specs.TypeWalk as w
 use Rattle.sp_tree.specs.Bare.{bare_statement_form, bare_statements}
-use Rattle.sp_code.specs.Stands.{AllAt}
+use Rattle.sp_code.specs.CodeOfTree.{AllAt}
 use Rattle.sp_facts.proofs.Expressions.{expression_fine, variable_fine, ValueIs}
 use Rattle.sp_tree.specs.declared.meaning.StandardProcedure.TheVariants as procedure
-use Rattle.sp_types.specs.TypeRules.{read_rule, readable, write_rule, writable, width_rule, channel_rule, message_rule}
-use Rattle.sp_types.specs.CheckedTree.{written_text, checked_width, written_form, reads, writes, opens, sends, receives}
-use Rattle.sp_types.specs.CheckedTree.{singles, numbered, expanded}
+use Rattle.sp_types.specs.TypeRules.{read_rule, is_readable, write_rule, is_writable, width_rule, channel_rule}
+use Rattle.sp_types.specs.TypeRules.{message_rule}
+use Rattle.sp_types.specs.CheckedTree.{write_text_form, checked_width, write_value_form, reads, writes, opens, sends}
+use Rattle.sp_types.specs.CheckedTree.{receives}
+use Rattle.sp_types.specs.CheckedTree.{singles, numbered_statements, expanded_form}
 use Rattle.sp_tree.specs.Bare.{bare_width}
-use Rattle.sp_code.specs.Stands.{ReadsAt, WidthAt, IsWritten}
+use Rattle.sp_code.specs.CodeOfTree.{ReadsAt, WidthAt, IsWritten}
 use Rattle.sp_facts.specs.Scoped.{AreAimed, AimsOf}
 use Rattle.sp_facts.proofs.Expressions.{channel_is, integer_is}
-use Rattle.sp_facts.proofs.Statements.{Ready, Done, Quiet, within, free_is, Performs}
+use Rattle.sp_facts.proofs.Statements.{MatchesWithIndices, StatementHasCode, KeepsRulesHere, within, free_is, Performs}
 
 module _ (p : Program) (m : ℕ) (moves shares : Stmt → List ℕ) (hush : ℕ → Type 0) (free : Bool) where
   abbrev pub Fine : List Scope → c.Form → Type 0
-  Fine sc f = Quiet p m moves shares hush free sc (In_stmt (bare_statement_form f))
-      → Done p m moves shares hush free sc (bare_statement_form f)
+  Fine sc f = KeepsRulesHere p m moves shares hush free sc (In_stmt (bare_statement_form f))
+      → StatementHasCode p m moves shares hush free sc (bare_statement_form f)
 
   abbrev pub AllFine : List Scope → List c.Form → Type 0
   AllFine sc [] = Unit {0}
@@ -58,45 +60,48 @@ module _ (p : Program) (m : ℕ) (moves shares : Stmt → List ℕ) (hush : ℕ 
   all_join sc (f ∷ fs) gs x y = (x.0, all_join sc fs gs x.1 y)
 
   numbered_fine : (sc : List Scope) (k : ℕ) (at : Place) (fs : List c.Form) → AllFine sc fs
-      → Quiet p m moves shares hush free sc (In_stmts (bare_statements (of_.statements (numbered k at fs)))) → (q : ℕ)
+      → KeepsRulesHere p m moves shares hush free sc
+      (In_stmts (bare_statements (of_.statements (numbered_statements k at fs)))) → (q : ℕ)
       → AllAt p moves shares AnyInstr AnyTable AnyText hush free sc q
-      (bare_statements (of_.statements (numbered k at fs)))
+      (bare_statements (of_.statements (numbered_statements k at fs)))
   numbered_fine sc k at [] h quiet q = tt
   numbered_fine sc k at (f ∷ fs) h quiet q =
       let s_ = bare_statement_form f in
-      let r_ = bare_statements (of_.statements (numbered (k + 1) at fs)) in (
+      let r_ = bare_statements (of_.statements (numbered_statements (k + 1) at fs)) in (
         h.0 (within p m moves shares hush free sc (In_stmts (plain.And s_ r_)) (In_stmt s_) (λ u i. inl i) quiet) q,
         numbered_fine sc (k + 1) at fs h.1 (within p m moves shares hush free sc (In_stmts (plain.And s_ r_))
-            (In_stmts r_) (λ u i. inr i) quiet) (after p q s_),
+            (In_stmts r_) (λ u i. inr i) quiet) (after_statement p q s_),
       )
 
   expanded_fine : (sc : List Scope) (k : ℕ) (at : Place) (fs : List c.Form) → AllFine sc fs
-      → Quiet p m moves shares hush free sc (In_stmt (bare_statement_form (expanded k at fs)))
-      → Done p m moves shares hush free sc (bare_statement_form (expanded k at fs))
+      → KeepsRulesHere p m moves shares hush free sc (In_stmt (bare_statement_form (expanded_form k at fs)))
+      → StatementHasCode p m moves shares hush free sc (bare_statement_form (expanded_form k at fs))
   expanded_fine sc k at [] h quiet q = tt
   expanded_fine sc k at (f ∷ []) h quiet q = h.0 quiet q
   expanded_fine sc k at (f ∷ g ∷ fs) h quiet q = numbered_fine sc k at (f ∷ g ∷ fs) h quiet q
 
-  module _ (env : Env) (sc : List Scope) (ready : Ready p m env sc) where
-    value : (e : n.Expression) (f : Found) → together (expression_sites [] together listed env e) (listed f) ≡ []
+  module _ (env : Env) (sc : List Scope) (ready : MatchesWithIndices p m env sc) where
+    value : (e : n.Expression) (f : FirstRefusal) → both_lists (expression_sites [] both_lists refusal_list env e)
+        (refusal_list f) ≡ []
         → InExpression p m sc e → ValueIs p m moves shares hush env ready.0 sc ready.1 (expression_kind env e)
         (bare_expression (checked_expression env e)) × (f ≡ None)
-    value e f calm here = let two = calm_at (expression_sites [] together listed env e) f calm in
+    value e f calm here = let two = none_with_site (expression_sites [] both_lists refusal_list env e) f calm in
         (expression_fine p m moves shares hush env ready.0 sc ready.1 e two.0 here, two.1)
 
-    width_fine : (at : Place) (wd : n.Width) → w.width_sites [] together listed env at wd ≡ [] → InWidth p m sc wd
+    width_fine : (at : Place) (wd : n.Width) → w.width_sites [] both_lists refusal_list env at wd ≡ []
+        → InWidth p m sc wd
         → (q : ℕ) → WidthAt p moves shares AnyInstr AnyTable AnyText hush sc q (bare_width (checked_width env wd))
     width_fine at n.NoWidth calm here q = tt
-    width_fine at (n.Within e) calm here q =
+    width_fine at (n.WithWidth e) calm here q =
         let r = value e (width_rule at (expression_kind env e)) calm here in
-        let is = nat_eq_is 0 r.0.0 (calm_unless rule.Y8 at (nat_eq 0) (expression_kind env e) r.0.0 r.0.1 r.1) in (
+        let is = nat_eq_is 0 r.0.0 (takes_if_none rule.Y8 at (nat_eq 0) (expression_kind env e) r.0.0 r.0.1 r.1) in (
           r.0.4 q,
           integer_is p m moves shares hush env ready.0 sc ready.1
               (kind_of (bare_expression (checked_expression env e))) (r.0.3 ∙ sym is),
         )
 
     -- what is written: an integer, a char or a boolean
-    writes_kind : (k : ℕ) → writable k ≡ true → (t : KindOf) × (slice_get p.kinds k ≡ Some t) × IsWritten t
+    writes_kind : (k : ℕ) → is_writable k ≡ true → (t : KindOf) × (slice_get p.kinds k ≡ Some t) × IsWritten t
         × (sort p k ≡ Ordinals)
     writes_kind k e = go (nat_eq k 0) (nat_eq k 2) refl refl e
       where
@@ -109,14 +114,16 @@ module _ (p : Program) (m : ℕ) (moves shares : Stmt → List ℕ) (hush : ℕ 
         go false false ae be e = let x = ap (slice_get p.kinds) (nat_eq_is k 1 e) ∙ ready.0.boolean in
             (kind.Boolean, x, tt, ap sort_by x)
 
-    write_one : (e : n.Expression) (wd : n.Width) → w.width_sites [] together listed env (place e) wd ≡ []
-        → together (expression_sites [] together listed env e) (listed (write_rule (place e) (expression_kind env e)))
+    write_one : (e : n.Expression) (wd : n.Width) → w.width_sites [] both_lists refusal_list env (place e) wd ≡ []
+        → both_lists (expression_sites [] both_lists refusal_list env e)
+        (refusal_list (write_rule (place e) (expression_kind env e)))
         ≡ [] → InExpression p m sc e → InWidth p m sc wd
         → Fine sc (c.WriteValue (checked_expression env e) (checked_width env wd))
     write_one e wd cw ce here in_w quiet q =
         let r = value e (write_rule (place e) (expression_kind env e)) ce here in
         let e_ = bare_expression (checked_expression env e) in
-        let x = writes_kind r.0.0 (calm_unless rule.Y8 (place e) writable (expression_kind env e) r.0.0 r.0.1 r.1) in (
+        let x = writes_kind r.0.0 (takes_if_none rule.Y8 (place e) is_writable (expression_kind env e) r.0.0 r.0.1
+        r.1) in (
           x.0,
           (r.0.4 q, ap (sort p) r.0.3 ∙ x.3),
           ap (slice_get p.kinds) r.0.3 ∙ x.1,
@@ -125,8 +132,8 @@ module _ (p : Program) (m : ℕ) (moves shares : Stmt → List ℕ) (hush : ℕ 
           x.2,
         )
 
-    text_one : (at : Place) (t : List ℕ) (wd : n.Width) → w.width_sites [] together listed env at wd ≡ []
-        → InWidth p m sc wd → Fine sc (written_text at t (char_of t) (checked_width env wd))
+    text_one : (at : Place) (t : List ℕ) (wd : n.Width) → w.width_sites [] both_lists refusal_list env at wd ≡ []
+        → InWidth p m sc wd → Fine sc (write_text_form at t (char_of t) (checked_width env wd))
     text_one at [] wd cw in_w quiet q = (0, tt, width_fine at wd cw in_w q, tt)
     text_one at (x ∷ []) wd cw in_w quiet q = (
       kind.Char,
@@ -138,44 +145,49 @@ module _ (p : Program) (m : ℕ) (moves shares : Stmt → List ℕ) (hush : ℕ 
     )
     text_one at (x ∷ y ∷ t) wd cw in_w quiet q = (0, tt, width_fine at wd cw in_w q, tt)
 
-    written_one : (e : n.Expression) (wd : n.Width) → w.width_sites [] together listed env (place e) wd ≡ []
-        → w.written_sites [] together listed env e ≡ [] → InExpression p m sc e → InWidth p m sc wd
-        → Fine sc (written_form env e (checked_width env wd))
-    written_one (n.At at (n.Quoted t)) wd cw ce here in_w = text_one at t wd cw in_w
-    written_one (n.At at (n.Number k)) wd cw ce here in_w = write_one (n.At at (n.Number k)) wd cw ce here in_w
-    written_one (n.At at (n.Constant k)) wd cw ce here in_w = write_one (n.At at (n.Constant k)) wd cw ce here in_w
-    written_one (n.At at (n.Read v)) wd cw ce here in_w = write_one (n.At at (n.Read v)) wd cw ce here in_w
-    written_one (n.At at (n.Apply f name args)) wd cw ce here in_w =
-        write_one (n.At at (n.Apply f name args)) wd cw ce here in_w
-    written_one (n.At at (n.Standard f args)) wd cw ce here in_w =
-        write_one (n.At at (n.Standard f args)) wd cw ce here in_w
-    written_one (n.At at (n.Unary op a)) wd cw ce here in_w = write_one (n.At at (n.Unary op a)) wd cw ce here in_w
-    written_one (n.At at (n.Binary op a b)) wd cw ce here in_w =
-        write_one (n.At at (n.Binary op a b)) wd cw ce here in_w
+    written_one : (e : n.Expression) (wd : n.Width) → w.width_sites [] both_lists refusal_list env (place e) wd ≡ []
+        → w.written_sites [] both_lists refusal_list env e ≡ [] → InExpression p m sc e → InWidth p m sc wd
+        → Fine sc (write_value_form env e (checked_width env wd))
+    written_one (n.ExpressionAt at (n.Quoted t)) wd cw ce here in_w = text_one at t wd cw in_w
+    written_one (n.ExpressionAt at (n.Number k)) wd cw ce here in_w =
+        write_one (n.ExpressionAt at (n.Number k)) wd cw ce here in_w
+    written_one (n.ExpressionAt at (n.Constant k)) wd cw ce here in_w =
+        write_one (n.ExpressionAt at (n.Constant k)) wd cw ce here in_w
+    written_one (n.ExpressionAt at (n.Read v)) wd cw ce here in_w =
+        write_one (n.ExpressionAt at (n.Read v)) wd cw ce here in_w
+    written_one (n.ExpressionAt at (n.Apply f name args)) wd cw ce here in_w =
+        write_one (n.ExpressionAt at (n.Apply f name args)) wd cw ce here in_w
+    written_one (n.ExpressionAt at (n.Standard f args)) wd cw ce here in_w =
+        write_one (n.ExpressionAt at (n.Standard f args)) wd cw ce here in_w
+    written_one (n.ExpressionAt at (n.Unary op a)) wd cw ce here in_w =
+        write_one (n.ExpressionAt at (n.Unary op a)) wd cw ce here in_w
+    written_one (n.ExpressionAt at (n.Binary op a b)) wd cw ce here in_w =
+        write_one (n.ExpressionAt at (n.Binary op a b)) wd cw ce here in_w
 
-    writes_fine : (args : n.Arguments) → w.each_sites [] together listed env (w.write_sites [] together listed env) args
+    writes_fine : (args : n.Arguments)
+        → w.each_sites [] both_lists refusal_list env (w.write_sites [] both_lists refusal_list env) args
         ≡ [] → InArguments p m sc args → AllFine sc (writes env args)
     writes_fine n.NoArgument calm here = tt
     writes_fine (n.AndArgument (n.Pass e wd) rest) calm here =
-        let two = calm_parts (together (w.width_sites [] together listed env (place e) wd)
-        (w.written_sites [] together listed env e))
-        (w.each_sites [] together listed env (w.write_sites [] together listed env) rest) calm in
-        let one = calm_parts (w.width_sites [] together listed env (place e) wd)
-        (w.written_sites [] together listed env e) two.0 in
+        let two = none_in_parts (both_lists (w.width_sites [] both_lists refusal_list env (place e) wd)
+        (w.written_sites [] both_lists refusal_list env e))
+        (w.each_sites [] both_lists refusal_list env (w.write_sites [] both_lists refusal_list env) rest) calm in
+        let one = none_in_parts (w.width_sites [] both_lists refusal_list env (place e) wd)
+        (w.written_sites [] both_lists refusal_list env e) two.0 in
         (written_one e wd one.0 one.1 here.0 here.1, writes_fine rest two.1 here.2)
 
     -- an argument that is a variable, with a rule of its type
-    aimed_one : (at : Place) (x : ℕ) (name : Place) (ss : n.Selectors) (f : Found)
-        → together (variable_sites [] together listed env (n.Entire x name ss)) (listed f) ≡ []
+    aimed_one : (at : Place) (x : ℕ) (name : Place) (ss : n.Selectors) (f : FirstRefusal)
+        → both_lists (variable_sites [] both_lists refusal_list env (n.Entire x name ss)) (refusal_list f) ≡ []
         → InVariable p m sc (n.Entire x name ss)
         → ((k : ℕ) × (selected env (n.Entire x name ss) ≡ Some k) × IsKind p k
         × ((q : ℕ) → PlaceAt p moves shares AnyInstr AnyTable AnyText hush sc q
         (bare_variable (checked_variable env (n.Entire x name ss))) k)) × (f ≡ None)
     aimed_one at x name ss f calm here = let two =
-        calm_at (variable_sites [] together listed env (n.Entire x name ss)) f calm in
+        none_with_site (variable_sites [] both_lists refusal_list env (n.Entire x name ss)) f calm in
         (variable_fine p m moves shares hush env ready.0 sc ready.1 (n.Entire x name ss) two.0 here, two.1)
 
-    reads_kind : (k : ℕ) → readable k ≡ true → (t : KindOf) × (slice_get p.kinds k ≡ Some t)
+    reads_kind : (k : ℕ) → is_readable k ≡ true → (t : KindOf) × (slice_get p.kinds k ≡ Some t)
         × ((q : ℕ) → ReadsAt p moves shares AnyInstr AnyTable AnyText hush q t)
     reads_kind k e = go (nat_eq k 0) refl e
       where
@@ -184,14 +196,16 @@ module _ (p : Program) (m : ℕ) (moves shares : Stmt → List ℕ) (hush : ℕ 
         go true ae e = (kind.Integer, ap (slice_get p.kinds) (nat_eq_is k 0 ae) ∙ ready.0.integer, λ q. tt)
         go false ae e = (kind.Char, ap (slice_get p.kinds) (nat_eq_is k 2 e) ∙ ready.0.char, λ q. tt)
 
-    reads_fine : (args : n.Arguments) → w.each_sites [] together listed env (w.read_sites [] together listed env) args
+    reads_fine : (args : n.Arguments)
+        → w.each_sites [] both_lists refusal_list env (w.read_sites [] both_lists refusal_list env) args
         ≡ [] → AreAimed p m args → InArguments p m sc args → AllFine sc (reads env args)
     reads_fine n.NoArgument calm aims here = tt
-    reads_fine (n.AndArgument (n.Pass (n.At at (n.Read (n.Entire x name ss))) wd) rest) calm aims here =
-        let two = calm_parts (w.read_sites [] together listed env (n.Pass (n.At at (n.Read (n.Entire x name ss))) wd))
-        (w.each_sites [] together listed env (w.read_sites [] together listed env) rest) calm in
+    reads_fine (n.AndArgument (n.Pass (n.ExpressionAt at (n.Read (n.Entire x name ss))) wd) rest) calm aims here =
+        let two = none_in_parts
+        (w.read_sites [] both_lists refusal_list env (n.Pass (n.ExpressionAt at (n.Read (n.Entire x name ss))) wd))
+        (w.each_sites [] both_lists refusal_list env (w.read_sites [] both_lists refusal_list env) rest) calm in
         let r = aimed_one at x name ss (read_rule at (selected env (n.Entire x name ss))) two.0 here.0 in
-        let t = reads_kind r.0.0 (calm_unless rule.Y8 at readable (selected env (n.Entire x name ss)) r.0.0 r.0.1
+        let t = reads_kind r.0.0 (takes_if_none rule.Y8 at is_readable (selected env (n.Entire x name ss)) r.0.0 r.0.1
         r.1) in (
           (λ quiet q. (
             r.0.0,
@@ -203,24 +217,25 @@ module _ (p : Program) (m : ℕ) (moves shares : Stmt → List ℕ) (hush : ℕ 
           )),
           reads_fine rest two.1 aims.1 here.2,
         )
-    reads_fine (n.AndArgument (n.Pass (n.At at (n.Number k)) wd) rest) calm aims here = absurd aims
-    reads_fine (n.AndArgument (n.Pass (n.At at (n.Quoted t)) wd) rest) calm aims here = absurd aims
-    reads_fine (n.AndArgument (n.Pass (n.At at (n.Constant k)) wd) rest) calm aims here = absurd aims
-    reads_fine (n.AndArgument (n.Pass (n.At at (n.Apply f name args)) wd) rest) calm aims here = absurd aims
-    reads_fine (n.AndArgument (n.Pass (n.At at (n.Standard f args)) wd) rest) calm aims here = absurd aims
-    reads_fine (n.AndArgument (n.Pass (n.At at (n.Unary op a)) wd) rest) calm aims here = absurd aims
-    reads_fine (n.AndArgument (n.Pass (n.At at (n.Binary op a b)) wd) rest) calm aims here = absurd aims
+    reads_fine (n.AndArgument (n.Pass (n.ExpressionAt at (n.Number k)) wd) rest) calm aims here = absurd aims
+    reads_fine (n.AndArgument (n.Pass (n.ExpressionAt at (n.Quoted t)) wd) rest) calm aims here = absurd aims
+    reads_fine (n.AndArgument (n.Pass (n.ExpressionAt at (n.Constant k)) wd) rest) calm aims here = absurd aims
+    reads_fine (n.AndArgument (n.Pass (n.ExpressionAt at (n.Apply f name args)) wd) rest) calm aims here = absurd aims
+    reads_fine (n.AndArgument (n.Pass (n.ExpressionAt at (n.Standard f args)) wd) rest) calm aims here = absurd aims
+    reads_fine (n.AndArgument (n.Pass (n.ExpressionAt at (n.Unary op a)) wd) rest) calm aims here = absurd aims
+    reads_fine (n.AndArgument (n.Pass (n.ExpressionAt at (n.Binary op a b)) wd) rest) calm aims here = absurd aims
 
-    opens_fine : (args : n.Arguments) → w.each_sites [] together listed env (w.channel_sites [] together listed env)
+    opens_fine : (args : n.Arguments)
+        → w.each_sites [] both_lists refusal_list env (w.channel_sites [] both_lists refusal_list env)
         args ≡ [] → AreAimed p m args → InArguments p m sc args → AllFine sc (opens env args)
     opens_fine n.NoArgument calm aims here = tt
-    opens_fine (n.AndArgument (n.Pass (n.At at (n.Read (n.Entire x name ss))) wd) rest) calm aims here =
-        let two = calm_parts (w.channel_sites [] together listed env
-        (n.Pass (n.At at (n.Read (n.Entire x name ss))) wd))
-        (w.each_sites [] together listed env (w.channel_sites [] together listed env) rest) calm in
+    opens_fine (n.AndArgument (n.Pass (n.ExpressionAt at (n.Read (n.Entire x name ss))) wd) rest) calm aims here =
+        let two = none_in_parts (w.channel_sites [] both_lists refusal_list env
+        (n.Pass (n.ExpressionAt at (n.Read (n.Entire x name ss))) wd))
+        (w.each_sites [] both_lists refusal_list env (w.channel_sites [] both_lists refusal_list env) rest) calm in
         let r = aimed_one at x name ss (channel_rule env at (selected env (n.Entire x name ss))) two.0 here.0 in
         let is = channel_is p m moves shares hush env ready.0 sc ready.1 r.0.0
-        (calm_unless rule.Y8 at (channel env) (selected env (n.Entire x name ss)) r.0.0 r.0.1 r.1) in
+        (takes_if_none rule.Y8 at (channel env) (selected env (n.Entire x name ss)) r.0.0 r.0.1 r.1) in
         let v_ = bare_variable (checked_variable env (n.Entire x name ss)) in (
           (λ quiet q. (
             r.0.0,
@@ -232,13 +247,13 @@ module _ (p : Program) (m : ℕ) (moves shares : Stmt → List ℕ) (hush : ℕ 
           )),
           opens_fine rest two.1 aims.1 here.2,
         )
-    opens_fine (n.AndArgument (n.Pass (n.At at (n.Number k)) wd) rest) calm aims here = absurd aims
-    opens_fine (n.AndArgument (n.Pass (n.At at (n.Quoted t)) wd) rest) calm aims here = absurd aims
-    opens_fine (n.AndArgument (n.Pass (n.At at (n.Constant k)) wd) rest) calm aims here = absurd aims
-    opens_fine (n.AndArgument (n.Pass (n.At at (n.Apply f name args)) wd) rest) calm aims here = absurd aims
-    opens_fine (n.AndArgument (n.Pass (n.At at (n.Standard f args)) wd) rest) calm aims here = absurd aims
-    opens_fine (n.AndArgument (n.Pass (n.At at (n.Unary op a)) wd) rest) calm aims here = absurd aims
-    opens_fine (n.AndArgument (n.Pass (n.At at (n.Binary op a b)) wd) rest) calm aims here = absurd aims
+    opens_fine (n.AndArgument (n.Pass (n.ExpressionAt at (n.Number k)) wd) rest) calm aims here = absurd aims
+    opens_fine (n.AndArgument (n.Pass (n.ExpressionAt at (n.Quoted t)) wd) rest) calm aims here = absurd aims
+    opens_fine (n.AndArgument (n.Pass (n.ExpressionAt at (n.Constant k)) wd) rest) calm aims here = absurd aims
+    opens_fine (n.AndArgument (n.Pass (n.ExpressionAt at (n.Apply f name args)) wd) rest) calm aims here = absurd aims
+    opens_fine (n.AndArgument (n.Pass (n.ExpressionAt at (n.Standard f args)) wd) rest) calm aims here = absurd aims
+    opens_fine (n.AndArgument (n.Pass (n.ExpressionAt at (n.Unary op a)) wd) rest) calm aims here = absurd aims
+    opens_fine (n.AndArgument (n.Pass (n.ExpressionAt at (n.Binary op a b)) wd) rest) calm aims here = absurd aims
 
     -- a channel, and what is sent or received
     abbrev ChannelIs : n.Expression → Type 0
@@ -246,22 +261,22 @@ module _ (p : Program) (m : ℕ) (moves shares : Stmt → List ℕ) (hush : ℕ 
         (bare_expression (checked_expression env e)))
         × (sort p (kind_of (bare_expression (checked_expression env e))) ≡ Channels)
 
-    channel_one : (e : n.Expression) (wd : n.Width) → w.channel_sites [] together listed env (n.Pass e wd) ≡ []
+    channel_one : (e : n.Expression) (wd : n.Width) → w.channel_sites [] both_lists refusal_list env (n.Pass e wd) ≡ []
         → InExpression p m sc e → ChannelIs e
     channel_one e wd calm here =
         let r = value e (channel_rule env (place e) (expression_kind env e)) calm here in (
           r.0.4,
           ap (sort p) r.0.3 ∙ channel_is p m moves shares hush env ready.0 sc ready.1 r.0.0
-              (calm_unless rule.Y8 (place e) (channel env) (expression_kind env e) r.0.0 r.0.1 r.1),
+              (takes_if_none rule.Y8 (place e) (channel env) (expression_kind env e) r.0.0 r.0.1 r.1),
         )
 
     sends_fine : (ch : n.Expression) (o : Option ℕ) → ChannelIs ch → (args : n.Arguments)
-        → w.each_sites [] together listed env (w.message_sites [] together listed env o) args ≡ []
+        → w.each_sites [] both_lists refusal_list env (w.message_sites [] both_lists refusal_list env o) args ≡ []
         → InArguments p m sc args → AllFine sc (sends env (checked_expression env ch) args)
     sends_fine ch o is n.NoArgument calm here = tt
     sends_fine ch o is (n.AndArgument (n.Pass e wd) rest) calm here =
-        let two = calm_parts (w.message_sites [] together listed env o (n.Pass e wd))
-        (w.each_sites [] together listed env (w.message_sites [] together listed env o) rest) calm in
+        let two = none_in_parts (w.message_sites [] both_lists refusal_list env o (n.Pass e wd))
+        (w.each_sites [] both_lists refusal_list env (w.message_sites [] both_lists refusal_list env o) rest) calm in
         let r = value e (message_rule env (place e) o (expression_kind env e)) two.0 here.0 in
         let c_ = bare_expression (checked_expression env ch) in
         let e_ = bare_expression (checked_expression env e) in (
@@ -276,13 +291,15 @@ module _ (p : Program) (m : ℕ) (moves shares : Stmt → List ℕ) (hush : ℕ 
         )
 
     receives_fine : (ch : n.Expression) (o : Option ℕ) → ChannelIs ch → (args : n.Arguments)
-        → w.each_sites [] together listed env (w.message_sites [] together listed env o) args ≡ [] → AreAimed p m args
+        → w.each_sites [] both_lists refusal_list env (w.message_sites [] both_lists refusal_list env o) args ≡ []
+        → AreAimed p m args
         → InArguments p m sc args → AllFine sc (receives env (checked_expression env ch) args)
     receives_fine ch o is n.NoArgument calm aims here = tt
-    receives_fine ch o is (n.AndArgument (n.Pass (n.At at (n.Read (n.Entire x name ss))) wd) rest) calm aims here =
-        let two = calm_parts (w.message_sites [] together listed env o
-        (n.Pass (n.At at (n.Read (n.Entire x name ss))) wd))
-        (w.each_sites [] together listed env (w.message_sites [] together listed env o) rest) calm in
+    receives_fine ch o is (n.AndArgument (n.Pass (n.ExpressionAt at (n.Read (n.Entire x name ss))) wd) rest) calm
+        aims here =
+        let two = none_in_parts (w.message_sites [] both_lists refusal_list env o
+        (n.Pass (n.ExpressionAt at (n.Read (n.Entire x name ss))) wd))
+        (w.each_sites [] both_lists refusal_list env (w.message_sites [] both_lists refusal_list env o) rest) calm in
         let r = aimed_one at x name ss (message_rule env at o (selected env (n.Entire x name ss))) two.0 here.0 in
         let c_ = bare_expression (checked_expression env ch) in
         let v_ = bare_variable (checked_variable env (n.Entire x name ss)) in (
@@ -297,15 +314,21 @@ module _ (p : Program) (m : ℕ) (moves shares : Stmt → List ℕ) (hush : ℕ 
           )),
           receives_fine ch o is rest two.1 aims.1 here.2,
         )
-    receives_fine ch o is (n.AndArgument (n.Pass (n.At at (n.Number k)) wd) rest) calm aims here = absurd aims
-    receives_fine ch o is (n.AndArgument (n.Pass (n.At at (n.Quoted t)) wd) rest) calm aims here = absurd aims
-    receives_fine ch o is (n.AndArgument (n.Pass (n.At at (n.Constant k)) wd) rest) calm aims here = absurd aims
-    receives_fine ch o is (n.AndArgument (n.Pass (n.At at (n.Apply f name args)) wd) rest) calm aims here = absurd aims
-    receives_fine ch o is (n.AndArgument (n.Pass (n.At at (n.Standard f args)) wd) rest) calm aims here = absurd aims
-    receives_fine ch o is (n.AndArgument (n.Pass (n.At at (n.Unary op a)) wd) rest) calm aims here = absurd aims
-    receives_fine ch o is (n.AndArgument (n.Pass (n.At at (n.Binary op a b)) wd) rest) calm aims here = absurd aims
+    receives_fine ch o is (n.AndArgument (n.Pass (n.ExpressionAt at (n.Number k)) wd) rest) calm aims here = absurd aims
+    receives_fine ch o is (n.AndArgument (n.Pass (n.ExpressionAt at (n.Quoted t)) wd) rest) calm aims here = absurd aims
+    receives_fine ch o is (n.AndArgument (n.Pass (n.ExpressionAt at (n.Constant k)) wd) rest) calm aims here =
+        absurd aims
+    receives_fine ch o is (n.AndArgument (n.Pass (n.ExpressionAt at (n.Apply f name args)) wd) rest) calm aims here =
+        absurd aims
+    receives_fine ch o is (n.AndArgument (n.Pass (n.ExpressionAt at (n.Standard f args)) wd) rest) calm aims here =
+        absurd aims
+    receives_fine ch o is (n.AndArgument (n.Pass (n.ExpressionAt at (n.Unary op a)) wd) rest) calm aims here =
+        absurd aims
+    receives_fine ch o is (n.AndArgument (n.Pass (n.ExpressionAt at (n.Binary op a b)) wd) rest) calm aims here =
+        absurd aims
 
-    singles_fine : (f : StandardProcedure) (args : n.Arguments) → w.perform_sites [] together listed env f args ≡ []
+    singles_fine : (f : StandardProcedure) (args : n.Arguments) → w.perform_sites [] both_lists refusal_list env f
+        args ≡ []
         → AimsOf p m f args → InArguments p m sc args → AllFine sc (singles env f args)
     singles_fine procedure.Read args calm aims here = reads_fine args calm aims here
     singles_fine procedure.Readln args calm aims here =
@@ -316,14 +339,16 @@ module _ (p : Program) (m : ℕ) (moves shares : Stmt → List ℕ) (hush : ℕ 
     singles_fine procedure.Open args calm aims here = opens_fine args calm aims here
     singles_fine procedure.Send n.NoArgument calm aims here = tt
     singles_fine procedure.Send (n.AndArgument (n.Pass e wd) rest) calm aims here =
-        let two = calm_parts (w.channel_sites [] together listed env (n.Pass e wd))
-        (w.each_sites [] together listed env (w.message_sites [] together listed env (expression_kind env e)) rest)
+        let two = none_in_parts (w.channel_sites [] both_lists refusal_list env (n.Pass e wd))
+        (w.each_sites [] both_lists refusal_list env
+        (w.message_sites [] both_lists refusal_list env (expression_kind env e)) rest)
         calm in
         sends_fine e (expression_kind env e) (channel_one e wd two.0 here.0) rest two.1 here.2
     singles_fine procedure.Receive n.NoArgument calm aims here = tt
     singles_fine procedure.Receive (n.AndArgument (n.Pass e wd) rest) calm aims here =
-        let two = calm_parts (w.channel_sites [] together listed env (n.Pass e wd))
-        (w.each_sites [] together listed env (w.message_sites [] together listed env (expression_kind env e)) rest)
+        let two = none_in_parts (w.channel_sites [] both_lists refusal_list env (n.Pass e wd))
+        (w.each_sites [] both_lists refusal_list env
+        (w.message_sites [] both_lists refusal_list env (expression_kind env e)) rest)
         calm in
         receives_fine e (expression_kind env e) (channel_one e wd two.0 here.0) rest two.1 aims here.2
 

@@ -12,15 +12,15 @@ use Rattle.sp_base.specs.declared.rule.Rule.TheVariants as rule
 use Rattle.sp_tree.specs.declared.checked.KindOf.{KindOf}
 use Rattle.sp_tree.specs.declared.checked.KindOf.TheVariants as kind
 use Rattle.sp_tree.specs.declared.checked.Role.TheVariants as role
-use Rattle.sp_tree.specs.Found.{listed}
-use Rattle.sp_tree.specs.NameFirst.{together}
+use Rattle.sp_tree.specs.PhaseResults.{refusal_list}
+use Rattle.sp_tree.specs.NameFirst.{both_lists}
 use Rattle.sp_tree.specs.Plain.{Program, Variable, Stmt, Expr, ExprForm, Actuals}
 use Rattle.sp_tree.specs.Plain as plain
 use Rattle.sp_tree.specs.PlainNamed as n
 use Rattle.sp_code.specs.Scopes.{Sort, Ordinals, Channels, Many, NoSort, kind_of, Scope, is_block, is_index, level}
 use Rattle.sp_code.specs.Scopes.{sort, sort_by}
 use Rattle.sp_code.specs.Places.{after_value, after_var, after_actuals}
-use Rattle.sp_types.specs.Tables.{Env, entry, variable_kind, formals_of, formals_in}
+use Rattle.sp_types.specs.Tables.{Env, table_entry, variable_kind, formals_of, formals_in}
 use Rattle.sp_types.specs.TypeRules.{is_ordinal, ordinal, unless, differ}
 use Rattle.sp_types.specs.Kinds.{expression_kind, form_kind, selected, element}
 use Rattle.sp_types.specs.TypeWalk.{expression_sites, form_sites, variable_sites}
@@ -28,24 +28,26 @@ use Rattle.sp_types.specs.TypeWalk.{actuals_sites, place}
 use Rattle.sp_types.specs.CheckedTree.{or_zero, checked_expression, checked_form, checked_variable, checked_actuals}
 use Rattle.sp_tree.specs.CheckedOf as of_
 use Rattle.sp_tree.specs.Bare.{bare_expression, bare_form, bare_variable, bare_actuals}
-use Rattle.sp_facts.specs.Knows.{IsKind, Knows, HasIndices}
-use Rattle.sp_code.specs.Stands.{FormAt, PlaceAt, ActualsAt, NoIndex, AnyInstr, AnyTable, AnyText}
+use Rattle.sp_facts.specs.MatchingTables.{IsKind, TablesMatch, HasIndices}
+use Rattle.sp_code.specs.CodeOfTree.{FormAt, PlaceAt, ActualsAt, NoIndex, AnyInstr, AnyTable, AnyText}
 use Rattle.sp_facts.specs.Scoped.{InExpression}
-use Rattle.sp_facts.proofs.Calm.{calm_parts, calm_site, calm_at, calm_if, calm_unless, calm_differ, nat_eq_is}
+use Rattle.sp_facts.proofs.NoBreachInParts.{none_in_parts, none_at_site, none_with_site, not_if_none, takes_if_none}
+use Rattle.sp_facts.proofs.NoBreachInParts.{same_if_none, nat_eq_is}
 use Rattle.sp_tree.specs.declared.meaning.StandardProcedure.{StandardProcedure}
 use Rattle.sp_tree.specs.Uses.{Use, Target, ForallOf, Stop, CallOf, In_stmt, In_stmts, In_arms}
 use Rattle.sp_code.specs.Scopes.{OfIndex, one_more}
-use Rattle.sp_code.specs.Places.{after_test, after_tests, after, after_arms}
-use Rattle.sp_types.specs.Tables.{counted, indexed}
+use Rattle.sp_code.specs.Places.{after_test, after_tests, after_statement, after_arms}
+use Rattle.sp_types.specs.Tables.{with_next_number, with_index_type}
 use Rattle.sp_types.specs.TypeRules.{condition_rule, assign_rule, range_rule, limit_rule, selector_rule}
 use Rattle.sp_types.specs.TypeWalk as w
 use Rattle.sp_types.specs.TypeWalk.{statement_after, statements_after, branches_after}
-use Rattle.sp_types.specs.TypeWalk.{arms_after, form_after, counted_by, parts_count, single_count}
+use Rattle.sp_types.specs.TypeWalk.{arms_after, form_after, with_more_numbers, parts_count, single_count}
 use Rattle.sp_types.specs.CheckedTree.{checked_statement, checked_statement_form, checked_statements, checked_arms}
 use Rattle.sp_types.specs.CheckedTree.{checked_branches, in_sequence, first_place, constant_numbers}
 use Rattle.sp_tree.specs.Bare.{bare_statement, bare_statement_form, bare_statements, bare_arms}
-use Rattle.sp_facts.specs.Knows.{IsTyped, IsTypedForm, AreTyped, AreTypedArms, AreTypedBranches}
-use Rattle.sp_code.specs.Stands.{Hushed, StandsAt, AllAt, ChildrenAt, ArmsAt, RightAt, OrdinalAt, TestAt, TestsAt}
+use Rattle.sp_facts.specs.MatchingTables.{IsTyped, IsTypedForm, AreTyped, AreTypedArms, AreTypedBranches}
+use Rattle.sp_code.specs.CodeOfTree.{IsCallable, StandsAt, AllAt, ChildrenAt, ArmsAt, RightAt, OrdinalAt, TestAt}
+use Rattle.sp_code.specs.CodeOfTree.{TestsAt}
 use Rattle.sp_facts.specs.Scoped.{IsInForall, InStatement, InStatementForm, InStatements, InArms, InBranches}
 use Rattle.sp_facts.proofs.Expressions.{form_fine, ordinal_sort, expression_fine, variable_fine, actuals_fine, call_at}
 use Rattle.sp_facts.proofs.Expressions.{ordinal_is, boolean_is}
@@ -69,7 +71,7 @@ module _ (p : Program) (m : ℕ) where
   abbrev pub IsIndex : ℕ → Type 0
   IsIndex x = (v : Variable) × (slice_get p.variables x ≡ Some v) × (v.role ≡ role.Index)
 
-  knows_counted : (env : Env) → Knows p m env → Knows p m (counted env)
+  knows_counted : (env : Env) → TablesMatch p m env → TablesMatch p m (with_next_number env)
   knows_counted env h = record {
     kinds = h.kinds;
     integer = h.integer;
@@ -86,7 +88,7 @@ module _ (p : Program) (m : ℕ) where
     fields = h.fields;
   }
 
-  knows_by : (env : Env) → Knows p m env → (k : ℕ) → Knows p m (counted_by k env)
+  knows_by : (env : Env) → TablesMatch p m env → (k : ℕ) → TablesMatch p m (with_more_numbers k env)
   knows_by env h k = record {
     kinds = h.kinds;
     integer = h.integer;
@@ -103,7 +105,8 @@ module _ (p : Program) (m : ℕ) where
     fields = h.fields;
   }
 
-  knows_indexed : (env : Env) (x : ℕ) (k : Option ℕ) → IsIndex x → Knows p m env → Knows p m (indexed env x k)
+  knows_indexed : (env : Env) (x : ℕ) (k : Option ℕ) → IsIndex x → TablesMatch p m env
+      → TablesMatch p m (with_index_type env x k)
   knows_indexed env x k (v, at, r) h = record {
     kinds = h.kinds;
     integer = h.integer;
@@ -111,7 +114,7 @@ module _ (p : Program) (m : ℕ) where
     char = h.char;
     given = h.given;
     variables = λ y u ya d. (
-      ap entry (get_other env.variables x y k
+      ap table_entry (get_other env.variables x y k
           (λ e. subst NoIndex (ap (λ (z : Variable). z.role)
           (same_Some u v (sym ya ∙ ap (slice_get p.variables) e ∙ at))
           ∙ r) d)) ∙ (h.variables y u ya d).0,
@@ -126,18 +129,18 @@ module _ (p : Program) (m : ℕ) where
     fields = h.fields;
   }
 
-  pub more_indices : (env : Env) (x k : ℕ) (sc : List Scope) (o : Option ℕ) → Knows p m env → o ≡ Some k
+  pub more_indices : (env : Env) (x k : ℕ) (sc : List Scope) (o : Option ℕ) → TablesMatch p m env → o ≡ Some k
       → is_ordinal (slice_get p.kinds k) ≡ true → ((v : Variable) → slice_get p.variables x ≡ Some v → v.kind ≡ k)
-      → HasIndices p env sc → HasIndices p (indexed env x o) (OfIndex x ∷ sc)
+      → HasIndices p env sc → HasIndices p (with_index_type env x o) (OfIndex x ∷ sc)
   more_indices env x k sc o knows oe ord typed h y up v e at = go (y == x) refl e
     where
-      same : y ≡ x → (entry (slice_get (slice_set env.variables x o) y) ≡ Some v.kind)
+      grown_to_itself : y ≡ x → (table_entry (slice_get (slice_set env.variables x o) y) ≡ Some v.kind)
           × (is_ordinal (slice_get p.kinds v.kind) ≡ true)
-      same yx =
+      grown_to_itself yx =
           let vx = subst (λ z. slice_get p.variables z ≡ Some v) yx at in
           let vk = typed v vx in (
-            ap (λ z. entry (slice_get (slice_set env.variables x o) z)) yx
-                ∙ ap entry (get_set env.variables x o (knows.room x v vx)) ∙ oe ∙ ap Some (sym vk),
+            ap (λ z. table_entry (slice_get (slice_set env.variables x o) z)) yx
+                ∙ ap table_entry (get_set env.variables x o (knows.room x v vx)) ∙ oe ∙ ap Some (sym vk),
             subst (λ z. is_ordinal (slice_get p.kinds z) ≡ true) (sym vk) ord,
           )
 
@@ -146,59 +149,62 @@ module _ (p : Program) (m : ℕ) where
       less (Some j) e = (j, refl)
 
       go : (b : Bool) → (y == x) ≡ b → (if b then Some 0 else one_more (level (is_index y) sc)) ≡ Some up
-          → (entry (slice_get (slice_set env.variables x o) y) ≡ Some v.kind)
+          → (table_entry (slice_get (slice_set env.variables x o) y) ≡ Some v.kind)
           × (is_ordinal (slice_get p.kinds v.kind) ≡ true)
-      go true b e = same (eqb-true y x b)
+      go true b e = grown_to_itself (eqb-true y x b)
       go false b e =
           let found = less (level (is_index y) sc) e in
           let r = h y found.0 v found.1 at in
-          (ap entry (get_other env.variables x y o (λ yx. true≢false (sym (eq-eqb y x yx) ∙ b))) ∙ r.0, r.1)
+          (ap table_entry (get_other env.variables x y o (λ yx. true≢false (sym (eq-eqb y x yx) ∙ b))) ∙ r.0, r.1)
 
   -- what is known later of the same program
   abbrev pub Grown : Env → Env → Type 0
-  Grown env later = Knows p m later × ((y : ℕ) (v : Variable) → slice_get p.variables y ≡ Some v
+  Grown env later = TablesMatch p m later × ((y : ℕ) (v : Variable) → slice_get p.variables y ≡ Some v
       → variable_kind env y ≡ Some v.kind → variable_kind later y ≡ Some v.kind)
 
-  abbrev pub Ready : Env → List Scope → Type 0
-  Ready env sc = Knows p m env × HasIndices p env sc
+  abbrev pub MatchesWithIndices : Env → List Scope → Type 0
+  MatchesWithIndices env sc = TablesMatch p m env × HasIndices p env sc
 
-  pub same : (env : Env) → Knows p m env → Grown env env
-  same env h = (h, λ y v at e. e)
+  pub grown_to_itself : (env : Env) → TablesMatch p m env → Grown env env
+  grown_to_itself env h = (h, λ y v at e. e)
 
   pub then_ : (a b c : Env) → Grown a b → Grown b c → Grown a c
   then_ a b c x y = (y.0, λ z v at e. y.1 z v at (x.1 z v at e))
 
-  pub ready_after : (a b : Env) (sc : List Scope) → Ready a sc → Grown a b → Ready b sc
+  pub ready_after : (a b : Env) (sc : List Scope) → MatchesWithIndices a sc → Grown a b → MatchesWithIndices b sc
   ready_after a b sc r g = (g.0, λ x up v l at. (g.1 x v at (r.1 x up v l at).0, (r.1 x up v l at).1))
 
-  pub by_count : (env : Env) → Knows p m env → Grown env (counted env)
+  pub by_count : (env : Env) → TablesMatch p m env → Grown env (with_next_number env)
   by_count env h = (knows_counted env h, λ y v at e. e)
 
   pub by_index : (env : Env) (x k : ℕ) (o : Option ℕ) → o ≡ Some k → IsIndex x
-      → ((v : Variable) → slice_get p.variables x ≡ Some v → v.kind ≡ k) → Knows p m env → Grown env (indexed env x o)
+      → ((v : Variable) → slice_get p.variables x ≡ Some v → v.kind ≡ k) → TablesMatch p m env
+      → Grown env (with_index_type env x o)
   by_index env x k o oe is typed h = (knows_indexed env x o is h, λ y v at e. go y v at e (y == x) refl)
     where
       go : (y : ℕ) (v : Variable) → slice_get p.variables y ≡ Some v → variable_kind env y ≡ Some v.kind → (b : Bool)
-          → (y == x) ≡ b → entry (slice_get (slice_set env.variables x o) y) ≡ Some v.kind
+          → (y == x) ≡ b → table_entry (slice_get (slice_set env.variables x o) y) ≡ Some v.kind
       go y v at e true b =
           let yx = eqb-true y x b in
           let vx = subst (λ z. slice_get p.variables z ≡ Some v) yx at in
-          ap (λ z. entry (slice_get (slice_set env.variables x o) z)) yx
-          ∙ ap entry (get_set env.variables x o (h.room x v vx)) ∙ oe ∙ ap Some (sym (typed v vx))
-      go y v at e false b = ap entry (get_other env.variables x y o (λ yx. true≢false (sym (eq-eqb y x yx) ∙ b))) ∙ e
+          ap (λ z. table_entry (slice_get (slice_set env.variables x o) z)) yx
+          ∙ ap table_entry (get_set env.variables x o (h.room x v vx)) ∙ oe ∙ ap Some (sym (typed v vx))
+      go y v at e false b =
+          ap table_entry (get_other env.variables x y o (λ yx. true≢false (sym (eq-eqb y x yx) ∙ b))) ∙ e
 
   module _ (moves shares : Stmt → List ℕ) (hush : ℕ → Type 0) where
-    abbrev pub Done : Bool → List Scope → Stmt → Type 0
-    Done free sc s = (q : ℕ) → StandsAt p moves shares AnyInstr AnyTable AnyText hush free sc q s
+    abbrev pub StatementHasCode : Bool → List Scope → Stmt → Type 0
+    StatementHasCode free sc s = (q : ℕ) → StandsAt p moves shares AnyInstr AnyTable AnyText hush free sc q s
 
     -- what may stand where a function is being called, and in a forall: the rules of interference say so
-    abbrev pub Quiet : Bool → List Scope → (Use → Type 0) → Type 0
-    Quiet free sc Here = (free ≡ false → (Here Stop → ⊥) × ((g : ℕ) (args : Actuals) → Here (CallOf g args) → hush g))
+    abbrev pub KeepsRulesHere : Bool → List Scope → (Use → Type 0) → Type 0
+    KeepsRulesHere free sc Here =
+        (free ≡ false → (Here Stop → ⊥) × ((g : ℕ) (args : Actuals) → Here (CallOf g args) → hush g))
         × (IsInForall sc → (x : ℕ) → Here (Target x) → ⊥)
         × ((x : ℕ) (s : Stmt) → Here (ForallOf x s) → (y : ℕ) → In_stmt s (Target y) → ⊥)
 
     forall_part : (free : Bool) (sc : List Scope) (x : ℕ) (f t : Expr) (a : Stmt)
-        → Quiet free sc (In_stmt (plain.Forall x f t a)) → Quiet free (OfIndex x ∷ sc) (In_stmt a)
+        → KeepsRulesHere free sc (In_stmt (plain.Forall x f t a)) → KeepsRulesHere free (OfIndex x ∷ sc) (In_stmt a)
     forall_part free sc x f t a quiet = (
       (λ e. (
         λ h. (quiet.0 e).0 (inr (inr (inr (inl (h, tt))))),
@@ -209,7 +215,7 @@ module _ (p : Program) (m : ℕ) where
     )
 
     pub within : (free : Bool) (sc : List Scope) (All_ Here : Use → Type 0) → ((u : Use) → Here u → All_ u)
-        → Quiet free sc All_ → Quiet free sc Here
+        → KeepsRulesHere free sc All_ → KeepsRulesHere free sc Here
     within free sc All_ Here into quiet = (
       (λ e.
           (λ h. (quiet.0 e).0 (into Stop h), λ g args h. (quiet.0 e).1 g args (into (CallOf g args) h))),
@@ -217,16 +223,19 @@ module _ (p : Program) (m : ℕ) where
       λ x s h y k. quiet.2 x s (into (ForallOf x s) h) y k,
     )
 
-    pub free_is : (free : Bool) (sc : List Scope) (Here : Use → Type 0) → Quiet free sc Here → Here Stop → free ≡ true
+    pub free_is : (free : Bool) (sc : List Scope) (Here : Use → Type 0) → KeepsRulesHere free sc Here → Here Stop
+        → free ≡ true
     free_is true sc Here quiet h = refl
     free_is false sc Here quiet h = absurd ((quiet.0 refl).0 h)
 
-    hushed : (free : Bool) (sc : List Scope) (Here : Use → Type 0) (f : ℕ) (args : Actuals) → Quiet free sc Here
-        → Here (CallOf f args) → Hushed hush free f
-    hushed true sc Here f args quiet h = tt
-    hushed false sc Here f args quiet h = (quiet.0 refl).1 f args h
+    callable_if_called : (free : Bool) (sc : List Scope) (Here : Use → Type 0) (f : ℕ) (args : Actuals)
+        → KeepsRulesHere free sc Here
+        → Here (CallOf f args) → IsCallable hush free f
+    callable_if_called true sc Here f args quiet h = tt
+    callable_if_called false sc Here f args quiet h = (quiet.0 refl).1 f args h
 
-    for_level : (free : Bool) (sc : List Scope) (Here : Use → Type 0) (x b : ℕ) → Quiet free sc Here → Here (Target x)
+    for_level : (free : Bool) (sc : List Scope) (Here : Use → Type 0) (x b : ℕ) → KeepsRulesHere free sc Here
+        → Here (Target x)
         → (level (is_block b) sc ≡ Some 0) ⊎ IsInForall sc → level (is_block b) sc ≡ Some 0
     for_level free sc Here x b quiet h (inl e) = e
     for_level free sc Here x b quiet h (inr i) = absurd (quiet.1 i x h)
@@ -275,7 +284,8 @@ module _ (p : Program) (m : ℕ) where
 
     tests_at : (q : ℕ) (arms : plain.Arms) (b : ℕ) → TestsAt p moves shares AnyInstr AnyTable AnyText hush q arms b
     tests_at q plain.NoArm b = tt
-    tests_at q (plain.Or (plain.On ms s) rest) b = (one q ms, tests_at (after_test q ms) rest (after p b s + 1))
+    tests_at q (plain.Or (plain.On ms s) rest) b =
+        (one q ms, tests_at (after_test q ms) rest (after_statement p b s + 1))
       where
         one : (q : ℕ) (ms : List ℤ) → TestAt p moves shares AnyInstr AnyTable AnyText hush q ms b
         one q [] = tt
@@ -284,87 +294,92 @@ module _ (p : Program) (m : ℕ) where
     abbrev pub Ordinal_ : List Scope → Expr → Type 0
     Ordinal_ sc e = (q : ℕ) → OrdinalAt p moves shares AnyInstr AnyTable AnyText hush sc q e
 
-    pub condition : (env : Env) (sc : List Scope) → Ready env sc → (e : n.Expression)
-        → w.condition_sites [] together listed env e ≡ [] → InExpression p m sc e
+    pub condition : (env : Env) (sc : List Scope) → MatchesWithIndices env sc → (e : n.Expression)
+        → w.condition_sites [] both_lists refusal_list env e ≡ [] → InExpression p m sc e
         → Ordinal_ sc (bare_expression (checked_expression env e))
     condition env sc ready e calm here q =
-        let parts = calm_at (expression_sites [] together listed env e)
+        let parts = none_with_site (expression_sites [] both_lists refusal_list env e)
         (condition_rule (place e) (expression_kind env e)) calm in
         let r = expression_fine p m moves shares hush env ready.0 sc ready.1 e parts.0 here in
-        let is = nat_eq_is 1 r.0 (calm_unless rule.Y4 (place e) (nat_eq 1) (expression_kind env e) r.0 r.1 parts.1) in (
+        let is = nat_eq_is 1 r.0 (takes_if_none rule.Y4 (place e) (nat_eq 1) (expression_kind env e) r.0 r.1
+        parts.1) in (
           r.4 q,
           boolean_is p m moves shares hush env ready.0 sc ready.1
               (kind_of (bare_expression (checked_expression env e))) (r.3 ∙ sym is),
         )
 
     -- an expression of a known ordinal type
-    limit : (env : Env) (sc : List Scope) → Ready env sc → (o : Option ℕ) (k : ℕ) → o ≡ Some k → sort p k ≡ Ordinals
-        → (e : n.Expression) → w.limit_sites [] together listed env o e ≡ [] → InExpression p m sc e
+    limit : (env : Env) (sc : List Scope) → MatchesWithIndices env sc → (o : Option ℕ) (k : ℕ) → o ≡ Some k
+        → sort p k ≡ Ordinals
+        → (e : n.Expression) → w.limit_sites [] both_lists refusal_list env o e ≡ [] → InExpression p m sc e
         → Ordinal_ sc (bare_expression (checked_expression env e))
     limit env sc ready o k oe ord e calm here q =
-        let parts = calm_at (expression_sites [] together listed env e) (limit_rule (place e) o (expression_kind env e))
+        let parts = none_with_site (expression_sites [] both_lists refusal_list env e)
+        (limit_rule (place e) o (expression_kind env e))
         calm in
         let r = expression_fine p m moves shares hush env ready.0 sc ready.1 e parts.0 here in
-        let is = calm_differ o (expression_kind env e) k r.0 oe r.1
-        (calm_if rule.Y10 (place e) (differ o (expression_kind env e)) parts.1) in
+        let is = same_if_none o (expression_kind env e) k r.0 oe r.1
+        (not_if_none rule.Y10 (place e) (differ o (expression_kind env e)) parts.1) in
         (r.4 q, ap (sort p) (r.3 ∙ sym is) ∙ ord)
 
     -- an expression whose type a rule wants to be ordinal
-    ranged : (r : Rule) (env : Env) (sc : List Scope) → Ready env sc → (e : n.Expression)
-        → together (expression_sites [] together listed env e)
-        (listed (unless r (place e) (ordinal env) (expression_kind env e))) ≡ [] → InExpression p m sc e
+    ranged : (r : Rule) (env : Env) (sc : List Scope) → MatchesWithIndices env sc → (e : n.Expression)
+        → both_lists (expression_sites [] both_lists refusal_list env e)
+        (refusal_list (unless r (place e) (ordinal env) (expression_kind env e))) ≡ [] → InExpression p m sc e
         → (k : ℕ) × (expression_kind env e ≡ Some k) × (is_ordinal (slice_get p.kinds k) ≡ true)
         × Ordinal_ sc (bare_expression (checked_expression env e))
     ranged rl env sc ready e calm here =
-        let parts = calm_at (expression_sites [] together listed env e)
+        let parts = none_with_site (expression_sites [] both_lists refusal_list env e)
         (unless rl (place e) (ordinal env) (expression_kind env e)) calm in
         let r = expression_fine p m moves shares hush env ready.0 sc ready.1 e parts.0 here in
-        let ord = calm_unless rl (place e) (ordinal env) (expression_kind env e) r.0 r.1 parts.1 in
+        let ord = takes_if_none rl (place e) (ordinal env) (expression_kind env e) r.0 r.1 parts.1 in
         let is = subst (λ ks. is_ordinal (slice_get ks r.0) ≡ true) ready.0.kinds ord in
         (r.0, r.1, is, λ q. (r.4 q, ap (sort p) r.3 ∙ ordinal_sort (slice_get p.kinds r.0) is))
 
     -- the calls of standard procedures (open: `performs`)
     abbrev pub Performs : Type 0
     Performs = (free : Bool) (env : Env) (sc : List Scope) (at : Place) (f : StandardProcedure) (args : n.Arguments)
-        → Ready env sc → w.perform_sites [] together listed env f args ≡ [] → InStatementForm p m sc (n.Perform f args)
-        → Quiet free sc (In_stmt (bare_statement_form (checked_statement_form env at (n.Perform f args))))
-        → Done free sc (bare_statement_form (checked_statement_form env at (n.Perform f args)))
+        → MatchesWithIndices env sc → w.perform_sites [] both_lists refusal_list env f args ≡ []
+        → InStatementForm p m sc (n.Perform f args)
+        → KeepsRulesHere free sc (In_stmt (bare_statement_form (checked_statement_form env at (n.Perform f args))))
+        → StatementHasCode free sc (bare_statement_form (checked_statement_form env at (n.Perform f args)))
 
     module _ (performs : Performs) (free : Bool) where
       abbrev pub Fine : Env → Env → List Scope → Stmt → Type 0
-      Fine env later sc s = Grown env later × Done free sc s
+      Fine env later sc s = Grown env later × StatementHasCode free sc s
 
       mutual
-        pub statement_fine : (env : Env) (sc : List Scope) (s : n.Statement) → Ready env sc
-            → w.statement_sites [] together listed env s ≡ [] → InStatement p m sc s → IsTyped p env s
-            → Quiet free sc (In_stmt (bare_statement (checked_statement env s)))
+        pub statement_fine : (env : Env) (sc : List Scope) (s : n.Statement) → MatchesWithIndices env sc
+            → w.statement_sites [] both_lists refusal_list env s ≡ [] → InStatement p m sc s → IsTyped p env s
+            → KeepsRulesHere free sc (In_stmt (bare_statement (checked_statement env s)))
             → Fine env (statement_after env s) sc (bare_statement (checked_statement env s))
         statement_fine env sc (n.Does at form) ready calm here typed quiet =
             let up = by_count env ready.0 in
-            let r = statement_form_fine (counted env) sc at form (ready_after env (counted env) sc ready up) calm here
+            let r = statement_form_fine (with_next_number env) sc at form
+            (ready_after env (with_next_number env) sc ready up) calm here
             typed quiet in
-            (then_ env (counted env) (form_after (counted env) form) up r.0, r.1)
+            (then_ env (with_next_number env) (form_after (with_next_number env) form) up r.0, r.1)
 
-        pub statement_form_fine : (env : Env) (sc : List Scope) (at : Place) (form : n.Form) → Ready env sc
-            → w.statement_form_sites [] together listed env form ≡ [] → InStatementForm p m sc form
+        pub statement_form_fine : (env : Env) (sc : List Scope) (at : Place) (form : n.Form) → MatchesWithIndices env sc
+            → w.statement_form_sites [] both_lists refusal_list env form ≡ [] → InStatementForm p m sc form
             → IsTypedForm p env form
-            → Quiet free sc (In_stmt (bare_statement_form (checked_statement_form env at form)))
+            → KeepsRulesHere free sc (In_stmt (bare_statement_form (checked_statement_form env at form)))
             → Fine env (form_after env form) sc (bare_statement_form (checked_statement_form env at form))
-        statement_form_fine env sc at n.Empty ready calm here typed quiet = (same env ready.0, λ q. tt)
-        statement_form_fine env sc at (n.Assign (n.Entire x name ss) (n.At eat form)) ready calm
+        statement_form_fine env sc at n.Empty ready calm here typed quiet = (grown_to_itself env ready.0, λ q. tt)
+        statement_form_fine env sc at (n.Assign (n.Entire x name ss) (n.ExpressionAt eat form)) ready calm
             (seen, aimed, in_ss, in_e) typed quiet =
-            let parts = calm_parts (variable_sites [] together listed env (n.Entire x name ss))
-            (together (form_sites [] together listed env eat form)
-            (listed (assign_rule eat (selected env (n.Entire x name ss)) (form_kind env form)))) calm in
-            let one = calm_at (form_sites [] together listed env eat form)
+            let parts = none_in_parts (variable_sites [] both_lists refusal_list env (n.Entire x name ss))
+            (both_lists (form_sites [] both_lists refusal_list env eat form)
+            (refusal_list (assign_rule eat (selected env (n.Entire x name ss)) (form_kind env form)))) calm in
+            let one = none_with_site (form_sites [] both_lists refusal_list env eat form)
             (assign_rule eat (selected env (n.Entire x name ss)) (form_kind env form)) parts.1 in
             let rv = variable_fine p m moves shares hush env ready.0 sc ready.1 (n.Entire x name ss) parts.0
             (seen, in_ss) in
             let re = form_fine p m moves shares hush env ready.0 sc ready.1 eat form one.0 in_e in
-            let is = calm_differ (selected env (n.Entire x name ss)) (form_kind env form) rv.0 re.0 rv.1 re.1
-            (calm_if rule.Y5 eat (differ (selected env (n.Entire x name ss)) (form_kind env form)) one.1) in
+            let is = same_if_none (selected env (n.Entire x name ss)) (form_kind env form) rv.0 re.0 rv.1 re.1
+            (not_if_none rule.Y5 eat (differ (selected env (n.Entire x name ss)) (form_kind env form)) one.1) in
             let v = bare_variable (checked_variable env (n.Entire x name ss)) in (
-              same env ready.0,
+              grown_to_itself env ready.0,
               λ q. subst (λ z. StandsAt p moves shares AnyInstr AnyTable AnyText hush free sc q
                   (plain.Assign v (plain.Typed z (bare_form (checked_form env form))))) (sym (ap or_zero re.1)) (
                     subst (λ z. PlaceAt p moves shares AnyInstr AnyTable AnyText hush sc q v z) is (rv.3 q),
@@ -376,17 +391,17 @@ module _ (p : Program) (m : ℕ) where
         statement_form_fine env sc at (n.Call f args) ready calm (b, call, none, acts) typed quiet =
             let formals : formals_of env f ≡ b.formals = ap formals_in (ready.0.blocks f b call.1) in
             let passes = actuals_fine p m moves shares hush env ready.0 sc ready.1 b.formals args
-            (subst (λ z. actuals_sites [] together listed env z args ≡ []) formals calm)
+            (subst (λ z. actuals_sites [] both_lists refusal_list env z args ≡ []) formals calm)
             (ready.0.formals f b call.1) acts in
             let args_ = bare_actuals (of_.actuals (checked_actuals env (formals_of env f) args)) in (
-              same env ready.0,
+              grown_to_itself env ready.0,
               λ q. (
                 b,
                 subst (λ z. ActualsAt p moves shares AnyInstr AnyTable AnyText hush sc q
                     (bare_actuals (of_.actuals (checked_actuals env z args))) b.formals) (sym formals) (passes q),
                 call_at p m moves shares hush env ready.0 sc ready.1 f b call (after_actuals q args_),
                 none,
-                hushed free sc (In_stmt (plain.Call f args_)) f args_ quiet (inl refl),
+                callable_if_called free sc (In_stmt (plain.Call f args_)) f args_ quiet (inl refl),
               ),
             )
         statement_form_fine env sc at (n.Perform f args) ready calm here typed quiet = (
@@ -396,9 +411,9 @@ module _ (p : Program) (m : ℕ) where
         statement_form_fine env sc at (n.Sequence ss) ready calm here typed quiet =
             statements_fine env sc ss ready calm here typed quiet
         statement_form_fine env sc at (n.If e a n.NoElse) ready calm (in_e, in_a, in_o) (ta, to) quiet =
-            let parts = calm_parts (w.condition_sites [] together listed env e)
-            (together (w.statement_sites [] together listed env a) []) calm in
-            let two = calm_parts (w.statement_sites [] together listed env a) [] parts.1 in
+            let parts = none_in_parts (w.condition_sites [] both_lists refusal_list env e)
+            (both_lists (w.statement_sites [] both_lists refusal_list env a) []) calm in
+            let two = none_in_parts (w.statement_sites [] both_lists refusal_list env a) [] parts.1 in
             let c1 = condition env sc ready e parts.0 in_e in
             let ra = statement_fine env sc a ready two.0 in_a ta
             (within free sc (In_stmt (plain.If (bare_expression (checked_expression env e))
@@ -406,11 +421,11 @@ module _ (p : Program) (m : ℕ) where
             (λ u h. inr h) quiet) in
             (ra.0, λ q. (c1 q, tt, ra.1 (after_value q (bare_expression (checked_expression env e)) + 1)))
         statement_form_fine env sc at (n.If e a (n.Else b)) ready calm (in_e, in_a, in_o) (ta, to) quiet =
-            let parts = calm_parts (w.condition_sites [] together listed env e)
-            (together (w.statement_sites [] together listed env a)
-            (w.statement_sites [] together listed (statement_after env a) b)) calm in
-            let two = calm_parts (w.statement_sites [] together listed env a)
-            (w.statement_sites [] together listed (statement_after env a) b) parts.1 in
+            let parts = none_in_parts (w.condition_sites [] both_lists refusal_list env e)
+            (both_lists (w.statement_sites [] both_lists refusal_list env a)
+            (w.statement_sites [] both_lists refusal_list (statement_after env a) b)) calm in
+            let two = none_in_parts (w.statement_sites [] both_lists refusal_list env a)
+            (w.statement_sites [] both_lists refusal_list (statement_after env a) b) parts.1 in
             let c1 = condition env sc ready e parts.0 in_e in
             let e_ = bare_expression (checked_expression env e) in
             let a_ = bare_statement (checked_statement env a) in
@@ -421,11 +436,11 @@ module _ (p : Program) (m : ℕ) where
             two.1 in_o to (within free sc (In_stmt (plain.IfElse e_ a_ b_)) (In_stmt b_) (λ u h. inr (inr h))
             quiet) in (
               then_ env (statement_after env a) (statement_after (statement_after env a) b) ra.0 rb.0,
-              λ q. (c1 q, tt, ra.1 (after_value q e_ + 1), tt, rb.1 (after p (after_value q e_ + 1) a_ + 1)),
+              λ q. (c1 q, tt, ra.1 (after_value q e_ + 1), tt, rb.1 (after_statement p (after_value q e_ + 1) a_ + 1)),
             )
         statement_form_fine env sc at (n.While e a) ready calm (in_e, in_a) typed quiet =
-            let parts = calm_parts (w.condition_sites [] together listed env e)
-            (w.statement_sites [] together listed env a) calm in
+            let parts = none_in_parts (w.condition_sites [] both_lists refusal_list env e)
+            (w.statement_sites [] both_lists refusal_list env a) calm in
             let c1 = condition env sc ready e parts.0 in_e in
             let e_ = bare_expression (checked_expression env e) in
             let a_ = bare_statement (checked_statement env a) in
@@ -433,24 +448,27 @@ module _ (p : Program) (m : ℕ) where
             (within free sc (In_stmt (plain.While e_ a_)) (In_stmt a_) (λ u h. inr h) quiet) in
             (ra.0, λ q. (c1 q, tt, tt, ra.1 (after_value q e_ + 1 + 1), tt))
         statement_form_fine env sc at (n.Repeat ss e) ready calm (in_ss, in_e) typed quiet =
-            let parts = calm_parts (w.statements_sites [] together listed (counted env) ss)
-            (w.condition_sites [] together listed (statements_after (counted env) ss) e) calm in
+            let parts = none_in_parts (w.statements_sites [] both_lists refusal_list (with_next_number env) ss)
+            (w.condition_sites [] both_lists refusal_list (statements_after (with_next_number env) ss) e) calm in
             let up = by_count env ready.0 in
-            let e_ = bare_expression (checked_expression (statements_after (counted env) ss) e) in
-            let a_ = bare_statement (in_sequence env.next (first_place at ss) (checked_statements (counted env) ss)) in
-            let ra = statements_fine (counted env) sc ss (ready_after env (counted env) sc ready up) parts.0 in_ss typed
+            let e_ = bare_expression (checked_expression (statements_after (with_next_number env) ss) e) in
+            let a_ = bare_statement
+            (in_sequence env.next (first_place at ss) (checked_statements (with_next_number env) ss)) in
+            let ra = statements_fine (with_next_number env) sc ss (ready_after env (with_next_number env) sc ready up)
+            parts.0 in_ss typed
             (within free sc (In_stmt (plain.Repeat a_ e_)) (In_stmt a_) (λ u h. inr h) quiet) in
-            let later = then_ env (counted env) (statements_after (counted env) ss) up ra.0 in
-            let c1 = condition (statements_after (counted env) ss) sc
-            (ready_after env (statements_after (counted env) ss) sc ready later) e parts.1 in_e in
-            (later, λ q. (tt, ra.1 (q + 1), c1 (after p (q + 1) a_), tt))
+            let later = then_ env (with_next_number env) (statements_after (with_next_number env) ss) up ra.0 in
+            let c1 = condition (statements_after (with_next_number env) ss) sc
+            (ready_after env (statements_after (with_next_number env) ss) sc ready later) e parts.1 in_e in
+            (later, λ q. (tt, ra.1 (q + 1), c1 (after_statement p (q + 1) a_), tt))
         statement_form_fine env sc at (n.Case e arms) ready calm (in_e, in_arms) typed quiet =
-            let parts = calm_parts (together (expression_sites [] together listed env e)
-            (listed (selector_rule env (place e) (expression_kind env e))))
-            (together (w.lists_sites [] together listed env (expression_kind env e) [] (w.constant_lists arms))
-            (w.arms_sites [] together listed env arms)) calm in
-            let two = calm_parts (w.lists_sites [] together listed env (expression_kind env e) []
-            (w.constant_lists arms)) (w.arms_sites [] together listed env arms) parts.1 in
+            let parts = none_in_parts (both_lists (expression_sites [] both_lists refusal_list env e)
+            (refusal_list (selector_rule env (place e) (expression_kind env e))))
+            (both_lists (w.lists_sites [] both_lists refusal_list env (expression_kind env e) []
+            (w.constant_lists arms))
+            (w.arms_sites [] both_lists refusal_list env arms)) calm in
+            let two = none_in_parts (w.lists_sites [] both_lists refusal_list env (expression_kind env e) []
+            (w.constant_lists arms)) (w.arms_sites [] both_lists refusal_list env arms) parts.1 in
             let c1 = ranged rule.Y11 env sc ready e parts.0 in_e in
             let e_ = bare_expression (checked_expression env e) in
             let arms_ = bare_arms (of_.arms (checked_arms env arms)) in
@@ -468,17 +486,17 @@ module _ (p : Program) (m : ℕ) where
         statement_form_fine env sc at (n.For x name from down to a) ready calm ((v, vat, vr, vl), in_from, in_to, in_a)
             typed quiet =
             let known = ready.0.variables x v vat (subst NoIndex (sym vr) tt) in
-            let parts = calm_parts (listed (range_rule env name (variable_kind env x)))
-            (together (w.limit_sites [] together listed env (variable_kind env x) from)
-            (together (w.limit_sites [] together listed env (variable_kind env x) to)
-            (w.statement_sites [] together listed env a))) calm in
-            let two = calm_parts (w.limit_sites [] together listed env (variable_kind env x) from)
-            (together (w.limit_sites [] together listed env (variable_kind env x) to)
-            (w.statement_sites [] together listed env a)) parts.1 in
-            let three = calm_parts (w.limit_sites [] together listed env (variable_kind env x) to)
-            (w.statement_sites [] together listed env a) two.1 in
-            let ord = calm_unless rule.Y10 name (ordinal env) (variable_kind env x) v.kind known.0
-            (calm_site (range_rule env name (variable_kind env x)) parts.0) in
+            let parts = none_in_parts (refusal_list (range_rule env name (variable_kind env x)))
+            (both_lists (w.limit_sites [] both_lists refusal_list env (variable_kind env x) from)
+            (both_lists (w.limit_sites [] both_lists refusal_list env (variable_kind env x) to)
+            (w.statement_sites [] both_lists refusal_list env a))) calm in
+            let two = none_in_parts (w.limit_sites [] both_lists refusal_list env (variable_kind env x) from)
+            (both_lists (w.limit_sites [] both_lists refusal_list env (variable_kind env x) to)
+            (w.statement_sites [] both_lists refusal_list env a)) parts.1 in
+            let three = none_in_parts (w.limit_sites [] both_lists refusal_list env (variable_kind env x) to)
+            (w.statement_sites [] both_lists refusal_list env a) two.1 in
+            let ord = takes_if_none rule.Y10 name (ordinal env) (variable_kind env x) v.kind known.0
+            (none_at_site (range_rule env name (variable_kind env x)) parts.0) in
             let sorted = ordinal_is p m moves shares hush env ready.0 sc ready.1 v.kind ord in
             let l1 = limit env sc ready (variable_kind env x) v.kind known.0 sorted from two.0 in_from in
             let l2 = limit env sc ready (variable_kind env x) v.kind known.0 sorted to three.0 in_to in
@@ -522,16 +540,17 @@ module _ (p : Program) (m : ℕ) where
             )
         statement_form_fine env sc at (n.Forall x from to a) ready calm (is, in_from, in_to, in_a) (kinds, typed)
             quiet =
-            let parts = calm_parts (together (expression_sites [] together listed env from)
-            (listed (range_rule env (place from) (expression_kind env from))))
-            (together (w.limit_sites [] together listed env (expression_kind env from) to)
-            (w.statement_sites [] together listed (indexed env x (expression_kind env from)) a)) calm in
-            let two = calm_parts (w.limit_sites [] together listed env (expression_kind env from) to)
-            (w.statement_sites [] together listed (indexed env x (expression_kind env from)) a) parts.1 in
+            let parts = none_in_parts (both_lists (expression_sites [] both_lists refusal_list env from)
+            (refusal_list (range_rule env (place from) (expression_kind env from))))
+            (both_lists (w.limit_sites [] both_lists refusal_list env (expression_kind env from) to)
+            (w.statement_sites [] both_lists refusal_list (with_index_type env x (expression_kind env from)) a)) calm in
+            let two = none_in_parts (w.limit_sites [] both_lists refusal_list env (expression_kind env from) to)
+            (w.statement_sites [] both_lists refusal_list (with_index_type env x (expression_kind env from)) a)
+            parts.1 in
             let c1 = ranged rule.Y10 env sc ready from parts.0 in_from in
             let l2 = limit env sc ready (expression_kind env from) c1.0 c1.1
             (ordinal_sort (slice_get p.kinds c1.0) c1.2) to two.0 in_to in
-            let inner = indexed env x (expression_kind env from) in
+            let inner = with_index_type env x (expression_kind env from) in
             let is_kind = λ (v : Variable) (vat : slice_get p.variables x ≡ Some v). kinds v vat c1.0 c1.1 in
             let up = by_index env x c1.0 (expression_kind env from) c1.1 is is_kind ready.0 in
             let f_ = bare_expression (checked_expression env from) in
@@ -556,18 +575,18 @@ module _ (p : Program) (m : ℕ) where
               ),
             )
         statement_form_fine env sc at (n.Assume e) ready calm here typed quiet = let c1 =
-            condition env sc ready e calm here in (same env ready.0, λ q. (c1 q, tt))
+            condition env sc ready e calm here in (grown_to_itself env ready.0, λ q. (c1 q, tt))
 
-        pub statements_fine : (env : Env) (sc : List Scope) (ss : n.Statements) → Ready env sc
-            → w.statements_sites [] together listed env ss ≡ [] → InStatements p m sc ss → AreTyped p env ss
-            → Quiet free sc (In_stmts (bare_statements (of_.statements (checked_statements env ss))))
+        pub statements_fine : (env : Env) (sc : List Scope) (ss : n.Statements) → MatchesWithIndices env sc
+            → w.statements_sites [] both_lists refusal_list env ss ≡ [] → InStatements p m sc ss → AreTyped p env ss
+            → KeepsRulesHere free sc (In_stmts (bare_statements (of_.statements (checked_statements env ss))))
             → Grown env (statements_after env ss)
             × ((q : ℕ) → AllAt p moves shares AnyInstr AnyTable AnyText hush free sc q
             (bare_statements (of_.statements (checked_statements env ss))))
-        statements_fine env sc n.NoStatement ready calm here typed quiet = (same env ready.0, λ q. tt)
+        statements_fine env sc n.NoStatement ready calm here typed quiet = (grown_to_itself env ready.0, λ q. tt)
         statements_fine env sc (n.AndThen a rest) ready calm (in_a, in_rest) (ta, trest) quiet =
-            let parts = calm_parts (w.statement_sites [] together listed env a)
-            (w.statements_sites [] together listed (statement_after env a) rest) calm in
+            let parts = none_in_parts (w.statement_sites [] both_lists refusal_list env a)
+            (w.statements_sites [] both_lists refusal_list (statement_after env a) rest) calm in
             let a_ = bare_statement (checked_statement env a) in
             let rest_ = bare_statements (of_.statements (checked_statements (statement_after env a) rest)) in
             let ra = statement_fine env sc a ready parts.0 in_a ta
@@ -576,19 +595,19 @@ module _ (p : Program) (m : ℕ) where
             (ready_after env (statement_after env a) sc ready ra.0) parts.1 in_rest trest
             (within free sc (In_stmts (plain.And a_ rest_)) (In_stmts rest_) (λ u h. inr h) quiet) in (
               then_ env (statement_after env a) (statements_after (statement_after env a) rest) ra.0 rb.0,
-              λ q. (ra.1 q, rb.1 (after p q a_)),
+              λ q. (ra.1 q, rb.1 (after_statement p q a_)),
             )
 
-        pub arms_fine : (env : Env) (sc : List Scope) (arms : n.Arms) → Ready env sc
-            → w.arms_sites [] together listed env arms ≡ [] → InArms p m sc arms → AreTypedArms p env arms
-            → Quiet free sc (In_arms (bare_arms (of_.arms (checked_arms env arms))))
+        pub arms_fine : (env : Env) (sc : List Scope) (arms : n.Arms) → MatchesWithIndices env sc
+            → w.arms_sites [] both_lists refusal_list env arms ≡ [] → InArms p m sc arms → AreTypedArms p env arms
+            → KeepsRulesHere free sc (In_arms (bare_arms (of_.arms (checked_arms env arms))))
             → Grown env (arms_after env arms)
             × ((q end : ℕ) → ArmsAt p moves shares AnyInstr AnyTable AnyText hush free sc q
             (bare_arms (of_.arms (checked_arms env arms))) end)
-        arms_fine env sc n.NoArm ready calm here typed quiet = (same env ready.0, λ q end. tt)
+        arms_fine env sc n.NoArm ready calm here typed quiet = (grown_to_itself env ready.0, λ q end. tt)
         arms_fine env sc (n.Or (n.On cs a) rest) ready calm (in_a, in_rest) (ta, trest) quiet =
-            let parts = calm_parts (w.statement_sites [] together listed env a)
-            (w.arms_sites [] together listed (statement_after env a) rest) calm in
+            let parts = none_in_parts (w.statement_sites [] both_lists refusal_list env a)
+            (w.arms_sites [] both_lists refusal_list (statement_after env a) rest) calm in
             let a_ = bare_statement (checked_statement env a) in
             let rest_ = bare_arms (of_.arms (checked_arms (statement_after env a) rest)) in
             let all_ = In_arms (plain.Or (plain.On (constant_numbers env cs) a_) rest_) in
@@ -597,30 +616,33 @@ module _ (p : Program) (m : ℕ) where
             let rb = arms_fine (statement_after env a) sc rest (ready_after env (statement_after env a) sc ready ra.0)
             parts.1 in_rest trest (within free sc all_ (In_arms rest_) (λ u h. inr h) quiet) in (
               then_ env (statement_after env a) (arms_after (statement_after env a) rest) ra.0 rb.0,
-              λ q end. (ra.1 q, tt, rb.1 (after p q a_ + 1) end),
+              λ q end. (ra.1 q, tt, rb.1 (after_statement p q a_ + 1) end),
             )
 
-        pub branches_fine : (env : Env) (sc : List Scope) (at : Place) (bs : n.Branches) → Ready env sc
-            → w.branches_sites [] together listed env bs ≡ [] → InBranches p m sc bs → AreTypedBranches p env bs
-            → Quiet free sc (In_stmts (bare_statements (of_.statements (checked_branches env at bs))))
+        pub branches_fine : (env : Env) (sc : List Scope) (at : Place) (bs : n.Branches) → MatchesWithIndices env sc
+            → w.branches_sites [] both_lists refusal_list env bs ≡ [] → InBranches p m sc bs → AreTypedBranches p env bs
+            → KeepsRulesHere free sc (In_stmts (bare_statements (of_.statements (checked_branches env at bs))))
             → Grown env (branches_after env bs)
             × ((q : ℕ) → ChildrenAt p moves shares AnyInstr AnyTable AnyText hush free sc q
             (bare_statements (of_.statements (checked_branches env at bs))))
-        branches_fine env sc at n.NoBranch ready calm here typed quiet = (same env ready.0, λ q. tt)
+        branches_fine env sc at n.NoBranch ready calm here typed quiet = (grown_to_itself env ready.0, λ q. tt)
         branches_fine env sc at (n.Beside ss rest) ready calm (in_ss, in_rest) (ts, trest) quiet =
-            let parts = calm_parts (w.statements_sites [] together listed (counted env) ss)
-            (w.branches_sites [] together listed (statements_after (counted env) ss) rest) calm in
+            let parts = none_in_parts (w.statements_sites [] both_lists refusal_list (with_next_number env) ss)
+            (w.branches_sites [] both_lists refusal_list (statements_after (with_next_number env) ss) rest) calm in
             let up = by_count env ready.0 in
-            let a_ = bare_statement (in_sequence env.next (first_place at ss) (checked_statements (counted env) ss)) in
+            let a_ = bare_statement
+            (in_sequence env.next (first_place at ss) (checked_statements (with_next_number env) ss)) in
             let rest_ = bare_statements (of_.statements
-            (checked_branches (statements_after (counted env) ss) at rest)) in
-            let ra = statements_fine (counted env) sc ss (ready_after env (counted env) sc ready up) parts.0 in_ss ts
+            (checked_branches (statements_after (with_next_number env) ss) at rest)) in
+            let ra = statements_fine (with_next_number env) sc ss (ready_after env (with_next_number env) sc ready up)
+            parts.0 in_ss ts
             (within free sc (In_stmts (plain.And a_ rest_)) (In_stmt a_) (λ u h. inl h) quiet) in
-            let later = then_ env (counted env) (statements_after (counted env) ss) up ra.0 in
-            let rb = branches_fine (statements_after (counted env) ss) sc at rest
-            (ready_after env (statements_after (counted env) ss) sc ready later) parts.1 in_rest trest
+            let later = then_ env (with_next_number env) (statements_after (with_next_number env) ss) up ra.0 in
+            let rb = branches_fine (statements_after (with_next_number env) ss) sc at rest
+            (ready_after env (statements_after (with_next_number env) ss) sc ready later) parts.1 in_rest trest
             (within free sc (In_stmts (plain.And a_ rest_)) (In_stmts rest_) (λ u h. inr h) quiet) in (
-              then_ env (statements_after (counted env) ss) (branches_after (statements_after (counted env) ss) rest)
+              then_ env (statements_after (with_next_number env) ss)
+                  (branches_after (statements_after (with_next_number env) ss) rest)
                   later rb.0,
-              λ q. (ra.1 q, tt, rb.1 (after p q a_ + 1)),
+              λ q. (ra.1 q, tt, rb.1 (after_statement p q a_ + 1)),
             )

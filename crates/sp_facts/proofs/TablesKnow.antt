@@ -9,27 +9,28 @@ use Rattle.sp_tree.specs.declared.checked.Role.{Role}
 use Rattle.sp_tree.specs.declared.checked.Role.TheVariants as role
 use Rattle.sp_tree.specs.declared.checked.Variable as checked
 use Rattle.sp_tree.specs.Cells.{variables_of}
-use Rattle.sp_tree.specs.NameFirst.{names_broken, together}
+use Rattle.sp_tree.specs.NameFirst.{broken_name_rules, both_lists}
 use Rattle.sp_tree.specs.Plain as plain
 use Rattle.sp_tree.specs.PlainNamed as n
 use Rattle.sp_tree.specs.Bare.{bare_block, variable_of}
 use Rattle.sp_tree.specs.PlainSyntax as syntax
-use Rattle.sp_types.specs.Tables.{Env, entry, env_of, types_of, type_of, type_number, roles_of, signatures, numbers_of}
+use Rattle.sp_types.specs.Tables.{Env, table_entry, env_of, types_of, type_of, type_number, roles_of, signatures}
+use Rattle.sp_types.specs.Tables.{numbers_of}
 use Rattle.sp_types.specs.Tables.{constants_of, variable_kind}
 use Rattle.sp_types.specs.TypeRules.{is_ordinal}
 use Rattle.sp_types.specs.TypeFirst.{types_broken}
-use Rattle.sp_types.specs.TypeWalk.{started, starts_of, statement_after, blocks_after}
+use Rattle.sp_types.specs.TypeWalk.{with_first_number, starts_of, statement_after, blocks_after}
 use Rattle.sp_types.specs.CheckedTree.{checked_variables, checked_blocks, checked_block, or_zero}
-use Rattle.sp_tree.specs.Formed.{AreBefore, is_parameter, among}
+use Rattle.sp_tree.specs.Formed.{AreBefore, is_parameter, numbers_with_role}
 use Rattle.sp_facts.specs.Earlier.{HaveTypes, IsFormedKind, AreFormedKinds}
-use Rattle.sp_facts.specs.Knows.{IsKind, AreFormals, Knows}
-use Rattle.sp_code.specs.Stands.{NoIndex}
-use Rattle.sp_facts.specs.Given.{IsGiven, AreBoundsBehind}
-use Rattle.sp_tree.specs.Found.{listed}
+use Rattle.sp_facts.specs.MatchingTables.{IsKind, AreFormals, TablesMatch}
+use Rattle.sp_code.specs.CodeOfTree.{NoIndex}
+use Rattle.sp_facts.specs.ConstantsDeclared.{HasOrdinalConstants, AreBoundsBehind}
+use Rattle.sp_tree.specs.PhaseResults.{refusal_list}
 use Rattle.sp_tree.specs.Cells.{sizes}
 use Rattle.sp_types.specs.TypeWalk as w
-use Rattle.sp_facts.proofs.Calm.{calm_parts}
-use Rattle.sp_facts.proofs.ConstantValues.{IsKnown, constants_known, bounds_known, index_ordinal}
+use Rattle.sp_facts.proofs.NoBreachInParts.{none_in_parts}
+use Rattle.sp_facts.proofs.ConstantValues.{AreKnownOrdinals, constants_known, bounds_known, index_ordinal}
 use Rattle.sp_facts.proofs.IndexTypes.{others_stay}
 use Rattle.sp_facts.proofs.TypesFormed.{formed_at, program_formed, number_there}
 use Rattle.sp_facts.proofs.Declared.{program_behind, program_typed}
@@ -76,14 +77,14 @@ signatures_at env starts [] f b e = absurd (cc e)
 signatures_at env [] (c ∷ bs) f b e = absurd (cc e)
 signatures_at env (z ∷ starts) (c ∷ bs) zero b e =
     ap (λ (y : plain.Block). Some (record { formals = y.formals; answer = y.answer }))
-    (same_Some (bare_block (checked_block (started env z) c)) b e)
+    (same_Some (bare_block (checked_block (with_first_number env z) c)) b e)
 signatures_at env (z ∷ starts) (c ∷ bs) (suc f) b e =
-    signatures_at (statement_after (started env z) c.body) starts bs f b e
+    signatures_at (statement_after (with_first_number env z) c.body) starts bs f b e
 
 -- members of a block's parameters
 among_formals : (p : plain.Program) (f k : ℕ) (vs : List plain.Variable)
     → ((i : ℕ) → slice_get p.variables (k + i) ≡ slice_get vs i)
-    → AreFormals p (among is_parameter (variables_of f k vs))
+    → AreFormals p (numbers_with_role is_parameter (variables_of f k vs))
 among_formals p f k [] h = tt
 among_formals p f k (v ∷ vs) h = go (v.block == f)
     (among_formals p f (suc k) vs (λ i. subst (λ j. slice_get p.variables j ≡ slice_get vs i)
@@ -92,9 +93,9 @@ among_formals p f k (v ∷ vs) h = go (v.block == f)
     at : slice_get p.variables k ≡ Some v
     at = subst (λ j. slice_get p.variables j ≡ Some v) (let j : k + 0 ≡ k = omega arith in j) (h 0)
 
-    one : (r : Role) → v.role ≡ r → AreFormals p (among is_parameter (variables_of f (suc k) vs))
-        → AreFormals p (if is_parameter r then k ∷ among is_parameter (variables_of f (suc k) vs) else
-        among is_parameter (variables_of f (suc k) vs))
+    one : (r : Role) → v.role ≡ r → AreFormals p (numbers_with_role is_parameter (variables_of f (suc k) vs))
+        → AreFormals p (if is_parameter r then k ∷ numbers_with_role is_parameter (variables_of f (suc k) vs) else
+        numbers_with_role is_parameter (variables_of f (suc k) vs))
     one role.Console e r = r
     one role.Local e r = r
     one role.Value e r = ((v, at, inl e), r)
@@ -102,8 +103,8 @@ among_formals p f k (v ∷ vs) h = go (v.block == f)
     one role.Index e r = r
     one role.Answer e r = r
 
-    go : (b : Bool) → AreFormals p (among is_parameter (variables_of f (suc k) vs))
-        → AreFormals p (among is_parameter (if b then (k, v) ∷ variables_of f (suc k) vs else
+    go : (b : Bool) → AreFormals p (numbers_with_role is_parameter (variables_of f (suc k) vs))
+        → AreFormals p (numbers_with_role is_parameter (if b then (k, v) ∷ variables_of f (suc k) vs else
         variables_of f (suc k) vs))
     go true r = one v.role refl r
     go false r = r
@@ -131,7 +132,7 @@ kind_low k (w ∷ us) zero u h e = subst (λ (z : checked.Variable). suc z.kind 
 kind_low k (w ∷ us) (suc x) u h e = kind_low k us x u h.1 e
 
 -- a variable that is no index has in the tree the type that it is declared with
-variable_type : (s : syntax.Program) (calm : names_broken s ≡ []) (x : ℕ) (v : plain.Variable)
+variable_type : (s : syntax.Program) (calm : broken_name_rules s ≡ []) (x : ℕ) (v : plain.Variable)
     → slice_get (tree s calm).variables x ≡ Some v → NoIndex v.role
     → (u : checked.Variable) × (slice_get (named s calm).variables x ≡ Some u)
     × (slice_get (env_of (named s calm)).variables x ≡ Some (Some (type_number (numbers_of (named s calm)) u.kind)))
@@ -145,13 +146,13 @@ variable_type s calm x v at d =
     let stays = others_stay (tree s calm) 0 (env_of n_) (starts_of n_.blocks) n_.blocks x v at d (spans s calm) in
     (u.0, u.1, t, has_ s calm last n_.variables x v (Some (type_number (numbers_of n_) u.0.kind)) at (stays ∙ t))
 
-pub variable_is_of : (s : syntax.Program) (calm : names_broken s ≡ []) (x : ℕ) (v : plain.Variable)
+pub variable_is_of : (s : syntax.Program) (calm : broken_name_rules s ≡ []) (x : ℕ) (v : plain.Variable)
     → slice_get (tree s calm).variables x ≡ Some v → NoIndex v.role
     → variable_kind (env_of (named s calm)) x ≡ Some v.kind
-variable_is_of s calm x v at d = let w = variable_type s calm x v at d in ap entry w.2 ∙ ap Some (sym w.3)
+variable_is_of s calm x v at d = let w = variable_type s calm x v at d in ap table_entry w.2 ∙ ap Some (sym w.3)
 
-module _ (s : syntax.Program) (calm : names_broken s ≡ []) (no_types : types_broken (named s calm) ≡ [])
-    (given : IsGiven (named s calm)) where
+module _ (s : syntax.Program) (calm : broken_name_rules s ≡ []) (no_types : types_broken (named s calm) ≡ [])
+    (given : HasOrdinalConstants (named s calm)) where
   abbrev p_ : plain.Program
   p_ = tree s calm
 
@@ -161,20 +162,22 @@ module _ (s : syntax.Program) (calm : names_broken s ≡ []) (no_types : types_b
   abbrev last : List (Option ℕ)
   last = (blocks_after (env_of n_) (starts_of n_.blocks) n_.blocks).variables
 
-  calm_tables : (w.constants_sites [] together listed (constants_of n_) n_.constants ≡ [])
-      × (w.kinds_sites [] together listed (constants_of n_) n_.kinds ≡ [])
-  calm_tables =
-      let rest = w.blocks_sites [] together listed (numbers_of n_) (sizes (env_of n_).kinds) n_.variables 0 (env_of n_)
+  none_in_tables : (w.constants_sites [] both_lists refusal_list (constants_of n_) n_.constants ≡ [])
+      × (w.kinds_sites [] both_lists refusal_list (constants_of n_) n_.kinds ≡ [])
+  none_in_tables =
+      let rest = w.blocks_sites [] both_lists refusal_list (numbers_of n_) (sizes (env_of n_).kinds) n_.variables 0
+      (env_of n_)
       (starts_of n_.blocks) n_.blocks in
-      let cells = w.cells_sites [] together listed (w.places_of n_.kinds) (sizes (env_of n_).kinds) in
-      let kinds = w.kinds_sites [] together listed (constants_of n_) n_.kinds in
-      let one = calm_parts (w.constants_sites [] together listed (constants_of n_) n_.constants)
-      (together kinds (together cells rest)) no_types in
-      (one.0, (calm_parts kinds (together cells rest) one.1).0)
+      let cells = w.cells_sites [] both_lists refusal_list (w.places_of n_.kinds) (sizes (env_of n_).kinds) in
+      let kinds = w.kinds_sites [] both_lists refusal_list (constants_of n_) n_.kinds in
+      let one = none_in_parts (w.constants_sites [] both_lists refusal_list (constants_of n_) n_.constants)
+      (both_lists kinds (both_lists cells rest)) no_types in
+      (one.0, (none_in_parts kinds (both_lists cells rest) one.1).0)
 
-  pub known : IsKnown p_.kinds refl refl (constants_of n_) × (length (constants_of n_) ≡ 0 + length n_.constants)
+  pub known : AreKnownOrdinals p_.kinds refl refl (constants_of n_)
+      × (length (constants_of n_) ≡ 0 + length n_.constants)
   known = constants_known p_.kinds refl refl (numbers_of n_) (constants_of n_) [] n_.constants
-      (λ i l. absurd (none i l)) (program_behind s calm given).0 calm_tables.0
+      (λ i l. absurd (none i l)) (program_behind s calm given).0 none_in_tables.0
     where
       none : (i : ℕ) → suc i ≤ 0 → ⊥
       none i l = omega (arith, l)
@@ -187,12 +190,12 @@ module _ (s : syntax.Program) (calm : names_broken s ≡ []) (no_types : types_b
 
   pub kinds_are_formed : AreFormedKinds 0 p_.kinds
   kinds_are_formed = program_formed s calm no_types
-      (bounds_known p_.kinds refl refl (constants_of n_) n_.kinds known.0 bounds calm_tables.1)
+      (bounds_known p_.kinds refl refl (constants_of n_) n_.kinds known.0 bounds none_in_tables.1)
 
   pub formed : (k : ℕ) (t : KindOf) → slice_get p_.kinds k ≡ Some t → IsFormedKind k t
   formed k t e = subst (λ z. IsFormedKind z t) (let z : 0 + k ≡ k = omega arith in z)
       (formed_at 0 k p_.kinds t (program_formed s calm no_types
-      (bounds_known p_.kinds refl refl (constants_of n_) n_.kinds known.0 bounds calm_tables.1)) e)
+      (bounds_known p_.kinds refl refl (constants_of n_) n_.kinds known.0 bounds none_in_tables.1)) e)
 
   lower : (k j : ℕ) (t : KindOf) → slice_get p_.kinds k ≡ Some t → suc j ≤ k → IsKind p_ j
   lower k j t e l = let r = within p_.kinds k t e in there p_.kinds j (omega (arith, l, r))
@@ -201,7 +204,7 @@ module _ (s : syntax.Program) (calm : names_broken s ≡ []) (no_types : types_b
       → (variable_kind (env_of n_) x ≡ Some v.kind) × IsKind p_ v.kind
   variable_is x v at d =
       let w = variable_type s calm x v at d in (
-        ap entry w.2 ∙ ap Some (sym w.3),
+        ap table_entry w.2 ∙ ap Some (sym w.3),
         subst (IsKind p_) (sym w.3)
             (there p_.kinds (type_number (numbers_of n_) w.0.kind)
             (number_there s calm w.0.kind (kind_low (length n_.kinds) n_.variables x w.0 (program_typed s calm) w.1))),
@@ -209,7 +212,7 @@ module _ (s : syntax.Program) (calm : names_broken s ≡ []) (no_types : types_b
 
   pub knows : (answers_ : (f : ℕ) (b : plain.Block) (x : ℕ) (v : plain.Variable)
       → slice_get (tree s calm).blocks f ≡ Some b → b.answer ≡ Some x → slice_get (tree s calm).variables x ≡ Some v
-      → is_ordinal (slice_get (tree s calm).kinds v.kind) ≡ true) → Knows p_ (length n_.constants) (env_of n_)
+      → is_ordinal (slice_get (tree s calm).kinds v.kind) ≡ true) → TablesMatch p_ (length n_.constants) (env_of n_)
   knows answers_ = record {
     kinds = refl;
     integer = refl;
@@ -227,7 +230,7 @@ module _ (s : syntax.Program) (calm : names_broken s ≡ []) (no_types : types_b
         (r.0, r.1, r.2, r.3, answers_ f b x r.0 at ans r.1));
     elements = λ k low high index element e. (
       lower k element (kind.Array low high index element) e (formed k (kind.Array low high index element) e).0,
-      index_ordinal p_.kinds refl refl (numbers_of n_) (constants_of n_) n_.kinds known.0 bounds calm_tables.1 k low
+      index_ordinal p_.kinds refl refl (numbers_of n_) (constants_of n_) n_.kinds known.0 bounds none_in_tables.1 k low
           high index element e,
     );
     fields = λ k fs f name t e h. lower k t (kind.Fields fs) e

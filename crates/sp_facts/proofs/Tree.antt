@@ -15,25 +15,26 @@ use Rattle.sp_tree.specs.PlainNamed.{Statement, Does, Form, Empty, Assign, Call,
 use Rattle.sp_tree.specs.PlainNamed.{Case, For, Parallel, Forall, Assume, NoElse, Else, Statements, NoStatement}
 use Rattle.sp_tree.specs.PlainNamed.{AndThen, On, Arms, NoArm, Or, Branches, NoBranch, Beside}
 use Rattle.sp_code.specs.Scopes.{OfBlock, scopes_by, scopes_of, parent_of}
-use Rattle.sp_types.specs.Tables.{Env, answer_variable, counted, indexed, env_of, types_of, numbers_of}
-use Rattle.sp_types.specs.TypeWalk.{statement_after, statements_after, arms_after, branches_after, form_after, started}
+use Rattle.sp_types.specs.Tables.{Env, answer_variable, with_next_number, with_index_type, env_of, types_of, numbers_of}
+use Rattle.sp_types.specs.TypeWalk.{statement_after, statements_after, arms_after, branches_after, form_after}
+use Rattle.sp_types.specs.TypeWalk.{with_first_number}
 use Rattle.sp_types.specs.TypeWalk.{starts_of, starts_from, bodies, blocks_after}
 use Rattle.sp_types.specs.Kinds.{expression_kind}
 use Rattle.sp_types.specs.CheckedTree.{checked_block, checked_blocks, checked_variables, or_zero}
-use Rattle.sp_facts.specs.Held.{HoldsBlocks, AreBelow}
-use Rattle.sp_facts.proofs.NameStatements.{Holds}
+use Rattle.sp_facts.specs.PartsInTables.{HoldsBlocks, AreBelow}
+use Rattle.sp_facts.proofs.NameStatements.{HoldsVariables}
 use Rattle.sp_facts.proofs.Headings.{own}
 
 -- ---- the table of types keeps its length
 
-abbrev pub Same : Env → Env → Type 0
-Same a b = length b.variables ≡ length a.variables
+abbrev pub SameVariableCount : Env → Env → Type 0
+SameVariableCount a b = length b.variables ≡ length a.variables
 
 mutual
-  pub statement_length : (env : Env) (s : Statement) → Same env (statement_after env s)
-  statement_length env (Does at form) = form_length (counted env) form
+  pub statement_length : (env : Env) (s : Statement) → SameVariableCount env (statement_after env s)
+  statement_length env (Does at form) = form_length (with_next_number env) form
 
-  form_length : (env : Env) (form : Form) → Same env (form_after env form)
+  form_length : (env : Env) (form : Form) → SameVariableCount env (form_after env form)
   form_length env Empty = refl
   form_length env (Assign v e) = refl
   form_length env (Call f args) = refl
@@ -42,32 +43,33 @@ mutual
   form_length env (If e a NoElse) = statement_length env a
   form_length env (If e a (Else b)) = statement_length (statement_after env a) b ∙ statement_length env a
   form_length env (While e a) = statement_length env a
-  form_length env (Repeat ss e) = statements_length (counted env) ss
+  form_length env (Repeat ss e) = statements_length (with_next_number env) ss
   form_length env (Case e arms) = arms_length env arms
   form_length env (For x at from down to a) = statement_length env a
   form_length env (Parallel bs) = branches_length env bs
-  form_length env (Forall x from to a) = statement_length (indexed env x (expression_kind env from)) a
+  form_length env (Forall x from to a) = statement_length (with_index_type env x (expression_kind env from)) a
       ∙ length-set env.variables x (expression_kind env from)
   form_length env (Assume e) = refl
 
-  pub statements_length : (env : Env) (ss : Statements) → Same env (statements_after env ss)
+  pub statements_length : (env : Env) (ss : Statements) → SameVariableCount env (statements_after env ss)
   statements_length env NoStatement = refl
   statements_length env (AndThen a rest) = statements_length (statement_after env a) rest ∙ statement_length env a
 
-  arms_length : (env : Env) (arms : Arms) → Same env (arms_after env arms)
+  arms_length : (env : Env) (arms : Arms) → SameVariableCount env (arms_after env arms)
   arms_length env NoArm = refl
   arms_length env (Or (On cs a) rest) = arms_length (statement_after env a) rest ∙ statement_length env a
 
-  branches_length : (env : Env) (bs : Branches) → Same env (branches_after env bs)
+  branches_length : (env : Env) (bs : Branches) → SameVariableCount env (branches_after env bs)
   branches_length env NoBranch = refl
-  branches_length env (Beside ss rest) = branches_length (statements_after (counted env) ss) rest
-      ∙ statements_length (counted env) ss
+  branches_length env (Beside ss rest) = branches_length (statements_after (with_next_number env) ss) rest
+      ∙ statements_length (with_next_number env) ss
 
-pub blocks_length : (env : Env) (starts : List ℕ) (bs : List n.Block) → Same env (blocks_after env starts bs)
+pub blocks_length : (env : Env) (starts : List ℕ) (bs : List n.Block)
+    → SameVariableCount env (blocks_after env starts bs)
 blocks_length env starts [] = refl
 blocks_length env [] (b ∷ bs) = refl
-blocks_length env (k ∷ starts) (b ∷ bs) = blocks_length (statement_after (started env k) b.body) starts bs
-    ∙ statement_length (started env k) b.body
+blocks_length env (k ∷ starts) (b ∷ bs) = blocks_length (statement_after (with_first_number env k) b.body) starts bs
+    ∙ statement_length (with_first_number env k) b.body
 
 pub starts_length : (bs : List n.Block) → length (starts_of bs) ≡ length bs
 starts_length bs = go (bodies bs) bs
@@ -92,7 +94,7 @@ checked_own fits f k (z ∷ ks) (u ∷ us) e = ap (λ zs. if (u.block == f) && f
 module _ (p : plain.Program) (m : ℕ) where
   pub variables_held : (k : ℕ) (ks : List (Option ℕ)) (us : List checked.Variable) → length ks ≡ length us
       → ((i : ℕ) → slice_get p.variables (k + i) ≡ slice_get (map variable_of (checked_variables ks us)) i)
-      → Holds p m k us
+      → HoldsVariables p m k us
   variables_held k ks [] e h = tt
   variables_held k [] (u ∷ us) e h = absurd (omega (arith, e))
   variables_held k (z ∷ ks) (u ∷ us) e h = (
@@ -114,11 +116,12 @@ module _ (p : plain.Program) (m : ℕ) where
   blocks_held k env starts [] e h = tt
   blocks_held k env [] (b ∷ bs) e h = absurd (omega (arith, e))
   blocks_held k env (z ∷ starts) (b ∷ bs) e h =
-      let c = bare_block (checked_block (started env z) b) in (
+      let c = bare_block (checked_block (with_first_number env z) b) in (
         (c, subst (λ j. slice_get p.blocks j ≡ Some c) (let j : k + 0 ≡ k = omega arith in j) (h 0), refl, refl, refl),
-        blocks_held (suc k) (statement_after (started env z) b.body) starts bs (omega (arith, e))
+        blocks_held (suc k) (statement_after (with_first_number env z) b.body) starts bs (omega (arith, e))
             (λ i. subst (λ j. slice_get p.blocks j
-            ≡ slice_get (map bare_block (checked_blocks (statement_after (started env z) b.body) starts bs)) i)
+            ≡ slice_get (map bare_block (checked_blocks (statement_after (with_first_number env z) b.body) starts
+            bs)) i)
             (let j : k + suc i ≡ suc k + i = omega arith in j) (h (suc i))),
       )
 
@@ -129,14 +132,15 @@ pub block_from : (env : Env) (starts : List ℕ) (bs : List n.Block) (f : ℕ) (
 block_from env starts [] f c e = absurd (cc e)
 block_from env [] (b ∷ bs) f c e = absurd (cc e)
 block_from env (z ∷ starts) (b ∷ bs) zero c e =
-    let s = same_Some (bare_block (checked_block (started env z) b)) c e in (
+    let s = same_Some (bare_block (checked_block (with_first_number env z) b)) c e in (
       b,
       refl,
       ap (λ (y : plain.Block). y.parent) (sym s),
       ap (λ (y : plain.Block). y.formals) (sym s),
       ap (λ (y : plain.Block). y.answer) (sym s),
     )
-block_from env (z ∷ starts) (b ∷ bs) (suc f) c e = block_from (statement_after (started env z) b.body) starts bs f c e
+block_from env (z ∷ starts) (b ∷ bs) (suc f) c e = block_from (statement_after (with_first_number env z) b.body) starts
+    bs f c e
 
 pub parent_below : (k : ℕ) (bs : List n.Block) (f : ℕ) (b : n.Block) (q : ℕ) → AreBelow k bs → slice_get bs f ≡ Some b
     → b.parent ≡ Some q → suc q ≤ k + f

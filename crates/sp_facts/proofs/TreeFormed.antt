@@ -12,7 +12,7 @@ use Rattle.sp_tree.specs.PlainNamed as n
 use Rattle.sp_tree.specs.PlainChecked as c
 use Rattle.sp_tree.specs.Plain as plain
 use Rattle.sp_tree.specs.Plain.{No}
-use Rattle.sp_tree.specs.NameFirst.{names_broken}
+use Rattle.sp_tree.specs.NameFirst.{broken_name_rules}
 use Rattle.sp_tree.specs.NamedTree.{program_named}
 use Rattle.sp_tree.specs.Bare.{bare_statements}
 use Rattle.sp_tree.specs.Uses.{Use, Target, Seen, CallOf, ParallelOf, ForallOf, Stop, In_stmt}
@@ -21,19 +21,20 @@ use Rattle.sp_tree.specs.Sites.{SplitsAt}
 use Rattle.sp_tree.specs.Formed.{AreBefore, IsFormedUse, IsFormed}
 use Rattle.sp_tree.proofs.NoBreach.{block_at}
 use Rattle.sp_types.specs.declared.tables.Ordinal.{Ordinal}
-use Rattle.sp_types.specs.Tables.{Env, entry, constant_kind, ordinal_kind, env_of, numbers_of, constants_of, type_of}
+use Rattle.sp_types.specs.Tables.{Env, table_entry, constant_kind, ordinal_kind, env_of, numbers_of, constants_of}
+use Rattle.sp_types.specs.Tables.{type_of}
 use Rattle.sp_types.specs.Tables.{type_number, types_of}
 use Rattle.sp_types.specs.TypeRules.{is_ordinal}
 use Rattle.sp_types.specs.TypeFirst.{types_broken}
 use Rattle.sp_types.specs.TypeWalk.{starts_of, blocks_after}
 use Rattle.sp_types.specs.CheckedTree.{checked_branches, program_checked}
 use Rattle.sp_code.specs.Scopes.{scopes_of}
-use Rattle.sp_code.specs.Stands.{IsFine}
+use Rattle.sp_code.specs.CodeOfTree.{IsFine}
 use Rattle.sp_facts.specs.Earlier.{HaveTypes}
-use Rattle.sp_code.specs.Quiet.{IsQuiet}
-use Rattle.sp_facts.specs.Given.{IsGiven}
-use Rattle.sp_facts.specs.Filled.{AreFilled}
-use Rattle.sp_facts.specs.Has.{BlocksHave, AnyIndex, IsSplit, HasPart}
+use Rattle.sp_code.specs.NeverStops.{NeverStops}
+use Rattle.sp_facts.specs.ConstantsDeclared.{HasOrdinalConstants}
+use Rattle.sp_facts.specs.NonEmptyRecords.{AreNonEmptyKinds}
+use Rattle.sp_facts.specs.ForkWalk.{BlocksSatisfy, AnyIndex, IsSplit, HasPart}
 use Rattle.sp_facts.specs.Tabled.{IsThere, AreThere, Tabled}
 use Rattle.sp_facts.proofs.Sites.{blocks_fit}
 use Rattle.sp_facts.proofs.UsesFit.{statement_kept}
@@ -59,7 +60,7 @@ before_more : (j k : ℕ) (fs : List (List ℕ × ℕ)) → j ≤ k → AreBefor
 before_more j k [] l h = tt
 before_more j k (f ∷ fs) l h = ((let b = h.0 in omega (arith, b, l)), before_more j k fs l h.1)
 
-module _ (s : syntax.Program) (calm : names_broken s ≡ []) (no_types : types_broken (program_named s) ≡ []) where
+module _ (s : syntax.Program) (calm : broken_name_rules s ≡ []) (no_types : types_broken (program_named s) ≡ []) where
   abbrev p_ : plain.Program
   p_ = tree s calm
 
@@ -69,7 +70,7 @@ module _ (s : syntax.Program) (calm : names_broken s ≡ []) (no_types : types_b
   abbrev env_ : Env
   env_ = env_of n_
 
-  given : IsGiven n_
+  given : HasOrdinalConstants n_
   given = program_given s calm
 
   constants_there : (i : ℕ) → IsThere (length p_.kinds) (constant_kind env_ i)
@@ -78,10 +79,10 @@ module _ (s : syntax.Program) (calm : names_broken s ≡ []) (no_types : types_b
       go : (cs : List (Option Ordinal)) (i : ℕ)
           → ((j : ℕ) → suc j ≤ length cs → (o : Ordinal) × (slice_get cs j ≡ Some (Some o))
           × (is_ordinal (slice_get p_.kinds o.kind) ≡ true))
-          → IsThere (length p_.kinds) (ordinal_kind (entry (slice_get cs i)))
+          → IsThere (length p_.kinds) (ordinal_kind (table_entry (slice_get cs i)))
       go [] i h = tt
       go (x ∷ cs) zero h = let r = h 0 (omega arith) in
-          subst (λ o. IsThere (length p_.kinds) (ordinal_kind (entry o))) (sym r.1)
+          subst (λ o. IsThere (length p_.kinds) (ordinal_kind (table_entry o))) (sym r.1)
           (ordinal_there p_.kinds r.0.kind r.2)
       go (x ∷ cs) (suc i) h = go cs i (λ j l. h (suc j) (omega (arith, l)))
 
@@ -121,9 +122,9 @@ module _ (s : syntax.Program) (calm : names_broken s ≡ []) (no_types : types_b
       n_.variables x v standard_there (blocks_tabled (length p_.kinds) env_ (starts_of n_.blocks) n_.blocks
       tabled).variables at
 
-  module _ (filled : AreFilled n_.kinds) (split : BlocksHave AnyIndex IsSplit n_.blocks)
+  module _ (filled : AreNonEmptyKinds n_.kinds) (split : BlocksSatisfy AnyIndex IsSplit n_.blocks)
       (fine : (f : ℕ) (b : plain.Block) → slice_get p_.blocks f ≡ Some b
-      → IsFine p_ (λ s. []) (λ s. []) (IsQuiet p_) f 0 b) where
+      → IsFine p_ (λ s. []) (λ s. []) (NeverStops p_) f 0 b) where
     -- a parallel statement has a process statement
     abbrev HasProcess : Use → Type 0
     HasProcess (Target x) = Unit {0}
@@ -152,7 +153,7 @@ module _ (s : syntax.Program) (calm : names_broken s ≡ []) (no_types : types_b
         env_ (starts_of n_.blocks) n_.blocks split f m.0 m.1)
         (subst (λ (z : plain.Block). In_stmt z.body u) (sym m.2) i)
 
-    both : (u : Use) → IsGoodUse p_ (input s calm) (output s calm) (λ s. []) (λ s. []) (IsQuiet p_) u → HasProcess u
+    both : (u : Use) → IsGoodUse p_ (input s calm) (output s calm) (λ s. []) (λ s. []) (NeverStops p_) u → HasProcess u
         → IsFormedUse p_ u
     both (Target x) h k = h
     both (Seen x) h k = h
@@ -162,7 +163,7 @@ module _ (s : syntax.Program) (calm : names_broken s ≡ []) (no_types : types_b
     both Stop h k = tt
 
     uses : (f : ℕ) (b : plain.Block) → slice_get p_.blocks f ≡ Some b → (u : Use) → In_stmt b.body u → IsFormedUse p_ u
-    uses f b at u i = both u (stands_uses p_ (input s calm) (output s calm) (λ s. []) (λ s. []) (IsQuiet p_)
+    uses f b at u i = both u (stands_uses p_ (input s calm) (output s calm) (λ s. []) (λ s. []) (NeverStops p_)
         (scopes_of p_ f) 0 b.body ((fine f b at).body true tt) u i) (has_process f b at u i)
 
     pub program_formed : IsFormed p_

@@ -16,11 +16,11 @@ use Rattle.sp_tree.specs.declared.named.NamedKindForm.TheVariants as form
 use Rattle.sp_tree.specs.Cells.{first_or, sizes}
 use Rattle.sp_tree.specs.PlainSyntax as syntax
 use Rattle.sp_tree.specs.NamedTree.{program_named}
-use Rattle.sp_tree.specs.NameFirst.{names_broken}
+use Rattle.sp_tree.specs.NameFirst.{broken_name_rules}
 use Rattle.sp_types.specs.TypeFirst.{types_broken}
 use Rattle.sp_facts.proofs.Declared.{program_earlier}
-use Rattle.sp_tree.specs.Found.{listed}
-use Rattle.sp_tree.specs.NameFirst.{together}
+use Rattle.sp_tree.specs.PhaseResults.{refusal_list}
+use Rattle.sp_tree.specs.NameFirst.{both_lists}
 use Rattle.sp_types.specs.declared.tables.Ordinal.{Ordinal}
 use Rattle.sp_types.specs.Tables.{constants_of, numbers_of, env_of, number_by, next_by, numbers_from, type_number}
 use Rattle.sp_types.specs.Tables.{const_value, value_by, has_wrong_sign, is_long, are_wrong, number_or, type_or}
@@ -30,7 +30,7 @@ use Rattle.sp_types.specs.TypeWalk as w
 use Rattle.sp_tree.specs.Formed.{AreBefore}
 use Rattle.sp_facts.specs.Earlier.{IsEarlier, AreEarlier, HasValue, HaveValues, AllHaveValues, IsFormedKind}
 use Rattle.sp_facts.specs.Earlier.{AreFormedKinds}
-use Rattle.sp_facts.proofs.Calm.{calm_parts, calm_site, calm_if}
+use Rattle.sp_facts.proofs.NoBreachInParts.{none_in_parts, none_at_site, not_if_none}
 
 abbrev Below : ℕ → List ℕ → Type 0
 Below next xs = (i x : ℕ) → slice_get xs i ≡ Some x → suc x ≤ next
@@ -54,22 +54,24 @@ keeps known next (k ∷ ks) i x e = keeps (known ++ number_by known next k.form 
 
 -- the bounds of an array
 array_formed : (known : List (Option Ordinal)) (a b : NamedConst) (e el i : ℕ)
-    → w.bounds_sites [] together listed known (form.Array a b e) ≡ [] → HasValue known a → HasValue known b → suc el ≤ i
+    → w.bounds_sites [] both_lists refusal_list known (form.Array a b e) ≡ [] → HasValue known a → HasValue known b
+    → suc el ≤ i
     → IsFormedKind i (array_of known a b el)
 array_formed known a b e el i calm (oa, va) (ob, vb) l =
-    let one = calm_parts (listed (const_rule known a))
-    (together (listed (const_rule known b)) (listed (bounds_rule b.at (const_value known a) (const_value known b))))
+    let one = none_in_parts (refusal_list (const_rule known a))
+    (both_lists (refusal_list (const_rule known b))
+    (refusal_list (bounds_rule b.at (const_value known a) (const_value known b))))
     calm in
-    let two = calm_parts (listed (const_rule known b))
-    (listed (bounds_rule b.at (const_value known a) (const_value known b))) one.1 in
+    let two = none_in_parts (refusal_list (const_rule known b))
+    (refusal_list (bounds_rule b.at (const_value known a) (const_value known b))) one.1 in
     let ra = or_parts (is_long a.value) (has_wrong_sign a.negative (value_by known a.value))
-    (calm_if rule.Y14 a.at (is_long a.value || has_wrong_sign a.negative (value_by known a.value))
-    (calm_site (const_rule known a) one.0)) in
+    (not_if_none rule.Y14 a.at (is_long a.value || has_wrong_sign a.negative (value_by known a.value))
+    (none_at_site (const_rule known a) one.0)) in
     let rb = or_parts (is_long b.value) (has_wrong_sign b.negative (value_by known b.value))
-    (calm_if rule.Y14 b.at (is_long b.value || has_wrong_sign b.negative (value_by known b.value))
-    (calm_site (const_rule known b) two.0)) in
-    let wrong = calm_if rule.Y13 b.at (are_wrong (const_value known a) (const_value known b))
-    (calm_site (bounds_rule b.at (const_value known a) (const_value known b)) two.1) in
+    (not_if_none rule.Y14 b.at (is_long b.value || has_wrong_sign b.negative (value_by known b.value))
+    (none_at_site (const_rule known b) two.0)) in
+    let wrong = not_if_none rule.Y13 b.at (are_wrong (const_value known a) (const_value known b))
+    (none_at_site (bounds_rule b.at (const_value known a) (const_value known b)) two.1) in
     let le = second_true (nat_eq oa.kind ob.kind) (int_le oa.number ob.number)
     (not-false (nat_eq oa.kind ob.kind && int_le oa.number ob.number)
     (subst (λ z. are_wrong (Some oa) z ≡ false) vb
@@ -97,13 +99,15 @@ array_formed known a b e el i calm (oa, va) (ob, vb) l =
 
 pub kinds_formed : (consts : List (Option Ordinal)) (known : List ℕ) (next : ℕ) (ks : List NamedKind) (ns : List ℕ)
     → ns ≡ numbers_from known next ks → Below next known → AreEarlier (length known) ks → AllHaveValues consts ks
-    → w.kinds_sites [] together listed consts ks ≡ [] → AreFormedKinds next (kinds_from ns consts ks)
+    → w.kinds_sites [] both_lists refusal_list consts ks ≡ [] → AreFormedKinds next (kinds_from ns consts ks)
 kinds_formed consts known next [] ns e below early values calm = tt
 kinds_formed consts known next (k ∷ ks) ns e below (early, more) (value, values) calm =
     go k.form refl (kinds_formed consts (known ++ number_by known next k.form ∷ []) (next_by next k.form) ks ns e)
   where
-    two : (w.bounds_sites [] together listed consts k.form ≡ []) × (w.kinds_sites [] together listed consts ks ≡ [])
-    two = calm_parts (w.bounds_sites [] together listed consts k.form) (w.kinds_sites [] together listed consts ks) calm
+    two : (w.bounds_sites [] both_lists refusal_list consts k.form ≡ [])
+        × (w.kinds_sites [] both_lists refusal_list consts ks ≡ [])
+    two = none_in_parts (w.bounds_sites [] both_lists refusal_list consts k.form)
+        (w.kinds_sites [] both_lists refusal_list consts ks) calm
 
     longer : (y : ℕ) → suc (length known) ≡ length (known ++ y ∷ [])
     longer y = let l = length-append known (y ∷ []) in omega (arith, l)
@@ -128,16 +132,17 @@ kinds_formed consts known next (k ∷ ks) ns e below (early, more) (value, value
     go : (f : NamedKindForm) → f ≡ k.form
         → (Below (next_by next k.form) (known ++ number_by known next k.form ∷ [])
         → AreEarlier (length (known ++ number_by known next k.form ∷ [])) ks → AllHaveValues consts ks
-        → w.kinds_sites [] together listed consts ks ≡ []
+        → w.kinds_sites [] both_lists refusal_list consts ks ≡ []
         → AreFormedKinds (next_by next k.form) (kinds_from ns consts ks))
         → AreFormedKinds next (kinds_by ns consts k.form ++ kinds_from ns consts ks)
     go f fe rest = subst (λ f. (Below (next_by next f) (known ++ number_by known next f ∷ [])
         → AreEarlier (length (known ++ number_by known next f ∷ [])) ks → AllHaveValues consts ks
-        → w.kinds_sites [] together listed consts ks ≡ [] → AreFormedKinds (next_by next f) (kinds_from ns consts ks))
+        → w.kinds_sites [] both_lists refusal_list consts ks ≡ []
+        → AreFormedKinds (next_by next f) (kinds_from ns consts ks))
         → AreFormedKinds next (kinds_by ns consts f ++ kinds_from ns consts ks)) fe
         (by f (subst (λ f. IsEarlier (length known) f) (sym fe) early)
         (subst (λ f. HaveValues consts f) (sym fe) value)
-        (subst (λ f. w.bounds_sites [] together listed consts f ≡ []) (sym fe) two.0)) rest
+        (subst (λ f. w.bounds_sites [] both_lists refusal_list consts f ≡ []) (sym fe) two.0)) rest
       where
         later : (y : ℕ) → AreEarlier (length (known ++ y ∷ [])) ks
         later y = subst (λ z. AreEarlier z ks) (longer y) more
@@ -151,10 +156,10 @@ kinds_formed consts known next (k ∷ ks) ns e below (early, more) (value, value
             (let z : next + 1 ≡ suc next = omega arith in z) h
 
         by : (f : NamedKindForm) → IsEarlier (length known) f → HaveValues consts f
-            → w.bounds_sites [] together listed consts f ≡ []
+            → w.bounds_sites [] both_lists refusal_list consts f ≡ []
             → (Below (next_by next f) (known ++ number_by known next f ∷ [])
             → AreEarlier (length (known ++ number_by known next f ∷ [])) ks → AllHaveValues consts ks
-            → w.kinds_sites [] together listed consts ks ≡ []
+            → w.kinds_sites [] both_lists refusal_list consts ks ≡ []
             → AreFormedKinds (next_by next f) (kinds_from ns consts ks))
             → AreFormedKinds next (kinds_by ns consts f ++ kinds_from ns consts ks)
         by form.Integer i v c rest = (tt, at_next (rest fresh (later next) values two.1))
@@ -230,24 +235,25 @@ formed_at i (suc k) (u ∷ ts) t h e = subst (λ z. IsFormedKind z t) (let z : s
     (formed_at (suc i) k ts t h.1 e)
 
 -- of a program
-pub program_formed : (s : syntax.Program) → names_broken s ≡ [] → types_broken (program_named s) ≡ []
+pub program_formed : (s : syntax.Program) → broken_name_rules s ≡ [] → types_broken (program_named s) ≡ []
     → AllHaveValues (constants_of (program_named s)) (program_named s).kinds
     → AreFormedKinds 0 (env_of (program_named s)).kinds
 program_formed s calm types values = let n_ = program_named s in
-    let rest = w.blocks_sites [] together listed (numbers_of n_) (sizes (env_of n_).kinds) n_.variables 0 (env_of n_)
+    let rest = w.blocks_sites [] both_lists refusal_list (numbers_of n_) (sizes (env_of n_).kinds) n_.variables 0
+    (env_of n_)
     (w.starts_of n_.blocks) n_.blocks in
-    let cells = w.cells_sites [] together listed (w.places_of n_.kinds) (sizes (env_of n_).kinds) in
-    let kinds = w.kinds_sites [] together listed (constants_of n_) n_.kinds in
+    let cells = w.cells_sites [] both_lists refusal_list (w.places_of n_.kinds) (sizes (env_of n_).kinds) in
+    let kinds = w.kinds_sites [] both_lists refusal_list (constants_of n_) n_.kinds in
     kinds_formed (constants_of n_) [] 0 n_.kinds (numbers_of n_) refl (λ i x e. absurd (none i x e))
-    (program_earlier s calm) values (calm_parts kinds (together cells rest)
-    (calm_parts (w.constants_sites [] together listed (constants_of n_) n_.constants)
-    (together kinds (together cells rest)) types).1).0
+    (program_earlier s calm) values (none_in_parts kinds (both_lists cells rest)
+    (none_in_parts (w.constants_sites [] both_lists refusal_list (constants_of n_) n_.constants)
+    (both_lists kinds (both_lists cells rest)) types).1).0
   where
     none : (i x : ℕ) → slice_get [] i ≡ Some x → ⊥
     none i x e = cc e
 
 -- a type's number is that of a type that there is
-pub number_there : (s : syntax.Program) → names_broken s ≡ [] → (k : ℕ) → suc k ≤ length (program_named s).kinds
+pub number_there : (s : syntax.Program) → broken_name_rules s ≡ [] → (k : ℕ) → suc k ≤ length (program_named s).kinds
     → suc (type_number (numbers_of (program_named s)) k) ≤ length (env_of (program_named s)).kinds
 number_there s calm k l =
     let n_ = program_named s in

@@ -16,7 +16,8 @@ use Rattle.sp_tree.specs.declared.operators.StandardFn.TheVariants as fn
 use Rattle.sp_tree.specs.Bare.{variable_of}
 use Rattle.sp_tree.specs.Plain as plain
 use Rattle.sp_tree.specs.PlainNamed as n
-use Rattle.sp_tree.specs.PlainNamed.{Expression, At, ExpressionForm, Number, Quoted, Constant, Read, Apply, Standard}
+use Rattle.sp_tree.specs.PlainNamed.{Expression, ExpressionAt, ExpressionForm, Number, Quoted, Constant, Read, Apply}
+use Rattle.sp_tree.specs.PlainNamed.{Standard}
 use Rattle.sp_tree.specs.PlainNamed.{Unary, Binary, Variable, Entire, Index, Field, Selector, Selectors, Whole, Select}
 use Rattle.sp_tree.specs.PlainNamed.{Pass, Arguments, NoArgument, AndArgument, Statement, Does, Form, Empty, Assign}
 use Rattle.sp_tree.specs.PlainNamed.{Call, Perform, Sequence, If, While, Repeat, Case, For, Parallel, Forall, Assume}
@@ -24,17 +25,18 @@ use Rattle.sp_tree.specs.PlainNamed.{NoElse, Else, Statements, NoStatement, AndT
 use Rattle.sp_tree.specs.PlainNamed.{NoBranch, Beside}
 use Rattle.sp_tree.specs.Formed.{AreBefore}
 use Rattle.sp_types.specs.declared.tables.Signature.{Signature}
-use Rattle.sp_types.specs.Tables.{Env, entry, kind_at, variable_kind, kind_of_variable, answer_in, counted, indexed}
-use Rattle.sp_types.specs.Entries.{field_from}
+use Rattle.sp_types.specs.Tables.{Env, table_entry, kind_at, variable_kind, kind_of_variable, answer_in}
+use Rattle.sp_types.specs.Tables.{with_next_number, with_index_type}
+use Rattle.sp_types.specs.FieldTable.{field_from}
 use Rattle.sp_types.specs.TypeRules.{differ, ordinal, unary_takes, binary_gives, field_in}
 use Rattle.sp_types.specs.Kinds.{element_in, field_kind, if_ordinal, standard_gives, expression_kind, form_kind}
 use Rattle.sp_types.specs.Kinds.{selected_kind, selection, parameter_kind}
 use Rattle.sp_types.specs.TypeWalk.{single_count, parts_count, statement_after, statements_after, arms_after}
-use Rattle.sp_types.specs.TypeWalk.{branches_after, form_after, started, blocks_after}
+use Rattle.sp_types.specs.TypeWalk.{branches_after, form_after, with_first_number, blocks_after}
 use Rattle.sp_types.specs.CheckedTree.{checked_variables, or_zero}
 use Rattle.sp_facts.specs.Tabled.{IsThere, AreThere, Tabled}
 
-there_at : (k : ℕ) (vs : List (Option ℕ)) (x : ℕ) → AreThere k vs → IsThere k (entry (slice_get vs x))
+there_at : (k : ℕ) (vs : List (Option ℕ)) (x : ℕ) → AreThere k vs → IsThere k (table_entry (slice_get vs x))
 there_at k [] x h = tt
 there_at k (v ∷ vs) zero h = h.0
 there_at k (v ∷ vs) (suc x) h = there_at k vs x h.1
@@ -142,7 +144,7 @@ module _ (k : ℕ) where
 
     mutual
       pub expression_there : (e : Expression) → IsThere k (expression_kind env e)
-      expression_there (At at form) = form_there form
+      expression_there (ExpressionAt at form) = form_there form
 
       form_there : (form : ExpressionForm) → IsThere k (form_kind env form)
       form_there (Number i) = let l = known.standard in omega (arith, l)
@@ -172,7 +174,8 @@ module _ (k : ℕ) where
     fields = h.fields;
   }
 
-  known_index : (env : Env) (x : ℕ) (e : Expression) → Tabled k env → Tabled k (indexed env x (expression_kind env e))
+  known_index : (env : Env) (x : ℕ) (e : Expression) → Tabled k env
+      → Tabled k (with_index_type env x (expression_kind env e))
   known_index env x e h = record {
     standard = h.standard;
     constants = h.constants;
@@ -183,7 +186,7 @@ module _ (k : ℕ) where
 
   mutual
     statement_tabled : (env : Env) (s : Statement) → Tabled k env → Tabled k (statement_after env s)
-    statement_tabled env (Does at form) h = form_tabled (counted env) form (recounted env (env.next + 1) h)
+    statement_tabled env (Does at form) h = form_tabled (with_next_number env) form (recounted env (env.next + 1) h)
 
     form_tabled : (env : Env) (form : Form) → Tabled k env → Tabled k (form_after env form)
     form_tabled env Empty h = h
@@ -194,12 +197,12 @@ module _ (k : ℕ) where
     form_tabled env (If e a NoElse) h = statement_tabled env a h
     form_tabled env (If e a (Else b)) h = statement_tabled (statement_after env a) b (statement_tabled env a h)
     form_tabled env (While e a) h = statement_tabled env a h
-    form_tabled env (Repeat ss e) h = all_tabled (counted env) ss (recounted env (env.next + 1) h)
+    form_tabled env (Repeat ss e) h = all_tabled (with_next_number env) ss (recounted env (env.next + 1) h)
     form_tabled env (Case e arms) h = arms_tabled env arms h
     form_tabled env (For x at from down to a) h = statement_tabled env a h
     form_tabled env (Parallel bs) h = branches_tabled env bs h
     form_tabled env (Forall x from to a) h =
-        statement_tabled (indexed env x (expression_kind env from)) a (known_index env x from h)
+        statement_tabled (with_index_type env x (expression_kind env from)) a (known_index env x from h)
     form_tabled env (Assume e) h = h
 
     all_tabled : (env : Env) (ss : Statements) → Tabled k env → Tabled k (statements_after env ss)
@@ -213,16 +216,16 @@ module _ (k : ℕ) where
     branches_tabled : (env : Env) (bs : Branches) → Tabled k env → Tabled k (branches_after env bs)
     branches_tabled env NoBranch h = h
     branches_tabled env (Beside ss rest) h =
-        branches_tabled (statements_after (counted env) ss) rest
-        (all_tabled (counted env) ss (recounted env (env.next + 1) h))
+        branches_tabled (statements_after (with_next_number env) ss) rest
+        (all_tabled (with_next_number env) ss (recounted env (env.next + 1) h))
 
   pub blocks_tabled : (env : Env) (starts : List ℕ) (bs : List n.Block) → Tabled k env
       → Tabled k (blocks_after env starts bs)
   blocks_tabled env starts [] h = h
   blocks_tabled env [] (b ∷ bs) h = h
   blocks_tabled env (i ∷ starts) (b ∷ bs) h =
-      blocks_tabled (statement_after (started env i) b.body) starts bs
-      (statement_tabled (started env i) b.body (recounted env i h))
+      blocks_tabled (statement_after (with_first_number env i) b.body) starts bs
+      (statement_tabled (with_first_number env i) b.body (recounted env i h))
 
   -- the variables of a tree with these types
   pub variable_there : (ks : List (Option ℕ)) (us : List checked.Variable) (x : ℕ) (v : plain.Variable) → 3 ≤ k

@@ -8,8 +8,8 @@ use Rattle.sp_tree.specs.PlainNamed as n
 use Rattle.sp_tree.specs.PlainSyntax as syntax
 use Rattle.sp_tree.specs.Plain as plain
 use Rattle.sp_tree.specs.NamedTree.{program_named}
-use Rattle.sp_tree.specs.NameFirst.{names_broken}
-use Rattle.sp_tree.specs.Bare.{bare_statement, bare}
+use Rattle.sp_tree.specs.NameFirst.{broken_name_rules}
+use Rattle.sp_tree.specs.Bare.{bare_statement, without_places}
 use Rattle.sp_tree.specs.Uses.{Use, Target, Seen, CallOf, ParallelOf, ForallOf, Stop, In_stmt}
 use Rattle.sp_tree.specs.Sets.{LeadsToStop}
 use Rattle.sp_tree.specs.Interference.{IsIndexOf, IsFunction, IsFreeOfInterference}
@@ -19,10 +19,10 @@ use Rattle.sp_tree.proofs.NoBreach.{HasIndex, block_at, blocks_kept}
 use Rattle.sp_types.specs.Tables.{env_of}
 use Rattle.sp_types.specs.TypeWalk.{starts_of}
 use Rattle.sp_types.specs.CheckedTree.{program_checked}
-use Rattle.sp_facts.specs.Has.{AnyBranches}
-use Rattle.sp_facts.specs.Each.{Each}
-use Rattle.sp_code.specs.Quiet.{IsQuiet}
-use Rattle.sp_facts.specs.Gives.{KeepsInterference}
+use Rattle.sp_facts.specs.ForkWalk.{AnyBranches}
+use Rattle.sp_facts.specs.ForEach.{HoldsOfEach}
+use Rattle.sp_code.specs.NeverStops.{NeverStops}
+use Rattle.sp_facts.specs.AcceptedTree.{KeepsInterference}
 use Rattle.sp_facts.proofs.Sites.{fit_at, fit_each, blocks_fit}
 use Rattle.sp_facts.proofs.UsesFit.{statement_kept}
 use Rattle.sp_facts.proofs.IndexRoles.{blocks_have}
@@ -32,18 +32,18 @@ use Rattle.sp_facts.proofs.Program.{parents, results, input, output, scoped}
 module _ (g : c.Program) (calm : KeepsInterference g) where
   -- nothing at this site is what a function may not have
   abbrev IsSilent : Site → Type 0
-  IsSilent site = (at : Place) → SiteStops (bare g) site at → ⊥
+  IsSilent site = (at : Place) → SiteStops (without_places g) site at → ⊥
 
   -- nor is this use
   abbrev IsQuietUse : Use → Type 0
   IsQuietUse (Target x) = Unit {0}
   IsQuietUse (Seen x) = Unit {0}
-  IsQuietUse (CallOf f args) = LeadsToStop (bare g) f → ⊥
+  IsQuietUse (CallOf f args) = LeadsToStop (without_places g) f → ⊥
   IsQuietUse (ParallelOf ss) = Unit {0}
   IsQuietUse (ForallOf x s) = Unit {0}
   IsQuietUse Stop = ⊥
 
-  quiet_use : (f : ℕ) (k : c.Block) → slice_get g.blocks f ≡ Some k → IsFunction (bare g) f → (u : Use)
+  quiet_use : (f : ℕ) (k : c.Block) → slice_get g.blocks f ≡ Some k → IsFunction (without_places g) f → (u : Use)
       → In_stmt (bare_statement k.body) u → IsQuietUse u
   quiet_use f k at function u i =
       statement_kept IsSilent IsQuietUse (λ x. tt) (λ x. tt) (λ b here args h leads. h here (refl, leads)) (λ ss h. tt)
@@ -52,8 +52,8 @@ module _ (g : c.Program) (calm : KeepsInterference g) where
       i
 
   -- a function leads to no statement that it may not have
-  pub function_quiet : (f x : ℕ) (b : plain.Block) → slice_get (bare g).blocks f ≡ Some b → b.answer ≡ Some x
-      → IsQuiet (bare g) f
+  pub function_quiet : (f x : ℕ) (b : plain.Block) → slice_get (without_places g).blocks f ≡ Some b → b.answer ≡ Some x
+      → NeverStops (without_places g) f
   function_quiet f x b at ans (k, kat, [], r) =
       let m = block_at g.blocks f k kat in
       quiet_use f m.0 m.1 (b, x, at, ans) Stop (subst (λ (z : plain.Block). In_stmt z.body Stop) (sym m.2) r)
@@ -62,7 +62,7 @@ module _ (g : c.Program) (calm : KeepsInterference g) where
       quiet_use f m.0 m.1 (b, x, at, ans) (CallOf d args)
       (subst (λ (z : plain.Block). In_stmt z.body (CallOf d args)) (sym m.2) h) (next, nat, ds, r)
 
-module _ (s : syntax.Program) (calm : names_broken s ≡ [])
+module _ (s : syntax.Program) (calm : broken_name_rules s ≡ [])
     (kept : KeepsInterference (program_checked (program_named s))) where
   abbrev g_ : c.Program
   g_ = program_checked (program_named s)
@@ -71,14 +71,15 @@ module _ (s : syntax.Program) (calm : names_broken s ≡ [])
   n_ = program_named s
 
   indices_fit : (f : ℕ) (b : c.Block) → slice_get g_.blocks f ≡ Some b
-      → Each (HasIndex (bare g_)) (statement_sites b.body)
-  indices_fit f b at = blocks_fit (HasIndex (bare g_)) (λ f at args. tt) (λ x at s. tt) (λ at. tt) (IsIndexOf (bare g_))
+      → HoldsOfEach (HasIndex (without_places g_)) (statement_sites b.body)
+  indices_fit f b at = blocks_fit (HasIndex (without_places g_)) (λ f at args. tt) (λ x at s. tt)
+      (λ at. tt) (IsIndexOf (without_places g_))
       AnyBranches (λ at x s h. h) (λ env at bs h. tt) (env_of n_) (starts_of n_.blocks) n_.blocks
-      (blocks_have (bare g_) (length n_.constants) 0 n_.blocks (scoped s calm)) f b at
+      (blocks_have (without_places g_) (length n_.constants) 0 n_.blocks (scoped s calm)) f b at
 
-  pub program_free : IsFreeOfInterference (bare g_)
+  pub program_free : IsFreeOfInterference (without_places g_)
   program_free = record {
-    blocks = blocks_kept g_ kept (λ b k at site i. fit_at (HasIndex (bare g_)) (statement_sites k.body) site
+    blocks = blocks_kept g_ kept (λ b k at site i. fit_at (HasIndex (without_places g_)) (statement_sites k.body) site
         (indices_fit b k at) i);
     parents = λ b k q at e. parents s calm b q k at e;
     consoles = consoles s calm;

@@ -9,13 +9,13 @@ use Rattle.sp_tree.specs.Uses.{In_target, In_selectors, In_actuals, In_width, In
 use Rattle.sp_tree.specs.Sites.{Site, SplitsAt, SpreadsAt, CallsAt, StopsAt, expression_sites, form_sites}
 use Rattle.sp_tree.specs.Sites.{variable_sites, selectors_sites, actuals_sites, width_sites, statement_sites}
 use Rattle.sp_tree.specs.Sites.{statements_sites, arms_sites}
-use Rattle.sp_facts.specs.Each.{Each}
+use Rattle.sp_facts.specs.ForEach.{HoldsOfEach}
 
-fit_left : (Fits : Site → Type 0) (xs ys : List Site) → Each Fits (xs ++ ys) → Each Fits xs
+fit_left : (Fits : Site → Type 0) (xs ys : List Site) → HoldsOfEach Fits (xs ++ ys) → HoldsOfEach Fits xs
 fit_left Fits [] ys h = tt
 fit_left Fits (x ∷ xs) ys h = (h.0, fit_left Fits xs ys h.1)
 
-fit_right : (Fits : Site → Type 0) (xs ys : List Site) → Each Fits (xs ++ ys) → Each Fits ys
+fit_right : (Fits : Site → Type 0) (xs ys : List Site) → HoldsOfEach Fits (xs ++ ys) → HoldsOfEach Fits ys
 fit_right Fits [] ys h = h
 fit_right Fits (x ∷ xs) ys h = fit_right Fits xs ys h.1
 
@@ -26,11 +26,12 @@ module _ (Fits : Site → Type 0) (Fine : Use → Type 0) (aims : (x : ℕ) → 
     (spreads : (at : Place) (x : ℕ) (s : p.Statement) → Fits (SpreadsAt at x s)
     → Fine (ForallOf x (bare_statement s))) (stops : (at : Place) → Fits (StopsAt at) → Fine Stop) where
   mutual
-    expression_kept : (e : p.Expression) (u : Use) → Each Fits (expression_sites e) → In_expr (bare_expression e) u
+    expression_kept : (e : p.Expression) (u : Use) → HoldsOfEach Fits (expression_sites e)
+        → In_expr (bare_expression e) u
         → Fine u
-    expression_kept (p.At at k form) u h i = form_kept form u h i
+    expression_kept (p.ExpressionAt at k form) u h i = form_kept form u h i
 
-    form_kept : (e : p.ExpressionForm) (u : Use) → Each Fits (form_sites e) → In_form (bare_form e) u → Fine u
+    form_kept : (e : p.ExpressionForm) (u : Use) → HoldsOfEach Fits (form_sites e) → In_form (bare_form e) u → Fine u
     form_kept (p.Number n) u h i = absurd i
     form_kept (p.Read v) u h i = read_kept v u h i
     form_kept (p.Unary op a) u h i = expression_kept a u h i
@@ -43,15 +44,17 @@ module _ (Fits : Site → Type 0) (Fine : Use → Type 0) (aims : (x : ℕ) → 
     form_kept (p.Standard f p.NoExpression) u h e = subst Fine (sym e) (sees 0)
     form_kept (p.Standard f (p.AndExpression a rest)) u h i = expression_kept a u h i
 
-    read_kept : (v : p.Variable) (u : Use) → Each Fits (variable_sites v) → In_read (bare_variable v) u → Fine u
+    read_kept : (v : p.Variable) (u : Use) → HoldsOfEach Fits (variable_sites v) → In_read (bare_variable v) u → Fine u
     read_kept (p.Entire x at ss) u h (inl e) = subst Fine (sym e) (sees x)
     read_kept (p.Entire x at ss) u h (inr i) = selectors_kept ss u h i
 
-    target_kept : (v : p.Variable) (u : Use) → Each Fits (variable_sites v) → In_target (bare_variable v) u → Fine u
+    target_kept : (v : p.Variable) (u : Use) → HoldsOfEach Fits (variable_sites v) → In_target (bare_variable v) u
+        → Fine u
     target_kept (p.Entire x at ss) u h (inl e) = subst Fine (sym e) (aims x)
     target_kept (p.Entire x at ss) u h (inr i) = selectors_kept ss u h i
 
-    selectors_kept : (ss : p.Selectors) (u : Use) → Each Fits (selectors_sites ss) → In_selectors (bare_selectors ss) u
+    selectors_kept : (ss : p.Selectors) (u : Use) → HoldsOfEach Fits (selectors_sites ss)
+        → In_selectors (bare_selectors ss) u
         → Fine u
     selectors_kept p.Whole u h i = absurd i
     selectors_kept (p.Select (p.Index e) rest) u h (inl i) =
@@ -60,7 +63,8 @@ module _ (Fits : Site → Type 0) (Fine : Use → Type 0) (aims : (x : ℕ) → 
         selectors_kept rest u (fit_right Fits (expression_sites e) (selectors_sites rest) h) i
     selectors_kept (p.Select (p.Field f) rest) u h i = selectors_kept rest u h i
 
-    actuals_kept : (args : p.Actuals) (u : Use) → Each Fits (actuals_sites args) → In_actuals (bare_actuals args) u
+    actuals_kept : (args : p.Actuals) (u : Use) → HoldsOfEach Fits (actuals_sites args)
+        → In_actuals (bare_actuals args) u
         → Fine u
     actuals_kept p.Nothing u h i = absurd i
     actuals_kept (p.Pass (p.ByValue e) rest) u h (inl i) =
@@ -72,7 +76,8 @@ module _ (Fits : Site → Type 0) (Fine : Use → Type 0) (aims : (x : ℕ) → 
     actuals_kept (p.Pass (p.ByReference v) rest) u h (inr i) =
         actuals_kept rest u (fit_right Fits (variable_sites v) (actuals_sites rest) h) i
 
-  width_kept : (w : Option p.Expression) (u : Use) → Each Fits (width_sites w) → In_width (bare_width w) u → Fine u
+  width_kept : (w : Option p.Expression) (u : Use) → HoldsOfEach Fits (width_sites w) → In_width (bare_width w) u
+      → Fine u
   width_kept None u h i = absurd i
   width_kept (Some e) u h i = expression_kept e u h i
 
@@ -83,7 +88,8 @@ module _ (Fits : Site → Type 0) (Fine : Use → Type 0) (aims : (x : ℕ) → 
   stop at u h e = subst Fine (sym e) (stops at h)
 
   mutual
-    pub statement_kept : (s : p.Statement) (u : Use) → Each Fits (statement_sites s) → In_stmt (bare_statement s) u
+    pub statement_kept : (s : p.Statement) (u : Use) → HoldsOfEach Fits (statement_sites s)
+        → In_stmt (bare_statement s) u
         → Fine u
     statement_kept (p.Does n at p.Empty) u h i = absurd i
     statement_kept (p.Does n at (p.Assign v e)) u h (inl i) =
@@ -165,7 +171,8 @@ module _ (Fits : Site → Type 0) (Fine : Use → Type 0) (aims : (x : ℕ) → 
         target_kept v u (fit_right Fits (expression_sites c) (variable_sites v) h.1) i
     statement_kept (p.Does n at (p.Receive c v)) u h (inr (inr e)) = stop at u h.0 e
 
-    statements_kept : (ss : p.Statements) (u : Use) → Each Fits (statements_sites ss) → In_stmts (bare_statements ss) u
+    statements_kept : (ss : p.Statements) (u : Use) → HoldsOfEach Fits (statements_sites ss)
+        → In_stmts (bare_statements ss) u
         → Fine u
     statements_kept p.NoStatement u h i = absurd i
     statements_kept (p.AndThen s rest) u h (inl i) =
@@ -173,7 +180,7 @@ module _ (Fits : Site → Type 0) (Fine : Use → Type 0) (aims : (x : ℕ) → 
     statements_kept (p.AndThen s rest) u h (inr i) =
         statements_kept rest u (fit_right Fits (statement_sites s) (statements_sites rest) h) i
 
-    arms_kept : (arms : p.Arms) (u : Use) → Each Fits (arms_sites arms) → In_arms (bare_arms arms) u → Fine u
+    arms_kept : (arms : p.Arms) (u : Use) → HoldsOfEach Fits (arms_sites arms) → In_arms (bare_arms arms) u → Fine u
     arms_kept p.NoArm u h i = absurd i
     arms_kept (p.Or (p.On cs s) rest) u h (inl i) =
         statement_kept s u (fit_left Fits (statement_sites s) (arms_sites rest) h) i

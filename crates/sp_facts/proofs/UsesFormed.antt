@@ -13,9 +13,9 @@ use Rattle.sp_tree.specs.Uses.{Use, Seen, CallOf, ParallelOf, ForallOf, Stop, In
 use Rattle.sp_tree.specs.Uses.{In_selectors, In_actuals, In_width, In_stmt, In_stmts, In_arms}
 use Rattle.sp_tree.specs.Uses as use_of
 use Rattle.sp_code.specs.Scopes.{Sort, Ordinals, Channels, Many, NoSort, Scope, OfIndex, sort}
-use Rattle.sp_code.specs.Places.{after_value, after_var, after_tests, after}
-use Rattle.sp_code.specs.Stands.{NoIndex, VarRole, VarAt, IsTarget, ValueAt, FormAt, PlaceAt, SelectedAt, ActualsAt}
-use Rattle.sp_code.specs.Stands.{WidthAt, RightAt, StandsAt, AllAt, ChildrenAt, ArmsAt, AnyInstr, AnyTable, AnyText}
+use Rattle.sp_code.specs.Places.{after_value, after_var, after_tests, after_statement}
+use Rattle.sp_code.specs.CodeOfTree.{NoIndex, VarRole, VarAt, IsTarget, ValueAt, FormAt, PlaceAt, SelectedAt, ActualsAt}
+use Rattle.sp_code.specs.CodeOfTree.{WidthAt, RightAt, StandsAt, AllAt, ChildrenAt, ArmsAt, AnyInstr, AnyTable, AnyText}
 
 module _ (p : Program) (input : (v : Variable) × (slice_get p.variables 0 ≡ Some v) × (v.role ≡ role.Console))
     (output : (v : Variable) × (slice_get p.variables 1 ≡ Some v) × (v.role ≡ role.Console))
@@ -40,14 +40,14 @@ module _ (p : Program) (input : (v : Variable) × (slice_get p.variables 0 ≡ S
   abbrev Selected : List Scope → ℕ → Selectors → ℕ → ℕ → Type 0
   Selected = SelectedAt p moves shares AnyInstr AnyTable AnyText hush
 
-  abbrev Passed : List Scope → ℕ → Actuals → List ℕ → Type 0
-  Passed = ActualsAt p moves shares AnyInstr AnyTable AnyText hush
+  abbrev ActualsInCode : List Scope → ℕ → Actuals → List ℕ → Type 0
+  ActualsInCode = ActualsAt p moves shares AnyInstr AnyTable AnyText hush
 
   abbrev Target : Var → Type 0
   Target = IsTarget p moves shares AnyInstr AnyTable AnyText hush
 
-  abbrev Stands : List Scope → ℕ → Stmt → Type 0
-  Stands = StandsAt p moves shares AnyInstr AnyTable AnyText hush true
+  abbrev StatementInCode : List Scope → ℕ → Stmt → Type 0
+  StatementInCode = StandsAt p moves shares AnyInstr AnyTable AnyText hush true
 
   no_index : (r : Role) → NoIndex r → r ≡ role.Index → ⊥
   no_index role.Console d e = cc e
@@ -111,7 +111,7 @@ module _ (p : Program) (input : (v : Variable) × (slice_get p.variables 0 ≡ S
     selectors_uses sc q (Select (Field f) rest) k k2 (fs, name, t, at, there, is, more) u i =
         selectors_uses sc (q + 1) rest t k2 more u i
 
-    actuals_uses : (sc : List Scope) (q : ℕ) (args : Actuals) (xs : List ℕ) → Passed sc q args xs → (u : Use)
+    actuals_uses : (sc : List Scope) (q : ℕ) (args : Actuals) (xs : List ℕ) → ActualsInCode sc q args xs → (u : Use)
         → In_actuals args u → IsGoodUse u
     actuals_uses sc q Nothing xs h u i = absurd i
     actuals_uses sc q (Pass a rest) [] h u i = absurd h
@@ -141,7 +141,8 @@ module _ (p : Program) (input : (v : Variable) × (slice_get p.variables 0 ≡ S
   right_uses sc q k NoSort form h u i = absurd h
 
   mutual
-    pub stands_uses : (sc : List Scope) (q : ℕ) (s : Stmt) → Stands sc q s → (u : Use) → In_stmt s u → IsGoodUse u
+    pub stands_uses : (sc : List Scope) (q : ℕ) (s : Stmt) → StatementInCode sc q s → (u : Use) → In_stmt s u
+        → IsGoodUse u
     stands_uses sc q Empty h u i = absurd i
     stands_uses sc q (Assign v (Typed k form)) h u (inl i) = target_uses sc q v k h.0 h.1 u i
     stands_uses sc q (Assign v (Typed k form)) h u (inr i) = right_uses sc (after_var q v) k (sort p k) form h.2 u i
@@ -152,10 +153,11 @@ module _ (p : Program) (input : (v : Variable) × (slice_get p.variables 0 ≡ S
     stands_uses sc q (If e a) h u (inr i) = stands_uses sc (after_value q e + 1) a h.2 u i
     stands_uses sc q (IfElse e a b) h u (inl i) = value_uses sc q e h.0.0 u i
     stands_uses sc q (IfElse e a b) h u (inr (inl i)) = stands_uses sc (after_value q e + 1) a h.2 u i
-    stands_uses sc q (IfElse e a b) h u (inr (inr i)) = stands_uses sc (after p (after_value q e + 1) a + 1) b h.4 u i
+    stands_uses sc q (IfElse e a b) h u (inr (inr i)) = stands_uses sc (after_statement p (after_value q e + 1) a + 1) b
+        h.4 u i
     stands_uses sc q (While e s) h u (inl i) = value_uses sc q e h.0.0 u i
     stands_uses sc q (While e s) h u (inr i) = stands_uses sc (after_value q e + 1 + 1) s h.3 u i
-    stands_uses sc q (Repeat s e) h u (inl i) = value_uses sc (after p (q + 1) s) e h.2.0 u i
+    stands_uses sc q (Repeat s e) h u (inl i) = value_uses sc (after_statement p (q + 1) s) e h.2.0 u i
     stands_uses sc q (Repeat s e) h u (inr i) = stands_uses sc (q + 1) s h.1 u i
     stands_uses sc q (For x from down to s) (f, t, ((v, at, local, level, ordinal), first, tick, body, last)) u
         (inl e) = subst IsGoodUse (sym e) (v, at, λ (z : v.role ≡ role.Index). cc (sym local ∙ z))
@@ -208,18 +210,18 @@ module _ (p : Program) (input : (v : Variable) × (slice_get p.variables 0 ≡ S
         → (u : Use) → In_stmts ss u → IsGoodUse u
     all_uses sc q No h u i = absurd i
     all_uses sc q (And s rest) h u (inl i) = stands_uses sc q s h.0 u i
-    all_uses sc q (And s rest) h u (inr i) = all_uses sc (after p q s) rest h.1 u i
+    all_uses sc q (And s rest) h u (inr i) = all_uses sc (after_statement p q s) rest h.1 u i
 
     children_uses : (sc : List Scope) (q : ℕ) (ss : Stmts)
         → ChildrenAt p moves shares AnyInstr AnyTable AnyText hush true sc q ss → (u : Use) → In_stmts ss u
         → IsGoodUse u
     children_uses sc q No h u i = absurd i
     children_uses sc q (And s rest) h u (inl i) = stands_uses sc q s h.0 u i
-    children_uses sc q (And s rest) h u (inr i) = children_uses sc (after p q s + 1) rest h.2 u i
+    children_uses sc q (And s rest) h u (inr i) = children_uses sc (after_statement p q s + 1) rest h.2 u i
 
     arms_uses : (sc : List Scope) (q : ℕ) (arms : Arms) (end : ℕ)
         → ArmsAt p moves shares AnyInstr AnyTable AnyText hush true sc q arms end → (u : Use) → In_arms arms u
         → IsGoodUse u
     arms_uses sc q NoArm end h u i = absurd i
     arms_uses sc q (Or (On ms s) rest) end h u (inl i) = stands_uses sc q s h.0 u i
-    arms_uses sc q (Or (On ms s) rest) end h u (inr i) = arms_uses sc (after p q s + 1) rest end h.2 u i
+    arms_uses sc q (Or (On ms s) rest) end h u (inr i) = arms_uses sc (after_statement p q s + 1) rest end h.2 u i

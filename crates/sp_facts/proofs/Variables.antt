@@ -10,24 +10,26 @@ use Rattle.sp_tree.specs.NameWalk.{role_of}
 use Rattle.sp_tree.specs.NamedTree.{kind_number, variables_named, formals_named, answer_named, indices, form_indices}
 use Rattle.sp_tree.specs.NamedTree.{other_indices, statements_indices, arms_indices, branches_indices}
 use Rattle.sp_tree.specs.PlainSyntax.{Statement, Does, Form, Empty, Assign, Call, Sequence, If, While, Repeat, For}
-use Rattle.sp_tree.specs.PlainSyntax.{Case, Parallel, Forall, Assume, Other, NoElse, Else, Statements, NoStatement}
+use Rattle.sp_tree.specs.PlainSyntax.{Case, Parallel, Forall, Assume, ElsePart, NoElse, Else, Statements, NoStatement}
 use Rattle.sp_tree.specs.PlainSyntax.{AndThen, On, Arms, NoArm, Or, Branches, NoBranch, Beside}
-use Rattle.sp_facts.specs.Each.{Each}
+use Rattle.sp_facts.specs.ForEach.{HoldsOfEach}
 
-pub each_join : {A : Type 0} (P : A → Type 0) (xs ys : List A) → Each P xs → Each P ys → Each P (xs ++ ys)
+pub each_join : {A : Type 0} (P : A → Type 0) (xs ys : List A) → HoldsOfEach P xs → HoldsOfEach P ys
+    → HoldsOfEach P (xs ++ ys)
 each_join P [] ys h k = k
 each_join P (x ∷ xs) ys h k = (h.0, each_join P xs ys h.1 k)
 
 module _ (P : checked.Variable → Type 0) (block : ℕ) where
   pub names_each : (r : Role) (k : ℕ) (xs : List Name)
       → ((x : Name) → P (record { name = x.text; kind = k; block = block; role = r; at = x.at }))
-      → Each P (variables_named block r k xs)
+      → HoldsOfEach P (variables_named block r k xs)
   names_each r k [] h = tt
   names_each r k (x ∷ xs) h = (h x, names_each r k xs h)
 
   pub formals_each : (env : Env) (fs : List SynFormal)
       → ((x : Name) (k : ℕ) (b : Bool) → P (record
-      { name = x.text; kind = k; block = block; role = role_of b; at = x.at })) → Each P (formals_named env block fs)
+      { name = x.text; kind = k; block = block; role = role_of b; at = x.at }))
+      → HoldsOfEach P (formals_named env block fs)
   formals_each env [] h = tt
   formals_each env (f ∷ fs) h =
       let k = kind_number (find env f.kind.text) in
@@ -36,7 +38,7 @@ module _ (P : checked.Variable → Type 0) (block : ℕ) where
 
   pub answer_each : (env : Env) (x : Name) (answer : Option Name)
       → ((k : ℕ) → P (record { name = x.text; kind = k; block = block; role = role.Answer; at = x.at }))
-      → Each P (answer_named env block x answer)
+      → HoldsOfEach P (answer_named env block x answer)
   answer_each env x None h = tt
   answer_each env x (Some t) h = (h (kind_number (find env t.text)), tt)
 
@@ -49,10 +51,10 @@ module _ (P : checked.Variable → Type 0) (block : ℕ) where
     at = x.at;
   })) where
     mutual
-      pub indices_each : (s : Statement) → Each P (indices block s)
+      pub indices_each : (s : Statement) → HoldsOfEach P (indices block s)
       indices_each (Does at form) = form_each form
 
-      form_each : (form : Form) → Each P (form_indices block form)
+      form_each : (form : Form) → HoldsOfEach P (form_indices block form)
       form_each Empty = tt
       form_each (Assign v e) = tt
       form_each (Call f args) = tt
@@ -66,21 +68,21 @@ module _ (P : checked.Variable → Type 0) (block : ℕ) where
       form_each (Forall x from to a) = (one x, indices_each a)
       form_each (Assume e) = tt
 
-      other_each : (o : Other) → Each P (other_indices block o)
+      other_each : (o : ElsePart) → HoldsOfEach P (other_indices block o)
       other_each NoElse = tt
       other_each (Else a) = indices_each a
 
-      statements_each : (ss : Statements) → Each P (statements_indices block ss)
+      statements_each : (ss : Statements) → HoldsOfEach P (statements_indices block ss)
       statements_each NoStatement = tt
       statements_each (AndThen a rest) = each_join P (indices block a) (statements_indices block rest) (indices_each a)
           (statements_each rest)
 
-      arms_each : (arms : Arms) → Each P (arms_indices block arms)
+      arms_each : (arms : Arms) → HoldsOfEach P (arms_indices block arms)
       arms_each NoArm = tt
       arms_each (Or (On cs a) rest) = each_join P (indices block a) (arms_indices block rest) (indices_each a)
           (arms_each rest)
 
-      branches_each : (bs : Branches) → Each P (branches_indices block bs)
+      branches_each : (bs : Branches) → HoldsOfEach P (branches_indices block bs)
       branches_each NoBranch = tt
       branches_each (Beside ss rest) = each_join P (statements_indices block ss) (branches_indices block rest)
           (statements_each ss) (branches_each rest)

@@ -11,7 +11,7 @@ use Rattle.sp_tree.specs.declared.named.NamedKindForm.TheVariants as form
 use Rattle.sp_types.specs.declared.tables.Ordinal.{Ordinal}
 use Rattle.sp_types.specs.Tables.{const_value}
 use Rattle.sp_tree.specs.Formed.{AreBefore}
-use Rattle.sp_facts.specs.Each.{Each}
+use Rattle.sp_facts.specs.ForEach.{HoldsOfEach}
 use Rattle.sp_tree.specs.declared.checked.Variable as checked
 
 -- the definition of type j
@@ -32,7 +32,7 @@ AreEarlier j (k ∷ ks) = IsEarlier j k.form × AreEarlier (suc j) ks
 
 -- the types of these variables have lower numbers
 abbrev pub HaveTypes : ℕ → List checked.Variable → Type 0
-HaveTypes k = Each (λ (u : checked.Variable). suc u.kind ≤ k)
+HaveTypes k = HoldsOfEach (λ (u : checked.Variable). suc u.kind ≤ k)
 
 -- a constant of the text has a value
 abbrev pub HasValue : List (Option Ordinal) → NamedConst → Type 0

@@ -12,7 +12,7 @@ use Rattle.sp_tree.specs.Plain.{Program, Variable, Block}
 use Rattle.sp_tree.specs.PlainNamed as n
 use Rattle.sp_code.specs.Scopes.{Scope, OfBlock, OfIndex, is_block, is_index, level, scopes_of}
 use Rattle.sp_types.specs.TypeWalk.{count, is_variable}
-use Rattle.sp_code.specs.Stands.{NoIndex}
+use Rattle.sp_code.specs.CodeOfTree.{NoIndex}
 
 -- a condition that is asked for only where a test says so
 abbrev pub Where : Bool → Type 0 → Type 0
@@ -66,12 +66,12 @@ module _ (p : Program) (constants : ℕ) where
       × ((level (is_block v.block) sc ≡ Some 0) ⊎ IsInForall sc)
 
   abbrev pub AimedExpression : n.Expression → Type 0
-  AimedExpression (n.At at (n.Read (n.Entire x name ss))) = AimedIn x
+  AimedExpression (n.ExpressionAt at (n.Read (n.Entire x name ss))) = AimedIn x
   AimedExpression e = Unit {0}
 
   abbrev mutual
     pub InExpression : List Scope → n.Expression → Type 0
-    InExpression sc (n.At at form) = InForm sc form
+    InExpression sc (n.ExpressionAt at form) = InForm sc form
 
     pub InForm : List Scope → n.ExpressionForm → Type 0
     InForm sc (n.Number k) = Unit {0}
@@ -107,12 +107,12 @@ module _ (p : Program) (constants : ℕ) where
 
     pub InWidth : List Scope → n.Width → Type 0
     InWidth sc n.NoWidth = Unit {0}
-    InWidth sc (n.Within e) = InExpression sc e
+    InWidth sc (n.WithWidth e) = InExpression sc e
 
   -- what `read`, `open` and `receive` are given
   abbrev pub AreAimed : n.Arguments → Type 0
   AreAimed n.NoArgument = Unit {0}
-  AreAimed (n.AndArgument (n.Pass (n.At at (n.Read (n.Entire x name ss))) w) rest) = AimedIn x × AreAimed rest
+  AreAimed (n.AndArgument (n.Pass (n.ExpressionAt at (n.Read (n.Entire x name ss))) w) rest) = AimedIn x × AreAimed rest
   AreAimed (n.AndArgument a rest) = ⊥
 
   abbrev pub AreAimedLater : n.Arguments → Type 0
@@ -151,7 +151,7 @@ module _ (p : Program) (constants : ℕ) where
         × InExpression sc to × InStatement (OfIndex x ∷ sc) a
     InStatementForm sc (n.Assume e) = InExpression sc e
 
-    pub InOther : List Scope → n.Other → Type 0
+    pub InOther : List Scope → n.ElsePart → Type 0
     InOther sc n.NoElse = Unit {0}
     InOther sc (n.Else a) = InStatement sc a
 

@@ -17,8 +17,9 @@
 //!   and each block of it is fine, whatever sets its forks are given.
 //!
 //! To know:
-//! - `specs/Scoped.antt` says what names give, `Knows` what tables know, `Filled` and `Has` what the grammar gives;
-//!   `Has` leaves open what is asked of each forall and parallel statement.
+//! - `specs/Scoped.antt` says what names give, `MatchingTables` what tables know, `NonEmptyRecords` and `ForkWalk` what
+//!   the grammar gives;
+//!   `ForkWalk` leaves open what is asked of each forall and parallel statement.
 //! - `proofs/Joining` joins the facts of names and types for a text; `SmallTypes` has the cells of types.
 //!
 //! To change:

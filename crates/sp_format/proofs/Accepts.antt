@@ -15,21 +15,22 @@ use Rattle.sp_tree.specs.Scans.{Scans, BreaksHere, BreaksAlong, LongText, IsToke
 use Rattle.sp_base.specs.declared.halt.Refusal.{Refusal}
 use Rattle.sp_tree.specs.Breaches.{nesting, BreaksGrammar, IsFirstBroken}
 use Rattle.sp_grammar.specs.Symbols.{Symbol, AProgram, AHeading, Value, part}
-use Rattle.sp_grammar.specs.Table.{Entry, Row, rows, look, gap}
-use Rattle.sp_grammar.specs.Machine.{skips_if, allows, acts, act, Next, On, No, acted, after, going, End, Done, Stuck}
+use Rattle.sp_grammar.specs.Table.{RowEntry, Row, rows, look, gap}
+use Rattle.sp_grammar.specs.Machine.{skips_if, allows, acts, act, NextStack, On, No, next_of_act, next_behind, end_from}
+use Rattle.sp_grammar.specs.Machine.{RunEnd, Done, StuckAt}
 use Rattle.sp_grammar.specs.Machine.{run}
 use Rattle.sp_grammar.specs.Stops.{refusal_of}
-use Rattle.sp_grammar.proofs.Completes.{All, none, and, back}
+use Rattle.sp_grammar.proofs.Completes.{TokensOfAll, none, and, back}
 use Rattle.sp_grammar.proofs.Firsts.{first_broken, spells, none_broken}
 use Rattle.sp_grammar.proofs.Rising.{lexeme_length, comment_length}
 use Rattle.sp_grammar.proofs.OneList.{not_both, one_comment, same_rest, blank_opens, opens, differ, not_blank}
 use Rattle.sp_scan.proofs.Breaches.{fine_blank, comment_item}
 use Rattle.sp_scan.proofs.Scanning.{nothing_here, lexis}
 use Rattle.sp_format.specs.Items.{Item, HasItems}
-use Rattle.sp_format.specs.Layout.{canonical}
+use Rattle.sp_format.specs.Layout.{canonical_text}
 use Rattle.sp_format.specs.Formats.{HasTree, IsCanonical, IsLong}
 use Rattle.sp_format.proofs.Walking.{one_items}
-use Rattle.sp_format.proofs.Follows.{Kept, kept_end, kept_blank, kept_comment, kept_token, has_items, kinds_of}
+use Rattle.sp_format.proofs.Follows.{KeptItems, kept_end, kept_blank, kept_comment, kept_token, has_items, kinds_of}
 use Rattle.sp_format.proofs.Follows.{canonical_kept}
 
 -- ---- tokens
@@ -39,7 +40,7 @@ record Tokens (text bs : List ℕ) (ks : List Kind) : Type 0 where
   scans : Scans text bs [] tokens
   kinds : map (λ t. t.kind) tokens ≡ ks
 
-tokens_of : (text : List ℕ) {bs : List ℕ} {is : List Item} → Kept bs is → Tokens text bs (kinds_of is)
+tokens_of : (text : List ℕ) {bs : List ℕ} {is : List Item} → KeptItems bs is → Tokens text bs (kinds_of is)
 tokens_of text kept_end = record { tokens = []; scans = s.nothing; kinds = refl }
 tokens_of text (kept_blank b h x) = let y = tokens_of text x in
     record { tokens = y.tokens; scans = s.blank b h y.scans; kinds = y.kinds }
@@ -53,7 +54,7 @@ tokens_of text (kept_token {bs = bs} {u = u} k o l f x) = let y = tokens_of text
     }
 
 -- nor anywhere along such bytes
-fine : {text bs rest : List ℕ} {is : List Item} {ts : List Token} → Kept bs is → Scans text bs rest ts → (r : Rule)
+fine : {text bs rest : List ℕ} {is : List Item} {ts : List Token} → KeptItems bs is → Scans text bs rest ts → (r : Rule)
     → BreaksHere r rest → ⊥
 fine kept_end s.nothing r b = nothing_here r b
 fine kept_end (s.comment c z) r b = let l = comment_length c in omega arith
@@ -73,12 +74,12 @@ fine (kept_token k o l f x) (s.comment c z) r b = differ (opens c) o
 fine {text} {rest = rest} (kept_token k o l f x) (s.token {ts = ts} j o' m z) r b =
     fine x (subst (λ u. Scans text u rest ts) (same_rest [] m l) z) r b
 
-no_lexis : (text : List ℕ) {is : List Item} → Kept text is → length text ≤ 1048576 → (r : Rule) (at : Place)
+no_lexis : (text : List ℕ) {is : List Item} → KeptItems text is → length text ≤ 1048576 → (r : Rule) (at : Place)
     → LongText text at ⊎ BreaksAlong text r at → ⊥
 no_lexis text x l r at (inl b) = let h = b.above in omega arith
 no_lexis text x l r at (inr b) = fine x b.along r b.here
 
-is_tokens : (text : List ℕ) {is : List Item} (x : Kept text is) → length text ≤ 1048576
+is_tokens : (text : List ℕ) {is : List Item} (x : KeptItems text is) → length text ≤ 1048576
     → IsTokens text (tokens_of text x).tokens
 is_tokens text x l = record {
   scans = (tokens_of text x).scans;
@@ -89,10 +90,11 @@ is_tokens text x l = record {
 
 -- the machine takes all tokens where no rule is broken
 done_by : (text : List ℕ) (ts : List Token) → Scans text text [] ts
-    → ((r : Rule) (at : Place) → BreaksGrammar text ts r at → ⊥) → (e : End) → run (Some nesting) ts (AProgram ∷ []) ≡ e
+    → ((r : Rule) (at : Place) → BreaksGrammar text ts r at → ⊥) → (e : RunEnd)
+    → run (Some nesting) ts (AProgram ∷ []) ≡ e
     → e ≡ Done
 done_by text ts x f Done q = refl
-done_by text ts x f (Stuck w rest) q =
+done_by text ts x f (StuckAt w rest) q =
     let r = refusal_of text w rest in
     let b = first_broken text ts x r (record { why = w; rest = rest; by = q; is = refl }) in
     absurd (f r.rule r.at b.breaks)
@@ -101,7 +103,7 @@ gap_same : (s : Symbol) (t u : Token) → skips_if (gap s t) ≡ skips_if (gap s
 gap_same AHeading t u = refl
 gap_same s t u = refl
 
-acts_same : {s : Symbol} (b : Bool) (o : Option (Entry (Row s))) (g h : Option (Value s)) → skips_if g ≡ skips_if h
+acts_same : {s : Symbol} (b : Bool) (o : Option (RowEntry (Row s))) (g h : Option (Value s)) → skips_if g ≡ skips_if h
     → acts b o g ≡ acts b o h
 acts_same b None g h e = e
 acts_same b (Some x) g h e = refl
@@ -111,13 +113,14 @@ act_same reach s t u e =
     acts_same (allows reach (part s)) (look (rows s) t.kind) (gap s t) (gap s u) (gap_same s t u)
     ∙ ap (λ k. acts (allows reach (part s)) (look (rows s) k) (gap s u)) e
 
-after_same : (reach : Option ℕ) (q : List Symbol) (t u : Token) → t.kind ≡ u.kind → after reach q t ≡ after reach q u
+after_same : (reach : Option ℕ) (q : List Symbol) (t u : Token) → t.kind ≡ u.kind
+    → next_behind reach q t ≡ next_behind reach q u
 after_same reach [] t u e = refl
-after_same reach (s ∷ q) t u e = λ i. acted (act_same reach s t u e i) q (after_same reach q t u e i)
+after_same reach (s ∷ q) t u e = λ i. next_of_act (act_same reach s t u e i) q (after_same reach q t u e i)
 
-run_same_by : (reach : Option ℕ) (t u : Token) (ts us : List Token) (n m : Next) → n ≡ m
-    → going n (t ∷ ts) (run reach ts) ≡ Done → ((q : List Symbol) → run reach ts q ≡ Done → run reach us q ≡ Done)
-    → going m (u ∷ us) (run reach us) ≡ Done
+run_same_by : (reach : Option ℕ) (t u : Token) (ts us : List Token) (n m : NextStack) → n ≡ m
+    → end_from n (t ∷ ts) (run reach ts) ≡ Done → ((q : List Symbol) → run reach ts q ≡ Done → run reach us q ≡ Done)
+    → end_from m (u ∷ us) (run reach us) ≡ Done
 run_same_by reach t u ts us (On q) (On r) e d go = let same : q ≡ r = cc in
     go r (subst (λ q. run reach ts q ≡ Done) same d)
 run_same_by reach t u ts us (On q) (No w) e d go = absurd cc
@@ -131,35 +134,36 @@ run_same reach (t ∷ ts) [] e q d = absurd cc
 run_same reach (t ∷ ts) (u ∷ us) e q d =
     let head : t.kind ≡ u.kind = cc in
     let tail : map (λ t. t.kind) ts ≡ map (λ t. t.kind) us = cc in
-    run_same_by reach t u ts us (after reach q t) (after reach q u) (after_same reach q t u head) d
+    run_same_by reach t u ts us (next_behind reach q t) (next_behind reach q u) (after_same reach q t u head) d
     (λ q d. run_same reach ts us tail q d)
 
 -- tokens that the machine takes whole spell a program
-takes_by : (text : List ℕ) (t : Token) (ts : List Token) (q : List Symbol) (n : Next) → after (Some nesting) q t ≡ n
-    → going n (t ∷ ts) (run (Some nesting) ts) ≡ Done
-    → ((r : List Symbol) → run (Some nesting) ts r ≡ Done → All text (Shallow nesting 0) r ts [])
-    → All text (Shallow nesting 0) q (t ∷ ts) []
+takes_by : (text : List ℕ) (t : Token) (ts : List Token) (q : List Symbol) (n : NextStack)
+    → next_behind (Some nesting) q t ≡ n
+    → end_from n (t ∷ ts) (run (Some nesting) ts) ≡ Done
+    → ((r : List Symbol) → run (Some nesting) ts r ≡ Done → TokensOfAll text (Shallow nesting 0) r ts [])
+    → TokensOfAll text (Shallow nesting 0) q (t ∷ ts) []
 takes_by text t ts q (On r) e d go = back text (Shallow nesting 0) (Some nesting)
     (λ d t ts h. λ g. ltb-true d nesting h) q t r e ts [] (go r d)
 takes_by text t ts q (No w) e d go = absurd cc
 
 takes : (text : List ℕ) (ts : List Token) (q : List Symbol) → run (Some nesting) ts q ≡ Done
-    → All text (Shallow nesting 0) q ts []
+    → TokensOfAll text (Shallow nesting 0) q ts []
 takes text [] [] d = none
 takes text [] (s ∷ q) d = absurd cc
-takes text (t ∷ ts) q d = takes_by text t ts q (after (Some nesting) q t) refl d (λ r d. takes text ts r d)
+takes text (t ∷ ts) q d = takes_by text t ts q (next_behind (Some nesting) q t) refl d (λ r d. takes text ts r d)
 
-spelled : (text : List ℕ) (ts : List Token) → All text (Shallow nesting 0) (AProgram ∷ []) ts [] → (p : Program)
+spelled : (text : List ℕ) (ts : List Token) → TokensOfAll text (Shallow nesting 0) (AProgram ∷ []) ts [] → (p : Program)
     × IsProgram text (Shallow nesting 0) ts [] p
 spelled text ts (and p none) = p
 
 -- ---- the canonical text
 
 pub canonical_tree : {text : List ℕ} {is : List Item} → HasTree text → HasItems text is
-    → length (canonical is) ≤ 1048576 → HasTree (canonical is)
+    → length (canonical_text is) ≤ 1048576 → HasTree (canonical_text is)
 canonical_tree {text} {is} (p, t) x l =
     let y = canonical_kept p t x in
-    let out : List ℕ = canonical is in
+    let out : List ℕ = canonical_text is in
     let z = tokens_of out y.kept in
     let d : run (Some nesting) t.tokens (AProgram ∷ []) ≡ Done =
     done_by text t.tokens t.are_tokens.scans t.kept (run (Some nesting) t.tokens (AProgram ∷ [])) refl in
@@ -194,7 +198,7 @@ pub not_refused : {text out : List ℕ} (r : Refusal) → HasTree text → IsCan
 not_refused {text} {out} r t p (inl b) = let h = accepted t p in not_both out h.0 r h.1 b
 not_refused {text} {out} r t p (inr (h, b)) =
     let o = is_own t p in
-    let same : canonical b.items ≡ out = ap canonical (one_items b.has o.has) ∙ back_of o.is in
+    let same : canonical_text b.items ≡ out = ap canonical_text (one_items b.has o.has) ∙ back_of o.is in
     let l = b.long in
     let m = p.short in
     omega (arith, ap length same)

@@ -8,16 +8,17 @@ use Rattle.std.proofs.Math.Seq.{take-append_seam}
 use Rattle.std.proofs.lemmas.Bool.{false_from_ne_true}
 use Rattle.sp_tree.specs.declared.token.Kind.{Kind}
 use Rattle.sp_tree.specs.declared.token.Kind.TheVariants as kind
-use Rattle.sp_tree.specs.Characters.{is_letter, is_digit, is_name_byte, lower}
+use Rattle.sp_tree.specs.Characters.{is_letter, is_digit, is_name_byte, lower_case_letter}
 use Rattle.sp_tree.specs.Lexemes.{signs, Lacks, Run, run_ends, run_goes_on, TextBody, text_ends, two_quotes, text_byte}
 use Rattle.sp_tree.specs.Lexemes.{BraceBody, brace_ends, brace_byte, StarBody, star_ends, star_byte, Comment}
-use Rattle.sp_tree.specs.Lexemes.{brace_comment, star_comment, opens_comment, lowered, Lexeme, name, word, number, text}
+use Rattle.sp_tree.specs.Lexemes.{brace_comment, star_comment, opens_comment, lower_case_prefix, Lexeme, name, word}
+use Rattle.sp_tree.specs.Lexemes.{number, text}
 use Rattle.sp_tree.specs.Lexemes.{sign, Longest}
-use Rattle.sp_grammar.proofs.Rising.{Each, each_at}
+use Rattle.sp_grammar.proofs.Rising.{HoldsOfEach, each_at}
 use Rattle.sp_grammar.proofs.OneList.{sign_plain, no_letter, no_digit, no_quote, differ}
 use Rattle.sp_scan.specs.Finds.{IsWordOf}
 use Rattle.sp_scan.proofs.Tokens.{longest_name, longest_number, longest_text, longest_sign}
-use Rattle.sp_format.specs.Items.{spelled, front}
+use Rattle.sp_format.specs.Items.{canonical_spelling, front}
 
 -- the bytes in front of the rest, and that they are such bytes in front of another rest too
 record Splits (R : List ℕ → Type 0) (bs u : List ℕ) : Type 0 where
@@ -37,39 +38,39 @@ runs run_ends = record { bytes = []; whole = refl; again = λ r. run_ends }
 runs (run_goes_on b h x) = let y = runs x in
     record { bytes = b ∷ y.bytes; whole = ap (λ l. b ∷ l) y.whole; again = λ r. run_goes_on b h (y.again r) }
 
-lower_name : (b : ℕ) → is_name_byte b ≡ true → is_name_byte (lower b) ≡ true
+lower_name : (b : ℕ) → is_name_byte b ≡ true → is_name_byte (lower_case_letter b) ≡ true
 lower_name b h = grind (arith, nat_tests)
 
-lower_letter : (b : ℕ) → is_letter b ≡ true → is_letter (lower b) ≡ true
+lower_letter : (b : ℕ) → is_letter b ≡ true → is_letter (lower_case_letter b) ≡ true
 lower_letter b h = grind (arith, nat_tests)
 
-lower_twice : (b : ℕ) → lower (lower b) ≡ lower b
+lower_twice : (b : ℕ) → lower_case_letter (lower_case_letter b) ≡ lower_case_letter b
 lower_twice b = grind (arith, nat_tests)
 
-pub map_twice : (c : List ℕ) → map lower (map lower c) ≡ map lower c
+pub map_twice : (c : List ℕ) → map lower_case_letter (map lower_case_letter c) ≡ map lower_case_letter c
 map_twice [] = refl
 map_twice (b ∷ c) = λ i. lower_twice b i ∷ map_twice c i
 
 low_runs : {bs u : List ℕ} → Run is_name_byte bs u
-    → Splits (λ c. (r : List ℕ) → Run is_name_byte (map lower c ++ r) r) bs u
+    → Splits (λ c. (r : List ℕ) → Run is_name_byte (map lower_case_letter c ++ r) r) bs u
 low_runs run_ends = record { bytes = []; whole = refl; again = λ r. run_ends }
 low_runs (run_goes_on b h x) = let y = low_runs x in
     record {
       bytes = b ∷ y.bytes;
       whole = ap (λ l. b ∷ l) y.whole;
-      again = λ r. run_goes_on (lower b) (lower_name b h) (y.again r);
+      again = λ r. run_goes_on (lower_case_letter b) (lower_name b h) (y.again r);
     }
 
 -- the bytes do not begin with one that passes the test
-abbrev pub Stops : (ℕ → Bool) → List ℕ → Type 0
-Stops p [] = Unit {0}
-Stops p (b ∷ bs) = p b ≡ false
+abbrev pub StopsRun : (ℕ → Bool) → List ℕ → Type 0
+StopsRun p [] = Unit {0}
+StopsRun p (b ∷ bs) = p b ≡ false
 
-stops_here : {p : ℕ → Bool} {r other : List ℕ} → Stops p r → Run p r other → length r ≤ length other
+stops_here : {p : ℕ → Bool} {r other : List ℕ} → StopsRun p r → Run p r other → length r ≤ length other
 stops_here s run_ends = omega arith
 stops_here s (run_goes_on b h x) = absurd (differ h s)
 
-stops_behind : {p : ℕ → Bool} (c r : List ℕ) {other : List ℕ} → Stops p r → Run p (c ++ r) other
+stops_behind : {p : ℕ → Bool} (c r : List ℕ) {other : List ℕ} → StopsRun p r → Run p (c ++ r) other
     → length r ≤ length other
 stops_behind [] r s x = stops_here s x
 stops_behind (b ∷ c) r s run_ends = omega (arith, length-append c r)
@@ -132,12 +133,12 @@ goes_on (a ∷ []) y = (a == 60 && (y == 62 || y == 61))
 goes_on c y = false
 
 -- what follows is no part of a token of this kind that is spelled so
-abbrev pub Parts : Kind → List ℕ → List ℕ → Type 0
-Parts kind.Name c r = Stops is_name_byte r
-Parts (kind.Word n) c r = Stops is_name_byte r
-Parts kind.Number c r = Stops is_digit r
-Parts kind.Text c r = Lacks 39 r
-Parts (kind.Sign n) c r = Stops (goes_on c) r
+abbrev pub NotPartOfToken : Kind → List ℕ → List ℕ → Type 0
+NotPartOfToken kind.Name c r = StopsRun is_name_byte r
+NotPartOfToken (kind.Word n) c r = StopsRun is_name_byte r
+NotPartOfToken kind.Number c r = StopsRun is_digit r
+NotPartOfToken kind.Text c r = Lacks 39 r
+NotPartOfToken (kind.Sign n) c r = StopsRun (goes_on c) r
 
 -- there it is read as the same token
 abbrev pub ReadsToken : Kind → List ℕ → List ℕ → Type 0
@@ -157,22 +158,24 @@ quote_opens b (c ∷ bs) h = grind (arith, nat_tests)
 
 -- names and words
 word_again : (k : Kind) (b : ℕ) (bs u : List ℕ) → is_letter b ≡ true → Run is_name_byte bs u
-    → IsWordOf (lowered (b ∷ bs) u) k → (r : List ℕ) → Stops is_name_byte r
-    → ReadsToken k (map lower (front (b ∷ bs) u)) r
+    → IsWordOf (lower_case_prefix (b ∷ bs) u) k → (r : List ℕ) → StopsRun is_name_byte r
+    → ReadsToken k (map lower_case_letter (front (b ∷ bs) u)) r
 word_again k b bs u h x w r s =
     let y = low_runs x in
     let e : front (b ∷ bs) u ≡ b ∷ y.bytes = front_is (b ∷ bs) (b ∷ y.bytes) u (ap (λ l. b ∷ l) y.whole) in
-    let c : List ℕ = map lower y.bytes in
-    let f : lowered (lower b ∷ (c ++ r)) r ≡ lowered (b ∷ bs) u =
-    ap (map lower) (front_is (lower b ∷ (c ++ r)) (lower b ∷ c) r refl) ∙ map_twice (b ∷ y.bytes)
-    ∙ ap (map lower) (back_of e) in
-    let l : Longest k (lower b ∷ (c ++ r)) r =
-    longest_name (lower b ∷ (c ++ r)) (c ++ r) r (lower b) k refl (lower_letter b h)
+    let c : List ℕ = map lower_case_letter y.bytes in
+    let f : lower_case_prefix (lower_case_letter b ∷ (c ++ r)) r ≡ lower_case_prefix (b ∷ bs) u =
+    ap (map lower_case_letter) (front_is (lower_case_letter b ∷ (c ++ r)) (lower_case_letter b ∷ c) r refl)
+    ∙ map_twice (b ∷ y.bytes)
+    ∙ ap (map lower_case_letter) (back_of e) in
+    let l : Longest k (lower_case_letter b ∷ (c ++ r)) r =
+    longest_name (lower_case_letter b ∷ (c ++ r)) (c ++ r) r (lower_case_letter b) k refl (lower_letter b h)
     (record { is = y.again r; longest = λ other z. stops_behind c r s z })
     (subst (λ v. IsWordOf v k) (back_of f) w) in
-    subst (λ v. ReadsToken k (map lower v) r) (back_of e) (letter_opens (lower b) (c ++ r) (lower_letter b h), l)
+    subst (λ v. ReadsToken k (map lower_case_letter v) r) (back_of e)
+    (letter_opens (lower_case_letter b) (c ++ r) (lower_letter b h), l)
 
-number_again : (b : ℕ) (bs u : List ℕ) → is_digit b ≡ true → Run is_digit bs u → (r : List ℕ) → Stops is_digit r
+number_again : (b : ℕ) (bs u : List ℕ) → is_digit b ≡ true → Run is_digit bs u → (r : List ℕ) → StopsRun is_digit r
     → ReadsToken kind.Number (front (b ∷ bs) u) r
 number_again b bs u h x r s =
     let y = runs x in
@@ -200,7 +203,7 @@ SignForm (x ∷ []) = Unit {0}
 SignForm (x ∷ y ∷ []) = goes_on (x ∷ []) y ≡ true
 SignForm (x ∷ y ∷ z ∷ s) = ⊥
 
-pub signs_form : Each SignForm signs
+pub signs_form : HoldsOfEach SignForm signs
 signs_form = (
   tt,
   (
@@ -221,7 +224,7 @@ signs_form = (
   ),
 )
 
-sign_bound : (s t r r' : List ℕ) → SignForm s → SignForm t → Stops (goes_on s) r → s ++ r ≡ t ++ r'
+sign_bound : (s t r r' : List ℕ) → SignForm s → SignForm t → StopsRun (goes_on s) r → s ++ r ≡ t ++ r'
     → length r ≤ length r'
 sign_bound [] t r r' f g h e = absurd f
 sign_bound (x ∷ y ∷ z ∷ s) t r r' f g h e = absurd f
@@ -231,7 +234,7 @@ sign_bound (x ∷ []) (x' ∷ y' ∷ z ∷ t) r r' f g h e = absurd g
 sign_bound (x ∷ []) (x' ∷ y' ∷ []) r r' f g h e =
     let same : x ≡ x' = cc in
     let rest : r ≡ y' ∷ r' = cc in
-    let n : goes_on (x ∷ []) y' ≡ false = subst (Stops (goes_on (x ∷ []))) rest h in
+    let n : goes_on (x ∷ []) y' ≡ false = subst (StopsRun (goes_on (x ∷ []))) rest h in
     absurd (differ g (subst (λ x. goes_on (x ∷ []) y' ≡ false) same n))
 sign_bound (x ∷ y ∷ []) [] r r' f g h e = absurd g
 sign_bound (x ∷ y ∷ []) (x' ∷ []) r r' f g h e = omega (arith, ap length e)
@@ -246,14 +249,14 @@ no_star : (b y : ℕ) → (b == 123) ≡ false → goes_on (b ∷ []) y ≡ fals
 no_star b y h g = grind (arith, nat_tests)
 
 sign_opens : (b : ℕ) (s r u : List ℕ) → SignForm (b ∷ s) → opens_comment (b ∷ (s ++ u)) ≡ false
-    → Stops (goes_on (b ∷ s)) r → opens_comment (b ∷ (s ++ r)) ≡ false
+    → StopsRun (goes_on (b ∷ s)) r → opens_comment (b ∷ (s ++ r)) ≡ false
 sign_opens b [] [] u f h g = no_brace b u h
 sign_opens b [] (y ∷ r) u f h g = no_star b y (no_brace b u h) g
 sign_opens b (y ∷ []) r u f h g = h
 sign_opens b (y ∷ z ∷ s) r u f h g = absurd f
 
 sign_again_by : (n b : ℕ) (s u : List ℕ) → slice_get signs n ≡ Some (b ∷ s) → SignForm (b ∷ s)
-    → opens_comment (b ∷ (s ++ u)) ≡ false → (r : List ℕ) → Stops (goes_on (b ∷ s)) r
+    → opens_comment (b ∷ (s ++ u)) ≡ false → (r : List ℕ) → StopsRun (goes_on (b ∷ s)) r
     → ReadsToken (kind.Sign n) (b ∷ s) r
 sign_again_by n b s u h f o r g =
     let p = sign_plain b (s ++ r) (b ∷ s) r n h refl in (
@@ -265,16 +268,18 @@ sign_again_by n b s u h f o r g =
     )
 
 sign_again : (n : ℕ) (s bs u : List ℕ) → slice_get signs n ≡ Some s → SignForm s → bs ≡ s ++ u
-    → opens_comment bs ≡ false → (r : List ℕ) → Stops (goes_on (front bs u)) r → ReadsToken (kind.Sign n) (front bs u) r
+    → opens_comment bs ≡ false → (r : List ℕ) → StopsRun (goes_on (front bs u)) r
+    → ReadsToken (kind.Sign n) (front bs u) r
 sign_again n [] bs u h f e o r g = absurd f
 sign_again n (b ∷ s) bs u h f e o r g =
     let same : front bs u ≡ b ∷ s = front_is bs (b ∷ s) u e in
     subst (λ v. ReadsToken (kind.Sign n) v r) (back_of same)
     (sign_again_by n b s u h f (subst (λ l. opens_comment l ≡ false) e o) r
-    (subst (λ v. Stops (goes_on v) r) same g))
+    (subst (λ v. StopsRun (goes_on v) r) same g))
 
 lexeme_again : {k : Kind} {bs u : List ℕ} → opens_comment bs ≡ false → Lexeme k bs u → (r : List ℕ)
-    → Parts k (spelled (Some k) (front bs u)) r → ReadsToken k (spelled (Some k) (front bs u)) r
+    → NotPartOfToken k (canonical_spelling (Some k) (front bs u)) r
+    → ReadsToken k (canonical_spelling (Some k) (front bs u)) r
 lexeme_again {u = u} o (name {bs = bs} b h x n) r s = word_again kind.Name b bs u h x n r s
 lexeme_again {u = u} o (word {bs = bs} n b h x e) r s = word_again (kind.Word n) b bs u h x e r s
 lexeme_again {u = u} o (number {bs = bs} b h x) r s = number_again b bs u h x r s
@@ -283,7 +288,8 @@ lexeme_again {u = u} o (sign {bs = bs} n t h e) r s =
     sign_again n t bs u h (each_at SignForm signs n t signs_form h) e o r s
 
 pub token_again : {k : Kind} {bs u : List ℕ} → opens_comment bs ≡ false → Longest k bs u → (r : List ℕ)
-    → Parts k (spelled (Some k) (front bs u)) r → ReadsToken k (spelled (Some k) (front bs u)) r
+    → NotPartOfToken k (canonical_spelling (Some k) (front bs u)) r
+    → ReadsToken k (canonical_spelling (Some k) (front bs u)) r
 token_again o l r s = lexeme_again o l.spelled r s
 
 -- ---- how a token begins
@@ -292,22 +298,23 @@ abbrev pub Head : (ℕ → Bool) → List ℕ → Type 0
 Head p [] = ⊥
 Head p (b ∷ bs) = p b ≡ true
 
-abbrev pub First : Kind → List ℕ → Type 0
-First kind.Name c = Head is_letter c
-First (kind.Word n) c = Head is_letter c
-First kind.Number c = Head is_digit c
-First kind.Text c = Head (λ b. b == 39) c
-First (kind.Sign n) c = slice_get signs n ≡ Some c
+abbrev pub BeginsAsKind : Kind → List ℕ → Type 0
+BeginsAsKind kind.Name c = Head is_letter c
+BeginsAsKind (kind.Word n) c = Head is_letter c
+BeginsAsKind kind.Number c = Head is_digit c
+BeginsAsKind kind.Text c = Head (λ b. b == 39) c
+BeginsAsKind (kind.Sign n) c = slice_get signs n ≡ Some c
 
 low_head : (b : ℕ) (bs u : List ℕ) → is_letter b ≡ true → Run is_name_byte bs u
-    → Head is_letter (map lower (front (b ∷ bs) u))
-low_head b bs u h x = let y = low_runs x in subst (λ v. Head is_letter (map lower v))
+    → Head is_letter (map lower_case_letter (front (b ∷ bs) u))
+low_head b bs u h x = let y = low_runs x in subst (λ v. Head is_letter (map lower_case_letter v))
     (back_of (front_is (b ∷ bs) (b ∷ y.bytes) u (ap (λ l. b ∷ l) y.whole))) (lower_letter b h)
 
 is_quote : (q : ℕ) → q ≡ 39 → (q == 39) ≡ true
 is_quote q h = grind (arith, nat_tests)
 
-pub lexeme_first : {k : Kind} {bs u : List ℕ} → Lexeme k bs u → First k (spelled (Some k) (front bs u))
+pub lexeme_first : {k : Kind} {bs u : List ℕ} → Lexeme k bs u
+    → BeginsAsKind k (canonical_spelling (Some k) (front bs u))
 lexeme_first {u = u} (name {bs = bs} b h x n) = low_head b bs u h x
 lexeme_first {u = u} (word {bs = bs} n b h x e) = low_head b bs u h x
 lexeme_first {u = u} (number {bs = bs} b h x) = let y = runs x in

@@ -17,9 +17,11 @@ use Rattle.sp_tree.specs.Viable.{Any, Spells}
 use Rattle.sp_grammar.specs.Symbols.{Symbol, AToken, AName, AProgram, AFormal, AStatement, MoreLabels, MoreArms}
 use Rattle.sp_grammar.specs.Symbols.{AnExpression, ARelation, ASimple, MoreTerms, ATerm, MoreFactors, AFactor, Value}
 use Rattle.sp_grammar.specs.Table as row
-use Rattle.sp_grammar.specs.Table.{ConstantRow, PartsRow, FormRow, SelectorRow, FactorRow, SimpleRow, Row, Entry, rows}
+use Rattle.sp_grammar.specs.Table.{ConstantRow, PartsRow, FormRow, SelectorRow, FactorRow, SimpleRow, Row, RowEntry}
+use Rattle.sp_grammar.specs.Table.{rows}
 use Rattle.sp_grammar.specs.Table.{look, gap}
-use Rattle.sp_grammar.specs.Machine.{Why, Bad, acts, Next, On, No, acted, after, going, End, Done, Stuck, run}
+use Rattle.sp_grammar.specs.Machine.{Why, Bad, acts, NextStack, On, No, next_of_act, next_behind, end_from, RunEnd}
+use Rattle.sp_grammar.specs.Machine.{Done, StuckAt, run}
 use Rattle.sp_grammar.proofs.From.{found}
 use Rattle.sp_grammar.proofs.Run.{leads}
 use Rattle.sp_grammar.proofs.To.{program}
@@ -89,25 +91,26 @@ guard_ready k q h = refl
 
 -- ---- what the rows leave
 
-record Fine (k : Kind) (l : List Symbol) : Type 0 where
+record LeavesNeat (k : Kind) (l : List Symbol) : Type 0 where
   same : (q : List Symbol) → neat (l ++ q) ≡ neat q
   ready' : (q : List Symbol) → ready k (l ++ q) ≡ true
 
-extend : {k : Kind} {l : List Symbol} → Fine k l → (m : List Symbol) → ((q : List Symbol) → neat (m ++ q) ≡ neat q)
-    → Fine k (l ++ m)
+extend : {k : Kind} {l : List Symbol} → LeavesNeat k l → (m : List Symbol)
+    → ((q : List Symbol) → neat (m ++ q) ≡ neat q)
+    → LeavesNeat k (l ++ m)
 extend {k} {l} f m g = record {
   same = λ q. ap neat (append_assoc l m q) ∙ f.same (m ++ q) ∙ g q;
   ready' = λ q. ap (ready k) (append_assoc l m q) ∙ f.ready' (m ++ q);
 }
 
-of_constant : {k : Kind} {l : List Symbol} → ConstantRow k l → Fine k l
+of_constant : {k : Kind} {l : List Symbol} → ConstantRow k l → LeavesNeat k l
 of_constant row.constant_number = record { same = λ q. refl; ready' = λ q. refl }
 of_constant row.constant_name = record { same = λ q. refl; ready' = λ q. refl }
 of_constant row.constant_text = record { same = λ q. refl; ready' = λ q. refl }
 of_constant row.constant_plus = record { same = λ q. refl; ready' = λ q. refl }
 of_constant row.constant_minus = record { same = λ q. refl; ready' = λ q. refl }
 
-of_parts : {d : ℕ} {k : Kind} {l : List Symbol} → PartsRow d k l → Fine k l
+of_parts : {d : ℕ} {k : Kind} {l : List Symbol} → PartsRow d k l → LeavesNeat k l
 of_parts row.parts_begin = record { same = λ q. refl; ready' = λ q. refl }
 of_parts row.parts_const = record { same = λ q. refl; ready' = λ q. refl }
 of_parts row.parts_type = record { same = λ q. refl; ready' = λ q. refl }
@@ -115,7 +118,7 @@ of_parts row.parts_var = record { same = λ q. refl; ready' = λ q. refl }
 of_parts row.parts_procedure = record { same = λ q. refl; ready' = λ q. refl }
 of_parts row.parts_function = record { same = λ q. refl; ready' = λ q. refl }
 
-of_form : {d : ℕ} {k : Kind} {l : List Symbol} → FormRow d k l → Fine k l
+of_form : {d : ℕ} {k : Kind} {l : List Symbol} → FormRow d k l → LeavesNeat k l
 of_form row.form_name = record { same = λ q. refl; ready' = λ q. refl }
 of_form row.form_begin = record { same = λ q. refl; ready' = λ q. refl }
 of_form row.form_if = record { same = λ q. refl; ready' = λ q. refl }
@@ -127,18 +130,18 @@ of_form row.form_parallel = record { same = λ q. refl; ready' = λ q. refl }
 of_form row.form_forall = record { same = λ q. refl; ready' = λ q. refl }
 of_form row.form_assume = record { same = λ q. refl; ready' = λ q. refl }
 
-of_selector : {d : ℕ} {k : Kind} {l : List Symbol} → SelectorRow d k l → Fine k l
+of_selector : {d : ℕ} {k : Kind} {l : List Symbol} → SelectorRow d k l → LeavesNeat k l
 of_selector row.selector_index = record { same = λ q. refl; ready' = λ q. refl }
 of_selector row.selector_field = record { same = λ q. refl; ready' = λ q. refl }
 
-of_factor : {d : ℕ} {k : Kind} {l : List Symbol} → FactorRow d k l → Fine k l
+of_factor : {d : ℕ} {k : Kind} {l : List Symbol} → FactorRow d k l → LeavesNeat k l
 of_factor row.factor_number = record { same = λ q. refl; ready' = λ q. refl }
 of_factor row.factor_text = record { same = λ q. refl; ready' = λ q. refl }
 of_factor row.factor_name = record { same = λ q. refl; ready' = λ q. refl }
 of_factor row.factor_open = record { same = λ q. refl; ready' = λ q. refl }
 of_factor row.factor_not = record { same = λ q. refl; ready' = λ q. refl }
 
-of_simple : {d : ℕ} {k : Kind} {l : List Symbol} → SimpleRow d k l → Fine k l
+of_simple : {d : ℕ} {k : Kind} {l : List Symbol} → SimpleRow d k l → LeavesNeat k l
 of_simple {d} (row.simple_factor r) = extend (of_factor r) (MoreFactors d ∷ MoreTerms d ∷ []) (λ q. refl)
 of_simple row.simple_plus = record { same = λ q. refl; ready' = λ q. refl }
 of_simple row.simple_minus = record { same = λ q. refl; ready' = λ q. refl }
@@ -162,7 +165,7 @@ of_multiplying quotient q = refl
 of_multiplying modulo q = refl
 of_multiplying and q = refl
 
-by : {k : Kind} {l : List Symbol} (q : List Symbol) → Fine k l → neat q ≡ true → (neat (l ++ q) ≡ true)
+by : {k : Kind} {l : List Symbol} (q : List Symbol) → LeavesNeat k l → neat q ≡ true → (neat (l ++ q) ≡ true)
     × (ready k (l ++ q) ≡ true)
 by q f h = (f.same q ∙ h, f.ready' q)
 
@@ -244,44 +247,46 @@ tail_neat s q h = h
 -- ---- one token
 
 -- the stack behind a token is neat and ready for the next one
-abbrev Goes : Token → List Symbol → Type 0
-Goes t n = (neat n ≡ true) × (ready t.kind n ≡ true)
+abbrev IsNeatAfter : Token → List Symbol → Type 0
+IsNeatAfter t n = (neat n ≡ true) × (ready t.kind n ≡ true)
 
-takes : (s : Symbol) (q n : List Symbol) (t : Token) (e : Entry (Row s)) → look (rows s) t.kind ≡ Some e
-    → neat (s ∷ q) ≡ true → On (e.left ++ q) ≡ On n → Goes t n
+takes : (s : Symbol) (q n : List Symbol) (t : Token) (e : RowEntry (Row s)) → look (rows s) t.kind ≡ Some e
+    → neat (s ∷ q) ≡ true → On (e.left ++ q) ≡ On n → IsNeatAfter t n
 takes s q n t e f h p =
     let same : e.left ++ q ≡ n = cc in
     let y = row_neat q e.row h in
-    subst (Goes t) same (y.0, subst (λ k. ready k (e.left ++ q) ≡ true) (back_of (found (rows s) t.kind e f)) y.1)
+    subst (IsNeatAfter t) same
+    (y.0, subst (λ k. ready k (e.left ++ q) ≡ true) (back_of (found (rows s) t.kind e f)) y.1)
 
-by_act : (s : Symbol) (q n : List Symbol) (t : Token) (o : Option (Entry (Row s))) (v : Option (Value s))
-    → look (rows s) t.kind ≡ o → neat (s ∷ q) ≡ true → (neat q ≡ true → after None q t ≡ On n → Goes t n)
-    → acted (acts true o v) q (after None q t) ≡ On n → Goes t n
+by_act : (s : Symbol) (q n : List Symbol) (t : Token) (o : Option (RowEntry (Row s))) (v : Option (Value s))
+    → look (rows s) t.kind ≡ o → neat (s ∷ q) ≡ true → (neat q ≡ true → next_behind None q t ≡ On n → IsNeatAfter t n)
+    → next_of_act (acts true o v) q (next_behind None q t) ≡ On n → IsNeatAfter t n
 by_act s q n t (Some e) v f h go p = takes s q n t e f h p
 by_act s q n t None (Some v) f h go p = go (tail_neat s q h) p
 by_act s q n t None None f h go p = absurd cc
 
-step_neat : (q n : List Symbol) (t : Token) → neat q ≡ true → after None q t ≡ On n → Goes t n
+step_neat : (q n : List Symbol) (t : Token) → neat q ≡ true → next_behind None q t ≡ On n → IsNeatAfter t n
 step_neat [] n t h p = absurd cc
 step_neat (s ∷ q) n t h p = by_act s q n t (look (rows s) t.kind) (gap s t) refl h (λ h. step_neat q n t h) p
 
 -- a symbol that has no row for the token and no gap
 stuck : (s : Symbol) (q n : List Symbol) (t : Token) (k : Kind) → t.kind ≡ k → look (rows s) k ≡ None → gap s t ≡ None
-    → after None (s ∷ q) t ≡ On n → ⊥
+    → next_behind None (s ∷ q) t ≡ On n → ⊥
 stuck s q n t k e l g p =
     let f : look (rows s) t.kind ≡ None = ap (look (rows s)) e ∙ l in
-    let x : acted (acts true (look (rows s) t.kind) (gap s t)) q (after None q t) ≡ No Bad =
-    (λ i. acted (acts true (f i) (g i)) q (after None q t)) in
+    let x : next_of_act (acts true (look (rows s) t.kind) (gap s t)) q (next_behind None q t) ≡ No Bad =
+    (λ i. next_of_act (acts true (f i) (g i)) q (next_behind None q t)) in
     let y : No Bad ≡ On n = back_of x ∙ p in cc
 
-no_star : (q n : List Symbol) (t : Token) → holds_part q ≡ true → t.kind ≡ kind.Sign 2 → after None q t ≡ On n → ⊥
+no_star : (q n : List Symbol) (t : Token) → holds_part q ≡ true → t.kind ≡ kind.Sign 2 → next_behind None q t ≡ On n → ⊥
 no_star (AName ∷ q) n t h e p = stuck AName q n t (kind.Sign 2) e refl refl p
 no_star (AFormal ∷ q) n t h e p = stuck AFormal q n t (kind.Sign 2) e refl refl p
 no_star (AnExpression d ∷ q) n t h e p = stuck (AnExpression d) q n t (kind.Sign 2) e refl refl p
 no_star [] n t h e p = cc
 no_star (s ∷ q) n t h e p = cc
 
-no_dot : (q n : List Symbol) (t : Token) (b : ℕ) → holds_name q ≡ true → t.kind ≡ kind.Sign b → after None q t ≡ On n
+no_dot : (q n : List Symbol) (t : Token) (b : ℕ) → holds_name q ≡ true → t.kind ≡ kind.Sign b
+    → next_behind None q t ≡ On n
     → ⊥
 no_dot [] n t b h e p = cc
 no_dot (AName ∷ q) n t b h e p = stuck AName q n t (kind.Sign b) e refl refl p
@@ -297,7 +302,7 @@ ne_by : (a : ℕ) → (a == 14) ≡ true → (a == 9) ≡ false
 ne_by a h = grind (arith, nat_tests)
 
 star_by : (q n : List Symbol) (t : Token) (a b : ℕ) → ready (kind.Sign a) q ≡ true → t.kind ≡ kind.Sign b
-    → after None q t ≡ On n → (x y z : Bool) → (a == 9) ≡ x → (b == 2) ≡ y → (a == 14) ≡ z → (w : Bool)
+    → next_behind None q t ≡ On n → (x y z : Bool) → (a == 9) ≡ x → (b == 2) ≡ y → (a == 14) ≡ z → (w : Bool)
     → ((x && y) || (z && w)) ≡ false
 star_by q n t a b h e p true true z f g i w =
     absurd (no_star q n t (if_true (a == 9) _ f h) (e ∙ ap kind.Sign (eqb-true b 2 g)) p)
@@ -307,12 +312,13 @@ star_by q n t a b h e p false y true f g i w =
     absurd (no_dot q n t b (if_true (a == 14) _ i (if_false (a == 9) _ f h)) e p)
 star_by q n t a b h e p false y false f g i w = refl
 
-no_digits : (q n : List Symbol) (t : Token) → holds_name q ≡ true → t.kind ≡ kind.Number → after None q t ≡ On n → ⊥
+no_digits : (q n : List Symbol) (t : Token) → holds_name q ≡ true → t.kind ≡ kind.Number
+    → next_behind None q t ≡ On n → ⊥
 no_digits [] n t h e p = cc
 no_digits (AName ∷ q) n t h e p = stuck AName q n t kind.Number e refl refl p
 no_digits (s ∷ q) n t h e p = cc
 
-no_clash : (q n : List Symbol) (t : Token) (j k : Kind) → ready j q ≡ true → t.kind ≡ k → after None q t ≡ On n
+no_clash : (q n : List Symbol) (t : Token) (j k : Kind) → ready j q ≡ true → t.kind ≡ k → next_behind None q t ≡ On n
     → clash j k ≡ false
 no_clash q n t (kind.Sign a) (kind.Sign b) h e p =
     star_by q n t a b h e p (a == 9) (b == 2) (a == 14) refl refl refl (b == 14 || b == 18)
@@ -330,9 +336,9 @@ apart_from j (k ∷ ks) = (clash j k ≡ false) × apart_from k ks
 abbrev Behind : Kind → List Token → Type 0
 Behind j ts = apart_from j (map (λ t. t.kind) ts)
 
-run_apart_by : (t : Token) (ts : List Token) (q : List Symbol) (j : Kind) (n : Next) → after None q t ≡ n
+run_apart_by : (t : Token) (ts : List Token) (q : List Symbol) (j : Kind) (n : NextStack) → next_behind None q t ≡ n
     → neat q ≡ true → ready j q ≡ true → ((s : List Symbol) → neat s ≡ true → ready t.kind s ≡ true
-    → run None ts s ≡ Done → Behind t.kind ts) → going n (t ∷ ts) (run None ts) ≡ Done → Behind j (t ∷ ts)
+    → run None ts s ≡ Done → Behind t.kind ts) → end_from n (t ∷ ts) (run None ts) ≡ Done → Behind j (t ∷ ts)
 run_apart_by t ts q j (On s) e h r go d = let y = step_neat q s t h e in
     (no_clash q s t j t.kind r refl e, go s y.0 y.1 d)
 run_apart_by t ts q j (No w) e h r go d = absurd cc
@@ -340,10 +346,11 @@ run_apart_by t ts q j (No w) e h r go d = absurd cc
 run_apart : (ts : List Token) (q : List Symbol) (j : Kind) → neat q ≡ true → ready j q ≡ true → run None ts q ≡ Done
     → Behind j ts
 run_apart [] q j h r d = tt
-run_apart (t ∷ ts) q j h r d = run_apart_by t ts q j (after None q t) refl h r (λ s h r d. run_apart ts s t.kind h r d)
+run_apart (t ∷ ts) q j h r d = run_apart_by t ts q j (next_behind None q t) refl h r
+    (λ s h r d. run_apart ts s t.kind h r d)
     d
 
-far_by : {x : End} → (x ≡ Done) ⊎ ((w : Why) × (us : List Token) × (length us < 0) × (x ≡ Stuck w us)) → x ≡ Done
+far_by : {x : RunEnd} → (x ≡ Done) ⊎ ((w : Why) × (us : List Token) × (length us < 0) × (x ≡ StuckAt w us)) → x ≡ Done
 far_by (inl q) = q
 far_by (inr (w, us, h, q)) = absurd (omega arith)
 

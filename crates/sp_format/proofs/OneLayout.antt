@@ -2,14 +2,15 @@
 use Rattle.std.proofs.Common.{◌≡◌, inl, inr, ℕ, List, length, sym, ◌∙◌, ap, arith}
 use Rattle.sp_base.specs.declared.halt.Refusal.{Refusal}
 use Rattle.sp_grammar.proofs.OneList.{one_verdict, not_both}
-use Rattle.sp_format.specs.Layout.{canonical}
+use Rattle.sp_format.specs.Layout.{canonical_text}
 use Rattle.sp_format.specs.Formats.{HasLayout, HasNoLayout, IsCanonical, IsLong}
 use Rattle.sp_format.proofs.Walking.{one_items, one_text}
 
 -- a text that is too long when it is laid out has no canonical text
 long_or_short : {text out : List ℕ} {r : Refusal} → IsCanonical text out → IsLong text r → ⊥
 long_or_short {out = out} x y =
-    let same : length out ≡ length (canonical y.items) = ap length (x.is ∙ ap canonical (one_items x.has y.has)) in
+    let same : length out ≡ length (canonical_text y.items) =
+    ap length (x.is ∙ ap canonical_text (one_items x.has y.has)) in
     absurd (omega (arith, same, x.short, y.long))
 
 pub one_layout : (text a b : List ℕ) → HasLayout text a → HasLayout text b → a ≡ b

@@ -11,7 +11,7 @@ use Rattle.sp_tree.specs.declared.syntax.Name.{Name}
 use Rattle.sp_tree.specs.declared.syntax.SynKind.TheVariants as kinds
 use Rattle.sp_tree.specs.declared.syntax.SynValue.TheVariants as value
 use Rattle.sp_tree.specs.Words as w
-use Rattle.sp_tree.specs.Grammar.{moved, declared}
+use Rattle.sp_tree.specs.Grammar.{with_place, with_part_first}
 use Rattle.sp_tree.specs.Spelling.{spelling, name_of, number_of, quoted_of, digits_value, within_quotes}
 use Rattle.sp_tree.specs.PlainSyntax as tree
 use Rattle.sp_tree.specs.PlainSyntax.{Program}
@@ -25,13 +25,13 @@ use Rattle.sp_grammar.specs.Table as row
 use Rattle.sp_grammar.specs.Table.{ConstantRow, PartsRow, FormRow, SelectorRow, FactorRow, SimpleRow, Row, rows}
 use Rattle.sp_grammar.specs.Table.{look, gap, build, constant_value, parts_value, form_value, selector_value}
 use Rattle.sp_grammar.specs.Table.{factor_value, simple_value}
-use Rattle.sp_grammar.specs.Derives.{Begins, Derives, takes, skips, DerivesAll, none, and}
+use Rattle.sp_grammar.specs.Derives.{PartMayBegin, Derives, takes, skips, DerivesAll, none, and}
 use Rattle.sp_grammar.proofs.From.{found, from}
 use Rattle.sp_grammar.proofs.To as to
 use Rattle.sp_grammar.proofs.OneList.{Tail, here, there, lexeme_tail, one_list}
 use Rattle.sp_parse.proofs.Fitting.{Tail as Front, more, comment_tail}
 use Rattle.sp_format.specs.Items as i
-use Rattle.sp_format.specs.Items.{Item, HasItems, item, spelled, front}
+use Rattle.sp_format.specs.Items.{Item, HasItems, item, canonical_spelling, front}
 use Rattle.sp_format.specs.Formats.{IsCanonical}
 use Rattle.sp_format.specs.SameTrees.{at_places, SpellsAlike}
 use Rattle.sp_format.proofs.Follows.{canonical_items}
@@ -41,16 +41,16 @@ use Rattle.sp_format.proofs.Accepts.{accepted}
 
 module _ (text other : List ℕ) where
   -- two tokens of one kind say the same
-  abbrev Says : Kind → Token → Token → Type 0
-  Says kind.Name t u = name_of text t ≡ name_of other u
-  Says kind.Number t u = number_of text t ≡ number_of other u
-  Says kind.Text t u = quoted_of text t ≡ quoted_of other u
-  Says k t u = Unit {0}
+  abbrev SaySame : Kind → Token → Token → Type 0
+  SaySame kind.Name t u = name_of text t ≡ name_of other u
+  SaySame kind.Number t u = number_of text t ≡ number_of other u
+  SaySame kind.Text t u = quoted_of text t ≡ quoted_of other u
+  SaySame k t u = Unit {0}
 
   record Like (t u : Token) : Type 0 where
     kind : t.kind ≡ u.kind
     at : t.at ≡ u.at
-    says : Says t.kind t u
+    says : SaySame t.kind t u
 
   abbrev AllLike : List Token → List Token → Type 0
   AllLike [] [] = Unit {0}
@@ -61,7 +61,7 @@ module _ (text other : List ℕ) where
   -- ---- a row gives the same of both
 
   module _ (t u : Token) (at : t.at ≡ u.at) where
-    constant_like : {k : Kind} {l : List Symbol} (c : ConstantRow k l) → Says k t u → (vs : Values l)
+    constant_like : {k : Kind} {l : List Symbol} (c : ConstantRow k l) → SaySame k t u → (vs : Values l)
         → constant_value text c t vs ≡ constant_value other c u vs
     constant_like row.constant_number h vs =
         ap₂ (λ (p : Place) n. record { at = p; negative = None; value = value.Number n }) at h
@@ -82,7 +82,7 @@ module _ (text other : List ℕ) where
     parts_like row.parts_procedure (n, (fs, (c, (b, (s, (m, u)))))) = refl
     parts_like row.parts_function (n, (fs, (c, (a, (e, (b, (s, (m, u)))))))) = refl
 
-    form_like : {d : ℕ} {k : Kind} {l : List Symbol} (c : FormRow d k l) → Says k t u → (vs : Values l)
+    form_like : {d : ℕ} {k : Kind} {l : List Symbol} (c : FormRow d k l) → SaySame k t u → (vs : Values l)
         → form_value text c t vs ≡ form_value other c u vs
     form_like row.form_name h (f, v) = ap f h
     form_like row.form_begin h (s, (ss, v)) = refl
@@ -100,22 +100,23 @@ module _ (text other : List ℕ) where
     selector_like row.selector_index (e, (ss, v)) = refl
     selector_like row.selector_field (n, (ss, v)) = refl
 
-    factor_like : {d : ℕ} {k : Kind} {l : List Symbol} (c : FactorRow d k l) → Says k t u → (vs : Values l)
+    factor_like : {d : ℕ} {k : Kind} {l : List Symbol} (c : FactorRow d k l) → SaySame k t u → (vs : Values l)
         → factor_value text c t vs ≡ factor_value other c u vs
-    factor_like row.factor_number h vs = ap₂ (λ (p : Place) n. tree.At p (tree.Number n)) at h
-    factor_like row.factor_text h vs = ap₂ (λ (p : Place) (n : List ℕ). tree.At p (tree.Quoted n)) at h
-    factor_like row.factor_name h (f, v) = ap₂ (λ (p : Place) (n : Name). tree.At p (f n)) at h
-    factor_like row.factor_open h (e, v) = ap (λ (p : Place). moved p e) at
-    factor_like row.factor_not h (e, v) = ap (λ (p : Place). tree.At p (tree.Unary unary.Not e)) at
+    factor_like row.factor_number h vs = ap₂ (λ (p : Place) n. tree.ExpressionAt p (tree.Number n)) at h
+    factor_like row.factor_text h vs = ap₂ (λ (p : Place) (n : List ℕ). tree.ExpressionAt p (tree.Quoted n)) at h
+    factor_like row.factor_name h (f, v) = ap₂ (λ (p : Place) (n : Name). tree.ExpressionAt p (f n)) at h
+    factor_like row.factor_open h (e, v) = ap (λ (p : Place). with_place p e) at
+    factor_like row.factor_not h (e, v) = ap (λ (p : Place). tree.ExpressionAt p (tree.Unary unary.Not e)) at
 
-    simple_like : {d : ℕ} {k : Kind} {l : List Symbol} (c : SimpleRow d k l) → Says k t u → (vs : Values l)
+    simple_like : {d : ℕ} {k : Kind} {l : List Symbol} (c : SimpleRow d k l) → SaySame k t u → (vs : Values l)
         → simple_value text c t vs ≡ simple_value other c u vs
     simple_like (row.simple_factor {d = d} {l = l} c) h vs = let p =
         split l (sym.MoreFactors d ∷ sym.MoreTerms d ∷ []) vs in ap (λ x. p.1.1.0 (p.1.0 x)) (factor_like c h p.0)
-    simple_like row.simple_plus h (a, (f, v)) = ap (λ (p : Place). f (tree.At p (tree.Unary unary.Plus a))) at
-    simple_like row.simple_minus h (a, (f, v)) = ap (λ (p : Place). f (tree.At p (tree.Unary unary.Minus a))) at
+    simple_like row.simple_plus h (a, (f, v)) = ap (λ (p : Place). f (tree.ExpressionAt p (tree.Unary unary.Plus a))) at
+    simple_like row.simple_minus h (a, (f, v)) =
+        ap (λ (p : Place). f (tree.ExpressionAt p (tree.Unary unary.Minus a))) at
 
-    build_like : {q : Symbol} {k : Kind} {l : List Symbol} (c : Row q k l) → Says k t u → (vs : Values l)
+    build_like : {q : Symbol} {k : Kind} {l : List Symbol} (c : Row q k l) → SaySame k t u → (vs : Values l)
         → build text c t vs ≡ build other c u vs
     build_like row.token h vs = refl
     build_like row.name h vs = h
@@ -143,11 +144,12 @@ module _ (text other : List ℕ) where
     build_like (row.block c) h vs = parts_like c vs
     build_like (row.parts c) h vs = parts_like c vs
     build_like (row.after_constants c) h vs = parts_like c vs
-    build_like row.next_constant h (e, (c, (s, (b, v)))) = ap (λ (n : Name). declared (tree.Const n c) b) h
+    build_like row.next_constant h (e, (c, (s, (b, v)))) = ap (λ (n : Name). with_part_first (tree.Const n c) b) h
     build_like (row.after_types c) h vs = parts_like c vs
-    build_like row.next_type h (e, (c, (s, (b, v)))) = ap (λ (n : Name). declared (tree.Kind n c) b) h
+    build_like row.next_type h (e, (c, (s, (b, v)))) = ap (λ (n : Name). with_part_first (tree.Kind n c) b) h
     build_like (row.after_variables c) h vs = parts_like c vs
-    build_like row.next_variable h (ns, (c, (k, (s, (b, v))))) = ap (λ (n : Name). declared (tree.Var (n ∷ ns) k) b) h
+    build_like row.next_variable h (ns, (c, (k, (s, (b, v))))) =
+        ap (λ (n : Name). with_part_first (tree.Var (n ∷ ns) k) b) h
     build_like (row.statement c) h vs = ap₂ (λ (p : Place) f. tree.Does p f) at (form_like c h vs)
     build_like row.becomes h (e, v) = refl
     build_like (row.target {d = d} {l = l} c) h vs = let p =
@@ -193,30 +195,31 @@ module _ (text other : List ℕ) where
 
   -- ---- what the tokens of the one derive, those of the other derive
 
-  record Ends (q : Symbol) (v : Value q) (us r : List Token) : Type 0 where
+  record DerivesLike (q : Symbol) (v : Value q) (us r : List Token) : Type 0 where
     left : List Token
     like : AllLike r left
     derived : Derives other Any q us left v
 
-  record EndsAll (l : List Symbol) (vs : Values l) (us r : List Token) : Type 0 where
+  record DerivesAllLike (l : List Symbol) (vs : Values l) (us r : List Token) : Type 0 where
     left : List Token
     like : AllLike r left
     derived : DerivesAll other Any l us left vs
 
-  may_begin : (o : Option ℕ) (us : List Token) → Begins Any o us
+  may_begin : (o : Option ℕ) (us : List Token) → PartMayBegin Any o us
   may_begin None us = tt
   may_begin (Some d) us = tt
 
   mutual
     derives : {q : Symbol} {ts r : List Token} {v : Value q} → Derives text Any q ts r v → (us : List Token)
-        → AllLike ts us → Ends q v us r
+        → AllLike ts us → DerivesLike q v us r
     derives (takes t e l b x) [] a = absurd a
     derives {q} (takes t e {vs = vs} l b x) (u ∷ us) a =
         let y = derives_all x us a.1 in record {
           left = y.left;
           like = y.like;
           derived = subst (λ v. Derives other Any q (u ∷ us) y.left v)
-              (back_of (build_like t u a.0.at e.row (subst (λ k. Says k t u) (found (rows q) t.kind e l) a.0.says) vs))
+              (back_of (build_like t u a.0.at e.row
+              (subst (λ k. SaySame k t u) (found (rows q) t.kind e l) a.0.says) vs))
               (takes u e (ap (look (rows q)) (back_of a.0.kind) ∙ l) (may_begin (part q) (u ∷ us)) y.derived);
         }
     derives (skips t l g) [] a = absurd a
@@ -227,7 +230,7 @@ module _ (text other : List ℕ) where
     }
 
     derives_all : {l : List Symbol} {ts r : List Token} {vs : Values l} → DerivesAll text Any l ts r vs
-        → (us : List Token) → AllLike ts us → EndsAll l vs us r
+        → (us : List Token) → AllLike ts us → DerivesAllLike l vs us r
     derives_all none us a = record { left = us; like = a; derived = none }
     derives_all (and x y) us a = let h = derives x us a in let k = derives_all y h.left h.like in
         record { left = k.left; like = k.like; derived = and h.derived k.derived }
@@ -254,7 +257,8 @@ data Itemed (text : List ℕ) : List Item → List Token → Type 0 where
   no_more : Itemed text [] []
   over : {bs : List ℕ} {is : List Item} {ts : List Token} → Itemed text is ts → Itemed text (item None bs ∷ is) ts
   on : {k : Kind} {bs : List ℕ} {is : List Item} {ts : List Token} (t : Token) → t.kind ≡ k
-      → spelled (Some k) (spelling text t) ≡ bs → Itemed text is ts → Itemed text (item (Some k) bs ∷ is) (t ∷ ts)
+      → canonical_spelling (Some k) (spelling text t) ≡ bs → Itemed text is ts
+      → Itemed text (item (Some k) bs ∷ is) (t ∷ ts)
 
 record Listed (text bs : List ℕ) (is : List Item) : Type 0 where
   tokens : List Token
@@ -286,13 +290,14 @@ module _ (text : List ℕ) where
       let y = listed (before ++ z.0) (e ∙ ap (λ l. before ++ l) z.1 ∙ back_of (append_assoc before z.0 u)) x in record {
         tokens = token_from text k bs u ∷ y.tokens;
         scans = s.token k o l y.scans;
-        itemed = on (token_from text k bs u) refl (ap (spelled (Some k)) (spelling_of k bs u before z.0 e z.1))
+        itemed = on (token_from text k bs u) refl
+            (ap (canonical_spelling (Some k)) (spelling_of k bs u before z.0 e z.1))
             y.itemed;
       }
 
 -- tokens of the same items say the same
-said : (text other bs : List ℕ) (t u : Token) (k : Kind) → spelled (Some k) (spelling text t) ≡ bs
-    → spelled (Some k) (spelling other u) ≡ bs → Says text other k t (record u { at = t.at })
+said : (text other bs : List ℕ) (t u : Token) (k : Kind) → canonical_spelling (Some k) (spelling text t) ≡ bs
+    → canonical_spelling (Some k) (spelling other u) ≡ bs → SaySame text other k t (record u { at = t.at })
 said text other bs t u kind.Name e f = ap (λ (x : List ℕ). record { text = x; at = t.at }) (e ∙ back_of f)
 said text other bs t u kind.Number e f = ap (digits_value 0) (e ∙ back_of f)
 said text other bs t u kind.Text e f = ap (λ (x : List ℕ). within_quotes (drop 1 x)) (e ∙ back_of f)
@@ -308,7 +313,7 @@ alike text other (on {k = k} {bs = bs} t p e x) (on u q f y) = (
     kind = p ∙ back_of q;
     at = refl;
     says =
-        subst (λ k. Says text other k t (record u { at = t.at })) (back_of p) (said text other bs t u k e f);
+        subst (λ k. SaySame text other k t (record u { at = t.at })) (back_of p) (said text other bs t u k e f);
   },
   alike text other x y,
 )

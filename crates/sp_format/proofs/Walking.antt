@@ -22,8 +22,10 @@ use Rattle.sp_scan.proofs.Scanning.{to_lexis}
 use Rattle.sp_scan.proofs.Along.{line_by}
 use Rattle.sp_parse.proofs.Fitting.{short as is_short}
 use Rattle.sp_format.specs.declared.context.Context.{Context}
-use Rattle.sp_format.specs.Items.{Item, item, item_from, spelled, front, HasItems, no_item, blank, comment, token}
-use Rattle.sp_format.specs.Layout.{context_of, gap, laid, canonical, indentation, count, begins, ends, opens as opens'}
+use Rattle.sp_format.specs.Items.{Item, item, item_from, canonical_spelling, front, HasItems, no_item, blank, comment}
+use Rattle.sp_format.specs.Items.{token}
+use Rattle.sp_format.specs.Layout.{context_of, gap, items_layout, canonical_text, indentation, count, begins, ends}
+use Rattle.sp_format.specs.Layout.{opens as opens'}
 use Rattle.sp_format.specs.Layout.{closes}
 use Rattle.sp_format.specs.Formats.{IsCanonical, IsLong}
 
@@ -64,12 +66,12 @@ after_blank b h (comment c x) = absurd (blank_opens b _ h (opens c))
 after_blank b h (token k o l x) = absurd (not_blank l.spelled h)
 
 -- an item of this kind stands first, and the others are those of the rest
-record Next (k : Option Kind) (bs u : List ℕ) (is : List Item) : Type 0 where
+record ItemAhead (k : Option Kind) (bs u : List ℕ) (is : List Item) : Type 0 where
   others : List Item
   first : is ≡ item_from k bs u ∷ others
   has : HasItems u others
 
-after_comment : {bs u : List ℕ} {is : List Item} → Comment bs u → HasItems bs is → Next None bs u is
+after_comment : {bs u : List ℕ} {is : List Item} → Comment bs u → HasItems bs is → ItemAhead None bs u is
 after_comment c no_item = absurd (let l = comment_length c in omega arith)
 after_comment c (blank b h x) = absurd (blank_opens b _ h (opens c))
 after_comment {bs} {u} c (comment {u = v} {is = is} c' x) = record {
@@ -80,7 +82,7 @@ after_comment {bs} {u} c (comment {u = v} {is = is} c' x) = record {
 after_comment c (token k o l x) = absurd (differ (opens c) o)
 
 after_token : {bs u : List ℕ} {is : List Item} (k : Kind) → opens_comment bs ≡ false → Longest k bs u → HasItems bs is
-    → Next (Some k) bs u is
+    → ItemAhead (Some k) bs u is
 after_token k o l no_item = absurd (let m = lexeme_length l.spelled in omega arith)
 after_token k o l (blank b h x) = absurd (not_blank l.spelled h)
 after_token k o l (comment c x) = absurd (differ (opens c) o)
@@ -110,7 +112,7 @@ pub record LaidSoFar (text rest out : List ℕ) (context : Context) : Type 0 whe
   pub before : List Item
   pub left : List Item
   pub has : HasItems rest left
-  pub out_is : out ++ laid before left ≡ laid [] all
+  pub out_is : out ++ items_layout before left ≡ items_layout [] all
   pub context_is : context ≡ context_of before
   pub few_begun : context.begun + length rest ≤ 1048576
   pub few_ended : context.ended + length rest ≤ 1048576
@@ -127,7 +129,7 @@ lay_start text out context ts h e f = let y = items_of refl h.scans in let l = i
   before = [];
   left = y.0;
   has = y.1;
-  out_is = ap (λ o. o ++ laid [] y.0) e;
+  out_is = ap (λ o. o ++ items_layout [] y.0) e;
   context_is = f;
   few_begun = omega (arith, ap (λ (c : Context). c.begun) f);
   few_ended = omega (arith, ap (λ (c : Context). c.ended) f);
@@ -176,14 +178,14 @@ lay_blank {text} {rest} others b e h x = record {
 }
 
 -- what stands first, where it is no blank
-record Stands (text rest after : List ℕ) (k : Option Kind) (left : List Item) : Type 0 where
+record FirstItem (text rest after : List ℕ) (k : Option Kind) (left : List Item) : Type 0 where
   tokens : List Token
   along : Scans text rest after tokens
-  next : Next k rest after left
+  next : ItemAhead k rest after left
   less : length after < length rest
 
 gap_stands : {text rest after others : List ℕ} {left : List Item} (b : ℕ) → rest ≡ b ∷ others → is_blank b ≡ false
-    → IsGap rest after → HasItems rest left → Stands text rest after None left
+    → IsGap rest after → HasItems rest left → FirstItem text rest after None left
 gap_stands b e n (blank_gap b' h) x = absurd (let same : b' ≡ b = cc in differ (ap is_blank (back_of same) ∙ h) n)
 gap_stands b e n (comment_gap c) x = record {
   tokens = [];
@@ -193,7 +195,7 @@ gap_stands b e n (comment_gap c) x = record {
 }
 
 stands : {text rest after others : List ℕ} {left : List Item} (b : ℕ) (k : Option Kind) → rest ≡ b ∷ others
-    → is_blank b ≡ false → f.Item rest k after → HasItems rest left → Stands text rest after k left
+    → is_blank b ≡ false → f.FrontItem rest k after → HasItems rest left → FirstItem text rest after k left
 stands b None e n g x = gap_stands b e n g x
 stands {text} {rest} {after} b (Some k) e n g x =
     record {
@@ -204,27 +206,27 @@ stands {text} {rest} {after} b (Some k) e n g x =
     }
 
 module _ {text rest out others : List ℕ} {context : Context} (after : List ℕ) (b : ℕ) (k : Option Kind)
-    (e : rest ≡ b ∷ others) (n : is_blank b ≡ false) (g : f.Item rest k after)
+    (e : rest ≡ b ∷ others) (n : is_blank b ≡ false) (g : f.FrontItem rest k after)
     (x : LaidSoFar text rest out context) where
-  here : Stands text rest after k x.left
+  here : FirstItem text rest after k x.left
   here = stands b k e n g x.has
 
-  laid_by : {o : List ℕ} → o ≡ out ++ (gap context k ++ spelled k (front rest after))
-      → o ++ laid (item_from k rest after ∷ x.before) here.next.others ≡ laid [] x.all
+  laid_by : {o : List ℕ} → o ≡ out ++ (gap context k ++ canonical_spelling k (front rest after))
+      → o ++ items_layout (item_from k rest after ∷ x.before) here.next.others ≡ items_layout [] x.all
   laid_by {o} q =
-      ap (λ o. o ++ laid (item_from k rest after ∷ x.before) here.next.others)
-      (q ∙ ap (λ c. out ++ (gap c k ++ spelled k (front rest after))) x.context_is)
-      ∙ append_assoc out (gap (context_of x.before) k ++ spelled k (front rest after))
-      (laid (item_from k rest after ∷ x.before) here.next.others)
-      ∙ ap (λ l. out ++ laid x.before l) (back_of here.next.first)
+      ap (λ o. o ++ items_layout (item_from k rest after ∷ x.before) here.next.others)
+      (q ∙ ap (λ c. out ++ (gap c k ++ canonical_spelling k (front rest after))) x.context_is)
+      ∙ append_assoc out (gap (context_of x.before) k ++ canonical_spelling k (front rest after))
+      (items_layout (item_from k rest after ∷ x.before) here.next.others)
+      ∙ ap (λ l. out ++ items_layout x.before l) (back_of here.next.first)
       ∙ x.out_is
 
-  pub lay_item : (o : List ℕ) (c : Context) → o ≡ out ++ (gap context k ++ spelled k (front rest after))
+  pub lay_item : (o : List ℕ) (c : Context) → o ≡ out ++ (gap context k ++ canonical_spelling k (front rest after))
       → ((before : List Item) (bytes : List ℕ) → context ≡ context_of before → c ≡ context_of (item k bytes ∷ before))
       → LaidSoFar text after o c
   lay_item o c q w =
       let z : c ≡ context_of (item_from k rest after ∷ x.before) =
-      w x.before (spelled k (front rest after)) x.context_is in
+      w x.before (canonical_spelling k (front rest after)) x.context_is in
       record {
         tokens = x.tokens ++ here.tokens;
         along = scans_chain x.along here.along;
@@ -272,16 +274,16 @@ module _ {text rest out others : List ℕ} {context : Context} (after : List ℕ
   pub lay_less : length after < length rest
   lay_less = here.less
 
-  pub lay_long : (o : List ℕ) (r : Refusal) → o ≡ out ++ (gap context k ++ spelled k (front rest after))
+  pub lay_long : (o : List ℕ) (r : Refusal) → o ≡ out ++ (gap context k ++ canonical_spelling k (front rest after))
       → 1048576 ≤ length o → r ≡ record { rule = rule.L1; at = start } → IsLong text r
   lay_long o r q h w = record {
     items = x.all;
     has = x.has_all;
     long = omega (
       arith,
-      length-append (laid [] x.all) (10 ∷ []),
+      length-append (items_layout [] x.all) (10 ∷ []),
       ap length (laid_by q),
-      length-append o (laid (item_from k rest after ∷ x.before) here.next.others),
+      length-append o (items_layout (item_from k rest after ∷ x.before) here.next.others),
     );
     is = w;
   }
@@ -298,7 +300,7 @@ lay_done {out = out} o e h q x = record {
   items = x.all;
   has = x.has_all;
   is = q ∙ ap (λ l. l ++ 10 ∷ []) (back_of (append-nil out)
-      ∙ ap (λ l. out ++ laid x.before l) (back_of (none_left e x.has)) ∙ x.out_is);
+      ∙ ap (λ l. out ++ items_layout x.before l) (back_of (none_left e x.has)) ∙ x.out_is);
   short = omega (arith, ap length q, length-append out (10 ∷ []));
 }
 
@@ -306,7 +308,7 @@ lay_done {out = out} o e h q x = record {
 
 pub same_text : {text other a b : List ℕ} {is : List Item} → HasItems text is → HasItems other is → IsCanonical text a
     → IsCanonical other b → a ≡ b
-same_text x y p q = p.is ∙ ap canonical (one_items p.has x ∙ one_items y q.has) ∙ back_of q.is
+same_text x y p q = p.is ∙ ap canonical_text (one_items p.has x ∙ one_items y q.has) ∙ back_of q.is
 
 pub one_text : {text a b : List ℕ} → IsCanonical text a → IsCanonical text b → a ≡ b
 one_text p q = same_text p.has p.has p q

@@ -12,20 +12,20 @@ use Rattle.sp_tree.specs.PlainSyntax.{Program}
 use Rattle.sp_tree.specs.Places.{start}
 use Rattle.sp_tree.specs.Breaches.{IsTree, IsFirstBroken}
 use Rattle.sp_format.specs.Items.{Item, HasItems}
-use Rattle.sp_format.specs.Layout.{canonical}
+use Rattle.sp_format.specs.Layout.{canonical_text}
 
 -- This is the canonical text of the text.
 pub record IsCanonical (text out : List ℕ) : Type 0 where
   pub items : List Item
   pub has : HasItems text items
-  pub is : out ≡ canonical items
+  pub is : out ≡ canonical_text items
   pub short : length out ≤ 1048576
 
 -- The canonical text would be longer than a text may be.
 pub record IsLong (text : List ℕ) (r : Refusal) : Type 0 where
   pub items : List Item
   pub has : HasItems text items
-  pub long : 1048576 < length (canonical items)
+  pub long : 1048576 < length (canonical_text items)
   pub is : r ≡ record { rule = rule.L1; at = start }
 
 -- the answer of the writing; want of memory is free

@@ -4,7 +4,7 @@
 use Rattle.std.specs.Prelude.{◌≡◌, ℕ, ◌-◌, true, false, List, [], ◌∷◌, length, map, take, Option, Some, None}
 use Rattle.sp_tree.specs.declared.token.Kind.{Kind}
 use Rattle.sp_tree.specs.declared.token.Kind.TheVariants as kind
-use Rattle.sp_tree.specs.Characters.{is_blank, lower}
+use Rattle.sp_tree.specs.Characters.{is_blank, lower_case_letter}
 use Rattle.sp_tree.specs.Lexemes.{Comment, Longest, opens_comment}
 
 -- a token of this kind, or a comment; and how it is spelled
@@ -17,10 +17,10 @@ abbrev pub item : Option Kind → List ℕ → Item
 item k bs = record { kind = k; bytes = bs }
 
 -- names and words are spelled in lower case, every other item as it stands
-abbrev pub spelled : Option Kind → List ℕ → List ℕ
-spelled (Some kind.Name) bs = map lower bs
-spelled (Some (kind.Word n)) bs = map lower bs
-spelled k bs = bs
+abbrev pub canonical_spelling : Option Kind → List ℕ → List ℕ
+canonical_spelling (Some kind.Name) bs = map lower_case_letter bs
+canonical_spelling (Some (kind.Word n)) bs = map lower_case_letter bs
+canonical_spelling k bs = bs
 
 -- the bytes in front of the rest
 abbrev pub front : List ℕ → List ℕ → List ℕ
@@ -28,7 +28,7 @@ front bs r = take (length bs - length r) bs
 
 -- the item of this kind that stands in front of the rest
 abbrev pub item_from : Option Kind → List ℕ → List ℕ → Item
-item_from k bs r = item k (spelled k (front bs r))
+item_from k bs r = item k (canonical_spelling k (front bs r))
 
 -- The bytes have these items, with blanks between them or none. Each token is the longest at its place.
 pub data HasItems : List ℕ → List Item → Type 0 where

@@ -79,9 +79,9 @@ abbrev pub is_first : List Item → Bool
 is_first [] = true
 is_first (i ∷ before) = false
 
-abbrev pub previous : List Item → Option Kind
-previous [] = None
-previous (i ∷ before) = i.kind
+abbrev pub previous_kind : List Item → Option Kind
+previous_kind [] = None
+previous_kind (i ∷ before) = i.kind
 
 -- whether the last word among array and case is case
 abbrev pub chooses : List Item → Bool
@@ -92,7 +92,7 @@ chooses (i ∷ before) = cond (is_case i.kind) true (cond (is_array i.kind) fals
 abbrev pub context_of : List Item → Context
 context_of before = record {
   first = is_first before;
-  previous = previous before;
+  previous = previous_kind before;
   begun = count begins before;
   ended = count ends before;
   opened = count opens before;
@@ -107,15 +107,15 @@ abbrev pub depth : Context → Option Kind → ℕ
 depth c k = (c.begun - c.ended) - cond (stands_out k) 1 0
 
 -- outside of all brackets
-abbrev pub outside : Context → Bool
-outside c = nat_le c.opened c.closed
+abbrev pub is_outside_brackets : Context → Bool
+is_outside_brackets c = nat_le c.opened c.closed
 
 -- A new line starts behind begin, parallel, record, repeat, a comment, a semicolon outside parentheses, and the of of a
 -- case.
 abbrev pub breaks_behind : Option Kind → Context → Bool
 breaks_behind None c = true
 breaks_behind (Some (kind.Word n)) c = n == 3 || (n == 19 || (n == 22 || (n == 23 || (n == 17 && c.chooses))))
-breaks_behind (Some (kind.Sign n)) c = n == 16 && outside c
+breaks_behind (Some (kind.Sign n)) c = n == 16 && is_outside_brackets c
 breaks_behind k c = false
 
 -- a new line starts before this item
@@ -138,10 +138,10 @@ gap c k = cond c.first [] (cond (breaks c k) (10 ∷ indentation (depth c k)) (c
 -- ---- the layout
 
 -- the items laid out behind those before them
-abbrev pub laid : List Item → List Item → List ℕ
-laid before [] = []
-laid before (i ∷ is) = (gap (context_of before) i.kind ++ i.bytes) ++ laid (i ∷ before) is
+abbrev pub items_layout : List Item → List Item → List ℕ
+items_layout before [] = []
+items_layout before (i ∷ is) = (gap (context_of before) i.kind ++ i.bytes) ++ items_layout (i ∷ before) is
 
 -- the canonical text of items, which ends with one line feed
-abbrev pub canonical : List Item → List ℕ
-canonical is = laid [] is ++ 10 ∷ []
+abbrev pub canonical_text : List Item → List ℕ
+canonical_text is = items_layout [] is ++ 10 ∷ []

@@ -3,7 +3,7 @@
 ghost use Rattle.std.specs.Prelude.{◌≡◌, ◌∷◌};
 ghost use Rattle.sp_base.specs.declared.rule.Rule.{Rule as ARule};
 ghost use Rattle.sp_tree.specs.Scans.{BreaksHere, IsTokens};
-ghost use Rattle.sp_scan.specs.Finds.{Item as StandsFirst};
+ghost use Rattle.sp_scan.specs.Finds.{FrontItem as StandsFirst};
 ghost use Rattle.sp_format.specs.Formats.{Lays, Formats};
 
 use crate::context::{behind, start};

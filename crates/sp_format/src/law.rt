@@ -4,7 +4,7 @@ ghost use Rattle.std.specs.Prelude.{◌≡◌, ℕ, List};
 ghost use Rattle.sp_base.specs.declared.halt.Refusal.{Refusal};
 ghost use Rattle.sp_format.specs.Items.{Item as AnItem, HasItems};
 ghost use Rattle.sp_format.specs.Formats.{HasLayout, HasNoLayout, HasTree, IsCanonical};
-ghost use Rattle.sp_format.specs.Layout.{canonical};
+ghost use Rattle.sp_format.specs.Layout.{canonical_text};
 ghost use Rattle.sp_format.specs.SameTrees.{SpellsAlike};
 ghost use Rattle.sp_tree.specs.Breaches.{IsTree};
 ghost use Rattle.sp_tree.specs.PlainSyntax.{Program};
@@ -20,7 +20,8 @@ pub fn one_canonical_text()
 /// The canonical text of a program has the items of the program, breaks no rule of its characters and its grammar
 /// either, and is its own canonical text: laid out again it is itself, and no rule is named.
 pub fn items_kept()
-    ensures items { (text : List ℕ) (is : List AnItem) → HasTree text → HasItems text is → HasItems (canonical is) is }
+    ensures items { (text : List ℕ) (is : List AnItem) → HasTree text → HasItems text is
+        → HasItems (canonical_text is) is }
     ensures accepted { (text out : List ℕ) → HasTree text → IsCanonical text out → HasTree out }
     ensures again { (text out : List ℕ) → HasTree text → IsCanonical text out → IsCanonical out out }
     ensures not_refused { (text out : List ℕ) (r : Refusal) → HasTree text → IsCanonical text out → HasNoLayout out r

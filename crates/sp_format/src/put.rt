@@ -1,9 +1,9 @@
 //! Items put behind a text, each with the gap before it.
 
 ghost use Rattle.std.specs.Prelude.{◌≡◌, ◌++◌, OnOk, map};
-ghost use Rattle.sp_tree.specs.Characters.{lower as lower_of, is_blank as is_a_blank};
-ghost use Rattle.sp_scan.specs.Finds.{Cuts};
-ghost use Rattle.sp_format.specs.Items.{spelled};
+ghost use Rattle.sp_tree.specs.Characters.{lower_case_letter as lower_of, is_blank as is_a_blank};
+ghost use Rattle.sp_scan.specs.Finds.{CutsByte};
+ghost use Rattle.sp_format.specs.Items.{canonical_spelling};
 ghost use Rattle.sp_format.specs.Layout.{indentation, gap};
 
 use crate::context::{Context, breaks, depth};
@@ -13,7 +13,7 @@ use std::alloc::AllocError;
 
 /// The first byte and the others, or none.
 pub fn cut(bytes: &[u8]) -> Option<(u8, &[u8])>
-    ensures { Cuts bytes.now result }
+    ensures { CutsByte bytes.now result }
 {
     match bytes {
         [first, rest @ ..] => Some((*first, rest)),
@@ -40,7 +40,7 @@ fn put_lower(out: &mut Vec<u8>, bytes: &[u8]) -> Result<(), AllocError>
 }
 
 fn put_spelled(out: &mut Vec<u8>, kind: Option<Kind>, bytes: &[u8]) -> Result<(), AllocError>
-    ensures { OnOk result (out.new.items ≡ out.old.items ++ spelled kind bytes.now) }
+    ensures { OnOk result (out.new.items ≡ out.old.items ++ canonical_spelling kind bytes.now) }
 {
     match kind {
         Some(Kind::Name) | Some(Kind::Word(_)) => put_lower(out, bytes),
@@ -83,7 +83,7 @@ pub fn put_item(
     kind: Option<Kind>,
     bytes: &[u8],
 ) -> Result<(), AllocError>
-    ensures { OnOk result (out.new.items ≡ out.old.items ++ (gap context kind ++ spelled kind bytes.now)) }
+    ensures { OnOk result (out.new.items ≡ out.old.items ++ (gap context kind ++ canonical_spelling kind bytes.now)) }
 {
     put_gap(out, context, kind)?;
     put_spelled(out, kind, bytes)

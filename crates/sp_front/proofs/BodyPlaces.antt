@@ -12,7 +12,7 @@ use Rattle.sp_tree.specs.declared.syntax.SynGroup.{SynGroup}
 use Rattle.sp_tree.specs.PlainSyntax as tree
 use Rattle.sp_tree.specs.Places.{start, place_at}
 use Rattle.sp_tree.specs.Grammar as g
-use Rattle.sp_tree.specs.Grammar.{declared}
+use Rattle.sp_tree.specs.Grammar.{with_part_first}
 use Rattle.sp_tree.specs.Breaches.{IsTree}
 use Rattle.sp_tree.specs.Viable.{Any}
 use Rattle.sp_tree.proofs.Earlier.{Earlier, not_earlier}
@@ -194,7 +194,7 @@ module _ (text : List ℕ) (Ok : ℕ → List Token → Type 0) where
 
   -- behind a part in which no block stands
   behind_plain : {ts u : List Token} {p : tree.Part} {b : tree.Block} {hi : ℕ} → Plain ts u p → Rises ts
-      → Bodies (begins u) hi b → Bodies (begins ts) hi (declared p b)
+      → Bodies (begins u) hi b → Bodies (begins ts) hi (with_part_first p b)
   behind_plain {b = b} k h x = let y = lower (tail_begins k.tail h) x in record {
     at = y.at;
     inner = y.inner;
@@ -213,7 +213,7 @@ module _ (text : List ℕ) (Ok : ℕ → List Token → Type 0) where
   -- behind a block
   behind_block : {lo mid next hi : ℕ} {n : Name} {fs : List SynFormal} {answer : Option Name} {k m : tree.Block}
       → mid ≤ next → Bodies lo mid k → Bodies next hi m
-      → Bodies lo hi (declared (tree.Proc n fs answer k.parts k.body) m)
+      → Bodies lo hi (with_part_first (tree.Proc n fs answer k.parts k.body) m)
   behind_block {lo} {mid} {next} {hi} {k = k} {m = m} l x y =
       let xl = x.low in let xh = x.high in let yl = y.low in record {
         at = y.at;

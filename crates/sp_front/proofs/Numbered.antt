@@ -3,7 +3,7 @@ use Rattle.std.proofs.Common.{◌≡◌, ℕ, List, [], ◌∷◌, ◌++◌, Som
 use Rattle.std.proofs.Common.{◌∙◌, subst}
 use Rattle.sp_base.specs.declared.place.Place.{Place}
 use Rattle.sp_base.specs.declared.halt.Refusal.{Refusal}
-use Rattle.sp_tree.specs.Found.{Found, outcome}
+use Rattle.sp_tree.specs.PhaseResults.{FirstRefusal, phase_result}
 use Rattle.sp_tree.specs.PlainSyntax as s
 use Rattle.sp_tree.specs.PlainNamed as n
 use Rattle.sp_tree.specs.PlainChecked as c
@@ -49,7 +49,7 @@ program_same p = ap₂ (λ (x : Place) (y : List Place). x ∷ y) (same_place _ 
     (parts_same _ _ p.block.parts)
 
 -- what a phase gives is its tree
-given : {A : Type 0} (f : Found) (x y : A) → outcome f x ≡ Ok y → x ≡ y
+given : {A : Type 0} (f : FirstRefusal) (x y : A) → phase_result f x ≡ Ok y → x ≡ y
 given None x y e = cc
 given (Some r) x y e = absurd (never x r y e)
   where

@@ -4,13 +4,13 @@ use Rattle.sp_base.specs.declared.halt.Refusal.{Refusal}
 use Rattle.sp_tree.specs.PlainSyntax as s
 use Rattle.sp_tree.specs.PlainNamed as n
 use Rattle.sp_tree.specs.Breaches.{IsTree, IsFirstBroken}
-use Rattle.sp_tree.specs.NameFirst.{resolved}
+use Rattle.sp_tree.specs.NameFirst.{name_resolution}
 use Rattle.sp_tree.specs.PlainChecked as c
-use Rattle.sp_types.specs.TypeFirst.{typed}
-use Rattle.sp_tree.specs.Bare.{bare}
+use Rattle.sp_types.specs.TypeFirst.{types_outcome}
+use Rattle.sp_tree.specs.Bare.{without_places}
 use Rattle.sp_tree.specs.Plain as m
 use Rattle.sp_scope.proofs.Found.{inner}
-use Rattle.sp_front.specs.Checks.{IsNamed, IsChecked, IsProgramOf, BreaksNames, BreaksTypes, BreaksFirst}
+use Rattle.sp_front.specs.Checks.{HasNamedTree, IsChecked, IsProgramOf, BreaksNames, BreaksTypes, FirstBrokenUpToTypes}
 
 -- what the characters and the grammar say
 abbrev pub OneTree : Type 0
@@ -42,28 +42,33 @@ onward : {A B : Type 0} (phase : A → Result B Refusal) (p q : A) (x y : Result
 onward phase p q x y e h k = back_of h ∙ (ap phase e ∙ k)
 
 module _ (one : OneTree) (text : List ℕ) where
-  named_once : (p q : n.Program) → IsNamed text p → IsNamed text q → p ≡ q
-  named_once p q (t, h, x) (u, k, y) = inner p q (onward resolved t u (Ok p) (Ok q) (one text t u h k) x y)
+  named_once : (p q : n.Program) → HasNamedTree text p → HasNamedTree text q → p ≡ q
+  named_once p q (t, h, x) (u, k, y) = inner p q (onward name_resolution t u (Ok p) (Ok q) (one text t u h k) x y)
 
   pub checked_once : (p q : c.Program) → IsChecked text p → IsChecked text q → p ≡ q
-  checked_once p q (m, h, x) (o, k, y) = inner p q (onward typed m o (Ok p) (Ok q) (named_once m o h k) x y)
+  checked_once p q (m, h, x) (o, k, y) = inner p q (onward types_outcome m o (Ok p) (Ok q) (named_once m o h k) x y)
 
   pub program_once : (p q : m.Program) → IsProgramOf text p → IsProgramOf text q → p ≡ q
-  program_once p q (t, h, x) (u, k, y) = back_of x ∙ (ap bare (checked_once t u h k) ∙ y)
+  program_once p q (t, h, x) (u, k, y) = back_of x ∙ (ap without_places (checked_once t u h k) ∙ y)
 
-  named_or_broken : (p : n.Program) (r : Refusal) → IsNamed text p → BreaksNames text r → ⊥
-  named_or_broken p r (t, h, x) (u, k, y) = never_both p r (onward resolved t u (Ok p) (Err r) (one text t u h k) x y)
+  named_or_broken : (p : n.Program) (r : Refusal) → HasNamedTree text p → BreaksNames text r → ⊥
+  named_or_broken p r (t, h, x) (u, k, y) =
+      never_both p r (onward name_resolution t u (Ok p) (Err r) (one text t u h k) x y)
 
   names_once : (a b : Refusal) → BreaksNames text a → BreaksNames text b → a ≡ b
-  names_once a b (t, h, x) (u, k, y) = same_refusal a b (onward resolved t u (Err a) (Err b) (one text t u h k) x y)
+  names_once a b (t, h, x) (u, k, y) =
+      same_refusal a b (onward name_resolution t u (Err a) (Err b) (one text t u h k) x y)
 
   types_once : (a b : Refusal) → BreaksTypes text a → BreaksTypes text b → a ≡ b
-  types_once a b (m, h, x) (o, k, y) = same_refusal a b (onward typed m o (Err a) (Err b) (named_once m o h k) x y)
+  types_once a b (m, h, x) (o, k, y) =
+      same_refusal a b (onward types_outcome m o (Err a) (Err b) (named_once m o h k) x y)
 
   types_or_not : (p : c.Program) (r : Refusal) → IsChecked text p → BreaksTypes text r → ⊥
-  types_or_not p r (m, h, x) (o, k, y) = never_both p r (onward typed m o (Ok p) (Err r) (named_once m o h k) x y)
+  types_or_not p r (m, h, x) (o, k, y) =
+      never_both p r (onward types_outcome m o (Ok p) (Err r) (named_once m o h k) x y)
 
-  pub refused_once : OneRefusal → NotBoth → (a b : Refusal) → BreaksFirst text a → BreaksFirst text b → a ≡ b
+  pub refused_once : OneRefusal → NotBoth → (a b : Refusal) → FirstBrokenUpToTypes text a → FirstBrokenUpToTypes text b
+      → a ≡ b
   refused_once first both a b (inl x) (inl y) = first text a b x y
   refused_once first both a b (inl x) (inr (inl (u, k, y))) = absurd (both text u a k x)
   refused_once first both a b (inl x) (inr (inr (o, (u, k, y), z))) = absurd (both text u a k x)
@@ -74,7 +79,7 @@ module _ (one : OneTree) (text : List ℕ) where
   refused_once first both a b (inr (inr (m, h, x))) (inr (inl y)) = absurd (named_or_broken m b h y)
   refused_once first both a b (inr (inr x)) (inr (inr y)) = types_once a b x y
 
-  pub kept_or_broken : NotBoth → (p : c.Program) (r : Refusal) → IsChecked text p → BreaksFirst text r → ⊥
+  pub kept_or_broken : NotBoth → (p : c.Program) (r : Refusal) → IsChecked text p → FirstBrokenUpToTypes text r → ⊥
   kept_or_broken both p r (m, (t, h, x), z) (inl y) = both text t r h y
   kept_or_broken both p r (m, h, x) (inr (inl y)) = named_or_broken m r h y
   kept_or_broken both p r x (inr (inr y)) = types_or_not p r x y

@@ -3,11 +3,11 @@ use Rattle.std.proofs.Common.{◌≡◌, ◌≢◌, ◌⊎◌, inl, inr, ℕ, ze
 use Rattle.std.proofs.Common.{sym, ap, ◌∙◌, subst}
 use Rattle.std.proofs.lemmas.List.{map-append}
 use Rattle.sp_tree.specs.PlainChecked.{Statement, Does, Form, Sequence, If, While, Repeat, For, Case, Parallel, Forall}
-use Rattle.sp_tree.specs.PlainChecked.{Other, NoElse, Else, Statements, NoStatement, AndThen, On, Arms, NoArm, Or}
+use Rattle.sp_tree.specs.PlainChecked.{ElsePart, NoElse, Else, Statements, NoStatement, AndThen, On, Arms, NoArm, Or}
 use Rattle.sp_tree.specs.PlainChecked.{Block, Program}
 use Rattle.sp_types.specs.StatementNumbers.{statement_numbers, form_numbers, other_numbers, statements_numbers}
 use Rattle.sp_types.specs.StatementNumbers.{arms_numbers, blocks_numbers, DiffersFrom, AllDiffer}
-use Rattle.sp_varsets.specs.Parts.{number_of, IsPart, IsInForm, IsInOther, IsAmong, IsInArms}
+use Rattle.sp_varsets.specs.Parts.{number_of, IsPart, IsInForm, IsInOther, IsInStatements, IsInArms}
 use Rattle.sp_varsets.specs.AreSets.{HaveOwnNumbers}
 
 -- a statement and those inside it, in the order of their numbers
@@ -26,7 +26,7 @@ abbrev mutual
   form_parts (Forall x from to s) = parts s
   form_parts form = []
 
-  other_parts : Other → List Statement
+  other_parts : ElsePart → List Statement
   other_parts NoElse = []
   other_parts (Else s) = parts s
 
@@ -58,7 +58,7 @@ mutual
   form_numbered (Forall x from to s) = numbered s
   form_numbered form = refl
 
-  other_numbered : (o : Other) → map number_of (other_parts o) ≡ other_numbers o
+  other_numbered : (o : ElsePart) → map number_of (other_parts o) ≡ other_numbers o
   other_numbered NoElse = refl
   other_numbered (Else s) = numbered s
 
@@ -103,11 +103,11 @@ module _ (t : Statement) where
     form_in (Forall x from to s) h = part_in s h
     form_in form h = absurd h
 
-    other_in : (o : Other) → IsInOther t o → In t (other_parts o)
+    other_in : (o : ElsePart) → IsInOther t o → In t (other_parts o)
     other_in NoElse h = h
     other_in (Else s) h = part_in s h
 
-    statements_in : (ss : Statements) → IsAmong t ss → In t (statements_parts ss)
+    statements_in : (ss : Statements) → IsInStatements t ss → In t (statements_parts ss)
     statements_in NoStatement h = h
     statements_in (AndThen s rest) (inl h) = in_first t (parts s) (statements_parts rest) (part_in s h)
     statements_in (AndThen s rest) (inr h) = in_second t (parts s) (statements_parts rest) (statements_in rest h)

@@ -15,7 +15,7 @@ use Rattle.sp_tree.specs.Interferes.{Interferes}
 use Rattle.sp_varsets.specs.declared.sets.Sets.{Sets}
 use Rattle.sp_varsets.specs.AreSets.{AreSets}
 use Rattle.sp_front.specs.declared.compiling.Accepted.{Accepted}
-use Rattle.sp_front.specs.Checks.{IsChecked, BreaksFirst}
+use Rattle.sp_front.specs.Checks.{IsChecked, FirstBrokenUpToTypes}
 
 -- the text has this checked tree, which breaks no rule of interference
 abbrev pub IsAccepted : List ℕ → c.Program → Type 0
@@ -26,21 +26,21 @@ abbrev pub BreaksInterference : List ℕ → Refusal → Type 0
 BreaksInterference text r = (p : c.Program) × IsChecked text p × IsFirst (Interferes p) r
 
 -- the first rule of all phases that the text breaks
-abbrev pub BreaksAnyFirst : List ℕ → Refusal → Type 0
-BreaksAnyFirst text r = BreaksFirst text r ⊎ BreaksInterference text r
+abbrev pub FirstBrokenOfPhases : List ℕ → Refusal → Type 0
+FirstBrokenOfPhases text r = FirstBrokenUpToTypes text r ⊎ BreaksInterference text r
 
 -- the answer with the sets; want of memory is free
 abbrev pub Compiles : List ℕ → Result Accepted Halt → Type 0
 Compiles text (Ok a) = IsAccepted text (checked.program_of a.checked) × AreSets (checked.program_of a.checked) a.sets
-Compiles text (Err (halt.Refused r)) = BreaksAnyFirst text r
+Compiles text (Err (halt.Refused r)) = FirstBrokenOfPhases text r
 Compiles text (Err halt.Memory) = Unit {0}
 
 -- the same without the phase of interference
 abbrev pub Analyses : List ℕ → Result (Checked × Sets) Halt → Type 0
 Analyses text (Ok a) = IsChecked text (checked.program_of a.0) × AreSets (checked.program_of a.0) a.1
-Analyses text (Err (halt.Refused r)) = BreaksFirst text r
+Analyses text (Err (halt.Refused r)) = FirstBrokenUpToTypes text r
 Analyses text (Err halt.Memory) = Unit {0}
 
 -- the text breaks no rule of any phase
-abbrev pub KeepsAllRules : List ℕ → Type 0
-KeepsAllRules text = (r : Refusal) → BreaksAnyFirst text r → ⊥
+abbrev pub AcceptedByPhases : List ℕ → Type 0
+AcceptedByPhases text = (r : Refusal) → FirstBrokenOfPhases text r → ⊥

@@ -3,10 +3,10 @@
 ghost use Rattle.std.specs.Prelude.{◌≡◌, IfOk};
 ghost use Rattle.sp_tree.specs.PlainOf.{program_of};
 ghost use Rattle.sp_tree.specs.Interference.{IsFreeOfInterference};
-ghost use Rattle.sp_meaning.specs.Own.{Setting};
+ghost use Rattle.sp_meaning.specs.LocalWork.{RunInput};
 ghost use Rattle.sp_meaning.specs.Runs.{IsDisjointRun};
 ghost use Rattle.sp_front.specs.Checks.{IsProgramOf};
-ghost use Rattle.sp_front.specs.Compiles.{Analyses, Compiles, KeepsAllRules};
+ghost use Rattle.sp_front.specs.Compiles.{Analyses, Compiles, AcceptedByPhases};
 
 use crate::law::{numbered_trees, one_answer};
 use crate::phases::typed;
@@ -68,10 +68,10 @@ pub fn analyse(alloc: Global, text: &[u8]) -> Result<(Checked, Sets), Halt>
 /// one.
 pub fn compile(alloc: Global, text: &[u8]) -> Result<Accepted, Halt>
     ensures compiles { Compiles text.now result }
-    ensures keeps { IfOk result (λ a. KeepsAllRules text.now) }
+    ensures keeps { IfOk result (λ a. AcceptedByPhases text.now) }
     ensures program { IfOk result (λ a. IsProgramOf text.now (program_of a.checked)) }
     ensures free { IfOk result (λ a. IsFreeOfInterference (program_of a.checked)) }
-    ensures disjoint { IfOk result (λ a. (g : Setting) → g.program ≡ program_of a.checked → IsDisjointRun g) }
+    ensures disjoint { IfOk result (λ a. (g : RunInput) → g.program ≡ program_of a.checked → IsDisjointRun g) }
 {
     one_answer();
     numbered_trees();

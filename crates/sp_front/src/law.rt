@@ -5,14 +5,14 @@ ghost use Rattle.std.specs.Prelude.{◌≡◌, ◌⊎◌, ℕ, List};
 ghost use Rattle.sp_base.specs.declared.halt.Refusal.{Refusal};
 ghost use Rattle.sp_tree.specs.PlainChecked.{Program};
 ghost use Rattle.sp_tree.specs.Plain.{Program as Meant};
-ghost use Rattle.sp_tree.specs.Bare.{bare};
-ghost use Rattle.sp_meaning.specs.Own.{Setting};
+ghost use Rattle.sp_tree.specs.Bare.{without_places};
+ghost use Rattle.sp_meaning.specs.LocalWork.{RunInput};
 ghost use Rattle.sp_meaning.specs.Runs.{IsDisjointRun};
 ghost use Rattle.sp_types.specs.StatementNumbers.{AllDiffer, blocks_numbers};
 ghost use Rattle.sp_varsets.specs.AreSets.{HaveEarlierParents, HaveOwnNumbers};
 ghost use Rattle.sp_front.specs.Codes.{HasListing};
-ghost use Rattle.sp_front.specs.Checks.{BreaksFirst, IsChecked, IsProgramOf, KeepsRules};
-ghost use Rattle.sp_front.specs.Compiles.{BreaksAnyFirst, IsAccepted};
+ghost use Rattle.sp_front.specs.Checks.{FirstBrokenUpToTypes, IsChecked, IsProgramOf, AcceptedUpToTypes};
+ghost use Rattle.sp_front.specs.Compiles.{FirstBrokenOfPhases, IsAccepted};
 
 use sp_facts::laws::{accepted_trees_are_fine, names_number_the_tree};
 use sp_generate::one_code;
@@ -23,9 +23,11 @@ use sp_scan::first_breach;
 /// The first rule that a text breaks is one rule at one place. A text that breaks one has no checked tree, and no text
 /// has two checked trees, or two programs.
 pub fn one_answer()
-    ensures refusal { (text : List ℕ) (a b : Refusal) → BreaksFirst text a → BreaksFirst text b → a ≡ b }
+    ensures refusal { (text : List ℕ) (a b : Refusal) → FirstBrokenUpToTypes text a → FirstBrokenUpToTypes text b
+        → a ≡ b }
     ensures tree { (text : List ℕ) (p q : Program) → IsChecked text p → IsChecked text q → p ≡ q }
-    ensures not_both { (text : List ℕ) (p : Program) (r : Refusal) → IsChecked text p → BreaksFirst text r → ⊥ }
+    ensures not_both { (text : List ℕ) (p : Program) (r : Refusal) → IsChecked text p
+        → FirstBrokenUpToTypes text r → ⊥ }
     ensures program { (text : List ℕ) (p q : Meant) → IsProgramOf text p → IsProgramOf text q → p ≡ q }
 {
     one_verdict();
@@ -34,16 +36,18 @@ pub fn one_answer()
 /// The first rule of all phases that a text breaks is one rule at one place, and a text that has an accepted tree
 /// breaks none.
 pub fn one_compilation()
-    ensures refusal { (text : List ℕ) (a b : Refusal) → BreaksAnyFirst text a → BreaksAnyFirst text b → a ≡ b }
-    ensures not_both { (text : List ℕ) (p : Program) (r : Refusal) → IsAccepted text p → BreaksAnyFirst text r → ⊥ }
+    ensures refusal { (text : List ℕ) (a b : Refusal) → FirstBrokenOfPhases text a → FirstBrokenOfPhases text b
+        → a ≡ b }
+    ensures not_both { (text : List ℕ) (p : Program) (r : Refusal) → IsAccepted text p
+        → FirstBrokenOfPhases text r → ⊥ }
 {
     one_answer();
 }
 
 /// A text has a checked tree, or a rule that is the first it breaks. So a text that breaks no rule has a program.
 pub fn some_answer(text: &[u8])
-    ensures either { ((p : Program) × IsChecked text.now p) ⊎ ((r : Refusal) × BreaksFirst text.now r) }
-    ensures kept { KeepsRules text.now → (p : Meant) × IsProgramOf text.now p }
+    ensures either { ((p : Program) × IsChecked text.now p) ⊎ ((r : Refusal) × FirstBrokenUpToTypes text.now r) }
+    ensures kept { AcceptedUpToTypes text.now → (p : Meant) × IsProgramOf text.now p }
 {
     some_verdict();
     let _found = first_breach(text);
@@ -65,7 +69,8 @@ pub fn numbered_trees()
 /// On no input, with no limits and in no lawful schedule does a process of an accepted text write what a parallel one
 /// reads or writes.
 pub fn accepted_texts_are_disjoint()
-    ensures { (text : List ℕ) (p : Program) → IsAccepted text p → (g : Setting) → g.program ≡ bare p → IsDisjointRun g }
+    ensures { (text : List ℕ) (p : Program) → IsAccepted text p → (g : RunInput) → g.program ≡ without_places p
+        → IsDisjointRun g }
 {
     accepted_trees_are_fine();
     rule_keepers_are_disjoint();

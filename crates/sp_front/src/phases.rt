@@ -2,7 +2,7 @@
 
 ghost use Rattle.std.specs.Prelude.{IfOk};
 ghost use Rattle.sp_tree.specs.PlainOf.{program_of};
-ghost use Rattle.sp_front.specs.Checks.{Checks, IsProgramOf, KeepsRules};
+ghost use Rattle.sp_front.specs.Checks.{Checks, IsProgramOf, AcceptedUpToTypes};
 
 use crate::law::one_answer;
 use crate::reader::read_text;
@@ -18,7 +18,7 @@ use std::alloc::Global;
 /// It recurses as deep as the longest chain of operators is long: `analyse_apart` gives it the stack for that.
 pub fn typed(alloc: Global, text: &[u8]) -> Result<Checked, Halt>
     ensures checks { Checks text.now result }
-    ensures keeps { IfOk result (λ tree. KeepsRules text.now) }
+    ensures keeps { IfOk result (λ tree. AcceptedUpToTypes text.now) }
     ensures program { IfOk result (λ tree. IsProgramOf text.now (program_of tree)) }
 {
     one_answer();

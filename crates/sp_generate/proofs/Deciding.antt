@@ -9,7 +9,7 @@ use Rattle.std.proofs.lemmas.Option.{slice_get-map}
 use Rattle.std.proofs.lemmas.Bool.{and_parts, false_from_ne_true}
 use Rattle.sp_base.proofs.Facts.{or_with_true}
 use Rattle.sp_tree.specs.PlainChecked as c
-use Rattle.sp_tree.specs.Bare.{bare, bare_block}
+use Rattle.sp_tree.specs.Bare.{without_places, bare_block}
 use Rattle.sp_tree.specs.Plain.{Block, Stmt}
 use Rattle.sp_tree.specs.Uses.{Use, Target, Seen, CallOf, ParallelOf, ForallOf, Stop, In_stmt}
 use Rattle.sp_tree.specs.Sets.{IsTarget, IsSeen}
@@ -20,7 +20,7 @@ use Rattle.sp_varsets.specs.declared.sets.Sets.{Sets}
 use Rattle.sp_varsets.specs.AreSets.{AreSets, implicit_targets_of, implicit_expressions_of}
 use Rattle.sp_varsets.specs.Members.{has}
 use Rattle.sp_varsets.proofs.Words.{below_words}
-use Rattle.sp_generate.specs.Handings.{IsInOrder, fitting}
+use Rattle.sp_generate.specs.Handings.{IsInOrder, fitting_numbers}
 use Rattle.sp_generate.proofs.Inside.{stmt_inside}
 
 -- ---- tests of uses
@@ -71,7 +71,7 @@ block_given tree b h = go (slice_get tree.blocks b) refl
     go None e = absurd (true≢false (sym h ∙ ap is_given e))
     go (Some k) e = (k, e)
 
-given_block : (tree : c.Program) (b : ℕ) (k : Block) → slice_get (bare tree).blocks b ≡ Some k → (m : c.Block)
+given_block : (tree : c.Program) (b : ℕ) (k : Block) → slice_get (without_places tree).blocks b ≡ Some k → (m : c.Block)
     × (slice_get tree.blocks b ≡ Some m)
 given_block tree b k h = go (slice_get tree.blocks b) refl
   where
@@ -154,7 +154,8 @@ module _ (tree : c.Program) (sets : Sets) where
   seen_below s x h = no_use (sees x) (stmt_uses s) (λ u a. sees_below x u (over s x u h a))
 
   module _ (are : AreSets tree sets) where
-    aims_is : (s : Stmt) (x : ℕ) (u : Use) → In_stmt s u → aims x u ≡ true → IsTarget (bare tree) (In_stmt s) x
+    aims_is : (s : Stmt) (x : ℕ) (u : Use) → In_stmt s u → aims x u ≡ true
+        → IsTarget (without_places tree) (In_stmt s) x
     unfolding aims
     aims_is s x (Target y) h e = ([], subst (λ (z : ℕ). In_stmt s (Target z)) (sym (eqb-true x y e)) h)
     aims_is s x (Seen y) h e = absurd (true≢false (sym e))
@@ -167,11 +168,11 @@ module _ (tree : c.Program) (sets : Sets) where
     aims_is s x (ForallOf y t) h e = absurd (true≢false (sym e))
     aims_is s x Stop h e = absurd (true≢false (sym e))
 
-    pub target_told : (s : Stmt) (x : ℕ) → is_target s x ≡ true → IsTarget (bare tree) (In_stmt s) x
+    pub target_told : (s : Stmt) (x : ℕ) → is_target s x ≡ true → IsTarget (without_places tree) (In_stmt s) x
     unfolding is_target
     target_told s x h = let r = use_found (aims x) (stmt_uses s) h in aims_is s x r.0 (stmt_inside s r.0 r.1) r.2
 
-    pub target_tells : (s : Stmt) (x : ℕ) → IsTarget (bare tree) (In_stmt s) x → is_target s x ≡ true
+    pub target_tells : (s : Stmt) (x : ℕ) → IsTarget (without_places tree) (In_stmt s) x → is_target s x ≡ true
     unfolding is_target aims
     target_tells s x ([], h) = use_finds (aims x) (stmt_uses s) (Target x) (stmt_among s (Target x) h) (eq-eqb x x refl)
     target_tells s x (b ∷ bs, (args, h, k, e, free, reach)) =
@@ -180,7 +181,7 @@ module _ (tree : c.Program) (sets : Sets) where
         (ap (λ (g : Bool). g && has (implicit_targets_of sets b) x) (ap is_given m.1)
         ∙ ((are.blocks b m.0 m.1).targets x).1 (k, e, free, (bs, reach)))
 
-    sees_is : (s : Stmt) (x : ℕ) (u : Use) → In_stmt s u → sees x u ≡ true → IsSeen (bare tree) (In_stmt s) x
+    sees_is : (s : Stmt) (x : ℕ) (u : Use) → In_stmt s u → sees x u ≡ true → IsSeen (without_places tree) (In_stmt s) x
     unfolding sees
     sees_is s x (Target y) h e = absurd (true≢false (sym e))
     sees_is s x (Seen y) h e = ([], subst (λ (z : ℕ). In_stmt s (Seen z)) (sym (eqb-true x y e)) h)
@@ -193,11 +194,11 @@ module _ (tree : c.Program) (sets : Sets) where
     sees_is s x (ForallOf y t) h e = absurd (true≢false (sym e))
     sees_is s x Stop h e = absurd (true≢false (sym e))
 
-    pub seen_told : (s : Stmt) (x : ℕ) → is_seen s x ≡ true → IsSeen (bare tree) (In_stmt s) x
+    pub seen_told : (s : Stmt) (x : ℕ) → is_seen s x ≡ true → IsSeen (without_places tree) (In_stmt s) x
     unfolding is_seen
     seen_told s x h = let r = use_found (sees x) (stmt_uses s) h in sees_is s x r.0 (stmt_inside s r.0 r.1) r.2
 
-    pub seen_tells : (s : Stmt) (x : ℕ) → IsSeen (bare tree) (In_stmt s) x → is_seen s x ≡ true
+    pub seen_tells : (s : Stmt) (x : ℕ) → IsSeen (without_places tree) (In_stmt s) x → is_seen s x ≡ true
     unfolding is_seen sees
     seen_tells s x ([], h) = use_finds (sees x) (stmt_uses s) (Seen x) (stmt_among s (Seen x) h) (eq-eqb x x refl)
     seen_tells s x (b ∷ bs, (args, h, k, e, free, reach)) =
@@ -208,54 +209,58 @@ module _ (tree : c.Program) (sets : Sets) where
 
 -- ---- lists of the numbers that fit
 
-pub has_fitting : (f : ℕ → Bool) (x n y : ℕ) → x ≤ y → y < x + n → f y ≡ true → IsMember y (fitting f x n)
+pub has_fitting : (f : ℕ → Bool) (x n y : ℕ) → x ≤ y → y < x + n → f y ≡ true → IsMember y (fitting_numbers f x n)
 has_fitting f x zero y low h e = absurd (omega (arith, low, h))
 has_fitting f x (suc n) y low h e = go (x == y) refl (λ up. has_fitting f (suc x) n y up (omega (arith, h)) e)
   where
-    here : (b : Bool) → f x ≡ b → x ≡ y → IsMember y (if b then x ∷ fitting f (suc x) n else fitting f (suc x) n)
+    here : (b : Bool) → f x ≡ b → x ≡ y
+        → IsMember y (if b then x ∷ fitting_numbers f (suc x) n else fitting_numbers f (suc x) n)
     here true i same = inl (sym same)
     here false i same = absurd (true≢false (sym e ∙ ap f (sym same) ∙ i))
 
-    later : (b : Bool) → IsMember y (fitting f (suc x) n)
-        → IsMember y (if b then x ∷ fitting f (suc x) n else fitting f (suc x) n)
+    later : (b : Bool) → IsMember y (fitting_numbers f (suc x) n)
+        → IsMember y (if b then x ∷ fitting_numbers f (suc x) n else fitting_numbers f (suc x) n)
     later true m = inr m
     later false m = m
 
-    go : (b : Bool) → x == y ≡ b → (suc x ≤ y → IsMember y (fitting f (suc x) n)) → IsMember y (fitting f x (suc n))
+    go : (b : Bool) → x == y ≡ b → (suc x ≤ y → IsMember y (fitting_numbers f (suc x) n))
+        → IsMember y (fitting_numbers f x (suc n))
     go true s more = here (f x) refl (eqb-true x y s)
     go false s more =
         let other : x ≡ y → ⊥ = λ same. true≢false (sym (eq-eqb x y same) ∙ s) in
         let up : suc x ≤ y = omega (arith, low, other) in
         later (f x) (more up)
 
-pub of_fitting : (f : ℕ → Bool) (x n y : ℕ) → IsMember y (fitting f x n) → (x ≤ y) × (f y ≡ true)
+pub of_fitting : (f : ℕ → Bool) (x n y : ℕ) → IsMember y (fitting_numbers f x n) → (x ≤ y) × (f y ≡ true)
 of_fitting f x zero y m = absurd m
 of_fitting f x (suc n) y m = go (f x) refl (λ k. of_fitting f (suc x) n y k) m
   where
-    go : (b : Bool) → f x ≡ b → (IsMember y (fitting f (suc x) n) → (suc x ≤ y) × (f y ≡ true))
-        → IsMember y (if b then x ∷ fitting f (suc x) n else fitting f (suc x) n) → (x ≤ y) × (f y ≡ true)
+    go : (b : Bool) → f x ≡ b → (IsMember y (fitting_numbers f (suc x) n) → (suc x ≤ y) × (f y ≡ true))
+        → IsMember y (if b then x ∷ fitting_numbers f (suc x) n else fitting_numbers f (suc x) n) → (x ≤ y)
+        × (f y ≡ true)
     go true e later (inl same) = (omega (arith, same), ap f same ∙ e)
     go true e later (inr k) = let r = later k in (omega (arith, r.0), r.1)
     go false e later k = let r = later k in (omega (arith, r.0), r.1)
 
-pub fitting_in_order : (f : ℕ → Bool) (x n : ℕ) → IsInOrder (fitting f x n)
+pub fitting_in_order : (f : ℕ → Bool) (x n : ℕ) → IsInOrder (fitting_numbers f x n)
 fitting_in_order f x zero = tt
 fitting_in_order f x (suc n) = go (f x) (fitting_in_order f (suc x) n)
   where
-    go : (b : Bool) → IsInOrder (fitting f (suc x) n)
-        → IsInOrder (if b then x ∷ fitting f (suc x) n else fitting f (suc x) n)
+    go : (b : Bool) → IsInOrder (fitting_numbers f (suc x) n)
+        → IsInOrder (if b then x ∷ fitting_numbers f (suc x) n else fitting_numbers f (suc x) n)
     go true rest = ((λ y m. let r = of_fitting f (suc x) n y m in omega (arith, r.0)), rest)
     go false rest = rest
 
 -- none fits beyond both
 pub same_fitting : (f : ℕ → Bool) (x n m : ℕ) → ((y : ℕ) → x + n ≤ y → f y ≡ false)
-    → ((y : ℕ) → x + m ≤ y → f y ≡ false) → fitting f x n ≡ fitting f x m
+    → ((y : ℕ) → x + m ≤ y → f y ≡ false) → fitting_numbers f x n ≡ fitting_numbers f x m
 same_fitting f x zero zero a b = refl
 same_fitting f x zero (suc m) a b =
     same_fitting f (suc x) zero m (λ y h. a y (omega (arith, h))) (λ y h. b y (omega (arith, h)))
-    ∙ ap (λ (t : Bool). if t then x ∷ fitting f (suc x) m else fitting f (suc x) m) (sym (a x (omega arith)))
+    ∙ ap (λ (t : Bool). if t then x ∷ fitting_numbers f (suc x) m else fitting_numbers f (suc x) m)
+    (sym (a x (omega arith)))
 same_fitting f x (suc n) zero a b =
-    ap (λ (t : Bool). if t then x ∷ fitting f (suc x) n else fitting f (suc x) n) (b x (omega arith))
+    ap (λ (t : Bool). if t then x ∷ fitting_numbers f (suc x) n else fitting_numbers f (suc x) n) (b x (omega arith))
     ∙ same_fitting f (suc x) n zero (λ y h. a y (omega (arith, h))) (λ y h. b y (omega (arith, h)))
 same_fitting f x (suc n) (suc m) a b =
     ap (λ (ys : List ℕ). if f x then x ∷ ys else ys)

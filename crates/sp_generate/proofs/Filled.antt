@@ -9,7 +9,7 @@ use Rattle.sp_tree.specs.Around.{Scope}
 use Rattle.sp_tree.specs.Plain.{Program, Stmt, On, Arms, NoArm, Or}
 use Rattle.sp_code.specs.declared.instr.Instr.{Instr}
 use Rattle.sp_code.specs.declared.instr.Instr.TheVariants as i
-use Rattle.sp_code.specs.Places.{after}
+use Rattle.sp_code.specs.Places.{after_statement}
 use Rattle.sp_code.specs.Emitted.{code, code_arms, test_code, tests_code, tables_in, texts_in}
 use Rattle.sp_code.proofs.Counts.{stmt_after, code_count}
 use Rattle.sp_generate.specs.Written.{blank_tests, filled_ends, filled_test, filled_tests, starts_of, ends_of}
@@ -34,7 +34,7 @@ changed a b x y n e = ap (λ k. slice_set (a ++ x ∷ b) k y) e ∙ set-append_s
 module _ (p : Program) (sc : List Scope) where
   -- behind the code of a statement and one more instruction
   place : (base : List Instr) (t n q : ℕ) (s : Stmt) (x : Instr) → q ≡ length base
-      → after p q s + 1 ≡ length ((base ++ code p sc t n q s) ++ x ∷ [])
+      → after_statement p q s + 1 ≡ length ((base ++ code p sc t n q s) ++ x ∷ [])
   place base t n q s x e = omega (
     arith,
     e,
@@ -49,16 +49,17 @@ module _ (p : Program) (sc : List Scope) where
   ends_filled base t n q NoArm end e = refl
   ends_filled base t n q (Or (On ms s) rest) end e =
       let cs = code p sc t n q s in
-      let others = λ (m : ℕ). code_arms p sc (t + tables_in s) (n + texts_in s) (after p q s + 1) rest m in
-      let there : after p q s ≡ length (base ++ cs) =
+      let others = λ (m : ℕ). code_arms p sc (t + tables_in s) (n + texts_in s) (after_statement p q s + 1) rest m in
+      let there : after_statement p q s ≡ length (base ++ cs) =
       omega (arith, e, stmt_after p q s, code_count p sc t n q s, length-append base cs) in
-      let first : slice_set (base ++ (cs ++ (i.Jump 0 ∷ others 0))) (after p q s) (i.Jump end)
+      let first : slice_set (base ++ (cs ++ (i.Jump 0 ∷ others 0))) (after_statement p q s) (i.Jump end)
       ≡ ((base ++ cs) ++ i.Jump end ∷ []) ++ others 0 =
-      ap (λ xs. slice_set xs (after p q s) (i.Jump end)) (sym (append_assoc base cs (i.Jump 0 ∷ others 0)))
-      ∙ changed (base ++ cs) (others 0) (i.Jump 0) (i.Jump end) (after p q s) there
+      ap (λ xs. slice_set xs (after_statement p q s) (i.Jump end)) (sym (append_assoc base cs (i.Jump 0 ∷ others 0)))
+      ∙ changed (base ++ cs) (others 0) (i.Jump 0) (i.Jump end) (after_statement p q s) there
       ∙ sym (append_assoc (base ++ cs) (i.Jump end ∷ []) (others 0)) in
-      ap (λ xs. filled_ends xs (ends_of p (after p q s + 1) rest) end) first
-      ∙ ends_filled ((base ++ cs) ++ i.Jump end ∷ []) (t + tables_in s) (n + texts_in s) (after p q s + 1) rest end
+      ap (λ xs. filled_ends xs (ends_of p (after_statement p q s + 1) rest) end) first
+      ∙ ends_filled ((base ++ cs) ++ i.Jump end ∷ []) (t + tables_in s) (n + texts_in s) (after_statement p q s + 1)
+      rest end
       (place base t n q s (i.Jump end) e)
       ∙ append_assoc (base ++ cs) (i.Jump end ∷ []) (others end)
       ∙ append_assoc base cs (i.Jump end ∷ others end)
@@ -82,15 +83,16 @@ pub tests_filled : (p : Program) (base rest : List Instr) (k q : ℕ) (arms : Ar
     ++ (tests_code p arms q ++ rest)
 tests_filled p base rest k q NoArm e = refl
 tests_filled p base rest k q (Or (On ms s) others) e =
-    ap (λ xs. filled_tests (filled_test xs k ms q) (k + length ms) others (starts_of p (after p q s + 1) others))
+    ap (λ xs. filled_tests (filled_test xs k ms q) (k + length ms) others
+    (starts_of p (after_statement p q s + 1) others))
     (ap (λ ys. base ++ ys) (append_assoc (test_code ms 0) (blank_tests others) rest))
-    ∙ ap (λ xs. filled_tests xs (k + length ms) others (starts_of p (after p q s + 1) others))
+    ∙ ap (λ xs. filled_tests xs (k + length ms) others (starts_of p (after_statement p q s + 1) others))
     (test_filled base (blank_tests others ++ rest) k ms q e
     ∙ sym (append_assoc base (test_code ms q) (blank_tests others ++ rest)))
-    ∙ tests_filled p (base ++ test_code ms q) rest (k + length ms) (after p q s + 1) others
+    ∙ tests_filled p (base ++ test_code ms q) rest (k + length ms) (after_statement p q s + 1) others
     (omega (arith, e, length-append base (test_code ms q), test_length ms q))
-    ∙ append_assoc base (test_code ms q) (tests_code p others (after p q s + 1) ++ rest)
-    ∙ ap (λ ys. base ++ ys) (sym (append_assoc (test_code ms q) (tests_code p others (after p q s + 1)) rest))
+    ∙ append_assoc base (test_code ms q) (tests_code p others (after_statement p q s + 1) ++ rest)
+    ∙ ap (λ ys. base ++ ys) (sym (append_assoc (test_code ms q) (tests_code p others (after_statement p q s + 1)) rest))
 
 pub blank_length : (p : Program) (arms : Arms) (b : ℕ) → length (blank_tests arms) ≡ length (tests_code p arms b)
 blank_length p NoArm b = refl
@@ -98,8 +100,8 @@ blank_length p (Or (On ms s) rest) b =
     omega (
       arith,
       length-append (test_code ms 0) (blank_tests rest),
-      length-append (test_code ms b) (tests_code p rest (after p b s + 1)),
+      length-append (test_code ms b) (tests_code p rest (after_statement p b s + 1)),
       test_length ms 0,
       test_length ms b,
-      blank_length p rest (after p b s + 1),
+      blank_length p rest (after_statement p b s + 1),
     )

@@ -13,27 +13,29 @@ use Rattle.sp_code.specs.declared.instr.Instr.TheVariants as i
 use Rattle.sp_code.specs.declared.code.ForkTable.{ForkTable}
 use Rattle.sp_code.specs.declared.code.ChildTable.{ChildTable}
 use Rattle.sp_code.specs.Scopes.{kind_of, kind_at, type_of, is_given, slot}
-use Rattle.sp_code.specs.Places.{after_value, after_tests, after, after_children, after_arms}
+use Rattle.sp_code.specs.Places.{after_value, after_tests, after_statement, after_children, after_arms}
 use Rattle.sp_code.specs.Emitted.{value_code, var_code, width_code, write_instr, reading_instr, tests_code, code}
 use Rattle.sp_code.specs.Emitted.{code_all, code_children, code_arms, tables_in, tables_in_all, tables_in_arms}
 use Rattle.sp_code.specs.Emitted.{texts_in, texts_of, texts_of_all, texts_of_arms}
 use Rattle.sp_code.proofs.Counts.{value_after, value_count, stmt_after, code_count, children_after, children_count}
 use Rattle.sp_code.proofs.Counts.{arms_after, arms_count, tests_after, tests_count, texts_count}
-use Rattle.sp_generate.specs.declared.draft.Draft.{Draft}
+use Rattle.sp_generate.specs.declared.code_buffer.CodeBuffer.{CodeBuffer}
 use Rattle.sp_generate.specs.Views.{call_code}
 use Rattle.sp_generate.specs.Steps.{for_instr, next_instr}
 use Rattle.sp_generate.specs.Tables.{child, children, tables, form_tables, tables_all, tables_children, tables_arms}
-use Rattle.sp_generate.specs.Written.{assign_code, drafted, with_code, written, written_form, written_all}
-use Rattle.sp_generate.specs.Written.{written_children, written_arms, branched, passed_over, looped, spread, chosen}
+use Rattle.sp_generate.specs.Written.{assign_code, buffer_of, with_code, buffer_after, buffer_after_form}
+use Rattle.sp_generate.specs.Written.{buffer_after_all}
+use Rattle.sp_generate.specs.Written.{buffer_after_children, buffer_after_arms, buffer_after_branch}
+use Rattle.sp_generate.specs.Written.{buffer_after_passed, buffer_after_loop, buffer_after_forall, buffer_after_case}
 use Rattle.sp_generate.specs.Written.{starts_of, ends_of, blank_tests, filled_ends, filled_tests, sends_code}
 use Rattle.sp_generate.specs.Written.{receives_code}
 use Rattle.sp_generate.proofs.Filled.{ends_filled, tests_filled, blank_length}
 
 -- instructions alone
-abbrev alone : Draft → List Instr → Draft
+abbrev alone : CodeBuffer → List Instr → CodeBuffer
 alone d xs = record { instrs = d.instrs ++ xs; forks = d.forks ++ []; texts = d.texts ++ [] }
 
-plain_is : (d : Draft) (xs : List Instr) → with_code d xs ≡ alone d xs
+plain_is : (d : CodeBuffer) (xs : List Instr) → with_code d xs ≡ alone d xs
 plain_is d xs = λ k. record {
   instrs = d.instrs ++ xs;
   forks = sym (append-nil d.forks) k;
@@ -41,13 +43,13 @@ plain_is d xs = λ k. record {
 }
 
 -- instructions that were written, where all went well
-pub wrote : {T E : Type 0} (r : Result T E) (d e : Draft) (ys xs : List Instr) → OnOk r (ys ≡ d.instrs ++ xs)
-    → with_code d xs ≡ e → OnOk r (drafted ys (d.forks) (d.texts) ≡ e)
-wrote (Ok v) d e ys xs h k = ap (λ (zs : List Instr). drafted zs (d.forks) (d.texts)) h ∙ k
+pub wrote : {T E : Type 0} (r : Result T E) (d e : CodeBuffer) (ys xs : List Instr) → OnOk r (ys ≡ d.instrs ++ xs)
+    → with_code d xs ≡ e → OnOk r (buffer_of ys (d.forks) (d.texts) ≡ e)
+wrote (Ok v) d e ys xs h k = ap (λ (zs : List Instr). buffer_of zs (d.forks) (d.texts)) h ∙ k
 wrote (Err x) d e ys xs h k = h
 
 -- a draft that was made, where all went well
-pub went : {T E : Type 0} (r : Result T E) (x y z : Draft) → OnOk r (x ≡ y) → y ≡ z → OnOk r (x ≡ z)
+pub went : {T E : Type 0} (r : Result T E) (x y z : CodeBuffer) → OnOk r (x ≡ y) → y ≡ z → OnOk r (x ≡ z)
 went (Ok v) x y z h k = h ∙ k
 went (Err e) x y z h k = h
 
@@ -55,20 +57,20 @@ two_of : {A : Type 0} (xs ys : List A) (m : ℕ) → length ys ≡ m → length 
 two_of xs ys m e = omega (arith, length-append xs ys, e)
 
 module _ (p : b.Program) (mv sh : ℕ → List ℕ) (sc : List Scope) where
-  pub statement_is : (d : Draft) (m : ℕ) (at : Place) (form : c.Form)
-      → written_form p mv sh d sc form ≡ written p mv sh d sc (c.Does m at form)
-  unfolding written written_form
+  pub statement_is : (d : CodeBuffer) (m : ℕ) (at : Place) (form : c.Form)
+      → buffer_after_form p mv sh d sc form ≡ buffer_after p mv sh d sc (c.Does m at form)
+  unfolding buffer_after buffer_after_form
   statement_is d m at form = refl
 
-  pub sequence_is : (d : Draft) (ss : c.Statements)
-      → written_all p mv sh d sc ss ≡ written_form p mv sh d sc (c.Sequence ss)
-  unfolding written_all written_form
+  pub sequence_is : (d : CodeBuffer) (ss : c.Statements)
+      → buffer_after_all p mv sh d sc ss ≡ buffer_after_form p mv sh d sc (c.Sequence ss)
+  unfolding buffer_after_all buffer_after_form
   sequence_is d ss = refl
 
   -- ---- statements with no statement inside
 
-  pub empty_is : (d : Draft) → d ≡ written_form p mv sh d sc c.Empty
-  unfolding written_form
+  pub empty_is : (d : CodeBuffer) → d ≡ buffer_after_form p mv sh d sc c.Empty
+  unfolding buffer_after_form
   empty_is d = λ k. record {
     instrs = sym (append-nil d.instrs) k;
     forks = sym (append-nil d.forks) k;
@@ -78,70 +80,71 @@ module _ (p : b.Program) (mv sh : ℕ → List ℕ) (sc : List Scope) where
   assigned : (t n q : ℕ) (v : b.Var) (e : b.Expr) → assign_code p sc v e ≡ code p sc t n q (b.Assign v e)
   assigned t n q v (b.Typed k form) = refl
 
-  pub assign_is : (d : Draft) (v : c.Variable) (e : c.Expression)
-      → with_code d (assign_code p sc (bare_variable v) (bare_expression e)) ≡ written_form p mv sh d sc (c.Assign v e)
-  unfolding written_form
+  pub assign_is : (d : CodeBuffer) (v : c.Variable) (e : c.Expression)
+      → with_code d (assign_code p sc (bare_variable v) (bare_expression e)) ≡ buffer_after_form p mv sh d sc
+      (c.Assign v e)
+  unfolding buffer_after_form
   assign_is d v e =
       plain_is d (assign_code p sc (bare_variable v) (bare_expression e))
       ∙ ap (alone d) (assigned (length d.forks) (length d.texts) (length d.instrs) (bare_variable v)
       (bare_expression e))
 
-  pub call_is : (d : Draft) (f : ℕ) (args : c.Actuals)
-      → with_code d (call_code p sc f (bare_actuals args)) ≡ written_form p mv sh d sc (c.Call f args)
-  unfolding written_form
+  pub call_is : (d : CodeBuffer) (f : ℕ) (args : c.Actuals)
+      → with_code d (call_code p sc f (bare_actuals args)) ≡ buffer_after_form p mv sh d sc (c.Call f args)
+  unfolding buffer_after_form
   call_is d f args = plain_is d _
 
-  pub assume_is : (d : Draft) (e : c.Expression)
-      → with_code d (value_code p sc (bare_expression e) ++ i.Assume ∷ []) ≡ written_form p mv sh d sc (c.Assume e)
-  unfolding written_form
+  pub assume_is : (d : CodeBuffer) (e : c.Expression)
+      → with_code d (value_code p sc (bare_expression e) ++ i.Assume ∷ []) ≡ buffer_after_form p mv sh d sc (c.Assume e)
+  unfolding buffer_after_form
   assume_is d e = plain_is d _
 
-  pub read_is : (d : Draft) (v : c.Variable)
+  pub read_is : (d : CodeBuffer) (v : c.Variable)
       → with_code d (var_code p sc (bare_variable v) ++ reading_instr (kind_at p (type_of p (bare_variable v))) ∷ [])
-      ≡ written_form p mv sh d sc (c.ReadValue v)
-  unfolding written_form
+      ≡ buffer_after_form p mv sh d sc (c.ReadValue v)
+  unfolding buffer_after_form
   read_is d v = plain_is d _
 
-  pub readln_is : (d : Draft) → with_code d (i.Readln ∷ []) ≡ written_form p mv sh d sc c.ReadLine
-  unfolding written_form
+  pub readln_is : (d : CodeBuffer) → with_code d (i.Readln ∷ []) ≡ buffer_after_form p mv sh d sc c.ReadLine
+  unfolding buffer_after_form
   readln_is d = plain_is d _
 
-  pub write_is : (d : Draft) (e : c.Expression) (w : Option c.Expression)
+  pub write_is : (d : CodeBuffer) (e : c.Expression) (w : Option c.Expression)
       → with_code d (value_code p sc (bare_expression e)
       ++ (width_code p sc (bare_width w)
       ++ write_instr (kind_at p (kind_of (bare_expression e))) (is_given (bare_width w)) ∷ []))
-      ≡ written_form p mv sh d sc (c.WriteValue e w)
-  unfolding written_form
+      ≡ buffer_after_form p mv sh d sc (c.WriteValue e w)
+  unfolding buffer_after_form
   write_is d e w = plain_is d _
 
-  pub writeln_is : (d : Draft) → with_code d (i.Writeln ∷ []) ≡ written_form p mv sh d sc c.WriteLine
-  unfolding written_form
+  pub writeln_is : (d : CodeBuffer) → with_code d (i.Writeln ∷ []) ≡ buffer_after_form p mv sh d sc c.WriteLine
+  unfolding buffer_after_form
   writeln_is d = plain_is d _
 
-  pub open_is : (d : Draft) (v : c.Variable)
-      → with_code d (var_code p sc (bare_variable v) ++ i.Open ∷ []) ≡ written_form p mv sh d sc (c.Open v)
-  unfolding written_form
+  pub open_is : (d : CodeBuffer) (v : c.Variable)
+      → with_code d (var_code p sc (bare_variable v) ++ i.Open ∷ []) ≡ buffer_after_form p mv sh d sc (c.Open v)
+  unfolding buffer_after_form
   open_is d v = plain_is d _
 
-  pub send_is : (d : Draft) (ch e : c.Expression)
+  pub send_is : (d : CodeBuffer) (ch e : c.Expression)
       → with_code d (value_code p sc (bare_expression ch)
       ++ (value_code p sc (bare_expression e) ++ i.Send (kind_of (bare_expression e)) ∷ []))
-      ≡ written_form p mv sh d sc (c.Send ch e)
-  unfolding written_form
+      ≡ buffer_after_form p mv sh d sc (c.Send ch e)
+  unfolding buffer_after_form
   send_is d ch e = plain_is d _
 
-  pub receive_is : (d : Draft) (ch : c.Expression) (v : c.Variable)
+  pub receive_is : (d : CodeBuffer) (ch : c.Expression) (v : c.Variable)
       → with_code d (value_code p sc (bare_expression ch)
       ++ (var_code p sc (bare_variable v) ++ i.Receive (type_of p (bare_variable v)) ∷ []))
-      ≡ written_form p mv sh d sc (c.Receive ch v)
-  unfolding written_form
+      ≡ buffer_after_form p mv sh d sc (c.Receive ch v)
+  unfolding buffer_after_form
   receive_is d ch v = plain_is d _
 
-  pub text_is : (d : Draft) (t : List ℕ) (w : Option c.Expression) (xs : List Instr)
+  pub text_is : (d : CodeBuffer) (t : List ℕ) (w : Option c.Expression) (xs : List Instr)
       → xs ≡ d.instrs ++ (width_code p sc (bare_width w)
       ++ (if is_given (bare_width w) then i.WritewText (length d.texts) else i.WriteText (length d.texts)) ∷ [])
-      → drafted xs (d.forks) (d.texts ++ t ∷ []) ≡ written_form p mv sh d sc (c.WriteText t w)
-  unfolding written_form
+      → buffer_of xs (d.forks) (d.texts ++ t ∷ []) ≡ buffer_after_form p mv sh d sc (c.WriteText t w)
+  unfolding buffer_after_form
   text_is d t w xs e = λ k. record { instrs = e k; forks = sym (append-nil d.forks) k; texts = d.texts ++ t ∷ [] }
 
   -- several values on one channel
@@ -151,12 +154,14 @@ module _ (p : b.Program) (mv sh : ℕ → List ℕ) (sc : List Scope) where
   sends_code_is t n q m at ch (e ∷ es) =
       ap (λ xs. (value_code p sc (bare_expression ch)
       ++ (value_code p sc (bare_expression e) ++ i.Send (kind_of (bare_expression e)) ∷ [])) ++ xs)
-      (sends_code_is (t + 0) (n + 0) (after p q (b.Send (bare_expression ch) (bare_expression e))) (m + 1) at ch es)
+      (sends_code_is (t + 0) (n + 0) (after_statement p q (b.Send (bare_expression ch) (bare_expression e))) (m + 1)
+      at ch es)
 
   sends_tables : (q m : ℕ) (at : Place) (ch : c.Expression) (es : List c.Expression)
       → [] ≡ tables_all p mv sh q (sends m at ch es)
   sends_tables q m at ch [] = refl
-  sends_tables q m at ch (e ∷ es) = sends_tables (after p q (b.Send (bare_expression ch) (bare_expression e))) (m + 1)
+  sends_tables q m at ch (e ∷ es) = sends_tables (after_statement p q (b.Send (bare_expression ch) (bare_expression e)))
+      (m + 1)
       at ch es
 
   sends_texts : (m : ℕ) (at : Place) (ch : c.Expression) (es : List c.Expression)
@@ -164,10 +169,10 @@ module _ (p : b.Program) (mv sh : ℕ → List ℕ) (sc : List Scope) where
   sends_texts m at ch [] = refl
   sends_texts m at ch (e ∷ es) = sends_texts (m + 1) at ch es
 
-  pub sends_are : (d : Draft) (m : ℕ) (at : Place) (ch : c.Expression) (es : List c.Expression)
+  pub sends_are : (d : CodeBuffer) (m : ℕ) (at : Place) (ch : c.Expression) (es : List c.Expression)
       → with_code d (sends_code p sc (bare_expression ch) es)
-      ≡ written_form p mv sh d sc (c.Sequence (sends m at ch es))
-  unfolding written_form
+      ≡ buffer_after_form p mv sh d sc (c.Sequence (sends m at ch es))
+  unfolding buffer_after_form
   sends_are d m at ch es =
       plain_is d (sends_code p sc (bare_expression ch) es)
       ∙ λ k. record {
@@ -184,13 +189,15 @@ module _ (p : b.Program) (mv sh : ℕ → List ℕ) (sc : List Scope) where
   receives_code_is t n q m at ch (v ∷ vs) =
       ap (λ xs. (value_code p sc (bare_expression ch)
       ++ (var_code p sc (bare_variable v) ++ i.Receive (type_of p (bare_variable v)) ∷ [])) ++ xs)
-      (receives_code_is (t + 0) (n + 0) (after p q (b.Receive (bare_expression ch) (bare_variable v))) (m + 1) at ch
+      (receives_code_is (t + 0) (n + 0) (after_statement p q (b.Receive (bare_expression ch) (bare_variable v)))
+      (m + 1) at ch
       vs)
 
   receives_tables : (q m : ℕ) (at : Place) (ch : c.Expression) (vs : List c.Variable)
       → [] ≡ tables_all p mv sh q (receives m at ch vs)
   receives_tables q m at ch [] = refl
-  receives_tables q m at ch (v ∷ vs) = receives_tables (after p q (b.Receive (bare_expression ch) (bare_variable v)))
+  receives_tables q m at ch (v ∷ vs) =
+      receives_tables (after_statement p q (b.Receive (bare_expression ch) (bare_variable v)))
       (m + 1) at ch vs
 
   receives_texts : (m : ℕ) (at : Place) (ch : c.Expression) (vs : List c.Variable)
@@ -198,10 +205,10 @@ module _ (p : b.Program) (mv sh : ℕ → List ℕ) (sc : List Scope) where
   receives_texts m at ch [] = refl
   receives_texts m at ch (v ∷ vs) = receives_texts (m + 1) at ch vs
 
-  pub receives_are : (d : Draft) (m : ℕ) (at : Place) (ch : c.Expression) (vs : List c.Variable)
+  pub receives_are : (d : CodeBuffer) (m : ℕ) (at : Place) (ch : c.Expression) (vs : List c.Variable)
       → with_code d (receives_code p sc (bare_expression ch) vs)
-      ≡ written_form p mv sh d sc (c.Sequence (receives m at ch vs))
-  unfolding written_form
+      ≡ buffer_after_form p mv sh d sc (c.Sequence (receives m at ch vs))
+  unfolding buffer_after_form
   receives_are d m at ch vs =
       plain_is d (receives_code p sc (bare_expression ch) vs)
       ∙ λ k. record {
@@ -217,7 +224,8 @@ module _ (p : b.Program) (mv sh : ℕ → List ℕ) (sc : List Scope) where
   value_place : (xs : List Instr) (e : b.Expr) → length (xs ++ value_code p sc e) ≡ after_value (length xs) e
   value_place xs e = two_of xs (value_code p sc e) _ (value_count p sc e) ∙ sym (value_after (length xs) e)
 
-  code_place : (xs : List Instr) (t n q : ℕ) (s : b.Stmt) → length (xs ++ code p sc t n q s) ≡ after p (length xs) s
+  code_place : (xs : List Instr) (t n q : ℕ) (s : b.Stmt) → length (xs ++ code p sc t n q s)
+      ≡ after_statement p (length xs) s
   code_place xs t n q s = two_of xs (code p sc t n q s) _ (code_count p sc t n q s) ∙ sym (stmt_after p (length xs) s)
 
   mutual
@@ -275,17 +283,18 @@ module _ (p : b.Program) (mv sh : ℕ → List ℕ) (sc : List Scope) where
 
   -- ---- sequences
 
-  pub all_none : (d : Draft) → written_all p mv sh d sc c.NoStatement ≡ d
-  unfolding written_all
+  pub all_none : (d : CodeBuffer) → buffer_after_all p mv sh d sc c.NoStatement ≡ d
+  unfolding buffer_after_all
   all_none d = λ k. record {
     instrs = append-nil d.instrs k;
     forks = append-nil d.forks k;
     texts = append-nil d.texts k;
   }
 
-  pub all_step : (d : Draft) (s : c.Statement) (rest : c.Statements)
-      → written_all p mv sh (written p mv sh d sc s) sc rest ≡ written_all p mv sh d sc (c.AndThen s rest)
-  unfolding written written_all
+  pub all_step : (d : CodeBuffer) (s : c.Statement) (rest : c.Statements)
+      → buffer_after_all p mv sh (buffer_after p mv sh d sc s) sc rest ≡ buffer_after_all p mv sh d sc
+      (c.AndThen s rest)
+  unfolding buffer_after buffer_after_all
   all_step d s rest =
       let t = length d.forks in
       let n = length d.texts in
@@ -305,22 +314,22 @@ module _ (p : b.Program) (mv sh : ℕ → List ℕ) (sc : List Scope) where
 
   -- ---- conditions
 
-  pub if_is : (d : Draft) (e : c.Expression) (s : c.Statement)
-      → branched p mv sh (with_code d (value_code p sc (bare_expression e))) sc s 0
-      ≡ written_form p mv sh d sc (c.If e s c.NoElse)
-  unfolding written_form branched
+  pub if_is : (d : CodeBuffer) (e : c.Expression) (s : c.Statement)
+      → buffer_after_branch p mv sh (with_code d (value_code p sc (bare_expression e))) sc s 0
+      ≡ buffer_after_form p mv sh d sc (c.If e s c.NoElse)
+  unfolding buffer_after_form buffer_after_branch
   if_is d e s =
       let va = value_code p sc (bare_expression e) in
       let st = bare_statement s in
       let eq = value_place d.instrs (bare_expression e) in
       let nil : (m : ℕ) → m + 0 ≡ m = λ m. omega arith in
       λ k. record {
-        instrs = (append_assoc d.instrs va (i.Jumpf (after p (length (d.instrs ++ va) + 1) st + 0)
+        instrs = (append_assoc d.instrs va (i.Jumpf (after_statement p (length (d.instrs ++ va) + 1) st + 0)
             ∷ code p sc (length d.forks) (length d.texts) (length (d.instrs ++ va) + 1) st)
-            ∙ (λ j. d.instrs ++ (va ++ (i.Jumpf (after p (eq j + 1) st + 0)
+            ∙ (λ j. d.instrs ++ (va ++ (i.Jumpf (after_statement p (eq j + 1) st + 0)
             ∷ code p sc (length d.forks) (length d.texts) (eq j + 1) st)))
             ∙ (λ j. d.instrs ++ (va ++ (i.Jumpf
-            (nil (after p (after_value (length d.instrs) (bare_expression e) + 1) st) j)
+            (nil (after_statement p (after_value (length d.instrs) (bare_expression e) + 1) st) j)
             ∷ code p sc (length d.forks) (length d.texts) (after_value (length d.instrs) (bare_expression e) + 1)
             st)))) k;
         forks = d.forks ++ tables p mv sh (eq k + 1) s;
@@ -329,7 +338,7 @@ module _ (p : b.Program) (mv sh : ℕ → List ℕ) (sc : List Scope) where
 
   -- behind a jump and a statement
   branch_place : (xs : List Instr) (x : Instr) (t n q : ℕ) (s : b.Stmt) → q ≡ length xs
-      → length (xs ++ (x ∷ code p sc t n (q + 1) s)) ≡ after p (q + 1) s
+      → length (xs ++ (x ∷ code p sc t n (q + 1) s)) ≡ after_statement p (q + 1) s
   branch_place xs x t n q s e = omega (
     arith,
     e,
@@ -338,10 +347,11 @@ module _ (p : b.Program) (mv sh : ℕ → List ℕ) (sc : List Scope) where
     stmt_after p (q + 1) s,
   )
 
-  pub if_else_is : (d : Draft) (e : c.Expression) (s o : c.Statement)
-      → passed_over p mv sh (branched p mv sh (with_code d (value_code p sc (bare_expression e))) sc s 1) sc o
-      ≡ written_form p mv sh d sc (c.If e s (c.Else o))
-  unfolding written_form branched passed_over
+  pub if_else_is : (d : CodeBuffer) (e : c.Expression) (s o : c.Statement)
+      → buffer_after_passed p mv sh (buffer_after_branch p mv sh (with_code d (value_code p sc (bare_expression e))) sc
+      s 1) sc o
+      ≡ buffer_after_form p mv sh d sc (c.If e s (c.Else o))
+  unfolding buffer_after_form buffer_after_branch buffer_after_passed
   if_else_is d e s o =
       let va = value_code p sc (bare_expression e) in
       let t = length d.forks in
@@ -350,43 +360,45 @@ module _ (p : b.Program) (mv sh : ℕ → List ℕ) (sc : List Scope) where
       let other = bare_statement o in
       let u = length (d.instrs ++ va) in
       let eq = value_place d.instrs (bare_expression e) in
-      let first = i.Jumpf (after p (u + 1) st + 1) ∷ code p sc t n (u + 1) st in
+      let first = i.Jumpf (after_statement p (u + 1) st + 1) ∷ code p sc t n (u + 1) st in
       let et = forks_place d.forks (u + 1) s in
       let en = texts_place d.texts st in
-      let ej = branch_place (d.instrs ++ va) (i.Jumpf (after p (u + 1) st + 1)) t n u st refl in
+      let ej = branch_place (d.instrs ++ va) (i.Jumpf (after_statement p (u + 1) st + 1)) t n u st refl in
       λ k. record {
         instrs = (append_assoc (d.instrs ++ va) first
-            (i.Jump (after p (length ((d.instrs ++ va) ++ first) + 1) other)
+            (i.Jump (after_statement p (length ((d.instrs ++ va) ++ first) + 1) other)
             ∷ code p sc (length (d.forks ++ tables p mv sh (u + 1) s)) (length (d.texts ++ texts_of st))
             (length ((d.instrs ++ va) ++ first) + 1) other)
             ∙ append_assoc d.instrs va (first
-            ++ (i.Jump (after p (length ((d.instrs ++ va) ++ first) + 1) other)
+            ++ (i.Jump (after_statement p (length ((d.instrs ++ va) ++ first) + 1) other)
             ∷ code p sc (length (d.forks ++ tables p mv sh (u + 1) s)) (length (d.texts ++ texts_of st))
             (length ((d.instrs ++ va) ++ first) + 1) other))
             ∙ (λ j. d.instrs ++ (va ++ (first
-            ++ (i.Jump (after p (ej j + 1) other) ∷ code p sc (et j) (en j) (ej j + 1) other))))
-            ∙ (λ j. d.instrs ++ (va ++ (i.Jumpf (after p (eq j + 1) st + 1)
+            ++ (i.Jump (after_statement p (ej j + 1) other) ∷ code p sc (et j) (en j) (ej j + 1) other))))
+            ∙ (λ j. d.instrs ++ (va ++ (i.Jumpf (after_statement p (eq j + 1) st + 1)
             ∷ (code p sc t n (eq j + 1) st
-            ++ (i.Jump (after p (after p (eq j + 1) st + 1) other)
-            ∷ code p sc (t + tables_in st) (n + texts_in st) (after p (eq j + 1) st + 1) other)))))) k;
+            ++ (i.Jump (after_statement p (after_statement p (eq j + 1) st + 1) other)
+            ∷ code p sc (t + tables_in st) (n + texts_in st) (after_statement p (eq j + 1) st + 1) other)))))) k;
         forks = (append_assoc d.forks (tables p mv sh (u + 1) s)
             (tables p mv sh (length ((d.instrs ++ va) ++ first) + 1) o)
             ∙ (λ j. d.forks ++ (tables p mv sh (u + 1) s ++ tables p mv sh (ej j + 1) o))
-            ∙ (λ j. d.forks ++ (tables p mv sh (eq j + 1) s ++ tables p mv sh (after p (eq j + 1) st + 1) o))) k;
+            ∙ (λ j. d.forks ++ (tables p mv sh (eq j + 1) s ++ tables p mv sh (after_statement p (eq j + 1) st + 1)
+            o))) k;
         texts = append_assoc d.texts (texts_of st) (texts_of other) k;
       }
 
   -- ---- loops
 
-  pub while_is : (d : Draft) (e : c.Expression) (s : c.Statement)
-      → looped p mv sh (with_code d (value_code p sc (bare_expression e))) sc s i.Jumpf (i.Jump (length d.instrs))
-      ≡ written_form p mv sh d sc (c.While e s)
-  unfolding written_form looped
+  pub while_is : (d : CodeBuffer) (e : c.Expression) (s : c.Statement)
+      → buffer_after_loop p mv sh (with_code d (value_code p sc (bare_expression e))) sc s i.Jumpf
+      (i.Jump (length d.instrs))
+      ≡ buffer_after_form p mv sh d sc (c.While e s)
+  unfolding buffer_after_form buffer_after_loop
   while_is d e s =
       let va = value_code p sc (bare_expression e) in
       let st = bare_statement s in
       let eq = value_place d.instrs (bare_expression e) in
-      let tail = λ (u : ℕ). i.Jumpf (after p (u + 1 + 1) st + 1) ∷ i.Tick
+      let tail = λ (u : ℕ). i.Jumpf (after_statement p (u + 1 + 1) st + 1) ∷ i.Tick
       ∷ (code p sc (length d.forks) (length d.texts) (u + 1 + 1) st ++ i.Jump (length d.instrs) ∷ []) in
       λ k. record {
         instrs = (append_assoc d.instrs va (tail (length (d.instrs ++ va))) ∙ (λ j. d.instrs ++ (va ++ tail (eq j)))) k;
@@ -394,10 +406,11 @@ module _ (p : b.Program) (mv sh : ℕ → List ℕ) (sc : List Scope) where
         texts = d.texts ++ texts_of st;
       }
 
-  pub repeat_is : (d : Draft) (s : c.Statement) (e : c.Expression)
-      → with_code (with_code (written p mv sh (with_code d (i.Tick ∷ [])) sc s) (value_code p sc (bare_expression e)))
-      (i.Jumpf (length d.instrs) ∷ []) ≡ written_form p mv sh d sc (c.Repeat s e)
-  unfolding written written_form
+  pub repeat_is : (d : CodeBuffer) (s : c.Statement) (e : c.Expression)
+      → with_code (with_code (buffer_after p mv sh (with_code d (i.Tick ∷ [])) sc s)
+      (value_code p sc (bare_expression e)))
+      (i.Jumpf (length d.instrs) ∷ []) ≡ buffer_after_form p mv sh d sc (c.Repeat s e)
+  unfolding buffer_after buffer_after_form
   repeat_is d s e =
       let va = value_code p sc (bare_expression e) in
       let st = bare_statement s in
@@ -413,14 +426,14 @@ module _ (p : b.Program) (mv sh : ℕ → List ℕ) (sc : List Scope) where
         texts = d.texts ++ texts_of st;
       }
 
-  pub for_is : (d : Draft) (x : ℕ) (at : Place) (from : c.Expression) (down : Bool) (to : c.Expression)
+  pub for_is : (d : CodeBuffer) (x : ℕ) (at : Place) (from : c.Expression) (down : Bool) (to : c.Expression)
       (s : c.Statement)
-      → looped p mv sh (with_code (with_code d (value_code p sc (bare_expression from)))
+      → buffer_after_loop p mv sh (with_code (with_code d (value_code p sc (bare_expression from)))
       (value_code p sc (bare_expression to))) sc s (for_instr down (slot p x))
       (next_instr down (slot p x) (length
       ((d.instrs ++ value_code p sc (bare_expression from)) ++ value_code p sc (bare_expression to)) + 1))
-      ≡ written_form p mv sh d sc (c.For x at from down to s)
-  unfolding written_form looped
+      ≡ buffer_after_form p mv sh d sc (c.For x at from down to s)
+  unfolding buffer_after_form buffer_after_loop
   for_is d x at from down to s =
       let va = value_code p sc (bare_expression from) in
       let vb = value_code p sc (bare_expression to) in
@@ -429,7 +442,7 @@ module _ (p : b.Program) (mv sh : ℕ → List ℕ) (sc : List Scope) where
       ≡ after_value (after_value (length d.instrs) (bare_expression from)) (bare_expression to) =
       value_place (d.instrs ++ va) (bare_expression to)
       ∙ ap (λ (m : ℕ). after_value m (bare_expression to)) (value_place d.instrs (bare_expression from)) in
-      let tail = λ (u : ℕ). for_instr down (slot p x) (after p (u + 1 + 1) st + 1) ∷ i.Tick
+      let tail = λ (u : ℕ). for_instr down (slot p x) (after_statement p (u + 1 + 1) st + 1) ∷ i.Tick
       ∷ (code p sc (length d.forks) (length d.texts) (u + 1 + 1) st ++ next_instr down (slot p x) (u + 1) ∷ []) in
       λ k. record {
         instrs = (append_assoc (d.instrs ++ va) vb (tail (length ((d.instrs ++ va) ++ vb)))
@@ -441,17 +454,18 @@ module _ (p : b.Program) (mv sh : ℕ → List ℕ) (sc : List Scope) where
 
   -- ---- processes
 
-  pub children_none : (d : Draft) → written_children p mv sh d sc c.NoStatement ≡ d
-  unfolding written_children
+  pub children_none : (d : CodeBuffer) → buffer_after_children p mv sh d sc c.NoStatement ≡ d
+  unfolding buffer_after_children
   children_none d = λ k. record {
     instrs = append-nil d.instrs k;
     forks = append-nil d.forks k;
     texts = append-nil d.texts k;
   }
 
-  pub child_is : (d : Draft) (s : c.Statement)
-      → with_code (written p mv sh d sc s) (i.End ∷ []) ≡ written_children p mv sh d sc (c.AndThen s c.NoStatement)
-  unfolding written written_children
+  pub child_is : (d : CodeBuffer) (s : c.Statement)
+      → with_code (buffer_after p mv sh d sc s) (i.End ∷ []) ≡ buffer_after_children p mv sh d sc
+      (c.AndThen s c.NoStatement)
+  unfolding buffer_after buffer_after_children
   child_is d s = λ k. record {
     instrs = append_assoc d.instrs (code p sc (length d.forks) (length d.texts) (length d.instrs) (bare_statement s))
         (i.End ∷ []) k;
@@ -460,7 +474,7 @@ module _ (p : b.Program) (mv sh : ℕ → List ℕ) (sc : List Scope) where
   }
 
   pub ended_place : (xs : List Instr) (x : Instr) (t n q : ℕ) (s : b.Stmt) → q ≡ length xs
-      → length (xs ++ (code p sc t n q s ++ x ∷ [])) ≡ after p q s + 1
+      → length (xs ++ (code p sc t n q s ++ x ∷ [])) ≡ after_statement p q s + 1
   ended_place xs x t n q s e = omega (
     arith,
     e,
@@ -470,10 +484,10 @@ module _ (p : b.Program) (mv sh : ℕ → List ℕ) (sc : List Scope) where
     stmt_after p q s,
   )
 
-  pub child_place : (d : Draft) (s : c.Statement)
-      → length (written_children p mv sh d sc (c.AndThen s c.NoStatement)).instrs
-      ≡ after p (length d.instrs) (bare_statement s) + 1
-  unfolding written_children
+  pub child_place : (d : CodeBuffer) (s : c.Statement)
+      → length (buffer_after_children p mv sh d sc (c.AndThen s c.NoStatement)).instrs
+      ≡ after_statement p (length d.instrs) (bare_statement s) + 1
+  unfolding buffer_after_children
   child_place d s = ended_place d.instrs i.End (length d.forks) (length d.texts) (length d.instrs) (bare_statement s)
       refl
 
@@ -484,10 +498,10 @@ module _ (p : b.Program) (mv sh : ℕ → List ℕ) (sc : List Scope) where
   nil_texts : (xs : List (List ℕ)) (s : b.Stmt) → length (xs ++ (texts_of s ++ [])) ≡ length xs + texts_in s
   nil_texts xs s = (λ j. length (xs ++ append-nil (texts_of s) j)) ∙ texts_place xs s
 
-  pub children_step : (d : Draft) (s : c.Statement) (rest : c.Statements)
-      → written_children p mv sh (written_children p mv sh d sc (c.AndThen s c.NoStatement)) sc rest
-      ≡ written_children p mv sh d sc (c.AndThen s rest)
-  unfolding written_children
+  pub children_step : (d : CodeBuffer) (s : c.Statement) (rest : c.Statements)
+      → buffer_after_children p mv sh (buffer_after_children p mv sh d sc (c.AndThen s c.NoStatement)) sc rest
+      ≡ buffer_after_children p mv sh d sc (c.AndThen s rest)
+  unfolding buffer_after_children
   children_step d s rest =
       let t = length d.forks in
       let n = length d.texts in
@@ -514,17 +528,18 @@ module _ (p : b.Program) (mv sh : ℕ → List ℕ) (sc : List Scope) where
 
   -- ---- the statements of a `case`
 
-  pub arms_none : (d : Draft) (end : ℕ) → written_arms p mv sh d sc c.NoArm end ≡ d
-  unfolding written_arms
+  pub arms_none : (d : CodeBuffer) (end : ℕ) → buffer_after_arms p mv sh d sc c.NoArm end ≡ d
+  unfolding buffer_after_arms
   arms_none d end = λ k. record {
     instrs = append-nil d.instrs k;
     forks = append-nil d.forks k;
     texts = append-nil d.texts k;
   }
 
-  pub arm_is : (d : Draft) (ms : List ℤ) (s : c.Statement) (end : ℕ)
-      → with_code (written p mv sh d sc s) (i.Jump end ∷ []) ≡ written_arms p mv sh d sc (c.Or (c.On ms s) c.NoArm) end
-  unfolding written written_arms
+  pub arm_is : (d : CodeBuffer) (ms : List ℤ) (s : c.Statement) (end : ℕ)
+      → with_code (buffer_after p mv sh d sc s) (i.Jump end ∷ []) ≡ buffer_after_arms p mv sh d sc
+      (c.Or (c.On ms s) c.NoArm) end
+  unfolding buffer_after buffer_after_arms
   arm_is d ms s end = λ k. record {
     instrs = append_assoc d.instrs (code p sc (length d.forks) (length d.texts) (length d.instrs) (bare_statement s))
         (i.Jump end ∷ []) k;
@@ -532,17 +547,17 @@ module _ (p : b.Program) (mv sh : ℕ → List ℕ) (sc : List Scope) where
     texts = d.texts ++ sym (append-nil (texts_of (bare_statement s))) k;
   }
 
-  pub arm_place : (d : Draft) (ms : List ℤ) (s : c.Statement) (end : ℕ)
-      → length (written_arms p mv sh d sc (c.Or (c.On ms s) c.NoArm) end).instrs
-      ≡ after p (length d.instrs) (bare_statement s) + 1
-  unfolding written_arms
+  pub arm_place : (d : CodeBuffer) (ms : List ℤ) (s : c.Statement) (end : ℕ)
+      → length (buffer_after_arms p mv sh d sc (c.Or (c.On ms s) c.NoArm) end).instrs
+      ≡ after_statement p (length d.instrs) (bare_statement s) + 1
+  unfolding buffer_after_arms
   arm_place d ms s end = ended_place d.instrs (i.Jump end) (length d.forks) (length d.texts) (length d.instrs)
       (bare_statement s) refl
 
-  pub arms_step : (d : Draft) (ms : List ℤ) (s : c.Statement) (rest : c.Arms) (end : ℕ)
-      → written_arms p mv sh (written_arms p mv sh d sc (c.Or (c.On ms s) c.NoArm) end) sc rest end
-      ≡ written_arms p mv sh d sc (c.Or (c.On ms s) rest) end
-  unfolding written_arms
+  pub arms_step : (d : CodeBuffer) (ms : List ℤ) (s : c.Statement) (rest : c.Arms) (end : ℕ)
+      → buffer_after_arms p mv sh (buffer_after_arms p mv sh d sc (c.Or (c.On ms s) c.NoArm) end) sc rest end
+      ≡ buffer_after_arms p mv sh d sc (c.Or (c.On ms s) rest) end
+  unfolding buffer_after_arms
   arms_step d ms s rest end =
       let t = length d.forks in
       let n = length d.texts in
@@ -567,10 +582,10 @@ module _ (p : b.Program) (mv sh : ℕ → List ℕ) (sc : List Scope) where
             ∙ (λ j. d.texts ++ (append-nil xs j ++ texts_of_arms (bare_arms rest)))) k;
       }
 
-  pub case_is : (d : Draft) (e : c.Expression) (arms : c.Arms)
-      → chosen p mv sh (with_code d (value_code p sc (bare_expression e))) sc arms
-      ≡ written_form p mv sh d sc (c.Case e arms)
-  unfolding written_form chosen
+  pub case_is : (d : CodeBuffer) (e : c.Expression) (arms : c.Arms)
+      → buffer_after_case p mv sh (with_code d (value_code p sc (bare_expression e))) sc arms
+      ≡ buffer_after_form p mv sh d sc (c.Case e arms)
+  unfolding buffer_after_form buffer_after_case
   case_is d e arms =
       let va = value_code p sc (bare_expression e) in
       let bs = bare_arms arms in
@@ -584,10 +599,10 @@ module _ (p : b.Program) (mv sh : ℕ → List ℕ) (sc : List Scope) where
         texts = d.texts ++ texts_of_arms bs;
       }
 
-  pub forall_is : (d : Draft) (x : ℕ) (from to : c.Expression) (s : c.Statement)
-      → spread p mv sh (with_code (with_code d (value_code p sc (bare_expression from)))
-      (value_code p sc (bare_expression to))) sc x s ≡ written_form p mv sh d sc (c.Forall x from to s)
-  unfolding written_form spread
+  pub forall_is : (d : CodeBuffer) (x : ℕ) (from to : c.Expression) (s : c.Statement)
+      → buffer_after_forall p mv sh (with_code (with_code d (value_code p sc (bare_expression from)))
+      (value_code p sc (bare_expression to))) sc x s ≡ buffer_after_form p mv sh d sc (c.Forall x from to s)
+  unfolding buffer_after_form buffer_after_forall
   forall_is d x from to s =
       let va = value_code p sc (bare_expression from) in
       let vb = value_code p sc (bare_expression to) in
@@ -597,7 +612,7 @@ module _ (p : b.Program) (mv sh : ℕ → List ℕ) (sc : List Scope) where
       ≡ after_value (after_value (length d.instrs) (bare_expression from)) (bare_expression to) =
       value_place (d.instrs ++ va) (bare_expression to)
       ∙ ap (λ (m : ℕ). after_value m (bare_expression to)) (value_place d.instrs (bare_expression from)) in
-      let tail = λ (u : ℕ). i.Forall t ∷ i.Jump (after p (u + 1 + 1) st + 1)
+      let tail = λ (u : ℕ). i.Forall t ∷ i.Jump (after_statement p (u + 1 + 1) st + 1)
       ∷ (code p (OfIndex x ∷ sc) (t + 1) (length d.texts) (u + 1 + 1) st ++ i.End ∷ []) in
       λ k. record {
         instrs = (append_assoc (d.instrs ++ va) vb (tail (length ((d.instrs ++ va) ++ vb)))
@@ -618,11 +633,11 @@ module _ (p : b.Program) (mv sh : ℕ → List ℕ) (sc : List Scope) where
   one_more xs ys x e = omega (arith, ap length e, length-append xs (x ∷ []))
 
   -- a statement behind an instruction that is mended
-  holed : (d d2 : Draft) (s : c.Statement) (i1 xs : List Instr) (h y : Instr) (at : ℕ)
+  holed : (d d2 : CodeBuffer) (s : c.Statement) (i1 xs : List Instr) (h y : Instr) (at : ℕ)
       → at ≡ length d.instrs → i1 ≡ d.instrs ++ h ∷ []
-      → d2 ≡ written p mv sh (record { instrs = i1; forks = d.forks; texts = d.texts }) sc s
+      → d2 ≡ buffer_after p mv sh (record { instrs = i1; forks = d.forks; texts = d.texts }) sc s
       → Mends d2.instrs at y xs
-      → drafted xs (d2.forks) (d2.texts)
+      → buffer_of xs (d2.forks) (d2.texts)
       ≡ record {
         instrs = d.instrs ++ (y ∷ code p sc (length d.forks) (length d.texts) (length d.instrs + 1)
             (bare_statement s));
@@ -630,37 +645,37 @@ module _ (p : b.Program) (mv sh : ℕ → List ℕ) (sc : List Scope) where
         texts = d.texts
             ++ texts_of (bare_statement s);
       }
-  unfolding written
+  unfolding buffer_after
   holed d d2 s i1 xs h y at ea e1 e2 mends =
       let cs = λ (u : ℕ). code p sc (length d.forks) (length d.texts) u (bare_statement s) in
       let eq = one_more d.instrs i1 h e1 in
-      let there : d2.instrs ≡ d.instrs ++ h ∷ cs (length i1) = ap (λ (x : Draft). x.instrs) e2
+      let there : d2.instrs ≡ d.instrs ++ h ∷ cs (length i1) = ap (λ (x : CodeBuffer). x.instrs) e2
       ∙ ap (λ xs. xs ++ cs (length i1)) e1 ∙ append_assoc d.instrs (h ∷ []) (cs (length i1)) in
       let is = mends d.instrs (cs (length i1)) h there ea ∙ (λ j. d.instrs ++ (y ∷ cs (eq j))) in
-      let fs : d2.forks ≡ d.forks ++ tables p mv sh (length d.instrs + 1) s = ap (λ (x : Draft). x.forks) e2
+      let fs : d2.forks ≡ d.forks ++ tables p mv sh (length d.instrs + 1) s = ap (λ (x : CodeBuffer). x.forks) e2
       ∙ (λ j. d.forks ++ tables p mv sh (eq j) s) in
-      let ts : d2.texts ≡ d.texts ++ texts_of (bare_statement s) = ap (λ (x : Draft). x.texts) e2 in
+      let ts : d2.texts ≡ d.texts ++ texts_of (bare_statement s) = ap (λ (x : CodeBuffer). x.texts) e2 in
       λ k. record { instrs = is k; forks = fs k; texts = ts k }
 
   -- where the code of such a statement ends
-  holed_end : (d d2 : Draft) (s : c.Statement) (i1 : List Instr) (h : Instr) → i1 ≡ d.instrs ++ h ∷ []
-      → d2 ≡ written p mv sh (record { instrs = i1; forks = d.forks; texts = d.texts }) sc s
-      → length d2.instrs ≡ after p (length d.instrs + 1) (bare_statement s)
-  unfolding written
+  holed_end : (d d2 : CodeBuffer) (s : c.Statement) (i1 : List Instr) (h : Instr) → i1 ≡ d.instrs ++ h ∷ []
+      → d2 ≡ buffer_after p mv sh (record { instrs = i1; forks = d.forks; texts = d.texts }) sc s
+      → length d2.instrs ≡ after_statement p (length d.instrs + 1) (bare_statement s)
+  unfolding buffer_after
   holed_end d d2 s i1 h e1 e2 =
-      ap (λ (x : Draft). length x.instrs) e2
+      ap (λ (x : CodeBuffer). length x.instrs) e2
       ∙ code_place i1 (length d.forks) (length d.texts) (length i1) (bare_statement s)
-      ∙ ap (λ (m : ℕ). after p m (bare_statement s)) (one_more d.instrs i1 h e1)
+      ∙ ap (λ (m : ℕ). after_statement p m (bare_statement s)) (one_more d.instrs i1 h e1)
 
-  pub branch_is : (d d2 : Draft) (s : c.Statement) (i1 xs : List Instr) (at end to beyond : ℕ)
+  pub branch_is : (d d2 : CodeBuffer) (s : c.Statement) (i1 xs : List Instr) (at end to beyond : ℕ)
       → at ≡ length d.instrs → i1 ≡ d.instrs ++ i.Jumpf 0 ∷ []
-      → d2 ≡ written p mv sh (record { instrs = i1; forks = d.forks; texts = d.texts }) sc s
+      → d2 ≡ buffer_after p mv sh (record { instrs = i1; forks = d.forks; texts = d.texts }) sc s
       → end ≡ length d2.instrs → to ≡ end + beyond → Mends d2.instrs at (i.Jumpf to) xs
-      → drafted xs (d2.forks) (d2.texts) ≡ branched p mv sh d sc s beyond
-  unfolding written branched
+      → buffer_of xs (d2.forks) (d2.texts) ≡ buffer_after_branch p mv sh d sc s beyond
+  unfolding buffer_after buffer_after_branch
   branch_is d d2 s i1 xs at end to beyond ea e1 e2 ee et mends =
       let q = length d.instrs in
-      let lead : to ≡ after p (q + 1) (bare_statement s) + beyond = et
+      let lead : to ≡ after_statement p (q + 1) (bare_statement s) + beyond = et
       ∙ ap (λ (m : ℕ). m + beyond) (ee ∙ holed_end d d2 s i1 (i.Jumpf 0) e1 e2) in
       holed d d2 s i1 xs (i.Jumpf 0) (i.Jumpf to) at ea e1 e2 mends
       ∙ λ k. record {
@@ -671,15 +686,15 @@ module _ (p : b.Program) (mv sh : ℕ → List ℕ) (sc : List Scope) where
         texts = d.texts ++ texts_of (bare_statement s);
       }
 
-  pub passed_is : (d d2 : Draft) (s : c.Statement) (i1 xs : List Instr) (at end : ℕ)
+  pub passed_is : (d d2 : CodeBuffer) (s : c.Statement) (i1 xs : List Instr) (at end : ℕ)
       → at ≡ length d.instrs → i1 ≡ d.instrs ++ i.Jump 0 ∷ []
-      → d2 ≡ written p mv sh (record { instrs = i1; forks = d.forks; texts = d.texts }) sc s
+      → d2 ≡ buffer_after p mv sh (record { instrs = i1; forks = d.forks; texts = d.texts }) sc s
       → end ≡ length d2.instrs → Mends d2.instrs at (i.Jump end) xs
-      → drafted xs (d2.forks) (d2.texts) ≡ passed_over p mv sh d sc s
-  unfolding written passed_over
+      → buffer_of xs (d2.forks) (d2.texts) ≡ buffer_after_passed p mv sh d sc s
+  unfolding buffer_after buffer_after_passed
   passed_is d d2 s i1 xs at end ea e1 e2 ee mends =
       let q = length d.instrs in
-      let lead : end ≡ after p (q + 1) (bare_statement s) = ee ∙ holed_end d d2 s i1 (i.Jump 0) e1 e2 in
+      let lead : end ≡ after_statement p (q + 1) (bare_statement s) = ee ∙ holed_end d d2 s i1 (i.Jump 0) e1 e2 in
       holed d d2 s i1 xs (i.Jump 0) (i.Jump end) at ea e1 e2 mends
       ∙ λ k. record {
         instrs = d.instrs ++ (i.Jump (lead k)
@@ -689,45 +704,45 @@ module _ (p : b.Program) (mv sh : ℕ → List ℕ) (sc : List Scope) where
         texts = d.texts ++ texts_of (bare_statement s);
       }
 
-  pub loop_is : (d d2 : Draft) (s : c.Statement) (i0 i1 i3 xs : List Instr) (leave : ℕ → Instr) (again : Instr)
+  pub loop_is : (d d2 : CodeBuffer) (s : c.Statement) (i0 i1 i3 xs : List Instr) (leave : ℕ → Instr) (again : Instr)
       (at end : ℕ)
       → at ≡ length d.instrs → i0 ≡ d.instrs ++ leave 0 ∷ [] → i1 ≡ i0 ++ i.Tick ∷ []
-      → d2 ≡ written p mv sh (record { instrs = i1; forks = d.forks; texts = d.texts }) sc s
+      → d2 ≡ buffer_after p mv sh (record { instrs = i1; forks = d.forks; texts = d.texts }) sc s
       → i3 ≡ d2.instrs ++ again ∷ [] → end ≡ length i3 → Mends i3 at (leave end) xs
-      → drafted xs (d2.forks) (d2.texts) ≡ looped p mv sh d sc s leave again
-  unfolding written looped
+      → buffer_of xs (d2.forks) (d2.texts) ≡ buffer_after_loop p mv sh d sc s leave again
+  unfolding buffer_after buffer_after_loop
   loop_is d d2 s i0 i1 i3 xs leave again at end ea e0 e1 e2 e3 ee mends =
       let st = bare_statement s in
       let cs = λ (u : ℕ). code p sc (length d.forks) (length d.texts) u st in
       let eq : length i1 ≡ length d.instrs + 1 + 1 = one_more i0 i1 i.Tick e1
       ∙ ap (λ (m : ℕ). m + 1) (one_more d.instrs i0 (leave 0) e0) in
-      let body : d2.instrs ≡ i1 ++ cs (length i1) = ap (λ (x : Draft). x.instrs) e2 in
+      let body : d2.instrs ≡ i1 ++ cs (length i1) = ap (λ (x : CodeBuffer). x.instrs) e2 in
       let two : i1 ≡ d.instrs ++ leave 0 ∷ i.Tick ∷ [] = e1 ∙ ap (λ xs. xs ++ i.Tick ∷ []) e0
       ∙ append_assoc d.instrs (leave 0 ∷ []) (i.Tick ∷ []) in
       let there : i3 ≡ d.instrs ++ leave 0 ∷ (i.Tick ∷ (cs (length i1) ++ again ∷ [])) =
       e3 ∙ ap (λ xs. xs ++ again ∷ []) (body ∙ ap (λ xs. xs ++ cs (length i1)) two)
       ∙ append_assoc (d.instrs ++ leave 0 ∷ i.Tick ∷ []) (cs (length i1)) (again ∷ [])
       ∙ append_assoc d.instrs (leave 0 ∷ i.Tick ∷ []) (cs (length i1) ++ again ∷ []) in
-      let lead : end ≡ after p (length d.instrs + 1 + 1) st + 1 =
+      let lead : end ≡ after_statement p (length d.instrs + 1 + 1) st + 1 =
       ee ∙ one_more d2.instrs i3 again e3
       ∙ ap (λ (m : ℕ). m + 1) (ap length body ∙ code_place i1 (length d.forks) (length d.texts) (length i1) st
-      ∙ ap (λ (m : ℕ). after p m st) eq) in
+      ∙ ap (λ (m : ℕ). after_statement p m st) eq) in
       let is = mends d.instrs (i.Tick ∷ (cs (length i1) ++ again ∷ [])) (leave 0) there ea
       ∙ (λ j. d.instrs ++ (leave (lead j) ∷ (i.Tick ∷ (cs (eq j) ++ again ∷ [])))) in
-      let fs : d2.forks ≡ d.forks ++ tables p mv sh (length d.instrs + 1 + 1) s = ap (λ (x : Draft). x.forks) e2
+      let fs : d2.forks ≡ d.forks ++ tables p mv sh (length d.instrs + 1 + 1) s = ap (λ (x : CodeBuffer). x.forks) e2
       ∙ (λ j. d.forks ++ tables p mv sh (eq j) s) in
-      let ts : d2.texts ≡ d.texts ++ texts_of st = ap (λ (x : Draft). x.texts) e2 in
+      let ts : d2.texts ≡ d.texts ++ texts_of st = ap (λ (x : CodeBuffer). x.texts) e2 in
       λ k. record { instrs = is k; forks = fs k; texts = ts k }
 
-  pub spread_is : (d d2 : Draft) (x : ℕ) (s : c.Statement) (f1 : List ForkTable) (i0 i1 i3 xs : List Instr)
+  pub spread_is : (d d2 : CodeBuffer) (x : ℕ) (s : c.Statement) (f1 : List ForkTable) (i0 i1 i3 xs : List Instr)
       (table : ForkTable) (number entry at end : ℕ)
       → number ≡ length d.forks → entry ≡ length d.instrs + 2 → table.children ≡ child p mv sh entry (Some x) s ∷ []
       → f1 ≡ d.forks ++ table ∷ [] → i0 ≡ d.instrs ++ i.Forall number ∷ [] → at ≡ length i0
       → i1 ≡ i0 ++ i.Jump 0 ∷ []
-      → d2 ≡ written p mv sh (record { instrs = i1; forks = f1; texts = d.texts }) (OfIndex x ∷ sc) s
+      → d2 ≡ buffer_after p mv sh (record { instrs = i1; forks = f1; texts = d.texts }) (OfIndex x ∷ sc) s
       → i3 ≡ d2.instrs ++ i.End ∷ [] → end ≡ length i3 → Mends i3 at (i.Jump end) xs
-      → drafted xs (d2.forks) (d2.texts) ≡ spread p mv sh d sc x s
-  unfolding written spread
+      → buffer_of xs (d2.forks) (d2.texts) ≡ buffer_after_forall p mv sh d sc x s
+  unfolding buffer_after buffer_after_forall
   spread_is d d2 x s f1 i0 i1 i3 xs table number entry at end en ey et ef e0 ea e1 e2 e3 ee mends =
       let st = bare_statement s in
       let q = length d.instrs in
@@ -735,12 +750,12 @@ module _ (p : b.Program) (mv sh : ℕ → List ℕ) (sc : List Scope) where
       let eq : length i1 ≡ q + 1 + 1 = one_more i0 i1 (i.Jump 0) e1
       ∙ ap (λ (m : ℕ). m + 1) (one_more d.instrs i0 (i.Forall number) e0) in
       let count : length f1 ≡ length d.forks + 1 = omega (arith, ap length ef, length-append d.forks (table ∷ [])) in
-      let body : d2.instrs ≡ i1 ++ cs (length f1) (length i1) = ap (λ (y : Draft). y.instrs) e2 in
+      let body : d2.instrs ≡ i1 ++ cs (length f1) (length i1) = ap (λ (y : CodeBuffer). y.instrs) e2 in
       let there : i3 ≡ i0 ++ i.Jump 0 ∷ (cs (length f1) (length i1) ++ i.End ∷ []) =
       e3 ∙ ap (λ xs. xs ++ i.End ∷ []) (body ∙ ap (λ xs. xs ++ cs (length f1) (length i1)) e1)
       ∙ append_assoc (i0 ++ i.Jump 0 ∷ []) (cs (length f1) (length i1)) (i.End ∷ [])
       ∙ append_assoc i0 (i.Jump 0 ∷ []) (cs (length f1) (length i1) ++ i.End ∷ []) in
-      let lead : end ≡ after p (q + 1 + 1) st + 1 =
+      let lead : end ≡ after_statement p (q + 1 + 1) st + 1 =
       ee ∙ omega (
         arith,
         ap length e3,
@@ -751,7 +766,7 @@ module _ (p : b.Program) (mv sh : ℕ → List ℕ) (sc : List Scope) where
         stmt_after p (q + 1 + 1) st,
         eq,
       ) in
-      let is : xs ≡ d.instrs ++ (i.Forall (length d.forks) ∷ i.Jump (after p (q + 1 + 1) st + 1)
+      let is : xs ≡ d.instrs ++ (i.Forall (length d.forks) ∷ i.Jump (after_statement p (q + 1 + 1) st + 1)
       ∷ (cs (length d.forks + 1) (q + 1 + 1) ++ i.End ∷ [])) =
       mends i0 (cs (length f1) (length i1) ++ i.End ∷ []) (i.Jump 0) there ea
       ∙ ap (λ ys. ys ++ i.Jump end ∷ (cs (length f1) (length i1) ++ i.End ∷ [])) e0
@@ -762,24 +777,24 @@ module _ (p : b.Program) (mv sh : ℕ → List ℕ) (sc : List Scope) where
       ∙ (λ j. child p mv sh (here j) (Some x) s ∷ []) in
       let fs : d2.forks ≡ d.forks ++ (record { children = child p mv sh (q + 1 + 1) (Some x) s ∷ [] }
       ∷ tables p mv sh (q + 1 + 1) s) =
-      ap (λ (y : Draft). y.forks) e2 ∙ ap (λ ys. ys ++ tables p mv sh (length i1) s) ef
+      ap (λ (y : CodeBuffer). y.forks) e2 ∙ ap (λ ys. ys ++ tables p mv sh (length i1) s) ef
       ∙ append_assoc d.forks (table ∷ []) (tables p mv sh (length i1) s)
       ∙ (λ j. d.forks ++ (record { children = lines j } ∷ tables p mv sh (eq j) s)) in
-      let ts : d2.texts ≡ d.texts ++ texts_of st = ap (λ (y : Draft). y.texts) e2 in
+      let ts : d2.texts ≡ d.texts ++ texts_of st = ap (λ (y : CodeBuffer). y.texts) e2 in
       λ k. record { instrs = is k; forks = fs k; texts = ts k }
 
   abbrev MendsTable : List ForkTable → ℕ → ForkTable → List ForkTable → Type 0
   MendsTable xs at y ys = (a c : List ForkTable) (x : ForkTable) → xs ≡ a ++ x ∷ c → at ≡ length a → ys ≡ a ++ y ∷ c
 
-  pub parallel_is : (d d2 : Draft) (ss : c.Statements) (f1 f3 : List ForkTable) (i0 i1 xs : List Instr)
+  pub parallel_is : (d d2 : CodeBuffer) (ss : c.Statements) (f1 f3 : List ForkTable) (i0 i1 xs : List Instr)
       (blank : ForkTable) (lines : List ChildTable) (first number at end : ℕ)
       → first ≡ length d.forks → number ≡ first → f1 ≡ d.forks ++ blank ∷ [] → i0 ≡ d.instrs ++ i.Fork number ∷ []
       → at ≡ length i0 → i1 ≡ i0 ++ i.Jump 0 ∷ []
-      → d2 ≡ written_children p mv sh (record { instrs = i1; forks = f1; texts = d.texts }) sc ss
+      → d2 ≡ buffer_after_children p mv sh (record { instrs = i1; forks = f1; texts = d.texts }) sc ss
       → lines ≡ children p mv sh (length i1) ss → end ≡ length d2.instrs → Mends d2.instrs at (i.Jump end) xs
       → MendsTable d2.forks first (record { children = lines }) f3
-      → drafted xs (f3) (d2.texts) ≡ written_form p mv sh d sc (c.Parallel ss)
-  unfolding written_form written_children
+      → buffer_of xs (f3) (d2.texts) ≡ buffer_after_form p mv sh d sc (c.Parallel ss)
+  unfolding buffer_after_form buffer_after_children
   parallel_is d d2 ss f1 f3 i0 i1 xs blank lines first number at end ef en e1 e0 ea ei e2 el ee mends mends_table =
       let bs = bare_statements ss in
       let q = length d.instrs in
@@ -787,7 +802,7 @@ module _ (p : b.Program) (mv sh : ℕ → List ℕ) (sc : List Scope) where
       let eq : length i1 ≡ q + 1 + 1 = one_more i0 i1 (i.Jump 0) ei
       ∙ ap (λ (m : ℕ). m + 1) (one_more d.instrs i0 (i.Fork number) e0) in
       let count : length f1 ≡ length d.forks + 1 = omega (arith, ap length e1, length-append d.forks (blank ∷ [])) in
-      let body : d2.instrs ≡ i1 ++ cs (length f1) (length i1) = ap (λ (y : Draft). y.instrs) e2 in
+      let body : d2.instrs ≡ i1 ++ cs (length f1) (length i1) = ap (λ (y : CodeBuffer). y.instrs) e2 in
       let there : d2.instrs ≡ i0 ++ i.Jump 0 ∷ cs (length f1) (length i1) = body
       ∙ ap (λ xs. xs ++ cs (length f1) (length i1)) ei
       ∙ append_assoc i0 (i.Jump 0 ∷ []) (cs (length f1) (length i1)) in
@@ -807,23 +822,24 @@ module _ (p : b.Program) (mv sh : ℕ → List ℕ) (sc : List Scope) where
       ∙ append_assoc d.instrs (i.Fork number ∷ []) (i.Jump end ∷ cs (length f1) (length i1))
       ∙ (λ j. d.instrs ++ (i.Fork ((en ∙ ef) j) ∷ i.Jump (lead j) ∷ cs (count j) (eq j))) in
       let inner = tables_children p mv sh (length i1) ss in
-      let held : d2.forks ≡ d.forks ++ blank ∷ inner = ap (λ (y : Draft). y.forks) e2 ∙ ap (λ ys. ys ++ inner) e1
+      let held : d2.forks ≡ d.forks ++ blank ∷ inner = ap (λ (y : CodeBuffer). y.forks) e2 ∙ ap (λ ys. ys ++ inner) e1
       ∙ append_assoc d.forks (blank ∷ []) inner in
       let fs : f3 ≡ d.forks ++ (record { children = children p mv sh (q + 1 + 1) ss }
       ∷ tables_children p mv sh (q + 1 + 1) ss) =
       mends_table d.forks inner blank held ef ∙ (λ j. d.forks ++ (record { children = el j } ∷ inner))
       ∙ (λ j. d.forks ++ (record { children = children p mv sh (eq j) ss } ∷ tables_children p mv sh (eq j) ss)) in
-      let ts : d2.texts ≡ d.texts ++ texts_of_all bs = ap (λ (y : Draft). y.texts) e2 in
+      let ts : d2.texts ≡ d.texts ++ texts_of_all bs = ap (λ (y : CodeBuffer). y.texts) e2 in
       λ k. record { instrs = is k; forks = fs k; texts = ts k }
 
-  pub choices_are : (d d2 : Draft) (arms : c.Arms) (i1 i2 i4 i5 : List Instr) (starts ends : List ℕ) (first end : ℕ)
+  pub choices_are : (d d2 : CodeBuffer) (arms : c.Arms) (i1 i2 i4 i5 : List Instr) (starts ends : List ℕ)
+      (first end : ℕ)
       → first ≡ length d.instrs → i1 ≡ d.instrs ++ blank_tests (bare_arms arms) → i2 ≡ i1 ++ i.Nocase ∷ []
-      → d2 ≡ written_arms p mv sh (record { instrs = i2; forks = d.forks; texts = d.texts }) sc arms 0
+      → d2 ≡ buffer_after_arms p mv sh (record { instrs = i2; forks = d.forks; texts = d.texts }) sc arms 0
       → starts ≡ starts_of p (length i2) (bare_arms arms) → ends ≡ ends_of p (length i2) (bare_arms arms)
       → end ≡ length d2.instrs → i4 ≡ filled_ends d2.instrs ends end
       → i5 ≡ filled_tests i4 first (bare_arms arms) starts
-      → drafted i5 (d2.forks) (d2.texts) ≡ chosen p mv sh d sc arms
-  unfolding written_arms chosen
+      → buffer_of i5 (d2.forks) (d2.texts) ≡ buffer_after_case p mv sh d sc arms
+  unfolding buffer_after_arms buffer_after_case
   choices_are d d2 arms i1 i2 i4 i5 starts ends first end ef e1 e2 ed es en ee e4 e5 =
       let bs = bare_arms arms in
       let q = length d.instrs in
@@ -839,7 +855,7 @@ module _ (p : b.Program) (mv sh : ℕ → List ℕ) (sc : List Scope) where
         tests_count p bs 0,
         tests_after q bs,
       )) in
-      let body : d2.instrs ≡ i2 ++ cs u 0 = ap (λ (y : Draft). y.instrs) ed in
+      let body : d2.instrs ≡ i2 ++ cs u 0 = ap (λ (y : CodeBuffer). y.instrs) ed in
       let lead : end ≡ after_arms p (b + 1) bs =
       ee ∙ omega (
         arith,
@@ -856,39 +872,41 @@ module _ (p : b.Program) (mv sh : ℕ → List ℕ) (sc : List Scope) where
       let is : i5 ≡ d.instrs ++ (tests_code p bs (b + 1) ++ (i.Nocase ∷ cs (b + 1) (after_arms p (b + 1) bs))) =
       e5 ∙ (λ j. filled_tests (is4 j) first bs (es j)) ∙ tests_filled p d.instrs (i.Nocase ∷ cs u end) first u bs ef
       ∙ (λ j. d.instrs ++ (tests_code p bs (eq j) ++ (i.Nocase ∷ cs (eq j) (lead j)))) in
-      let fs : d2.forks ≡ d.forks ++ tables_arms p mv sh (b + 1) arms = ap (λ (y : Draft). y.forks) ed
+      let fs : d2.forks ≡ d.forks ++ tables_arms p mv sh (b + 1) arms = ap (λ (y : CodeBuffer). y.forks) ed
       ∙ (λ j. d.forks ++ tables_arms p mv sh (eq j) arms) in
-      let ts : d2.texts ≡ d.texts ++ texts_of_arms bs = ap (λ (y : Draft). y.texts) ed in
+      let ts : d2.texts ≡ d.texts ++ texts_of_arms bs = ap (λ (y : CodeBuffer). y.texts) ed in
       λ k. record { instrs = is k; forks = fs k; texts = ts k }
 
   -- ---- one more part
 
-  pub written_place : (d : Draft) (s : c.Statement)
-      → length (written p mv sh d sc s).instrs ≡ after p (length d.instrs) (bare_statement s)
-  unfolding written
+  pub written_place : (d : CodeBuffer) (s : c.Statement)
+      → length (buffer_after p mv sh d sc s).instrs ≡ after_statement p (length d.instrs) (bare_statement s)
+  unfolding buffer_after
   written_place d s = code_place d.instrs (length d.forks) (length d.texts) (length d.instrs) (bare_statement s)
 
-  pub child_next : (d : Draft) (s : c.Statement) (rest : c.Statements)
-      → written_children p mv sh (with_code (written p mv sh d sc s) (i.End ∷ [])) sc rest
-      ≡ written_children p mv sh d sc (c.AndThen s rest)
-  child_next d s rest = ap (λ (x : Draft). written_children p mv sh x sc rest) (child_is d s) ∙ children_step d s rest
+  pub child_next : (d : CodeBuffer) (s : c.Statement) (rest : c.Statements)
+      → buffer_after_children p mv sh (with_code (buffer_after p mv sh d sc s) (i.End ∷ [])) sc rest
+      ≡ buffer_after_children p mv sh d sc (c.AndThen s rest)
+  child_next d s rest = ap (λ (x : CodeBuffer). buffer_after_children p mv sh x sc rest) (child_is d s)
+      ∙ children_step d s rest
 
-  pub ended_by : (d : Draft) (s : c.Statement) (x : Instr)
-      → length ((written p mv sh d sc s).instrs ++ x ∷ []) ≡ after p (length d.instrs) (bare_statement s) + 1
-  ended_by d s x = one_more (written p mv sh d sc s).instrs _ x refl ∙ ap (λ (m : ℕ). m + 1) (written_place d s)
+  pub ended_by : (d : CodeBuffer) (s : c.Statement) (x : Instr)
+      → length ((buffer_after p mv sh d sc s).instrs ++ x ∷ []) ≡ after_statement p (length d.instrs)
+      (bare_statement s) + 1
+  ended_by d s x = one_more (buffer_after p mv sh d sc s).instrs _ x refl ∙ ap (λ (m : ℕ). m + 1) (written_place d s)
 
-  pub arm_next : (d : Draft) (ms : List ℤ) (s : c.Statement) (rest : c.Arms)
-      → written_arms p mv sh (with_code (written p mv sh d sc s) (i.Jump 0 ∷ [])) sc rest 0
-      ≡ written_arms p mv sh d sc (c.Or (c.On ms s) rest) 0
-  arm_next d ms s rest = ap (λ (x : Draft). written_arms p mv sh x sc rest 0) (arm_is d ms s 0)
+  pub arm_next : (d : CodeBuffer) (ms : List ℤ) (s : c.Statement) (rest : c.Arms)
+      → buffer_after_arms p mv sh (with_code (buffer_after p mv sh d sc s) (i.Jump 0 ∷ [])) sc rest 0
+      ≡ buffer_after_arms p mv sh d sc (c.Or (c.On ms s) rest) 0
+  arm_next d ms s rest = ap (λ (x : CodeBuffer). buffer_after_arms p mv sh x sc rest 0) (arm_is d ms s 0)
       ∙ arms_step d ms s rest 0
 
-  pub sequence_done : (d e : Draft) (ss : c.Statements)
-      → written_all p mv sh e sc c.NoStatement ≡ written_all p mv sh d sc ss
-      → e ≡ written_form p mv sh d sc (c.Sequence ss)
+  pub sequence_done : (d e : CodeBuffer) (ss : c.Statements)
+      → buffer_after_all p mv sh e sc c.NoStatement ≡ buffer_after_all p mv sh d sc ss
+      → e ≡ buffer_after_form p mv sh d sc (c.Sequence ss)
   sequence_done d e ss h = sym (all_none e) ∙ h ∙ sequence_is d ss
 
-  pub else_is : (d e : Draft) (x : c.Expression) (s o : c.Statement)
-      → e ≡ branched p mv sh (with_code d (value_code p sc (bare_expression x))) sc s 1
-      → passed_over p mv sh e sc o ≡ written_form p mv sh d sc (c.If x s (c.Else o))
-  else_is d e x s o h = ap (λ (y : Draft). passed_over p mv sh y sc o) h ∙ if_else_is d x s o
+  pub else_is : (d e : CodeBuffer) (x : c.Expression) (s o : c.Statement)
+      → e ≡ buffer_after_branch p mv sh (with_code d (value_code p sc (bare_expression x))) sc s 1
+      → buffer_after_passed p mv sh e sc o ≡ buffer_after_form p mv sh d sc (c.If x s (c.Else o))
+  else_is d e x s o h = ap (λ (y : CodeBuffer). buffer_after_passed p mv sh y sc o) h ∙ if_else_is d x s o

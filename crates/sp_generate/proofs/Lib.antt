@@ -1,11 +1,11 @@
 pub mod Tables
 pub mod Emitting
-pub mod Seams
+pub mod Patched
 pub mod Handing
 pub mod Filled
 pub mod Forms
 pub mod Locals
-pub mod Whole
+pub mod WrittenProgram
 pub mod Limits
 pub mod Inside
 pub mod Deciding

@@ -8,12 +8,12 @@ use Rattle.sp_generate.specs.Handings.{IsInOrder}
 use Rattle.sp_generate.specs.Generated.{Handing, IsCodeOf}
 
 -- all of one list stand in the other
-abbrev Within : List ℕ → List ℕ → Type 0
-Within xs ys = (z : ℕ) → IsMember z xs → IsMember z ys
+abbrev IsSubset : List ℕ → List ℕ → Type 0
+IsSubset xs ys = (z : ℕ) → IsMember z xs → IsMember z ys
 
 -- the first of two lists in order, with the same numbers
-first_same : (x y : ℕ) (xs ys : List ℕ) → IsInOrder (x ∷ xs) → IsInOrder (y ∷ ys) → Within (x ∷ xs) (y ∷ ys)
-    → Within (y ∷ ys) (x ∷ xs) → x ≡ y
+first_same : (x y : ℕ) (xs ys : List ℕ) → IsInOrder (x ∷ xs) → IsInOrder (y ∷ ys) → IsSubset (x ∷ xs) (y ∷ ys)
+    → IsSubset (y ∷ ys) (x ∷ xs) → x ≡ y
 first_same x y xs ys ox oy f g = go (f x (inl refl)) (g y (inl refl))
   where
     go : IsMember x (y ∷ ys) → IsMember y (x ∷ xs) → x ≡ y
@@ -22,14 +22,14 @@ first_same x y xs ys ox oy f g = go (f x (inl refl)) (g y (inl refl))
     go (inr m) (inr k) = let a = oy.0 x m in let b = ox.0 y k in omega (arith, a, b)
 
 -- the numbers behind the first
-behind : (x y : ℕ) (xs ys : List ℕ) → x ≡ y → IsInOrder (x ∷ xs) → Within (x ∷ xs) (y ∷ ys) → Within xs ys
+behind : (x y : ℕ) (xs ys : List ℕ) → x ≡ y → IsInOrder (x ∷ xs) → IsSubset (x ∷ xs) (y ∷ ys) → IsSubset xs ys
 behind x y xs ys same ox f z m = go (f z (inr m))
   where
     go : IsMember z (y ∷ ys) → IsMember z ys
     go (inl e) = let low = ox.0 z m in absurd (omega (arith, low, e, same))
     go (inr k) = k
 
-in_order_same : (xs ys : List ℕ) → IsInOrder xs → IsInOrder ys → Within xs ys → Within ys xs → xs ≡ ys
+in_order_same : (xs ys : List ℕ) → IsInOrder xs → IsInOrder ys → IsSubset xs ys → IsSubset ys xs → xs ≡ ys
 in_order_same [] [] ox oy f g = refl
 in_order_same [] (y ∷ ys) ox oy f g = absurd (g y (inl refl))
 in_order_same (x ∷ xs) [] ox oy f g = absurd (f x (inl refl))
@@ -39,10 +39,10 @@ in_order_same (x ∷ xs) (y ∷ ys) ox oy f g =
     λ i. same i ∷ rest i
 
 module _ (p : Program) where
-  one_moved : (h k : Handing p) (s : Stmt) → Within (h.moves s) (k.moves s)
+  one_moved : (h k : Handing p) (s : Stmt) → IsSubset (h.moves s) (k.moves s)
   one_moved h k s z m = k.are.moved s z (h.are.moved_only s z m)
 
-  one_shared : (h k : Handing p) (s : Stmt) → Within (h.shares s) (k.shares s)
+  one_shared : (h k : Handing p) (s : Stmt) → IsSubset (h.shares s) (k.shares s)
   one_shared h k s z m = go (k.are.shared s z (h.are.shared_only s z m))
     where
       go : IsMember z (k.moves s) ⊎ IsMember z (k.shares s) → IsMember z (k.shares s)

@@ -12,7 +12,7 @@ use Rattle.sp_tree.specs.Around.{one_more}
 use Rattle.sp_tree.specs.Cells.{first_or, sizes}
 use Rattle.sp_tree.specs.Plain.{Program, Variable}
 use Rattle.sp_code.specs.Scopes.{slot, slot_by, slot_in, size, field_offset}
-use Rattle.sp_generate.specs.Tabled.{slots_from, slots_of, offsets_from, offsets_by, offsets_of, more}
+use Rattle.sp_generate.specs.Tabled.{slots_from, slots_of, offsets_from, offsets_by, offsets_of, outer_level}
 
 pub first_is : (xs : List ℕ) (k n : ℕ) → slice_get xs k ≡ Some n → n ≡ first_or 0 (slice_get xs k)
 first_is xs k n e = ap (first_or 0) (sym e)
@@ -30,7 +30,7 @@ pub slot_or : (p : Program) (x : ℕ) → first_or 0 (slice_get (slots_of p) x) 
 slot_or p x = slots_at p 0 p.variables x ∙ ap (λ (y : ℕ). slot_by p y (slice_get p.variables x)) (omega arith)
 
 -- one scope further out
-pub more_on : (n : ℕ) (o : Option ℕ) → more n (one_more o) ≡ more (suc n) o
+pub more_on : (n : ℕ) (o : Option ℕ) → outer_level n (one_more o) ≡ outer_level (suc n) o
 more_on n None = refl
 more_on n (Some m) = ap Some (omega arith)
 

@@ -6,21 +6,22 @@ use Rattle.std.specs.List.{filter}
 use Rattle.std.proofs.lemmas.Bool.{false_from_ne_true}
 use Rattle.sp_base.proofs.Facts.{not_refutes, same_if_both_follow}
 use Rattle.sp_tree.specs.PlainChecked as c
-use Rattle.sp_tree.specs.Bare.{bare, bare_block, bare_expression, bare_statement, bare_statement_form, bare_statements}
+use Rattle.sp_tree.specs.Bare.{without_places, bare_block, bare_expression, bare_statement, bare_statement_form}
+use Rattle.sp_tree.specs.Bare.{bare_statements}
 use Rattle.sp_tree.specs.Bare.{bare_arms}
 use Rattle.sp_tree.specs.Plain.{Program, Stmt}
 use Rattle.sp_tree.specs.Uses.{In_stmt}
 use Rattle.sp_tree.specs.Sets.{IsUsed}
 use Rattle.sp_tree.specs.Interference.{IsMember}
-use Rattle.sp_code.specs.Places.{after_value, after, after_block}
+use Rattle.sp_code.specs.Places.{after_value, after_statement, after_block}
 use Rattle.sp_code.specs.Emitted as e
 use Rattle.sp_code.specs.Shares.{SetsAre}
 use Rattle.sp_varsets.specs.declared.sets.Sets.{Sets}
 use Rattle.sp_varsets.specs.AreSets.{AreSets, OfStatement, targets_of, expressions_of}
-use Rattle.sp_varsets.specs.Parts.{number_of, IsPart, IsInForm, IsAmong, IsInArms}
+use Rattle.sp_varsets.specs.Parts.{number_of, IsPart, IsInForm, IsInStatements, IsInArms}
 use Rattle.sp_varsets.specs.Members.{has}
 use Rattle.sp_varsets.proofs.Words.{below_words}
-use Rattle.sp_generate.specs.Handings.{IsInOrder, fitting, moved_of, shared_of}
+use Rattle.sp_generate.specs.Handings.{IsInOrder, fitting_numbers, moved_of, shared_of}
 use Rattle.sp_generate.specs.Tables.{child, children, tables, form_tables, tables_all, tables_children, tables_arms}
 use Rattle.sp_generate.specs.Tables.{tables_blocks}
 use Rattle.sp_generate.specs.Numbered.{numbered_code}
@@ -48,12 +49,12 @@ module _ (p : Program) (mv sh : ℕ → List ℕ) (moves shares : Stmt → List 
   itself : (s : c.Statement) → ((t : c.Statement) → IsPart t s → Tells t) → Tells s
   itself (c.Does n at form) h = h (c.Does n at form) (inl refl)
 
-  lines : (q : ℕ) (ss : c.Statements) → ((t : c.Statement) → IsAmong t ss → Tells t)
+  lines : (q : ℕ) (ss : c.Statements) → ((t : c.Statement) → IsInStatements t ss → Tells t)
       → children p mv sh q ss ≡ e.children_tables p moves shares q (bare_statements ss)
   lines q c.NoStatement h = refl
   lines q (c.AndThen s rest) h =
       let first = line q None s (itself s (λ t k. h t (inl k))) in
-      let others = lines (after p q (bare_statement s) + 1) rest (λ t k. h t (inr k)) in
+      let others = lines (after_statement p q (bare_statement s) + 1) rest (λ t k. h t (inr k)) in
       λ i. first i ∷ others i
 
   mutual
@@ -70,7 +71,7 @@ module _ (p : Program) (mv sh : ℕ → List ℕ) (moves shares : Stmt → List 
     form_way q (c.If x s c.NoElse) h = one_way _ s (λ t k. h t (inl k))
     form_way q (c.If x s (c.Else o)) h =
         let first = one_way (after_value q (bare_expression x) + 1) s (λ t k. h t (inl k)) in
-        let second = one_way (after p (after_value q (bare_expression x) + 1) (bare_statement s) + 1) o
+        let second = one_way (after_statement p (after_value q (bare_expression x) + 1) (bare_statement s) + 1) o
         (λ t k. h t (inr k)) in
         λ i. first i ++ second i
     form_way q (c.While x s) h = one_way _ s h
@@ -96,20 +97,20 @@ module _ (p : Program) (mv sh : ℕ → List ℕ) (moves shares : Stmt → List 
     form_way q (c.Send x y) h = refl
     form_way q (c.Receive x v) h = refl
 
-    all_way : (q : ℕ) (ss : c.Statements) → ((t : c.Statement) → IsAmong t ss → Tells t)
+    all_way : (q : ℕ) (ss : c.Statements) → ((t : c.Statement) → IsInStatements t ss → Tells t)
         → tables_all p mv sh q ss ≡ e.tables_all p moves shares q (bare_statements ss)
     all_way q c.NoStatement h = refl
     all_way q (c.AndThen s rest) h =
         let first = one_way q s (λ t k. h t (inl k)) in
-        let others = all_way (after p q (bare_statement s)) rest (λ t k. h t (inr k)) in
+        let others = all_way (after_statement p q (bare_statement s)) rest (λ t k. h t (inr k)) in
         λ i. first i ++ others i
 
-    children_way : (q : ℕ) (ss : c.Statements) → ((t : c.Statement) → IsAmong t ss → Tells t)
+    children_way : (q : ℕ) (ss : c.Statements) → ((t : c.Statement) → IsInStatements t ss → Tells t)
         → tables_children p mv sh q ss ≡ e.tables_children p moves shares q (bare_statements ss)
     children_way q c.NoStatement h = refl
     children_way q (c.AndThen s rest) h =
         let first = one_way q s (λ t k. h t (inl k)) in
-        let others = children_way (after p q (bare_statement s) + 1) rest (λ t k. h t (inr k)) in
+        let others = children_way (after_statement p q (bare_statement s) + 1) rest (λ t k. h t (inr k)) in
         λ i. first i ++ others i
 
     arms_way : (q : ℕ) (arms : c.Arms) → ((t : c.Statement) → IsInArms t arms → Tells t)
@@ -117,7 +118,7 @@ module _ (p : Program) (mv sh : ℕ → List ℕ) (moves shares : Stmt → List 
     arms_way q c.NoArm h = refl
     arms_way q (c.Or (c.On ms s) rest) h =
         let first = one_way q s (λ t k. h t (inl k)) in
-        let others = arms_way (after p q (bare_statement s) + 1) rest (λ t k. h t (inr k)) in
+        let others = arms_way (after_statement p q (bare_statement s) + 1) rest (λ t k. h t (inr k)) in
         λ i. first i ++ others i
 
   blocks_way : (q : ℕ) (ks : List c.Block) → ((b : ℕ) (k : c.Block) → slice_get ks b ≡ Some k → (t : c.Statement)
@@ -136,13 +137,13 @@ from_none n y h = omega (arith, h)
 
 module _ (tree : c.Program) (sets : Sets) (are : AreSets tree sets) where
   moves : Stmt → List ℕ
-  moves s = fitting (is_target tree sets s) 0 (limit_of tree sets s)
+  moves s = fitting_numbers (is_target tree sets s) 0 (limit_of tree sets s)
 
   spared : Stmt → ℕ → Bool
   spared s x = not (is_target tree sets s x)
 
   shares : Stmt → List ℕ
-  shares s = filter (spared s) (fitting (is_seen tree sets s) 0 (limit_of tree sets s))
+  shares s = filter (spared s) (fitting_numbers (is_seen tree sets s) 0 (limit_of tree sets s))
 
   low : (s : Stmt) (x : ℕ) (f : ℕ → Bool) → ((y : ℕ) → limit_of tree sets s ≤ y → f y ≡ false) → f x ≡ true
       → x < 0 + limit_of tree sets s
@@ -164,7 +165,7 @@ module _ (tree : c.Program) (sets : Sets) (are : AreSets tree sets) where
       → IsMember x (shares s)
   unfolding shares spared
   shared_has s x h k =
-      has_filter (spared s) (fitting (is_seen tree sets s) 0 (limit_of tree sets s)) x
+      has_filter (spared s) (fitting_numbers (is_seen tree sets s) 0 (limit_of tree sets s)) x
       (has_fitting (is_seen tree sets s) 0 (limit_of tree sets s) x (omega arith)
       (low s x (is_seen tree sets s) (seen_below tree sets s) h) h) (ap not k)
 
@@ -172,7 +173,7 @@ module _ (tree : c.Program) (sets : Sets) (are : AreSets tree sets) where
       × (not (is_target tree sets s x) ≡ true)
   unfolding shares spared
   shared_is s x m =
-      let r = of_filter (spared s) (fitting (is_seen tree sets s) 0 (limit_of tree sets s)) x m in
+      let r = of_filter (spared s) (fitting_numbers (is_seen tree sets s) 0 (limit_of tree sets s)) x m in
       ((of_fitting (is_seen tree sets s) 0 (limit_of tree sets s) x r.0).1, r.1)
 
   moves_order : (s : Stmt) → IsInOrder (moves s)
@@ -181,10 +182,10 @@ module _ (tree : c.Program) (sets : Sets) (are : AreSets tree sets) where
 
   shares_order : (s : Stmt) → IsInOrder (shares s)
   unfolding shares
-  shares_order s = filter_in_order (spared s) (fitting (is_seen tree sets s) 0 (limit_of tree sets s))
+  shares_order s = filter_in_order (spared s) (fitting_numbers (is_seen tree sets s) 0 (limit_of tree sets s))
       (fitting_in_order (is_seen tree sets s) 0 (limit_of tree sets s))
 
-  used : (s : Stmt) (x : ℕ) → IsUsed (bare tree) (In_stmt s) x → IsMember x (moves s) ⊎ IsMember x (shares s)
+  used : (s : Stmt) (x : ℕ) → IsUsed (without_places tree) (In_stmt s) x → IsMember x (moves s) ⊎ IsMember x (shares s)
   used s x (inl h) = inl (moved_has s x (target_tells tree sets are s x h))
   used s x (inr h) = go (is_target tree sets s x) refl
     where
@@ -192,7 +193,7 @@ module _ (tree : c.Program) (sets : Sets) (are : AreSets tree sets) where
       go true e = inl (moved_has s x e)
       go false e = inr (shared_has s x (seen_tells tree sets are s x h) e)
 
-  sets_are : SetsAre (bare tree) moves shares
+  sets_are : SetsAre (without_places tree) moves shares
   sets_are = record {
     moved = λ s x h. moved_has s x (target_tells tree sets are s x h);
     moved_only = λ s x m. target_told tree sets are s x (moved_is s x m);
@@ -203,7 +204,7 @@ module _ (tree : c.Program) (sets : Sets) (are : AreSets tree sets) where
     shared_once = λ s. each_once (shares s) (shares_order s);
   }
 
-  handing : Handing (bare tree)
+  handing : Handing (without_places tree)
   handing = record {
     moves = moves;
     shares = shares;
@@ -223,7 +224,7 @@ module _ (tree : c.Program) (sets : Sets) (are : AreSets tree sets) where
   seen_has_below n x h = false_from_ne_true (has (expressions_of sets n) x)
       (λ k. let l = below_words (expressions_of sets n).words x k in omega (arith, l, h))
 
-  module _ (t : c.Statement) (of : OfStatement (bare tree) sets t) where
+  module _ (t : c.Statement) (of : OfStatement (without_places tree) sets t) where
     target_test : (x : ℕ) → has (targets_of sets (number_of t)) x ≡ is_target tree sets (bare_statement t) x
     target_test x =
         same_if_both_follow _ _ (λ h. target_tells tree sets are (bare_statement t) x ((of.targets x).0 h))
@@ -241,7 +242,7 @@ module _ (tree : c.Program) (sets : Sets) (are : AreSets tree sets) where
         let set = targets_of sets (number_of t) in
         same_fitting (has set) 0 (64 * length set.words) (limit_of tree sets s) (has_below (number_of t))
         (λ y h. target_test y ∙ target_below tree sets s y (from_none (limit_of tree sets s) y h))
-        ∙ (λ i. fitting (λ y. target_test y i) 0 (limit_of tree sets s))
+        ∙ (λ i. fitting_numbers (λ y. target_test y i) 0 (limit_of tree sets s))
 
     shares_told : shared_of sets (number_of t) ≡ shares (bare_statement t)
     unfolding shares spared
@@ -250,19 +251,19 @@ module _ (tree : c.Program) (sets : Sets) (are : AreSets tree sets) where
         let set = expressions_of sets (number_of t) in
         let all = same_fitting (has set) 0 (64 * length set.words) (limit_of tree sets s) (seen_has_below (number_of t))
         (λ y h. seen_test y ∙ seen_below tree sets s y (from_none (limit_of tree sets s) y h))
-        ∙ (λ i. fitting (λ y. seen_test y i) 0 (limit_of tree sets s)) in
+        ∙ (λ i. fitting_numbers (λ y. seen_test y i) 0 (limit_of tree sets s)) in
         λ i. filter (λ y. not (target_test y i)) (all i)
 
-  pub is_code : IsCodeOf (bare tree) (numbered_code tree sets)
+  pub is_code : IsCodeOf (without_places tree) (numbered_code tree sets)
   unfolding handing
   is_code =
-      let same = blocks_way (bare tree) (moved_of sets) (shared_of sets) moves shares 0 tree.blocks
+      let same = blocks_way (without_places tree) (moved_of sets) (shared_of sets) moves shares 0 tree.blocks
       (λ b k h t i. (moves_told t (are.statements b k h t i), shares_told t (are.statements b k h t i))) in (
         handing,
         λ i. record {
-          instrs = e.blocks_code (bare tree) 0 0 0 0 (bare tree).blocks;
-          layouts = e.layouts_from (bare tree) 0 0 (bare tree).blocks;
+          instrs = e.blocks_code (without_places tree) 0 0 0 0 (without_places tree).blocks;
+          layouts = e.layouts_from (without_places tree) 0 0 (without_places tree).blocks;
           forks = same i;
-          texts = e.blocks_texts (bare tree).blocks;
+          texts = e.blocks_texts (without_places tree).blocks;
         },
       )

@@ -15,13 +15,13 @@ IsInOrder [] = Unit {0}
 IsInOrder (x ∷ xs) = ((y : ℕ) → IsMember y xs → x < y) × IsInOrder xs
 
 -- of n numbers from x on, those that fit
-abbrev pub fitting : (ℕ → Bool) → (x n : ℕ) → List ℕ
-fitting fits x zero = []
-fitting fits x (suc n) = if fits x then x ∷ fitting fits (suc x) n else fitting fits (suc x) n
+abbrev pub fitting_numbers : (ℕ → Bool) → (x n : ℕ) → List ℕ
+fitting_numbers fits x zero = []
+fitting_numbers fits x (suc n) = if fits x then x ∷ fitting_numbers fits (suc x) n else fitting_numbers fits (suc x) n
 
 -- the variables of a set, in order
 abbrev pub members : VarSet → List ℕ
-members s = fitting (has s) 0 (64 * length s.words)
+members s = fitting_numbers (has s) 0 (64 * length s.words)
 
 -- the target variables of the statement with this number
 abbrev pub moved_of : Sets → ℕ → List ℕ

@@ -37,6 +37,6 @@ abbrev pub offsets_of : Program → List (List ℕ)
 offsets_of p = map (offsets_by (sizes p.kinds)) p.kinds
 
 -- a level, so many scopes further out
-abbrev pub more : ℕ → Option ℕ → Option ℕ
-more n None = None
-more n (Some m) = Some (n + m)
+abbrev pub outer_level : ℕ → Option ℕ → Option ℕ
+outer_level n None = None
+outer_level n (Some m) = Some (n + m)

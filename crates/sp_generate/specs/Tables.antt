@@ -11,7 +11,7 @@ use Rattle.sp_tree.specs.Plain.{Program}
 use Rattle.sp_code.specs.declared.code.ChildTable.{ChildTable}
 use Rattle.sp_code.specs.declared.code.ForkTable.{ForkTable}
 use Rattle.sp_code.specs.Emitted.{but_index}
-use Rattle.sp_code.specs.Places.{after_value, after_tests, after, after_block}
+use Rattle.sp_code.specs.Places.{after_value, after_tests, after_statement, after_block}
 
 module _ (p : Program) (moved shared : ℕ → List ℕ) where
   abbrev pub child : ℕ → Option ℕ → Statement → ChildTable
@@ -24,7 +24,7 @@ module _ (p : Program) (moved shared : ℕ → List ℕ) where
 
   abbrev pub children : ℕ → Statements → List ChildTable
   children q NoStatement = []
-  children q (AndThen s rest) = child q None s ∷ children (after p q (bare_statement s) + 1) rest
+  children q (AndThen s rest) = child q None s ∷ children (after_statement p q (bare_statement s) + 1) rest
 
   abbrev mutual
     pub tables : ℕ → Statement → List ForkTable
@@ -39,7 +39,7 @@ module _ (p : Program) (moved shared : ℕ → List ℕ) where
     form_tables q (If e s NoElse) = tables (after_value q (bare_expression e) + 1) s
     form_tables q (If e s (Else t)) =
         tables (after_value q (bare_expression e) + 1) s
-        ++ tables (after p (after_value q (bare_expression e) + 1) (bare_statement s) + 1) t
+        ++ tables (after_statement p (after_value q (bare_expression e) + 1) (bare_statement s) + 1) t
     form_tables q (While e s) = tables (after_value q (bare_expression e) + 1 + 1) s
     form_tables q (Repeat s e) = tables (q + 1) s
     form_tables q (For x at from down to s) =
@@ -62,15 +62,15 @@ module _ (p : Program) (moved shared : ℕ → List ℕ) where
 
     pub tables_all : ℕ → Statements → List ForkTable
     tables_all q NoStatement = []
-    tables_all q (AndThen s rest) = tables q s ++ tables_all (after p q (bare_statement s)) rest
+    tables_all q (AndThen s rest) = tables q s ++ tables_all (after_statement p q (bare_statement s)) rest
 
     pub tables_children : ℕ → Statements → List ForkTable
     tables_children q NoStatement = []
-    tables_children q (AndThen s rest) = tables q s ++ tables_children (after p q (bare_statement s) + 1) rest
+    tables_children q (AndThen s rest) = tables q s ++ tables_children (after_statement p q (bare_statement s) + 1) rest
 
     pub tables_arms : ℕ → Arms → List ForkTable
     tables_arms q NoArm = []
-    tables_arms q (Or (On ms s) rest) = tables q s ++ tables_arms (after p q (bare_statement s) + 1) rest
+    tables_arms q (Or (On ms s) rest) = tables q s ++ tables_arms (after_statement p q (bare_statement s) + 1) rest
 
   abbrev pub tables_blocks : ℕ → List Block → List ForkTable
   tables_blocks q [] = []

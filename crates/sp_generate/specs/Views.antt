@@ -6,15 +6,15 @@ use Rattle.sp_code.specs.declared.instr.Instr.{Instr}
 use Rattle.sp_code.specs.Emitted.{actuals_code, call_instr, cells_of, formal_by}
 use Rattle.sp_code.specs.declared.code.Formal.{Formal}
 use Rattle.sp_tree.specs.CheckedOf.{program_of}
-use Rattle.sp_tree.specs.Bare.{bare}
+use Rattle.sp_tree.specs.Bare.{without_places}
 use Rattle.sp_tree.specs.Around as around
-use Rattle.sp_generate.specs.declared.ground.Ground.{Ground}
+use Rattle.sp_generate.specs.declared.code_context.CodeContext.{CodeContext}
 use Rattle.sp_generate.specs.declared.levels.Scope.{Scope}
 use Rattle.sp_generate.specs.declared.levels.Scope.TheVariants as scope
 
 -- the plain program whose code is made
-abbrev pub whole : Ground → Program
-whole g = bare (program_of g.checked.now)
+abbrev pub plain_program : CodeContext → Program
+plain_program g = without_places (program_of g.checked.now)
 
 abbrev pub scope_of : Scope → around.Scope
 scope_of (scope.Block b) = around.OfBlock b

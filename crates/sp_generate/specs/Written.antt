@@ -11,11 +11,11 @@ use Rattle.sp_code.specs.declared.instr.Instr.{Instr}
 use Rattle.sp_code.specs.declared.instr.Instr.TheVariants as i
 use Rattle.sp_code.specs.declared.code.ForkTable.{ForkTable}
 use Rattle.sp_code.specs.Scopes.{sort, size, kind_of, type_of}
-use Rattle.sp_code.specs.Places.{after, after_tests, after_arms}
+use Rattle.sp_code.specs.Places.{after_statement, after_tests, after_arms}
 use Rattle.sp_code.specs.Emitted.{value_code, var_code, right_code, assign_instr, code, code_all, code_children}
 use Rattle.sp_code.specs.Emitted.{code_arms, test_code, tests_code, texts_of, texts_of_all, texts_of_arms, end_instr}
 use Rattle.sp_code.specs.Emitted.{blocks_code, blocks_texts}
-use Rattle.sp_generate.specs.declared.draft.Draft.{Draft}
+use Rattle.sp_generate.specs.declared.code_buffer.CodeBuffer.{CodeBuffer}
 use Rattle.sp_generate.specs.Tables.{child, tables, form_tables, tables_all, tables_children, tables_arms}
 use Rattle.sp_generate.specs.Tables.{tables_blocks}
 
@@ -28,68 +28,68 @@ abbrev pub right_side : b.Program → List Scope → b.Expr → List Instr
 right_side p sc (b.Typed k form) = right_code p sc k (sort p k) form
 
 -- these parts
-abbrev pub drafted : List Instr → List ForkTable → List (List ℕ) → Draft
-drafted xs fs ts = record { instrs = xs; forks = fs; texts = ts }
+abbrev pub buffer_of : List Instr → List ForkTable → List (List ℕ) → CodeBuffer
+buffer_of xs fs ts = record { instrs = xs; forks = fs; texts = ts }
 
 -- instructions alone
-abbrev pub with_code : Draft → List Instr → Draft
+abbrev pub with_code : CodeBuffer → List Instr → CodeBuffer
 with_code d xs = record { instrs = d.instrs ++ xs; forks = d.forks; texts = d.texts }
 
 module _ (p : b.Program) (moved shared : ℕ → List ℕ) where
-  unfoldable pub written : Draft → List Scope → c.Statement → Draft
-  written d sc s = record {
+  unfoldable pub buffer_after : CodeBuffer → List Scope → c.Statement → CodeBuffer
+  buffer_after d sc s = record {
     instrs = d.instrs ++ code p sc (length d.forks) (length d.texts) (length d.instrs) (bare_statement s);
     forks = d.forks ++ tables p moved shared (length d.instrs) s;
     texts = d.texts ++ texts_of (bare_statement s);
   }
 
-  unfoldable pub written_form : Draft → List Scope → c.Form → Draft
-  written_form d sc form = record {
+  unfoldable pub buffer_after_form : CodeBuffer → List Scope → c.Form → CodeBuffer
+  buffer_after_form d sc form = record {
     instrs = d.instrs ++ code p sc (length d.forks) (length d.texts) (length d.instrs) (bare_statement_form form);
     forks = d.forks ++ form_tables p moved shared (length d.instrs) form;
     texts = d.texts ++ texts_of (bare_statement_form form);
   }
 
-  unfoldable pub written_all : Draft → List Scope → c.Statements → Draft
-  written_all d sc ss = record {
+  unfoldable pub buffer_after_all : CodeBuffer → List Scope → c.Statements → CodeBuffer
+  buffer_after_all d sc ss = record {
     instrs = d.instrs ++ code_all p sc (length d.forks) (length d.texts) (length d.instrs) (bare_statements ss);
     forks = d.forks ++ tables_all p moved shared (length d.instrs) ss;
     texts = d.texts ++ texts_of_all (bare_statements ss);
   }
 
   -- the processes of a `parallel`, with an `end` behind each
-  unfoldable pub written_children : Draft → List Scope → c.Statements → Draft
-  written_children d sc ss = record {
+  unfoldable pub buffer_after_children : CodeBuffer → List Scope → c.Statements → CodeBuffer
+  buffer_after_children d sc ss = record {
     instrs = d.instrs ++ code_children p sc (length d.forks) (length d.texts) (length d.instrs) (bare_statements ss);
     forks = d.forks ++ tables_children p moved shared (length d.instrs) ss;
     texts = d.texts ++ texts_of_all (bare_statements ss);
   }
 
   -- the statements of a `case`, with a jump behind each
-  unfoldable pub written_arms : Draft → List Scope → c.Arms → (end : ℕ) → Draft
-  written_arms d sc arms end = record {
+  unfoldable pub buffer_after_arms : CodeBuffer → List Scope → c.Arms → (end : ℕ) → CodeBuffer
+  buffer_after_arms d sc arms end = record {
     instrs = d.instrs ++ code_arms p sc (length d.forks) (length d.texts) (length d.instrs) (bare_arms arms) end;
     forks = d.forks ++ tables_arms p moved shared (length d.instrs) arms;
     texts = d.texts ++ texts_of_arms (bare_arms arms);
   }
 
   -- a statement that is left out where the condition is false: the jump goes so many instructions beyond it
-  unfoldable pub branched : Draft → List Scope → c.Statement → (beyond : ℕ) → Draft
-  branched d sc s beyond =
+  unfoldable pub buffer_after_branch : CodeBuffer → List Scope → c.Statement → (beyond : ℕ) → CodeBuffer
+  buffer_after_branch d sc s beyond =
       let q = length d.instrs in
       record {
-        instrs = d.instrs ++ (i.Jumpf (after p (q + 1) (bare_statement s) + beyond)
+        instrs = d.instrs ++ (i.Jumpf (after_statement p (q + 1) (bare_statement s) + beyond)
             ∷ code p sc (length d.forks) (length d.texts) (q + 1) (bare_statement s));
         forks = d.forks ++ tables p moved shared (q + 1) s;
         texts = d.texts ++ texts_of (bare_statement s);
       }
 
   -- a statement that is passed over by a jump
-  unfoldable pub passed_over : Draft → List Scope → c.Statement → Draft
-  passed_over d sc s =
+  unfoldable pub buffer_after_passed : CodeBuffer → List Scope → c.Statement → CodeBuffer
+  buffer_after_passed d sc s =
       let q = length d.instrs in
       record {
-        instrs = d.instrs ++ (i.Jump (after p (q + 1) (bare_statement s))
+        instrs = d.instrs ++ (i.Jump (after_statement p (q + 1) (bare_statement s))
             ∷ code p sc (length d.forks) (length d.texts) (q + 1) (bare_statement s));
         forks = d.forks ++ tables p moved shared (q + 1) s;
         texts = d.texts ++ texts_of (bare_statement s);
@@ -97,23 +97,23 @@ module _ (p : b.Program) (moved shared : ℕ → List ℕ) where
 
   -- a loop's first instruction, which leaves to behind the last, then a tick and the statement, then the loop's last
   -- instruction
-  unfoldable pub looped : Draft → List Scope → c.Statement → (ℕ → Instr) → Instr → Draft
-  looped d sc s leave again =
+  unfoldable pub buffer_after_loop : CodeBuffer → List Scope → c.Statement → (ℕ → Instr) → Instr → CodeBuffer
+  buffer_after_loop d sc s leave again =
       let q = length d.instrs in
       record {
-        instrs = d.instrs ++ (leave (after p (q + 1 + 1) (bare_statement s) + 1) ∷ i.Tick
+        instrs = d.instrs ++ (leave (after_statement p (q + 1 + 1) (bare_statement s) + 1) ∷ i.Tick
             ∷ (code p sc (length d.forks) (length d.texts) (q + 1 + 1) (bare_statement s) ++ again ∷ []));
         forks = d.forks ++ tables p moved shared (q + 1 + 1) s;
         texts = d.texts ++ texts_of (bare_statement s);
       }
 
   -- a forall behind its limits
-  unfoldable pub spread : Draft → List Scope → (index : ℕ) → c.Statement → Draft
-  spread d sc x s =
+  unfoldable pub buffer_after_forall : CodeBuffer → List Scope → (index : ℕ) → c.Statement → CodeBuffer
+  buffer_after_forall d sc x s =
       let q = length d.instrs in
       let t = length d.forks in
       record {
-        instrs = d.instrs ++ (i.Forall t ∷ i.Jump (after p (q + 1 + 1) (bare_statement s) + 1)
+        instrs = d.instrs ++ (i.Forall t ∷ i.Jump (after_statement p (q + 1 + 1) (bare_statement s) + 1)
             ∷ (code p (OfIndex x ∷ sc) (t + 1) (length d.texts) (q + 1 + 1) (bare_statement s) ++ i.End ∷ []));
         forks = d.forks ++ (record { children = child p moved shared (q + 1 + 1) (Some x) s ∷ [] }
             ∷ tables p moved shared (q + 1 + 1) s);
@@ -121,8 +121,8 @@ module _ (p : b.Program) (moved shared : ℕ → List ℕ) where
       }
 
   -- a `case` behind its selector
-  unfoldable pub chosen : Draft → List Scope → c.Arms → Draft
-  chosen d sc arms =
+  unfoldable pub buffer_after_case : CodeBuffer → List Scope → c.Arms → CodeBuffer
+  buffer_after_case d sc arms =
       let b = after_tests (length d.instrs) (bare_arms arms) in
       record {
         instrs = d.instrs ++ (tests_code p (bare_arms arms) (b + 1)
@@ -133,7 +133,7 @@ module _ (p : b.Program) (moved shared : ℕ → List ℕ) where
       }
 
   -- a block in its own scopes, with its end behind it
-  unfoldable pub written_block : Draft → ℕ → c.Block → Draft
+  unfoldable pub written_block : CodeBuffer → ℕ → c.Block → CodeBuffer
   written_block d b k = record {
     instrs = d.instrs ++ (code p (scopes_of p b) (length d.forks) (length d.texts) (length d.instrs)
         (bare_statement k.body) ++ end_instr b ∷ []);
@@ -142,7 +142,7 @@ module _ (p : b.Program) (moved shared : ℕ → List ℕ) where
   }
 
   -- the blocks in order, from block b on
-  unfoldable pub written_blocks : Draft → ℕ → List c.Block → Draft
+  unfoldable pub written_blocks : CodeBuffer → ℕ → List c.Block → CodeBuffer
   written_blocks d b ks = record {
     instrs = d.instrs ++ blocks_code p b (length d.forks) (length d.texts) (length d.instrs) (map bare_block ks);
     forks = d.forks ++ tables_blocks p moved shared (length d.instrs) ks;
@@ -153,11 +153,11 @@ module _ (p : b.Program) where
   -- where each statement of a `case` begins, and where the jump behind it stands
   abbrev pub starts_of : ℕ → b.Arms → List ℕ
   starts_of q b.NoArm = []
-  starts_of q (b.Or (b.On ms s) rest) = q ∷ starts_of (after p q s + 1) rest
+  starts_of q (b.Or (b.On ms s) rest) = q ∷ starts_of (after_statement p q s + 1) rest
 
   abbrev pub ends_of : ℕ → b.Arms → List ℕ
   ends_of q b.NoArm = []
-  ends_of q (b.Or (b.On ms s) rest) = after p q s ∷ ends_of (after p q s + 1) rest
+  ends_of q (b.Or (b.On ms s) rest) = after_statement p q s ∷ ends_of (after_statement p q s + 1) rest
 
 -- the tests of a `case` before it is known where they lead
 abbrev pub blank_tests : b.Arms → List Instr

@@ -2,16 +2,16 @@
 
 ghost use Rattle.std.specs.Prelude.{◌≡◌, slice_get, IfOk, OnOk};
 ghost use Rattle.sp_tree.specs.CheckedOf.{block_of, program_of};
-ghost use Rattle.sp_tree.specs.Bare.{bare, bare_block};
+ghost use Rattle.sp_tree.specs.Bare.{without_places, bare_block};
 ghost use Rattle.sp_tree.specs.Around.{parent_of, scopes_of};
 ghost use Rattle.sp_code.specs.Emitted.{cells_of, formal_by, formal_of, end_instr, layout_of};
-ghost use Rattle.sp_generate.specs.Views.{whole, scopes, cells_in, formals_in};
+ghost use Rattle.sp_generate.specs.Views.{plain_program, scopes, cells_in, formals_in};
 ghost use Rattle.sp_generate.specs.Puts.{with_block};
 
-use crate::draft::Draft;
+use crate::code_buffer::CodeBuffer;
+use crate::code_context::CodeContext;
 use crate::expressions::put;
 use crate::frames::frame;
-use crate::ground::Ground;
 use crate::levels::Scope;
 use crate::single::size;
 use crate::statements::put_statement;
@@ -22,8 +22,8 @@ use sp_varsets::Sets;
 use std::alloc::Global;
 
 /// The cells of a variable in its frame.
-fn cells_of(g: &Ground, x: u32) -> u32
-    ensures { result ≡ cells_of (whole g.now) (slice_get (whole g.now).variables x) }
+fn cells_of(g: &CodeContext, x: u32) -> u32
+    ensures { result ≡ cells_of (plain_program g.now) (slice_get (plain_program g.now).variables x) }
 {
     match g.checked.variables.get(x as usize) {
         None => 0,
@@ -35,8 +35,8 @@ fn cells_of(g: &Ground, x: u32) -> u32
     }
 }
 
-fn cells_in(g: &Ground, xs: &[u32]) -> Result<List<u32>, Memory>
-    ensures { IfOk result (λ ys. ys ≡ cells_in (whole g.now) xs.now) }
+fn cells_in(g: &CodeContext, xs: &[u32]) -> Result<List<u32>, Memory>
+    ensures { IfOk result (λ ys. ys ≡ cells_in (plain_program g.now) xs.now) }
 {
     let mut out = Vec::new(g.alloc);
     for x in xs {
@@ -58,8 +58,8 @@ fn formal_of(role: Role, cells: u32) -> Formal
 }
 
 /// How a block takes a parameter.
-fn formal_by(g: &Ground, x: u32) -> Formal
-    ensures { result ≡ formal_by (whole g.now) (slice_get (whole g.now).variables x) }
+fn formal_by(g: &CodeContext, x: u32) -> Formal
+    ensures { result ≡ formal_by (plain_program g.now) (slice_get (plain_program g.now).variables x) }
 {
     match g.checked.variables.get(x as usize) {
         None => Formal::Value(0),
@@ -67,8 +67,8 @@ fn formal_by(g: &Ground, x: u32) -> Formal
     }
 }
 
-fn formals_in(g: &Ground, xs: &[u32]) -> Result<List<Formal>, Memory>
-    ensures { IfOk result (λ ys. ys ≡ formals_in (whole g.now) xs.now) }
+fn formals_in(g: &CodeContext, xs: &[u32]) -> Result<List<Formal>, Memory>
+    ensures { IfOk result (λ ys. ys ≡ formals_in (plain_program g.now) xs.now) }
 {
     let mut out = Vec::new(g.alloc);
     for x in xs {
@@ -78,8 +78,8 @@ fn formals_in(g: &Ground, xs: &[u32]) -> Result<List<Formal>, Memory>
 }
 
 /// The layout of a block whose code begins at `entry`.
-pub fn layout_of(g: &Ground, b: u32, k: &Block, entry: u32) -> Result<Layout, Memory>
-    ensures { IfOk result (λ l. l ≡ layout_of (whole g.now) b entry (bare_block (block_of k.now))) }
+pub fn layout_of(g: &CodeContext, b: u32, k: &Block, entry: u32) -> Result<Layout, Memory>
+    ensures { IfOk result (λ l. l ≡ layout_of (plain_program g.now) b entry (bare_block (block_of k.now))) }
 {
     let frame = frame(g.alloc, g.checked, b)?;
     let sizes = cells_in(g, frame.as_slice())?;
@@ -98,7 +98,7 @@ pub fn layout_of(g: &Ground, b: u32, k: &Block, entry: u32) -> Result<Layout, Me
 /// The number of the block around a block.
 #[tactic(auto, using(crate::proofs::Tables::block_at, crate::proofs::Tables::no_block))]
 fn parent_of(checked: &Checked, b: u32) -> Option<u32>
-    ensures { result ≡ parent_of (slice_get (bare (program_of checked.now)).blocks b) }
+    ensures { result ≡ parent_of (slice_get (without_places (program_of checked.now)).blocks b) }
 {
     match checked.blocks.get(b as usize) {
         None => None,
@@ -109,7 +109,7 @@ fn parent_of(checked: &Checked, b: u32) -> Option<u32>
 /// The scopes of a block's statement part: it, and those around it.
 #[tactic(auto, using(crate::proofs::Locals::scope_over, crate::proofs::Locals::blocks_count))]
 fn scopes_of(alloc: Global, checked: &Checked, b: u32) -> Result<Vec<Scope>, Memory>
-    ensures { IfOk result (λ xs. scopes xs.items ≡ scopes_of (bare (program_of checked.now)) b) }
+    ensures { IfOk result (λ xs. scopes xs.items ≡ scopes_of (without_places (program_of checked.now)) b) }
 {
     let mut out = Vec::new(alloc);
     let mut at = Some(b);
@@ -133,7 +133,13 @@ fn end_instr(b: u32) -> Instr
 }
 
 /// The code of a block.
-pub fn put_block(g: &Ground, sets: &Sets, d: &mut Draft, b: u32, k: &Block) -> Result<(), Memory>
+pub fn put_block(
+    g: &CodeContext,
+    sets: &Sets,
+    d: &mut CodeBuffer,
+    b: u32,
+    k: &Block,
+) -> Result<(), Memory>
     ensures { OnOk result (d.new ≡ with_block g.now sets.now d.old b (block_of k.now)) }
 {
     let scopes = scopes_of(g.alloc, g.checked, b)?;

@@ -12,7 +12,7 @@ use sp_code::Instr;
 use sp_tree::Arm;
 
 /// Another instruction in the place of one, where one stands there.
-#[tactic(auto, using(crate::proofs::Seams::set_beyond))]
+#[tactic(auto, using(crate::proofs::Patched::set_beyond))]
 fn set(code: &mut List<Instr>, at: usize, instr: Instr)
     ensures { code.new ≡ slice_set code.old at instr }
 {

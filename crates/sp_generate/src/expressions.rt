@@ -9,9 +9,9 @@ ghost use Rattle.sp_tree.specs.Bare.{bare_width};
 ghost use Rattle.sp_code.specs.Scopes.{kind_at, selected_type, type_of};
 ghost use Rattle.sp_code.specs.Emitted.{unary_code, standard_code, value_code, form_code, var_code, selectors_code};
 ghost use Rattle.sp_code.specs.Emitted.{actuals_code, width_code};
-ghost use Rattle.sp_generate.specs.Views.{whole, scopes, call_code};
+ghost use Rattle.sp_generate.specs.Views.{plain_program, scopes, call_code};
 
-use crate::ground::Ground;
+use crate::code_context::CodeContext;
 use crate::levels::Scope;
 use crate::single::{
     address, binary_instr, call_instr, element_type, field_instr, field_type, greatest,
@@ -40,8 +40,13 @@ fn put_unary(code: &mut List<Instr>, op: UnaryOp) -> Result<(), Memory>
 }
 
 /// A standard function with a result of this type.
-fn put_standard(g: &Ground, code: &mut List<Instr>, k: u32, f: StandardFn) -> Result<(), Memory>
-    ensures { OnOk result (code.new ≡ code.old ++ standard_code f (kind_at (whole g.now) k)) }
+fn put_standard(
+    g: &CodeContext,
+    code: &mut List<Instr>,
+    k: u32,
+    f: StandardFn,
+) -> Result<(), Memory>
+    ensures { OnOk result (code.new ≡ code.old ++ standard_code f (kind_at (plain_program g.now) k)) }
 {
     match f {
         StandardFn::Abs => put(code, Instr::Abs),
@@ -57,22 +62,27 @@ fn put_standard(g: &Ground, code: &mut List<Instr>, k: u32, f: StandardFn) -> Re
 
 /// An expression: its operands in order, and then its operator.
 #[cycle(value)]
-pub fn put_value(g: &Ground, sc: &[Scope], code: &mut List<Instr>, e: &Expr) -> Result<(), Memory>
+pub fn put_value(
+    g: &CodeContext,
+    sc: &[Scope],
+    code: &mut List<Instr>,
+    e: &Expr,
+) -> Result<(), Memory>
     ensures { OnOk result (code.new ≡ code.old
-        ++ value_code (whole g.now) (scopes sc.now) (bare_expression (expression_of e.now))) }
+        ++ value_code (plain_program g.now) (scopes sc.now) (bare_expression (expression_of e.now))) }
 {
     put_form(g, sc, code, e.kind, &e.form)
 }
 
 #[cycle(value)]
 fn put_boxed(
-    g: &Ground,
+    g: &CodeContext,
     sc: &[Scope],
     code: &mut List<Instr>,
     e: &Boxed<Expr>,
 ) -> Result<(), Memory>
     ensures { OnOk result (code.new ≡ code.old
-        ++ value_code (whole g.now) (scopes sc.now) (bare_expression (expression_of e.now))) }
+        ++ value_code (plain_program g.now) (scopes sc.now) (bare_expression (expression_of e.now))) }
 {
     put_value(g, sc, code, e.get())
 }
@@ -80,14 +90,14 @@ fn put_boxed(
 /// What an expression of this type is.
 #[cycle(value)]
 pub fn put_form(
-    g: &Ground,
+    g: &CodeContext,
     sc: &[Scope],
     code: &mut List<Instr>,
     k: u32,
     form: &ExprForm,
 ) -> Result<(), Memory>
     ensures { OnOk result (code.new ≡ code.old
-        ++ form_code (whole g.now) (scopes sc.now) k (bare_form (expression_form_of form.now))) }
+        ++ form_code (plain_program g.now) (scopes sc.now) k (bare_form (expression_form_of form.now))) }
 {
     match form {
         ExprForm::Number(n) => put(code, Instr::Const(*n)),
@@ -112,14 +122,14 @@ pub fn put_form(
 /// A call: its parameters in order, and then the call.
 #[cycle(value)]
 pub fn put_call(
-    g: &Ground,
+    g: &CodeContext,
     sc: &[Scope],
     code: &mut List<Instr>,
     f: u32,
     args: &List<Actual>,
 ) -> Result<(), Memory>
     ensures { OnOk result (code.new ≡ code.old
-        ++ call_code (whole g.now) (scopes sc.now) f (bare_actuals (actuals (map actual_of args.now)))) }
+        ++ call_code (plain_program g.now) (scopes sc.now) f (bare_actuals (actuals (map actual_of args.now)))) }
 {
     put_actuals(g, sc, code, args)?;
     let call = call_instr(g, sc, f)?;
@@ -129,7 +139,7 @@ pub fn put_call(
 /// A standard function of an operand, or of the input.
 #[cycle(value)]
 fn put_applied(
-    g: &Ground,
+    g: &CodeContext,
     sc: &[Scope],
     code: &mut List<Instr>,
     k: u32,
@@ -137,7 +147,7 @@ fn put_applied(
     args: &List<Expr>,
 ) -> Result<(), Memory>
     ensures { OnOk result (code.new
-        ≡ code.old ++ form_code (whole g.now) (scopes sc.now) k
+        ≡ code.old ++ form_code (plain_program g.now) (scopes sc.now) k
         (bare_form (c.Standard f (expressions (map expression_of args.now))))) }
 {
     match args.items() {
@@ -151,10 +161,15 @@ fn put_applied(
 
 /// The address of a variable with its selectors. The answer is its type.
 #[cycle(value)]
-pub fn put_var(g: &Ground, sc: &[Scope], code: &mut List<Instr>, v: &Var) -> Result<u32, Memory>
+pub fn put_var(
+    g: &CodeContext,
+    sc: &[Scope],
+    code: &mut List<Instr>,
+    v: &Var,
+) -> Result<u32, Memory>
     ensures code { OnOk result (code.new ≡ code.old
-        ++ var_code (whole g.now) (scopes sc.now) (bare_variable (variable_of v.now))) }
-    ensures kind { IfOk result (λ k. k ≡ type_of (whole g.now) (bare_variable (variable_of v.now))) }
+        ++ var_code (plain_program g.now) (scopes sc.now) (bare_variable (variable_of v.now))) }
+    ensures kind { IfOk result (λ k. k ≡ type_of (plain_program g.now) (bare_variable (variable_of v.now))) }
 {
     let first = address(g, sc, v.variable)?;
     put(code, first)?;
@@ -164,15 +179,16 @@ pub fn put_var(g: &Ground, sc: &[Scope], code: &mut List<Instr>, v: &Var) -> Res
 /// The selectors behind an address of this type. The answer is the type that they select.
 #[cycle(value)]
 fn put_selectors(
-    g: &Ground,
+    g: &CodeContext,
     sc: &[Scope],
     code: &mut List<Instr>,
     k: u32,
     ss: &List<Selector>,
 ) -> Result<u32, Memory>
     ensures code { OnOk result (code.new ≡ code.old
-        ++ selectors_code (whole g.now) (scopes sc.now) k (bare_selectors (selectors (map selector_of ss.now)))) }
-    ensures kind { IfOk result (λ m. m ≡ selected_type (whole g.now) k
+        ++ selectors_code (plain_program g.now) (scopes sc.now) k
+        (bare_selectors (selectors (map selector_of ss.now)))) }
+    ensures kind { IfOk result (λ m. m ≡ selected_type (plain_program g.now) k
         (bare_selectors (selectors (map selector_of ss.now)))) }
 {
     let mut k = k;
@@ -184,15 +200,16 @@ fn put_selectors(
 
 #[cycle(value)]
 fn put_selector(
-    g: &Ground,
+    g: &CodeContext,
     sc: &[Scope],
     code: &mut List<Instr>,
     k: u32,
     s: &Selector,
 ) -> Result<u32, Memory>
     ensures code { OnOk result (code.new ≡ code.old
-        ++ selectors_code (whole g.now) (scopes sc.now) k (bare_selectors (c.Select (selector_of s.now) c.Whole))) }
-    ensures kind { IfOk result (λ m. m ≡ selected_type (whole g.now) k
+        ++ selectors_code (plain_program g.now) (scopes sc.now) k
+        (bare_selectors (c.Select (selector_of s.now) c.Whole))) }
+    ensures kind { IfOk result (λ m. m ≡ selected_type (plain_program g.now) k
         (bare_selectors (c.Select (selector_of s.now) c.Whole))) }
 {
     match s {
@@ -212,13 +229,13 @@ fn put_selector(
 /// The parameters of a call, in order.
 #[cycle(value)]
 fn put_actuals(
-    g: &Ground,
+    g: &CodeContext,
     sc: &[Scope],
     code: &mut List<Instr>,
     args: &List<Actual>,
 ) -> Result<(), Memory>
     ensures { OnOk result (code.new ≡ code.old
-        ++ actuals_code (whole g.now) (scopes sc.now) (bare_actuals (actuals (map actual_of args.now)))) }
+        ++ actuals_code (plain_program g.now) (scopes sc.now) (bare_actuals (actuals (map actual_of args.now)))) }
 {
     for a in args.items() {
         put_actual(g, sc, code, a)?;
@@ -227,9 +244,14 @@ fn put_actuals(
 }
 
 #[cycle(value)]
-fn put_actual(g: &Ground, sc: &[Scope], code: &mut List<Instr>, a: &Actual) -> Result<(), Memory>
+fn put_actual(
+    g: &CodeContext,
+    sc: &[Scope],
+    code: &mut List<Instr>,
+    a: &Actual,
+) -> Result<(), Memory>
     ensures { OnOk result (code.new ≡ code.old
-        ++ actuals_code (whole g.now) (scopes sc.now) (bare_actuals (c.Pass (actual_of a.now) c.Nothing))) }
+        ++ actuals_code (plain_program g.now) (scopes sc.now) (bare_actuals (c.Pass (actual_of a.now) c.Nothing))) }
 {
     match a {
         Actual::Value(e) => put_value(g, sc, code, e),
@@ -242,13 +264,13 @@ fn put_actual(g: &Ground, sc: &[Scope], code: &mut List<Instr>, a: &Actual) -> R
 
 /// The width of an item that is written, where one is given.
 pub fn put_width(
-    g: &Ground,
+    g: &CodeContext,
     sc: &[Scope],
     code: &mut List<Instr>,
     w: &Option<Expr>,
 ) -> Result<(), Memory>
     ensures { OnOk result (code.new ≡ code.old
-        ++ width_code (whole g.now) (scopes sc.now) (bare_width (width_of w.now))) }
+        ++ width_code (plain_program g.now) (scopes sc.now) (bare_width (width_of w.now))) }
 {
     match w {
         None => Ok(()),

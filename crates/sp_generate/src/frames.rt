@@ -1,7 +1,7 @@
 //! The frames of blocks, and where variables stand in them.
 
 ghost use Rattle.std.specs.Prelude.{◌≡◌, ◌==◌, ◌&&◌, ◌++◌, map, slice_get, Some, IfOk, OnOk};
-ghost use Rattle.sp_tree.specs.Bare.{bare, bare_block, variable_of};
+ghost use Rattle.sp_tree.specs.Bare.{without_places, bare_block, variable_of};
 ghost use Rattle.sp_tree.specs.CheckedOf.{program_of, block_of};
 ghost use Rattle.sp_tree.specs.Cells.{variables_of};
 ghost use Rattle.sp_code.specs.Scopes.{is_local, locals_among, parameters_of, frame_of, index_among, slot_in};
@@ -35,7 +35,8 @@ fn parameters(alloc: Global, k: &Block) -> Result<Vec<u32>, Memory>
 /// The parameters of the block of this number.
 #[tactic(auto, using(crate::proofs::Tables::block_at, crate::proofs::Tables::no_block))]
 fn parameters_in(alloc: Global, checked: &Checked, b: u32) -> Result<Vec<u32>, Memory>
-    ensures { IfOk result (λ xs. xs.items ≡ parameters_of (slice_get (bare (program_of checked.now)).blocks b)) }
+    ensures { IfOk result
+        (λ xs. xs.items ≡ parameters_of (slice_get (without_places (program_of checked.now)).blocks b)) }
 {
     match checked.blocks.get(b as usize) {
         None => Ok(Vec::new(alloc)),
@@ -67,7 +68,7 @@ fn put_locals(out: &mut Vec<u32>, variables: &[Variable], b: u32) -> Result<(), 
 
 /// The variables of a block's frame: the parameters, the result, the local variables.
 pub fn frame(alloc: Global, checked: &Checked, b: u32) -> Result<Vec<u32>, Memory>
-    ensures { IfOk result (λ xs. xs.items ≡ frame_of (bare (program_of checked.now)) b) }
+    ensures { IfOk result (λ xs. xs.items ≡ frame_of (without_places (program_of checked.now)) b) }
 {
     let mut out = parameters_in(alloc, checked, b)?;
     put_locals(&mut out, checked.variables.items(), b)?;
@@ -90,7 +91,7 @@ fn index_among(x: u32, n: u32, ys: &[u32]) -> Result<u32, Memory>
 
 /// The number of a variable in the frame of a block. The program's frame has the input and the output first.
 fn slot_in(alloc: Global, checked: &Checked, b: u32, x: u32) -> Result<u32, Memory>
-    ensures { IfOk result (λ m. m ≡ slot_in (bare (program_of checked.now)) b x) }
+    ensures { IfOk result (λ m. m ≡ slot_in (without_places (program_of checked.now)) b x) }
 {
     let frame = frame(alloc, checked, b)?;
     if b == 0 {
@@ -102,7 +103,7 @@ fn slot_in(alloc: Global, checked: &Checked, b: u32, x: u32) -> Result<u32, Memo
 
 /// The number of each variable in its frame.
 pub fn slots_of(alloc: Global, checked: &Checked) -> Result<List<u32>, Memory>
-    ensures { IfOk result (λ xs. xs ≡ slots_of (bare (program_of checked.now))) }
+    ensures { IfOk result (λ xs. xs ≡ slots_of (without_places (program_of checked.now))) }
 {
     let mut out = Vec::new(alloc);
     for (x, v) in checked.variables.items().iter().enumerate() {

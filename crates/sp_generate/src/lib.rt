@@ -27,10 +27,10 @@
 mod blocks;
 mod cells;
 mod choices;
-mod draft;
+mod code_buffer;
+mod code_context;
 mod expressions;
 mod frames;
-mod ground;
 mod handed;
 mod law;
 mod levels;

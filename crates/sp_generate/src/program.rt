@@ -9,8 +9,8 @@ ghost use Rattle.sp_generate.specs.Numbered.{numbered_code};
 ghost use Rattle.sp_generate.specs.Generated.{Answered};
 
 use crate::blocks::{layout_of, put_block};
-use crate::draft::Draft;
-use crate::ground::Ground;
+use crate::code_buffer::CodeBuffer;
+use crate::code_context::CodeContext;
 use crate::numbers::narrow;
 use crate::tabling::survey;
 use sp_base::{List, Memory};
@@ -41,7 +41,7 @@ impl From<Memory> for GenError {
 }
 
 /// All blocks, in order, and their layouts.
-fn put_blocks(g: &Ground, sets: &Sets, d: &mut Draft) -> Result<List<Layout>, Memory>
+fn put_blocks(g: &CodeContext, sets: &Sets, d: &mut CodeBuffer) -> Result<List<Layout>, Memory>
     ensures code { OnOk result (d.new ≡ with_blocks g.now sets.now d.old 0 (map block_of g.now.checked.now.blocks)) }
     ensures layouts { IfOk result (λ xs. xs ≡ layouts_in g.now 0 (length d.old.instrs)
         (map block_of g.now.checked.now.blocks)) }
@@ -62,13 +62,13 @@ fn parts(alloc: Global, checked: &Checked, sets: &Sets) -> Result<Parts, Memory>
     ensures { IfOk result (λ x. x ≡ numbered_code (program_of checked.now) sets.now) }
 {
     let g = survey(alloc, checked)?;
-    let mut d = Draft {
+    let mut d = CodeBuffer {
         instrs: List::new(alloc),
         forks: List::new(alloc),
         texts: List::new(alloc),
     };
     let layouts = put_blocks(&g, sets, &mut d)?;
-    let Draft {
+    let CodeBuffer {
         instrs,
         forks,
         texts,

@@ -7,11 +7,11 @@ ghost use Rattle.sp_code.specs.declared.instr.Instr.TheVariants as i;
 ghost use Rattle.sp_code.specs.Scopes.{Many, kind_at, kind_of, type_of, is_given};
 ghost use Rattle.sp_code.specs.Emitted.{value_code, form_code, var_code, width_code, right_code, write_instr};
 ghost use Rattle.sp_code.specs.Emitted.{reading_instr};
-ghost use Rattle.sp_generate.specs.Views.{whole, scopes};
+ghost use Rattle.sp_generate.specs.Views.{plain_program, scopes};
 ghost use Rattle.sp_generate.specs.Written.{assign_code, right_side, sends_code, receives_code};
 
+use crate::code_context::CodeContext;
 use crate::expressions::{put, put_form, put_value, put_var, put_width};
-use crate::ground::Ground;
 use crate::levels::Scope;
 use crate::single::{assign_instr, is_many, reading_instr, write_instr};
 use sp_base::{List, Memory};
@@ -20,14 +20,14 @@ use sp_tree::{Expr, ExprForm, Var};
 
 /// The right side of an assignment of an array or record: of a variable its address alone.
 fn put_many(
-    g: &Ground,
+    g: &CodeContext,
     sc: &[Scope],
     code: &mut List<Instr>,
     k: u32,
     form: &ExprForm,
 ) -> Result<(), Memory>
     ensures { OnOk result (code.new ≡ code.old
-        ++ right_code (whole g.now) (scopes sc.now) k Many (bare_form (expression_form_of form.now))) }
+        ++ right_code (plain_program g.now) (scopes sc.now) k Many (bare_form (expression_form_of form.now))) }
 {
     match form {
         ExprForm::Read(v) => {
@@ -40,9 +40,9 @@ fn put_many(
 
 /// The right side of an assignment.
 #[tactic(auto, using(crate::proofs::Emitting::one_cell, crate::proofs::Emitting::many_cells))]
-fn put_right(g: &Ground, sc: &[Scope], code: &mut List<Instr>, e: &Expr) -> Result<(), Memory>
+fn put_right(g: &CodeContext, sc: &[Scope], code: &mut List<Instr>, e: &Expr) -> Result<(), Memory>
     ensures { OnOk result (code.new ≡ code.old
-        ++ right_side (whole g.now) (scopes sc.now) (bare_expression (expression_of e.now))) }
+        ++ right_side (plain_program g.now) (scopes sc.now) (bare_expression (expression_of e.now))) }
 {
     if is_many(g, e.kind) {
         put_many(g, sc, code, e.kind, &e.form)
@@ -52,14 +52,14 @@ fn put_right(g: &Ground, sc: &[Scope], code: &mut List<Instr>, e: &Expr) -> Resu
 }
 
 pub fn put_assign(
-    g: &Ground,
+    g: &CodeContext,
     sc: &[Scope],
     code: &mut List<Instr>,
     v: &Var,
     e: &Expr,
 ) -> Result<(), Memory>
     ensures { OnOk result (code.new
-        ≡ code.old ++ assign_code (whole g.now) (scopes sc.now) (bare_variable (variable_of v.now))
+        ≡ code.old ++ assign_code (plain_program g.now) (scopes sc.now) (bare_variable (variable_of v.now))
         (bare_expression (expression_of e.now))) }
 {
     put_var(g, sc, code, v)?;
@@ -67,34 +67,46 @@ pub fn put_assign(
     put(code, assign_instr(g, e.kind))
 }
 
-pub fn put_assume(g: &Ground, sc: &[Scope], code: &mut List<Instr>, e: &Expr) -> Result<(), Memory>
+pub fn put_assume(
+    g: &CodeContext,
+    sc: &[Scope],
+    code: &mut List<Instr>,
+    e: &Expr,
+) -> Result<(), Memory>
     ensures { OnOk result (code.new ≡ code.old
-        ++ (value_code (whole g.now) (scopes sc.now) (bare_expression (expression_of e.now)) ++ i.Assume ∷ [])) }
+        ++ (value_code (plain_program g.now) (scopes sc.now) (bare_expression (expression_of e.now)) ++ i.Assume
+        ∷ [])) }
 {
     put_value(g, sc, code, e)?;
     put(code, Instr::Assume)
 }
 
-pub fn put_read(g: &Ground, sc: &[Scope], code: &mut List<Instr>, v: &Var) -> Result<(), Memory>
+pub fn put_read(
+    g: &CodeContext,
+    sc: &[Scope],
+    code: &mut List<Instr>,
+    v: &Var,
+) -> Result<(), Memory>
     ensures { OnOk result (code.new
-        ≡ code.old ++ (var_code (whole g.now) (scopes sc.now) (bare_variable (variable_of v.now)) ++ reading_instr
-        (kind_at (whole g.now) (type_of (whole g.now) (bare_variable (variable_of v.now)))) ∷ [])) }
+        ≡ code.old ++ (var_code (plain_program g.now) (scopes sc.now) (bare_variable (variable_of v.now))
+        ++ reading_instr
+        (kind_at (plain_program g.now) (type_of (plain_program g.now) (bare_variable (variable_of v.now)))) ∷ [])) }
 {
     let k = put_var(g, sc, code, v)?;
     put(code, reading_instr(g, k))
 }
 
 pub fn put_write(
-    g: &Ground,
+    g: &CodeContext,
     sc: &[Scope],
     code: &mut List<Instr>,
     e: &Expr,
     w: &Option<Expr>,
 ) -> Result<(), Memory>
     ensures { OnOk result (code.new
-        ≡ code.old ++ (value_code (whole g.now) (scopes sc.now) (bare_expression (expression_of e.now))
-        ++ (width_code (whole g.now) (scopes sc.now) (bare_width (width_of w.now)) ++ write_instr
-        (kind_at (whole g.now) (kind_of (bare_expression (expression_of e.now))))
+        ≡ code.old ++ (value_code (plain_program g.now) (scopes sc.now) (bare_expression (expression_of e.now))
+        ++ (width_code (plain_program g.now) (scopes sc.now) (bare_width (width_of w.now)) ++ write_instr
+        (kind_at (plain_program g.now) (kind_of (bare_expression (expression_of e.now))))
         (is_given (bare_width (width_of w.now))) ∷ []))) }
 {
     put_value(g, sc, code, e)?;
@@ -104,14 +116,14 @@ pub fn put_write(
 
 /// The writing of the text of this number.
 pub fn put_text(
-    g: &Ground,
+    g: &CodeContext,
     sc: &[Scope],
     code: &mut List<Instr>,
     number: u32,
     w: &Option<Expr>,
 ) -> Result<(), Memory>
     ensures { OnOk result (code.new
-        ≡ code.old ++ (width_code (whole g.now) (scopes sc.now) (bare_width (width_of w.now))
+        ≡ code.old ++ (width_code (plain_program g.now) (scopes sc.now) (bare_width (width_of w.now))
         ++ (if is_given (bare_width (width_of w.now)) then i.WritewText number else i.WriteText number) ∷ [])) }
 {
     put_width(g, sc, code, w)?;
@@ -122,24 +134,29 @@ pub fn put_text(
     }
 }
 
-pub fn put_open(g: &Ground, sc: &[Scope], code: &mut List<Instr>, v: &Var) -> Result<(), Memory>
+pub fn put_open(
+    g: &CodeContext,
+    sc: &[Scope],
+    code: &mut List<Instr>,
+    v: &Var,
+) -> Result<(), Memory>
     ensures { OnOk result (code.new ≡ code.old
-        ++ (var_code (whole g.now) (scopes sc.now) (bare_variable (variable_of v.now)) ++ i.Open ∷ [])) }
+        ++ (var_code (plain_program g.now) (scopes sc.now) (bare_variable (variable_of v.now)) ++ i.Open ∷ [])) }
 {
     put_var(g, sc, code, v)?;
     put(code, Instr::Open)
 }
 
 pub fn put_send(
-    g: &Ground,
+    g: &CodeContext,
     sc: &[Scope],
     code: &mut List<Instr>,
     channel: &Expr,
     e: &Expr,
 ) -> Result<(), Memory>
     ensures { OnOk result (code.new
-        ≡ code.old ++ (value_code (whole g.now) (scopes sc.now) (bare_expression (expression_of channel.now))
-        ++ (value_code (whole g.now) (scopes sc.now) (bare_expression (expression_of e.now)) ++ i.Send
+        ≡ code.old ++ (value_code (plain_program g.now) (scopes sc.now) (bare_expression (expression_of channel.now))
+        ++ (value_code (plain_program g.now) (scopes sc.now) (bare_expression (expression_of e.now)) ++ i.Send
         (kind_of (bare_expression (expression_of e.now))) ∷ []))) }
 {
     put_value(g, sc, code, channel)?;
@@ -148,16 +165,16 @@ pub fn put_send(
 }
 
 pub fn put_receive(
-    g: &Ground,
+    g: &CodeContext,
     sc: &[Scope],
     code: &mut List<Instr>,
     channel: &Expr,
     v: &Var,
 ) -> Result<(), Memory>
     ensures { OnOk result (code.new
-        ≡ code.old ++ (value_code (whole g.now) (scopes sc.now) (bare_expression (expression_of channel.now))
-        ++ (var_code (whole g.now) (scopes sc.now) (bare_variable (variable_of v.now)) ++ i.Receive
-        (type_of (whole g.now) (bare_variable (variable_of v.now))) ∷ []))) }
+        ≡ code.old ++ (value_code (plain_program g.now) (scopes sc.now) (bare_expression (expression_of channel.now))
+        ++ (var_code (plain_program g.now) (scopes sc.now) (bare_variable (variable_of v.now)) ++ i.Receive
+        (type_of (plain_program g.now) (bare_variable (variable_of v.now))) ∷ []))) }
 {
     put_value(g, sc, code, channel)?;
     let k = put_var(g, sc, code, v)?;
@@ -166,14 +183,14 @@ pub fn put_receive(
 
 /// Several values on one channel, each with the channel before it.
 pub fn put_sends(
-    g: &Ground,
+    g: &CodeContext,
     sc: &[Scope],
     code: &mut List<Instr>,
     channel: &Expr,
     values: &List<Expr>,
 ) -> Result<(), Memory>
     ensures { OnOk result (code.new
-        ≡ code.old ++ sends_code (whole g.now) (scopes sc.now) (bare_expression (expression_of channel.now))
+        ≡ code.old ++ sends_code (plain_program g.now) (scopes sc.now) (bare_expression (expression_of channel.now))
         (map expression_of values.now)) }
 {
     for e in values.items() {
@@ -184,14 +201,14 @@ pub fn put_sends(
 
 /// Several variables from one channel, each with the channel before it.
 pub fn put_receives(
-    g: &Ground,
+    g: &CodeContext,
     sc: &[Scope],
     code: &mut List<Instr>,
     channel: &Expr,
     variables: &List<Var>,
 ) -> Result<(), Memory>
     ensures { OnOk result (code.new
-        ≡ code.old ++ receives_code (whole g.now) (scopes sc.now) (bare_expression (expression_of channel.now))
+        ≡ code.old ++ receives_code (plain_program g.now) (scopes sc.now) (bare_expression (expression_of channel.now))
         (map variable_of variables.now)) }
 {
     for v in variables.items() {

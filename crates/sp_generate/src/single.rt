@@ -10,9 +10,9 @@ ghost use Rattle.sp_code.specs.Emitted.{binary_instr, input_instr, read_instr, i
 ghost use Rattle.sp_code.specs.Emitted.{reading_instr, assign_instr, addr_by, addr_code, call_up, call_instr, least_of};
 ghost use Rattle.sp_code.specs.Emitted.{greatest_of};
 ghost use Rattle.sp_generate.specs.Sorts.{is_many};
-ghost use Rattle.sp_generate.specs.Views.{whole, scopes};
+ghost use Rattle.sp_generate.specs.Views.{plain_program, scopes};
 
-use crate::ground::Ground;
+use crate::code_context::CodeContext;
 use crate::levels::{Scope, block_level, index_level};
 use sp_base::{List, Memory};
 use sp_code::Instr;
@@ -30,22 +30,22 @@ pub fn number_at(numbers: &List<u32>, k: u32) -> u32
 }
 
 /// The cells of a type.
-pub fn size(g: &Ground, k: u32) -> u32
-    ensures { result ≡ size (whole g.now) k }
+pub fn size(g: &CodeContext, k: u32) -> u32
+    ensures { result ≡ size (plain_program g.now) k }
 {
     number_at(&g.cells, k)
 }
 
 /// The number of a variable in its frame.
-pub fn slot(g: &Ground, x: u32) -> u32
-    ensures { result ≡ slot (whole g.now) x }
+pub fn slot(g: &CodeContext, x: u32) -> u32
+    ensures { result ≡ slot (plain_program g.now) x }
 {
     number_at(&g.slots, x)
 }
 
 /// The type of a variable.
-pub fn variable_kind(g: &Ground, x: u32) -> u32
-    ensures { result ≡ type_by (slice_get (whole g.now).variables x) }
+pub fn variable_kind(g: &CodeContext, x: u32) -> u32
+    ensures { result ≡ type_by (slice_get (plain_program g.now).variables x) }
 {
     match g.checked.variables.get(x as usize) {
         None => 0,
@@ -85,8 +85,8 @@ pub fn input_instr(f: StandardFn) -> Instr
 }
 
 /// The least and the greatest ordinal of a type.
-pub fn greatest(g: &Ground, k: u32) -> i64
-    ensures { result ≡ greatest_of (kind_at (whole g.now) k) }
+pub fn greatest(g: &CodeContext, k: u32) -> i64
+    ensures { result ≡ greatest_of (kind_at (plain_program g.now) k) }
 {
     match g.checked.kinds.get(k as usize) {
         Some(KindOf::Integer) => 9_223_372_036_854_775_807,
@@ -97,8 +97,8 @@ pub fn greatest(g: &Ground, k: u32) -> i64
     }
 }
 
-pub fn least(g: &Ground, k: u32) -> i64
-    ensures { result ≡ least_of (kind_at (whole g.now) k) }
+pub fn least(g: &CodeContext, k: u32) -> i64
+    ensures { result ≡ least_of (kind_at (plain_program g.now) k) }
 {
     match g.checked.kinds.get(k as usize) {
         Some(KindOf::Integer) => -9_223_372_036_854_775_807,
@@ -107,8 +107,8 @@ pub fn least(g: &Ground, k: u32) -> i64
 }
 
 /// What an address is replaced by where a variable is read.
-pub fn read_instr(g: &Ground, k: u32) -> Instr
-    ensures { result ≡ read_instr (sort (whole g.now) k) (size (whole g.now) k) }
+pub fn read_instr(g: &CodeContext, k: u32) -> Instr
+    ensures { result ≡ read_instr (sort (plain_program g.now) k) (size (plain_program g.now) k) }
 {
     match g.checked.kinds.get(k as usize) {
         None => Instr::Nocase,
@@ -120,8 +120,8 @@ pub fn read_instr(g: &Ground, k: u32) -> Instr
 }
 
 /// The instruction that assigns a value of a type.
-pub fn assign_instr(g: &Ground, k: u32) -> Instr
-    ensures { result ≡ assign_instr (sort (whole g.now) k) (size (whole g.now) k) }
+pub fn assign_instr(g: &CodeContext, k: u32) -> Instr
+    ensures { result ≡ assign_instr (sort (plain_program g.now) k) (size (plain_program g.now) k) }
 {
     match g.checked.kinds.get(k as usize) {
         None => Instr::Nocase,
@@ -132,8 +132,8 @@ pub fn assign_instr(g: &Ground, k: u32) -> Instr
 }
 
 /// Whether values of a type are many cells.
-pub fn is_many(g: &Ground, k: u32) -> bool
-    ensures { result ≡ is_many (sort (whole g.now) k) }
+pub fn is_many(g: &CodeContext, k: u32) -> bool
+    ensures { result ≡ is_many (sort (plain_program g.now) k) }
 {
     matches!(
         g.checked.kinds.get(k as usize),
@@ -142,8 +142,8 @@ pub fn is_many(g: &Ground, k: u32) -> bool
 }
 
 /// The type of an element.
-pub fn element_type(g: &Ground, k: u32) -> u32
-    ensures { result ≡ element_type k (kind_at (whole g.now) k) }
+pub fn element_type(g: &CodeContext, k: u32) -> u32
+    ensures { result ≡ element_type k (kind_at (plain_program g.now) k) }
 {
     match g.checked.kinds.get(k as usize) {
         Some(KindOf::Array { element, .. }) => *element,
@@ -152,9 +152,9 @@ pub fn element_type(g: &Ground, k: u32) -> u32
 }
 
 /// The selection of an element.
-pub fn index_instr(g: &Ground, k: u32) -> Instr
-    ensures { result ≡ index_instr (kind_at (whole g.now) k)
-        (size (whole g.now) (element_type k (kind_at (whole g.now) k))) }
+pub fn index_instr(g: &CodeContext, k: u32) -> Instr
+    ensures { result ≡ index_instr (kind_at (plain_program g.now) k)
+        (size (plain_program g.now) (element_type k (kind_at (plain_program g.now) k))) }
 {
     match g.checked.kinds.get(k as usize) {
         Some(
@@ -174,8 +174,8 @@ pub fn index_instr(g: &Ground, k: u32) -> Instr
 }
 
 /// The type of a field.
-pub fn field_type(g: &Ground, k: u32, f: u32) -> u32
-    ensures { result ≡ field_type k (kind_at (whole g.now) k) f }
+pub fn field_type(g: &CodeContext, k: u32, f: u32) -> u32
+    ensures { result ≡ field_type k (kind_at (plain_program g.now) k) f }
 {
     match g.checked.kinds.get(k as usize) {
         Some(KindOf::Fields(fields)) => match fields.get(f as usize) {
@@ -187,9 +187,9 @@ pub fn field_type(g: &Ground, k: u32, f: u32) -> u32
 }
 
 /// How many cells of a record stand before a field.
-fn offset(g: &Ground, k: u32, f: u32) -> Result<u32, Memory>
-    ensures { IfOk result (λ n. (fs : List (List ℕ × ℕ)) → kind_at (whole g.now) k ≡ Some (Fields fs)
-        → n ≡ field_offset (whole g.now) fs f) }
+fn offset(g: &CodeContext, k: u32, f: u32) -> Result<u32, Memory>
+    ensures { IfOk result (λ n. (fs : List (List ℕ × ℕ)) → kind_at (plain_program g.now) k ≡ Some (Fields fs)
+        → n ≡ field_offset (plain_program g.now) fs f) }
 {
     match g.offsets.get(k as usize) {
         None => Err(Memory),
@@ -201,8 +201,8 @@ fn offset(g: &Ground, k: u32, f: u32) -> Result<u32, Memory>
 }
 
 /// The selection of a field.
-pub fn field_instr(g: &Ground, k: u32, f: u32) -> Result<Instr, Memory>
-    ensures { IfOk result (λ i. i ≡ field_instr (whole g.now) f (kind_at (whole g.now) k)) }
+pub fn field_instr(g: &CodeContext, k: u32, f: u32) -> Result<Instr, Memory>
+    ensures { IfOk result (λ i. i ≡ field_instr (plain_program g.now) f (kind_at (plain_program g.now) k)) }
 {
     match g.checked.kinds.get(k as usize) {
         Some(KindOf::Fields(_)) => {
@@ -214,8 +214,8 @@ pub fn field_instr(g: &Ground, k: u32, f: u32) -> Result<Instr, Memory>
 }
 
 /// The writing of an item of a type, in a width or not.
-pub fn write_instr(g: &Ground, k: u32, width: bool) -> Instr
-    ensures { result ≡ write_instr (kind_at (whole g.now) k) width }
+pub fn write_instr(g: &CodeContext, k: u32, width: bool) -> Instr
+    ensures { result ≡ write_instr (kind_at (plain_program g.now) k) width }
 {
     match g.checked.kinds.get(k as usize) {
         Some(KindOf::Integer) => {
@@ -244,8 +244,8 @@ pub fn write_instr(g: &Ground, k: u32, width: bool) -> Instr
 }
 
 /// The reading of an item of a type.
-pub fn reading_instr(g: &Ground, k: u32) -> Instr
-    ensures { result ≡ reading_instr (kind_at (whole g.now) k) }
+pub fn reading_instr(g: &CodeContext, k: u32) -> Instr
+    ensures { result ≡ reading_instr (kind_at (plain_program g.now) k) }
 {
     match g.checked.kinds.get(k as usize) {
         Some(KindOf::Integer) => Instr::ReadInt,
@@ -276,8 +276,8 @@ fn address_by(sc: &[Scope], x: u32, slot: u32, v: &Variable) -> Result<Instr, Me
 }
 
 /// The address of an entire variable.
-pub fn address(g: &Ground, sc: &[Scope], x: u32) -> Result<Instr, Memory>
-    ensures { IfOk result (λ i. i ≡ addr_code (whole g.now) (scopes sc.now) x) }
+pub fn address(g: &CodeContext, sc: &[Scope], x: u32) -> Result<Instr, Memory>
+    ensures { IfOk result (λ i. i ≡ addr_code (plain_program g.now) (scopes sc.now) x) }
 {
     match g.checked.variables.get(x as usize) {
         None => Ok(Instr::Nocase),
@@ -300,8 +300,8 @@ fn call_in(sc: &[Scope], f: u32, parent: Option<u32>) -> Result<Instr, Memory>
 
 /// The call of a block.
 #[tactic(auto, using(crate::proofs::Tables::block_at, crate::proofs::Tables::no_block))]
-pub fn call_instr(g: &Ground, sc: &[Scope], f: u32) -> Result<Instr, Memory>
-    ensures { IfOk result (λ i. i ≡ call_instr (scopes sc.now) f (slice_get (whole g.now).blocks f)) }
+pub fn call_instr(g: &CodeContext, sc: &[Scope], f: u32) -> Result<Instr, Memory>
+    ensures { IfOk result (λ i. i ≡ call_instr (scopes sc.now) f (slice_get (plain_program g.now).blocks f)) }
 {
     match g.checked.blocks.get(f as usize) {
         None => Ok(Instr::Call { block: f, up: 0 }),

@@ -2,25 +2,25 @@
 
 ghost use Rattle.std.specs.Prelude.{◌≡◌, ◌+◌, ◌++◌, ◌∷◌, [], map, option_map, length, IfOk, OnOk};
 ghost use Rattle.sp_tree.specs.CheckedOf.{expression_of, variable_of, width_of, statement_of, statement_form_of};
-ghost use Rattle.sp_tree.specs.CheckedOf.{statements, sends, receives, arms, arm_of, other};
+ghost use Rattle.sp_tree.specs.CheckedOf.{statements, sends, receives, arms, arm_of, else_part};
 ghost use Rattle.sp_tree.specs.PlainChecked as c;
 ghost use Rattle.sp_tree.specs.Bare.{bare_arms, bare_expression, bare_statement};
 ghost use Rattle.sp_code.specs.Emitted.{value_code};
-ghost use Rattle.sp_generate.specs.declared.draft.Draft.{Draft as ADraft};
-ghost use Rattle.sp_code.specs.Places.{after};
+ghost use Rattle.sp_generate.specs.declared.code_buffer.CodeBuffer.{CodeBuffer as ADraft};
+ghost use Rattle.sp_code.specs.Places.{after_statement};
 ghost use Rattle.sp_code.specs.declared.instr.Instr.TheVariants as i;
 ghost use Rattle.sp_generate.specs.declared.levels.Scope.TheVariants as scope;
 ghost use Rattle.sp_generate.specs.Steps.{for_instr, next_instr};
-ghost use Rattle.sp_generate.specs.Views.{whole, scopes};
+ghost use Rattle.sp_generate.specs.Views.{plain_program, scopes};
 ghost use Rattle.sp_generate.specs.Written.{with_code, starts_of, ends_of};
 ghost use Rattle.sp_generate.specs.Puts.{with_statement, with_form, with_all, with_children, with_arms, with_branch};
 ghost use Rattle.sp_generate.specs.Puts.{with_passed, with_loop, with_spread, with_choices, child_of, index_child};
 ghost use Rattle.sp_generate.specs.Puts.{children_of};
 
 use crate::choices::{fill_ends, fill_tests, put_blanks};
-use crate::draft::{Draft, mend, mend_table};
+use crate::code_buffer::{CodeBuffer, patch, patch_table};
+use crate::code_context::CodeContext;
 use crate::expressions::{put, put_call, put_value};
-use crate::ground::Ground;
 use crate::handed::{but_index, moved, shared};
 use crate::levels::Scope;
 use crate::numbers::{narrow, sum};
@@ -37,10 +37,10 @@ use sp_varsets::Sets;
 /// A statement.
 #[cycle(statement)]
 pub fn put_statement(
-    g: &Ground,
+    g: &CodeContext,
     sets: &Sets,
     sc: &[Scope],
-    d: &mut Draft,
+    d: &mut CodeBuffer,
     s: &Stmt,
 ) -> Result<(), Memory>
     ensures { OnOk result (d.new ≡ with_statement g.now sets.now sc.now d.old (statement_of s.now)) }
@@ -49,12 +49,12 @@ pub fn put_statement(
 }
 
 #[cycle(statement)]
-#[tactic(auto, using(crate::proofs::Forms::empty_is), unfolding(crate::specs::Written::written_form))]
+#[tactic(auto, using(crate::proofs::Forms::empty_is), unfolding(crate::specs::Written::buffer_after_form))]
 fn put_statement_form(
-    g: &Ground,
+    g: &CodeContext,
     sets: &Sets,
     sc: &[Scope],
-    d: &mut Draft,
+    d: &mut CodeBuffer,
     form: &Form,
 ) -> Result<(), Memory>
     ensures { OnOk result (d.new ≡ with_form g.now sets.now sc.now d.old (statement_form_of form.now)) }
@@ -115,10 +115,10 @@ fn put_statement_form(
 /// Several values on one channel: single statements at one place, numbered from a number on.
 #[tactic(auto, using(crate::proofs::Forms::sends_are))]
 fn put_send_each(
-    g: &Ground,
+    g: &CodeContext,
     sets: &Sets,
     sc: &[Scope],
-    d: &mut Draft,
+    d: &mut CodeBuffer,
     at: Place,
     number: u32,
     channel: &Expr,
@@ -134,10 +134,10 @@ fn put_send_each(
 /// Several variables from one channel: single statements at one place, numbered from a number on.
 #[tactic(auto, using(crate::proofs::Forms::receives_are))]
 fn put_receive_each(
-    g: &Ground,
+    g: &CodeContext,
     sets: &Sets,
     sc: &[Scope],
-    d: &mut Draft,
+    d: &mut CodeBuffer,
     at: Place,
     number: u32,
     channel: &Expr,
@@ -153,10 +153,10 @@ fn put_receive_each(
 /// A text that is written gets the next number.
 #[tactic(auto, using(crate::proofs::Forms::text_is))]
 fn put_written(
-    g: &Ground,
+    g: &CodeContext,
     sets: &Sets,
     sc: &[Scope],
-    d: &mut Draft,
+    d: &mut CodeBuffer,
     text: &Text,
     w: &Option<Expr>,
 ) -> Result<(), Memory>
@@ -171,7 +171,13 @@ fn put_written(
 
 /// The first of several statements.
 #[cycle(statement)]
-fn put_next(g: &Ground, sets: &Sets, sc: &[Scope], d: &mut Draft, s: &Stmt) -> Result<(), Memory>
+fn put_next(
+    g: &CodeContext,
+    sets: &Sets,
+    sc: &[Scope],
+    d: &mut CodeBuffer,
+    s: &Stmt,
+) -> Result<(), Memory>
     ensures { (rest : c.Statements)
         → OnOk result (with_all g.now sets.now sc.now d.new rest
         ≡ with_all g.now sets.now sc.now d.old (c.AndThen (statement_of s.now) rest)) }
@@ -182,10 +188,10 @@ fn put_next(g: &Ground, sets: &Sets, sc: &[Scope], d: &mut Draft, s: &Stmt) -> R
 
 #[cycle(statement)]
 fn put_sequence(
-    g: &Ground,
+    g: &CodeContext,
     sets: &Sets,
     sc: &[Scope],
-    d: &mut Draft,
+    d: &mut CodeBuffer,
     ss: &List<Stmt>,
 ) -> Result<(), Memory>
     ensures { OnOk result (d.new ≡ with_form g.now sets.now sc.now d.old
@@ -197,10 +203,10 @@ fn put_sequence(
 
 #[cycle(statement)]
 fn put_all(
-    g: &Ground,
+    g: &CodeContext,
     sets: &Sets,
     sc: &[Scope],
-    d: &mut Draft,
+    d: &mut CodeBuffer,
     ss: &List<Stmt>,
 ) -> Result<(), Memory>
     ensures { OnOk result (with_all g.now sets.now sc.now d.new c.NoStatement
@@ -215,10 +221,10 @@ fn put_all(
 /// A statement that is left out where the condition on the stack is false. The jump goes so many instructions beyond.
 #[cycle(statement)]
 fn put_branch(
-    g: &Ground,
+    g: &CodeContext,
     sets: &Sets,
     sc: &[Scope],
-    d: &mut Draft,
+    d: &mut CodeBuffer,
     s: &Stmt,
     beyond: u32,
 ) -> Result<(), Memory>
@@ -229,37 +235,43 @@ fn put_branch(
     put_statement(g, sets, sc, d, s)?;
     let end = narrow(d.instrs.len())?;
     let to = sum(end, beyond)?;
-    mend(&mut d.instrs, at, Instr::Jumpf(to));
+    patch(&mut d.instrs, at, Instr::Jumpf(to));
     Ok(())
 }
 
 /// A statement that is passed over by a jump.
 #[cycle(statement)]
-fn put_passed(g: &Ground, sets: &Sets, sc: &[Scope], d: &mut Draft, s: &Stmt) -> Result<(), Memory>
+fn put_passed(
+    g: &CodeContext,
+    sets: &Sets,
+    sc: &[Scope],
+    d: &mut CodeBuffer,
+    s: &Stmt,
+) -> Result<(), Memory>
     ensures { OnOk result (d.new ≡ with_passed g.now sets.now sc.now d.old (statement_of s.now)) }
 {
     let at = d.instrs.len();
     put(&mut d.instrs, Instr::Jump(0))?;
     put_statement(g, sets, sc, d, s)?;
     let end = narrow(d.instrs.len())?;
-    mend(&mut d.instrs, at, Instr::Jump(end));
+    patch(&mut d.instrs, at, Instr::Jump(end));
     Ok(())
 }
 
 /// The statement behind `else`, where the condition and the first statement stand.
 #[cycle(statement)]
 fn put_else(
-    g: &Ground,
+    g: &CodeContext,
     sets: &Sets,
     sc: &[Scope],
-    d: &mut Draft,
+    d: &mut CodeBuffer,
     b: &Stmt,
     e: &Expr,
     a: &Stmt,
 ) -> Result<(), Memory>
     ensures { (start : ADraft) → d.old
         ≡ with_branch g.now sets.now sc.now
-        (with_code start (value_code (whole g.now) (scopes sc.now) (bare_expression (expression_of e.now))))
+        (with_code start (value_code (plain_program g.now) (scopes sc.now) (bare_expression (expression_of e.now))))
         (statement_of a.now) 1
         → OnOk result (d.new ≡ with_form g.now sets.now sc.now start
         (c.If (expression_of e.now) (statement_of a.now) (c.Else (statement_of b.now)))) }
@@ -270,10 +282,10 @@ fn put_else(
 
 #[cycle(statement)]
 fn put_if(
-    g: &Ground,
+    g: &CodeContext,
     sets: &Sets,
     sc: &[Scope],
-    d: &mut Draft,
+    d: &mut CodeBuffer,
     a: &Stmt,
     e: &Expr,
 ) -> Result<(), Memory>
@@ -287,10 +299,10 @@ fn put_if(
 /// The statement of a `while` behind its condition, which stands at `start`.
 #[cycle(statement)]
 fn put_while_body(
-    g: &Ground,
+    g: &CodeContext,
     sets: &Sets,
     sc: &[Scope],
-    d: &mut Draft,
+    d: &mut CodeBuffer,
     s: &Stmt,
     start: u32,
 ) -> Result<(), Memory>
@@ -302,16 +314,16 @@ fn put_while_body(
     put_statement(g, sets, sc, d, s)?;
     put(&mut d.instrs, Instr::Jump(start))?;
     let end = narrow(d.instrs.len())?;
-    mend(&mut d.instrs, at, Instr::Jumpf(end));
+    patch(&mut d.instrs, at, Instr::Jumpf(end));
     Ok(())
 }
 
 #[cycle(statement)]
 fn put_while(
-    g: &Ground,
+    g: &CodeContext,
     sets: &Sets,
     sc: &[Scope],
-    d: &mut Draft,
+    d: &mut CodeBuffer,
     s: &Stmt,
     e: &Expr,
 ) -> Result<(), Memory>
@@ -325,10 +337,10 @@ fn put_while(
 
 #[cycle(statement)]
 fn put_repeat(
-    g: &Ground,
+    g: &CodeContext,
     sets: &Sets,
     sc: &[Scope],
-    d: &mut Draft,
+    d: &mut CodeBuffer,
     s: &Stmt,
     e: &Expr,
 ) -> Result<(), Memory>
@@ -365,10 +377,10 @@ fn next_instr(down: bool, var: u32, to: u32) -> Instr
 /// The statement of a `for` loop behind its limits, whose variable has this number in its frame.
 #[cycle(statement)]
 fn put_for_body(
-    g: &Ground,
+    g: &CodeContext,
     sets: &Sets,
     sc: &[Scope],
-    d: &mut Draft,
+    d: &mut CodeBuffer,
     s: &Stmt,
     down: bool,
     var: u32,
@@ -383,16 +395,16 @@ fn put_for_body(
     put_statement(g, sets, sc, d, s)?;
     put(&mut d.instrs, next_instr(down, var, tick))?;
     let end = narrow(d.instrs.len())?;
-    mend(&mut d.instrs, at, for_instr(down, var, end));
+    patch(&mut d.instrs, at, for_instr(down, var, end));
     Ok(())
 }
 
 #[cycle(statement)]
 fn put_for(
-    g: &Ground,
+    g: &CodeContext,
     sets: &Sets,
     sc: &[Scope],
-    d: &mut Draft,
+    d: &mut CodeBuffer,
     s: &Stmt,
     x: u32,
     at: Place,
@@ -411,10 +423,10 @@ fn put_for(
 /// The processes of a `parallel`, with an `end` behind each. The answer is their lines of the fork table.
 #[cycle(statement)]
 fn put_children(
-    g: &Ground,
+    g: &CodeContext,
     sets: &Sets,
     sc: &[Scope],
-    d: &mut Draft,
+    d: &mut CodeBuffer,
     ss: &List<Stmt>,
 ) -> Result<List<ChildTable>, Memory>
     ensures code { OnOk result (with_children g.now sets.now sc.now d.new c.NoStatement
@@ -433,7 +445,7 @@ fn put_children(
 }
 
 /// The line of a fork table for a process that begins at `entry`.
-fn child_line(g: &Ground, sets: &Sets, s: &Stmt, entry: u32) -> Result<ChildTable, Memory>
+fn child_line(g: &CodeContext, sets: &Sets, s: &Stmt, entry: u32) -> Result<ChildTable, Memory>
     ensures { IfOk result (λ x. x ≡ child_of g.now sets.now entry (statement_of s.now)) }
 {
     let moved = moved(g.alloc, sets, s.number)?;
@@ -448,12 +460,18 @@ fn child_line(g: &Ground, sets: &Sets, s: &Stmt, entry: u32) -> Result<ChildTabl
 
 /// A process statement with an `end` behind.
 #[cycle(statement)]
-fn put_child(g: &Ground, sets: &Sets, sc: &[Scope], d: &mut Draft, s: &Stmt) -> Result<(), Memory>
+fn put_child(
+    g: &CodeContext,
+    sets: &Sets,
+    sc: &[Scope],
+    d: &mut CodeBuffer,
+    s: &Stmt,
+) -> Result<(), Memory>
     ensures code { (rest : c.Statements)
         → OnOk result (with_children g.now sets.now sc.now d.new rest
         ≡ with_children g.now sets.now sc.now d.old (c.AndThen (statement_of s.now) rest)) }
     ensures place { OnOk result (length d.new.instrs
-        ≡ after (whole g.now) (length d.old.instrs) (bare_statement (statement_of s.now)) + 1) }
+        ≡ after_statement (plain_program g.now) (length d.old.instrs) (bare_statement (statement_of s.now)) + 1) }
 {
     put_statement(g, sets, sc, d, s)?;
     put(&mut d.instrs, Instr::End)?;
@@ -462,10 +480,10 @@ fn put_child(g: &Ground, sets: &Sets, sc: &[Scope], d: &mut Draft, s: &Stmt) -> 
 
 #[cycle(statement)]
 fn put_parallel(
-    g: &Ground,
+    g: &CodeContext,
     sets: &Sets,
     sc: &[Scope],
-    d: &mut Draft,
+    d: &mut CodeBuffer,
     ss: &List<Stmt>,
 ) -> Result<(), Memory>
     ensures { OnOk result (d.new ≡ with_form g.now sets.now sc.now d.old
@@ -481,13 +499,19 @@ fn put_parallel(
     put(&mut d.instrs, Instr::Jump(0))?;
     let children = put_children(g, sets, sc, d, ss)?;
     let end = narrow(d.instrs.len())?;
-    mend(&mut d.instrs, at, Instr::Jump(end));
-    mend_table(&mut d.forks, table, ForkTable { children });
+    patch(&mut d.instrs, at, Instr::Jump(end));
+    patch_table(&mut d.forks, table, ForkTable { children });
     Ok(())
 }
 
 /// The fork table of a forall whose element statement begins at `entry`.
-fn index_table(g: &Ground, sets: &Sets, x: u32, s: &Stmt, entry: u32) -> Result<ForkTable, Memory>
+fn index_table(
+    g: &CodeContext,
+    sets: &Sets,
+    x: u32,
+    s: &Stmt,
+    entry: u32,
+) -> Result<ForkTable, Memory>
     ensures { IfOk result (λ t. t.children ≡ index_child g.now sets.now x entry (statement_of s.now) ∷ []) }
 {
     let moved = moved(g.alloc, sets, s.number)?;
@@ -504,7 +528,7 @@ fn index_table(g: &Ground, sets: &Sets, x: u32, s: &Stmt, entry: u32) -> Result<
     Ok(ForkTable { children })
 }
 
-fn inside(g: &Ground, sc: &[Scope], x: u32) -> Result<Vec<Scope>, Memory>
+fn inside(g: &CodeContext, sc: &[Scope], x: u32) -> Result<Vec<Scope>, Memory>
     ensures { IfOk result (λ inner. inner.items ≡ scope.Index x ∷ sc.now) }
 {
     let mut inner = Vec::new(g.alloc);
@@ -516,10 +540,10 @@ fn inside(g: &Ground, sc: &[Scope], x: u32) -> Result<Vec<Scope>, Memory>
 /// A forall behind its limits.
 #[cycle(statement)]
 fn put_spread(
-    g: &Ground,
+    g: &CodeContext,
     sets: &Sets,
     sc: &[Scope],
-    d: &mut Draft,
+    d: &mut CodeBuffer,
     s: &Stmt,
     x: u32,
 ) -> Result<(), Memory>
@@ -537,16 +561,16 @@ fn put_spread(
     put_statement(g, sets, inner.as_slice(), d, s)?;
     put(&mut d.instrs, Instr::End)?;
     let end = narrow(d.instrs.len())?;
-    mend(&mut d.instrs, at, Instr::Jump(end));
+    patch(&mut d.instrs, at, Instr::Jump(end));
     Ok(())
 }
 
 #[cycle(statement)]
 fn put_forall(
-    g: &Ground,
+    g: &CodeContext,
     sets: &Sets,
     sc: &[Scope],
-    d: &mut Draft,
+    d: &mut CodeBuffer,
     s: &Stmt,
     x: u32,
     from: &Expr,
@@ -563,13 +587,19 @@ fn put_forall(
 /// A choice of a `case`, with a jump behind that is mended later.
 #[cycle(statement)]
 #[tactic(auto, using(crate::proofs::Forms::arm_next, crate::proofs::Forms::ended_by, crate::proofs::Forms::written_place))]
-fn put_arm(g: &Ground, sets: &Sets, sc: &[Scope], d: &mut Draft, a: &Arm) -> Result<u32, Memory>
+fn put_arm(
+    g: &CodeContext,
+    sets: &Sets,
+    sc: &[Scope],
+    d: &mut CodeBuffer,
+    a: &Arm,
+) -> Result<u32, Memory>
     ensures code { (rest : c.Arms) → OnOk result
         (with_arms g.now sets.now sc.now d.new rest 0
         ≡ with_arms g.now sets.now sc.now d.old (c.Or (c.On a.now.constants (statement_of a.now.body)) rest) 0) }
     ensures place { OnOk result (length d.new.instrs
-        ≡ after (whole g.now) (length d.old.instrs) (bare_statement (statement_of a.now.body)) + 1) }
-    ensures end { IfOk result (λ n. n ≡ after (whole g.now) (length d.old.instrs)
+        ≡ after_statement (plain_program g.now) (length d.old.instrs) (bare_statement (statement_of a.now.body)) + 1) }
+    ensures end { IfOk result (λ n. n ≡ after_statement (plain_program g.now) (length d.old.instrs)
         (bare_statement (statement_of a.now.body))) }
 {
     put_statement(g, sets, sc, d, &a.body)?;
@@ -581,18 +611,18 @@ fn put_arm(g: &Ground, sets: &Sets, sc: &[Scope], d: &mut Draft, a: &Arm) -> Res
 /// The statements of a `case`. The answer is where each begins, and where the jumps behind them stand.
 #[cycle(statement)]
 fn put_arms(
-    g: &Ground,
+    g: &CodeContext,
     sets: &Sets,
     sc: &[Scope],
-    d: &mut Draft,
+    d: &mut CodeBuffer,
     xs: &List<Arm>,
 ) -> Result<(Vec<u32>, Vec<u32>), Memory>
     ensures code { OnOk result (with_arms g.now sets.now sc.now d.new c.NoArm 0
         ≡ with_arms g.now sets.now sc.now d.old (arms (map arm_of xs.now)) 0) }
     ensures starts { IfOk result (λ y. y.0.items
-        ≡ starts_of (whole g.now) (length d.old.instrs) (bare_arms (arms (map arm_of xs.now)))) }
+        ≡ starts_of (plain_program g.now) (length d.old.instrs) (bare_arms (arms (map arm_of xs.now)))) }
     ensures ends { IfOk result (λ y. y.1.items
-        ≡ ends_of (whole g.now) (length d.old.instrs) (bare_arms (arms (map arm_of xs.now)))) }
+        ≡ ends_of (plain_program g.now) (length d.old.instrs) (bare_arms (arms (map arm_of xs.now)))) }
 {
     let mut starts = Vec::new(g.alloc);
     let mut ends = Vec::new(g.alloc);
@@ -608,10 +638,10 @@ fn put_arms(
 /// The tests and the statements of a `case` behind its selector.
 #[cycle(statement)]
 fn put_choices(
-    g: &Ground,
+    g: &CodeContext,
     sets: &Sets,
     sc: &[Scope],
-    d: &mut Draft,
+    d: &mut CodeBuffer,
     xs: &List<Arm>,
 ) -> Result<(), Memory>
     ensures { OnOk result (d.new ≡ with_choices g.now sets.now sc.now d.old (arms (map arm_of xs.now))) }
@@ -628,10 +658,10 @@ fn put_choices(
 
 #[cycle(statement)]
 fn put_case(
-    g: &Ground,
+    g: &CodeContext,
     sets: &Sets,
     sc: &[Scope],
-    d: &mut Draft,
+    d: &mut CodeBuffer,
     xs: &List<Arm>,
     e: &Expr,
 ) -> Result<(), Memory>

@@ -15,50 +15,53 @@ use Rattle.sp_grammar.specs.Symbols.{MoreConstants, MoreTypes, MoreVariables, AS
 use Rattle.sp_grammar.specs.Symbols.{MoreStatements, MoreBranches, MoreLabels, MoreArms, ArmOrEnd, ADirection}
 use Rattle.sp_grammar.specs.Symbols.{AnExpression, ARelation, ASimple, MoreTerms, ATerm, MoreFactors, AFactor, ANegated}
 use Rattle.sp_grammar.specs.Symbols.{AReference, Selectors, MoreIndices, MoreArguments, AWidth, Value, Values, part}
-use Rattle.sp_grammar.specs.Table.{Entry, Row, rows, look, gap}
-use Rattle.sp_grammar.specs.Machine.{allows, acts, acted, Next, On, after}
-use Rattle.sp_grammar.specs.Derives.{Begins}
+use Rattle.sp_grammar.specs.Table.{RowEntry, Row, rows, look, gap}
+use Rattle.sp_grammar.specs.Machine.{allows, acts, next_of_act, NextStack, On, next_behind}
+use Rattle.sp_grammar.specs.Derives.{PartMayBegin}
 use Rattle.sp_grammar.specs.Means.{Means, MeansAll}
 use Rattle.sp_grammar.specs.Means as m
 use Rattle.sp_grammar.proofs.From.{found, good, passed, AtGap}
 
 -- the tokens of a symbol, whatever it stands for
-abbrev pub Goes : List ℕ → (ℕ → List Token → Type 0) → Symbol → List Token → List Token → Type 0
-Goes text Ok s ts r = (v : Value s) × Means text Ok s ts r v
+abbrev pub TokensOf : List ℕ → (ℕ → List Token → Type 0) → Symbol → List Token → List Token → Type 0
+TokensOf text Ok s ts r = (v : Value s) × Means text Ok s ts r v
 
 -- the tokens of several, in order
-pub data All (text : List ℕ) (Ok : ℕ → List Token → Type 0) : List Symbol → List Token → List Token → Type 0 where
-  none : {r : List Token} → All text Ok [] r r
-  and : {s : Symbol} {l : List Symbol} {ts u r : List Token} → Goes text Ok s ts u → All text Ok l u r
-      → All text Ok (s ∷ l) ts r
+pub data TokensOfAll (text : List ℕ) (Ok : ℕ → List Token → Type 0) : List Symbol → List Token → List Token
+    → Type 0 where
+  none : {r : List Token} → TokensOfAll text Ok [] r r
+  and : {s : Symbol} {l : List Symbol} {ts u r : List Token} → TokensOf text Ok s ts u → TokensOfAll text Ok l u r
+      → TokensOfAll text Ok (s ∷ l) ts r
 
 -- where Ok holds of each part that the machine lets begin
 module _ (text : List ℕ) (Ok : ℕ → List Token → Type 0) (reach : Option ℕ)
     (fits : (d : ℕ) (t : Token) (ts : List Token) → allows reach (Some d) ≡ true → Ok d (t ∷ ts)) where
-  split_goes : (l l' : List Symbol) (ts r : List Token) → All text Ok (l ++ l') ts r → (u : List Token)
-      × All text Ok l ts u × All text Ok l' u r
+  split_goes : (l l' : List Symbol) (ts r : List Token) → TokensOfAll text Ok (l ++ l') ts r → (u : List Token)
+      × TokensOfAll text Ok l ts u × TokensOfAll text Ok l' u r
   split_goes [] l' ts r h = (_, none, h)
   split_goes (s ∷ l) l' ts r (and x h) = let i = split_goes l l' _ r h in (i.0, and x i.1, i.2)
 
-  valued : {l : List Symbol} {ts r : List Token} → All text Ok l ts r → (vs : Values l) × MeansAll text Ok l ts r vs
+  valued : {l : List Symbol} {ts r : List Token} → TokensOfAll text Ok l ts r → (vs : Values l)
+      × MeansAll text Ok l ts r vs
   valued none = (tt, m.none)
   valued (and x h) = let i = valued h in ((x.0, i.0), m.and x.1 i.1)
 
-  begins : (p : Option ℕ) (t : Token) (ts : List Token) → allows reach p ≡ true → Begins Ok p (t ∷ ts)
+  begins : (p : Option ℕ) (t : Token) (ts : List Token) → allows reach p ≡ true → PartMayBegin Ok p (t ∷ ts)
   begins None t ts h = tt
   begins (Some d) t ts h = fits d t ts h
 
   gap_goes : (s : Symbol) (t : Token) (r : List Token) (v : Value s) → look (rows s) t.kind ≡ None → gap s t ≡ Some v
-      → Goes text Ok s (t ∷ r) (t ∷ r)
+      → TokensOf text Ok s (t ∷ r) (t ∷ r)
   gap_goes s t r v q e = (v, subst (AtGap text Ok (Means text Ok s (t ∷ r) (t ∷ r))) e (passed text Ok s t r q))
 
   back_by : (s : Symbol) (stack : List Symbol) (t : Token) (stack' : List Symbol) (ts r : List Token)
-      (o : Option (Entry (Row s))) (b : Bool) (v : Option (Value s)) (n : Next) → look (rows s) t.kind ≡ o
-      → allows reach (part s) ≡ b → gap s t ≡ v → acted (acts b o v) stack n ≡ On stack'
-      → (n ≡ On stack' → All text Ok stack (t ∷ ts) r) → All text Ok stack' ts r → All text Ok (s ∷ stack) (t ∷ ts) r
+      (o : Option (RowEntry (Row s))) (b : Bool) (v : Option (Value s)) (n : NextStack) → look (rows s) t.kind ≡ o
+      → allows reach (part s) ≡ b → gap s t ≡ v → next_of_act (acts b o v) stack n ≡ On stack'
+      → (n ≡ On stack' → TokensOfAll text Ok stack (t ∷ ts) r) → TokensOfAll text Ok stack' ts r
+      → TokensOfAll text Ok (s ∷ stack) (t ∷ ts) r
   back_by s stack t stack' ts r (Some e) true v n q p i h go a =
       let same : e.left ++ stack ≡ stack' = cc in
-      let x = split_goes e.left stack ts r (subst (λ k. All text Ok k ts r) (back_of same) a) in
+      let x = split_goes e.left stack ts r (subst (λ k. TokensOfAll text Ok k ts r) (back_of same) a) in
       let y = valued x.1 in
       and (_, good text Ok e.row t (found (rows s) t.kind e q) (begins (part s) t ts p) y.1) x.2
   back_by s stack t stack' ts r (Some e) false v n q p i h go a = absurd cc
@@ -66,11 +69,11 @@ module _ (text : List ℕ) (Ok : ℕ → List Token → Type 0) (reach : Option 
   back_by s stack t stack' ts r None b None n q p i h go a = absurd cc
 
   -- a token that the machine takes
-  pub back : (stack : List Symbol) (t : Token) (stack' : List Symbol) → after reach stack t ≡ On stack'
-      → (ts r : List Token) → All text Ok stack' ts r → All text Ok stack (t ∷ ts) r
+  pub back : (stack : List Symbol) (t : Token) (stack' : List Symbol) → next_behind reach stack t ≡ On stack'
+      → (ts r : List Token) → TokensOfAll text Ok stack' ts r → TokensOfAll text Ok stack (t ∷ ts) r
   back [] t stack' e ts r h = absurd cc
   back (s ∷ stack) t stack' e ts r h = back_by s stack t stack' ts r (look (rows s) t.kind) (allows reach (part s))
-      (gap s t) (after reach stack t) refl refl refl e (λ q. back stack t stack' q ts r h) h
+      (gap s t) (next_behind reach stack t) refl refl refl e (λ q. back stack t stack' q ts r h) h
 
 -- each stack can be completed
 abbrev tok : Kind → Token
@@ -127,7 +130,7 @@ module _ (text : List ℕ) (Ok : ℕ → List Token → Type 0) where
   body d r = (_, g.body (g.compound (is w.Begin) (g.sequence (g.empty (tok w.End)) g.statements_end) (is w.End)))
 
   statement : (d : ℕ) (r : List Token) → Ok d (tok w.Begin ∷ tok w.End ∷ r)
-      → Goes text Ok (AStatement d) (tok w.Begin ∷ tok w.End ∷ r) r
+      → TokensOf text Ok (AStatement d) (tok w.Begin ∷ tok w.End ∷ r) r
   statement d r ok = (
     _,
     g.statement (tok w.Begin) ok
@@ -136,7 +139,7 @@ module _ (text : List ℕ) (Ok : ℕ → List Token → Type 0) where
 
   -- where Ok holds of each part that begins in the completion
   completed : (s : Symbol) (r : List Token) → ((d : ℕ) (us : List Token) → length us ≤ length (finish s ++ r) → Ok d us)
-      → Goes text Ok s (finish s ++ r) r
+      → TokensOf text Ok s (finish s ++ r) r
   completed (AToken k) r ok = (tt, is k)
   completed AName r ok = (_, named)
   completed AProgram r ok = (
@@ -190,7 +193,7 @@ module _ (text : List ℕ) (Ok : ℕ → List Token → Type 0) where
   completed (AWidth d) r ok = (_, g.no_width)
 
   pub complete : (stack : List Symbol) → ((d : ℕ) (us : List Token) → length us ≤ length (finish_all stack) → Ok d us)
-      → All text Ok stack (finish_all stack) []
+      → TokensOfAll text Ok stack (finish_all stack) []
   complete [] ok = none
   complete (s ∷ stack) ok = and (completed s (finish_all stack) ok)
       (complete stack (λ d us h. ok d us (omega (arith, length-append (finish s) (finish_all stack)))))

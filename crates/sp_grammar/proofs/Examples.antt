@@ -8,7 +8,7 @@ use Rattle.sp_tree.specs.Places.{start}
 use Rattle.sp_tree.specs.PlainSyntax.{Program}
 use Rattle.sp_tree.specs.Viable.{Any, Spells}
 use Rattle.sp_grammar.specs.Symbols.{AProgram}
-use Rattle.sp_grammar.specs.Machine.{Why, Bad, Deep, Done, Stuck, run}
+use Rattle.sp_grammar.specs.Machine.{Why, Bad, Deep, Done, StuckAt, run}
 use Rattle.sp_grammar.proofs.Existence.{spelled}
 
 -- tokens that the machine takes whole spell a program
@@ -32,7 +32,7 @@ Accepted ks = run (Some 200) (tokens ks) (AProgram ∷ []) ≡ Done
 
 -- the machine gets stuck where these are left
 abbrev Refused : Why → List Kind → List Kind → Type 0
-Refused why ks rest = run (Some 200) (tokens ks) (AProgram ∷ []) ≡ Stuck why (tokens rest)
+Refused why ks rest = run (Some 200) (tokens ks) (AProgram ∷ []) ≡ StuckAt why (tokens rest)
 
 -- program a; var x: integer; begin x := 6; write(x * 7) end.
 whole_program : Accepted (w.Program ∷ kind.Name ∷ w.Semicolon ∷ w.Var ∷ kind.Name ∷ w.Colon ∷ kind.Name ∷ w.Semicolon

@@ -11,30 +11,31 @@ use Rattle.sp_tree.specs.Places.{start, place_at}
 use Rattle.sp_tree.specs.Scans.{Scans}
 use Rattle.sp_tree.specs.Grammar.{IsProgram}
 use Rattle.sp_tree.specs.Viable.{Any, Shallow, Spells, IsViable, IsShallow, IsFirstBad}
-use Rattle.sp_tree.specs.First.{before, IsFirst}
+use Rattle.sp_tree.specs.First.{refusal_before, IsFirst}
 use Rattle.sp_tree.specs.Breaches.{nesting, BreaksGrammar}
 use Rattle.sp_tree.proofs.Earlier.{Earlier}
 use Rattle.sp_grammar.specs.Symbols.{Symbol, AProgram}
-use Rattle.sp_grammar.specs.Machine.{Why, Bad, Deep, No, after, Stuck, run}
-use Rattle.sp_grammar.specs.Stops.{refusal_of, Stops}
+use Rattle.sp_grammar.specs.Machine.{Why, Bad, Deep, No, next_behind, StuckAt, run}
+use Rattle.sp_grammar.specs.Stops.{refusal_of, GetsStuck}
 use Rattle.sp_grammar.proofs.Wider.{viable_prefix, shallow_prefix, shallow_viable, wider_program}
-use Rattle.sp_grammar.proofs.Viable.{Passes, Splits, splits, is_shallow, bad, deep_viable, deep_not_shallow, no_program}
+use Rattle.sp_grammar.proofs.Viable.{TakesTokens, Splits, splits, is_shallow, bad, deep_viable, deep_not_shallow}
+use Rattle.sp_grammar.proofs.Viable.{no_program}
 use Rattle.sp_grammar.proofs.Viable.{append_nil}
 use Rattle.sp_grammar.proofs.Order.{later, no_sooner, rises}
 use Rattle.sp_grammar.proofs.Rising.{Rising, rising}
 
 -- a token of two lists: in the first, or in the second
-data Stands (front rest left : List Token) (t : Token) (right : List Token) : Type 0 where
-  in_front : (mid : List Token) → front ≡ (left ++ t ∷ []) ++ mid → Stands front rest left t right
-  behind : (mid : List Token) → left ≡ front ++ mid → rest ≡ mid ++ t ∷ right → Stands front rest left t right
+data InFrontOrBehind (front rest left : List Token) (t : Token) (right : List Token) : Type 0 where
+  in_front : (mid : List Token) → front ≡ (left ++ t ∷ []) ++ mid → InFrontOrBehind front rest left t right
+  behind : (mid : List Token) → left ≡ front ++ mid → rest ≡ mid ++ t ∷ right → InFrontOrBehind front rest left t right
 
 one_more : (x y : Token) {front rest left : List Token} {t : Token} {right : List Token} → x ≡ y
-    → Stands front rest left t right → Stands (x ∷ front) rest (y ∷ left) t right
+    → InFrontOrBehind front rest left t right → InFrontOrBehind (x ∷ front) rest (y ∷ left) t right
 one_more x y e (in_front mid h) = in_front mid (λ i. e i ∷ h i)
 one_more x y e (behind mid h g) = behind mid (λ i. back_of e i ∷ h i) g
 
 stands : (front rest left : List Token) (t : Token) (right : List Token) → front ++ rest ≡ left ++ t ∷ right
-    → Stands front rest left t right
+    → InFrontOrBehind front rest left t right
 stands [] rest left t right e = behind left refl e
 stands (x ∷ front) rest [] t right e = in_front front (let same : x ≡ t = cc in ap (λ y. y ∷ front) same)
 stands (x ∷ front) rest (y ∷ left) t right e = one_more x y (cc) (stands front rest left t right (cc))
@@ -73,8 +74,8 @@ module _ (text : List ℕ) (ts : List Token) (scans : Scans text text [] ts) whe
       (subst (IsShallow text nesting) e s))
 
   -- where all tokens are taken and the program is not at its end
-  module _ (pending : List Symbol) (w : Why) (passes : Passes nesting (AProgram ∷ []) ts pending)
-      (ends : run (Some nesting) [] pending ≡ Stuck w []) where
+  module _ (pending : List Symbol) (w : Why) (passes : TakesTokens nesting (AProgram ∷ []) ts pending)
+      (ends : run (Some nesting) [] pending ≡ StuckAt w []) where
     abbrev end : Refusal
     end = record { rule = rule.G2; at = place_at text (length text) }
 
@@ -82,12 +83,13 @@ module _ (text : List ℕ) (ts : List Token) (scans : Scans text text [] ts) whe
     whole_shallow = is_shallow nesting text ts pending passes
 
     nothing_behind : (left : List Token) (t : Token) (right : List Token) (Q : Type 0)
-        → ((mid : List Token) → ts ≡ (left ++ t ∷ []) ++ mid → Q) → Stands ts [] left t right → Q
+        → ((mid : List Token) → ts ≡ (left ++ t ∷ []) ++ mid → Q) → InFrontOrBehind ts [] left t right → Q
     nothing_behind left t right Q f (in_front mid e) = f mid e
     nothing_behind left t right Q f (behind [] e h) = absurd cc
     nothing_behind left t right Q f (behind (x ∷ mid) e h) = absurd cc
 
-    end_first : (r : Rule) (at : Place) → BreaksGrammar text ts r at → before (record { rule = r; at = at }) end ≡ false
+    end_first : (r : Rule) (at : Place) → BreaksGrammar text ts r at → refusal_before (record { rule = r; at = at }) end
+        ≡ false
     end_first rule.G1 at b = nothing_behind b.front b.token b.rest _
         (λ mid e. absurd (none_bad ts b.front b.token mid whole_shallow e b.bad))
         (stands ts [] b.front b.token b.rest (append_nil nesting text ts ∙ b.all))
@@ -109,7 +111,7 @@ module _ (text : List ℕ) (ts : List Token) (scans : Scans text text [] ts) whe
 
   -- where a token is not taken
   module _ (front : List Token) (t : Token) (us : List Token) (pending : List Symbol) (all : ts ≡ front ++ t ∷ us)
-      (passes : Passes nesting (AProgram ∷ []) front pending) where
+      (passes : TakesTokens nesting (AProgram ∷ []) front pending) where
     front_shallow : IsShallow text nesting front
     front_shallow = is_shallow nesting text front pending passes
 
@@ -118,28 +120,29 @@ module _ (text : List ℕ) (ts : List Token) (scans : Scans text text [] ts) whe
 
     -- what stands behind this token
     beyond : (r mine : Rule) (x : Token) (at : Place) (mid right : List Token) → at ≡ x.at → us ≡ mid ++ x ∷ right
-        → before (record { rule = r; at = at }) (record { rule = mine; at = t.at }) ≡ false
+        → refusal_before (record { rule = r; at = at }) (record { rule = mine; at = t.at }) ≡ false
     beyond r mine x at mid right p e =
         let i = rising_behind text (suc t.from) mid x right (subst (Rising text (suc t.from)) e here.2) in
         later (record { rule = r; at = at }) (record { rule = mine; at = t.at })
         (earlier text t.from x.from t.at at here.1 (p ∙ i.2) (omega (arith, i.0)) (omega (arith, i.1)))
 
     at_last : (r mine : Rule) (at : Place) → at ≡ place_at text (length text)
-        → before (record { rule = r; at = at }) (record { rule = mine; at = t.at }) ≡ false
+        → refusal_before (record { rule = r; at = at }) (record { rule = mine; at = t.at }) ≡ false
     at_last r mine at p = later (record { rule = r; at = at }) (record { rule = mine; at = t.at })
         (earlier text t.from (length text) t.at at here.1 p (omega (arith, here.0)) (omega arith))
 
     placed : (Q : Type 0) (r mine : Rule) (at : Place) (left : List Token) (x : Token) (right : List Token) → at ≡ x.at
         → ((mid : List Token) → front ≡ (left ++ x ∷ []) ++ mid → ⊥)
-        → (left ≡ front → x ≡ t → before (record { rule = r; at = at }) (record { rule = mine; at = t.at }) ≡ false)
-        → Stands front (t ∷ us) left x right
-        → before (record { rule = r; at = at }) (record { rule = mine; at = t.at }) ≡ false
+        → (left ≡ front → x ≡ t → refusal_before (record { rule = r; at = at }) (record { rule = mine; at = t.at })
+        ≡ false)
+        → InFrontOrBehind front (t ∷ us) left x right
+        → refusal_before (record { rule = r; at = at }) (record { rule = mine; at = t.at }) ≡ false
     placed Q r mine at left x right p f g (in_front mid e) = absurd (f mid e)
     placed Q r mine at left x right p f g (behind [] e h) = g (e ∙ append_nil nesting text front) (cc)
     placed Q r mine at left x right p f g (behind (y ∷ mid) e h) = beyond r mine x at mid right p (cc)
 
     bad_first : (r : Rule) (at : Place) → BreaksGrammar text ts r at
-        → before (record { rule = r; at = at }) (record { rule = rule.G1; at = t.at }) ≡ false
+        → refusal_before (record { rule = r; at = at }) (record { rule = rule.G1; at = t.at }) ≡ false
     bad_first rule.G1 at b = placed ⊥ rule.G1 rule.G1 at b.front b.token b.rest b.place
         (λ mid e. none_bad front b.front b.token mid front_shallow e b.bad)
         (λ e h. no_sooner (record { rule = rule.G1; at = at }) (record { rule = rule.G1; at = t.at })
@@ -151,7 +154,7 @@ module _ (text : List ℕ) (ts : List Token) (scans : Scans text text [] ts) whe
     bad_first rule.G2 at b = at_last rule.G2 rule.G1 at b.place
     bad_first r at b = absurd b
 
-    at_bad : after (Some nesting) pending t ≡ No Bad
+    at_bad : next_behind (Some nesting) pending t ≡ No Bad
         → IsFirst (BreaksGrammar text ts) (record { rule = rule.G1; at = t.at })
     at_bad h = record {
       breaks = record {
@@ -165,12 +168,12 @@ module _ (text : List ℕ) (ts : List Token) (scans : Scans text text [] ts) whe
       first = λ o b. bad_first o.rule o.at b;
     }
 
-    module _ (stop : after (Some nesting) pending t ≡ No Deep) where
+    module _ (stop : next_behind (Some nesting) pending t ≡ No Deep) where
       viable : IsViable text (front ++ t ∷ [])
       viable = deep_viable nesting text t passes stop
 
       deep_first : (r : Rule) (at : Place) → BreaksGrammar text ts r at
-          → before (record { rule = r; at = at }) (record { rule = rule.L2; at = t.at }) ≡ false
+          → refusal_before (record { rule = r; at = at }) (record { rule = rule.L2; at = t.at }) ≡ false
       deep_first rule.G1 at b = placed ⊥ rule.G1 rule.L2 at b.front b.token b.rest b.place
           (λ mid e. none_bad front b.front b.token mid front_shallow e b.bad)
           (λ e h. absurd (b.bad (subst (λ l. IsViable text (l ++ b.token ∷ [])) (back_of e)
@@ -199,20 +202,20 @@ module _ (text : List ℕ) (ts : List Token) (scans : Scans text text [] ts) whe
       }
 
   by_stop : (w : Why) (rest : List Token) (b : Splits nesting (AProgram ∷ []) ts w rest) → (rest ≡ [])
-      ⊎ ((t : Token) × (us : List Token) × (rest ≡ t ∷ us) × (after (Some nesting) b.pending t ≡ No w))
+      ⊎ ((t : Token) × (us : List Token) × (rest ≡ t ∷ us) × (next_behind (Some nesting) b.pending t ≡ No w))
       → IsFirst (BreaksGrammar text ts) (refusal_of text w rest)
   by_stop w rest b (inl e) =
       let same : ts ≡ b.front = b.all ∙ ap (λ l. b.front ++ l) e ∙ append_nil nesting text b.front in
       subst (λ l. IsFirst (BreaksGrammar text ts) (refusal_of text w l)) (back_of e)
-      (at_end b.pending w (subst (λ l. Passes nesting (AProgram ∷ []) l b.pending) (back_of same) b.passes)
-      (subst (λ l. run (Some nesting) l b.pending ≡ Stuck w l) e b.ends))
+      (at_end b.pending w (subst (λ l. TakesTokens nesting (AProgram ∷ []) l b.pending) (back_of same) b.passes)
+      (subst (λ l. run (Some nesting) l b.pending ≡ StuckAt w l) e b.ends))
   by_stop Bad rest b (inr (t, us, e, h)) = subst (λ l. IsFirst (BreaksGrammar text ts) (refusal_of text Bad l))
       (back_of e) (at_bad b.front t us b.pending (b.all ∙ ap (λ l. b.front ++ l) e) b.passes h)
   by_stop Deep rest b (inr (t, us, e, h)) = subst (λ l. IsFirst (BreaksGrammar text ts) (refusal_of text Deep l))
       (back_of e) (at_deep b.front t us b.pending (b.all ∙ ap (λ l. b.front ++ l) e) b.passes h)
 
   -- where the machine gets stuck, the first rule is broken
-  pub first_broken : (r : Refusal) → Stops text ts (AProgram ∷ []) r → IsFirst (BreaksGrammar text ts) r
+  pub first_broken : (r : Refusal) → GetsStuck text ts (AProgram ∷ []) r → IsFirst (BreaksGrammar text ts) r
   first_broken r s = let b = splits nesting ts (AProgram ∷ []) s.why s.rest s.by in
       subst (IsFirst (BreaksGrammar text ts)) s.is (by_stop s.why s.rest b b.stops)
 
@@ -245,7 +248,7 @@ none_broken text ts p x r at b = b
 
 -- at most one token is the first that is not viable
 same_bad : (text : List ℕ) (ts front other : List Token) (t u : Token) (x : IsFirstBad text ts front t)
-    (y : IsFirstBad text ts other u) → Stands front (t ∷ x.rest) other u y.rest → (front ≡ other) × (t ≡ u)
+    (y : IsFirstBad text ts other u) → InFrontOrBehind front (t ∷ x.rest) other u y.rest → (front ≡ other) × (t ≡ u)
 same_bad text ts front other t u x y (in_front mid e) =
     absurd (y.bad (viable_prefix text (other ++ u ∷ []) mid (subst (IsViable text) e x.viable)))
 same_bad text ts front other t u x y (behind [] e h) = (back_of (e ∙ append_nil nesting text front), cc)

@@ -12,10 +12,11 @@ use Rattle.sp_tree.specs.Grammar as g
 use Rattle.sp_grammar.specs.Symbols as sym
 use Rattle.sp_grammar.specs.Symbols.{Symbol, Value, Values, split, part}
 use Rattle.sp_grammar.specs.Table as row
-use Rattle.sp_grammar.specs.Table.{ConstantRow, PartsRow, FormRow, SelectorRow, FactorRow, SimpleRow, Row, Entry, rows}
+use Rattle.sp_grammar.specs.Table.{ConstantRow, PartsRow, FormRow, SelectorRow, FactorRow, SimpleRow, Row, RowEntry}
+use Rattle.sp_grammar.specs.Table.{rows}
 use Rattle.sp_grammar.specs.Table.{look, kind_is, gap, build, constant_value, parts_value, form_value, selector_value}
 use Rattle.sp_grammar.specs.Table.{factor_value, simple_value}
-use Rattle.sp_grammar.specs.Derives.{Begins, Derives, takes, skips, DerivesAll}
+use Rattle.sp_grammar.specs.Derives.{PartMayBegin, Derives, takes, skips, DerivesAll}
 use Rattle.sp_grammar.specs.Derives as d
 use Rattle.sp_grammar.specs.Means.{Means, MeansAll, none, and}
 use borrow.Author.Tests.{eqb-true}
@@ -30,12 +31,13 @@ kind_is-true (kind.Sign a) (kind.Sign b) h = ap kind.Sign (eqb-true a b h)
 kind_is-true a b h = absurd cc
 
 -- the row that is found has the token's kind
-found_by : {R : Kind → List Symbol → Type 0} (f : Entry R) (es : List (Entry R)) (k : Kind) (e : Entry R) (b : Bool)
+found_by : {R : Kind → List Symbol → Type 0} (f : RowEntry R) (es : List (RowEntry R)) (k : Kind) (e : RowEntry R)
+    (b : Bool)
     → kind_is f.key k ≡ b → cond b (Some f) (look es k) ≡ Some e → (look es k ≡ Some e → k ≡ e.key) → k ≡ e.key
 found_by f es k e true q h go = let same : f ≡ e = cc in back_of (kind_is-true f.key k q) ∙ ap (λ e. e.key) same
 found_by f es k e false q h go = go h
 
-pub found : {R : Kind → List Symbol → Type 0} (es : List (Entry R)) (k : Kind) (e : Entry R) → look es k ≡ Some e
+pub found : {R : Kind → List Symbol → Type 0} (es : List (RowEntry R)) (k : Kind) (e : RowEntry R) → look es k ≡ Some e
     → k ≡ e.key
 found [] k e h = absurd cc
 found (f ∷ es) k e h = found_by f es k e (kind_is f.key k) refl h (λ q. found es k e q)
@@ -143,7 +145,7 @@ module _ (text : List ℕ) (Ok : ℕ → List Token → Type 0) where
 
   -- a symbol that takes a token
   pub good : {s : Symbol} {k : Kind} {l : List Symbol} (c : Row s k l) (t : Token) → t.kind ≡ k
-      → {ts r : List Token} {vs : Values l} → Begins Ok (part s) (t ∷ ts) → MeansAll text Ok l ts r vs
+      → {ts r : List Token} {vs : Values l} → PartMayBegin Ok (part s) (t ∷ ts) → MeansAll text Ok l ts r vs
       → Means text Ok s (t ∷ ts) r (build text c t vs)
   good row.token t p o none = g.it_is t p
   good row.name t p o none = g.name t p

@@ -6,12 +6,12 @@ use Rattle.sp_tree.specs.Grammar as g
 use Rattle.sp_grammar.specs.Symbols as sym
 use Rattle.sp_grammar.specs.Symbols.{Symbol}
 use Rattle.sp_grammar.specs.Table as row
-use Rattle.sp_grammar.specs.Table.{ConstantRow, PartsRow, SelectorRow, FactorRow, SimpleRow, entry, rows, look}
+use Rattle.sp_grammar.specs.Table.{ConstantRow, PartsRow, SelectorRow, FactorRow, SimpleRow, row_entry, rows, look}
 use Rattle.sp_grammar.specs.Derives.{and}
 
 -- the rows are found
 pub look_constant : (d : ℕ) {k : Kind} {l : List Symbol} (c : ConstantRow k l)
-    → look (rows sym.AConstant) k ≡ Some (entry _ _ (row.constant c))
+    → look (rows sym.AConstant) k ≡ Some (row_entry _ _ (row.constant c))
 look_constant d row.constant_number = refl
 look_constant d row.constant_name = refl
 look_constant d row.constant_text = refl
@@ -19,7 +19,7 @@ look_constant d row.constant_plus = refl
 look_constant d row.constant_minus = refl
 
 pub look_arm : (d : ℕ) {k : Kind} {l : List Symbol} (c : ConstantRow k l)
-    → look (rows (sym.ArmOrEnd d)) k ≡ Some (entry _ _ (row.next_arm {d = d} c))
+    → look (rows (sym.ArmOrEnd d)) k ≡ Some (row_entry _ _ (row.next_arm {d = d} c))
 look_arm d row.constant_number = refl
 look_arm d row.constant_name = refl
 look_arm d row.constant_text = refl
@@ -27,7 +27,7 @@ look_arm d row.constant_plus = refl
 look_arm d row.constant_minus = refl
 
 pub look_block : (d : ℕ) {k : Kind} {l : List Symbol} (c : PartsRow (suc d) k l)
-    → look (rows (sym.ABlock d)) k ≡ Some (entry _ _ (row.block {d = d} c))
+    → look (rows (sym.ABlock d)) k ≡ Some (row_entry _ _ (row.block {d = d} c))
 look_block d row.parts_begin = refl
 look_block d row.parts_const = refl
 look_block d row.parts_type = refl
@@ -36,7 +36,7 @@ look_block d row.parts_procedure = refl
 look_block d row.parts_function = refl
 
 pub look_parts : (d : ℕ) {k : Kind} {l : List Symbol} (c : PartsRow d k l)
-    → look (rows (sym.Parts d)) k ≡ Some (entry _ _ (row.parts c))
+    → look (rows (sym.Parts d)) k ≡ Some (row_entry _ _ (row.parts c))
 look_parts d row.parts_begin = refl
 look_parts d row.parts_const = refl
 look_parts d row.parts_type = refl
@@ -45,7 +45,7 @@ look_parts d row.parts_procedure = refl
 look_parts d row.parts_function = refl
 
 pub look_after_constants : (d : ℕ) {k : Kind} {l : List Symbol} (c : PartsRow d k l)
-    → look (rows (sym.MoreConstants d)) k ≡ Some (entry _ _ (row.after_constants c))
+    → look (rows (sym.MoreConstants d)) k ≡ Some (row_entry _ _ (row.after_constants c))
 look_after_constants d row.parts_begin = refl
 look_after_constants d row.parts_const = refl
 look_after_constants d row.parts_type = refl
@@ -54,7 +54,7 @@ look_after_constants d row.parts_procedure = refl
 look_after_constants d row.parts_function = refl
 
 pub look_after_types : (d : ℕ) {k : Kind} {l : List Symbol} (c : PartsRow d k l)
-    → look (rows (sym.MoreTypes d)) k ≡ Some (entry _ _ (row.after_types c))
+    → look (rows (sym.MoreTypes d)) k ≡ Some (row_entry _ _ (row.after_types c))
 look_after_types d row.parts_begin = refl
 look_after_types d row.parts_const = refl
 look_after_types d row.parts_type = refl
@@ -63,7 +63,7 @@ look_after_types d row.parts_procedure = refl
 look_after_types d row.parts_function = refl
 
 pub look_after_variables : (d : ℕ) {k : Kind} {l : List Symbol} (c : PartsRow d k l)
-    → look (rows (sym.MoreVariables d)) k ≡ Some (entry _ _ (row.after_variables c))
+    → look (rows (sym.MoreVariables d)) k ≡ Some (row_entry _ _ (row.after_variables c))
 look_after_variables d row.parts_begin = refl
 look_after_variables d row.parts_const = refl
 look_after_variables d row.parts_type = refl
@@ -72,12 +72,12 @@ look_after_variables d row.parts_procedure = refl
 look_after_variables d row.parts_function = refl
 
 pub look_target : (d : ℕ) {k : Kind} {l : List Symbol} (c : SelectorRow d k l)
-    → look (rows (sym.AfterName d)) k ≡ Some (entry _ _ (row.target c))
+    → look (rows (sym.AfterName d)) k ≡ Some (row_entry _ _ (row.target c))
 look_target d row.selector_index = refl
 look_target d row.selector_field = refl
 
 pub look_factor : (d : ℕ) {k : Kind} {l : List Symbol} (c : FactorRow d k l)
-    → look (rows (sym.AFactor d)) k ≡ Some (entry _ _ (row.factor c))
+    → look (rows (sym.AFactor d)) k ≡ Some (row_entry _ _ (row.factor c))
 look_factor d row.factor_number = refl
 look_factor d row.factor_text = refl
 look_factor d row.factor_name = refl
@@ -85,7 +85,7 @@ look_factor d row.factor_open = refl
 look_factor d row.factor_not = refl
 
 pub look_negated : (d : ℕ) {k : Kind} {l : List Symbol} (c : FactorRow (suc d) k l)
-    → look (rows (sym.ANegated d)) k ≡ Some (entry _ _ (row.negated {d = d} c))
+    → look (rows (sym.ANegated d)) k ≡ Some (row_entry _ _ (row.negated {d = d} c))
 look_negated d row.factor_number = refl
 look_negated d row.factor_text = refl
 look_negated d row.factor_name = refl
@@ -93,7 +93,7 @@ look_negated d row.factor_open = refl
 look_negated d row.factor_not = refl
 
 pub look_term : (d : ℕ) {k : Kind} {l : List Symbol} (c : FactorRow d k l)
-    → look (rows (sym.ATerm d)) k ≡ Some (entry _ _ (row.term c))
+    → look (rows (sym.ATerm d)) k ≡ Some (row_entry _ _ (row.term c))
 look_term d row.factor_number = refl
 look_term d row.factor_text = refl
 look_term d row.factor_name = refl
@@ -101,7 +101,7 @@ look_term d row.factor_open = refl
 look_term d row.factor_not = refl
 
 pub look_simple : (d : ℕ) {k : Kind} {l : List Symbol} (c : SimpleRow d k l)
-    → look (rows (sym.ASimple d)) k ≡ Some (entry _ _ (row.simple c))
+    → look (rows (sym.ASimple d)) k ≡ Some (row_entry _ _ (row.simple c))
 look_simple d row.simple_plus = refl
 look_simple d row.simple_minus = refl
 look_simple d (row.simple_factor row.factor_number) = refl
@@ -111,7 +111,7 @@ look_simple d (row.simple_factor row.factor_open) = refl
 look_simple d (row.simple_factor row.factor_not) = refl
 
 pub look_expression : (d : ℕ) {k : Kind} {l : List Symbol} (c : SimpleRow (suc d) k l)
-    → look (rows (sym.AnExpression d)) k ≡ Some (entry _ _ (row.expression {d = d} c))
+    → look (rows (sym.AnExpression d)) k ≡ Some (row_entry _ _ (row.expression {d = d} c))
 look_expression d row.simple_plus = refl
 look_expression d row.simple_minus = refl
 look_expression d (row.simple_factor row.factor_number) = refl
@@ -121,7 +121,7 @@ look_expression d (row.simple_factor row.factor_open) = refl
 look_expression d (row.simple_factor row.factor_not) = refl
 
 pub look_relation : (d : ℕ) {k : Kind} {o : BinaryOp} (c : g.IsRelational k o)
-    → look (rows (sym.ARelation d)) k ≡ Some (entry _ _ (row.relation {d = d} c))
+    → look (rows (sym.ARelation d)) k ≡ Some (row_entry _ _ (row.relation {d = d} c))
 look_relation d g.equal = refl
 look_relation d g.unequal = refl
 look_relation d g.less = refl
@@ -130,13 +130,13 @@ look_relation d g.greater = refl
 look_relation d g.at_least = refl
 
 pub look_adding : (d : ℕ) {k : Kind} {o : BinaryOp} (c : g.IsAdding k o)
-    → look (rows (sym.MoreTerms d)) k ≡ Some (entry _ _ (row.next_term {d = d} c))
+    → look (rows (sym.MoreTerms d)) k ≡ Some (row_entry _ _ (row.next_term {d = d} c))
 look_adding d g.plus = refl
 look_adding d g.minus = refl
 look_adding d g.or = refl
 
 pub look_multiplying : (d : ℕ) {k : Kind} {o : BinaryOp} (c : g.IsMultiplying k o)
-    → look (rows (sym.MoreFactors d)) k ≡ Some (entry _ _ (row.next_factor {d = d} c))
+    → look (rows (sym.MoreFactors d)) k ≡ Some (row_entry _ _ (row.next_factor {d = d} c))
 look_multiplying d g.times = refl
 look_multiplying d g.quotient = refl
 look_multiplying d g.modulo = refl

@@ -6,7 +6,7 @@ use Rattle.sp_tree.specs.PlainSyntax.{Program}
 use Rattle.sp_tree.specs.Viable.{Any, Spells}
 use Rattle.sp_grammar.proofs.To.{program}
 use Rattle.sp_grammar.specs.Symbols.{Symbol, Value, Values}
-use Rattle.sp_grammar.specs.Table.{Entry, Row, rows, look, gap, build}
+use Rattle.sp_grammar.specs.Table.{RowEntry, Row, rows, look, gap, build}
 use Rattle.sp_grammar.specs.Derives.{Derives, takes, skips, DerivesAll, none, and}
 
 -- the same rest and the same value
@@ -14,12 +14,13 @@ pub data Both (X : Type 0) : List Token → X → List Token → X → Type 0 wh
   both : {r : List Token} {x : X} → Both X r x r x
 
 module _ (text : List ℕ) (Ok : ℕ → List Token → Type 0) where
-  built : (s : Symbol) (t : Token) (e : Entry (Row s)) {r r' : List Token} {vs vs' : Values e.left}
+  built : (s : Symbol) (t : Token) (e : RowEntry (Row s)) {r r' : List Token} {vs vs' : Values e.left}
       → Both (Values e.left) r vs r' vs' → Both (Value s) r (build text e.row t vs) r' (build text e.row t vs')
   built s t e both = both
 
   -- the rows are the same, and so is what they leave
-  taken : (s : Symbol) (t : Token) (ts r r' : List Token) (e : Entry (Row s)) (vs : Values e.left) (e' : Entry (Row s))
+  taken : (s : Symbol) (t : Token) (ts r r' : List Token) (e : RowEntry (Row s)) (vs : Values e.left)
+      (e' : RowEntry (Row s))
       → e ≡ e' → (vs' : Values e'.left) → ((vs'' : Values e.left) → DerivesAll text Ok e.left ts r' vs''
       → Both (Values e.left) r vs r' vs'') → DerivesAll text Ok e'.left ts r' vs'
       → Both (Value s) r (build text e.row t vs) r' (build text e'.row t vs')

@@ -14,7 +14,7 @@ use Rattle.sp_base.specs.declared.rule.Rule.{Rule}
 use Rattle.sp_base.specs.declared.rule.Rule.TheVariants as rule
 use Rattle.sp_base.proofs.Facts.{one_value}
 use Rattle.sp_base.specs.Order.{both_tie}
-use Rattle.sp_tree.specs.First.{row, refusal_cmp, before, IsFirst}
+use Rattle.sp_tree.specs.First.{row, refusal_cmp, refusal_before, IsFirst}
 use Rattle.sp_tree.specs.Places.{next_place, place_behind}
 use Rattle.sp_tree.proofs.Earlier.{Earlier, earlier_then}
 
@@ -105,7 +105,7 @@ one_first Breaks a b x y =
     (ap is_lt (back_of (refusal_total.antisymm b a)) ∙ x.first b y.breaks))
 
 -- what stands later is not before
-pub later : (a b : Refusal) → Earlier b.at a.at → before a b ≡ false
+pub later : (a b : Refusal) → Earlier b.at a.at → refusal_before a b ≡ false
 later a b (inl h) = ap (λ o. is_lt (ordering_then o
     (ordering_then (nat_cmp a.at.column b.at.column) (nat_cmp (row a.rule) (row b.rule)))))
     (back_of (nat_cmp_is a.at.line b.at.line Greater h))
@@ -123,7 +123,7 @@ rows_not : (m n : ℕ) → n ≤ m → is_lt (nat_cmp m n) ≡ false
 rows_not m n h = rows_by m n h (cases_lt n m)
 
 -- nor is what stands at the same place in the same row or in a later one
-pub no_sooner : (a b : Refusal) → a.at ≡ b.at → row b.rule ≤ row a.rule → before a b ≡ false
+pub no_sooner : (a b : Refusal) → a.at ≡ b.at → row b.rule ≤ row a.rule → refusal_before a b ≡ false
 no_sooner a b e h =
     ap (λ o. is_lt (ordering_then o (ordering_then (nat_cmp a.at.column b.at.column)
     (nat_cmp (row a.rule) (row b.rule))))) (back_of (nat_cmp_is a.at.line b.at.line Equal (ap (λ p. p.line) e)))

@@ -32,11 +32,12 @@ comment_length (brace_comment b h x) = omega (arith, brace_length x)
 comment_length (star_comment a b h i x) = omega (arith, star_length x)
 
 -- what holds of each of a list
-abbrev pub Each : {A : Type 0} → (A → Type 0) → List A → Type 0
-Each P [] = Unit {0}
-Each P (x ∷ xs) = P x × Each P xs
+abbrev pub HoldsOfEach : {A : Type 0} → (A → Type 0) → List A → Type 0
+HoldsOfEach P [] = Unit {0}
+HoldsOfEach P (x ∷ xs) = P x × HoldsOfEach P xs
 
-pub each_at : {A : Type 0} (P : A → Type 0) (xs : List A) (n : ℕ) (x : A) → Each P xs → slice_get xs n ≡ Some x → P x
+pub each_at : {A : Type 0} (P : A → Type 0) (xs : List A) (n : ℕ) (x : A) → HoldsOfEach P xs
+    → slice_get xs n ≡ Some x → P x
 each_at P [] n x h e = absurd cc
 each_at P (y ∷ xs) zero x h e = subst P (let same : y ≡ x = cc in same) h.0
 each_at P (y ∷ xs) (suc n) x h e = each_at P xs n x h.1 e
@@ -50,7 +51,7 @@ some_length : (s : List ℕ) → IsSome s → 0 < length s
 some_length [] h = absurd h
 some_length (b ∷ bs) h = omega arith
 
-signs_some : Each IsSome signs
+signs_some : HoldsOfEach IsSome signs
 signs_some = (
   tt,
   (

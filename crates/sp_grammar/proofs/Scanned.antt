@@ -4,8 +4,8 @@ use Rattle.std.proofs.Common.{[]}
 use Rattle.std.proofs.lemmas.Bool.Decides.{nat_tests}
 use Rattle.sp_tree.specs.Scans.{Scans, blank, comment, nothing, token}
 use Rattle.sp_tree.specs.declared.token.Token.{Token}
-use Rattle.sp_tree.specs.Characters.{is_digit, lower}
-use Rattle.sp_tree.specs.Lexemes.{Run, run_ends, run_goes_on, Lexeme, lowered, number}
+use Rattle.sp_tree.specs.Characters.{is_digit, lower_case_letter}
+use Rattle.sp_tree.specs.Lexemes.{Run, run_ends, run_goes_on, Lexeme, lower_case_prefix, number}
 use Rattle.sp_grammar.proofs.Rising.{run_length}
 use Rattle.sp_tree.specs.declared.token.Kind.TheVariants as kind
 
@@ -18,7 +18,7 @@ scans_chain (comment c x) y = comment c (scans_chain x y)
 scans_chain (token k o l x) y = token k o l (scans_chain x y)
 
 -- digits are their own lower case
-pub lower_digit : (b : ℕ) → is_digit b ≡ true → lower b ≡ b
+pub lower_digit : (b : ℕ) → is_digit b ≡ true → lower_case_letter b ≡ b
 lower_digit b h = grind (arith, nat_tests)
 
 -- what is taken of a longer text
@@ -33,14 +33,14 @@ taken_none r = let e : length r - length r ≡ 0 = omega arith in ap (λ n. take
 
 -- digits have no case
 pub lower_run : {bs r : List ℕ} → Run is_digit bs r
-    → map lower (take (length bs - length r) bs) ≡ take (length bs - length r) bs
-lower_run {r = r} run_ends = ap (map lower) (taken_none r) ∙ sym (taken_none r)
+    → map lower_case_letter (take (length bs - length r) bs) ≡ take (length bs - length r) bs
+lower_run {r = r} run_ends = ap (map lower_case_letter) (taken_none r) ∙ sym (taken_none r)
 lower_run {r = r} (run_goes_on {bs = bs} b h x) =
-    ap (map lower) (taken_more b bs r (run_length x)) ∙ (λ i. lower_digit b h i ∷ lower_run x i)
+    ap (map lower_case_letter) (taken_more b bs r (run_length x)) ∙ (λ i. lower_digit b h i ∷ lower_run x i)
     ∙ sym (taken_more b bs r (run_length x))
 
 -- a number has no case
-pub lower_number : {bs r : List ℕ} → Lexeme kind.Number bs r → lowered bs r ≡ take (length bs - length r) bs
+pub lower_number : {bs r : List ℕ} → Lexeme kind.Number bs r → lower_case_prefix bs r ≡ take (length bs - length r) bs
 lower_number {r = r} (number {bs = bs} b h x) =
-    ap (map lower) (taken_more b bs r (run_length x)) ∙ (λ i. lower_digit b h i ∷ lower_run x i)
+    ap (map lower_case_letter) (taken_more b bs r (run_length x)) ∙ (λ i. lower_digit b h i ∷ lower_run x i)
     ∙ sym (taken_more b bs r (run_length x))

@@ -17,10 +17,11 @@ use Rattle.sp_tree.specs.Grammar as g
 use Rattle.sp_grammar.specs.Symbols as sym
 use Rattle.sp_grammar.specs.Symbols.{Symbol, Value, Values, split, part}
 use Rattle.sp_grammar.specs.Table as row
-use Rattle.sp_grammar.specs.Table.{ConstantRow, PartsRow, SelectorRow, FactorRow, SimpleRow, Row, entry, rows, look}
+use Rattle.sp_grammar.specs.Table.{ConstantRow, PartsRow, SelectorRow, FactorRow, SimpleRow, Row, row_entry, rows, look}
 use Rattle.sp_grammar.specs.Table.{gap, build, constant_value, parts_value, selector_value, factor_value, simple_value}
-use Rattle.sp_grammar.specs.Derives.{Begins, Derives, takes, skips, DerivesAll, none, and}
-use Rattle.sp_grammar.proofs.Behind.{Ended, Ends, Quiet, QuietFactor, QuietSimple, QuietTerm, ended_bar, ended_else}
+use Rattle.sp_grammar.specs.Derives.{PartMayBegin, Derives, takes, skips, DerivesAll, none, and}
+use Rattle.sp_grammar.proofs.Behind.{EndsStatement, TakesNone, EndsExpression, EndsFactor, EndsSimple, EndsTerm}
+use Rattle.sp_grammar.proofs.Behind.{ended_bar, ended_else}
 use Rattle.sp_grammar.proofs.Behind.{ended_end, ended_semicolon, ended_until, ends, quiet_adding, quiet_close}
 use Rattle.sp_grammar.proofs.Behind.{quiet_closeindex, quiet_colon, quiet_comma, quiet_do, quiet_downto}
 use Rattle.sp_grammar.proofs.Behind.{quiet_multiplying, quiet_of, quiet_relational, quiet_then, quiet_to}
@@ -31,7 +32,7 @@ use Rattle.sp_grammar.proofs.Looks.{look_negated, look_parts, look_relation, loo
 word_looks : (d n : ℕ) → kind.Word n ≢ w.Else → (b : Bool) → (9 == n) ≡ b
     → look (rows (sym.AnElse d)) (kind.Word n) ≡ None
 word_looks d n h true q = absurd (h (ap kind.Word (back_of (eqb-true 9 n q))))
-word_looks d n h false q = ap (λ b. cond b (Some (entry _ _ row.other)) None) q
+word_looks d n h false q = ap (λ b. cond b (Some (row_entry _ _ row.other)) None) q
 
 -- values one after another
 pub join : (l m : List Symbol) → Values l → Values m → Values (l ++ m)
@@ -47,26 +48,27 @@ module _ (text : List ℕ) (Ok : ℕ → List Token → Type 0) where
   abbrev pub D : (s : Symbol) → List Token → List Token → Value s → Type 0
   D = Derives text Ok
 
-  abbrev pub All : (l : List Symbol) → List Token → List Token → Values l → Type 0
-  All = DerivesAll text Ok
+  abbrev pub DerivesList : (l : List Symbol) → List Token → List Token → Values l → Type 0
+  DerivesList = DerivesAll text Ok
 
-  pub join_all : (l m : List Symbol) {ts u r : List Token} {vs : Values l} {us : Values m} → All l ts u vs
-      → All m u r us → All (l ++ m) ts r (join l m vs us)
+  pub join_all : (l m : List Symbol) {ts u r : List Token} {vs : Values l} {us : Values m} → DerivesList l ts u vs
+      → DerivesList m u r us → DerivesList (l ++ m) ts r (join l m vs us)
   unfolding join
   join_all [] m none b = b
   join_all (s ∷ l) m (and x a) b = and x (join_all l m a b)
 
   -- a symbol takes this token by this row
-  pub take : {s : Symbol} {k : Kind} {l : List Symbol} (c : Row s k l) → look (rows s) k ≡ Some (entry k l c)
-      → (t : Token) → t.kind ≡ k → {ts r : List Token} {vs : Values l} → Begins Ok (part s) (t ∷ ts) → All l ts r vs
+  pub take : {s : Symbol} {k : Kind} {l : List Symbol} (c : Row s k l) → look (rows s) k ≡ Some (row_entry k l c)
+      → (t : Token) → t.kind ≡ k → {ts r : List Token} {vs : Values l} → PartMayBegin Ok (part s) (t ∷ ts)
+      → DerivesList l ts r vs
       → D s (t ∷ ts) r (build text c t vs)
-  take {s} {k} {l} c h t p o x = takes t (entry k l c) (ap (look (rows s)) p ∙ h) o x
+  take {s} {k} {l} c h t p o x = takes t (row_entry k l c) (ap (look (rows s)) p ∙ h) o x
 
-  pub skip : {s : Symbol} {r : List Token} {v : Value s} → Ends s r → ((t : Token) → gap s t ≡ Some v) → D s r r v
+  pub skip : {s : Symbol} {r : List Token} {v : Value s} → TakesNone s r → ((t : Token) → gap s t ≡ Some v) → D s r r v
   skip {r = []} h f = absurd h
   skip {r = t ∷ r} h f = skips t h (f t)
 
-  pub token : {k : Kind} → look (rows (sym.AToken k)) k ≡ Some (entry k [] row.token) → {ts r : List Token}
+  pub token : {k : Kind} → look (rows (sym.AToken k)) k ≡ Some (row_entry k [] row.token) → {ts r : List Token}
       → g.Is k ts r → D (sym.AToken k) ts r tt
   token h (g.it_is t p) = take row.token h t p tt none
 
@@ -74,7 +76,7 @@ module _ (text : List ℕ) (Ok : ℕ → List Token → Type 0) where
   name (g.name t p) = take row.name refl t p tt none
 
   -- after a name
-  pub more_names : {ts r : List Token} {ns : List Name} → g.IsMoreNames text ts r ns → Ends sym.MoreNames r
+  pub more_names : {ts r : List Token} {ns : List Name} → g.IsMoreNames text ts r ns → TakesNone sym.MoreNames r
       → D sym.MoreNames ts r ns
   more_names g.names_end h = skip h (λ t. refl)
   more_names (g.names_go_on (g.it_is t p) (g.names n ns)) h =
@@ -87,7 +89,7 @@ module _ (text : List ℕ) (Ok : ℕ → List Token → Type 0) where
   -- the row of a part and what it leaves
   pub data Constant : List Token → List Token → SynConst → Type 0 where
     begins : {k : Kind} {l : List Symbol} {ts r : List Token} {vs : Values l} (c : ConstantRow k l) (t : Token)
-        → t.kind ≡ k → All l ts r vs → Constant (t ∷ ts) r (constant_value text c t vs)
+        → t.kind ≡ k → DerivesList l ts r vs → Constant (t ∷ ts) r (constant_value text c t vs)
 
   pub constant_row : {ts r : List Token} {c : SynConst} → g.IsConstant text ts r c → Constant ts r c
   constant_row (g.unsigned (g.number_value t p)) = begins row.constant_number t p none
@@ -102,10 +104,10 @@ module _ (text : List ℕ) (Ok : ℕ → List Token → Type 0) where
   pub constant : {ts r : List Token} {c : SynConst} → g.IsConstant text ts r c → D sym.AConstant ts r c
   constant c = as_constant (constant_row c)
 
-  pub colon_ends : {ts r : List Token} → g.Is w.Colon ts r → Ends sym.MoreNames ts
+  pub colon_ends : {ts r : List Token} → g.Is w.Colon ts r → TakesNone sym.MoreNames ts
   colon_ends i = ends sym.MoreNames w.Colon refl i
 
-  pub close_ends : {ts r : List Token} → g.Is w.Close ts r → Ends sym.MoreNames ts
+  pub close_ends : {ts r : List Token} → g.Is w.Close ts r → TakesNone sym.MoreNames ts
   close_ends i = ends sym.MoreNames w.Close refl i
 
   pub more_fields : {ts r : List Token} {gs : List SynGroup} → g.IsMoreFields text ts r gs → D sym.MoreFields ts r gs
@@ -145,39 +147,39 @@ module _ (text : List ℕ) (Ok : ℕ → List Token → Type 0) where
   more_formals (g.formals_go_on (g.it_is t p) f fs) =
       take row.next_formal refl t p tt (and (formal f) (and (more_formals fs) none))
 
-  pub formals : {ts r : List Token} {fs : List SynFormal} → g.IsFormals text ts r fs → Ends sym.Formals r
+  pub formals : {ts r : List Token} {fs : List SynFormal} → g.IsFormals text ts r fs → TakesNone sym.Formals r
       → D sym.Formals ts r fs
   formals g.no_formals h = skip h (λ t. refl)
   formals (g.formals (g.it_is t p) f fs) h = take row.formals refl t p tt (and (formal f) (and (more_formals fs) none))
 
-  pub heading : {ts r : List Token} {ns : List Name} → g.IsHeading text ts r ns → Ends sym.AHeading r
+  pub heading : {ts r : List Token} {ns : List Name} → g.IsHeading text ts r ns → TakesNone sym.AHeading r
       → D sym.AHeading ts r ns
   heading g.no_heading h = skip h (λ t. refl)
   heading (g.heading (g.it_is t p) (g.names n ns) c) h =
       take row.heading refl t p tt (and (name n) (and (more_names ns (close_ends c)) (and (token refl c) none)))
 
-  pub record Relates (d : ℕ) (a : tree.Expression) (ts r : List Token) (x : tree.Expression) : Type 0 where
+  pub record RelationFrom (d : ℕ) (a : tree.Expression) (ts r : List Token) (x : tree.Expression) : Type 0 where
     f : tree.Expression → tree.Expression
     is : D (sym.ARelation d) ts r f
     gives : f a ≡ x
 
-  pub record Adds (d : ℕ) (a : tree.Expression) (ts r : List Token) (x : tree.Expression) : Type 0 where
+  pub record TermsFrom (d : ℕ) (a : tree.Expression) (ts r : List Token) (x : tree.Expression) : Type 0 where
     f : tree.Expression → tree.Expression
     is : D (sym.MoreTerms d) ts r f
     gives : f a ≡ x
 
-  pub record Multiplies (d : ℕ) (a : tree.Expression) (ts r : List Token) (x : tree.Expression) : Type 0 where
+  pub record FactorsFrom (d : ℕ) (a : tree.Expression) (ts r : List Token) (x : tree.Expression) : Type 0 where
     f : tree.Expression → tree.Expression
     is : D (sym.MoreFactors d) ts r f
     gives : f a ≡ x
 
   pub data Factor (d : ℕ) : List Token → List Token → tree.Expression → Type 0 where
     factor_begins : {k : Kind} {l : List Symbol} {ts r : List Token} {vs : Values l} (c : FactorRow d k l) (t : Token)
-        → t.kind ≡ k → All l ts r vs → Factor d (t ∷ ts) r (factor_value text c t vs)
+        → t.kind ≡ k → DerivesList l ts r vs → Factor d (t ∷ ts) r (factor_value text c t vs)
 
   pub data Simple (d : ℕ) : List Token → List Token → tree.Expression → Type 0 where
     simple_begins : {k : Kind} {l : List Symbol} {ts r : List Token} {vs : Values l} (c : SimpleRow d k l) (t : Token)
-        → t.kind ≡ k → All l ts r vs → Simple d (t ∷ ts) r (simple_value text c t vs)
+        → t.kind ≡ k → DerivesList l ts r vs → Simple d (t ∷ ts) r (simple_value text c t vs)
 
   pub as_factor : {d : ℕ} {ts r : List Token} {x : tree.Expression} → Factor d ts r x → D (sym.AFactor d) ts r x
   as_factor {d} (factor_begins c t p x) = take (row.factor c) (look_factor d c) t p tt x
@@ -187,7 +189,7 @@ module _ (text : List ℕ) (Ok : ℕ → List Token → Type 0) where
   as_negated {d} ok (factor_begins c t p x) = take (row.negated c) (look_negated d c) t p ok x
 
   -- a factor and the further ones
-  pub as_term : {d : ℕ} {ts u r : List Token} {a x : tree.Expression} → Factor d ts u a → Multiplies d a u r x
+  pub as_term : {d : ℕ} {ts u r : List Token} {a x : tree.Expression} → Factor d ts u a → FactorsFrom d a u r x
       → D (sym.ATerm d) ts r x
   as_term {d} {r = r} (factor_begins {l = l} {ts = ts} {vs = vs} c t p x) m =
       let f = m.f in
@@ -196,8 +198,8 @@ module _ (text : List ℕ) (Ok : ℕ → List Token → Type 0) where
       (take (row.term c) (look_term d c) t p tt (join_all l (sym.MoreFactors d ∷ []) x (and m.is none)))
 
   -- and further terms
-  pub as_terms : {d : ℕ} {ts u v r : List Token} {a b x : tree.Expression} → Factor d ts u a → Multiplies d a u v b
-      → Adds d b v r x → Simple d ts r x
+  pub as_terms : {d : ℕ} {ts u v r : List Token} {a b x : tree.Expression} → Factor d ts u a → FactorsFrom d a u v b
+      → TermsFrom d b v r x → Simple d ts r x
   as_terms {d} {r = r} (factor_begins {l = l} {ts = ts} {vs = vs} c t p x) m n =
       subst (Simple d (t ∷ ts) r) (ap (λ p. p.1.1.0 (p.1.0 (factor_value text c t p.0)))
       (split_join l (sym.MoreFactors d ∷ sym.MoreTerms d ∷ []) vs (m.f, (n.f, tt))) ∙ ap n.f m.gives ∙ n.gives)
@@ -208,7 +210,7 @@ module _ (text : List ℕ) (Ok : ℕ → List Token → Type 0) where
   as_simple {d} (simple_begins c t p x) = take (row.simple c) (look_simple d c) t p tt x
 
   pub as_expression : {d : ℕ} {ts u r : List Token} {a x : tree.Expression} → Ok d ts → Simple (suc d) ts u a
-      → Relates (suc d) a u r x → D (sym.AnExpression d) ts r x
+      → RelationFrom (suc d) a u r x → D (sym.AnExpression d) ts r x
   as_expression {d} {r = r} ok (simple_begins {l = l} {ts = ts} {vs = vs} c t p x) m =
       subst (D (sym.AnExpression d) (t ∷ ts) r)
       (ap (λ p. p.1.0 (simple_value text c t p.0)) (split_join l (sym.ARelation (suc d) ∷ []) vs (m.f, tt))
@@ -216,56 +218,61 @@ module _ (text : List ℕ) (Ok : ℕ → List Token → Type 0) where
       (take (row.expression c) (look_expression d c) t p ok (join_all l (sym.ARelation (suc d) ∷ []) x (and m.is none)))
 
   -- what stands before a tail
-  pub terms_quiet : {d : ℕ} {a x : tree.Expression} {ts r : List Token} → g.IsRelation text Ok d a ts r x → Quiet r
-      → QuietSimple ts
+  pub terms_quiet : {d : ℕ} {a x : tree.Expression} {ts r : List Token} → g.IsRelation text Ok d a ts r x
+      → EndsExpression r
+      → EndsSimple ts
   terms_quiet g.no_relation q = q.simple
   terms_quiet (g.relation c i s) q = quiet_relational c i
 
   pub factors_quiet : {d : ℕ} {a x : tree.Expression} {ts r : List Token} → g.IsMoreTerms text Ok d a ts r x
-      → QuietSimple r → QuietTerm ts
+      → EndsSimple r → EndsTerm ts
   factors_quiet g.terms_end q = q.term
   factors_quiet (g.terms_go_on c i s m) q = quiet_adding c i
 
   pub factor_quiet : {d : ℕ} {a x : tree.Expression} {ts r : List Token} → g.IsMoreFactors text Ok d a ts r x
-      → QuietTerm r → QuietFactor ts
+      → EndsTerm r → EndsFactor ts
   factor_quiet g.factors_end q = q.factor
   factor_quiet (g.factors_go_on c i s m) q = quiet_multiplying c i
 
-  pub width_quiet : {d : ℕ} {m : tree.Width} {ts r : List Token} → g.IsWidth text Ok d ts r m → Quiet r → Quiet ts
+  pub width_quiet : {d : ℕ} {m : tree.Width} {ts r : List Token} → g.IsWidth text Ok d ts r m → EndsExpression r
+      → EndsExpression ts
   width_quiet g.no_width q = q
   width_quiet (g.width i x) q = quiet_colon i
 
-  pub indices_quiet : {d : ℕ} {ss : tree.Selectors} {ts r : List Token} → g.IsMoreIndices text Ok d ts r ss → Quiet ts
+  pub indices_quiet : {d : ℕ} {ss : tree.Selectors} {ts r : List Token} → g.IsMoreIndices text Ok d ts r ss
+      → EndsExpression ts
   indices_quiet (g.indices_end i ss) = quiet_closeindex i
   indices_quiet (g.indices_go_on i x ss) = quiet_comma i
 
   pub arguments_quiet : {d : ℕ} {rest : tree.Arguments} {ts r : List Token} → g.IsMoreArguments text Ok d ts r rest
-      → Quiet ts
+      → EndsExpression ts
   arguments_quiet (g.arguments_end i) = quiet_close i
   arguments_quiet (g.arguments_go_on i a rest) = quiet_comma i
 
   pub arguments_width : (d : ℕ) {e : ℕ} {rest : tree.Arguments} {ts r : List Token}
-      → g.IsMoreArguments text Ok e ts r rest → Ends (sym.AWidth d) ts
+      → g.IsMoreArguments text Ok e ts r rest → TakesNone (sym.AWidth d) ts
   arguments_width d (g.arguments_end i) = ends (sym.AWidth d) w.Close refl i
   arguments_width d (g.arguments_go_on i a rest) = ends (sym.AWidth d) w.Comma refl i
 
   mutual
-    pub expression : {d : ℕ} {ts r : List Token} {x : tree.Expression} → g.IsExpression text Ok d ts r x → Quiet r
+    pub expression : {d : ℕ} {ts r : List Token} {x : tree.Expression} → g.IsExpression text Ok d ts r x
+        → EndsExpression r
         → D (sym.AnExpression d) ts r x
     expression (g.expression ok s m) q = as_expression ok (simple s (terms_quiet m q)) (relates m q)
 
-    pub relates : {d : ℕ} {a x : tree.Expression} {ts r : List Token} → g.IsRelation text Ok d a ts r x → Quiet r
-        → Relates d a ts r x
+    pub relates : {d : ℕ} {a x : tree.Expression} {ts r : List Token} → g.IsRelation text Ok d a ts r x
+        → EndsExpression r
+        → RelationFrom d a ts r x
     relates {d} g.no_relation q = record { f = λ a. a; is = skip (q.relation d) (λ t. refl); gives = refl }
     relates {d} {a} (g.relation {b = b} {o = o} c (g.it_is t p) s) q =
         record {
-          f = λ a. g.joined o a b;
+          f = λ a. g.binary_at_left o a b;
           is =
               take (row.relation c) (look_relation d c) t p tt (and (as_simple (simple s q.simple)) none);
           gives = refl;
         }
 
-    pub simple : {d : ℕ} {ts r : List Token} {x : tree.Expression} → g.IsSimple text Ok d ts r x → QuietSimple r
+    pub simple : {d : ℕ} {ts r : List Token} {x : tree.Expression} → g.IsSimple text Ok d ts r x → EndsSimple r
         → Simple d ts r x
     simple (g.simple (g.term f m) n) q = as_terms (factor f (factor_quiet m (factors_quiet n q)))
         (multiplies m (factors_quiet n q)) (adds n q)
@@ -276,32 +283,32 @@ module _ (text : List ℕ) (Ok : ℕ → List Token → Type 0) where
         subst (Simple d (t ∷ ts) r) m.gives (simple_begins row.simple_minus t p
         (and (term a (factors_quiet n q)) (and m.is none)))
 
-    pub adds : {d : ℕ} {a x : tree.Expression} {ts r : List Token} → g.IsMoreTerms text Ok d a ts r x → QuietSimple r
-        → Adds d a ts r x
+    pub adds : {d : ℕ} {a x : tree.Expression} {ts r : List Token} → g.IsMoreTerms text Ok d a ts r x → EndsSimple r
+        → TermsFrom d a ts r x
     adds {d} g.terms_end q = record { f = λ a. a; is = skip (q.terms d) (λ t. refl); gives = refl }
     adds {d} (g.terms_go_on {b = b} {o = o} c (g.it_is t p) s n) q = let m = adds n q in let h = m.f in
         record {
-          f = λ a. h (g.joined o a b);
+          f = λ a. h (g.binary_at_left o a b);
           is = take (row.next_term c) (look_adding d c) t p tt (and (term s (factors_quiet n q)) (and m.is none));
           gives = m.gives;
         }
 
-    pub term : {d : ℕ} {ts r : List Token} {x : tree.Expression} → g.IsTerm text Ok d ts r x → QuietTerm r
+    pub term : {d : ℕ} {ts r : List Token} {x : tree.Expression} → g.IsTerm text Ok d ts r x → EndsTerm r
         → D (sym.ATerm d) ts r x
     term (g.term f m) q = as_term (factor f (factor_quiet m q)) (multiplies m q)
 
     pub multiplies : {d : ℕ} {a x : tree.Expression} {ts r : List Token} → g.IsMoreFactors text Ok d a ts r x
-        → QuietTerm r → Multiplies d a ts r x
+        → EndsTerm r → FactorsFrom d a ts r x
     multiplies {d} g.factors_end q = record { f = λ a. a; is = skip (q.factors d) (λ t. refl); gives = refl }
     multiplies {d} (g.factors_go_on {b = b} {o = o} c (g.it_is t p) s n) q = let m = multiplies n q in let h = m.f in
         record {
-          f = λ a. h (g.joined o a b);
+          f = λ a. h (g.binary_at_left o a b);
           is = take (row.next_factor c) (look_multiplying d c) t p tt
               (and (as_factor (factor s (factor_quiet n q))) (and m.is none));
           gives = m.gives;
         }
 
-    pub factor : {d : ℕ} {ts r : List Token} {x : tree.Expression} → g.IsFactor text Ok d ts r x → QuietFactor r
+    pub factor : {d : ℕ} {ts r : List Token} {x : tree.Expression} → g.IsFactor text Ok d ts r x → EndsFactor r
         → Factor d ts r x
     factor (g.number t p) q = factor_begins row.factor_number t p none
     factor (g.text_factor t p) q = factor_begins row.factor_text t p none
@@ -323,7 +330,7 @@ module _ (text : List ℕ) (Ok : ℕ → List Token → Type 0) where
     factor (g.negated t p ok x) q = factor_begins row.factor_not t p (and (as_negated ok (factor x q)) none)
 
     pub selectors : {d : ℕ} {ts r : List Token} {ss : tree.Selectors} → g.IsSelectors text Ok d ts r ss
-        → ((d : ℕ) → Ends (sym.Selectors d) r) → D (sym.Selectors d) ts r ss
+        → ((d : ℕ) → TakesNone (sym.Selectors d) r) → D (sym.Selectors d) ts r ss
     selectors {d} g.selectors_end q = skip (q d) (λ t. refl)
     selectors (g.index (g.it_is o s) x ss) q =
         take (row.selector row.selector_index) refl o s tt
@@ -332,7 +339,7 @@ module _ (text : List ℕ) (Ok : ℕ → List Token → Type 0) where
         take (row.selector row.selector_field) refl o s tt (and (name n) (and (selectors ss q) none))
 
     pub indices : {d : ℕ} {ts r : List Token} {ss : tree.Selectors} → g.IsMoreIndices text Ok d ts r ss
-        → ((d : ℕ) → Ends (sym.Selectors d) r) → D (sym.MoreIndices d) ts r ss
+        → ((d : ℕ) → TakesNone (sym.Selectors d) r) → D (sym.MoreIndices d) ts r ss
     indices (g.indices_end (g.it_is t p) ss) q = take row.indices_end refl t p tt (and (selectors ss q) none)
     indices (g.indices_go_on (g.it_is t p) x ss) q =
         take row.next_index refl t p tt (and (expression x (indices_quiet ss)) (and (indices ss q) none))
@@ -344,8 +351,8 @@ module _ (text : List ℕ) (Ok : ℕ → List Token → Type 0) where
         take row.next_argument refl t p tt (and (expression x (width_quiet m (arguments_quiet rest)))
         (and (width m (arguments_quiet rest) (arguments_width d rest)) (and (arguments rest) none)))
 
-    pub width : {d : ℕ} {ts r : List Token} {m : tree.Width} → g.IsWidth text Ok d ts r m → Quiet r
-        → Ends (sym.AWidth d) r → D (sym.AWidth d) ts r m
+    pub width : {d : ℕ} {ts r : List Token} {m : tree.Width} → g.IsWidth text Ok d ts r m → EndsExpression r
+        → TakesNone (sym.AWidth d) r → D (sym.AWidth d) ts r m
     width g.no_width q h = skip h (λ t. refl)
     width (g.width (g.it_is t p) x) q h = take row.width refl t p tt (and (expression x q) none)
 
@@ -359,30 +366,32 @@ module _ (text : List ℕ) (Ok : ℕ → List Token → Type 0) where
   direction (g.upward (g.it_is t p)) = take row.upward refl t p tt none
   direction (g.downward (g.it_is t p)) = take row.downward refl t p tt none
 
-  pub direction_quiet : {ts r : List Token} {b : _} → g.IsDirection text Ok ts r b → Quiet ts
+  pub direction_quiet : {ts r : List Token} {b : _} → g.IsDirection text Ok ts r b → EndsExpression ts
   direction_quiet (g.upward i) = quiet_to i
   direction_quiet (g.downward i) = quiet_downto i
 
-  pub else_ended : {d : ℕ} {ts r : List Token} {o : tree.Other} → g.IsElse text Ok d ts r o → Ended r → Ended ts
+  pub else_ended : {d : ℕ} {ts r : List Token} {o : tree.ElsePart} → g.IsElse text Ok d ts r o → EndsStatement r
+      → EndsStatement ts
   else_ended (g.no_else h) q = q
   else_ended (g.other i s) q = ended_else i
 
   pub statements_ended : {d : ℕ} {ts r : List Token} {ss : tree.Statements} → g.IsMoreStatements text Ok d ts r ss
-      → Ended r → Ended ts
+      → EndsStatement r → EndsStatement ts
   statements_ended g.statements_end q = q
   statements_ended (g.statements_go_on i ss) q = ended_semicolon i
 
-  pub arms_ended : {d : ℕ} {ts r : List Token} {rest : tree.Arms} → g.IsMoreArms text Ok d ts r rest → Ended ts
+  pub arms_ended : {d : ℕ} {ts r : List Token} {rest : tree.Arms} → g.IsMoreArms text Ok d ts r rest → EndsStatement ts
   arms_ended (g.arms_end i) = ended_end i
   arms_ended (g.last_arm i e) = ended_semicolon i
   arms_ended (g.arms_go_on i a rest) = ended_semicolon i
 
-  pub branches_ended : {d : ℕ} {ts r : List Token} {bs : tree.Branches} → g.IsMoreBranches text Ok d ts r bs → Ended ts
+  pub branches_ended : {d : ℕ} {ts r : List Token} {bs : tree.Branches} → g.IsMoreBranches text Ok d ts r bs
+      → EndsStatement ts
   branches_ended (g.branches_end i) = ended_end i
   branches_ended (g.branches_go_on i bs) = ended_bar i
 
   pub branches_statements : (d : ℕ) {e : ℕ} {ts r : List Token} {bs : tree.Branches}
-      → g.IsMoreBranches text Ok e ts r bs → Ends (sym.MoreStatements d) ts
+      → g.IsMoreBranches text Ok e ts r bs → TakesNone (sym.MoreStatements d) ts
   branches_statements d (g.branches_end i) = ends (sym.MoreStatements d) w.End refl i
   branches_statements d (g.branches_go_on i bs) = ends (sym.MoreStatements d) w.Bar refl i
 
@@ -393,13 +402,13 @@ module _ (text : List ℕ) (Ok : ℕ → List Token → Type 0) where
   else_looks d (kind.Sign n) h = refl
   else_looks d (kind.Word n) h = word_looks d n h (9 == n) refl
 
-  pub else_ends : (d : ℕ) (r : List Token) → g.Lacks w.Else r → Ended r → Ends (sym.AnElse d) r
+  pub else_ends : (d : ℕ) (r : List Token) → g.Lacks w.Else r → EndsStatement r → TakesNone (sym.AnElse d) r
   else_ends d [] h q = q.statement 0
   else_ends d (t ∷ r) h q = else_looks d t.kind h
 
   -- a target with selectors
   pub as_target : {d : ℕ} {ts u v r : List Token} {x : tree.Expression} {k : Kind} {l : List Symbol} {vs : Values l}
-      (c : SelectorRow d k l) (t : Token) → t.kind ≡ k → All l ts u vs → g.Is w.Becomes u v
+      (c : SelectorRow d k l) (t : Token) → t.kind ≡ k → DerivesList l ts u vs → g.Is w.Becomes u v
       → D (sym.AnExpression d) v r x → D (sym.AfterName d) (t ∷ ts) r
       (λ n. tree.Assign (tree.Entire n (selector_value text c t vs)) x)
   as_target {d} {ts} {r = r} {x = x} {l = l} {vs = vs} c t p a b e =
@@ -409,7 +418,7 @@ module _ (text : List ℕ) (Ok : ℕ → List Token → Type 0) where
       (take (row.target c) (look_target d c) t p tt
       (join_all l (sym.AToken w.Becomes ∷ sym.AnExpression d ∷ []) a (and (token refl b) (and e none))))
 
-  pub becomes_ends : {ts r : List Token} → g.Is w.Becomes ts r → (d : ℕ) → Ends (sym.Selectors d) ts
+  pub becomes_ends : {ts r : List Token} → g.Is w.Becomes ts r → (d : ℕ) → TakesNone (sym.Selectors d) ts
   becomes_ends i d = ends (sym.Selectors d) w.Becomes refl i
 
   pub as_arm : {d : ℕ} {ts u v x r : List Token} {c : SynConst} {cs : List SynConst} {s : tree.Statement}
@@ -423,7 +432,7 @@ module _ (text : List ℕ) (Ok : ℕ → List Token → Type 0) where
       (join_all l (sym.MoreLabels ∷ sym.AStatement d ∷ sym.MoreArms d ∷ []) a (and x (and y (and z none)))))
 
   mutual
-    pub statement : {d : ℕ} {ts r : List Token} {s : tree.Statement} → g.IsStatement text Ok d ts r s → Ended r
+    pub statement : {d : ℕ} {ts r : List Token} {s : tree.Statement} → g.IsStatement text Ok d ts r s → EndsStatement r
         → D (sym.AStatement d) ts r s
     statement {d} (g.empty t) q = skips t (q.statement d) refl
     statement {d} (g.statement {r = r} t ok (g.assignment (g.variable (g.name t' p) g.selectors_end) (g.it_is b s) e))
@@ -479,13 +488,14 @@ module _ (text : List ℕ) (Ok : ℕ → List Token → Type 0) where
     statement {d} (g.statement t ok (g.assume (g.it_is t' p) e)) q =
         take (row.statement row.form_assume) refl t p ok (and (expression e q.expression) none)
 
-    pub else_to : {d : ℕ} {ts r : List Token} {o : tree.Other} → g.IsElse text Ok d ts r o → Ended r
+    pub else_to : {d : ℕ} {ts r : List Token} {o : tree.ElsePart} → g.IsElse text Ok d ts r o → EndsStatement r
         → D (sym.AnElse d) ts r o
     else_to {d} (g.no_else h) q = skip (else_ends d _ h q) (λ t. refl)
     else_to (g.other (g.it_is t p) s) q = take row.other refl t p tt (and (statement s q) none)
 
-    pub statements : {d : ℕ} {ts r : List Token} {ss : tree.Statements} → g.IsMoreStatements text Ok d ts r ss → Ended r
-        → Ends (sym.MoreStatements d) r → D (sym.MoreStatements d) ts r ss
+    pub statements : {d : ℕ} {ts r : List Token} {ss : tree.Statements} → g.IsMoreStatements text Ok d ts r ss
+        → EndsStatement r
+        → TakesNone (sym.MoreStatements d) r → D (sym.MoreStatements d) ts r ss
     statements g.statements_end q h = skip h (λ t. refl)
     statements (g.statements_go_on (g.it_is t p) (g.sequence s ss)) q h =
         take row.next_statement refl t p tt (and (statement s (statements_ended ss q)) (and (statements ss q h) none))
@@ -507,25 +517,26 @@ module _ (text : List ℕ) (Ok : ℕ → List Token → Type 0) where
         (and (statements ss (branches_ended bs) (branches_statements d bs)) (and (branches bs) none)))
 
   -- blocks
-  pub data Declares (d : ℕ) : List Token → List Token → tree.Block → Type 0 where
+  pub data DeclaresParts (d : ℕ) : List Token → List Token → tree.Block → Type 0 where
     parts_begin : {k : Kind} {l : List Symbol} {ts r : List Token} {vs : Values l} (c : PartsRow d k l) (t : Token)
-        → t.kind ≡ k → All l ts r vs → Declares d (t ∷ ts) r (parts_value text c t vs)
+        → t.kind ≡ k → DerivesList l ts r vs → DeclaresParts d (t ∷ ts) r (parts_value text c t vs)
 
-  pub as_block : {d : ℕ} {ts r : List Token} {b : tree.Block} → Ok d ts → Declares (suc d) ts r b
+  pub as_block : {d : ℕ} {ts r : List Token} {b : tree.Block} → Ok d ts → DeclaresParts (suc d) ts r b
       → D (sym.ABlock d) ts r b
   as_block {d} ok (parts_begin c t p x) = take (row.block c) (look_block d c) t p ok x
 
-  pub as_parts : {d : ℕ} {ts r : List Token} {b : tree.Block} → Declares d ts r b → D (sym.Parts d) ts r b
+  pub as_parts : {d : ℕ} {ts r : List Token} {b : tree.Block} → DeclaresParts d ts r b → D (sym.Parts d) ts r b
   as_parts {d} (parts_begin c t p x) = take (row.parts c) (look_parts d c) t p tt x
 
-  pub as_after_constants : {d : ℕ} {ts r : List Token} {b : tree.Block} → Declares d ts r b
+  pub as_after_constants : {d : ℕ} {ts r : List Token} {b : tree.Block} → DeclaresParts d ts r b
       → D (sym.MoreConstants d) ts r b
   as_after_constants {d} (parts_begin c t p x) = take (row.after_constants c) (look_after_constants d c) t p tt x
 
-  pub as_after_types : {d : ℕ} {ts r : List Token} {b : tree.Block} → Declares d ts r b → D (sym.MoreTypes d) ts r b
+  pub as_after_types : {d : ℕ} {ts r : List Token} {b : tree.Block} → DeclaresParts d ts r b
+      → D (sym.MoreTypes d) ts r b
   as_after_types {d} (parts_begin c t p x) = take (row.after_types c) (look_after_types d c) t p tt x
 
-  pub as_after_variables : {d : ℕ} {ts r : List Token} {b : tree.Block} → Declares d ts r b
+  pub as_after_variables : {d : ℕ} {ts r : List Token} {b : tree.Block} → DeclaresParts d ts r b
       → D (sym.MoreVariables d) ts r b
   as_after_variables {d} (parts_begin c t p x) = take (row.after_variables c) (look_after_variables d c) t p tt x
 
@@ -533,7 +544,7 @@ module _ (text : List ℕ) (Ok : ℕ → List Token → Type 0) where
     pub block : {d : ℕ} {ts r : List Token} {b : tree.Block} → g.IsBlock text Ok d ts r b → D (sym.ABlock d) ts r b
     block (g.block ok b) = as_block ok (parts b)
 
-    pub parts : {d : ℕ} {ts r : List Token} {b : tree.Block} → g.IsParts text Ok d ts r b → Declares d ts r b
+    pub parts : {d : ℕ} {ts r : List Token} {b : tree.Block} → g.IsParts text Ok d ts r b → DeclaresParts d ts r b
     parts {d} (g.body (g.compound (g.it_is t p) (g.sequence s ss) e)) =
         parts_begin row.parts_begin t p (and (statement s (statements_ended ss (ended_end e)))
         (and (statements ss (ended_end e) (ends (sym.MoreStatements d) w.End refl e)) (and (token refl e) none)))

@@ -5,13 +5,13 @@ use Rattle.sp_tree.specs.PlainSyntax.{Program}
 use Rattle.sp_tree.specs.Grammar.{IsProgram}
 use Rattle.sp_tree.specs.Viable.{Any, Shallow, Spells, IsViable, IsShallow}
 use Rattle.sp_grammar.specs.Symbols.{Symbol, Value, Values, part}
-use Rattle.sp_grammar.specs.Derives.{Begins, Derives, takes, skips, DerivesAll, none, and}
+use Rattle.sp_grammar.specs.Derives.{PartMayBegin, Derives, takes, skips, DerivesAll, none, and}
 use Rattle.sp_grammar.proofs.From.{from}
 use Rattle.sp_grammar.proofs.To.{program}
 
 module _ (text : List ℕ) (Ok More : ℕ → List Token → Type 0)
     (more : (d : ℕ) (ts : List Token) → Ok d ts → More d ts) where
-  may_begin : (p : Option ℕ) (ts : List Token) → Begins Ok p ts → Begins More p ts
+  may_begin : (p : Option ℕ) (ts : List Token) → PartMayBegin Ok p ts → PartMayBegin More p ts
   may_begin None ts h = h
   may_begin (Some d) ts h = more d ts h
 

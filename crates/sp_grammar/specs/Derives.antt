@@ -8,19 +8,19 @@
 use Rattle.std.specs.Prelude.{◌≡◌, ℕ, List, [], ◌∷◌, Option, Some, None}
 use Rattle.sp_tree.specs.declared.token.Token.{Token}
 use Rattle.sp_grammar.specs.Symbols.{Symbol, Value, Values, part}
-use Rattle.sp_grammar.specs.Table.{Entry, Row, rows, look, gap, build}
+use Rattle.sp_grammar.specs.Table.{RowEntry, Row, rows, look, gap, build}
 
 -- a part may begin here, if it is one: with nothing in place of a depth it is none
-abbrev pub Begins : (ℕ → List Token → Type 0) → Option ℕ → List Token → Type 0
-Begins Ok None ts = Unit {0}
-Begins Ok (Some d) ts = Ok d ts
+abbrev pub PartMayBegin : (ℕ → List Token → Type 0) → Option ℕ → List Token → Type 0
+PartMayBegin Ok None ts = Unit {0}
+PartMayBegin Ok (Some d) ts = Ok d ts
 
 module _ (text : List ℕ) (Ok : ℕ → List Token → Type 0) where
   mutual
     -- from the first tokens on, a symbol stands for the value, and the second tokens are left
     pub data Derives : (s : Symbol) → List Token → List Token → Value s → Type 0 where
-      takes : {s : Symbol} {ts r : List Token} (t : Token) (e : Entry (Row s)) {vs : Values e.left}
-          → look (rows s) t.kind ≡ Some e → Begins Ok (part s) (t ∷ ts) → DerivesAll e.left ts r vs
+      takes : {s : Symbol} {ts r : List Token} (t : Token) (e : RowEntry (Row s)) {vs : Values e.left}
+          → look (rows s) t.kind ≡ Some e → PartMayBegin Ok (part s) (t ∷ ts) → DerivesAll e.left ts r vs
           → Derives s (t ∷ ts) r (build text e.row t vs)
       skips : {s : Symbol} {r : List Token} (t : Token) {v : Value s} → look (rows s) t.kind ≡ None → gap s t ≡ Some v
           → Derives s (t ∷ r) (t ∷ r) v

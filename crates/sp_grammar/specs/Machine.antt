@@ -9,7 +9,7 @@ use Rattle.std.specs.Prelude.{◌≡◌, ℕ, ◌<◌, Bool, true, false, nat_lt
 use Rattle.std.specs.Prelude.{◌⊎◌}
 use Rattle.sp_tree.specs.declared.token.Token.{Token}
 use Rattle.sp_grammar.specs.Symbols.{Symbol, Value, part}
-use Rattle.sp_grammar.specs.Table.{Entry, Row, rows, look, gap}
+use Rattle.sp_grammar.specs.Table.{RowEntry, Row, rows, look, gap}
 
 -- why it cannot go on: no program goes on so, or a part would lie too deep
 pub data Why : Type 0 where
@@ -39,7 +39,7 @@ skips_if None = Fail Bad
 skips_if (Some v) = Skip
 
 -- the act by the row of the token, if there is one
-abbrev pub acts : {s : Symbol} → Bool → Option (Entry (Row s)) → Option (Value s) → Act
+abbrev pub acts : {s : Symbol} → Bool → Option (RowEntry (Row s)) → Option (Value s) → Act
 acts b None g = skips_if g
 acts b (Some e) g = takes_if b e.left
 
@@ -48,39 +48,40 @@ abbrev pub act : Option ℕ → Symbol → Token → Act
 act reach s t = acts (allows reach (part s)) (look (rows s) t.kind) (gap s t)
 
 -- a stack after a token, or why not
-pub data Next : Type 0 where
-  On : List Symbol → Next
-  No : Why → Next
+pub data NextStack : Type 0 where
+  On : List Symbol → NextStack
+  No : Why → NextStack
 
 -- the stack behind an act of its first symbol; the others act in turn where that one is left out
-abbrev pub acted : Act → List Symbol → Next → Next
-acted (Take l) stack o = On (l ++ stack)
-acted Skip stack o = o
-acted (Fail w) stack o = No w
+abbrev pub next_of_act : Act → List Symbol → NextStack → NextStack
+next_of_act (Take l) stack o = On (l ++ stack)
+next_of_act Skip stack o = o
+next_of_act (Fail w) stack o = No w
 
 -- the stack behind a token
-abbrev pub after : Option ℕ → List Symbol → Token → Next
-after reach [] t = No Bad
-after reach (s ∷ stack) t = acted (act reach s t) stack (after reach stack t)
+abbrev pub next_behind : Option ℕ → List Symbol → Token → NextStack
+next_behind reach [] t = No Bad
+next_behind reach (s ∷ stack) t = next_of_act (act reach s t) stack (next_behind reach stack t)
 
 -- how a run ends: all is taken and nothing is pending; or why it cannot go on, and the tokens that are left
-pub data End : Type 0 where
-  Done : End
-  Stuck : Why → List Token → End
+pub data RunEnd : Type 0 where
+  Done : RunEnd
+  StuckAt : Why → List Token → RunEnd
 
 -- the run goes on with the stack behind the first of these tokens, or ends there
-abbrev pub going : Next → List Token → (List Symbol → End) → End
-going (No w) ts go = Stuck w ts
-going (On stack) ts go = go stack
+abbrev pub end_from : NextStack → List Token → (List Symbol → RunEnd) → RunEnd
+end_from (No w) ts go = StuckAt w ts
+end_from (On stack) ts go = go stack
 
 -- the end of a run over these tokens, with these symbols pending
-abbrev pub run : Option ℕ → List Token → List Symbol → End
+abbrev pub run : Option ℕ → List Token → List Symbol → RunEnd
 run reach [] [] = Done
-run reach [] (s ∷ stack) = Stuck Bad []
-run reach (t ∷ ts) stack = going (after reach stack t) (t ∷ ts) (run reach ts)
+run reach [] (s ∷ stack) = StuckAt Bad []
+run reach (t ∷ ts) stack = end_from (next_behind reach stack t) (t ∷ ts) (run reach ts)
 
 -- From these tokens and this stack the machine comes to those, or it gets stuck with fewer than k tokens left.
-pub record Leads (reach : Option ℕ) (k : ℕ) (ts : List Token) (j : List Symbol) (r : List Token) (l : List Symbol) :
+pub record RunContinues (reach : Option ℕ) (k : ℕ) (ts : List Token) (j : List Symbol) (r : List Token)
+    (l : List Symbol) :
     Type 0 where
   pub by : (run reach ts j ≡ run reach r l) ⊎ ((w : Why) × (us : List Token) × (length us < k)
-      × (run reach ts j ≡ Stuck w us))
+      × (run reach ts j ≡ StuckAt w us))

@@ -56,7 +56,7 @@ module _ (text : List ℕ) (Ok : ℕ → List Token → Type 0) where
   Means (AFactor d) ts r v = g.IsFactor text Ok d ts r v
   Means (ANegated d) ts r v = Ok d ts × g.IsFactor text Ok (suc d) ts r v
   Means (AReference d) ts r v = (t : Token) (us : List Token) (n : Name) → g.IsName text (t ∷ us) ts n
-      → g.IsFactor text Ok d (t ∷ us) r (tree.At t.at (v n))
+      → g.IsFactor text Ok d (t ∷ us) r (tree.ExpressionAt t.at (v n))
   Means (Selectors d) ts r v = g.IsSelectors text Ok d ts r v
   Means (MoreIndices d) ts r v = g.IsMoreIndices text Ok d ts r v
   Means (MoreArguments d) ts r v = g.IsMoreArguments text Ok d ts r v

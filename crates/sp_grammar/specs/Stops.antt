@@ -10,7 +10,7 @@ use Rattle.sp_tree.specs.declared.token.Token.{Token}
 use Rattle.sp_tree.specs.Places.{place_at}
 use Rattle.sp_tree.specs.Breaches.{nesting}
 use Rattle.sp_grammar.specs.Symbols.{Symbol}
-use Rattle.sp_grammar.specs.Machine.{Why, Bad, Deep, Stuck, run}
+use Rattle.sp_grammar.specs.Machine.{Why, Bad, Deep, StuckAt, run}
 
 -- the rule and its place, by why the machine got stuck and the tokens that were left
 abbrev pub refusal_of : List ℕ → Why → List Token → Refusal
@@ -19,8 +19,8 @@ refusal_of text Bad (t ∷ ts) = record { rule = rule.G1; at = t.at }
 refusal_of text Deep (t ∷ ts) = record { rule = rule.L2; at = t.at }
 
 -- From these tokens and this stack the machine gets stuck, and this rule is broken there.
-pub record Stops (text : List ℕ) (ts : List Token) (stack : List Symbol) (r : Refusal) : Type 0 where
+pub record GetsStuck (text : List ℕ) (ts : List Token) (stack : List Symbol) (r : Refusal) : Type 0 where
   pub why : Why
   pub rest : List Token
-  pub by : run (Some nesting) ts stack ≡ Stuck why rest
+  pub by : run (Some nesting) ts stack ≡ StuckAt why rest
   pub is : refusal_of text why rest ≡ r

@@ -18,7 +18,8 @@ use Rattle.sp_tree.specs.Words as w
 use Rattle.sp_tree.specs.Spelling.{name_of, number_of, quoted_of}
 use Rattle.sp_tree.specs.PlainSyntax as tree
 use Rattle.sp_tree.specs.Grammar.{IsRelational, equal, unequal, less, at_most, greater, at_least, IsAdding, plus, minus}
-use Rattle.sp_tree.specs.Grammar.{or, IsMultiplying, times, quotient, modulo, and, joined, moved, declared}
+use Rattle.sp_tree.specs.Grammar.{or, IsMultiplying, times, quotient, modulo, and, binary_at_left, with_place}
+use Rattle.sp_tree.specs.Grammar.{with_part_first}
 use Rattle.sp_grammar.specs.Symbols.{Symbol, AToken, AName, AProgram, AHeading, MoreNames, AConstant, AValue, AType}
 use Rattle.sp_grammar.specs.Symbols.{MoreFields, FieldOrEnd, AFormal, MoreFormals, Formals, ABlock, Parts}
 use Rattle.sp_grammar.specs.Symbols.{MoreConstants, MoreTypes, MoreVariables, AStatement, AfterName, AnElse}
@@ -156,84 +157,92 @@ pub data Row : Symbol → Kind → List Symbol → Type 0 where
   width : {d : ℕ} → Row (AWidth d) w.Colon (AnExpression d ∷ [])
 
 -- a row with its token and what it leaves
-pub record Entry (R : Kind → List Symbol → Type 0) : Type 0 where
+pub record RowEntry (R : Kind → List Symbol → Type 0) : Type 0 where
   pub key : Kind
   pub left : List Symbol
   pub row : R key left
 
 -- such an entry from its row
-abbrev pub entry : {R : Kind → List Symbol → Type 0} (k : Kind) (l : List Symbol) → R k l → Entry R
-entry k l row = record { key = k; left = l; row = row }
+abbrev pub row_entry : {R : Kind → List Symbol → Type 0} (k : Kind) (l : List Symbol) → R k l → RowEntry R
+row_entry k l row = record { key = k; left = l; row = row }
 
 -- the rows that several symbols share
-abbrev pub constant_rows : List (Entry ConstantRow)
-constant_rows = entry _ _ constant_number ∷ entry _ _ constant_name ∷ entry _ _ constant_text ∷ entry _ _ constant_plus
-    ∷ entry _ _ constant_minus ∷ []
+abbrev pub constant_rows : List (RowEntry ConstantRow)
+constant_rows = row_entry _ _ constant_number ∷ row_entry _ _ constant_name ∷ row_entry _ _ constant_text
+    ∷ row_entry _ _ constant_plus
+    ∷ row_entry _ _ constant_minus ∷ []
 
-abbrev pub parts_rows : (d : ℕ) → List (Entry (PartsRow d))
-parts_rows d = entry _ _ parts_begin ∷ entry _ _ parts_const ∷ entry _ _ parts_type ∷ entry _ _ parts_var
-    ∷ entry _ _ parts_procedure ∷ entry _ _ parts_function ∷ []
+abbrev pub parts_rows : (d : ℕ) → List (RowEntry (PartsRow d))
+parts_rows d = row_entry _ _ parts_begin ∷ row_entry _ _ parts_const ∷ row_entry _ _ parts_type
+    ∷ row_entry _ _ parts_var
+    ∷ row_entry _ _ parts_procedure ∷ row_entry _ _ parts_function ∷ []
 
-abbrev pub form_rows : (d : ℕ) → List (Entry (FormRow d))
-form_rows d = entry _ _ form_name ∷ entry _ _ form_begin ∷ entry _ _ form_if ∷ entry _ _ form_while
-    ∷ entry _ _ form_repeat ∷ entry _ _ form_for ∷ entry _ _ form_case ∷ entry _ _ form_parallel ∷ entry _ _ form_forall
-    ∷ entry _ _ form_assume ∷ []
+abbrev pub form_rows : (d : ℕ) → List (RowEntry (FormRow d))
+form_rows d = row_entry _ _ form_name ∷ row_entry _ _ form_begin ∷ row_entry _ _ form_if ∷ row_entry _ _ form_while
+    ∷ row_entry _ _ form_repeat ∷ row_entry _ _ form_for ∷ row_entry _ _ form_case ∷ row_entry _ _ form_parallel
+    ∷ row_entry _ _ form_forall
+    ∷ row_entry _ _ form_assume ∷ []
 
-abbrev pub selector_rows : (d : ℕ) → List (Entry (SelectorRow d))
-selector_rows d = entry _ _ selector_index ∷ entry _ _ selector_field ∷ []
+abbrev pub selector_rows : (d : ℕ) → List (RowEntry (SelectorRow d))
+selector_rows d = row_entry _ _ selector_index ∷ row_entry _ _ selector_field ∷ []
 
-abbrev pub factor_rows : (d : ℕ) → List (Entry (FactorRow d))
-factor_rows d = entry _ _ factor_number ∷ entry _ _ factor_text ∷ entry _ _ factor_name ∷ entry _ _ factor_open
-    ∷ entry _ _ factor_not ∷ []
+abbrev pub factor_rows : (d : ℕ) → List (RowEntry (FactorRow d))
+factor_rows d = row_entry _ _ factor_number ∷ row_entry _ _ factor_text ∷ row_entry _ _ factor_name
+    ∷ row_entry _ _ factor_open
+    ∷ row_entry _ _ factor_not ∷ []
 
-abbrev pub simple_rows : (d : ℕ) → List (Entry (SimpleRow d))
-simple_rows d = entry _ _ simple_plus ∷ entry _ _ simple_minus
-    ∷ map (λ e. entry _ _ (simple_factor e.row)) (factor_rows d)
+abbrev pub simple_rows : (d : ℕ) → List (RowEntry (SimpleRow d))
+simple_rows d = row_entry _ _ simple_plus ∷ row_entry _ _ simple_minus
+    ∷ map (λ e. row_entry _ _ (simple_factor e.row)) (factor_rows d)
 
 -- the rows of each symbol, in the order in which they are looked up
-abbrev pub rows : (s : Symbol) → List (Entry (Row s))
-rows (AToken k) = entry _ _ token ∷ []
-rows AName = entry _ _ name ∷ []
-rows AProgram = entry _ _ program ∷ []
-rows AHeading = entry _ _ heading ∷ []
-rows MoreNames = entry _ _ next_name ∷ []
-rows AConstant = map (λ e. entry _ _ (constant e.row)) constant_rows
-rows AValue = entry _ _ value_number ∷ entry _ _ value_name ∷ []
-rows AType = entry _ _ alias ∷ entry _ _ enumeration ∷ entry _ _ array ∷ entry _ _ fields ∷ entry _ _ channel ∷ []
-rows MoreFields = entry _ _ fields_end ∷ entry _ _ fields_go_on ∷ []
-rows FieldOrEnd = entry _ _ no_field ∷ entry _ _ next_field ∷ []
-rows AFormal = entry _ _ by_value ∷ entry _ _ by_reference ∷ []
-rows MoreFormals = entry _ _ formals_end ∷ entry _ _ next_formal ∷ []
-rows Formals = entry _ _ formals ∷ []
-rows (ABlock d) = map (λ e. entry _ _ (block e.row)) (parts_rows (suc d))
-rows (Parts d) = map (λ e. entry _ _ (parts e.row)) (parts_rows d)
-rows (MoreConstants d) = entry _ _ next_constant ∷ map (λ e. entry _ _ (after_constants e.row)) (parts_rows d)
-rows (MoreTypes d) = entry _ _ next_type ∷ map (λ e. entry _ _ (after_types e.row)) (parts_rows d)
-rows (MoreVariables d) = entry _ _ next_variable ∷ map (λ e. entry _ _ (after_variables e.row)) (parts_rows d)
-rows (AStatement d) = map (λ e. entry _ _ (statement e.row)) (form_rows (suc d))
-rows (AfterName d) = entry _ _ becomes ∷ entry _ _ call ∷ map (λ e. entry _ _ (target e.row)) (selector_rows d)
-rows (AnElse d) = entry _ _ other ∷ []
-rows (MoreStatements d) = entry _ _ next_statement ∷ []
-rows (MoreBranches d) = entry _ _ branches_end ∷ entry _ _ next_branch ∷ []
-rows MoreLabels = entry _ _ labels_end ∷ entry _ _ next_label ∷ []
-rows (MoreArms d) = entry _ _ arms_end ∷ entry _ _ arms_go_on ∷ []
-rows (ArmOrEnd d) = entry _ _ no_arm ∷ map (λ e. entry _ _ (next_arm e.row)) constant_rows
-rows ADirection = entry _ _ upward ∷ entry _ _ downward ∷ []
-rows (AnExpression d) = map (λ e. entry _ _ (expression e.row)) (simple_rows (suc d))
-rows (ARelation d) = entry _ _ (relation equal) ∷ entry _ _ (relation unequal) ∷ entry _ _ (relation less)
-    ∷ entry _ _ (relation at_most) ∷ entry _ _ (relation greater) ∷ entry _ _ (relation at_least) ∷ []
-rows (ASimple d) = map (λ e. entry _ _ (simple e.row)) (simple_rows d)
-rows (MoreTerms d) = entry _ _ (next_term plus) ∷ entry _ _ (next_term minus) ∷ entry _ _ (next_term or) ∷ []
-rows (ATerm d) = map (λ e. entry _ _ (term e.row)) (factor_rows d)
-rows (MoreFactors d) = entry _ _ (next_factor times) ∷ entry _ _ (next_factor quotient) ∷ entry _ _ (next_factor modulo)
-    ∷ entry _ _ (next_factor and) ∷ []
-rows (AFactor d) = map (λ e. entry _ _ (factor e.row)) (factor_rows d)
-rows (ANegated d) = map (λ e. entry _ _ (negated e.row)) (factor_rows (suc d))
-rows (AReference d) = entry _ _ arguments ∷ map (λ e. entry _ _ (reference e.row)) (selector_rows d)
-rows (Selectors d) = map (λ e. entry _ _ (selector e.row)) (selector_rows d)
-rows (MoreIndices d) = entry _ _ indices_end ∷ entry _ _ next_index ∷ []
-rows (MoreArguments d) = entry _ _ arguments_end ∷ entry _ _ next_argument ∷ []
-rows (AWidth d) = entry _ _ width ∷ []
+abbrev pub rows : (s : Symbol) → List (RowEntry (Row s))
+rows (AToken k) = row_entry _ _ token ∷ []
+rows AName = row_entry _ _ name ∷ []
+rows AProgram = row_entry _ _ program ∷ []
+rows AHeading = row_entry _ _ heading ∷ []
+rows MoreNames = row_entry _ _ next_name ∷ []
+rows AConstant = map (λ e. row_entry _ _ (constant e.row)) constant_rows
+rows AValue = row_entry _ _ value_number ∷ row_entry _ _ value_name ∷ []
+rows AType = row_entry _ _ alias ∷ row_entry _ _ enumeration ∷ row_entry _ _ array ∷ row_entry _ _ fields
+    ∷ row_entry _ _ channel ∷ []
+rows MoreFields = row_entry _ _ fields_end ∷ row_entry _ _ fields_go_on ∷ []
+rows FieldOrEnd = row_entry _ _ no_field ∷ row_entry _ _ next_field ∷ []
+rows AFormal = row_entry _ _ by_value ∷ row_entry _ _ by_reference ∷ []
+rows MoreFormals = row_entry _ _ formals_end ∷ row_entry _ _ next_formal ∷ []
+rows Formals = row_entry _ _ formals ∷ []
+rows (ABlock d) = map (λ e. row_entry _ _ (block e.row)) (parts_rows (suc d))
+rows (Parts d) = map (λ e. row_entry _ _ (parts e.row)) (parts_rows d)
+rows (MoreConstants d) = row_entry _ _ next_constant ∷ map (λ e. row_entry _ _ (after_constants e.row)) (parts_rows d)
+rows (MoreTypes d) = row_entry _ _ next_type ∷ map (λ e. row_entry _ _ (after_types e.row)) (parts_rows d)
+rows (MoreVariables d) = row_entry _ _ next_variable ∷ map (λ e. row_entry _ _ (after_variables e.row)) (parts_rows d)
+rows (AStatement d) = map (λ e. row_entry _ _ (statement e.row)) (form_rows (suc d))
+rows (AfterName d) = row_entry _ _ becomes ∷ row_entry _ _ call ∷ map (λ e. row_entry _ _ (target e.row))
+    (selector_rows d)
+rows (AnElse d) = row_entry _ _ other ∷ []
+rows (MoreStatements d) = row_entry _ _ next_statement ∷ []
+rows (MoreBranches d) = row_entry _ _ branches_end ∷ row_entry _ _ next_branch ∷ []
+rows MoreLabels = row_entry _ _ labels_end ∷ row_entry _ _ next_label ∷ []
+rows (MoreArms d) = row_entry _ _ arms_end ∷ row_entry _ _ arms_go_on ∷ []
+rows (ArmOrEnd d) = row_entry _ _ no_arm ∷ map (λ e. row_entry _ _ (next_arm e.row)) constant_rows
+rows ADirection = row_entry _ _ upward ∷ row_entry _ _ downward ∷ []
+rows (AnExpression d) = map (λ e. row_entry _ _ (expression e.row)) (simple_rows (suc d))
+rows (ARelation d) = row_entry _ _ (relation equal) ∷ row_entry _ _ (relation unequal) ∷ row_entry _ _ (relation less)
+    ∷ row_entry _ _ (relation at_most) ∷ row_entry _ _ (relation greater) ∷ row_entry _ _ (relation at_least) ∷ []
+rows (ASimple d) = map (λ e. row_entry _ _ (simple e.row)) (simple_rows d)
+rows (MoreTerms d) = row_entry _ _ (next_term plus) ∷ row_entry _ _ (next_term minus)
+    ∷ row_entry _ _ (next_term or) ∷ []
+rows (ATerm d) = map (λ e. row_entry _ _ (term e.row)) (factor_rows d)
+rows (MoreFactors d) = row_entry _ _ (next_factor times) ∷ row_entry _ _ (next_factor quotient)
+    ∷ row_entry _ _ (next_factor modulo)
+    ∷ row_entry _ _ (next_factor and) ∷ []
+rows (AFactor d) = map (λ e. row_entry _ _ (factor e.row)) (factor_rows d)
+rows (ANegated d) = map (λ e. row_entry _ _ (negated e.row)) (factor_rows (suc d))
+rows (AReference d) = row_entry _ _ arguments ∷ map (λ e. row_entry _ _ (reference e.row)) (selector_rows d)
+rows (Selectors d) = map (λ e. row_entry _ _ (selector e.row)) (selector_rows d)
+rows (MoreIndices d) = row_entry _ _ indices_end ∷ row_entry _ _ next_index ∷ []
+rows (MoreArguments d) = row_entry _ _ arguments_end ∷ row_entry _ _ next_argument ∷ []
+rows (AWidth d) = row_entry _ _ width ∷ []
 
 -- whether two kinds are the same
 abbrev pub kind_is : Kind → Kind → Bool
@@ -245,7 +254,7 @@ kind_is (kind.Sign a) (kind.Sign b) = a == b
 kind_is a b = false
 
 -- the first of these rows whose token is of this kind
-abbrev pub look : {R : Kind → List Symbol → Type 0} → List (Entry R) → Kind → Option (Entry R)
+abbrev pub look : {R : Kind → List Symbol → Type 0} → List (RowEntry R) → Kind → Option (RowEntry R)
 look [] k = None
 look (e ∷ es) k = cond (kind_is e.key k) (Some e) (look es k)
 
@@ -281,12 +290,13 @@ module _ (text : List ℕ) where
     parts = tree.NoPart;
     body = tree.Does t.at (tree.Sequence (tree.AndThen s ss));
   }
-  parts_value parts_const t (n, (e, (c, (s, (b, u))))) = declared (tree.Const n c) b
-  parts_value parts_type t (n, (e, (c, (s, (b, u))))) = declared (tree.Kind n c) b
-  parts_value parts_var t (n, (ns, (c, (k, (s, (b, u)))))) = declared (tree.Var (n ∷ ns) k) b
-  parts_value parts_procedure t (n, (fs, (c, (b, (s, (m, u)))))) = declared (tree.Proc n fs None b.parts b.body) m
+  parts_value parts_const t (n, (e, (c, (s, (b, u))))) = with_part_first (tree.Const n c) b
+  parts_value parts_type t (n, (e, (c, (s, (b, u))))) = with_part_first (tree.Kind n c) b
+  parts_value parts_var t (n, (ns, (c, (k, (s, (b, u)))))) = with_part_first (tree.Var (n ∷ ns) k) b
+  parts_value parts_procedure t (n, (fs, (c, (b, (s, (m, u)))))) =
+      with_part_first (tree.Proc n fs None b.parts b.body) m
   parts_value parts_function t (n, (fs, (c, (a, (e, (b, (s, (m, u)))))))) =
-      declared (tree.Proc n fs (Some a) b.parts b.body) m
+      with_part_first (tree.Proc n fs (Some a) b.parts b.body) m
 
   abbrev pub form_value : {d : ℕ} {k : Kind} {l : List Symbol} → FormRow d k l → Token → Values l → tree.Form
   form_value form_name t (f, u) = f (name_of text t)
@@ -306,17 +316,17 @@ module _ (text : List ℕ) where
   selector_value selector_field t (n, (ss, u)) = tree.Select (tree.Field n) ss
 
   abbrev pub factor_value : {d : ℕ} {k : Kind} {l : List Symbol} → FactorRow d k l → Token → Values l → tree.Expression
-  factor_value factor_number t vs = tree.At t.at (tree.Number (number_of text t))
-  factor_value factor_text t vs = tree.At t.at (tree.Quoted (quoted_of text t))
-  factor_value factor_name t (f, u) = tree.At t.at (f (name_of text t))
-  factor_value factor_open t (e, u) = moved t.at e
-  factor_value factor_not t (e, u) = tree.At t.at (tree.Unary unary.Not e)
+  factor_value factor_number t vs = tree.ExpressionAt t.at (tree.Number (number_of text t))
+  factor_value factor_text t vs = tree.ExpressionAt t.at (tree.Quoted (quoted_of text t))
+  factor_value factor_name t (f, u) = tree.ExpressionAt t.at (f (name_of text t))
+  factor_value factor_open t (e, u) = with_place t.at e
+  factor_value factor_not t (e, u) = tree.ExpressionAt t.at (tree.Unary unary.Not e)
 
   abbrev pub simple_value : {d : ℕ} {k : Kind} {l : List Symbol} → SimpleRow d k l → Token → Values l → tree.Expression
   simple_value (simple_factor {l = l} row) t vs = let p = split l (MoreFactors _ ∷ MoreTerms _ ∷ []) vs in
       p.1.1.0 (p.1.0 (factor_value row t p.0))
-  simple_value simple_plus t (a, (f, u)) = f (tree.At t.at (tree.Unary unary.Plus a))
-  simple_value simple_minus t (a, (f, u)) = f (tree.At t.at (tree.Unary unary.Minus a))
+  simple_value simple_plus t (a, (f, u)) = f (tree.ExpressionAt t.at (tree.Unary unary.Plus a))
+  simple_value simple_minus t (a, (f, u)) = f (tree.ExpressionAt t.at (tree.Unary unary.Minus a))
 
   abbrev pub build : {s : Symbol} {k : Kind} {l : List Symbol} → Row s k l → Token → Values l → Value s
   build token t vs = tt
@@ -344,11 +354,11 @@ module _ (text : List ℕ) where
   build (block row) t vs = parts_value row t vs
   build (parts row) t vs = parts_value row t vs
   build (after_constants row) t vs = parts_value row t vs
-  build next_constant t (e, (c, (s, (b, u)))) = declared (tree.Const (name_of text t) c) b
+  build next_constant t (e, (c, (s, (b, u)))) = with_part_first (tree.Const (name_of text t) c) b
   build (after_types row) t vs = parts_value row t vs
-  build next_type t (e, (c, (s, (b, u)))) = declared (tree.Kind (name_of text t) c) b
+  build next_type t (e, (c, (s, (b, u)))) = with_part_first (tree.Kind (name_of text t) c) b
   build (after_variables row) t vs = parts_value row t vs
-  build next_variable t (ns, (c, (k, (s, (b, u))))) = declared (tree.Var (name_of text t ∷ ns) k) b
+  build next_variable t (ns, (c, (k, (s, (b, u))))) = with_part_first (tree.Var (name_of text t ∷ ns) k) b
   build (statement row) t vs = tree.Does t.at (form_value row t vs)
   build becomes t (e, u) = λ n. tree.Assign (tree.Entire n tree.Whole) e
   build (target {d = d} {l = l} row) t vs = let p = split l (AToken w.Becomes ∷ AnExpression d ∷ []) vs in
@@ -369,11 +379,11 @@ module _ (text : List ℕ) where
   build downward t vs = true
   build (expression {d = d} {l = l} row) t vs = let p = split l (ARelation (suc d) ∷ []) vs in
       p.1.0 (simple_value row t p.0)
-  build (relation {o = o} row) t (b, u) = λ a. joined o a b
+  build (relation {o = o} row) t (b, u) = λ a. binary_at_left o a b
   build (simple row) t vs = simple_value row t vs
-  build (next_term {o = o} row) t (b, (f, u)) = λ a. f (joined o a b)
+  build (next_term {o = o} row) t (b, (f, u)) = λ a. f (binary_at_left o a b)
   build (term {d = d} {l = l} row) t vs = let p = split l (MoreFactors d ∷ []) vs in p.1.0 (factor_value row t p.0)
-  build (next_factor {o = o} row) t (b, (f, u)) = λ a. f (joined o a b)
+  build (next_factor {o = o} row) t (b, (f, u)) = λ a. f (binary_at_left o a b)
   build (factor row) t vs = factor_value row t vs
   build (negated row) t vs = factor_value row t vs
   build arguments t (e, (m, (rest, u))) = λ n. tree.Apply n (tree.AndArgument (tree.Pass e m) rest)
@@ -383,4 +393,4 @@ module _ (text : List ℕ) where
   build next_index t (e, (ss, u)) = tree.Select (tree.Index e) ss
   build arguments_end t vs = tree.NoArgument
   build next_argument t (e, (m, (rest, u))) = tree.AndArgument (tree.Pass e m) rest
-  build width t (e, u) = tree.Within e
+  build width t (e, u) = tree.WithWidth e

@@ -4,7 +4,7 @@ use Rattle.std.proofs.Common.{sym, ap, ◌∙◌, subst}
 use Rattle.std.proofs.lemmas.Option.{same_Some}
 use Rattle.std.specs.FinMap as map
 use Rattle.sp_cell.specs.declared.spot.Spot.{Spot}
-use Rattle.sp_cell.specs.Held.{Agree}
+use Rattle.sp_cell.specs.Held.{ContentsAgree}
 use Rattle.sp_cell.specs.Map.{Plain}
 use Rattle.sp_cell.specs.Spots.{In}
 use Rattle.sp_journal.specs.Maps.{at_key}
@@ -15,7 +15,7 @@ use Rattle.sp_code.specs.Sound.{identity}
 use Rattle.sp_code.specs.System.{Condition, frames_of, store_of}
 use Rattle.sp_history.proofs.Queues.{number_or, at_same, at_other}
 use Rattle.sp_rules.specs.Systems.{IsLive}
-use Rattle.sp_held.specs.Apart.{config_in, map_of, spots_moved, meaning, Knows, IsMade, IsChildOf, IsHandedOn}
+use Rattle.sp_held.specs.Apart.{config_in, map_of, spots_moved, meaning, KnowsSpot, IsMade, IsChildOf, IsHandedOn}
 use Rattle.sp_held.specs.Apart.{IsMovedFrom}
 use Rattle.sp_held.specs.Apart.{AreApart, AreOlder, process_of}
 use Rattle.sp_held.specs.OwnChange.{AgreesOn, OwnChange}
@@ -80,19 +80,19 @@ module _ (f : ℕ → Condition Plain) (birth : ℕ → Option Birth) (p : AreAp
       → IsHandedOn after birth r e s
   handed_after r e s h = (h.0, h.1, child_after r h.0 h.2, still_seen h.0 h.1 (parent_other r h.0 h.2) h.3, h.4, h.5)
 
-  known_here : (s : Spot) → Knows d s → IsMade q d s ⊎ IsHandedOn after birth q d s
+  known_here : (s : Spot) → KnowsSpot d s → IsMade q d s ⊎ IsHandedOn after birth q d s
   known_here s k = ⊎_elim (λ m. inl m)
       (λ w. ⊎_elim (λ m. inl (w.1 ∙ m))
       (λ h. inr (h.0, h.1, child_after q h.0 h.2, still_seen h.0 h.1 (parent_other q h.0 h.2) h.3, h.4, h.5 ∙ sym w.1))
       (p.known q c was s w.0))
       (change.known s k)
 
-  known : (r : ℕ) (e : Config (Memory Plain)) → config_in (after r) ≡ Some e → (s : Spot) → Knows e s
+  known : (r : ℕ) (e : Config (Memory Plain)) → config_in (after r) ≡ Some e → (s : Spot) → KnowsSpot e s
       → IsMade r e s ⊎ IsHandedOn after birth r e s
   known r e v s k = ⊎_elim
       (λ w. subst (λ z. IsMade z e s ⊎ IsHandedOn after birth z e s) w.0
       (subst (λ (z : Config (Memory Plain)). IsMade q z s ⊎ IsHandedOn after birth q z s) w.1
-      (known_here s (subst (λ (z : Config (Memory Plain)). Knows z s) (sym w.1) k))))
+      (known_here s (subst (λ (z : Config (Memory Plain)). KnowsSpot z s) (sym w.1) k))))
       (λ w. ⊎_elim (λ m. inl m) (λ h. inr (handed_after r e s h)) (p.known r e w.1 s k))
       (seen_after r e v)
 
@@ -125,7 +125,7 @@ module _ (f : ℕ → Condition Plain) (birth : ℕ → Option Birth) (p : AreAp
   -- ---- siblings
 
   siblings : (r t x : ℕ) (e g : Config (Memory Plain)) → r ≢ t → IsChildOf after birth r x → IsChildOf after birth t x
-      → config_in (after r) ≡ Some e → config_in (after t) ≡ Some g → (s : Spot) → In s (spots_moved e) → Knows g s
+      → config_in (after r) ≡ Some e → config_in (after t) ≡ Some g → (s : Spot) → In s (spots_moved e) → KnowsSpot g s
       → IsMade t g s
   siblings r t x e g apart h k v u s i l =
       let a = child_before r x h in
@@ -136,7 +136,7 @@ module _ (f : ℕ → Condition Plain) (birth : ℕ → Option Birth) (p : AreAp
       (⊎_elim (λ m. m)
       (λ o. o.1 ∙ p.siblings r q x mine.0 c (λ j. apart (j ∙ w.0)) a (subst (λ z. IsChildOf f birth z x) (sym w.0) b)
       mine.1 was s mine.2 o.0)
-      (change.known s (subst (λ (z : Config (Memory Plain)). Knows z s) (sym w.1) l)))))
+      (change.known s (subst (λ (z : Config (Memory Plain)). KnowsSpot z s) (sym w.1) l)))))
       (λ w. p.siblings r t x mine.0 g apart a b mine.1 w.1 s mine.2 l)
       (seen_after t g u)
     where
@@ -155,14 +155,15 @@ module _ (f : ℕ → Condition Plain) (birth : ℕ → Option Birth) (p : AreAp
   -- ---- agreement
 
   agree_here : (t : ℕ) (e : Config (Memory Plain)) → q ≢ t → config_in (f t) ≡ Some e → (s : Spot)
-      → meaning d s.frame ≡ meaning e s.frame → Agree (map.get (map_of d) s) (map.get (map_of e) s)
+      → meaning d s.frame ≡ meaning e s.frame → ContentsAgree (map.get (map_of d) s) (map.get (map_of e) s)
   agree_here t e apart u s same = ⊎_elim (λ n. inl n)
       (λ k. ⊎_elim (λ n. inr (inl n)) (λ l. both l (change.known s k)) (none_or (map.get (map_of e) s)))
       (none_or (map.get (map_of d) s))
     where
-      both : Knows e s → (meaning d s.frame ≡ identity q s.frame) ⊎ (Knows c s × (meaning d s.frame ≡ meaning c s.frame)
+      both : KnowsSpot e s → (meaning d s.frame ≡ identity q s.frame)
+          ⊎ (KnowsSpot c s × (meaning d s.frame ≡ meaning c s.frame)
           × (AgreesOn (map.get (map_of c) s) (map.get (map_of d) s) ⊎ In s (spots_moved c)))
-          → Agree (map.get (map_of d) s) (map.get (map_of e) s)
+          → ContentsAgree (map.get (map_of d) s) (map.get (map_of e) s)
       both l (inl m) =
           let w = made_below f birth p older t e u s l q (sym same ∙ m) in
           absurd (apart (no_way f birth p older q childless w.0 t w.1))
@@ -171,19 +172,19 @@ module _ (f : ℕ → Condition Plain) (birth : ℕ → Option Birth) (p : AreAp
           inr (inl (sole f birth p older q c was childless s k (inr i) t e apart u (sym same ∙ n)))
 
   agree : (r t : ℕ) (e g : Config (Memory Plain)) → r ≢ t → config_in (after r) ≡ Some e → config_in (after t) ≡ Some g
-      → (s : Spot) → meaning e s.frame ≡ meaning g s.frame → Agree (map.get (map_of e) s) (map.get (map_of g) s)
+      → (s : Spot) → meaning e s.frame ≡ meaning g s.frame → ContentsAgree (map.get (map_of e) s) (map.get (map_of g) s)
   agree r t e g apart v u s same = go (seen_after r e v) (seen_after t g u)
     where
       go : ((q ≡ r) × (d ≡ e)) ⊎ ((q ≢ r) × (config_in (f r) ≡ Some e))
           → ((q ≡ t) × (d ≡ g)) ⊎ ((q ≢ t) × (config_in (f t) ≡ Some g))
-          → Agree (map.get (map_of e) s) (map.get (map_of g) s)
+          → ContentsAgree (map.get (map_of e) s) (map.get (map_of g) s)
       go (inl a) (inl b) = absurd (apart (sym a.0 ∙ b.0))
       go (inl a) (inr b) = subst
-          (λ (z : Config (Memory Plain)). Agree (map.get (map_of z) s) (map.get (map_of g) s)) a.1
+          (λ (z : Config (Memory Plain)). ContentsAgree (map.get (map_of z) s) (map.get (map_of g) s)) a.1
           (agree_here t g b.0 b.1 s
           (subst (λ (z : Config (Memory Plain)). meaning z s.frame ≡ meaning g s.frame) (sym a.1) same))
       go (inr a) (inl b) = subst
-          (λ (z : Config (Memory Plain)). Agree (map.get (map_of e) s) (map.get (map_of z) s)) b.1
+          (λ (z : Config (Memory Plain)). ContentsAgree (map.get (map_of e) s) (map.get (map_of z) s)) b.1
           (agree_back (map.get (map_of d) s) (map.get (map_of e) s) (agree_here r e a.0 a.1 s
           (sym (subst (λ (z : Config (Memory Plain)). meaning e s.frame ≡ meaning z s.frame) (sym b.1) same))))
       go (inr a) (inr b) = p.agree r t e g apart a.1 b.1 s same

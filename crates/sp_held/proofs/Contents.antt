@@ -1,6 +1,6 @@
 -- What two stores may have of one variable, and what keeps that.
 use Rattle.std.proofs.Common.{inl, inr, Option, Some, None, sym}
-use Rattle.sp_cell.specs.Held.{ShareAlike, Agree}
+use Rattle.sp_cell.specs.Held.{ShareAlike, ContentsAgree}
 use Rattle.sp_cell.specs.Map.{Content, Own, Shared, Output, Away, IsPiece, IsOwn, cells_of}
 use Rattle.sp_held.specs.OwnChange.{AgreesOn}
 
@@ -15,7 +15,7 @@ share_back (Some (Shared cs)) (Some (Shared ds)) s = sym s
 share_back (Some (Shared cs)) (Some (Output bs)) s = absurd s
 share_back (Some (Shared cs)) (Some Away) s = absurd s
 
-pub agree_back : (a b : Option Content) → Agree a b → Agree b a
+pub agree_back : (a b : Option Content) → ContentsAgree a b → ContentsAgree b a
 agree_back a b (inl n) = inr (inl n)
 agree_back a b (inr (inl n)) = inl n
 agree_back a b (inr (inr s)) = inr (inr (share_back a b s))

@@ -10,7 +10,7 @@ use Rattle.sp_code.specs.Sound.{AreLimits, Held, run_of}
 use Rattle.sp_code.specs.System.{System, IsSystem}
 use Rattle.sp_rules.specs.Verdict.{V9, IsVerified}
 use Rattle.sp_rules.proofs.Assembly.{k, e, known}
-use Rattle.sp_held.proofs.Journeys.{along, elder}
+use Rattle.sp_held.proofs.EntriesKeepApart.{along, elder}
 use Rattle.sp_held.proofs.Sides.{partition}
 
 pub verified_held : (c : Parts) → KeepsSizes c → IsVerified c → (input : List ℕ) (lim : Limits) → AreLimits lim

@@ -5,7 +5,7 @@ use Rattle.std.specs.Prelude.{IsSome}
 use Rattle.std.specs.FinMap as map
 use Rattle.std.proofs.lemmas.Option.{same_Some}
 use Rattle.sp_cell.specs.declared.spot.Spot.{Spot}
-use Rattle.sp_cell.specs.Held.{Agree}
+use Rattle.sp_cell.specs.Held.{ContentsAgree}
 use Rattle.sp_cell.proofs.Laws.{known_of_held, known_of_away}
 use Rattle.sp_cell.specs.Map.{Plain}
 use Rattle.sp_cell.proofs.Plan.{in_or, get_taken_in, get_taken_out}
@@ -19,7 +19,7 @@ use Rattle.sp_code.specs.Sound.{CanJoin, means}
 use Rattle.sp_code.specs.System.{Condition, Gone, on_store, frames_of}
 use Rattle.sp_history.proofs.Queues.{number_or, at_same, at_other}
 use Rattle.sp_rules.specs.Systems.{IsLive}
-use Rattle.sp_held.specs.Apart.{config_in, map_of, spots_moved, meaning, Knows, IsMade, IsChildOf, IsHandedOn}
+use Rattle.sp_held.specs.Apart.{config_in, map_of, spots_moved, meaning, KnowsSpot, IsMade, IsChildOf, IsHandedOn}
 use Rattle.sp_held.specs.Apart.{IsMovedFrom, AreApart, AreOlder, process_of}
 use Rattle.sp_held.proofs.Contents.{agree_back}
 use Rattle.sp_held.proofs.Sole.{not_older}
@@ -121,13 +121,13 @@ module _ (f : ℕ → Condition Plain) (birth : ℕ
   as_it_was : (s : Spot) → NotIn s moves → map.get (map_of e) s ≡ map.get n.store.map s
   as_it_was s o = get_taken_out k.store.map moves n.store.map s o
 
-  known_away : (s : Spot) → In s moves → Knows d s
+  known_away : (s : Spot) → In s moves → KnowsSpot d s
   known_away s i = known_of_away (map.get n.store.map s) (can.away s i)
 
-  known_before : (s : Spot) → Knows e s → Knows d s
+  known_before : (s : Spot) → KnowsSpot e s → KnowsSpot d s
   known_before s l = ⊎_elim (λ i. known_away s i) (λ o. subst (λ z. IsSome z) (as_it_was s o) l) (in_or s moves)
 
-  known_after : (s : Spot) → Knows d s → Knows e s
+  known_after : (s : Spot) → KnowsSpot d s → KnowsSpot e s
   known_after s l = ⊎_elim (λ i. subst (λ z. IsSome z) (sym (back_in s i)) (known_there s i))
       (λ o. subst (λ z. IsSome z) (sym (as_it_was s o)) l) (in_or s moves)
 
@@ -147,7 +147,7 @@ module _ (f : ℕ → Condition Plain) (birth : ℕ
             e,
             child_after r h.0 u h.2,
             ap (λ y. config_in (after_end y)) (sym i) ∙ seen_here,
-            known_after s (subst (λ (y : Config (Memory Plain)). Knows y s) (sym is) h.4),
+            known_after s (subst (λ (y : Config (Memory Plain)). KnowsSpot y s) (sym is) h.4),
             ap (λ (y : Config (Memory Plain)). meaning y s.frame) is ∙ h.5,
           )
       go (inr o) = (
@@ -159,29 +159,31 @@ module _ (f : ℕ → Condition Plain) (birth : ℕ
         h.5,
       )
 
-  abbrev Known : ℕ → Config (Memory Plain) → Spot → Type 0
-  Known a y s = IsMade a y s ⊎ IsHandedOn after_end birth a y s
+  abbrev IsMadeOrHanded : ℕ → Config (Memory Plain) → Spot → Type 0
+  IsMadeOrHanded a y s = IsMade a y s ⊎ IsHandedOn after_end birth a y s
 
-  known_parent : (s : Spot) → Knows e s → Known x e s
+  known_parent : (s : Spot) → KnowsSpot e s → IsMadeOrHanded x e s
   known_parent s l = ⊎_elim (λ w. inl w) (λ h. inr (kept (handed_after x d s (λ i. apart (sym i)) h)))
       (p.known x d joins s (known_before s l))
     where
       kept : IsHandedOn after_end birth x d s → IsHandedOn after_end birth x e s
       kept h = h
 
-  known : (r : ℕ) (z : Config (Memory Plain)) → config_in (after_end r) ≡ Some z → (s : Spot) → Knows z s → Known r z s
+  known : (r : ℕ) (z : Config (Memory Plain)) → config_in (after_end r) ≡ Some z → (s : Spot) → KnowsSpot z s
+      → IsMadeOrHanded r z s
   known r z v s l = go (seen_after r z v)
     where
-      go : After r z → Known r z s
-      go (Parent i j) = subst (λ a. Known a z s) i (subst (λ (y : Config (Memory Plain)). Known x y s) j
-          (known_parent s (subst (λ (y : Config (Memory Plain)). Knows y s) (sym j) l)))
+      go : After r z → IsMadeOrHanded r z s
+      go (Parent i j) = subst (λ a. IsMadeOrHanded a z s) i
+          (subst (λ (y : Config (Memory Plain)). IsMadeOrHanded x y s) j
+          (known_parent s (subst (λ (y : Config (Memory Plain)). KnowsSpot y s) (sym j) l)))
       go (Other o u w) = ⊎_elim (λ m. inl m) (λ h. inr (handed_after r z s u h)) (p.known r z w s l)
 
   -- ---- what moved
 
   abbrev Before : ℕ → Config (Memory Plain) → Type 0
   Before r z = (y : Config (Memory Plain)) × (config_in (f r) ≡ Some y) × (frames_of y ≡ frames_of z)
-      × (spots_moved y ≡ spots_moved z) × ((s : Spot) → Knows z s → Knows y s)
+      × (spots_moved y ≡ spots_moved z) × ((s : Spot) → KnowsSpot z s → KnowsSpot y s)
 
   before : (r : ℕ) (z : Config (Memory Plain)) → After r z → Before r z
   before r z (Parent i j) = subst (λ (y : Config (Memory Plain)). Before r y) j
@@ -221,7 +223,7 @@ module _ (f : ℕ → Condition Plain) (birth : ℕ
 
   siblings : (r t y : ℕ) (z a : Config (Memory Plain)) → r ≢ t → IsChildOf after_end birth r y
       → IsChildOf after_end birth t y → config_in (after_end r) ≡ Some z → config_in (after_end t) ≡ Some a → (s : Spot)
-      → In s (spots_moved z) → Knows a s → IsMade t a s
+      → In s (spots_moved z) → KnowsSpot a s → IsMade t a s
   siblings r t y z a o h k v u s i l =
       let one = before r z (seen_after r z v) in
       let two = before t a (seen_after t a u) in
@@ -232,25 +234,26 @@ module _ (f : ℕ → Condition Plain) (birth : ℕ
   -- ---- agreement
 
   parent_other_agree : (t : ℕ) (z : Config (Memory Plain)) → x ≢ t → q ≢ t → config_in (f t) ≡ Some z → (s : Spot)
-      → meaning e s.frame ≡ meaning z s.frame → Agree (map.get (map_of e) s) (map.get (map_of z) s)
+      → meaning e s.frame ≡ meaning z s.frame → ContentsAgree (map.get (map_of e) s) (map.get (map_of z) s)
   parent_other_agree t z o u w s same = ⊎_elim
-      (λ i. subst (λ y. Agree y (map.get (map_of z) s)) (sym (back_in s i))
+      (λ i. subst (λ y. ContentsAgree y (map.get (map_of z) s)) (sym (back_in s i))
       (p.agree q t c z u was w s (sym (from_child s i).1 ∙ same)))
-      (λ j. subst (λ y. Agree y (map.get (map_of z) s)) (sym (as_it_was s j)) (p.agree x t d z o joins w s same))
+      (λ j. subst (λ y. ContentsAgree y (map.get (map_of z) s)) (sym (as_it_was s j))
+      (p.agree x t d z o joins w s same))
       (in_or s moves)
 
   agree : (r t : ℕ) (z a : Config (Memory Plain)) → r ≢ t → config_in (after_end r) ≡ Some z
       → config_in (after_end t) ≡ Some a
-      → (s : Spot) → meaning z s.frame ≡ meaning a s.frame → Agree (map.get (map_of z) s) (map.get (map_of a) s)
+      → (s : Spot) → meaning z s.frame ≡ meaning a s.frame → ContentsAgree (map.get (map_of z) s) (map.get (map_of a) s)
   agree r t z a o v u s same = go (seen_after r z v) (seen_after t a u)
     where
-      go : After r z → After t a → Agree (map.get (map_of z) s) (map.get (map_of a) s)
+      go : After r z → After t a → ContentsAgree (map.get (map_of z) s) (map.get (map_of a) s)
       go (Parent i j) (Parent k l) = absurd (o (sym i ∙ k))
       go (Parent i j) (Other k l w) = subst
-          (λ (y : Config (Memory Plain)). Agree (map.get (map_of y) s) (map.get (map_of a) s)) j
+          (λ (y : Config (Memory Plain)). ContentsAgree (map.get (map_of y) s) (map.get (map_of a) s)) j
           (parent_other_agree t a k l w s (ap (λ (y : Config (Memory Plain)). meaning y s.frame) j ∙ same))
       go (Other k l w) (Parent i j) = subst
-          (λ (y : Config (Memory Plain)). Agree (map.get (map_of z) s) (map.get (map_of y) s)) j
+          (λ (y : Config (Memory Plain)). ContentsAgree (map.get (map_of z) s) (map.get (map_of y) s)) j
           (agree_back (map.get (map_of e) s) (map.get (map_of z) s)
           (parent_other_agree r z k l w s (ap (λ (y : Config (Memory Plain)). meaning y s.frame) j ∙ sym same)))
       go (Other i j w) (Other k l m) = p.agree r t z a o w m s same

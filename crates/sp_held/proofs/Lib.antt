@@ -9,5 +9,5 @@ pub mod Joining
 pub mod Turning
 pub mod Running
 pub mod Conditions
-pub mod Journeys
+pub mod EntriesKeepApart
 pub mod Held

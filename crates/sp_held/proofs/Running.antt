@@ -12,22 +12,23 @@ use Rattle.sp_cell.specs.Spots.{In}
 use Rattle.sp_code.specs.declared.code.ChildTable.{ChildTable}
 use Rattle.sp_code.specs.declared.instr.Instr.{Instr}
 use Rattle.sp_code.specs.Machine.{Entry, Stop, Forks, Opens, Sends, Receives, Ends, Pauses, Config, At}
-use Rattle.sp_code.specs.Memory.{Setting, Home, Frame, Memory, memory, without_frame}
+use Rattle.sp_code.specs.Memory.{CodeRun, Home, Frame, Memory, memory, without_frame}
 use Rattle.sp_code.specs.PlainStore.{plain}
 use Rattle.sp_code.specs.System.{handing_of, child_or, table_or, frames_of, store_of}
 use Rattle.sp_code.specs.Tables.{child_at as table_child}
-use Rattle.sp_code.specs.Turns.{Turn, Stopped, Faulted, Begins, Runs, IsTurn, begins}
+use Rattle.sp_code.specs.Turns.{Turn, Stopped, Faulted, BeginsOrFaults, Runs, IsTurn, frames_fit}
 use Rattle.sp_code.proofs.Plans.{spots_from}
 use Rattle.sp_rules.specs.Areas.{Area, homes, instr_at}
-use Rattle.sp_rules.specs.Changes.{areas, areas_of, Changes, Same, Beats, Puts, Copies, Reads, Skips, Prints, Owns}
+use Rattle.sp_rules.specs.Changes.{areas, areas_of, Changes, Unchanged, Ticks, PutsCell, Copies, ReadsItem, Skips}
+use Rattle.sp_rules.specs.Changes.{Prints, MakesOwn}
 use Rattle.sp_rules.specs.Changes.{Calls}
 use Rattle.sp_rules.specs.Changes.{Returns, IsHere}
 use Rattle.sp_rules.specs.Effects.{Does, May}
 use Rattle.sp_rules.specs.Forks.{KeepsEffects}
-use Rattle.sp_rules.specs.Keeps.{Keeps}
+use Rattle.sp_rules.specs.KeepsCodeRules.{KeepsCodeRules}
 use Rattle.sp_rules.specs.Named.{Unknown}
 use Rattle.sp_rules.specs.Reach.{IsArea, Reaches}
-use Rattle.sp_rules.specs.Running.{Base, Lives}
+use Rattle.sp_rules.specs.Running.{Base, HasActivations}
 use Rattle.sp_rules.specs.Shapes.{Shape}
 use Rattle.sp_rules.specs.Standing.{StandsAt, StoppedAt, StopsSo, Caller}
 use Rattle.sp_rules.specs.Writable.{IsWritable, WritesWell}
@@ -45,7 +46,8 @@ use Rattle.sp_held.proofs.Turning.{change_none, change_twice, change_one}
 first_is : (a d : Area) (us vs : List Area) → ◌≡◌ {A = List Area} (a ∷ us) (d ∷ vs) → a ≡ d
 first_is a d us vs e = cc
 
-module _ (g : Setting) (k : Keeps g.code) (e : KeepsEffects g.code (Does g.code)) (known : (p : ℕ) → Unknown g.code p
+module _ (g : CodeRun) (k : KeepsCodeRules g.code) (e : KeepsEffects g.code (Does g.code)) (known : (p : ℕ)
+    → Unknown g.code p
     → ⊥) (small : g.limits.depth ≤ 4294967295) where
   abbrev E : Area → ℕ → Type 0
   E = May g.code
@@ -56,14 +58,14 @@ module _ (g : Setting) (k : Keeps g.code) (e : KeepsEffects g.code (Does g.code)
   same_process : (a : Area) (o : Option Instr)
       (ss : List Shape) (n m : Memory Plain) (us vs : List Area) → Changes plain g a o ss n us vs m
       → m.process ≡ n.process
-  same_process a o ss n m us vs (Same i d) = ap (λ (z : Memory Plain). z.process) d
-  same_process a o ss n m us vs (Beats i d) = ap (λ (z : Memory Plain). z.process) d
-  same_process a o ss n m us vs (Puts to c i w d) = ap (λ (z : Memory Plain). z.process) d
+  same_process a o ss n m us vs (Unchanged i d) = ap (λ (z : Memory Plain). z.process) d
+  same_process a o ss n m us vs (Ticks i d) = ap (λ (z : Memory Plain). z.process) d
+  same_process a o ss n m us vs (PutsCell to c i w d) = ap (λ (z : Memory Plain). z.process) d
   same_process a o ss n m us vs (Copies to from j i w d) = ap (λ (z : Memory Plain). z.process) d
-  same_process a o ss n m us vs (Reads to c j i w z d) = ap (λ (z : Memory Plain). z.process) d
+  same_process a o ss n m us vs (ReadsItem to c j i w z d) = ap (λ (z : Memory Plain). z.process) d
   same_process a o ss n m us vs (Skips j i z d) = ap (λ (z : Memory Plain). z.process) d
   same_process a o ss n m us vs (Prints bs i z d) = ap (λ (z : Memory Plain). z.process) d
-  same_process a o ss n m us vs (Owns to j i w d) = ap (λ (z : Memory Plain). z.process) d
+  same_process a o ss n m us vs (MakesOwn to j i w d) = ap (λ (z : Memory Plain). z.process) d
   same_process a o ss n m us vs (Calls f up l es i is at pr ft dp d) = ap (λ (z : Memory Plain). z.process) d
   same_process a o ss n m us vs (Returns i is d) = ap (λ (z : Memory Plain). z.process) d ∙ closed n.frames
     where
@@ -85,20 +87,22 @@ module _ (g : Setting) (k : Keeps g.code) (e : KeepsEffects g.code (Does g.code)
 
   module _ (b : Base g H E (T g)) (r : ℕ) (fs : List Frame) (p0 : Plain) where
     abbrev Before : (p : ℕ) (st : List Entry) (n : Memory Plain) → StandsAt g.code p st n.frames → Type 0
-    Before p st n s = ending.Holds g k E (mays g k e known small) (calls g k e known small) (ready g k e known small)
+    Before p st n s = ending.IsHoldingAt g k E (mays g k e known small) (calls g k e known small)
+        (ready g k e known small)
         (forks g k e known small) (writes g k e known small) b p st n s
 
-    abbrev Holds : (p : ℕ) (st : List Entry) (n : Memory Plain) → StandsAt g.code p st n.frames → Type 0
-    Holds p st n s = Before p st n s × (n.process ≡ r) × OwnChange r fs p0 n.frames n.store
+    abbrev IsHoldingChanged : (p : ℕ) (st : List Entry) (n : Memory Plain) → StandsAt g.code p st n.frames → Type 0
+    IsHoldingChanged p st n s = Before p st n s × (n.process ≡ r) × OwnChange r fs p0 n.frames n.store
 
-    holds_ready : (p : ℕ) (st : List Entry) (n : Memory Plain) (s : StandsAt g.code p st n.frames) → Holds p st n s
+    holds_ready : (p : ℕ) (st : List Entry) (n : Memory Plain) (s : StandsAt g.code p st n.frames)
+        → IsHoldingChanged p st n s
         → safe.ReadyAt plain g k p st n s
     holds_ready p st n s h = ending.holds_ready g k E (mays g k e known small) (calls g k e known small)
         (ready g k e known small) (forks g k e known small) (writes g k e known small) b p st n s h.0
 
     holds_kept : (p q : ℕ) (st s1 : List Entry) (n m : Memory Plain) (s : StandsAt g.code p st n.frames)
-        (t : StandsAt g.code q s1 m.frames) → Holds p st n s → safe.ChangesAt plain g k p st n s (areas t) m
-        → Holds q s1 m t
+        (t : StandsAt g.code q s1 m.frames) → IsHoldingChanged p st n s → safe.ChangesAt plain g k p st n s (areas t) m
+        → IsHoldingChanged q s1 m t
     holds_kept p q st s1 n m s t h ch = (
       ending.holds_kept g k E (mays g k e known small) (calls g k e known small)
           (ready g k e known small) (forks g k e known small) (writes g k e known small) b p q st s1 n m s t h.0 ch,
@@ -108,15 +112,15 @@ module _ (g : Setting) (k : Keeps g.code) (e : KeepsEffects g.code (Does g.code)
           (change_one g k e known (T g) b p q st s1 n m s t h.0.0 h.0.3 ch)),
     )
 
-    abbrev Known : Config (Memory Plain) → Type 0
-    Known c = safe.Known plain g k Holds holds_ready holds_kept c
+    abbrev StandsChanged : Config (Memory Plain) → Type 0
+    StandsChanged c = safe.StandsWith plain g k IsHoldingChanged holds_ready holds_kept c
 
     -- a process that stands, or stopped, after such changes
     abbrev pub Out : Config (Memory Plain) → Type 0
     Out d = (process_of d ≡ r) × OwnChange r fs p0 (frames_of d) (store_of d)
         × ((s : Spot) → In s (spots_moved d) → IsHeld (map.get (map_of d) s))
 
-    out : (d : Config (Memory Plain)) → Known d → Out d
+    out : (d : Config (Memory Plain)) → StandsChanged d → Out d
     out (At p st n) w = (w.1.1, w.1.2, w.1.0.0.holding.moved)
 
     -- by the area in which it stopped
@@ -158,7 +162,7 @@ module _ (g : Setting) (k : Keeps g.code) (e : KeepsEffects g.code (Does g.code)
 
     -- a stop, but for ends and pauses
     stop_at : (x : Stop) (q : ℕ) (s1 : List Entry) (m : Memory Plain) → (x ≡ Pauses → ⊥)
-        → (s : StandsAt g.code q s1 m.frames) → Holds q s1 m s → (t : StoppedAt g.code x q s1 m.frames)
+        → (s : StandsAt g.code q s1 m.frames) → IsHoldingChanged q s1 m s → (t : StoppedAt g.code x q s1 m.frames)
         → IsHere plain g m x (t.area ∷ areas_of t.callers) (areas s) → Out (At q s1 m) × StopWrites r x (At q s1 m)
     stop_at x q s1 m ne s h t here =
         let same = same_area x t.area s.area (areas_of t.callers) (areas_of s.callers) m here ne in (
@@ -169,7 +173,7 @@ module _ (g : Setting) (k : Keeps g.code) (e : KeepsEffects g.code (Does g.code)
               (newest_writes g.code m.process m.store.moved s.area (areas_of s.callers) m.frames h.0.3))),
         )
 
-    at_stop : (x : Stop) (d : Config (Memory Plain)) → safe.AtStop plain g k Holds holds_ready holds_kept x d
+    at_stop : (x : Stop) (d : Config (Memory Plain)) → safe.AtStop plain g k IsHoldingChanged holds_ready holds_kept x d
         → Out d × StopWrites r x d
     at_stop (Forks t v n) (At q s1 m) w = stop_at (Forks t v n) q s1 m (λ z. cc z) w.0 w.1 w.2.0 w.2.1
     at_stop (Opens to) (At q s1 m) w = stop_at (Opens to) q s1 m (λ z. cc z) w.0 w.1 w.2.0 w.2.1
@@ -178,38 +182,39 @@ module _ (g : Setting) (k : Keeps g.code) (e : KeepsEffects g.code (Does g.code)
     at_stop Ends (At q s1 m) (p, st, s, h, t) = (out (At p st m) (s, h), tt)
     at_stop Pauses (At q s1 m) w = (out (At q s1 m) (w.0, w.1), tt)
 
-    stops : (c d : Config (Memory Plain)) (x : Stop) → Known c → IsTurn (memory plain g) g.code c (Stopped x d)
+    stops : (c d : Config (Memory Plain)) (x : Stop) → StandsChanged c → IsTurn (memory plain g) g.code c (Stopped x d)
         → Out d × StopWrites r x d
-    stops c d x w is = at_stop x d (safe.stops_well plain g k Holds holds_ready holds_kept c d x w
-        (runs (begins (memory plain g) g.code c) is))
+    stops c d x w is = at_stop x d (safe.stops_well plain g k IsHoldingChanged holds_ready holds_kept c d x w
+        (runs (frames_fit (memory plain g) g.code c) is))
       where
-        runs : (t : Bool) → Begins t c (Stopped x d) (Runs (memory plain g) g.code c (Stopped x d))
+        runs : (t : Bool) → BeginsOrFaults t c (Stopped x d) (Runs (memory plain g) g.code c (Stopped x d))
             → Runs (memory plain g) g.code c (Stopped x d)
         runs true h = h
         runs false h = absurd (cc h)
 
-    faults : (c d : Config (Memory Plain)) (f : Fault) → Known c → IsTurn (memory plain g) g.code c (Faulted f d)
+    faults : (c d : Config (Memory Plain)) (f : Fault) → StandsChanged c
+        → IsTurn (memory plain g) g.code c (Faulted f d)
         → Out d
-    faults c d f w is = go (begins (memory plain g) g.code c) is
+    faults c d f w is = go (frames_fit (memory plain g) g.code c) is
       where
         same : (u : Fault) (c : Config (Memory Plain)) → ◌≡◌ {A = Turn (Memory Plain)} (Faulted f d) (Faulted u c)
             → d ≡ c
         same u c h = cc
 
-        go : (t : Bool) → Begins t c (Faulted f d) (Runs (memory plain g) g.code c (Faulted f d)) → Out d
+        go : (t : Bool) → BeginsOrFaults t c (Faulted f d) (Runs (memory plain g) g.code c (Faulted f d)) → Out d
         go true h = subst Out (sym h.2.1)
-            (out h.0 (safe.comes_in plain g k Holds holds_ready holds_kept h.1.steps c h.0 w h.1.by))
+            (out h.0 (safe.comes_in plain g k IsHoldingChanged holds_ready holds_kept h.1.steps c h.0 w h.1.by))
         go false h = subst Out (sym (same _ c h)) (out c w)
 
   -- ---- from a process that lives and stands
 
-  module _ (b : Base g H E (T g)) (us : List Area) (c : Config (Memory Plain)) (l : Lives g H E (T g) b us c)
+  module _ (b : Base g H E (T g)) (us : List Area) (c : Config (Memory Plain)) (l : HasActivations g H E (T g) b us c)
       (t : T g us c) where
-    start : Known b (process_of c) (frames_of c) (store_of c) c
+    start : StandsChanged b (process_of c) (frames_of c) (store_of c) c
     start = go c l t
       where
-        go : (c : Config (Memory Plain)) → Lives g H E (T g) b us c → T g us c
-            → Known b (process_of c) (frames_of c) (store_of c) c
+        go : (c : Config (Memory Plain)) → HasActivations g H E (T g) b us c → T g us c
+            → StandsChanged b (process_of c) (frames_of c) (store_of c) c
         go (At p st n) l t =
             let w = ending.known g k E (mays g k e known small) (calls g k e known small) (ready g k e known small)
             (forks g k e known small) (writes g k e known small) b us (At p st n) l t in

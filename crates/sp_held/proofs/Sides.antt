@@ -5,7 +5,7 @@ use Rattle.std.specs.Prelude.{IsSome}
 use Rattle.std.specs.List.{AllByRecursion}
 use Rattle.std.specs.FinMap as map
 use Rattle.sp_cell.specs.declared.spot.Spot.{Spot}
-use Rattle.sp_cell.specs.Held.{View, Agree, IsNamed, AgreeOnAll, IsPartition}
+use Rattle.sp_cell.specs.Held.{View, ContentsAgree, HasUniqueSpots, AgreeOnAll, IsPartition}
 use Rattle.sp_cell.specs.Map.{Plain}
 use Rattle.sp_journal.specs.Queue.{numbers}
 use Rattle.sp_journal.specs.declared.entry.Birth.{Birth}
@@ -37,7 +37,7 @@ views_are Gone = refl
 views_are (Over c) = refl
 
 module _ (f : ℕ → Condition Plain) (birth : ℕ → Option Birth) (p : AreApart f birth) (older : AreOlder f birth) where
-  named : (r : ℕ) (c : Config (Memory Plain)) → config_in (f r) ≡ Some c → IsNamed (viewed c)
+  named : (r : ℕ) (c : Config (Memory Plain)) → config_in (f r) ≡ Some c → HasUniqueSpots (viewed c)
   named r c s x y k l e = same_spot x y
       (one_frame f birth p older r r c c s s x y k l (ap (λ (z : Spot). z.frame) e)) (ap (λ (z : Spot). z.variable) e)
 
@@ -48,11 +48,11 @@ module _ (f : ℕ → Condition Plain) (birth : ℕ → Option Birth) (p : AreAp
       (none_or (map.get (map_of c) x))
     where
       both : IsSome (map.get (map_of c) x) → IsSome (map.get (map_of d) y)
-          → Agree (map.get (map_of c) x) (map.get (map_of d) y)
+          → ContentsAgree (map.get (map_of c) x) (map.get (map_of d) y)
       both k l =
           let fr = one_frame f birth p older r t c d s u x y k l (ap (λ (z : Spot). z.frame) e) in
           let same = same_spot x y fr (ap (λ (z : Spot). z.variable) e) in
-          subst (λ (z : Spot). Agree (map.get (map_of c) x) (map.get (map_of d) z)) same
+          subst (λ (z : Spot). ContentsAgree (map.get (map_of c) x) (map.get (map_of d) z)) same
           (p.agree r t c d apart s u x (ap (λ (z : Spot). z.frame) e ∙ ap (meaning d) (sym fr)))
 
   -- a view agrees with those of all younger processes

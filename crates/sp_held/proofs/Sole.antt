@@ -16,7 +16,7 @@ use Rattle.sp_code.specs.Memory.{Memory}
 use Rattle.sp_code.specs.Sound.{identity}
 use Rattle.sp_code.specs.System.{Condition, frames_of}
 use Rattle.sp_rules.specs.Writable.{IsWritable}
-use Rattle.sp_held.specs.Apart.{config_in, map_of, spots_moved, meaning, Knows, IsMade, IsChildOf, IsHandedOn}
+use Rattle.sp_held.specs.Apart.{config_in, map_of, spots_moved, meaning, KnowsSpot, IsMade, IsChildOf, IsHandedOn}
 use Rattle.sp_held.specs.Apart.{IsMovedFrom}
 use Rattle.sp_held.specs.Apart.{AreApart, AreOlder}
 use Rattle.sp_held.proofs.Identity.{identity_same}
@@ -36,7 +36,7 @@ module _ (f : ℕ → Condition Plain) (birth : ℕ → Option Birth) (p : AreAp
   one_parent r x y a b = sym a.2 ∙ ap (λ (z : Birth). z.parent) (same_Some _ _ (sym a.1 ∙ b.1)) ∙ b.2
 
   -- who made the frame of a spot that a process knows: no younger process
-  from : (n r : ℕ) → r ≤ n → (c : Config (Memory Plain)) → config_in (f r) ≡ Some c → (q : Spot) → Knows c q
+  from : (n r : ℕ) → r ≤ n → (c : Config (Memory Plain)) → config_in (f r) ≡ Some c → (q : Spot) → KnowsSpot c q
       → (o : ℕ) × (o ≤ r) × (meaning c q.frame ≡ identity o q.frame)
   from zero r le c s q k = ⊎_elim
       (λ (m : IsMade r c q). (r, omega arith, m))
@@ -50,7 +50,7 @@ module _ (f : ℕ → Condition Plain) (birth : ℕ → Option Birth) (p : AreAp
       (v.0, (let z = v.1 in omega (arith, y, z)), sym w.5 ∙ v.2)))
       (p.known r c s q k)
 
-  pub origin : (r : ℕ) (c : Config (Memory Plain)) → config_in (f r) ≡ Some c → (q : Spot) → Knows c q
+  pub origin : (r : ℕ) (c : Config (Memory Plain)) → config_in (f r) ≡ Some c → (q : Spot) → KnowsSpot c q
       → (o : ℕ) × (o ≤ r)
       × (meaning c q.frame ≡ identity o q.frame)
   origin r c s q k = from r r (omega arith) c s q k
@@ -58,14 +58,14 @@ module _ (f : ℕ → Condition Plain) (birth : ℕ → Option Birth) (p : AreAp
   -- a frame has one number in all stores
   pub one_frame : (r t : ℕ) (c d : Config (Memory Plain)) → config_in (f r) ≡ Some c → config_in (f t) ≡ Some d
       → (x y : Spot)
-      → Knows c x → Knows d y → meaning c x.frame ≡ meaning d y.frame → x.frame ≡ y.frame
+      → KnowsSpot c x → KnowsSpot d y → meaning c x.frame ≡ meaning d y.frame → x.frame ≡ y.frame
   one_frame r t c d s u x y k l e =
       let a = origin r c s x k in
       let b = origin t d u y l in
       (identity_same a.0 x.frame b.0 y.frame (sym a.2 ∙ e ∙ b.2)).1
 
   -- what a process made, no older one knows
-  pub not_older : (r t : ℕ) (d : Config (Memory Plain)) → config_in (f t) ≡ Some d → (q : Spot) → Knows d q
+  pub not_older : (r t : ℕ) (d : Config (Memory Plain)) → config_in (f t) ≡ Some d → (q : Spot) → KnowsSpot d q
       → meaning d q.frame ≡ identity r q.frame → t < r → ⊥
   not_older r t d s q k e lt =
       let a = origin t d s q k in
@@ -93,7 +93,7 @@ module _ (f : ℕ → Condition Plain) (birth : ℕ → Option Birth) (p : AreAp
   no_way r childless (suc n) t w = let v = first_step n r t w in absurd (childless v.0 v.1)
 
   -- who knows a frame that a process made is below it
-  made_by : (n t : ℕ) → t ≤ n → (d : Config (Memory Plain)) → config_in (f t) ≡ Some d → (q : Spot) → Knows d q
+  made_by : (n t : ℕ) → t ≤ n → (d : Config (Memory Plain)) → config_in (f t) ≡ Some d → (q : Spot) → KnowsSpot d q
       → (r : ℕ)
       → meaning d q.frame ≡ identity r q.frame → (k : ℕ) × Way k r t
   made_by zero t le d s q k r e = ⊎_elim
@@ -108,15 +108,16 @@ module _ (f : ℕ → Condition Plain) (birth : ℕ → Option Birth) (p : AreAp
       (suc v.0, (w.0, w.2, v.1))))
       (p.known t d s q k)
 
-  pub made_below : (t : ℕ) (d : Config (Memory Plain)) → config_in (f t) ≡ Some d → (q : Spot) → Knows d q → (r : ℕ)
+  pub made_below : (t : ℕ) (d : Config (Memory Plain)) → config_in (f t) ≡ Some d → (q : Spot) → KnowsSpot d q → (r : ℕ)
       → meaning d q.frame ≡ identity r q.frame → (k : ℕ) × Way k r t
   made_below t d s q k r e = made_by t t (omega arith) d s q k r e
 
   -- what a process knows and means so, though it is made above x, each process on the way from x knows and means so
-  on_the_way : (n x t : ℕ) → Way n x t → (d : Config (Memory Plain)) → config_in (f t) ≡ Some d → (q : Spot) → Knows d q
+  on_the_way : (n x t : ℕ) → Way n x t → (d : Config (Memory Plain)) → config_in (f t) ≡ Some d → (q : Spot)
+      → KnowsSpot d q
       → (o : ℕ) → o < x → meaning d q.frame ≡ identity o q.frame
       → (e : Config (Memory Plain)) × (config_in (f x) ≡ Some e)
-      × Knows e q × (meaning e q.frame ≡ identity o q.frame)
+      × KnowsSpot e q × (meaning e q.frame ≡ identity o q.frame)
   on_the_way zero x t w d s q k o lt e = (d, ap (λ z. config_in (f z)) w ∙ s, k, e)
   on_the_way (suc n) x t w d s q k o lt e = ⊎_elim
       (λ (m : IsMade t d q). (
@@ -135,7 +136,8 @@ module _ (f : ℕ → Condition Plain) (birth : ℕ → Option Birth) (p : AreAp
 
   -- one step up: what moved from its parent
   module _ (r : ℕ) (c : Config (Memory Plain)) (s : config_in (f r) ≡ Some c) (q : Spot) (i : In q (spots_moved c))
-      (h : IsHandedOn f birth r c q) (t : ℕ) (d : Config (Memory Plain)) (u : config_in (f t) ≡ Some d) (l : Knows d q)
+      (h : IsHandedOn f birth r c q) (t : ℕ) (d : Config (Memory Plain)) (u : config_in (f t) ≡ Some d)
+      (l : KnowsSpot d q)
       (e : meaning d q.frame ≡ meaning c q.frame) where
     pub gone : IsMovedFrom f birth h.0 h.1 c q
     gone = p.moved r h.0 c h.1 h.2 s h.3 q i
@@ -169,9 +171,9 @@ module _ (f : ℕ → Condition Plain) (birth : ℕ → Option Birth) (p : AreAp
         (subst (λ (z : Config (Memory Plain)). map.get (map_of z) q ≡ Some Away) same gone.0))
     below (inl (suc m, w)) = through m w
 
-  writable_by : (n r : ℕ) → r ≤ n → (c : Config (Memory Plain)) → config_in (f r) ≡ Some c → (q : Spot) → Knows c q
+  writable_by : (n r : ℕ) → r ≤ n → (c : Config (Memory Plain)) → config_in (f r) ≡ Some c → (q : Spot) → KnowsSpot c q
       → IsWritable r (spots_moved c) (frames_of c) q → (t : ℕ) (d : Config (Memory Plain)) → config_in (f t) ≡ Some d
-      → Knows d q → meaning d q.frame ≡ meaning c q.frame → Elsewhere r t d q
+      → KnowsSpot d q → meaning d q.frame ≡ meaning c q.frame → Elsewhere r t d q
   writable_by n r le c s q k (inl m) t d u l e = inl (made_below t d u q l r (e ∙ m))
   writable_by zero r le c s q k (inr i) t d u l e = ⊎_elim
       (λ (m : IsMade r c q). inl (made_below t d u q l r (e ∙ m)))
@@ -187,7 +189,7 @@ module _ (f : ℕ → Condition Plain) (birth : ℕ → Option Birth) (p : AreAp
 
   -- a process without children alone holds what it may write
   pub sole : (r : ℕ) (c : Config (Memory Plain)) → config_in (f r) ≡ Some c → ((t : ℕ) → Child t r → ⊥) → (q : Spot)
-      → Knows c q → IsWritable r (spots_moved c) (frames_of c) q → (t : ℕ) (d : Config (Memory Plain)) → r ≢ t
+      → KnowsSpot c q → IsWritable r (spots_moved c) (frames_of c) q → (t : ℕ) (d : Config (Memory Plain)) → r ≢ t
       → config_in (f t) ≡ Some d → meaning d q.frame ≡ meaning c q.frame → IsNotHeld (map.get (map_of d) q)
   sole r c s childless q k w t d apart u e = ⊎_elim (λ n. n)
       (λ l. ⊎_elim (λ v. absurd (apart (no_way r childless v.0 t v.1))) (λ n. n)

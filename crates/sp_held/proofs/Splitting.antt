@@ -10,9 +10,9 @@ use Rattle.std.proofs.lemmas.Bool.{cases_eq, ltb-true, ltb-false}
 use Rattle.std.proofs.lemmas.Option.{same_Some}
 use Rattle.sp_cell.specs.declared.spot.Spot.{Spot}
 use Rattle.sp_cell.specs.declared.spot.Handing.{Handing}
-use Rattle.sp_cell.specs.Fork.{lent, with_index, index_frame, child_map, moved_of, shared_of}
+use Rattle.sp_cell.specs.Fork.{with_shared, with_index, index_frame, child_map, moved_of, shared_of}
 use Rattle.sp_cell.proofs.FrameLaws.{is_same, is_other}
-use Rattle.sp_cell.specs.Held.{IsNotHeld, Agree}
+use Rattle.sp_cell.specs.Held.{IsNotHeld, ContentsAgree}
 use Rattle.sp_cell.proofs.Laws.{known_of_held, known_of_piece}
 use Rattle.sp_cell.specs.Map.{Map, Plain, Shared, cells_at, spot_cmp}
 use Rattle.sp_cell.proofs.Partition.{below_above, child_moved, child_shared, child_rest, parent_moved, parent_shared}
@@ -25,25 +25,25 @@ use Rattle.sp_journal.specs.declared.entry.Birth.{Birth}
 use Rattle.sp_code.specs.declared.code.ChildTable.{ChildTable}
 use Rattle.sp_code.specs.declared.code.ForkTable.{ForkTable}
 use Rattle.sp_code.specs.Machine.{Config, At, Entry}
-use Rattle.sp_code.specs.Memory.{Setting, Memory}
+use Rattle.sp_code.specs.Memory.{CodeRun, Memory}
 use Rattle.sp_code.specs.PlainStore.{plain}
 use Rattle.sp_code.specs.Sound.{CanSplit, identity, means}
-use Rattle.sp_code.specs.System.{Condition, Absent, Working, Joins, on_store, index_by, newborn, plan_of}
+use Rattle.sp_code.specs.System.{Condition, Absent, Working, Joins, on_store, index_by, child_process, plan_of}
 use Rattle.sp_code.specs.System.{with_index_frame, child_or, table_or, frames_of}
 use Rattle.sp_code.specs.Tables.{child_at}
-use Rattle.sp_code.proofs.Plans.{moved_in, one}
+use Rattle.sp_code.proofs.Plans.{moved_in, child_handing}
 use Rattle.sp_history.proofs.Orders.{next_is, next_not, next_yes}
 use Rattle.sp_history.proofs.Queues.{number_or, at_same, at_other}
 use Rattle.sp_rules.specs.Systems.{IsLive}
 use Rattle.sp_rules.specs.Writable.{IsWritable}
-use Rattle.sp_held.specs.Apart.{config_in, map_of, spots_moved, meaning, Knows, IsMade, IsChildOf, IsHandedOn}
+use Rattle.sp_held.specs.Apart.{config_in, map_of, spots_moved, meaning, KnowsSpot, IsMade, IsChildOf, IsHandedOn}
 use Rattle.sp_held.specs.Apart.{IsMovedFrom, AreApart, AreOlder, process_of}
 use Rattle.sp_held.proofs.Contents.{agree_back, share_agrees}
 use Rattle.sp_held.proofs.Identity.{identity_same}
 use Rattle.sp_held.proofs.Plans.{once, shared_at}
 use Rattle.sp_held.proofs.Sole.{none_or, not_older}
 
-module _ (g : Setting) (f : ℕ → Condition Plain) (b : Births) (p : AreApart f b.birth) (older : AreOlder f b.birth)
+module _ (g : CodeRun) (f : ℕ → Condition Plain) (b : Births) (p : AreApart f b.birth) (older : AreOlder f b.birth)
     (young : (r : ℕ) → b.processes ≤ r → f r ≡ Absent) (q pc : ℕ) (st : List Entry) (n : Memory Plain)
     (was : config_in (f q) ≡ Some (At pc st n)) (live : IsLive (f q))
     (childless : (t : ℕ) → IsChildOf f b.birth t q → ⊥) (table : ℕ) (value : ℤ) (count : ℕ)
@@ -64,10 +64,10 @@ module _ (g : Setting) (f : ℕ → Condition Plain) (b : Births) (p : AreApart 
   tb = table_or (slice_get g.code.forks table)
 
   abbrev part : ℕ → Handing
-  part j = one g.code.layouts n.frames tb value j
+  part j = child_handing g.code.layouts n.frames tb value j
 
   abbrev child : ℕ → Config (Memory Plain)
-  child r = newborn plain g c value r (r - P) (child_or (child_at tb (r - P)))
+  child r = child_process plain g c value r (r - P) (child_or (child_at tb (r - P)))
 
   abbrev joining : Config (Memory Plain)
   joining = on_store (λ s. plain.handed s plan) c
@@ -109,7 +109,7 @@ module _ (g : Setting) (f : ℕ → Condition Plain) (b : Births) (p : AreApart 
     HasShared r s = In s (part (r - P)).shared × (map.get (map_of (child r)) s ≡ Some (Shared (cells_at m s)))
         × (meaning (child r) s.frame ≡ meaning c s.frame)
 
-    child_has : (r : ℕ) → P ≤ r → r < P + count → (s : Spot) → Knows (child r) s
+    child_has : (r : ℕ) → P ≤ r → r < P + count → (s : Spot) → KnowsSpot (child r) s
         → HasMoved r s ⊎ (HasShared r s ⊎ IsMade r (child r) s)
     child_has r le lt s k = ⊎_elim
         (λ i. inl (
@@ -140,7 +140,8 @@ module _ (g : Setting) (f : ℕ → Condition Plain) (b : Births) (p : AreApart 
 
         no_index : NotIn s h.moved → NotIn s h.shared → ch.index ≡ None → map.get (child_map m h) s ≡ None
         no_index o u e = get_taken_out m h.moved _ s o
-            ∙ ap (λ i. map.get (with_index (lent m h.shared map.empty) (index_frame h) (index_by value (r - P) i)) s) e
+            ∙ ap (λ i. map.get (with_index (with_shared m h.shared map.empty) (index_frame h)
+            (index_by value (r - P) i)) s) e
             ∙ get_lent_out m h.shared map.empty s u ∙ map.get-empty spot_cmp s
 
         made : NotIn s h.moved → NotIn s h.shared → (o : Option ℕ) → ch.index ≡ o
@@ -156,13 +157,13 @@ module _ (g : Setting) (f : ℕ → Condition Plain) (b : Births) (p : AreApart 
 
     -- ---- what the parent keeps
 
-    known_before : (s : Spot) → Knows joining s → Knows c s
+    known_before : (s : Spot) → KnowsSpot joining s → KnowsSpot c s
     known_before s k = ⊎_elim (λ i. known_moved s i)
         (λ o. ⊎_elim (λ i. known_shared s i) (λ u. subst (λ z. IsSome z) (parent_rest m plan s o u) k)
         (in_or s (shared_of plan)))
         (in_or s (moved_of plan))
 
-    known_after : (s : Spot) → Knows c s → Knows joining s
+    known_after : (s : Spot) → KnowsSpot c s → KnowsSpot joining s
     known_after s k = ⊎_elim (λ i. subst (λ z. IsSome z) (sym (parent_moved m plan s i (split.apart s i))) refl)
         (λ o. ⊎_elim (λ i. subst (λ z. IsSome z) (sym (parent_shared m plan s i)) refl)
         (λ u. subst (λ z. IsSome z) (sym (parent_rest m plan s o u)) k)
@@ -290,7 +291,7 @@ module _ (g : Setting) (f : ℕ → Condition Plain) (b : Births) (p : AreApart 
         → IsHandedOn after_fork birth_after r e s
     handed_after r e s h = (h.0, h.1, child_after r h.0 h.2, still_seen h.0 h.1 (parent_other r h.0 h.2) h.3, h.4, h.5)
 
-    known_young : (r : ℕ) → P ≤ r → r < P + count → (s : Spot) → Knows (child r) s
+    known_young : (r : ℕ) → P ≤ r → r < P + count → (s : Spot) → KnowsSpot (child r) s
         → IsMade r (child r) s ⊎ IsHandedOn after_fork birth_after r (child r) s
     known_young r le lt s k = ⊎_elim
         (λ w. inr (
@@ -313,24 +314,25 @@ module _ (g : Setting) (f : ℕ → Condition Plain) (b : Births) (p : AreApart 
         (λ v. inl v) w)
         (child_has r le lt s k)
 
-    known_parent : (s : Spot) → Knows joining s → IsMade q joining s
+    known_parent : (s : Spot) → KnowsSpot joining s → IsMade q joining s
         ⊎ IsHandedOn after_fork birth_after q joining s
     known_parent s k = ⊎_elim (λ w. inl w)
         (λ h. inr (h.0, h.1, child_after q h.0 h.2, still_seen h.0 h.1 (parent_other q h.0 h.2) h.3, h.4, h.5))
         (p.known q c was s (known_before s k))
 
-    abbrev Known : ℕ → Config (Memory Plain) → Spot → Type 0
-    Known z x s = IsMade z x s ⊎ IsHandedOn after_fork birth_after z x s
+    abbrev IsMadeOrHanded : ℕ → Config (Memory Plain) → Spot → Type 0
+    IsMadeOrHanded z x s = IsMade z x s ⊎ IsHandedOn after_fork birth_after z x s
 
-    known : (r : ℕ) (e : Config (Memory Plain)) → config_in (after_fork r) ≡ Some e → (s : Spot) → Knows e s
-        → Known r e s
+    known : (r : ℕ) (e : Config (Memory Plain)) → config_in (after_fork r) ≡ Some e → (s : Spot) → KnowsSpot e s
+        → IsMadeOrHanded r e s
     known r e v s k = go (seen_after r e v)
       where
-        go : After r e → Known r e s
-        go (Young le lt i) = subst (λ (x : Config (Memory Plain)). Known r x s) i
-            (known_young r le lt s (subst (λ (x : Config (Memory Plain)). Knows x s) (sym i) k))
-        go (Parent j i) = subst (λ z. Known z e s) j (subst (λ (x : Config (Memory Plain)). Known q x s) i
-            (known_parent s (subst (λ (x : Config (Memory Plain)). Knows x s) (sym i) k)))
+        go : After r e → IsMadeOrHanded r e s
+        go (Young le lt i) = subst (λ (x : Config (Memory Plain)). IsMadeOrHanded r x s) i
+            (known_young r le lt s (subst (λ (x : Config (Memory Plain)). KnowsSpot x s) (sym i) k))
+        go (Parent j i) = subst (λ z. IsMadeOrHanded z e s) j
+            (subst (λ (x : Config (Memory Plain)). IsMadeOrHanded q x s) i
+            (known_parent s (subst (λ (x : Config (Memory Plain)). KnowsSpot x s) (sym i) k)))
         go (Old d lt u) = ⊎_elim (λ w. inl w) (λ h. inr (handed_after r e s h)) (p.known r e u s k)
 
     -- ---- what moved
@@ -338,7 +340,7 @@ module _ (g : Setting) (f : ℕ → Condition Plain) (b : Births) (p : AreApart 
     -- a process that was there, as it was: its frames and what moved to it are the same
     abbrev Before : ℕ → Config (Memory Plain) → Type 0
     Before r e = (z : Config (Memory Plain)) × (config_in (f r) ≡ Some z) × (frames_of z ≡ frames_of e)
-        × (spots_moved z ≡ spots_moved e) × ((s : Spot) → Knows e s → Knows z s)
+        × (spots_moved z ≡ spots_moved e) × ((s : Spot) → KnowsSpot e s → KnowsSpot z s)
 
     before : (r : ℕ) (e : Config (Memory Plain)) → r < P → After r e → Before r e
     before r e lt (Young le l i) = absurd (omega (arith, lt, le))
@@ -387,7 +389,7 @@ module _ (g : Setting) (f : ℕ → Condition Plain) (b : Births) (p : AreApart 
     -- ---- siblings
 
     siblings_young : (r t : ℕ) → r ≢ t → P ≤ r → r < P + count → P ≤ t → t < P + count → (s : Spot)
-        → In s (part (r - P)).moved → Knows (child t) s → IsMade t (child t) s
+        → In s (part (r - P)).moved → KnowsSpot (child t) s → IsMade t (child t) s
     siblings_young r t apart le lt lf lu s i k = ⊎_elim
         (λ w. absurd (once g.code.layouts n.frames tb value count (r - P) (t - P) s
         (λ e. absurd (apart (omega (arith, e, le, lf)))) (omega (arith, le, lt)) (omega (arith, lf, lu)) split.distinct
@@ -399,7 +401,7 @@ module _ (g : Setting) (f : ℕ → Condition Plain) (b : Births) (p : AreApart 
 
     siblings : (r t x : ℕ) (e d : Config (Memory Plain)) → r ≢ t → Child r x → Child t x
         → config_in (after_fork r) ≡ Some e → config_in (after_fork t) ≡ Some d → (s : Spot) → In s (spots_moved e)
-        → Knows d s → IsMade t d s
+        → KnowsSpot d s → IsMade t d s
     siblings r t x e d apart h k v u s i l = go (child_or_new r x h) (child_or_new t x k) (seen_after r e v)
         (seen_after t d u)
       where
@@ -411,29 +413,32 @@ module _ (g : Setting) (f : ℕ → Condition Plain) (b : Births) (p : AreApart 
             subst (λ (y : Config (Memory Plain)). IsMade t y s) z
             (siblings_young r t apart le lt lf lu s
             (subst (λ (y : Config (Memory Plain)). In s (spots_moved y)) (sym j) i)
-            (subst (λ (y : Config (Memory Plain)). Knows y s) (sym z) l))
+            (subst (λ (y : Config (Memory Plain)). KnowsSpot y s) (sym z) l))
         go (inl a) (inl o) (Parent j z) y = absurd (omega (arith, a.0, there, j))
         go (inl a) (inl o) (Old z w j) y = absurd (omega (arith, a.0, w))
         go (inl a) (inl o) (Young le lt j) (Parent z w) = absurd (omega (arith, o.0, there, z))
         go (inl a) (inl o) (Young le lt j) (Old z w y) = absurd (omega (arith, o.0, w))
         go (inr a) (inr o) w y =
-            let one = before r e (live_low r a.3) w in
+            let child_handing = before r e (live_low r a.3) w in
             let two = before t d (live_low t o.3) y in
             ap (λ fs. means fs s.frame) (sym two.2)
-            ∙ p.siblings r t x one.0 two.0 apart a o one.1 two.1 s (subst (In s) (sym one.3) i) (two.4 s l)
+            ∙ p.siblings r t x child_handing.0 two.0 apart a o child_handing.1 two.1 s
+            (subst (In s) (sym child_handing.3) i) (two.4 s l)
 
     -- ---- agreement
 
     -- a frame that a new process makes is known to none that was there
-    never : (r t : ℕ) (e : Config (Memory Plain)) → P ≤ r → t < P → config_in (f t) ≡ Some e → (s : Spot) → Knows e s
+    never : (r t : ℕ) (e : Config (Memory Plain)) → P ≤ r → t < P → config_in (f t) ≡ Some e → (s : Spot)
+        → KnowsSpot e s
         → meaning e s.frame ≡ identity r s.frame → ⊥
     never r t e le lt u s k i = not_older f b.birth p older r t e u s k i (omega (arith, le, lt))
 
     abbrev AgreeAt : (e d : Config (Memory Plain)) → Spot → Type 0
-    AgreeAt e d s = Agree (map.get (map_of e) s) (map.get (map_of d) s)
+    AgreeAt e d s = ContentsAgree (map.get (map_of e) s) (map.get (map_of d) s)
 
     -- where both know the spot
-    if_known : (e d : Config (Memory Plain)) (s : Spot) → (Knows e s → Knows d s → AgreeAt e d s) → AgreeAt e d s
+    if_known : (e d : Config (Memory Plain)) (s : Spot) → (KnowsSpot e s → KnowsSpot d s → AgreeAt e d s)
+        → AgreeAt e d s
     if_known e d s h = ⊎_elim (λ o. inl o)
         (λ k. ⊎_elim (λ o. inr (inl o)) (λ l. h k l) (none_or (map.get (map_of d) s)))
         (none_or (map.get (map_of e) s))
@@ -441,9 +446,10 @@ module _ (g : Setting) (f : ℕ → Condition Plain) (b : Births) (p : AreApart 
     young_old : (r t : ℕ) (e : Config (Memory Plain)) → P ≤ r → r < P + count → q ≢ t → t < P
         → config_in (f t) ≡ Some e → (s : Spot) → meaning (child r) s.frame ≡ meaning e s.frame → AgreeAt (child r) e s
     young_old r t e le lt d low u s same = if_known (child r) e s (λ k l. ⊎_elim
-        (λ w. subst (λ z. Agree z (map.get (map_of e) s)) (sym w.1) (p.agree q t c e d was u s (sym w.2 ∙ same)))
+        (λ w. subst (λ z. ContentsAgree z (map.get (map_of e) s)) (sym w.1)
+        (p.agree q t c e d was u s (sym w.2 ∙ same)))
         (λ w. ⊎_elim
-        (λ v. subst (λ z. Agree z (map.get (map_of e) s)) (sym v.1)
+        (λ v. subst (λ z. ContentsAgree z (map.get (map_of e) s)) (sym v.1)
         (share_agrees (map.get m s) (split.pieces s (shared_plan r le lt s v.0)) (map.get (map_of e) s)
         (p.agree q t c e d was u s (sym v.2 ∙ same))))
         (λ v. absurd (never r t e le low u s l (sym same ∙ v))) w)
@@ -455,8 +461,8 @@ module _ (g : Setting) (f : ℕ → Condition Plain) (b : Births) (p : AreApart 
         (λ w. (let j = in_plan r le lt s w.0 in inr (inl
         (subst IsNotHeld (sym (parent_moved m plan s j (split.apart s j))) tt))))
         (λ w. ⊎_elim
-        (λ v. subst (λ z. Agree z (map.get (map_of joining) s)) (sym v.1)
-        (subst (λ z. Agree (Some (Shared (cells_at m s))) z)
+        (λ v. subst (λ z. ContentsAgree z (map.get (map_of joining) s)) (sym v.1)
+        (subst (λ z. ContentsAgree (Some (Shared (cells_at m s))) z)
         (sym (parent_shared m plan s (shared_plan r le lt s v.0))) (inr (inr refl))))
         (λ v. absurd (never r q c le there was s (known_before s l) (sym same ∙ v))) w)
         (child_has r le lt s k))
@@ -466,7 +472,7 @@ module _ (g : Setting) (f : ℕ → Condition Plain) (b : Births) (p : AreApart 
     young_young r t apart le lt lf lu s same = if_known (child r) (child t) s
         (λ k l. go (child_has r le lt s k) (child_has t lf lu s l))
       where
-        knows : (x : ℕ) → P ≤ x → x < P + count → HasMoved x s ⊎ HasShared x s → Knows c s
+        knows : (x : ℕ) → P ≤ x → x < P + count → HasMoved x s ⊎ HasShared x s → KnowsSpot c s
         knows x a o (inl w) = known_moved s (in_plan x a o s w.0)
         knows x a o (inr w) = known_shared s (shared_plan x a o s w.0)
 
@@ -479,8 +485,8 @@ module _ (g : Setting) (f : ℕ → Condition Plain) (b : Births) (p : AreApart 
             (split.apart s (in_plan r le lt s a.0)))
         go (inr (inl a)) (inl o) = absurd (not_both s (shared_of plan) (shared_plan r le lt s a.0)
             (split.apart s (in_plan t lf lu s o.0)))
-        go (inr (inl a)) (inr (inl o)) = subst (λ z. Agree z (map.get (map_of (child t)) s)) (sym a.1)
-            (subst (λ z. Agree (Some (Shared (cells_at m s))) z) (sym o.1) (inr (inr refl)))
+        go (inr (inl a)) (inr (inl o)) = subst (λ z. ContentsAgree z (map.get (map_of (child t)) s)) (sym a.1)
+            (subst (λ z. ContentsAgree (Some (Shared (cells_at m s))) z) (sym o.1) (inr (inr refl)))
         go (inl a) (inr (inr o)) = absurd (never t q c lf there was s (knows r le lt (inl a)) (sym a.2 ∙ same ∙ o))
         go (inr (inl a)) (inr (inr o)) = absurd
             (never t q c lf there was s (knows r le lt (inr a)) (sym a.2 ∙ same ∙ o))
@@ -495,9 +501,9 @@ module _ (g : Setting) (f : ℕ → Condition Plain) (b : Births) (p : AreApart 
     parent_old t e d u s same = ⊎_elim
         (λ i. inl (subst IsNotHeld (sym (parent_moved m plan s i (split.apart s i))) tt))
         (λ o. ⊎_elim
-        (λ i. subst (λ z. Agree z (map.get (map_of e) s)) (sym (parent_shared m plan s i))
+        (λ i. subst (λ z. ContentsAgree z (map.get (map_of e) s)) (sym (parent_shared m plan s i))
         (share_agrees (map.get m s) (split.pieces s i) (map.get (map_of e) s) (p.agree q t c e d was u s same)))
-        (λ w. subst (λ z. Agree z (map.get (map_of e) s)) (sym (parent_rest m plan s o w))
+        (λ w. subst (λ z. ContentsAgree z (map.get (map_of e) s)) (sym (parent_rest m plan s o w))
         (p.agree q t c e d was u s same))
         (in_or s (shared_of plan)))
         (in_or s (moved_of plan))

@@ -10,29 +10,30 @@ use Rattle.sp_tree.proofs.Members.{member_back}
 use Rattle.sp_cell.specs.declared.cell.Cell.{Cell}
 use Rattle.sp_cell.specs.declared.spot.Spot.{Spot}
 use Rattle.sp_cell.specs.declared.spot.Address.{Address}
-use Rattle.sp_cell.specs.Frame.{next_frame, newest, popped, without}
+use Rattle.sp_cell.specs.Frame.{next_frame, last_own_frame, without_newest_frame, without_spots_of}
 use Rattle.sp_cell.proofs.FrameLaws.{is_same, is_other, known_below, without_here, without_other, newest_last}
 use Rattle.sp_cell.proofs.Laws.{get_here, get_other, same_or, known_of_held}
 use Rattle.sp_cell.specs.Map.{Content, Own, Plain, IsHeld, output_spot, IsOwn}
 use Rattle.sp_cell.specs.Spots.{In}
 use Rattle.sp_code.specs.declared.code.Layout.{Layout}
 use Rattle.sp_code.specs.Machine.{Entry, Config, At}
-use Rattle.sp_code.specs.Memory.{Setting, Frame, Memory, memory, opened, without_frame}
+use Rattle.sp_code.specs.Memory.{CodeRun, Frame, Memory, memory, memory_after_call, without_frame}
 use Rattle.sp_code.specs.PlainStore.{plain}
 use Rattle.sp_code.specs.Sound.{identity, means}
 use Rattle.sp_code.specs.System.{spot_of}
 use Rattle.sp_code.proofs.Pieces.{pieces_other}
 use Rattle.sp_rules.specs.Areas.{Area, homes, instr_at}
-use Rattle.sp_rules.specs.Changes.{areas, areas_of, Target, Changes, Same, Beats, Puts, Copies, Reads, Skips, Prints}
-use Rattle.sp_rules.specs.Changes.{Owns}
+use Rattle.sp_rules.specs.Changes.{areas, areas_of, Target, Changes, Unchanged, Ticks, PutsCell, Copies, ReadsItem}
+use Rattle.sp_rules.specs.Changes.{Skips, Prints}
+use Rattle.sp_rules.specs.Changes.{MakesOwn}
 use Rattle.sp_rules.specs.Changes.{Calls, Returns}
 use Rattle.sp_rules.specs.Effects.{Does, May}
 use Rattle.sp_rules.specs.Forks.{KeepsEffects}
 use Rattle.sp_rules.specs.Holding.{AreOwn, input_spot}
-use Rattle.sp_rules.specs.Keeps.{Keeps}
+use Rattle.sp_rules.specs.KeepsCodeRules.{KeepsCodeRules}
 use Rattle.sp_rules.specs.Named.{Unknown}
 use Rattle.sp_rules.specs.Reach.{IsIn}
-use Rattle.sp_rules.specs.Running.{Base, Lives}
+use Rattle.sp_rules.specs.Running.{Base, HasActivations}
 use Rattle.sp_rules.specs.Standing.{StandsAt}
 use Rattle.sp_rules.specs.Touched.{stored_by}
 use Rattle.sp_rules.specs.Writable.{IsWritable, MayWrite}
@@ -146,8 +147,8 @@ change_push r fs p q f owner number moved other held = record {
         ∙ ap (λ z. identity z f.number) owner ∙ ap (identity r) e
 
 -- the newest frame goes
-pub change_pop : (r : ℕ) (f : Frame) (fs : List Frame) (p : Plain) → newest p.own ≡ f.number
-    → ((s : Spot) → In s p.moved → f.number ≢ s.frame) → OwnChange r (f ∷ fs) p fs (popped p)
+pub change_pop : (r : ℕ) (f : Frame) (fs : List Frame) (p : Plain) → last_own_frame p.own ≡ f.number
+    → ((s : Spot) → In s p.moved → f.number ≢ s.frame) → OwnChange r (f ∷ fs) p fs (without_newest_frame p)
 change_pop r f fs p top old = record {
   moved = refl;
   meaning = λ s i. sym (stays s (old s i));
@@ -163,21 +164,24 @@ change_pop r f fs p top old = record {
     stays : (s : Spot) → f.number ≢ s.frame → means (f ∷ fs) s.frame ≡ means fs s.frame
     stays s d = ap (λ b. if b then identity f.owner f.number else means fs s.frame) (is_other f.number s.frame d)
 
-    there : (s : Spot) → f.number ≢ s.frame → map.get (popped p).map s ≡ map.get p.map s
-    there s d = ap (λ n. map.get (without p.map n) s) top ∙ without_other p.map f.number s (λ e. d (sym e))
+    there : (s : Spot) → f.number ≢ s.frame → map.get (without_newest_frame p).map s ≡ map.get p.map s
+    there s d = ap (λ n. map.get (without_spots_of p.map n) s) top ∙ without_other p.map f.number s (λ e. d (sym e))
 
-    absent : (s : Spot) → f.number ≡ s.frame → map.get (popped p).map s ≡ None
-    absent s e = ap (λ n. map.get (without p.map n) s) top ∙ without_here p.map f.number s (sym e)
+    absent : (s : Spot) → f.number ≡ s.frame → map.get (without_newest_frame p).map s ≡ None
+    absent s e = ap (λ n. map.get (without_spots_of p.map n) s) top ∙ without_here p.map f.number s (sym e)
 
-    nothing : (s : Spot) → IsSome (map.get (popped p).map s) → map.get (popped p).map s ≡ None → ⊥
+    nothing : (s : Spot) → IsSome (map.get (without_newest_frame p).map s) → map.get (without_newest_frame p).map s
+        ≡ None → ⊥
     nothing s k e = false≢true (subst (λ z. IsSome z) e k)
 
 -- ---- an instruction
 
-module _ (g : Setting) (k : Keeps g.code) (e : KeepsEffects g.code (Does g.code)) (known : (p : ℕ) → Unknown g.code p
+module _ (g : CodeRun) (k : KeepsCodeRules g.code) (e : KeepsEffects g.code (Does g.code)) (known : (p : ℕ)
+    → Unknown g.code p
     → ⊥) (T : List Area → Config (Memory Plain) → Type 0) (b : Base g (homes g.code) (May g.code) T) (p q : ℕ)
     (st s1 : List Entry) (n m : Memory Plain) (s : StandsAt g.code p st n.frames) (t : StandsAt g.code q s1 m.frames)
-    (l : Lives g (homes g.code) (May g.code) T b (areas s) (At p st n)) (writes : MayWrite g.code (areas s) n) where
+    (l : HasActivations g (homes g.code) (May g.code) T b (areas s) (At p st n))
+    (writes : MayWrite g.code (areas s) n) where
   abbrev Out : Memory Plain → Type 0
   Out z = OwnChange n.process n.frames n.store z.frames z.store
 
@@ -226,8 +230,8 @@ module _ (g : Setting) (k : Keeps g.code) (e : KeepsEffects g.code (Does g.code)
   abbrev Others : Plain → Type 0
   Others z = (y : Spot) → y.frame ≢ next_frame n.store → map.get z.map y ≡ map.get n.store.map y
 
-  called : (up : ℕ) (lay : Layout) (es : List Entry) → Out (opened plain g lay up es n)
-  called up lay es = change_push n.process n.frames n.store (opened plain g lay up es n).store _ refl refl
+  called : (up : ℕ) (lay : Layout) (es : List Entry) → Out (memory_after_call plain g lay up es n)
+  called up lay es = change_push n.process n.frames n.store (memory_after_call plain g lay up es n).store _ refl refl
       (filled_keeps (next_frame n.store) (λ z. z.moved ≡ n.store.moved) (λ z j cs h. h) 0 es
       (plain.pushed n.store lay.sizes) refl)
       (filled_keeps (next_frame n.store) Others written 0 es (plain.pushed n.store lay.sizes)
@@ -242,21 +246,21 @@ module _ (g : Setting) (k : Keeps g.code) (e : KeepsEffects g.code (Does g.code)
       → AreOwn g.code.layouts (homes g.code) (May g.code) l.holding.base (s.area ∷ a ∷ us) fs n.store.own
       → OwnChange n.process fs n.store (without_frame plain g fs n).frames (without_frame plain g fs n).store
   returned a us [] w h = absurd h
-  returned a us (f ∷ fs) w h = change_pop n.process f fs n.store (ap newest h.1 ∙ newest_last h.0 f.number)
+  returned a us (f ∷ fs) w h = change_pop n.process f fs n.store (ap last_own_frame h.1 ∙ newest_last h.0 f.number)
       (λ z i d. l.holding.old z i (subst (λ y. IsMember y n.store.own) d
       (subst (IsMember f.number) (sym h.1) (member_back f.number h.0 (f.number ∷ []) (inl refl)))))
 
   -- it changes the store so
   pub change_one : Changes plain g s.area (instr_at g.code p) s.shapes n (areas s) (areas t) m
       → OwnChange n.process n.frames n.store m.frames m.store
-  change_one (Same w d) = out n d (change_none n.process n.frames n.store)
-  change_one (Beats w d) = out _ d (change_none n.process n.frames n.store)
-  change_one (Puts to c w z d) = out _ d (write to.spot _ (target to 1 z))
+  change_one (Unchanged w d) = out n d (change_none n.process n.frames n.store)
+  change_one (Ticks w d) = out _ d (change_none n.process n.frames n.store)
+  change_one (PutsCell to c w z d) = out _ d (write to.spot _ (target to 1 z))
   change_one (Copies to from j w z d) = out _ d (write to.spot _ (target to j z))
-  change_one (Reads to c j w z y d) = out _ d (read to c j z y)
+  change_one (ReadsItem to c j w z y d) = out _ d (read to c j z y)
   change_one (Skips j w z d) = out _ d (advanced j z)
   change_one (Prints bs w z d) = out _ d (write output_spot _ (may 1 output_spot z refl))
-  change_one (Owns to j w z d) = out _ d (write to.spot _ (target to j z))
+  change_one (MakesOwn to j w z d) = out _ d (write to.spot _ (target to j z))
   change_one (Calls f up lay es w is at pr ft dp d) = out _ d (called up lay es)
   change_one (Returns w is d) = out _ d (returned t.area (areas_of t.callers) n.frames refl
       (subst (λ us. AreOwn g.code.layouts (homes g.code) (May g.code) l.holding.base us n.frames n.store.own) w

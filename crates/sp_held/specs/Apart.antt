@@ -4,7 +4,7 @@
 use Rattle.std.specs.Prelude.{◌≡◌, ◌≢◌, ◌⊎◌, ◌<◌, ℕ, List, Option, Some, None, IsSome}
 use Rattle.std.specs.FinMap as map
 use Rattle.sp_cell.specs.declared.spot.Spot.{Spot}
-use Rattle.sp_cell.specs.Held.{Agree}
+use Rattle.sp_cell.specs.Held.{ContentsAgree}
 use Rattle.sp_cell.specs.Map.{Map, Plain, Away}
 use Rattle.sp_cell.specs.Spots.{In}
 use Rattle.sp_journal.specs.declared.entry.Birth.{Birth}
@@ -39,8 +39,8 @@ spots_moved c = (store_of c).moved
 abbrev pub meaning : Config (Memory Plain) → ℕ → ℕ
 meaning c n = means (frames_of c) n
 
-abbrev pub Knows : Config (Memory Plain) → Spot → Type 0
-Knows c q = IsSome (map.get (map_of c) q)
+abbrev pub KnowsSpot : Config (Memory Plain) → Spot → Type 0
+KnowsSpot c q = IsSome (map.get (map_of c) q)
 
 -- process r made the frame of the spot
 abbrev pub IsMade : (r : ℕ) → Config (Memory Plain) → Spot → Type 0
@@ -54,7 +54,7 @@ module _ (f : ℕ → Condition Plain) (birth : ℕ → Option Birth) where
 
   -- the parent knows the spot too, and means the same by it
   abbrev pub IsHandedOn : (r : ℕ) → Config (Memory Plain) → Spot → Type 0
-  IsHandedOn r c q = (p : ℕ) × (d : Config (Memory Plain)) × IsChildOf r p × (config_in (f p) ≡ Some d) × Knows d q
+  IsHandedOn r c q = (p : ℕ) × (d : Config (Memory Plain)) × IsChildOf r p × (config_in (f p) ≡ Some d) × KnowsSpot d q
       × (meaning d q.frame ≡ meaning c q.frame)
 
   -- a spot that moved from d, of process p, to c: it is away there, means the same, and p could write there
@@ -66,7 +66,7 @@ module _ (f : ℕ → Condition Plain) (birth : ℕ → Option Birth) where
     -- the memory of a process has its number
     pub number : (r : ℕ) (c : Config (Memory Plain)) → config_in (f r) ≡ Some c → process_of c ≡ r
     -- what a process knows is of a frame that it made, or its parent knows it
-    pub known : (r : ℕ) (c : Config (Memory Plain)) → config_in (f r) ≡ Some c → (q : Spot) → Knows c q
+    pub known : (r : ℕ) (c : Config (Memory Plain)) → config_in (f r) ≡ Some c → (q : Spot) → KnowsSpot c q
         → IsMade r c q ⊎ IsHandedOn r c q
     -- what moved to it is away from its parent
     pub moved : (r p : ℕ) (c d : Config (Memory Plain)) → IsChildOf r p → config_in (f r) ≡ Some c
@@ -74,11 +74,12 @@ module _ (f : ℕ → Condition Plain) (birth : ℕ → Option Birth) where
         → (q : Spot) → In q (spots_moved c) → IsMovedFrom p d c q
     -- and no other child of its parent knows it
     pub siblings : (r t p : ℕ) (c d : Config (Memory Plain)) → r ≢ t → IsChildOf r p → IsChildOf t p
-        → config_in (f r) ≡ Some c → config_in (f t) ≡ Some d → (q : Spot) → In q (spots_moved c) → Knows d q
+        → config_in (f r) ≡ Some c → config_in (f t) ≡ Some d → (q : Spot) → In q (spots_moved c) → KnowsSpot d q
         → IsMade t d q
     -- two stores agree on each variable that both know
     pub agree : (r t : ℕ) (c d : Config (Memory Plain)) → r ≢ t → config_in (f r) ≡ Some c → config_in (f t) ≡ Some d
-        → (q : Spot) → meaning c q.frame ≡ meaning d q.frame → Agree (map.get (map_of c) q) (map.get (map_of d) q)
+        → (q : Spot) → meaning c q.frame ≡ meaning d q.frame
+        → ContentsAgree (map.get (map_of c) q) (map.get (map_of d) q)
 
   -- parents are older than their children
   abbrev pub AreOlder : Type 0

@@ -4,7 +4,7 @@
 use Rattle.std.specs.Prelude.{◌≡◌, ◌⊎◌, ℕ, List, Option, IsSome}
 use Rattle.std.specs.FinMap as map
 use Rattle.sp_cell.specs.declared.spot.Spot.{Spot}
-use Rattle.sp_cell.specs.Held.{Agree}
+use Rattle.sp_cell.specs.Held.{ContentsAgree}
 use Rattle.sp_cell.specs.Map.{Content, Plain}
 use Rattle.sp_cell.specs.Spots.{In}
 use Rattle.sp_code.specs.Memory.{Frame}
@@ -12,7 +12,7 @@ use Rattle.sp_code.specs.Sound.{identity, means}
 
 -- whatever agreed with the one agrees with the other
 abbrev pub AgreesOn : Option Content → Option Content → Type 0
-AgreesOn a b = (o : Option Content) → Agree a o → Agree b o
+AgreesOn a b = (o : Option Content) → ContentsAgree a o → ContentsAgree b o
 
 -- process r had these frames and this store, and has those
 pub record OwnChange (r : ℕ) (fs : List Frame) (p : Plain) (gs : List Frame) (q : Plain) : Type 0 where

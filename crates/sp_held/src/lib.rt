@@ -12,7 +12,7 @@
 //! - That a process writes only where it may is known from `Writable` of `sp_rules`. A piece that is shared no more may
 //!   still stand as shared in its owner's store; `proofs/Sole.antt` shows that no other store holds it.
 //! - Of the proofs, `Turning` is one instruction and `Running` one turn, `Becoming`, `Splitting` and `Joining` are the
-//!   events, `Journeys` the system along a journal.
+//!   events, `EntriesKeepApart` the system along a journal.
 //!
 //! To change:
 //! - What `Held` says: `sp_cell/specs/Held.antt` and `Apart`, then `proofs/Sides.antt`, which has one from the other.

@@ -11,18 +11,22 @@ use Rattle.sp_journal.specs.declared.entry.Event.{Event}
 use Rattle.sp_journal.specs.declared.entry.Event.TheVariants as event
 use Rattle.sp_journal.specs.declared.entry.Birth.{Birth}
 use Rattle.sp_journal.specs.Maps.{at_key}
-use Rattle.sp_journal.specs.Births.{Births, after_event, is_next}
+use Rattle.sp_journal.specs.Births.{Births, births_after_event, is_next}
 use Rattle.sp_code.specs.Machine.{Stop, Forks, Opens, Sends, Receives, Ends, Pauses, Config, At}
 use Rattle.sp_code.specs.Turns.{Turn, Stopped, Faulted}
-use Rattle.sp_code.specs.Memory.{Setting, Stores, Memory, first}
+use Rattle.sp_code.specs.Memory.{CodeRun, Stores, Memory, first_process}
 use Rattle.sp_code.specs.Control.{Control, Doing, Unborn, Ready, Out, Sending, Receiving, Joining, Laid, Ended, Gone}
-use Rattle.sp_code.specs.Control.{does, queues, offers, one_fewer, reports, comes_back, takes, behind, control_at_start}
+use Rattle.sp_code.specs.Control.{does, queues, offers, one_fewer, reports, comes_back, takes, queue_tail}
+use Rattle.sp_code.specs.Control.{control_at_start}
 use Rattle.sp_code.specs.System.{System, Condition, Absent, Working, Waits, Joins, Laid as IsLaid, Gone as HasGone}
-use Rattle.sp_code.specs.System.{Over, event_at, event_or, event_of, fault_of, entered_now, received, sent, taken}
-use Rattle.sp_code.specs.System.{rejoined, reported, happens, unless_fault, lays, after, store_of, config_of, counted}
-use Rattle.sp_code.specs.System.{opening}
+use Rattle.sp_code.specs.System.{Over, event_at, event_or, event_of, fault_of, process_at_entry, after_message}
+use Rattle.sp_code.specs.System.{apply_send, apply_receive}
+use Rattle.sp_code.specs.System.{parent_after_join, apply_end, apply_stop, apply_unless_fault, lays, system_after_turn}
+use Rattle.sp_code.specs.System.{store_of, config_of, with_entry_counted}
+use Rattle.sp_code.specs.System.{opening_system}
 use Rattle.sp_history.specs.Agreement.{Phase, Never, Running, ToSend, ToReceive, ToJoin, Down, Finished, Odd, phase}
-use Rattle.sp_history.specs.Agreement.{phase_in, waiting_phase, IsQueue, IsOrderly, Agrees, SamePending, waits_by}
+use Rattle.sp_history.specs.Agreement.{phase_in, waiting_phase, IsQueue, IsOrderly, AgreesWithSystem, SamePending}
+use Rattle.sp_history.specs.Agreement.{waits_by}
 use Rattle.sp_history.specs.Agreement.{IsGot}
 use Rattle.sp_history.proofs.Queues.{at_other, both_at}
 use Rattle.sp_history.proofs.Orders.{queue_take}
@@ -64,9 +68,9 @@ waits_runs way.Receive c x e = (
   (λ f. absurd (cc (e, f))),
 )
 
-module _ {S : Type 0} (stores : Stores S) (g : Setting) where
+module _ {S : Type 0} (stores : Stores S) (g : CodeRun) where
   received_runs : (w : Way) (c : ℕ) (cs : List Cell) (x : Condition S) → phase (waits_by w c) ≡ phase_in x
-      → phase_in (received stores g cs x) ≡ Running
+      → phase_in (after_message stores g cs x) ≡ Running
   received_runs w c cs Absent e = absurd ((waits_runs w c Never e).1 refl)
   received_runs w c cs (Working d) e = refl
   received_runs w c cs (Waits (Receives ch k a) d) e = refl
@@ -132,8 +136,9 @@ fewer_waiting (Opens a) = refl
 fewer_waiting Ends = refl
 fewer_waiting Pauses = refl
 
-module _ {S : Type 0} (stores : Stores S) (g : Setting) where
-  fewer_system : (c : Config (Memory S)) (x : Condition S) → phase_in (rejoined stores g c x) ≡ fewer (phase_in x)
+module _ {S : Type 0} (stores : Stores S) (g : CodeRun) where
+  fewer_system : (c : Config (Memory S)) (x : Condition S) → phase_in (parent_after_join stores g c x)
+      ≡ fewer (phase_in x)
   fewer_system c Absent = refl
   fewer_system c (Working d) = refl
   fewer_system c (Waits stop d) = fewer_waiting stop
@@ -159,18 +164,19 @@ at_phase_in p q a m = go (p == q)
 
 -- ---- events
 
-module _ {S : Type 0} (stores : Stores S) (g : Setting) (k : Control) (s : System S) (h : IsOrderly k) (a : Agrees k s)
+module _ {S : Type 0} (stores : Stores S) (g : CodeRun) (k : Control) (s : System S) (h : IsOrderly k)
+    (a : AgreesWithSystem k s)
     (p u : ℕ) (out : k.doing p ≡ Out u) where
   one_place : (d : Doing) (x : Condition S) → phase d ≡ phase_in x → (q : ℕ)
       → phase (at_key ◌==◌ p d k.doing q) ≡ phase_in (at_key ◌==◌ p x s.condition q)
   one_place d x e q = both_at phase phase_in p d x k.doing s.condition e a.each q
 
-  next_births : (e : Event) → after_event k.births p e ≡ after_event s.births p e
-  next_births e = ap (λ (b : Births). after_event b p e) a.births
+  next_births : (e : Event) → births_after_event k.births p e ≡ births_after_event s.births p e
+  next_births e = ap (λ (b : Births). births_after_event b p e) a.births
 
   agrees_fork : (t : ℕ) (v : ℤ) (n : ℕ) (c : Config (Memory S))
-      → Agrees (comes_back p (event.Fork n) k)
-      (record (happens stores g p (Forks t v n) c s) { births = after_event s.births p (event.Fork n) })
+      → AgreesWithSystem (comes_back p (event.Fork n) k)
+      (record (apply_stop stores g p (Forks t v n) c s) { births = births_after_event s.births p (event.Fork n) })
   agrees_fork t v n c = record {
     each = λ q. two_conds phase phase_in (is_next k.births n q) (is_next s.births n q) _ _ _ _
         (ap (λ (b : Births). is_next b n q) a.births) refl (one_place (Joining n) (Joins n _) refl q);
@@ -180,8 +186,8 @@ module _ {S : Type 0} (stores : Stores S) (g : Setting) (k : Control) (s : Syste
   }
 
   agrees_open : (t : Address) (c : Config (Memory S))
-      → Agrees (comes_back p event.Open k) (record (happens stores g p (Opens t) c s)
-      { births = after_event s.births p event.Open })
+      → AgreesWithSystem (comes_back p event.Open k) (record (apply_stop stores g p (Opens t) c s)
+      { births = births_after_event s.births p event.Open })
   agrees_open t c = record {
     each = one_place Ready (Working _) refl;
     births = next_births event.Open;
@@ -189,8 +195,8 @@ module _ {S : Type 0} (stores : Stores S) (g : Setting) (k : Control) (s : Syste
     pending = a.pending;
   }
 
-  agrees_pause : (c : Config (Memory S)) → Agrees (comes_back p event.Pause k)
-      (record (happens stores g p Pauses c s) { births = after_event s.births p event.Pause })
+  agrees_pause : (c : Config (Memory S)) → AgreesWithSystem (comes_back p event.Pause k)
+      (record (apply_stop stores g p Pauses c s) { births = births_after_event s.births p event.Pause })
   agrees_pause c = record {
     each = one_place Ready (Working c) refl;
     births = a.births;
@@ -198,16 +204,16 @@ module _ {S : Type 0} (stores : Stores S) (g : Setting) (k : Control) (s : Syste
     pending = a.pending;
   }
 
-  agrees_end : (c : Config (Memory S)) → Agrees (comes_back p event.End k)
-      (record (happens stores g p Ends c s) { births = after_event s.births p event.End })
-  agrees_end c = subst (λ (o : Option Birth). Agrees
+  agrees_end : (c : Config (Memory S)) → AgreesWithSystem (comes_back p event.End k)
+      (record (apply_stop stores g p Ends c s) { births = births_after_event s.births p event.End })
+  agrees_end c = subst (λ (o : Option Birth). AgreesWithSystem
       (record (reports (k.births.birth p) (does p Ended k)) { out = k.out - 1; births = k.births })
-      (record (reported stores g p c o s) { births = s.births })) (ap (λ (b : Births). b.birth p) a.births)
+      (record (apply_end stores g p c o s) { births = s.births })) (ap (λ (b : Births). b.birth p) a.births)
       (go (k.births.birth p) refl)
     where
       go : (o : Option Birth) → k.births.birth p ≡ o
-          → Agrees (record (reports o (does p Ended k)) { out = k.out - 1; births = k.births })
-          (record (reported stores g p c o s) { births = s.births })
+          → AgreesWithSystem (record (reports o (does p Ended k)) { out = k.out - 1; births = k.births })
+          (record (apply_end stores g p c o s) { births = s.births })
       go None e = record {
         each = one_place Ended (Over c) refl;
         births = a.births;
@@ -223,7 +229,7 @@ module _ {S : Type 0} (stores : Stores S) (g : Setting) (k : Control) (s : Syste
                 ∙ two_conds (λ (x : Phase). x) (λ (x : Phase). x) (b.parent == q) (b.parent == q) _ _ _ _ refl
                 (ap fewer (ap phase was ∙ a.each b.parent) ∙ sym (fewer_system stores g c (s.condition b.parent)))
                 (one_place Ended HasGone refl q)
-                ∙ sym (at_phase_in b.parent q (rejoined stores g c (s.condition b.parent))
+                ∙ sym (at_phase_in b.parent q (parent_after_join stores g c (s.condition b.parent))
                 (at_key ◌==◌ p HasGone s.condition));
             births = a.births;
             faulted = fewer_faulted b.parent (m.doing b.parent) m ∙ a.faulted;
@@ -233,13 +239,13 @@ module _ {S : Type 0} (stores : Stores S) (g : Setting) (k : Control) (s : Syste
 
   -- an offer: of this way, with this stop, on this channel
   agrees_sent : (stop : Stop) (ch : ℕ) (cs : List Cell) (c : Config (Memory S)) → waiting_phase stop ≡ ToSend ch
-      → Agrees (comes_back p (event.Send ch) k)
-      (record (counted stores g (sent stores g p stop ch cs c (s.pending ch) s)) { births = s.births })
+      → AgreesWithSystem (comes_back p (event.Send ch) k)
+      (record (with_entry_counted stores g (apply_send stores g p stop ch cs c (s.pending ch) s)) { births = s.births })
   agrees_sent stop ch cs c w = go (k.pending ch) (s.pending ch) refl (a.pending ch)
     where
       go : (o : Option (Way × ℕ)) (x : Option ℕ) → k.pending ch ≡ o → SamePending o x
-          → Agrees (record (offers way.Send (Sending ch) p ch o k) { out = k.out - 1; births = k.births })
-          (record (counted stores g (sent stores g p stop ch cs c x s)) { births = s.births })
+          → AgreesWithSystem (record (offers way.Send (Sending ch) p ch o k) { out = k.out - 1; births = k.births })
+          (record (with_entry_counted stores g (apply_send stores g p stop ch cs c x s)) { births = s.births })
       go None None f e = record {
         each = one_place (Sending ch) (Waits stop c) (sym w);
         births = a.births;
@@ -255,8 +261,8 @@ module _ {S : Type 0} (stores : Stores S) (g : Setting) (k : Control) (s : Syste
           record {
             each = both_at phase phase_in p Ready (Working c) _ _ refl
                 (subst (λ y. (q : ℕ) → phase (at_key ◌==◌ y Ready k.doing q)
-                ≡ phase_in (at_key ◌==◌ z (received stores g cs (s.condition z)) s.condition q)) (sym e)
-                (both_at phase phase_in z Ready (received stores g cs (s.condition z)) k.doing s.condition
+                ≡ phase_in (at_key ◌==◌ z (after_message stores g cs (s.condition z)) s.condition q)) (sym e)
+                (both_at phase phase_in z Ready (after_message stores g cs (s.condition z)) k.doing s.condition
                 (sym (received_runs stores g o.0 ch cs (s.condition z) wz)) a.each));
             births = a.births;
             faulted = a.faulted;
@@ -264,13 +270,20 @@ module _ {S : Type 0} (stores : Stores S) (g : Setting) (k : Control) (s : Syste
           }
 
   agrees_taken : (stop : Stop) (ch : ℕ) (t : Address) (c : Config (Memory S)) → waiting_phase stop ≡ ToReceive ch
-      → Agrees (comes_back p (event.Receive ch) k)
-      (record (counted stores g (taken stores g p stop ch t c (s.pending ch) s)) { births = s.births })
+      → AgreesWithSystem (comes_back p (event.Receive ch) k)
+      (record (with_entry_counted stores g (apply_receive stores g p stop ch t c (s.pending ch) s)) {
+        births =
+            s.births;
+      })
   agrees_taken stop ch t c w = go (k.pending ch) (s.pending ch) refl (a.pending ch)
     where
       go : (o : Option (Way × ℕ)) (x : Option ℕ) → k.pending ch ≡ o → SamePending o x
-          → Agrees (record (offers way.Receive (Receiving ch) p ch o k) { out = k.out - 1; births = k.births })
-          (record (counted stores g (taken stores g p stop ch t c x s)) { births = s.births })
+          → AgreesWithSystem (record (offers way.Receive (Receiving ch) p ch o k) {
+            out = k.out - 1;
+            births =
+                k.births;
+          })
+          (record (with_entry_counted stores g (apply_receive stores g p stop ch t c x s)) { births = s.births })
       go None None f e = record {
         each = one_place (Receiving ch) (Waits stop c) (sym w);
         births = a.births;
@@ -286,8 +299,8 @@ module _ {S : Type 0} (stores : Stores S) (g : Setting) (k : Control) (s : Syste
           record {
             each = both_at phase phase_in p Ready (Working _) _ _ refl
                 (subst (λ y. (q : ℕ) → phase (at_key ◌==◌ y Ready k.doing q)
-                ≡ phase_in (at_key ◌==◌ z (received stores g [] (s.condition z)) s.condition q)) (sym e)
-                (both_at phase phase_in z Ready (received stores g [] (s.condition z)) k.doing s.condition
+                ≡ phase_in (at_key ◌==◌ z (after_message stores g [] (s.condition z)) s.condition q)) (sym e)
+                (both_at phase phase_in z Ready (after_message stores g [] (s.condition z)) k.doing s.condition
                 (sym (received_runs stores g o.0 ch [] (s.condition z) wz)) a.each));
             births = a.births;
             faulted = a.faulted;
@@ -295,8 +308,8 @@ module _ {S : Type 0} (stores : Stores S) (g : Setting) (k : Control) (s : Syste
           }
 
   agrees_happens : (stop : Stop) (c : Config (Memory S))
-      → Agrees (comes_back p (event_at stop) k)
-      (record (happens stores g p stop c s) { births = after_event s.births p (event_at stop) })
+      → AgreesWithSystem (comes_back p (event_at stop) k)
+      (record (apply_stop stores g p stop c s) { births = births_after_event s.births p (event_at stop) })
   agrees_happens (Forks t v n) c = agrees_fork t v n c
   agrees_happens (Opens t) c = agrees_open t c
   agrees_happens (Sends ch m cs) c = agrees_sent (Sends ch m cs) ch cs c refl
@@ -305,7 +318,8 @@ module _ {S : Type 0} (stores : Stores S) (g : Setting) (k : Control) (s : Syste
   agrees_happens Pauses c = agrees_pause c
 
   agrees_fault : (f : Fault) (c : Config (Memory S))
-      → Agrees (comes_back p (event.Fault f) k) (record (lays stores g p c s) { faulted = true; births = s.births })
+      → AgreesWithSystem (comes_back p (event.Fault f) k)
+      (record (lays stores g p c s) { faulted = true; births = s.births })
   agrees_fault f c = record {
     each = one_place Laid (IsLaid c) refl;
     births = a.births;
@@ -313,7 +327,7 @@ module _ {S : Type 0} (stores : Stores S) (g : Setting) (k : Control) (s : Syste
     pending = a.pending;
   }
 
-  agrees_laid : (c : Config (Memory S)) → Agrees (comes_back p event.Laid k)
+  agrees_laid : (c : Config (Memory S)) → AgreesWithSystem (comes_back p event.Laid k)
       (record (lays stores g p c s) { births = s.births })
   agrees_laid c = record {
     each = one_place Laid (IsLaid c) refl;
@@ -324,35 +338,40 @@ module _ {S : Type 0} (stores : Stores S) (g : Setting) (k : Control) (s : Syste
 
   -- whatever its turn came to
   pub agrees_after : (turn : Turn (Memory S))
-      → Agrees (comes_back p (event_of g.limits s turn) k) (after stores g p turn s)
+      → AgreesWithSystem (comes_back p (event_of g.limits s turn) k) (system_after_turn stores g p turn s)
   agrees_after turn = go s.faulted
     where
       by_fault : (o : Option Fault) (t : Turn (Memory S))
-          → Agrees (comes_back p (event_or o t) k)
-          (record (unless_fault stores g o p t s) { births = after_event s.births p (event_or o t) })
+          → AgreesWithSystem (comes_back p (event_or o t) k)
+          (record (apply_unless_fault stores g o p t s) { births = births_after_event s.births p (event_or o t) })
       by_fault (Some f) (Stopped stop c) = agrees_fault f c
       by_fault (Some f) (Faulted e c) = agrees_fault f c
       by_fault None (Faulted e c) = agrees_fault e c
-      by_fault None (Stopped stop c) = agrees_happens stop (entered_now c)
+      by_fault None (Stopped stop c) = agrees_happens stop (process_at_entry c)
 
-      laid : (t : Turn (Memory S)) → Agrees (comes_back p event.Laid k)
+      laid : (t : Turn (Memory S)) → AgreesWithSystem (comes_back p event.Laid k)
           (record (lays stores g p (config_of t) s) { births = s.births })
       laid t = agrees_laid (config_of t)
 
-      go : (b : Bool) → Agrees (comes_back p (if b then event.Laid else event_or (fault_of g.limits s turn) turn) k)
+      go : (b : Bool) → AgreesWithSystem
+          (comes_back p (if b then event.Laid else event_or (fault_of g.limits s turn) turn) k)
           (record (if b then lays stores g p (config_of turn) s else
-          unless_fault stores g (fault_of g.limits s turn) p turn s)
-          { births = after_event s.births p (if b then event.Laid else event_or (fault_of g.limits s turn) turn) })
+          apply_unless_fault stores g (fault_of g.limits s turn) p turn s) {
+            births = births_after_event s.births p (if b then event.Laid else event_or (fault_of g.limits s turn)
+                turn);
+          })
       go true = laid turn
       go false = by_fault (fault_of g.limits s turn) turn
 
 -- ---- along a history
 
 -- at the start both are alike
-pub agrees_start : {S : Type 0} (stores : Stores S) (g : Setting) → Agrees control_at_start (opening stores g)
+pub agrees_start : {S : Type 0} (stores : Stores S) (g : CodeRun)
+    → AgreesWithSystem control_at_start (opening_system stores g)
 agrees_start stores g = record { each = λ q. go (q == 0); births = refl; faulted = refl; pending = λ c. tt {0} }
   where
-    go : (b : Bool) → phase (if b then Ready else Unborn) ≡ phase_in (if b then Working (first stores g) else Absent)
+    go : (b : Bool) → phase (if b then Ready else Unborn)
+        ≡ phase_in (if b then Working (first_process stores g) else Absent)
     go true = refl
     go false = refl
 
@@ -373,8 +392,9 @@ orderly_start = record {
     unborn q false w l = refl
 
 -- taking one that is ready changes nothing that the system tells
-pub agrees_takes : {S : Type 0} (k : Control) (s : System S) → Agrees k s → (w : ℕ) (got : Option ℕ) → IsGot k got
-    → Agrees (takes w got k) s
+pub agrees_takes : {S : Type 0} (k : Control) (s : System S) → AgreesWithSystem k s → (w : ℕ) (got : Option ℕ)
+    → IsGot k got
+    → AgreesWithSystem (takes w got k) s
 agrees_takes k s a w None i = a
 agrees_takes k s a w (Some q) i = record {
   each = λ r. at_phase q r (Out w) k.doing ∙ sym (as_it_was q r k.doing Ready i.1) ∙ a.each r;
@@ -386,7 +406,7 @@ agrees_takes k s a w (Some q) i = record {
 pub orderly_takes : (k : Control) → IsOrderly k → (w : ℕ) (got : Option ℕ) → IsGot k got → IsOrderly (takes w got k)
 orderly_takes k h w None i = h
 orderly_takes k h w (Some q) i = record {
-  queue = subst (λ r. IsQueue (at_key ◌==◌ q (Out w) k.doing) r) (sym (ap behind i.0.1))
+  queue = subst (λ r. IsQueue (at_key ◌==◌ q (Out w) k.doing) r) (sym (ap queue_tail i.0.1))
       (queue_take k.doing q i.0.0 (Out w) (subst (λ r. IsQueue k.doing r) i.0.1 h.queue) (λ e. absurd (cc e)));
   unborn = λ r l. at_other k.doing q r (Out w) (λ e. absurd (late r e l)) ∙ h.unborn r l;
   pending = λ c z v e. at_other k.doing q z (Out w) (λ is. no_wait v c (sym i.1 ∙ ap k.doing is ∙ h.pending c z v e))

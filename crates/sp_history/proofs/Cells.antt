@@ -7,11 +7,12 @@ use Rattle.sp_cell.specs.declared.cell.Cell.{Cell}
 use Rattle.sp_cell.specs.declared.cell.Cell.TheVariants as cell
 use Rattle.sp_cell.specs.declared.spot.Spot.{Spot}
 use Rattle.sp_cell.specs.declared.spot.Handing.{Handing}
-use Rattle.sp_cell.specs.Lists.{overwritten, part}
+use Rattle.sp_cell.specs.Lists.{splice, part}
 use Rattle.sp_cell.specs.Map.{Content, Own, Output, Away, Map, spot_cmp}
-use Rattle.sp_cell.specs.Frame.{with_pieces, without, root_map}
+use Rattle.sp_cell.specs.Frame.{with_pieces, without_spots_of, root_map}
 use Rattle.sp_cell.proofs.FrameLaws.{without_here, without_other}
-use Rattle.sp_cell.specs.Fork.{hold, taken, lent, away, with_index, index_frame, child_map, moved_of, shared_of, handed}
+use Rattle.sp_cell.specs.Fork.{insert_if_found, with_contents, with_shared, with_away, with_index, index_frame}
+use Rattle.sp_cell.specs.Fork.{child_map, moved_of, shared_of, map_after_fork}
 use Rattle.sp_cell.proofs.Laws.{get_other, get_here, same_or}
 use Rattle.sp_code.specs.Memory.{cells_in}
 use Rattle.sp_code.specs.PlainStore.{piece_of}
@@ -54,7 +55,7 @@ module _ (C : ℕ → Type 0) where
   have_part xs at n h = have_take n (drop at xs) (have_drop at xs h)
 
   pub have_over : (xs : List Cell) (at : ℕ) (ys : List Cell) → CellsHave C xs → CellsHave C ys
-      → CellsHave C (overwritten xs at ys)
+      → CellsHave C (splice xs at ys)
   have_over xs at ys h k = have_append (take at xs) (ys ++ drop (at + length ys) xs) (have_take at xs h)
       (have_append ys (drop (at + length ys) xs) k (have_drop (at + length ys) xs h))
 
@@ -77,20 +78,20 @@ module _ (C : ℕ → Type 0) where
   empty_has : MapHas map.empty
   empty_has p = subst ContentHas (sym (map.get-empty spot_cmp p)) tt
 
-  hold_has : (c : Map) (s : Spot) (o : Option Content) → MapHas c → ContentHas o → MapHas (hold c s o)
+  hold_has : (c : Map) (s : Spot) (o : Option Content) → MapHas c → ContentHas o → MapHas (insert_if_found c s o)
   hold_has c s None a b = a
   hold_has c s (Some h) a b = insert_has c s h a b
 
-  pub taken_has : (m : Map) (ss : List Spot) (c : Map) → MapHas m → MapHas c → MapHas (taken m ss c)
+  pub taken_has : (m : Map) (ss : List Spot) (c : Map) → MapHas m → MapHas c → MapHas (with_contents m ss c)
   taken_has m [] c a b = b
-  taken_has m (s ∷ ss) c a b = taken_has m ss (hold c s (map.get m s)) a (hold_has c s (map.get m s) b (a s))
+  taken_has m (s ∷ ss) c a b = taken_has m ss (insert_if_found c s (map.get m s)) a (hold_has c s (map.get m s) b (a s))
 
-  lent_has : (m : Map) (ss : List Spot) (c : Map) → MapHas m → MapHas c → MapHas (lent m ss c)
+  lent_has : (m : Map) (ss : List Spot) (c : Map) → MapHas m → MapHas c → MapHas (with_shared m ss c)
   lent_has m [] c a b = b
   lent_has m (s ∷ ss) c a b = lent_has m ss _ a
       (insert_has c s _ b (subst (CellsHave C) (cells_same (map.get m s)) (a s)))
 
-  away_has : (m : Map) (ss : List Spot) → MapHas m → MapHas (away m ss)
+  away_has : (m : Map) (ss : List Spot) → MapHas m → MapHas (with_away m ss)
   away_has m [] a = a
   away_has m (s ∷ ss) a = away_has (map.insert m s Away) ss (insert_has m s Away a tt)
 
@@ -100,10 +101,10 @@ module _ (C : ℕ → Type 0) where
       (tt, tt)
 
   pub child_has : (m : Map) (h : Handing) → MapHas m → MapHas (child_map m h)
-  child_has m h a = taken_has m h.moved _ a (index_has (lent m h.shared map.empty) (index_frame h) h.index
+  child_has m h a = taken_has m h.moved _ a (index_has (with_shared m h.shared map.empty) (index_frame h) h.index
       (lent_has m h.shared map.empty a empty_has))
 
-  pub handed_has : (m : Map) (hs : List Handing) → MapHas m → MapHas (handed m hs)
+  pub handed_has : (m : Map) (hs : List Handing) → MapHas m → MapHas (map_after_fork m hs)
   handed_has m hs a = lent_has m (shared_of hs) _ a (away_has m (moved_of hs) a)
 
   pub pieces_has : (m : Map) (n v : ℕ) (cs : List ℕ) → MapHas m → MapHas (with_pieces m n v cs)
@@ -117,9 +118,9 @@ module _ (C : ℕ → Type 0) where
       (insert_has map.empty (record { frame = 0; variable = 0 }) (Own (cell.Ordinal (pos 0) ∷ [])) empty_has (tt, tt))
       tt)
 
-  pub without_has : (m : Map) (n : ℕ) → MapHas m → MapHas (without m n)
+  pub without_has : (m : Map) (n : ℕ) → MapHas m → MapHas (without_spots_of m n)
   without_has m n a p = go (number_or p.frame n)
     where
-      go : (p.frame ≡ n) ⊎ ((p.frame ≢ n) × (p.frame == n ≡ false)) → ContentHas (map.get (without m n) p)
+      go : (p.frame ≡ n) ⊎ ((p.frame ≢ n) × (p.frame == n ≡ false)) → ContentHas (map.get (without_spots_of m n) p)
       go (inl e) = subst ContentHas (sym (without_here m n p e)) tt
       go (inr d) = subst ContentHas (sym (without_other m n p d.0)) (a p)

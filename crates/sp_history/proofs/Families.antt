@@ -13,25 +13,26 @@ use Rattle.sp_journal.specs.Maps.{at_key}
 use Rattle.sp_journal.specs.Births.{is_next}
 use Rattle.sp_journal.specs.Queue.{numbers}
 use Rattle.sp_code.specs.Control.{Control, Doing, Unborn, Ready, Out, Sending, Receiving, Joining, Laid, Ended, Gone}
-use Rattle.sp_code.specs.Control.{does, queues, offers, one_fewer, reports, comes_back, abandons, takes, given, noted}
-use Rattle.sp_code.specs.Control.{noted_all, control_at_start}
-use Rattle.sp_code.specs.Memory.{Setting, Stores}
-use Rattle.sp_code.specs.System.{System, Gives, Gets}
-use Rattle.sp_history.specs.Agreement.{Among, IsOrderly, Agrees, Reaches, waits_by, IsGot}
-use Rattle.sp_history.specs.Lines.{left_of, IsLive, HasChildren}
+use Rattle.sp_code.specs.Control.{does, queues, offers, one_fewer, reports, comes_back, abandons, takes, after_give}
+use Rattle.sp_code.specs.Control.{after_note}
+use Rattle.sp_code.specs.Control.{after_notes, control_at_start}
+use Rattle.sp_code.specs.Memory.{CodeRun, Stores}
+use Rattle.sp_code.specs.System.{System, GiveIsLegal, GetIsLegal}
+use Rattle.sp_history.specs.Agreement.{Among, IsOrderly, AgreesWithSystem, Reaches, waits_by, IsGot}
+use Rattle.sp_history.specs.WorkerHistory.{left_of, IsLive, HasChildren}
 use Rattle.sp_history.proofs.Queues.{number_or, at_same, at_other, numbers_have, numbers_length, among_none}
 use Rattle.sp_history.proofs.Orders.{orderly_back, next_is, out_there}
 use Rattle.sp_history.proofs.Legal.{got_of, keeps}
 use Rattle.sp_history.proofs.Outs.{without, without_length, without_has}
 
 -- so many children, by what the process does, and who they are
-abbrev Kept : (ℕ → List ℕ) → (ℕ → Doing) → (ℕ → Option Birth) → Type 0
-Kept f d b = ((p : ℕ) → length (f p) ≡ left_of (d p))
+abbrev CountsChildren : (ℕ → List ℕ) → (ℕ → Doing) → (ℕ → Option Birth) → Type 0
+CountsChildren f d b = ((p : ℕ) → length (f p) ≡ left_of (d p))
     × ((q : ℕ) (x : Birth) → b q ≡ Some x → IsLive (d q) → Among q (f x.parent))
 
 -- where a process neither waited nor waits, and is no less alive than before
 one_else : (f : ℕ → List ℕ) (d : ℕ → Doing) (b : ℕ → Option Birth) (p : ℕ) (v : Doing) → left_of (d p) ≡ left_of v
-    → (IsLive v → IsLive (d p)) → Kept f d b → Kept f (at_key ◌==◌ p v d) b
+    → (IsLive v → IsLive (d p)) → CountsChildren f d b → CountsChildren f (at_key ◌==◌ p v d) b
 one_else f d b p v e l k = ((λ r. count r (number_or p r)), λ q x w i. k.1 q x w (live q (number_or p q) i))
   where
     count : (r : ℕ) → (p ≡ r) ⊎ ((p ≢ r) × (p == r ≡ false)) → length (f r) ≡ left_of (at_key ◌==◌ p v d r)
@@ -46,8 +47,8 @@ one_else f d b p v e l k = ((λ r. count r (number_or p r)), λ q x w i. k.1 q x
 
 -- a child is gone from the list of its parent, which waits for one fewer
 one_gone : (f : ℕ → List ℕ) (d : ℕ → Doing) (b : ℕ → Option Birth) (q p n : ℕ) (v : Doing) → (IsLive (d q) → ⊥)
-    → d p ≡ Joining n → left_of v ≡ n - 1 → Among q (f p) → Kept f d b
-    → Kept (at_key ◌==◌ p (without q (f p)) f) (at_key ◌==◌ p v d) b
+    → d p ≡ Joining n → left_of v ≡ n - 1 → Among q (f p) → CountsChildren f d b
+    → CountsChildren (at_key ◌==◌ p (without q (f p)) f) (at_key ◌==◌ p v d) b
 one_gone f d b q p n v dead joins e among k = ((λ r. count r (number_or p r)), λ r x w i. all r x w i)
   where
     count : (r : ℕ) → (p ≡ r) ⊎ ((p ≢ r) × (p == r ≡ false))
@@ -77,7 +78,8 @@ one_gone f d b q p n v dead joins e among k = ((λ r. count r (number_or p r)), 
 
 offered_kept : (w : Way) (waits : Doing) (p c : ℕ) (k : Control) (o : Option (Way × ℕ)) (f : ℕ → List ℕ)
     → k.pending c ≡ o → IsOrderly k → left_of (k.doing p) ≡ 0 → IsLive (k.doing p) → left_of waits ≡ 0
-    → Kept f k.doing k.births.birth → Kept f (offers w waits p c o k).doing (offers w waits p c o k).births.birth
+    → CountsChildren f k.doing k.births.birth
+    → CountsChildren f (offers w waits p c o k).doing (offers w waits p c o k).births.birth
 offered_kept w waits p c k None f e h l i z a = one_else f k.doing k.births.birth p waits (l ∙ sym z) (λ x. i) a
 offered_kept w waits p c k (Some y) f e h l i z a =
     one_else f _ k.births.birth p Ready (left_after (number_or y.1 p)) (λ x. live_after (number_or y.1 p))
@@ -121,11 +123,11 @@ pub parent_joins : (k : Control) → HasChildren k → (q w : ℕ) (b : Birth) �
 parent_joins k h q w b out e = some_left q (h.children b.parent) (k.doing b.parent)
     (h.all q b e (subst IsLive (sym out) tt)) (h.count b.parent)
 
-made : (k : Control) (f : ℕ → List ℕ) → Kept f k.doing k.births.birth → HasChildren k
+made : (k : Control) (f : ℕ → List ℕ) → CountsChildren f k.doing k.births.birth → HasChildren k
 made k f a = record { children = f; count = a.0; all = a.1 }
 
 module _ (k : Control) (o : IsOrderly k) (h : HasChildren k) (p w : ℕ) (out : k.doing p ≡ Out w) where
-  was : Kept h.children k.doing k.births.birth
+  was : CountsChildren h.children k.doing k.births.birth
   was = (h.count, h.all)
 
   left_out : left_of (k.doing p) ≡ 0
@@ -134,7 +136,7 @@ module _ (k : Control) (o : IsOrderly k) (h : HasChildren k) (p w : ℕ) (out : 
   live_out : IsLive (k.doing p)
   live_out = subst IsLive (sym out) tt
 
-  becomes_kept : (v : Doing) → left_of v ≡ 0 → Kept h.children (at_key ◌==◌ p v k.doing) k.births.birth
+  becomes_kept : (v : Doing) → left_of v ≡ 0 → CountsChildren h.children (at_key ◌==◌ p v k.doing) k.births.birth
   becomes_kept v e = one_else h.children k.doing k.births.birth p v (left_out ∙ sym e) (λ x. live_out) was
 
   fork_kept : (n : ℕ) → HasChildren (comes_back p (event.Fork n) k)
@@ -189,7 +191,7 @@ module _ (k : Control) (o : IsOrderly k) (h : HasChildren k) (p w : ℕ) (out : 
       m : Control
       m = does p Ended k
 
-      ended : Kept h.children m.doing k.births.birth
+      ended : CountsChildren h.children m.doing k.births.birth
       ended = becomes_kept Ended refl
 
       dead : IsLive (m.doing p) → ⊥
@@ -261,10 +263,11 @@ children_start = record { children = λ p. []; count = λ p. go (p == 0); all = 
 
 -- ---- along a history
 
-module _ {S : Type 0} (stores : Stores S) (g : Setting) where
+module _ {S : Type 0} (stores : Stores S) (g : CodeRun) where
   pub children_by : (w : ℕ) (give : Option ℕ) (e : Option Event) (got : Option ℕ) (k : Control) (s t : System S)
-      → IsOrderly k → HasChildren k → Gives stores g k s w give e got t → Gets stores g (given give e got k) e got
-      → HasChildren (takes w got (given give e got k))
+      → IsOrderly k → HasChildren k → GiveIsLegal stores g k s w give e got t
+      → GetIsLegal stores g (after_give give e got k) e got
+      → HasChildren (takes w got (after_give give e got k))
   children_by w None None None k s t h c i j = record { children = c.children; count = c.count; all = c.all }
   children_by w None None (Some q) k s t h c i j = children_takes k c w (Some q) (got_of k h (Some q) (sym j))
   children_by w None (Some e) got k s t h c i j = absurd i
@@ -274,10 +277,11 @@ module _ {S : Type 0} (stores : Stores S) (g : Setting) where
       children_takes (comes_back p e k) (children_back k h c p w i.0 e) w got
       (got_of (comes_back p e k) (orderly_back k h p w e i.0) got j)
 
-  pub children_all : (k : Control) (s t : System S) (ns : List Note) → IsOrderly k → Agrees k s → HasChildren k
-      → Reaches stores g k s ns t → HasChildren (noted_all ns k)
+  pub children_all : (k : Control) (s t : System S) (ns : List Note) → IsOrderly k → AgreesWithSystem k s
+      → HasChildren k
+      → Reaches stores g k s ns t → HasChildren (after_notes ns k)
   children_all k s t [] h a c r = c
   children_all k s t (n ∷ ns) h a c r =
       let m = keeps stores g k s r.0 n h a r.1 in
-      children_all (noted n k) r.0 t ns m.0 m.1
+      children_all (after_note n k) r.0 t ns m.0 m.1
       (children_by n.worker n.given n.event n.got k s r.0 h c r.1.gives r.1.gets) r.2

@@ -23,25 +23,29 @@ use Rattle.sp_journal.specs.declared.entry.Entry.{Entry}
 use Rattle.sp_journal.specs.declared.entry.Birth.{Birth}
 use Rattle.sp_journal.specs.declared.entry.Note.{Note}
 use Rattle.sp_journal.specs.Maps.{at_key}
-use Rattle.sp_journal.specs.Births.{Births, after_event, is_next}
+use Rattle.sp_journal.specs.Births.{Births, births_after_event, is_next}
 use Rattle.sp_code.specs.Tables.{child_at}
 use Rattle.sp_code.specs.Machine as m
 use Rattle.sp_code.specs.Machine.{Stop, Forks, Opens, Sends, Receives, Ends, Pauses, Config, At}
 use Rattle.sp_code.specs.Turns.{Turn, Stopped, Faulted, IsTurn}
-use Rattle.sp_code.specs.Memory.{Setting, Memory, memory, put_cell, put_cells, first, sizes_of}
+use Rattle.sp_code.specs.Memory.{CodeRun, Memory, memory, put_cell, put_cells, first_process, sizes_of}
 use Rattle.sp_code.specs.PlainStore.{plain}
 use Rattle.sp_code.specs.Sound.{CanSplit, CanJoin, StopsAt, IsSafeSystem}
-use Rattle.sp_code.specs.Control.{Control, Out, noted, control_at_start}
+use Rattle.sp_code.specs.Control.{Control, Out, after_note, control_at_start}
 use Rattle.sp_code.specs.System.{System, Condition, Absent, Working, Waits, Joins, Laid, Gone, Over, event_at, event_or}
-use Rattle.sp_code.specs.System.{event_of, fault_of, entered_now, frames_of, plan_of, newborn, handing_of, child_or}
-use Rattle.sp_code.specs.System.{table_or, on_store, received, sent, taken, rejoined, reported, happens, unless_fault}
-use Rattle.sp_code.specs.System.{lays, after, store_in, stop_of, message_of, store_of, config_of, opening, Enters}
-use Rattle.sp_code.specs.System.{Leads, Gives}
-use Rattle.sp_history.specs.Agreement.{ToJoin, phase_in, IsOrderly, Agrees, Reaches}
-use Rattle.sp_history.specs.Lines.{HasChildren}
+use Rattle.sp_code.specs.System.{event_of, fault_of, process_at_entry, frames_of, plan_of, child_process, handing_of}
+use Rattle.sp_code.specs.System.{child_or}
+use Rattle.sp_code.specs.System.{table_or, on_store, after_message, apply_send, apply_receive, parent_after_join}
+use Rattle.sp_code.specs.System.{apply_end, apply_stop, apply_unless_fault}
+use Rattle.sp_code.specs.System.{lays, system_after_turn, store_in, stop_of, message_of, store_of, config_of}
+use Rattle.sp_code.specs.System.{opening_system, EntryLeads}
+use Rattle.sp_code.specs.System.{EntriesLead, GiveIsLegal}
+use Rattle.sp_history.specs.Agreement.{ToJoin, phase_in, IsOrderly, AgreesWithSystem, Reaches}
+use Rattle.sp_history.specs.WorkerHistory.{HasChildren}
 use Rattle.sp_history.specs.Counted.{IsCounted}
 use Rattle.sp_history.specs.Channels.{EntriesHave, ConfigHas, AimsAt, TurnDoes}
-use Rattle.sp_history.specs.Holding.{Share, Holds, Lends, Lacks, StoreIs, IsPart, Owned, AimsIn, IsShared, HasHolder}
+use Rattle.sp_history.specs.Holding.{Share, HoldsIt, LendsIt, LacksIt, StoreIs, IsPart, Owned, AimsIn, IsShared}
+use Rattle.sp_history.specs.Holding.{HasHolder}
 use Rattle.sp_history.specs.Holding.{IsOutputOf}
 use Rattle.sp_history.proofs.Queues.{number_or, at_same, at_other}
 use Rattle.sp_history.proofs.Orders.{next_is, next_not, next_yes}
@@ -61,7 +65,7 @@ use Rattle.sp_history.proofs.Splitting.{plan_in, plan_found, plan_alone, fork_qu
 abbrev pub IsBorn : Births → Type 0
 IsBorn b = (q : ℕ) (d : Birth) → b.birth q ≡ Some d → (q < b.processes) × (d.parent < q)
 
-born_event : (b : Births) (q : ℕ) (e : Event) → q < b.processes → IsBorn b → IsBorn (after_event b q e)
+born_event : (b : Births) (q : ℕ) (e : Event) → q < b.processes → IsBorn b → IsBorn (births_after_event b q e)
 born_event b q (event.Fork n) l h r d = go (is_next b n r) refl
   where
     go : (t : Bool) → is_next b n r ≡ t → cond t
@@ -89,7 +93,7 @@ any_entries (m.Cells cs ∷ es) = (any_cells cs, any_entries es)
 any_entries (m.Link r ∷ es) = (tt, any_entries es)
 any_entries (m.Reply r ∷ es) = (tt, any_entries es)
 
-module _ (g : Setting) (s : System Plain) (q : ℕ) (c0 : Config (Memory Plain)) (runs : s.condition q ≡ Working c0)
+module _ (g : CodeRun) (s : System Plain) (q : ℕ) (c0 : Config (Memory Plain)) (runs : s.condition q ≡ Working c0)
     (h : HasHolder s) (counted : IsCounted s) (born : IsBorn s.births) (safe : IsSafeSystem g s)
     (joins : (b : Birth) → s.births.birth q ≡ Some b → (n : ℕ) × (d : Config (Memory Plain))
     × (s.condition b.parent ≡ Joins n d)) where
@@ -109,10 +113,11 @@ module _ (g : Setting) (s : System Plain) (q : ℕ) (c0 : Config (Memory Plain))
   store_is : (c : Config (Memory Plain)) → Mine c → StoreIs (h.share q) (store_of c) × ((store_of c).moved ≡ moved)
   store_is (At pc st n) k = k.1
 
-  entered_mine : (c : Config (Memory Plain)) → Mine c → Mine (entered_now c)
+  entered_mine : (c : Config (Memory Plain)) → Mine c → Mine (process_at_entry c)
   entered_mine (At pc st n) k = k
 
-  entered_aims : (stop : Stop) (c : Config (Memory Plain)) → AimsAt Owned stop c → AimsAt Owned stop (entered_now c)
+  entered_aims : (stop : Stop) (c : Config (Memory Plain)) → AimsAt Owned stop c
+      → AimsAt Owned stop (process_at_entry c)
   entered_aims (Forks t v n) (At pc st k) a = a
   entered_aims (Opens t) (At pc st k) a = a
   entered_aims (Sends c k cs) (At pc st n) a = a
@@ -135,40 +140,41 @@ module _ (g : Setting) (s : System Plain) (q : ℕ) (c0 : Config (Memory Plain))
   mine f k e x p now is same aims = one_change h.share h.holder s.births.birth f q x (store_of c0) p k
       (ap store_in e ∙ store_runs c0) now is same aims
 
-  still : (z : ℕ) (cs : List Cell) → at_key ◌==◌ z (received plain g cs (s.condition z)) s.condition q ≡ Working c0
+  still : (z : ℕ) (cs : List Cell) → at_key ◌==◌ z (after_message plain g cs (s.condition z)) s.condition q ≡ Working c0
   still z cs = go (number_or z q)
     where
       go : (z ≡ q) ⊎ ((z ≢ q) × (z == q ≡ false))
-          → at_key ◌==◌ z (received plain g cs (s.condition z)) s.condition q ≡ Working c0
+          → at_key ◌==◌ z (after_message plain g cs (s.condition z)) s.condition q ≡ Working c0
       go (inl e) =
-          subst (λ y. at_key ◌==◌ z (received plain g cs (s.condition z)) s.condition y
-          ≡ received plain g cs (s.condition z)) e (at_same s.condition z (received plain g cs (s.condition z)))
-          ∙ ap (received plain g cs) (ap s.condition e ∙ runs)
-      go (inr o) = at_other s.condition z q (received plain g cs (s.condition z)) o.0 ∙ runs
+          subst (λ y. at_key ◌==◌ z (after_message plain g cs (s.condition z)) s.condition y
+          ≡ after_message plain g cs (s.condition z)) e
+          (at_same s.condition z (after_message plain g cs (s.condition z)))
+          ∙ ap (after_message plain g cs) (ap s.condition e ∙ runs)
+      go (inr o) = at_other s.condition z q (after_message plain g cs (s.condition z)) o.0 ∙ runs
 
   lays_held : (c : Config (Memory Plain)) → Mine c
       → IsShared h.share h.holder (at_key ◌==◌ q (Laid c) s.condition) s.births.birth
   lays_held c k = let i = store_is c k in mine s.condition h.shared runs (Laid c) (store_of c) (store_laid c) i.0 i.1 tt
 
   sent_held : (stop : Stop) (ch : ℕ) (cs : List Cell) (c : Config (Memory Plain)) (o : Option ℕ) → Mine c
-      → AimsAt Owned stop c → IsShared h.share h.holder (sent plain g q stop ch cs c o s).condition s.births.birth
+      → AimsAt Owned stop c → IsShared h.share h.holder (apply_send plain g q stop ch cs c o s).condition s.births.birth
   sent_held stop ch cs c None k a = let i = store_is c k in
       mine s.condition h.shared runs (Waits stop c) (store_of c) (store_waits stop c) i.0 i.1 a
   sent_held stop ch cs c (Some z) k a =
       let i = store_is c k in
-      mine (at_key ◌==◌ z (received plain g cs (s.condition z)) s.condition)
+      mine (at_key ◌==◌ z (after_message plain g cs (s.condition z)) s.condition)
       (received_change h.share h.holder s.births.birth g s.condition z cs h.shared) (still z cs) (Working c)
       (store_of c) (store_runs c) i.0 i.1 tt
 
   taken_held : (stop : Stop) (ch : ℕ) (a : Address) (c : Config (Memory Plain)) (o : Option ℕ) → Mine c
       → AimsAt Owned stop c → IsOwn (map.get (store_of c).map a.spot)
-      → IsShared h.share h.holder (taken plain g q stop ch a c o s).condition s.births.birth
+      → IsShared h.share h.holder (apply_receive plain g q stop ch a c o s).condition s.births.birth
   taken_held stop ch a c None k i w = let j = store_is c k in
       mine s.condition h.shared runs (Waits stop c) (store_of c) (store_waits stop c) j.0 j.1 i
   taken_held stop ch a c (Some z) k i w =
       let j = store_is c k in
       let cs : List Cell = message_of plain g (stop_of (s.condition z)) in
-      mine (at_key ◌==◌ z (received plain g [] (s.condition z)) s.condition)
+      mine (at_key ◌==◌ z (after_message plain g [] (s.condition z)) s.condition)
       (received_change h.share h.holder s.births.birth g s.condition z [] h.shared) (still z [])
       (Working (on_store (put_cells plain a cs) c)) (put_cells plain a cs (store_of c))
       (store_runs (on_store (put_cells plain a cs) c) ∙ ap (λ y. Some y) (store_on (put_cells plain a cs) c))
@@ -178,7 +184,7 @@ module _ (g : Setting) (s : System Plain) (q : ℕ) (c0 : Config (Memory Plain))
   end_held : (c : Config (Memory Plain)) (o : Option Birth) → s.births.birth q ≡ o → Mine c
       → ((n : ℕ) (b : Birth) (d : Config (Memory Plain)) → s.births.birth q ≡ Some b → s.condition b.parent ≡ Joins n d
       → CanJoin (store_of d) (store_of c))
-      → HasHolder (record (reported plain g q c o s) { births = s.births })
+      → HasHolder (record (apply_end plain g q c o s) { births = s.births })
   end_held c None e k can = let i = store_is c k in
       record {
         share = h.share;
@@ -191,7 +197,7 @@ module _ (g : Setting) (s : System Plain) (q : ℕ) (c0 : Config (Memory Plain))
       j = joins b e
 
       x : Condition Plain
-      x = rejoined plain g c (s.condition b.parent)
+      x = parent_after_join plain g c (s.condition b.parent)
 
       mother : store_in (s.condition b.parent) ≡ Some (store_of j.1)
       mother = ap store_in j.2 ∙ store_joins j.0 j.1
@@ -200,7 +206,7 @@ module _ (g : Setting) (s : System Plain) (q : ℕ) (c0 : Config (Memory Plain))
       back = on_store (λ y. plain.joined y (store_of c)) j.1
 
       x_is : (t : Bool) → (j.0 == 1) ≡ t → x ≡ (if t then Working back else Joins (j.0 - 1) back)
-      x_is t w = ap (rejoined plain g c) j.2 ∙ ap (λ u. if u then Working back else Joins (j.0 - 1) back) w
+      x_is t w = ap (parent_after_join plain g c) j.2 ∙ ap (λ u. if u then Working back else Joins (j.0 - 1) back) w
 
       now : (t : Bool) → (j.0 == 1) ≡ t → store_in x ≡ Some (plain.joined (store_of j.1) (store_of c))
       now true w = ap store_in (x_is true w) ∙ store_runs back
@@ -218,22 +224,22 @@ module _ (g : Setting) (s : System Plain) (q : ℕ) (c0 : Config (Memory Plain))
       was : store_in (s.condition q) ≡ Some (store_of c0)
       was = ap store_in runs ∙ store_runs c0
 
-      go : (y : Share) → h.share q ≡ y → HasHolder (record (reported plain g q c (Some b) s) { births = s.births })
-      go Lacks w = record {
+      go : (y : Share) → h.share q ≡ y → HasHolder (record (apply_end plain g q c (Some b) s) { births = s.births })
+      go LacksIt w = record {
         share = h.share;
         holder = h.holder;
         shared = join_lacks h.share h.holder s.births.birth s.condition h.shared order q b e (store_of c) (store_of c0)
             (store_of j.1) x was (store_is c k).0 (store_is c k).1 mother (can j.0 b j.1 e j.2) (now (j.0 == 1) refl)
             (aims (j.0 == 1) refl) w;
       }
-      go Holds w = record {
-        share = at_key ◌==◌ b.parent Holds (at_key ◌==◌ q Lacks h.share);
+      go HoldsIt w = record {
+        share = at_key ◌==◌ b.parent HoldsIt (at_key ◌==◌ q LacksIt h.share);
         holder = b.parent;
         shared = join_holds h.share h.holder s.births.birth s.condition h.shared order q b e (store_of c) (store_of c0)
             (store_of j.1) x was (store_is c k).0 (store_is c k).1 mother (can j.0 b j.1 e j.2) (now (j.0 == 1) refl)
             (aims (j.0 == 1) refl) w;
       }
-      go Lends w =
+      go LendsIt w =
           absurd (no_lender h.share h.holder s.births.birth s.condition h.shared order q b e (store_of c) (store_of c0)
           (store_of j.1) x was (store_is c k).0 (store_is c k).1 mother (can j.0 b j.1 e j.2) (now (j.0 == 1) refl)
           (aims (j.0 == 1) refl) w)
@@ -241,14 +247,17 @@ module _ (g : Setting) (s : System Plain) (q : ℕ) (c0 : Config (Memory Plain))
   -- a fork
   fork_held : (t : ℕ) (v : ℤ) (n : ℕ) (c : Config (Memory Plain)) → Mine c
       → CanSplit (store_of c) (plan_of plain g c t v n)
-      → HasHolder (record (happens plain g q (Forks t v n) c s) { births = after_event s.births q (event.Fork n) })
+      → HasHolder (record (apply_stop plain g q (Forks t v n) c s) {
+        births =
+            births_after_event s.births q (event.Fork n);
+      })
   fork_held t v n c k can = go (h.share q) refl
     where
       nx : ℕ → Bool
       nx r = is_next s.births n r
 
       child : ℕ → Config (Memory Plain)
-      child r = newborn plain g c v r (r - s.births.processes)
+      child r = child_process plain g c v r (r - s.births.processes)
           (child_or (child_at (table_or (slice_get g.code.forks t)) (r - s.births.processes)))
 
       H : ℕ → Handing
@@ -293,19 +302,25 @@ module _ (g : Setting) (s : System Plain) (q : ℕ) (c0 : Config (Memory Plain))
           (subst (λ j. In output_spot (hand j)) (sym (zero-add (r - s.births.processes))) i)
 
       kept : (IsPart (h.share q) → In output_spot (moved_of hs) → ⊥)
-          → HasHolder (record (happens plain g q (Forks t v n) c s) { births = after_event s.births q (event.Fork n) })
+          → HasHolder (record (apply_stop plain g q (Forks t v n) c s) {
+            births =
+                births_after_event s.births q (event.Fork n);
+          })
       kept quiet = record {
-        share = λ r. cond (nx r) Lacks (h.share r);
+        share = λ r. cond (nx r) LacksIt (h.share r);
         holder = h.holder;
         shared = fork_quiet h.share h.holder s.births.birth s.condition h.shared nx q child H made n e (store_of c)
             (store_of c0) hs not_q here old (λ r. refl) was (store_is c k).0 (store_is c k).1 can
             (store_on (λ y. plain.handed y hs) c) (λ r. refl) quiet inside;
       }
 
-      lends : h.share q ≡ Holds → In output_spot (moved_of hs)
-          → HasHolder (record (happens plain g q (Forks t v n) c s) { births = after_event s.births q (event.Fork n) })
+      lends : h.share q ≡ HoldsIt → In output_spot (moved_of hs)
+          → HasHolder (record (apply_stop plain g q (Forks t v n) c s) {
+            births =
+                births_after_event s.births q (event.Fork n);
+          })
       lends w i = record {
-        share = λ r. cond (nx r) (cond (r0 == r) Holds Lacks) (at_key ◌==◌ q Lends h.share r);
+        share = λ r. cond (nx r) (cond (r0 == r) HoldsIt LacksIt) (at_key ◌==◌ q LendsIt h.share r);
         holder = r0;
         shared = fork_lends h.share h.holder s.births.birth s.condition h.shared nx q child H made n e (store_of c)
             (store_of c0) hs not_q here old (λ r. refl) was (store_is c k).0 (store_is c k).1 can
@@ -337,29 +352,30 @@ module _ (g : Setting) (s : System Plain) (q : ℕ) (c0 : Config (Memory Plain))
               omega (arith, same, x)
 
       go : (y : Share) → h.share q ≡ y → HasHolder
-          (record (happens plain g q (Forks t v n) c s) { births = after_event s.births q (event.Fork n) })
-      go Lacks w = kept (λ i. absurd (subst IsPart w i))
-      go Lends w = kept (λ i j. not_held (map.get (store_of c).map output_spot)
+          (record (apply_stop plain g q (Forks t v n) c s) { births = births_after_event s.births q (event.Fork n) })
+      go LacksIt w = kept (λ i. absurd (subst IsPart w i))
+      go LendsIt w = kept (λ i j. not_held (map.get (store_of c).map output_spot)
           (subst (λ y. StoreIs y (store_of c)) w (store_is c k).0).0 (can.held output_spot j))
-      go Holds w = elim (in_or output_spot (moved_of hs)) [
+      go HoldsIt w = elim (in_or output_spot (moved_of hs)) [
         | inl i ↦ lends w i
         | inr i ↦ kept (λ y j. not_both output_spot (moved_of hs) j i)
       ]
 
   split_now : (t n : ℕ) (v : ℤ) (d : Config (Memory Plain)) → CanSplit (store_of d) (plan_of plain g d t v n)
-      → CanSplit (store_of (entered_now d)) (plan_of plain g (entered_now d) t v n)
+      → CanSplit (store_of (process_at_entry d)) (plan_of plain g (process_at_entry d) t v n)
   split_now t n v (At pc st k) can = can
 
-  join_now : (p : Plain) (d : Config (Memory Plain)) → CanJoin p (store_of d) → CanJoin p (store_of (entered_now d))
+  join_now : (p : Plain) (d : Config (Memory Plain)) → CanJoin p (store_of d)
+      → CanJoin p (store_of (process_at_entry d))
   join_now p (At pc st k) can = can
 
   happens_held : (stop : Stop) (d : Config (Memory Plain)) → Mine d → AimsAt Owned stop d → StopsAt g s q stop d
-      → HasHolder (record (happens plain g q stop (entered_now d) s)
-      { births = after_event s.births q (event_at stop) })
-  happens_held (Forks t v n) d k a stops = fork_held t v n (entered_now d) (entered_mine d k)
+      → HasHolder (record (apply_stop plain g q stop (process_at_entry d) s)
+      { births = births_after_event s.births q (event_at stop) })
+  happens_held (Forks t v n) d k a stops = fork_held t v n (process_at_entry d) (entered_mine d k)
       (split_now t n v d (safe.forks q t n v d stops))
   happens_held (Opens a) d k i stops =
-      let c : Config (Memory Plain) = entered_now d in
+      let c : Config (Memory Plain) = process_at_entry d in
       let j = store_is c (entered_mine d k) in
       let w = opens_owned a c (entered_aims (Opens a) d i) in
       record {
@@ -377,32 +393,33 @@ module _ (g : Setting) (s : System Plain) (q : ℕ) (c0 : Config (Memory Plain))
       record {
         share = h.share;
         holder = h.holder;
-        shared = sent_held (Sends ch n cs) ch cs (entered_now d) (s.pending ch) (entered_mine d k)
+        shared = sent_held (Sends ch n cs) ch cs (process_at_entry d) (s.pending ch) (entered_mine d k)
             (entered_aims (Sends ch n cs) d a);
       }
   happens_held (Receives ch n t) d k a stops = record {
     share = h.share;
     holder = h.holder;
     shared = let i = entered_aims (Receives ch n t) d a in
-        taken_held (Receives ch n t) ch t (entered_now d) (s.pending ch) (entered_mine d k) i
-        (receives_owned ch n t (entered_now d) i);
+        taken_held (Receives ch n t) ch t (process_at_entry d) (s.pending ch) (entered_mine d k) i
+        (receives_owned ch n t (process_at_entry d) i);
   }
-  happens_held Ends d k a stops = end_held (entered_now d) (s.births.birth q) refl (entered_mine d k)
+  happens_held Ends d k a stops = end_held (process_at_entry d) (s.births.birth q) refl (entered_mine d k)
       (λ n b e w j. join_now (store_of e) d (safe.ends q n b d e stops w j))
   happens_held Pauses d k a stops =
-      let i = store_is (entered_now d) (entered_mine d k) in
+      let i = store_is (process_at_entry d) (entered_mine d k) in
       record {
         share = h.share;
         holder = h.holder;
-        shared = mine s.condition h.shared runs (Working (entered_now d)) (store_of (entered_now d))
-            (store_runs (entered_now d)) i.0 i.1 tt;
+        shared = mine s.condition h.shared runs (Working (process_at_entry d)) (store_of (process_at_entry d))
+            (store_runs (process_at_entry d)) i.0 i.1 tt;
       }
 
   config_mine : (t : Turn (Memory Plain)) → TurnDoes AnyChannel (Shares (h.share q) moved) Owned t → Mine (config_of t)
   config_mine (Stopped stop d) k = k.1
   config_mine (Faulted f d) k = k
 
-  pub after_held : (t : Turn (Memory Plain)) → IsTurn (memory plain g) g.code c0 t → HasHolder (after plain g q t s)
+  pub after_held : (t : Turn (Memory Plain)) → IsTurn (memory plain g) g.code c0 t
+      → HasHolder (system_after_turn plain g q t s)
   after_held t turn = go s.faulted refl
     where
       does : TurnDoes AnyChannel (Shares (h.share q) moved) Owned t
@@ -415,7 +432,10 @@ module _ (g : Setting) (s : System Plain) (q : ℕ) (c0 : Config (Memory Plain))
 
       by_fault : (o : Option Fault) → s.faulted ≡ false → fault_of g.limits s t ≡ o → (x : Turn (Memory Plain)) → t ≡ x
           → TurnDoes AnyChannel (Shares (h.share q) moved) Owned x
-          → HasHolder (record (unless_fault plain g o q x s) { births = after_event s.births q (event_or o x) })
+          → HasHolder (record (apply_unless_fault plain g o q x s) {
+            births =
+                births_after_event s.births q (event_or o x);
+          })
       by_fault (Some f) w e x is k = laid (config_of x) true (config_mine x k)
       by_fault None w e (Faulted f d) is k = laid d true k
       by_fault None w e (Stopped stop d) is k =
@@ -428,8 +448,9 @@ module _ (g : Setting) (s : System Plain) (q : ℕ) (c0 : Config (Memory Plain))
           })
 
       go : (b : Bool) → s.faulted ≡ b → HasHolder
-          (record (if b then lays plain g q (config_of t) s else unless_fault plain g (fault_of g.limits s t) q t s)
-          { births = after_event s.births q (if b then event.Laid else event_or (fault_of g.limits s t) t) })
+          (record (if b then lays plain g q (config_of t) s else apply_unless_fault plain g
+          (fault_of g.limits s t) q t s)
+          { births = births_after_event s.births q (if b then event.Laid else event_or (fault_of g.limits s t) t) })
       go true w = record { share = h.share; holder = h.holder; shared = lays_held (config_of t) (config_mine t does) }
       go false w = by_fault (fault_of g.limits s t) w refl t refl does
 
@@ -447,9 +468,9 @@ pieces_later m n v (c ∷ cs) q l =
 root_output : (sizes : List ℕ) → map.get (plain.root sizes).map output_spot ≡ Some (Output [])
 root_output sizes = pieces_later _ 0 2 sizes output_spot (omega arith) ∙ get_here _ output_spot (Output [])
 
-pub opening_held : (g : Setting) → HasHolder (opening plain g)
+pub opening_held : (g : CodeRun) → HasHolder (opening_system plain g)
 opening_held g = record {
-  share = λ q. if q == 0 then Holds else Lacks;
+  share = λ q. if q == 0 then HoldsIt else LacksIt;
   holder = 0;
   shared = record {
     holds = refl;
@@ -464,17 +485,17 @@ opening_held g = record {
   };
 }
   where
-    only : (q : ℕ) (b : Bool) → q == 0 ≡ b → (if b then Holds else Lacks) ≡ Holds → q ≡ 0
+    only : (q : ℕ) (b : Bool) → q == 0 ≡ b → (if b then HoldsIt else LacksIt) ≡ HoldsIt → q ≡ 0
     only q true w e = eqb-true q 0 w
     only q false w e = absurd (cc e)
 
-    stores : (p : Plain) (b : Bool) → store_in (if b then Working (first plain g) else Absent) ≡ Some p
-        → StoreIs (if b then Holds else Lacks) p
-    stores p true e = subst (StoreIs Holds) (same_Some _ _ e)
+    stores : (p : Plain) (b : Bool) → store_in (if b then Working (first_process plain g) else Absent) ≡ Some p
+        → StoreIs (if b then HoldsIt else LacksIt) p
+    stores p true e = subst (StoreIs HoldsIt) (same_Some _ _ e)
         (subst IsOutput (sym (root_output (sizes_of (m.layout_of g.code.layouts 0)))) tt, tt)
     stores p false e = absurd (none-some _ e)
 
-    aims : (b : Bool) → AimsIn (if b then Working (first plain g) else Absent)
+    aims : (b : Bool) → AimsIn (if b then Working (first_process plain g) else Absent)
     aims true = tt
     aims false = tt
 
@@ -494,10 +515,10 @@ joins_of n (Laid c) e = absurd (cc e)
 joins_of n Gone e = absurd (cc e)
 joins_of n (Over c) e = absurd (cc e)
 
-module _ (g : Setting) where
+module _ (g : CodeRun) where
   -- every system that comes after s is safe
   abbrev pub AllSafe : System Plain → Type 0
-  AllSafe s = (es : List Entry) (t : System Plain) → Leads plain g s es t → IsSafeSystem g t
+  AllSafe s = (es : List Entry) (t : System Plain) → EntriesLead plain g s es t → IsSafeSystem g t
 
   record Fine (s : System Plain) : Type 0 where
     held : HasHolder s
@@ -505,8 +526,9 @@ module _ (g : Setting) where
     born : IsBorn s.births
     safe : AllSafe s
 
-  enters_fine : (k : Control) (s t : System Plain) (p w : ℕ) (e : Event) → IsOrderly k → Agrees k s → HasChildren k
-      → k.doing p ≡ Out w → Enters plain g s p e t → Fine s → Fine t
+  enters_fine : (k : Control) (s t : System Plain) (p w : ℕ) (e : Event) → IsOrderly k → AgreesWithSystem k s
+      → HasChildren k
+      → k.doing p ≡ Out w → EntryLeads plain g s p e t → Fine s → Fine t
   enters_fine k s t p w e o a c out n f = record {
     held = subst HasHolder (sym n.5) (after_held g s p n.0 n.1 f.held f.counted f.born (f.safe [] s refl) joins n.2
         n.3);
@@ -525,18 +547,19 @@ module _ (g : Setting) where
           (j.0, d.0, d.1)
 
   gives_fine : (w : ℕ) (give : Option ℕ) (e : Option Event) (got : Option ℕ) (k : Control) (s t : System Plain)
-      → IsOrderly k → Agrees k s → HasChildren k → Gives plain g k s w give e got t → Fine s → Fine t
+      → IsOrderly k → AgreesWithSystem k s → HasChildren k → GiveIsLegal plain g k s w give e got t → Fine s → Fine t
   gives_fine w None None got k s t o a c i f = subst Fine (sym i) f
   gives_fine w None (Some e) got k s t o a c i f = absurd i
   gives_fine w (Some p) None got k s t o a c i f = subst Fine (sym i.2) f
   gives_fine w (Some p) (Some e) got k s t o a c i f = enters_fine k s t p w e o a c i.0 i.1 f
 
-  reaches_fine : (k : Control) (s t : System Plain) (ns : List Note) → IsOrderly k → Agrees k s → HasChildren k → Fine s
+  reaches_fine : (k : Control) (s t : System Plain) (ns : List Note) → IsOrderly k → AgreesWithSystem k s
+      → HasChildren k → Fine s
       → Reaches plain g k s ns t → Fine t
   reaches_fine k s t [] o a c f r = subst Fine r f
   reaches_fine k s t (n ∷ ns) o a c f r =
       let w = keeps plain g k s r.0 n o a r.1 in
-      reaches_fine (noted n k) r.0 t ns w.0 w.1
+      reaches_fine (after_note n k) r.0 t ns w.0 w.1
       (children_by plain g n.worker n.given n.event n.got k s r.0 o c r.1.gives r.1.gets)
       (gives_fine n.worker n.given n.event n.got k s r.0 o a c r.1.gives f) r.2
 
@@ -554,10 +577,10 @@ module _ (g : Setting) where
   text_output (Some (Shared cs)) bs e = absurd (cc e)
   text_output (Some Away) bs e = absurd (cc e)
 
-  is_holding : (y : Share) (p : Plain) → StoreIs y p → IsOutput (map.get p.map output_spot) → y ≡ Holds
-  is_holding Holds p i o = refl
-  is_holding Lends p i o = absurd (subst IsOutput i.0 o)
-  is_holding Lacks p i o = absurd (i o)
+  is_holding : (y : Share) (p : Plain) → StoreIs y p → IsOutput (map.get p.map output_spot) → y ≡ HoldsIt
+  is_holding HoldsIt p i o = refl
+  is_holding LendsIt p i o = absurd (subst IsOutput i.0 o)
+  is_holding LacksIt p i o = absurd (i o)
 
   one_output : (s : System Plain) → HasHolder s → (q : ℕ) × (bs : List ℕ) × IsOutputOf s q bs
   one_output s h =
@@ -576,10 +599,10 @@ module _ (g : Setting) where
       )
 
   -- after a history of safe code
-  pub one_holder : (s : System Plain) (ns : List Note) → AllSafe (opening plain g)
-      → Reaches plain g control_at_start (opening plain g) ns s → (q : ℕ) × (bs : List ℕ) × IsOutputOf s q bs
+  pub one_holder : (s : System Plain) (ns : List Note) → AllSafe (opening_system plain g)
+      → Reaches plain g control_at_start (opening_system plain g) ns s → (q : ℕ) × (bs : List ℕ) × IsOutputOf s q bs
   one_holder s ns safe r =
-      one_output s (reaches_fine control_at_start (opening plain g) s ns orderly_start (agrees_start plain g)
+      one_output s (reaches_fine control_at_start (opening_system plain g) s ns orderly_start (agrees_start plain g)
       children_start (record {
         held = opening_held g;
         counted = opening_counted g;

@@ -8,20 +8,20 @@ use Rattle.sp_cell.specs.declared.cell.Cell.{Cell}
 use Rattle.sp_cell.specs.declared.spot.Spot.{Spot}
 use Rattle.sp_cell.specs.declared.spot.Address.{Address}
 use Rattle.sp_cell.specs.Map.{Map, Content, Own, Shared, Output, Away, Plain, IsOutput, IsHeld, output_spot}
-use Rattle.sp_cell.specs.Fork.{hold, taken}
+use Rattle.sp_cell.specs.Fork.{insert_if_found, with_contents}
 use Rattle.sp_cell.specs.Spots.{In, NotIn}
 use Rattle.sp_cell.proofs.Plan.{in_or, get_taken_in, get_taken_out}
 use Rattle.sp_cell.proofs.Laws.{get_other, get_here, same_or}
 use Rattle.sp_journal.specs.declared.entry.Birth.{Birth}
 use Rattle.sp_journal.specs.Maps.{at_key}
 use Rattle.sp_code.specs.Machine.{Stop, Forks, Opens, Sends, Receives, Ends, Pauses, Config, At}
-use Rattle.sp_code.specs.Memory.{Setting, Memory, put_cells}
+use Rattle.sp_code.specs.Memory.{CodeRun, Memory, put_cells}
 use Rattle.sp_code.specs.PlainStore.{plain}
 use Rattle.sp_code.specs.Sound.{CanJoin}
 use Rattle.sp_code.specs.System.{Condition, Absent, Working, Waits, Joins, Laid, Gone, Over, store_in, store_of}
-use Rattle.sp_code.specs.System.{on_store, received}
+use Rattle.sp_code.specs.System.{on_store, after_message}
 use Rattle.sp_history.specs.Channels.{AimsAt}
-use Rattle.sp_history.specs.Holding.{Share, Holds, Lends, Lacks, StoreIs, IsPart, Owned, AimsIn, IsShared}
+use Rattle.sp_history.specs.Holding.{Share, HoldsIt, LendsIt, LacksIt, StoreIs, IsPart, Owned, AimsIn, IsShared}
 use Rattle.sp_history.proofs.Queues.{number_or, at_same, at_other}
 use Rattle.sp_history.proofs.Outputs.{own_is, target_apart, output_known}
 
@@ -113,8 +113,8 @@ module _ (share : ℕ → Share) (holder : ℕ) (birth : ℕ → Option Birth) w
       aims_at q (inr o) = subst AimsIn (sym (at_other f z q x o.0)) (h.aims q)
 
   -- a message goes over
-  pub received_change : (g : Setting) (f : ℕ → Condition Plain) (z : ℕ) (cs : List Cell) → IsShared share holder f birth
-      → IsShared share holder (at_key ◌==◌ z (received plain g cs (f z)) f) birth
+  pub received_change : (g : CodeRun) (f : ℕ → Condition Plain) (z : ℕ) (cs : List Cell) → IsShared share holder f birth
+      → IsShared share holder (at_key ◌==◌ z (after_message plain g cs (f z)) f) birth
   received_change g f z cs h = go (f z) refl
     where
       on : (stop : Stop) (c : Config (Memory Plain)) → f z ≡ Waits stop c
@@ -131,7 +131,7 @@ module _ (share : ℕ → Share) (holder : ℕ) (birth : ℕ → Option Birth) w
           one_change f z (Working (on_store (put_cells plain a cs) (At pc st n))) n.store (put_cells plain a cs n.store)
           h w refl (own_is (share z) n.store a.spot _ (target_apart (share z) n.store a.spot s aims) s) refl tt
 
-      go : (x : Condition Plain) → f z ≡ x → IsShared share holder (at_key ◌==◌ z (received plain g cs x) f) birth
+      go : (x : Condition Plain) → f z ≡ x → IsShared share holder (at_key ◌==◌ z (after_message plain g cs x) f) birth
       go Absent e = no_change f z Absent e h
       go (Working c) e = no_change f z (Working c) e h
       go (Waits (Receives d k a) c) e = put d k a c e (subst AimsIn e (h.aims z))
@@ -148,11 +148,13 @@ module _ (share : ℕ → Share) (holder : ℕ) (birth : ℕ → Option Birth) w
 -- ---- a child is joined
 
 pub joined_lacks : (m : Map) (ss : List Spot) (c : Map) → (IsOutput (map.get c output_spot) → ⊥)
-    → (In output_spot ss → IsOutput (map.get m output_spot) → ⊥) → IsOutput (map.get (taken m ss c) output_spot) → ⊥
+    → (In output_spot ss → IsOutput (map.get m output_spot) → ⊥)
+    → IsOutput (map.get (with_contents m ss c) output_spot) → ⊥
 joined_lacks m [] c a b = a
-joined_lacks m (s ∷ ss) c a b = joined_lacks m ss (hold c s (map.get m s)) (held (map.get m s) refl) (λ i. b (inr i))
+joined_lacks m (s ∷ ss) c a b = joined_lacks m ss (insert_if_found c s (map.get m s)) (held (map.get m s) refl)
+    (λ i. b (inr i))
   where
-    held : (x : Option Content) → map.get m s ≡ x → IsOutput (map.get (hold c s x) output_spot) → ⊥
+    held : (x : Option Content) → map.get m s ≡ x → IsOutput (map.get (insert_if_found c s x) output_spot) → ⊥
     held None e w = a w
     held (Some h) e w = go (same_or output_spot s)
       where
@@ -169,10 +171,10 @@ not_held (Some (Own cs)) e h = absurd (cc e)
 not_held (Some (Shared cs)) e h = absurd (cc e)
 not_held (Some (Output bs)) e h = absurd (cc e)
 
-pub hold_lend : Holds ≡ Lends → ⊥
+pub hold_lend : HoldsIt ≡ LendsIt → ⊥
 hold_lend e = cc
 
-pub hold_lack : Holds ≡ Lacks → ⊥
+pub hold_lack : HoldsIt ≡ LacksIt → ⊥
 hold_lack e = cc
 
 module _ (share : ℕ → Share) (holder : ℕ) (birth : ℕ → Option Birth) (f : ℕ → Condition Plain)
@@ -224,7 +226,7 @@ module _ (share : ℕ → Share) (holder : ℕ) (birth : ℕ → Option Birth) (
           (at_other (at_key ◌==◌ q Gone f) b.parent r x o.0 ∙ at_other f q r Gone d.0)) (h.aims r)
 
   -- a child that has nothing of the output gives none back
-  module _ (lacks : share q ≡ Lacks) where
+  module _ (lacks : share q ≡ LacksIt) where
     not_mine : IsPart (share q) → ⊥
     not_mine i = subst IsPart lacks i
 
@@ -232,23 +234,23 @@ module _ (share : ℕ → Share) (holder : ℕ) (birth : ℕ → Option Birth) (
     child_lacks = subst (λ y. StoreIs y p) lacks is
 
     parent_is : (y : Share) → share b.parent ≡ y → StoreIs y m → StoreIs y (plain.joined m p)
-    parent_is Holds e s = (subst IsOutput (sym (get_taken_out p.map p.moved m.map output_spot (out e))) s.0, s.1)
+    parent_is HoldsIt e s = (subst IsOutput (sym (get_taken_out p.map p.moved m.map output_spot (out e))) s.0, s.1)
       where
-        out : share b.parent ≡ Holds → NotIn output_spot p.moved
+        out : share b.parent ≡ HoldsIt → NotIn output_spot p.moved
         out e = elim (in_or output_spot p.moved) [
           | inl i ↦ absurd (h.not_had q b p0 born was not_mine (subst IsPart (sym e) tt)
               (subst (In output_spot) moved i))
           | inr n ↦ n
         ]
-    parent_is Lends e s = (get_taken_out p.map p.moved m.map output_spot (out e) ∙ s.0, s.1)
+    parent_is LendsIt e s = (get_taken_out p.map p.moved m.map output_spot (out e) ∙ s.0, s.1)
       where
-        out : share b.parent ≡ Lends → NotIn output_spot p.moved
+        out : share b.parent ≡ LendsIt → NotIn output_spot p.moved
         out e = elim (in_or output_spot p.moved) [
           | inl i ↦ absurd (h.not_had q b p0 born was not_mine (subst IsPart (sym e) tt)
               (subst (In output_spot) moved i))
           | inr n ↦ n
         ]
-    parent_is Lacks e s = joined_lacks p.map p.moved m.map s (λ i. child_lacks)
+    parent_is LacksIt e s = joined_lacks p.map p.moved m.map s (λ i. child_lacks)
 
     pub join_lacks : IsShared share holder after_join birth
     join_lacks = record {
@@ -294,24 +296,24 @@ module _ (share : ℕ → Share) (holder : ℕ) (birth : ℕ → Option Birth) (
         not_had r d t w n k (inr e) i = h.not_had r d t w e.2 n k i
 
   -- the holder gives it back
-  module _ (mine : share q ≡ Holds) where
+  module _ (mine : share q ≡ HoldsIt) where
     part : IsPart (share q)
     part = subst IsPart (sym mine) tt
 
-    lends : share b.parent ≡ Lends
+    lends : share b.parent ≡ LendsIt
     lends = h.up q b born part
 
     abbrev next : ℕ → Share
-    next = at_key ◌==◌ b.parent Holds (at_key ◌==◌ q Lacks share)
+    next = at_key ◌==◌ b.parent HoldsIt (at_key ◌==◌ q LacksIt share)
 
-    next_parent : next b.parent ≡ Holds
-    next_parent = at_same (at_key ◌==◌ q Lacks share) b.parent Holds
+    next_parent : next b.parent ≡ HoldsIt
+    next_parent = at_same (at_key ◌==◌ q LacksIt share) b.parent HoldsIt
 
-    next_child : next q ≡ Lacks
-    next_child = at_other (at_key ◌==◌ q Lacks share) b.parent q Holds apart ∙ at_same share q Lacks
+    next_child : next q ≡ LacksIt
+    next_child = at_other (at_key ◌==◌ q LacksIt share) b.parent q HoldsIt apart ∙ at_same share q LacksIt
 
     next_other : (r : ℕ) → b.parent ≢ r → q ≢ r → next r ≡ share r
-    next_other r n d = at_other (at_key ◌==◌ q Lacks share) b.parent r Holds n ∙ at_other share q r Lacks d
+    next_other r n d = at_other (at_key ◌==◌ q LacksIt share) b.parent r HoldsIt n ∙ at_other share q r LacksIt d
 
     data Which (r : ℕ) : Type 0 where
       Parent : (e : b.parent ≡ r) → Which r
@@ -349,7 +351,7 @@ module _ (share : ℕ → Share) (holder : ℕ) (birth : ℕ → Option Birth) (
       aims = join_aims;
     }
       where
-        only : (r : ℕ) → next r ≡ Holds → Which r → r ≡ b.parent
+        only : (r : ℕ) → next r ≡ HoldsIt → Which r → r ≡ b.parent
         only r e (Parent w) = sym w
         only r e (Child w) = absurd (hold_lack (sym e ∙ ap next (sym w) ∙ next_child))
         only r e (Another n d) = absurd (d (h.only q mine ∙ sym (h.only r (sym (next_other r n d) ∙ e))))
@@ -360,11 +362,11 @@ module _ (share : ℕ → Share) (holder : ℕ) (birth : ℕ → Option Birth) (
         child_output : IsOutput (map.get p.map output_spot)
         child_output = (subst (λ y. StoreIs y p) mine is).0
 
-        got : map.get (taken p.map p.moved m.map) output_spot ≡ map.get p.map output_spot
+        got : map.get (with_contents p.map p.moved m.map) output_spot ≡ map.get p.map output_spot
         got = get_taken_in p.map p.moved m.map output_spot in_moved
             (output_known (map.get p.map output_spot) child_output)
 
-        mother_is : StoreIs Lends m
+        mother_is : StoreIs LendsIt m
         mother_is = subst (λ y. StoreIs y m) lends (h.stores b.parent m mother)
 
         stores : (r : ℕ) (t : Plain) → ((b.parent ≡ r) × (plain.joined m p ≡ t))
@@ -372,10 +374,11 @@ module _ (share : ℕ → Share) (holder : ℕ) (birth : ℕ → Option Birth) (
         stores r t (inl w) =
             subst (λ y. StoreIs (next y) t) w.0
             (subst (λ y. StoreIs y t) (sym next_parent)
-            (subst (StoreIs Holds) w.1 (subst IsOutput (sym got) child_output, mother_is.1)))
+            (subst (StoreIs HoldsIt) w.1 (subst IsOutput (sym got) child_output, mother_is.1)))
         stores r t (inr e) = subst (λ y. StoreIs y t) (sym (next_other r e.0 e.1)) (h.stores r t e.2)
 
-        up : (r : ℕ) (d : Birth) → birth r ≡ Some d → IsPart (next r) → Which r → Which d.parent → next d.parent ≡ Lends
+        up : (r : ℕ) (d : Birth) → birth r ≡ Some d → IsPart (next r) → Which r → Which d.parent
+            → next d.parent ≡ LendsIt
         up r d w i (Child e) y = absurd (subst IsPart (ap next (sym e) ∙ next_child) i)
         up r d w i (Parent e) (Another n k) = next_other d.parent n k ∙ h.up r d w (part_was r i)
         up r d w i (Parent e) (Child k) = absurd (hold_lend (sym mine ∙ ap share k ∙ h.up r d w (part_was r i)))
@@ -398,7 +401,7 @@ module _ (share : ℕ → Share) (holder : ℕ) (birth : ℕ → Option Birth) (
         not_had r d t w n k (inr e) i = h.not_had r d t w e.2 (λ v. n (subst IsPart (sym (next_other r e.0 e.1)) v)) k i
 
   -- who lent it on does not end
-  pub no_lender : share q ≡ Lends → ⊥
+  pub no_lender : share q ≡ LendsIt → ⊥
   no_lender e =
       let i = subst (In output_spot) (sym moved) (h.had q b p0 born was (subst IsPart (sym e) tt)) in
       not_held (map.get p.map output_spot) (subst (λ y. StoreIs y p) e is).0 (can.held output_spot i)

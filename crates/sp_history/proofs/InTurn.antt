@@ -10,16 +10,17 @@ use Rattle.sp_journal.specs.declared.entry.Event.TheVariants as event
 use Rattle.sp_journal.specs.declared.entry.Birth.{Birth}
 use Rattle.sp_journal.specs.declared.entry.Note.{Note}
 use Rattle.sp_journal.specs.Maps.{at_key}
-use Rattle.sp_journal.specs.Births.{Births, is_next, at_start}
-use Rattle.sp_journal.specs.Queue.{Line, line_at_start, numbers, joined_by, offered, reported, queued, InTurnFrom}
-use Rattle.sp_code.specs.Memory.{Setting, Stores}
+use Rattle.sp_journal.specs.Births.{Births, is_next, first_births}
+use Rattle.sp_journal.specs.Queue.{QueueState, first_queue, numbers, queue_with, queue_after_offer, queue_after_end}
+use Rattle.sp_journal.specs.Queue.{queue_after_event, InTurnFrom}
+use Rattle.sp_code.specs.Memory.{CodeRun, Stores}
 use Rattle.sp_code.specs.Control.{Control, Doing, Unborn, Ready, Out, Joining, Laid, Ended, does, queues, offers}
-use Rattle.sp_code.specs.Control.{one_fewer, reports, comes_back, abandons, takes, behind, given, noted}
+use Rattle.sp_code.specs.Control.{one_fewer, reports, comes_back, abandons, takes, queue_tail, after_give, after_note}
 use Rattle.sp_code.specs.Control.{control_at_start, entry_of, entries_of, front, front_while, Running, IsDone}
 use Rattle.sp_code.specs.Control.{IsDeadlock, IsFault, IsMemory, has_ended, is_ready}
-use Rattle.sp_code.specs.System.{System, Gives, Gets, opening}
-use Rattle.sp_history.specs.Agreement.{IsOrderly, Agrees, SamePending, waits_by, IsGot, Reaches}
-use Rattle.sp_history.specs.Lines.{OneByOne, HasChildren}
+use Rattle.sp_code.specs.System.{System, GiveIsLegal, GetIsLegal, opening_system}
+use Rattle.sp_history.specs.Agreement.{IsOrderly, AgreesWithSystem, SamePending, waits_by, IsGot, Reaches}
+use Rattle.sp_history.specs.WorkerHistory.{OneByOne, HasChildren}
 use Rattle.sp_history.proofs.Queues.{number_or, at_same, at_other}
 use Rattle.sp_history.proofs.Agreeing.{pending_at, orderly_start, agrees_start}
 use Rattle.sp_history.proofs.Legal.{got_of, keeps}
@@ -32,7 +33,7 @@ held None ps = ps
 held (Some p) ps = p ∷ ps
 
 -- the line of the journal is that of the control, with what the worker holds at its head
-record InLine (k : Control) (l : Line) (o : Option ℕ) : Type 0 where
+record InLine (k : Control) (l : QueueState) (o : Option ℕ) : Type 0 where
   ready : l.ready ≡ held o k.ready
   pending : (c : ℕ) → SamePending (k.pending c) (l.pending c)
   awaited : (p n : ℕ) → k.doing p ≡ Joining n → l.awaited p ≡ n
@@ -64,14 +65,14 @@ is_joining : (m n : ℕ) → Joining m ≡ Joining n → m ≡ n
 is_joining m n e = cc
 
 -- the line without its head
-abbrev rest_of : Control → Line → Line
+abbrev rest_of : Control → QueueState → QueueState
 rest_of k l = record l { ready = k.ready }
 
-module _ (k : Control) (l : Line) (p w : ℕ) (o : IsOrderly k) (h : HasChildren k) (i : InLine k l (Some p))
+module _ (k : Control) (l : QueueState) (p w : ℕ) (o : IsOrderly k) (h : HasChildren k) (i : InLine k l (Some p))
     (out : k.doing p ≡ Out w) where
   line_offer : (v : Way) (c : ℕ) (x : Option (Way × ℕ)) (y : Option ℕ) → SamePending x y
       → InLine (record (offers v (waits_by v c) p c x k) { out = k.out - 1; births = k.births })
-      (offered (rest_of k l) p c y) None
+      (queue_after_offer (rest_of k l) p c y) None
   line_offer v c None None e = record {
     ready = refl;
     pending = pending_at c (Some (v, p)) (Some p) k.pending l.pending refl i.pending;
@@ -86,7 +87,7 @@ module _ (k : Control) (l : Line) (p w : ℕ) (o : IsOrderly k) (h : HasChildren
         (no_join k.doing l.awaited y.1 Ready (λ n f. absurd (cc f)) i.awaited);
   }
 
-  line_end : InLine (comes_back p event.End k) (reported (rest_of k l) (k.births.birth p)) None
+  line_end : InLine (comes_back p event.End k) (queue_after_end (rest_of k l) (k.births.birth p)) None
   line_end = go (k.births.birth p) refl
     where
       m : Control
@@ -113,18 +114,18 @@ module _ (k : Control) (l : Line) (p w : ℕ) (o : IsOrderly k) (h : HasChildren
       }
 
       go : (x : Option Birth) → k.births.birth p ≡ x
-          → InLine (record (reports x m) { out = k.out - 1; births = k.births }) (reported (rest_of k l) x) None
+          → InLine (record (reports x m) { out = k.out - 1; births = k.births }) (queue_after_end (rest_of k l) x) None
       go None e = record { ready = refl; pending = i.pending; awaited = ended }
       go (Some b) e =
           let apart : p ≢ b.parent = λ is. omega (arith, o.parents p b e, is) in
           let j = parent_joins k h p w b out e in
           let joins : m.doing b.parent ≡ Joining j.0 = at_other k.doing p b.parent Ended apart ∙ j.1 in
           subst (λ d. InLine (record (one_fewer b.parent d m) { out = k.out - 1; births = k.births })
-          (reported (rest_of k l) (Some b)) None) (sym joins)
+          (queue_after_end (rest_of k l) (Some b)) None) (sym joins)
           (fewer b.parent j.0 joins (l.awaited b.parent) (i.awaited b.parent j.0 j.1) (j.0 == 1) refl)
 
   line_fork : (n : ℕ) → InLine (comes_back p (event.Fork n) k)
-      (joined_by (record (rest_of k l) { awaited = at_key ◌==◌ p n l.awaited }) (numbers k.births.processes n)) None
+      (queue_with (record (rest_of k l) { awaited = at_key ◌==◌ p n l.awaited }) (numbers k.births.processes n)) None
   line_fork n = record {
     ready = refl;
     pending = i.pending;
@@ -137,7 +138,7 @@ module _ (k : Control) (l : Line) (p w : ℕ) (o : IsOrderly k) (h : HasChildren
       go q m false e = one_join k.doing l.awaited p n (Joining n) (λ j g. is_joining n j g) i.awaited q m e
 
   -- an event of what the worker holds
-  line_back : (e : Event) → InLine (comes_back p e k) (queued k.births (rest_of k l) p e) None
+  line_back : (e : Event) → InLine (comes_back p e k) (queue_after_event k.births (rest_of k l) p e) None
   line_back (event.Fork n) = line_fork n
   line_back event.Open = record {
     ready = refl;
@@ -164,11 +165,11 @@ module _ (k : Control) (l : Line) (p w : ℕ) (o : IsOrderly k) (h : HasChildren
   }
 
 -- the next is got
-line_takes : (k : Control) (l : Line) (w : ℕ) (got : Option ℕ) → InLine k l None → IsGot k got
+line_takes : (k : Control) (l : QueueState) (w : ℕ) (got : Option ℕ) → InLine k l None → IsGot k got
     → InLine (takes w got k) l got
 line_takes k l w None i g = i
 line_takes k l w (Some q) i g = record {
-  ready = i.ready ∙ g.0.1 ∙ ap (λ r. q ∷ r) (sym (ap behind g.0.1));
+  ready = i.ready ∙ g.0.1 ∙ ap (λ r. q ∷ r) (sym (ap queue_tail g.0.1));
   pending = i.pending;
   awaited = no_join k.doing l.awaited q (Out w) (λ n f. absurd (cc f)) i.awaited;
 }
@@ -191,12 +192,12 @@ taken_births : (k : Control) (w : ℕ) (got : Option ℕ) → (takes w got k).bi
 taken_births k w None = refl
 taken_births k w (Some q) = refl
 
-module _ {S : Type 0} (stores : Stores S) (g : Setting) where
+module _ {S : Type 0} (stores : Stores S) (g : CodeRun) where
   -- so a worker that holds nothing makes no event any more
   quiet_by : (w : ℕ) (give : Option ℕ) (e : Option Event) (got : Option ℕ) (ns : List Note) (k : Control)
-      (s u t : System S) → nat_lt 0 k.abandons ≡ true → give ≡ None → Gives stores g k s w give e got u
-      → Gets stores g (given give e got k) e got
-      → Reaches stores g (takes w got (given give e got k)) u ns t → OneByOne got ns
+      (s u t : System S) → nat_lt 0 k.abandons ≡ true → give ≡ None → GiveIsLegal stores g k s w give e got u
+      → GetIsLegal stores g (after_give give e got k) e got
+      → Reaches stores g (takes w got (after_give give e got k)) u ns t → OneByOne got ns
       → ((k1 : Control) → nat_lt 0 k1.abandons ≡ true → Reaches stores g k1 u ns t → OneByOne None ns
       → entries_of ns ≡ []) → entry_of give e ++ entries_of ns ≡ []
   quiet_by w None None None ns k s u t a e v j r x go = go (abandons None k) (some_abandon k.abandons) r x
@@ -210,12 +211,14 @@ module _ {S : Type 0} (stores : Stores S) (g : Setting) where
   quiet k s t (n ∷ ns) e r x = quiet_by n.worker n.given n.event n.got ns k s r.0 t e x.0 r.1.gives r.1.gets r.2 x.1
       (λ k1 f v y. quiet k1 r.0 t ns f v y)
 
-  by_note : (w : ℕ) (give : Option ℕ) (e : Option Event) (got : Option ℕ) (ns : List Note) (k : Control) (l : Line)
+  by_note : (w : ℕ) (give : Option ℕ) (e : Option Event) (got : Option ℕ) (ns : List Note) (k : Control)
+      (l : QueueState)
       (s u t : System S) → IsOrderly k → HasChildren k → InLine k l give
-      → Gives stores g k s w give e got u → Gets stores g (given give e got k) e got
-      → Reaches stores g (takes w got (given give e got k)) u ns t → OneByOne got ns
-      → ((l1 : Line) → HasChildren (takes w got (given give e got k)) → InLine (takes w got (given give e got k)) l1 got
-      → InTurnFrom (takes w got (given give e got k)).births l1 (entries_of ns))
+      → GiveIsLegal stores g k s w give e got u → GetIsLegal stores g (after_give give e got k) e got
+      → Reaches stores g (takes w got (after_give give e got k)) u ns t → OneByOne got ns
+      → ((l1 : QueueState) → HasChildren (takes w got (after_give give e got k))
+      → InLine (takes w got (after_give give e got k)) l1 got
+      → InTurnFrom (takes w got (after_give give e got k)).births l1 (entries_of ns))
       → InTurnFrom k.births l (entry_of give e ++ entries_of ns)
   by_note w None None None ns k l s u t h c i v j r x go =
       go l (record { children = c.children; count = c.count; all = c.all })
@@ -231,23 +234,25 @@ module _ {S : Type 0} (stores : Stores S) (g : Setting) where
       let k1 : Control = comes_back p e k in
       let o1 : IsOrderly k1 = orderly_back k h p w e out in
       let f = got_of k1 o1 got j in
-      let l1 : Line = queued k.births (rest_of k l) p e in
+      let l1 : QueueState = queue_after_event k.births (rest_of k l) p e in
       let rest = go l1 (children_takes k1 (children_back k h c p w out e) w got f)
       (line_takes k1 l1 w got (line_back k l p w h c i out e) f) in
       (k.ready, i.ready, subst (λ (b : Births). InTurnFrom b l1 (entries_of ns)) (taken_births k1 w got) rest)
 
-  in_turn : (k : Control) (l : Line) (o : Option ℕ) (s t : System S) (ns : List Note) → IsOrderly k → Agrees k s
+  in_turn : (k : Control) (l : QueueState) (o : Option ℕ) (s t : System S) (ns : List Note) → IsOrderly k
+      → AgreesWithSystem k s
       → HasChildren k → InLine k l o → Reaches stores g k s ns t → OneByOne o ns → InTurnFrom k.births l (entries_of ns)
   in_turn k l o s t [] h a c i r x = tt {0}
   in_turn k l o s t (n ∷ ns) h a c i r x =
       let m = keeps stores g k s r.0 n h a r.1 in
       by_note n.worker n.given n.event n.got ns k l s r.0 t h c (subst (InLine k l) (sym x.0) i) r.1.gives r.1.gets r.2
-      x.1 (λ l1 c1 i1. in_turn (noted n k) l1 n.got r.0 t ns m.0 m.1 c1 i1 r.2 x.1)
+      x.1 (λ l1 c1 i1. in_turn (after_note n k) l1 n.got r.0 t ns m.0 m.1 c1 i1 r.2 x.1)
 
   -- from the start, where the worker holds nothing
-  pub first_in_first_out : (s : System S) (ns : List Note) → Reaches stores g control_at_start (opening stores g) ns s
-      → OneByOne None ns → InTurnFrom at_start line_at_start (entries_of ns)
-  first_in_first_out s ns r x = in_turn control_at_start line_at_start None (opening stores g) s ns orderly_start
+  pub first_in_first_out : (s : System S) (ns : List Note)
+      → Reaches stores g control_at_start (opening_system stores g) ns s
+      → OneByOne None ns → InTurnFrom first_births first_queue (entries_of ns)
+  first_in_first_out s ns r x = in_turn control_at_start first_queue None (opening_system stores g) s ns orderly_start
       (agrees_start stores g) children_start
       (record { ready = refl; pending = λ c. tt {0}; awaited = λ p n e. absurd (none p n (p == 0) e) }) r x
     where

@@ -7,9 +7,11 @@ use Rattle.std.proofs.lemmas.Bool.{and_parts}
 use Rattle.sp_tree.specs.declared.operators.BinaryOp.{BinaryOp}
 use Rattle.sp_tree.specs.declared.operators.BinaryOp.TheVariants as op
 use Rattle.sp_tree.specs.declared.operators.UnaryOp.TheVariants as sign
-use Rattle.sp_tree.specs.Operators.{Worked, Yields, Faults, ranged, successor, predecessor, absolute, square, is_odd}
+use Rattle.sp_tree.specs.Operators.{OperatorResult, Yields, OperatorFault, value_in_range, successor, predecessor}
+use Rattle.sp_tree.specs.Operators.{absolute_value, square, is_odd}
 use Rattle.sp_tree.specs.Operators.{unary_op, binary_op, same_ordinal}
-use Rattle.sp_tree.specs.Items.{Taken, Takes, Fails as Faulty, number_in, char_in, line_length, at_line_end, padded}
+use Rattle.sp_tree.specs.Items.{ReadResult, ReadItem, ReadFault as Faulty, number_in, char_in, line_length, at_line_end}
+use Rattle.sp_tree.specs.Items.{right_justified}
 use Rattle.sp_tree.specs.Items.{truth_text, byte}
 use Rattle.sp_cell.specs.declared.cell.Cell.{Cell}
 use Rattle.sp_cell.specs.declared.cell.Cell.TheVariants as cell
@@ -18,38 +20,42 @@ use Rattle.sp_code.specs.declared.instr.Instr.{Instr}
 use Rattle.sp_code.specs.declared.instr.Instr.TheVariants as i
 use Rattle.sp_code.specs.declared.code.Layout.{Layout}
 use Rattle.sp_code.specs.declared.code.Parts.{Parts}
-use Rattle.sp_code.specs.Machine.{Entry, Number, Chan, Pointer, Cells, Link, Reply, further, Did, Done, Failed, Ops}
-use Rattle.sp_code.specs.Machine.{Config, At, One, outside, is_range, is_before, next_value, values_in, fit_formals}
+use Rattle.sp_code.specs.Machine.{Entry, Number, Chan, Pointer, Cells, Link, Reply, address_after, MemoryResult, Done}
+use Rattle.sp_code.specs.Machine.{Failed, Ops}
+use Rattle.sp_code.specs.Machine.{Config, At, StepResult, is_in_no_function, is_range, is_before, next_value, values_in}
+use Rattle.sp_code.specs.Machine.{fit_formals}
 use Rattle.sp_code.specs.Machine.{layout_of, on_number, on_channel, on_address, on_cell, on_cells, on_equals, pop, when}
-use Rattle.sp_code.specs.Machine.{there, then_go, worked, ordinal_in, channel_in, on_one, on_two, told, selected, paced}
-use Rattle.sp_code.specs.Machine.{entered, called, returned, taken, reads, prints, wide, writes, writes_wide}
-use Rattle.sp_code.specs.Machine.{begins_loop, ends_loop, forked, instruction, one}
-use Rattle.sp_code.specs.Turns.{Turn, Stopped, Faulted, Begins, ComesIn, EndsSo, Runs, begins, IsTurn}
+use Rattle.sp_code.specs.Machine.{on_some, then_go, on_result, ordinal_in, channel_in, on_one, on_two, truth_step}
+use Rattle.sp_code.specs.Machine.{selection_step, pause_step}
+use Rattle.sp_code.specs.Machine.{enter_step, call_step, return_step, item_step, reads, prints, prints_wide, writes}
+use Rattle.sp_code.specs.Machine.{writes_wide}
+use Rattle.sp_code.specs.Machine.{begins_loop, ends_loop, fork_step, instruction, next_step}
+use Rattle.sp_code.specs.Turns.{Turn, Stopped, Faulted, BeginsOrFaults, RunsIn, EndsSo, Runs, frames_fit, IsTurn}
 use Rattle.sp_history.specs.Channels.{CellHas, CellsHave, EntriesHave, ConfigHas, TurnHas, TurnDoes, OneHas}
 
 -- what the operations of a memory keep of I, where each channel that they are handed is one of C
 pub record HasKeeping {M : Type 0} (ops : Ops M) (C : ℕ → Type 0) (I : M → Type 0) (J : ℕ → Address → M → Type 0) : Type
     0 where
-  pub look : (a : Address) (n : M) → I n → CellHas C (ops.look a n)
+  pub look : (a : Address) (n : M) → I n → CellHas C (ops.read a n)
   pub cells : (a : Address) (k : ℕ) (n : M) → I n → CellsHave C (ops.cells a k n)
   pub put : (a : Address) (c : Cell) (n : M) → I n → ops.has a 1 n ≡ true → CellHas C c → I (ops.put a c n)
   pub read : (a : Address) (v : ℤ) (k : ℕ) (bs : List ℕ) (n : M) → I n → ops.has a 1 n ≡ true → ops.left n ≡ Some bs
       → I (ops.put a (cell.Ordinal v) (ops.advance k n))
   pub advance : (k : ℕ) (bs : List ℕ) (n : M) → I n → ops.left n ≡ Some bs → I (ops.advance k n)
   pub copy : (to from : Address) (k : ℕ) (n : M) → I n → ops.has to k n ≡ true → I (ops.copy to from k n)
-  pub own : (a : Address) (k : ℕ) (n : M) → I n → ops.has a k n ≡ true → I (ops.own a n)
-  pub target : (a : Address) (k : ℕ) (n : M) → I n → ops.has a k n ≡ true → J k a (ops.own a n)
+  pub own : (a : Address) (k : ℕ) (n : M) → I n → ops.has a k n ≡ true → I (ops.make_own a n)
+  pub target : (a : Address) (k : ℕ) (n : M) → I n → ops.has a k n ≡ true → J k a (ops.make_own a n)
   pub print : (t : List ℕ) (n m : M) → I n → ops.has_output n ≡ true → ops.print t n ≡ Done m → I m
-  pub beat : (n m : M) → I n → ops.beat n ≡ Done m → I m
+  pub beat : (n m : M) → I n → ops.tick n ≡ Done m → I m
   pub open_frame : (l : Layout) (up : ℕ) (es : List Entry) (n m : M) → I n → EntriesHave C es
       → ops.open_frame l up es n ≡ Done m → I m
   pub close_frame : (n : M) → I n → ops.may_close n ≡ true → I (ops.close_frame n)
 
 module _ {M : Type 0} (C : ℕ → Type 0) (I : M → Type 0) (J : ℕ → Address → M → Type 0) where
-  abbrev K : One M → Type 0
+  abbrev K : StepResult M → Type 0
   K o = OneHas C I J o
 
-  k_number : (st : List Entry) (go : ℤ → List Entry → One M) → EntriesHave C st
+  k_number : (st : List Entry) (go : ℤ → List Entry → StepResult M) → EntriesHave C st
       → ((x : ℤ) (st1 : List Entry) → EntriesHave C st1 → K (go x st1)) → K (on_number st go)
   k_number [] go e h = tt
   k_number (Number v ∷ st) go e h = h v st e.1
@@ -59,7 +65,7 @@ module _ {M : Type 0} (C : ℕ → Type 0) (I : M → Type 0) (J : ℕ → Addre
   k_number (Link r ∷ st) go e h = tt
   k_number (Reply r ∷ st) go e h = tt
 
-  k_channel : (st : List Entry) (go : ℕ → List Entry → One M) → EntriesHave C st
+  k_channel : (st : List Entry) (go : ℕ → List Entry → StepResult M) → EntriesHave C st
       → ((x : ℕ) (st1 : List Entry) → C x → EntriesHave C st1 → K (go x st1)) → K (on_channel st go)
   k_channel [] go e h = tt
   k_channel (Number v ∷ st) go e h = tt
@@ -69,7 +75,7 @@ module _ {M : Type 0} (C : ℕ → Type 0) (I : M → Type 0) (J : ℕ → Addre
   k_channel (Link r ∷ st) go e h = tt
   k_channel (Reply r ∷ st) go e h = tt
 
-  k_address : (st : List Entry) (go : Address → List Entry → One M) → EntriesHave C st
+  k_address : (st : List Entry) (go : Address → List Entry → StepResult M) → EntriesHave C st
       → ((x : Address) (st1 : List Entry) → EntriesHave C st1 → K (go x st1)) → K (on_address st go)
   k_address [] go e h = tt
   k_address (Number v ∷ st) go e h = tt
@@ -79,7 +85,7 @@ module _ {M : Type 0} (C : ℕ → Type 0) (I : M → Type 0) (J : ℕ → Addre
   k_address (Link r ∷ st) go e h = tt
   k_address (Reply r ∷ st) go e h = tt
 
-  k_cell : (st : List Entry) (go : Cell → List Entry → One M) → EntriesHave C st
+  k_cell : (st : List Entry) (go : Cell → List Entry → StepResult M) → EntriesHave C st
       → ((x : Cell) (st1 : List Entry) → CellHas C x → EntriesHave C st1 → K (go x st1)) → K (on_cell st go)
   k_cell [] go e h = tt
   k_cell (Number v ∷ st) go e h = h (cell.Ordinal v) st tt e.1
@@ -89,7 +95,7 @@ module _ {M : Type 0} (C : ℕ → Type 0) (I : M → Type 0) (J : ℕ → Addre
   k_cell (Link r ∷ st) go e h = tt
   k_cell (Reply r ∷ st) go e h = tt
 
-  k_cells : (st : List Entry) (go : List Cell → List Entry → One M) → EntriesHave C st
+  k_cells : (st : List Entry) (go : List Cell → List Entry → StepResult M) → EntriesHave C st
       → ((x : List Cell) (st1 : List Entry) → CellsHave C x → EntriesHave C st1 → K (go x st1)) → K (on_cells st go)
   k_cells [] go e h = tt
   k_cells (Number v ∷ st) go e h = h (cell.Ordinal v ∷ []) st (tt, tt) e.1
@@ -99,7 +105,7 @@ module _ {M : Type 0} (C : ℕ → Type 0) (I : M → Type 0) (J : ℕ → Addre
   k_cells (Link r ∷ st) go e h = tt
   k_cells (Reply r ∷ st) go e h = tt
 
-  k_equals : (st : List Entry) (go : Bool → List Entry → One M) → EntriesHave C st
+  k_equals : (st : List Entry) (go : Bool → List Entry → StepResult M) → EntriesHave C st
       → ((x : Bool) (st1 : List Entry) → EntriesHave C st1 → K (go x st1)) → K (on_equals st go)
   k_equals [] go e h = tt
   k_equals (Number v ∷ st) go e h = k_number st _ e.1 (λ u st1 d. h (same_ordinal u v) st1 d)
@@ -109,83 +115,86 @@ module _ {M : Type 0} (C : ℕ → Type 0) (I : M → Type 0) (J : ℕ → Addre
   k_equals (Link r ∷ st) go e h = tt
   k_equals (Reply r ∷ st) go e h = tt
 
-  k_pop : (k : ℕ) (st es : List Entry) (go : List Entry → List Entry → One M) → EntriesHave C st → EntriesHave C es
+  k_pop : (k : ℕ) (st es : List Entry) (go : List Entry → List Entry → StepResult M) → EntriesHave C st
+      → EntriesHave C es
       → ((xs st1 : List Entry) → EntriesHave C xs → EntriesHave C st1 → K (go xs st1)) → K (pop k st es go)
   k_pop zero st es go e f h = h es st f e
   k_pop (suc k) [] es go e f h = tt
   k_pop (suc k) (x ∷ st) es go e f h = k_pop k st (x ∷ es) go e.1 (e.0, f) h
 
-  k_when : (t : Bool) (o : One M) → (t ≡ true → K o) → K (when t o)
+  k_when : (t : Bool) (o : StepResult M) → (t ≡ true → K o) → K (when t o)
   k_when true o h = h refl
   k_when false o h = tt
 
-  k_there : {A : Type 0} (x : Option A) (go : A → One M) → ((a : A) → x ≡ Some a → K (go a)) → K (there x go)
+  k_there : {A : Type 0} (x : Option A) (go : A → StepResult M) → ((a : A) → x ≡ Some a → K (go a)) → K (on_some x go)
   k_there None go h = tt
   k_there (Some a) go h = h a refl
 
-  k_then : (d : Did M) (go : M → One M) → ((m : M) → d ≡ Done m → K (go m)) → K (then_go d go)
+  k_then : (d : MemoryResult M) (go : M → StepResult M) → ((m : M) → d ≡ Done m → K (go m)) → K (then_go d go)
   k_then (Done m) go h = h m refl
   k_then (Failed e) go h = tt
 
-  k_worked : (w : Worked) (go : ℤ → One M) → ((n : ℤ) → K (go n)) → K (worked w go)
+  k_worked : (w : OperatorResult) (go : ℤ → StepResult M) → ((n : ℤ) → K (go n)) → K (on_result w go)
   k_worked (Yields n) go h = h n
-  k_worked (Faults e) go h = tt
+  k_worked (OperatorFault e) go h = tt
 
-  k_ordinal : (c : Cell) (go : ℤ → One M) → ((n : ℤ) → K (go n)) → K (ordinal_in c go)
+  k_ordinal : (c : Cell) (go : ℤ → StepResult M) → ((n : ℤ) → K (go n)) → K (ordinal_in c go)
   k_ordinal cell.Undefined go h = tt
   k_ordinal (cell.Ordinal v) go h = h v
   k_ordinal (cell.Channel c) go h = tt
 
-  k_channel_in : (c : Cell) (go : ℕ → One M) → CellHas C c → ((n : ℕ) → C n → K (go n)) → K (channel_in c go)
+  k_channel_in : (c : Cell) (go : ℕ → StepResult M) → CellHas C c → ((n : ℕ) → C n → K (go n)) → K (channel_in c go)
   k_channel_in cell.Undefined go e h = tt
   k_channel_in (cell.Ordinal v) go e h = tt
   k_channel_in (cell.Channel c) go e h = h c e
 
-  k_if : (t : Bool) (x y : One M) → K x → K y → K (if t then x else y)
+  k_if : (t : Bool) (x y : StepResult M) → K x → K y → K (if t then x else y)
   k_if true x y h k = h
   k_if false x y h k = k
 
 module _ {M : Type 0} (ops : Ops M) (code : Parts) (C : ℕ → Type 0) (I : M → Type 0) (J : ℕ → Address → M → Type 0)
     (law : HasKeeping ops C I J) where
   module _ (pc : ℕ) (st : List Entry) (n : M) (e : EntriesHave C st) (h : I n) where
-    one_keeps : (g : ℤ → Worked) → OneHas C I J (on_one ops code g pc st n)
+    one_keeps : (g : ℤ → OperatorResult) → OneHas C I J (on_one ops code g pc st n)
     one_keeps g = k_number C I J st _ e (λ v st1 f. k_worked C I J (g v) _ (λ w. ((tt, f), h)))
 
     two_keeps : (o : BinaryOp) → OneHas C I J (on_two ops code o pc st n)
     two_keeps o = k_number C I J st _ e (λ v st1 f. k_number C I J st1 _ f
         (λ u st2 k. k_worked C I J (binary_op o u v) _ (λ w. ((tt, k), h))))
 
-    told_keeps : (t : Bool) (st1 : List Entry) → EntriesHave C st1 → OneHas C I J (told ops code t (pc + 1) st1 n)
+    told_keeps : (t : Bool) (st1 : List Entry) → EntriesHave C st1 → OneHas C I J (truth_step ops code t (pc + 1) st1 n)
     told_keeps t st1 f = ((tt, f), h)
 
     selected_keeps : (a : Address) (st1 : List Entry) → EntriesHave C st1
-        → OneHas C I J (selected ops code a (pc + 1) st1 n)
+        → OneHas C I J (selection_step ops code a (pc + 1) st1 n)
     selected_keeps a st1 f = k_when C I J (nat_le a.offset 4294967295) _ (λ w. ((tt, f), h))
 
     paced_keeps : (next : ℕ) (st1 : List Entry) (m : M) → EntriesHave C st1 → I m
-        → OneHas C I J (paced ops code next st1 m)
-    paced_keeps next st1 m f k = k_if C I J (outside st1) _ _ (k_if C I J (ops.due m) _ _ ((tt, tt), (f, k)) (f, k))
+        → OneHas C I J (pause_step ops code next st1 m)
+    paced_keeps next st1 m f k =
+        k_if C I J (is_in_no_function st1) _ _ (k_if C I J (ops.due m) _ _ ((tt, tt), (f, k)) (f, k))
         (f, k)
 
     entered_keeps : (l : Layout) (st1 : List Entry) (m : M) → EntriesHave C st1 → I m
-        → OneHas C I J (entered ops code l (pc + 1) st1 m)
+        → OneHas C I J (enter_step ops code l (pc + 1) st1 m)
     entered_keeps l st1 m f k = k_if C I J l.answer _ _ ((tt, f), k)
         (paced_keeps l.entry (Link (pc + 1) ∷ st1) m (tt, f) k)
 
-    called_keeps : (l : Layout) (up : ℕ) → OneHas C I J (called ops code l up (pc + 1) st n)
+    called_keeps : (l : Layout) (up : ℕ) → OneHas C I J (call_step ops code l up (pc + 1) st n)
     called_keeps l up =
         k_pop C I J (length l.formals) st [] _ e tt
         (λ es st1 f k. k_when C I J (fit_formals l.formals es) _
-        (λ w. k_when C I J (ops.may_open up n) _
+        (λ w. k_when C I J (ops.can_push up n) _
         (λ x. k_then C I J (ops.open_frame l up es n) _
         (λ m d. entered_keeps l st1 m k (law.open_frame l up es n m h f d)))))
 
-    taken_keeps : (t : Taken) (a : Address) (bs : List ℕ) (st1 : List Entry) → EntriesHave C st1 → ops.has a 1 n ≡ true
-        → ops.left n ≡ Some bs → OneHas C I J (taken ops code t a (pc + 1) st1 n)
-    taken_keeps (Takes v k) a bs st1 f w x = (f, law.read a v k bs n h w x)
+    taken_keeps : (t : ReadResult) (a : Address) (bs : List ℕ) (st1 : List Entry) → EntriesHave C st1
+        → ops.has a 1 n ≡ true
+        → ops.left n ≡ Some bs → OneHas C I J (item_step ops code t a (pc + 1) st1 n)
+    taken_keeps (ReadItem v k) a bs st1 f w x = (f, law.read a v k bs n h w x)
     taken_keeps (Faulty g) a bs st1 f w x = tt
 
-    reads_keeps : (item : List ℕ → Taken) → OneHas C I J (reads ops code item (pc + 1) st n)
+    reads_keeps : (item : List ℕ → ReadResult) → OneHas C I J (reads ops code item (pc + 1) st n)
     reads_keeps item = k_address C I J st _ e
         (λ a st1 f. k_when C I J (ops.has a 1 n) _
         (λ w. k_there C I J (ops.left n) _ (λ bs x. taken_keeps (item bs) a bs st1 f w x)))
@@ -195,9 +204,9 @@ module _ {M : Type 0} (ops : Ops M) (code : Parts) (C : ℕ → Type 0) (I : M �
         (λ w. k_then C I J (ops.print t n) _ (λ m d. (f, law.print t n m h w d)))
 
     wide_keeps : (cut : Bool) (t : List ℕ) (w : ℤ) (st1 : List Entry) → EntriesHave C st1
-        → OneHas C I J (wide ops code cut t w (pc + 1) st1 n)
+        → OneHas C I J (prints_wide ops code cut t w (pc + 1) st1 n)
     wide_keeps cut t w st1 f = k_if C I J (int_le w (pos 0)) _ _ tt
-        (prints_keeps (padded (nat_abs w) (if cut then take (nat_abs w) t else t)) st1 f)
+        (prints_keeps (right_justified (nat_abs w) (if cut then take (nat_abs w) t else t)) st1 f)
 
     writes_keeps : (text : ℤ → List ℕ) → OneHas C I J (writes ops code text (pc + 1) st n)
     writes_keeps text = k_number C I J st _ e (λ v st1 f. prints_keeps (text v) st1 f)
@@ -215,15 +224,15 @@ module _ {M : Type 0} (ops : Ops M) (code : Parts) (C : ℕ → Type 0) (I : M �
     ends_keeps : (down : Bool) (var to : ℕ) → OneHas C I J (ends_loop ops code down var to pc st n)
     ends_keeps down var to =
         k_number C I J st _ e (λ last st1 f. k_there C I J (ops.addr 0 var n) _
-        (λ a x. k_when C I J (ops.has a 1 n) _ (λ w. k_ordinal C I J (ops.look a n) _ (λ v.
+        (λ a x. k_when C I J (ops.has a 1 n) _ (λ w. k_ordinal C I J (ops.read a n) _ (λ v.
         k_if C I J (is_before down v last) _ _ ((tt, f), law.put a (cell.Ordinal (next_value down v)) n h w tt)
         (f, h)))))
 
     forked_keeps : (t : ℕ) (first : ℤ) (count : ℕ) (next : ℕ) (st1 : List Entry) → EntriesHave C st1
-        → OneHas C I J (forked ops code t first count next st1 n)
+        → OneHas C I J (fork_step ops code t first count next st1 n)
     forked_keeps t first count next st1 f = k_if C I J (ops.may_fork n) _ _ ((tt, tt), (f, h)) tt
 
-  returned_keeps : (st : List Entry) (n : M) → EntriesHave C st → I n → OneHas C I J (returned ops code st n)
+  returned_keeps : (st : List Entry) (n : M) → EntriesHave C st → I n → OneHas C I J (return_step ops code st n)
   returned_keeps [] n e h = tt
   returned_keeps (Number v ∷ st) n e h = tt
   returned_keeps (Chan c ∷ st) n e h = tt
@@ -233,7 +242,7 @@ module _ {M : Type 0} (ops : Ops M) (code : Parts) (C : ℕ → Type 0) (I : M �
   returned_keeps (Reply k ∷ st) n e h =
       k_when C I J (ops.may_close n) _ (λ w. k_there C I J (ops.answer n) _
       (λ a x. k_when C I J (ops.has a 1 n) _
-      (λ y. k_ordinal C I J (ops.look a n) _ (λ v. ((tt, e.1), law.close_frame n h w)))))
+      (λ y. k_ordinal C I J (ops.read a n) _ (λ v. ((tt, e.1), law.close_frame n h w)))))
 
   instruction_keeps : (o : Option Instr) (pc : ℕ) (st : List Entry) (n : M) → EntriesHave C st → I n
       → OneHas C I J (instruction ops code o pc st n)
@@ -244,15 +253,15 @@ module _ {M : Type 0} (ops : Ops M) (code : Parts) (C : ℕ → Type 0) (I : M �
   instruction_keeps (Some (i.Index low high size)) pc st n e h =
       k_number C I J st _ e (λ v st1 f. k_address C I J st1 _ f
       (λ a st2 k. k_if C I J (int_le low v && int_le v high) _ _
-      (selected_keeps pc st n e h (further (nat_abs (v -ℤ low) * size) a) st2 k) tt))
+      (selected_keeps pc st n e h (address_after (nat_abs (v -ℤ low) * size) a) st2 k) tt))
   instruction_keeps (Some (i.Field k)) pc st n e h =
-      k_address C I J st _ e (λ a st1 f. selected_keeps pc st n e h (further k a) st1 f)
+      k_address C I J st _ e (λ a st1 f. selected_keeps pc st n e h (address_after k a) st1 f)
   instruction_keeps (Some i.Load) pc st n e h =
       k_address C I J st _ e (λ a st1 f. k_when C I J (ops.has a 1 n) _
-      (λ w. k_ordinal C I J (ops.look a n) _ (λ v. ((tt, f), h))))
+      (λ w. k_ordinal C I J (ops.read a n) _ (λ v. ((tt, f), h))))
   instruction_keeps (Some i.Loadc) pc st n e h =
       k_address C I J st _ e (λ a st1 f. k_when C I J (ops.has a 1 n) _
-      (λ w. k_channel_in C I J (ops.look a n) _ (law.look a n h) (λ c k. ((k, f), h))))
+      (λ w. k_channel_in C I J (ops.read a n) _ (law.look a n h) (λ c k. ((k, f), h))))
   instruction_keeps (Some i.Store) pc st n e h =
       k_cell C I J st _ e (λ c st1 k f. k_address C I J st1 _ f
       (λ a st2 j. k_when C I J (ops.has a 1 n) _ (λ w. (j, law.put a c n h w k))))
@@ -266,7 +275,7 @@ module _ {M : Type 0} (ops : Ops M) (code : Parts) (C : ℕ → Type 0) (I : M �
   instruction_keeps (Some i.Div) pc st n e h = two_keeps pc st n e h op.Div
   instruction_keeps (Some i.Mod) pc st n e h = two_keeps pc st n e h op.Mod
   instruction_keeps (Some i.Neg) pc st n e h = one_keeps pc st n e h (unary_op sign.Minus)
-  instruction_keeps (Some i.Abs) pc st n e h = one_keeps pc st n e h absolute
+  instruction_keeps (Some i.Abs) pc st n e h = one_keeps pc st n e h absolute_value
   instruction_keeps (Some i.Sqr) pc st n e h = one_keeps pc st n e h square
   instruction_keeps (Some i.Odd) pc st n e h = one_keeps pc st n e h is_odd
   instruction_keeps (Some i.And) pc st n e h = two_keeps pc st n e h op.And
@@ -278,7 +287,7 @@ module _ {M : Type 0} (ops : Ops M) (code : Parts) (C : ℕ → Type 0) (I : M �
   instruction_keeps (Some i.Le) pc st n e h = two_keeps pc st n e h op.Le
   instruction_keeps (Some i.Gt) pc st n e h = two_keeps pc st n e h op.Gt
   instruction_keeps (Some i.Ge) pc st n e h = two_keeps pc st n e h op.Ge
-  instruction_keeps (Some (i.Range low high)) pc st n e h = one_keeps pc st n e h (ranged low high)
+  instruction_keeps (Some (i.Range low high)) pc st n e h = one_keeps pc st n e h (value_in_range low high)
   instruction_keeps (Some (i.Succ high)) pc st n e h = one_keeps pc st n e h (successor high)
   instruction_keeps (Some (i.Pred low)) pc st n e h = one_keeps pc st n e h (predecessor low)
   instruction_keeps (Some (i.Jump to)) pc st n e h = (e, h)
@@ -288,7 +297,7 @@ module _ {M : Type 0} (ops : Ops M) (code : Parts) (C : ℕ → Type 0) (I : M �
       k_number C I J st _ e (λ u st1 f. k_if C I J (same_ordinal u v) _ _ (f, h) ((tt, f), h))
   instruction_keeps (Some i.Nocase) pc st n e h = tt
   instruction_keeps (Some i.Tick) pc st n e h =
-      k_then C I J (ops.beat n) _ (λ m d. paced_keeps pc st n e h (pc + 1) st m e (law.beat n m h d))
+      k_then C I J (ops.tick n) _ (λ m d. paced_keeps pc st n e h (pc + 1) st m e (law.beat n m h d))
   instruction_keeps (Some i.Assume) pc st n e h =
       k_number C I J st _ e (λ v st1 f. k_if C I J (not (int_le v (pos 0))) _ _ (f, h) tt)
   instruction_keeps (Some (i.Forup var to)) pc st n e h = begins_keeps pc st n e h false var to
@@ -337,10 +346,10 @@ module _ {M : Type 0} (ops : Ops M) (code : Parts) (C : ℕ → Type 0) (I : M �
       (forked_keeps pc st n e h t first (values_in first last) (pc + 1) st2 k)))
   instruction_keeps (Some i.End) pc st n e h = ((tt, tt), (e, h))
 
-  one_has : (c : Config M) → ConfigHas C I c → OneHas C I J (one ops code c)
+  one_has : (c : Config M) → ConfigHas C I c → OneHas C I J (next_step ops code c)
   one_has (At pc st n) h = instruction_keeps (slice_get code.instrs pc) pc st n h.0 h.1
 
-  comes_has : (k : ℕ) (c d : Config M) → ConfigHas C I c → ComesIn ops code k c d → ConfigHas C I d
+  comes_has : (k : ℕ) (c d : Config M) → ConfigHas C I c → RunsIn ops code k c d → ConfigHas C I d
   comes_has zero c d h b = subst (ConfigHas C I) b h
   comes_has (suc k) c d h b = comes_has k b.0 d (subst (OneHas C I J) b.1 (one_has c h)) b.2
 
@@ -350,9 +359,9 @@ module _ {M : Type 0} (ops : Ops M) (code : Parts) (C : ℕ → Type 0) (I : M �
 
   -- a turn keeps it
   pub turn_does : (c : Config M) (t : Turn M) → ConfigHas C I c → IsTurn ops code c t → TurnDoes C I J t
-  turn_does c t h = go (begins ops code c)
+  turn_does c t h = go (frames_fit ops code c)
     where
-      go : (b : Bool) → Begins b c t (Runs ops code c t) → TurnDoes C I J t
+      go : (b : Bool) → BeginsOrFaults b c t (Runs ops code c t) → TurnDoes C I J t
       go true r = ends_has r.0 t (comes_has r.1.steps c r.0 h r.1.by) r.2
       go false r = subst (TurnDoes C I J) (sym r) h
 

@@ -10,24 +10,24 @@ use Rattle.sp_cell.specs.declared.cell.Cell.TheVariants as cell
 use Rattle.sp_cell.specs.declared.spot.Address.{Address}
 use Rattle.sp_cell.specs.Lists.{part}
 use Rattle.sp_cell.specs.Map.{Own, Output, Plain, bytes_of, output_spot}
-use Rattle.sp_cell.specs.Frame.{next_frame, newest}
+use Rattle.sp_cell.specs.Frame.{next_frame, last_own_frame}
 use Rattle.sp_code.specs.declared.code.Layout.{Layout}
-use Rattle.sp_code.specs.Machine.{Entry, Number, Chan, Pointer, Cells, Link, Reply, Did, Done, Failed}
-use Rattle.sp_code.specs.Memory.{Setting, Frame, Memory, memory, put_cell, put_cells, cells_at, cell_at, position_at}
-use Rattle.sp_code.specs.Memory.{filled, opened, bytes_in}
+use Rattle.sp_code.specs.Machine.{Entry, Number, Chan, Pointer, Cells, Link, Reply, MemoryResult, Done, Failed}
+use Rattle.sp_code.specs.Memory.{CodeRun, Frame, Memory, memory, put_cell, put_cells, cells_at, cell_at, position_at}
+use Rattle.sp_code.specs.Memory.{with_arguments, memory_after_call, bytes_in}
 use Rattle.sp_code.specs.PlainStore.{plain}
 use Rattle.sp_history.specs.Channels.{CellHas, CellsHave, EntriesHave, StoreHas}
-use Rattle.sp_history.specs.Spoken.{Keeps}
+use Rattle.sp_history.specs.NamesChannels.{MemoryHas}
 use Rattle.sp_history.proofs.Cells.{have_set, have_at, have_part, have_over, insert_has, pieces_has, without_has}
 use Rattle.sp_history.proofs.Keeping.{HasKeeping, Anywhere}
 
-pub is_done : {M : Type 0} (n m : M) → ◌≡◌ {A = Did M} (Done n) (Done m) → n ≡ m
+pub is_done : {M : Type 0} (n m : M) → ◌≡◌ {A = MemoryResult M} (Done n) (Done m) → n ≡ m
 is_done n m e = cc
 
-pub not_done : {M : Type 0} (f : Fault) (m : M) → ◌≡◌ {A = Did M} (Failed f) (Done m) → ⊥
+pub not_done : {M : Type 0} (f : Fault) (m : M) → ◌≡◌ {A = MemoryResult M} (Failed f) (Done m) → ⊥
 not_done f m e = cc
 
-module _ (g : Setting) (C : ℕ → Type 0) (q : ℕ) where
+module _ (g : CodeRun) (C : ℕ → Type 0) (q : ℕ) where
   pub put_has : (a : Address) (c : Cell) (s : Plain) → StoreHas C plain s → CellHas C c
       → StoreHas C plain (put_cell plain a c s)
   put_has a c s h k = insert_has C s.map a.spot _ h (have_set C (cells_at plain s a.spot) a.offset c (h a.spot) k)
@@ -37,7 +37,7 @@ module _ (g : Setting) (C : ℕ → Type 0) (q : ℕ) where
   puts_has a cs s h k = insert_has C s.map a.spot _ h (have_over C (cells_at plain s a.spot) a.offset cs (h a.spot) k)
 
   filled_has : (n k : ℕ) (es : List Entry) (s : Plain) → StoreHas C plain s → EntriesHave C es
-      → StoreHas C plain (filled plain n k es s)
+      → StoreHas C plain (with_arguments plain n k es s)
   filled_has n k [] s h e = h
   filled_has n k (Number v ∷ es) s h e = filled_has n (suc k) es _ (put_has (cell_at n k) (cell.Ordinal v) s h tt) e.1
   filled_has n k (Chan c ∷ es) s h e = filled_has n (suc k) es _ (put_has (cell_at n k) (cell.Channel c) s h e.0) e.1
@@ -46,36 +46,37 @@ module _ (g : Setting) (C : ℕ → Type 0) (q : ℕ) where
   filled_has n k (Link r ∷ es) s h e = filled_has n (suc k) es s h e.1
   filled_has n k (Reply r ∷ es) s h e = filled_has n (suc k) es s h e.1
 
-  opened_has : (l : Layout) (up : ℕ) (es : List Entry) (n : Memory Plain) → Keeps C q n → EntriesHave C es
-      → Keeps C q (opened plain g l up es n)
+  opened_has : (l : Layout) (up : ℕ) (es : List Entry) (n : Memory Plain) → MemoryHas C q n → EntriesHave C es
+      → MemoryHas C q (memory_after_call plain g l up es n)
   opened_has l up es n h e = (
     h.0,
     filled_has (next_frame n.store) 0 es _
         (pieces_has C n.store.map (next_frame n.store) 0 l.sizes h.1) e,
   )
 
-  opens_has : (l : Layout) (up : ℕ) (es : List Entry) (n m : Memory Plain) → Keeps C q n → EntriesHave C es
-      → (memory plain g).open_frame l up es n ≡ Done m → Keeps C q m
+  opens_has : (l : Layout) (up : ℕ) (es : List Entry) (n m : Memory Plain) → MemoryHas C q n → EntriesHave C es
+      → (memory plain g).open_frame l up es n ≡ Done m → MemoryHas C q m
   opens_has l up es n m h e d = go (nat_lt n.ticks g.limits.ticks) (nat_lt n.depth g.limits.depth)
       (nat_lt g.limits.cells (n.cells + sum l.sizes)) d
     where
-      go : (a b c : Bool) → (if a then (if b then (if c then Failed fault.F12 else Done (opened plain g l up es n)) else
-          Failed fault.F11) else Failed fault.F10) ≡ Done m → Keeps C q m
+      go : (a b c : Bool) →
+          (if a then (if b then (if c then Failed fault.F12 else Done (memory_after_call plain g l up es n)) else
+          Failed fault.F11) else Failed fault.F10) ≡ Done m → MemoryHas C q m
       go true true true d = absurd (not_done fault.F12 m d)
-      go true true false d = subst (Keeps C q) (is_done _ m d) (opened_has l up es n h e)
+      go true true false d = subst (MemoryHas C q) (is_done _ m d) (opened_has l up es n h e)
       go true false c d = absurd (not_done fault.F11 m d)
       go false b c d = absurd (not_done fault.F10 m d)
 
-  closes_has : (fs : List Frame) (n : Memory Plain) → n.frames ≡ fs → Keeps C q n
-      → Keeps C q ((memory plain g).close_frame n)
+  closes_has : (fs : List Frame) (n : Memory Plain) → n.frames ≡ fs → MemoryHas C q n
+      → MemoryHas C q ((memory plain g).close_frame n)
   closes_has [] n e h = rw e h
-  closes_has (f ∷ fs) n e h = rw e (h.0, without_has C n.store.map (newest n.store.own) h.1)
+  closes_has (f ∷ fs) n e h = rw e (h.0, without_has C n.store.map (last_own_frame n.store.own) h.1)
 
   -- bytes read are no channel
-  advances_has : (k : ℕ) (n : Memory Plain) → Keeps C q n → Keeps C q ((memory plain g).advance k n)
+  advances_has : (k : ℕ) (n : Memory Plain) → MemoryHas C q n → MemoryHas C q ((memory plain g).advance k n)
   advances_has k n h = (h.0, put_has position_at _ n.store h.1 tt)
 
-  pub keeping : HasKeeping (memory plain g) C (Keeps C q) Anywhere
+  pub keeping : HasKeeping (memory plain g) C (MemoryHas C q) Anywhere
   keeping = record {
     look = λ a n h. have_at C (cells_at plain n.store a.spot) a.offset cell.Undefined (h.1 a.spot) tt;
     cells = λ a k n h. have_part C (cells_at plain n.store a.spot) a.offset k (h.1 a.spot);
@@ -100,14 +101,14 @@ module _ (g : Setting) (C : ℕ → Type 0) (q : ℕ) where
     close_frame = λ n h w. closes_has n.frames n refl h;
   }
     where
-      prints : (t : List ℕ) (n m : Memory Plain) → Keeps C q n → (b : Bool)
+      prints : (t : List ℕ) (n m : Memory Plain) → MemoryHas C q n → (b : Bool)
           → (if b then Failed fault.F16 else Done (record n { store = plain.appended n.store t })) ≡ Done m
-          → Keeps C q m
+          → MemoryHas C q m
       prints t n m h true d = absurd (not_done fault.F16 m d)
-      prints t n m h false d = subst (Keeps C q) (is_done _ m d)
+      prints t n m h false d = subst (MemoryHas C q) (is_done _ m d)
           (h.0, insert_has C n.store.map output_spot (Output (bytes_of (map.get n.store.map output_spot) ++ t)) h.1 tt)
 
-      beats : (n m : Memory Plain) → Keeps C q n → (b : Bool)
-          → (if b then Done (record n { ticks = n.ticks + 1 }) else Failed fault.F10) ≡ Done m → Keeps C q m
-      beats n m h true d = subst (Keeps C q) (is_done _ m d) h
+      beats : (n m : Memory Plain) → MemoryHas C q n → (b : Bool)
+          → (if b then Done (record n { ticks = n.ticks + 1 }) else Failed fault.F10) ≡ Done m → MemoryHas C q m
+      beats n m h true d = subst (MemoryHas C q) (is_done _ m d) h
       beats n m h false d = absurd (not_done fault.F10 m d)

@@ -12,18 +12,20 @@ use Rattle.sp_journal.specs.declared.entry.Event.TheVariants as event
 use Rattle.sp_journal.specs.declared.entry.Entry.{Entry}
 use Rattle.sp_journal.specs.declared.entry.Birth.{Birth}
 use Rattle.sp_journal.specs.Maps.{at_key}
-use Rattle.sp_journal.specs.Births.{Births, at_start, after_event, GivesNumbers, NameableFrom}
+use Rattle.sp_journal.specs.Births.{Births, first_births, births_after_event, GivesNumbers, NameableFrom}
 use Rattle.sp_code.specs.Machine.{Stop, Forks, Opens, Sends, Receives, Ends, Pauses, Config}
 use Rattle.sp_code.specs.Turns.{Turn, Stopped, Faulted, IsTurn}
-use Rattle.sp_code.specs.Memory.{Setting, Memory, memory, first}
+use Rattle.sp_code.specs.Memory.{CodeRun, Memory, memory, first_process}
 use Rattle.sp_code.specs.PlainStore.{plain}
 use Rattle.sp_code.specs.Sound.{AreLimits}
 use Rattle.sp_code.specs.System.{System, Condition, Absent, Working, Waits, Joins, Laid, Gone, Over, event_at, event_or}
-use Rattle.sp_code.specs.System.{event_of, fault_of, first_fault, limit_of, clash_of, entered_now, received, sent}
-use Rattle.sp_code.specs.System.{taken, rejoined, reported, happens, unless_fault, lays, after, config_of, opening}
-use Rattle.sp_code.specs.System.{Leads, IsSystem}
+use Rattle.sp_code.specs.System.{event_of, fault_of, first_fault, limit_of, clash_of, process_at_entry, after_message}
+use Rattle.sp_code.specs.System.{apply_send}
+use Rattle.sp_code.specs.System.{apply_receive, parent_after_join, apply_end, apply_stop, apply_unless_fault, lays}
+use Rattle.sp_code.specs.System.{system_after_turn, config_of, opening_system}
+use Rattle.sp_code.specs.System.{EntriesLead, IsSystem}
 use Rattle.sp_history.specs.Channels.{StopHas}
-use Rattle.sp_history.specs.Spoken.{IsSpoken}
+use Rattle.sp_history.specs.NamesChannels.{NamesChannels}
 use Rattle.sp_history.specs.Counted.{IsCounted}
 use Rattle.sp_history.proofs.Queues.{number_or, at_same, at_other}
 use Rattle.sp_history.proofs.Orders.{next_past}
@@ -35,14 +37,14 @@ first_none (Some f) b e = absurd cc
 
 -- ---- counts and absent processes
 
-pub opening_counted : (g : Setting) → IsCounted (opening plain g)
+pub opening_counted : (g : CodeRun) → IsCounted (opening_system plain g)
 opening_counted g = record { forks = λ q. omega arith; opens = λ q. omega arith; absent = λ q l. go q (q == 0) refl l }
   where
-    go : (q : ℕ) (b : Bool) → q == 0 ≡ b → 1 ≤ q → (if b then Working (first plain g) else Absent) ≡ Absent
+    go : (q : ℕ) (b : Bool) → q == 0 ≡ b → 1 ≤ q → (if b then Working (first_process plain g) else Absent) ≡ Absent
     go q true e l = absurd (omega (arith, eqb-true q 0 e, l))
     go q false e l = refl
 
-module _ (g : Setting) (s : System Plain) (q : ℕ) (c0 : Config (Memory Plain)) (runs : s.condition q ≡ Working c0)
+module _ (g : CodeRun) (s : System Plain) (q : ℕ) (c0 : Config (Memory Plain)) (runs : s.condition q ≡ Working c0)
     (h : IsCounted s) where
   pub there : q < s.births.processes
   there = go (cases_lt q s.births.processes)
@@ -71,41 +73,41 @@ module _ (g : Setting) (s : System Plain) (q : ℕ) (c0 : Config (Memory Plain))
     mine x f k = at_absent q x f (λ is. absurd (other is)) k
 
     sent_absent : (stop : Stop) (ch : ℕ) (cs : List Cell) (c : Config (Memory Plain)) (o : Option ℕ)
-        → (sent plain g q stop ch cs c o s).condition r ≡ Absent
+        → (apply_send plain g q stop ch cs c o s).condition r ≡ Absent
     sent_absent stop ch cs c None = mine (Waits stop c) s.condition gone
     sent_absent stop ch cs c (Some z) = mine (Working c)
-        (at_key ◌==◌ z (received plain g cs (s.condition z)) s.condition)
-        (at_absent z (received plain g cs (s.condition z)) s.condition
-        (λ is. ap (received plain g cs) (ap s.condition is ∙ gone)) gone)
+        (at_key ◌==◌ z (after_message plain g cs (s.condition z)) s.condition)
+        (at_absent z (after_message plain g cs (s.condition z)) s.condition
+        (λ is. ap (after_message plain g cs) (ap s.condition is ∙ gone)) gone)
 
     taken_absent : (stop : Stop) (ch : ℕ) (a : Address) (c : Config (Memory Plain)) (o : Option ℕ)
-        → (taken plain g q stop ch a c o s).condition r ≡ Absent
+        → (apply_receive plain g q stop ch a c o s).condition r ≡ Absent
     taken_absent stop ch a c None = mine (Waits stop c) s.condition gone
     taken_absent stop ch a c (Some z) = mine (Working _)
-        (at_key ◌==◌ z (received plain g [] (s.condition z)) s.condition)
-        (at_absent z (received plain g [] (s.condition z)) s.condition
-        (λ is. ap (received plain g []) (ap s.condition is ∙ gone)) gone)
+        (at_key ◌==◌ z (after_message plain g [] (s.condition z)) s.condition)
+        (at_absent z (after_message plain g [] (s.condition z)) s.condition
+        (λ is. ap (after_message plain g []) (ap s.condition is ∙ gone)) gone)
 
-    reported_absent : (c : Config (Memory Plain)) (o : Option Birth) → (reported plain g q c o s).condition r ≡ Absent
+    reported_absent : (c : Config (Memory Plain)) (o : Option Birth) → (apply_end plain g q c o s).condition r ≡ Absent
     reported_absent c None = mine (Over c) s.condition gone
-    reported_absent c (Some b) = at_absent b.parent (rejoined plain g c (s.condition b.parent))
-        (at_key ◌==◌ q Gone s.condition) (λ is. ap (rejoined plain g c) (ap s.condition is ∙ gone))
+    reported_absent c (Some b) = at_absent b.parent (parent_after_join plain g c (s.condition b.parent))
+        (at_key ◌==◌ q Gone s.condition) (λ is. ap (parent_after_join plain g c) (ap s.condition is ∙ gone))
         (mine Gone s.condition gone)
 
     lays_absent : (c : Config (Memory Plain)) → (lays plain g q c s).condition r ≡ Absent
     lays_absent c = mine (Laid c) s.condition gone
 
   sent_entries : (stop : Stop) (ch : ℕ) (cs : List Cell) (c : Config (Memory Plain)) (o : Option ℕ)
-      → (sent plain g q stop ch cs c o s).entries ≡ s.entries
+      → (apply_send plain g q stop ch cs c o s).entries ≡ s.entries
   sent_entries stop ch cs c None = refl
   sent_entries stop ch cs c (Some z) = refl
 
   taken_entries : (stop : Stop) (ch : ℕ) (a : Address) (c : Config (Memory Plain)) (o : Option ℕ)
-      → (taken plain g q stop ch a c o s).entries ≡ s.entries
+      → (apply_receive plain g q stop ch a c o s).entries ≡ s.entries
   taken_entries stop ch a c None = refl
   taken_entries stop ch a c (Some z) = refl
 
-  reported_entries : (c : Config (Memory Plain)) (o : Option Birth) → (reported plain g q c o s).entries ≡ s.entries
+  reported_entries : (c : Config (Memory Plain)) (o : Option Birth) → (apply_end plain g q c o s).entries ≡ s.entries
   reported_entries c None = refl
   reported_entries c (Some b) = refl
 
@@ -120,7 +122,7 @@ module _ (g : Setting) (s : System Plain) (q : ℕ) (c0 : Config (Memory Plain))
   more n l f k r = let w = k r in omega (arith, w, l)
 
   happens_counted : (stop : Stop) (c : Config (Memory Plain))
-      → IsCounted (record (happens plain g q stop c s) { births = after_event s.births q (event_at stop) })
+      → IsCounted (record (apply_stop plain g q stop c s) { births = births_after_event s.births q (event_at stop) })
   happens_counted (Forks t v n) c = record {
     forks = one_more s.births.forks h.forks;
     opens = more (s.entries + 1) (omega arith) s.births.opens h.opens;
@@ -135,26 +137,28 @@ module _ (g : Setting) (s : System Plain) (q : ℕ) (c0 : Config (Memory Plain))
   happens_counted (Sends ch k cs) c =
       let e = sent_entries (Sends ch k cs) ch cs c (s.pending ch) in
       record {
-        forks = more ((sent plain g q (Sends ch k cs) ch cs c (s.pending ch) s).entries + 1) (omega (arith, e))
+        forks = more ((apply_send plain g q (Sends ch k cs) ch cs c (s.pending ch) s).entries + 1) (omega (arith, e))
             s.births.forks h.forks;
-        opens = more ((sent plain g q (Sends ch k cs) ch cs c (s.pending ch) s).entries + 1) (omega (arith, e))
+        opens = more ((apply_send plain g q (Sends ch k cs) ch cs c (s.pending ch) s).entries + 1) (omega (arith, e))
             s.births.opens h.opens;
         absent = λ r l. sent_absent r l (Sends ch k cs) ch cs c (s.pending ch);
       }
   happens_counted (Receives ch k a) c =
       let e = taken_entries (Receives ch k a) ch a c (s.pending ch) in
       record {
-        forks = more ((taken plain g q (Receives ch k a) ch a c (s.pending ch) s).entries + 1) (omega (arith, e))
+        forks = more ((apply_receive plain g q (Receives ch k a) ch a c (s.pending ch) s).entries + 1)
+            (omega (arith, e))
             s.births.forks h.forks;
-        opens = more ((taken plain g q (Receives ch k a) ch a c (s.pending ch) s).entries + 1) (omega (arith, e))
+        opens = more ((apply_receive plain g q (Receives ch k a) ch a c (s.pending ch) s).entries + 1)
+            (omega (arith, e))
             s.births.opens h.opens;
         absent = λ r l. taken_absent r l (Receives ch k a) ch a c (s.pending ch);
       }
   happens_counted Ends c =
       let e = reported_entries c (s.births.birth q) in
       record {
-        forks = more (reported plain g q c (s.births.birth q) s).entries (omega (arith, e)) s.births.forks h.forks;
-        opens = more (reported plain g q c (s.births.birth q) s).entries (omega (arith, e)) s.births.opens h.opens;
+        forks = more (apply_end plain g q c (s.births.birth q) s).entries (omega (arith, e)) s.births.forks h.forks;
+        opens = more (apply_end plain g q c (s.births.birth q) s).entries (omega (arith, e)) s.births.opens h.opens;
         absent = λ r l. reported_absent r l c (s.births.birth q);
       }
   happens_counted Pauses c = record {
@@ -163,11 +167,14 @@ module _ (g : Setting) (s : System Plain) (q : ℕ) (c0 : Config (Memory Plain))
     absent = λ r l. mine r l (Working c) s.condition (gone r l);
   }
 
-  pub after_counted : (t : Turn (Memory Plain)) → IsCounted (after plain g q t s)
+  pub after_counted : (t : Turn (Memory Plain)) → IsCounted (system_after_turn plain g q t s)
   after_counted t = go s.faulted
     where
       by_fault : (o : Option Fault) (t : Turn (Memory Plain))
-          → IsCounted (record (unless_fault plain g o q t s) { births = after_event s.births q (event_or o t) })
+          → IsCounted (record (apply_unless_fault plain g o q t s) {
+            births =
+                births_after_event s.births q (event_or o t);
+          })
       by_fault (Some f) (Stopped stop c) = record {
         forks = h.forks;
         opens = h.opens;
@@ -175,11 +182,11 @@ module _ (g : Setting) (s : System Plain) (q : ℕ) (c0 : Config (Memory Plain))
       }
       by_fault (Some f) (Faulted e c) = record { forks = h.forks; opens = h.opens; absent = λ r l. lays_absent r l c }
       by_fault None (Faulted e c) = record { forks = h.forks; opens = h.opens; absent = λ r l. lays_absent r l c }
-      by_fault None (Stopped stop c) = happens_counted stop (entered_now c)
+      by_fault None (Stopped stop c) = happens_counted stop (process_at_entry c)
 
       go : (b : Bool) → IsCounted (record (if b then lays plain g q (config_of t) s else
-          unless_fault plain g (fault_of g.limits s t) q t s)
-          { births = after_event s.births q (if b then event.Laid else event_or (fault_of g.limits s t) t) })
+          apply_unless_fault plain g (fault_of g.limits s t) q t s)
+          { births = births_after_event s.births q (if b then event.Laid else event_or (fault_of g.limits s t) t) })
       go true = record { forks = h.forks; opens = h.opens; absent = λ r l. lays_absent r l (config_of t) }
       go false = by_fault (fault_of g.limits s t) t
 
@@ -193,7 +200,7 @@ below_limit a b f o e = go (nat_lt a b) refl e
     go true w k = absurd (cc k)
     go false w k = (grind (arith, w), k)
 
-module _ (g : Setting) (lim : AreLimits g.limits) where
+module _ (g : CodeRun) (lim : AreLimits g.limits) where
   gives_numbers : (s : System Plain) (q : ℕ) (stop : Stop) → IsCounted s → StopHas (λ c. c < s.births.channels) stop
       → limit_of g.limits s stop ≡ None → GivesNumbers s.births q (event_at stop)
   gives_numbers s q (Forks t v n) h k e =
@@ -218,7 +225,7 @@ module _ (g : Setting) (lim : AreLimits g.limits) where
   gives_numbers s q Pauses h k e = tt {0}
 
   turn_numbers : (s : System Plain) (q : ℕ) (c : Config (Memory Plain)) (t : Turn (Memory Plain)) → IsCounted s
-      → IsSpoken s → s.condition q ≡ Working c → IsTurn (memory plain g) g.code c t
+      → NamesChannels s → s.condition q ≡ Working c → IsTurn (memory plain g) g.code c t
       → GivesNumbers s.births q (event_of g.limits s t)
   turn_numbers s q c t h k e turn = go s.faulted
     where
@@ -236,14 +243,14 @@ module _ (g : Setting) (lim : AreLimits g.limits) where
       go true = tt {0}
       go false = by_fault (fault_of g.limits s t) refl t refl
 
-  leads_nameable : (s : System Plain) (es : List Entry) (t : System Plain) → IsCounted s → IsSpoken s
-      → Leads plain g s es t → NameableFrom s.births es
+  leads_nameable : (s : System Plain) (es : List Entry) (t : System Plain) → IsCounted s → NamesChannels s
+      → EntriesLead plain g s es t → NameableFrom s.births es
   leads_nameable s [] t h k l = tt {0}
   leads_nameable s (e ∷ es) t h k l =
       let n = l.1 in
       let next : IsCounted l.0 = subst IsCounted (sym n.5) (after_counted g s e.process n.0 n.1 h n.2) in
-      let b : after_event s.births e.process e.event ≡ l.0.births =
-      ap (λ (x : Event). after_event s.births e.process x) (sym n.4)
+      let b : births_after_event s.births e.process e.event ≡ l.0.births =
+      ap (λ (x : Event). births_after_event s.births e.process x) (sym n.4)
       ∙ ap (λ (x : System Plain). x.births) (sym n.5) in (
         (
           there g s e.process n.0 n.1 h,
@@ -254,5 +261,5 @@ module _ (g : Setting) (lim : AreLimits g.limits) where
             (leads_nameable l.0 es t next (enters_spoken g s e.process e.event l.0 k n) l.2),
       )
 
-  pub system_nameable : (es : List Entry) (s : System Plain) → IsSystem plain g es s → NameableFrom at_start es
-  system_nameable es s l = leads_nameable (opening plain g) es s (opening_counted g) (opening_spoken g) l
+  pub system_nameable : (es : List Entry) (s : System Plain) → IsSystem plain g es s → NameableFrom first_births es
+  system_nameable es s l = leads_nameable (opening_system plain g) es s (opening_counted g) (opening_spoken g) l

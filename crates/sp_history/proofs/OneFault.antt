@@ -7,10 +7,11 @@ use Rattle.sp_journal.specs.declared.entry.Event.TheVariants as event
 use Rattle.sp_journal.specs.declared.entry.Entry.{Entry}
 use Rattle.sp_code.specs.Machine.{Stop, Forks, Opens, Sends, Receives, Ends, Pauses}
 use Rattle.sp_code.specs.Turns.{Turn, Stopped, Faulted}
-use Rattle.sp_code.specs.Memory.{Setting, Stores, Memory}
+use Rattle.sp_code.specs.Memory.{CodeRun, Stores, Memory}
 use Rattle.sp_history.specs.Faults.{IsFaulty}
-use Rattle.sp_code.specs.System.{System, event_at, event_or, event_of, fault_of, unless_fault, lays, after, config_of}
-use Rattle.sp_code.specs.System.{Leads}
+use Rattle.sp_code.specs.System.{System, event_at, event_or, event_of, fault_of, apply_unless_fault, lays}
+use Rattle.sp_code.specs.System.{system_after_turn, config_of}
+use Rattle.sp_code.specs.System.{EntriesLead}
 
 -- what a process stops for is no fault
 pub stop_not_fault : (stop : Stop) (f : Fault) → event_at stop ≡ event.Fault f → ⊥
@@ -21,36 +22,39 @@ stop_not_fault (Receives c k a) f e = cc e
 stop_not_fault Ends f e = cc e
 stop_not_fault Pauses f e = cc e
 
-module _ {S : Type 0} (stores : Stores S) (g : Setting) where
+module _ {S : Type 0} (stores : Stores S) (g : CodeRun) where
   -- once a fault stands it stays, and each event is Laid
-  stands : (s : System S) (q : ℕ) (t : Turn (Memory S)) → s.faulted ≡ true → ((after stores g q t s).faulted ≡ true)
+  stands : (s : System S) (q : ℕ) (t : Turn (Memory S)) → s.faulted ≡ true
+      → ((system_after_turn stores g q t s).faulted ≡ true)
       × (event_of g.limits s t ≡ event.Laid)
   stands s q t e = go s.faulted e
     where
       go : (b : Bool) → b ≡ true → ((if b then lays stores g q (config_of t) s else
-          unless_fault stores g (fault_of g.limits s t) q t s).faulted ≡ true)
+          apply_unless_fault stores g (fault_of g.limits s t) q t s).faulted ≡ true)
           × ((if b then event.Laid else event_or (fault_of g.limits s t) t) ≡ event.Laid)
       go true w = (e, refl)
       go false w = absurd (cc w)
 
   -- a fault stands after its event
   begins : (s : System S) (q : ℕ) (t : Turn (Memory S)) (f : Fault) → event_of g.limits s t ≡ event.Fault f
-      → (after stores g q t s).faulted ≡ true
+      → (system_after_turn stores g q t s).faulted ≡ true
   begins s q t f e = go s.faulted e
     where
       by_fault : (o : Option Fault) (x : Turn (Memory S)) → event_or o x ≡ event.Fault f
-          → (unless_fault stores g o q x s).faulted ≡ true
+          → (apply_unless_fault stores g o q x s).faulted ≡ true
       by_fault (Some d) x w = refl
       by_fault None (Faulted d c) w = refl
       by_fault None (Stopped stop c) w = absurd (stop_not_fault stop f w)
 
       go : (b : Bool) → (if b then event.Laid else event_or (fault_of g.limits s t) t) ≡ event.Fault f
-          → (if b then lays stores g q (config_of t) s else unless_fault stores g (fault_of g.limits s t) q t s).faulted
+          → (if b then lays stores g q (config_of t) s else apply_unless_fault stores g (fault_of g.limits s t) q t
+          s).faulted
           ≡ true
       go true w = absurd (cc w)
       go false w = by_fault (fault_of g.limits s t) t w
 
-  pub laid_after : (s t : System S) (es : List Entry) → s.faulted ≡ true → Leads stores g s es t → (i : ℕ) (e : Entry)
+  pub laid_after : (s t : System S) (es : List Entry) → s.faulted ≡ true → EntriesLead stores g s es t
+      → (i : ℕ) (e : Entry)
       → slice_get es i ≡ Some e → e.event ≡ event.Laid
   laid_after s t [] h l i e w = absurd cc
   laid_after s t (x ∷ es) h l zero e w =
@@ -59,7 +63,7 @@ module _ {S : Type 0} (stores : Stores S) (g : Setting) where
   laid_after s t (x ∷ es) h l (suc i) e w = laid_after l.0 t es
       (ap (λ (y : System S). y.faulted) l.1.5 ∙ (stands s x.process l.1.2 h).0) l.2 i e w
 
-  pub one_fault : (s t : System S) (es : List Entry) → Leads stores g s es t → (i j : ℕ) (d e : Entry)
+  pub one_fault : (s t : System S) (es : List Entry) → EntriesLead stores g s es t → (i j : ℕ) (d e : Entry)
       → slice_get es i ≡ Some d → slice_get es j ≡ Some e → IsFaulty d.event → IsFaulty e.event → i ≡ j
   one_fault s t [] l i j d e w x f h = absurd cc
   one_fault s t (y ∷ es) l zero zero d e w x f h = refl

@@ -9,11 +9,11 @@ use Rattle.sp_journal.specs.declared.entry.Event.{Event}
 use Rattle.sp_journal.specs.declared.entry.Event.TheVariants as event
 use Rattle.sp_journal.specs.declared.entry.Birth.{Birth}
 use Rattle.sp_journal.specs.Maps.{at_key}
-use Rattle.sp_journal.specs.Births.{Births, after_event, is_next}
+use Rattle.sp_journal.specs.Births.{Births, births_after_event, is_next}
 use Rattle.sp_journal.specs.Queue.{numbers}
 use Rattle.sp_code.specs.Control.{Control, Doing, Unborn, Ready, Out, Sending, Receiving, Joining, Laid, Ended, Gone}
 use Rattle.sp_code.specs.Control.{does, queues, offers, one_fewer, reports, comes_back}
-use Rattle.sp_history.specs.Agreement.{Each, Among, IsQueue, IsOrderly, waits_by}
+use Rattle.sp_history.specs.Agreement.{EachNumber, Among, IsQueue, IsOrderly, waits_by}
 use Rattle.sp_history.proofs.Queues.{each_of, each_append, differ_append, among_front, among_back, numbers_from}
 use Rattle.sp_history.proofs.Queues.{numbers_below, numbers_differ, numbers_have, number_or, at_same, at_other}
 
@@ -35,7 +35,7 @@ waits_channel way.Receive way.Receive c d e = cc
 -- ---- the queue
 
 module _ {d : ℕ → Doing} {r : List ℕ} (h : IsQueue d r) where
-  pub away : (z : ℕ) → d z ≢ Ready → Each (λ y. y ≢ z) r
+  pub away : (z : ℕ) → d z ≢ Ready → EachNumber (λ y. y ≢ z) r
   away z n = each_of (λ q. d q ≡ Ready) (λ y. y ≢ z) r (λ q e is. n (ap d (sym is) ∙ e)) h.queued
 
   pub queue_does : (z : ℕ) (v : Doing) → d z ≢ Ready → v ≢ Ready → IsQueue (at_key ◌==◌ z v d) r
@@ -46,7 +46,8 @@ module _ {d : ℕ → Doing} {r : List ℕ} (h : IsQueue d r) where
     all = λ q e. h.all q (back q (number_or z q) e);
   }
     where
-      both : (xs : List ℕ) → Each (λ q. d q ≡ Ready) xs → Each (λ y. y ≢ z) xs → Each (λ q. (d q ≡ Ready) × (q ≢ z)) xs
+      both : (xs : List ℕ) → EachNumber (λ q. d q ≡ Ready) xs → EachNumber (λ y. y ≢ z) xs
+          → EachNumber (λ q. (d q ≡ Ready) × (q ≢ z)) xs
       both [] a b = tt {0}
       both (x ∷ xs) a b = ((a.0, b.0), both xs a.1 b.1)
 
@@ -60,7 +61,8 @@ module _ {d : ℕ → Doing} {r : List ℕ} (h : IsQueue d r) where
         (each_of (λ q. d q ≡ Ready) (λ q. at_key ◌==◌ z Ready d q ≡ Ready) r (λ q e. either q (number_or z q) e)
         h.queued) (at_same d z Ready, tt {0});
     distinct = differ_append r (z ∷ []) h.distinct (tt {0}, tt {0})
-        (each_of (λ y. y ≢ z) (λ x. Each (λ y. y ≢ x) (z ∷ [])) r (λ x f. ((λ is. f (sym is)), tt {0})) (away z n));
+        (each_of (λ y. y ≢ z) (λ x. EachNumber (λ y. y ≢ x) (z ∷ [])) r (λ x f. ((λ is. f (sym is)), tt {0}))
+        (away z n));
     all = λ q e. there q (number_or z q) e;
   }
     where
@@ -80,8 +82,8 @@ queue_take d z r v h m = record {
   all = λ q e. back q (number_or z q) e;
 }
   where
-    queued_by : (xs : List ℕ) → Each (λ q. d q ≡ Ready) xs → Each (λ y. y ≢ z) xs
-        → Each (λ q. at_key ◌==◌ z v d q ≡ Ready) xs
+    queued_by : (xs : List ℕ) → EachNumber (λ q. d q ≡ Ready) xs → EachNumber (λ y. y ≢ z) xs
+        → EachNumber (λ q. at_key ◌==◌ z v d q ≡ Ready) xs
     queued_by [] a b = tt {0}
     queued_by (x ∷ xs) a b = (at_other d z x v (λ is. b.0 (sym is)) ∙ a.0, queued_by xs a.1 b.1)
 
@@ -121,7 +123,7 @@ queue_forks d r s p n v h unborn np nv = record {
       (numbers s.processes n) (λ q e. rw (next_yes s n q e.0 e.1) refl)
       (pair (numbers s.processes n) (numbers_from s.processes n) (numbers_below s.processes n)));
   distinct = differ_append r (numbers s.processes n) h.distinct (numbers_differ s.processes n)
-      (each_of (λ q. d q ≡ Ready) (λ x. Each (λ y. y ≢ x) (numbers s.processes n)) r
+      (each_of (λ q. d q ≡ Ready) (λ x. EachNumber (λ y. y ≢ x) (numbers s.processes n)) r
       (λ x e. each_of (λ q. s.processes ≤ q) (λ y. y ≢ x) (numbers s.processes n)
       (λ y l is. is_late x e (subst (λ z. s.processes ≤ z) is l)) (numbers_from s.processes n)) h.queued);
   all = λ q e. there q (is_next s n q) refl e;
@@ -130,12 +132,13 @@ queue_forks d r s p n v h unborn np nv = record {
     is_late : (x : ℕ) → d x ≡ Ready → s.processes ≤ x → ⊥
     is_late x e l = let u = unborn x l in absurd (cc (e, u))
 
-    both : (xs : List ℕ) → Each (λ q. d q ≡ Ready) xs → Each (λ y. y ≢ p) xs → Each (λ q. (d q ≡ Ready) × (q ≢ p)) xs
+    both : (xs : List ℕ) → EachNumber (λ q. d q ≡ Ready) xs → EachNumber (λ y. y ≢ p) xs
+        → EachNumber (λ q. (d q ≡ Ready) × (q ≢ p)) xs
     both [] a b = tt {0}
     both (x ∷ xs) a b = ((a.0, b.0), both xs a.1 b.1)
 
-    pair : (xs : List ℕ) → Each (λ q. s.processes ≤ q) xs → Each (λ q. q < s.processes + n) xs
-        → Each (λ q. (s.processes ≤ q) × (q < s.processes + n)) xs
+    pair : (xs : List ℕ) → EachNumber (λ q. s.processes ≤ q) xs → EachNumber (λ q. q < s.processes + n) xs
+        → EachNumber (λ q. (s.processes ≤ q) × (q < s.processes + n)) xs
     pair [] a b = tt {0}
     pair (x ∷ xs) a b = ((a.0, b.0), pair xs a.1 b.1)
 
@@ -362,7 +365,7 @@ orderly_forks k h p u n e = record {
 pub orderly_back : (k : Control) → IsOrderly k → (p u : ℕ) (e : Event) → k.doing p ≡ Out u
     → IsOrderly (comes_back p e k)
 orderly_back k h p u (event.Fork n) e = orderly_forks k h p u n e
-orderly_back k h p u event.Open e = same_births (queues p k) (k.out - 1) (after_event k.births p event.Open)
+orderly_back k h p u event.Open e = same_births (queues p k) (k.out - 1) (births_after_event k.births p event.Open)
     (orderly_queues h p (out_there h p u e) (not_ready_out (k.doing p) u e) (no_offer h p u e)) refl (λ q. refl)
 orderly_back k h p u (event.Send c) e = same_births _ (k.out - 1) k.births
     (orderly_offers k h way.Send p u c e (k.pending c) refl) (kept (k.pending c)) (λ q. born (k.pending c) q)

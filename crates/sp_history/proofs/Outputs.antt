@@ -10,35 +10,36 @@ use Rattle.sp_cell.specs.declared.spot.Address.{Address}
 use Rattle.sp_cell.specs.declared.spot.Spot.{Spot}
 use Rattle.sp_cell.specs.Map.{Map, Content, Own, Shared, Output, Away, Plain, IsOutput, IsOwn, bytes_of, output_spot}
 use Rattle.sp_cell.specs.Map.{with_map}
-use Rattle.sp_cell.specs.Frame.{with_pieces, without, next_frame, newest, pushed, popped}
+use Rattle.sp_cell.specs.Frame.{with_pieces, without_spots_of, next_frame, last_own_frame, with_new_frame}
+use Rattle.sp_cell.specs.Frame.{without_newest_frame}
 use Rattle.sp_cell.proofs.FrameLaws.{known_below, without_here, without_other}
 use Rattle.sp_cell.proofs.Laws.{get_other, get_here, same_or, known_of_away}
 use Rattle.sp_code.specs.declared.code.Layout.{Layout}
 use Rattle.sp_code.specs.Machine.{Entry, Number, Chan, Pointer, Cells, Link, Reply, Done, Failed}
-use Rattle.sp_code.specs.Memory.{Setting, Frame, Memory, memory, put_cell, put_cells, cells_at, cell_at, position_at}
-use Rattle.sp_code.specs.Memory.{filled, opened, bytes_in, has_cells}
+use Rattle.sp_code.specs.Memory.{CodeRun, Frame, Memory, memory, put_cell, put_cells, cells_at, cell_at, position_at}
+use Rattle.sp_code.specs.Memory.{with_arguments, memory_after_call, bytes_in, has_cells}
 use Rattle.sp_code.specs.PlainStore.{plain, piece_of}
 use Rattle.sp_code.proofs.StoreLaws.{output_held, may_go}
-use Rattle.sp_history.specs.Agreement.{Each}
+use Rattle.sp_history.specs.Agreement.{EachNumber}
 use Rattle.sp_history.specs.Channels.{CellHas, CellsHave}
-use Rattle.sp_history.specs.Holding.{Share, Holds, Lends, Lacks, StoreIs, Owned}
+use Rattle.sp_history.specs.Holding.{Share, HoldsIt, LendsIt, LacksIt, StoreIs, Owned}
 use Rattle.sp_history.proofs.Queues.{each_append, number_or}
 use Rattle.sp_history.proofs.Keeping.{HasKeeping}
 use Rattle.sp_history.proofs.Memories.{is_done, not_done}
 
 -- ---- lists
 
-each_take : (P : ℕ → Type 0) (n : ℕ) (xs : List ℕ) → Each P xs → Each P (take n xs)
+each_take : (P : ℕ → Type 0) (n : ℕ) (xs : List ℕ) → EachNumber P xs → EachNumber P (take n xs)
 each_take P zero xs e = tt
 each_take P (suc n) [] e = tt
 each_take P (suc n) (x ∷ xs) e = (e.0, each_take P n xs e.1)
 
-each_index : (P : ℕ → Type 0) (xs : List ℕ) (i : ℕ) → i < length xs → Each P xs → P (slice_index xs i)
+each_index : (P : ℕ → Type 0) (xs : List ℕ) (i : ℕ) → i < length xs → EachNumber P xs → P (slice_index xs i)
 each_index P [] i l e = absurd (omega (arith, l))
 each_index P (x ∷ xs) zero l e = e.0
 each_index P (x ∷ xs) (suc i) l e = each_index P xs i (omega (arith, l)) e.1
 
-each_newest : (P : ℕ → Type 0) (xs : List ℕ) → xs ≢ [] → Each P xs → P (newest xs)
+each_newest : (P : ℕ → Type 0) (xs : List ℕ) → xs ≢ [] → EachNumber P xs → P (last_own_frame xs)
 each_newest P [] n e = absurd (n refl)
 each_newest P (x ∷ xs) n e = each_index P (x ∷ xs) (length (x ∷ xs) - 1) (omega arith) e
 
@@ -49,14 +50,14 @@ spot_frame q s n e = n (ap (λ (t : Spot). t.frame) e)
 
 -- a spot at which a process may write
 abbrev pub IsApart : Share → Spot → Type 0
-IsApart Holds s = output_spot ≢ s
-IsApart Lends s = output_spot ≢ s
-IsApart Lacks s = Unit {0}
+IsApart HoldsIt s = output_spot ≢ s
+IsApart LendsIt s = output_spot ≢ s
+IsApart LacksIt s = Unit {0}
 
 apart_is : (h : Share) (s : Spot) → output_spot ≢ s → IsApart h s
-apart_is Holds s n = n
-apart_is Lends s n = n
-apart_is Lacks s n = tt
+apart_is HoldsIt s n = n
+apart_is LendsIt s n = n
+apart_is LacksIt s n = tt
 
 pub not_output : (m : Map) (s : Spot) (h : Content) → (IsOutput (map.get m output_spot) → ⊥) → (IsOutput (Some h) → ⊥)
     → IsOutput (map.get (map.insert m s h) output_spot) → ⊥
@@ -69,9 +70,9 @@ not_output m s h a b o = go (same_or output_spot s)
 -- an own piece is written there
 pub own_is : (h : Share) (p : Plain) (s : Spot) (cs : List Cell) → IsApart h s → StoreIs h p
     → StoreIs h (with_map p (map.insert p.map s (Own cs)))
-own_is Holds p s cs a k = (subst IsOutput (sym (get_other p.map s (Own cs) output_spot a)) k.0, k.1)
-own_is Lends p s cs a k = (get_other p.map s (Own cs) output_spot a ∙ k.0, k.1)
-own_is Lacks p s cs a k = not_output p.map s (Own cs) k (λ o. o)
+own_is HoldsIt p s cs a k = (subst IsOutput (sym (get_other p.map s (Own cs) output_spot a)) k.0, k.1)
+own_is LendsIt p s cs a k = (get_other p.map s (Own cs) output_spot a ∙ k.0, k.1)
+own_is LacksIt p s cs a k = not_output p.map s (Own cs) k (λ o. o)
 
 no_piece : (o : Option Content) (offset k : ℕ) → has_cells (piece_of o) offset k ≡ true → (IsOutput o → ⊥)
     × (o ≢ Some Away)
@@ -84,11 +85,11 @@ no_piece (Some Away) offset k e = absurd cc
 -- where cells are, the output is not
 piece_apart : (h : Share) (p : Plain) (a : Address) (k : ℕ) → StoreIs h p
     → has_cells (piece_of (map.get p.map a.spot)) a.offset k ≡ true → IsApart h a.spot
-piece_apart Holds p a k s e = λ is. (no_piece (map.get p.map a.spot) a.offset k e).0
+piece_apart HoldsIt p a k s e = λ is. (no_piece (map.get p.map a.spot) a.offset k e).0
     (subst (λ x. IsOutput (map.get p.map x)) is s.0)
-piece_apart Lends p a k s e = λ is. (no_piece (map.get p.map a.spot) a.offset k e).1
+piece_apart LendsIt p a k s e = λ is. (no_piece (map.get p.map a.spot) a.offset k e).1
     (subst (λ x. map.get p.map x ≡ Some Away) is s.0)
-piece_apart Lacks p a k s e = tt
+piece_apart LacksIt p a k s e = tt
 
 own_apart : (o : Option Content) → IsOwn o → (IsOutput o → ⊥) × (o ≢ Some Away)
 own_apart None e = absurd e
@@ -99,9 +100,9 @@ own_apart (Some Away) e = absurd e
 
 -- nor is it where a piece is own
 pub target_apart : (h : Share) (p : Plain) (s : Spot) → StoreIs h p → IsOwn (map.get p.map s) → IsApart h s
-target_apart Holds p s k e = λ is. (own_apart (map.get p.map s) e).0 (subst (λ x. IsOutput (map.get p.map x)) is k.0)
-target_apart Lends p s k e = λ is. (own_apart (map.get p.map s) e).1 (subst (λ x. map.get p.map x ≡ Some Away) is k.0)
-target_apart Lacks p s k e = tt
+target_apart HoldsIt p s k e = λ is. (own_apart (map.get p.map s) e).0 (subst (λ x. IsOutput (map.get p.map x)) is k.0)
+target_apart LendsIt p s k e = λ is. (own_apart (map.get p.map s) e).1 (subst (λ x. map.get p.map x ≡ Some Away) is k.0)
+target_apart LacksIt p s k e = tt
 
 -- ---- frames
 
@@ -130,48 +131,48 @@ next_other p k e = let w = known_below p.map output_spot k in omega (arith, w, e
 -- the number of a new frame is not the program's
 pub next_apart : (h : Share) (p : Plain) (v : ℕ) → StoreIs h p
     → IsApart h (record { frame = next_frame p; variable = v })
-next_apart Holds p v k = λ e. next_other p (output_known (map.get p.map output_spot) k.0)
+next_apart HoldsIt p v k = λ e. next_other p (output_known (map.get p.map output_spot) k.0)
     (sym (ap (λ (t : Spot). t.frame) e))
-next_apart Lends p v k = λ e. next_other p (known_of_away (map.get p.map output_spot) k.0)
+next_apart LendsIt p v k = λ e. next_other p (known_of_away (map.get p.map output_spot) k.0)
     (sym (ap (λ (t : Spot). t.frame) e))
-next_apart Lacks p v k = tt
+next_apart LacksIt p v k = tt
 
-pushed_is : (h : Share) (p : Plain) (sizes : List ℕ) → StoreIs h p → StoreIs h (pushed p sizes)
-pushed_is Holds p sizes k =
+pushed_is : (h : Share) (p : Plain) (sizes : List ℕ) → StoreIs h p → StoreIs h (with_new_frame p sizes)
+pushed_is HoldsIt p sizes k =
     let n = next_other p (output_known (map.get p.map output_spot) k.0) in (
       subst IsOutput (sym (pieces_apart p.map (next_frame p) 0 sizes output_spot (λ e. n (sym e)))) k.0,
       each_append (λ x. x ≢ 0) p.own (next_frame p ∷ []) k.1 (n, tt),
     )
-pushed_is Lends p sizes k =
+pushed_is LendsIt p sizes k =
     let n = next_other p (known_of_away (map.get p.map output_spot) k.0) in (
       pieces_apart p.map (next_frame p) 0 sizes output_spot (λ e. n (sym e)) ∙ k.0,
       each_append (λ x. x ≢ 0) p.own (next_frame p ∷ []) k.1 (n, tt),
     )
-pushed_is Lacks p sizes k = pieces_lack p.map (next_frame p) 0 sizes k
+pushed_is LacksIt p sizes k = pieces_lack p.map (next_frame p) 0 sizes k
 
-popped_is : (h : Share) (p : Plain) → p.own ≢ [] → StoreIs h p → StoreIs h (popped p)
-popped_is Holds p n k =
+popped_is : (h : Share) (p : Plain) → p.own ≢ [] → StoreIs h p → StoreIs h (without_newest_frame p)
+popped_is HoldsIt p n k =
     let w = each_newest (λ x. x ≢ 0) p.own n k.1 in (
-      subst IsOutput (sym (without_other p.map (newest p.own) output_spot (λ e. w (sym e)))) k.0,
+      subst IsOutput (sym (without_other p.map (last_own_frame p.own) output_spot (λ e. w (sym e)))) k.0,
       each_take (λ x. x ≢ 0) (length p.own - 1) p.own k.1,
     )
-popped_is Lends p n k =
+popped_is LendsIt p n k =
     let w = each_newest (λ x. x ≢ 0) p.own n k.1 in (
-      without_other p.map (newest p.own) output_spot (λ e. w (sym e)) ∙ k.0,
+      without_other p.map (last_own_frame p.own) output_spot (λ e. w (sym e)) ∙ k.0,
       each_take (λ x. x ≢ 0) (length p.own - 1) p.own k.1,
     )
-popped_is Lacks p n k = go (number_or 0 (newest p.own))
+popped_is LacksIt p n k = go (number_or 0 (last_own_frame p.own))
   where
-    go : (0 ≡ newest p.own) ⊎ ((0 ≢ newest p.own) × (0 == newest p.own ≡ false))
-        → IsOutput (map.get (without p.map (newest p.own)) output_spot) → ⊥
-    go (inl e) o = subst IsOutput (without_here p.map (newest p.own) output_spot e) o
-    go (inr d) o = k (subst IsOutput (without_other p.map (newest p.own) output_spot d.0) o)
+    go : (0 ≡ last_own_frame p.own) ⊎ ((0 ≢ last_own_frame p.own) × (0 == last_own_frame p.own ≡ false))
+        → IsOutput (map.get (without_spots_of p.map (last_own_frame p.own)) output_spot) → ⊥
+    go (inl e) o = subst IsOutput (without_here p.map (last_own_frame p.own) output_spot e) o
+    go (inr d) o = k (subst IsOutput (without_other p.map (last_own_frame p.own) output_spot d.0) o)
 
 printed_is : (h : Share) (p : Plain) (bs : List ℕ) → IsOutput (map.get p.map output_spot) → StoreIs h p
     → StoreIs h (with_map p (map.insert p.map output_spot (Output bs)))
-printed_is Holds p bs o k = (subst IsOutput (sym (get_here p.map output_spot (Output bs))) tt, k.1)
-printed_is Lends p bs o k = absurd (subst IsOutput k.0 o)
-printed_is Lacks p bs o k = absurd (k o)
+printed_is HoldsIt p bs o k = (subst IsOutput (sym (get_here p.map output_spot (Output bs))) tt, k.1)
+printed_is LendsIt p bs o k = absurd (subst IsOutput k.0 o)
+printed_is LacksIt p bs o k = absurd (k o)
 
 -- ---- the memory
 
@@ -191,7 +192,7 @@ pub any_cells : (cs : List Cell) → CellsHave AnyChannel cs
 any_cells [] = tt
 any_cells (c ∷ cs) = (any_cell c, any_cells cs)
 
-module _ (g : Setting) (h : Share) (moved : List Spot) where
+module _ (g : CodeRun) (h : Share) (moved : List Spot) where
   abbrev It : Plain → Type 0
   It p = StoreIs h p × (p.moved ≡ moved)
 
@@ -202,7 +203,7 @@ module _ (g : Setting) (h : Share) (moved : List Spot) where
   puts_is a cs p n k = (own_is h p a.spot _ n k.0, k.1)
 
   filled_is : (n k : ℕ) (es : List Entry) (p : Plain) → ((v : ℕ) → IsApart h (record { frame = n; variable = v }))
-      → It p → It (filled plain n k es p)
+      → It p → It (with_arguments plain n k es p)
   filled_is n k [] p a i = i
   filled_is n k (Number v ∷ es) p a i = filled_is n (suc k) es _ a (put_is (cell_at n k) (cell.Ordinal v) p (a k) i)
   filled_is n k (Chan c ∷ es) p a i = filled_is n (suc k) es _ a (put_is (cell_at n k) (cell.Channel c) p (a k) i)
@@ -212,8 +213,9 @@ module _ (g : Setting) (h : Share) (moved : List Spot) where
   filled_is n k (Reply r ∷ es) p a i = filled_is n (suc k) es p a i
 
   opened_is : (l : Layout) (up : ℕ) (es : List Entry) (n : Memory Plain) → Shares h moved n
-      → Shares h moved (opened plain g l up es n)
-  opened_is l up es n k = filled_is (next_frame n.store) 0 es (pushed n.store l.sizes) (λ v. next_apart h n.store v k.0)
+      → Shares h moved (memory_after_call plain g l up es n)
+  opened_is l up es n k = filled_is (next_frame n.store) 0 es (with_new_frame n.store l.sizes)
+      (λ v. next_apart h n.store v k.0)
       (pushed_is h n.store l.sizes k.0, k.1)
 
   opens_is : (l : Layout) (up : ℕ) (es : List Entry) (n m : Memory Plain) → Shares h moved n
@@ -221,7 +223,8 @@ module _ (g : Setting) (h : Share) (moved : List Spot) where
   opens_is l up es n m k d = go (nat_lt n.ticks g.limits.ticks) (nat_lt n.depth g.limits.depth)
       (nat_lt g.limits.cells (n.cells + sum l.sizes)) d
     where
-      go : (a b c : Bool) → (if a then (if b then (if c then Failed fault.F12 else Done (opened plain g l up es n)) else
+      go : (a b c : Bool) →
+          (if a then (if b then (if c then Failed fault.F12 else Done (memory_after_call plain g l up es n)) else
           Failed fault.F11) else Failed fault.F10) ≡ Done m → Shares h moved m
       go true true true d = absurd (not_done fault.F12 m d)
       go true true false d = subst (Shares h moved) (is_done _ m d) (opened_is l up es n k)
@@ -232,7 +235,7 @@ module _ (g : Setting) (h : Share) (moved : List Spot) where
       → Shares h moved n → Shares h moved ((memory plain g).close_frame n)
   closes_is [] n e w k = rw e k
   closes_is (f ∷ fs) n e w k = let gone = may_go n.store f.number
-      (subst (λ (x : List Frame). Rattle.sp_code.specs.Memory.may_close plain g x n.store ≡ true) e w) in
+      (subst (λ (x : List Frame). Rattle.sp_code.specs.Memory.can_pop plain g x n.store ≡ true) e w) in
       rw e (popped_is h n.store gone.0 k.0, k.1)
 
   position_apart : IsApart h position_at.spot
@@ -244,7 +247,7 @@ module _ (g : Setting) (h : Share) (moved : List Spot) where
 
   pub sharing : HasKeeping (memory plain g) AnyChannel (Shares h moved) Owned
   sharing = record {
-    look = λ a n k. any_cell ((memory plain g).look a n);
+    look = λ a n k. any_cell ((memory plain g).read a n);
     cells = λ a j n k. any_cells ((memory plain g).cells a j n);
     put = λ a c n k w x. put_is a c n.store (piece_apart h n.store a 1 k.0 w) k;
     read = λ a v j bs n k w x. put_is a (cell.Ordinal v) ((memory plain g).advance j n).store

@@ -12,12 +12,14 @@ use Rattle.sp_journal.specs.declared.entry.Note.{Note}
 use Rattle.sp_journal.specs.Maps.{at_key}
 use Rattle.sp_journal.specs.Births.{is_next}
 use Rattle.sp_code.specs.Control.{Control, Doing, Unborn, Ready, Out, Sending, Receiving, Joining, Laid, Ended, Gone}
-use Rattle.sp_code.specs.Control.{does, queues, offers, one_fewer, reports, comes_back, abandons, takes, given, noted}
-use Rattle.sp_code.specs.Control.{noted_all, entry_of, entries_of, standing, front_while, control_at_start, Standing}
+use Rattle.sp_code.specs.Control.{does, queues, offers, one_fewer, reports, comes_back, abandons, takes, after_give}
+use Rattle.sp_code.specs.Control.{after_note}
+use Rattle.sp_code.specs.Control.{after_notes, entry_of, entries_of, standing, front_while, control_at_start, Standing}
 use Rattle.sp_code.specs.Control.{Running as Going, IsDone, IsDeadlock, IsFault, IsMemory, has_ended, is_ready}
-use Rattle.sp_code.specs.System.{System, Gives, Gets}
-use Rattle.sp_code.specs.Memory.{Setting, Stores}
-use Rattle.sp_history.specs.Agreement.{Each, Differ, Among, IsOrderly, IsGot, Agrees, Reaches, phase, phase_in, Running}
+use Rattle.sp_code.specs.System.{System, GiveIsLegal, GetIsLegal}
+use Rattle.sp_code.specs.Memory.{CodeRun, Stores}
+use Rattle.sp_history.specs.Agreement.{EachNumber, Differ, Among, IsOrderly, IsGot, AgreesWithSystem, Reaches, phase}
+use Rattle.sp_history.specs.Agreement.{phase_in, Running}
 use Rattle.sp_history.specs.Agreement.{IsOut, HasOuts, IsOver}
 use Rattle.sp_history.proofs.Queues.{each_of, number_or, at_same, at_other, among_none}
 use Rattle.sp_history.proofs.Orders.{orderly_back}
@@ -53,11 +55,11 @@ without_length p (x ∷ xs) i = go (number_or p x) i (without_length p xs) (some
     go (inr n) (inl e) h l = absurd (n.0 e)
     go (inr n) (inr j) h l = rw (n.1) (let a = h j in let b = l j in omega (arith, a, b))
 
-pub without_each : (P : ℕ → Type 0) (p : ℕ) (xs : List ℕ) → Each P xs → Each P (without p xs)
+pub without_each : (P : ℕ → Type 0) (p : ℕ) (xs : List ℕ) → EachNumber P xs → EachNumber P (without p xs)
 without_each P p [] e = tt {0}
 without_each P p (x ∷ xs) e = go (p == x) (without_each P p xs e.1)
   where
-    go : (b : Bool) → Each P (without p xs) → Each P (cond b xs (x ∷ without p xs))
+    go : (b : Bool) → EachNumber P (without p xs) → EachNumber P (cond b xs (x ∷ without p xs))
     go true h = e.1
     go false h = (e.0, h)
 
@@ -69,12 +71,12 @@ without_differ p (x ∷ xs) d = go (p == x) (without_differ p xs d.1)
     go true h = d.1
     go false h = (without_each (λ y. y ≢ x) p xs d.0, h)
 
-without_gone : (p : ℕ) (xs : List ℕ) → Differ xs → Each (λ y. y ≢ p) (without p xs)
+without_gone : (p : ℕ) (xs : List ℕ) → Differ xs → EachNumber (λ y. y ≢ p) (without p xs)
 without_gone p [] d = tt {0}
 without_gone p (x ∷ xs) d = go (number_or p x) (without_gone p xs d.1)
   where
-    go : (p ≡ x) ⊎ ((p ≢ x) × (p == x ≡ false)) → Each (λ y. y ≢ p) (without p xs)
-        → Each (λ y. y ≢ p) (cond (p == x) xs (x ∷ without p xs))
+    go : (p ≡ x) ⊎ ((p ≢ x) × (p == x ≡ false)) → EachNumber (λ y. y ≢ p) (without p xs)
+        → EachNumber (λ y. y ≢ p) (cond (p == x) xs (x ∷ without p xs))
     go (inl is) h = rw (subst (λ y. p == y ≡ true) is (equals_itself p))
         (each_of (λ y. y ≢ x) (λ y. y ≢ p) xs (λ y n e. n (e ∙ is)) d.0)
     go (inr n) h = rw (n.1) ((λ e. n.0 (sym e)), h)
@@ -158,8 +160,8 @@ outs_back k h o p u e out = record {
   all = λ q i. let w = back_was k p e q i in without_has p q o.outs w.1 (o.all q w.0);
 }
   where
-    kept : (xs : List ℕ) → Each (λ q. IsOut (k.doing q)) xs → Each (λ y. y ≢ p) xs
-        → Each (λ q. IsOut ((comes_back p e k).doing q)) xs
+    kept : (xs : List ℕ) → EachNumber (λ q. IsOut (k.doing q)) xs → EachNumber (λ y. y ≢ p) xs
+        → EachNumber (λ q. IsOut ((comes_back p e k).doing q)) xs
     kept [] a b = tt {0}
     kept (x ∷ xs) a b = ((a.0.0, back_out k h x a.0.0 p a.0.1 (λ i. b.0 (sym i)) e), kept xs a.1 b.1)
 
@@ -202,16 +204,17 @@ outs_gives_up k o p u out = record {
       without_has p q o.outs w.1 (o.all q w.0);
 }
   where
-    kept : (xs : List ℕ) → Each (λ q. IsOut (k.doing q)) xs → Each (λ y. y ≢ p) xs
-        → Each (λ q. IsOut (at_key ◌==◌ p Gone k.doing q)) xs
+    kept : (xs : List ℕ) → EachNumber (λ q. IsOut (k.doing q)) xs → EachNumber (λ y. y ≢ p) xs
+        → EachNumber (λ q. IsOut (at_key ◌==◌ p Gone k.doing q)) xs
     kept [] a b = tt {0}
     kept (x ∷ xs) a b = ((a.0.0, at_other k.doing p x Gone (λ i. b.0 (sym i)) ∙ a.0.1), kept xs a.1 b.1)
 
-module _ {S : Type 0} (stores : Stores S) (g : Setting) where
+module _ {S : Type 0} (stores : Stores S) (g : CodeRun) where
   -- a legal note keeps the count
   pub outs_by : (w : ℕ) (give : Option ℕ) (e : Option Event) (got : Option ℕ) (k : Control) (s t : System S)
-      → IsOrderly k → HasOuts k → Gives stores g k s w give e got t → Gets stores g (given give e got k) e got
-      → HasOuts (takes w got (given give e got k))
+      → IsOrderly k → HasOuts k → GiveIsLegal stores g k s w give e got t
+      → GetIsLegal stores g (after_give give e got k) e got
+      → HasOuts (takes w got (after_give give e got k))
   outs_by w None None None k s t h o i j = record {
     outs = o.outs;
     count = o.count;
@@ -227,11 +230,12 @@ module _ {S : Type 0} (stores : Stores S) (g : Setting) where
       outs_takes (comes_back p e k) (outs_back k h o p w e i.0) w got
       (got_of (comes_back p e k) (orderly_back k h p w e i.0) got j)
 
-  pub outs_all : (k : Control) (s t : System S) (ns : List Note) → IsOrderly k → Agrees k s → HasOuts k
-      → Reaches stores g k s ns t → HasOuts (noted_all ns k)
+  pub outs_all : (k : Control) (s t : System S) (ns : List Note) → IsOrderly k → AgreesWithSystem k s → HasOuts k
+      → Reaches stores g k s ns t → HasOuts (after_notes ns k)
   outs_all k s t [] h a o r = o
   outs_all k s t (n ∷ ns) h a o r = let m = keeps stores g k s r.0 n h a r.1 in
-      outs_all (noted n k) r.0 t ns m.0 m.1 (outs_by n.worker n.given n.event n.got k s r.0 h o r.1.gives r.1.gets) r.2
+      outs_all (after_note n k) r.0 t ns m.0 m.1 (outs_by n.worker n.given n.event n.got k s r.0 h o r.1.gives
+      r.1.gets) r.2
 
   front_over : (st : Standing) (ps : List ℕ) → st ≢ Going → front_while st ps ≡ None
   front_over Going ps n = absurd (n refl)
@@ -246,8 +250,9 @@ module _ {S : Type 0} (stores : Stores S) (g : Setting) where
 
   -- after that only workers give up, and no event is made any more
   pub over_by : (w : ℕ) (give : Option ℕ) (e : Option Event) (got : Option ℕ) (k : Control) (s t : System S) → HasOuts k
-      → IsOver k → Gives stores g k s w give e got t → Gets stores g (given give e got k) e got → (e ≡ None)
-      × IsOver (takes w got (given give e got k))
+      → IsOver k → GiveIsLegal stores g k s w give e got t → GetIsLegal stores g (after_give give e got k) e got
+      → (e ≡ None)
+      × IsOver (takes w got (after_give give e got k))
   over_by w None None None k s t o v i j = (refl, (memory, v.1))
     where
       memory : standing (abandons None k) ≢ Going
@@ -258,7 +263,7 @@ module _ {S : Type 0} (stores : Stores S) (g : Setting) where
   over_by w None (Some e) got k s t o v i j = absurd i
   over_by w (Some p) e got k s t o v i j = absurd (nobody e i)
     where
-      nobody : (e : Option Event) → Gives stores g k s w (Some p) e got t → ⊥
+      nobody : (e : Option Event) → GiveIsLegal stores g k s w (Some p) e got t → ⊥
       nobody None i = among_none p o.outs (o.count ∙ v.1) (o.all p (w, i.0))
       nobody (Some e) i = among_none p o.outs (o.count ∙ v.1) (o.all p (w, i.0))
 
@@ -268,19 +273,21 @@ module _ {S : Type 0} (stores : Stores S) (g : Setting) where
   no_event give (Some e) f = absurd (cc f)
 
   -- and so along all that follows
-  pub over_all : (k : Control) (s t : System S) (ns : List Note) → IsOrderly k → Agrees k s → HasOuts k → IsOver k
+  pub over_all : (k : Control) (s t : System S) (ns : List Note) → IsOrderly k → AgreesWithSystem k s → HasOuts k
+      → IsOver k
       → Reaches stores g k s ns t → entries_of ns ≡ []
   over_all k s t [] h a o v r = refl
   over_all k s t (n ∷ ns) h a o v r =
       let m = keeps stores g k s r.0 n h a r.1 in
       let b = over_by n.worker n.given n.event n.got k s r.0 o v r.1.gives r.1.gets in
-      let rest = over_all (noted n k) r.0 t ns m.0 m.1
+      let rest = over_all (after_note n k) r.0 t ns m.0 m.1
       (outs_by n.worker n.given n.event n.got k s r.0 h o r.1.gives r.1.gets) b.1 r.2 in
       ap (λ es. es ++ entries_of ns) (no_event n.given n.event b.0) ∙ rest
 
 -- nobody runs where none is ready, none is out and no worker gave up a process: a deadlock of the control is one of the
 -- system
-pub nobody_runs : {S : Type 0} (k : Control) (s : System S) → IsOrderly k → Agrees k s → HasOuts k → k.ready ≡ []
+pub nobody_runs : {S : Type 0} (k : Control) (s : System S) → IsOrderly k → AgreesWithSystem k s → HasOuts k
+    → k.ready ≡ []
     → k.out ≡ 0 → ((q : ℕ) → k.doing q ≢ Gone) → (q : ℕ) → phase_in (s.condition q) ≢ Running
 nobody_runs k s h a o none idle kept q is = go (k.doing q) refl (a.each q ∙ is)
   where

@@ -6,22 +6,23 @@ use borrow.Author.Tests.{eqb-true}
 use Rattle.sp_base.proofs.Facts.{equals_itself}
 use Rattle.sp_journal.specs.Maps.{at_key}
 use Rattle.sp_journal.specs.Queue.{numbers}
-use Rattle.sp_history.specs.Agreement.{Each, Differ, Among}
+use Rattle.sp_history.specs.Agreement.{EachNumber, Differ, Among}
 
-pub each_of : (P Q : ℕ → Type 0) (xs : List ℕ) → ((q : ℕ) → P q → Q q) → Each P xs → Each Q xs
+pub each_of : (P Q : ℕ → Type 0) (xs : List ℕ) → ((q : ℕ) → P q → Q q) → EachNumber P xs → EachNumber Q xs
 each_of P Q [] h e = tt {0}
 each_of P Q (x ∷ xs) h e = (h x e.0, each_of P Q xs h e.1)
 
-pub each_append : (P : ℕ → Type 0) (xs ys : List ℕ) → Each P xs → Each P ys → Each P (xs ++ ys)
+pub each_append : (P : ℕ → Type 0) (xs ys : List ℕ) → EachNumber P xs → EachNumber P ys → EachNumber P (xs ++ ys)
 each_append P [] ys a b = b
 each_append P (x ∷ xs) ys a b = (a.0, each_append P xs ys a.1 b)
 
-pub each_at : (P : ℕ → Type 0) (xs : List ℕ) (q : ℕ) → Among q xs → Each P xs → P q
+pub each_at : (P : ℕ → Type 0) (xs : List ℕ) (q : ℕ) → Among q xs → EachNumber P xs → P q
 each_at P [] q i e = absurd i
 each_at P (x ∷ xs) q (inl is) e = subst P (sym is) e.0
 each_at P (x ∷ xs) q (inr i) e = each_at P xs q i e.1
 
-pub differ_append : (xs ys : List ℕ) → Differ xs → Differ ys → Each (λ x. Each (λ y. y ≢ x) ys) xs → Differ (xs ++ ys)
+pub differ_append : (xs ys : List ℕ) → Differ xs → Differ ys → EachNumber (λ x. EachNumber (λ y. y ≢ x) ys) xs
+    → Differ (xs ++ ys)
 differ_append [] ys a b c = b
 differ_append (x ∷ xs) ys a b c = (each_append (λ y. y ≢ x) xs ys a.0 c.0, differ_append xs ys a.1 b c.1)
 
@@ -42,7 +43,7 @@ pub numbers_length : (a n : ℕ) → length (numbers a n) ≡ n
 numbers_length a zero = refl
 numbers_length a (suc n) = ap suc (numbers_length (suc a) n)
 
-pub numbers_from : (a n : ℕ) → Each (λ q. a ≤ q) (numbers a n)
+pub numbers_from : (a n : ℕ) → EachNumber (λ q. a ≤ q) (numbers a n)
 numbers_from a zero = tt {0}
 numbers_from a (suc n) = (
   omega arith,
@@ -50,7 +51,7 @@ numbers_from a (suc n) = (
       (λ q h. omega (arith, h)) (numbers_from (suc a) n),
 )
 
-pub numbers_below : (a n : ℕ) → Each (λ q. q < a + n) (numbers a n)
+pub numbers_below : (a n : ℕ) → EachNumber (λ q. q < a + n) (numbers a n)
 numbers_below a zero = tt {0}
 numbers_below a (suc n) = (
   omega arith,

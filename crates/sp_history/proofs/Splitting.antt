@@ -9,7 +9,8 @@ use Rattle.sp_cell.specs.declared.spot.Spot.{Spot}
 use Rattle.sp_cell.specs.declared.spot.Handing.{Handing}
 use Rattle.sp_cell.specs.Map.{Map, Content, Own, Shared, Output, Away, Plain, IsOutput, IsPiece, output_spot, spot_cmp}
 use Rattle.sp_cell.specs.Map.{cells_at}
-use Rattle.sp_cell.specs.Fork.{lent, away, with_index, index_frame, child_map, moved_of, shared_of, handed}
+use Rattle.sp_cell.specs.Fork.{with_shared, with_away, with_index, index_frame, child_map, moved_of, shared_of}
+use Rattle.sp_cell.specs.Fork.{map_after_fork}
 use Rattle.sp_cell.specs.Spots.{In, NotIn, IsDistinct}
 use Rattle.sp_cell.proofs.Plan.{in_or, not_both, in_front, in_back, distinct_back}
 use Rattle.sp_cell.proofs.Partition.{parent_moved, parent_rest, child_moved}
@@ -24,7 +25,7 @@ use Rattle.sp_code.specs.PlainStore.{plain}
 use Rattle.sp_code.specs.Sound.{CanSplit}
 use Rattle.sp_code.specs.System.{Condition, Working, Joins, store_in, store_of, handing_of, child_or, plan_from}
 use Rattle.sp_code.proofs.Plans.{in_either}
-use Rattle.sp_history.specs.Holding.{Share, Holds, Lends, Lacks, StoreIs, IsPart, AimsIn, IsShared}
+use Rattle.sp_history.specs.Holding.{Share, HoldsIt, LendsIt, LacksIt, StoreIs, IsPart, AimsIn, IsShared}
 use Rattle.sp_history.proofs.Queues.{number_or, at_same, at_other}
 use Rattle.sp_history.proofs.Outputs.{not_output, output_known}
 use Rattle.sp_history.proofs.Holding.{store_runs, store_joins, joined_lacks, hold_lend, hold_lack}
@@ -87,13 +88,13 @@ module _ (ls : List Layout) (fs : List Frame) (t : ForkTable) (v : ℤ) (q : Spo
 -- ---- maps without the output
 
 lent_lacks : (m : Map) (ss : List Spot) (c : Map) → (IsOutput (map.get c output_spot) → ⊥)
-    → IsOutput (map.get (lent m ss c) output_spot) → ⊥
+    → IsOutput (map.get (with_shared m ss c) output_spot) → ⊥
 lent_lacks m [] c a = a
 lent_lacks m (s ∷ ss) c a = lent_lacks m ss (map.insert c s (Shared (cells_at m s)))
     (not_output c s (Shared (cells_at m s)) a (λ o. o))
 
 away_lacks : (m : Map) (ss : List Spot) → (IsOutput (map.get m output_spot) → ⊥)
-    → IsOutput (map.get (away m ss) output_spot) → ⊥
+    → IsOutput (map.get (with_away m ss) output_spot) → ⊥
 away_lacks m [] a = a
 away_lacks m (s ∷ ss) a = away_lacks (map.insert m s Away) ss (not_output m s Away a (λ o. o))
 
@@ -111,17 +112,18 @@ empty_lacks o = subst IsOutput (map.get-empty spot_cmp output_spot) o
 
 child_lacks : (m : Map) (h : Handing) → (In output_spot h.moved → IsOutput (map.get m output_spot) → ⊥)
     → IsOutput (map.get (child_map m h) output_spot) → ⊥
-child_lacks m h b = joined_lacks m h.moved (with_index (lent m h.shared map.empty) (index_frame h) h.index)
-    (index_lacks (lent m h.shared map.empty) (index_frame h) h.index (lent_lacks m h.shared map.empty empty_lacks)) b
+child_lacks m h b = joined_lacks m h.moved (with_index (with_shared m h.shared map.empty) (index_frame h) h.index)
+    (index_lacks (with_shared m h.shared map.empty) (index_frame h) h.index
+    (lent_lacks m h.shared map.empty empty_lacks)) b
 
 handed_lacks : (m : Map) (hs : List Handing) → (IsOutput (map.get m output_spot) → ⊥)
-    → IsOutput (map.get (handed m hs) output_spot) → ⊥
-handed_lacks m hs a = lent_lacks m (shared_of hs) (away m (moved_of hs)) (away_lacks m (moved_of hs) a)
+    → IsOutput (map.get (map_after_fork m hs) output_spot) → ⊥
+handed_lacks m hs a = lent_lacks m (shared_of hs) (with_away m (moved_of hs)) (away_lacks m (moved_of hs) a)
 
 output_part : (y : Share) (p : Plain) → StoreIs y p → IsOutput (map.get p.map output_spot) → IsPart y
-output_part Holds p s o = tt
-output_part Lends p s o = tt
-output_part Lacks p s o = s o
+output_part HoldsIt p s o = tt
+output_part LendsIt p s o = tt
+output_part LacksIt p s o = s o
 
 no_piece_there : (o : Option Content) → IsPiece o → (IsOutput o → ⊥) × (o ≢ Some Away)
 no_piece_there None e = absurd e
@@ -163,15 +165,15 @@ module _ (share : ℕ → Share) (holder : ℕ) (birth : ℕ → Option Birth) (
   old_birth : (r : ℕ) (d : Birth) → nx r ≡ false → births_then r ≡ Some d → birth r ≡ Some d
   old_birth r d w k = sym (ap (λ b. cond b (Some (made r)) (birth r)) w) ∙ k
 
-  data Who (r : ℕ) : Type 0 where
-    New : (w : nx r ≡ true) → Who r
-    Self : (w : nx r ≡ false) (k : q ≡ r) → Who r
-    Other : (w : nx r ≡ false) (k : q ≢ r) → Who r
+  data BirthCase (r : ℕ) : Type 0 where
+    New : (w : nx r ≡ true) → BirthCase r
+    Self : (w : nx r ≡ false) (k : q ≡ r) → BirthCase r
+    Other : (w : nx r ≡ false) (k : q ≢ r) → BirthCase r
 
-  who : (r : ℕ) → Who r
+  who : (r : ℕ) → BirthCase r
   who r = go (nx r) refl (number_or q r)
     where
-      go : (b : Bool) → nx r ≡ b → (q ≡ r) ⊎ ((q ≢ r) × (q == r ≡ false)) → Who r
+      go : (b : Bool) → nx r ≡ b → (q ≡ r) ⊎ ((q ≢ r) × (q == r ≡ false)) → BirthCase r
       go true w k = New w
       go false w (inl k) = Self w k
       go false w (inr k) = Other w k.0
@@ -190,7 +192,7 @@ module _ (share : ℕ → Share) (holder : ℕ) (birth : ℕ → Option Birth) (
   fork_aims : (r : ℕ) → AimsIn (after_fork r)
   fork_aims r = go (who r)
     where
-      go : Who r → AimsIn (after_fork r)
+      go : BirthCase r → AimsIn (after_fork r)
       go (New w) = subst AimsIn (sym (new_is r w)) tt
       go (Self w k) = subst (λ y. AimsIn (after_fork y)) k (subst AimsIn (sym self_is) tt)
       go (Other w k) = subst AimsIn (sym (other_is r w k)) (h.aims r)
@@ -199,13 +201,13 @@ module _ (share : ℕ → Share) (holder : ℕ) (birth : ℕ → Option Birth) (
   module _ (quiet : IsPart (share q) → In output_spot (moved_of hs) → ⊥)
       (inside : (r : ℕ) → nx r ≡ true → In output_spot (H r).moved → In output_spot (moved_of hs)) where
     abbrev kept : ℕ → Share
-    kept r = cond (nx r) Lacks (share r)
+    kept r = cond (nx r) LacksIt (share r)
 
-    kept_new : (r : ℕ) → nx r ≡ true → kept r ≡ Lacks
-    kept_new r w = ap (λ b. cond b Lacks (share r)) w
+    kept_new : (r : ℕ) → nx r ≡ true → kept r ≡ LacksIt
+    kept_new r w = ap (λ b. cond b LacksIt (share r)) w
 
     kept_old : (r : ℕ) → nx r ≡ false → kept r ≡ share r
-    kept_old r w = ap (λ b. cond b Lacks (share r)) w
+    kept_old r w = ap (λ b. cond b LacksIt (share r)) w
 
     out_moved : IsPart (share q) → NotIn output_spot (moved_of hs)
     out_moved i = elim (in_or output_spot (moved_of hs)) [
@@ -220,17 +222,17 @@ module _ (share : ℕ → Share) (holder : ℕ) (birth : ℕ → Option Birth) (
     ]
 
     self_keeps : (y : Share) → share q ≡ y → StoreIs y p → StoreIs y (plain.handed p hs)
-    self_keeps Holds w s = (
+    self_keeps HoldsIt w s = (
       subst IsOutput (sym (parent_rest p.map hs output_spot (out_moved (subst IsPart (sym w) tt))
           (out_shared (λ k. (no_piece_there (map.get p.map output_spot) k).0 s.0)))) s.0,
       s.1,
     )
-    self_keeps Lends w s = (
+    self_keeps LendsIt w s = (
       parent_rest p.map hs output_spot (out_moved (subst IsPart (sym w) tt))
           (out_shared (λ k. (no_piece_there (map.get p.map output_spot) k).1 s.0)) ∙ s.0,
       s.1,
     )
-    self_keeps Lacks w s = handed_lacks p.map hs s
+    self_keeps LacksIt w s = handed_lacks p.map hs s
 
     pub fork_quiet : IsShared kept holder after_fork births_then
     fork_quiet = record {
@@ -248,7 +250,7 @@ module _ (share : ℕ → Share) (holder : ℕ) (birth : ℕ → Option Birth) (
         not_new : (r : ℕ) → nx r ≡ true → IsPart (kept r) → ⊥
         not_new r w i = subst IsPart (kept_new r w) i
 
-        only : (r : ℕ) → kept r ≡ Holds → Who r → r ≡ holder
+        only : (r : ℕ) → kept r ≡ HoldsIt → BirthCase r → r ≡ holder
         only r k (New w) = absurd (hold_lack (sym k ∙ kept_new r w))
         only r k (Self w v) = h.only r (sym (kept_old r w) ∙ k)
         only r k (Other w v) = h.only r (sym (kept_old r w) ∙ k)
@@ -258,10 +260,10 @@ module _ (share : ℕ → Share) (holder : ℕ) (birth : ℕ → Option Birth) (
         here (inl w) = (store_of e, ap (λ y. store_in (after_fork y)) (sym w) ∙ ap store_in self_is ∙ store_joins n e)
         here (inr o) = (h.here.0, ap store_in (other_is holder (there holder h.here.0 h.here.1) o.0) ∙ h.here.1)
 
-        stores : (r : ℕ) (t : Plain) → store_in (after_fork r) ≡ Some t → Who r → StoreIs (kept r) t
+        stores : (r : ℕ) (t : Plain) → store_in (after_fork r) ≡ Some t → BirthCase r → StoreIs (kept r) t
         stores r t k (New w) =
             subst (λ y. StoreIs y t) (sym (kept_new r w))
-            (subst (StoreIs Lacks) (new_store r t w k)
+            (subst (StoreIs LacksIt) (new_store r t w k)
             (child_lacks p.map (H r) (λ i o. quiet (output_part (share q) p is o) (inside r w i))))
         stores r t k (Self w v) =
             subst (λ y. StoreIs y t) (sym (kept_old r w))
@@ -269,11 +271,11 @@ module _ (share : ℕ → Share) (holder : ℕ) (birth : ℕ → Option Birth) (
             (subst (StoreIs (share q)) (self_store r t v k) (self_keeps (share q) refl is)))
         stores r t k (Other w v) = subst (λ y. StoreIs y t) (sym (kept_old r w)) (h.stores r t (other_store r t w v k))
 
-        up_old : (r : ℕ) (d : Birth) → births_then r ≡ Some d → IsPart (kept r) → nx r ≡ false → kept d.parent ≡ Lends
+        up_old : (r : ℕ) (d : Birth) → births_then r ≡ Some d → IsPart (kept r) → nx r ≡ false → kept d.parent ≡ LendsIt
         up_old r d w i v = let b = old_birth r d v w in
             kept_old d.parent (old r d b) ∙ h.up r d b (subst IsPart (kept_old r v) i)
 
-        up : (r : ℕ) (d : Birth) → births_then r ≡ Some d → IsPart (kept r) → Who r → kept d.parent ≡ Lends
+        up : (r : ℕ) (d : Birth) → births_then r ≡ Some d → IsPart (kept r) → BirthCase r → kept d.parent ≡ LendsIt
         up r d w i (New v) = absurd (not_new r v i)
         up r d w i (Self v k) = up_old r d w i v
         up r d w i (Other v k) = up_old r d w i v
@@ -284,7 +286,7 @@ module _ (share : ℕ → Share) (holder : ℕ) (birth : ℕ → Option Birth) (
             (subst IsPart (kept_old r x) i) (subst IsPart (kept_old t y) j)
 
         one : (r t : ℕ) (b d : Birth) → births_then r ≡ Some b → births_then t ≡ Some d → b.parent ≡ d.parent
-            → IsPart (kept r) → IsPart (kept t) → Who r → Who t → r ≡ t
+            → IsPart (kept r) → IsPart (kept t) → BirthCase r → BirthCase t → r ≡ t
         one r t b d w v k i j (New x) y = absurd (not_new r x i)
         one r t b d w v k i j (Self x z) (New y) = absurd (not_new t y j)
         one r t b d w v k i j (Self x z) (Self y a) = one_old r t b d w v k i j x y
@@ -294,7 +296,7 @@ module _ (share : ℕ → Share) (holder : ℕ) (birth : ℕ → Option Birth) (
         one r t b d w v k i j (Other x z) (Other y a) = one_old r t b d w v k i j x y
 
         had : (r : ℕ) (d : Birth) (t : Plain) → births_then r ≡ Some d → store_in (after_fork r) ≡ Some t
-            → IsPart (kept r) → Who r → In output_spot t.moved
+            → IsPart (kept r) → BirthCase r → In output_spot t.moved
         had r d t w k i (New v) = absurd (not_new r v i)
         had r d t w k i (Self v z) =
             subst (λ (y : Plain). In output_spot y.moved) (self_store r t z k)
@@ -305,7 +307,7 @@ module _ (share : ℕ → Share) (holder : ℕ) (birth : ℕ → Option Birth) (
             (subst IsPart (kept_old r v) i)
 
         not_had : (r : ℕ) (d : Birth) (t : Plain) → births_then r ≡ Some d → store_in (after_fork r) ≡ Some t
-            → (IsPart (kept r) → ⊥) → IsPart (kept d.parent) → In output_spot t.moved → Who r → ⊥
+            → (IsPart (kept r) → ⊥) → IsPart (kept d.parent) → In output_spot t.moved → BirthCase r → ⊥
         not_had r d t w k i j m (New v) =
             quiet (subst IsPart (kept_old q not_q) (subst (λ y. IsPart (kept y)) (sym (new_birth r d v w)) j))
             (inside r v (subst (λ (y : Plain). In output_spot y.moved) (sym (new_store r t v k)) m))
@@ -320,28 +322,30 @@ module _ (share : ℕ → Share) (holder : ℕ) (birth : ℕ → Option Birth) (
             (subst IsPart (kept_old d.parent (old r d b)) j) m
 
   -- one child has it
-  module _ (holding : share q ≡ Holds) (r0 : ℕ) (new0 : nx r0 ≡ true) (has0 : In output_spot (H r0).moved)
+  module _ (holding : share q ≡ HoldsIt) (r0 : ℕ) (new0 : nx r0 ≡ true) (has0 : In output_spot (H r0).moved)
       (all0 : In output_spot (moved_of hs)) (alone : (r : ℕ) → nx r ≡ true → In output_spot (H r).moved → r0 ≡ r) where
     abbrev lent_on : ℕ → Share
-    lent_on r = cond (nx r) (cond (r0 == r) Holds Lacks) (at_key ◌==◌ q Lends share r)
+    lent_on r = cond (nx r) (cond (r0 == r) HoldsIt LacksIt) (at_key ◌==◌ q LendsIt share r)
 
-    on_first : lent_on r0 ≡ Holds
-    on_first = ap (λ b. cond b (cond (r0 == r0) Holds Lacks) (at_key ◌==◌ q Lends share r0)) new0
-        ∙ ap (λ b. cond b Holds Lacks) (equals_itself r0)
+    on_first : lent_on r0 ≡ HoldsIt
+    on_first = ap (λ b. cond b (cond (r0 == r0) HoldsIt LacksIt) (at_key ◌==◌ q LendsIt share r0)) new0
+        ∙ ap (λ b. cond b HoldsIt LacksIt) (equals_itself r0)
 
-    on_new : (r : ℕ) → nx r ≡ true → r0 ≢ r → lent_on r ≡ Lacks
-    on_new r w d = ap (λ b. cond b (cond (r0 == r) Holds Lacks) (at_key ◌==◌ q Lends share r)) w ∙ go (number_or r0 r)
+    on_new : (r : ℕ) → nx r ≡ true → r0 ≢ r → lent_on r ≡ LacksIt
+    on_new r w d = ap (λ b. cond b (cond (r0 == r) HoldsIt LacksIt) (at_key ◌==◌ q LendsIt share r)) w
+        ∙ go (number_or r0 r)
       where
-        go : (r0 ≡ r) ⊎ ((r0 ≢ r) × (r0 == r ≡ false)) → cond (r0 == r) Holds Lacks ≡ Lacks
+        go : (r0 ≡ r) ⊎ ((r0 ≢ r) × (r0 == r ≡ false)) → cond (r0 == r) HoldsIt LacksIt ≡ LacksIt
         go (inl k) = absurd (d k)
-        go (inr k) = ap (λ b. cond b Holds Lacks) k.1
+        go (inr k) = ap (λ b. cond b HoldsIt LacksIt) k.1
 
-    on_self : lent_on q ≡ Lends
-    on_self = ap (λ b. cond b (cond (r0 == q) Holds Lacks) (at_key ◌==◌ q Lends share q)) not_q ∙ at_same share q Lends
+    on_self : lent_on q ≡ LendsIt
+    on_self = ap (λ b. cond b (cond (r0 == q) HoldsIt LacksIt) (at_key ◌==◌ q LendsIt share q)) not_q
+        ∙ at_same share q LendsIt
 
     on_other : (r : ℕ) → nx r ≡ false → q ≢ r → lent_on r ≡ share r
-    on_other r w d = ap (λ b. cond b (cond (r0 == r) Holds Lacks) (at_key ◌==◌ q Lends share r)) w
-        ∙ at_other share q r Lends d
+    on_other r w d = ap (λ b. cond b (cond (r0 == r) HoldsIt LacksIt) (at_key ◌==◌ q LendsIt share r)) w
+        ∙ at_other share q r LendsIt d
 
     -- a new one that is part is that child
     first_new : (r : ℕ) → nx r ≡ true → IsPart (lent_on r) → r0 ≡ r
@@ -374,7 +378,7 @@ module _ (share : ℕ → Share) (holder : ℕ) (birth : ℕ → Option Birth) (
       aims = fork_aims;
     }
       where
-        only : (r : ℕ) → lent_on r ≡ Holds → Who r → r ≡ r0
+        only : (r : ℕ) → lent_on r ≡ HoldsIt → BirthCase r → r ≡ r0
         only r k (New w) = sym (first_new r w (subst IsPart (sym k) tt))
         only r k (Self w v) = absurd (hold_lend (sym k ∙ ap lent_on (sym v) ∙ on_self))
         only r k (Other w v) = absurd (v (h.only q holding ∙ sym (h.only r (sym (on_other r w v) ∙ k))))
@@ -397,34 +401,35 @@ module _ (share : ℕ → Share) (holder : ℕ) (birth : ℕ → Option Birth) (
         new_is_so r w (inl k) = first_is r k
         new_is_so r w (inr k) = later_is r w k.0
 
-        away0 : map.get (handed p.map hs) output_spot ≡ Some Away
+        away0 : map.get (map_after_fork p.map hs) output_spot ≡ Some Away
         away0 = parent_moved p.map hs output_spot all0 (can.apart output_spot all0)
 
-        stores : (r : ℕ) (t : Plain) → store_in (after_fork r) ≡ Some t → Who r → StoreIs (lent_on r) t
+        stores : (r : ℕ) (t : Plain) → store_in (after_fork r) ≡ Some t → BirthCase r → StoreIs (lent_on r) t
         stores r t k (New w) = subst (StoreIs (lent_on r)) (new_store r t w k) (new_is_so r w (number_or r0 r))
         stores r t k (Self w v) =
             subst (λ y. StoreIs (lent_on y) t) v
             (subst (λ y. StoreIs y t) (sym on_self)
-            (subst (StoreIs Lends) (self_store r t v k) (away0, (subst (λ y. StoreIs y p) holding is).1)))
+            (subst (StoreIs LendsIt) (self_store r t v k) (away0, (subst (λ y. StoreIs y p) holding is).1)))
         stores r t k (Other w v) = subst (λ y. StoreIs y t) (sym (on_other r w v))
             (h.stores r t (other_store r t w v k))
 
         up_old : (r : ℕ) (d : Birth) → births_then r ≡ Some d → IsPart (lent_on r) → nx r ≡ false
-            → lent_on d.parent ≡ Lends
+            → lent_on d.parent ≡ LendsIt
         up_old r d w i v = go (number_or q d.parent)
           where
             b : birth r ≡ Some d
             b = old_birth r d v w
 
-            u : share d.parent ≡ Lends
+            u : share d.parent ≡ LendsIt
             u = h.up r d b (part_old r v i)
 
-            go : (q ≡ d.parent) ⊎ ((q ≢ d.parent) × (q == d.parent ≡ false)) → lent_on d.parent ≡ Lends
+            go : (q ≡ d.parent) ⊎ ((q ≢ d.parent) × (q == d.parent ≡ false)) → lent_on d.parent ≡ LendsIt
             go (inl k) = absurd (hold_lend (sym holding ∙ ap share k ∙ u))
             go (inr k) = on_other d.parent (old r d b) k.0 ∙ u
 
-        up : (r : ℕ) (d : Birth) → births_then r ≡ Some d → IsPart (lent_on r) → Who r → lent_on d.parent ≡ Lends
-        up r d w i (New v) = subst (λ y. lent_on y ≡ Lends) (new_birth r d v w) on_self
+        up : (r : ℕ) (d : Birth) → births_then r ≡ Some d → IsPart (lent_on r) → BirthCase r
+            → lent_on d.parent ≡ LendsIt
+        up r d w i (New v) = subst (λ y. lent_on y ≡ LendsIt) (new_birth r d v w) on_self
         up r d w i (Self v k) = up_old r d w i v
         up r d w i (Other v k) = up_old r d w i v
 
@@ -442,7 +447,7 @@ module _ (share : ℕ → Share) (holder : ℕ) (birth : ℕ → Option Birth) (
             h.one r t b d (old_birth r b x w) (old_birth t d y v) k (part_old r x i) (part_old t y j)
 
         had : (r : ℕ) (d : Birth) (t : Plain) → births_then r ≡ Some d → store_in (after_fork r) ≡ Some t
-            → IsPart (lent_on r) → Who r → In output_spot t.moved
+            → IsPart (lent_on r) → BirthCase r → In output_spot t.moved
         had r d t w k i (New v) = subst (λ (y : Plain). In output_spot y.moved) (new_store r t v k)
             (subst (λ y. In output_spot (H y).moved) (first_new r v i) has0)
         had r d t w k i (Self v z) =
@@ -452,7 +457,7 @@ module _ (share : ℕ → Share) (holder : ℕ) (birth : ℕ → Option Birth) (
         had r d t w k i (Other v z) = h.had r d t (old_birth r d v w) (other_store r t v z k) (part_old r v i)
 
         not_had : (r : ℕ) (d : Birth) (t : Plain) → births_then r ≡ Some d → store_in (after_fork r) ≡ Some t
-            → (IsPart (lent_on r) → ⊥) → IsPart (lent_on d.parent) → In output_spot t.moved → Who r → ⊥
+            → (IsPart (lent_on r) → ⊥) → IsPart (lent_on d.parent) → In output_spot t.moved → BirthCase r → ⊥
         not_had r d t w k i j m (New v) =
             let first = alone r v (subst (λ (y : Plain). In output_spot y.moved) (sym (new_store r t v k)) m) in
             i (subst (λ y. IsPart (lent_on y)) first (subst IsPart (sym on_first) tt))

@@ -12,19 +12,20 @@ use Rattle.sp_journal.specs.declared.entry.Birth.{Birth}
 use Rattle.sp_journal.specs.Maps.{at_key}
 use Rattle.sp_code.specs.Machine.{Stop, Forks, Opens, Sends, Receives, Ends, Pauses, Config}
 use Rattle.sp_code.specs.Turns.{Turn, Stopped, Faulted}
-use Rattle.sp_code.specs.Memory.{Setting, Stores, Memory}
+use Rattle.sp_code.specs.Memory.{CodeRun, Stores, Memory}
 use Rattle.sp_code.specs.Control.{Control, Doing, Unborn, Ready, Out, Sending, Receiving, Joining, Laid, Ended, Gone}
 use Rattle.sp_code.specs.Control.{does, queues, offers, one_fewer, reports, comes_back}
 use Rattle.sp_code.specs.System.{System, Condition, Working, Waits, Joins, Laid as IsLaid, Gone as HasGone, Over}
-use Rattle.sp_code.specs.System.{fault_of, entered_now, received, sent, taken, rejoined, reported, happens}
-use Rattle.sp_code.specs.System.{unless_fault, lays, after, config_of}
+use Rattle.sp_code.specs.System.{fault_of, process_at_entry, after_message, apply_send, apply_receive}
+use Rattle.sp_code.specs.System.{parent_after_join, apply_end, apply_stop}
+use Rattle.sp_code.specs.System.{apply_unless_fault, lays, system_after_turn, config_of}
 use Rattle.sp_history.specs.Agreement.{IsOrderly}
 use Rattle.sp_history.proofs.Queues.{number_or, at_same, at_other}
 use Rattle.sp_history.proofs.Orders.{there_of, next_not, waits_not_out}
 
 -- ---- the system
 
-module _ {S : Type 0} (stores : Stores S) (g : Setting) where
+module _ {S : Type 0} (stores : Stores S) (g : CodeRun) where
   same_at : (z p : ℕ) (x : Condition S) (m : ℕ → Condition S) (c : Config (Memory S)) → (z ≡ p → x ≡ Working c)
       → m p ≡ Working c → at_key ◌==◌ z x m p ≡ Working c
   same_at z p x m c e h = go (number_or z p)
@@ -35,30 +36,30 @@ module _ {S : Type 0} (stores : Stores S) (g : Setting) where
 
   module _ (s : System S) (p q : ℕ) (c : Config (Memory S)) (runs : s.condition p ≡ Working c)
       (there : p < s.births.processes) (apart : q ≢ p) where
-    received_same : (cs : List Cell) (z : ℕ) → z ≡ p → received stores g cs (s.condition z) ≡ Working c
-    received_same cs z e = ap (received stores g cs) (ap s.condition e ∙ runs)
+    received_same : (cs : List Cell) (z : ℕ) → z ≡ p → after_message stores g cs (s.condition z) ≡ Working c
+    received_same cs z e = ap (after_message stores g cs) (ap s.condition e ∙ runs)
 
     sent_same : (stop : Stop) (ch : ℕ) (cs : List Cell) (d : Config (Memory S)) (o : Option ℕ)
-        → (sent stores g q stop ch cs d o s).condition p ≡ Working c
+        → (apply_send stores g q stop ch cs d o s).condition p ≡ Working c
     sent_same stop ch cs d None = same_at q p (Waits stop d) s.condition c (λ e. absurd (apart e)) runs
     sent_same stop ch cs d (Some z) = same_at q p (Working d)
-        (at_key ◌==◌ z (received stores g cs (s.condition z)) s.condition) c (λ e. absurd (apart e))
-        (same_at z p (received stores g cs (s.condition z)) s.condition c (received_same cs z) runs)
+        (at_key ◌==◌ z (after_message stores g cs (s.condition z)) s.condition) c (λ e. absurd (apart e))
+        (same_at z p (after_message stores g cs (s.condition z)) s.condition c (received_same cs z) runs)
 
     taken_same : (stop : Stop) (ch : ℕ) (a : Address) (d : Config (Memory S)) (o : Option ℕ)
-        → (taken stores g q stop ch a d o s).condition p ≡ Working c
+        → (apply_receive stores g q stop ch a d o s).condition p ≡ Working c
     taken_same stop ch a d None = same_at q p (Waits stop d) s.condition c (λ e. absurd (apart e)) runs
     taken_same stop ch a d (Some z) = same_at q p (Working _)
-        (at_key ◌==◌ z (received stores g [] (s.condition z)) s.condition) c (λ e. absurd (apart e))
-        (same_at z p (received stores g [] (s.condition z)) s.condition c (received_same [] z) runs)
+        (at_key ◌==◌ z (after_message stores g [] (s.condition z)) s.condition) c (λ e. absurd (apart e))
+        (same_at z p (after_message stores g [] (s.condition z)) s.condition c (received_same [] z) runs)
 
-    reported_same : (d : Config (Memory S)) (o : Option Birth) → (reported stores g q d o s).condition p ≡ Working c
+    reported_same : (d : Config (Memory S)) (o : Option Birth) → (apply_end stores g q d o s).condition p ≡ Working c
     reported_same d None = same_at q p (Over d) s.condition c (λ e. absurd (apart e)) runs
     reported_same d (Some b) = same_at b.parent p _ (at_key ◌==◌ q HasGone s.condition) c
-        (λ e. ap (rejoined stores g d) (ap s.condition e ∙ runs))
+        (λ e. ap (parent_after_join stores g d) (ap s.condition e ∙ runs))
         (same_at q p HasGone s.condition c (λ e. absurd (apart e)) runs)
 
-    happens_same : (stop : Stop) (d : Config (Memory S)) → (happens stores g q stop d s).condition p ≡ Working c
+    happens_same : (stop : Stop) (d : Config (Memory S)) → (apply_stop stores g q stop d s).condition p ≡ Working c
     happens_same (Forks t v n) d = rw (next_not s.births n p there)
         (same_at q p (Joins n _) s.condition c (λ e. absurd (apart e)) runs)
     happens_same (Opens a) d = same_at q p (Working _) s.condition c (λ e. absurd (apart e)) runs
@@ -71,16 +72,17 @@ module _ {S : Type 0} (stores : Stores S) (g : Setting) where
     lays_same d = same_at q p (IsLaid d) s.condition c (λ e. absurd (apart e)) runs
 
     -- a process that runs is as it was after the turn of another
-    pub after_same : (turn : Turn (Memory S)) → (after stores g q turn s).condition p ≡ Working c
+    pub after_same : (turn : Turn (Memory S)) → (system_after_turn stores g q turn s).condition p ≡ Working c
     after_same turn = go s.faulted
       where
-        by_fault : (o : Option Fault) (t : Turn (Memory S)) → (unless_fault stores g o q t s).condition p ≡ Working c
+        by_fault : (o : Option Fault) (t : Turn (Memory S)) → (apply_unless_fault stores g o q t s).condition p
+            ≡ Working c
         by_fault (Some f) t = lays_same (config_of t)
         by_fault None (Faulted f d) = lays_same d
-        by_fault None (Stopped stop d) = happens_same stop (entered_now d)
+        by_fault None (Stopped stop d) = happens_same stop (process_at_entry d)
 
         go : (b : Bool) → (if b then lays stores g q (config_of turn) s else
-            unless_fault stores g (fault_of g.limits s turn) q turn s).condition p ≡ Working c
+            apply_unless_fault stores g (fault_of g.limits s turn) q turn s).condition p ≡ Working c
         go true = lays_same (config_of turn)
         go false = by_fault (fault_of g.limits s turn) turn
 

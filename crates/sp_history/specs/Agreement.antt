@@ -6,12 +6,12 @@ use Rattle.sp_journal.specs.declared.entry.Way.{Way}
 use Rattle.sp_journal.specs.declared.entry.Way.TheVariants as way
 use Rattle.sp_journal.specs.declared.entry.Birth.{Birth}
 use Rattle.sp_journal.specs.declared.entry.Note.{Note}
-use Rattle.sp_code.specs.Memory.{Setting, Stores}
+use Rattle.sp_code.specs.Memory.{CodeRun, Stores}
 use Rattle.sp_code.specs.Machine.{Stop, Forks, Opens, Sends, Receives, Ends, Pauses}
 use Rattle.sp_code.specs.Control.{Control, Doing, Unborn, Ready, Out, Sending, Receiving, Joining, Laid, Ended, Gone}
-use Rattle.sp_code.specs.Control.{given, noted, standing, Running as Going}
+use Rattle.sp_code.specs.Control.{after_give, after_note, standing, Running as Going}
 use Rattle.sp_code.specs.System.{System, Condition, Absent, Working, Waits, Joins, Laid as IsLaid, Gone as HasGone}
-use Rattle.sp_code.specs.System.{Over, Gives, Gets}
+use Rattle.sp_code.specs.System.{Over, GiveIsLegal, GetIsLegal}
 
 -- what both tell of a process
 pub data Phase : Type 0 where
@@ -58,14 +58,14 @@ phase_in (Over c) = Finished
 -- ---- lists of numbers
 
 -- so for each number
-abbrev pub Each : (ℕ → Type 0) → List ℕ → Type 0
-Each P [] = Unit {0}
-Each P (x ∷ xs) = P x × Each P xs
+abbrev pub EachNumber : (ℕ → Type 0) → List ℕ → Type 0
+EachNumber P [] = Unit {0}
+EachNumber P (x ∷ xs) = P x × EachNumber P xs
 
 -- no number comes twice
 abbrev pub Differ : List ℕ → Type 0
 Differ [] = Unit {0}
-Differ (x ∷ xs) = Each (λ y. y ≢ x) xs × Differ xs
+Differ (x ∷ xs) = EachNumber (λ y. y ≢ x) xs × Differ xs
 
 -- one of the numbers
 abbrev pub Among : ℕ → List ℕ → Type 0
@@ -81,7 +81,7 @@ waits_by way.Receive c = Receiving c
 
 -- the queue has exactly the ready processes, each once
 pub record IsQueue (doing : ℕ → Doing) (ready : List ℕ) : Type 0 where
-  pub queued : Each (λ q. doing q ≡ Ready) ready
+  pub queued : EachNumber (λ q. doing q ≡ Ready) ready
   pub distinct : Differ ready
   pub all : (q : ℕ) → doing q ≡ Ready → Among q ready
 
@@ -99,7 +99,7 @@ SamePending None (Some z) = ⊥
 SamePending (Some o) None = ⊥
 SamePending (Some o) (Some z) = o.1 ≡ z
 
-pub record Agrees {S : Type 0} (k : Control) (s : System S) : Type 0 where
+pub record AgreesWithSystem {S : Type 0} (k : Control) (s : System S) : Type 0 where
   pub each : (q : ℕ) → phase (k.doing q) ≡ phase_in (s.condition q)
   pub births : k.births ≡ s.births
   pub faulted : k.faulted ≡ s.faulted
@@ -115,7 +115,7 @@ pub record HasOuts (k : Control) : Type 0 where
   pub outs : List ℕ
   pub count : length outs ≡ k.out
   pub distinct : Differ outs
-  pub each : Each (λ q. IsOut (k.doing q)) outs
+  pub each : EachNumber (λ q. IsOut (k.doing q)) outs
   pub all : (q : ℕ) → IsOut (k.doing q) → Among q outs
 
 -- the run has come to its end, and nothing is out
@@ -129,16 +129,16 @@ IsGot k (Some q) = ((rest : List ℕ) × (k.ready ≡ q ∷ rest)) × (k.doing q
 
 -- ---- histories
 
-module _ {S : Type 0} (stores : Stores S) (g : Setting) where
+module _ {S : Type 0} (stores : Stores S) (g : CodeRun) where
   -- one note: what was given made its event, and what was got was the front of the queue
-  pub record Follows (k : Control) (s : System S) (n : Note) (t : System S) : Type 0 where
-    pub gives : Gives stores g k s n.worker n.given n.event n.got t
-    pub gets : Gets stores g (given n.given n.event n.got k) n.event n.got
+  pub record NoteLeads (k : Control) (s : System S) (n : Note) (t : System S) : Type 0 where
+    pub gives : GiveIsLegal stores g k s n.worker n.given n.event n.got t
+    pub gets : GetIsLegal stores g (after_give n.given n.event n.got k) n.event n.got
 
   -- the notes lead from s, where the control is k, to t
   abbrev pub Reaches : Control → System S → List Note → System S → Type 0
   Reaches k s [] t = s ≡ t
-  Reaches k s (n ∷ ns) t = (u : System S) × Follows k s n u × Reaches (noted n k) u ns t
+  Reaches k s (n ∷ ns) t = (u : System S) × NoteLeads k s n u × Reaches (after_note n k) u ns t
 
 -- none of the notes is one of worker w
 abbrev pub NoneBy : ℕ → List Note → Type 0

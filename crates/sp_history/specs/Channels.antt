@@ -7,7 +7,7 @@ use Rattle.sp_cell.specs.declared.cell.Cell.TheVariants as cell
 use Rattle.sp_cell.specs.declared.spot.Spot.{Spot}
 use Rattle.sp_cell.specs.declared.spot.Address.{Address}
 use Rattle.sp_code.specs.Machine.{Entry, Number, Chan, Pointer, Cells, Link, Reply, Stop, Forks, Opens, Sends, Receives}
-use Rattle.sp_code.specs.Machine.{Ends, Pauses, Config, At, One, Goes, Stops, Fails, Stuck}
+use Rattle.sp_code.specs.Machine.{Ends, Pauses, Config, At, StepResult, Goes, Stops, Fails, Stuck}
 use Rattle.sp_code.specs.Turns.{Turn, Stopped, Faulted}
 use Rattle.sp_code.specs.Memory.{Stores, cells_at}
 
@@ -77,7 +77,7 @@ module _ (C : ℕ → Type 0) where
       TurnDoes (Stopped stop c) = (StopHas stop × AimsAt J stop c) × ConfigHas c
       TurnDoes (Faulted f c) = ConfigHas c
 
-      abbrev pub OneHas : One M → Type 0
+      abbrev pub OneHas : StepResult M → Type 0
       OneHas (Goes c) = ConfigHas c
       OneHas (Stops stop c) = (StopHas stop × AimsAt J stop c) × ConfigHas c
       OneHas (Fails f) = Unit {0}

@@ -10,30 +10,30 @@ use Rattle.sp_journal.specs.declared.entry.Birth.{Birth}
 use Rattle.sp_code.specs.Memory.{Memory}
 use Rattle.sp_code.specs.PlainStore.{plain}
 use Rattle.sp_code.specs.System.{System, Condition, Absent, Working, Waits, Joins, Laid, Gone, Over, store_in}
-use Rattle.sp_history.specs.Agreement.{Each}
+use Rattle.sp_history.specs.Agreement.{EachNumber}
 use Rattle.sp_history.specs.Channels.{AimsAt}
 
 -- a process holds the output; or it has lent it to a child, which may have lent it on; or it has nothing of it
 pub data Share : Type 0 where
-  Holds : Share
-  Lends : Share
-  Lacks : Share
+  HoldsIt : Share
+  LendsIt : Share
+  LacksIt : Share
 
 -- none of its own frames is the program's
 abbrev pub HasOtherFrames : List ℕ → Type 0
-HasOtherFrames ns = Each (λ n. n ≢ 0) ns
+HasOtherFrames ns = EachNumber (λ n. n ≢ 0) ns
 
 -- what a process with this share has in its store
 abbrev pub StoreIs : Share → Plain → Type 0
-StoreIs Holds p = IsOutput (map.get p.map output_spot) × HasOtherFrames p.own
-StoreIs Lends p = (map.get p.map output_spot ≡ Some Away) × HasOtherFrames p.own
-StoreIs Lacks p = IsOutput (map.get p.map output_spot) → ⊥
+StoreIs HoldsIt p = IsOutput (map.get p.map output_spot) × HasOtherFrames p.own
+StoreIs LendsIt p = (map.get p.map output_spot ≡ Some Away) × HasOtherFrames p.own
+StoreIs LacksIt p = IsOutput (map.get p.map output_spot) → ⊥
 
 -- it has the output, or one of those to which it lent it has
 abbrev pub IsPart : Share → Type 0
-IsPart Holds = Unit {0}
-IsPart Lends = Unit {0}
-IsPart Lacks = ⊥
+IsPart HoldsIt = Unit {0}
+IsPart LendsIt = Unit {0}
+IsPart LacksIt = ⊥
 
 -- an address in a piece of the process's own
 abbrev pub Owned : ℕ → Address → Memory Plain → Type 0
@@ -53,11 +53,11 @@ AimsIn (Over c) = Unit {0}
 -- parent, which lends it, and there is one such child at most; another child was not handed it by one that is part
 pub record IsShared (share : ℕ → Share) (holder : ℕ) (condition : ℕ → Condition Plain) (birth : ℕ → Option Birth) : Type
     0 where
-  pub holds : share holder ≡ Holds
-  pub only : (q : ℕ) → share q ≡ Holds → q ≡ holder
+  pub holds : share holder ≡ HoldsIt
+  pub only : (q : ℕ) → share q ≡ HoldsIt → q ≡ holder
   pub here : (p : Plain) × (store_in (condition holder) ≡ Some p)
   pub stores : (q : ℕ) (p : Plain) → store_in (condition q) ≡ Some p → StoreIs (share q) p
-  pub up : (q : ℕ) (b : Birth) → birth q ≡ Some b → IsPart (share q) → share b.parent ≡ Lends
+  pub up : (q : ℕ) (b : Birth) → birth q ≡ Some b → IsPart (share q) → share b.parent ≡ LendsIt
   pub one : (q r : ℕ) (b d : Birth) → birth q ≡ Some b → birth r ≡ Some d → b.parent ≡ d.parent → IsPart (share q)
       → IsPart (share r) → q ≡ r
   pub had : (q : ℕ) (b : Birth) (p : Plain) → birth q ≡ Some b → store_in (condition q) ≡ Some p → IsPart (share q)

@@ -1,7 +1,7 @@
 pub mod Agreement
 pub mod Channels
-pub mod Spoken
-pub mod Lines
+pub mod NamesChannels
+pub mod WorkerHistory
 pub mod Counted
 pub mod Faults
 pub mod Holding

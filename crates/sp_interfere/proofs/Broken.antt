@@ -7,7 +7,7 @@ use Rattle.sp_base.specs.declared.halt.Refusal.{Refusal}
 use Rattle.sp_base.specs.declared.rule.Rule.{Rule}
 use Rattle.sp_base.specs.declared.rule.Rule.TheVariants as rule
 use Rattle.sp_tree.specs.declared.checked.Variable as declared
-use Rattle.sp_tree.specs.Found.{Found, breaks_if, lesser}
+use Rattle.sp_tree.specs.PhaseResults.{FirstRefusal, refusal_if, earlier_refusal}
 use Rattle.sp_tree.specs.PlainChecked.{Actuals, Nothing, Pass, ByValue, ByReference, Entire, Statements}
 use Rattle.sp_tree.specs.PlainChecked.{NoStatement, AndThen, Block, Program}
 use Rattle.sp_tree.specs.Sites.{Site, SplitsAt, SpreadsAt, LoopsAt, CallsAt, StopsAt, statement_sites}
@@ -20,7 +20,7 @@ use Rattle.sp_interfere.specs.Tests.{some_in, is_any, clash, has_implicit, has_d
 use Rattle.sp_interfere.specs.Rules as r
 use Rattle.sp_interfere.specs.Walk.{statement_first}
 use Rattle.sp_interfere.proofs.Along.{along, statement_along}
-use Rattle.sp_interfere.proofs.Least.{Finds, finds_none, finds_both, finds_as, finds_one}
+use Rattle.sp_interfere.proofs.FindsFirst.{Finds, finds_none, finds_both, finds_as, finds_one}
 
 abbrev pub refusal : Rule → Place → Refusal
 refusal R at = record { rule = R; at = at }
@@ -29,19 +29,20 @@ refusal R at = record { rule = R; at = at }
 abbrev pub Broken : Rule → Place → Bool → Refusal → Type 0
 Broken R at b x = (b ≡ true) × (x ≡ refusal R at)
 
-broken_to : (R : Rule) (at : Place) (b : Bool) (x : Refusal) → breaks_if R at b ≡ Some x → Broken R at b x
+broken_to : (R : Rule) (at : Place) (b : Bool) (x : Refusal) → refusal_if R at b ≡ Some x → Broken R at b x
 broken_to R at true x e = (refl, cc e)
 broken_to R at false x e = absurd (cc e)
 
-broken_from : (R : Rule) (at : Place) (b : Bool) (x : Refusal) → Broken R at b x → breaks_if R at b ≡ Some x
+broken_from : (R : Rule) (at : Place) (b : Bool) (x : Refusal) → Broken R at b x → refusal_if R at b ≡ Some x
 broken_from R at true x h = ap Some (sym h.1)
 broken_from R at false x h = absurd (cc (h.0))
 
-pub finds_if : (R : Rule) (at : Place) (b : Bool) → Finds (λ g. lesser g (breaks_if R at b)) (Broken R at b)
-finds_if R at b = finds_as (λ g. refl) (broken_to R at b) (broken_from R at b) (finds_one (breaks_if R at b))
+pub finds_if : (R : Rule) (at : Place) (b : Bool) → Finds (λ g. earlier_refusal g (refusal_if R at b)) (Broken R at b)
+finds_if R at b = finds_as (λ g. refl) (broken_to R at b) (broken_from R at b) (finds_one (refusal_if R at b))
 
 -- what is found along sites
-pub finds_along : (f : Site → Found → Found) (P : Site → Refusal → Type 0) → ((site : Site) → Finds (f site) (P site))
+pub finds_along : (f : Site → FirstRefusal → FirstRefusal) (P : Site → Refusal → Type 0)
+    → ((site : Site) → Finds (f site) (P site))
     → (sites : List Site) → Finds (along f sites) (λ x. (site : Site) × IsSite site sites × P site x)
 finds_along f P each [] = finds_as (λ g. refl) (λ x h. absurd h) (λ x h. absurd h.1) finds_none
 finds_along f P each (y ∷ ys) = finds_as (λ g. refl) to from (finds_both (each y) (finds_along f P each ys))
@@ -81,12 +82,13 @@ module _ (s : Sets) where
   finds_repeated earlier (Pass (ByReference (Entire y at ss)) rest) =
       finds_both (finds_if rule.I4 at (list_any (λ z. y == z) earlier)) (finds_repeated (earlier ++ y ∷ []) rest)
 
-  abbrev pub Passed : ℕ → Actuals → Refusal → Type 0
-  Passed f Nothing x = ⊥
-  Passed f (Pass (ByValue e) rest) x = Passed f rest x
-  Passed f (Pass (ByReference (Entire y at ss)) rest) x = Broken rule.I5 at (has_implicit s f y) x ⊎ Passed f rest x
+  abbrev pub PassesImplicitly : ℕ → Actuals → Refusal → Type 0
+  PassesImplicitly f Nothing x = ⊥
+  PassesImplicitly f (Pass (ByValue e) rest) x = PassesImplicitly f rest x
+  PassesImplicitly f (Pass (ByReference (Entire y at ss)) rest) x = Broken rule.I5 at (has_implicit s f y) x
+      ⊎ PassesImplicitly f rest x
 
-  finds_passed : (f : ℕ) (args : Actuals) → Finds (r.passed_first s f args) (Passed f args)
+  finds_passed : (f : ℕ) (args : Actuals) → Finds (r.passed_first s f args) (PassesImplicitly f args)
   finds_passed f Nothing = finds_none
   finds_passed f (Pass (ByValue e) rest) = finds_passed f rest
   finds_passed f (Pass (ByReference (Entire y at ss)) rest) =
@@ -98,7 +100,7 @@ module _ (s : Sets) (c : Program) where
 
   abbrev pub Called : Bool → ℕ → ℕ → Place → Actuals → Option Block → Refusal → Type 0
   Called in_function d f at args None x = ⊥
-  Called in_function d f at args (Some k) x = (Passed s f args x ⊎ Broken rule.I6 k.at (is_inside d f) x)
+  Called in_function d f at args (Some k) x = (PassesImplicitly s f args x ⊎ Broken rule.I6 k.at (is_inside d f) x)
       ⊎ Broken rule.I9 at (in_function && stops_of s f) x
 
   finds_called : (in_function : Bool) (d f : ℕ) (at : Place) (args : Actuals) (o : Option Block)
@@ -129,7 +131,7 @@ module _ (s : Sets) (c : Program) where
   AtFormal None x = ⊥
   AtFormal (Some i) x = Broken rule.I7 i.at (r.is_reference i.role) x
 
-  finds_formal : (o : Option declared.Variable) → Finds (λ g. lesser g (r.formal_rule s c o)) (AtFormal o)
+  finds_formal : (o : Option declared.Variable) → Finds (λ g. earlier_refusal g (r.formal_rule s c o)) (AtFormal o)
   finds_formal None = finds_as (λ g. refl) (λ x e. absurd (cc e)) (λ x h. absurd h) (finds_one None)
   finds_formal (Some i) = finds_if rule.I7 i.at (r.is_reference i.role)
 

@@ -11,7 +11,7 @@ use Rattle.sp_tree.specs.Sites.{Site, SplitsAt, SpreadsAt, StopsAt, CallsAt, exp
 use Rattle.sp_tree.specs.Sites.{variable_sites, selectors_sites, actuals_sites, width_sites, statement_sites}
 use Rattle.sp_tree.specs.Sites.{statements_sites, arms_sites}
 use Rattle.sp_tree.specs.Interferes.{IsSite}
-use Rattle.sp_interfere.proofs.Fits.{in_first, in_second}
+use Rattle.sp_interfere.proofs.FittingSites.{in_first, in_second}
 
 -- one of the sites is a call of the block
 abbrev pub HasCall : ℕ → List Site → Type 0
@@ -36,7 +36,7 @@ here f d bs cs at args xs e = let same : f ≡ d = cc e in (at, args, inl (cc sa
 module _ (f : ℕ) (bs : b.Actuals) where
   mutual
     expression_called : (e : p.Expression) → In_expr (bare_expression e) (CallOf f bs) → HasCall f (expression_sites e)
-    expression_called (p.At at k form) i = form_called form i
+    expression_called (p.ExpressionAt at k form) i = form_called form i
 
     form_called : (e : p.ExpressionForm) → In_form (bare_form e) (CallOf f bs) → HasCall f (form_sites e)
     form_called (p.Number n) i = absurd i

@@ -7,10 +7,10 @@ use Rattle.sp_base.proofs.Facts.{or_with_false}
 use Rattle.sp_tree.specs.Interference.{IsMember}
 use Rattle.sp_varsets.specs.declared.sets.Sets.{Sets}
 use Rattle.sp_varsets.specs.declared.union.VarUnion.{VarUnion}
-use Rattle.sp_varsets.specs.Members.{has, InWindow, joined}
+use Rattle.sp_varsets.specs.Members.{has, InWindow, union_has}
 use Rattle.sp_varsets.specs.AreSets.{targets_of, expressions_of}
 use Rattle.sp_interfere.specs.Tests.{clash, Joins, is_target, is_used}
-use Rattle.sp_interfere.proofs.Some.{any_from, any_to, clash_from, clash_target, clash_seen, not_false}
+use Rattle.sp_interfere.proofs.SetTests.{any_from, any_to, clash_from, clash_target, clash_seen, not_false}
 
 any_or : (f : ℕ → Bool) (xs : List ℕ) (y : ℕ) → list_any f (xs ++ y ∷ []) ≡ (list_any f xs || f y)
 any_or f [] y = or_with_false (f y)
@@ -25,7 +25,7 @@ any_more f xs y = any_or f xs y
 
 -- one more statement, whose set is added
 pub joins_more : (u v : VarUnion) (in_one : ℕ → ℕ → Bool) (numbers : List ℕ) (n : ℕ) → Joins u in_one numbers
-    → v.first ≡ u.first → ((x : ℕ) → InWindow u.first x → joined v x ≡ (joined u x || in_one n x))
+    → v.first ≡ u.first → ((x : ℕ) → InWindow u.first x → union_has v x ≡ (union_has u x || in_one n x))
     → Joins v in_one (numbers ++ n ∷ [])
 joins_more u v in_one numbers n j e added = record {
   from = e ∙ j.from;
@@ -38,11 +38,11 @@ joins_more u v in_one numbers n j e added = record {
 
 -- both sets of a statement, added one after the other
 pub added_both : (u v w : VarUnion) (a b : ℕ → Bool) → v.first ≡ u.first → w.first ≡ v.first
-    → ((x : ℕ) → InWindow u.first x → joined v x ≡ (joined u x || a x))
-    → ((x : ℕ) → InWindow v.first x → joined w x ≡ (joined v x || b x))
-    → (x : ℕ) → InWindow u.first x → joined w x ≡ (joined u x || (a x || b x))
+    → ((x : ℕ) → InWindow u.first x → union_has v x ≡ (union_has u x || a x))
+    → ((x : ℕ) → InWindow v.first x → union_has w x ≡ (union_has v x || b x))
+    → (x : ℕ) → InWindow u.first x → union_has w x ≡ (union_has u x || (a x || b x))
 added_both u v w a b e d p q x i = q x (subst (λ f. InWindow f x) (sym e) i)
-    ∙ (ap (λ z. z || b x) (p x i) ∙ sym (grouped (joined u x) (a x) (b x)))
+    ∙ (ap (λ z. z || b x) (p x i) ∙ sym (grouped (union_has u x) (a x) (b x)))
   where
     grouped : (a b c : Bool) → a || (b || c) ≡ (a || b) || c
     grouped true b c = refl
@@ -56,14 +56,14 @@ module _ (s : Sets) (earlier : List ℕ) (n : ℕ) (t u : VarUnion) (a : Joins t
   window : (v : VarUnion) (x : ℕ) → v.first ≡ 0 → x < 8256 → InWindow v.first x
   window v x e l = (omega (arith, e), omega (arith, e, l))
 
-  pub hit_target : (x : ℕ) → InWindow u.first x → joined u x ≡ true → has (targets_of s n) x ≡ true
+  pub hit_target : (x : ℕ) → InWindow u.first x → union_has u x ≡ true → has (targets_of s n) x ≡ true
       → list_any (λ m. clash s m n) earlier ≡ true
   hit_target x i j h =
       let y = any_from (λ m. is_used s m x) earlier (sym (b.all x (low u x b.from i)) ∙ j) in
       any_to (λ m. clash s m n) earlier y.0 y.1
       (clash_target s y.0 n x h (or_cases (has (targets_of s y.0) x) (has (expressions_of s y.0) x) y.2))
 
-  pub hit_seen : (x : ℕ) → InWindow t.first x → joined t x ≡ true → has (expressions_of s n) x ≡ true
+  pub hit_seen : (x : ℕ) → InWindow t.first x → union_has t x ≡ true → has (expressions_of s n) x ≡ true
       → list_any (λ m. clash s m n) earlier ≡ true
   hit_seen x i j h =
       let y = any_from (λ m. is_target s m x) earlier (sym (a.all x (low t x a.from i)) ∙ j) in
@@ -71,8 +71,8 @@ module _ (s : Sets) (earlier : List ℕ) (n : ℕ) (t u : VarUnion) (a : Joins t
 
   -- where the sets of the statement are within the window and meet no union, it clashes with none
   pub no_hit : ((x : ℕ) → (has (targets_of s n) x ≡ true) ⊎ (has (expressions_of s n) x ≡ true) → x < 8256)
-      → (((x : ℕ) × InWindow u.first x × (joined u x ≡ true) × (has (targets_of s n) x ≡ true)) → ⊥)
-      → (((x : ℕ) × InWindow t.first x × (joined t x ≡ true) × (has (expressions_of s n) x ≡ true)) → ⊥)
+      → (((x : ℕ) × InWindow u.first x × (union_has u x ≡ true) × (has (targets_of s n) x ≡ true)) → ⊥)
+      → (((x : ℕ) × InWindow t.first x × (union_has t x ≡ true) × (has (expressions_of s n) x ≡ true)) → ⊥)
       → false ≡ list_any (λ m. clash s m n) earlier
   no_hit narrow p q = not_false _ clashes
     where

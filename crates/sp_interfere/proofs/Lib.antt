@@ -2,11 +2,11 @@ pub mod Along
 pub mod Broken
 pub mod Calls
 pub mod Clashes
-pub mod Each
+pub mod ChannelOfItems
 pub mod Exact
-pub mod Fits
-pub mod Least
+pub mod FittingSites
+pub mod FindsFirst
 pub mod Means
-pub mod Some
+pub mod SetTests
 pub mod Standing
 pub mod Taken

@@ -23,10 +23,10 @@ use Rattle.sp_varsets.specs.AreSets.{targets_of, expressions_of, implicit_target
 use Rattle.sp_varsets.specs.AreSets.{OfStatement, OfBlock}
 use Rattle.sp_interfere.specs.Tests.{some_in, is_declared, clash, has_declared}
 use Rattle.sp_interfere.specs.Rules.{is_reference, is_function}
-use Rattle.sp_interfere.proofs.Some.{some_from, some_to, declared_from, declared_to, any_from, any_to, clash_from}
-use Rattle.sp_interfere.proofs.Some.{clash_target, clash_seen}
-use Rattle.sp_interfere.proofs.Fits.{AllParts}
-use Rattle.sp_interfere.proofs.Broken.{refusal, Clashed, Repeated, Passed}
+use Rattle.sp_interfere.proofs.SetTests.{some_from, some_to, declared_from, declared_to, any_from, any_to, clash_from}
+use Rattle.sp_interfere.proofs.SetTests.{clash_target, clash_seen}
+use Rattle.sp_interfere.proofs.FittingSites.{AllParts}
+use Rattle.sp_interfere.proofs.Broken.{refusal, Clashed, Repeated, PassesImplicitly}
 
 member_first : (xs : List ℕ) (y x : ℕ) → IsMember x xs → IsMember x (xs ++ y ∷ [])
 member_first [] y x i = absurd i
@@ -211,7 +211,8 @@ module _ (g : Program) (s : Sets) where
   implicit_back f y b (k, e, free, inl h) = inl ((b.targets y).1 (k, e, free, h))
   implicit_back f y b (k, e, free, inr h) = inr ((b.expressions y).1 (k, e, free, h))
 
-  pub passed_to : (f : ℕ) → OfBlock g s f → (args : p.Actuals) (x : Refusal) → Passed s f args x → (x.rule ≡ rule.I5)
+  pub passed_to : (f : ℕ) → OfBlock g s f → (args : p.Actuals) (x : Refusal) → PassesImplicitly s f args x
+      → (x.rule ≡ rule.I5)
       × PassesImplicit g f args x.at
   passed_to f b p.Nothing x h = absurd h
   passed_to f b (p.Pass (p.ByValue e) rest) x h = passed_to f b rest x h
@@ -226,7 +227,7 @@ module _ (g : Program) (s : Sets) where
       (more.0, inr more.1)
 
   pub passed_back : (f : ℕ) → OfBlock g s f → (args : p.Actuals) (at : Place) → PassesImplicit g f args at
-      → Passed s f args (refusal rule.I5 at)
+      → PassesImplicitly s f args (refusal rule.I5 at)
   passed_back f b p.Nothing at h = h
   passed_back f b (p.Pass (p.ByValue e) rest) at h = passed_back f b rest at h
   passed_back f b (p.Pass (p.ByReference (p.Entire y here ss)) rest) at (inl (there, i)) =

@@ -9,7 +9,7 @@ use Rattle.sp_tree.specs.declared.checked.Block as memory
 use Rattle.sp_tree.specs.CheckedOf.{block_of}
 use Rattle.sp_tree.specs.PlainChecked as p
 use Rattle.sp_tree.specs.Plain.{Block, Program}
-use Rattle.sp_tree.specs.Bare.{bare, bare_block}
+use Rattle.sp_tree.specs.Bare.{without_places, bare_block}
 use Rattle.sp_tree.specs.Sets.{IsBelow}
 use Rattle.sp_tree.proofs.NoBreach.{block_at}
 use Rattle.sp_varsets.specs.AreSets.{HaveEarlierParents}
@@ -35,31 +35,31 @@ bare_at ks b k e = slice_get-map bare_block ks b ∙ ap (option_map bare_block) 
 module _ (c : p.Program) where
   -- what the test finds around a block, it finds further up
   abbrev Above : ℕ → ℕ → Type 0
-  Above n f = (q : ℕ) → stands_in c.blocks n (Some q) f ≡ true → (m : ℕ) × IsBelow (bare c) m q f
+  Above n f = (q : ℕ) → stands_in c.blocks n (Some q) f ≡ true → (m : ℕ) × IsBelow (without_places c) m q f
 
   around : (n d f : ℕ) → Above n f → (k : p.Block) (q : Option ℕ) → k.parent ≡ q → slice_get c.blocks d ≡ Some k
-      → stands_in c.blocks n q f ≡ true → (m : ℕ) × IsBelow (bare c) m d f
+      → stands_in c.blocks n q f ≡ true → (m : ℕ) × IsBelow (without_places c) m d f
   around n d f above k None g e h = absurd (let z = standing_nowhere c.blocks n f in cc (z, h))
   around n d f above k (Some q) g e h = let r = above q h in
       (suc r.0, (bare_block k, bare_at c.blocks d k e, q, g, r.1))
 
   up : (n d f : ℕ) → Above n f → (o : Option p.Block) → slice_get c.blocks d ≡ o
-      → stands_in c.blocks n (parent_of o) f ≡ true → (m : ℕ) × IsBelow (bare c) m d f
+      → stands_in c.blocks n (parent_of o) f ≡ true → (m : ℕ) × IsBelow (without_places c) m d f
   up n d f above None e h = absurd (let z = standing_nowhere c.blocks n f in cc (z, h))
   up n d f above (Some k) e h = around n d f above k k.parent refl e h
 
   here_or_up : (n d f : ℕ) → Above n f → (d == f ≡ true)
-      ⊎ (stands_in c.blocks n (parent_of (slice_get c.blocks d)) f ≡ true) → (m : ℕ) × IsBelow (bare c) m d f
+      ⊎ (stands_in c.blocks n (parent_of (slice_get c.blocks d)) f ≡ true) → (m : ℕ) × IsBelow (without_places c) m d f
   here_or_up n d f above (inl e) = (zero, eqb-true d f e)
   here_or_up n d f above (inr h) = up n d f above (slice_get c.blocks d) refl h
 
-  pub stands_from : (n d f : ℕ) → stands_in c.blocks n (Some d) f ≡ true → (m : ℕ) × IsBelow (bare c) m d f
+  pub stands_from : (n d f : ℕ) → stands_in c.blocks n (Some d) f ≡ true → (m : ℕ) × IsBelow (without_places c) m d f
   stands_from zero d f h = absurd (cc h)
   stands_from (suc n) d f h = here_or_up n d f (λ q k. stands_from n q f k)
       (or_cases (d == f) (stands_in c.blocks n (parent_of (slice_get c.blocks d)) f) h)
 
   -- and there are enough blocks for each way up
-  pub stands_to : HaveEarlierParents c → (m n d f : ℕ) → d < n → IsBelow (bare c) m d f
+  pub stands_to : HaveEarlierParents c → (m n d f : ℕ) → d < n → IsBelow (without_places c) m d f
       → stands_in c.blocks n (Some d) f ≡ true
   stands_to rises m zero d f l h = absurd (omega arith)
   stands_to rises zero (suc n) d f l h = or_left (d == f) _ (eq-eqb d f h)

@@ -8,7 +8,7 @@ use Rattle.sp_tree.specs.declared.checked.Actual as actual
 use Rattle.sp_tree.specs.declared.checked.Block as block
 use Rattle.sp_tree.specs.declared.checked.Stmt as stmt
 use Rattle.sp_tree.specs.CheckedOf.{actuals, actual_of, block_of, statement_of, statements}
-use Rattle.sp_tree.specs.Found.{Found, breaks_if, lesser}
+use Rattle.sp_tree.specs.PhaseResults.{FirstRefusal, refusal_if, earlier_refusal}
 use Rattle.sp_tree.specs.Interferes.{place_of}
 use Rattle.sp_tree.specs.PlainChecked.{Actual, ByValue, ByReference, Entire, Actuals, Nothing, Pass, Statement}
 use Rattle.sp_tree.specs.PlainChecked.{Program}
@@ -38,25 +38,25 @@ more_numbers xs i t l e =
     ∙ (numbers_append (map statement_of (take i xs)) (statement_of (get_or xs i t))
     ∙ ap (λ u. numbers_of (statements (map statement_of (take i xs))) ++ number_of (statement_of u) ∷ []) (sym e)))
 
-pub more_parts : (s : Sets) (xs : List stmt.Stmt) (i : ℕ) (t : stmt.Stmt) (g : Found) → i < length xs
+pub more_parts : (s : Sets) (xs : List stmt.Stmt) (i : ℕ) (t : stmt.Stmt) (g : FirstRefusal) → i < length xs
     → t ≡ get_or xs i t
     → parts_first s (numbers_of (statements (map statement_of (take (i + 1) xs))))
     (statements (map statement_of (drop (i + 1) xs)))
-    (lesser g (breaks_if rule.I1 (place_of (statement_of t))
+    (earlier_refusal g (refusal_if rule.I1 (place_of (statement_of t))
     (list_any (λ m. clash s m (number_of (statement_of t)))
     (numbers_of (statements (map statement_of (take i xs)))))))
     ≡ parts_first s (numbers_of (statements (map statement_of (take i xs)))) (statements (map statement_of (drop i xs)))
     g
 more_parts s xs i t g l e =
     ap (λ ns. parts_first s ns (statements (map statement_of (drop (i + 1) xs)))
-    (lesser g (breaks_if rule.I1 (place_of (statement_of t))
+    (earlier_refusal g (refusal_if rule.I1 (place_of (statement_of t))
     (list_any (λ m. clash s m (number_of (statement_of t)))
     (numbers_of (statements (map statement_of (take i xs)))))))) (more_numbers xs i t l e)
     ∙ sym (ap (λ ys. parts_first s (numbers_of (statements (map statement_of (take i xs))))
     (statements (map statement_of ys)) g) (drop_more xs i t l ∙ ap (λ u. u ∷ drop (i + 1) xs) (sym e)))
 
 -- one more parameter
-one_more : (s : Sets) (ns : List ℕ) (a : Actual) (rest : Actuals) (g : Found)
+one_more : (s : Sets) (ns : List ℕ) (a : Actual) (rest : Actuals) (g : FirstRefusal)
     → repeats_first s (ns ++ references (Pass a Nothing)) rest (repeats_first s ns (Pass a Nothing) g)
     ≡ repeats_first s ns (Pass a rest) g
 one_more s ns (ByValue e) rest g = ap (λ q. repeats_first s q rest g) (append-nil ns)
@@ -71,7 +71,7 @@ more_references xs i a l e =
     ∙ (references_append (map actual_of (take i xs)) (actual_of (get_or xs i a))
     ∙ ap (λ u. references (actuals (map actual_of (take i xs))) ++ references (Pass (actual_of u) Nothing)) (sym e)))
 
-pub more_repeats : (s : Sets) (xs : List actual.Actual) (i : ℕ) (a : actual.Actual) (g r : Found) → i < length xs
+pub more_repeats : (s : Sets) (xs : List actual.Actual) (i : ℕ) (a : actual.Actual) (g r : FirstRefusal) → i < length xs
     → a ≡ get_or xs i a
     → r ≡ repeats_first s (references (actuals (map actual_of (take i xs)))) (actuals (map actual_of (a ∷ []))) g
     → repeats_first s (references (actuals (map actual_of (take (i + 1) xs))))
@@ -87,7 +87,7 @@ more_repeats s xs i a g r l e q =
     (drop_more xs i a l ∙ ap (λ u. u ∷ drop (i + 1) xs) (sym e)))))
 
 -- one more block
-pub more_blocks : (s : Sets) (c : Program) (xs : List block.Block) (i : ℕ) (k : block.Block) (g r : Found)
+pub more_blocks : (s : Sets) (c : Program) (xs : List block.Block) (i : ℕ) (k : block.Block) (g r : FirstRefusal)
     → i < length xs → k ≡ get_or xs i k
     → r ≡ blocks_first s c i (block_of k ∷ []) g
     → blocks_first s c (i + 1) (map block_of (drop (i + 1) xs)) r ≡ blocks_first s c i (map block_of (drop i xs)) g

@@ -10,7 +10,7 @@ use Rattle.sp_base.specs.declared.rule.Rule.TheVariants as rule
 use Rattle.sp_tree.specs.declared.checked.Role.{Role}
 use Rattle.sp_tree.specs.declared.checked.Role.TheVariants as role
 use Rattle.sp_tree.specs.declared.checked.Variable as declared
-use Rattle.sp_tree.specs.Found.{Found, breaks_if, lesser}
+use Rattle.sp_tree.specs.PhaseResults.{FirstRefusal, refusal_if, earlier_refusal}
 use Rattle.sp_tree.specs.PlainChecked.{Actuals, Nothing, Pass, ByValue, ByReference, Entire}
 use Rattle.sp_tree.specs.PlainChecked.{Statements, NoStatement, AndThen, Block, Program}
 use Rattle.sp_tree.specs.Sites.{Site, SplitsAt, SpreadsAt, LoopsAt, CallsAt, StopsAt}
@@ -62,71 +62,71 @@ is_among y xs = list_any (λ x. y == x) xs
 
 module _ (s : Sets) where
   -- I1 at each process statement behind earlier ones
-  abbrev pub parts_first : List ℕ → Statements → Found → Found
+  abbrev pub parts_first : List ℕ → Statements → FirstRefusal → FirstRefusal
   parts_first earlier NoStatement given = given
   parts_first earlier (AndThen t rest) given =
       parts_first (earlier ++ number_of t ∷ []) rest
-      (lesser given (breaks_if rule.I1 (place_of t) (clashes s earlier (number_of t))))
+      (earlier_refusal given (refusal_if rule.I1 (place_of t) (clashes s earlier (number_of t))))
 
   -- I4 at each variable parameter of a call, behind earlier ones
-  abbrev pub repeats_first : List ℕ → Actuals → Found → Found
+  abbrev pub repeats_first : List ℕ → Actuals → FirstRefusal → FirstRefusal
   repeats_first earlier Nothing given = given
   repeats_first earlier (Pass (ByValue e) rest) given = repeats_first earlier rest given
   repeats_first earlier (Pass (ByReference (Entire y at ss)) rest) given =
-      repeats_first (earlier ++ y ∷ []) rest (lesser given (breaks_if rule.I4 at (is_among y earlier)))
+      repeats_first (earlier ++ y ∷ []) rest (earlier_refusal given (refusal_if rule.I4 at (is_among y earlier)))
 
   -- I5 at each variable parameter of a call of block f
-  abbrev pub passed_first : ℕ → Actuals → Found → Found
+  abbrev pub passed_first : ℕ → Actuals → FirstRefusal → FirstRefusal
   passed_first f Nothing given = given
   passed_first f (Pass (ByValue e) rest) given = passed_first f rest given
   passed_first f (Pass (ByReference (Entire y at ss)) rest) given =
-      passed_first f rest (lesser given (breaks_if rule.I5 at (has_implicit s f y)))
+      passed_first f rest (earlier_refusal given (refusal_if rule.I5 at (has_implicit s f y)))
 
 module _ (s : Sets) (c : Program) where
   -- I6 at the heading of block f, which is called in block d
-  abbrev pub inside_rule : ℕ → ℕ → Place → Found
-  inside_rule d f at = breaks_if rule.I6 at (stands_in c.blocks (length c.blocks) (Some d) f && has_declared s f)
+  abbrev pub inside_rule : ℕ → ℕ → Place → FirstRefusal
+  inside_rule d f at = refusal_if rule.I6 at (stands_in c.blocks (length c.blocks) (Some d) f && has_declared s f)
 
   -- I5, I6 and I9 at a call in block d
-  abbrev pub called_first : Bool → ℕ → ℕ → Place → Actuals → Option Block → Found → Found
+  abbrev pub called_first : Bool → ℕ → ℕ → Place → Actuals → Option Block → FirstRefusal → FirstRefusal
   called_first in_function d f at args None given = given
   called_first in_function d f at args (Some k) given =
-      lesser (lesser (passed_first s f args given) (inside_rule d f k.at))
-      (breaks_if rule.I9 at (in_function && stops_of s f))
+      earlier_refusal (earlier_refusal (passed_first s f args given) (inside_rule d f k.at))
+      (refusal_if rule.I9 at (in_function && stops_of s f))
 
   -- at a site in block d, which is a function or not
-  abbrev pub site_first : Bool → ℕ → Site → Found → Found
+  abbrev pub site_first : Bool → ℕ → Site → FirstRefusal → FirstRefusal
   site_first in_function d (SplitsAt parts) given = parts_first s [] parts given
   site_first in_function d (SpreadsAt at x t) given =
-      lesser given (breaks_if rule.I2 at (some_in (targets_of s (number_of t)) is_any))
+      earlier_refusal given (refusal_if rule.I2 at (some_in (targets_of s (number_of t)) is_any))
   site_first in_function d (LoopsAt x at t) given =
-      lesser given (breaks_if rule.I3 at (has (targets_of s (number_of t)) x))
+      earlier_refusal given (refusal_if rule.I3 at (has (targets_of s (number_of t)) x))
   site_first in_function d (CallsAt f at args) given =
       called_first in_function d f at args (slice_get c.blocks f) (repeats_first s [] args given)
-  site_first in_function d (StopsAt at) given = lesser given (breaks_if rule.I9 at in_function)
+  site_first in_function d (StopsAt at) given = earlier_refusal given (refusal_if rule.I9 at in_function)
 
   -- I7 at a parameter of a function
-  abbrev pub formal_rule : Option declared.Variable → Found
+  abbrev pub formal_rule : Option declared.Variable → FirstRefusal
   formal_rule None = None
-  formal_rule (Some i) = breaks_if rule.I7 i.at (is_reference i.role)
+  formal_rule (Some i) = refusal_if rule.I7 i.at (is_reference i.role)
 
   -- I7 at each parameter
-  abbrev pub formals_first : List ℕ → Found → Found
+  abbrev pub formals_first : List ℕ → FirstRefusal → FirstRefusal
   formals_first [] given = given
-  formals_first (x ∷ xs) given = formals_first xs (lesser given (formal_rule (slice_get c.variables x)))
+  formals_first (x ∷ xs) given = formals_first xs (earlier_refusal given (formal_rule (slice_get c.variables x)))
 
   -- I7 and I8 at the heading of a function
-  abbrev pub heading_first : Option ℕ → ℕ → Block → Found → Found
+  abbrev pub heading_first : Option ℕ → ℕ → Block → FirstRefusal → FirstRefusal
   heading_first None b k given = given
-  heading_first (Some x) b k given = lesser (formals_first k.formals given)
-      (breaks_if rule.I8 k.at (some_in (implicit_targets_of s b) is_any))
+  heading_first (Some x) b k given = earlier_refusal (formals_first k.formals given)
+      (refusal_if rule.I8 k.at (some_in (implicit_targets_of s b) is_any))
 
   -- the blocks from a number on
-  abbrev pub blocks_first : ℕ → List Block → Found → Found
+  abbrev pub blocks_first : ℕ → List Block → FirstRefusal → FirstRefusal
   blocks_first b [] given = given
   blocks_first b (k ∷ ks) given = blocks_first (suc b) ks
       (statement_first (site_first (is_function k.answer) b) k.body (heading_first k.answer b k given))
 
   -- the first broken rule of interference of a program
-  abbrev pub rules_first : Found
+  abbrev pub rules_first : FirstRefusal
   rules_first = blocks_first 0 c.blocks None

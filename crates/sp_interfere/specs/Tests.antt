@@ -6,7 +6,7 @@ use Rattle.std.specs.List.{list_any}
 use Rattle.sp_varsets.specs.declared.sets.Sets.{Sets}
 use Rattle.sp_varsets.specs.declared.var_set.VarSet.{VarSet}
 use Rattle.sp_varsets.specs.declared.union.VarUnion.{VarUnion}
-use Rattle.sp_varsets.specs.Members.{has, joined}
+use Rattle.sp_varsets.specs.Members.{has, union_has}
 use Rattle.sp_varsets.specs.AreSets.{targets_of, expressions_of, implicit_targets_of, implicit_expressions_of}
 
 -- a number below n passes the test
@@ -61,4 +61,4 @@ module _ (s : Sets) where
 -- the union, of the first 8,256 variables, holds those that one of these statements has
 pub record Joins (u : VarUnion) (in_one : ℕ → ℕ → Bool) (numbers : List ℕ) : Type 0 where
   pub from : u.first ≡ 0
-  pub all : (x : ℕ) → x < 8256 → joined u x ≡ list_any (λ m. in_one m x) numbers
+  pub all : (x : ℕ) → x < 8256 → union_has u x ≡ list_any (λ m. in_one m x) numbers

@@ -3,27 +3,29 @@
 -- contracts of the walks cite it; what is done at a site is left open.
 use Rattle.std.specs.Prelude.{List, [], ◌∷◌, Option, Some, None}
 use Rattle.sp_base.specs.declared.place.Place.{Place}
-use Rattle.sp_tree.specs.Found.{Found}
-use Rattle.sp_tree.specs.PlainChecked.{Expression, At, ExpressionForm, Number, Read, Unary, Binary, Apply, Standard}
+use Rattle.sp_tree.specs.PhaseResults.{FirstRefusal}
+use Rattle.sp_tree.specs.PlainChecked.{Expression, ExpressionAt, ExpressionForm, Number, Read, Unary, Binary, Apply}
+use Rattle.sp_tree.specs.PlainChecked.{Standard}
 use Rattle.sp_tree.specs.PlainChecked.{Variable, Entire, Selectors, Whole, Select, Index, Field, Actuals, Nothing, Pass}
 use Rattle.sp_tree.specs.PlainChecked.{ByValue, ByReference, Expressions, NoExpression, AndExpression, Statement, Does}
 use Rattle.sp_tree.specs.PlainChecked.{Form, Empty, Assign, Call, Sequence, If, While, Repeat, For, Case, Parallel}
 use Rattle.sp_tree.specs.PlainChecked.{Forall, Assume, ReadValue, ReadLine, WriteValue, WriteText, WriteLine, Open}
-use Rattle.sp_tree.specs.PlainChecked.{Send, Receive, Other, NoElse, Else, Statements, NoStatement, AndThen, On, Arms}
+use Rattle.sp_tree.specs.PlainChecked.{Send, Receive, ElsePart, NoElse, Else, Statements, NoStatement, AndThen, On}
+use Rattle.sp_tree.specs.PlainChecked.{Arms}
 use Rattle.sp_tree.specs.PlainChecked.{NoArm, Or}
 use Rattle.sp_tree.specs.Sites.{Site, SplitsAt, SpreadsAt, LoopsAt, CallsAt, StopsAt}
 
 -- from one item to the next
-abbrev pub each_first : {A : Type 0} → (A → Found → Found) → List A → Found → Found
+abbrev pub each_first : {A : Type 0} → (A → FirstRefusal → FirstRefusal) → List A → FirstRefusal → FirstRefusal
 each_first one [] given = given
 each_first one (x ∷ xs) given = each_first one xs (one x given)
 
-module _ (site : Site → Found → Found) where
+module _ (site : Site → FirstRefusal → FirstRefusal) where
   abbrev mutual
-    pub expression_first : Expression → Found → Found
-    expression_first (At at k form) given = form_first form given
+    pub expression_first : Expression → FirstRefusal → FirstRefusal
+    expression_first (ExpressionAt at k form) given = form_first form given
 
-    pub form_first : ExpressionForm → Found → Found
+    pub form_first : ExpressionForm → FirstRefusal → FirstRefusal
     form_first (Number n) given = given
     form_first (Read v) given = variable_first v given
     form_first (Unary op a) given = expression_first a given
@@ -31,32 +33,32 @@ module _ (site : Site → Found → Found) where
     form_first (Apply f at args) given = actuals_first args (site (CallsAt f at args) given)
     form_first (Standard f args) given = parameter_first args given
 
-    pub parameter_first : Expressions → Found → Found
+    pub parameter_first : Expressions → FirstRefusal → FirstRefusal
     parameter_first NoExpression given = given
     parameter_first (AndExpression a rest) given = expression_first a given
 
-    pub variable_first : Variable → Found → Found
+    pub variable_first : Variable → FirstRefusal → FirstRefusal
     variable_first (Entire x at ss) given = selectors_first ss given
 
-    pub selectors_first : Selectors → Found → Found
+    pub selectors_first : Selectors → FirstRefusal → FirstRefusal
     selectors_first Whole given = given
     selectors_first (Select (Index e) rest) given = selectors_first rest (expression_first e given)
     selectors_first (Select (Field f) rest) given = selectors_first rest given
 
-    pub actuals_first : Actuals → Found → Found
+    pub actuals_first : Actuals → FirstRefusal → FirstRefusal
     actuals_first Nothing given = given
     actuals_first (Pass (ByValue e) rest) given = actuals_first rest (expression_first e given)
     actuals_first (Pass (ByReference v) rest) given = actuals_first rest (variable_first v given)
 
-  abbrev pub width_first : Option Expression → Found → Found
+  abbrev pub width_first : Option Expression → FirstRefusal → FirstRefusal
   width_first None given = given
   width_first (Some e) given = expression_first e given
 
   abbrev mutual
-    pub statement_first : Statement → Found → Found
+    pub statement_first : Statement → FirstRefusal → FirstRefusal
     statement_first (Does n at form) given = statement_form_first at form given
 
-    pub statement_form_first : Place → Form → Found → Found
+    pub statement_form_first : Place → Form → FirstRefusal → FirstRefusal
     statement_form_first at Empty given = given
     statement_form_first at (Assign v e) given = expression_first e (variable_first v given)
     statement_form_first at (Call f args) given = actuals_first args (site (CallsAt f at args) given)
@@ -81,14 +83,14 @@ module _ (site : Site → Found → Found) where
     statement_form_first at (Send c e) given = expression_first e (expression_first c (site (StopsAt at) given))
     statement_form_first at (Receive c v) given = variable_first v (expression_first c (site (StopsAt at) given))
 
-    pub other_first : Other → Found → Found
+    pub other_first : ElsePart → FirstRefusal → FirstRefusal
     other_first NoElse given = given
     other_first (Else s) given = statement_first s given
 
-    pub statements_first : Statements → Found → Found
+    pub statements_first : Statements → FirstRefusal → FirstRefusal
     statements_first NoStatement given = given
     statements_first (AndThen s rest) given = statements_first rest (statement_first s given)
 
-    pub arms_first : Arms → Found → Found
+    pub arms_first : Arms → FirstRefusal → FirstRefusal
     arms_first NoArm given = given
     arms_first (Or (On cs s) rest) given = arms_first rest (statement_first s given)

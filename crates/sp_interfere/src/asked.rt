@@ -8,7 +8,7 @@ ghost use Rattle.sp_interfere.specs.Tests.{some_in, is_any, is_declared, meets, 
 use sp_varsets::{Sets, VarSet};
 
 /// Whether the set has a variable.
-#[tactic(auto, using(crate::proofs::Some::any_is))]
+#[tactic(auto, using(crate::proofs::SetTests::any_is))]
 pub fn is_any(a: &VarSet) -> bool
     ensures { result ≡ some_in a.now is_any }
 {

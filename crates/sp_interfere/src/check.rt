@@ -3,7 +3,7 @@
 ghost use Rattle.std.specs.Prelude.{◌≡◌, ◌∷◌, [], ◌≤◌, ◌^◌, None, map, length, slice_get, Ok};
 ghost use Rattle.std.specs.Option.{option_copied, option_map};
 ghost use Rattle.sp_tree.specs.CheckedOf.{block_of, program_of};
-ghost use Rattle.sp_tree.specs.Found.{outcome};
+ghost use Rattle.sp_tree.specs.PhaseResults.{phase_result};
 ghost use Rattle.sp_varsets.specs.AreSets.{AreSets, HaveEarlierParents, implicit_targets_of};
 ghost use Rattle.sp_interfere.specs.Tests.{some_in, is_any};
 ghost use Rattle.sp_interfere.specs.Rules.{is_reference, is_function, formal_rule, formals_first, heading_first};
@@ -101,7 +101,7 @@ fn rules_first(c: &Checked, s: &Sets) -> Found
 /// It recurses as deep as the longest chain of operators is long.
 pub fn check_sets(checked: &Checked, sets: &Sets) -> Result<(), Refusal>
     requires { length checked.now.blocks ≤ 2 ^ 32 }
-    ensures first { result ≡ outcome (rules_first sets.now (program_of checked.now)) tt }
+    ensures first { result ≡ phase_result (rules_first sets.now (program_of checked.now)) tt }
     ensures verdict { AreSets (program_of checked.now) sets.now → HaveEarlierParents (program_of checked.now)
         → IsVerdict (program_of checked.now) result }
 {

@@ -3,7 +3,7 @@
 ghost use Rattle.std.specs.Prelude.{◌≡◌, ◌<◌, ◌⊎◌, ℕ, List, [], ◌∷◌, ◌++◌, map, true, false};
 ghost use Rattle.sp_tree.specs.CheckedOf.{statement_of, statements};
 ghost use Rattle.sp_base.specs.declared.rule.Rule.TheVariants.{I1};
-ghost use Rattle.sp_tree.specs.Found.{breaks_if};
+ghost use Rattle.sp_tree.specs.PhaseResults.{refusal_if};
 ghost use Rattle.sp_tree.specs.Interferes.{place_of};
 ghost use Rattle.sp_varsets.specs.Parts.{number_of};
 ghost use Rattle.sp_varsets.specs.Members.{has};
@@ -61,7 +61,7 @@ fn clashes_before(s: &Sets, earlier: &[Stmt], n: u32, targets: &VarUnion, used: 
 fn part_rule(s: &Sets, earlier: &[Stmt], t: &Stmt, targets: &VarUnion, used: &VarUnion) -> Found
     requires targets { Joins targets.now (is_target s.now) (numbers_of (statements (map statement_of earlier.now))) }
     requires used { Joins used.now (is_used s.now) (numbers_of (statements (map statement_of earlier.now))) }
-    ensures { result ≡ breaks_if I1 (place_of (statement_of t.now))
+    ensures { result ≡ refusal_if I1 (place_of (statement_of t.now))
         (clashes s.now (numbers_of (statements (map statement_of earlier.now))) (number_of (statement_of t.now))) }
 {
     breaks_if(

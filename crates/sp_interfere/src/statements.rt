@@ -2,7 +2,7 @@
 
 ghost use Rattle.std.specs.Prelude.{◌≡◌, map, option_map};
 ghost use Rattle.sp_tree.specs.CheckedOf.{expression_of, variable_of, width_of, statement_of, statement_form_of};
-ghost use Rattle.sp_tree.specs.CheckedOf.{statements, arms, arm_of, other, sends, receives, program_of};
+ghost use Rattle.sp_tree.specs.CheckedOf.{statements, arms, arm_of, else_part, sends, receives, program_of};
 ghost use Rattle.sp_tree.specs.Sites.{StopsAt};
 ghost use Rattle.sp_interfere.specs.Rules.{site_first};
 ghost use Rattle.sp_interfere.specs.Walk.{statement_first, statement_form_first, statements_first, arms_first};
@@ -153,7 +153,7 @@ fn other_first(
     first: Found,
 ) -> Found
     ensures { result ≡ other_first (site_first s.now (program_of c.now) in_function d)
-        (other (option_map statement_of x.now)) first }
+        (else_part (option_map statement_of x.now)) first }
 {
     match x {
         None => first,

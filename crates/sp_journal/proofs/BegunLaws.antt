@@ -6,14 +6,14 @@ use Rattle.sp_journal.specs.declared.entry.Entry.{Entry}
 use Rattle.sp_journal.specs.declared.entry.Journal.{Journal}
 use Rattle.sp_journal.specs.declared.version.Version.{Version}
 use Rattle.sp_journal.specs.declared.version.Version.TheVariants as version
-use Rattle.sp_journal.specs.Births.{Births, at_start, after_entry, births_from, births, CanFollow}
+use Rattle.sp_journal.specs.Births.{Births, first_births, births_after_entry, births_from, births, CanFollow}
 use Rattle.sp_journal.specs.Texts.{entry_text, entries_text, heading, journal_text, CanHold, AreHeld, IsTextOf}
 use Rattle.sp_journal.specs.Texts.{IsFirstBad, bad_heading, bad_entry}
 use Rattle.sp_journal.specs.Reading.{first_line}
-use Rattle.sp_journal.specs.Reader.{CanCome, IsNext}
-use Rattle.sp_journal.specs.Begun.{Left, Begun}
+use Rattle.sp_journal.specs.Reader.{CanCome, IsEntryOfLine}
+use Rattle.sp_journal.specs.Begun.{IsTextOfRest, Begun}
 use Rattle.sp_journal.specs.Splits.{first_split, with_first}
-use Rattle.sp_journal.proofs.Facts.{same}
+use Rattle.sp_journal.proofs.Facts.{equal_of_test}
 use Rattle.sp_journal.proofs.SplitLaws.{first_at}
 use Rattle.sp_journal.proofs.TextLaws.{parts_first, parts_second, none_parts}
 use Rattle.sp_journal.proofs.BirthLaws.{Lawful, lawful, births_last, nameable_last}
@@ -26,7 +26,8 @@ first_joins c (x ∷ xs) a b e = by (x == c) refl (first_split c xs) (λ y z g. 
   where
     by : (t : Bool) → x == c ≡ t → (o : Option (List ℕ × List ℕ)) → ((y z : List ℕ) → o ≡ Some (y, z) → xs ≡ y ++ c ∷ z)
         → cond t (Some ([], xs)) (with_first x o) ≡ Some (a, b) → x ∷ xs ≡ a ++ c ∷ b
-    by true f o h g = (λ i. same x c f i ∷ xs) ∙ (λ i. parts_first [] xs a b g i ++ c ∷ parts_second [] xs a b g i)
+    by true f o h g = (λ i. equal_of_test x c f i ∷ xs)
+        ∙ (λ i. parts_first [] xs a b g i ++ c ∷ parts_second [] xs a b g i)
     by false f None h g = absurd (none_parts a b g)
     by false f (Some p) h g = ap (λ (y : List ℕ). x ∷ y) (h p.0 p.1 refl)
         ∙ (λ i. parts_first (x ∷ p.0) p.1 a b g i ++ c ∷ parts_second (x ∷ p.0) p.1 a b g i)
@@ -43,9 +44,9 @@ entries_last : (s : Births) (es : List Entry) (e : Entry)
     → entries_text s (es ++ e ∷ []) ≡ entries_text s es ++ (entry_text (births_from s es) e ++ codes "\n")
 entries_last s [] e = append-nil (entry_text s e ++ codes "\n")
 entries_last s (x ∷ es) e = ap (λ (y : List ℕ). (entry_text s x ++ codes "\n") ++ y)
-    (entries_last (after_entry s x) es e) ∙ sym
-    (append_assoc (entry_text s x ++ codes "\n") (entries_text (after_entry s x) es)
-    (entry_text (births_from (after_entry s x) es) e ++ codes "\n"))
+    (entries_last (births_after_entry s x) es e) ∙ sym
+    (append_assoc (entry_text s x ++ codes "\n") (entries_text (births_after_entry s x) es)
+    (entry_text (births_from (births_after_entry s x) es) e ++ codes "\n"))
 
 held_last : (v : Version) (es : List Entry) (e : Entry) → AreHeld v es → CanHold v e.event → AreHeld v (es ++ e ∷ [])
 held_last v [] e a h = (h, tt)
@@ -53,12 +54,12 @@ held_last v (x ∷ es) e a h = (a.0, held_last v es e a.1 h)
 
 -- with no text left no entries are
 pub nothing_left : (v : Version) (s : Births) → Lawful s → (rest : List ℕ) (more : List Entry) → rest ≡ []
-    → Left v s rest more → more ≡ []
+    → IsTextOfRest v s rest more → more ≡ []
 nothing_left v s l rest [] e h = refl
 nothing_left v s l rest (x ∷ more) e h =
-    absurd (none_parts (entry_text s x) (entries_text (after_entry s x) more)
+    absurd (none_parts (entry_text s x) (entries_text (births_after_entry s x) more)
     (sym (ap (first_split 10) (sym h.text ∙ e))
-    ∙ entry_line s l x h.nameable.0 (entries_text (after_entry s x) more)))
+    ∙ entry_line s l x h.nameable.0 (entries_text (births_after_entry s x) more)))
 
 -- with text left there is a first entry, on the first line
 pub record FirstLeft (v : Version) (s : Births) (rest : List ℕ) (more : List Entry) : Type 0 where
@@ -66,18 +67,18 @@ pub record FirstLeft (v : Version) (s : Births) (rest : List ℕ) (more : List E
   pub others : List Entry
   pub is : more ≡ entry ∷ others
   pub can_come : CanCome v s entry
-  pub line : first_split 10 rest ≡ Some (entry_text s entry, entries_text (after_entry s entry) others)
-  pub left : Left v (after_entry s entry) (entries_text (after_entry s entry) others) others
+  pub line : first_split 10 rest ≡ Some (entry_text s entry, entries_text (births_after_entry s entry) others)
+  pub left : IsTextOfRest v (births_after_entry s entry) (entries_text (births_after_entry s entry) others) others
 
 pub first_left : (v : Version) (s : Births) → Lawful s → (rest : List ℕ) (more : List Entry) → rest ≢ []
-    → Left v s rest more → FirstLeft v s rest more
+    → IsTextOfRest v s rest more → FirstLeft v s rest more
 first_left v s l rest [] n h = absurd (n h.text)
 first_left v s l rest (x ∷ more) n h = record {
   entry = x;
   others = more;
   is = refl;
   can_come = (h.nameable.0, h.held.0);
-  line = ap (first_split 10) h.text ∙ entry_line s l x h.nameable.0 (entries_text (after_entry s x) more);
+  line = ap (first_split 10) h.text ∙ entry_line s l x h.nameable.0 (entries_text (births_after_entry s x) more);
   left = record { nameable = h.nameable.1; held = h.held.1; text = refl };
 }
 
@@ -120,14 +121,14 @@ module _ (bytes : List ℕ) (v : Version) (es : List Entry) (rest : List ℕ) (b
   none_here some bad w k t =
       let b = begun.begins w k t in
       let f = first_left v (births es) s_lawful rest b.1 some b.3 in
-      bad f.entry (entries_text (after_entry (births es) f.entry) f.others) f.can_come f.line
+      bad f.entry (entries_text (births_after_entry (births es) f.entry) f.others) f.can_come f.line
 
   -- one entry more
   pub begun_on : (e : Entry) (line after : List ℕ) (fs : List Entry) → Some (line, after) ≡ first_split 10 rest
-      → IsNext v (births es) line (Some e) → fs ≡ es ++ e ∷ [] → Begun bytes v fs after
+      → IsEntryOfLine v (births es) line (Some e) → fs ≡ es ++ e ∷ [] → Begun bytes v fs after
   begun_on e line after fs f next g = subst (λ (x : List Entry). Begun bytes v x after) (sym g) (record {
     whole = record {
-      nameable = nameable_last at_start es e begun.whole.nameable next.0.0;
+      nameable = nameable_last first_births es e begun.whole.nameable next.0.0;
       held = held_last v es e begun.whole.held next.0.1;
       text = refl;
     };
@@ -136,24 +137,29 @@ module _ (bytes : List ℕ) (v : Version) (es : List Entry) (rest : List ℕ) (b
         (first_joins 10 rest line after (sym f) ∙ ap (λ (x : List ℕ). x ++ 10 ∷ after) next.1
         ∙ sym (line_is (births es) e after))
         ∙ sym (append_assoc (journal_text v (record { entries = es })) (entry_text (births es) e ++ codes "\n") after)
-        ∙ ap (λ (x : List ℕ). x ++ after) (append_assoc (heading v) (entries_text at_start es)
+        ∙ ap (λ (x : List ℕ). x ++ after) (append_assoc (heading v) (entries_text first_births es)
         (entry_text (births es) e ++ codes "\n")
-        ∙ ap (λ (x : List ℕ). heading v ++ x) (sym (entries_last at_start es e)));
+        ∙ ap (λ (x : List ℕ). heading v ++ x) (sym (entries_last first_births es e)));
     begins = λ w k t.
         let b = begun.begins w k t in
         let h = first_left v (births es) s_lawful rest b.1 not_empty b.3 in
-        let same : Some (entry_text (births es) h.entry, entries_text (after_entry (births es) h.entry) h.others)
+        let equal_of_test : Some (
+          entry_text (births es) h.entry,
+          entries_text (births_after_entry (births es) h.entry)
+              h.others,
+        )
         ≡ Some (line, after) = sym h.line ∙ sym f in
-        let entry : h.entry ≡ e = next.2 h.entry h.can_come (sym (parts_first _ _ _ _ same)) in
-        let others : Left v (after_entry (births es) e) after h.others =
-        subst (λ (x : Entry). Left v (after_entry (births es) x) after h.others) entry
-        (subst (λ (x : List ℕ). Left v (after_entry (births es) h.entry) x h.others) (parts_second _ _ _ _ same)
+        let entry : h.entry ≡ e = next.2 h.entry h.can_come (sym (parts_first _ _ _ _ equal_of_test)) in
+        let others : IsTextOfRest v (births_after_entry (births es) e) after h.others =
+        subst (λ (x : Entry). IsTextOfRest v (births_after_entry (births es) x) after h.others) entry
+        (subst (λ (x : List ℕ). IsTextOfRest v (births_after_entry (births es) h.entry) x h.others)
+        (parts_second _ _ _ _ equal_of_test)
         h.left) in (
           b.0,
           h.others,
           b.2 ∙ ap (λ (x : List Entry). es ++ x) (h.is ∙ ap (λ (x : Entry). x ∷ h.others) entry)
               ∙ sym (append_assoc es (e ∷ []) h.others),
-          subst (λ (x : Births). Left v x after h.others) (sym (births_last es e)) others,
+          subst (λ (x : Births). IsTextOfRest v x after h.others) (sym (births_last es e)) others,
         );
   })
     where
@@ -195,15 +201,16 @@ begun_first bytes first rest v f e = record {
   joined = first_joins 10 bytes first rest (sym f) ∙ ap (λ (x : List ℕ). x ++ 10 ∷ rest) e ∙ heading_is v rest
       ∙ ap (λ (x : List ℕ). x ++ rest) (sym (append-nil (heading v)));
   begins = λ w k t.
-      let g : Some (first, rest) ≡ Some (first_line w, entries_text at_start k.entries) = f ∙ ap (first_split 10) t.text
-      ∙ line_of_version w (entries_text at_start k.entries) in
-      let same : w ≡ v = same_version w v (sym (parts_first _ _ _ _ g) ∙ e) in (
-        same,
+      let g : Some (first, rest) ≡ Some (first_line w, entries_text first_births k.entries) =
+      f ∙ ap (first_split 10) t.text
+      ∙ line_of_version w (entries_text first_births k.entries) in
+      let equal_of_test : w ≡ v = same_version w v (sym (parts_first _ _ _ _ g) ∙ e) in (
+        equal_of_test,
         k.entries,
         refl,
         record {
           nameable = t.nameable;
-          held = subst (λ (x : Version). AreHeld x k.entries) same t.held;
+          held = subst (λ (x : Version). AreHeld x k.entries) equal_of_test t.held;
           text = parts_second _ _ _ _ g;
         },
       );
@@ -216,5 +223,5 @@ bad_first bytes bad = bad_heading refl (λ v rest e. bad v rest (ap (first_split
 
 pub none_first : (bytes : List ℕ) → ((v : Version) (rest : List ℕ) → first_split 10 bytes ≡ Some (first_line v, rest)
     → ⊥) → (w : Version) (k : Journal) → IsTextOf w k bytes → ⊥
-none_first bytes bad w k t = bad w (entries_text at_start k.entries)
-    (ap (first_split 10) t.text ∙ line_of_version w (entries_text at_start k.entries))
+none_first bytes bad w k t = bad w (entries_text first_births k.entries)
+    (ap (first_split 10) t.text ∙ line_of_version w (entries_text first_births k.entries))

@@ -8,7 +8,8 @@ use Rattle.sp_journal.specs.declared.entry.Entry.{Entry}
 use Rattle.sp_journal.specs.declared.entry.Event.{Event}
 use Rattle.sp_journal.specs.declared.entry.Event.TheVariants as event
 use Rattle.sp_journal.specs.Names.{Name}
-use Rattle.sp_journal.specs.Births.{Births, at_start, after_event, after_entry, births_from, births, CanFollow}
+use Rattle.sp_journal.specs.Births.{Births, first_births, births_after_event, births_after_entry, births_from, births}
+use Rattle.sp_journal.specs.Births.{CanFollow}
 use Rattle.sp_journal.specs.Births.{GivesNumbers, NameableFrom}
 use Rattle.sp_journal.proofs.TextLaws.{IsSmall}
 use Rattle.sp_journal.proofs.Facts.{here, between, below, above}
@@ -44,7 +45,7 @@ pub record Lawful (s : Births) : Type 0 where
   pub small_nth : (c : ℕ) → c < s.channels → (s.opening c).nth < 2 ^ 32
   pub one_opening : (c d : ℕ) → c < s.channels → d < s.channels → s.opening c ≡ s.opening d → c ≡ d
 
-pub lawful_start : Lawful at_start
+pub lawful_start : Lawful first_births
 lawful_start = record {
   some = omega arith;
   few = omega arith;
@@ -64,7 +65,7 @@ lawful_start = record {
 module _ (s : Births) (lawful : Lawful s) (p n : ℕ) (there : p < s.processes) (fits : s.processes + n ≤ 2 ^ 32)
     (fork : s.forks p < 2 ^ 32) where
   abbrev pub after : Births
-  after = after_event s p (event.Fork n)
+  after = births_after_event s p (event.Fork n)
 
   pub old_name : (q : ℕ) → q < s.processes → after.name q ≡ s.name q
   old_name q l = ap (λ b. cond b ((s.forks p, q - s.processes) ∷ s.name p) (s.name q))
@@ -187,7 +188,7 @@ module _ (s : Births) (lawful : Lawful s) (p n : ℕ) (there : p < s.processes) 
 module _ (s : Births) (lawful : Lawful s) (p : ℕ) (there : p < s.processes) (fits : s.channels < 2 ^ 32)
     (small : s.opens p < 2 ^ 32) where
   abbrev pub opened : Births
-  opened = after_event s p event.Open
+  opened = births_after_event s p event.Open
 
   abbrev pub this : Opening
   this = record { owner = p; nth = s.opens p }
@@ -263,7 +264,7 @@ module _ (s : Births) (lawful : Lawful s) (p : ℕ) (there : p < s.processes) (f
   }
 
 by_event : (s : Births) → Lawful s → (p : ℕ) → p < s.processes → (e : Event) → GivesNumbers s p e
-    → Lawful (after_event s p e)
+    → Lawful (births_after_event s p e)
 by_event s l p t (event.Fork n) g = fork_lawful s l p n t g.0 g.1
 by_event s l p t event.Open g = open_lawful s l p t g.0 g.1
 by_event s l p t (event.Send c) g = l
@@ -273,30 +274,30 @@ by_event s l p t (event.Fault f) g = l
 by_event s l p t event.Laid g = l
 by_event s l p t event.Pause g = l
 
-pub lawful_after : (s : Births) (e : Entry) → Lawful s → CanFollow s e → Lawful (after_entry s e)
+pub lawful_after : (s : Births) (e : Entry) → Lawful s → CanFollow s e → Lawful (births_after_entry s e)
 lawful_after s e l f = by_event s l e.process f.0 e.event f.1
 
 pub lawful_from : (s : Births) (es : List Entry) → Lawful s → NameableFrom s es → Lawful (births_from s es)
 lawful_from s [] l f = l
-lawful_from s (e ∷ es) l f = lawful_from (after_entry s e) es (lawful_after s e l f.0) f.1
+lawful_from s (e ∷ es) l f = lawful_from (births_after_entry s e) es (lawful_after s e l f.0) f.1
 
 -- what a nameable journal gives is lawful
-pub lawful : (es : List Entry) → NameableFrom at_start es → Lawful (births es)
-lawful es f = lawful_from at_start es lawful_start f
+pub lawful : (es : List Entry) → NameableFrom first_births es → Lawful (births es)
+lawful es f = lawful_from first_births es lawful_start f
 
 -- the last entry
 pub births_from_last : (s : Births) (es : List Entry) (e : Entry)
-    → births_from s (es ++ e ∷ []) ≡ after_entry (births_from s es) e
+    → births_from s (es ++ e ∷ []) ≡ births_after_entry (births_from s es) e
 births_from_last s [] e = refl
-births_from_last s (x ∷ es) e = births_from_last (after_entry s x) es e
+births_from_last s (x ∷ es) e = births_from_last (births_after_entry s x) es e
 
-pub births_last : (es : List Entry) (e : Entry) → births (es ++ e ∷ []) ≡ after_entry (births es) e
-births_last es e = births_from_last at_start es e
+pub births_last : (es : List Entry) (e : Entry) → births (es ++ e ∷ []) ≡ births_after_entry (births es) e
+births_last es e = births_from_last first_births es e
 
 pub nameable_last : (s : Births) (es : List Entry) (e : Entry) → NameableFrom s es → CanFollow (births_from s es) e
     → NameableFrom s (es ++ e ∷ [])
 nameable_last s [] e f g = (g, tt)
-nameable_last s (x ∷ es) e f g = (f.0, nameable_last (after_entry s x) es e f.1 g)
+nameable_last s (x ∷ es) e f g = (f.0, nameable_last (births_after_entry s x) es e f.1 g)
 
 module _ (s : Births) (lawful : Lawful s) (q : ℕ) (there : q < s.processes) where
   no_root : (b : Birth) → Some b ≡ s.birth q → 0 < q
@@ -322,9 +323,9 @@ module _ (s : Births) (lawful : Lawful s) (q : ℕ) (there : q < s.processes) wh
 -- no entry takes a process away
 pub processes_grow : (s : Births) (es : List Entry) → s.processes ≤ (births_from s es).processes
 processes_grow s [] = omega arith
-processes_grow s (e ∷ es) = let a = by e.event in let b = processes_grow (after_entry s e) es in omega arith
+processes_grow s (e ∷ es) = let a = by e.event in let b = processes_grow (births_after_entry s e) es in omega arith
   where
-    by : (v : Event) → s.processes ≤ (after_event s e.process v).processes
+    by : (v : Event) → s.processes ≤ (births_after_event s e.process v).processes
     by (event.Fork n) = omega arith
     by event.Open = omega arith
     by (event.Send c) = omega arith

@@ -16,7 +16,7 @@ use Rattle.sp_journal.specs.declared.entry.Event.TheVariants as event
 use Rattle.sp_journal.specs.Names.{proc_name, chan_name}
 use Rattle.sp_journal.specs.Births.{Births, channel, CanFollow, GivesNumbers}
 use Rattle.sp_journal.specs.Texts.{way_text, offer_text, event_text, entry_text}
-use Rattle.sp_journal.proofs.SplitLaws.{Within, Without, within_append, within_wider, without_low}
+use Rattle.sp_journal.proofs.SplitLaws.{AllInRange, HasNone, within_append, within_wider, without_low}
 use Rattle.sp_journal.proofs.TextLaws.{digits_within, name_within, channel_within}
 use Rattle.sp_journal.proofs.BirthLaws.{Lawful}
 
@@ -24,7 +24,7 @@ abbrev pub in_line : List ℕ → Bool
 in_line [] = true
 in_line (x ∷ xs) = nat_le 32 x && (nat_le x 122 && in_line xs)
 
-from_test : (xs : List ℕ) → in_line xs ≡ true → Within 32 122 xs
+from_test : (xs : List ℕ) → in_line xs ≡ true → AllInRange 32 122 xs
 from_test [] e = tt
 from_test (x ∷ xs) e =
     let r = second_true (nat_le 32 x) (nat_le x 122 && in_line xs) e in (
@@ -33,7 +33,7 @@ from_test (x ∷ xs) e =
       from_test xs (second_true (nat_le x 122) (in_line xs) r),
     )
 
-fault_within : (f : Fault) → Within 32 122 (fault_name f)
+fault_within : (f : Fault) → AllInRange 32 122 (fault_name f)
 fault_within f = from_test (fault_name f) (by f)
   where
     by : (f : Fault) → in_line (fault_name f) ≡ true
@@ -56,19 +56,19 @@ fault_within f = from_test (fault_name f) (by f)
     by fault.F17 = refl
     by fault.F18 = refl
 
-way_within : (w : Way) → Within 32 122 (way_text w)
+way_within : (w : Way) → AllInRange 32 122 (way_text w)
 way_within way.Send = from_test (codes "send") refl
 way_within way.Receive = from_test (codes "receive") refl
 
 module _ (s : Births) (lawful : Lawful s) where
-  offer_within : (w : Way) (c : ℕ) → c < s.channels → Within 32 122 (offer_text s w c)
+  offer_within : (w : Way) (c : ℕ) → c < s.channels → AllInRange 32 122 (offer_text s w c)
   offer_within w c l = within_append 32 122 (way_text w ++ codes " ") (channel_text (chan_name (channel s c)))
       (within_append 32 122 (way_text w) (codes " ") (way_within w) (from_test (codes " ") refl))
       (within_wider 35 57 32 122 (channel_text (chan_name (channel s c))) (omega arith) (omega arith)
       (channel_within (channel s c) (lawful.small_names (s.opening c).owner (lawful.owned c l))
       (lawful.small_nth c l)))
 
-  event_within : (p : ℕ) (e : Event) → GivesNumbers s p e → Within 32 122 (event_text s e)
+  event_within : (p : ℕ) (e : Event) → GivesNumbers s p e → AllInRange 32 122 (event_text s e)
   event_within p (event.Fork n) g = within_append 32 122 (codes "fork ") (decimal n) (from_test (codes "fork ") refl)
       (within_wider 48 57 32 122 (decimal n) (omega arith) (omega arith) (digits_within n (let a = g.0 in omega arith)))
   event_within p event.Open g = from_test (codes "open") refl
@@ -81,7 +81,7 @@ module _ (s : Births) (lawful : Lawful s) where
   event_within p event.Pause g = from_test (codes "pause") refl
 
   -- the text of an entry that can come next has no line feed
-  pub one_line : (e : Entry) → CanFollow s e → Without 10 (entry_text s e)
+  pub one_line : (e : Entry) → CanFollow s e → HasNone 10 (entry_text s e)
   one_line e h =
       let n : List ℕ = name_text (proc_name (s.name e.process)) in
       without_low 10 32 122 (entry_text s e) (omega arith)

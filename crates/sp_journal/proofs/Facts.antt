@@ -9,8 +9,8 @@ use Rattle.sp_journal.specs.Queue.{numbers}
 pub here : (j k : ℕ) → j ≡ k → j == k ≡ true
 here j k e = grind (arith, nat_tests)
 
-pub same : (j k : ℕ) → j == k ≡ true → j ≡ k
-same j k e = grind (arith, nat_tests)
+pub equal_of_test : (j k : ℕ) → j == k ≡ true → j ≡ k
+equal_of_test j k e = grind (arith, nat_tests)
 
 pub between : (a q b : ℕ) → a ≤ q → q < b → nat_le a q && nat_lt q b ≡ true
 between a q b l h = grind (arith, nat_tests)

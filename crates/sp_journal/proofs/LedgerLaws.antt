@@ -14,7 +14,7 @@ use Rattle.sp_journal.specs.declared.entry.Event.TheVariants as event
 use Rattle.sp_journal.specs.declared.ledger.Family.{Family}
 use Rattle.sp_journal.specs.declared.ledger.Made.{Made}
 use Rattle.sp_journal.specs.declared.ledger.Ledger.{Ledger}
-use Rattle.sp_journal.specs.Births.{Births, at_start, after_event, births, CanFollow, NameableFrom}
+use Rattle.sp_journal.specs.Births.{Births, first_births, births_after_event, births, CanFollow, NameableFrom}
 use Rattle.sp_journal.specs.Ledger.{IsLedger, birth_in, nothing_made}
 use Rattle.sp_journal.proofs.Facts.{here}
 use Rattle.sp_journal.proofs.BirthLaws.{births_last, nameable_last, old_birth, new_birth, old_opening, new_opening}
@@ -45,11 +45,11 @@ module _ (l m : Ledger) (p : ℕ) (ledger : IsLedger l) where
       abbrev its_family : Family
       its_family = record { first = l.processes; parent = p; fork = was.forks p }
 
-      now_is : births m.journal.entries ≡ after_event was p (event.Fork n)
+      now_is : births m.journal.entries ≡ births_after_event was p (event.Fork n)
       now_is = ap births journal ∙ births_last l.journal.entries (record { process = p; event = event.Fork n })
 
-      fork_families : (q : ℕ) → q < (after_event was p (event.Fork n)).processes
-          → (after_event was p (event.Fork n)).birth q ≡ birth_in (l.families ++ its_family ∷ []) q
+      fork_families : (q : ℕ) → q < (births_after_event was p (event.Fork n)).processes
+          → (births_after_event was p (event.Fork n)).birth q ≡ birth_in (l.families ++ its_family ∷ []) q
       fork_families q h = ⊎_elim
           (λ (o : q < was.processes).
           let k : q < l.processes = let e = ledger.processes in omega arith in
@@ -64,7 +64,7 @@ module _ (l m : Ledger) (p : ℕ) (ledger : IsLedger l) where
           (cases_lt q was.processes)
 
       fork_made : (q : ℕ) → unwrap_or (hash.get nat_eq m.made q) nothing_made
-          ≡ record { forks = (after_event was p (event.Fork n)).forks q; opens = was.opens q }
+          ≡ record { forks = (births_after_event was p (event.Fork n)).forks q; opens = was.opens q }
       fork_made q = ap (λ (o : Option Made). unwrap_or o nothing_made) (made q) ∙ ⊎_elim
           (λ (e : p ≡ q).
           let f : was.opens p ≡ was.opens q = ap was.opens e in
@@ -74,16 +74,16 @@ module _ (l m : Ledger) (p : ℕ) (ledger : IsLedger l) where
 
       pub fork_ledger : IsLedger m
       fork_ledger = record {
-        nameable = subst (λ es. NameableFrom at_start es) (sym journal)
-            (nameable_last at_start l.journal.entries _ ledger.nameable next);
+        nameable = subst (λ es. NameableFrom first_births es) (sym journal)
+            (nameable_last first_births l.journal.entries _ ledger.nameable next);
         processes = processes ∙ ap (λ (x : ℕ). x + n) ledger.processes ∙ ap (λ (s : Births). s.processes) (sym now_is);
         channels = ap length openings ∙ ledger.channels ∙ ap (λ (s : Births). s.channels) (sym now_is);
         openings = subst (λ (s : Births). (c : ℕ) → c < s.channels → slice_get m.openings c ≡ Some (s.opening c))
             (sym now_is) (subst (λ os. (c : ℕ) → c < was.channels → slice_get os c ≡ Some (was.opening c))
             (sym openings) ledger.openings);
         families = subst (λ (s : Births). (q : ℕ) → q < s.processes → s.birth q ≡ birth_in m.families q) (sym now_is)
-            (subst (λ fs. (q : ℕ) → q < (after_event was p (event.Fork n)).processes
-            → (after_event was p (event.Fork n)).birth q ≡ birth_in fs q) (sym families) fork_families);
+            (subst (λ fs. (q : ℕ) → q < (births_after_event was p (event.Fork n)).processes
+            → (births_after_event was p (event.Fork n)).birth q ≡ birth_in fs q) (sym families) fork_families);
         in_order = subst (IsNonDecreasingBy (λ (f : Family). f.first)) (sym families)
             (IsNonDecreasingBy-push (λ (f : Family). f.first) l.families its_family ledger.in_order
             (λ d h. subst (λ x. (get_or l.families (length l.families - 1) d).first ≤ x) (sym ledger.processes)
@@ -110,11 +110,11 @@ module _ (l m : Ledger) (p : ℕ) (ledger : IsLedger l) where
       abbrev its_opening : Opening
       its_opening = record { owner = p; nth = was.opens p }
 
-      then_is : births m.journal.entries ≡ after_event was p event.Open
+      then_is : births m.journal.entries ≡ births_after_event was p event.Open
       then_is = ap births journal ∙ births_last l.journal.entries (record { process = p; event = event.Open })
 
       open_made : (q : ℕ) → unwrap_or (hash.get nat_eq m.made q) nothing_made
-          ≡ record { forks = was.forks q; opens = (after_event was p event.Open).opens q }
+          ≡ record { forks = was.forks q; opens = (births_after_event was p event.Open).opens q }
       open_made q = ap (λ (o : Option Made). unwrap_or o nothing_made) (made q) ∙ ⊎_elim
           (λ (e : p ≡ q).
           let f : was.forks p ≡ was.forks q = ap was.forks e in
@@ -123,7 +123,7 @@ module _ (l m : Ledger) (p : ℕ) (ledger : IsLedger l) where
           (cases_eq p q)
 
       open_openings : (c : ℕ) → c < was.channels + 1
-          → slice_get (l.openings ++ its_opening ∷ []) c ≡ Some ((after_event was p event.Open).opening c)
+          → slice_get (l.openings ++ its_opening ∷ []) c ≡ Some ((births_after_event was p event.Open).opening c)
       open_openings c h = ⊎_elim
           (λ (o : c < was.channels).
           get_before_last l.openings its_opening c (let e = ledger.channels in omega arith) ∙ ledger.openings c o
@@ -138,14 +138,14 @@ module _ (l m : Ledger) (p : ℕ) (ledger : IsLedger l) where
 
       pub open_ledger : IsLedger m
       open_ledger = record {
-        nameable = subst (λ es. NameableFrom at_start es) (sym journal)
-            (nameable_last at_start l.journal.entries _ ledger.nameable next);
+        nameable = subst (λ es. NameableFrom first_births es) (sym journal)
+            (nameable_last first_births l.journal.entries _ ledger.nameable next);
         processes = processes ∙ ledger.processes ∙ ap (λ (s : Births). s.processes) (sym then_is);
         channels = ap length openings ∙ length-append l.openings (its_opening ∷ [])
             ∙ ap (λ (x : ℕ). x + 1) ledger.channels ∙ ap (λ (s : Births). s.channels) (sym then_is);
         openings = subst (λ (s : Births). (c : ℕ) → c < s.channels → slice_get m.openings c ≡ Some (s.opening c))
             (sym then_is) (subst (λ os. (c : ℕ) → c < was.channels + 1
-            → slice_get os c ≡ Some ((after_event was p event.Open).opening c)) (sym openings) open_openings);
+            → slice_get os c ≡ Some ((births_after_event was p event.Open).opening c)) (sym openings) open_openings);
         families = subst (λ (s : Births). (q : ℕ) → q < s.processes → s.birth q ≡ birth_in m.families q) (sym then_is)
             (subst (λ fs. (q : ℕ) → q < was.processes → was.birth q ≡ birth_in fs q) (sym families) ledger.families);
         in_order = subst (IsNonDecreasingBy (λ (f : Family). f.first)) (sym families) ledger.in_order;
@@ -158,7 +158,8 @@ module _ (l m : Ledger) (p : ℕ) (ledger : IsLedger l) where
             (sym then_is) open_made;
       }
 
-  module _ (e : Event) (next : CanFollow was (record { process = p; event = e })) (gives : after_event was p e ≡ was)
+  module _ (e : Event) (next : CanFollow was (record { process = p; event = e }))
+      (gives : births_after_event was p e ≡ was)
       (journal : m.journal.entries ≡ l.journal.entries ++ record { process = p; event = e } ∷ [])
       (processes : m.processes ≡ l.processes) (families : m.families ≡ l.families) (openings : m.openings ≡ l.openings)
       (made : (q : ℕ) → hash.get nat_eq m.made q ≡ hash.get nat_eq l.made q)
@@ -169,8 +170,8 @@ module _ (l m : Ledger) (p : ℕ) (ledger : IsLedger l) where
       -- an event that gives nothing
       pub other_ledger : IsLedger m
       other_ledger = record {
-        nameable = subst (λ es. NameableFrom at_start es) (sym journal)
-            (nameable_last at_start l.journal.entries _ ledger.nameable next);
+        nameable = subst (λ es. NameableFrom first_births es) (sym journal)
+            (nameable_last first_births l.journal.entries _ ledger.nameable next);
         processes = processes ∙ ledger.processes ∙ ap (λ (s : Births). s.processes) (sym stays);
         channels = ap length openings ∙ ledger.channels ∙ ap (λ (s : Births). s.channels) (sym stays);
         openings = subst (λ (s : Births). (c : ℕ) → c < s.channels → slice_get m.openings c ≡ Some (s.opening c))

@@ -6,7 +6,7 @@ mod Families
 mod LedgerLaws
 mod NameLaws
 mod OneText
-mod Quiet
+mod NumberlessEvents
 mod ReaderLaws
 mod ReadingLaws
 mod Rows

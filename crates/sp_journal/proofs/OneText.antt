@@ -14,7 +14,8 @@ use Rattle.sp_journal.specs.declared.entry.Event.{Event}
 use Rattle.sp_journal.specs.declared.entry.Event.TheVariants as event
 use Rattle.sp_journal.specs.declared.version.Version.{Version}
 use Rattle.sp_journal.specs.Names.{proc_name, chan_name}
-use Rattle.sp_journal.specs.Births.{Births, at_start, after_entry, channel, CanFollow, GivesNumbers, NameableFrom}
+use Rattle.sp_journal.specs.Births.{Births, first_births, births_after_entry, channel, CanFollow, GivesNumbers}
+use Rattle.sp_journal.specs.Births.{NameableFrom}
 use Rattle.sp_journal.specs.Splits.{first_split, all_faults}
 use Rattle.sp_journal.specs.Texts.{entry_text, entries_text, event_text, IsTextOf}
 use Rattle.sp_journal.proofs.SplitLaws.{without_low, first_at}
@@ -161,7 +162,8 @@ module _ (s : Births) (lawful : Lawful s) where
       λ i. record { process = p i; event = v i }
 
 no_entry : (s : Births) → Lawful s → (e : Entry) (es : List Entry) → CanFollow s e → [] ≡ entries_text s (e ∷ es) → ⊥
-no_entry s l e es h f = none-some _ (ap (first_split 10) f ∙ entry_line s l e h (entries_text (after_entry s e) es))
+no_entry s l e es h f =
+    none-some _ (ap (first_split 10) f ∙ entry_line s l e h (entries_text (births_after_entry s e) es))
 
 -- entries that can come next and have one text
 pub same_entries : (s : Births) → Lawful s → (es ds : List Entry) → NameableFrom s es → NameableFrom s ds
@@ -170,18 +172,18 @@ same_entries s l [] [] g h f = refl
 same_entries s l [] (d ∷ ds) g h f = absurd (no_entry s l d ds h.0 f)
 same_entries s l (e ∷ es) [] g h f = absurd (no_entry s l e es g.0 (sym f))
 same_entries s l (e ∷ es) (d ∷ ds) g h f =
-    let k = sym (entry_line s l e g.0 (entries_text (after_entry s e) es)) ∙ ap (first_split 10) f
-    ∙ entry_line s l d h.0 (entries_text (after_entry s d) ds) in
+    let k = sym (entry_line s l e g.0 (entries_text (births_after_entry s e) es)) ∙ ap (first_split 10) f
+    ∙ entry_line s l d h.0 (entries_text (births_after_entry s d) ds) in
     let one : e ≡ d = entries_differ s l e d g.0 h.0 (parts_first _ _ _ _ k) in
-    let rest = same_entries (after_entry s e) (lawful_after s e l g.0) es ds g.1
-    (subst (λ (x : Entry). NameableFrom (after_entry s x) ds) (sym one) h.1)
-    (parts_second _ _ _ _ k ∙ ap (λ (x : Entry). entries_text (after_entry s x) ds) (sym one)) in
+    let rest = same_entries (births_after_entry s e) (lawful_after s e l g.0) es ds g.1
+    (subst (λ (x : Entry). NameableFrom (births_after_entry s x) ds) (sym one) h.1)
+    (parts_second _ _ _ _ k ∙ ap (λ (x : Entry). entries_text (births_after_entry s x) ds) (sym one)) in
     λ i. one i ∷ rest i
 
 -- two texts of journals, in whatever versions
 pub one_journal : (v w : Version) (j k : Journal) (bytes : List ℕ) → IsTextOf v j bytes → IsTextOf w k bytes → j ≡ k
 one_journal v w j k bytes t u =
-    let f = sym (line_of_version v (entries_text at_start j.entries)) ∙ ap (first_split 10) (sym t.text ∙ u.text)
-    ∙ line_of_version w (entries_text at_start k.entries) in
-    let e = same_entries at_start lawful_start j.entries k.entries t.nameable u.nameable (parts_second _ _ _ _ f) in
+    let f = sym (line_of_version v (entries_text first_births j.entries)) ∙ ap (first_split 10) (sym t.text ∙ u.text)
+    ∙ line_of_version w (entries_text first_births k.entries) in
+    let e = same_entries first_births lawful_start j.entries k.entries t.nameable u.nameable (parts_second _ _ _ _ f) in
     λ i. record { entries = e i }

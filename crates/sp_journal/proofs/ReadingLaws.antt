@@ -13,9 +13,9 @@ use Rattle.sp_journal.specs.declared.entry.Event.{Event}
 use Rattle.sp_journal.specs.declared.entry.Event.TheVariants as event
 use Rattle.sp_journal.specs.declared.reader.Reader.{Reader}
 use Rattle.sp_journal.specs.Names.{Name, Channel, chan_name}
-use Rattle.sp_journal.specs.Births.{Births, births, after_event, channel, CanFollow}
+use Rattle.sp_journal.specs.Births.{Births, births, births_after_event, channel, CanFollow}
 use Rattle.sp_journal.specs.Ledger.{IsLedger}
-use Rattle.sp_journal.specs.Reader.{IsReader, family_text, known}
+use Rattle.sp_journal.specs.Reader.{IsReader, family_text, births_read}
 use Rattle.sp_journal.proofs.TextLaws.{family_texts_differ, channel_texts_differ}
 use Rattle.sp_journal.proofs.BirthLaws.{Lawful, Born, births_last, old_name, old_birth, new_birth, old_opening}
 use Rattle.sp_journal.proofs.BirthLaws.{new_opening, its_birth}
@@ -34,7 +34,7 @@ at_other bs cs w v n = by (bytes_eq bs cs) (bytes_eq-Decides bs cs).0
 
 module _ (r m : Reader) (p : ℕ) (reader : IsReader r) (ledger : IsLedger m.ledger) where
   abbrev s : Births
-  s = known r
+  s = births_read r
 
   module _ (n : ℕ) (next : CanFollow s (record { process = p; event = event.Fork n }))
       (added : m.ledger.journal.entries ≡ r.ledger.journal.entries ++ record { process = p; event = event.Fork n } ∷ [])
@@ -46,9 +46,9 @@ module _ (r m : Reader) (p : ℕ) (reader : IsReader r) (ledger : IsLedger m.led
       lawful = laws r reader
 
       abbrev t : Births
-      t = after_event s p (event.Fork n)
+      t = births_after_event s p (event.Fork n)
 
-      now_is : known m ≡ t
+      now_is : births_read m ≡ t
       now_is = ap births added ∙ births_last r.ledger.journal.entries (record { process = p; event = event.Fork n })
 
       name_stays : (q : ℕ) → q < s.processes → t.name q ≡ s.name q
@@ -130,12 +130,12 @@ module _ (r m : Reader) (p : ℕ) (reader : IsReader r) (ledger : IsLedger m.led
       then_lawful = laws r reader
 
       abbrev u : Births
-      u = after_event s p event.Open
+      u = births_after_event s p event.Open
 
       abbrev this : Channel
       this = record { owner = s.name p; nth = s.opens p }
 
-      then_is : known m ≡ u
+      then_is : births_read m ≡ u
       then_is = ap births added ∙ births_last r.ledger.journal.entries (record { process = p; event = event.Open })
 
       old_channel : (c : ℕ) → c < s.channels → get_by_text m.channels (channel_text (chan_name (channel s c))) ≡ Some c
@@ -192,11 +192,11 @@ module _ (r m : Reader) (p : ℕ) (reader : IsReader r) (ledger : IsLedger m.led
             → get_by_text m.channels (channel_text (chan_name (channel x c))) ≡ Some c) (sym then_is) open_channels;
       }
 
-  module _ (e : Event) (gives : after_event s p e ≡ s)
+  module _ (e : Event) (gives : births_after_event s p e ≡ s)
       (added : m.ledger.journal.entries ≡ r.ledger.journal.entries ++ record { process = p; event = e } ∷ [])
       (families : m.families ≡ r.families) (channels : m.channels ≡ r.channels)
     where
-      stays : known m ≡ s
+      stays : births_read m ≡ s
       stays = ap births added ∙ births_last r.ledger.journal.entries (record { process = p; event = e }) ∙ gives
 
       pub other_reader : IsReader m

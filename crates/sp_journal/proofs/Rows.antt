@@ -7,7 +7,7 @@ use Rattle.sp_journal.specs.declared.entry.Event.TheVariants as event
 use Rattle.sp_journal.specs.declared.entry.Entry.{Entry}
 use Rattle.sp_journal.specs.declared.entry.Journal.{Journal}
 use Rattle.sp_journal.specs.Births.{births, channel, occurrences}
-use Rattle.sp_journal.specs.Past.{Judged, judged, IsOrdered}
+use Rattle.sp_journal.specs.Past.{Knowledge, knowledge_of, IsOrdered}
 use Rattle.sp_journal.specs.Queue.{IsFirstInFirstOut}
 
 abbrev by : ℕ → Event → Entry
@@ -21,8 +21,8 @@ two_senders = record {
 }
 
 -- what is known after the first n entries
-abbrev after_first : ℕ → Judged
-after_first n = judged (take n (occurrences two_senders))
+abbrev after_first : ℕ → Knowledge
+after_first n = knowledge_of (take n (occurrences two_senders))
 
 names : (births two_senders.entries).name 3 ≡ (0, 2) ∷ []
 names = refl

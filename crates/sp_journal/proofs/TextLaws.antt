@@ -10,10 +10,10 @@ use Rattle.sp_base.specs.Names.{pair_text, name_text, channel_text}
 use Rattle.sp_journal.specs.Names.{Name, Channel, pairs_of, proc_name, chan_name}
 use Rattle.sp_journal.specs.Splits.{last_split}
 use Rattle.sp_journal.specs.Reader.{family_text}
-use Rattle.sp_journal.proofs.SplitLaws.{Within, Without, within_append, within_wider, without_low, last_at}
+use Rattle.sp_journal.proofs.SplitLaws.{AllInRange, HasNone, within_append, within_wider, without_low, last_at}
 
-pub digits_within : (n : ℕ) → n < 2 ^ 64 → Within 48 57 (decimal n)
-digits_within n l = decimal_by_steps (λ _ ds. Within 48 57 ds)
+pub digits_within : (n : ℕ) → n < 2 ^ 64 → AllInRange 48 57 (decimal n)
+digits_within n l = decimal_by_steps (λ _ ds. AllInRange 48 57 ds)
     (λ n h. (omega arith, omega arith, tt))
     (λ n ds h w. within_append 48 57 ds ((48 + n % 10) ∷ []) w (omega arith, omega arith, tt))
     n l
@@ -32,9 +32,9 @@ child_text p f k =
     ∙ ap (λ (y : List ℕ). flat_map pair_text (pairs_of p) ++ y) last
     ∙ sym (append_assoc (flat_map pair_text (pairs_of p)) (47 ∷ decimal f) (46 ∷ decimal k)))
 
-pub name_within : (p : Name) → IsSmall p → Within 46 57 (name_text (proc_name p))
+pub name_within : (p : Name) → IsSmall p → AllInRange 46 57 (name_text (proc_name p))
 name_within [] s = (omega arith, omega arith, tt)
-name_within (a ∷ p) s = subst (Within 46 57) (sym (child_text p a.0 a.1))
+name_within (a ∷ p) s = subst (AllInRange 46 57) (sym (child_text p a.0 a.1))
     (within_append 46 57 (family_text p a.0) (46 ∷ decimal a.1)
     (within_append 46 57 (name_text (proc_name p)) (47 ∷ decimal a.0) (name_within p s.2) (
       omega arith,
@@ -48,7 +48,7 @@ name_within (a ∷ p) s = subst (Within 46 57) (sym (child_text p a.0 a.1))
           (digits_within a.1 (let h = s.1 in omega arith)),
     ))
 
-pub family_within : (p : Name) (f : ℕ) → IsSmall p → f < 2 ^ 32 → Within 46 57 (family_text p f)
+pub family_within : (p : Name) (f : ℕ) → IsSmall p → f < 2 ^ 32 → AllInRange 46 57 (family_text p f)
 family_within p f s l = within_append 46 57 (name_text (proc_name p)) (47 ∷ decimal f) (name_within p s) (
   omega arith,
   omega arith,
@@ -59,8 +59,8 @@ family_within p f s l = within_append 46 57 (name_text (proc_name p)) (47 ∷ de
 pub channel_is : (c : Channel) → channel_text (chan_name c) ≡ name_text (proc_name c.owner) ++ 35 ∷ decimal c.nth
 channel_is c = append_assoc (name_text (proc_name c.owner)) (35 ∷ []) (decimal c.nth)
 
-pub channel_within : (c : Channel) → IsSmall c.owner → c.nth < 2 ^ 32 → Within 35 57 (channel_text (chan_name c))
-channel_within c s l = subst (Within 35 57) (sym (channel_is c))
+pub channel_within : (c : Channel) → IsSmall c.owner → c.nth < 2 ^ 32 → AllInRange 35 57 (channel_text (chan_name c))
+channel_within c s l = subst (AllInRange 35 57) (sym (channel_is c))
     (within_append 35 57 (name_text (proc_name c.owner)) (35 ∷ decimal c.nth)
     (within_wider 46 57 35 57 (name_text (proc_name c.owner)) (omega arith) (omega arith) (name_within c.owner s)) (
       omega arith,
@@ -69,7 +69,7 @@ channel_within c s l = subst (Within 35 57) (sym (channel_is c))
           (digits_within c.nth (omega arith)),
     ))
 
-no_point : (n : ℕ) → n < 2 ^ 32 → (c : ℕ) → c < 48 → Without c (decimal n)
+no_point : (n : ℕ) → n < 2 ^ 32 → (c : ℕ) → c < 48 → HasNone c (decimal n)
 no_point n l c h = without_low c 48 57 (decimal n) h (digits_within n (omega arith))
 
 pub child_split : (p : Name) (f k : ℕ) → k < 2 ^ 32

@@ -9,7 +9,8 @@ use Rattle.sp_journal.specs.declared.entry.Birth.{Birth}
 use Rattle.sp_journal.specs.declared.entry.Entry.{Entry}
 use Rattle.sp_journal.specs.declared.entry.Event.{Event}
 use Rattle.sp_journal.specs.declared.entry.Event.TheVariants as event
-use Rattle.sp_journal.specs.Births.{Births, at_start, after_event, after_entry, births_from, births, CanFollow}
+use Rattle.sp_journal.specs.Births.{Births, first_births, births_after_event, births_after_entry, births_from, births}
+use Rattle.sp_journal.specs.Births.{CanFollow}
 use Rattle.sp_journal.specs.Births.{NameableFrom}
 use Rattle.sp_journal.specs.Texts.{entry_text, entries_text}
 use Rattle.sp_journal.proofs.Facts.{below, above, between}
@@ -19,7 +20,7 @@ pub left_is : (es : List Entry) (i : ℕ) (d : Entry) → i < length es → drop
 left_is es i d l = rw add-one (drop-cons es i d l)
 
 pub more_births : (es : List Entry) (i : ℕ) (d : Entry) → i < length es
-    → births (take (i + 1) es) ≡ after_entry (births (take i es)) (get_or es i d)
+    → births (take (i + 1) es) ≡ births_after_entry (births (take i es)) (get_or es i d)
 more_births es i d l = ap births (take_more es i d l) ∙ births_last (take i es) (get_or es i d)
 
 pub can_follow : (es : List Entry) (i : ℕ) (d : Entry) → i < length es → NameableFrom (births (take i es)) (drop i es)
@@ -41,14 +42,15 @@ text_more es i d l =
 
 pub births_parts : (s : Births) (xs ys : List Entry) → births_from s (xs ++ ys) ≡ births_from (births_from s xs) ys
 births_parts s [] ys = refl
-births_parts s (x ∷ xs) ys = births_parts (after_entry s x) xs ys
+births_parts s (x ∷ xs) ys = births_parts (births_after_entry s x) xs ys
 
 pub births_split : (es : List Entry) (i : ℕ) → births es ≡ births_from (births (take i es)) (drop i es)
-births_split es i = ap births (sym (take-append-drop i es)) ∙ births_parts at_start (take i es) (drop i es)
+births_split es i = ap births (sym (take-append-drop i es)) ∙ births_parts first_births (take i es) (drop i es)
 
 -- a birth stays
-event_birth : (s : Births) (p : ℕ) (e : Event) (q : ℕ) → q < s.processes → ((after_event s p e).birth q ≡ s.birth q)
-    × (s.processes ≤ (after_event s p e).processes)
+event_birth : (s : Births) (p : ℕ) (e : Event) (q : ℕ) → q < s.processes
+    → ((births_after_event s p e).birth q ≡ s.birth q)
+    × (s.processes ≤ (births_after_event s p e).processes)
 event_birth s p (event.Fork n) q l = (
   ap (λ b. cond b
       (Some (record { parent = p; fork = s.forks p; child = q - s.processes })) (s.birth q))
@@ -67,7 +69,7 @@ pub birth_stays : (s : Births) (es : List Entry) (q : ℕ) → q < s.processes �
 birth_stays s [] q l = refl
 birth_stays s (e ∷ es) q l =
     let b = event_birth s e.process e.event q l in
-    birth_stays (after_entry s e) es q (let h = b.1 in omega arith) ∙ b.0
+    birth_stays (births_after_entry s e) es q (let h = b.1 in omega arith) ∙ b.0
 
 -- the default of a look-up
 abbrev pub any_entry : Entry
@@ -84,8 +86,8 @@ module _ (es : List Entry) (i : ℕ) (l : i < length es) where
   kept_whole xs ys e f = f ∙ ap (λ (x : List Entry). x ++ this ∷ []) e ∙ sym (take_more es i any_entry l)
 
   module _ (n : ℕ) (is : this.event ≡ event.Fork n) where
-    pub after_fork : births (take (i + 1) es) ≡ after_event before this.process (event.Fork n)
-    after_fork = more_births es i any_entry l ∙ ap (after_event before this.process) is
+    pub after_fork : births (take (i + 1) es) ≡ births_after_event before this.process (event.Fork n)
+    after_fork = more_births es i any_entry l ∙ ap (births_after_event before this.process) is
 
     pub found : (q next fork : ℕ) → next ≡ before.processes → fork ≡ before.forks this.process → next ≤ q → q < next + n
         → Some (record { parent = this.process; fork = fork; child = q - next }) ≡ (births es).birth q
@@ -120,8 +122,8 @@ module _ (es : List Entry) (i : ℕ) (l : i < length es) where
 
 -- an event other than fork
 pub no_fork : (s : Births) (p : ℕ) (e : Event) → ((n : ℕ) → e ≡ event.Fork n → ⊥)
-    → ((after_event s p e).processes ≡ s.processes) × ((q : ℕ) → (after_event s p e).birth q ≡ s.birth q)
-    × ((q : ℕ) → (after_event s p e).forks q ≡ s.forks q)
+    → ((births_after_event s p e).processes ≡ s.processes) × ((q : ℕ) → (births_after_event s p e).birth q ≡ s.birth q)
+    × ((q : ℕ) → (births_after_event s p e).forks q ≡ s.forks q)
 no_fork s p (event.Fork n) h = absurd (h n refl)
 no_fork s p event.Open h = (refl, λ q. refl, λ q. refl)
 no_fork s p (event.Send c) h = (refl, λ q. refl, λ q. refl)
@@ -132,7 +134,7 @@ no_fork s p event.Laid h = (refl, λ q. refl, λ q. refl)
 no_fork s p event.Pause h = (refl, λ q. refl, λ q. refl)
 
 -- who has no birth
-module _ (es : List Entry) (nameable : NameableFrom at_start es) (q : ℕ) where
+module _ (es : List Entry) (nameable : NameableFrom first_births es) (q : ℕ) where
   pub has_birth : (b : Birth) → Some b ≡ (births es).birth q → (q ≡ 0) ⊎ ((births es).processes ≤ q) → ⊥
   has_birth b e h = ⊎_elim
       (λ (z : q ≡ 0). let f : (births es).birth q ≡ None = ap (births es).birth z ∙ (lawful es nameable).no_birth in

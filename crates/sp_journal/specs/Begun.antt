@@ -9,7 +9,7 @@ use Rattle.sp_journal.specs.Births.{Births, births, NameableFrom}
 use Rattle.sp_journal.specs.Texts.{entries_text, journal_text, AreHeld, IsTextOf}
 
 -- these further entries can come next, and the rest of the text is theirs
-pub record Left (v : Version) (s : Births) (rest : List ℕ) (more : List Entry) : Type 0 where
+pub record IsTextOfRest (v : Version) (s : Births) (rest : List ℕ) (more : List Entry) : Type 0 where
   pub nameable : NameableFrom s more
   pub held : AreHeld v more
   pub text : rest ≡ entries_text s more
@@ -19,4 +19,4 @@ pub record Begun (bytes : List ℕ) (v : Version) (es : List Entry) (rest : List
   pub whole : IsTextOf v (record { entries = es }) (journal_text v (record { entries = es }))
   pub joined : bytes ≡ journal_text v (record { entries = es }) ++ rest
   pub begins : (w : Version) (k : Journal) → IsTextOf w k bytes → (w ≡ v) × (more : List Entry)
-      × (k.entries ≡ es ++ more) × Left v (births es) rest more
+      × (k.entries ≡ es ++ more) × IsTextOfRest v (births es) rest more

@@ -30,8 +30,8 @@ pub record Births : Type 0 where
   pub opens : ℕ → ℕ
 
 -- before the first entry: the root alone
-abbrev pub at_start : Births
-at_start = record {
+abbrev pub first_births : Births
+first_births = record {
   processes = 1;
   channels = 0;
   birth = λ q. None;
@@ -47,38 +47,38 @@ is_next s n q = nat_le s.processes q && nat_lt q (s.processes + n)
 
 -- after this event of process p: the children of a fork have the next numbers of processes, the channel of an open has
 -- the next number of a channel
-abbrev pub after_event : Births → ℕ → Event → Births
-after_event s p (event.Fork n) = record s {
+abbrev pub births_after_event : Births → ℕ → Event → Births
+births_after_event s p (event.Fork n) = record s {
   processes = s.processes + n;
   birth = λ q. cond (is_next s n q) (Some (record { parent = p; fork = s.forks p; child = q - s.processes }))
       (s.birth q);
   name = λ q. cond (is_next s n q) ((s.forks p, q - s.processes) ∷ s.name p) (s.name q);
   forks = at_key ◌==◌ p (s.forks p + 1) s.forks;
 }
-after_event s p event.Open = record s {
+births_after_event s p event.Open = record s {
   channels = s.channels + 1;
   opening = at_key ◌==◌ s.channels (record { owner = p; nth = s.opens p }) s.opening;
   opens = at_key ◌==◌ p (s.opens p + 1) s.opens;
 }
-after_event s p (event.Send c) = s
-after_event s p (event.Receive c) = s
-after_event s p event.End = s
-after_event s p (event.Fault f) = s
-after_event s p event.Laid = s
-after_event s p event.Pause = s
+births_after_event s p (event.Send c) = s
+births_after_event s p (event.Receive c) = s
+births_after_event s p event.End = s
+births_after_event s p (event.Fault f) = s
+births_after_event s p event.Laid = s
+births_after_event s p event.Pause = s
 
 -- the same of an entry
-abbrev pub after_entry : Births → Entry → Births
-after_entry s e = after_event s e.process e.event
+abbrev pub births_after_entry : Births → Entry → Births
+births_after_entry s e = births_after_event s e.process e.event
 
 -- what further entries give
 abbrev pub births_from : Births → List Entry → Births
 births_from s [] = s
-births_from s (e ∷ es) = births_from (after_entry s e) es
+births_from s (e ∷ es) = births_from (births_after_entry s e) es
 
 -- what all these entries have given
 abbrev pub births : List Entry → Births
-births es = births_from at_start es
+births es = births_from first_births es
 
 -- the name of a channel
 abbrev pub channel : Births → ℕ → Channel
@@ -102,11 +102,11 @@ CanFollow s e = (e.process < s.processes) × GivesNumbers s e.process e.event
 -- each further entry can come next
 abbrev pub NameableFrom : Births → List Entry → Type 0
 NameableFrom s [] = Unit {0}
-NameableFrom s (e ∷ es) = CanFollow s e × NameableFrom (after_entry s e) es
+NameableFrom s (e ∷ es) = CanFollow s e × NameableFrom (births_after_entry s e) es
 
 -- a journal is nameable where each entry can follow those before it
 abbrev pub IsNameable : Journal → Type 0
-IsNameable j = NameableFrom at_start j.entries
+IsNameable j = NameableFrom first_births j.entries
 
 -- the same entries by names
 abbrev pub happening : Births → Event → Happening
@@ -125,8 +125,8 @@ occurrence s e = record { who = s.name e.process; what = happening s e.event }
 
 abbrev pub occurrences_from : Births → List Entry → List Occurrence
 occurrences_from s [] = []
-occurrences_from s (e ∷ es) = occurrence s e ∷ occurrences_from (after_entry s e) es
+occurrences_from s (e ∷ es) = occurrence s e ∷ occurrences_from (births_after_entry s e) es
 
 -- a whole journal by names
 abbrev pub occurrences : Journal → List Occurrence
-occurrences j = occurrences_from at_start j.entries
+occurrences j = occurrences_from first_births j.entries

@@ -11,7 +11,7 @@ use Rattle.sp_journal.specs.Births.{occurrences}
 
 -- the set of indices that each process knows (its past), the pending offer of each channel with its index, how many
 -- forks each process made, and the index at which the offer of an index was completed: the later of the two offers
-pub record Judged : Type 0 where
+pub record Knowledge : Type 0 where
   pub past : Name → ℕ → Bool
   pub pending : Channel → Option (Name × ℕ)
   pub forks : Name → ℕ
@@ -33,20 +33,21 @@ report [] known past = past
 report (a ∷ p) known past = learn p known past
 
 -- what p knows, and index n
-abbrev pub now : Judged → Name → ℕ → ℕ → Bool
-now j p n i = j.past p i || n == i
+abbrev pub known_with : Knowledge → Name → ℕ → ℕ → Bool
+known_with j p n i = j.past p i || n == i
 
 -- an offer that waits adds nothing; one that meets gives both sides what both know and the indices of both offers
-abbrev pub met_now : Judged → Name → ℕ → Channel → Option (Name × ℕ) → Judged
-met_now j p n c None = record {
+abbrev pub knowledge_after_offer : Knowledge → Name → ℕ → Channel → Option (Name × ℕ) → Knowledge
+knowledge_after_offer j p n c None = record {
   past = j.past;
   pending = at_key same_channel c (Some (p, n)) j.pending;
   forks = j.forks;
   completed = j.completed;
 }
-met_now j p n c (Some o) =
+knowledge_after_offer j p n c (Some o) =
     record {
-      past = learn o.0 (λ i. now j p n i || now j o.0 o.1 i) (learn p (λ i. now j p n i || now j o.0 o.1 i) j.past);
+      past = learn o.0 (λ i. known_with j p n i || known_with j o.0 o.1 i)
+          (learn p (λ i. known_with j p n i || known_with j o.0 o.1 i) j.past);
       pending = at_key same_channel c None j.pending;
       forks = j.forks;
       completed = λ i. cond (n == i) (Some n) (cond (o.1 == i) (Some n) (j.completed i));
@@ -54,44 +55,44 @@ met_now j p n c (Some o) =
 
 -- the entry of index n: open and fork add their own index, an end adds it to the child's past, a pause, a fault and a
 -- laid process add nothing
-abbrev pub judged_by : Judged → ℕ → Name → Happening → Judged
-judged_by j n p Opened = record {
+abbrev pub knowledge_after : Knowledge → ℕ → Name → Happening → Knowledge
+knowledge_after j n p Opened = record {
   past = learn p (λ i. n == i) j.past;
   pending = j.pending;
   forks = j.forks;
   completed = j.completed;
 }
-judged_by j n p (Forked k) = record {
-  past = teach p (j.forks p) (now j p n) 0 k (learn p (λ i. n == i) j.past);
+knowledge_after j n p (Forked k) = record {
+  past = teach p (j.forks p) (known_with j p n) 0 k (learn p (λ i. n == i) j.past);
   pending = j.pending;
   forks = at_key same_name p (j.forks p + 1) j.forks;
   completed = j.completed;
 }
-judged_by j n p (Offered w c) = met_now j p n c (j.pending c)
-judged_by j n p Ended = record {
-  past = report p (now j p n) (learn p (λ i. n == i) j.past);
+knowledge_after j n p (Offered w c) = knowledge_after_offer j p n c (j.pending c)
+knowledge_after j n p Ended = record {
+  past = report p (known_with j p n) (learn p (λ i. n == i) j.past);
   pending = j.pending;
   forks = j.forks;
   completed = j.completed;
 }
-judged_by j n p (Faulted f) = j
-judged_by j n p Laid = j
-judged_by j n p Paused = j
+knowledge_after j n p (Faulted f) = j
+knowledge_after j n p Laid = j
+knowledge_after j n p Paused = j
 
-abbrev pub nothing_judged : Judged
-nothing_judged = record { past = λ p i. false; pending = λ c. None; forks = λ p. 0; completed = λ i. None }
+abbrev pub no_knowledge : Knowledge
+no_knowledge = record { past = λ p i. false; pending = λ c. None; forks = λ p. 0; completed = λ i. None }
 
 -- after these entries, of which the first one has index n
-abbrev pub judged_from : Judged → ℕ → List Occurrence → Judged
-judged_from j n [] = j
-judged_from j n (e ∷ es) = judged_from (judged_by j n e.who e.what) (suc n) es
+abbrev pub knowledge_from : Knowledge → ℕ → List Occurrence → Knowledge
+knowledge_from j n [] = j
+knowledge_from j n (e ∷ es) = knowledge_from (knowledge_after j n e.who e.what) (suc n) es
 
-abbrev pub judged : List Occurrence → Judged
-judged es = judged_from nothing_judged 0 es
+abbrev pub knowledge_of : List Occurrence → Knowledge
+knowledge_of es = knowledge_from no_knowledge 0 es
 
 -- at an offer: each earlier offer of this way on this channel was completed, and who offers knows the index of its
 -- completion
-abbrev pub KnowsCompletions : Judged → List Occurrence → Name → Happening → Type 0
+abbrev pub KnowsCompletions : Knowledge → List Occurrence → Name → Happening → Type 0
 KnowsCompletions j done p (Offered w c) = (i : ℕ) (z : Name)
     → slice_get done i ≡ Some (record { who = z; what = Offered w c }) → (m : ℕ) × (j.completed i ≡ Some m)
     × (j.past p m ≡ true)
@@ -102,15 +103,15 @@ KnowsCompletions j done p (Faulted f) = Unit {0}
 KnowsCompletions j done p Laid = Unit {0}
 KnowsCompletions j done p Paused = Unit {0}
 
-abbrev pub CompletedFrom : Judged → List Occurrence → List Occurrence → Type 0
+abbrev pub CompletedFrom : Knowledge → List Occurrence → List Occurrence → Type 0
 CompletedFrom j done [] = Unit {0}
 CompletedFrom j done (e ∷ es) = KnowsCompletions j done e.who e.what
-    × CompletedFrom (judged_by j (length done) e.who e.what) (done ++ e ∷ []) es
+    × CompletedFrom (knowledge_after j (length done) e.who e.what) (done ++ e ∷ []) es
 
 -- for any two sends on one channel, and any two receives on one channel: the earlier one was completed, and the later
 -- one's process knew the index of that completion just before it offered
 abbrev pub AreOrdered : List Occurrence → Type 0
-AreOrdered es = CompletedFrom nothing_judged [] es
+AreOrdered es = CompletedFrom no_knowledge [] es
 
 abbrev pub IsOrdered : Journal → Type 0
 IsOrdered j = AreOrdered (occurrences j)

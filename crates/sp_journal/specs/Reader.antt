@@ -19,23 +19,23 @@ abbrev pub family_text : Name → ℕ → List ℕ
 family_text p f = name_text (proc_name p) ++ 47 ∷ decimal f
 
 -- what has been read so far
-abbrev pub known : Reader → Births
-known r = births r.ledger.journal.entries
+abbrev pub births_read : Reader → Births
+births_read r = births r.ledger.journal.entries
 
 -- by the text of each fork that has children the number of the first one, and by the name of each channel its number
 pub record IsReader (r : Reader) : Type 0 where
   pub ledger : IsLedger r.ledger
-  pub families : (q : ℕ) (b : Birth) → q < (known r).processes → (known r).birth q ≡ Some b
-      → get_by_text r.families (family_text ((known r).name b.parent) b.fork) ≡ Some (q - b.child)
-  pub channels : (c : ℕ) → c < (known r).channels
-      → get_by_text r.channels (channel_text (chan_name (channel (known r) c))) ≡ Some c
+  pub families : (q : ℕ) (b : Birth) → q < (births_read r).processes → (births_read r).birth q ≡ Some b
+      → get_by_text r.families (family_text ((births_read r).name b.parent) b.fork) ≡ Some (q - b.child)
+  pub channels : (c : ℕ) → c < (births_read r).channels
+      → get_by_text r.channels (channel_text (chan_name (channel (births_read r) c))) ≡ Some c
 
 -- what can come next, in this version
 abbrev pub CanCome : Version → Births → Entry → Type 0
 CanCome v s e = CanFollow s e × CanHold v e.event
 
 -- the line is the text of this entry, which can come next, and of no other; or it is the text of none
-abbrev pub IsNext : Version → Births → List ℕ → Option Entry → Type 0
-IsNext v s line (Some e) = CanCome v s e × (line ≡ entry_text s e)
+abbrev pub IsEntryOfLine : Version → Births → List ℕ → Option Entry → Type 0
+IsEntryOfLine v s line (Some e) = CanCome v s e × (line ≡ entry_text s e)
     × ((d : Entry) → CanCome v s d → line ≡ entry_text s d → d ≡ e)
-IsNext v s line None = (d : Entry) → CanCome v s d → line ≡ entry_text s d → ⊥
+IsEntryOfLine v s line None = (d : Entry) → CanCome v s d → line ≡ entry_text s d → ⊥

@@ -38,5 +38,5 @@ all_faults = fault.F1 ∷ fault.F2 ∷ fault.F3 ∷ fault.F4 ∷ fault.F5 ∷ fa
     ∷ fault.F10 ∷ fault.F11 ∷ fault.F12 ∷ fault.F13 ∷ fault.F14 ∷ fault.F15 ∷ fault.F16 ∷ fault.F17 ∷ fault.F18 ∷ []
 
 -- the fault of this name
-abbrev pub fault_named : List ℕ → Option Fault
-fault_named text = find (λ f. bytes_eq (fault_name f) text) all_faults
+abbrev pub fault_of_name : List ℕ → Option Fault
+fault_of_name text = find (λ f. bytes_eq (fault_name f) text) all_faults

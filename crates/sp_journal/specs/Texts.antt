@@ -13,7 +13,7 @@ use Rattle.sp_journal.specs.declared.entry.Journal.{Journal}
 use Rattle.sp_journal.specs.declared.version.Version.{Version}
 use Rattle.sp_journal.specs.declared.version.Version.TheVariants as version
 use Rattle.sp_journal.specs.Names.{proc_name, chan_name}
-use Rattle.sp_journal.specs.Births.{Births, at_start, after_entry, births, channel, CanFollow, IsNameable}
+use Rattle.sp_journal.specs.Births.{Births, first_births, births_after_entry, births, channel, CanFollow, IsNameable}
 
 -- the word of a direction
 abbrev pub way_text : Way → List ℕ
@@ -42,7 +42,7 @@ entry_text s e = name_text (proc_name (s.name e.process)) ++ codes " " ++ event_
 -- each entry on a line of its own, with what was given before it
 abbrev pub entries_text : Births → List Entry → List ℕ
 entries_text s [] = []
-entries_text s (e ∷ es) = (entry_text s e ++ codes "\n") ++ entries_text (after_entry s e) es
+entries_text s (e ∷ es) = (entry_text s e ++ codes "\n") ++ entries_text (births_after_entry s e) es
 
 -- version 1 has no `pause`
 abbrev pub CanHold : Version → Event → Type 0
@@ -68,7 +68,7 @@ heading version.Two = codes "superpascal journal 2\n"
 
 -- the first line, and then each entry on a line of its own
 abbrev pub journal_text : Version → Journal → List ℕ
-journal_text v j = heading v ++ entries_text at_start j.entries
+journal_text v j = heading v ++ entries_text first_births j.entries
 
 -- these bytes are the text of a nameable journal in a version that can hold it
 pub record IsTextOf (v : Version) (j : Journal) (bytes : List ℕ) : Type 0 where

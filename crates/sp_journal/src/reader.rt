@@ -12,7 +12,7 @@ ghost use Rattle.sp_journal.specs.declared.entry.Event.TheVariants as event;
 ghost use Rattle.sp_journal.specs.Names.{proc_name, chan_name};
 ghost use Rattle.sp_journal.specs.Births.{channel, CanFollow, GivesNumbers};
 ghost use Rattle.sp_journal.specs.Texts.{entry_text, event_text};
-ghost use Rattle.sp_journal.specs.Reader.{IsReader, CanCome, IsNext, known};
+ghost use Rattle.sp_journal.specs.Reader.{IsReader, CanCome, IsEntryOfLine, births_read};
 
 use crate::entry::{Entry, Event, Journal};
 use crate::ledger::{Ledger, NUMBERS};
@@ -61,8 +61,8 @@ impl Reader {
     /// The process of this name. Bytes that are no name may give any answer.
     fn process(&self, name: &[u8]) -> Option<u32>
         requires { IsReader self.now }
-        ensures { (q : ℕ) → q < (known self.now).processes
-            → name.now ≡ name_text (proc_name ((known self.now).name q)) → result ≡ Some q }
+        ensures { (q : ℕ) → q < (births_read self.now).processes
+            → name.now ≡ name_text (proc_name ((births_read self.now).name q)) → result ≡ Some q }
     {
         match split_last(name, b'.') {
             None => Some(0),
@@ -77,8 +77,8 @@ impl Reader {
     /// The channel of this name. Bytes that are no name may give any answer.
     fn channel(&self, name: &[u8]) -> Option<u32>
         requires { IsReader self.now }
-        ensures { (c : ℕ) → c < (known self.now).channels
-            → name.now ≡ channel_text (chan_name (channel (known self.now) c)) → result ≡ Some c }
+        ensures { (c : ℕ) → c < (births_read self.now).channels
+            → name.now ≡ channel_text (chan_name (channel (births_read self.now) c)) → result ≡ Some c }
     {
         self.channels.get(text_of(name)).copied()
     }
@@ -87,10 +87,10 @@ impl Reader {
     fn told(&self, word: &[u8], of: &[u8]) -> Option<Event>
         requires { IsReader self.now }
         ensures fork { (n : ℕ) → n < 2 ^ 32 → word.now ≡ codes "fork" → of.now ≡ decimal n → result ≡ Some (event.Fork n) }
-        ensures send { (c : ℕ) → c < (known self.now).channels → word.now ≡ codes "send"
-            → of.now ≡ channel_text (chan_name (channel (known self.now) c)) → result ≡ Some (event.Send c) }
-        ensures receive { (c : ℕ) → c < (known self.now).channels → word.now ≡ codes "receive"
-            → of.now ≡ channel_text (chan_name (channel (known self.now) c)) → result ≡ Some (event.Receive c) }
+        ensures send { (c : ℕ) → c < (births_read self.now).channels → word.now ≡ codes "send"
+            → of.now ≡ channel_text (chan_name (channel (births_read self.now) c)) → result ≡ Some (event.Send c) }
+        ensures receive { (c : ℕ) → c < (births_read self.now).channels → word.now ≡ codes "receive"
+            → of.now ≡ channel_text (chan_name (channel (births_read self.now) c)) → result ≡ Some (event.Receive c) }
         ensures fault { (f : Fault) → word.now ≡ codes "fault" → of.now ≡ fault_name f → result ≡ Some (event.Fault f) }
     {
         if word == "fork".as_bytes() {
@@ -107,8 +107,8 @@ impl Reader {
     /// The event of this text. Other bytes may give any answer.
     fn event(&self, text: &[u8]) -> Option<Event>
         requires { IsReader self.now }
-        ensures { (p : ℕ) (e : Event) → GivesNumbers (known self.now) p e
-            → text.now ≡ event_text (known self.now) e → result ≡ Some e }
+        ensures { (p : ℕ) (e : Event) → GivesNumbers (births_read self.now) p e
+            → text.now ≡ event_text (births_read self.now) e → result ≡ Some e }
     {
         match split_first(text, b' ') {
             None => plain_event(text),
@@ -119,7 +119,7 @@ impl Reader {
     /// The entry of this text. Other bytes may give any answer.
     fn entry(&self, line: &[u8]) -> Option<Entry>
         requires { IsReader self.now }
-        ensures { (e : Entry) → CanFollow (known self.now) e → line.now ≡ entry_text (known self.now) e
+        ensures { (e : Entry) → CanFollow (births_read self.now) e → line.now ≡ entry_text (births_read self.now) e
             → result ≡ Some e }
     {
         let (name, rest) = split_first(line, b' ')?;
@@ -131,7 +131,7 @@ impl Reader {
     /// Whether this entry can come next in this version.
     fn can_come(&self, entry: Entry) -> bool
         requires { IsReader self.now }
-        ensures { IsTrue result ↔ CanCome self.now.version (known self.now) entry }
+        ensures { IsTrue result ↔ CanCome self.now.version (births_read self.now) entry }
     {
         self.ledger.can_follow(entry) && self.version.can_hold(entry.event)
     }
@@ -139,7 +139,7 @@ impl Reader {
     /// Takes the next entry in. After `Memory` the reader is of no more use.
     pub(crate) fn add(&mut self, entry: Entry) -> Result<(), Memory>
         requires reader { IsReader self.old }
-        requires next { CanFollow (known self.old) entry }
+        requires next { CanFollow (births_read self.old) entry }
         ensures reader { OnOk result (IsReader self.new) }
         ensures added { OnOk result (self.new.ledger.journal.entries ≡ self.old.ledger.journal.entries ++ entry ∷ []) }
         ensures version { OnOk result (self.new.version ≡ self.old.version) }
@@ -158,7 +158,7 @@ impl Reader {
 
     fn add_fork(&mut self, process: u32, count: u32) -> Result<(), Memory>
         requires reader { IsReader self.old }
-        requires next { CanFollow (known self.old) (record { process = process; event = event.Fork count }) }
+        requires next { CanFollow (births_read self.old) (record { process = process; event = event.Fork count }) }
         ensures reader { OnOk result (IsReader self.new) }
         ensures added { OnOk result (self.new.ledger.journal.entries
             ≡ self.old.ledger.journal.entries ++ record { process = process; event = event.Fork count } ∷ []) }
@@ -177,7 +177,7 @@ impl Reader {
 
     fn add_open(&mut self, process: u32) -> Result<(), Memory>
         requires reader { IsReader self.old }
-        requires next { CanFollow (known self.old) (record { process = process; event = event.Open }) }
+        requires next { CanFollow (births_read self.old) (record { process = process; event = event.Open }) }
         ensures reader { OnOk result (IsReader self.new) }
         ensures added { OnOk result (self.new.ledger.journal.entries
             ≡ self.old.ledger.journal.entries ++ record { process = process; event = event.Open } ∷ []) }
@@ -197,7 +197,7 @@ impl Reader {
     /// The next entry, where the line is the text of one.
     pub(crate) fn next(&self, line: &[u8]) -> Result<Option<Entry>, Memory>
         requires { IsReader self.now }
-        ensures { IfOk result (IsNext self.now.version (known self.now) line.now) }
+        ensures { IfOk result (IsEntryOfLine self.now.version (births_read self.now) line.now) }
     {
         let Some(entry) = self.entry(line) else {
             return Ok(None);

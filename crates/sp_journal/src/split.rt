@@ -2,7 +2,7 @@
 
 ghost use Rattle.std.specs.Prelude.{◌≡◌, ◌<◌, ◌^◌, ℕ, Some, decimal};
 ghost use Rattle.std.specs.Str.{IsAscii};
-ghost use Rattle.sp_journal.specs.Splits.{fault_named, first_split, last_split, parts_in};
+ghost use Rattle.sp_journal.specs.Splits.{fault_of_name, first_split, last_split, parts_in};
 
 use sp_base::Fault;
 
@@ -71,7 +71,7 @@ const FAULTS: [Fault; 18] = [
 
 /// The fault of which these bytes are the name.
 pub(crate) fn fault(text: &[u8]) -> Option<Fault>
-    ensures { result ≡ fault_named text.now }
+    ensures { result ≡ fault_of_name text.now }
 {
     FAULTS
         .iter()

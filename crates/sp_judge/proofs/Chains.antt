@@ -7,8 +7,8 @@ use Rattle.sp_base.proofs.Facts.{below_or_at}
 use Rattle.sp_journal.specs.declared.entry.Way.{Way}
 use Rattle.sp_journal.specs.Names.{Name, Channel, same_name, Happening, Opened, Forked, Offered, Ended, Faulted, Laid}
 use Rattle.sp_journal.specs.Names.{Paused, Occurrence}
-use Rattle.sp_journal.specs.Past.{Judged, learn, now, met_now, judged_by, nothing_judged}
-use Rattle.sp_journal.proofs.NameLaws.{name_is}
+use Rattle.sp_journal.specs.Past.{Knowledge, learn, known_with, knowledge_after_offer, knowledge_after, no_knowledge}
+use Rattle.sp_meaning.proofs.Keys.{name_is}
 use Rattle.sp_judge.proofs.Prefixing.{get_low, get_last, learn_all, teach_all, report_all, learn_more, teach_more}
 use Rattle.sp_judge.proofs.Prefixing.{report_more, at_channel}
 use Rattle.sp_race.specs.Known.{KnowsOffers}
@@ -21,7 +21,7 @@ abbrev pub Chained : List Occurrence → (ℕ → Bool) → Type 0
 Chained es f = (i k : ℕ) (w : Way) (c : Channel) (z y : Name) → OfferAt es i z w c → OfferAt es k y w c → k ≤ i
     → f i ≡ true → f k ≡ true
 
-pub record Chains (j : Judged) (es : List Occurrence) : Type 0 where
+pub record Chains (j : Knowledge) (es : List Occurrence) : Type 0 where
   pub past : (q : Name) → Chained es (j.past q)
   pub waits : (c : Channel) (z : Name) (x : ℕ) → j.pending c ≡ Some (z, x) → (w : Way) × OfferAt es x z w c
       × ((k : ℕ) (y : Name) → OfferAt es k y w c → k < x → j.past z k ≡ true)
@@ -53,7 +53,7 @@ channel_of d (Faulted f) = d
 channel_of d Laid = d
 channel_of d Paused = d
 
-module _ (j : Judged) (es : List Occurrence) (chains : Chains j es) (paired : Paired j (length es)) (p : Name)
+module _ (j : Knowledge) (es : List Occurrence) (chains : Chains j es) (paired : Paired j (length es)) (p : Name)
     (h : Happening) (knows : KnowsOffers j es p h) where
   abbrev n : ℕ
   n = length es
@@ -77,7 +77,7 @@ module _ (j : Judged) (es : List Occurrence) (chains : Chains j es) (paired : Pa
   past_still : (q : Name) → Chained longer (j.past q)
   past_still q = still (j.past q) (paired.below q) (chains.past q)
 
-  mine_chained : Chained longer (now j p n)
+  mine_chained : Chained longer (known_with j p n)
   mine_chained i k w c z y o q l t = ⊎_elim
       (λ (x : j.past p i ≡ true). or_left (j.past p k) (n == k) (past_still p i k w c z y o q l x))
       (λ (x : n == i ≡ true).
@@ -99,7 +99,7 @@ module _ (j : Judged) (es : List Occurrence) (chains : Chains j es) (paired : Pa
       by true f = subst (λ (x : Name). Chained longer (λ i. j.past x i || (n == i))) (f refl) mine_chained
       by false f = past_still q
 
-  theirs_chained : (c : Channel) (z : Name) (x : ℕ) → j.pending c ≡ Some (z, x) → Chained longer (now j z x)
+  theirs_chained : (c : Channel) (z : Name) (x : ℕ) → j.pending c ≡ Some (z, x) → Chained longer (known_with j z x)
   theirs_chained c z x met i k w d y u o q l t =
       let a = chains.waits c z x met in
       let inside = slice_get_within es x _ a.1 in
@@ -129,14 +129,14 @@ module _ (j : Judged) (es : List Occurrence) (chains : Chains j es) (paired : Pa
       let inside = slice_get_within es x _ a.1 in
       (a.0, up x _ a.1, λ k y o l. more z k (a.2 k y (low k _ (omega arith) o) l))
 
-  no_offer : (j' : Judged) → ((q : Name) → Chained longer (j'.past q))
+  no_offer : (j' : Knowledge) → ((q : Name) → Chained longer (j'.past q))
       → ((q : Name) (i : ℕ) → j.past q i ≡ true → j'.past q i ≡ true) → j'.pending ≡ j.pending → Chains j' longer
   no_offer j' past more same = record {
     past = past;
     waits = λ c z x e. old_waits j'.past more c z x (sym (ap (λ f. f c) same) ∙ e);
   }
 
-  offer_waits : (w : Way) (c : Channel) → h ≡ Offered w c → Chains (met_now j p n c None) longer
+  offer_waits : (w : Way) (c : Channel) → h ≡ Offered w c → Chains (knowledge_after_offer j p n c None) longer
   offer_waits w c is = record {
     past = past_still;
     waits = λ d z x e. ⊎_elim
@@ -158,46 +158,50 @@ module _ (j : Judged) (es : List Occurrence) (chains : Chains j es) (paired : Pa
                 (all k y (low k _ (omega arith) (subst (OfferAt longer k y w) (sym same) o))),
           )
 
-  offer_meets : (c : Channel) (o : Name × ℕ) → j.pending c ≡ Some o → Chains (met_now j p n c (Some o)) longer
+  offer_meets : (c : Channel) (o : Name × ℕ) → j.pending c ≡ Some o
+      → Chains (knowledge_after_offer j p n c (Some o)) longer
   offer_meets c o met = record {
     past = learn_all (Chained longer) (union_chained longer) known known_chained o.0 (learn p known j.past)
         (learn_all (Chained longer) (union_chained longer) known known_chained p j.past past_still);
     waits = λ d z x e. ⊎_elim
         (λ (a : (c ≡ d) × (◌≡◌ {A = Option (Name × ℕ)} None (Some (z, x)))). absurd (none-some (z, x) a.1))
-        (λ (a : j.pending d ≡ Some (z, x)). old_waits (met_now j p n c (Some o)).past
+        (λ (a : j.pending d ≡ Some (z, x)). old_waits (knowledge_after_offer j p n c (Some o)).past
         (λ q i t. learn_more o.0 known (learn p known j.past) q i (learn_more p known j.past q i t)) d z x a)
         (at_channel c d None j.pending (z, x) e);
   }
     where
       known : ℕ → Bool
-      known i = now j p n i || now j o.0 o.1 i
+      known i = known_with j p n i || known_with j o.0 o.1 i
 
       known_chained : Chained longer known
-      known_chained = union_chained longer (now j p n) (now j o.0 o.1) mine_chained (theirs_chained c o.0 o.1 met)
+      known_chained = union_chained longer (known_with j p n) (known_with j o.0 o.1) mine_chained
+          (theirs_chained c o.0 o.1 met)
 
-pub chains_more : (j : Judged) (es : List Occurrence) → Chains j es → Paired j (length es) → (p : Name) (h : Happening)
-    → KnowsOffers j es p h → Chains (judged_by j (length es) p h) (es ++ record { who = p; what = h } ∷ [])
-chains_more j es c d p Opened k = no_offer j es c d p Opened k (judged_by j (length es) p Opened)
+pub chains_more : (j : Knowledge) (es : List Occurrence) → Chains j es → Paired j (length es)
+    → (p : Name) (h : Happening)
+    → KnowsOffers j es p h → Chains (knowledge_after j (length es) p h) (es ++ record { who = p; what = h } ∷ [])
+chains_more j es c d p Opened k = no_offer j es c d p Opened k (knowledge_after j (length es) p Opened)
     (own_chained j es c d p Opened k) (λ q i t. learn_more p (λ i. length es == i) j.past q i t) refl
 chains_more j es c d p (Forked m) k =
     let l : List Occurrence = es ++ record { who = p; what = Forked m } ∷ [] in
     let mid : Name → ℕ → Bool = learn p (λ i. length es == i) j.past in
-    no_offer j es c d p (Forked m) k (judged_by j (length es) p (Forked m))
-    (teach_all (Chained l) (union_chained l) (now j p (length es)) (mine_chained j es c d p (Forked m) k) p (j.forks p)
+    no_offer j es c d p (Forked m) k (knowledge_after j (length es) p (Forked m))
+    (teach_all (Chained l) (union_chained l) (known_with j p (length es)) (mine_chained j es c d p (Forked m) k) p
+    (j.forks p)
     0 m mid (own_chained j es c d p (Forked m) k))
-    (λ q i t. teach_more p (j.forks p) (now j p (length es)) 0 m mid q i
+    (λ q i t. teach_more p (j.forks p) (known_with j p (length es)) 0 m mid q i
     (learn_more p (λ i. length es == i) j.past q i t)) refl
 chains_more j es c d p Ended k =
     let l : List Occurrence = es ++ record { who = p; what = Ended } ∷ [] in
     let mid : Name → ℕ → Bool = learn p (λ i. length es == i) j.past in
-    no_offer j es c d p Ended k (judged_by j (length es) p Ended)
-    (report_all (Chained l) (union_chained l) (now j p (length es)) (mine_chained j es c d p Ended k) p mid
+    no_offer j es c d p Ended k (knowledge_after j (length es) p Ended)
+    (report_all (Chained l) (union_chained l) (known_with j p (length es)) (mine_chained j es c d p Ended k) p mid
     (own_chained j es c d p Ended k))
-    (λ q i t. report_more p (now j p (length es)) mid q i (learn_more p (λ i. length es == i) j.past q i t)) refl
+    (λ q i t. report_more p (known_with j p (length es)) mid q i (learn_more p (λ i. length es == i) j.past q i t)) refl
 chains_more j es c d p (Offered w e) k = by (j.pending e) refl
   where
     by : (o : Option (Name × ℕ)) → j.pending e ≡ o
-        → Chains (met_now j p (length es) e o) (es ++ record { who = p; what = Offered w e } ∷ [])
+        → Chains (knowledge_after_offer j p (length es) e o) (es ++ record { who = p; what = Offered w e } ∷ [])
     by None f = offer_waits j es c d p (Offered w e) k w e refl
     by (Some o) f = offer_meets j es c d p (Offered w e) k e o f
 chains_more j es c d p (Faulted f) k = no_offer j es c d p (Faulted f) k j (past_still j es c d p (Faulted f) k)
@@ -205,14 +209,14 @@ chains_more j es c d p (Faulted f) k = no_offer j es c d p (Faulted f) k j (past
 chains_more j es c d p Laid k = no_offer j es c d p Laid k j (past_still j es c d p Laid k) (λ q i t. t) refl
 chains_more j es c d p Paused k = no_offer j es c d p Paused k j (past_still j es c d p Paused k) (λ q i t. t) refl
 
-pub nothing_chained : Chains nothing_judged []
+pub nothing_chained : Chains no_knowledge []
 nothing_chained = record {
   past = λ q i k w c z y o. absurd (let l = slice_get_within [] i _ o in omega arith);
   waits = λ c z x e. absurd (none-some (z, x) e);
 }
 
 -- who knows the last offer of a way on a channel knows all of them
-pub knows_by_last : (j : Judged) (es : List Occurrence) → Chains j es
+pub knows_by_last : (j : Knowledge) (es : List Occurrence) → Chains j es
     → (p : Name) (w : Way) (c : Channel) (i : ℕ) (z : Name) → OfferAt es i z w c
     → ((k : ℕ) (y : Name) → OfferAt es k y w c → k ≤ i) → j.past p i ≡ true → KnowsOffers j es p (Offered w c)
 knows_by_last j es chains p w c i z o last t k y q = chains.past p i k w c z y o q (last k y q) t

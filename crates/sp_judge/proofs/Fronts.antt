@@ -8,58 +8,66 @@ use Rattle.sp_journal.specs.declared.entry.Entry.{Entry}
 use Rattle.sp_journal.specs.declared.entry.Event.{Event}
 use Rattle.sp_journal.specs.declared.entry.Event.TheVariants as event
 use Rattle.sp_journal.specs.Names.{Name, Channel, Occurrence}
-use Rattle.sp_journal.specs.Births.{Births, at_start, after_event, after_entry, births_from, births, CanFollow}
+use Rattle.sp_journal.specs.Births.{Births, first_births, births_after_event, births_after_entry, births_from, births}
+use Rattle.sp_journal.specs.Births.{CanFollow}
 use Rattle.sp_journal.specs.Births.{NameableFrom, happening, occurrence}
-use Rattle.sp_journal.specs.Past.{Judged, judged, judged_by, judged_from, nothing_judged, met_now}
+use Rattle.sp_journal.specs.Past.{Knowledge, knowledge_of, knowledge_after, knowledge_from, no_knowledge}
+use Rattle.sp_journal.specs.Past.{knowledge_after_offer}
 use Rattle.sp_journal.proofs.Walk.{any_entry, births_parts}
 use Rattle.sp_journal.proofs.BirthLaws.{births_last}
-use Rattle.sp_judge.specs.Prefixes.{IsQuiet, QuietFrom, WaitsForNone}
-use Rattle.sp_judge.specs.Counts.{counted_by, counts_from, counts}
-use Rattle.sp_judge.specs.Bench.{named}
-use Rattle.sp_judge.proofs.Numbers.{Stays, stays, same_process}
+use Rattle.sp_judge.specs.Prefixes.{WaitersAreSilent, WaitersSilentFrom, WaitsForNone}
+use Rattle.sp_judge.specs.Counts.{clocks_after_entry, clocks_from, clocks_of}
+use Rattle.sp_judge.specs.JudgeTables.{entries_by_names}
+use Rattle.sp_judge.proofs.Numbers.{ExtendsBirths, stays, same_process}
 use Rattle.sp_judge.proofs.Standing.{Standing, standing_from, nothing_standing}
 use Rattle.sp_journal.proofs.BirthLaws.{Lawful}
 
-judged_from_last : (j : Judged) (n : ℕ) (es : List Occurrence) (e : Occurrence)
-    → judged_from j n (es ++ e ∷ []) ≡ judged_by (judged_from j n es) (n + length es) e.who e.what
-judged_from_last j n [] e = ap (λ x. judged_by j x e.who e.what) (omega arith)
+judged_from_last : (j : Knowledge) (n : ℕ) (es : List Occurrence) (e : Occurrence)
+    → knowledge_from j n (es ++ e ∷ []) ≡ knowledge_after (knowledge_from j n es) (n + length es) e.who e.what
+judged_from_last j n [] e = ap (λ x. knowledge_after j x e.who e.what) (omega arith)
 judged_from_last j n (x ∷ es) e =
     let l : suc n + length es ≡ n + suc (length es) = omega arith in
-    judged_from_last (judged_by j n x.who x.what) (suc n) es e
-    ∙ ap (λ y. judged_by (judged_from (judged_by j n x.who x.what) (suc n) es) y e.who e.what) l
+    judged_from_last (knowledge_after j n x.who x.what) (suc n) es e
+    ∙ ap (λ y. knowledge_after (knowledge_from (knowledge_after j n x.who x.what) (suc n) es) y e.who e.what) l
 
 pub judged_last : (es : List Occurrence) (e : Occurrence)
-    → judged (es ++ e ∷ []) ≡ judged_by (judged es) (length es) e.who e.what
-judged_last es e = judged_from_last nothing_judged 0 es e ∙ ap (λ y. judged_by (judged es) y e.who e.what) (omega arith)
+    → knowledge_of (es ++ e ∷ []) ≡ knowledge_after (knowledge_of es) (length es) e.who e.what
+judged_last es e = judged_from_last no_knowledge 0 es e ∙ ap (λ y. knowledge_after (knowledge_of es) y e.who e.what)
+    (omega arith)
 
-counts_from_last : (c : Name → Name → ℕ) (j : Judged) (done es : List Occurrence) (e : Occurrence)
-    → counts_from c j done (es ++ e ∷ []) ≡ counted_by (counts_from c j done es) (judged_from j (length done) es)
+counts_from_last : (c : Name → Name → ℕ) (j : Knowledge) (done es : List Occurrence) (e : Occurrence)
+    → clocks_from c j done (es ++ e ∷ []) ≡ clocks_after_entry (clocks_from c j done es)
+    (knowledge_from j (length done) es)
     (done ++ es) e.who e.what
-counts_from_last c j done [] e = ap (λ xs. counted_by c j xs e.who e.what) (sym (append-nil done))
+counts_from_last c j done [] e = ap (λ xs. clocks_after_entry c j xs e.who e.what) (sym (append-nil done))
 counts_from_last c j done (x ∷ es) e =
-    let j' : Judged = judged_by j (length done) x.who x.what in
-    let c' : Name → Name → ℕ = counted_by c j done x.who x.what in
+    let j' : Knowledge = knowledge_after j (length done) x.who x.what in
+    let c' : Name → Name → ℕ = clocks_after_entry c j done x.who x.what in
     let l : length (done ++ x ∷ []) ≡ suc (length done) = length-append done (x ∷ []) ∙ (omega arith) in
     let a : (done ++ x ∷ []) ++ es ≡ done ++ x ∷ es = append_assoc done (x ∷ []) es in
     counts_from_last c' j' (done ++ x ∷ []) es e
-    ∙ (λ i. counted_by (counts_from c' j' (done ++ x ∷ []) es) (judged_from j' (l i) es) (a i) e.who e.what)
+    ∙ (λ i. clocks_after_entry (clocks_from c' j' (done ++ x ∷ []) es) (knowledge_from j' (l i) es) (a i) e.who e.what)
 
 pub counts_last : (es : List Occurrence) (e : Occurrence)
-    → counts (es ++ e ∷ []) ≡ counted_by (counts es) (judged es) es e.who e.what
-counts_last es e = counts_from_last (λ p q. 0) nothing_judged [] es e
+    → clocks_of (es ++ e ∷ []) ≡ clocks_after_entry (clocks_of es) (knowledge_of es) es e.who e.what
+counts_last es e = counts_from_last (λ p q. 0) no_knowledge [] es e
 
-pub quiet_front : (j : Judged) (n : ℕ) (xs ys : List Occurrence) → QuietFrom j n (xs ++ ys) → QuietFrom j n xs
-    × QuietFrom (judged_from j n xs) (n + length xs) ys
-quiet_front j n [] ys q = (tt, subst (λ x. QuietFrom j x ys) (is_plus_none n) q)
+pub quiet_front : (j : Knowledge) (n : ℕ) (xs ys : List Occurrence) → WaitersSilentFrom j n (xs ++ ys)
+    → WaitersSilentFrom j n xs
+    × WaitersSilentFrom (knowledge_from j n xs) (n + length xs) ys
+quiet_front j n [] ys q = (tt, subst (λ x. WaitersSilentFrom j x ys) (is_plus_none n) q)
 quiet_front j n (x ∷ xs) ys q =
-    let r = quiet_front (judged_by j n x.who x.what) (suc n) xs ys q.1 in
-    let l : suc n + length xs ≡ n + suc (length xs) = omega arith in
-    ((q.0, r.0), subst (λ y. QuietFrom (judged_from (judged_by j n x.who x.what) (suc n) xs) y ys) l r.1)
+    let r = quiet_front (knowledge_after j n x.who x.what) (suc n) xs ys q.1 in
+    let l : suc n + length xs ≡ n + suc (length xs) = omega arith in (
+      (q.0, r.0),
+      subst (λ y. WaitersSilentFrom (knowledge_from (knowledge_after j n x.who x.what) (suc n) xs) y
+          ys) l r.1,
+    )
 
 nameable_front : (s : Births) (xs ys : List Entry) → NameableFrom s (xs ++ ys) → NameableFrom s xs
     × NameableFrom (births_from s xs) ys
 nameable_front s [] ys f = (tt, f)
-nameable_front s (x ∷ xs) ys f = let r = nameable_front (after_entry s x) xs ys f.1 in ((f.0, r.0), r.1)
+nameable_front s (x ∷ xs) ys f = let r = nameable_front (births_after_entry s x) xs ys f.1 in ((f.0, r.0), r.1)
 
 rest_of : (all : List Entry) (at : ℕ) (e : Entry) → slice_get all at ≡ Some e → (rest : List Entry)
     × (all ≡ take at all ++ e ∷ rest)
@@ -82,16 +90,16 @@ take_length (x ∷ xs) zero l = refl
 take_length (x ∷ xs) (suc i) l = ap suc (take_length xs i (omega arith))
 
 named_more : (s : Births) (es : List Entry) (e : Entry) (rest : List Entry)
-    → named s (es ++ e ∷ rest) ≡ named s es ++ occurrence s e ∷ named s rest
+    → entries_by_names s (es ++ e ∷ rest) ≡ entries_by_names s es ++ occurrence s e ∷ entries_by_names s rest
 named_more s [] e rest = refl
 named_more s (x ∷ es) e rest = ap (λ ys. occurrence s x ∷ ys) (named_more s es e rest)
 
-pub named_length : (s : Births) (es : List Entry) → length (named s es) ≡ length es
+pub named_length : (s : Births) (es : List Entry) → length (entries_by_names s es) ≡ length es
 named_length s [] = refl
 named_length s (x ∷ es) = ap suc (named_length s es)
 
 pub named_get : (s : Births) (es : List Entry) (i : ℕ) (e : Entry) → slice_get es i ≡ Some e
-    → slice_get (named s es) i ≡ Some (occurrence s e)
+    → slice_get (entries_by_names s es) i ≡ Some (occurrence s e)
 named_get s [] i e h = absurd (none-some _ h)
 named_get s (x ∷ es) zero e h = ap (λ y. Some (occurrence s y)) (same_Some x e h)
 named_get s (x ∷ es) (suc i) e h = named_get s es i e h
@@ -99,18 +107,18 @@ named_get s (x ∷ es) (suc i) e h = named_get s es i e h
 -- how many forks a process has made, by numbers and by names
 module _ (t : Births) (lawful : Lawful t) where
   -- after one more entry
-  pub forks_by : (j : Judged) (n : ℕ) (s : Births) (e : Entry) → e.process < t.processes
+  pub forks_by : (j : Knowledge) (n : ℕ) (s : Births) (e : Entry) → e.process < t.processes
       → ((p : ℕ) → p < t.processes → j.forks (t.name p) ≡ s.forks p)
-      → (p : ℕ) → p < t.processes → (judged_by j n (t.name e.process) (happening t e.event)).forks (t.name p)
-      ≡ (after_entry s e).forks p
+      → (p : ℕ) → p < t.processes → (knowledge_after j n (t.name e.process) (happening t e.event)).forks (t.name p)
+      ≡ (births_after_entry s e).forks p
   forks_by j n s e l h p k = by e.event
     where
-      met : (c : Channel) (o : Option (Name × ℕ)) → (met_now j (t.name e.process) n c o).forks ≡ j.forks
+      met : (c : Channel) (o : Option (Name × ℕ)) → (knowledge_after_offer j (t.name e.process) n c o).forks ≡ j.forks
       met c None = refl
       met c (Some o) = refl
 
-      by : (v : Event) → (judged_by j n (t.name e.process) (happening t v)).forks (t.name p)
-          ≡ (after_event s e.process v).forks p
+      by : (v : Event) → (knowledge_after j n (t.name e.process) (happening t v)).forks (t.name p)
+          ≡ (births_after_event s e.process v).forks p
       by (event.Fork m) =
           let a = same_process t lawful e.process p l k in
           let b = h e.process l in
@@ -124,25 +132,28 @@ module _ (t : Births) (lawful : Lawful t) where
       by event.Laid = h p k
       by event.Pause = h p k
 
-  forks_from : (es : List Entry) (j : Judged) (n : ℕ) (s : Births) → NameableFrom s es
+  forks_from : (es : List Entry) (j : Knowledge) (n : ℕ) (s : Births) → NameableFrom s es
       → ((r : ℕ) → r < (births_from s es).processes → r < t.processes)
       → ((p : ℕ) → p < t.processes → j.forks (t.name p) ≡ s.forks p)
-      → (p : ℕ) → p < t.processes → (judged_from j n (named t es)).forks (t.name p) ≡ (births_from s es).forks p
+      → (p : ℕ) → p < t.processes → (knowledge_from j n (entries_by_names t es)).forks (t.name p)
+      ≡ (births_from s es).forks p
   forks_from [] j n s f fits h = h
   forks_from (e ∷ es) j n s f fits h =
       let a = (stays s (e ∷ es)).processes in
       let b = f.0.0 in
-      forks_from es (judged_by j n (t.name e.process) (happening t e.event)) (suc n) (after_entry s e) f.1 fits
+      forks_from es (knowledge_after j n (t.name e.process) (happening t e.event)) (suc n) (births_after_entry s e)
+      f.1 fits
       (forks_by j n s e (fits e.process (omega arith)) h)
 
 -- one entry of a nameable journal in which no process makes an entry while its own offer waits
-module _ (all : List Entry) (nameable : NameableFrom at_start all) (quiet : IsQuiet (named (births all) all))
+module _ (all : List Entry) (nameable : NameableFrom first_births all)
+    (quiet : WaitersAreSilent (entries_by_names (births all) all))
     (lawful : Lawful (births all)) (at : ℕ) (e : Entry) (inside : slice_get all at ≡ Some e) where
   abbrev pub before : List Entry
   before = take at all
 
   abbrev pub past : List Occurrence
-  past = named (births all) before
+  past = entries_by_names (births all) before
 
   abbrev pub next : Occurrence
   next = occurrence (births all) e
@@ -153,24 +164,24 @@ module _ (all : List Entry) (nameable : NameableFrom at_start all) (quiet : IsQu
   whole : all ≡ before ++ e ∷ rest
   whole = (rest_of all at e inside).1
 
-  front : NameableFrom at_start before × NameableFrom (births before) (e ∷ rest)
-  front = nameable_front at_start before (e ∷ rest) (subst (NameableFrom at_start) whole nameable)
+  front : NameableFrom first_births before × NameableFrom (births before) (e ∷ rest)
+  front = nameable_front first_births before (e ∷ rest) (subst (NameableFrom first_births) whole nameable)
 
   pub follows : CanFollow (births before) e
   follows = front.1.0
 
-  pub front_nameable : NameableFrom at_start before
+  pub front_nameable : NameableFrom first_births before
   front_nameable = front.0
 
   births_whole : births all ≡ births_from (births before) (e ∷ rest)
-  births_whole = ap births whole ∙ births_parts at_start before (e ∷ rest)
+  births_whole = ap births whole ∙ births_parts first_births before (e ∷ rest)
 
-  pub stays_on : Stays (births before) (births all)
-  stays_on = subst (Stays (births before)) (sym births_whole) (stays (births before) (e ∷ rest))
+  pub stays_on : ExtendsBirths (births before) (births all)
+  stays_on = subst (ExtendsBirths (births before)) (sym births_whole) (stays (births before) (e ∷ rest))
 
-  pub stays_after : Stays (after_entry (births before) e) (births all)
-  stays_after = subst (Stays (after_entry (births before) e)) (sym births_whole)
-      (stays (after_entry (births before) e) rest)
+  pub stays_after : ExtendsBirths (births_after_entry (births before) e) (births all)
+  stays_after = subst (ExtendsBirths (births_after_entry (births before) e)) (sym births_whole)
+      (stays (births_after_entry (births before) e) rest)
 
   pub there : e.process < (births all).processes
   there = let a = follows.0 in let b = stays_on.processes in omega arith
@@ -181,24 +192,24 @@ module _ (all : List Entry) (nameable : NameableFrom at_start all) (quiet : IsQu
   pub next_length : length (take (at + 1) all) ≡ at + 1
   next_length = take_length all (at + 1) (let l = get_within all at e inside in omega arith)
 
-  pub grown : named (births all) (take (at + 1) all) ≡ past ++ next ∷ []
-  grown = ap (named (births all)) (take_next all at e inside) ∙ named_more (births all) before e []
+  pub grown : entries_by_names (births all) (take (at + 1) all) ≡ past ++ next ∷ []
+  grown = ap (entries_by_names (births all)) (take_next all at e inside) ∙ named_more (births all) before e []
 
-  quiet_parts : QuietFrom nothing_judged 0 past
-      × QuietFrom (judged past) (0 + length past) (next ∷ named (births all) rest)
-  quiet_parts = quiet_front nothing_judged 0 past (next ∷ named (births all) rest)
-      (subst IsQuiet (ap (named (births all)) whole ∙ named_more (births all) before e rest) quiet)
+  quiet_parts : WaitersSilentFrom no_knowledge 0 past
+      × WaitersSilentFrom (knowledge_of past) (0 + length past) (next ∷ entries_by_names (births all) rest)
+  quiet_parts = quiet_front no_knowledge 0 past (next ∷ entries_by_names (births all) rest)
+      (subst WaitersAreSilent (ap (entries_by_names (births all)) whole ∙ named_more (births all) before e rest) quiet)
 
-  pub waits_not : WaitsForNone (judged past) next.who
+  pub waits_not : WaitsForNone (knowledge_of past) next.who
   waits_not = quiet_parts.1.0
 
-  pub stands : Standing (judged past) past (counts past)
-  stands = standing_from nothing_judged [] (λ p q. 0) past nothing_standing quiet_parts.0
+  pub stands : Standing (knowledge_of past) past (clocks_of past)
+  stands = standing_from no_knowledge [] (λ p q. 0) past nothing_standing quiet_parts.0
 
-  pub births_more : births (take (at + 1) all) ≡ after_entry (births before) e
+  pub births_more : births (take (at + 1) all) ≡ births_after_entry (births before) e
   births_more = ap births (take_next all at e inside) ∙ births_last before e
 
   pub forks_named : (p : ℕ) → p < (births all).processes
-      → (judged past).forks ((births all).name p) ≡ (births before).forks p
-  forks_named = forks_from (births all) lawful before nothing_judged 0 at_start front_nameable
+      → (knowledge_of past).forks ((births all).name p) ≡ (births before).forks p
+  forks_named = forks_from (births all) lawful before no_knowledge 0 first_births front_nameable
       (λ r l. let b = stays_on.processes in omega arith) (λ p l. refl)

@@ -6,14 +6,15 @@ use Rattle.sp_journal.specs.declared.entry.Entry.{Entry}
 use Rattle.sp_journal.specs.declared.entry.Way.{Way}
 use Rattle.sp_journal.specs.Names.{Occurrence}
 use Rattle.sp_journal.specs.Births.{Births, births}
-use Rattle.sp_journal.specs.Past.{judged}
+use Rattle.sp_journal.specs.Past.{knowledge_of}
 use Rattle.sp_journal.proofs.BirthLaws.{Lawful, lawful}
 use Rattle.sp_race.specs.Known.{AreKnown}
 use Rattle.sp_judge.specs.declared.clock.Clock.{Clock}
-use Rattle.sp_judge.specs.declared.bench.Bench.{Bench}
+use Rattle.sp_judge.specs.declared.judge_tables.JudgeTables.{JudgeTables}
 use Rattle.sp_judge.specs.Clocks.{count_of, number_at}
-use Rattle.sp_judge.specs.Counts.{made, counts}
-use Rattle.sp_judge.specs.Bench.{named, offer_event, IsTame, Holds, IsOfferAt, IsLastOffer, IsUnknown}
+use Rattle.sp_judge.specs.Counts.{count_of_entries, clocks_of}
+use Rattle.sp_judge.specs.JudgeTables.{entries_by_names, offer_event, IsNameableAndSilent, TablesHold, IsOfferAt}
+use Rattle.sp_judge.specs.JudgeTables.{IsLastOffer, IsUnknown}
 use Rattle.sp_judge.proofs.TableLaws.{clock_is}
 use Rattle.sp_judge.proofs.Fronts.{get_within, take_length}
 use Rattle.sp_judge.proofs.Fronts as front
@@ -28,7 +29,7 @@ pub offer_there : (es : List Entry) (w : Way) (c i : ℕ) → IsOfferAt es w c i
     → (get_or es i d).event ≡ offer_event w c
 offer_there es w c i o d = ap (λ (x : Entry). x.event) (get_or_from_slice_get es i o.0 d o.1) ∙ o.2
 
-module _ (all : List Entry) (t : IsTame all) (at : ℕ) where
+module _ (all : List Entry) (t : IsNameableAndSilent all) (at : ℕ) where
   abbrev s : Births
   s = births all
 
@@ -36,9 +37,9 @@ module _ (all : List Entry) (t : IsTame all) (at : ℕ) where
   law = lawful all t.nameable
 
   -- the clock of a process says the count that is still asked for
-  pub clock_says : (until : List ℕ) (b : Bench) → Holds s until (take at all) b → at ≤ length all → (p q : ℕ)
+  pub clock_says : (until : List ℕ) (b : JudgeTables) → TablesHold s until (take at all) b → at ≤ length all → (p q : ℕ)
       → p < s.processes → q < s.processes → at < number_at until q → (cl : Clock) → cl ≡ get_or b.clocks.items p cl
-      → count_of cl q ≡ counts (named s (take at all)) (s.name p) (s.name q)
+      → count_of cl q ≡ clocks_of (entries_by_names s (take at all)) (s.name p) (s.name q)
   clock_says until b h inside p q l k asked cl is =
       ap (λ x. count_of x q) is ∙ clock_is b.clocks.items p cl q (let a = h.all_clocks in omega arith)
       ∙ h.clocks p q l k (let n = take_length all at inside in omega arith)
@@ -49,7 +50,7 @@ module _ (all : List Entry) (t : IsTame all) (at : ℕ) where
     e = record { process = p; event = offer_event w c }
 
     abbrev os : List Occurrence
-    os = named s (take at all)
+    os = entries_by_names s (take at all)
 
     pub inside : at < length all
     inside = get_within all at e here
@@ -66,22 +67,23 @@ module _ (all : List Entry) (t : IsTame all) (at : ℕ) where
     none_below middle none k l u = none k l (u.0, u.1, u.2)
 
     pub all_below : AreKnown os → (middle i : ℕ) → middle ≤ at → IsLastOffer all middle w c i
-        → (judged os).past (s.name p) i ≡ true → (k : ℕ) → k < middle → IsUnknown s os all p w c k → ⊥
+        → (knowledge_of os).past (s.name p) i ≡ true → (k : ℕ) → k < middle → IsUnknown s os all p w c k → ⊥
     all_below = laws.all_below all t.nameable t.quiet law at e here w c refl
 
-    module _ (until : List ℕ) (b : Bench) (h : Holds s until (take at all) b) where
+    module _ (until : List ℕ) (b : JudgeTables) (h : TablesHold s until (take at all) b) where
       pub place_there : (i : ℕ) → i < at → i < length b.places.items
       place_there i l = let a = h.all_places in let n = front.at_length all t.nameable t.quiet law at e here in
           omega arith
 
       -- what the count of an offer's process says of the offer
       pub counted : (i place : ℕ) (d : Entry) → i < at → IsOfferAt all w c i → place ≡ get_or b.places.items i place
-          → (place < counts os (s.name p) (s.name (get_or all i d).process)) ↔ ((judged os).past (s.name p) i ≡ true)
+          → (place < clocks_of os (s.name p) (s.name (get_or all i d).process))
+          ↔ ((knowledge_of os).past (s.name p) i ≡ true)
       counted i place d l o is =
-          subst (λ (x : Entry). (place < counts os (s.name p) (s.name x.process))
-          ↔ ((judged os).past (s.name p) i ≡ true)) (sym (get_or_from_slice_get all i o.0 d o.1))
+          subst (λ (x : Entry). (place < clocks_of os (s.name p) (s.name x.process))
+          ↔ ((knowledge_of os).past (s.name p) i ≡ true)) (sym (get_or_from_slice_get all i o.0 d o.1))
           (laws.counted_offer all t.nameable t.quiet law at e here w c refl i place o.0 l o.1 o.2 (is ∙ place_is))
         where
-          place_is : get_or b.places.items i place ≡ made (take i os) (s.name o.0.process)
+          place_is : get_or b.places.items i place ≡ count_of_entries (take i os) (s.name o.0.process)
           place_is = get_or_from_slice_get b.places.items i _ place
               (h.places i o.0 (laws.into_front all t.nameable t.quiet law at e here i o.0 l o.1))

@@ -7,11 +7,11 @@ mod Chains
 mod TableLaws
 pub mod Numbers
 pub mod Fronts
-mod BenchLaws
+mod JudgeTableLaws
 mod OfferLaws
 mod VerdictLaws
 mod Steps
 mod Judging
 mod Halves
-mod QuietRuns
+mod SilentWaiters
 mod RunVerdicts

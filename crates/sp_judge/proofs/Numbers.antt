@@ -9,23 +9,24 @@ use Rattle.sp_journal.specs.declared.entry.Event.TheVariants as event
 use Rattle.sp_journal.specs.declared.entry.Opening.{Opening}
 use Rattle.sp_journal.specs.declared.entry.Way.TheVariants as way
 use Rattle.sp_journal.specs.Names.{Name, Channel, same_name, same_channel, Offered}
-use Rattle.sp_journal.specs.Births.{Births, at_start, after_event, after_entry, births_from, births, channel, CanFollow}
+use Rattle.sp_journal.specs.Births.{Births, first_births, births_after_event, births_after_entry, births_from, births}
+use Rattle.sp_journal.specs.Births.{channel, CanFollow}
 use Rattle.sp_journal.specs.Births.{GivesNumbers, NameableFrom, happening, occurrence, occurrences_from}
 use Rattle.sp_journal.proofs.Facts.{below, between}
 use Rattle.sp_journal.proofs.BirthLaws.{Lawful, lawful_start, lawful_after, lawful}
-use Rattle.sp_journal.proofs.NameLaws.{name_itself, name_is}
+use Rattle.sp_meaning.proofs.Keys.{name_itself, name_is}
 use Rattle.sp_judge.proofs.Keys.{channel_itself, channel_is}
-use Rattle.sp_judge.specs.Counts.{gains, shares}
+use Rattle.sp_judge.specs.Counts.{with_merged_clock, with_children_merged}
 use Rattle.sp_judge.proofs.Tallies.{index_or_not}
 
 -- what was given before is there after
-pub record Stays (s t : Births) : Type 0 where
+pub record ExtendsBirths (s t : Births) : Type 0 where
   pub names : (q : ℕ) → q < s.processes → t.name q ≡ s.name q
   pub openings : (c : ℕ) → c < s.channels → t.opening c ≡ s.opening c
   pub processes : s.processes ≤ t.processes
   pub channels : s.channels ≤ t.channels
 
-event_stays : (s : Births) (p : ℕ) (e : Event) → Stays s (after_event s p e)
+event_stays : (s : Births) (p : ℕ) (e : Event) → ExtendsBirths s (births_after_event s p e)
 event_stays s p (event.Fork n) = record {
   names = λ q l. ap (λ b. cond b ((s.forks p, q - s.processes) ∷ s.name p) (s.name q))
       (below s.processes q (s.processes + n) l);
@@ -77,11 +78,11 @@ event_stays s p event.Pause = record {
   channels = omega arith;
 }
 
-pub stays : (s : Births) (es : List Entry) → Stays s (births_from s es)
+pub stays : (s : Births) (es : List Entry) → ExtendsBirths s (births_from s es)
 stays s [] = record { names = λ q l. refl; openings = λ c l. refl; processes = omega arith; channels = omega arith }
 stays s (e ∷ es) =
     let a = event_stays s e.process e.event in
-    let b = stays (after_entry s e) es in
+    let b = stays (births_after_entry s e) es in
     let x = a.processes in
     let y = b.processes in
     let z = a.channels in
@@ -93,14 +94,14 @@ stays s (e ∷ es) =
       channels = omega arith;
     }
 
-pub channel_stays : (s t : Births) → Lawful s → Stays s t → (c : ℕ) → c < s.channels → channel s c ≡ channel t c
+pub channel_stays : (s t : Births) → Lawful s → ExtendsBirths s t → (c : ℕ) → c < s.channels → channel s c ≡ channel t c
 channel_stays s t lawful st c l =
     let o : s.opening c ≡ t.opening c = sym (st.openings c l) in
     let n : s.name (s.opening c).owner ≡ t.name (t.opening c).owner =
     sym (st.names (s.opening c).owner (lawful.owned c l)) ∙ ap (λ (x : Opening). t.name x.owner) o in
     λ i. record { owner = n i; nth = (o i).nth }
 
-happening_stays : (s t : Births) → Lawful s → Stays s t → (e : Entry) → CanFollow s e
+happening_stays : (s t : Births) → Lawful s → ExtendsBirths s t → (e : Entry) → CanFollow s e
     → happening s e.event ≡ happening t e.event
 happening_stays s t lawful st e f = by e.event f.1
   where
@@ -114,7 +115,7 @@ happening_stays s t lawful st e f = by e.event f.1
     by event.Laid g = refl
     by event.Pause g = refl
 
-pub occurrence_stays : (s t : Births) → Lawful s → Stays s t → (e : Entry) → CanFollow s e
+pub occurrence_stays : (s t : Births) → Lawful s → ExtendsBirths s t → (e : Entry) → CanFollow s e
     → occurrence s e ≡ occurrence t e
 occurrence_stays s t lawful st e f =
     let n = sym (st.names e.process f.0) in
@@ -127,12 +128,12 @@ all_named_from : (s : Births) (es : List Entry) → Lawful s → NameableFrom s 
 all_named_from s [] lawful f = refl
 all_named_from s (e ∷ es) lawful f =
     let a = occurrence_stays s (births_from s (e ∷ es)) lawful (stays s (e ∷ es)) e f.0 in
-    let r = all_named_from (after_entry s e) es (lawful_after s e lawful f.0) f.1 in
+    let r = all_named_from (births_after_entry s e) es (lawful_after s e lawful f.0) f.1 in
     λ i. a i ∷ r i
 
-pub all_named : (es : List Entry) → NameableFrom at_start es
-    → occurrences_from at_start es ≡ map (occurrence (births es)) es
-all_named es f = all_named_from at_start es lawful_start f
+pub all_named : (es : List Entry) → NameableFrom first_births es
+    → occurrences_from first_births es ≡ map (occurrence (births es)) es
+all_named es f = all_named_from first_births es lawful_start f
 
 -- tests of names are tests of numbers
 module _ (s : Births) (lawful : Lawful s) where
@@ -166,20 +167,20 @@ module _ (s : Births) (lawful : Lawful s) where
     pub shares_is : (n i : ℕ) → i + n ≤ k → (count : Name → Name → ℕ) (c : ℕ → ℕ → ℕ)
         → ((r q : ℕ) → r < s.processes → A q → c r q ≡ count (s.name r) (s.name q))
         → (r q : ℕ) → r < s.processes → A q → cond (nat_le (first + i) r && nat_lt r ((first + i) + n))
-        (max (c r q) (known q)) (c r q) ≡ shares (s.name p) fork clock i n count (s.name r) (s.name q)
+        (max (c r q) (known q)) (c r q) ≡ with_children_merged (s.name p) fork clock i n count (s.name r) (s.name q)
     shares_is zero i room count c is r q a b = ap (λ x. cond x (max (c r q) (known q)) (c r q)) (nothing (first + i) r)
         ∙ is r q a b
       where
         nothing : (a r : ℕ) → nat_le a r && nat_lt r (a + 0) ≡ false
         nothing a r = grind (arith, nat_tests)
     shares_is (suc n) i room count c is r q a b =
-        step ∙ shares_is n (suc i) (omega arith) (gains ((fork, i) ∷ s.name p) clock count) c' is' r q a b
+        step ∙ shares_is n (suc i) (omega arith) (with_merged_clock ((fork, i) ∷ s.name p) clock count) c' is' r q a b
       where
         c' : ℕ → ℕ → ℕ
         c' r q = cond (first + i == r) (max (c r q) (known q)) (c r q)
 
         is' : (r q : ℕ) → r < s.processes → A q
-            → c' r q ≡ gains ((fork, i) ∷ s.name p) clock count (s.name r) (s.name q)
+            → c' r q ≡ with_merged_clock ((fork, i) ∷ s.name p) clock count (s.name r) (s.name q)
         is' r q a b =
             let t : first + i == r ≡ same_name ((fork, i) ∷ s.name p) (s.name r) =
             same_process (first + i) r (omega arith) a ∙ ap (λ x. same_name x (s.name r)) (child i (omega arith)) in
@@ -211,7 +212,8 @@ module _ (s : Births) (lawful : Lawful s) where
             (index_or_not (first + i) r)
 
 -- the names of the children of a fork
-pub children_named : (s t : Births) (p n : ℕ) → p < s.processes → Stays s t → Stays (after_event s p (event.Fork n)) t
+pub children_named : (s t : Births) (p n : ℕ) → p < s.processes → ExtendsBirths s t
+    → ExtendsBirths (births_after_event s p (event.Fork n)) t
     → (i : ℕ) → i < n → t.name (s.processes + i) ≡ (s.forks p, i) ∷ t.name p
 children_named s t p n there st after i l =
     after.names (s.processes + i) (omega arith)

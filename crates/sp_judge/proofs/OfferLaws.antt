@@ -9,25 +9,28 @@ use Rattle.sp_journal.specs.declared.entry.Entry.{Entry}
 use Rattle.sp_journal.specs.declared.entry.Way.{Way}
 use Rattle.sp_journal.specs.declared.entry.Way.TheVariants as way
 use Rattle.sp_journal.specs.Names.{Name, Channel, same_name, same_channel, Offered, Occurrence}
-use Rattle.sp_journal.specs.Births.{Births, at_start, births, channel, NameableFrom, happening, occurrence}
-use Rattle.sp_journal.specs.Past.{Judged, judged, judged_by, met_now}
+use Rattle.sp_journal.specs.Births.{Births, first_births, births, channel, NameableFrom, happening, occurrence}
+use Rattle.sp_journal.specs.Past.{Knowledge, knowledge_of, knowledge_after, knowledge_after_offer}
 use Rattle.sp_journal.proofs.BirthLaws.{Lawful}
-use Rattle.sp_judge.specs.Prefixes.{IsQuiet}
+use Rattle.sp_judge.specs.Prefixes.{WaitersAreSilent}
 use Rattle.sp_judge.proofs.Keys.{channel_itself, channel_is}
-use Rattle.sp_judge.specs.declared.bench.Offer.{Offer}
-use Rattle.sp_judge.specs.declared.bench.Line.{Line}
-use Rattle.sp_judge.specs.declared.bench.Bench.{Bench}
-use Rattle.sp_judge.specs.Clocks.{clock_at, with_own, met_at, number_at, IsAsked}
-use Rattle.sp_judge.specs.Counts.{made, counts, counted_by, mine, theirs, both, met_counts}
-use Rattle.sp_judge.specs.Bench.{named, Waits, IsLast, IsLine, Holds, then_line}
+use Rattle.sp_judge.specs.declared.judge_tables.Offer.{Offer}
+use Rattle.sp_judge.specs.declared.judge_tables.ChannelOffers.{ChannelOffers}
+use Rattle.sp_judge.specs.declared.judge_tables.JudgeTables.{JudgeTables}
+use Rattle.sp_judge.specs.Clocks.{clock_at, with_own, clocks_after_meeting, number_at, IsAsked}
+use Rattle.sp_judge.specs.Counts.{count_of_entries, clocks_of, clocks_after_entry, clock_with_entry, clock_of_waiter}
+use Rattle.sp_judge.specs.Counts.{merged_clock, clocks_after_offer}
+use Rattle.sp_judge.specs.JudgeTables.{entries_by_names, IsWaitingOffer, IsLast, IsChannelOffers, TablesHold}
+use Rattle.sp_judge.specs.JudgeTables.{channel_offers_with}
 use Rattle.sp_judge.proofs.Tallies.{index_or_not, take_low, take_all}
 use Rattle.sp_judge.proofs.TableLaws.{get_set}
 use Rattle.sp_judge.proofs.Numbers.{same_process, one_channel}
 use Rattle.sp_judge.proofs.Chains.{channel_of, way_of}
 use Rattle.sp_judge.proofs.Fronts.{judged_last}
 use Rattle.sp_judge.proofs.Fronts as front
-use Rattle.sp_judge.proofs.BenchLaws.{last_stays, new_last, line_stays, Live, clock_is, own_is, here, grown, its_made}
-use Rattle.sp_judge.proofs.BenchLaws.{next_is_suc}
+use Rattle.sp_judge.proofs.JudgeTableLaws.{last_stays, new_last, line_stays, Live, clock_is, own_is, here, grown}
+use Rattle.sp_judge.proofs.JudgeTableLaws.{its_made}
+use Rattle.sp_judge.proofs.JudgeTableLaws.{next_is_suc}
 
 -- a clock with its own count raised has no smaller count
 with_own_more : (c : ℕ → ℕ → ℕ) (p n q : ℕ) → c p q ≤ with_own c p n q
@@ -39,7 +42,7 @@ with_own_more c p n q = by (p == q)
 
 -- who met took in what both know
 met_gains : (c : ℕ → ℕ → ℕ) (p n z m r q : ℕ) → p ≢ z → let w = max (with_own c p n q) (with_own c z m q) in
-    met_at c p n z m r q ≡ cond (z == r) (max (cond (p == r) (max (c r q) w) (c r q)) w)
+    clocks_after_meeting c p n z m r q ≡ cond (z == r) (max (cond (p == r) (max (c r q) w) (c r q)) w)
     (cond (p == r) (max (c r q) w) (c r q))
 met_gains c p n z m r q d = ⊎_elim
     (λ (e : z ≡ r).
@@ -72,11 +75,12 @@ met_gains c p n z m r q d = ⊎_elim
     not_same : (p ≡ r → ⊥) → p == r ≡ false
     not_same f = ⊎_elim (λ (e : p ≡ r). absurd (f e)) (λ (e : p == r ≡ false). e) (index_or_not p r)
 
-module _ (all : List Entry) (nameable : NameableFrom at_start all) (quiet : IsQuiet (named (births all) all))
+module _ (all : List Entry) (nameable : NameableFrom first_births all)
+    (quiet : WaitersAreSilent (entries_by_names (births all) all))
     (lawful : Lawful (births all)) (at : ℕ) (e : Entry) (inside : slice_get all at ≡ Some e) (until : List ℕ)
-    (b : Bench) (h : Holds (births all) until (take at all) b)
+    (b : JudgeTables) (h : TablesHold (births all) until (take at all) b)
     (w : Way) (c : ℕ) (is : happening (births all) e.event ≡ Offered w (channel (births all) c))
-    (is_open : c < (births all).channels) (l : Line) (line : slice_get b.lines.items c ≡ Some l) where
+    (is_open : c < (births all).channels) (l : ChannelOffers) (line : slice_get b.lines.items c ≡ Some l) where
   abbrev s : Births
   s = births all
 
@@ -95,8 +99,8 @@ module _ (all : List Entry) (nameable : NameableFrom at_start all) (quiet : IsQu
   abbrev offer : Offer
   offer = record { process = p; place = number_at b.made.items p }
 
-  its_line : IsLine s os d l
-  its_line = let x = h.lines c is_open in subst (IsLine s os d) (same_Some x.0 l (sym x.1 ∙ line)) x.2
+  its_line : IsChannelOffers s os d l
+  its_line = let x = h.lines c is_open in subst (IsChannelOffers s os d) (same_Some x.0 l (sym x.1 ∙ line)) x.2
 
   this_there : p < s.processes
   this_there = here all nameable quiet lawful at e inside until b h
@@ -112,18 +116,18 @@ module _ (all : List Entry) (nameable : NameableFrom at_start all) (quiet : IsQu
       → IsLast s (os ++ occurrence s e ∷ []) v d o
   other_way v off o f = last_stays s os (occurrence s e) v d (λ g. off (sym (ap (way_of v) (sym is ∙ g)))) o f
 
-  lines_with : (waiting : Option Offer) → Waits s (os ++ occurrence s e ∷ []) waiting
-      ((judged_by (judged os) (length os) (s.name p) (Offered w d)).pending d) → (v : Way) → v ≡ w
-      → IsLine s (named s (take (at + 1) all)) d (then_line v offer waiting l)
-  lines_with waiting f v same = subst (λ xs. IsLine s xs d (then_line v offer waiting l))
+  lines_with : (waiting : Option Offer) → IsWaitingOffer s (os ++ occurrence s e ∷ []) waiting
+      ((knowledge_after (knowledge_of os) (length os) (s.name p) (Offered w d)).pending d) → (v : Way) → v ≡ w
+      → IsChannelOffers s (entries_by_names s (take (at + 1) all)) d (channel_offers_with v offer waiting l)
+  lines_with waiting f v same = subst (λ xs. IsChannelOffers s xs d (channel_offers_with v offer waiting l))
       (sym (grown all nameable quiet lawful at e inside until b h)) (by v same)
     where
-      wait : Waits s (os ++ occurrence s e ∷ []) waiting ((judged (os ++ occurrence s e ∷ [])).pending d)
-      wait = subst (Waits s (os ++ occurrence s e ∷ []) waiting)
-          (sym (ap (λ (j : Judged). j.pending d)
-          (judged_last os (occurrence s e) ∙ ap (judged_by (judged os) (length os) (s.name p)) is))) f
+      wait : IsWaitingOffer s (os ++ occurrence s e ∷ []) waiting ((knowledge_of (os ++ occurrence s e ∷ [])).pending d)
+      wait = subst (IsWaitingOffer s (os ++ occurrence s e ∷ []) waiting)
+          (sym (ap (λ (j : Knowledge). j.pending d)
+          (judged_last os (occurrence s e) ∙ ap (knowledge_after (knowledge_of os) (length os) (s.name p)) is))) f
 
-      by : (v : Way) → v ≡ w → IsLine s (os ++ occurrence s e ∷ []) d (then_line v offer waiting l)
+      by : (v : Way) → v ≡ w → IsChannelOffers s (os ++ occurrence s e ∷ []) d (channel_offers_with v offer waiting l)
       by way.Send g = record {
         waiting = wait;
         sent = subst (λ x. IsLast s (os ++ occurrence s e ∷ []) x d (Some offer)) (sym g) new_sent;
@@ -142,34 +146,36 @@ module _ (all : List Entry) (nameable : NameableFrom at_start all) (quiet : IsQu
           send_receive x = absurd (cc)
 
   met_same : (x : Option (Name × ℕ)) (f : Channel) → same_channel d f ≡ false
-      → (met_now (judged os) (s.name p) (length os) d x).pending f ≡ (judged os).pending f
-  met_same None f n = ap (λ y. cond y (Some (s.name p, length os)) ((judged os).pending f)) n
-  met_same (Some y) f n = ap (λ y. cond y None ((judged os).pending f)) n
+      → (knowledge_after_offer (knowledge_of os) (s.name p) (length os) d x).pending f ≡ (knowledge_of os).pending f
+  met_same None f n = ap (λ y. cond y (Some (s.name p, length os)) ((knowledge_of os).pending f)) n
+  met_same (Some y) f n = ap (λ y. cond y None ((knowledge_of os).pending f)) n
 
   pub offer_lines : (waiting : Option Offer)
-      → Waits s (os ++ occurrence s e ∷ []) waiting
-      ((judged_by (judged os) (length os) (s.name p) (Offered w d)).pending d)
-      → (k : ℕ) → k < s.channels → (x : Line)
-      × (slice_get (slice_set b.lines.items c (then_line w offer waiting l)) k ≡ Some x)
-      × IsLine s (named s (take (at + 1) all)) (channel s k) x
+      → IsWaitingOffer s (os ++ occurrence s e ∷ []) waiting
+      ((knowledge_after (knowledge_of os) (length os) (s.name p) (Offered w d)).pending d)
+      → (k : ℕ) → k < s.channels → (x : ChannelOffers)
+      × (slice_get (slice_set b.lines.items c (channel_offers_with w offer waiting l)) k ≡ Some x)
+      × IsChannelOffers s (entries_by_names s (take (at + 1) all)) (channel s k) x
   offer_lines waiting f k inside' = ⊎_elim
       (λ (g : c ≡ k). (
-        then_line w offer waiting l,
-        get_set b.lines.items c (then_line w offer waiting l) k c_inside
-            ∙ ap (λ x. cond x (Some (then_line w offer waiting l)) (slice_get b.lines.items k)) (eq-eqb c k g),
-        subst (λ x. IsLine s (named s (take (at + 1) all)) (channel s x) (then_line w offer waiting l)) g
+        channel_offers_with w offer waiting l,
+        get_set b.lines.items c (channel_offers_with w offer waiting l) k c_inside
+            ∙ ap (λ x. cond x (Some (channel_offers_with w offer waiting l)) (slice_get b.lines.items k))
+            (eq-eqb c k g),
+        subst (λ x. IsChannelOffers s (entries_by_names s (take (at + 1) all)) (channel s x)
+            (channel_offers_with w offer waiting l)) g
             (lines_with waiting f w refl),
       ))
       (λ (g : c == k ≡ false).
       let x = h.lines k inside' in
       let apart : channel s c ≡ channel s k → ⊥ = λ y. eqb-false c k g (one_channel s lawful c k is_open inside' y) in (
         x.0,
-        get_set b.lines.items c (then_line w offer waiting l) k c_inside
-            ∙ ap (λ y. cond y (Some (then_line w offer waiting l)) (slice_get b.lines.items k)) g ∙ x.1,
+        get_set b.lines.items c (channel_offers_with w offer waiting l) k c_inside
+            ∙ ap (λ y. cond y (Some (channel_offers_with w offer waiting l)) (slice_get b.lines.items k)) g ∙ x.1,
         line_stays all nameable quiet lawful at e inside until b h (channel s k) x.0
             (λ v y. apart (ap (channel_of d) (sym is ∙ y)))
-            (ap (λ y. (judged_by (judged os) (length os) (s.name p) y).pending (channel s k)) is
-            ∙ met_same ((judged os).pending d) (channel s k)
+            (ap (λ y. (knowledge_after (knowledge_of os) (length os) (s.name p) y).pending (channel s k)) is
+            ∙ met_same ((knowledge_of os).pending d) (channel s k)
             (false_from_ne_true (same_channel d (channel s k)) (λ y. apart (channel_is d (channel s k) y)))) x.2,
       ))
       (index_or_not c k)
@@ -177,47 +183,53 @@ module _ (all : List Entry) (nameable : NameableFrom at_start all) (quiet : IsQu
       c_inside : c < length b.lines.items
       c_inside = let a = h.all_lines in omega arith
 
-  counted_is : counted_by (counts os) (judged os) os (s.name p) (happening s e.event)
-      ≡ met_counts (counts os) os (s.name p) ((judged os).pending d)
-  counted_is = ap (counted_by (counts os) (judged os) os (s.name p)) is
+  counted_is : clocks_after_entry (clocks_of os) (knowledge_of os) os (s.name p) (happening s e.event)
+      ≡ clocks_after_offer (clocks_of os) os (s.name p) ((knowledge_of os).pending d)
+  counted_is = ap (clocks_after_entry (clocks_of os) (knowledge_of os) os (s.name p)) is
 
   -- no offer waits: this one does
   module _ (free : l.waiting ≡ None) where
-    pending_none : (judged os).pending d ≡ None
-    pending_none = by ((judged os).pending d) (subst (λ x. Waits s os x ((judged os).pending d)) free its_line.waiting)
+    pending_none : (knowledge_of os).pending d ≡ None
+    pending_none = by ((knowledge_of os).pending d) (subst (λ x. IsWaitingOffer s os x ((knowledge_of os).pending d))
+        free its_line.waiting)
       where
-        by : (x : Option (Name × ℕ)) → Waits s os None x → x ≡ None
+        by : (x : Option (Name × ℕ)) → IsWaitingOffer s os None x → x ≡ None
         by None f = refl
         by (Some y) f = absurd f
 
-    pub waits_now : Waits s (os ++ occurrence s e ∷ []) (Some offer)
-        ((judged_by (judged os) (length os) (s.name p) (Offered w d)).pending d)
-    waits_now = subst (Waits s (os ++ occurrence s e ∷ []) (Some offer)) (sym pending) (
+    pub waits_now : IsWaitingOffer s (os ++ occurrence s e ∷ []) (Some offer)
+        ((knowledge_after (knowledge_of os) (length os) (s.name p) (Offered w d)).pending d)
+    waits_now = subst (IsWaitingOffer s (os ++ occurrence s e ∷ []) (Some offer)) (sym pending) (
       this_there,
       refl,
       its_made all nameable quiet lawful at e inside until b h
-          ∙ ap (λ xs. made xs (s.name p)) (sym (take_low os (occurrence s e) (length os) (omega arith) ∙ take_all os)),
+          ∙ ap (λ xs. count_of_entries xs (s.name p))
+          (sym (take_low os (occurrence s e) (length os) (omega arith) ∙ take_all os)),
     )
       where
-        pending : (judged_by (judged os) (length os) (s.name p) (Offered w d)).pending d ≡ Some (s.name p, length os)
-        pending = ap (λ x. (met_now (judged os) (s.name p) (length os) d x).pending d) pending_none
-            ∙ ap (λ x. cond x (Some (s.name p, length os)) ((judged os).pending d)) (channel_itself d)
+        pending : (knowledge_after (knowledge_of os) (length os) (s.name p) (Offered w d)).pending d
+            ≡ Some (s.name p, length os)
+        pending = ap (λ x. (knowledge_after_offer (knowledge_of os) (s.name p) (length os) d x).pending d) pending_none
+            ∙ ap (λ x. cond x (Some (s.name p, length os)) ((knowledge_of os).pending d)) (channel_itself d)
 
     pub clocks_wait : (r q : ℕ) → r < s.processes → Asked q
-        → clock_at b.clocks.items r q ≡ counted_by (counts os) (judged os) os (s.name p) (happening s e.event)
+        → clock_at b.clocks.items r q ≡ clocks_after_entry (clocks_of os) (knowledge_of os) os (s.name p)
+        (happening s e.event)
         (s.name r) (s.name q)
     clocks_wait r q a k = clock_is all nameable quiet lawful at e inside until b h r q a k
-        ∙ sym (ap (λ f. f (s.name r) (s.name q)) (counted_is ∙ ap (met_counts (counts os) os (s.name p)) pending_none))
+        ∙ sym (ap (λ f. f (s.name r) (s.name q)) (counted_is ∙ ap (clocks_after_offer (clocks_of os) os (s.name p))
+        pending_none))
 
   -- an offer waits: they meet
   module _ (z : Offer) (waiting : l.waiting ≡ Some z) where
-    pub its_pending : (y : Name × ℕ) × ((judged os).pending d ≡ Some y) × (z.process < s.processes)
-        × (s.name z.process ≡ y.0) × (z.place ≡ made (take y.1 os) y.0)
-    its_pending = by ((judged os).pending d)
-        (subst (λ x. Waits s os x ((judged os).pending d)) waiting its_line.waiting)
+    pub its_pending : (y : Name × ℕ) × ((knowledge_of os).pending d ≡ Some y) × (z.process < s.processes)
+        × (s.name z.process ≡ y.0) × (z.place ≡ count_of_entries (take y.1 os) y.0)
+    its_pending = by ((knowledge_of os).pending d)
+        (subst (λ x. IsWaitingOffer s os x ((knowledge_of os).pending d)) waiting its_line.waiting)
       where
-        by : (x : Option (Name × ℕ)) → Waits s os (Some z) x → (y : Name × ℕ) × (x ≡ Some y) × (z.process < s.processes)
-            × (s.name z.process ≡ y.0) × (z.place ≡ made (take y.1 os) y.0)
+        by : (x : Option (Name × ℕ)) → IsWaitingOffer s os (Some z) x → (y : Name × ℕ) × (x ≡ Some y)
+            × (z.process < s.processes)
+            × (s.name z.process ≡ y.0) × (z.place ≡ count_of_entries (take y.1 os) y.0)
         by None f = absurd f
         by (Some y) f = (y, refl, f.0, f.1, f.2)
 
@@ -231,24 +243,27 @@ module _ (all : List Entry) (nameable : NameableFrom at_start all) (quiet : IsQu
     apart f = front.waits_not all nameable quiet lawful at e inside d y.1
         (its_pending.1 ∙ (λ i. Some ((sym its_pending.3 ∙ ap s.name (sym f)) i, y.1)))
 
-    pub waits_no_more : Waits s (os ++ occurrence s e ∷ []) None
-        ((judged_by (judged os) (length os) (s.name p) (Offered w d)).pending d)
-    waits_no_more = subst (Waits s (os ++ occurrence s e ∷ []) None) (sym pending) tt
+    pub waits_no_more : IsWaitingOffer s (os ++ occurrence s e ∷ []) None
+        ((knowledge_after (knowledge_of os) (length os) (s.name p) (Offered w d)).pending d)
+    waits_no_more = subst (IsWaitingOffer s (os ++ occurrence s e ∷ []) None) (sym pending) tt
       where
-        pending : (judged_by (judged os) (length os) (s.name p) (Offered w d)).pending d ≡ None
-        pending = ap (λ x. (met_now (judged os) (s.name p) (length os) d x).pending d) its_pending.1
-            ∙ ap (λ x. cond x None ((judged os).pending d)) (channel_itself d)
+        pending : (knowledge_after (knowledge_of os) (length os) (s.name p) (Offered w d)).pending d ≡ None
+        pending = ap (λ x. (knowledge_after_offer (knowledge_of os) (s.name p) (length os) d x).pending d) its_pending.1
+            ∙ ap (λ x. cond x None ((knowledge_of os).pending d)) (channel_itself d)
 
     pub clocks_met : (c' : ℕ → ℕ → ℕ) → ((r q : ℕ) → IsAsked until (at + 1) q
-        → c' r q ≡ met_at (clock_at b.clocks.items) p (number_at b.made.items p + 1) z.process (z.place + 1) r q)
+        → c' r q ≡ clocks_after_meeting (clock_at b.clocks.items) p (number_at b.made.items p + 1) z.process
+        (z.place + 1) r q)
         → (r q : ℕ) → r < s.processes → Asked q
-        → c' r q ≡ counted_by (counts os) (judged os) os (s.name p) (happening s e.event) (s.name r) (s.name q)
+        → c' r q ≡ clocks_after_entry (clocks_of os) (knowledge_of os) os (s.name p) (happening s e.event) (s.name r)
+        (s.name q)
     clocks_met c' met r q a k =
         met r q k.1 ∙ met_gains (clock_at b.clocks.items) p (number_at b.made.items p + 1) z.process (z.place + 1) r q
         apart
         ∙ (λ i. cond (tz i) (max (cond (tp i) (max (x i) (whole i)) (x i)) (whole i))
         (cond (tp i) (max (x i) (whole i)) (x i)))
-        ∙ sym (ap (λ f. f (s.name r) (s.name q)) (counted_is ∙ ap (met_counts (counts os) os (s.name p)) its_pending.1))
+        ∙ sym (ap (λ f. f (s.name r) (s.name q)) (counted_is ∙ ap (clocks_after_offer (clocks_of os) os (s.name p))
+        its_pending.1))
       where
         tz : z.process == r ≡ same_name y.0 (s.name r)
         tz = same_process s lawful z.process r z_there a ∙ ap (λ n. same_name n (s.name r)) its_pending.3
@@ -256,21 +271,22 @@ module _ (all : List Entry) (nameable : NameableFrom at_start all) (quiet : IsQu
         tp : p == r ≡ same_name (s.name p) (s.name r)
         tp = same_process s lawful p r this_there a
 
-        x : clock_at b.clocks.items r q ≡ counts os (s.name r) (s.name q)
+        x : clock_at b.clocks.items r q ≡ clocks_of os (s.name r) (s.name q)
         x = clock_is all nameable quiet lawful at e inside until b h r q a k
 
         theirs_is : with_own (clock_at b.clocks.items) z.process (z.place + 1) q
-            ≡ theirs (counts os) os y.0 y.1 (s.name q)
+            ≡ clock_of_waiter (clocks_of os) os y.0 y.1 (s.name q)
         theirs_is =
             let t : z.process == q ≡ same_name y.0 (s.name q) = same_process s lawful z.process q z_there k.0
             ∙ ap (λ n. same_name n (s.name q)) its_pending.3 in
-            let u : clock_at b.clocks.items z.process q ≡ counts os y.0 (s.name q) =
+            let u : clock_at b.clocks.items z.process q ≡ clocks_of os y.0 (s.name q) =
             clock_is all nameable quiet lawful at e inside until b h z.process q z_there k
-            ∙ ap (λ n. counts os n (s.name q)) its_pending.3 in
-            let v : z.place + 1 ≡ suc (made (take y.1 os) y.0) = next_is_suc z.place _ its_pending.4 in
+            ∙ ap (λ n. clocks_of os n (s.name q)) its_pending.3 in
+            let v : z.place + 1 ≡ suc (count_of_entries (take y.1 os) y.0) = next_is_suc z.place _ its_pending.4 in
             λ i. cond (t i) (max (u i) (v i)) (u i)
 
         whole : max (with_own (clock_at b.clocks.items) p (number_at b.made.items p + 1) q)
             (with_own (clock_at b.clocks.items) z.process (z.place + 1) q)
-            ≡ both (mine (counts os) os (s.name p)) (theirs (counts os) os y.0 y.1) (s.name q)
+            ≡ merged_clock (clock_with_entry (clocks_of os) os (s.name p)) (clock_of_waiter (clocks_of os) os y.0 y.1)
+            (s.name q)
         whole = λ i. max (own_is all nameable quiet lawful at e inside until b h q k i) (theirs_is i)

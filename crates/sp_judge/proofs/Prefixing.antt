@@ -8,9 +8,11 @@ use Rattle.sp_base.proofs.Facts.{below_or_at}
 use Rattle.sp_journal.specs.Maps.{at_key}
 use Rattle.sp_journal.specs.Names.{Name, Channel, same_name, same_channel, Happening, Opened, Forked, Offered, Ended}
 use Rattle.sp_journal.specs.Names.{Faulted, Laid, Paused, Occurrence}
-use Rattle.sp_journal.specs.Past.{Judged, learn, teach, report, now, met_now, judged_by, judged_from, nothing_judged}
-use Rattle.sp_journal.proofs.NameLaws.{name_itself, name_is}
-use Rattle.sp_judge.specs.Prefixes.{is_counted, Counts, WaitsForNone, QuietFrom, IsQuiet, KnowsPrefixes, KnowsCounted}
+use Rattle.sp_journal.specs.Past.{Knowledge, learn, teach, report, known_with, knowledge_after_offer, knowledge_after}
+use Rattle.sp_journal.specs.Past.{knowledge_from, no_knowledge}
+use Rattle.sp_meaning.proofs.Keys.{name_itself, name_is}
+use Rattle.sp_judge.specs.Prefixes.{is_counted, Counts, WaitsForNone, WaitersSilentFrom, WaitersAreSilent}
+use Rattle.sp_judge.specs.Prefixes.{KnowsPrefixes, KnowsCounted}
 use Rattle.sp_judge.proofs.Keys.{channel_is, channel_itself}
 
 -- a set of indices of these entries that is closed under earlier entries of the same process
@@ -113,7 +115,7 @@ module _ (es : List Occurrence) (e : Occurrence) where
   }
 
 -- what is kept from entry to entry
-pub record Kept (j : Judged) (es : List Occurrence) : Type 0 where
+pub record PrefixesAreKnown (j : Knowledge) (es : List Occurrence) : Type 0 where
   pub fine : (q : Name) → IsFine es (j.past q)
   pub own : (q : Name) (k : ℕ) → Counts es q k → (j.past q k ≡ true) ⊎ ((c : Channel) × (j.pending c ≡ Some (q, k)))
   pub waiting : (c : Channel) (z : Name) (k : ℕ) → j.pending c ≡ Some (z, k) → Counts es z k
@@ -134,7 +136,8 @@ at_channel c d v m x h = by (same_channel c d) (channel_is c d) h
     by true f g = inl (f refl, g)
     by false f g = inr g
 
-module _ (j : Judged) (es : List Occurrence) (e : Occurrence) (kept : Kept j es) (quiet : WaitsForNone j e.who) where
+module _ (j : Knowledge) (es : List Occurrence) (e : Occurrence) (kept : PrefixesAreKnown j es)
+    (quiet : WaitsForNone j e.who) where
   abbrev n : ℕ
   n = length es
 
@@ -146,10 +149,10 @@ module _ (j : Judged) (es : List Occurrence) (e : Occurrence) (kept : Kept j es)
   past_fine q = fine_more es e (j.past q) (kept.fine q)
 
   module _ (counted : is_counted e.what ≡ true) where
-    mine : IsFine (es ++ e ∷ []) (now j e.who n)
+    mine : IsFine (es ++ e ∷ []) (known_with j e.who n)
     mine = record { closed = closed; counted = known }
       where
-        last : (q : Name) (k : ℕ) → e.who ≡ q → Counts (es ++ e ∷ []) q k → k ≤ n → now j e.who n k ≡ true
+        last : (q : Name) (k : ℕ) → e.who ≡ q → Counts (es ++ e ∷ []) q k → k ≤ n → known_with j e.who n k ≡ true
         last q k w d l = ⊎_elim
             (λ (o : k < n). ⊎_elim
             (λ (x : j.past q k ≡ true). or_left (j.past e.who k) (n == k) (ap (λ (y : Name). j.past y k) w ∙ x))
@@ -158,8 +161,9 @@ module _ (j : Judged) (es : List Occurrence) (e : Occurrence) (kept : Kept j es)
             (λ (o : k ≡ n). or_right (j.past e.who k) (n == k) (eq-eqb n k (sym o)))
             (below_or_at k n (omega arith))
 
-        closed : (q : Name) (i k : ℕ) → now j e.who n i ≡ true → Counts (es ++ e ∷ []) q i → Counts (es ++ e ∷ []) q k
-            → k ≤ i → now j e.who n k ≡ true
+        closed : (q : Name) (i k : ℕ) → known_with j e.who n i ≡ true → Counts (es ++ e ∷ []) q i
+            → Counts (es ++ e ∷ []) q k
+            → k ≤ i → known_with j e.who n k ≡ true
         closed q i k h c d l = ⊎_elim
             (λ (x : j.past e.who i ≡ true). or_left (j.past e.who k) (n == k) ((past_fine e.who).closed q i k x c d l))
             (λ (x : n == i ≡ true).
@@ -167,7 +171,7 @@ module _ (j : Judged) (es : List Occurrence) (e : Occurrence) (kept : Kept j es)
             last q k (counts_last es e q (subst (Counts (es ++ e ∷ []) q) (sym f) c)).0 d (omega arith))
             (or_cases (j.past e.who i) (n == i) h)
 
-        known : (i : ℕ) → now j e.who n i ≡ true → (q : Name) × Counts (es ++ e ∷ []) q i
+        known : (i : ℕ) → known_with j e.who n i ≡ true → (q : Name) × Counts (es ++ e ∷ []) q i
         known i h = ⊎_elim
             (λ (x : j.past e.who i ≡ true). (past_fine e.who).counted i x)
             (λ (x : n == i ≡ true). (
@@ -178,9 +182,9 @@ module _ (j : Judged) (es : List Occurrence) (e : Occurrence) (kept : Kept j es)
             (or_cases (j.past e.who i) (n == i) h)
 
     -- an entry that changes no offer
-    grown : (j' : Judged) → j'.pending ≡ j.pending → ((q : Name) → IsFine (es ++ e ∷ []) (j'.past q))
+    grown : (j' : Knowledge) → j'.pending ≡ j.pending → ((q : Name) → IsFine (es ++ e ∷ []) (j'.past q))
         → ((q : Name) (i : ℕ) → j.past q i ≡ true → j'.past q i ≡ true) → j'.past e.who n ≡ true
-        → Kept j' (es ++ e ∷ [])
+        → PrefixesAreKnown j' (es ++ e ∷ [])
     grown j' same fine' more' here = record {
       fine = fine';
       own = λ q k c. ⊎_elim
@@ -197,7 +201,8 @@ module _ (j : Judged) (es : List Occurrence) (e : Occurrence) (kept : Kept j es)
     }
 
     -- an offer that waits
-    offer_waits : (c : Channel) → j.pending c ≡ None → Kept (met_now j e.who n c None) (es ++ e ∷ [])
+    offer_waits : (c : Channel) → j.pending c ≡ None → PrefixesAreKnown (knowledge_after_offer j e.who n c None)
+        (es ++ e ∷ [])
     offer_waits c none = record {
       fine = past_fine;
       own = λ q k h. ⊎_elim
@@ -240,7 +245,7 @@ module _ (j : Judged) (es : List Occurrence) (e : Occurrence) (kept : Kept j es)
 
     -- an offer that meets the one that waits
     module _ (c : Channel) (o : Name × ℕ) (met : j.pending c ≡ Some o) where
-      theirs : IsFine (es ++ e ∷ []) (now j o.0 o.1)
+      theirs : IsFine (es ++ e ∷ []) (known_with j o.0 o.1)
       theirs = record { closed = closed; counted = known }
         where
           its : Counts es o.0 o.1
@@ -249,7 +254,7 @@ module _ (j : Judged) (es : List Occurrence) (e : Occurrence) (kept : Kept j es)
           same_who : (q : Name) → Counts (es ++ e ∷ []) q o.1 → o.0 ≡ q
           same_who q h = ap (λ (x : Occurrence). x.who) (same_Some _ _ (sym (counts_more es e o.0 o.1 its).1 ∙ h.1))
 
-          last : (q : Name) (k : ℕ) → o.0 ≡ q → Counts (es ++ e ∷ []) q k → k ≤ o.1 → now j o.0 o.1 k ≡ true
+          last : (q : Name) (k : ℕ) → o.0 ≡ q → Counts (es ++ e ∷ []) q k → k ≤ o.1 → known_with j o.0 o.1 k ≡ true
           last q k w d l = ⊎_elim
               (λ (x : j.past q k ≡ true). or_left (j.past o.0 k) (o.1 == k) (ap (λ (y : Name). j.past y k) w ∙ x))
               (λ (x : (f : Channel) × (j.pending f ≡ Some (q, k))).
@@ -258,8 +263,9 @@ module _ (j : Judged) (es : List Occurrence) (e : Occurrence) (kept : Kept j es)
               or_right (j.past o.0 k) (o.1 == k) (eq-eqb o.1 k (pair_second o (o.0, k) (sym met ∙ ap j.pending s ∙ g))))
               (low_own q k (let m = slice_get_within es o.1 _ its.1 in omega arith) d)
 
-          closed : (q : Name) (i k : ℕ) → now j o.0 o.1 i ≡ true → Counts (es ++ e ∷ []) q i → Counts (es ++ e ∷ []) q k
-              → k ≤ i → now j o.0 o.1 k ≡ true
+          closed : (q : Name) (i k : ℕ) → known_with j o.0 o.1 i ≡ true → Counts (es ++ e ∷ []) q i
+              → Counts (es ++ e ∷ []) q k
+              → k ≤ i → known_with j o.0 o.1 k ≡ true
           closed q i k h a d l = ⊎_elim
               (λ (x : j.past o.0 i ≡ true). or_left (j.past o.0 k) (o.1 == k) ((past_fine o.0).closed q i k x a d l))
               (λ (x : o.1 == i ≡ true).
@@ -267,7 +273,7 @@ module _ (j : Judged) (es : List Occurrence) (e : Occurrence) (kept : Kept j es)
               last q k (same_who q (subst (Counts (es ++ e ∷ []) q) (sym f) a)) d (omega arith))
               (or_cases (j.past o.0 i) (o.1 == i) h)
 
-          known : (i : ℕ) → now j o.0 o.1 i ≡ true → (q : Name) × Counts (es ++ e ∷ []) q i
+          known : (i : ℕ) → known_with j o.0 o.1 i ≡ true → (q : Name) × Counts (es ++ e ∷ []) q i
           known i h = ⊎_elim
               (λ (x : j.past o.0 i ≡ true). (past_fine o.0).counted i x)
               (λ (x : o.1 == i ≡ true). (
@@ -277,18 +283,18 @@ module _ (j : Judged) (es : List Occurrence) (e : Occurrence) (kept : Kept j es)
               (or_cases (j.past o.0 i) (o.1 == i) h)
 
       abbrev both : ℕ → Bool
-      both i = now j e.who n i || now j o.0 o.1 i
+      both i = known_with j e.who n i || known_with j o.0 o.1 i
 
       both_fine : IsFine (es ++ e ∷ []) both
-      both_fine = union_fine (es ++ e ∷ []) (now j e.who n) (now j o.0 o.1) mine theirs
+      both_fine = union_fine (es ++ e ∷ []) (known_with j e.who n) (known_with j o.0 o.1) mine theirs
 
-      abbrev then : Judged
-      then = met_now j e.who n c (Some o)
+      abbrev then : Knowledge
+      then = knowledge_after_offer j e.who n c (Some o)
 
       keeps : (q : Name) (i : ℕ) → j.past q i ≡ true → then.past q i ≡ true
       keeps q i h = learn_more o.0 both (learn e.who both j.past) q i (learn_more e.who both j.past q i h)
 
-      offer_meets : Kept then (es ++ e ∷ [])
+      offer_meets : PrefixesAreKnown then (es ++ e ∷ [])
       offer_meets = record {
         fine = learn_all (IsFine (es ++ e ∷ [])) (union_fine (es ++ e ∷ [])) both both_fine o.0
             (learn e.who both j.past) (learn_all (IsFine (es ++ e ∷ [])) (union_fine (es ++ e ∷ [])) both both_fine
@@ -313,11 +319,12 @@ module _ (j : Judged) (es : List Occurrence) (e : Occurrence) (kept : Kept j es)
           of_mine : then.past e.who n ≡ true
           of_mine = learn_more o.0 both (learn e.who both j.past) e.who n
               (learn_here e.who both j.past n
-              (or_left (now j e.who n n) (now j o.0 o.1 n) (or_right (j.past e.who n) (n == n) (eq-eqb n n refl))))
+              (or_left (known_with j e.who n n) (known_with j o.0 o.1 n)
+              (or_right (j.past e.who n) (n == n) (eq-eqb n n refl))))
 
           of_theirs : then.past o.0 o.1 ≡ true
           of_theirs = learn_here o.0 both (learn e.who both j.past) o.1
-              (or_right (now j e.who n o.1) (now j o.0 o.1 o.1)
+              (or_right (known_with j e.who n o.1) (known_with j o.0 o.1 o.1)
               (or_right (j.past o.0 o.1) (o.1 == o.1) (eq-eqb o.1 o.1 refl)))
 
           stays : (q : Name) (k : ℕ) (d : Channel) → j.pending d ≡ Some (q, k) → (t : Bool) → same_channel c d ≡ t
@@ -330,7 +337,7 @@ module _ (j : Judged) (es : List Occurrence) (e : Occurrence) (kept : Kept j es)
           stays q k d h false t = inr (d, ap (λ b. cond b None (j.pending d)) t ∙ h)
 
   -- an entry of no counted kind
-  uncounted : is_counted e.what ≡ false → Kept j (es ++ e ∷ [])
+  uncounted : is_counted e.what ≡ false → PrefixesAreKnown j (es ++ e ∷ [])
   uncounted f = record {
     fine = past_fine;
     own = λ q k c. ⊎_elim
@@ -342,7 +349,8 @@ module _ (j : Judged) (es : List Occurrence) (e : Occurrence) (kept : Kept j es)
   }
 
 -- the new index alone, learned by its process
-own_index : (j : Judged) (es : List Occurrence) (e : Occurrence) (kept : Kept j es) (quiet : WaitsForNone j e.who)
+own_index : (j : Knowledge) (es : List Occurrence) (e : Occurrence) (kept : PrefixesAreKnown j es)
+    (quiet : WaitsForNone j e.who)
     → is_counted e.what ≡ true → (q : Name) → IsFine (es ++ e ∷ []) (learn e.who (λ i. length es == i) j.past q)
 own_index j es e kept quiet counted q = by (same_name e.who q) (name_is e.who q)
   where
@@ -352,9 +360,11 @@ own_index j es e kept quiet counted q = by (same_name e.who q) (name_is e.who q)
         (mine j es e kept quiet counted)
     by false f = past_fine j es e kept quiet q
 
-pub one_entry : (j : Judged) (es : List Occurrence) (p : Name) (h : Happening) → Kept j es → WaitsForNone j p
-    → Kept (judged_by j (length es) p h) (es ++ record { who = p; what = h } ∷ [])
-one_entry j es p Opened k w = grown j es (record { who = p; what = Opened }) k w refl (judged_by j (length es) p Opened)
+pub one_entry : (j : Knowledge) (es : List Occurrence) (p : Name) (h : Happening) → PrefixesAreKnown j es
+    → WaitsForNone j p
+    → PrefixesAreKnown (knowledge_after j (length es) p h) (es ++ record { who = p; what = h } ∷ [])
+one_entry j es p Opened k w =
+    grown j es (record { who = p; what = Opened }) k w refl (knowledge_after j (length es) p Opened)
     refl (own_index j es (record { who = p; what = Opened }) k w refl)
     (λ q i h. learn_more p (λ i. length es == i) j.past q i h)
     (learn_here p (λ i. length es == i) j.past (length es) (eq-eqb (length es) (length es) refl))
@@ -362,46 +372,47 @@ one_entry j es p (Forked c) k w =
     let e : Occurrence = record { who = p; what = Forked c } in
     let m : List Occurrence = es ++ e ∷ [] in
     let mid : Name → ℕ → Bool = learn p (λ i. length es == i) j.past in
-    grown j es e k w refl (judged_by j (length es) p (Forked c)) refl
-    (teach_all (IsFine m) (union_fine m) (now j p (length es)) (mine j es e k w refl) p (j.forks p) 0 c mid
+    grown j es e k w refl (knowledge_after j (length es) p (Forked c)) refl
+    (teach_all (IsFine m) (union_fine m) (known_with j p (length es)) (mine j es e k w refl) p (j.forks p) 0 c mid
     (own_index j es e k w refl))
-    (λ q i h. teach_more p (j.forks p) (now j p (length es)) 0 c mid q i
+    (λ q i h. teach_more p (j.forks p) (known_with j p (length es)) 0 c mid q i
     (learn_more p (λ i. length es == i) j.past q i h))
-    (teach_more p (j.forks p) (now j p (length es)) 0 c mid p (length es)
+    (teach_more p (j.forks p) (known_with j p (length es)) 0 c mid p (length es)
     (learn_here p (λ i. length es == i) j.past (length es) (eq-eqb (length es) (length es) refl)))
 one_entry j es p Ended k w =
     let e : Occurrence = record { who = p; what = Ended } in
     let m : List Occurrence = es ++ e ∷ [] in
     let mid : Name → ℕ → Bool = learn p (λ i. length es == i) j.past in
-    grown j es e k w refl (judged_by j (length es) p Ended) refl
-    (report_all (IsFine m) (union_fine m) (now j p (length es)) (mine j es e k w refl) p mid
+    grown j es e k w refl (knowledge_after j (length es) p Ended) refl
+    (report_all (IsFine m) (union_fine m) (known_with j p (length es)) (mine j es e k w refl) p mid
     (own_index j es e k w refl))
-    (λ q i h. report_more p (now j p (length es)) mid q i (learn_more p (λ i. length es == i) j.past q i h))
-    (report_more p (now j p (length es)) mid p (length es)
+    (λ q i h. report_more p (known_with j p (length es)) mid q i (learn_more p (λ i. length es == i) j.past q i h))
+    (report_more p (known_with j p (length es)) mid p (length es)
     (learn_here p (λ i. length es == i) j.past (length es) (eq-eqb (length es) (length es) refl)))
 one_entry j es p (Offered v c) k w = by (j.pending c) refl
   where
     by : (o : Option (Name × ℕ)) → j.pending c ≡ o
-        → Kept (met_now j p (length es) c o) (es ++ record { who = p; what = Offered v c } ∷ [])
+        → PrefixesAreKnown (knowledge_after_offer j p (length es) c o)
+        (es ++ record { who = p; what = Offered v c } ∷ [])
     by None f = offer_waits j es (record { who = p; what = Offered v c }) k w refl c f
     by (Some o) f = offer_meets j es (record { who = p; what = Offered v c }) k w refl c o f
 one_entry j es p (Faulted f) k w = uncounted j es (record { who = p; what = Faulted f }) k w refl
 one_entry j es p Laid k w = uncounted j es (record { who = p; what = Laid }) k w refl
 one_entry j es p Paused k w = uncounted j es (record { who = p; what = Paused }) k w refl
 
-along : (j : Judged) (done es : List Occurrence) → Kept j done → QuietFrom j (length done) es
-    → Kept (judged_from j (length done) es) (done ++ es)
-along j done [] k q = subst (Kept j) (sym (append-nil done)) k
+along : (j : Knowledge) (done es : List Occurrence) → PrefixesAreKnown j done → WaitersSilentFrom j (length done) es
+    → PrefixesAreKnown (knowledge_from j (length done) es) (done ++ es)
+along j done [] k q = subst (PrefixesAreKnown j) (sym (append-nil done)) k
 along j done (e ∷ es) k q =
-    let next : Judged = judged_by j (length done) e.who e.what in
-    let one : Kept next (done ++ e ∷ []) = one_entry j done e.who e.what k q.0 in
+    let next : Knowledge = knowledge_after j (length done) e.who e.what in
+    let one : PrefixesAreKnown next (done ++ e ∷ []) = one_entry j done e.who e.what k q.0 in
     let l : length (done ++ e ∷ []) ≡ suc (length done) = length-append done (e ∷ []) ∙ (omega arith) in
-    let r : Kept (judged_from next (length (done ++ e ∷ [])) es) ((done ++ e ∷ []) ++ es) =
-    along next (done ++ e ∷ []) es one (subst (λ (x : ℕ). QuietFrom next x es) (sym l) q.1) in
-    subst (Kept (judged_from next (suc (length done)) es)) (append_assoc done (e ∷ []) es)
-    (subst (λ (x : ℕ). Kept (judged_from next x es) ((done ++ e ∷ []) ++ es)) l r)
+    let r : PrefixesAreKnown (knowledge_from next (length (done ++ e ∷ [])) es) ((done ++ e ∷ []) ++ es) =
+    along next (done ++ e ∷ []) es one (subst (λ (x : ℕ). WaitersSilentFrom next x es) (sym l) q.1) in
+    subst (PrefixesAreKnown (knowledge_from next (suc (length done)) es)) (append_assoc done (e ∷ []) es)
+    (subst (λ (x : ℕ). PrefixesAreKnown (knowledge_from next x es) ((done ++ e ∷ []) ++ es)) l r)
 
-pub nothing_kept : Kept nothing_judged []
+pub nothing_kept : PrefixesAreKnown no_knowledge []
 nothing_kept = record {
   fine = λ q. record { closed = λ p i k h. absurd (false≢true h); counted = λ i h. absurd (false≢true h) };
   own = λ q k c. absurd (let l = slice_get_within [] k _ c.1 in omega arith);
@@ -409,8 +420,8 @@ nothing_kept = record {
   single = λ c d z k l h. absurd (none-some (z, k) h);
 }
 
-pub prefixes : (es : List Occurrence) → IsQuiet es → KnowsPrefixes es
-prefixes es q p r i k h c d l = ((along nothing_judged [] es nothing_kept q).fine p).closed r i k h c d l
+pub prefixes : (es : List Occurrence) → WaitersAreSilent es → KnowsPrefixes es
+prefixes es q p r i k h c d l = ((along no_knowledge [] es nothing_kept q).fine p).closed r i k h c d l
 
-pub counted_alone : (es : List Occurrence) → IsQuiet es → KnowsCounted es
-counted_alone es q p i h = ((along nothing_judged [] es nothing_kept q).fine p).counted i h
+pub counted_alone : (es : List Occurrence) → WaitersAreSilent es → KnowsCounted es
+counted_alone es q p i h = ((along no_knowledge [] es nothing_kept q).fine p).counted i h

@@ -13,16 +13,19 @@ use Rattle.sp_journal.specs.declared.outcome.Verdict.TheVariants as verdict
 use Rattle.sp_journal.specs.Names.{chan_name}
 use Rattle.sp_journal.specs.Past.{AreOrdered}
 use Rattle.sp_tree.specs.Interference.{IsFreeOfInterference}
-use Rattle.sp_meaning.specs.Model.{Name, Channel, same_name, Language, Moves, Opens, Forks, Offering, Ends, Fails}
-use Rattle.sp_meaning.specs.Model.{Works, Ended, Change, Becomes, Writes, changed, after}
-use Rattle.sp_meaning.specs.Steps.{ActOf, ConditionOf, Outcome, Advances, Faulty, Lives, acts, cost, passed, puts}
-use Rattle.sp_meaning.specs.Steps.{unless, outcome, result_of, step_with, Sound}
-use Rattle.sp_meaning.specs.Own.{Setting, Process}
+use Rattle.sp_meaning.specs.Model.{Name, Channel, same_name, Language, Moves, Opens, Forks, Offering, EndsProcess}
+use Rattle.sp_meaning.specs.Model.{MeetsFault}
+use Rattle.sp_meaning.specs.Model.{Works, Ended, Change, Becomes, WritesLocation, with_change, with_changes}
+use Rattle.sp_meaning.specs.Steps.{ActOf, ConditionOf, ActOutcome, Advances, Faulty, IsAlive, act_outcome, cost}
+use Rattle.sp_meaning.specs.Steps.{limit_fault, write_changes}
+use Rattle.sp_meaning.specs.Steps.{fault_or, step_outcome, result_of, step_with, Sound}
+use Rattle.sp_meaning.specs.LocalWork.{RunInput, Process}
 use Rattle.sp_meaning.specs.SuperPascal.{superpascal, root, first_store}
 use Rattle.sp_meaning.specs.Entries.{Happening, Opened, Forked, Offered, Faulted, Laid, Paused, Occurrence}
 use Rattle.sp_journal.specs.Names as happenings
-use Rattle.sp_meaning.specs.Runs.{StateOf, start, most, running, next, said_of, says}
-use Rattle.sp_meaning.specs.Along.{Either, due, Turn, Course, no_course, stopped, Entered, Along, IsAlong, IsCleanly}
+use Rattle.sp_meaning.specs.Runs.{StateOf, start, total_limits, running_process, next_state, happening_of, happening_at}
+use Rattle.sp_meaning.specs.Along.{Either, is_due_after, Turn, Course, no_course, with_fault, EntryStep, Along, IsAlong}
+use Rattle.sp_meaning.specs.Along.{IsCleanly}
 use Rattle.sp_meaning.specs.Along.{IsClean}
 use Rattle.sp_meaning.specs.Ends.{IsDone, EndIs}
 use Rattle.sp_meaning.proofs.Status.{working_lives}
@@ -34,7 +37,7 @@ use Rattle.sp_race.proofs.Verdict.{each_ends_alike}
 use Rattle.sp_judge.specs.Races.{Race, IsLeastRace, IsFault, IsVerdict}
 use Rattle.sp_judge.specs.Runs.{AllEndAlike, IsRunVerdict}
 
-module _ (g : Setting) where
+module _ (g : RunInput) where
   abbrev L : Language
   L = superpascal g
 
@@ -43,83 +46,85 @@ module _ (g : Setting) where
     faulty : s.fault ≡ None → ⊥
     goes_on : IsDone g s → ⊥
 
-  resulted : (s : StateOf g) (q : Name) (own : Process) (m : StateOf g) → running g s q ≡ Some own → next g s q ≡ Some m
-      → result_of s q (outcome (most g) s q (L.next own s.store)) ≡ m
-  resulted s q own m run st = same_Some _ _ (sym (ap (step_with (most g) s q) run) ∙ st)
+  resulted : (s : StateOf g) (q : Name) (own : Process) (m : StateOf g) → running_process g s q ≡ Some own
+      → next_state g s q ≡ Some m
+      → result_of s q (step_outcome (total_limits g) s q (L.next own s.store)) ≡ m
+  resulted s q own m run st = same_Some _ _ (sym (ap (step_with (total_limits g) s q) run) ∙ st)
 
   -- while a process is running the root has not ended
-  root_goes_on : (s : StateOf g) → Sound s → (q : Name) (own : Process) → running g s q ≡ Some own → IsDone g s → ⊥
+  root_goes_on : (s : StateOf g) → Sound s → (q : Name) (own : Process) → running_process g s q ≡ Some own
+      → IsDone g s → ⊥
   root_goes_on s sound q own run done =
-      let lives : Lives (s.condition (q ++ [])) =
-      subst (λ z. Lives (s.condition z)) (sym (append-nil q))
+      let lives : IsAlive (s.condition (q ++ [])) =
+      subst (λ z. IsAlive (s.condition z)) (sym (append-nil q))
       (working_lives s.condition q (s.condition q) own run) in
-      subst (λ (c : ConditionOf L). Lives c) done (ancestors_live s sound q [] lives)
+      subst (λ (c : ConditionOf L). IsAlive c) done (ancestors_live s sound q [] lives)
 
   -- a faulting step
-  module _ (s : StateOf g) (q : Name) (own : Process) (sound : Sound s) (run : running g s q ≡ Some own)
+  module _ (s : StateOf g) (q : Name) (own : Process) (sound : Sound s) (run : running_process g s q ≡ Some own)
       (f : Fault) where
-    does_not : (a : ActOf L) (cs : List (Change L)) → said_of a (Advances cs) ≡ Some (Faulted f) → ⊥
+    does_not : (a : ActOf L) (cs : List (Change L)) → happening_of a (Advances cs) ≡ Some (Faulted f) → ⊥
     does_not (Moves o ws) cs e = none-some _ e
     does_not (Opens o ws) cs e = cc e
     does_not (Forks o os) cs e = cc e
     does_not (Offering o) cs e = cc e
-    does_not Ends cs e = cc e
-    does_not (Fails x) cs e = none-some _ e
+    does_not EndsProcess cs e = cc e
+    does_not (MeetsFault x) cs e = none-some _ e
 
-    by_outcome : (a : ActOf L) (out : Outcome L) → said_of a out ≡ Some (Faulted f) → Broken (result_of s q out)
+    by_outcome : (a : ActOf L) (out : ActOutcome L) → happening_of a out ≡ Some (Faulted f) → Broken (result_of s q out)
     by_outcome a (Advances cs) e = absurd (does_not a cs e)
     by_outcome a (Faulty x) e = record { faulty = λ h. none-some _ (sym h); goes_on = root_goes_on s sound q own run }
 
-    failed : (m : StateOf g) → says g s q own ≡ Some (Faulted f) → next g s q ≡ Some m → Broken m
+    failed : (m : StateOf g) → happening_at g s q own ≡ Some (Faulted f) → next_state g s q ≡ Some m → Broken m
     failed m e st = subst (λ (z : StateOf g). Broken z) (resulted s q own m run st)
-        (by_outcome (L.next own s.store) (outcome (most g) s q (L.next own s.store)) e)
+        (by_outcome (L.next own s.store) (step_outcome (total_limits g) s q (L.next own s.store)) e)
 
   -- a local step
   module _ (s : StateOf g) (q : Name) (broken : Broken s) where
-    puts_keep : (ws : List (L.Loc × L.Value)) (t : StateOf g) → Broken t → Broken (after (puts ws) t)
+    puts_keep : (ws : List (L.Loc × L.Value)) (t : StateOf g) → Broken t → Broken (with_changes (write_changes ws) t)
     puts_keep [] t b = b
-    puts_keep (w ∷ ws) t b = puts_keep ws (changed (Writes w.0 w.1) t)
+    puts_keep (w ∷ ws) t b = puts_keep ws (with_change (WritesLocation w.0 w.1) t)
         (record { faulty = b.faulty; goes_on = b.goes_on })
 
-    works_on : (o : Process) → Broken (changed {L = L} (Becomes q (Works o)) s)
+    works_on : (o : Process) → Broken (with_change {L = L} (Becomes q (Works o)) s)
     works_on o = record { faulty = broken.faulty; goes_on = by (same_name q []) broken.goes_on }
       where
         by : (b : Bool) → (IsDone g s → ⊥) → cond b (Works o) (s.condition []) ≡ Ended → ⊥
         by true h e = cc e
         by false h e = h e
 
-    by_act : (a : ActOf L) (x : Option Fault) → said_of a (unless x (acts s q a)) ≡ None
-        → Broken (result_of s q (unless x (acts s q a)))
+    by_act : (a : ActOf L) (x : Option Fault) → happening_of a (fault_or x (act_outcome s q a)) ≡ None
+        → Broken (result_of s q (fault_or x (act_outcome s q a)))
     by_act (Moves o ws) None e = puts_keep ws _ (works_on o)
     by_act (Moves o ws) (Some f) e = absurd (none-some _ (sym e))
     by_act (Opens o ws) None e = absurd (none-some _ (sym e))
     by_act (Opens o ws) (Some f) e = absurd (none-some _ (sym e))
     by_act (Forks o os) None e = absurd (none-some _ (sym e))
     by_act (Forks o os) (Some f) e = absurd (none-some _ (sym e))
-    by_act (Offering o) x e = absurd (by (unless x (acts s q (Offering o))) e)
+    by_act (Offering o) x e = absurd (by (fault_or x (act_outcome s q (Offering o))) e)
       where
-        by : (out : Outcome L) → said_of (Offering o) out ≡ None → ⊥
+        by : (out : ActOutcome L) → happening_of (Offering o) out ≡ None → ⊥
         by (Advances cs) e = none-some _ (sym e)
         by (Faulty f) e = none-some _ (sym e)
-    by_act Ends None e = absurd (none-some _ (sym e))
-    by_act Ends (Some f) e = absurd (none-some _ (sym e))
-    by_act (Fails f) None e = absurd (none-some _ (sym e))
-    by_act (Fails f) (Some x) e = absurd (none-some _ (sym e))
+    by_act EndsProcess None e = absurd (none-some _ (sym e))
+    by_act EndsProcess (Some f) e = absurd (none-some _ (sym e))
+    by_act (MeetsFault f) None e = absurd (none-some _ (sym e))
+    by_act (MeetsFault f) (Some x) e = absurd (none-some _ (sym e))
 
-    stays_broken : (own : Process) (m : StateOf g) → running g s q ≡ Some own → says g s q own ≡ None
-        → next g s q ≡ Some m → Broken m
+    stays_broken : (own : Process) (m : StateOf g) → running_process g s q ≡ Some own → happening_at g s q own ≡ None
+        → next_state g s q ≡ Some m → Broken m
     stays_broken own m run e st = subst (λ (z : StateOf g). Broken z) (resulted s q own m run st)
-        (by_act (L.next own s.store) (passed (most g) s.totals (cost (L.next own s.store))) e)
+        (by_act (L.next own s.store) (limit_fault (total_limits g) s.totals (cost (L.next own s.store))) e)
 
   -- what each local step keeps, a row of them keeps
   turn_keeps : (P : StateOf g → Type 0) → ((s : StateOf g) (q : Name) (own : Process) (m : StateOf g) → P s
-      → running g s q ≡ Some own → says g s q own ≡ None → next g s q ≡ Some m → P m)
+      → running_process g s q ≡ Some own → happening_at g s q own ≡ None → next_state g s q ≡ Some m → P m)
       → (turn since : ℕ) (q : Name) (k : ℕ) (s m : StateOf g) (paused : Bool) → Turn g turn since q k s m paused → P s
       → P m
   turn_keeps P step turn since q zero s m paused h p = subst P (sym h.0) p
   turn_keeps P step turn since q (suc k) s m paused h p =
       let one = step s q h.0 h.3 p h.1 h.2 h.4 in
-      rest (due g turn since s h.0 q h.3) h.5 one (λ y. turn_keeps P step turn since q k h.3 m paused y one)
+      rest (is_due_after g turn since s h.0 q h.3) h.5 one (λ y. turn_keeps P step turn since q k h.3 m paused y one)
     where
       rest : (b : Bool) → Either b ((k ≡ 0) × (m ≡ h.3) × (paused ≡ true)) (Turn g turn since q k h.3 m paused) → P h.3
           → (Turn g turn since q k h.3 m paused → P m) → P m
@@ -128,8 +133,8 @@ module _ (g : Setting) where
 
   -- after a fault: processes are laid, and nothing else happens
   laid_on : (left : Course → StateOf g → ℕ → Type 0) (c : Course) (m : StateOf g) (paused : Bool) (q : Name)
-      (w : Happening) (r : ℕ) (A : Type 0) → c.faulted ≡ true → Entered g left c m paused q w r
-      → (left (stopped q c) m r → A) → A
+      (w : Happening) (r : ℕ) (A : Type 0) → c.faulted ≡ true → EntryStep g left c m paused q w r
+      → (left (with_fault q c) m r → A) → A
   laid_on left c m paused q Opened r A f h go = absurd (not_true_and_false c.faulted f h.0)
   laid_on left c m paused q (Forked i) r A f h go = absurd (not_true_and_false c.faulted f h.0)
   laid_on left c m paused q (Offered w d) r A f h go = absurd (not_true_and_false c.faulted f h.0)
@@ -143,7 +148,7 @@ module _ (g : Setting) where
   along_broken turn [] c s r t f a b = subst (λ (z : StateOf g). Broken z) (sym a.1) b
   along_broken turn (e ∷ es) c s r t f a b =
       laid_on (λ c1 u d. Along g turn c1 u es d t) c a.3 a.4 e.who e.what a.2 (Broken t) f a.7 (λ more.
-      along_broken turn es (stopped e.who c) a.3 a.2 t refl more
+      along_broken turn es (with_fault e.who c) a.3 a.2 t refl more
       (turn_keeps Broken (λ s q own m b run says_none st. stays_broken s q b own m run says_none st) turn
       (c.since e.who) e.who a.1 s a.3 a.4 a.6 b))
 
@@ -163,16 +168,16 @@ module _ (g : Setting) where
     with_first w ok (inl clean) = inl (ok, clean)
     with_first w ok (inr broken) = inr broken
 
-    entered_clean : (w : Happening) (r : ℕ) → c.faulted ≡ false → Entered g left c m paused q w r → Rest → Laid_rest
+    entered_clean : (w : Happening) (r : ℕ) → c.faulted ≡ false → EntryStep g left c m paused q w r → Rest → Laid_rest
         → Clean_or w
     entered_clean Opened r f h go laid = with_first Opened tt
-        (go _ h.2 h.3 f (step_sound (most g) m q h.2 sound h.5.3) h.6)
+        (go _ h.2 h.3 f (step_sound (total_limits g) m q h.2 sound h.5.3) h.6)
     entered_clean (Forked i) r f h go laid =
-        with_first (Forked i) tt (go _ h.2 h.3 f (step_sound (most g) m q h.2 sound h.5.3) h.6)
+        with_first (Forked i) tt (go _ h.2 h.3 f (step_sound (total_limits g) m q h.2 sound h.5.3) h.6)
     entered_clean (Offered w d) r f h go laid =
-        with_first (Offered w d) tt (go _ h.2 h.3 f (step_sound (most g) m q h.2 sound h.5.3) h.6)
+        with_first (Offered w d) tt (go _ h.2 h.3 f (step_sound (total_limits g) m q h.2 sound h.5.3) h.6)
     entered_clean happenings.Ended r f h go laid =
-        with_first happenings.Ended tt (go _ h.2 h.3 f (step_sound (most g) m q h.2 sound h.5.3) h.6)
+        with_first happenings.Ended tt (go _ h.2 h.3 f (step_sound (total_limits g) m q h.2 sound h.5.3) h.6)
     entered_clean (Faulted x) r f h go laid =
         inr (laid _ h.2 h.3 refl (failed m q h.5.0 sound h.5.1 x h.2 h.5.2 h.5.3) h.6)
     entered_clean Laid r f h go laid = absurd (not_true_and_false c.faulted h.0 f)
@@ -183,7 +188,8 @@ module _ (g : Setting) where
   along_clean turn [] c s r t f a sound = inl tt
   along_clean turn (e ∷ es) c s r t f a sound =
       let there : Sound a.3 = turn_keeps (λ (z : StateOf g). Sound z)
-      (λ s q own m b run says_none st. step_sound (most g) s q m b st) turn (c.since e.who) e.who a.1 s a.3 a.4 a.6
+      (λ s q own m b run says_none st. step_sound (total_limits g) s q m b st) turn (c.since e.who) e.who a.1 s a.3
+      a.4 a.6
       sound in
       entered_clean (λ c1 u d. Along g turn c1 u es d t) c a.3 a.4 e.who es t there e.what a.2 f a.7
       (λ c1 u d f1 sound1 more. along_clean turn es c1 u d t f1 more sound1)

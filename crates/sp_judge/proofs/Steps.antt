@@ -12,22 +12,23 @@ use Rattle.sp_journal.specs.declared.entry.Way.{Way}
 use Rattle.sp_journal.specs.declared.entry.Way.TheVariants as way
 use Rattle.sp_journal.specs.declared.entry.Birth.{Birth}
 use Rattle.sp_journal.specs.Names.{Name, Channel, Offered, Ended}
-use Rattle.sp_journal.specs.Births.{Births, births, channel, after_event, after_entry, happening}
-use Rattle.sp_journal.specs.Past.{judged, judged_by}
+use Rattle.sp_journal.specs.Births.{Births, births, channel, births_after_event, births_after_entry, happening}
+use Rattle.sp_journal.specs.Past.{knowledge_of, knowledge_after}
 use Rattle.sp_journal.proofs.BirthLaws.{Lawful, lawful, parent_older}
 use Rattle.sp_judge.specs.Prefixes.{is_counted}
 use Rattle.sp_race.specs.Known.{KnowsOffers, AreKnown}
 use Rattle.sp_judge.specs.declared.clock.Clock.{Clock}
-use Rattle.sp_judge.specs.declared.bench.Offer.{Offer}
-use Rattle.sp_judge.specs.declared.bench.Line.{Line}
-use Rattle.sp_judge.specs.declared.bench.Bench.{Bench}
-use Rattle.sp_judge.specs.Clocks.{count_of, clock_at, with_own, met_at, number_at, IsAsked}
-use Rattle.sp_judge.specs.Counts.{made, counts, counted_by}
-use Rattle.sp_judge.specs.Bench.{named, IsLast, IsLine, last_of, Holds, IsTame, IsPlain, offer_event, then_line}
+use Rattle.sp_judge.specs.declared.judge_tables.Offer.{Offer}
+use Rattle.sp_judge.specs.declared.judge_tables.ChannelOffers.{ChannelOffers}
+use Rattle.sp_judge.specs.declared.judge_tables.JudgeTables.{JudgeTables}
+use Rattle.sp_judge.specs.Clocks.{count_of, clock_at, with_own, clocks_after_meeting, number_at, IsAsked}
+use Rattle.sp_judge.specs.Counts.{count_of_entries, clocks_of, clocks_after_entry}
+use Rattle.sp_judge.specs.JudgeTables.{entries_by_names, IsLast, IsChannelOffers, last_of, TablesHold}
+use Rattle.sp_judge.specs.JudgeTables.{IsNameableAndSilent, IsPlain, offer_event, channel_offers_with}
 use Rattle.sp_judge.proofs.TableLaws.{clock_is}
-use Rattle.sp_judge.proofs.Numbers.{Stays}
+use Rattle.sp_judge.proofs.Numbers.{ExtendsBirths}
 use Rattle.sp_judge.proofs.Fronts as front
-use Rattle.sp_judge.proofs.BenchLaws as bench
+use Rattle.sp_judge.proofs.JudgeTableLaws as bench
 use Rattle.sp_judge.proofs.OfferLaws as offers
 use Rattle.sp_judge.proofs.VerdictLaws.{offer_happens, channel_there, IsOffer, none_known, last_known, last_counted}
 use Rattle.sp_judge.proofs.VerdictLaws.{own_known}
@@ -48,8 +49,9 @@ shared_over f0 f1 e n p c1 c2 is r q = is r q
 pub inside_over : (p : ℕ) (cs1 cs0 : List Clock) → cs1 ≡ cs0 → p < length cs0 → p < length cs1
 inside_over p cs1 cs0 e l = subst (λ cs. p < length cs) (sym e) l
 
-module _ (all : List Entry) (t : IsTame all) (at : ℕ) (e : Entry) (inside : slice_get all at ≡ Some e) (until : List ℕ)
-    (b : Bench) (h : Holds (births all) until (take at all) b) where
+module _ (all : List Entry) (t : IsNameableAndSilent all) (at : ℕ) (e : Entry) (inside : slice_get all at ≡ Some e)
+    (until : List ℕ)
+    (b : JudgeTables) (h : TablesHold (births all) until (take at all) b) where
   abbrev s : Births
   s = births all
 
@@ -76,8 +78,8 @@ module _ (all : List Entry) (t : IsTame all) (at : ℕ) (e : Entry) (inside : sl
 
   children_fit : (n : ℕ) → e.event ≡ event.Fork n → b.next + n ≤ s.processes
   children_fit n is =
-      let a : Stays (after_event (births (take at all)) p (event.Fork n)) s =
-      subst (λ v. Stays (after_event (births (take at all)) p v) s) is
+      let a : ExtendsBirths (births_after_event (births (take at all)) p (event.Fork n)) s =
+      subst (λ v. ExtendsBirths (births_after_event (births (take at all)) p v) s) is
       (front.stays_after all t.nameable t.quiet law at e inside) in
       let f = a.processes in
       let c = h.next in
@@ -97,17 +99,19 @@ module _ (all : List Entry) (t : IsTame all) (at : ℕ) (e : Entry) (inside : sl
   is_there = there
 
   -- what follows from what each table holds
-  holds_then : (b' : Bench) → length b'.clocks.items ≡ length b.clocks.items
+  holds_then : (b' : JudgeTables) → length b'.clocks.items ≡ length b.clocks.items
       → ((r q : ℕ) → r < s.processes → Asked q
-      → clock_at b'.clocks.items r q ≡ counted_by (counts (named s (take at all))) (judged (named s (take at all)))
-      (named s (take at all)) (s.name p) (happening s e.event) (s.name r) (s.name q))
+      → clock_at b'.clocks.items r q ≡ clocks_after_entry (clocks_of (entries_by_names s (take at all)))
+      (knowledge_of (entries_by_names s (take at all)))
+      (entries_by_names s (take at all)) (s.name p) (happening s e.event) (s.name r) (s.name q))
       → length b'.made.items ≡ s.processes → ((r : ℕ) → r < s.processes
-      → slice_get b'.made.items r ≡ Some (made (named s (take (at + 1) all)) (s.name r)))
-      → length b'.lines.items ≡ s.channels → ((c : ℕ) → c < s.channels → (l : Line)
-      × (slice_get b'.lines.items c ≡ Some l) × IsLine s (named s (take (at + 1) all)) (channel s c) l)
+      → slice_get b'.made.items r ≡ Some (count_of_entries (entries_by_names s (take (at + 1) all)) (s.name r)))
+      → length b'.lines.items ≡ s.channels → ((c : ℕ) → c < s.channels → (l : ChannelOffers)
+      × (slice_get b'.lines.items c ≡ Some l) × IsChannelOffers s (entries_by_names s (take (at + 1) all))
+      (channel s c) l)
       → b'.places.items ≡ b.places.items ++ number_at b.made.items p ∷ []
-      → b'.next ≡ (after_entry (births (take at all)) e).processes
-      → Holds s until (take (at + 1) all) b'
+      → b'.next ≡ (births_after_entry (births (take at all)) e).processes
+      → TablesHold s until (take (at + 1) all) b'
   holds_then b' len clocks lm made_is ll lines places next = record {
     all_clocks = len ∙ h.all_clocks;
     all_made = lm;
@@ -122,32 +126,36 @@ module _ (all : List Entry) (t : IsTame all) (at : ℕ) (e : Entry) (inside : sl
   }
 
   -- where the process's count of entries was raised
-  counted_then : (b' : Bench) → is_counted (happening s e.event) ≡ true → length b'.clocks.items ≡ length b.clocks.items
+  counted_then : (b' : JudgeTables) → is_counted (happening s e.event) ≡ true
+      → length b'.clocks.items ≡ length b.clocks.items
       → ((r q : ℕ) → r < s.processes → Asked q
-      → clock_at b'.clocks.items r q ≡ counted_by (counts (named s (take at all))) (judged (named s (take at all)))
-      (named s (take at all)) (s.name p) (happening s e.event) (s.name r) (s.name q))
+      → clock_at b'.clocks.items r q ≡ clocks_after_entry (clocks_of (entries_by_names s (take at all)))
+      (knowledge_of (entries_by_names s (take at all)))
+      (entries_by_names s (take at all)) (s.name p) (happening s e.event) (s.name r) (s.name q))
       → b'.made.items ≡ slice_set b.made.items p (number_at b.made.items p + 1)
-      → length b'.lines.items ≡ s.channels → ((c : ℕ) → c < s.channels → (l : Line)
-      × (slice_get b'.lines.items c ≡ Some l) × IsLine s (named s (take (at + 1) all)) (channel s c) l)
+      → length b'.lines.items ≡ s.channels → ((c : ℕ) → c < s.channels → (l : ChannelOffers)
+      × (slice_get b'.lines.items c ≡ Some l) × IsChannelOffers s (entries_by_names s (take (at + 1) all))
+      (channel s c) l)
       → b'.places.items ≡ b.places.items ++ number_at b.made.items p ∷ []
-      → b'.next ≡ (after_entry (births (take at all)) e).processes
-      → Holds s until (take (at + 1) all) b'
+      → b'.next ≡ (births_after_entry (births (take at all)) e).processes
+      → TablesHold s until (take (at + 1) all) b'
   counted_then b' counted len clocks mk ll lines places next = holds_then b' len clocks
       (ap length mk ∙ length-set b.made.items p (number_at b.made.items p + 1) ∙ h.all_made)
       (λ r l. ap (λ xs. slice_get xs r) mk ∙ bench.made_counted all t.nameable t.quiet law at e inside until b h counted
       r l)
       ll lines places next
 
-  old_lines : (b' : Bench) → b'.lines.items ≡ b.lines.items
+  old_lines : (b' : JudgeTables) → b'.lines.items ≡ b.lines.items
       → ((d : Channel) (w : Way) → happening s e.event ≡ Offered w d → ⊥)
-      → (judged_by (judged (named s (take at all))) (length (named s (take at all))) (s.name p)
-      (happening s e.event)).pending ≡ (judged (named s (take at all))).pending
-      → (c : ℕ) → c < s.channels → (l : Line) × (slice_get b'.lines.items c ≡ Some l)
-      × IsLine s (named s (take (at + 1) all)) (channel s c) l
+      → (knowledge_after (knowledge_of (entries_by_names s (take at all))) (length (entries_by_names s (take at all)))
+      (s.name p)
+      (happening s e.event)).pending ≡ (knowledge_of (entries_by_names s (take at all))).pending
+      → (c : ℕ) → c < s.channels → (l : ChannelOffers) × (slice_get b'.lines.items c ≡ Some l)
+      × IsChannelOffers s (entries_by_names s (take (at + 1) all)) (channel s c) l
   old_lines b' same off pend c l = let x = bench.lines_stay all t.nameable t.quiet law at e inside until b h off pend c
       l in (x.0, ap (λ xs. slice_get xs c) same ∙ x.1, x.2)
 
-  module _ (b' : Bench) (len : length b'.clocks.items ≡ length b.clocks.items)
+  module _ (b' : JudgeTables) (len : length b'.clocks.items ≡ length b.clocks.items)
       (places : b'.places.items ≡ b.places.items ++ number_at b.made.items p ∷ []) where
     module _ (mk : b'.made.items ≡ slice_set b.made.items p (number_at b.made.items p + 1)) where
       module _ (lines : b'.lines.items ≡ b.lines.items) where
@@ -156,17 +164,19 @@ module _ (all : List Entry) (t : IsTame all) (at : ℕ) (e : Entry) (inside : sl
             → clock_at b'.clocks.items r q
             ≡ cond (p == r) (with_own (clock_at b.clocks.items) p (number_at b.made.items p + 1) q)
             (clock_at b.clocks.items r q))
-            → Holds s until (take (at + 1) all) b'
+            → TablesHold s until (take (at + 1) all) b'
         opened is next clocks = counted_then b' (ap (λ v. is_counted (happening s v)) is) len
             (λ r q l k. bench.own_raised_is all t.nameable t.quiet law at e inside until b h (clock_at b'.clocks.items)
-            clocks r q l k ∙ sym (ap (λ v. counted_by (counts (named s (take at all)))
-            (judged (named s (take at all))) (named s (take at all)) (s.name p) (happening s v) (s.name r)
+            clocks r q l k ∙ sym (ap (λ v. clocks_after_entry (clocks_of (entries_by_names s (take at all)))
+            (knowledge_of (entries_by_names s (take at all))) (entries_by_names s (take at all)) (s.name p)
+            (happening s v) (s.name r)
             (s.name q)) is))
             mk (ap length lines ∙ h.all_lines)
             (old_lines b' lines (λ d w f. subst IsOffer (sym f ∙ ap (happening s) is) tt)
-            (ap (λ v. (judged_by (judged (named s (take at all))) (length (named s (take at all))) (s.name p)
+            (ap (λ v. (knowledge_after (knowledge_of (entries_by_names s (take at all)))
+            (length (entries_by_names s (take at all))) (s.name p)
             (happening s v)).pending) is))
-            places (next ∙ h.next ∙ sym (ap (λ v. (after_event (births (take at all)) p v).processes) is))
+            places (next ∙ h.next ∙ sym (ap (λ v. (births_after_event (births (take at all)) p v).processes) is))
 
         pub forked : (n : ℕ) → e.event ≡ event.Fork n → b'.next ≡ b.next + n → (c1 : ℕ → ℕ → ℕ)
             → ((r q : ℕ) → IsAsked until (at + 1) q
@@ -174,41 +184,46 @@ module _ (all : List Entry) (t : IsTame all) (at : ℕ) (e : Entry) (inside : sl
             (clock_at b.clocks.items r q))
             → ((r q : ℕ) → clock_at b'.clocks.items r q
             ≡ cond (nat_le b.next r && nat_lt r (b.next + n)) (max (c1 r q) (c1 p q)) (c1 r q))
-            → Holds s until (take (at + 1) all) b'
+            → TablesHold s until (take (at + 1) all) b'
         forked n is next c1 one two = counted_then b' (ap (λ v. is_counted (happening s v)) is) len
             (λ r q l k. bench.forked_is all t.nameable t.quiet law at e inside until b h n is c1
             (clock_at b'.clocks.items) one two r q l k
-            ∙ sym (ap (λ v. counted_by (counts (named s (take at all))) (judged (named s (take at all)))
-            (named s (take at all)) (s.name p) (happening s v) (s.name r) (s.name q)) is))
+            ∙ sym (ap (λ v. clocks_after_entry (clocks_of (entries_by_names s (take at all)))
+            (knowledge_of (entries_by_names s (take at all)))
+            (entries_by_names s (take at all)) (s.name p) (happening s v) (s.name r) (s.name q)) is))
             mk (ap length lines ∙ h.all_lines)
             (old_lines b' lines (λ d w f. subst IsOffer (sym f ∙ ap (happening s) is) tt)
-            (ap (λ v. (judged_by (judged (named s (take at all))) (length (named s (take at all))) (s.name p)
+            (ap (λ v. (knowledge_after (knowledge_of (entries_by_names s (take at all)))
+            (length (entries_by_names s (take at all))) (s.name p)
             (happening s v)).pending) is))
             places (next ∙ ap (λ x. x + n) h.next
-            ∙ sym (ap (λ v. (after_event (births (take at all)) p v).processes) is))
+            ∙ sym (ap (λ v. (births_after_event (births (take at all)) p v).processes) is))
 
         ended_with : e.event ≡ event.End → b'.next ≡ b.next
             → ((r q : ℕ) → r < s.processes → Asked q
             → clock_at b'.clocks.items r q
-            ≡ counted_by (counts (named s (take at all))) (judged (named s (take at all))) (named s (take at all))
+            ≡ clocks_after_entry (clocks_of (entries_by_names s (take at all)))
+            (knowledge_of (entries_by_names s (take at all))) (entries_by_names s (take at all))
             (s.name p) Ended (s.name r) (s.name q))
-            → Holds s until (take (at + 1) all) b'
+            → TablesHold s until (take (at + 1) all) b'
         ended_with is next clocks = counted_then b' (ap (λ v. is_counted (happening s v)) is) len
             (λ r q l k. clocks r q l k ∙ sym
-            (ap (λ v. counted_by (counts (named s (take at all))) (judged (named s (take at all)))
-            (named s (take at all)) (s.name p) (happening s v) (s.name r) (s.name q)) is))
+            (ap (λ v. clocks_after_entry (clocks_of (entries_by_names s (take at all)))
+            (knowledge_of (entries_by_names s (take at all)))
+            (entries_by_names s (take at all)) (s.name p) (happening s v) (s.name r) (s.name q)) is))
             mk (ap length lines ∙ h.all_lines)
             (old_lines b' lines (λ d w f. subst IsOffer (sym f ∙ ap (happening s) is) tt)
-            (ap (λ v. (judged_by (judged (named s (take at all))) (length (named s (take at all))) (s.name p)
+            (ap (λ v. (knowledge_after (knowledge_of (entries_by_names s (take at all)))
+            (length (entries_by_names s (take at all))) (s.name p)
             (happening s v)).pending) is))
-            places (next ∙ h.next ∙ sym (ap (λ v. (after_event (births (take at all)) p v).processes) is))
+            places (next ∙ h.next ∙ sym (ap (λ v. (births_after_event (births (take at all)) p v).processes) is))
 
         pub ended_root : e.event ≡ event.End → b'.next ≡ b.next → None ≡ s.birth p
             → ((r q : ℕ) → IsAsked until (at + 1) q
             → clock_at b'.clocks.items r q
             ≡ cond (p == r) (with_own (clock_at b.clocks.items) p (number_at b.made.items p + 1) q)
             (clock_at b.clocks.items r q))
-            → Holds s until (take (at + 1) all) b'
+            → TablesHold s until (take (at + 1) all) b'
         ended_root is next none one = ended_with is next
             (bench.ended_root_is all t.nameable t.quiet law at e inside until b h none (clock_at b'.clocks.items) one)
 
@@ -217,14 +232,15 @@ module _ (all : List Entry) (t : IsTame all) (at : ℕ) (e : Entry) (inside : sl
             → c1 r q ≡ cond (p == r) (with_own (clock_at b.clocks.items) p (number_at b.made.items p + 1) q)
             (clock_at b.clocks.items r q))
             → ((r q : ℕ) → clock_at b'.clocks.items r q ≡ cond (u.parent == r) (max (c1 u.parent q) (c1 p q)) (c1 r q))
-            → Holds s until (take (at + 1) all) b'
+            → TablesHold s until (take (at + 1) all) b'
         ended is next u born c1 one two = ended_with is next
             (bench.ended_is all t.nameable t.quiet law at e inside until b h u born
             (let a = parent_older s law p there u born in let c = there in omega arith) c1 (clock_at b'.clocks.items)
             one two)
 
       -- an offer
-      module _ (w : Way) (c : ℕ) (is : e.event ≡ offer_event w c) (l : Line) (line : slice_get b.lines.items c ≡ Some l)
+      module _ (w : Way) (c : ℕ) (is : e.event ≡ offer_event w c) (l : ChannelOffers)
+          (line : slice_get b.lines.items c ≡ Some l)
           (next : b'.next ≡ b.next) where
         happens : happening s e.event ≡ Offered w (channel s c)
         happens = ap (happening s) is ∙ offer_happens s w c
@@ -232,10 +248,10 @@ module _ (all : List Entry) (t : IsTame all) (at : ℕ) (e : Entry) (inside : sl
         c_there : c < s.channels
         c_there = channel_there all t.nameable t.quiet law at e w c inside is
 
-        same_next : b'.next ≡ (after_entry (births (take at all)) e).processes
-        same_next = next ∙ h.next ∙ sym (ap (λ v. (after_event (births (take at all)) p v).processes) is ∙ by w)
+        same_next : b'.next ≡ (births_after_entry (births (take at all)) e).processes
+        same_next = next ∙ h.next ∙ sym (ap (λ v. (births_after_event (births (take at all)) p v).processes) is ∙ by w)
           where
-            by : (w : Way) → (after_event (births (take at all)) p (offer_event w c)).processes
+            by : (w : Way) → (births_after_event (births (take at all)) p (offer_event w c)).processes
                 ≡ (births (take at all)).processes
             by way.Send = refl
             by way.Receive = refl
@@ -244,28 +260,29 @@ module _ (all : List Entry) (t : IsTame all) (at : ℕ) (e : Entry) (inside : sl
         offer = record { process = p; place = number_at b.made.items p }
 
         pub offer_waits : l.waiting ≡ None → b'.lines.items
-            ≡ slice_set b.lines.items c (then_line w offer (Some offer) l) → b'.clocks.items ≡ b.clocks.items
-            → Holds s until (take (at + 1) all) b'
+            ≡ slice_set b.lines.items c (channel_offers_with w offer (Some offer) l) → b'.clocks.items ≡ b.clocks.items
+            → TablesHold s until (take (at + 1) all) b'
         offer_waits free ls clocks = counted_then b' (ap is_counted happens) len
             (λ r q a k. ap (λ cs. clock_at cs r q) clocks
             ∙ offers.clocks_wait all t.nameable t.quiet law at e inside until b h w c happens c_there l line free r
             q a k)
-            mk (ap length ls ∙ length-set b.lines.items c (then_line w offer (Some offer) l) ∙ h.all_lines)
+            mk (ap length ls ∙ length-set b.lines.items c (channel_offers_with w offer (Some offer) l) ∙ h.all_lines)
             (λ k a. let x = offers.offer_lines all t.nameable t.quiet law at e inside until b h w c happens c_there l
             line (Some offer) (offers.waits_now all t.nameable t.quiet law at e inside until b h w c happens c_there
             l line free) k a in (x.0, ap (λ xs. slice_get xs k) ls ∙ x.1, x.2))
             places same_next
 
         pub offer_meets : (z : Offer) → l.waiting ≡ Some z
-            → b'.lines.items ≡ slice_set b.lines.items c (then_line w offer None l)
+            → b'.lines.items ≡ slice_set b.lines.items c (channel_offers_with w offer None l)
             → ((r q : ℕ) → IsAsked until (at + 1) q
             → clock_at b'.clocks.items r q
-            ≡ met_at (clock_at b.clocks.items) p (number_at b.made.items p + 1) z.process (z.place + 1) r q)
-            → Holds s until (take (at + 1) all) b'
+            ≡ clocks_after_meeting (clock_at b.clocks.items) p (number_at b.made.items p + 1) z.process
+            (z.place + 1) r q)
+            → TablesHold s until (take (at + 1) all) b'
         offer_meets z waiting ls clocks = counted_then b' (ap is_counted happens) len
             (offers.clocks_met all t.nameable t.quiet law at e inside until b h w c happens c_there l line z waiting
             (clock_at b'.clocks.items) clocks)
-            mk (ap length ls ∙ length-set b.lines.items c (then_line w offer None l) ∙ h.all_lines)
+            mk (ap length ls ∙ length-set b.lines.items c (channel_offers_with w offer None l) ∙ h.all_lines)
             (λ k a. let x = offers.offer_lines all t.nameable t.quiet law at e inside until b h w c happens c_there l
             line None (offers.waits_no_more all t.nameable t.quiet law at e inside until b h w c happens c_there l
             line z waiting) k a in (x.0, ap (λ xs. slice_get xs k) ls ∙ x.1, x.2))
@@ -273,22 +290,26 @@ module _ (all : List Entry) (t : IsTame all) (at : ℕ) (e : Entry) (inside : sl
 
     -- an entry that nobody comes to know
     pub passed : IsPlain e.event → b'.made.items ≡ b.made.items → b'.lines.items ≡ b.lines.items
-        → b'.clocks.items ≡ b.clocks.items → b'.next ≡ b.next → Holds s until (take (at + 1) all) b'
+        → b'.clocks.items ≡ b.clocks.items → b'.next ≡ b.next → TablesHold s until (take (at + 1) all) b'
     passed plain mk lines clocks next = by e.event refl plain
       where
         all_of : (v : Event) → e.event ≡ v → is_counted (happening s v) ≡ false
             → ((d : Channel) (w : Way) → happening s v ≡ Offered w d → ⊥)
-            → ((r q : Name) → counted_by (counts (named s (take at all))) (judged (named s (take at all)))
-            (named s (take at all)) (s.name p) (happening s v) r q ≡ counts (named s (take at all)) r q)
-            → (judged_by (judged (named s (take at all))) (length (named s (take at all))) (s.name p)
-            (happening s v)).pending ≡ (judged (named s (take at all))).pending
-            → (after_event (births (take at all)) p v).processes ≡ (births (take at all)).processes
-            → Holds s until (take (at + 1) all) b'
+            → ((r q : Name) → clocks_after_entry (clocks_of (entries_by_names s (take at all)))
+            (knowledge_of (entries_by_names s (take at all)))
+            (entries_by_names s (take at all)) (s.name p) (happening s v) r q
+            ≡ clocks_of (entries_by_names s (take at all)) r q)
+            → (knowledge_after (knowledge_of (entries_by_names s (take at all)))
+            (length (entries_by_names s (take at all))) (s.name p)
+            (happening s v)).pending ≡ (knowledge_of (entries_by_names s (take at all))).pending
+            → (births_after_event (births (take at all)) p v).processes ≡ (births (take at all)).processes
+            → TablesHold s until (take (at + 1) all) b'
         all_of v is counted off same pend still = holds_then b' len
             (λ r q l k. ap (λ cs. clock_at cs r q) clocks
             ∙ bench.clock_is all t.nameable t.quiet law at e inside until b h r q l k
-            ∙ sym (ap (λ x. counted_by (counts (named s (take at all))) (judged (named s (take at all)))
-            (named s (take at all)) (s.name p) (happening s x) (s.name r) (s.name q)) is
+            ∙ sym (ap (λ x. clocks_after_entry (clocks_of (entries_by_names s (take at all)))
+            (knowledge_of (entries_by_names s (take at all)))
+            (entries_by_names s (take at all)) (s.name p) (happening s x) (s.name r) (s.name q)) is
             ∙ same (s.name r) (s.name q)))
             (ap length mk ∙ h.all_made)
             (λ r l. ap (λ xs. slice_get xs r) mk
@@ -296,11 +317,13 @@ module _ (all : List Entry) (t : IsTame all) (at : ℕ) (e : Entry) (inside : sl
             (ap (λ x. is_counted (happening s x)) is ∙ counted) r l)
             (ap length lines ∙ h.all_lines)
             (old_lines b' lines (λ d w f. off d w (sym (ap (happening s) is) ∙ f))
-            (ap (λ x. (judged_by (judged (named s (take at all))) (length (named s (take at all))) (s.name p)
+            (ap (λ x. (knowledge_after (knowledge_of (entries_by_names s (take at all)))
+            (length (entries_by_names s (take at all))) (s.name p)
             (happening s x)).pending) is ∙ pend))
-            places (next ∙ h.next ∙ sym (ap (λ x. (after_event (births (take at all)) p x).processes) is ∙ still))
+            places (next ∙ h.next ∙ sym (ap (λ x. (births_after_event (births (take at all)) p x).processes) is
+            ∙ still))
 
-        by : (v : Event) → e.event ≡ v → IsPlain v → Holds s until (take (at + 1) all) b'
+        by : (v : Event) → e.event ≡ v → IsPlain v → TablesHold s until (take (at + 1) all) b'
         by (event.Fork n) is f = absurd f
         by event.Open is f = absurd f
         by (event.Send c) is f = absurd f
@@ -322,7 +345,7 @@ module _ (all : List Entry) (t : IsTame all) (at : ℕ) (e : Entry) (inside : sl
     pub channel_inside : c < length b.lines.items
     channel_inside = let a = this_channel in let d = h.all_lines in omega arith
 
-    module _ (l : Line) (line : slice_get b.lines.items c ≡ Some l) where
+    module _ (l : ChannelOffers) (line : slice_get b.lines.items c ≡ Some l) where
       pub waits_there : (z : Offer) → l.waiting ≡ Some z → z.process < length b.clocks.items
       waits_there z f =
           let a = offers.z_there all t.nameable t.quiet law at e inside until b h w c this_happens this_channel l line z
@@ -334,38 +357,43 @@ module _ (all : List Entry) (t : IsTame all) (at : ℕ) (e : Entry) (inside : sl
       waits_apart z f = offers.apart all t.nameable t.quiet law at e inside until b h w c this_happens this_channel l
           line z f
 
-      its_last : IsLast s (named s (take at all)) w (channel s c) (last_of w l)
+      its_last : IsLast s (entries_by_names s (take at all)) w (channel s c) (last_of w l)
       its_last = let x = h.lines c this_channel in
-          by w (subst (IsLine s (named s (take at all)) (channel s c)) (same_Some x.0 l (sym x.1 ∙ line)) x.2)
+          by w (subst (IsChannelOffers s (entries_by_names s (take at all)) (channel s c))
+          (same_Some x.0 l (sym x.1 ∙ line)) x.2)
         where
-          by : (v : Way) → IsLine s (named s (take at all)) (channel s c) l
-              → IsLast s (named s (take at all)) v (channel s c) (last_of v l)
+          by : (v : Way) → IsChannelOffers s (entries_by_names s (take at all)) (channel s c) l
+              → IsLast s (entries_by_names s (take at all)) v (channel s c) (last_of v l)
           by way.Send i = i.sent
           by way.Receive i = i.received
 
-      pub knows_none : last_of w l ≡ None → KnowsOffers (judged (named s (take at all))) (named s (take at all))
+      pub knows_none : last_of w l ≡ None → KnowsOffers (knowledge_of (entries_by_names s (take at all)))
+          (entries_by_names s (take at all))
           (s.name p) (Offered w (channel s c))
       knows_none none = none_known all t.nameable t.quiet law at e inside w (channel s c)
-          (subst (IsLast s (named s (take at all)) w (channel s c)) none its_last)
+          (subst (IsLast s (entries_by_names s (take at all)) w (channel s c)) none its_last)
 
-      module _ (o : Offer) (some : last_of w l ≡ Some o) (known : AreKnown (named s (take at all))) where
-        is_last : IsLast s (named s (take at all)) w (channel s c) (Some o)
-        is_last = subst (IsLast s (named s (take at all)) w (channel s c)) some its_last
+      module _ (o : Offer) (some : last_of w l ≡ Some o) (known : AreKnown (entries_by_names s (take at all))) where
+        is_last : IsLast s (entries_by_names s (take at all)) w (channel s c) (Some o)
+        is_last = subst (IsLast s (entries_by_names s (take at all)) w (channel s c)) some its_last
 
         pub last_there : o.process < s.processes
         last_there = is_last.1
 
-        pub knows_own : o.process ≡ p → KnowsOffers (judged (named s (take at all))) (named s (take at all)) (s.name p)
+        pub knows_own : o.process ≡ p → KnowsOffers (knowledge_of (entries_by_names s (take at all)))
+            (entries_by_names s (take at all)) (s.name p)
             (Offered w (channel s c))
         knows_own same = own_known all t.nameable t.quiet law at e inside w (channel s c) o same is_last known
 
-        pub knows_counted : (o.place < counts (named s (take at all)) (s.name p) (s.name o.process))
-            ↔ KnowsOffers (judged (named s (take at all))) (named s (take at all)) (s.name p) (Offered w (channel s c))
+        pub knows_counted : (o.place < clocks_of (entries_by_names s (take at all)) (s.name p) (s.name o.process))
+            ↔ KnowsOffers (knowledge_of (entries_by_names s (take at all))) (entries_by_names s (take at all))
+            (s.name p) (Offered w (channel s c))
         knows_counted = last_counted all t.nameable t.quiet law at e inside w (channel s c) o is_last known
 
         pub knows_last : IsAsked until at o.process → (cl : Clock) → cl ≡ get_or b.clocks.items p cl
             → (o.place < count_of cl o.process)
-            ↔ KnowsOffers (judged (named s (take at all))) (named s (take at all)) (s.name p)
+            ↔ KnowsOffers (knowledge_of (entries_by_names s (take at all))) (entries_by_names s (take at all))
+            (s.name p)
             (Offered w (channel s c))
         knows_last asked cl is_cl =
             let f = last_known all t.nameable t.quiet law at e inside until b h w (channel s c) o asked is_last known in

@@ -10,7 +10,7 @@ use Rattle.std.proofs.lemmas.List.{length-set}
 use Rattle.sp_base.proofs.Facts.{get_where_set}
 use Rattle.sp_journal.proofs.Facts.{below}
 use Rattle.sp_judge.specs.declared.clock.Clock.{Clock}
-use Rattle.sp_judge.specs.Clocks.{count_of, count_at, clock_at, with_own, met_at}
+use Rattle.sp_judge.specs.Clocks.{count_of, count_at, clock_at, with_own, clocks_after_meeting}
 use Rattle.sp_judge.proofs.Tallies.{index_or_not}
 
 pub set_other : {X : Type 0} (xs : List X) (l : ℕ) (x : X) (p : ℕ) → l ≢ p
@@ -124,7 +124,7 @@ pub both_met : (A : ℕ → Type 0) (p n z m : ℕ) (c0 c1 c2 c3 c4 : ℕ → �
     → ((r q : ℕ) → A q → c2 r q ≡ cond (z == r) (with_own c1 z m q) (c1 r q))
     → ((r q : ℕ) → c3 r q ≡ cond (p == r) (max (c2 p q) (c2 z q)) (c2 r q))
     → ((r q : ℕ) → c4 r q ≡ cond (z == r) (max (c3 z q) (c3 p q)) (c3 r q))
-    → (r q : ℕ) → A q → c4 r q ≡ met_at c0 p n z m r q
+    → (r q : ℕ) → A q → c4 r q ≡ clocks_after_meeting c0 p n z m r q
 both_met A p n z m c0 c1 c2 c3 c4 d e1 e2 e3 e4 r q asked = e4 r q ∙ ⊎_elim
     (λ (e : z ≡ r).
     let b = eq-eqb z r e in

@@ -8,18 +8,20 @@ use Rattle.std.proofs.lemmas.Option.{same_Some, slice_get_within}
 use Rattle.sp_base.proofs.Facts.{below_or_at, or_with_false, true_is_not_false}
 use Rattle.sp_journal.specs.Names.{Name, Channel, same_name, Happening, Opened, Forked, Offered, Ended, Faulted, Laid}
 use Rattle.sp_journal.specs.Names.{Paused, Occurrence}
-use Rattle.sp_journal.specs.Past.{Judged, learn, teach, report, now, met_now, judged_by}
-use Rattle.sp_journal.proofs.NameLaws.{name_itself, name_is}
+use Rattle.sp_journal.specs.Past.{Knowledge, learn, teach, report, known_with, knowledge_after_offer, knowledge_after}
+use Rattle.sp_meaning.proofs.Keys.{name_itself, name_is}
 use Rattle.sp_meaning.proofs.Keys.{name_test}
 use Rattle.sp_judge.specs.Prefixes.{is_counted, Counts, WaitsForNone}
-use Rattle.sp_judge.specs.Counts.{made, PlaceOf, becomes, gains, shares, gives_back, mine, theirs, both, met_counts}
-use Rattle.sp_judge.specs.Counts.{counted_by}
-use Rattle.sp_judge.proofs.Prefixing.{Kept, get_low, get_last, pair_second}
+use Rattle.sp_judge.specs.Counts.{count_of_entries, PlaceOf, with_clock, with_merged_clock, with_children_merged}
+use Rattle.sp_judge.specs.Counts.{with_parent_merged, clock_with_entry, clock_of_waiter, merged_clock}
+use Rattle.sp_judge.specs.Counts.{clocks_after_offer}
+use Rattle.sp_judge.specs.Counts.{clocks_after_entry}
+use Rattle.sp_judge.proofs.Prefixing.{PrefixesAreKnown, get_low, get_last, pair_second}
 
 -- counts that say which of these entries are known
-pub record Says (es : List Occurrence) (f : ℕ → Bool) (g : Name → ℕ) : Type 0 where
+pub record CountsTellKnown (es : List Occurrence) (f : ℕ → Bool) (g : Name → ℕ) : Type 0 where
   pub says : (q : Name) (i k : ℕ) → PlaceOf es q i k → f i ≡ nat_lt k (g q)
-  pub bound : (q : Name) → g q ≤ made es q
+  pub bound : (q : Name) → g q ≤ count_of_entries es q
 
 -- laws of places
 
@@ -32,14 +34,16 @@ index_or_not a b = elim (a == b) as (λ c. a == b ≡ c → (a ≡ b) ⊎ (a == 
     [ true ↦ λ e. inl (eqb-true a b e) | false ↦ λ e. inr e ] refl
 
 pub made_last : (es : List Occurrence) (e : Occurrence) (q : Name)
-    → made (es ++ e ∷ []) q ≡ cond (same_name e.who q && is_counted e.what) (suc (made es q)) (made es q)
+    → count_of_entries (es ++ e ∷ []) q ≡ cond (same_name e.who q && is_counted e.what) (suc (count_of_entries es q))
+    (count_of_entries es q)
 made_last [] e q = refl
 made_last (x ∷ es) e q = by (same_name x.who q && is_counted x.what) (same_name e.who q && is_counted e.what)
     (made_last es e q)
   where
-    by : (a b : Bool) → made (es ++ e ∷ []) q ≡ cond b (suc (made es q)) (made es q)
-        → cond a (suc (made (es ++ e ∷ []) q)) (made (es ++ e ∷ []) q)
-        ≡ cond b (suc (cond a (suc (made es q)) (made es q))) (cond a (suc (made es q)) (made es q))
+    by : (a b : Bool) → count_of_entries (es ++ e ∷ []) q ≡ cond b (suc (count_of_entries es q)) (count_of_entries es q)
+        → cond a (suc (count_of_entries (es ++ e ∷ []) q)) (count_of_entries (es ++ e ∷ []) q)
+        ≡ cond b (suc (cond a (suc (count_of_entries es q)) (count_of_entries es q)))
+        (cond a (suc (count_of_entries es q)) (count_of_entries es q))
     by true true h = ap suc h
     by true false h = ap suc h
     by false true h = h
@@ -55,29 +59,33 @@ pub take_all : (es : List Occurrence) → take (length es) es ≡ es
 take_all [] = refl
 take_all (x ∷ es) = ap (λ ys. x ∷ ys) (take_all es)
 
-made_grows : (es : List Occurrence) (e : Occurrence) (q : Name) → made es q ≤ made (es ++ e ∷ []) q
-made_grows es e q = subst (λ x. made es q ≤ x) (sym (made_last es e q)) (by (same_name e.who q && is_counted e.what))
+made_grows : (es : List Occurrence) (e : Occurrence) (q : Name)
+    → count_of_entries es q ≤ count_of_entries (es ++ e ∷ []) q
+made_grows es e q = subst (λ x. count_of_entries es q ≤ x) (sym (made_last es e q))
+    (by (same_name e.who q && is_counted e.what))
   where
-    by : (b : Bool) → made es q ≤ cond b (suc (made es q)) (made es q)
+    by : (b : Bool) → count_of_entries es q ≤ cond b (suc (count_of_entries es q)) (count_of_entries es q)
     by true = omega arith
     by false = omega arith
 
 -- an entry of a process has fewer before it than all
-pub place_few : (es : List Occurrence) (q : Name) (i k : ℕ) → PlaceOf es q i k → k < made es q
+pub place_few : (es : List Occurrence) (q : Name) (i k : ℕ) → PlaceOf es q i k → k < count_of_entries es q
 place_few [] q i k p = absurd (let l = slice_get_within [] i _ p.1 in omega arith)
 place_few (x ∷ es) q zero k p =
     let e : x ≡ record { who = q; what = p.0 } = same_Some x _ p.1 in
     let t : same_name x.who q && is_counted x.what ≡ true =
     ap (λ (y : Occurrence). same_name y.who q && is_counted y.what) e
     ∙ and_from (same_name q q) (is_counted p.0) (name_itself q) p.2 in
-    let m : made (x ∷ es) q ≡ suc (made es q) = ap (λ b. cond b (suc (made es q)) (made es q)) t in
+    let m : count_of_entries (x ∷ es) q ≡ suc (count_of_entries es q) =
+    ap (λ b. cond b (suc (count_of_entries es q)) (count_of_entries es q)) t in
     let z = p.3 in
     omega arith
-place_few (x ∷ es) q (suc i) k p = by (place_few es q i (made (take i es) q) (p.0, p.1, p.2, refl))
+place_few (x ∷ es) q (suc i) k p = by (place_few es q i (count_of_entries (take i es) q) (p.0, p.1, p.2, refl))
     (same_name x.who q && is_counted x.what) p.3
   where
-    by : made (take i es) q < made es q → (b : Bool) → k ≡ cond b (suc (made (take i es) q)) (made (take i es) q)
-        → k < cond b (suc (made es q)) (made es q)
+    by : count_of_entries (take i es) q < count_of_entries es q → (b : Bool)
+        → k ≡ cond b (suc (count_of_entries (take i es) q)) (count_of_entries (take i es) q)
+        → k < cond b (suc (count_of_entries es q)) (count_of_entries es q)
     by l true e = omega arith
     by l false e = omega arith
 
@@ -94,21 +102,22 @@ module _ (es : List Occurrence) (e : Occurrence) where
     sym (get_low es e i l) ∙ p.1,
     p.2,
     p.3
-        ∙ ap (λ xs. made xs q) (take_low es e i (omega arith)),
+        ∙ ap (λ xs. count_of_entries xs q) (take_low es e i (omega arith)),
   )
 
   pub place_last : (q : Name) (k : ℕ) → PlaceOf more q (length es) k → (e.who ≡ q) × (is_counted e.what ≡ true)
-      × (k ≡ made es q)
+      × (k ≡ count_of_entries es q)
   place_last q k p =
       let f : e ≡ record { who = q; what = p.0 } = same_Some e _ (sym (get_last es e) ∙ p.1) in (
         ap (λ (x : Occurrence). x.who) f,
         ap (λ (x : Occurrence). is_counted x.what) f ∙ p.2,
         p.3
-            ∙ ap (λ xs. made xs q) (take_low es e (length es) (omega arith) ∙ take_all es),
+            ∙ ap (λ xs. count_of_entries xs q) (take_low es e (length es) (omega arith) ∙ take_all es),
       )
 
   -- what says it before says it after, where the new index is not known
-  says_more : (f : ℕ → Bool) (g : Name → ℕ) → ((i : ℕ) → f i ≡ true → i < length es) → Says es f g → Says more f g
+  says_more : (f : ℕ → Bool) (g : Name → ℕ) → ((i : ℕ) → f i ≡ true → i < length es) → CountsTellKnown es f g
+      → CountsTellKnown more f g
   says_more f g below s = record {
     says = λ q i k p. ⊎_elim
         (λ (l : i < length es). s.says q i k (place_low q i k l p))
@@ -142,8 +151,9 @@ or_max k a b = ⊎_elim
     ∙ ap (nat_lt k) (sym (max-eq_left l)))
     (cases_lt a b)
 
-pub says_both : (es : List Occurrence) (f g : ℕ → Bool) (a b : Name → ℕ) → Says es f a → Says es g b
-    → Says es (λ i. f i || g i) (λ q. max (a q) (b q))
+pub says_both : (es : List Occurrence) (f g : ℕ → Bool) (a b : Name → ℕ) → CountsTellKnown es f a
+    → CountsTellKnown es g b
+    → CountsTellKnown es (λ i. f i || g i) (λ q. max (a q) (b q))
 says_both es f g a b s t = record {
   says = λ q i k p. (λ j. s.says q i k p j || t.says q i k p j) ∙ or_max k (a q) (b q);
   bound = λ q. max-le (s.bound q) (t.bound q);
@@ -154,7 +164,7 @@ module _ (P : (ℕ → Bool) → (Name → ℕ) → Type 0)
     (union : (f g : ℕ → Bool) (a b : Name → ℕ) → P f a → P g b → P (λ i. f i || g i) (λ q. max (a q) (b q)))
     (known : ℕ → Bool) (clock : Name → ℕ) (holds : P known clock) where
   gains_all : (p : Name) (past : Name → ℕ → Bool) (count : Name → Name → ℕ) → ((q : Name) → P (past q) (count q))
-      → (q : Name) → P (learn p known past q) (gains p clock count q)
+      → (q : Name) → P (learn p known past q) (with_merged_clock p clock count q)
   gains_all p past count b q = by (same_name p q)
     where
       by : (t : Bool) → P (λ i. cond t (past q i || known i) (past q i))
@@ -164,20 +174,20 @@ module _ (P : (ℕ → Bool) → (Name → ℕ) → Type 0)
 
   shares_all : (p : Name) (fork i n : ℕ) (past : Name → ℕ → Bool) (count : Name → Name → ℕ)
       → ((q : Name) → P (past q) (count q)) → (q : Name)
-      → P (teach p fork known i n past q) (shares p fork clock i n count q)
+      → P (teach p fork known i n past q) (with_children_merged p fork clock i n count q)
   shares_all p fork i zero past count b = b
   shares_all p fork i (suc n) past count b =
-      shares_all p fork (suc i) n (learn ((fork, i) ∷ p) known past) (gains ((fork, i) ∷ p) clock count)
+      shares_all p fork (suc i) n (learn ((fork, i) ∷ p) known past) (with_merged_clock ((fork, i) ∷ p) clock count)
       (gains_all ((fork, i) ∷ p) past count b)
 
   gives_back_all : (p : Name) (past : Name → ℕ → Bool) (count : Name → Name → ℕ) → ((q : Name) → P (past q) (count q))
-      → (q : Name) → P (report p known past q) (gives_back p clock count q)
+      → (q : Name) → P (report p known past q) (with_parent_merged p clock count q)
   gives_back_all [] past count b = b
   gives_back_all (x ∷ p) past count b = gains_all p past count b
 
-module _ (j : Judged) (es : List Occurrence) (count : Name → Name → ℕ) (kept : Kept j es)
+module _ (j : Knowledge) (es : List Occurrence) (count : Name → Name → ℕ) (kept : PrefixesAreKnown j es)
     (below : (q : Name) (i : ℕ) → j.past q i ≡ true → i < length es)
-    (says : (q : Name) → Says es (j.past q) (count q)) where
+    (says : (q : Name) → CountsTellKnown es (j.past q) (count q)) where
   abbrev n : ℕ
   n = length es
 
@@ -186,7 +196,7 @@ module _ (j : Judged) (es : List Occurrence) (count : Name → Name → ℕ) (ke
 
   -- who waits, with the offer that waits
   module _ (c : Channel) (z : Name) (x : ℕ) (met : j.pending c ≡ Some (z, x)) where
-    its_place : PlaceOf es z x (made (take x es) z)
+    its_place : PlaceOf es z x (count_of_entries (take x es) z)
     its_place = let w = kept.waiting c z x met in (w.0, w.1, w.2, refl)
 
     its_index : x < n
@@ -202,57 +212,57 @@ module _ (j : Judged) (es : List Occurrence) (count : Name → Name → ℕ) (ke
         true_is_not_false (sym (eq-eqb x i y) ∙ d))
         (kept.own z i (counts_of z i k p))
 
-    same_place : (q : Name) (k : ℕ) → PlaceOf es q x k → (z ≡ q) × (k ≡ made (take x es) z)
+    same_place : (q : Name) (k : ℕ) → PlaceOf es q x k → (z ≡ q) × (k ≡ count_of_entries (take x es) z)
     same_place q k p =
         let e : z ≡ q = who _ _ (sym its_place.1 ∙ p.1) in
-        (e, p.3 ∙ ap (λ r. made (take x es) r) (sym e))
+        (e, p.3 ∙ ap (λ r. count_of_entries (take x es) r) (sym e))
       where
         who : (a b : Occurrence) → ◌≡◌ {A = Option Occurrence} (Some a) (Some b) → a.who ≡ b.who
         who a b e = ap (λ (o : Occurrence). o.who) (same_Some a b e)
 
-    theirs_say : Says es (now j z x) (theirs count es z x)
+    theirs_say : CountsTellKnown es (known_with j z x) (clock_of_waiter count es z x)
     theirs_say = record { says = told; bound = within }
       where
         place : ℕ
-        place = made (take x es) z
+        place = count_of_entries (take x es) z
 
-        told : (q : Name) (i k : ℕ) → PlaceOf es q i k → now j z x i ≡ nat_lt k (theirs count es z x q)
+        told : (q : Name) (i k : ℕ) → PlaceOf es q i k → known_with j z x i ≡ nat_lt k (clock_of_waiter count es z x q)
         told q i k p = ⊎_elim here there (index_or_not x i)
           where
-            here : x ≡ i → now j z x i ≡ nat_lt k (theirs count es z x q)
+            here : x ≡ i → known_with j z x i ≡ nat_lt k (clock_of_waiter count es z x q)
             here e =
                 let s = same_place q k (subst (λ y. PlaceOf es q y k) (sym e) p) in
-                let g : theirs count es z x q ≡ max (count z q) (suc place) =
+                let g : clock_of_waiter count es z x q ≡ max (count z q) (suc place) =
                 ap (λ b. cond b (max (count z q) (suc place)) (count z q)) ((name_test z q).1 s.0) in
                 or_right (j.past z i) (x == i) (eq-eqb x i e)
                 ∙ sym (ap (nat_lt k) g ∙ lt-ltb k (max (count z q) (suc place))
                 (let m = le-max_right (count z q) (suc place) in let y = s.1 in omega arith))
 
-            there : x == i ≡ false → now j z x i ≡ nat_lt k (theirs count es z x q)
+            there : x == i ≡ false → known_with j z x i ≡ nat_lt k (clock_of_waiter count es z x q)
             there d = ap (λ b. j.past z i || b) d ∙ or_with_false (j.past z i) ∙ ⊎_elim own other (name_or_not z q)
               where
-                own : z ≡ q → j.past z i ≡ nat_lt k (theirs count es z x q)
+                own : z ≡ q → j.past z i ≡ nat_lt k (clock_of_waiter count es z x q)
                 own e =
                     let h : j.past z i ≡ true = knows_others i k d (subst (λ r. PlaceOf es r i k) (sym e) p) in
                     let l : k < count z q = ltb-true k (count z q) (sym ((says z).says q i k p) ∙ h) in
-                    let g : theirs count es z x q ≡ max (count z q) (suc place) =
+                    let g : clock_of_waiter count es z x q ≡ max (count z q) (suc place) =
                     ap (λ b. cond b (max (count z q) (suc place)) (count z q)) ((name_test z q).1 e) in
                     h ∙ sym (ap (nat_lt k) g
                     ∙ lt-ltb k (max (count z q) (suc place))
                     (let m = le-max_left (count z q) (suc place) in omega arith))
 
-                other : same_name z q ≡ false → j.past z i ≡ nat_lt k (theirs count es z x q)
+                other : same_name z q ≡ false → j.past z i ≡ nat_lt k (clock_of_waiter count es z x q)
                 other e = (says z).says q i k p
                     ∙ ap (nat_lt k) (sym (ap (λ b. cond b (max (count z q) (suc place)) (count z q)) e))
 
-        within : (q : Name) → theirs count es z x q ≤ made es q
+        within : (q : Name) → clock_of_waiter count es z x q ≤ count_of_entries es q
         within q = ⊎_elim
             (λ (e : z ≡ q).
             let l = place_few es z x place its_place in
-            let m : place < made es q = subst (λ r. place < made es r) e l in
-            subst (λ y. y ≤ made es q) (sym (ap (λ b. cond b (max (count z q) (suc place)) (count z q))
+            let m : place < count_of_entries es q = subst (λ r. place < count_of_entries es r) e l in
+            subst (λ y. y ≤ count_of_entries es q) (sym (ap (λ b. cond b (max (count z q) (suc place)) (count z q))
             ((name_test z q).1 e))) (max-le ((says z).bound q) m))
-            (λ (e : same_name z q ≡ false). subst (λ y. y ≤ made es q)
+            (λ (e : same_name z q ≡ false). subst (λ y. y ≤ count_of_entries es q)
             (sym (ap (λ b. cond b (max (count z q) (suc place)) (count z q)) e)) ((says z).bound q))
             (name_or_not z q)
 
@@ -263,7 +273,7 @@ module _ (j : Judged) (es : List Occurrence) (count : Name → Name → ℕ) (ke
     abbrev longer : List Occurrence
     longer = es ++ entry ∷ []
 
-    still : (q : Name) → Says longer (j.past q) (count q)
+    still : (q : Name) → CountsTellKnown longer (j.past q) (count q)
     still q = says_more es entry (j.past q) (count q) (below q) (says q)
 
     module _ (counted : is_counted h ≡ true) (quiet : WaitsForNone j p) where
@@ -274,20 +284,21 @@ module _ (j : Judged) (es : List Occurrence) (count : Name → Name → ℕ) (ke
           (λ (x : (c : Channel) × (j.pending c ≡ Some (p, i))). absurd (quiet x.0 i x.1))
           (kept.own p i (counts_of p i k o))
 
-      mine_is : (q : Name) → p ≡ q → mine count es p q ≡ max (count p q) (suc (made es q))
-      mine_is q e = ap (λ b. cond b (max (count p q) (suc (made es p))) (count p q)) ((name_test p q).1 e)
-          ∙ ap (λ r. max (count p q) (suc (made es r))) e
+      mine_is : (q : Name) → p ≡ q → clock_with_entry count es p q ≡ max (count p q) (suc (count_of_entries es q))
+      mine_is q e = ap (λ b. cond b (max (count p q) (suc (count_of_entries es p))) (count p q)) ((name_test p q).1 e)
+          ∙ ap (λ r. max (count p q) (suc (count_of_entries es r))) e
 
-      mine_other : (q : Name) → same_name p q ≡ false → mine count es p q ≡ count p q
-      mine_other q e = ap (λ b. cond b (max (count p q) (suc (made es p))) (count p q)) e
+      mine_other : (q : Name) → same_name p q ≡ false → clock_with_entry count es p q ≡ count p q
+      mine_other q e = ap (λ b. cond b (max (count p q) (suc (count_of_entries es p))) (count p q)) e
 
-      mine_says : Says longer (now j p n) (mine count es p)
+      mine_says : CountsTellKnown longer (known_with j p n) (clock_with_entry count es p)
       mine_says = record { says = told; bound = within }
         where
-          told : (q : Name) (i k : ℕ) → PlaceOf longer q i k → now j p n i ≡ nat_lt k (mine count es p q)
+          told : (q : Name) (i k : ℕ) → PlaceOf longer q i k
+              → known_with j p n i ≡ nat_lt k (clock_with_entry count es p q)
           told q i k o = ⊎_elim low last (below_or_at i n (place_inside es entry q i k o))
             where
-              low : i < n → now j p n i ≡ nat_lt k (mine count es p q)
+              low : i < n → known_with j p n i ≡ nat_lt k (clock_with_entry count es p q)
               low l = ap (λ b. j.past p i || b) apart ∙ or_with_false (j.past p i) ∙ ⊎_elim own other (name_or_not p q)
                 where
                   old : PlaceOf es q i k
@@ -296,95 +307,99 @@ module _ (j : Judged) (es : List Occurrence) (count : Name → Name → ℕ) (ke
                   apart : n == i ≡ false
                   apart = ⊎_elim (λ (e : n ≡ i). absurd (omega arith)) (λ (e : n == i ≡ false). e) (index_or_not n i)
 
-                  own : p ≡ q → j.past p i ≡ nat_lt k (mine count es p q)
+                  own : p ≡ q → j.past p i ≡ nat_lt k (clock_with_entry count es p q)
                   own e =
                       let f = place_few es q i k old in
                       knows_own i k (subst (λ r. PlaceOf es r i k) (sym e) old)
                       ∙ sym (ap (nat_lt k) (mine_is q e)
-                      ∙ lt-ltb k (max (count p q) (suc (made es q)))
-                      (let m = le-max_right (count p q) (suc (made es q)) in omega arith))
+                      ∙ lt-ltb k (max (count p q) (suc (count_of_entries es q)))
+                      (let m = le-max_right (count p q) (suc (count_of_entries es q)) in omega arith))
 
-                  other : same_name p q ≡ false → j.past p i ≡ nat_lt k (mine count es p q)
+                  other : same_name p q ≡ false → j.past p i ≡ nat_lt k (clock_with_entry count es p q)
                   other e = (says p).says q i k old ∙ ap (nat_lt k) (sym (mine_other q e))
 
-              last : i ≡ n → now j p n i ≡ nat_lt k (mine count es p q)
+              last : i ≡ n → known_with j p n i ≡ nat_lt k (clock_with_entry count es p q)
               last e =
                   let x = place_last es entry q k (subst (λ y. PlaceOf longer q y k) e o) in
                   or_right (j.past p i) (n == i) (eq-eqb n i (sym e))
                   ∙ sym (ap (nat_lt k) (mine_is q x.0)
-                  ∙ lt-ltb k (max (count p q) (suc (made es q)))
-                  (let m = le-max_right (count p q) (suc (made es q)) in let y = x.2 in omega arith))
+                  ∙ lt-ltb k (max (count p q) (suc (count_of_entries es q)))
+                  (let m = le-max_right (count p q) (suc (count_of_entries es q)) in let y = x.2 in omega arith))
 
-          within : (q : Name) → mine count es p q ≤ made longer q
+          within : (q : Name) → clock_with_entry count es p q ≤ count_of_entries longer q
           within q = ⊎_elim
               (λ (e : p ≡ q).
-              let m : made longer q ≡ suc (made es q) = made_last es entry q
-              ∙ ap (λ b. cond b (suc (made es q)) (made es q))
+              let m : count_of_entries longer q ≡ suc (count_of_entries es q) = made_last es entry q
+              ∙ ap (λ b. cond b (suc (count_of_entries es q)) (count_of_entries es q))
               (and_from (same_name p q) (is_counted h) ((name_test p q).1 e) counted) in
               let b = (says p).bound q in
-              subst (λ y. y ≤ made longer q) (sym (mine_is q e)) (max-le (omega arith) (omega arith)))
-              (λ (e : same_name p q ≡ false). subst (λ y. y ≤ made longer q) (sym (mine_other q e)) ((still p).bound q))
+              subst (λ y. y ≤ count_of_entries longer q) (sym (mine_is q e)) (max-le (omega arith) (omega arith)))
+              (λ (e : same_name p q ≡ false). subst (λ y. y ≤ count_of_entries longer q) (sym (mine_other q e))
+              ((still p).bound q))
               (name_or_not p q)
 
       -- the new index alone, learned by its process
-      own_says : (q : Name) → Says longer (learn p (λ i. n == i) j.past q) (becomes p (mine count es p) count q)
+      own_says : (q : Name) → CountsTellKnown longer (learn p (λ i. n == i) j.past q)
+          (with_clock p (clock_with_entry count es p) count q)
       own_says q = by (same_name p q) (name_is p q)
         where
           by : (t : Bool) → (t ≡ true → p ≡ q)
-              → Says longer (λ i. cond t (j.past q i || (n == i)) (j.past q i))
-              (λ r. cond t (mine count es p r) (count q r))
-          by true f = subst (λ (x : Name). Says longer (λ i. j.past x i || (n == i)) (mine count es p)) (f refl)
+              → CountsTellKnown longer (λ i. cond t (j.past q i || (n == i)) (j.past q i))
+              (λ r. cond t (clock_with_entry count es p r) (count q r))
+          by true f = subst (λ (x : Name). CountsTellKnown longer (λ i. j.past x i || (n == i))
+              (clock_with_entry count es p)) (f refl)
               mine_says
           by false f = still q
 
       met_says : (c : Channel) (o : Option (Name × ℕ)) → j.pending c ≡ o → (q : Name)
-          → Says longer ((met_now j p n c o).past q) (met_counts count es p o q)
+          → CountsTellKnown longer ((knowledge_after_offer j p n c o).past q) (clocks_after_offer count es p o q)
       met_says c None e = still
-      met_says c (Some o) e = gains_all (Says longer) (says_both longer) known clocks known_says o.0
-          (learn p known j.past) (gains p clocks count)
-          (gains_all (Says longer) (says_both longer) known clocks known_says p j.past count still)
+      met_says c (Some o) e = gains_all (CountsTellKnown longer) (says_both longer) known clocks known_says o.0
+          (learn p known j.past) (with_merged_clock p clocks count)
+          (gains_all (CountsTellKnown longer) (says_both longer) known clocks known_says p j.past count still)
         where
           known : ℕ → Bool
-          known i = now j p n i || now j o.0 o.1 i
+          known i = known_with j p n i || known_with j o.0 o.1 i
 
           clocks : Name → ℕ
-          clocks = both (mine count es p) (theirs count es o.0 o.1)
+          clocks = merged_clock (clock_with_entry count es p) (clock_of_waiter count es o.0 o.1)
 
-          its_below : (i : ℕ) → now j o.0 o.1 i ≡ true → i < n
+          its_below : (i : ℕ) → known_with j o.0 o.1 i ≡ true → i < n
           its_below i t = ⊎_elim (λ (x : j.past o.0 i ≡ true). below o.0 i x)
               (λ (x : o.1 == i ≡ true). let y = eqb-true o.1 i x in let l = its_index c o.0 o.1 e in omega arith)
               (or_cases (j.past o.0 i) (o.1 == i) t)
 
-          known_says : Says longer known clocks
-          known_says = says_both longer (now j p n) (now j o.0 o.1) (mine count es p) (theirs count es o.0 o.1)
-              mine_says (says_more es entry (now j o.0 o.1) (theirs count es o.0 o.1) its_below
+          known_says : CountsTellKnown longer known clocks
+          known_says = says_both longer (known_with j p n) (known_with j o.0 o.1) (clock_with_entry count es p)
+              (clock_of_waiter count es o.0 o.1)
+              mine_says (says_more es entry (known_with j o.0 o.1) (clock_of_waiter count es o.0 o.1) its_below
               (theirs_say c o.0 o.1 e))
 
 -- the clocks say what each process knows after one more entry
-pub one_more : (j : Judged) (es : List Occurrence) (count : Name → Name → ℕ) → Kept j es
-    → ((q : Name) (i : ℕ) → j.past q i ≡ true → i < length es) → ((q : Name) → Says es (j.past q) (count q))
+pub one_more : (j : Knowledge) (es : List Occurrence) (count : Name → Name → ℕ) → PrefixesAreKnown j es
+    → ((q : Name) (i : ℕ) → j.past q i ≡ true → i < length es) → ((q : Name) → CountsTellKnown es (j.past q) (count q))
     → (p : Name) (h : Happening) → WaitsForNone j p → (q : Name)
-    → Says (es ++ record { who = p; what = h } ∷ []) ((judged_by j (length es) p h).past q)
-    (counted_by count j es p h q)
+    → CountsTellKnown (es ++ record { who = p; what = h } ∷ []) ((knowledge_after j (length es) p h).past q)
+    (clocks_after_entry count j es p h q)
 one_more j es count kept below says p Opened w = own_says j es count kept below says p Opened refl w
 one_more j es count kept below says p (Forked k) w =
     let m : List Occurrence = es ++ record { who = p; what = Forked k } ∷ [] in
-    shares_all (Says m) (says_both m) (now j p (length es)) (mine count es p)
+    shares_all (CountsTellKnown m) (says_both m) (known_with j p (length es)) (clock_with_entry count es p)
     (mine_says j es count kept below says p (Forked k) refl w) p (j.forks p) 0 k
-    (learn p (λ i. length es == i) j.past) (becomes p (mine count es p) count)
+    (learn p (λ i. length es == i) j.past) (with_clock p (clock_with_entry count es p) count)
     (own_says j es count kept below says p (Forked k) refl w)
 one_more j es count kept below says p Ended w =
     let m : List Occurrence = es ++ record { who = p; what = Ended } ∷ [] in
-    gives_back_all (Says m) (says_both m) (now j p (length es)) (mine count es p)
+    gives_back_all (CountsTellKnown m) (says_both m) (known_with j p (length es)) (clock_with_entry count es p)
     (mine_says j es count kept below says p Ended refl w) p (learn p (λ i. length es == i) j.past)
-    (becomes p (mine count es p) count) (own_says j es count kept below says p Ended refl w)
+    (with_clock p (clock_with_entry count es p) count) (own_says j es count kept below says p Ended refl w)
 one_more j es count kept below says p (Offered v c) w =
     met_says j es count kept below says p (Offered v c) refl w c (j.pending c) refl
 one_more j es count kept below says p (Faulted f) w = still j es count kept below says p (Faulted f)
 one_more j es count kept below says p Laid w = still j es count kept below says p Laid
 one_more j es count kept below says p Paused w = still j es count kept below says p Paused
 
-pub nothing_said : (q : Name) → Says [] (λ i. false) (λ r. 0)
+pub nothing_said : (q : Name) → CountsTellKnown [] (λ i. false) (λ r. 0)
 nothing_said q = record {
   says = λ r i k p. absurd (let l = slice_get_within [] i _ p.1 in omega arith);
   bound = λ r. omega arith;

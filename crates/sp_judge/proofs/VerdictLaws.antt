@@ -11,18 +11,19 @@ use Rattle.sp_journal.specs.declared.entry.Way.{Way}
 use Rattle.sp_journal.specs.declared.entry.Way.TheVariants as way
 use Rattle.sp_journal.specs.Names.{Name, Channel, Happening, Opened, Forked, Offered, Ended, Faulted, Laid, Paused}
 use Rattle.sp_journal.specs.Names.{Occurrence}
-use Rattle.sp_journal.specs.Births.{Births, at_start, births, channel, GivesNumbers, NameableFrom, happening}
+use Rattle.sp_journal.specs.Births.{Births, first_births, births, channel, GivesNumbers, NameableFrom, happening}
 use Rattle.sp_journal.specs.Births.{occurrence}
-use Rattle.sp_journal.specs.Past.{Judged, judged, judged_by, judged_from, nothing_judged}
+use Rattle.sp_journal.specs.Past.{Knowledge, knowledge_of, knowledge_after, knowledge_from, no_knowledge}
 use Rattle.sp_journal.proofs.BirthLaws.{Lawful}
-use Rattle.sp_judge.specs.Prefixes.{IsQuiet}
+use Rattle.sp_judge.specs.Prefixes.{WaitersAreSilent}
 use Rattle.sp_race.specs.Known.{KnowsOffers, KnownFrom, AreKnown}
 use Rattle.sp_race.proofs.Completion.{Paired, judged_paired, nothing_paired}
-use Rattle.sp_judge.specs.declared.bench.Offer.{Offer}
-use Rattle.sp_judge.specs.declared.bench.Bench.{Bench}
+use Rattle.sp_judge.specs.declared.judge_tables.Offer.{Offer}
+use Rattle.sp_judge.specs.declared.judge_tables.JudgeTables.{JudgeTables}
 use Rattle.sp_judge.specs.Clocks.{clock_at, IsAsked}
-use Rattle.sp_judge.specs.Counts.{made, counts}
-use Rattle.sp_judge.specs.Bench.{named, OfferIn, IsLast, Holds, offer_event, IsLastOffer, IsUnknown, IsFirstUnknown}
+use Rattle.sp_judge.specs.Counts.{count_of_entries, clocks_of}
+use Rattle.sp_judge.specs.JudgeTables.{entries_by_names, OfferIn, IsLast, TablesHold, offer_event, IsLastOffer}
+use Rattle.sp_judge.specs.JudgeTables.{IsUnknown, IsFirstUnknown}
 use Rattle.sp_judge.specs.Races.{KnowsCompletion, Race, IsLeastRace}
 use Rattle.sp_judge.proofs.Standing.{Standing, size_more}
 use Rattle.sp_judge.proofs.Chains.{Chains, chains_more, nothing_chained, knows_by_last, channel_of, way_of}
@@ -30,49 +31,50 @@ use Rattle.sp_judge.proofs.Numbers.{one_channel}
 use Rattle.sp_judge.proofs.Fronts.{get_within, named_get}
 use Rattle.sp_judge.proofs.Fronts as front
 
-chains_along : (j : Judged) (done es : List Occurrence) → Chains j done → Paired j (length done) → KnownFrom j done es
-    → Chains (judged_from j (length done) es) (done ++ es)
+chains_along : (j : Knowledge) (done es : List Occurrence) → Chains j done → Paired j (length done)
+    → KnownFrom j done es
+    → Chains (knowledge_from j (length done) es) (done ++ es)
 chains_along j done [] c p k = subst (Chains j) (sym (append-nil done)) c
 chains_along j done (e ∷ es) c p k =
-    let j' : Judged = judged_by j (length done) e.who e.what in
+    let j' : Knowledge = knowledge_after j (length done) e.who e.what in
     let l : suc (length done) ≡ length (done ++ e ∷ []) = size_more done e in
-    let r : Chains (judged_from j' (length (done ++ e ∷ [])) es) ((done ++ e ∷ []) ++ es) =
+    let r : Chains (knowledge_from j' (length (done ++ e ∷ [])) es) ((done ++ e ∷ []) ++ es) =
     chains_along j' (done ++ e ∷ []) es (chains_more j done c p e.who e.what k.0)
     (subst (Paired j') l (judged_paired j (length done) p e.who e.what)) k.1 in
-    subst (λ x. Chains (judged_from j' x es) (done ++ e ∷ es)) (sym l)
-    (subst (Chains (judged_from j' (length (done ++ e ∷ [])) es)) (append_assoc done (e ∷ []) es) r)
+    subst (λ x. Chains (knowledge_from j' x es) (done ++ e ∷ es)) (sym l)
+    (subst (Chains (knowledge_from j' (length (done ++ e ∷ [])) es)) (append_assoc done (e ∷ []) es) r)
 
-chains_of : (es : List Occurrence) → AreKnown es → Chains (judged es) es
-chains_of es k = chains_along nothing_judged [] es nothing_chained nothing_paired k
+chains_of : (es : List Occurrence) → AreKnown es → Chains (knowledge_of es) es
+chains_of es k = chains_along no_knowledge [] es nothing_chained nothing_paired k
 
 -- one more entry is in order
-known_more_from : (j : Judged) (done es : List Occurrence) (e : Occurrence) → KnownFrom j done es
-    → KnowsOffers (judged_from j (length done) es) (done ++ es) e.who e.what → KnownFrom j done (es ++ e ∷ [])
+known_more_from : (j : Knowledge) (done es : List Occurrence) (e : Occurrence) → KnownFrom j done es
+    → KnowsOffers (knowledge_from j (length done) es) (done ++ es) e.who e.what → KnownFrom j done (es ++ e ∷ [])
 known_more_from j done [] e k h = (subst (λ xs. KnowsOffers j xs e.who e.what) (append-nil done) h, tt)
 known_more_from j done (x ∷ es) e k h =
-    let j' : Judged = judged_by j (length done) x.who x.what in
+    let j' : Knowledge = knowledge_after j (length done) x.who x.what in
     let l : suc (length done) ≡ length (done ++ x ∷ []) = size_more done x in (
       k.0,
       known_more_from j' (done ++ x ∷ []) es e k.1
-          (subst (λ y. KnowsOffers (judged_from j' y es) ((done ++ x ∷ []) ++ es) e.who e.what) l
-          (subst (λ xs. KnowsOffers (judged_from j' (suc (length done)) es) xs e.who e.what)
+          (subst (λ y. KnowsOffers (knowledge_from j' y es) ((done ++ x ∷ []) ++ es) e.who e.what) l
+          (subst (λ xs. KnowsOffers (knowledge_from j' (suc (length done)) es) xs e.who e.what)
           (sym (append_assoc done (x ∷ []) es)) h)),
     )
 
-pub known_more : (es : List Occurrence) (e : Occurrence) → AreKnown es → KnowsOffers (judged es) es e.who e.what
+pub known_more : (es : List Occurrence) (e : Occurrence) → AreKnown es → KnowsOffers (knowledge_of es) es e.who e.what
     → AreKnown (es ++ e ∷ [])
-known_more es e k h = known_more_from nothing_judged [] es e k h
+known_more es e k h = known_more_from no_knowledge [] es e k h
 
 -- where all are in order, so is this one
-known_at_from : (j : Judged) (done es : List Occurrence) (e : Occurrence) (rest : List Occurrence)
-    → KnownFrom j done (es ++ e ∷ rest) → KnowsOffers (judged_from j (length done) es) (done ++ es) e.who e.what
+known_at_from : (j : Knowledge) (done es : List Occurrence) (e : Occurrence) (rest : List Occurrence)
+    → KnownFrom j done (es ++ e ∷ rest) → KnowsOffers (knowledge_from j (length done) es) (done ++ es) e.who e.what
 known_at_from j done [] e rest k = subst (λ xs. KnowsOffers j xs e.who e.what) (sym (append-nil done)) k.0
 known_at_from j done (x ∷ es) e rest k =
-    let j' : Judged = judged_by j (length done) x.who x.what in
+    let j' : Knowledge = knowledge_after j (length done) x.who x.what in
     let l : suc (length done) ≡ length (done ++ x ∷ []) = size_more done x in
     let r = known_at_from j' (done ++ x ∷ []) es e rest k.1 in
-    subst (λ y. KnowsOffers (judged_from j' y es) (done ++ x ∷ es) e.who e.what) (sym l)
-    (subst (λ xs. KnowsOffers (judged_from j' (length (done ++ x ∷ [])) es) xs e.who e.what)
+    subst (λ y. KnowsOffers (knowledge_from j' y es) (done ++ x ∷ es) e.who e.what) (sym l)
+    (subst (λ xs. KnowsOffers (knowledge_from j' (length (done ++ x ∷ [])) es) xs e.who e.what)
     (append_assoc done (x ∷ []) es) r)
 
 parts_at : (es : List Occurrence) (i : ℕ) (e : Occurrence) → slice_get es i ≡ Some e → (rest : List Occurrence)
@@ -82,18 +84,19 @@ parts_at (x ∷ xs) zero e h = (xs, ap (λ y. y ∷ xs) (same_Some x e h))
 parts_at (x ∷ xs) (suc i) e h = let r = parts_at xs i e h in (r.0, ap (λ ys. x ∷ ys) r.1)
 
 pub known_at : (es : List Occurrence) (i : ℕ) (e : Occurrence) → slice_get es i ≡ Some e → AreKnown es
-    → KnowsOffers (judged (take i es)) (take i es) e.who e.what
+    → KnowsOffers (knowledge_of (take i es)) (take i es) e.who e.what
 known_at es i e h k = let r = parts_at es i e h in
-    known_at_from nothing_judged [] (take i es) e r.0 (subst AreKnown r.1 k)
+    known_at_from no_knowledge [] (take i es) e r.0 (subst AreKnown r.1 k)
 
 -- an offer among the names is one among the numbers
-pub named_some : (s : Births) (es : List Entry) (i : ℕ) (o : Occurrence) → slice_get (named s es) i ≡ Some o
+pub named_some : (s : Births) (es : List Entry) (i : ℕ) (o : Occurrence) → slice_get (entries_by_names s es) i ≡ Some o
     → (e : Entry) × (slice_get es i ≡ Some e) × (occurrence s e ≡ o)
 named_some s [] i o h = absurd (none-some _ h)
 named_some s (x ∷ es) zero o h = (x, refl, same_Some (occurrence s x) o h)
 named_some s (x ∷ es) (suc i) o h = named_some s es i o h
 
-pub named_take : (s : Births) (es : List Entry) (i : ℕ) → named s (take i es) ≡ take i (named s es)
+pub named_take : (s : Births) (es : List Entry) (i : ℕ) → entries_by_names s (take i es)
+    ≡ take i (entries_by_names s es)
 named_take s [] zero = refl
 named_take s [] (suc i) = refl
 named_take s (x ∷ es) zero = refl
@@ -129,7 +132,8 @@ offer_given : (s : Births) (p : ℕ) (w : Way) (c : ℕ) → GivesNumbers s p (o
 offer_given s p way.Send c g = g
 offer_given s p way.Receive c g = g
 
-module _ (all : List Entry) (nameable : NameableFrom at_start all) (quiet : IsQuiet (named (births all) all))
+module _ (all : List Entry) (nameable : NameableFrom first_births all)
+    (quiet : WaitersAreSilent (entries_by_names (births all) all))
     (lawful : Lawful (births all)) where
   abbrev s : Births
   s = births all
@@ -147,20 +151,20 @@ module _ (all : List Entry) (nameable : NameableFrom at_start all) (quiet : IsQu
   -- before entry e of index at
   module _ (at : ℕ) (e : Entry) (inside : slice_get all at ≡ Some e) where
     abbrev os : List Occurrence
-    os = named s (take at all)
+    os = entries_by_names s (take at all)
 
-    stands : Standing (judged os) os (counts os)
+    stands : Standing (knowledge_of os) os (clocks_of os)
     stands = front.stands all nameable quiet lawful at e inside
 
-    front_is : take at (named s all) ≡ os
+    front_is : take at (entries_by_names s all) ≡ os
     front_is = sym (named_take s all at)
 
     -- to know an offer and to know its completion is the same
     knows_completion : (p : Name) (i : ℕ) (z : Name) (w : Way) (d : Channel) → OfferIn os i z w d
-        → (judged os).past p i ≡ true → KnowsCompletion (judged os) p i
+        → (knowledge_of os).past p i ≡ true → KnowsCompletion (knowledge_of os) p i
     knows_completion p i z w d o k = stands.rounded.complete p i z w d o k
 
-    knows_offer : (p : Name) (i : ℕ) → KnowsCompletion (judged os) p i → (judged os).past p i ≡ true
+    knows_offer : (p : Name) (i : ℕ) → KnowsCompletion (knowledge_of os) p i → (knowledge_of os).past p i ≡ true
     knows_offer p i k = stands.paired.closed p i k.0 k.1 k.2
 
     there : e.process < s.processes
@@ -168,23 +172,25 @@ module _ (all : List Entry) (nameable : NameableFrom at_start all) (quiet : IsQu
 
     -- the counts say which offers are known
     pub counts_say : (p : Name) (q i k : ℕ) (w : Way) (d : Channel) → OfferIn os i (s.name q) w d
-        → k ≡ made (take i os) (s.name q) → (judged os).past p i ≡ nat_lt k (counts os p (s.name q))
+        → k ≡ count_of_entries (take i os) (s.name q) → (knowledge_of os).past p i
+        ≡ nat_lt k (clocks_of os p (s.name q))
     counts_say p q i k w d o place = (stands.says p).says (s.name q) i k (Offered w d, o, refl, place)
 
-    module _ (until : List ℕ) (b : Bench) (h : Holds s until (take at all) b) where
+    module _ (until : List ℕ) (b : JudgeTables) (h : TablesHold s until (take at all) b) where
       -- the clocks say which offers are known
       known_is : (q i k : ℕ) (w : Way) (d : Channel) → q < s.processes → IsAsked until at q
-          → OfferIn os i (s.name q) w d → k ≡ made (take i os) (s.name q)
-          → (judged os).past (s.name e.process) i ≡ nat_lt k (clock_at b.clocks.items e.process q)
+          → OfferIn os i (s.name q) w d → k ≡ count_of_entries (take i os) (s.name q)
+          → (knowledge_of os).past (s.name e.process) i ≡ nat_lt k (clock_at b.clocks.items e.process q)
       known_is q i k w d l asked o place = counts_say (s.name e.process) q i k w d o place
           ∙ ap (nat_lt k) (sym (h.clocks e.process q there l
           (let n = front.at_length all nameable quiet lawful at e inside in omega arith)))
 
       pub last_known : (w : Way) (d : Channel) (o : Offer) → IsAsked until at o.process → IsLast s os w d (Some o)
           → AreKnown os → (o.place < clock_at b.clocks.items e.process o.process)
-          ↔ KnowsOffers (judged os) os (s.name e.process) (Offered w d)
+          ↔ KnowsOffers (knowledge_of os) os (s.name e.process) (Offered w d)
       last_known w d o asked l known = (
-        λ x. knows_by_last (judged os) os (chains_of os known) (s.name e.process) w d l.0 (s.name o.process) l.2 l.4
+        λ x. knows_by_last (knowledge_of os) os (chains_of os known) (s.name e.process) w d l.0 (s.name o.process)
+            l.2 l.4
             (known_is o.process l.0 o.place w d l.1 asked l.2 l.3
             ∙ lt-ltb o.place (clock_at b.clocks.items e.process o.process) x),
         λ x. ltb-true o.place (clock_at b.clocks.items e.process o.process)
@@ -193,31 +199,31 @@ module _ (all : List Entry) (nameable : NameableFrom at_start all) (quiet : IsQu
 
     -- the same by the counts
     pub last_counted : (w : Way) (d : Channel) (o : Offer) → IsLast s os w d (Some o) → AreKnown os
-        → (o.place < counts os (s.name e.process) (s.name o.process))
-        ↔ KnowsOffers (judged os) os (s.name e.process) (Offered w d)
+        → (o.place < clocks_of os (s.name e.process) (s.name o.process))
+        ↔ KnowsOffers (knowledge_of os) os (s.name e.process) (Offered w d)
     last_counted w d o l known = (
-      λ x. knows_by_last (judged os) os (chains_of os known) (s.name e.process) w d l.0 (s.name o.process) l.2 l.4
+      λ x. knows_by_last (knowledge_of os) os (chains_of os known) (s.name e.process) w d l.0 (s.name o.process) l.2 l.4
           (counts_say (s.name e.process) o.process l.0 o.place w d l.2 l.3
-          ∙ lt-ltb o.place (counts os (s.name e.process) (s.name o.process)) x),
-      λ x. ltb-true o.place (counts os (s.name e.process) (s.name o.process))
+          ∙ lt-ltb o.place (clocks_of os (s.name e.process) (s.name o.process)) x),
+      λ x. ltb-true o.place (clocks_of os (s.name e.process) (s.name o.process))
           (sym (counts_say (s.name e.process) o.process l.0 o.place w d l.2 l.3) ∙ x l.0 (s.name o.process) l.2),
     )
 
     -- an offer of its own is known to a process that makes an entry
     pub own_known : (w : Way) (d : Channel) (o : Offer) → o.process ≡ e.process → IsLast s os w d (Some o) → AreKnown os
-        → KnowsOffers (judged os) os (s.name e.process) (Offered w d)
-    own_known w d o same l known = knows_by_last (judged os) os (chains_of os known) (s.name e.process) w d l.0
+        → KnowsOffers (knowledge_of os) os (s.name e.process) (Offered w d)
+    own_known w d o same l known = knows_by_last (knowledge_of os) os (chains_of os known) (s.name e.process) w d l.0
         (s.name o.process) l.2 l.4
         (⊎_elim
-        (λ (k : (judged os).past (s.name o.process) l.0 ≡ true). subst
-        (λ (x : ℕ). (judged os).past (s.name x) l.0 ≡ true) same k)
-        (λ (k : (c : Channel) × ((judged os).pending c ≡ Some (s.name o.process, l.0))).
+        (λ (k : (knowledge_of os).past (s.name o.process) l.0 ≡ true). subst
+        (λ (x : ℕ). (knowledge_of os).past (s.name x) l.0 ≡ true) same k)
+        (λ (k : (c : Channel) × ((knowledge_of os).pending c ≡ Some (s.name o.process, l.0))).
         absurd (front.waits_not all nameable quiet lawful at e inside k.0 l.0
         (k.1 ∙ ap (λ (x : ℕ). Some (s.name x, l.0)) same)))
         (stands.kept.own (s.name o.process) l.0 (Offered w d, l.2, refl)))
 
     pub none_known : (w : Way) (d : Channel) → IsLast s os w d None
-        → KnowsOffers (judged os) os (s.name e.process) (Offered w d)
+        → KnowsOffers (knowledge_of os) os (s.name e.process) (Offered w d)
     none_known w d l i z o = absurd (l i z o)
 
     low_entry : (i : ℕ) (x : Entry) → slice_get (take at all) i ≡ Some x → slice_get all i ≡ Some x
@@ -251,8 +257,8 @@ module _ (all : List Entry) (nameable : NameableFrom at_start all) (quiet : IsQu
 
       -- where nothing is unknown to the tables, the entry is in order
       pub nothing_unknown : ((i : ℕ) → i < at → IsUnknown s os all e.process w c i → ⊥)
-          → KnowsOffers (judged os) os (s.name e.process) (Offered w (channel s c))
-      nothing_unknown none i z o = by ((judged os).past (s.name e.process) i) refl
+          → KnowsOffers (knowledge_of os) os (s.name e.process) (Offered w (channel s c))
+      nothing_unknown none i z o = by ((knowledge_of os).past (s.name e.process) i) refl
         where
           found : (y : Entry) × (slice_get (take at all) i ≡ Some y)
               × (occurrence s y ≡ record { who = z; what = Offered w (channel s c) })
@@ -275,18 +281,20 @@ module _ (all : List Entry) (nameable : NameableFrom at_start all) (quiet : IsQu
           is_x = its.1 ∙ ap (offer_event w) (one_channel s lawful its.0 c (channel_there i x w its.0 g its.1)
               open_channel its.2)
 
-          by : (t : Bool) → (judged os).past (s.name e.process) i ≡ t → (judged os).past (s.name e.process) i ≡ true
+          by : (t : Bool) → (knowledge_of os).past (s.name e.process) i ≡ t
+              → (knowledge_of os).past (s.name e.process) i ≡ true
           by true f = f
           by false f = absurd (none i l (x, g, is_x, λ y. false≢true (sym f ∙ y)))
 
-      later_offer : slice_get (named s all) at
+      later_offer : slice_get (entries_by_names s all) at
           ≡ Some (record { who = s.name e.process; what = Offered w (channel s c) })
       later_offer = named_get s all at e inside
           ∙ (λ j. Some (record { who = s.name e.process; what = (ap (happening s) is ∙ offer_happens s w c) j }))
 
       -- where the last offer before an index is known, so are all before that index
       pub all_below : AreKnown os → (middle i : ℕ) → middle ≤ at → IsLastOffer all middle w c i
-          → (judged os).past (s.name e.process) i ≡ true → (k : ℕ) → k < middle → IsUnknown s os all e.process w c k → ⊥
+          → (knowledge_of os).past (s.name e.process) i ≡ true → (k : ℕ) → k < middle
+          → IsUnknown s os all e.process w c k → ⊥
       all_below known middle i m last k_i k l u =
           u.3 ((chains_of os known).past (s.name e.process) i k w (channel s c) (s.name last.1.0.process)
           (s.name u.0.process)
@@ -298,8 +306,9 @@ module _ (all : List Entry) (nameable : NameableFrom at_start all) (quiet : IsQu
 
       -- what the counts say of an offer
       pub counted_offer : (i place : ℕ) (x : Entry) → i < at → slice_get all i ≡ Some x → x.event ≡ offer_event w c
-          → place ≡ made (take i os) (s.name x.process) → (place < counts os (s.name e.process) (s.name x.process))
-          ↔ ((judged os).past (s.name e.process) i ≡ true)
+          → place ≡ count_of_entries (take i os) (s.name x.process)
+          → (place < clocks_of os (s.name e.process) (s.name x.process))
+          ↔ ((knowledge_of os).past (s.name e.process) i ≡ true)
       counted_offer i place x l g is_x place_is =
           let says = counts_say (s.name e.process) x.process i place w (channel s c) (offer_in w c i x l g is_x)
           place_is in
@@ -307,13 +316,13 @@ module _ (all : List Entry) (nameable : NameableFrom at_start all) (quiet : IsQu
 
       -- the first unknown offer and this one are the least race
       pub first_race : (i : ℕ) → IsFirstUnknown s os all at e.process w c i → AreKnown os
-          → IsLeastRace (named s all) w (channel s c) i at
+          → IsLeastRace (entries_by_names s all) w (channel s c) i at
       first_race i f known = (race, least)
         where
           x : Entry
           x = f.1.0
 
-          race : Race (named s all) w (channel s c) i at
+          race : Race (entries_by_names s all) w (channel s c) i at
           race = record {
             before = f.0;
             first = s.name x.process;
@@ -325,10 +334,11 @@ module _ (all : List Entry) (nameable : NameableFrom at_start all) (quiet : IsQu
             second = s.name e.process;
             offered_second = later_offer;
             unknown = λ k. f.1.3 (knows_offer (s.name e.process) i
-                (subst (λ (xs : List Occurrence). KnowsCompletion (judged xs) (s.name e.process) i) front_is k));
+                (subst (λ (xs : List Occurrence). KnowsCompletion (knowledge_of xs) (s.name e.process) i) front_is k));
           }
 
-          least : (v : Way) (d : Channel) (m n : ℕ) → Race (named s all) v d m n → (at < n) ⊎ ((at ≡ n) × (i ≤ m))
+          least : (v : Way) (d : Channel) (m n : ℕ) → Race (entries_by_names s all) v d m n → (at < n)
+              ⊎ ((at ≡ n) × (i ≤ m))
           least v d m n r = ⊎_elim
               (λ (l : n < at). absurd (earlier l))
               (λ (l : at ≤ n). ⊎_elim (λ (y : at < n). inl y) (λ (y : at ≡ n). inr (y, here y)) (more_or_same at n l))
@@ -346,19 +356,23 @@ module _ (all : List Entry) (nameable : NameableFrom at_start all) (quiet : IsQu
               earlier l =
                   let low : slice_get os n ≡ Some (record { who = r.second; what = Offered v d }) =
                   named_get s (take at all) n later.0 (into_front n later.0 l later.1) ∙ ap (λ y. Some y) later.2 in
-                  let front_of : take n os ≡ take n (named s all) = ap (take n) (sym front_is)
-                  ∙ take_take n at (named s all) (omega arith) in
-                  let knows : KnowsOffers (judged (take n os)) (take n os) r.second (Offered v d) =
+                  let front_of : take n os ≡ take n (entries_by_names s all) = ap (take n) (sym front_is)
+                  ∙ take_take n at (entries_by_names s all) (omega arith) in
+                  let knows : KnowsOffers (knowledge_of (take n os)) (take n os) r.second (Offered v d) =
                   known_at os n _ low known in
-                  let again : KnowsOffers (judged (take n (named s all))) (take n (named s all)) r.second
-                  (Offered v d) = subst (λ xs. KnowsOffers (judged xs) xs r.second (Offered v d)) front_of knows in
-                  let is_front : named s (take n all) ≡ take n (named s all) = named_take s all n in
-                  let st : Standing (judged (take n (named s all))) (take n (named s all))
-                  (counts (take n (named s all))) =
-                  subst (λ xs. Standing (judged xs) xs (counts xs)) is_front
+                  let again : KnowsOffers (knowledge_of (take n (entries_by_names s all)))
+                  (take n (entries_by_names s all)) r.second
+                  (Offered v d) = subst (λ xs. KnowsOffers (knowledge_of xs) xs r.second (Offered v d)) front_of
+                  knows in
+                  let is_front : entries_by_names s (take n all) ≡ take n (entries_by_names s all) =
+                  named_take s all n in
+                  let st : Standing (knowledge_of (take n (entries_by_names s all))) (take n (entries_by_names s all))
+                  (clocks_of (take n (entries_by_names s all))) =
+                  subst (λ xs. Standing (knowledge_of xs) xs (clocks_of xs)) is_front
                   (front.stands all nameable quiet lawful n later.0 later.1) in
-                  let o : slice_get (take n (named s all)) m ≡ Some (record { who = r.first; what = Offered v d }) =
-                  take_get (named s all) n m _ r.before r.offered_first in
+                  let o : slice_get (take n (entries_by_names s all)) m
+                  ≡ Some (record { who = r.first; what = Offered v d }) =
+                  take_get (entries_by_names s all) n m _ r.before r.offered_first in
                   r.unknown (st.rounded.complete r.second m r.first v d o (again m r.first o))
                 where
                   take_take : (a b : ℕ) (xs : List Occurrence) → a ≤ b → take a (take b xs) ≡ take a xs
@@ -382,7 +396,7 @@ module _ (all : List Entry) (nameable : NameableFrom at_start all) (quiet : IsQu
                 where
                   this : ◌≡◌ {A = Occurrence} (record { who = s.name e.process; what = Offered w (channel s c) })
                       (record { who = r.second; what = Offered v d })
-                  this = same_Some _ _ (sym later_offer ∙ ap (slice_get (named s all)) y ∙ r.offered_second)
+                  this = same_Some _ _ (sym later_offer ∙ ap (slice_get (entries_by_names s all)) y ∙ r.offered_second)
 
                   is_way : w ≡ v
                   is_way = ap (λ (a : Occurrence). way_of w a.what) this
@@ -416,7 +430,7 @@ module _ (all : List Entry) (nameable : NameableFrom at_start all) (quiet : IsQu
                     λ k.
                         let done = knows_completion (s.name e.process) m (s.name first.0.process) w (channel s c)
                         (offer_in w c m first.0 inside_m first.1 is_first) k in
-                        r.unknown (subst (λ (xs : List Occurrence). KnowsCompletion (judged xs) r.second m)
-                        (sym front_is ∙ ap (λ a. take a (named s all)) y)
-                        (subst (λ (a : Name). KnowsCompletion (judged os) a m) is_who done)),
+                        r.unknown (subst (λ (xs : List Occurrence). KnowsCompletion (knowledge_of xs) r.second m)
+                        (sym front_is ∙ ap (λ a. take a (entries_by_names s all)) y)
+                        (subst (λ (a : Name). KnowsCompletion (knowledge_of os) a m) is_who done)),
                   )

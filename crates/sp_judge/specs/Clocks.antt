@@ -36,13 +36,13 @@ abbrev pub with_own : (ℕ → ℕ → ℕ) → ℕ → ℕ → ℕ → ℕ
 with_own clocks p n q = cond (p == q) (max (clocks p q) n) (clocks p q)
 
 -- two processes have met, each with its own count: both have the greater counts
-abbrev pub met_at : (ℕ → ℕ → ℕ) → ℕ → ℕ → ℕ → ℕ → ℕ → ℕ → ℕ
-met_at clocks p n z m r q = cond (p == r) (max (with_own clocks p n q) (with_own clocks z m q))
+abbrev pub clocks_after_meeting : (ℕ → ℕ → ℕ) → ℕ → ℕ → ℕ → ℕ → ℕ → ℕ → ℕ
+clocks_after_meeting clocks p n z m r q = cond (p == r) (max (with_own clocks p n q) (with_own clocks z m q))
     (cond (z == r) (max (with_own clocks p n q) (with_own clocks z m q)) (clocks r q))
 
 -- a clock with the count of p raised to n
-abbrev pub raised_in : (ℕ → ℕ) → ℕ → ℕ → ℕ → ℕ
-raised_in f p n q = cond (p == q) (max (f q) n) (f q)
+abbrev pub clock_with_raised : (ℕ → ℕ) → ℕ → ℕ → ℕ → ℕ
+clock_with_raised f p n q = cond (p == q) (max (f q) n) (f q)
 
 -- for each of these counts, the clocks are the old ones with p's own count raised to n
 abbrev pub AreRaised : (ℕ → Type 0) → ℕ → ℕ → (ℕ → ℕ → ℕ) → (ℕ → ℕ → ℕ) → Type 0
@@ -50,4 +50,4 @@ AreRaised A p n old new = (r q : ℕ) → A q → new r q ≡ cond (p == r) (wit
 
 -- for each of these counts, the clocks are the old ones after two processes have met
 abbrev pub AreMet : (ℕ → Type 0) → ℕ → ℕ → ℕ → ℕ → (ℕ → ℕ → ℕ) → (ℕ → ℕ → ℕ) → Type 0
-AreMet A p n z m old new = (r q : ℕ) → A q → new r q ≡ met_at old p n z m r q
+AreMet A p n z m old new = (r q : ℕ) → A q → new r q ≡ clocks_after_meeting old p n z m r q

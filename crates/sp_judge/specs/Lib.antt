@@ -1,4 +1,4 @@
-pub mod Bench
+pub mod JudgeTables
 pub mod Clocks
 pub mod Counts
 pub mod Prefixes

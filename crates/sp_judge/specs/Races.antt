@@ -8,10 +8,10 @@ use Rattle.sp_journal.specs.declared.outcome.End.TheVariants as end
 use Rattle.sp_journal.specs.declared.outcome.Verdict.{Verdict}
 use Rattle.sp_journal.specs.declared.outcome.Verdict.TheVariants as verdict
 use Rattle.sp_journal.specs.Names.{Name, Channel, chan_name, Offered, Occurrence}
-use Rattle.sp_journal.specs.Past.{Judged, judged, AreOrdered}
+use Rattle.sp_journal.specs.Past.{Knowledge, knowledge_of, AreOrdered}
 
 -- the offer of index i was completed, and p knows the index of its completion
-abbrev pub KnowsCompletion : Judged → Name → ℕ → Type 0
+abbrev pub KnowsCompletion : Knowledge → Name → ℕ → Type 0
 KnowsCompletion j p i = (m : ℕ) × (j.completed i ≡ Some m) × (j.past p m ≡ true)
 
 -- the entries of these indices are offers of one way on one channel, and the later one's process did not know just
@@ -22,7 +22,7 @@ pub record Race (es : List Occurrence) (w : Way) (c : Channel) (earlier later : 
   pub offered_first : slice_get es earlier ≡ Some (record { who = first; what = Offered w c })
   pub second : Name
   pub offered_second : slice_get es later ≡ Some (record { who = second; what = Offered w c })
-  pub unknown : KnowsCompletion (judged (take later es)) second earlier → ⊥
+  pub unknown : KnowsCompletion (knowledge_of (take later es)) second earlier → ⊥
 
 -- the least race, by the later and then the earlier index
 abbrev pub IsLeastRace : List Occurrence → Way → Channel → ℕ → ℕ → Type 0

@@ -1,7 +1,7 @@
 //! What a process knows of the others, as a count for each process that it knows of.
 
 ghost use Rattle.std.specs.Prelude.{◌≡◌, ◌<◌, ◌↔◌, ◌==◌, cond, max, nat_lt, ℕ, IsTrue, IfOk, OnErr, OnOk};
-ghost use Rattle.sp_judge.specs.Clocks.{count_of, raised_in, number_at, HasPair, IsAsked};
+ghost use Rattle.sp_judge.specs.Clocks.{count_of, clock_with_raised, number_at, HasPair, IsAsked};
 
 use sp_base::Memory;
 use std::alloc::Global;
@@ -107,7 +107,7 @@ impl Clock {
         count: u64,
     ) -> Result<(), Memory>
         ensures { OnOk result ((q : ℕ) → IsAsked until.now now q
-            → count_of self.new q ≡ raised_in (count_of self.old) process count q) }
+            → count_of self.new q ≡ clock_with_raised (count_of self.old) process count q) }
     {
         self.forget(until, now);
         if is_asked(until, process, now) {

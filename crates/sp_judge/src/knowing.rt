@@ -6,11 +6,12 @@ ghost use Rattle.sp_journal.specs.Births.{births};
 ghost use Rattle.sp_journal.specs.Ledger.{IsLedger};
 ghost use Rattle.sp_race.specs.Known.{AreKnown};
 ghost use Rattle.sp_judge.specs.Clocks.{number_at};
-ghost use Rattle.sp_judge.specs.Bench.{named, offer_event, IsTame, Holds, IsOfferAt, IsLastOffer, KnowsAll};
-ghost use Rattle.sp_judge.specs.Bench.{count_before, IsFound};
+ghost use Rattle.sp_judge.specs.JudgeTables.{entries_by_names, offer_event, IsNameableAndSilent, TablesHold, IsOfferAt};
+ghost use Rattle.sp_judge.specs.JudgeTables.{IsLastOffer, KnowsAll};
+ghost use Rattle.sp_judge.specs.JudgeTables.{count_before, IsFirstUnknownOffer};
 
-use crate::bench::{Bench, Offer, Racer, is_offer};
 use crate::clock::is_asked;
+use crate::judge_tables::{JudgeTables, Offer, RacingOffer, is_offer};
 use sp_base::Memory;
 use sp_journal::{Entry, Event, Ledger, Way};
 use std::alloc::Global;
@@ -78,20 +79,20 @@ fn ask(until: &mut Vec<u64>, users: &mut Vec<Users>, entry: Entry, end: u64) {
 /// Whether the process of this offer, the next entry, knows of all offers of its way on its channel so far. All of them
 /// were in order.
 pub(crate) fn knows_offers(
-    bench: &Bench,
+    bench: &JudgeTables,
     ledger: &Ledger,
     entries: &[Entry],
     until: &[u64],
     at: usize,
-    offer: Racer,
+    offer: RacingOffer,
 ) -> Result<bool, Memory>
-    requires tame { IsTame entries.now }
+    requires tame { IsNameableAndSilent entries.now }
     requires ledger { IsLedger ledger.now }
     requires its_journal { ledger.now.journal.entries ≡ entries.now }
-    requires holds { Holds (births entries.now) until.now (take at entries.now) bench.now }
+    requires holds { TablesHold (births entries.now) until.now (take at entries.now) bench.now }
     requires here { slice_get entries.now at
         ≡ Some (record { process = offer.process; event = offer_event offer.way offer.channel }) }
-    requires in_order { AreKnown (named (births entries.now) (take at entries.now)) }
+    requires in_order { AreKnown (entries_by_names (births entries.now) (take at entries.now)) }
     ensures { IfOk result (λ knows. IsTrue knows ↔ KnowsAll entries.now at offer.process offer.way offer.channel) }
 {
     match bench.lines[offer.channel as usize].last(offer.way) {
@@ -130,7 +131,7 @@ fn knows_entry(
     process: u32,
     offer: Offer,
 ) -> Result<bool, Memory>
-    requires tame { IsTame entries.now }
+    requires tame { IsNameableAndSilent entries.now }
     requires ledger { IsLedger ledger.now }
     requires its_journal { ledger.now.journal.entries ≡ entries.now }
     requires inside { at < length entries.now }
@@ -139,7 +140,7 @@ fn knows_entry(
     ensures { IfOk result (λ known. IsTrue known ↔ (offer.place < count_before entries.now at process offer.process)) }
 {
     let until = one_question(alloc, ledger.processes(), offer.process, at as u64 + 1)?;
-    let mut bench = Bench::new(alloc, ledger.processes(), ledger.channels())?;
+    let mut bench = JudgeTables::new(alloc, ledger.processes(), ledger.channels())?;
     for i in 0..at {
         bench.see(ledger, entries, &until, i)?;
     }
@@ -166,20 +167,20 @@ fn last_offer(entries: &[Entry], before: usize, way: Way, channel: u32) -> Optio
 /// know. Who knows of an offer knows of the ones before it, so the first one is found by halves.
 pub(crate) fn first_unknown(
     ledger: &Ledger,
-    bench: &Bench,
+    bench: &JudgeTables,
     entries: &[Entry],
     until: &[u64],
     at: usize,
-    racer: Racer,
+    racer: RacingOffer,
 ) -> Result<Option<u64>, Memory>
-    requires tame { IsTame entries.now }
+    requires tame { IsNameableAndSilent entries.now }
     requires ledger { IsLedger ledger.now }
     requires its_journal { ledger.now.journal.entries ≡ entries.now }
-    requires holds { Holds (births entries.now) until.now (take at entries.now) bench.now }
+    requires holds { TablesHold (births entries.now) until.now (take at entries.now) bench.now }
     requires here { slice_get entries.now at
         ≡ Some (record { process = racer.process; event = offer_event racer.way racer.channel }) }
-    requires in_order { AreKnown (named (births entries.now) (take at entries.now)) }
-    ensures { IfOk result (λ first. IsFound entries.now at racer first) }
+    requires in_order { AreKnown (entries_by_names (births entries.now) (take at entries.now)) }
+    ensures { IfOk result (λ first. IsFirstUnknownOffer entries.now at racer first) }
 {
     let mut known = 0;
     let mut first = at;

@@ -12,7 +12,7 @@
 //!   known process says all that a process knows.
 //! - `clocks_say_what_is_known`: where no process makes an entry while its own offer waits, a counted entry is known
 //!   exactly where the count of its process is above the number of that one's counted entries before it.
-//! - `runs_are_quiet`: in every run along a journal no process makes an entry while its own offer waits.
+//! - `waiters_are_silent`: in every run along a journal no process makes an entry while its own offer waits.
 //! - `runs_without_a_fault_are_clean`: a run whose end is no fault has a journal without a fault.
 //! - `verdicts_are_exact`: a journal and an end have at most one verdict.
 //! - `verdicts_hold_of_runs`: where the verdict on a run of a program that keeps the rules of interference is
@@ -21,7 +21,7 @@
 //! To know:
 //! - Fork, open, send, receive and end are counted; a fault, a laid process and a pause are not
 //!   (`specs/Prefixes.antt`). `proofs/Prefixing.antt` keeps `knows_prefixes` from entry to entry.
-//! - The tables (`src/bench.rt`) have a clock and a count of counted entries for each process, a line for each
+//! - The tables (`src/judge_tables.rt`) have a clock and a count of counted entries for each process, a line for each
 //!   channel (the offer that waits, the last offer of each way) and a place for each entry.
 //! - An offer is in order exactly where its process knows the last earlier offer of its way on its channel: while all
 //!   was in order, who knows an offer knows all earlier ones of its way there (`proofs/Chains.antt`). So one look-up
@@ -30,18 +30,18 @@
 //!   Clocks keep no other counts; `docs/MEANING.md` says when they are large.
 //! - `verdict_of` asks of a journal that it is nameable and that no process makes an entry while its own offer waits.
 //!   Every run's journal keeps the second, since a process that waits makes no step.
-//! - What a verdict promises of a run along a journal is proved in `proofs/QuietRuns.antt` and
+//! - What a verdict promises of a run along a journal is proved in `proofs/SilentWaiters.antt` and
 //!   `proofs/RunVerdicts.antt`.
 //!
 //! To change:
 //! - What an entry teaches: `sp_journal`'s `specs/Past.antt`, and `one_entry` in `proofs/Prefixing.antt`.
 //! - A clock: `src/clock.rt`.
-//! - The work of an entry: `src/bench.rt`.
+//! - The work of an entry: `src/judge_tables.rt`.
 //! - The verdict: `specs/Races.antt`, `src/verdict.rt`.
 #![tactic(auto)]
 
-mod bench;
 mod clock;
+mod judge_tables;
 mod knowing;
 mod laws;
 mod table;

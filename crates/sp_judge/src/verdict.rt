@@ -4,13 +4,13 @@ ghost use Rattle.std.specs.Prelude.{◌≡◌, ◌<◌, ◌↔◌, Some, IsTrue,
 ghost use Rattle.sp_journal.specs.Births.{births, occurrences, IsNameable, channel as channel_named};
 ghost use Rattle.sp_journal.specs.Ledger.{IsLedger};
 ghost use Rattle.sp_journal.specs.Names.{Offered};
-ghost use Rattle.sp_journal.specs.Past.{judged};
-ghost use Rattle.sp_judge.specs.Prefixes.{IsQuiet};
+ghost use Rattle.sp_journal.specs.Past.{knowledge_of};
+ghost use Rattle.sp_judge.specs.Prefixes.{WaitersAreSilent};
 ghost use Rattle.sp_race.specs.Known.{KnowsOffers, AreKnown};
-ghost use Rattle.sp_judge.specs.Bench.{named, offer_event, IsTame, Holds, IsRacing};
+ghost use Rattle.sp_judge.specs.JudgeTables.{entries_by_names, offer_event, IsNameableAndSilent, TablesHold, IsRacing};
 ghost use Rattle.sp_judge.specs.Races.{IsFault, IsJudged, IsVerdict};
 
-use crate::bench::{Bench, Racer};
+use crate::judge_tables::{JudgeTables, RacingOffer};
 use crate::knowing::{first_unknown, knows_offers, questions};
 use sp_base::Memory;
 use sp_journal::{End, Entry, Event, Journal, Ledger, Verdict, Way};
@@ -23,7 +23,7 @@ use std::alloc::Global;
 /// journal gives names, and no process of it makes an entry while its own offer waits, as in every run.
 pub fn verdict_of(alloc: Global, journal: &Journal, end: &End) -> Result<Verdict, Memory>
     requires nameable { IsNameable journal.now }
-    requires quiet { IsQuiet (occurrences journal.now) }
+    requires quiet { WaitersAreSilent (occurrences journal.now) }
     ensures { IfOk result (λ verdict. IsVerdict (occurrences journal.now) end.now verdict) }
 {
     if is_fault(end) {
@@ -45,13 +45,13 @@ fn is_fault(end: &End) -> bool
 /// Ordered, or the least race, by all entries.
 fn judged_entries(alloc: Global, journal: &Journal) -> Result<Verdict, Memory>
     requires nameable { IsNameable journal.now }
-    requires quiet { IsQuiet (occurrences journal.now) }
+    requires quiet { WaitersAreSilent (occurrences journal.now) }
     ensures { IfOk result (λ verdict. IsJudged (occurrences journal.now) verdict) }
 {
     let ledger = Ledger::of(alloc, journal)?;
     let entries = journal.entries.items();
     let until = questions(alloc, entries, ledger.processes(), ledger.channels())?;
-    let mut bench = Bench::new(alloc, ledger.processes(), ledger.channels())?;
+    let mut bench = JudgeTables::new(alloc, ledger.processes(), ledger.channels())?;
     for at in 0..entries.len() {
         let found = racing(&bench, &ledger, entries, &until, at)?;
         if let Some(racer) = found {
@@ -64,18 +64,18 @@ fn judged_entries(alloc: Global, journal: &Journal) -> Result<Verdict, Memory>
 
 /// The next entry's offer, where its process does not know of an earlier one of its way on its channel.
 fn racing(
-    bench: &Bench,
+    bench: &JudgeTables,
     ledger: &Ledger,
     entries: &[Entry],
     until: &[u64],
     at: usize,
-) -> Result<Option<Racer>, Memory>
-    requires tame { IsTame entries.now }
+) -> Result<Option<RacingOffer>, Memory>
+    requires tame { IsNameableAndSilent entries.now }
     requires ledger { IsLedger ledger.now }
     requires its_journal { ledger.now.journal.entries ≡ entries.now }
     requires inside { at < length entries.now }
-    requires holds { Holds (births entries.now) until.now (take at entries.now) bench.now }
-    requires in_order { AreKnown (named (births entries.now) (take at entries.now)) }
+    requires holds { TablesHold (births entries.now) until.now (take at entries.now) bench.now }
+    requires in_order { AreKnown (entries_by_names (births entries.now) (take at entries.now)) }
     ensures { IfOk result (λ racer. IsRacing entries.now at racer) }
 {
     let Entry { process, event } = entries[at];
@@ -86,7 +86,7 @@ fn racing(
             entries,
             until,
             at,
-            Racer {
+            RacingOffer {
                 process,
                 way: Way::Send,
                 channel,
@@ -98,7 +98,7 @@ fn racing(
             entries,
             until,
             at,
-            Racer {
+            RacingOffer {
                 process,
                 way: Way::Receive,
                 channel,
@@ -111,20 +111,20 @@ fn racing(
 
 /// This offer, where its process does not know of an earlier one.
 fn offer_racing(
-    bench: &Bench,
+    bench: &JudgeTables,
     ledger: &Ledger,
     entries: &[Entry],
     until: &[u64],
     at: usize,
-    offer: Racer,
-) -> Result<Option<Racer>, Memory>
-    requires tame { IsTame entries.now }
+    offer: RacingOffer,
+) -> Result<Option<RacingOffer>, Memory>
+    requires tame { IsNameableAndSilent entries.now }
     requires ledger { IsLedger ledger.now }
     requires its_journal { ledger.now.journal.entries ≡ entries.now }
-    requires holds { Holds (births entries.now) until.now (take at entries.now) bench.now }
+    requires holds { TablesHold (births entries.now) until.now (take at entries.now) bench.now }
     requires here { slice_get entries.now at
         ≡ Some (record { process = offer.process; event = offer_event offer.way offer.channel }) }
-    requires in_order { AreKnown (named (births entries.now) (take at entries.now)) }
+    requires in_order { AreKnown (entries_by_names (births entries.now) (take at entries.now)) }
     ensures { IfOk result (λ racer. IsRacing entries.now at racer) }
 {
     if knows_offers(bench, ledger, entries, until, at, offer)? {
@@ -137,19 +137,19 @@ fn offer_racing(
 /// The race of the next entry with the first earlier offer that its process does not know.
 fn race(
     ledger: &Ledger,
-    bench: &Bench,
+    bench: &JudgeTables,
     entries: &[Entry],
     until: &[u64],
     at: usize,
-    racer: Racer,
+    racer: RacingOffer,
 ) -> Result<Verdict, Memory>
-    requires tame { IsTame entries.now }
+    requires tame { IsNameableAndSilent entries.now }
     requires ledger { IsLedger ledger.now }
     requires its_journal { ledger.now.journal.entries ≡ entries.now }
-    requires holds { Holds (births entries.now) until.now (take at entries.now) bench.now }
-    requires in_order { AreKnown (named (births entries.now) (take at entries.now)) }
+    requires holds { TablesHold (births entries.now) until.now (take at entries.now) bench.now }
+    requires in_order { AreKnown (entries_by_names (births entries.now) (take at entries.now)) }
     requires racing { IsRacing entries.now at (Some racer) }
-    ensures { IfOk result (λ verdict. IsJudged (named (births entries.now) entries.now) verdict) }
+    ensures { IfOk result (λ verdict. IsJudged (entries_by_names (births entries.now) entries.now) verdict) }
 {
     let first = first_unknown(ledger, bench, entries, until, at, racer)?;
     match first {

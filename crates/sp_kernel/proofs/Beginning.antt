@@ -3,14 +3,14 @@ use Rattle.std.proofs.Common.{◌≡◌, ◌≢◌, ◌⊎◌, ℕ, zero, suc, �
 use Rattle.std.proofs.Common.{None, if◌then◌else◌, slice_get, refl, sym, ap, ◌∙◌, subst, arith}
 use Rattle.std.proofs.Math.Path.{fun_ext}
 use Rattle.sp_channel.specs.declared.channels.Pending.{Pending}
-use Rattle.sp_journal.specs.Births.{births, at_start}
+use Rattle.sp_journal.specs.Births.{births, first_births}
 use Rattle.sp_code.specs.PlainStore.{plain}
 use Rattle.sp_code.specs.Sound.{IsSound, AreLimits}
 use Rattle.sp_code.specs.Control.{Ready, Unborn, control_at_start}
-use Rattle.sp_code.specs.System.{Working, opening}
+use Rattle.sp_code.specs.System.{Working, opening_system}
 use Rattle.sp_machine.specs.Procs.{start_of}
 use Rattle.sp_machine.specs.declared.state.State.{State as Proc}
-use Rattle.sp_history.specs.Agreement.{IsOrderly, Agrees}
+use Rattle.sp_history.specs.Agreement.{IsOrderly, AgreesWithSystem}
 use Rattle.sp_history.proofs.Agreeing.{agrees_start, orderly_start}
 use Rattle.sp_history.proofs.Queues.{number_or}
 use Rattle.sp_kernel.specs.declared.slot.Slot.{Slot}
@@ -62,17 +62,18 @@ module _ (x : Kernel) (p : Proc) (f : IsFresh x p) (config : config_of p ≡ sta
     abandons = f.abandons i;
   }
 
-  condition : ◌≡◌ {A = ℕ → _} (system_of x).condition (opening plain (setting_of x)).condition
+  condition : ◌≡◌ {A = ℕ → _} (system_of x).condition (opening_system plain (setting_of x)).condition
   condition = fun_ext (λ q. ap (λ (l : List Slot). condition_in (slice_get l q)) f.slots ∙ go q)
     where
-      start : config_of p ≡ Rattle.sp_code.specs.Memory.first plain (setting_of x)
+      start : config_of p ≡ Rattle.sp_code.specs.Memory.first_process plain (setting_of x)
       start = config ∙ ap (λ (r : Proc). start_of x.code.value r.input.value) (sym f.root)
 
-      go : (q : ℕ) → condition_in (slice_get (slot.Here p st.Ready ∷ []) q) ≡ (opening plain (setting_of x)).condition q
+      go : (q : ℕ) → condition_in (slice_get (slot.Here p st.Ready ∷ []) q)
+          ≡ (opening_system plain (setting_of x)).condition q
       go zero = ap (λ c. Working c) start
       go (suc q) = rw (later q) refl
 
-  pub system : system_of x ≡ opening plain (setting_of x)
+  pub system : system_of x ≡ opening_system plain (setting_of x)
   system = λ i. record {
     condition = condition i;
     births = births (f.journal i);
@@ -84,8 +85,8 @@ module _ (x : Kernel) (p : Proc) (f : IsFresh x p) (config : config_of p ≡ sta
   whole : IsKernel x
   whole = record {
     orderly = subst IsOrderly (sym control) orderly_start;
-    agrees = subst (λ k. Agrees k (system_of x)) (sym control)
-        (subst (Agrees control_at_start) (sym system) (agrees_start plain (setting_of x)));
+    agrees = subst (λ k. AgreesWithSystem k (system_of x)) (sym control)
+        (subst (AgreesWithSystem control_at_start) (sym system) (agrees_start plain (setting_of x)));
     processes = ap length f.slots ∙ ap (λ l. (births l).processes) (sym f.journal);
     channels = ap length f.channels ∙ ap (λ l. (births l).channels) (sym f.journal);
     offers = λ c o e. none c o (ap (λ (l : List (Option Pending)). slice_get l c) (sym f.channels) ∙ e);
@@ -101,7 +102,7 @@ module _ (x : Kernel) (p : Proc) (f : IsFresh x p) (config : config_of p ≡ sta
       own zero = (number, ap (λ (r : Proc). r.input.value) (sym f.root))
       own (suc q) = tt {0}
 
-      each : (q : ℕ) → parent_in (slice_get (None ∷ []) q) ≡ parent_of (at_start.birth q)
+      each : (q : ℕ) → parent_in (slice_get (None ∷ []) q) ≡ parent_of (first_births.birth q)
       each zero = refl
       each (suc q) = refl
 

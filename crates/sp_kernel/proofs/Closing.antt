@@ -11,9 +11,10 @@ use Rattle.sp_journal.specs.Maps.{at_key}
 use Rattle.sp_journal.specs.Births.{is_next}
 use Rattle.sp_code.specs.PlainStore.{plain}
 use Rattle.sp_code.specs.Control.{Control, Doing, Unborn, Ready, Out, Sending, Receiving, Joining, Laid, Ended, Gone}
-use Rattle.sp_code.specs.Control.{control_at_start, noted, noted_all, given, takes, comes_back, does, queues, offers}
+use Rattle.sp_code.specs.Control.{control_at_start, after_note, after_notes, after_give, takes, comes_back, does}
+use Rattle.sp_code.specs.Control.{queues, offers}
 use Rattle.sp_code.specs.Control.{one_fewer, reports}
-use Rattle.sp_code.specs.System.{opening}
+use Rattle.sp_code.specs.System.{opening_system}
 use Rattle.sp_kernel.specs.declared.kernel.Kernel.{Kernel}
 use Rattle.sp_kernel.specs.Kernels.{control_of, system_of, setting_of}
 use Rattle.sp_kernel.specs.Asks.{IsOpening}
@@ -120,7 +121,8 @@ gone_takes w None k h q o = h q o
 gone_takes w (Some p) k h q o = h q (sym (at_kept IsGone k.doing p q (Out w) (λ (e : Out w ≡ Gone). absurd (cc e)) o).0
     ∙ o)
 
-gone_given : (p : Option ℕ) (e : Option Event) (got : Option ℕ) (k : Control) → NoneGone k → NoneGone (given p e got k)
+gone_given : (p : Option ℕ) (e : Option Event) (got : Option ℕ) (k : Control) → NoneGone k
+    → NoneGone (after_give p e got k)
 gone_given (Some p) (Some e) got k h q o = let a = h q (sym (back_kept IsGone gone_by_none k p e q o).0 ∙ o) in
     let b : (comes_back p e k).abandons ≡ k.abandons = back_abandons p e k in omega (arith, a, b)
 gone_given None (Some e) got k h q o = h q o
@@ -129,10 +131,10 @@ gone_given (Some p) None None k h q o = omega arith
 gone_given None None (Some z) k h q o = h q o
 gone_given (Some p) None (Some z) k h q o = h q o
 
-gone_all : (ns : List Note) (k : Control) → NoneGone k → NoneGone (noted_all ns k)
+gone_all : (ns : List Note) (k : Control) → NoneGone k → NoneGone (after_notes ns k)
 gone_all [] k h = h
-gone_all (n ∷ ns) k h = gone_all ns (noted n k)
-    (gone_takes n.worker n.got (given n.given n.event n.got k) (gone_given n.given n.event n.got k h))
+gone_all (n ∷ ns) k h = gone_all ns (after_note n k)
+    (gone_takes n.worker n.got (after_give n.given n.event n.got k) (gone_given n.given n.event n.got k h))
 
 gone_start : NoneGone control_at_start
 gone_start q o = absurd (go (q == 0) o)
@@ -153,7 +155,8 @@ all_here x fine log y ran kept = record { away = away; gone = gone }
   where
     outs : HasOuts (control_of y)
     outs = subst HasOuts (sym (control_is x fine log y ran.legal))
-        (outs_all plain (setting_of x) control_at_start (opening plain (setting_of x)) (system_of y) log orderly_start
+        (outs_all plain (setting_of x) control_at_start (opening_system plain (setting_of x)) (system_of y) log
+        orderly_start
         (agrees_start plain (setting_of x)) outs_start (from_start x fine log y ran.legal))
 
     away : (q w : ℕ) → (control_of y).doing q ≡ Out w → ⊥

@@ -13,7 +13,7 @@ use Rattle.sp_journal.proofs.entry.Note.TheSendSync as note
 use Rattle.sp_machine.proofs.proc.Proc.TheSendSync as proc
 use Rattle.sp_kernel.specs.contracts.slot.State as State
 use Rattle.sp_kernel.specs.contracts.slot.Slot as Slot
-use Rattle.sp_kernel.specs.contracts.line.Line as Line
+use Rattle.sp_kernel.specs.contracts.ready_queue.ReadyQueue as ReadyQueue
 use Rattle.sp_kernel.specs.contracts.kernel.Kernel as Kernel
 use Rattle.sp_kernel.specs.contracts.ask.Ask as Ask
 use Rattle.sp_kernel.specs.contracts.ask.Got as Got
@@ -37,7 +37,7 @@ slot_send = recorded_send Slot.the_field.row _ _ Slot.the_type.to_one (enum_send
   ((search sendable, (search crosses, tt)), (tt, ((search crosses, tt), tt))),
 ))
 
-line_send : IsSend Line.the_row
+line_send : IsSend ReadyQueue.the_row
 line_send = search (sendable, crosses) depth 40
 
 parent_send : IsSend (Rattle.std.specs.contracts.option.Option.the_row denote.Builtin.u32)

@@ -7,7 +7,8 @@ use Rattle.sp_journal.specs.declared.entry.Note.{Note}
 use Rattle.sp_journal.specs.declared.entry.Entry.{Entry}
 use Rattle.sp_journal.specs.declared.entry.Event.{Event}
 use Rattle.sp_journal.specs.declared.entry.Event.TheVariants as event
-use Rattle.sp_journal.specs.Births.{Births, at_start, births_from, after_event, after_entry, NameableFrom}
+use Rattle.sp_journal.specs.Births.{Births, first_births, births_from, births_after_event, births_after_entry}
+use Rattle.sp_journal.specs.Births.{NameableFrom}
 use Rattle.sp_journal.proofs.BirthLaws.{processes_grow}
 use Rattle.sp_code.specs.Control.{entries_of}
 use Rattle.sp_code.specs.System.{System}
@@ -19,21 +20,22 @@ use Rattle.sp_room.specs.History.{LeadsTo as Told}
 use Rattle.sp_kernel.specs.declared.kernel.Kernel.{Kernel}
 use Rattle.sp_kernel.specs.Kernels.{system_of, setting_of}
 use Rattle.sp_kernel.specs.Faults.{fault_in, fault_by}
-use Rattle.sp_kernel.specs.Asks.{IsOpening, Steps}
-use Rattle.sp_kernel.specs.Keeping.{from_start, it, along}
-use Rattle.sp_kernel.specs.Closes.{RanFrom, IsNamed, or_empty}
-use Rattle.sp_kernel.specs.Outputs.{written}
+use Rattle.sp_kernel.specs.Asks.{IsOpening, KernelSteps}
+use Rattle.sp_kernel.specs.Keeping.{from_start, after_log, along}
+use Rattle.sp_kernel.specs.Closes.{RanFrom, IsNameableKernel, or_empty}
+use Rattle.sp_kernel.specs.Outputs.{first_output}
 use Rattle.sp_kernel.proofs.Faulting.{fault_told}
 use Rattle.sp_kernel.proofs.Closing.{AllHere, all_here}
 use Rattle.sp_kernel.proofs.Writing.{written_is, writes_store, none_writes}
 
-pub named : (x : Kernel) (fine : IsOpening x) (log : List Note) (y : Kernel) → Told Steps x log y → IsNamed y
+pub named : (x : Kernel) (fine : IsOpening x) (log : List Note) (y : Kernel) → Told KernelSteps x log y
+    → IsNameableKernel y
 named x fine log y told =
-    let journal : y.journal.entries ≡ entries_of log = (it x fine log y told).journal
+    let journal : y.journal.entries ≡ entries_of log = (after_log x fine log y told).journal
     ∙ ap (λ l. l ++ entries_of log) fine.journal in
     record {
-      whole = (it x fine log y told).whole;
-      nameable = subst (NameableFrom at_start) (sym journal)
+      whole = (after_log x fine log y told).whole;
+      nameable = subst (NameableFrom first_births) (sym journal)
           (system_nameable (setting_of x) fine.limits (entries_of log) (system_of y) (along x fine log y told));
       told = fault_told x fine log y told journal;
       spoken = system_spoken (setting_of x) (entries_of log) (system_of y) (along x fine log y told);
@@ -41,7 +43,7 @@ named x fine log y told =
 
 -- ---- the process of a fault is there
 
-more_processes : (s : Births) (p : ℕ) (e : Event) → s.processes ≤ (after_event s p e).processes
+more_processes : (s : Births) (p : ℕ) (e : Event) → s.processes ≤ (births_after_event s p e).processes
 more_processes s p (event.Fork n) = omega arith
 more_processes s p event.Open = omega arith
 more_processes s p (event.Send c) = omega arith
@@ -54,14 +56,14 @@ more_processes s p event.Pause = omega arith
 pub fault_there : (s : Births) (es : List Entry) (p : ℕ) (f : Fault) → NameableFrom s es → fault_in es ≡ Some (p, f)
     → p < (births_from s es).processes
 fault_there s [] p f h e = absurd (cc e)
-fault_there s (d ∷ es) p f h e = go (λ g. fault_there (after_entry s d) es p f h.1 g) d.event refl e
+fault_there s (d ∷ es) p f h e = go (λ g. fault_there (births_after_entry s d) es p f h.1 g) d.event refl e
   where
     go : (fault_in es ≡ Some (p, f) → p < (births_from s (d ∷ es)).processes) → (v : Event) → d.event ≡ v
         → fault_by d.process v (fault_in es) ≡ Some (p, f) → p < (births_from s (d ∷ es)).processes
     go on (event.Fault g) i w =
         let same : d.process ≡ p = ap first (same_Some _ _ w) in
         let a = more_processes s d.process d.event in
-        let b = processes_grow (after_entry s d) es in
+        let b = processes_grow (births_after_entry s d) es in
         omega (arith, h.0.0, same, a, b)
       where
         first : ℕ × Fault → ℕ
@@ -77,7 +79,7 @@ fault_there s (d ∷ es) p f h e = go (λ g. fault_there (after_entry s d) es p 
 -- ---- the output
 
 pub output_held : (log : List Note) (y : Kernel) → RanFrom log y → y.abandons ≡ 0 → (o : Option (List ℕ))
-    → written y.slots ≡ o → (q : ℕ) × (bs : List ℕ) × IsOutputOf (system_of y) q bs × (o ≡ Some bs)
+    → first_output y.slots ≡ o → (q : ℕ) × (bs : List ℕ) × IsOutputOf (system_of y) q bs × (o ≡ Some bs)
 output_held log y (x, fine, ran) kept o is = go o is
   where
     here : AllHere y
@@ -88,7 +90,7 @@ output_held log y (x, fine, ran) kept o is = go o is
         (λ es t l. fine.sound.safe x.root.value.input.value x.limits fine.limits es t l)
         (from_start x fine log y ran.legal)
 
-    go : (o : Option (List ℕ)) → written y.slots ≡ o → (q : ℕ) × (bs : List ℕ) × IsOutputOf (system_of y) q bs
+    go : (o : Option (List ℕ)) → first_output y.slots ≡ o → (q : ℕ) × (bs : List ℕ) × IsOutputOf (system_of y) q bs
         × (o ≡ Some bs)
     go None e = absurd (none_writes y.slots e holder.0 holder.2.store holder.1 (here.away holder.0) (here.gone holder.0)
         holder.2.at holder.2.output)
@@ -108,8 +110,9 @@ output_held log y (x, fine, ran) kept o is = go o is
           refl,
         )
 
-pub output_text : (log : List Note) (y : Kernel) → RanFrom log y → (text : List ℕ) → or_empty (written y.slots) ≡ text
+pub output_text : (log : List Note) (y : Kernel) → RanFrom log y → (text : List ℕ)
+    → or_empty (first_output y.slots) ≡ text
     → y.abandons ≡ 0 → (q : ℕ) × IsOutputOf (system_of y) q text
 output_text log y ran text e kept =
-    let o = output_held log y ran kept (written y.slots) refl in
+    let o = output_held log y ran kept (first_output y.slots) refl in
     (o.0, subst (IsOutputOf (system_of y) o.0) (ap or_empty (sym o.3) ∙ e) o.2)

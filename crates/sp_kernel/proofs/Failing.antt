@@ -9,19 +9,22 @@ use Rattle.sp_kernel.specs.declared.slot.Slot.TheVariants as slot
 use Rattle.sp_kernel.specs.declared.slot.State.TheVariants as st
 use Rattle.sp_kernel.specs.declared.handed.Handed.{Handed}
 use Rattle.sp_kernel.specs.declared.kernel.Kernel.{Kernel}
-use Rattle.sp_kernel.specs.Kernels.{system_of, IsKernel, back, Gave}
+use Rattle.sp_kernel.specs.Kernels.{system_of, IsKernel, kernel_after_give, Gave}
 use Rattle.sp_kernel.specs.Procs.{turn_of}
-use Rattle.sp_kernel.specs.Fits.{Fits}
+use Rattle.sp_kernel.specs.Fits.{FitsHanded}
 use Rattle.sp_kernel.proofs.Giving.{gave_fault}
 
 -- it is laid down with that fault
 pub failed : {A E : Type 0} (r : Result A E) (x y : Kernel) (k : IsKernel x) (w : ℕ) (h i : Handed) (g : Fault)
-    → Fits x w h → x.faulted ≡ false → i ≡ h → fault_of x.limits (system_of x) (turn_of h) ≡ Some g
-    → OnOk r (y ≡ record (back i.proc.number (event.Fault g) (slot.Here i.proc st.Laid) x) { faulted = true })
+    → FitsHanded x w h → x.faulted ≡ false → i ≡ h → fault_of x.limits (system_of x) (turn_of h) ≡ Some g
+    → OnOk r (y ≡ record (kernel_after_give i.proc.number (event.Fault g) (slot.Here i.proc st.Laid) x) {
+      faulted =
+          true;
+    })
     → OnOk r (Gave x h.proc.number h y)
 failed r x y k w h i g fits quiet same is = on_map r _ _
     (λ e. subst (Gave x h.proc.number h) (sym
-    (e ∙ ap (λ (j : Handed). record (back j.proc.number (event.Fault g) (slot.Here j.proc st.Laid) x)
+    (e ∙ ap (λ (j : Handed). record (kernel_after_give j.proc.number (event.Fault g) (slot.Here j.proc st.Laid) x)
     { faulted = true }) same)) (gave_fault x k h.proc.number w fits.out h g (refl, fits.input) quiet is))
 
 pub is_full : (l n m : ℕ) → m ≡ l → m ≤ n → nat_lt l (n + 1) ≡ true

@@ -11,7 +11,7 @@ use Rattle.sp_base.specs.declared.fault.Fault.TheVariants as fault
 use Rattle.sp_base.proofs.Facts.{get_beside_set}
 use Rattle.sp_cell.specs.Map.{Plain}
 use Rattle.sp_journal.specs.declared.entry.Event.TheVariants as event
-use Rattle.sp_journal.specs.Births.{Births, births, after_event, is_next}
+use Rattle.sp_journal.specs.Births.{Births, births, births_after_event, is_next}
 use Rattle.sp_journal.specs.Queue.{numbers}
 use Rattle.sp_channel.specs.declared.channels.Pending.{Pending}
 use Rattle.sp_code.specs.declared.code.ForkTable.{ForkTable}
@@ -22,8 +22,9 @@ use Rattle.sp_code.specs.Tables.{child_at}
 use Rattle.sp_code.specs.Turns.{Stopped, IsTurn}
 use Rattle.sp_code.specs.Sound.{StopsAt, CanSplit, run_of}
 use Rattle.sp_code.specs.Control.{Doing, Out, comes_back}
-use Rattle.sp_code.specs.System.{System, Condition, Working, Joins, after, event_of, entered_now, on_store, fault_of}
-use Rattle.sp_code.specs.System.{newborn, plan_from, table_or, child_or}
+use Rattle.sp_code.specs.System.{System, Condition, Working, Joins, system_after_turn, event_of, process_at_entry}
+use Rattle.sp_code.specs.System.{on_store, fault_of}
+use Rattle.sp_code.specs.System.{child_process, plan_from, table_or, child_or}
 use Rattle.sp_kernel.specs.declared.slot.Slot.{Slot}
 use Rattle.sp_kernel.specs.declared.slot.Slot.TheVariants as slot
 use Rattle.sp_kernel.specs.declared.slot.State.TheVariants as st
@@ -36,9 +37,9 @@ use Rattle.sp_kernel.specs.declared.kernel.Kernel.{Kernel}
 use Rattle.sp_kernel.specs.Procs.{config_of, turn_by, turn_of}
 use Rattle.sp_kernel.specs.Kernels.{doing_in, condition_in, control_of, system_of, setting_of, WaitsAs, IsOwn, NumberIn}
 use Rattle.sp_kernel.specs.Kernels.{HasParents, parent_in, parent_of, IsKernel, Gave}
-use Rattle.sp_kernel.specs.Lines.{repeat}
+use Rattle.sp_kernel.specs.ListEnds.{repeat}
 use Rattle.sp_kernel.specs.Forks.{HasForked}
-use Rattle.sp_kernel.specs.Fits.{Fits}
+use Rattle.sp_kernel.specs.Fits.{FitsHanded}
 use Rattle.sp_history.proofs.Queues.{number_or}
 use Rattle.sp_history.proofs.Orders.{next_yes, next_not, next_past}
 use Rattle.sp_kernel.proofs.Tables.{table_set}
@@ -191,7 +192,7 @@ module _ (x : Kernel) (k : IsKernel x) (p w : ℕ) (here : (control_of x).doing 
   }
 
   next_is : births (x.journal.entries ++ record { process = p; event = event.Fork n } ∷ [])
-      ≡ after_event b p (event.Fork n)
+      ≡ births_after_event b p (event.Fork n)
   next_is = next_births x k p w here (event.Fork n) s
 
   control : control_of forked ≡ comes_back p (event_of x.limits (system_of x) (turn_of h)) (control_of x)
@@ -204,22 +205,22 @@ module _ (x : Kernel) (k : IsKernel x) (p w : ℕ) (here : (control_of x).doing 
       ∙ ap (λ e. comes_back p e (control_of x)) event_is
 
   abbrev c : m.Config (Memory Plain)
-  c = entered_now (config_of h.proc)
+  c = process_at_entry (config_of h.proc)
 
   abbrev table : ForkTable
   table = table_or (slice_get x.code.value.forks t)
 
   abbrev born : ℕ → ℕ → m.Config (Memory Plain)
-  born i j = newborn plain (setting_of x) c v i j (child_or (child_at table j))
+  born i j = child_process plain (setting_of x) c v i j (child_or (child_at table j))
 
   born_at : (j : ℕ) → j < n → config_of (get_or f.children j h.proc) ≡ born (l + j) j
   born_at j few =
       (f.born.1 j h.proc few).0 x.limits
-      ∙ ap (λ (input : List ℕ). newborn plain (run_of x.code.value input x.limits) c h.proc.first (l + j) j
+      ∙ ap (λ (input : List ℕ). child_process plain (run_of x.code.value input x.limits) c h.proc.first (l + j) j
       (child_or (child_at (table_or (slice_get x.code.value.forks h.proc.table)) j))) own.1
-      ∙ ap (λ (first : ℤ). newborn plain (setting_of x) c first (l + j) j
+      ∙ ap (λ (first : ℤ). child_process plain (setting_of x) c first (l + j) j
       (child_or (child_at (table_or (slice_get x.code.value.forks h.proc.table)) j))) at.1.0
-      ∙ ap (λ (i : ℕ). newborn plain (setting_of x) c v (l + j) j
+      ∙ ap (λ (i : ℕ). child_process plain (setting_of x) c v (l + j) j
       (child_or (child_at (table_or (slice_get x.code.value.forks i)) j))) at.0
 
   child_runs : (q : ℕ) → l ≤ q → q < l + n → condition_in (Some (child q)) ≡ Working (born q (q - b.processes))
@@ -257,14 +258,14 @@ module _ (x : Kernel) (k : IsKernel x) (p w : ℕ) (here : (control_of x).doing 
           child_runs q (omega (arith, w.0, processes)) (omega (arith, w.1, processes))
       go false e = refl
 
-  system : system_of forked ≡ after plain (setting_of x) p (turn_of h) (system_of x)
+  system : system_of forked ≡ system_after_turn plain (setting_of x) p (turn_of h) (system_of x)
   system = (λ i. record (system_of x) {
     condition = fun_ext {B = λ q. Condition Plain} conditions i;
     births = next_is i;
     entries = x.entries + 1;
   })
       ∙ after_quiet (setting_of x) (system_of x) p (m.Forks t v n) (config_of h.proc) quiet fine
-      ∙ ap (λ t. after plain (setting_of x) p t (system_of x)) (sym turn_is)
+      ∙ ap (λ t. system_after_turn plain (setting_of x) p t (system_of x)) (sym turn_is)
 
   offers : (d : ℕ) (o : Pending) → slice_get x.channels d ≡ Some (Some o)
       → WaitsAs (slice_get (slice_set f.slots p s) o.process) d o
@@ -291,7 +292,7 @@ module _ (x : Kernel) (k : IsKernel x) (p w : ℕ) (here : (control_of x).doing 
           (rw (Rattle.sp_base.proofs.Facts.equals_itself p) (f.hands.1 ∙ own.0, f.hands.2 ∙ own.1))
       go false e (inr o) = rw (o.1) (k.numbers q)
 
-  parented : HasParents (x.parents ++ repeat n (Some p)) (after_event b p (event.Fork n))
+  parented : HasParents (x.parents ++ repeat n (Some p)) (births_after_event b p (event.Fork n))
   parented = record {
     count = length-append x.parents (repeat n (Some p))
         ∙ ap (λ i. length x.parents + i) (length_repeat n (Some p)) ∙ ap (λ i. i + n) k.parents.count;
@@ -358,7 +359,7 @@ module _ (x : Kernel) (k : IsKernel x) (p w : ℕ) (here : (control_of x).doing 
 -- the fork can be carried out
 pub can_fork : (x : Kernel) (w : ℕ) (h : Handed) (t : ℕ) (v : ℤ) (n : ℕ) → h.stop ≡ stop.Fork t v n → x.faulted ≡ false
     → fault_of x.limits (system_of x) (Stopped (m.Forks t v n) (config_of h.proc)) ≡ None → IsAtFork h.proc t v n
-    → Fits x w h
+    → FitsHanded x w h
     → CanSplit h.proc.store (plan_by x.code.value h.proc n)
 can_fork x w h t v n is quiet fine at fits =
     subst (λ (z : ℕ). CanSplit h.proc.store (plan_from x.code.value.layouts h.proc.frames

@@ -10,16 +10,17 @@ use Rattle.sp_cell.specs.Map.{Plain}
 use Rattle.sp_journal.specs.declared.entry.Event.{Event}
 use Rattle.sp_journal.specs.declared.entry.Event.TheVariants as event
 use Rattle.sp_journal.specs.Maps.{at_key}
-use Rattle.sp_journal.specs.Births.{Births, births, after_event}
+use Rattle.sp_journal.specs.Births.{Births, births, births_after_event}
 use Rattle.sp_journal.proofs.BirthLaws.{births_last}
 use Rattle.sp_channel.specs.declared.channels.Pending.{Pending}
 use Rattle.sp_code.specs.Machine as m
-use Rattle.sp_code.specs.Memory.{Setting, Memory}
+use Rattle.sp_code.specs.Memory.{CodeRun, Memory}
 use Rattle.sp_code.specs.PlainStore.{plain}
 use Rattle.sp_code.specs.Turns.{Turn, Stopped}
 use Rattle.sp_code.specs.Control.{Doing, Out, comes_back}
 use Rattle.sp_code.specs.System.{System, Condition, Working, Laid as IsLaid, config_of as config_at, event_at, event_or}
-use Rattle.sp_code.specs.System.{after, event_of, entered_now, fault_of, lays, unless_fault, happens}
+use Rattle.sp_code.specs.System.{system_after_turn, event_of, process_at_entry, fault_of, lays, apply_unless_fault}
+use Rattle.sp_code.specs.System.{apply_stop}
 use Rattle.sp_kernel.specs.declared.slot.Slot.{Slot}
 use Rattle.sp_kernel.specs.declared.slot.Slot.TheVariants as slot
 use Rattle.sp_kernel.specs.declared.slot.State.TheVariants as st
@@ -28,10 +29,10 @@ use Rattle.sp_kernel.specs.declared.handed.Handed.{Handed}
 use Rattle.sp_machine.specs.declared.state.Stop.{Stop}
 use Rattle.sp_machine.specs.declared.state.Stop.TheVariants as stop
 use Rattle.sp_kernel.specs.declared.kernel.Kernel.{Kernel}
-use Rattle.sp_kernel.specs.Procs.{config_of, turn_by, turn_of, Enters}
+use Rattle.sp_kernel.specs.Procs.{config_of, turn_by, turn_of, EntersAs}
 use Rattle.sp_kernel.specs.Kernels.{doing_in, condition_in, control_of, system_of, setting_of, WaitsAs, IsOwn, NumberIn}
-use Rattle.sp_kernel.specs.Kernels.{HasParents, IsKernel, back, Gave}
-use Rattle.sp_history.specs.Agreement.{IsOrderly, Agrees}
+use Rattle.sp_kernel.specs.Kernels.{HasParents, IsKernel, kernel_after_give, Gave}
+use Rattle.sp_history.specs.Agreement.{IsOrderly, AgreesWithSystem}
 use Rattle.sp_history.proofs.Queues.{number_or}
 use Rattle.sp_kernel.proofs.Tables.{table_set}
 use Rattle.sp_history.proofs.Orders.{orderly_back}
@@ -73,44 +74,46 @@ module _ (lim : Limits) (s : System Plain) where
       go false e (Some h) i = absurd (cc i)
       go false e None i = refl
 
-module _ (g : Setting) (s : System Plain) (p : ℕ) where
+module _ (g : CodeRun) (s : System Plain) (p : ℕ) where
   pub after_laid : (t : Turn (Memory Plain)) → s.faulted ≡ true
-      → ◌≡◌ {A = System Plain} (record (lays plain g p (config_at t) s) { births = after_event s.births p event.Laid })
-      (after plain g p t s)
+      → ◌≡◌ {A = System Plain}
+      (record (lays plain g p (config_at t) s) { births = births_after_event s.births p event.Laid })
+      (system_after_turn plain g p t s)
   after_laid t f = go s.faulted f
     where
       go : (b : Bool) → b ≡ true → ◌≡◌ {A = System Plain}
-          (record (lays plain g p (config_at t) s) { births = after_event s.births p event.Laid })
-          (record (if b then lays plain g p (config_at t) s else unless_fault plain g (fault_of g.limits s t) p t s)
-          { births = after_event s.births p (if b then event.Laid else event_or (fault_of g.limits s t) t) })
+          (record (lays plain g p (config_at t) s) { births = births_after_event s.births p event.Laid })
+          (record (if b then lays plain g p (config_at t) s else apply_unless_fault plain g
+          (fault_of g.limits s t) p t s)
+          { births = births_after_event s.births p (if b then event.Laid else event_or (fault_of g.limits s t) t) })
       go true e = refl
       go false e = absurd (cc e)
 
   pub after_fault : (t : Turn (Memory Plain)) (x : Fault) → s.faulted ≡ false → fault_of g.limits s t ≡ Some x
       → ◌≡◌ {A = System Plain} (record (lays plain g p (config_at t) s)
-      { faulted = true; births = after_event s.births p (event.Fault x) }) (after plain g p t s)
+      { faulted = true; births = births_after_event s.births p (event.Fault x) }) (system_after_turn plain g p t s)
   after_fault t x f is = go s.faulted f (fault_of g.limits s t) is
     where
       go : (b : Bool) → b ≡ false → (o : Option Fault) → o ≡ Some x
           → ◌≡◌ {A = System Plain} (record (lays plain g p (config_at t) s)
-          { faulted = true; births = after_event s.births p (event.Fault x) })
-          (record (if b then lays plain g p (config_at t) s else unless_fault plain g o p t s)
-          { births = after_event s.births p (if b then event.Laid else event_or o t) })
+          { faulted = true; births = births_after_event s.births p (event.Fault x) })
+          (record (if b then lays plain g p (config_at t) s else apply_unless_fault plain g o p t s)
+          { births = births_after_event s.births p (if b then event.Laid else event_or o t) })
       go true e o i = absurd (cc e)
       go false e None i = absurd (cc i)
       go false e (Some h) i = refl
 
   pub after_quiet : (stop : m.Stop) (c : m.Config (Memory Plain)) → s.faulted ≡ false
       → fault_of g.limits s (Stopped stop c) ≡ None
-      → ◌≡◌ {A = System Plain} (record (happens plain g p stop (entered_now c) s)
-      { births = after_event s.births p (event_at stop) }) (after plain g p (Stopped stop c) s)
+      → ◌≡◌ {A = System Plain} (record (apply_stop plain g p stop (process_at_entry c) s)
+      { births = births_after_event s.births p (event_at stop) }) (system_after_turn plain g p (Stopped stop c) s)
   after_quiet stop c f is = go s.faulted f (fault_of g.limits s (Stopped stop c)) is
     where
       go : (b : Bool) → b ≡ false → (o : Option Fault) → o ≡ None
-          → ◌≡◌ {A = System Plain} (record (happens plain g p stop (entered_now c) s)
-          { births = after_event s.births p (event_at stop) })
-          (record (if b then lays plain g p c s else unless_fault plain g o p (Stopped stop c) s)
-          { births = after_event s.births p (if b then event.Laid else event_or o (Stopped stop c)) })
+          → ◌≡◌ {A = System Plain} (record (apply_stop plain g p stop (process_at_entry c) s)
+          { births = births_after_event s.births p (event_at stop) })
+          (record (if b then lays plain g p c s else apply_unless_fault plain g o p (Stopped stop c) s)
+          { births = births_after_event s.births p (if b then event.Laid else event_or o (Stopped stop c)) })
       go true e o i = absurd (cc e)
       go false e (Some h) i = absurd (cc i)
       go false e None i = refl
@@ -119,7 +122,7 @@ module _ (x : Kernel) (k : IsKernel x) (p w : ℕ) (here : (control_of x).doing 
   -- the tables fit together after it too
   pub whole_after : (h : Handed) (y : Kernel)
       → control_of y ≡ comes_back p (event_of x.limits (system_of x) (turn_of h)) (control_of x)
-      → system_of y ≡ after plain (setting_of x) p (turn_of h) (system_of x)
+      → system_of y ≡ system_after_turn plain (setting_of x) p (turn_of h) (system_of x)
       → length y.slots ≡ (births y.journal.entries).processes → length y.channels ≡ (births y.journal.entries).channels
       → ((c : ℕ) (o : Pending) → slice_get y.channels c ≡ Some (Some o) → WaitsAs (slice_get y.slots o.process) c o)
       → ((q : ℕ) → NumberIn (setting_of y).input (slice_get y.slots q) q)
@@ -129,8 +132,9 @@ module _ (x : Kernel) (k : IsKernel x) (p w : ℕ) (here : (control_of x).doing 
     parents = parents;
     orderly = subst IsOrderly (sym control) (orderly_back (control_of x) k.orderly p w
         (event_of x.limits (system_of x) (turn_of h)) here);
-    agrees = subst (λ c. Agrees c (system_of y)) (sym control)
-        (subst (λ s. Agrees (comes_back p (event_of x.limits (system_of x) (turn_of h)) (control_of x)) s) (sym system)
+    agrees = subst (λ c. AgreesWithSystem c (system_of y)) (sym control)
+        (subst (λ s. AgreesWithSystem (comes_back p (event_of x.limits (system_of x) (turn_of h)) (control_of x)) s)
+        (sym system)
         (agrees_after plain (setting_of x) (control_of x) (system_of x) k.orderly k.agrees p w here (turn_of h)));
     processes = processes;
     channels = channels;
@@ -187,11 +191,12 @@ module _ (x : Kernel) (k : IsKernel x) (p w : ℕ) (here : (control_of x).doing 
     next_condition = table_set condition_in x.slots p s there
 
     pub next_births : births (x.journal.entries ++ record { process = p; event = e } ∷ [])
-        ≡ after_event (births x.journal.entries) p e
+        ≡ births_after_event (births x.journal.entries) p e
     next_births = births_last x.journal.entries (record { process = p; event = e })
 
   -- the parents by the births after an entry
-  pub parents_after : (ps : List (Option ℕ)) (e : Event) → HasParents ps (after_event (births x.journal.entries) p e)
+  pub parents_after : (ps : List (Option ℕ)) (e : Event)
+      → HasParents ps (births_after_event (births x.journal.entries) p e)
       → HasParents ps (births (x.journal.entries ++ record { process = p; event = e } ∷ []))
   parents_after ps e h = subst (HasParents ps) (sym (births_last x.journal.entries (record { process = p; event = e })))
       h
@@ -205,7 +210,7 @@ module _ (x : Kernel) (k : IsKernel x) (p w : ℕ) (here : (control_of x).doing 
         ∙ ap (λ c. at_key ◌==◌ p (IsLaid c) (system_of x).condition) (sym (turn_config h.stop h.proc))
 
   pub gave_laid : (h : Handed) → IsOwn (setting_of x).input h.proc p → x.faulted ≡ true
-      → Gave x p h (back p event.Laid (slot.Here h.proc st.Laid) x)
+      → Gave x p h (kernel_after_give p event.Laid (slot.Here h.proc st.Laid) x)
   gave_laid h num f = record {
     control = control;
     system = system;
@@ -220,7 +225,7 @@ module _ (x : Kernel) (k : IsKernel x) (p w : ℕ) (here : (control_of x).doing 
         (parents_after x.parents event.Laid k.parents);
   }
     where
-      control : control_of (back p event.Laid (slot.Here h.proc st.Laid) x)
+      control : control_of (kernel_after_give p event.Laid (slot.Here h.proc st.Laid) x)
           ≡ comes_back p (event_of x.limits (system_of x) (turn_of h)) (control_of x)
       control = (λ i. record (control_of x) {
         doing = next_doing event.Laid (slot.Here h.proc st.Laid) i;
@@ -229,8 +234,8 @@ module _ (x : Kernel) (k : IsKernel x) (p w : ℕ) (here : (control_of x).doing 
       })
           ∙ ap (λ e. comes_back p e (control_of x)) (event_laid x.limits (system_of x) (turn_of h) f)
 
-      system : system_of (back p event.Laid (slot.Here h.proc st.Laid) x)
-          ≡ after plain (setting_of x) p (turn_of h) (system_of x)
+      system : system_of (kernel_after_give p event.Laid (slot.Here h.proc st.Laid) x)
+          ≡ system_after_turn plain (setting_of x) p (turn_of h) (system_of x)
       system = (λ i. record (system_of x) {
         condition = laid_condition h event.Laid i;
         births = next_births event.Laid (slot.Here h.proc st.Laid) i;
@@ -239,7 +244,7 @@ module _ (x : Kernel) (k : IsKernel x) (p w : ℕ) (here : (control_of x).doing 
 
   pub gave_fault : (h : Handed) (g : Fault) → IsOwn (setting_of x).input h.proc p → x.faulted ≡ false
       → fault_of x.limits (system_of x) (turn_of h) ≡ Some g
-      → Gave x p h (record (back p (event.Fault g) (slot.Here h.proc st.Laid) x) { faulted = true })
+      → Gave x p h (record (kernel_after_give p (event.Fault g) (slot.Here h.proc st.Laid) x) { faulted = true })
   gave_fault h g num f is = record {
     control = control;
     system = system;
@@ -254,7 +259,10 @@ module _ (x : Kernel) (k : IsKernel x) (p w : ℕ) (here : (control_of x).doing 
         (parents_after x.parents (event.Fault g) k.parents);
   }
     where
-      control : control_of (record (back p (event.Fault g) (slot.Here h.proc st.Laid) x) { faulted = true })
+      control : control_of (record (kernel_after_give p (event.Fault g) (slot.Here h.proc st.Laid) x) {
+        faulted =
+            true;
+      })
           ≡ comes_back p (event_of x.limits (system_of x) (turn_of h)) (control_of x)
       control = (λ i. record (control_of x) {
         doing = next_doing (event.Fault g) (slot.Here h.proc st.Laid) i;
@@ -264,8 +272,8 @@ module _ (x : Kernel) (k : IsKernel x) (p w : ℕ) (here : (control_of x).doing 
       })
           ∙ ap (λ e. comes_back p e (control_of x)) (event_fault x.limits (system_of x) (turn_of h) g f is)
 
-      system : system_of (record (back p (event.Fault g) (slot.Here h.proc st.Laid) x) { faulted = true })
-          ≡ after plain (setting_of x) p (turn_of h) (system_of x)
+      system : system_of (record (kernel_after_give p (event.Fault g) (slot.Here h.proc st.Laid) x) { faulted = true })
+          ≡ system_after_turn plain (setting_of x) p (turn_of h) (system_of x)
       system = (λ i. record (system_of x) {
         condition = laid_condition h (event.Fault g) i;
         births = next_births (event.Fault g) (slot.Here h.proc st.Laid) i;
@@ -273,8 +281,9 @@ module _ (x : Kernel) (k : IsKernel x) (p w : ℕ) (here : (control_of x).doing 
       })
           ∙ after_fault (setting_of x) (system_of x) p (turn_of h) g f is
 
-  pub gave_pause : (h : Handed) (r : Proc) → IsOwn (setting_of x).input h.proc p → h.stop ≡ stop.Pause → Enters h.proc r
-      → x.faulted ≡ false → Gave x p h (record (back p event.Pause (slot.Here r st.Ready) x)
+  pub gave_pause : (h : Handed) (r : Proc) → IsOwn (setting_of x).input h.proc p → h.stop ≡ stop.Pause
+      → EntersAs h.proc r
+      → x.faulted ≡ false → Gave x p h (record (kernel_after_give p event.Pause (slot.Here r st.Ready) x)
       { ready = x.ready ++ p ∷ [] })
   gave_pause h r num is en f = record {
     control = control;
@@ -294,7 +303,10 @@ module _ (x : Kernel) (k : IsKernel x) (p w : ℕ) (here : (control_of x).doing 
       turn_is : turn_of h ≡ Stopped m.Pauses (config_of h.proc)
       turn_is = ap (λ s. turn_by s h.proc) is
 
-      control : control_of (record (back p event.Pause (slot.Here r st.Ready) x) { ready = x.ready ++ p ∷ [] })
+      control : control_of (record (kernel_after_give p event.Pause (slot.Here r st.Ready) x) {
+        ready =
+            x.ready ++ p ∷ [];
+      })
           ≡ comes_back p (event_of x.limits (system_of x) (turn_of h)) (control_of x)
       control = (λ i. record (control_of x) {
         doing = next_doing event.Pause (slot.Here r st.Ready) i;
@@ -307,8 +319,11 @@ module _ (x : Kernel) (k : IsKernel x) (p w : ℕ) (here : (control_of x).doing 
           (event_quiet x.limits (system_of x) m.Pauses (config_of h.proc) f refl
           ∙ ap (event_of x.limits (system_of x)) (sym turn_is))
 
-      system : system_of (record (back p event.Pause (slot.Here r st.Ready) x) { ready = x.ready ++ p ∷ [] })
-          ≡ after plain (setting_of x) p (turn_of h) (system_of x)
+      system : system_of (record (kernel_after_give p event.Pause (slot.Here r st.Ready) x) {
+        ready =
+            x.ready ++ p ∷ [];
+      })
+          ≡ system_after_turn plain (setting_of x) p (turn_of h) (system_of x)
       system = (λ i. record (system_of x) {
         condition =
             (next_condition event.Pause (slot.Here r st.Ready)
@@ -316,4 +331,4 @@ module _ (x : Kernel) (k : IsKernel x) (p w : ℕ) (here : (control_of x).doing 
         births = next_births event.Pause (slot.Here r st.Ready) i;
       })
           ∙ after_quiet (setting_of x) (system_of x) p m.Pauses (config_of h.proc) f refl
-          ∙ ap (λ t. after plain (setting_of x) p t (system_of x)) (sym turn_is)
+          ∙ ap (λ t. system_after_turn plain (setting_of x) p t (system_of x)) (sym turn_is)

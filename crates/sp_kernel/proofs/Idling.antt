@@ -6,11 +6,11 @@ use Rattle.sp_journal.specs.declared.entry.Note.{Note}
 use Rattle.sp_code.specs.PlainStore.{plain}
 use Rattle.sp_code.specs.Control.{control_at_start, standing, Running as Going, IsDone, IsDeadlock, IsFault}
 use Rattle.sp_code.specs.Control.{IsMemory, is_ready}
-use Rattle.sp_code.specs.System.{opening}
+use Rattle.sp_code.specs.System.{opening_system}
 use Rattle.sp_kernel.specs.declared.kernel.Kernel.{Kernel}
 use Rattle.sp_kernel.specs.Kernels.{control_of, system_of, setting_of}
 use Rattle.sp_kernel.specs.Closes.{RanFrom}
-use Rattle.sp_kernel.specs.Keeping.{from_start, control_is, it}
+use Rattle.sp_kernel.specs.Keeping.{from_start, control_is, after_log}
 use Rattle.sp_kernel.proofs.Closing.{AllHere, all_here}
 use Rattle.sp_history.specs.Agreement.{HasOuts, phase_in, Running}
 use Rattle.sp_history.proofs.Agreeing.{agrees_start, orderly_start}
@@ -27,13 +27,15 @@ none_ready false false false o (p ∷ ps) is = absurd (cc is)
 
 pub idle_at : (log : List Note) (y : Kernel) → RanFrom log y → standing (control_of y) ≡ IsDeadlock → (q : ℕ)
     → phase_in ((system_of y).condition q) ≢ Running
-idle_at log y (x, fine, ran) is = nobody_runs (control_of y) (system_of y) (it x fine log y ran.legal).whole.orderly
-    (it x fine log y ran.legal).whole.agrees outs (none_ready _ _ _ _ y.ready is).1 ran.over.1 here.gone
+idle_at log y (x, fine, ran) is =
+    nobody_runs (control_of y) (system_of y) (after_log x fine log y ran.legal).whole.orderly
+    (after_log x fine log y ran.legal).whole.agrees outs (none_ready _ _ _ _ y.ready is).1 ran.over.1 here.gone
   where
     here : AllHere y
     here = all_here x fine log y ran (none_if_not_above y.abandons (none_ready _ _ _ _ y.ready is).0)
 
     outs : HasOuts (control_of y)
     outs = subst HasOuts (sym (control_is x fine log y ran.legal))
-        (outs_all plain (setting_of x) control_at_start (opening plain (setting_of x)) (system_of y) log orderly_start
+        (outs_all plain (setting_of x) control_at_start (opening_system plain (setting_of x)) (system_of y) log
+        orderly_start
         (agrees_start plain (setting_of x)) outs_start (from_start x fine log y ran.legal))

@@ -18,8 +18,9 @@ use Rattle.sp_code.specs.Turns.{Stopped, IsTurn}
 use Rattle.sp_code.specs.Sound.{StopsAt}
 use Rattle.sp_code.specs.Control.{Control, Out, Joining, Ended, comes_back, does, queues, one_fewer as control_fewer}
 use Rattle.sp_code.specs.Control.{reports}
-use Rattle.sp_code.specs.System.{Working, Joins as IsJoining, Over, Gone as HasGone, after, event_of, entered_now}
-use Rattle.sp_code.specs.System.{on_store, rejoined, reported}
+use Rattle.sp_code.specs.System.{Working, Joins as IsJoining, Over, Gone as HasGone, system_after_turn, event_of}
+use Rattle.sp_code.specs.System.{process_at_entry}
+use Rattle.sp_code.specs.System.{on_store, parent_after_join, apply_end}
 use Rattle.sp_kernel.specs.declared.slot.Slot.{Slot}
 use Rattle.sp_kernel.specs.declared.slot.Slot.TheVariants as slot
 use Rattle.sp_kernel.specs.declared.slot.State.TheVariants as st
@@ -27,11 +28,11 @@ use Rattle.sp_machine.specs.declared.state.State.{State as Proc}
 use Rattle.sp_kernel.specs.declared.handed.Handed.{Handed}
 use Rattle.sp_machine.specs.declared.state.Stop.TheVariants as stop
 use Rattle.sp_kernel.specs.declared.kernel.Kernel.{Kernel}
-use Rattle.sp_kernel.specs.Procs.{config_of, turn_by, turn_of, Enters}
+use Rattle.sp_kernel.specs.Procs.{config_of, turn_by, turn_of, EntersAs}
 use Rattle.sp_kernel.specs.Kernels.{doing_in, condition_in, control_of, system_of, setting_of, WaitsAs, IsOwn, NumberIn}
-use Rattle.sp_kernel.specs.Kernels.{parent_in, parent_of, IsKernel, back, Gave}
-use Rattle.sp_kernel.specs.Ends.{left_in, one_fewer, ends_child, IsJoiner, Joins}
-use Rattle.sp_kernel.specs.Fits.{Fits}
+use Rattle.sp_kernel.specs.Kernels.{parent_in, parent_of, IsKernel, kernel_after_give, Gave}
+use Rattle.sp_kernel.specs.Ends.{left_in, one_fewer, ends_child, IsJoiner, JoinedSlot}
+use Rattle.sp_kernel.specs.Fits.{FitsHanded}
 use Rattle.sp_history.proofs.Queues.{number_or, at_other}
 use Rattle.sp_kernel.proofs.Tables.{table_set}
 use Rattle.sp_kernel.proofs.Giving.{event_quiet, after_quiet, whole_after, there, no_waiter, next_doing, next_condition}
@@ -71,7 +72,7 @@ module _ (x : Kernel) (k : IsKernel x) (p w : ℕ) (here : (control_of x).doing 
 
   -- ---- the first process
 
-  module _ (r : Proc) (en : Enters h.proc r) (first : (births x.journal.entries).birth p ≡ None) where
+  module _ (r : Proc) (en : EntersAs h.proc r) (first : (births x.journal.entries).birth p ≡ None) where
     abbrev over : Kernel
     over = record x {
       slots = slice_set x.slots p (slot.Here r st.Over);
@@ -89,16 +90,16 @@ module _ (x : Kernel) (k : IsKernel x) (p w : ℕ) (here : (control_of x).doing 
         { out = x.out - 1; births = births x.journal.entries }) (sym first)
         ∙ ap (λ e. comes_back p e (control_of x)) event_is
 
-    over_system : system_of over ≡ after plain (setting_of x) p (turn_of h) (system_of x)
+    over_system : system_of over ≡ system_after_turn plain (setting_of x) p (turn_of h) (system_of x)
     over_system = (λ i. record (system_of x) {
       condition = (next_condition x k p w here event.End (slot.Here r st.Over)
           ∙ ap (λ c. at_key ◌==◌ p (Over c) (system_of x).condition) en.0) i;
       births = next_births x k p w here event.End (slot.Here r st.Over) i;
     })
-        ∙ ap (λ o. record (reported plain (setting_of x) p (entered_now (config_of h.proc)) o (system_of x))
+        ∙ ap (λ o. record (apply_end plain (setting_of x) p (process_at_entry (config_of h.proc)) o (system_of x))
         { births = births x.journal.entries }) (sym first)
         ∙ after_quiet (setting_of x) (system_of x) p m.Ends (config_of h.proc) quiet refl
-        ∙ ap (λ t. after plain (setting_of x) p t (system_of x)) (sym turn_is)
+        ∙ ap (λ t. system_after_turn plain (setting_of x) p t (system_of x)) (sym turn_is)
 
     over_gave : Gave x p h over
     over_gave = record {
@@ -116,7 +117,7 @@ module _ (x : Kernel) (k : IsKernel x) (p w : ℕ) (here : (control_of x).doing 
           (parents_after x k p w here x.parents event.End k.parents);
     }
 
-    pub gave_root : Gave x p h (back r.number event.End (slot.Here r st.Over) x)
+    pub gave_root : Gave x p h (kernel_after_give r.number event.End (slot.Here r st.Over) x)
     gave_root = subst (λ n. Gave x p h (record x {
       slots = slice_set x.slots n (slot.Here r st.Over);
       journal = record { entries = x.journal.entries ++ record { process = n; event = event.End } ∷ [] };
@@ -143,9 +144,9 @@ module _ (x : Kernel) (k : IsKernel x) (p w : ℕ) (here : (control_of x).doing 
     joins_now : (does p Ended (control_of x)).doing b.parent ≡ Joining n
     joins_now = at_other (control_of x).doing p b.parent Ended apart ∙ joins
 
-    module _ (t : Slot) (took : Joins (slice_get x.slots b.parent) h.proc t) where
-      told : Joins (Some (slot.Here parent (st.Joining n))) h.proc t
-      told = subst (λ o. Joins o h.proc t) at_parent took
+    module _ (t : Slot) (took : JoinedSlot (slice_get x.slots b.parent) h.proc t) where
+      told : JoinedSlot (Some (slot.Here parent (st.Joining n))) h.proc t
+      told = subst (λ o. JoinedSlot o h.proc t) at_parent took
 
       abbrev z : ℕ
       z = b.parent
@@ -199,18 +200,19 @@ module _ (x : Kernel) (k : IsKernel x) (p w : ℕ) (here : (control_of x).doing 
       condition_by true = ap (λ d. Working d) told.2.0
       condition_by false = ap (λ d. IsJoining (n - 1) d) told.2.0
 
-      ended_system : system_of ended ≡ after plain (setting_of x) p (turn_of h) (system_of x)
+      ended_system : system_of ended ≡ system_after_turn plain (setting_of x) p (turn_of h) (system_of x)
       ended_system = (λ i. record (system_of x) {
         condition = (both_set condition_in ∙ ap (λ c. at_key ◌==◌ z c (at_key ◌==◌ p HasGone (system_of x).condition))
             (condition_by (n == 1))
-            ∙ ap (λ o. at_key ◌==◌ z (rejoined plain (setting_of x) (entered_now (config_of h.proc)) (condition_in o))
+            ∙ ap (λ o. at_key ◌==◌ z (parent_after_join plain (setting_of x) (process_at_entry (config_of h.proc))
+            (condition_in o))
             (at_key ◌==◌ p HasGone (system_of x).condition)) (sym at_parent)) i;
         births = next_births x k p w here event.End slot.Ended i;
       })
-          ∙ ap (λ o. record (reported plain (setting_of x) p (entered_now (config_of h.proc)) o (system_of x))
+          ∙ ap (λ o. record (apply_end plain (setting_of x) p (process_at_entry (config_of h.proc)) o (system_of x))
           { births = births x.journal.entries }) (sym born)
           ∙ after_quiet (setting_of x) (system_of x) p m.Ends (config_of h.proc) quiet refl
-          ∙ ap (λ t. after plain (setting_of x) p t (system_of x)) (sym turn_is)
+          ∙ ap (λ t. system_after_turn plain (setting_of x) p t (system_of x)) (sym turn_is)
 
       ended_offers : (c : ℕ) (o : Pending) → slice_get x.channels c ≡ Some (Some o)
           → WaitsAs (slice_get (slice_set (slice_set x.slots p slot.Ended) z t) o.process) c o
@@ -268,7 +270,7 @@ pub record IsChild (x : Kernel) (p z : ℕ) : Type 0 where
   pub left : ℕ
   pub joins : (control_of x).doing birth.parent ≡ Joining left
 
-pub is_child : (x : Kernel) (k : IsKernel x) (w : ℕ) (h : Handed) → Fits x w h → (z : ℕ)
+pub is_child : (x : Kernel) (k : IsKernel x) (w : ℕ) (h : Handed) → FitsHanded x w h → (z : ℕ)
     → parent_in (slice_get x.parents h.proc.number) ≡ Some z → IsChild x h.proc.number z
 is_child x k w h fits z e =
     let b = has_birth ((births x.journal.entries).birth h.proc.number) z (sym (k.parents.each h.proc.number) ∙ e) in
@@ -276,7 +278,7 @@ is_child x k w h fits z e =
     record { birth = b.0; born = b.1; parent = b.2; left = j.0; joins = j.1 }
 
 pub child_joins : (x : Kernel) (k : IsKernel x) (w : ℕ) (h : Handed) → h.stop ≡ stop.End → x.faulted ≡ false
-    → Fits x w h → (z : ℕ) → IsChild x h.proc.number z → IsJoiner (slice_get x.slots z) h.proc
+    → FitsHanded x w h → (z : ℕ) → IsChild x h.proc.number z → IsJoiner (slice_get x.slots z) h.proc
 child_joins x k w h is quiet fits z c = subst (λ i. IsJoiner (slice_get x.slots i) h.proc) c.parent
     (go (joiner (slice_get x.slots c.birth.parent) c.left c.joins))
   where
@@ -295,20 +297,21 @@ child_joins x k w h is quiet fits z c = subst (λ i. IsJoiner (slice_get x.slots
     go (q, e) = subst (λ o. IsJoiner o h.proc) (sym e)
         (fits.safe.ends h.proc.number c.left c.birth (config_of h.proc) (config_of q) stops c.born (ap condition_in e))
 
-pub gave_end : (x : Kernel) (k : IsKernel x) (w : ℕ) (h : Handed) → h.stop ≡ stop.End → x.faulted ≡ false → Fits x w h
-    → (z : ℕ) → IsChild x h.proc.number z → (t : Slot) → Joins (slice_get x.slots z) h.proc t
+pub gave_end : (x : Kernel) (k : IsKernel x) (w : ℕ) (h : Handed) → h.stop ≡ stop.End → x.faulted ≡ false
+    → FitsHanded x w h
+    → (z : ℕ) → IsChild x h.proc.number z → (t : Slot) → JoinedSlot (slice_get x.slots z) h.proc t
     → Gave x h.proc.number h (ends_child h.proc.number z t x)
 gave_end x k w h is quiet fits z c t took =
     subst (λ i. Gave x h.proc.number h (ends_child h.proc.number i t x)) c.parent
     (gave_child x k h.proc.number w fits.out h is quiet (refl, fits.input) c.birth c.born c.left c.joins t
-    (subst (λ i. Joins (slice_get x.slots i) h.proc t) (sym c.parent) took))
+    (subst (λ i. JoinedSlot (slice_get x.slots i) h.proc t) (sym c.parent) took))
 
 pub child_apart : (x : Kernel) (k : IsKernel x) (w : ℕ) (h : Handed) → h.stop ≡ stop.End → x.faulted ≡ false
-    → Fits x w h → (z : ℕ) → IsChild x h.proc.number z → h.proc.number ≢ z
+    → FitsHanded x w h → (z : ℕ) → IsChild x h.proc.number z → h.proc.number ≢ z
 child_apart x k w h is quiet fits z c e = apart x k h.proc.number w fits.out h is quiet (refl, fits.input) c.birth
     c.born c.left c.joins (e ∙ sym c.parent)
 
 pub child_there : (x : Kernel) (k : IsKernel x) (w : ℕ) (h : Handed) → h.stop ≡ stop.End → x.faulted ≡ false
-    → Fits x w h → (z : ℕ) → IsChild x h.proc.number z → z < length x.slots
+    → FitsHanded x w h → (z : ℕ) → IsChild x h.proc.number z → z < length x.slots
 child_there x k w h is quiet fits z c = subst (λ i. i < length x.slots) c.parent
     (parent_there x k h.proc.number w fits.out h is quiet (refl, fits.input) c.birth c.born c.left c.joins)

@@ -18,12 +18,12 @@ use Rattle.sp_journal.specs.Births.{Births, births}
 use Rattle.sp_channel.specs.declared.channels.Pending.{Pending}
 use Rattle.sp_code.specs.declared.code.Parts.{Parts}
 use Rattle.sp_code.specs.Machine as m
-use Rattle.sp_code.specs.Memory.{put_cell, Setting, Memory, memory, cells_at, has_cells}
+use Rattle.sp_code.specs.Memory.{put_cell, CodeRun, Memory, memory, cells_at, has_cells}
 use Rattle.sp_code.specs.PlainStore.{plain}
 use Rattle.sp_code.specs.Turns.{Stopped, IsTurn}
 use Rattle.sp_code.specs.Sound.{CanPut}
 use Rattle.sp_code.specs.Control.{Out, comes_back}
-use Rattle.sp_code.specs.System.{System, Working, after, event_of, entered_now, on_store, fault_of}
+use Rattle.sp_code.specs.System.{System, Working, system_after_turn, event_of, process_at_entry, on_store, fault_of}
 use Rattle.sp_history.specs.Channels.{CellHas, CellsHave, EntriesHave, ConfigHas}
 use Rattle.sp_history.proofs.Keeping.{HasKeeping, turn_does}
 use Rattle.sp_kernel.specs.declared.slot.Slot.TheVariants as slot
@@ -34,7 +34,7 @@ use Rattle.sp_machine.specs.declared.state.Stop.TheVariants as stop
 use Rattle.sp_kernel.specs.declared.kernel.Kernel.{Kernel}
 use Rattle.sp_kernel.specs.Procs.{config_of, turn_by, turn_of}
 use Rattle.sp_kernel.specs.Kernels.{offer_in, process_in, control_of, system_of, setting_of, WaitsAs, IsKernel, Gave}
-use Rattle.sp_kernel.specs.Opens.{opens, EntersAt}
+use Rattle.sp_kernel.specs.Opens.{kernel_after_open, EntersAt}
 use Rattle.sp_kernel.proofs.Giving.{event_quiet, after_quiet, whole_after, next_doing, next_condition, next_births}
 use Rattle.sp_kernel.proofs.Giving.{same_offers, same_numbers, parents_after}
 
@@ -47,8 +47,8 @@ abbrev Every : Memory Plain → Type 0
 Every n = Unit {0}
 
 -- so many cells fit there
-abbrev Takes : ℕ → Address → Memory Plain → Type 0
-Takes k a n = (cs : List Cell) → length cs ≡ k → CanPut n.store a cs
+abbrev FitsCells : ℕ → Address → Memory Plain → Type 0
+FitsCells k a n = (cs : List Cell) → length cs ≡ k → CanPut n.store a cs
 
 any_cell : (c : Cell) → CellHas Any c
 any_cell cell.Undefined = tt
@@ -79,9 +79,9 @@ enough : (o : Option (List Cell)) (k n : ℕ) → has_cells o k n ≡ true → (
 enough None k n e = absurd (cc e)
 enough (Some cs) k n e = (cs, refl, leb-true (k + n) (length cs) e)
 
-module _ (g : Setting) where
+module _ (g : CodeRun) where
   takes : (a : Address) (k : ℕ) (n : Memory Plain) → (memory plain g).has a k n ≡ true
-      → Takes k a ((memory plain g).own a n)
+      → FitsCells k a ((memory plain g).make_own a n)
   takes a k n e es many =
       let w = enough (plain.piece n.store a.spot) a.offset k e in
       let here = get_here n.store.map a.spot (Own (cells_at plain n.store a.spot)) in
@@ -96,9 +96,9 @@ module _ (g : Setting) where
         );
       }
 
-  keeping : HasKeeping (memory plain g) Any Every Takes
+  keeping : HasKeeping (memory plain g) Any Every FitsCells
   keeping = record {
-    look = λ a n i. any_cell ((memory plain g).look a n);
+    look = λ a n i. any_cell ((memory plain g).read a n);
     cells = λ a k n i. any_cells ((memory plain g).cells a k n);
     put = λ a c n i w x. tt;
     read = λ a v k bs n i w x. tt;
@@ -116,7 +116,7 @@ module _ (g : Setting) where
   pub open_takes : (code : Parts) (c : m.Config (Memory Plain)) (p : Proc)
       → IsTurn (memory plain g) code c (Stopped (m.Opens p.target) (config_of p)) → (d : Cell)
       → CanPut p.store p.target (d ∷ [])
-  open_takes code c p turn d = (turn_does (memory plain g) code Any Every Takes keeping c
+  open_takes code c p turn d = (turn_does (memory plain g) code Any Every FitsCells keeping c
       (Stopped (m.Opens p.target) (config_of p)) (any_config c) turn).0.1 (d ∷ []) refl
 
 -- ---- no fault, or which
@@ -186,11 +186,11 @@ module _ (x : Kernel) (k : IsKernel x) (p w : ℕ) (here : (control_of x).doing 
       ∙ ap (λ e. comes_back p e (control_of x)) event_is
 
   channel_is : config_of r ≡ on_store (put_cell plain h.proc.target (cell.Channel (births x.journal.entries).channels))
-      (entered_now (config_of h.proc))
+      (process_at_entry (config_of h.proc))
   channel_is = en.0 ∙ ap (λ n. on_store (put_cell plain h.proc.target (cell.Channel n))
-      (entered_now (config_of h.proc))) k.channels
+      (process_at_entry (config_of h.proc))) k.channels
 
-  system : system_of opened ≡ after plain (setting_of x) p (turn_of h) (system_of x)
+  system : system_of opened ≡ system_after_turn plain (setting_of x) p (turn_of h) (system_of x)
   system = (λ i. record (system_of x) {
     condition = (next_condition x k p w here event.Open (slot.Here r st.Ready)
         ∙ ap (λ d. at_key ◌==◌ p (Working d) (system_of x).condition) channel_is) i;
@@ -199,7 +199,7 @@ module _ (x : Kernel) (k : IsKernel x) (p w : ℕ) (here : (control_of x).doing 
     entries = x.entries + 1;
   })
       ∙ after_quiet (setting_of x) (system_of x) p (m.Opens h.proc.target) (config_of h.proc) quiet fine
-      ∙ ap (λ t. after plain (setting_of x) p t (system_of x)) (sym turn_is)
+      ∙ ap (λ t. system_after_turn plain (setting_of x) p t (system_of x)) (sym turn_is)
 
   offers : (c : ℕ) (o : Pending) → slice_get (x.channels ++ None ∷ []) c ≡ Some (Some o)
       → WaitsAs (slice_get (slice_set x.slots p (slot.Here r st.Ready)) o.process) c o
@@ -222,7 +222,7 @@ module _ (x : Kernel) (k : IsKernel x) (p w : ℕ) (here : (control_of x).doing 
         (record { count = k.parents.count; each = k.parents.each }));
   }
 
-  pub gave_open : Gave x p h (opens r x)
+  pub gave_open : Gave x p h (kernel_after_open r x)
   gave_open = subst (λ n. Gave x p h (record x {
     slots = slice_set x.slots n (slot.Here r st.Ready);
     ready = x.ready ++ n ∷ [];

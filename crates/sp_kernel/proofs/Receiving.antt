@@ -20,8 +20,9 @@ use Rattle.sp_code.specs.PlainStore.{plain}
 use Rattle.sp_code.specs.Turns.{Stopped, IsTurn}
 use Rattle.sp_code.specs.Sound.{StopsAt}
 use Rattle.sp_code.specs.Control.{Out, Receiving, comes_back, offers}
-use Rattle.sp_code.specs.System.{System, Working, Waits, after, event_of, entered_now, on_store, fault_of, taken}
-use Rattle.sp_code.specs.System.{received, message_of, counted, clash_by, pending_stop, stop_of}
+use Rattle.sp_code.specs.System.{System, Working, Waits, system_after_turn, event_of, process_at_entry, on_store}
+use Rattle.sp_code.specs.System.{fault_of, apply_receive}
+use Rattle.sp_code.specs.System.{after_message, message_of, with_entry_counted, clash_by, pending_stop, stop_of}
 use Rattle.sp_kernel.specs.declared.slot.Slot.{Slot}
 use Rattle.sp_kernel.specs.declared.slot.Slot.TheVariants as slot
 use Rattle.sp_kernel.specs.declared.slot.State.TheVariants as st
@@ -29,11 +30,11 @@ use Rattle.sp_machine.specs.declared.state.State.{State as Proc}
 use Rattle.sp_kernel.specs.declared.handed.Handed.{Handed}
 use Rattle.sp_machine.specs.declared.state.Stop.TheVariants as stop
 use Rattle.sp_kernel.specs.declared.kernel.Kernel.{Kernel}
-use Rattle.sp_kernel.specs.Procs.{config_of, turn_by, turn_of, Enters}
+use Rattle.sp_kernel.specs.Procs.{config_of, turn_by, turn_of, EntersAs}
 use Rattle.sp_kernel.specs.Kernels.{doing_in, condition_in, offer_in, process_in, control_of, system_of, setting_of}
 use Rattle.sp_kernel.specs.Kernels.{WaitsAs, IsOwn, NumberIn, IsKernel, Gave}
 use Rattle.sp_kernel.specs.Receives.{waits_to_receive, meets_receiving, IsSender, IsSenderWith, EntersWith}
-use Rattle.sp_kernel.specs.Fits.{Fits}
+use Rattle.sp_kernel.specs.Fits.{FitsHanded}
 use Rattle.sp_kernel.proofs.Tables.{table_set}
 use Rattle.sp_kernel.proofs.Giving.{event_quiet, after_quiet, whole_after, next_doing, next_condition, next_births}
 use Rattle.sp_kernel.proofs.Giving.{same_numbers, parents_after}
@@ -62,7 +63,7 @@ module _ (x : Kernel) (k : IsKernel x) (p w : ℕ) (here : (control_of x).doing 
       ∙ ap (event_of x.limits (system_of x)) (sym turn_is)
 
   -- nothing is pending: it waits
-  module _ (r : Proc) (en : Enters h.proc r) (free : slice_get x.channels c ≡ Some None) where
+  module _ (r : Proc) (en : EntersAs h.proc r) (free : slice_get x.channels c ≡ Some None) where
     own_first : r.number ≡ p
     own_first = en.1 ∙ number
 
@@ -90,7 +91,7 @@ module _ (x : Kernel) (k : IsKernel x) (p w : ℕ) (here : (control_of x).doing 
         { out = x.out - 1; births = births x.journal.entries }) (sym (ap offer_in free))
         ∙ ap (λ e. comes_back p e (control_of x)) event_is
 
-    first_system : system_of first ≡ after plain (setting_of x) p (turn_of h) (system_of x)
+    first_system : system_of first ≡ system_after_turn plain (setting_of x) p (turn_of h) (system_of x)
     first_system = (λ i. record (system_of x) {
       condition = (next_condition x k p w here (event.Receive c) (slot.Here r (st.Receiving c j))
           ∙ ap (λ a. at_key ◌==◌ p (Waits (m.Receives c j a) (config_of r)) (system_of x).condition) en.2
@@ -100,12 +101,12 @@ module _ (x : Kernel) (k : IsKernel x) (p w : ℕ) (here : (control_of x).doing 
       births = next_births x k p w here (event.Receive c) (slot.Here r (st.Receiving c j)) i;
       entries = x.entries + 1;
     })
-        ∙ ap (λ (o : Option ℕ). record (counted plain (setting_of x)
-        (taken plain (setting_of x) p (m.Receives c j h.proc.target) c h.proc.target
-        (entered_now (config_of h.proc)) o (system_of x))) { births = births x.journal.entries })
+        ∙ ap (λ (o : Option ℕ). record (with_entry_counted plain (setting_of x)
+        (apply_receive plain (setting_of x) p (m.Receives c j h.proc.target) c h.proc.target
+        (process_at_entry (config_of h.proc)) o (system_of x))) { births = births x.journal.entries })
         (sym (ap process_in free))
         ∙ after_quiet (setting_of x) (system_of x) p (m.Receives c j h.proc.target) (config_of h.proc) quiet fine
-        ∙ ap (λ t. after plain (setting_of x) p t (system_of x)) (sym turn_is)
+        ∙ ap (λ t. system_after_turn plain (setting_of x) p t (system_of x)) (sym turn_is)
 
     first_gave : Gave x p h first
     first_gave = record {
@@ -155,11 +156,11 @@ module _ (x : Kernel) (k : IsKernel x) (p w : ℕ) (here : (control_of x).doing 
       entries = x.entries + 1;
     }
 
-    received_is : received plain (setting_of x) [] (condition_in (slice_get x.slots z)) ≡ Working (config_of t)
+    received_is : after_message plain (setting_of x) [] (condition_in (slice_get x.slots z)) ≡ Working (config_of t)
     received_is = go (slice_get x.slots z) gives
       where
         go : (o : Option Slot) → IsSenderWith o t cs
-            → received plain (setting_of x) [] (condition_in o) ≡ Working (config_of t)
+            → after_message plain (setting_of x) [] (condition_in o) ≡ Working (config_of t)
         go None e = absurd e
         go (Some (slot.Here q st.Ready)) e = absurd e
         go (Some (slot.Out v q)) e = absurd e
@@ -203,30 +204,31 @@ module _ (x : Kernel) (k : IsKernel x) (p w : ℕ) (here : (control_of x).doing 
         { out = x.out - 1; births = births x.journal.entries }) (sym (ap offer_in pending))
         ∙ ap (λ e. comes_back p e (control_of x)) event_is
 
-    met_system : system_of (met z pending t r cs gives en) ≡ after plain (setting_of x) p (turn_of h) (system_of x)
+    met_system : system_of (met z pending t r cs gives en) ≡ system_after_turn plain (setting_of x) p (turn_of h)
+        (system_of x)
     unfolding met
     met_system = (λ i. record (system_of x) {
       condition = (both_set x k p w here c _ pending t r condition_in
           ∙ ap (λ d. at_key ◌==◌ p (Working d) (at_key ◌==◌ z (Working (config_of t)) (system_of x).condition)) en.0
           ∙ ap (λ bs. at_key ◌==◌ p (Working
-          (on_store (put_cells plain h.proc.target bs) (entered_now (config_of h.proc))))
+          (on_store (put_cells plain h.proc.target bs) (process_at_entry (config_of h.proc))))
           (at_key ◌==◌ z (Working (config_of t)) (system_of x).condition))
           (sym (message_is z pending t r cs gives en))
           ∙ ap (λ y. at_key ◌==◌ p (Working (on_store
           (put_cells plain h.proc.target
           (message_of plain (setting_of x) (stop_of (condition_in (slice_get x.slots z)))))
-          (entered_now (config_of h.proc)))) (at_key ◌==◌ z y (system_of x).condition))
+          (process_at_entry (config_of h.proc)))) (at_key ◌==◌ z y (system_of x).condition))
           (sym (received_is z pending t r cs gives en))) i;
       pending = table_set process_in x.channels c None (slice_get_within x.channels c _ pending) i;
       births = next_births x k p w here (event.Receive c) (slot.Here r st.Ready) i;
       entries = x.entries + 1;
     })
-        ∙ ap (λ (o : Option ℕ). record (counted plain (setting_of x)
-        (taken plain (setting_of x) p (m.Receives c j h.proc.target) c h.proc.target
-        (entered_now (config_of h.proc)) o (system_of x))) { births = births x.journal.entries })
+        ∙ ap (λ (o : Option ℕ). record (with_entry_counted plain (setting_of x)
+        (apply_receive plain (setting_of x) p (m.Receives c j h.proc.target) c h.proc.target
+        (process_at_entry (config_of h.proc)) o (system_of x))) { births = births x.journal.entries })
         (sym (ap process_in pending))
         ∙ after_quiet (setting_of x) (system_of x) p (m.Receives c j h.proc.target) (config_of h.proc) quiet fine
-        ∙ ap (λ t. after plain (setting_of x) p t (system_of x)) (sym turn_is)
+        ∙ ap (λ t. system_after_turn plain (setting_of x) p t (system_of x)) (sym turn_is)
 
     got_number : IsOwn (setting_of x).input t z
     got_number = go (slice_get x.slots z) gives (k.numbers z)
@@ -328,7 +330,7 @@ module _ (x : Kernel) (k : IsKernel x) (c j : ℕ) (a : Address) (d : m.Config (
 pub sender_fits : (x : Kernel) (k : IsKernel x) (w : ℕ) (h : Handed) (c j : ℕ) → h.stop ≡ stop.Receive c j
     → x.faulted ≡ false → fault_of x.limits (system_of x) (Stopped (m.Receives c j h.proc.target) (config_of h.proc))
     ≡ None
-    → Fits x w h → (q : Pending) → slice_get x.channels c ≡ Some (Some q) → q.way ≡ way.Send
+    → FitsHanded x w h → (q : Pending) → slice_get x.channels c ≡ Some (Some q) → q.way ≡ way.Send
     → IsSender (slice_get x.slots q.process) h.proc
 sender_fits x k w h c j is quiet fine fits q e f = go (slice_get x.slots q.process) refl (k.offers c q e)
   where

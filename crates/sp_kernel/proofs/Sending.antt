@@ -19,8 +19,9 @@ use Rattle.sp_code.specs.PlainStore.{plain}
 use Rattle.sp_code.specs.Turns.{Stopped, IsTurn}
 use Rattle.sp_code.specs.Sound.{StopsAt}
 use Rattle.sp_code.specs.Control.{Out, Sending, comes_back, offers}
-use Rattle.sp_code.specs.System.{System, Working, Waits, after, event_of, entered_now, fault_of, sent, received}
-use Rattle.sp_code.specs.System.{counted, clash_by, pending_stop, stop_of}
+use Rattle.sp_code.specs.System.{System, Working, Waits, system_after_turn, event_of, process_at_entry, fault_of}
+use Rattle.sp_code.specs.System.{apply_send, after_message}
+use Rattle.sp_code.specs.System.{with_entry_counted, clash_by, pending_stop, stop_of}
 use Rattle.sp_kernel.specs.declared.slot.Slot.{Slot}
 use Rattle.sp_kernel.specs.declared.slot.Slot.TheVariants as slot
 use Rattle.sp_kernel.specs.declared.slot.State.TheVariants as st
@@ -28,11 +29,11 @@ use Rattle.sp_machine.specs.declared.state.State.{State as Proc}
 use Rattle.sp_kernel.specs.declared.handed.Handed.{Handed}
 use Rattle.sp_machine.specs.declared.state.Stop.TheVariants as stop
 use Rattle.sp_kernel.specs.declared.kernel.Kernel.{Kernel}
-use Rattle.sp_kernel.specs.Procs.{config_of, turn_by, turn_of, Enters}
+use Rattle.sp_kernel.specs.Procs.{config_of, turn_by, turn_of, EntersAs}
 use Rattle.sp_kernel.specs.Kernels.{doing_in, condition_in, offer_in, process_in, control_of, system_of, setting_of}
 use Rattle.sp_kernel.specs.Kernels.{WaitsAs, IsOwn, NumberIn, IsKernel, Gave}
 use Rattle.sp_kernel.specs.Sends.{waits_to_send, meets_sending, IsReceiver, Receives as Gets}
-use Rattle.sp_kernel.specs.Fits.{Fits}
+use Rattle.sp_kernel.specs.Fits.{FitsHanded}
 use Rattle.sp_kernel.proofs.Tables.{table_set}
 use Rattle.sp_kernel.proofs.Giving.{event_quiet, after_quiet, whole_after, next_doing, next_condition, next_births}
 use Rattle.sp_kernel.proofs.Giving.{same_numbers, parents_after}
@@ -53,7 +54,7 @@ module _ (x : Kernel) (k : IsKernel x) (p w : ℕ) (here : (control_of x).doing 
     (cs : List Cell)
     (is : h.stop ≡ stop.Send c j cs) (quiet : x.faulted ≡ false)
     (fine : fault_of x.limits (system_of x) (Stopped (m.Sends c j cs) (config_of h.proc)) ≡ None)
-    (r : Proc) (en : Enters h.proc r) (number : h.proc.number ≡ p)
+    (r : Proc) (en : EntersAs h.proc r) (number : h.proc.number ≡ p)
     (reads : h.proc.input.value ≡ (setting_of x).input) where
   turn_is : turn_of h ≡ Stopped (m.Sends c j cs) (config_of h.proc)
   turn_is = ap (λ s. turn_by s h.proc) is
@@ -91,7 +92,7 @@ module _ (x : Kernel) (k : IsKernel x) (p w : ℕ) (here : (control_of x).doing 
         { out = x.out - 1; births = births x.journal.entries }) (sym (ap offer_in free))
         ∙ ap (λ e. comes_back p e (control_of x)) event_is
 
-    first_system : system_of first ≡ after plain (setting_of x) p (turn_of h) (system_of x)
+    first_system : system_of first ≡ system_after_turn plain (setting_of x) p (turn_of h) (system_of x)
     first_system = (λ i. record (system_of x) {
       condition = (next_condition x k p w here (event.Send c) (slot.Here r (st.Sending c j cs))
           ∙ ap (λ d. at_key ◌==◌ p (Waits (m.Sends c j cs) d) (system_of x).condition) en.0) i;
@@ -100,11 +101,11 @@ module _ (x : Kernel) (k : IsKernel x) (p w : ℕ) (here : (control_of x).doing 
       births = next_births x k p w here (event.Send c) (slot.Here r (st.Sending c j cs)) i;
       entries = x.entries + 1;
     })
-        ∙ ap (λ (o : Option ℕ). record (counted plain (setting_of x)
-        (sent plain (setting_of x) p (m.Sends c j cs) c cs (entered_now (config_of h.proc)) o (system_of x)))
+        ∙ ap (λ (o : Option ℕ). record (with_entry_counted plain (setting_of x)
+        (apply_send plain (setting_of x) p (m.Sends c j cs) c cs (process_at_entry (config_of h.proc)) o (system_of x)))
         { births = births x.journal.entries }) (sym (ap process_in free))
         ∙ after_quiet (setting_of x) (system_of x) p (m.Sends c j cs) (config_of h.proc) quiet fine
-        ∙ ap (λ t. after plain (setting_of x) p t (system_of x)) (sym turn_is)
+        ∙ ap (λ t. system_after_turn plain (setting_of x) p t (system_of x)) (sym turn_is)
 
     first_gave : Gave x p h first
     first_gave = record {
@@ -148,10 +149,11 @@ module _ (x : Kernel) (k : IsKernel x) (p w : ℕ) (here : (control_of x).doing 
       entries = x.entries + 1;
     }
 
-    received_is : received plain (setting_of x) cs (condition_in (slice_get x.slots z)) ≡ Working (config_of t)
+    received_is : after_message plain (setting_of x) cs (condition_in (slice_get x.slots z)) ≡ Working (config_of t)
     received_is = go (slice_get x.slots z) gets
       where
-        go : (o : Option Slot) → Gets o cs t → received plain (setting_of x) cs (condition_in o) ≡ Working (config_of t)
+        go : (o : Option Slot) → Gets o cs t → after_message plain (setting_of x) cs (condition_in o)
+            ≡ Working (config_of t)
         go None e = absurd e
         go (Some (slot.Here q st.Ready)) e = absurd e
         go (Some (slot.Out v q)) e = absurd e
@@ -180,22 +182,23 @@ module _ (x : Kernel) (k : IsKernel x) (p w : ℕ) (here : (control_of x).doing 
         { out = x.out - 1; births = births x.journal.entries }) (sym (ap offer_in pending))
         ∙ ap (λ e. comes_back p e (control_of x)) event_is
 
-    met_system : system_of (met z pending t gets) ≡ after plain (setting_of x) p (turn_of h) (system_of x)
+    met_system : system_of (met z pending t gets) ≡ system_after_turn plain (setting_of x) p (turn_of h) (system_of x)
     unfolding met
     met_system = (λ i. record (system_of x) {
       condition = (both_set x k p w here c _ pending t r condition_in
           ∙ ap (λ d. at_key ◌==◌ p (Working d) (at_key ◌==◌ z (Working (config_of t)) (system_of x).condition)) en.0
-          ∙ ap (λ y. at_key ◌==◌ p (Working (entered_now (config_of h.proc))) (at_key ◌==◌ z y (system_of x).condition))
+          ∙ ap (λ y. at_key ◌==◌ p (Working (process_at_entry (config_of h.proc)))
+          (at_key ◌==◌ z y (system_of x).condition))
           (sym (received_is z pending t gets))) i;
       pending = table_set process_in x.channels c None (slice_get_within x.channels c _ pending) i;
       births = next_births x k p w here (event.Send c) (slot.Here r st.Ready) i;
       entries = x.entries + 1;
     })
-        ∙ ap (λ (o : Option ℕ). record (counted plain (setting_of x)
-        (sent plain (setting_of x) p (m.Sends c j cs) c cs (entered_now (config_of h.proc)) o (system_of x)))
+        ∙ ap (λ (o : Option ℕ). record (with_entry_counted plain (setting_of x)
+        (apply_send plain (setting_of x) p (m.Sends c j cs) c cs (process_at_entry (config_of h.proc)) o (system_of x)))
         { births = births x.journal.entries }) (sym (ap process_in pending))
         ∙ after_quiet (setting_of x) (system_of x) p (m.Sends c j cs) (config_of h.proc) quiet fine
-        ∙ ap (λ t. after plain (setting_of x) p t (system_of x)) (sym turn_is)
+        ∙ ap (λ t. system_after_turn plain (setting_of x) p t (system_of x)) (sym turn_is)
 
     got_number : IsOwn (setting_of x).input t z
     got_number = go (slice_get x.slots z) gets (k.numbers z)
@@ -293,7 +296,7 @@ module _ (x : Kernel) (k : IsKernel x) (c j : ℕ) (cs : List Cell) (d : m.Confi
 pub receiver_takes : (x : Kernel) (k : IsKernel x) (w : ℕ) (h : Handed) (c j : ℕ) (cs : List Cell)
     → h.stop ≡ stop.Send c j cs → x.faulted ≡ false
     → fault_of x.limits (system_of x) (Stopped (m.Sends c j cs) (config_of h.proc)) ≡ None
-    → Fits x w h → (q : Pending) → slice_get x.channels c ≡ Some (Some q) → q.way ≡ way.Receive
+    → FitsHanded x w h → (q : Pending) → slice_get x.channels c ≡ Some (Some q) → q.way ≡ way.Receive
     → IsReceiver (slice_get x.slots q.process) cs
 receiver_takes x k w h c j cs is quiet fine fits q e f = go (slice_get x.slots q.process) refl (k.offers c q e)
   where

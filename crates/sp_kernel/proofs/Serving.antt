@@ -1,4 +1,4 @@
--- Each call of the kernel that leaves a note is a step of the control and the system of the definitions (`Notes`).
+-- Each call of the kernel that leaves a note is a step of the control and the system of the definitions (`LeavesNote`).
 use Rattle.std.proofs.Common.{◌≡◌, ◌≢◌, ℕ, ◌+◌, ◌-◌, ◌<◌, ◌≤◌, ◌==◌, ◌||◌, nat_lt, Bool, true, false, if◌then◌else◌}
 use Rattle.std.proofs.Common.{List, [], ◌∷◌, ◌++◌, length, length-append, Option, Some, None, slice_set, refl, sym, ap}
 use Rattle.std.proofs.Common.{◌∙◌, subst, arith}
@@ -9,13 +9,14 @@ use Rattle.sp_journal.specs.declared.entry.Event.{Event}
 use Rattle.sp_journal.specs.declared.entry.Event.TheVariants as event
 use Rattle.sp_journal.specs.declared.entry.Birth.{Birth}
 use Rattle.sp_journal.specs.Maps.{at_key}
-use Rattle.sp_code.specs.Memory.{Setting}
+use Rattle.sp_code.specs.Memory.{CodeRun}
 use Rattle.sp_code.specs.PlainStore.{plain}
 use Rattle.sp_code.specs.Sound.{run_of}
 use Rattle.sp_code.specs.Control.{Control, Doing, Ready, Out, Gone, Joining, Unborn, Sending, Receiving, Laid, Ended}
-use Rattle.sp_code.specs.Control.{takes, given, entry_of, comes_back, abandons, front, offers, queues, does, one_fewer}
+use Rattle.sp_code.specs.Control.{takes, after_give, entry_of, comes_back, abandons, front, offers, queues, does}
+use Rattle.sp_code.specs.Control.{one_fewer}
 use Rattle.sp_code.specs.Control.{reports}
-use Rattle.sp_code.specs.System.{System, event_of, Gives, Gets}
+use Rattle.sp_code.specs.System.{System, event_of, GiveIsLegal, GetIsLegal}
 use Rattle.sp_kernel.specs.declared.slot.Slot.{Slot}
 use Rattle.sp_machine.specs.declared.state.State.{State as Proc}
 use Rattle.sp_kernel.specs.declared.handed.Handed.{Handed}
@@ -27,9 +28,9 @@ use Rattle.sp_kernel.specs.declared.ask.Got.TheVariants as got
 use Rattle.sp_kernel.specs.Procs.{turn_of}
 use Rattle.sp_kernel.specs.Kernels.{control_of, system_of, setting_of, doing_in, condition_in, NumberIn, IsKernel}
 use Rattle.sp_kernel.specs.Kernels.{Takes, Gave, Abandons}
-use Rattle.sp_kernel.specs.Fits.{Fits}
-use Rattle.sp_kernel.specs.Asks.{Notes, Answers, FitsAsk}
-use Rattle.sp_history.specs.Agreement.{IsOrderly, Agrees}
+use Rattle.sp_kernel.specs.Fits.{FitsHanded}
+use Rattle.sp_kernel.specs.Asks.{LeavesNote, GotMatchesNote, FitsAsk}
+use Rattle.sp_history.specs.Agreement.{IsOrderly, AgreesWithSystem}
 use Rattle.std.proofs.lemmas.List.{length-set}
 use Rattle.sp_history.proofs.Legal.{orderly_gives_up, agrees_gives_up}
 use Rattle.sp_kernel.proofs.Tables.{table_set, set_as_it_was}
@@ -41,7 +42,8 @@ pub same_setting : (x y : Kernel) → (y.code ≡ x.code) × (y.limits ≡ x.lim
 same_setting x y e = λ i. run_of (e.0 i).value (e.2 i).value.input.value (e.1 i)
 
 pub noted_take : (x : Kernel) (w : ℕ) (y : Kernel) (p : Proc) → Takes x w y (Some p)
-    → Notes x w (ask.Turn None) y (got.Work p) (record { worker = w; given = None; event = None; got = Some p.number })
+    → LeavesNote x w (ask.Turn None) y (got.Work p)
+    (record { worker = w; given = None; event = None; got = Some p.number })
 noted_take x w y p t = record {
   worker = refl;
   changed = λ same. let e : y.out ≡ x.out + 1 = ap (λ (c : Control). c.out) t.control in
@@ -56,7 +58,7 @@ noted_take x w y p t = record {
     refl,
     ap (λ (s : System Plain). s.condition p.number) t.system ∙ (t.work p refl).0,
     (t.work p refl).1
-        ∙ ap (λ (g : Setting). g.input) (sym (same_setting x y t.setting)),
+        ∙ ap (λ (g : CodeRun). g.input) (sym (same_setting x y t.setting)),
   );
   journal = ap (λ (j : _). j.entries) t.journal ∙ sym (append-nil x.journal.entries);
   gives_up = (refl, refl);
@@ -109,9 +111,9 @@ one_more : {X : Type 0} (xs : List X) (x : X) → xs ++ x ∷ [] ≢ xs
 one_more xs x e = let f : length (xs ++ x ∷ []) ≡ length xs = ap length e in omega (arith, f, length-append xs (x ∷ []))
 
 pub noted_turn : (x : Kernel) (w : ℕ) (h : Handed) (m : Kernel) (y : Kernel) (r : Option Proc) (g : Got) (e : Event)
-    → Fits x w h → Gave x h.proc.number h m → Takes m w y r → e ≡ event_of x.limits (system_of x) (turn_of h)
-    → Answers y g (option_map (λ (p : Proc). p.number) r)
-    → Notes x w (ask.Turn (Some h)) y g (record
+    → FitsHanded x w h → Gave x h.proc.number h m → Takes m w y r → e ≡ event_of x.limits (system_of x) (turn_of h)
+    → GotMatchesNote y g (option_map (λ (p : Proc). p.number) r)
+    → LeavesNote x w (ask.Turn (Some h)) y g (record
     { worker = w; given = Some h.proc.number; event = Some e; got = option_map (λ (p : Proc). p.number) r })
 noted_turn x w h m y r g e fits gave t is answer =
     let k : Control = control_of x in
@@ -194,8 +196,8 @@ module _ (x : Kernel) (k : IsKernel x) (w : ℕ) where
       journal = refl;
       whole = record {
         orderly = subst IsOrderly (sym lost_control) (orderly_gives_up (control_of x) k.orderly w (Some q) is_mine);
-        agrees = subst (λ c. Agrees c (system_of lost)) (sym lost_control)
-            (subst (λ t. Agrees (abandons (Some q) (control_of x)) t) (sym lost_system)
+        agrees = subst (λ c. AgreesWithSystem c (system_of lost)) (sym lost_control)
+            (subst (λ t. AgreesWithSystem (abandons (Some q) (control_of x)) t) (sym lost_system)
             (agrees_gives_up (control_of x) (system_of x) k.agrees w (Some q) is_mine));
         processes = length-set x.slots q s ∙ k.processes;
         channels = k.channels;
@@ -222,13 +224,13 @@ none_after x o y a = over_none (control_of y)
     (let e : y.abandons ≡ x.abandons + 1 = ap (λ (c : Control). c.abandons) a.control ∙ abandons_one o (control_of x) in
     over_by y.abandons _ (omega (arith, e)))
 
-noted_abandons : (w : ℕ) (o : Option ℕ) (k : Control) → takes w None (given o None None k) ≡ abandons o k
+noted_abandons : (w : ℕ) (o : Option ℕ) (k : Control) → takes w None (after_give o None None k) ≡ abandons o k
 noted_abandons w None k = refl
 noted_abandons w (Some p) k = refl
 
 pub noted_abandon : (x : Kernel) (w : ℕ) (o : Option Proc) (y : Kernel) (g : Got) → FitsAsk x w (ask.Abandon o)
-    → Abandons x (option_map (λ (p : Proc). p.number) o) y → Answers y g None
-    → Notes x w (ask.Abandon o) y g (record {
+    → Abandons x (option_map (λ (p : Proc). p.number) o) y → GotMatchesNote y g None
+    → LeavesNote x w (ask.Abandon o) y g (record {
       worker = w;
       given = option_map (λ (p : Proc). p.number) o;
       event = None;
@@ -256,13 +258,14 @@ noted_abandon x w o y g fits a answer =
     }
   where
     gives : (p : Option Proc) → FitsAsk x w (ask.Abandon p) → system_of y ≡ system_of x
-        → Gives plain (setting_of x) (control_of x) (system_of x) w (option_map (λ (q : Proc). q.number) p) None None
+        → GiveIsLegal plain (setting_of x) (control_of x) (system_of x) w (option_map (λ (q : Proc). q.number) p)
+        None None
         (system_of y)
     gives None f e = e
     gives (Some p) f e = (f, refl, e)
 
-    gets : (p : Option Proc) → Gets plain (setting_of x)
-        (given (option_map (λ (q : Proc). q.number) p) None None (control_of x)) None None
+    gets : (p : Option Proc) → GetIsLegal plain (setting_of x)
+        (after_give (option_map (λ (q : Proc). q.number) p) None None (control_of x)) None None
     gets p = tt {0}
 
     no_entry : (p : Option Proc) → x.journal.entries

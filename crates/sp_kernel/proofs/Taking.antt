@@ -1,4 +1,4 @@
--- What is taken is the front of the queue: from the tables after a call of `take` to `Takes`.
+-- What is taken is the front of the queue: from the tables after a call of `take` to `FitsCells`.
 use Rattle.std.proofs.Common.{◌≡◌, ◌≢◌, ◌⊎◌, ℕ, ◌+◌, ◌<◌, ◌==◌, ◌||◌, inl, inr, Bool, true, false, if◌then◌else◌}
 use Rattle.std.proofs.Common.{nat_lt, List, [], ◌∷◌, length, Some, None, slice_get, slice_set, refl, sym, ap, ◌∙◌}
 use Rattle.std.proofs.Common.{subst}
@@ -7,7 +7,8 @@ use Rattle.std.proofs.lemmas.Option.{slice_get_within}
 use Rattle.sp_base.proofs.Facts.{get_beside_set, get_where_set}
 use Rattle.sp_journal.specs.Maps.{at_key}
 use Rattle.sp_channel.specs.declared.channels.Pending.{Pending}
-use Rattle.sp_code.specs.Control.{Control, Ready, Out, takes, behind, front, front_of, front_while, Standing, Running}
+use Rattle.sp_code.specs.Control.{Control, Ready, Out, takes, queue_tail, front, front_of, front_while, Standing}
+use Rattle.sp_code.specs.Control.{Running}
 use Rattle.sp_code.specs.Control.{IsDone, IsDeadlock, IsFault, IsMemory, has_ended, is_ready}
 use Rattle.sp_code.specs.System.{Working}
 use Rattle.sp_kernel.specs.declared.slot.Slot.{Slot}
@@ -18,7 +19,7 @@ use Rattle.sp_kernel.specs.declared.kernel.Kernel.{Kernel}
 use Rattle.sp_kernel.specs.Procs.{config_of}
 use Rattle.sp_kernel.specs.Kernels.{doing_in, condition_in, control_of, system_of, setting_of, WaitsAs, NumberIn, IsOwn}
 use Rattle.sp_kernel.specs.Kernels.{IsKernel, Takes, is_over}
-use Rattle.sp_history.specs.Agreement.{Each, IsGot}
+use Rattle.sp_history.specs.Agreement.{EachNumber, IsGot}
 use Rattle.sp_history.proofs.Queues.{number_or}
 use Rattle.sp_history.proofs.Agreeing.{agrees_takes, orderly_takes}
 use Rattle.sp_kernel.proofs.Tables.{table_set, set_as_it_was}
@@ -58,7 +59,7 @@ not_over k e = go (nat_lt 0 k.abandons) k.faulted (has_ended (k.doing 0)) e k.re
 pub first_ready : (x : Kernel) (k : IsKernel x) (q : ℕ) → front_of x.ready ≡ Some q → IsGot (control_of x) (Some q)
 first_ready x k q e = go x.ready refl k.orderly.queue.queued e
   where
-    go : (r : List ℕ) → x.ready ≡ r → Each (λ p. (control_of x).doing p ≡ Ready) r → front_of r ≡ Some q
+    go : (r : List ℕ) → x.ready ≡ r → EachNumber (λ p. (control_of x).doing p ≡ Ready) r → front_of r ≡ Some q
         → IsGot (control_of x) (Some q)
     go [] w each e = absurd (cc e)
     go (y ∷ ys) w each e = let is : y ≡ q = cc e in
@@ -69,7 +70,7 @@ module _ (x : Kernel) (k : IsKernel x) (w q : ℕ) (goes : is_over (control_of x
     (doing : doing_in (Some s) ≡ Out w) (runs : condition_in (Some s) ≡ Working (config_of p))
     (free : NumberIn (setting_of x).input (Some s) q) where
   abbrev taken : Kernel
-  taken = record x { slots = slice_set x.slots q s; ready = behind x.ready; out = x.out + 1 }
+  taken = record x { slots = slice_set x.slots q s; ready = queue_tail x.ready; out = x.out + 1 }
 
   own : IsOwn (setting_of x).input p q
   own = subst (λ o. NumberIn (setting_of x).input o q) here (k.numbers q)
@@ -87,7 +88,7 @@ module _ (x : Kernel) (k : IsKernel x) (w q : ℕ) (goes : is_over (control_of x
   control = λ i. record (control_of x) {
     doing =
         (table_set doing_in x.slots q s q_there ∙ ap (λ d. at_key ◌==◌ q d (control_of x).doing) doing) i;
-    ready = behind x.ready;
+    ready = queue_tail x.ready;
     out = x.out + 1;
   }
 
@@ -127,8 +128,9 @@ module _ (x : Kernel) (k : IsKernel x) (w q : ℕ) (goes : is_over (control_of x
     whole = record {
       orderly = subst (λ c. Rattle.sp_history.specs.Agreement.IsOrderly c) (sym control)
           (orderly_takes (control_of x) k.orderly w (Some q) is_got);
-      agrees = subst (λ c. Rattle.sp_history.specs.Agreement.Agrees c (system_of taken)) (sym control)
-          (subst (λ t. Rattle.sp_history.specs.Agreement.Agrees (takes w (Some q) (control_of x)) t) (sym system)
+      agrees = subst (λ c. Rattle.sp_history.specs.Agreement.AgreesWithSystem c (system_of taken)) (sym control)
+          (subst (λ t. Rattle.sp_history.specs.Agreement.AgreesWithSystem (takes w (Some q) (control_of x)) t)
+          (sym system)
           (agrees_takes (control_of x) (system_of x) k.agrees w (Some q) is_got));
       processes = length-set x.slots q s ∙ k.processes;
       channels = k.channels;

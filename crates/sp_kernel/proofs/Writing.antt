@@ -13,7 +13,7 @@ use Rattle.sp_kernel.specs.declared.slot.State.TheVariants as st
 use Rattle.sp_machine.specs.declared.state.State.{State as Proc}
 use Rattle.sp_kernel.specs.declared.kernel.Kernel.{Kernel}
 use Rattle.sp_kernel.specs.Kernels.{doing_in, condition_in}
-use Rattle.sp_kernel.specs.Outputs.{written_by, written_in, or_rest, written}
+use Rattle.sp_kernel.specs.Outputs.{output_of_process, output_in_slot, or_rest, first_output}
 use Rattle.sp_kernel.specs.Closes.{HeldHere}
 
 store_here : (p : Proc) (s : State) → store_in (condition_in (Some (slot.Here p s))) ≡ Some p.store
@@ -41,29 +41,29 @@ not_gone p st.Laid e = absurd (cc e)
 not_gone p st.Over e = absurd (cc e)
 
 -- an output of one of these, which is here
-pub record Writes (slots : List Slot) (bs : List ℕ) : Type 0 where
+pub record HoldsOutput (slots : List Slot) (bs : List ℕ) : Type 0 where
   pub process : ℕ
   pub proc : Proc
   pub state : State
   pub at : slice_get slots process ≡ Some (slot.Here proc state)
-  pub output : written_by proc ≡ Some bs
+  pub output : output_of_process proc ≡ Some bs
 
-later : (s : Slot) (ss : List Slot) (bs : List ℕ) → Writes ss bs → Writes (s ∷ ss) bs
+later : (s : Slot) (ss : List Slot) (bs : List ℕ) → HoldsOutput ss bs → HoldsOutput (s ∷ ss) bs
 later s ss bs w = record { process = suc w.process; proc = w.proc; state = w.state; at = w.at; output = w.output }
 
-pub written_is : (slots : List Slot) (bs : List ℕ) → written slots ≡ Some bs → Writes slots bs
+pub written_is : (slots : List Slot) (bs : List ℕ) → first_output slots ≡ Some bs → HoldsOutput slots bs
 written_is [] bs e = absurd (cc e)
-written_is (slot.Here p s ∷ ss) bs e = go (written_by p) refl e (λ f. written_is ss bs f)
+written_is (slot.Here p s ∷ ss) bs e = go (output_of_process p) refl e (λ f. written_is ss bs f)
   where
-    go : (o : Option (List ℕ)) → written_by p ≡ o → or_rest o (written ss) ≡ Some bs
-        → (written ss ≡ Some bs → Writes ss bs) → Writes (slot.Here p s ∷ ss) bs
+    go : (o : Option (List ℕ)) → output_of_process p ≡ o → or_rest o (first_output ss) ≡ Some bs
+        → (first_output ss ≡ Some bs → HoldsOutput ss bs) → HoldsOutput (slot.Here p s ∷ ss) bs
     go (Some cs) is f h = record { process = zero; proc = p; state = s; at = refl; output = is ∙ f }
     go None is f h = later (slot.Here p s) ss bs (h f)
 written_is (slot.Out w p ∷ ss) bs e = later (slot.Out w p) ss bs (written_is ss bs e)
 written_is (slot.Ended ∷ ss) bs e = later slot.Ended ss bs (written_is ss bs e)
 written_is (slot.Gone p ∷ ss) bs e = later (slot.Gone p) ss bs (written_is ss bs e)
 
-pub writes_store : (slots : List Slot) (bs : List ℕ) (w : Writes slots bs)
+pub writes_store : (slots : List Slot) (bs : List ℕ) (w : HoldsOutput slots bs)
     → (store_in (condition_in (slice_get slots w.process)) ≡ Some w.proc.store) × (plain.output w.proc.store ≡ Some bs)
 writes_store slots bs w = (ap (λ o. store_in (condition_in o)) w.at ∙ store_here w.proc w.state, w.output)
 
@@ -72,16 +72,16 @@ or_rest_none None r e = (refl, e)
 or_rest_none (Some bs) r e = absurd (cc e)
 
 -- who is here does not hold it, where none is found
-pub none_writes : (slots : List Slot) → written slots ≡ None → (q : ℕ) (m : Plain) (bs : List ℕ)
+pub none_writes : (slots : List Slot) → first_output slots ≡ None → (q : ℕ) (m : Plain) (bs : List ℕ)
     → ((w : ℕ) → doing_in (slice_get slots q) ≡ Out w → ⊥) → (doing_in (slice_get slots q) ≡ Gone → ⊥)
     → store_in (condition_in (slice_get slots q)) ≡ Some m → plain.output m ≡ Some bs → ⊥
 none_writes [] e q m bs o g h x = absurd (cc h)
 none_writes (s ∷ ss) e (suc q) m bs o g h x =
-    none_writes ss (or_rest_none (written_in s) (written ss) e).1 q m bs o g h x
+    none_writes ss (or_rest_none (output_in_slot s) (first_output ss) e).1 q m bs o g h x
 none_writes (slot.Here p s ∷ ss) e zero m bs o g h x =
     let same : p.store ≡ m = same_Some _ _ (sym (store_here p s) ∙ h) in
-    let y : written_by p ≡ Some bs = ap (λ (n : Plain). plain.output n) same ∙ x in
-    let n : written_by p ≡ None = (or_rest_none (written_by p) (written ss) e).0 in
+    let y : output_of_process p ≡ Some bs = ap (λ (n : Plain). plain.output n) same ∙ x in
+    let n : output_of_process p ≡ None = (or_rest_none (output_of_process p) (first_output ss) e).0 in
     none-some bs (sym n ∙ y)
 none_writes (slot.Out v p ∷ ss) e zero m bs o g h x = o v refl
 none_writes (slot.Ended ∷ ss) e zero m bs o g h x = absurd (cc h)
@@ -89,7 +89,7 @@ none_writes (slot.Gone p ∷ ss) e zero m bs o g h x = g refl
 
 -- ---- at the call
 
-pub held : (y : Kernel) (bs : List ℕ) → written y.slots ≡ Some bs → HeldHere y bs
+pub held : (y : Kernel) (bs : List ℕ) → first_output y.slots ≡ Some bs → HeldHere y bs
 held y bs e =
     let w = written_is y.slots bs e in
     let s = writes_store y.slots bs w in (
@@ -103,7 +103,7 @@ held y bs e =
       s.1,
     )
 
-pub not_held : (y : Kernel) → written y.slots ≡ None → (bs : List ℕ) → HeldHere y bs → ⊥
+pub not_held : (y : Kernel) → first_output y.slots ≡ None → (bs : List ℕ) → HeldHere y bs → ⊥
 not_held y e bs h = none_writes y.slots e h.0 h.1 bs h.2.0 h.2.1 h.3 h.4
 
 pub matched : {R : Type 0} (f : R → List ℕ) (o : Option R) (N : Type 0) (P : List ℕ → Type 0) (w : Option (List ℕ))

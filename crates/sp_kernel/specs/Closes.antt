@@ -11,13 +11,13 @@ use Rattle.sp_journal.specs.declared.entry.Way.TheVariants as way
 use Rattle.sp_journal.specs.declared.outcome.End.{End}
 use Rattle.sp_journal.specs.declared.outcome.End.TheVariants as end
 use Rattle.sp_journal.specs.declared.outcome.Waiter.{Waiter}
-use Rattle.sp_journal.specs.Births.{Births, births, channel, at_start, NameableFrom}
+use Rattle.sp_journal.specs.Births.{Births, births, channel, first_births, NameableFrom}
 use Rattle.sp_journal.specs.Names.{proc_name, chan_name}
 use Rattle.sp_code.specs.PlainStore.{plain}
 use Rattle.sp_code.specs.Control.{Out, Gone, standing, entries_of, Running, IsDone, IsDeadlock, IsFault, IsMemory}
 use Rattle.sp_code.specs.System.{store_in}
 use Rattle.sp_history.specs.Agreement.{IsOver}
-use Rattle.sp_history.specs.Spoken.{IsSpoken}
+use Rattle.sp_history.specs.NamesChannels.{NamesChannels}
 use Rattle.sp_room.specs.History.{LeadsTo as Told}
 use Rattle.sp_kernel.specs.declared.slot.Slot.{Slot}
 use Rattle.sp_kernel.specs.declared.slot.Slot.TheVariants as slot
@@ -25,7 +25,7 @@ use Rattle.sp_kernel.specs.declared.slot.State.TheVariants as st
 use Rattle.sp_kernel.specs.declared.kernel.Kernel.{Kernel}
 use Rattle.sp_kernel.specs.Kernels.{control_of, system_of, IsKernel}
 use Rattle.sp_kernel.specs.Faults.{fault_in, is_there}
-use Rattle.sp_kernel.specs.Asks.{IsOpening, Steps}
+use Rattle.sp_kernel.specs.Asks.{IsOpening, KernelSteps}
 
 -- ---- who waits
 
@@ -80,16 +80,16 @@ EndIs y (end.Fault name f) = (standing (control_of y) ≡ IsFault) × (p : ℕ) 
 EndIs y end.Memory = standing (control_of y) ≡ IsMemory
 
 -- it stands at this end, or goes on
-abbrev pub EndsSo : Kernel → Option End → Type 0
-EndsSo y None = standing (control_of y) ≡ Running
-EndsSo y (Some e) = EndIs y e
+abbrev pub KernelEndsAs : Kernel → Option End → Type 0
+KernelEndsAs y None = standing (control_of y) ≡ Running
+KernelEndsAs y (Some e) = EndIs y e
 
 -- what its journal and its tables name is there, and a fault stands exactly where the journal has its entry
-pub record IsNamed (y : Kernel) : Type 0 where
+pub record IsNameableKernel (y : Kernel) : Type 0 where
   pub whole : IsKernel y
-  pub nameable : NameableFrom at_start y.journal.entries
+  pub nameable : NameableFrom first_births y.journal.entries
   pub told : y.faulted ≡ is_there (fault_in y.journal.entries)
-  pub spoken : IsSpoken (system_of y)
+  pub spoken : NamesChannels (system_of y)
 
 -- ---- the output
 
@@ -108,7 +108,7 @@ or_empty (Some bs) = bs
 
 -- the run of x came to its end after these notes, and nothing is out
 pub record RanTo (x : Kernel) (log : List Note) (y : Kernel) : Type 0 where
-  pub legal : Told Steps x log y
+  pub legal : Told KernelSteps x log y
   pub over : IsOver (control_of y)
   pub journal : y.journal.entries ≡ entries_of log
 

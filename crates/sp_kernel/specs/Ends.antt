@@ -13,7 +13,7 @@ use Rattle.sp_kernel.specs.declared.slot.State.{State}
 use Rattle.sp_kernel.specs.declared.slot.State.TheVariants as st
 use Rattle.sp_kernel.specs.declared.kernel.Kernel.{Kernel}
 use Rattle.sp_kernel.specs.Procs.{config_of}
-use Rattle.sp_kernel.specs.Kernels.{entered}
+use Rattle.sp_kernel.specs.Kernels.{with_entry}
 
 -- how many children a process still waits for
 abbrev pub left_in : Option Slot → ℕ
@@ -34,7 +34,7 @@ one_fewer n = if n == 1 then st.Ready else st.Joining (n - 1)
 
 -- an entry more; after the last child the parent z is ready
 abbrev pub noted_end : ℕ → ℕ → Kernel → Kernel
-noted_end p z x = record (entered p event.End x)
+noted_end p z x = record (with_entry p event.End x)
     { ready = if left_in (slice_get x.slots z) == 1 then x.ready ++ z ∷ [] else x.ready }
 
 -- child p has ended, and its parent z is now in this slot
@@ -65,14 +65,14 @@ TookBack q p r = (config_of r ≡ on_store (λ m. plain.joined m p.store) (confi
     × (r.input.value ≡ q.input.value)
 
 -- the slot of one that joins, after it took back from p
-abbrev pub Joins : Option Slot → Proc → Slot → Type 0
-Joins (Some (slot.Here q (st.Joining n))) p t = (r : Proc) × (t ≡ slot.Here r (one_fewer n)) × TookBack q p r
-Joins None p t = ⊥
-Joins (Some (slot.Here q st.Ready)) p t = ⊥
-Joins (Some (slot.Out w q)) p t = ⊥
-Joins (Some (slot.Here q (st.Sending c k bs))) p t = ⊥
-Joins (Some (slot.Here q (st.Receiving c k))) p t = ⊥
-Joins (Some (slot.Here q st.Laid)) p t = ⊥
-Joins (Some slot.Ended) p t = ⊥
-Joins (Some (slot.Here q st.Over)) p t = ⊥
-Joins (Some (slot.Gone q)) p t = ⊥
+abbrev pub JoinedSlot : Option Slot → Proc → Slot → Type 0
+JoinedSlot (Some (slot.Here q (st.Joining n))) p t = (r : Proc) × (t ≡ slot.Here r (one_fewer n)) × TookBack q p r
+JoinedSlot None p t = ⊥
+JoinedSlot (Some (slot.Here q st.Ready)) p t = ⊥
+JoinedSlot (Some (slot.Out w q)) p t = ⊥
+JoinedSlot (Some (slot.Here q (st.Sending c k bs))) p t = ⊥
+JoinedSlot (Some (slot.Here q (st.Receiving c k))) p t = ⊥
+JoinedSlot (Some (slot.Here q st.Laid)) p t = ⊥
+JoinedSlot (Some slot.Ended) p t = ⊥
+JoinedSlot (Some (slot.Here q st.Over)) p t = ⊥
+JoinedSlot (Some (slot.Gone q)) p t = ⊥

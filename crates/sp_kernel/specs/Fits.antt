@@ -49,7 +49,7 @@ pub record FitsCode (code : Parts) : Type 0 where
   pub formals : HaveFormals code.layouts
 
 -- the process is out with the worker, and was run by one turn from where the system has it
-pub record Fits (x : Kernel) (w : ℕ) (h : Handed) : Type 0 where
+pub record FitsHanded (x : Kernel) (w : ℕ) (h : Handed) : Type 0 where
   pub out : (control_of x).doing h.proc.number ≡ Out w
   pub at : Config (Memory Plain)
   pub runs : (system_of x).condition h.proc.number ≡ Working at

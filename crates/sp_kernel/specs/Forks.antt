@@ -6,7 +6,7 @@ use Rattle.std.specs.Prelude.{slice_set}
 use Rattle.sp_journal.specs.declared.entry.Event.TheVariants as event
 use Rattle.sp_journal.specs.Queue.{numbers}
 use Rattle.sp_code.specs.PlainStore.{plain}
-use Rattle.sp_code.specs.System.{on_store, entered_now, table_or}
+use Rattle.sp_code.specs.System.{on_store, process_at_entry, table_or}
 use Rattle.sp_machine.specs.declared.state.State.{State as Proc}
 use Rattle.sp_machine.specs.declared.state.Stop.{Stop}
 use Rattle.sp_machine.specs.declared.state.Stop.TheVariants as stop
@@ -15,7 +15,7 @@ use Rattle.sp_kernel.specs.declared.slot.Slot.{Slot}
 use Rattle.sp_kernel.specs.declared.slot.Slot.TheVariants as slot
 use Rattle.sp_kernel.specs.declared.slot.State.TheVariants as st
 use Rattle.sp_kernel.specs.declared.kernel.Kernel.{Kernel}
-use Rattle.sp_kernel.specs.Lines.{repeat}
+use Rattle.sp_kernel.specs.ListEnds.{repeat}
 use Rattle.sp_kernel.specs.Seats.{Seated}
 use Rattle.sp_kernel.specs.Procs.{config_of}
 
@@ -24,8 +24,8 @@ abbrev pub exceeds : Kernel → ℕ → Bool
 exceeds x n = nat_lt x.limits.processes (length x.slots + n)
 
 -- there is room for n children of p
-abbrev pub admitted : ℕ → ℕ → Kernel → Kernel
-admitted p n x = record x {
+abbrev pub with_room_for : ℕ → ℕ → Kernel → Kernel
+with_room_for p n x = record x {
   slots = x.slots ++ repeat n slot.Ended;
   parents = x.parents ++ repeat n (Some p);
   ready = x.ready ++ numbers (length x.slots) n;
@@ -33,8 +33,8 @@ admitted p n x = record x {
 }
 
 -- the parent after it, and the children in these slots
-abbrev pub forks : Proc → ℕ → List Slot → Kernel → Kernel
-forks p n slots x = record x {
+abbrev pub kernel_after_fork : Proc → ℕ → List Slot → Kernel → Kernel
+kernel_after_fork p n slots x = record x {
   slots = slice_set slots p.number (slot.Here p (st.Joining n));
   parents = x.parents ++ repeat n (Some p.number);
   ready = x.ready ++ numbers (length x.slots) n;
@@ -46,7 +46,7 @@ forks p n slots x = record x {
 -- from here on its ticks count for the next pause, and it has handed over what the fork hands over
 abbrev pub HandsOver : Kernel → Proc → ℕ → Proc → Type 0
 HandsOver x p n q = (config_of q ≡ on_store (λ m. plain.handed m (plan_by x.code.value p n))
-    (entered_now (config_of p))) × (q.number ≡ p.number) × (q.input.value ≡ p.input.value)
+    (process_at_entry (config_of p))) × (q.number ≡ p.number) × (q.input.value ≡ p.input.value)
 
 -- the process p forked n children
 pub record HasForked (x : Kernel) (p : Proc) (n : ℕ) (y : Kernel) : Type 0 where
@@ -56,7 +56,7 @@ pub record HasForked (x : Kernel) (p : Proc) (n : ℕ) (y : Kernel) : Type 0 whe
   pub born : AreNewborn x.code.value p (table_or (slice_get x.code.value.forks p.table)) (length x.slots) n children
   pub slots : List Slot
   pub seated : Seated (x.slots ++ repeat n slot.Ended) (length x.slots) children slots
-  pub is : y ≡ forks parent n slots x
+  pub is : y ≡ kernel_after_fork parent n slots x
 
 -- a stop at a fork of n children
 abbrev pub IsForkOf : Stop → ℕ → Type 0

@@ -6,12 +6,12 @@ use Rattle.std.proofs.Common.{length, Some, None, refl, sym, ap, ◌∙◌, subs
 use Rattle.sp_cell.specs.Map.{Plain}
 use Rattle.sp_journal.specs.declared.entry.Note.{Note}
 use Rattle.sp_code.specs.Machine.{Config, Sends, Receives, Stop as MachineStop}
-use Rattle.sp_code.specs.Memory.{Setting, Memory, memory}
+use Rattle.sp_code.specs.Memory.{CodeRun, Memory, memory}
 use Rattle.sp_code.specs.PlainStore.{plain}
 use Rattle.sp_code.specs.Turns.{IsTurn, Stopped}
-use Rattle.sp_code.specs.Control.{Control, Out, Joining, control_at_start, control, noted, noted_all, entries_of}
+use Rattle.sp_code.specs.Control.{Control, Out, Joining, control_at_start, control, after_note, after_notes, entries_of}
 use Rattle.sp_code.specs.Control.{entry_of}
-use Rattle.sp_code.specs.System.{System, Working, opening, IsSystem}
+use Rattle.sp_code.specs.System.{System, Working, opening_system, IsSystem}
 use Rattle.sp_room.specs.History.{LeadsTo as Told, notes_by, StartsWith, either_list}
 use mathlib.Core.List.{append-nil}
 use Rattle.sp_base.proofs.Facts.{equals_itself}
@@ -25,13 +25,14 @@ use Rattle.sp_kernel.specs.declared.ask.Got.{Got}
 use Rattle.sp_kernel.specs.declared.ask.Got.TheVariants as got
 use Rattle.sp_kernel.specs.Procs.{config_of, turn_by, turn_of}
 use Rattle.sp_kernel.specs.Kernels.{control_of, system_of, setting_of, IsKernel}
-use Rattle.sp_kernel.specs.Fits.{Fits, FitsCode, IsOffered, IsWhole}
-use Rattle.sp_kernel.specs.Asks.{IsOpening, CanServe, FitsAsk, HoldsOut, HasRun, MayAsk, StandsFor, Steps, Notes}
+use Rattle.sp_kernel.specs.Fits.{FitsHanded, FitsCode, IsOffered, IsWhole}
+use Rattle.sp_kernel.specs.Asks.{IsOpening, CanServe, FitsAsk, HoldsOut, HasRun, MayAsk, StandsFor, KernelSteps}
+use Rattle.sp_kernel.specs.Asks.{LeavesNote}
 use Rattle.sp_kernel.specs.Asks.{is_abandon, refusal}
 use Rattle.sp_code.specs.Sound.{IsSafeSystem}
 use Rattle.sp_journal.specs.declared.entry.Birth.{Birth}
 use Rattle.sp_history.specs.Channels.{StopHas}
-use Rattle.sp_history.specs.Spoken.{IsSpoken}
+use Rattle.sp_history.specs.NamesChannels.{NamesChannels}
 use Rattle.sp_history.proofs.Speaking.{system_spoken, turn_spoken}
 use Rattle.sp_history.proofs.Families.{parent_joins, children_all, children_start}
 use Rattle.sp_history.specs.Agreement.{Reaches, NoneBy}
@@ -39,22 +40,24 @@ use Rattle.sp_history.proofs.Agreeing.{agrees_start, orderly_start}
 use Rattle.sp_history.proofs.Legal.{reaches_keeps, reaches_leads, reaches_same, reaches_front, stays}
 
 -- without a note nothing changed
-pub none_same : (x : Kernel) (w : ℕ) (a : Ask) (y : Kernel) (g : Got) → Steps x w a y g None → y ≡ x
+pub none_same : (x : Kernel) (w : ℕ) (a : Ask) (y : Kernel) (g : Got) → KernelSteps x w a y g None → y ≡ x
 none_same x w a y g m = m.0
 
 -- a note has changed the kernel
-pub note_changes : (x : Kernel) (w : ℕ) (a : Ask) (y : Kernel) (g : Got) (n : Note) → Steps x w a y g (Some n) → y ≡ x
+pub note_changes : (x : Kernel) (w : ℕ) (a : Ask) (y : Kernel) (g : Got) (n : Note) → KernelSteps x w a y g (Some n)
+    → y ≡ x
     → ⊥
 note_changes x w a y g n m same = m.changed same
 
 -- an abandon has a note
-pub abandon_notes : (x : Kernel) (w : ℕ) (a : Ask) (y : Kernel) (g : Got) → is_abandon a ≡ true → Steps x w a y g None
+pub abandon_notes : (x : Kernel) (w : ℕ) (a : Ask) (y : Kernel) (g : Got) → is_abandon a ≡ true
+    → KernelSteps x w a y g None
     → ⊥
 abandon_notes x w (ask.Turn h) y g is m = absurd (cc is)
 abandon_notes x w (ask.Abandon p) y g is m = m.1
 
 -- a note names its worker
-pub note_names : (x : Kernel) (w : ℕ) (a : Ask) (y : Kernel) (g : Got) (n : Note) → Steps x w a y g (Some n)
+pub note_names : (x : Kernel) (w : ℕ) (a : Ask) (y : Kernel) (g : Got) (n : Note) → KernelSteps x w a y g (Some n)
     → n.worker ≡ w
 note_names x w a y g n m = m.worker
 
@@ -69,17 +72,18 @@ refusal_returns (ask.Abandon p) b g one two a c = absurd (cc one)
 -- ---- what the notes tell of the kernel
 
 -- where the kernel has come after these notes
-pub record Came (x : Kernel) (log : List Note) (y : Kernel) : Type 0 where
+pub record KernelAfter (x : Kernel) (log : List Note) (y : Kernel) : Type 0 where
   pub reaches : Reaches plain (setting_of x) (control_of x) (system_of x) log (system_of y)
-  pub control : control_of y ≡ noted_all log (control_of x)
+  pub control : control_of y ≡ after_notes log (control_of x)
   pub setting : setting_of y ≡ setting_of x
   pub whole : IsKernel y
   pub out : y.out ≤ x.out + length log
   pub abandons : y.abandons ≤ x.abandons + length log
   pub journal : y.journal.entries ≡ x.journal.entries ++ entries_of log
 
-pub came : (x : Kernel) (log : List Note) (y : Kernel) → IsKernel x → Told Steps x log y → Came x log y
-came x [] y k r = record {
+pub kernel_after : (x : Kernel) (log : List Note) (y : Kernel) → IsKernel x → Told KernelSteps x log y
+    → KernelAfter x log y
+kernel_after x [] y k r = record {
   reaches = ap system_of r;
   control = ap control_of (sym r);
   setting = ap setting_of (sym r);
@@ -88,18 +92,19 @@ came x [] y k r = record {
   abandons = let e : x.abandons ≡ y.abandons = ap (λ (z : Kernel). z.abandons) r in omega (arith, e);
   journal = ap (λ (z : Kernel). z.journal.entries) (sym r) ∙ sym (append-nil x.journal.entries);
 }
-came x (n ∷ ns) y k r =
-    let one : Notes x r.1 r.2 r.0 r.3 n = r.4 in
-    let rest = came r.0 ns y one.whole r.5 in
+kernel_after x (n ∷ ns) y k r =
+    let one : LeavesNote x r.1 r.2 r.0 r.3 n = r.4 in
+    let rest = kernel_after r.0 ns y one.whole r.5 in
     record {
       reaches = (
         system_of r.0,
         one.follows,
-        subst (λ (g : Setting). Reaches plain g (noted n (control_of x)) (system_of r.0) ns (system_of y)) one.setting
+        subst (λ (g : CodeRun). Reaches plain g (after_note n (control_of x)) (system_of r.0) ns (system_of y))
+            one.setting
             (subst (λ (c : Control). Reaches plain (setting_of r.0) c (system_of r.0) ns (system_of y)) one.control
             rest.reaches),
       );
-      control = rest.control ∙ ap (noted_all ns) one.control;
+      control = rest.control ∙ ap (after_notes ns) one.control;
       setting = rest.setting ∙ one.setting;
       whole = rest.whole;
       out = omega (arith, one.out, rest.out);
@@ -128,9 +133,9 @@ nothing_more : {X : Type 0} (xs ys : List X) → xs ++ ys ≡ xs → ys ≡ []
 nothing_more [] ys e = e
 nothing_more {X = X} (x ∷ xs) ys e = nothing_more xs ys (let t : xs ++ ys ≡ xs = cc e in t)
 
-pub noted_append : (xs ys : List Note) (k : Control) → noted_all (xs ++ ys) k ≡ noted_all ys (noted_all xs k)
+pub noted_append : (xs ys : List Note) (k : Control) → after_notes (xs ++ ys) k ≡ after_notes ys (after_notes xs k)
 noted_append [] ys k = refl
-noted_append (x ∷ xs) ys k = noted_append xs ys (noted x k)
+noted_append (x ∷ xs) ys k = noted_append xs ys (after_note x k)
 
 none_by : (w : ℕ) (ns : List Note) → notes_by (λ (n : Note). n.worker) w ns ≡ [] → NoneBy w ns
 none_by w [] e = tt {0}
@@ -146,27 +151,27 @@ none_by w (n ∷ ns) e = go (n.worker == w) refl e (λ h. none_by w ns h)
       on h,
     )
 
-module _ (x : Kernel) (fine : IsOpening x) (log : List Note) (y : Kernel) (told : Told Steps x log y) where
-  pub it : Came x log y
-  it = came x log y fine.whole told
+module _ (x : Kernel) (fine : IsOpening x) (log : List Note) (y : Kernel) (told : Told KernelSteps x log y) where
+  pub after_log : KernelAfter x log y
+  after_log = kernel_after x log y fine.whole told
 
-  pub from_start : Reaches plain (setting_of x) control_at_start (opening plain (setting_of x)) log (system_of y)
+  pub from_start : Reaches plain (setting_of x) control_at_start (opening_system plain (setting_of x)) log (system_of y)
   from_start = subst (λ (s : System Plain). Reaches plain (setting_of x) control_at_start s log (system_of y))
       fine.system (subst (λ (c : Control). Reaches plain (setting_of x) c (system_of x) log (system_of y)) fine.control
-      it.reaches)
+      after_log.reaches)
 
   pub control_is : control_of y ≡ control log
-  control_is = it.control ∙ ap (noted_all log) fine.control
+  control_is = after_log.control ∙ ap (after_notes log) fine.control
 
   pub along : IsSystem plain (setting_of x) (entries_of log) (system_of y)
-  along = reaches_leads plain (setting_of x) control_at_start (opening plain (setting_of x)) (system_of y) log
+  along = reaches_leads plain (setting_of x) control_at_start (opening_system plain (setting_of x)) (system_of y) log
       from_start
 
   few_out : length log < 18446744073709551615 → y.out + 1 < 18446744073709551616
-  few_out short = omega (arith, it.out, fine.out, short)
+  few_out short = omega (arith, after_log.out, fine.out, short)
 
   few_abandons : length log < 18446744073709551615 → y.abandons + 1 < 18446744073709551616
-  few_abandons short = omega (arith, it.abandons, fine.abandons, short)
+  few_abandons short = omega (arith, after_log.abandons, fine.abandons, short)
 
   module _ (w : ℕ) (seen own : List Note) (mine : notes_by (λ (n : Note). n.worker) w seen ≡ own)
       (starts : StartsWith log seen) (by : notes_by (λ (n : Note). n.worker) w log ≡ own) where
@@ -180,16 +185,18 @@ module _ (x : Kernel) (fine : IsOpening x) (log : List Note) (y : Kernel) (told 
 
     -- what is out with the worker is as it was
     as_before : (s : System Plain) (p : ℕ) (at : Config (Memory Plain))
-        → Reaches plain (setting_of x) control_at_start (opening plain (setting_of x)) seen s
+        → Reaches plain (setting_of x) control_at_start (opening_system plain (setting_of x)) seen s
         → (control seen).doing p ≡ Out w → s.condition p ≡ Working at
         → ((control log).doing p ≡ Out w) × ((system_of y).condition p ≡ Working at)
     as_before s p at r out runs =
-        let f = reaches_front plain (setting_of x) control_at_start (opening plain (setting_of x)) (system_of y) seen
+        let f = reaches_front plain (setting_of x) control_at_start (opening_system plain (setting_of x))
+        (system_of y) seen
         starts.0 (subst (λ (l : List Note). Reaches plain (setting_of x) control_at_start
-        (opening plain (setting_of x)) l (system_of y)) starts.1 from_start) in
-        let same : s ≡ f.0 = reaches_same plain (setting_of x) control_at_start (opening plain (setting_of x)) s f.0
+        (opening_system plain (setting_of x)) l (system_of y)) starts.1 from_start) in
+        let same : s ≡ f.0 = reaches_same plain (setting_of x) control_at_start
+        (opening_system plain (setting_of x)) s f.0
         seen r f.1 in
-        let kept = reaches_keeps plain (setting_of x) control_at_start (opening plain (setting_of x)) f.0 seen
+        let kept = reaches_keeps plain (setting_of x) control_at_start (opening_system plain (setting_of x)) f.0 seen
         orderly_start (agrees_start plain (setting_of x)) f.1 in
         let o = stays plain (setting_of x) (control seen) f.0 (system_of y) starts.0 kept.0 kept.1 f.2 p w at quiet out
         (ap (λ (z : System Plain). z.condition p) (sym same) ∙ runs) in
@@ -213,7 +220,7 @@ module _ (x : Kernel) (fine : IsOpening x) (log : List Note) (y : Kernel) (told 
           × ((control_of y).doing b.parent ≡ Joining n)
       parent_waits b e =
           let j = parent_joins (control log)
-          (children_all plain (setting_of x) control_at_start (opening plain (setting_of x)) (system_of y) log
+          (children_all plain (setting_of x) control_at_start (opening_system plain (setting_of x)) (system_of y) log
           orderly_start (agrees_start plain (setting_of x)) children_start from_start) q w b kept.0
           (ap (λ (c : Control). c.births.birth q) (sym control_is) ∙ e) in
           (j.0, ap (λ (c : Control). c.doing b.parent) control_is ∙ j.1)
@@ -224,7 +231,7 @@ module _ (x : Kernel) (fine : IsOpening x) (log : List Note) (y : Kernel) (told 
         → IsOffered (length y.channels) h.stop
     offered_now h at runs turn whole = go h.stop whole turn
       where
-        spoken : IsSpoken (system_of y)
+        spoken : NamesChannels (system_of y)
         spoken = system_spoken (setting_of x) (entries_of log) (system_of y) along
 
         there : (stop : MachineStop) → IsTurn (memory plain (setting_of x)) (setting_of x).code at
@@ -234,8 +241,9 @@ module _ (x : Kernel) (fine : IsOpening x) (log : List Note) (y : Kernel) (told 
 
         go : (s : Stop) → IsWhole s → IsTurn (memory plain (setting_of x)) (setting_of x).code at (turn_by s h.proc)
             → IsOffered (length y.channels) s
-        go (stop.Send c k cs) b t = subst (λ n. c < n) (sym it.whole.channels) (there (Sends c k cs) t).0
-        go (stop.Receive c k) b t = subst (λ n. c < n) (sym it.whole.channels) (there (Receives c k h.proc.target) t)
+        go (stop.Send c k cs) b t = subst (λ n. c < n) (sym after_log.whole.channels) (there (Sends c k cs) t).0
+        go (stop.Receive c k) b t =
+            subst (λ n. c < n) (sym after_log.whole.channels) (there (Receives c k h.proc.target) t)
         go stop.Pause b t = tt {0}
         go (stop.Fault g) b t = tt {0}
         go (stop.Fork u v n) b t = tt {0}
@@ -243,19 +251,20 @@ module _ (x : Kernel) (fine : IsOpening x) (log : List Note) (y : Kernel) (told 
         go stop.End b t = tt {0}
         go stop.Memory b t = absurd b
 
-    pub fits_now : (h : Handed) → HasRun (setting_of x) seen w h → Fits y w h
+    pub fits_now : (h : Handed) → HasRun (setting_of x) seen w h → FitsHanded y w h
     fits_now h m = record {
       out = out_now h.proc.number m.holds;
       at = m.holds.at;
       runs = runs_now h.proc.number m.holds;
-      turn = subst (λ (g : Setting). IsTurn (memory plain g) g.code m.holds.at (turn_of h)) (sym it.setting) m.turn;
-      safe = subst (λ (g : Setting). IsSafeSystem g (system_of y)) (sym it.setting)
+      turn = subst (λ (g : CodeRun). IsTurn (memory plain g) g.code m.holds.at (turn_of h)) (sym after_log.setting)
+          m.turn;
+      safe = subst (λ (g : CodeRun). IsSafeSystem g (system_of y)) (sym after_log.setting)
           (fine.sound.safe x.root.value.input.value x.limits fine.limits (entries_of log) (system_of y) along);
       offered = offered_now h m.holds.at (runs_now h.proc.number m.holds) m.turn m.whole;
       fork = m.fork;
-      input = m.input ∙ ap (λ (g : Setting). g.input) (sym it.setting);
+      input = m.input ∙ ap (λ (g : CodeRun). g.input) (sym after_log.setting);
       parent = parent_waits h.proc.number m.holds;
-      code = subst (λ (g : Setting). FitsCode g.code) (sym it.setting)
+      code = subst (λ (g : CodeRun). FitsCode g.code) (sym after_log.setting)
           (record { blocks = fine.sound.blocks; formals = fine.sound.formals });
     }
 
@@ -275,14 +284,15 @@ module _ (x : Kernel) (fine : IsOpening x) (log : List Note) (y : Kernel) (told 
     later (ask.Abandon (Some p)) m = (held_now p.number m, out_now p.number m)
 
 pub asks_last : (x : Kernel) (w : ℕ) (seen own : List Note) (a : Ask) (log : List Note) (y : Kernel) → IsOpening x
-    → MayAsk x w seen own a → StartsWith log seen → notes_by (λ (n : Note). n.worker) w log ≡ own → Told Steps x log y
+    → MayAsk x w seen own a → StartsWith log seen → notes_by (λ (n : Note). n.worker) w log ≡ own
+    → Told KernelSteps x log y
     → length log < 18446744073709551615
     → MayAsk x w log own a × CanServe y w a
 asks_last x w seen own a log y fine may starts by told short =
     let l = later x fine log y told w seen own may.0 starts by a may.1 in (
       (by, l.0),
       record {
-        whole = (it x fine log y told).whole;
+        whole = (after_log x fine log y told).whole;
         out = few_out x fine log y told short;
         abandons = few_abandons x fine log y told short;
         fits = l.1;

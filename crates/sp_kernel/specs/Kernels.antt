@@ -1,6 +1,6 @@
 -- None of this belongs to what the program promises: it is for contracts between crates.
 -- The kernel in memory as the definitions see it: the control and the system that its slots, queue and journal stand
--- for, its invariant, and what each call does (`Takes`, `Gave`, `Abandons`). All contracts of the kernel cite it.
+-- for, its invariant, and what each call does (`FitsCells`, `Gave`, `Abandons`). All contracts of the kernel cite it.
 use Rattle.std.specs.Prelude.{◌≡◌, ℕ, ◌+◌, ◌-◌, List, [], ◌∷◌, ◌++◌, length, Option, Some, None, Bool, slice_get}
 use Rattle.std.specs.Prelude.{slice_set, nat_lt, ◌||◌}
 use Rattle.std.specs.Option.{option_map}
@@ -13,16 +13,17 @@ use Rattle.sp_journal.specs.declared.entry.Birth.{Birth}
 use Rattle.sp_journal.specs.Births.{Births, births}
 use Rattle.sp_channel.specs.declared.channels.Pending.{Pending}
 use Rattle.sp_code.specs.Machine as m
-use Rattle.sp_code.specs.Memory.{Setting}
+use Rattle.sp_code.specs.Memory.{CodeRun}
 use Rattle.sp_code.specs.PlainStore.{plain}
 use Rattle.sp_code.specs.Sound.{run_of}
 use Rattle.sp_code.specs.Control.{Control, Doing, Unborn, Ready, Out, Sending, Receiving, Joining, Laid, Ended, Gone}
-use Rattle.sp_code.specs.Control.{comes_back, behind, takes, abandons, front, has_ended, standing, Standing, Running}
+use Rattle.sp_code.specs.Control.{comes_back, takes, abandons, front, has_ended, standing, Standing}
+use Rattle.sp_code.specs.Control.{Running}
 use Rattle.sp_code.specs.Control.{IsDone, IsDeadlock, IsFault, IsMemory}
 use Rattle.sp_kernel.specs.declared.kernel.Standing.{Standing as Told}
 use Rattle.sp_kernel.specs.declared.kernel.Standing.TheVariants as told
 use Rattle.sp_code.specs.System.{System, Condition, Absent, Working, Waits, Joins, Laid as IsLaid, Gone as HasGone}
-use Rattle.sp_code.specs.System.{Over, after, event_of}
+use Rattle.sp_code.specs.System.{Over, system_after_turn, event_of}
 use Rattle.sp_kernel.specs.declared.slot.Slot.{Slot}
 use Rattle.sp_kernel.specs.declared.slot.Slot.TheVariants as slot
 use Rattle.sp_kernel.specs.declared.slot.State.TheVariants as st
@@ -30,7 +31,7 @@ use Rattle.sp_machine.specs.declared.state.State.{State as Proc}
 use Rattle.sp_kernel.specs.declared.handed.Handed.{Handed}
 use Rattle.sp_kernel.specs.declared.kernel.Kernel.{Kernel}
 use Rattle.sp_kernel.specs.Procs.{config_of, target_of, turn_of}
-use Rattle.sp_history.specs.Agreement.{IsOrderly, Agrees}
+use Rattle.sp_history.specs.Agreement.{IsOrderly, AgreesWithSystem}
 
 -- what the control tells of a slot
 abbrev pub doing_in : Option Slot → Doing
@@ -92,7 +93,7 @@ system_of x = record {
 }
 
 -- the run that it is of
-abbrev pub setting_of : Kernel → Setting
+abbrev pub setting_of : Kernel → CodeRun
 setting_of x = run_of x.code.value x.root.value.input.value x.limits
 
 -- who offers waits with that offer
@@ -141,7 +142,7 @@ pub record HasParents (parents : List (Option ℕ)) (b : Births) : Type 0 where
 -- the tables fit together
 pub record IsKernel (x : Kernel) : Type 0 where
   pub orderly : IsOrderly (control_of x)
-  pub agrees : Agrees (control_of x) (system_of x)
+  pub agrees : AgreesWithSystem (control_of x) (system_of x)
   pub processes : length x.slots ≡ (births x.journal.entries).processes
   pub channels : length x.channels ≡ (births x.journal.entries).channels
   pub offers : (c : ℕ) (o : Pending) → slice_get x.channels c ≡ Some (Some o)
@@ -152,41 +153,43 @@ pub record IsKernel (x : Kernel) : Type 0 where
 -- ---- what the steps do
 
 -- an entry more
-abbrev pub entered : ℕ → Event → Kernel → Kernel
-entered q e x = record x { journal = record { entries = x.journal.entries ++ record { process = q; event = e } ∷ [] } }
+abbrev pub with_entry : ℕ → Event → Kernel → Kernel
+with_entry q e x = record x {
+  journal =
+      record { entries = x.journal.entries ++ record { process = q; event = e } ∷ [] };
+}
 
 -- process q comes back, with an entry, and is in this slot
-abbrev pub back : ℕ → Event → Slot → Kernel → Kernel
-back q e s x = record x {
+abbrev pub kernel_after_give : ℕ → Event → Slot → Kernel → Kernel
+kernel_after_give q e s x = record x {
   slots = slice_set x.slots q s;
   journal = record { entries = x.journal.entries ++ record { process = q; event = e } ∷ [] };
   out = x.out - 1;
 }
 
 -- process q is in this slot
-abbrev pub seated : ℕ → Slot → Kernel → Kernel
-seated q s x = record x { slots = slice_set x.slots q s }
+abbrev pub with_slot : ℕ → Slot → Kernel → Kernel
+with_slot q s x = record x { slots = slice_set x.slots q s }
 
 -- process q goes out
-abbrev pub goes_out : ℕ → Slot → Kernel → Kernel
-goes_out q s x = record x { slots = slice_set x.slots q s; out = x.out + 1 }
+abbrev pub with_process_out : ℕ → Slot → Kernel → Kernel
+with_process_out q s x = record x { slots = slice_set x.slots q s; out = x.out + 1 }
 
 -- process q is lost with its worker
-abbrev pub lost : ℕ → Slot → Kernel → Kernel
-lost q s x = record x { slots = slice_set x.slots q s; out = x.out - 1; abandons = x.abandons + 1 }
+abbrev pub kernel_after_loss : ℕ → Slot → Kernel → Kernel
+kernel_after_loss q s x = record x { slots = slice_set x.slots q s; out = x.out - 1; abandons = x.abandons + 1 }
 
 -- process q is p now, at the back of the queue
-abbrev pub paused : ℕ → Proc → Kernel → Kernel
-paused q p x = record (back q event.Pause (slot.Here p st.Ready) x) { ready = x.ready ++ q ∷ [] }
-
--- the oldest ready process goes out with a worker
-abbrev pub took : ℕ → ℕ → Slot → Kernel → Kernel
-took q w s x = record x { slots = slice_set x.slots q s; ready = behind x.ready; out = x.out + 1 }
+abbrev pub kernel_after_pause : ℕ → Proc → Kernel → Kernel
+kernel_after_pause q p x = record (kernel_after_give q event.Pause (slot.Here p st.Ready) x) {
+  ready =
+      x.ready ++ q ∷ [];
+}
 
 -- the event of what was handed in was done
 pub record Gave (x : Kernel) (p : ℕ) (h : Handed) (y : Kernel) : Type 0 where
   pub control : control_of y ≡ comes_back p (event_of x.limits (system_of x) (turn_of h)) (control_of x)
-  pub system : system_of y ≡ after plain (setting_of x) p (turn_of h) (system_of x)
+  pub system : system_of y ≡ system_after_turn plain (setting_of x) p (turn_of h) (system_of x)
   pub setting : (y.code ≡ x.code) × (y.limits ≡ x.limits) × (y.root ≡ x.root)
   pub entry : y.journal.entries ≡ x.journal.entries
       ++ record { process = p; event = event_of x.limits (system_of x) (turn_of h) } ∷ []

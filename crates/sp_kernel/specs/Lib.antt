@@ -1,4 +1,4 @@
-pub mod Lines
+pub mod ListEnds
 pub mod Procs
 pub mod Kernels
 pub mod Sends

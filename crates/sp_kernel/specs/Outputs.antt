@@ -9,15 +9,15 @@ use Rattle.sp_kernel.specs.declared.slot.Slot.TheVariants as slot
 use Rattle.sp_machine.specs.declared.state.State.{State as Proc}
 
 -- the output in a process's store
-abbrev pub written_by : Proc → Option (List ℕ)
-written_by p = output_of (map.get p.store.map output_spot)
+abbrev pub output_of_process : Proc → Option (List ℕ)
+output_of_process p = output_of (map.get p.store.map output_spot)
 
 -- the output in a slot
-abbrev pub written_in : Slot → Option (List ℕ)
-written_in (slot.Here p s) = written_by p
-written_in (slot.Out w p) = None
-written_in slot.Ended = None
-written_in (slot.Gone p) = None
+abbrev pub output_in_slot : Slot → Option (List ℕ)
+output_in_slot (slot.Here p s) = output_of_process p
+output_in_slot (slot.Out w p) = None
+output_in_slot slot.Ended = None
+output_in_slot (slot.Gone p) = None
 
 -- the first that is there
 abbrev pub or_rest : Option (List ℕ) → Option (List ℕ) → Option (List ℕ)
@@ -25,6 +25,6 @@ or_rest (Some bs) o = Some bs
 or_rest None o = o
 
 -- the first output that one holds
-abbrev pub written : List Slot → Option (List ℕ)
-written [] = None
-written (s ∷ ss) = or_rest (written_in s) (written ss)
+abbrev pub first_output : List Slot → Option (List ℕ)
+first_output [] = None
+first_output (s ∷ ss) = or_rest (output_in_slot s) (first_output ss)

@@ -7,7 +7,7 @@ use Rattle.sp_cell.specs.declared.cell.Cell.{Cell}
 use Rattle.sp_cell.specs.Map.{Plain}
 use Rattle.sp_code.specs.Turns.{Turn}
 use Rattle.sp_code.specs.Memory.{Memory}
-use Rattle.sp_code.specs.System.{entered_now}
+use Rattle.sp_code.specs.System.{process_at_entry}
 use Rattle.sp_code.specs.Sound.{CanPut}
 pub use Rattle.sp_machine.specs.Procs.{config_of, target_of, turn_by}
 use Rattle.sp_machine.specs.declared.state.State.{State as Proc}
@@ -26,6 +26,6 @@ abbrev pub turn_of : Handed → Turn (Memory Plain)
 turn_of h = turn_by h.stop h.proc
 
 -- from here on its ticks count for the next pause
-abbrev pub Enters : Proc → Proc → Type 0
-Enters p q = (config_of q ≡ entered_now (config_of p)) × (q.number ≡ p.number) × (q.target ≡ p.target)
+abbrev pub EntersAs : Proc → Proc → Type 0
+EntersAs p q = (config_of q ≡ process_at_entry (config_of p)) × (q.number ≡ p.number) × (q.target ≡ p.target)
     × (q.input.value ≡ p.input.value)

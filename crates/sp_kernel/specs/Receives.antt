@@ -12,13 +12,13 @@ use Rattle.sp_machine.specs.declared.state.State.{State as Proc}
 use Rattle.sp_kernel.specs.declared.kernel.Kernel.{Kernel}
 use Rattle.sp_code.specs.Memory.{put_cells}
 use Rattle.sp_code.specs.PlainStore.{plain}
-use Rattle.sp_code.specs.System.{on_store, entered_now}
+use Rattle.sp_code.specs.System.{on_store, process_at_entry}
 use Rattle.sp_kernel.specs.Procs.{CanTake, config_of}
-use Rattle.sp_kernel.specs.Kernels.{back}
+use Rattle.sp_kernel.specs.Kernels.{kernel_after_give}
 
 -- it waits
 abbrev pub waits_to_receive : Proc → ℕ → ℕ → Kernel → Kernel
-waits_to_receive p c k x = record (back p.number (event.Receive c) (slot.Here p (st.Receiving c k)) x) {
+waits_to_receive p c k x = record (kernel_after_give p.number (event.Receive c) (slot.Here p (st.Receiving c k)) x) {
   channels = slice_set x.channels c (Some (record { way = way.Receive; process = p.number; message = k }));
   entries = x.entries + 1;
 }
@@ -62,7 +62,7 @@ IsSenderWith (Some (slot.Gone q)) t cs = ⊥
 
 -- from here on its ticks count for the next pause, and it has the message
 abbrev pub EntersWith : Proc → List Cell → Proc → Type 0
-EntersWith p cs q = (config_of q ≡ on_store (put_cells plain p.target cs) (entered_now (config_of p)))
+EntersWith p cs q = (config_of q ≡ on_store (put_cells plain p.target cs) (process_at_entry (config_of p)))
     × (q.number ≡ p.number) × (q.input.value ≡ p.input.value)
 
 -- process p received the message of z, and both are ready

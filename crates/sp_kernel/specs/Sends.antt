@@ -13,12 +13,12 @@ use Rattle.sp_kernel.specs.declared.kernel.Kernel.{Kernel}
 use Rattle.sp_code.specs.Memory.{put_cells}
 use Rattle.sp_code.specs.PlainStore.{plain}
 use Rattle.sp_code.specs.System.{on_store}
-use Rattle.sp_kernel.specs.Procs.{CanTake, Enters, config_of}
-use Rattle.sp_kernel.specs.Kernels.{back}
+use Rattle.sp_kernel.specs.Procs.{CanTake, EntersAs, config_of}
+use Rattle.sp_kernel.specs.Kernels.{kernel_after_give}
 
 -- it waits
 abbrev pub waits_to_send : Proc → ℕ → ℕ → List Cell → Kernel → Kernel
-waits_to_send p c k cs x = record (back p.number (event.Send c) (slot.Here p (st.Sending c k cs)) x) {
+waits_to_send p c k cs x = record (kernel_after_give p.number (event.Send c) (slot.Here p (st.Sending c k cs)) x) {
   channels = slice_set x.channels c (Some (record { way = way.Send; process = p.number; message = k }));
   entries = x.entries + 1;
 }
@@ -64,4 +64,4 @@ Receives (Some (slot.Gone p)) cs r = ⊥
 
 -- process p sent these cells to z, and both are ready
 abbrev pub HasSent : Kernel → Proc → List Cell → ℕ → ℕ → Kernel → Type 0
-HasSent x p cs c z y = (q r : Proc) × Enters p q × Receives (slice_get x.slots z) cs r × (y ≡ meets_sending q r c z x)
+HasSent x p cs c z y = (q r : Proc) × EntersAs p q × Receives (slice_get x.slots z) cs r × (y ≡ meets_sending q r c z x)

@@ -11,10 +11,11 @@ ghost use Rattle.sp_history.specs.Agreement.{phase_in, Running};
 ghost use Rattle.sp_history.specs.Holding.{IsOutputOf};
 ghost use Rattle.sp_room.specs.Ends.{object_of, notes_of};
 ghost use Rattle.sp_kernel.specs.Faults.{fault_in};
-ghost use Rattle.sp_kernel.specs.Outputs.{written};
+ghost use Rattle.sp_kernel.specs.Outputs.{first_output};
 ghost use Rattle.sp_kernel.specs.Kernels.{control_of, system_of};
-ghost use Rattle.sp_kernel.specs.Closes.{AreByName, waiter_of, waiters_from, with_waiter, SpeaksBelow, EndIs, EndsSo};
-ghost use Rattle.sp_kernel.specs.Closes.{IsNamed, HeldHere, RanFrom, or_empty};
+ghost use Rattle.sp_kernel.specs.Closes.{AreByName, waiter_of, waiters_from, with_waiter, SpeaksBelow, EndIs};
+ghost use Rattle.sp_kernel.specs.Closes.{KernelEndsAs};
+ghost use Rattle.sp_kernel.specs.Closes.{IsNameableKernel, HeldHere, RanFrom, or_empty};
 
 use crate::kernel::{Kernel, Standing};
 use crate::slot::{Slot, State};
@@ -68,7 +69,7 @@ fn fault_in(entries: &[Entry]) -> Option<(u32, Fault)>
 
 // The first output that one of these holds.
 fn written(slots: &[Slot]) -> Option<&[u8]>
-    ensures { MatchOption result (written slots.now ≡ None) (λ bs. written slots.now ≡ Some bs.now) }
+    ensures { MatchOption result (first_output slots.now ≡ None) (λ bs. first_output slots.now ≡ Some bs.now) }
 {
     for slot in slots {
         if let Slot::Here(proc, _) = slot {
@@ -159,7 +160,7 @@ impl Kernel {
 
     // The fault that a run ended with.
     fn fault_end(&self) -> Result<End, Memory>
-        requires named { IsNamed self.now }
+        requires named { IsNameableKernel self.now }
         requires faulted { standing (control_of self.now) ≡ IsFault }
         ensures { IfOk result (λ e. EndIs self.now e) }
     {
@@ -175,7 +176,7 @@ impl Kernel {
 
     // Who waits at a deadlock.
     fn deadlock_end(&self) -> Result<End, Memory>
-        requires named { IsNamed self.now }
+        requires named { IsNameableKernel self.now }
         requires deadlock { standing (control_of self.now) ≡ IsDeadlock }
         ensures { IfOk result (λ e. EndIs self.now e) }
     {
@@ -188,8 +189,8 @@ impl Kernel {
 
     /// How the run ended; none exactly where it goes on.
     pub fn end(&self) -> Result<Option<End>, Memory>
-        requires { IsNamed self.now }
-        ensures { IfOk result (λ o. EndsSo self.now o) }
+        requires { IsNameableKernel self.now }
+        ensures { IfOk result (λ o. KernelEndsAs self.now o) }
     {
         match self.standing() {
             Standing::Running => Ok(None),
@@ -208,7 +209,7 @@ impl Kernel {
 
     // What was written; nothing where a worker gave up.
     fn text(&self, alloc: Global) -> Result<Text, Memory>
-        ensures kept { IfOk result (λ text. self.now.abandons ≡ 0 → or_empty (written self.now.slots) ≡ text) }
+        ensures kept { IfOk result (λ text. self.now.abandons ≡ 0 → or_empty (first_output self.now.slots) ≡ text) }
         ensures none { IfOk result (λ text. 0 < self.now.abandons → text ≡ []) }
     {
         if self.abandons > 0 {

@@ -5,10 +5,10 @@ ghost use Rattle.sp_journal.specs.declared.entry.Event.TheVariants as event;
 ghost use Rattle.sp_kernel.specs.declared.slot.Slot.TheVariants as slot;
 ghost use Rattle.sp_kernel.specs.declared.slot.State.TheVariants as st;
 ghost use Rattle.sp_machine.specs.declared.state.Stop.TheVariants as stop;
-ghost use Rattle.sp_kernel.specs.Kernels.{IsKernel, Gave, back, parent_in};
-ghost use Rattle.sp_kernel.specs.Fits.{Fits};
-ghost use Rattle.sp_kernel.specs.Ends.{left_in, one_fewer, noted_end, ends_child, IsJoiner, Joins};
-ghost use Rattle.sp_kernel.specs.Procs.{Enters};
+ghost use Rattle.sp_kernel.specs.Kernels.{IsKernel, Gave, kernel_after_give, parent_in};
+ghost use Rattle.sp_kernel.specs.Fits.{FitsHanded};
+ghost use Rattle.sp_kernel.specs.Ends.{left_in, one_fewer, noted_end, ends_child, IsJoiner, JoinedSlot};
+ghost use Rattle.sp_kernel.specs.Procs.{EntersAs};
 
 use crate::handed::Handed;
 use crate::kernel::Kernel;
@@ -52,8 +52,8 @@ impl Kernel {
     // The first process ends.
     fn end_root(&mut self, mut proc: Proc) -> Result<(), Proc>
         requires there { proc.number < length self.old.slots }
-        ensures ok { OnOk result ((p : _) × Enters proc p
-            × (self.new ≡ back proc.number event.End (slot.Here p st.Over) self.old)) }
+        ensures ok { OnOk result ((p : _) × EntersAs proc p
+            × (self.new ≡ kernel_after_give proc.number event.End (slot.Here p st.Over) self.old)) }
         ensures err { OnErr result (self.new ≡ self.old) }
         ensures returned { IfErr result (λ p. p ≡ proc) }
     {
@@ -70,7 +70,7 @@ impl Kernel {
     fn rejoin(&mut self, parent: u32, child: Proc)
         requires there { parent < length self.old.slots }
         requires joiner { IsJoiner (slice_get self.old.slots parent) child }
-        ensures { (t : _) × Joins (slice_get self.old.slots parent) child t
+        ensures { (t : _) × JoinedSlot (slice_get self.old.slots parent) child t
             × (self.new ≡ record self.old { slots = slice_set self.old.slots parent t }) }
     {
         match swap(&mut self.slots, parent, Slot::Ended) {
@@ -106,7 +106,7 @@ impl Kernel {
         requires there { (proc.number < length self.old.slots) × (parent < length self.old.slots) }
         requires apart { proc.number ≢ parent }
         requires joiner { IsJoiner (slice_get self.old.slots parent) proc }
-        ensures ok { OnOk result ((t : _) × Joins (slice_get self.old.slots parent) proc t
+        ensures ok { OnOk result ((t : _) × JoinedSlot (slice_get self.old.slots parent) proc t
             × (self.new ≡ ends_child proc.number parent t self.old)) }
         ensures err { OnErr result (self.new ≡ self.old) }
         ensures returned { IfErr result (λ p. p ≡ proc) }
@@ -124,7 +124,7 @@ impl Kernel {
     pub(crate) fn end_of(&mut self, _worker: u32, proc: Proc) -> Result<(), Handed>
         requires whole { IsKernel self.old }
         requires quiet { self.old.faulted ≡ false }
-        requires fits { Fits self.old _worker (record { proc = proc; stop = stop.End }) }
+        requires fits { FitsHanded self.old _worker (record { proc = proc; stop = stop.End }) }
         ensures ok { OnOk result (Gave self.old proc.number (record { proc = proc; stop = stop.End }) self.new) }
         ensures err { OnErr result (self.new ≡ self.old) }
         ensures returned { IfErr result (λ h. h ≡ record { proc = proc; stop = stop.End }) }

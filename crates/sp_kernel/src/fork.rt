@@ -5,8 +5,8 @@ ghost use Rattle.sp_code.specs.Sound.{HasDistinctBlocks, CanSplit};
 ghost use Rattle.sp_machine.specs.Procs.{IsAtFork};
 ghost use Rattle.sp_machine.specs.Children.{plan_by};
 ghost use Rattle.sp_kernel.specs.Kernels.{IsKernel, Gave};
-ghost use Rattle.sp_kernel.specs.Fits.{Fits};
-ghost use Rattle.sp_kernel.specs.Forks.{admitted, exceeds, HasForked, IsForkOf};
+ghost use Rattle.sp_kernel.specs.Fits.{FitsHanded};
+ghost use Rattle.sp_kernel.specs.Forks.{with_room_for, exceeds, HasForked, IsForkOf};
 ghost use Rattle.sp_kernel.specs.declared.kernel.Kernel.{Kernel};
 
 use crate::handed::Handed;
@@ -34,7 +34,7 @@ impl Kernel {
     // made.
     fn admit(&mut self, process: u32, count: u32) -> Result<(), Memory>
         requires { length self.old.slots + count < 4294967296 }
-        ensures ok { OnOk result (self.new ≡ admitted process count self.old) }
+        ensures ok { OnOk result (self.new ≡ with_room_for process count self.old) }
         ensures err { OnErr result (self.new ≡ self.old) }
     {
         let first = self.slots.len();
@@ -61,7 +61,7 @@ impl Kernel {
     // The children are not there after all.
     fn dismiss(&mut self, first: u32, families: usize, count: u32)
         ensures { (x : Kernel) (p : ℕ) → length x.slots ≡ first → length x.parents ≡ families
-            → self.old ≡ admitted p count x → self.new ≡ x }
+            → self.old ≡ with_room_for p count x → self.new ≡ x }
     {
         self.ready.shorten(count);
         self.slots.truncate(first as usize);
@@ -113,7 +113,7 @@ impl Kernel {
         requires whole { IsKernel self.old }
         requires quiet { self.old.faulted ≡ false }
         requires forks { IsForkOf stop count }
-        requires fits { Fits self.old _worker (record { proc = proc; stop = stop }) }
+        requires fits { FitsHanded self.old _worker (record { proc = proc; stop = stop }) }
         ensures ok { OnOk result (Gave self.old proc.number (record { proc = proc; stop = stop }) self.new) }
         ensures err { OnErr result (self.new ≡ self.old) }
         ensures returned { IfErr result (λ h. h ≡ record { proc = proc; stop = stop }) }

@@ -8,16 +8,17 @@ ghost use Rattle.sp_kernel.specs.declared.slot.State.TheVariants as st;
 ghost use Rattle.sp_code.specs.Control.{has_ended, Out};
 ghost use Rattle.sp_code.specs.Sound.{IsSound, AreLimits, run_of};
 ghost use Rattle.sp_machine.specs.Procs.{config_of, start_of};
-ghost use Rattle.sp_kernel.specs.Kernels.{entered, back, paused, goes_out, lost, doing_in, condition_in, IsReady};
+ghost use Rattle.sp_kernel.specs.Kernels.{with_entry, kernel_after_give, kernel_after_pause, with_process_out};
+ghost use Rattle.sp_kernel.specs.Kernels.{kernel_after_loss, doing_in, condition_in, IsReady};
 ghost use Rattle.sp_kernel.specs.Kernels.{IsKernel, Gave, Takes, is_over, control_of, system_of, setting_of, stands_as};
 ghost use Rattle.sp_kernel.specs.Kernels.{Abandons};
-ghost use Rattle.sp_kernel.specs.Fits.{Fits};
+ghost use Rattle.sp_kernel.specs.Fits.{FitsHanded};
 ghost use Rattle.sp_kernel.specs.Asks.{IsOpening};
 ghost use Rattle.sp_machine.specs.declared.state.Stop.TheVariants as stop;
-ghost use Rattle.sp_kernel.specs.Procs.{Enters, number_in};
+ghost use Rattle.sp_kernel.specs.Procs.{EntersAs, number_in};
 
 use crate::handed::Handed;
-use crate::line::Line;
+use crate::ready_queue::ReadyQueue;
 use crate::slot::{Slot, State, put, swap};
 use sp_base::{Fault, Limits, List, Memory};
 use sp_channel::Channels;
@@ -48,7 +49,7 @@ pub struct Kernel {
     pub(crate) slots: List<Slot>,
     // The parent of each process; the first has none.
     pub(crate) parents: List<Option<u32>>,
-    pub(crate) ready: Line,
+    pub(crate) ready: ReadyQueue,
     pub(crate) out: u64,
     pub(crate) channels: Channels,
     pub(crate) journal: Journal,
@@ -78,7 +79,7 @@ impl Kernel {
         slots.push(Slot::Here(root, State::Ready))?;
         let mut parents = List::new(alloc);
         parents.push(None)?;
-        let mut ready = Line::new(alloc);
+        let mut ready = ReadyQueue::new(alloc);
         ready.push(0)?;
         let journal = Journal {
             entries: List::new(alloc),
@@ -160,7 +161,7 @@ impl Kernel {
     /// and what was handed in comes back.
     pub fn give(&mut self, worker: u32, handed: Handed) -> Result<(), Handed>
         requires whole { IsKernel self.old }
-        requires fits { Fits self.old worker handed }
+        requires fits { FitsHanded self.old worker handed }
         ensures ok { OnOk result (Gave self.old handed.proc.number handed self.new) }
         ensures err { OnErr result (self.new ≡ self.old) }
         ensures returned { IfErr result (λ h. h ≡ handed) }
@@ -211,7 +212,7 @@ impl Kernel {
 impl Kernel {
     // One entry more.
     pub(crate) fn note(&mut self, process: u32, event: Event) -> Result<(), Memory>
-        ensures ok { OnOk result (self.new ≡ entered process event self.old) }
+        ensures ok { OnOk result (self.new ≡ with_entry process event self.old) }
         ensures err { OnErr result (self.new ≡ self.old) }
     {
         self.journal.entries.push(Entry { process, event })?;
@@ -219,14 +220,14 @@ impl Kernel {
     }
 
     // One entry more, and a process at the back of the queue.
-    #[tactic(auto, using(crate::proofs::Lines::last_gone))]
+    #[tactic(auto, using(crate::proofs::ListEnds::last_gone))]
     pub(crate) fn note_ready(
         &mut self,
         ready: u32,
         process: u32,
         event: Event,
     ) -> Result<(), Memory>
-        ensures ok { OnOk result (self.new ≡ record (entered process event self.old)
+        ensures ok { OnOk result (self.new ≡ record (with_entry process event self.old)
             { ready = self.old.ready ++ ready ∷ [] }) }
         ensures err { OnErr result (self.new ≡ self.old) }
     {
@@ -239,9 +240,9 @@ impl Kernel {
     }
 
     // One entry more, and two processes at the back of the queue.
-    #[tactic(auto, using(crate::proofs::Lines::last_gone))]
+    #[tactic(auto, using(crate::proofs::ListEnds::last_gone))]
     pub(crate) fn note_both(&mut self, other: u32, process: u32, event: Event) -> Result<(), Memory>
-        ensures ok { OnOk result (self.new ≡ record (entered process event self.old)
+        ensures ok { OnOk result (self.new ≡ record (with_entry process event self.old)
             { ready = (self.old.ready ++ other ∷ []) ++ process ∷ [] }) }
         ensures err { OnErr result (self.new ≡ self.old) }
     {
@@ -265,7 +266,8 @@ impl Kernel {
     // A process that came back after a fault is laid down.
     fn lay(&mut self, handed: Handed) -> Result<(), Handed>
         requires there { handed.proc.number < length self.old.slots }
-        ensures ok { OnOk result (self.new ≡ back handed.proc.number event.Laid (slot.Here handed.proc st.Laid)
+        ensures ok { OnOk result
+            (self.new ≡ kernel_after_give handed.proc.number event.Laid (slot.Here handed.proc st.Laid)
             self.old) }
         ensures err { OnErr result (self.new ≡ self.old) }
         ensures returned { IfErr result (λ h. h ≡ handed) }
@@ -281,7 +283,7 @@ impl Kernel {
     // A process meets a fault.
     pub(crate) fn fail(&mut self, handed: Handed, fault: Fault) -> Result<(), Handed>
         requires there { handed.proc.number < length self.old.slots }
-        ensures ok { OnOk result (self.new ≡ record (back handed.proc.number (event.Fault fault)
+        ensures ok { OnOk result (self.new ≡ record (kernel_after_give handed.proc.number (event.Fault fault)
             (slot.Here handed.proc st.Laid) self.old) { faulted = true }) }
         ensures err { OnErr result (self.new ≡ self.old) }
         ensures returned { IfErr result (λ h. h ≡ handed) }
@@ -298,7 +300,7 @@ impl Kernel {
     // A process that is due goes to the back of the queue.
     fn pause_now(&mut self, mut proc: Proc) -> Result<(), Proc>
         requires there { proc.number < length self.old.slots }
-        ensures ok { OnOk result ((p : _) × Enters proc p × (self.new ≡ paused proc.number p self.old)) }
+        ensures ok { OnOk result ((p : _) × EntersAs proc p × (self.new ≡ kernel_after_pause proc.number p self.old)) }
         ensures err { OnErr result (self.new ≡ self.old) }
         ensures returned { IfErr result (λ p. p ≡ proc) }
     {
@@ -315,7 +317,7 @@ impl Kernel {
     fn pause(&mut self, _worker: u32, proc: Proc) -> Result<(), Handed>
         requires whole { IsKernel self.old }
         requires quiet { self.old.faulted ≡ false }
-        requires fits { Fits self.old _worker (record { proc = proc; stop = stop.Pause }) }
+        requires fits { FitsHanded self.old _worker (record { proc = proc; stop = stop.Pause }) }
         ensures ok { OnOk result (Gave self.old proc.number (record { proc = proc; stop = stop.Pause }) self.new) }
         ensures err { OnErr result (self.new ≡ self.old) }
         ensures returned { IfErr result (λ h. h ≡ record { proc = proc; stop = stop.Pause }) }
@@ -352,7 +354,7 @@ impl Kernel {
         requires ready { IsReady (slice_get self.old.slots number) }
         requires out { self.old.out + 1 < 18446744073709551616 }
         ensures proc { slice_get self.old.slots number ≡ Some (slot.Here result st.Ready) }
-        ensures out { (p : _) × (p.value ≡ result) × (self.new ≡ goes_out number (slot.Out worker p) self.old) }
+        ensures out { (p : _) × (p.value ≡ result) × (self.new ≡ with_process_out number (slot.Out worker p) self.old) }
     {
         match swap(&mut self.slots, number, Slot::Ended) {
             Slot::Here(proc, State::Ready) => {
@@ -373,7 +375,7 @@ impl Kernel {
         requires out { doing_in (slice_get self.old.slots number) ≡ Out _worker }
         requires abandons { self.old.abandons + 1 < 18446744073709551616 }
         ensures { (p : _) × (condition_in (Some (slot.Gone p)) ≡ (system_of self.old).condition number)
-            × (self.new ≡ lost number (slot.Gone p) self.old) }
+            × (self.new ≡ kernel_after_loss number (slot.Gone p) self.old) }
     {
         match swap(&mut self.slots, number, Slot::Ended) {
             Slot::Out(_, left) => put(&mut self.slots, number, Slot::Gone(left)),

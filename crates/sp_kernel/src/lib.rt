@@ -16,7 +16,8 @@
 //!   none exactly where it goes on.
 //! - `Kernel::close`: of a run that a room has brought to its end the end, the journal, which is that of the notes, and
 //!   the output, which is empty where a worker gave up. At a deadlock no process runs.
-//! - `serve` of the room's trait `Kept`: each ask is one step (`Steps`): without a note nothing has changed; a note is
+//! - `serve` of the room's trait `Kept`: each ask is one step (`KernelSteps`): without a note nothing has changed; a
+//!   note is
 //!   one step of the control and the system.
 //! - `Closed::end`, `journal`, `output`: the three parts of a run that is over. `Kernel::close` alone makes one.
 //! - `Ask`, `Got`: what a worker asks and gets. `Handed`: a process after a turn, and why the turn ended. `Standing`:
@@ -30,10 +31,11 @@
 //! - What an event does to the record stands in `specs/`. `proofs/Sending`, `Receiving`, `Opening`, `Forking` and
 //!   `Joining` lead from there to `Gave`.
 //! - `give` asks that the process is out with the worker, that it was run by one turn from the state that the system
-//!   has for it, and that all is well with its event (`Fits`). A caller has this from the notes so far: `fits_now` of
+//!   has for it, and that all is well with its event (`FitsHanded`). A caller has this from the notes so far:
+//!   `fits_now` of
 //!   `specs/Keeping.antt`.
 //! - `end` asks that the journal is nameable, that a fault stands exactly where the journal has its entry, and that
-//!   offers speak of channels that are there (`IsNamed`). After every legal history this is so: `named` of
+//!   offers speak of channels that are there (`IsNameableKernel`). After every legal history this is so: `named` of
 //!   `proofs/Ending.antt`.
 //! - The kernel does not keep the input of a run, since each process has it. Contracts read it off the snapshot of the
 //!   first process.
@@ -53,8 +55,8 @@ mod end;
 mod fork;
 mod handed;
 mod kernel;
-mod line;
 mod open;
+mod ready_queue;
 mod receive;
 mod send;
 mod serve;

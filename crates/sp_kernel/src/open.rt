@@ -4,9 +4,9 @@ ghost use Rattle.std.specs.Prelude.{◌≡◌, ◌+◌, ◌<◌, false, [], ◌�
 ghost use Rattle.sp_cell.specs.declared.cell.Cell.TheVariants as cell;
 ghost use Rattle.sp_machine.specs.declared.state.Stop.TheVariants as stop;
 ghost use Rattle.sp_kernel.specs.Kernels.{IsKernel, Gave};
-ghost use Rattle.sp_kernel.specs.Fits.{Fits};
-ghost use Rattle.sp_kernel.specs.Lines.{without_last};
-ghost use Rattle.sp_kernel.specs.Opens.{opens, EntersAt};
+ghost use Rattle.sp_kernel.specs.Fits.{FitsHanded};
+ghost use Rattle.sp_kernel.specs.ListEnds.{without_last};
+ghost use Rattle.sp_kernel.specs.Opens.{kernel_after_open, EntersAt};
 ghost use Rattle.sp_kernel.specs.Procs.{CanTake};
 
 use crate::handed::Handed;
@@ -29,14 +29,14 @@ impl Kernel {
     }
 
     // A channel more, whose number goes to the process.
-    #[tactic(auto, using(crate::proofs::Lines::last_gone))]
+    #[tactic(auto, using(crate::proofs::ListEnds::last_gone))]
     fn open_now(&mut self, mut proc: Proc) -> Result<(), Proc>
         requires there { proc.number < length self.old.slots }
         requires few { self.old.entries + 1 < 18446744073709551616 }
         requires channels { length self.old.channels < 4294967295 }
         requires target { CanTake proc (cell.Channel (length self.old.channels) ∷ []) }
         ensures ok { OnOk result ((p : _) × EntersAt proc (length self.old.channels) p
-            × (self.new ≡ opens p self.old)) }
+            × (self.new ≡ kernel_after_open p self.old)) }
         ensures err { OnErr result (self.new ≡ self.old) }
         ensures returned { IfErr result (λ p. p ≡ proc) }
     {
@@ -63,7 +63,7 @@ impl Kernel {
     pub(crate) fn open(&mut self, _worker: u32, proc: Proc) -> Result<(), Handed>
         requires whole { IsKernel self.old }
         requires quiet { self.old.faulted ≡ false }
-        requires fits { Fits self.old _worker (record { proc = proc; stop = stop.Open }) }
+        requires fits { FitsHanded self.old _worker (record { proc = proc; stop = stop.Open }) }
         ensures ok { OnOk result (Gave self.old proc.number (record { proc = proc; stop = stop.Open }) self.new) }
         ensures err { OnErr result (self.new ≡ self.old) }
         ensures returned { IfErr result (λ h. h ≡ record { proc = proc; stop = stop.Open }) }

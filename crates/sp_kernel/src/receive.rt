@@ -6,10 +6,10 @@ ghost use Rattle.sp_journal.specs.declared.entry.Way.TheVariants as way;
 ghost use Rattle.sp_kernel.specs.declared.slot.Slot.TheVariants as slot;
 ghost use Rattle.sp_kernel.specs.declared.slot.State.TheVariants as st;
 ghost use Rattle.sp_machine.specs.declared.state.Stop.TheVariants as stop;
-ghost use Rattle.sp_kernel.specs.Kernels.{IsKernel, Gave, seated};
-ghost use Rattle.sp_kernel.specs.Fits.{Fits};
+ghost use Rattle.sp_kernel.specs.Kernels.{IsKernel, Gave, with_slot};
+ghost use Rattle.sp_kernel.specs.Fits.{FitsHanded};
 ghost use Rattle.sp_kernel.specs.Receives.{waits_to_receive, IsSender, IsSenderWith, HasReceived};
-ghost use Rattle.sp_kernel.specs.Procs.{CanTake, Enters};
+ghost use Rattle.sp_kernel.specs.Procs.{CanTake, EntersAs};
 
 use crate::handed::Handed;
 use crate::kernel::Kernel;
@@ -27,7 +27,8 @@ impl Kernel {
         requires few { self.old.entries + 1 < 18446744073709551616 }
         requires channel { channel < length self.old.channels }
         requires free { slice_index_or self.old.channels channel None ≡ None }
-        ensures ok { OnOk result ((p : _) × Enters proc p × (self.new ≡ waits_to_receive p channel message self.old)) }
+        ensures ok { OnOk result ((p : _) × EntersAs proc p
+            × (self.new ≡ waits_to_receive p channel message self.old)) }
         ensures err { OnErr result (self.new ≡ self.old) }
         ensures returned { IfErr result (λ p. p ≡ proc) }
     {
@@ -47,7 +48,7 @@ impl Kernel {
         requires there { other < length self.old.slots }
         requires sender { IsSender (slice_get self.old.slots other) _receiver.now }
         ensures given { (q : _) × IsSenderWith (slice_get self.old.slots other) q result
-            × (self.new ≡ seated other (slot.Here q st.Ready) self.old) }
+            × (self.new ≡ with_slot other (slot.Here q st.Ready) self.old) }
         ensures fits { CanTake _receiver.now result }
     {
         match swap(&mut self.slots, other, Slot::Ended) {
@@ -106,7 +107,7 @@ impl Kernel {
     ) -> Result<(), Handed>
         requires whole { IsKernel self.old }
         requires quiet { self.old.faulted ≡ false }
-        requires fits { Fits self.old _worker (record { proc = proc; stop = stop.Receive channel message }) }
+        requires fits { FitsHanded self.old _worker (record { proc = proc; stop = stop.Receive channel message }) }
         ensures ok { OnOk result (Gave self.old proc.number
             (record { proc = proc; stop = stop.Receive channel message }) self.new) }
         ensures err { OnErr result (self.new ≡ self.old) }

@@ -6,10 +6,10 @@ ghost use Rattle.sp_journal.specs.declared.entry.Way.TheVariants as way;
 ghost use Rattle.sp_kernel.specs.declared.slot.Slot.TheVariants as slot;
 ghost use Rattle.sp_kernel.specs.declared.slot.State.TheVariants as st;
 ghost use Rattle.sp_machine.specs.declared.state.Stop.TheVariants as stop;
-ghost use Rattle.sp_kernel.specs.Kernels.{IsKernel, Gave, seated};
-ghost use Rattle.sp_kernel.specs.Fits.{Fits};
+ghost use Rattle.sp_kernel.specs.Kernels.{IsKernel, Gave, with_slot};
+ghost use Rattle.sp_kernel.specs.Fits.{FitsHanded};
 ghost use Rattle.sp_kernel.specs.Sends.{waits_to_send, IsReceiver, Receives, HasSent};
-ghost use Rattle.sp_kernel.specs.Procs.{Enters};
+ghost use Rattle.sp_kernel.specs.Procs.{EntersAs};
 
 use crate::handed::Handed;
 use crate::kernel::Kernel;
@@ -33,7 +33,7 @@ impl Kernel {
         requires few { self.old.entries + 1 < 18446744073709551616 }
         requires channel { channel < length self.old.channels }
         requires free { slice_index_or self.old.channels channel None ≡ None }
-        ensures ok { OnOk result ((p : _) × Enters proc p
+        ensures ok { OnOk result ((p : _) × EntersAs proc p
             × (self.new ≡ waits_to_send p channel message cells self.old)) }
         ensures err { OnErr result (self.new ≡ self.old) }
         ensures returned { IfErr result (λ r. (r.0 ≡ proc) × (r.1 ≡ cells)) }
@@ -57,7 +57,7 @@ impl Kernel {
         requires there { other < length self.old.slots }
         requires receiver { IsReceiver (slice_get self.old.slots other) cells }
         ensures { (r : _) × Receives (slice_get self.old.slots other) cells r
-            × (self.new ≡ seated other (slot.Here r st.Ready) self.old) }
+            × (self.new ≡ with_slot other (slot.Here r st.Ready) self.old) }
     {
         match swap(&mut self.slots, other, Slot::Ended) {
             Slot::Here(mut receiver, State::Receiving(_, _)) => {
@@ -110,7 +110,7 @@ impl Kernel {
     ) -> Result<(), Handed>
         requires whole { IsKernel self.old }
         requires quiet { self.old.faulted ≡ false }
-        requires fits { Fits self.old _worker (record { proc = proc; stop = stop.Send channel message cells }) }
+        requires fits { FitsHanded self.old _worker (record { proc = proc; stop = stop.Send channel message cells }) }
         ensures ok { OnOk result (Gave self.old proc.number
             (record { proc = proc; stop = stop.Send channel message cells }) self.new) }
         ensures err { OnErr result (self.new ≡ self.old) }

@@ -1,7 +1,7 @@
 //! What the kernel keeps of each process.
 
 ghost use Rattle.std.specs.Prelude.{◌≡◌, ◌+◌, ◌<◌, ◌≤◌, ◌++◌, length, Some, slice_get, slice_set, OnOk, OnErr};
-ghost use Rattle.sp_kernel.specs.Lines.{without_last, repeat};
+ghost use Rattle.sp_kernel.specs.ListEnds.{without_last, repeat};
 ghost use Rattle.sp_kernel.specs.Seats.{Seated};
 ghost use Rattle.sp_kernel.specs.declared.slot.Slot.TheVariants as slot;
 
@@ -64,7 +64,7 @@ pub(crate) fn drop_last(entries: &mut List<Entry>)
 }
 
 /// So many slots more, of processes that are not there yet. Where memory is refused the slots are unchanged.
-#[tactic(auto, using(crate::proofs::Lines::repeat_more, crate::proofs::Lines::front_only, crate::proofs::Lines::none_more))]
+#[tactic(auto, using(crate::proofs::ListEnds::repeat_more, crate::proofs::ListEnds::front_only, crate::proofs::ListEnds::none_more))]
 pub(crate) fn add_slots(slots: &mut List<Slot>, count: u32) -> Result<(), Memory>
     ensures ok { OnOk result (slots.new ≡ slots.old ++ repeat count slot.Ended) }
     ensures err { OnErr result (slots.new ≡ slots.old) }
@@ -82,7 +82,7 @@ pub(crate) fn add_slots(slots: &mut List<Slot>, count: u32) -> Result<(), Memory
 }
 
 /// So many children more of this process. Where memory is refused the list is unchanged.
-#[tactic(auto, using(crate::proofs::Lines::repeat_more, crate::proofs::Lines::front_only, crate::proofs::Lines::none_more))]
+#[tactic(auto, using(crate::proofs::ListEnds::repeat_more, crate::proofs::ListEnds::front_only, crate::proofs::ListEnds::none_more))]
 pub(crate) fn add_parents(
     parents: &mut List<Option<u32>>,
     process: u32,

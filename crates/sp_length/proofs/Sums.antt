@@ -6,16 +6,16 @@ use Rattle.sp_tree.specs.Plain.{ExprForm, Selector, Index, Field, Selectors, Sel
 use Rattle.sp_tree.specs.Plain.{ByReference, Actuals, Pass, Nothing}
 use Rattle.sp_code.specs.Scopes.{Sort, Ordinals, Channels, Many, NoSort}
 use Rattle.sp_code.specs.Lengths.{form_length, right_length, selectors_length, actuals_length}
-use Rattle.sp_length.specs.Told.{told}
+use Rattle.sp_length.specs.CappedLength.{capped_length}
 use Rattle.sp_length.specs.Trees.{is_many}
 
-pub summed : (a x s : ℕ) → told (told (a + x) + s) ≡ told (a + (x + s))
+pub summed : (a x s : ℕ) → capped_length (capped_length (a + x) + s) ≡ capped_length (a + (x + s))
 summed a x s = sum_capped 4294967295 a x s
 
 split : (m q a b c : ℕ) → a ≡ b + c → min (min (q + b) m + c) m ≡ min (q + a) m
 split m q a b c e = omega (arith, e)
 
-first_of : (q a b c : ℕ) → a ≡ b + c → told (told (q + b) + c) ≡ told (q + a)
+first_of : (q a b c : ℕ) → a ≡ b + c → capped_length (capped_length (q + b) + c) ≡ capped_length (q + a)
 first_of q a b c e = split 4294967295 q a b c e
 
 -- the first of several parts, and the rest
@@ -25,8 +25,8 @@ select_rest (Index e) rest = omega arith
 select_rest (Field f) rest = omega arith
 
 pub selected : (q : ℕ) (s : Selector) (rest : Selectors)
-    → told (told (q + selectors_length (Select s Whole)) + selectors_length rest)
-    ≡ told (q + selectors_length (Select s rest))
+    → capped_length (capped_length (q + selectors_length (Select s Whole)) + selectors_length rest)
+    ≡ capped_length (q + selectors_length (Select s rest))
 selected q s rest = first_of q _ _ _ (select_rest s rest)
 
 pass_rest : (a : Actual) (rest : Actuals) → actuals_length (Pass a rest) ≡ actuals_length (Pass a Nothing)
@@ -35,19 +35,20 @@ pass_rest (ByValue e) rest = omega arith
 pass_rest (ByReference v) rest = omega arith
 
 pub passed : (q : ℕ) (a : Actual) (rest : Actuals)
-    → told (told (q + actuals_length (Pass a Nothing)) + actuals_length rest) ≡ told (q + actuals_length (Pass a rest))
+    → capped_length (capped_length (q + actuals_length (Pass a Nothing)) + actuals_length rest)
+    ≡ capped_length (q + actuals_length (Pass a rest))
 passed q a rest = first_of q _ _ _ (pass_rest a rest)
 
 -- the right side of an assignment, of one cell and of many
 pub one_cell : (q : ℕ) (s : Sort) (form : ExprForm) → is_many s ≡ false
-    → told (q + form_length form) ≡ told (q + right_length s form)
+    → capped_length (q + form_length form) ≡ capped_length (q + right_length s form)
 one_cell q Ordinals form e = refl
 one_cell q Channels form e = refl
 one_cell q Many form e = absurd (true≢false e)
 one_cell q NoSort form e = refl
 
 pub many_cells : (q : ℕ) (s : Sort) (form : ExprForm) → is_many s ≡ true
-    → told (q + right_length Many form) ≡ told (q + right_length s form)
+    → capped_length (q + right_length Many form) ≡ capped_length (q + right_length s form)
 many_cells q Ordinals form e = absurd (true≢false (sym e))
 many_cells q Channels form e = absurd (true≢false (sym e))
 many_cells q Many form e = refl
@@ -57,5 +58,6 @@ split_each : (m q b c r : ℕ) → min (min (min (q + min (1 + b) m) m + c) m + 
 split_each m q b c r = omega arith
 
 -- one of several values on one channel, whose length is told once
-pub each : (q b c r : ℕ) → told (told (told (q + told (1 + b)) + c) + r) ≡ told (q + (b + c + 1 + r))
+pub each : (q b c r : ℕ) → capped_length (capped_length (capped_length (q + capped_length (1 + b)) + c) + r)
+    ≡ capped_length (q + (b + c + 1 + r))
 each q b c r = split_each 4294967295 q b c r

@@ -6,7 +6,7 @@ ghost use Rattle.sp_tree.specs.PlainOf.{standard_of, selectors_of};
 ghost use Rattle.sp_tree.specs.Plain.{Pass, Nothing, Select, Whole};
 ghost use Rattle.sp_code.specs.Lengths.{unary_length, standard_length, value_length, form_length, var_length};
 ghost use Rattle.sp_code.specs.Lengths.{selectors_length, actuals_length, width_length};
-ghost use Rattle.sp_length.specs.Told.{told};
+ghost use Rattle.sp_length.specs.CappedLength.{capped_length};
 
 use crate::sum::sum;
 use sp_base::{Boxed, List};
@@ -38,7 +38,7 @@ fn standard_length(f: StandardFn) -> u32
 #[cycle(length)]
 #[tactic(auto, using(crate::proofs::Sums::summed))]
 pub fn value_length(e: &Expr, q: u32) -> u32
-    ensures { result ≡ told (q + value_length (expr_of e.now)) }
+    ensures { result ≡ capped_length (q + value_length (expr_of e.now)) }
 {
     form_length(&e.form, q)
 }
@@ -46,7 +46,7 @@ pub fn value_length(e: &Expr, q: u32) -> u32
 #[cycle(length)]
 #[tactic(auto, using(crate::proofs::Sums::summed))]
 fn boxed_length(e: &Boxed<Expr>, q: u32) -> u32
-    ensures { result ≡ told (q + value_length (expr_of e.now)) }
+    ensures { result ≡ capped_length (q + value_length (expr_of e.now)) }
 {
     value_length(e.get(), q)
 }
@@ -54,7 +54,7 @@ fn boxed_length(e: &Boxed<Expr>, q: u32) -> u32
 #[cycle(length)]
 #[tactic(auto, using(crate::proofs::Sums::summed))]
 pub fn form_length(form: &ExprForm, q: u32) -> u32
-    ensures { result ≡ told (q + form_length (form_of form.now)) }
+    ensures { result ≡ capped_length (q + form_length (form_of form.now)) }
 {
     match form {
         ExprForm::Number(_) => sum(q, 1),
@@ -83,7 +83,7 @@ pub fn form_length(form: &ExprForm, q: u32) -> u32
 #[cycle(length)]
 #[tactic(auto, using(crate::proofs::Sums::summed))]
 fn applied_length(f: StandardFn, args: &List<Expr>, q: u32) -> u32
-    ensures { result ≡ told (q + form_length (standard_of f args.now)) }
+    ensures { result ≡ capped_length (q + form_length (standard_of f args.now)) }
 {
     match args.items() {
         [] => sum(q, 1),
@@ -98,7 +98,7 @@ fn applied_length(f: StandardFn, args: &List<Expr>, q: u32) -> u32
 #[cycle(length)]
 #[tactic(auto, using(crate::proofs::Sums::summed))]
 pub fn var_length(v: &Var, q: u32) -> u32
-    ensures { result ≡ told (q + var_length (var_of v.now)) }
+    ensures { result ≡ capped_length (q + var_length (var_of v.now)) }
 {
     let q = selectors_length(&v.selectors, q);
     sum(q, 1)
@@ -107,7 +107,7 @@ pub fn var_length(v: &Var, q: u32) -> u32
 #[cycle(length)]
 #[tactic(auto, using(crate::proofs::Sums::selected))]
 fn selectors_length(ss: &List<Selector>, q: u32) -> u32
-    ensures { result ≡ told (q + selectors_length (selectors_of ss.now)) }
+    ensures { result ≡ capped_length (q + selectors_length (selectors_of ss.now)) }
 {
     let mut q = q;
     for s in ss.items() {
@@ -119,7 +119,7 @@ fn selectors_length(ss: &List<Selector>, q: u32) -> u32
 #[cycle(length)]
 #[tactic(auto, using(crate::proofs::Sums::summed))]
 fn selector_length(s: &Selector, q: u32) -> u32
-    ensures { result ≡ told (q + selectors_length (Select (selector_of s.now) Whole)) }
+    ensures { result ≡ capped_length (q + selectors_length (Select (selector_of s.now) Whole)) }
 {
     match s {
         Selector::Index(e) => {
@@ -133,7 +133,7 @@ fn selector_length(s: &Selector, q: u32) -> u32
 #[cycle(length)]
 #[tactic(auto, using(crate::proofs::Sums::passed))]
 pub fn actuals_length(args: &List<Actual>, q: u32) -> u32
-    ensures { result ≡ told (q + actuals_length (actuals_of args.now)) }
+    ensures { result ≡ capped_length (q + actuals_length (actuals_of args.now)) }
 {
     let mut q = q;
     for a in args.items() {
@@ -145,7 +145,7 @@ pub fn actuals_length(args: &List<Actual>, q: u32) -> u32
 #[cycle(length)]
 #[tactic(auto, using(crate::proofs::Sums::summed))]
 fn actual_length(a: &Actual, q: u32) -> u32
-    ensures { result ≡ told (q + actuals_length (Pass (actual_of a.now) Nothing)) }
+    ensures { result ≡ capped_length (q + actuals_length (Pass (actual_of a.now) Nothing)) }
 {
     match a {
         Actual::Value(e) => value_length(e, q),
@@ -155,7 +155,7 @@ fn actual_length(a: &Actual, q: u32) -> u32
 
 #[tactic(auto, using(crate::proofs::Sums::summed))]
 pub fn width_length(w: &Option<Expr>, q: u32) -> u32
-    ensures { result ≡ told (q + width_length (width_of w.now)) }
+    ensures { result ≡ capped_length (q + width_length (width_of w.now)) }
 {
     match w {
         None => q,

@@ -5,7 +5,7 @@
 //!
 //! To know:
 //! - It is one pass over the tree in memory, and takes no memory. The sums are told up to the greatest `u32`, which
-//!   stands for every greater length: so no sum wraps (`src/sum.rt`, `specs/Told.antt`).
+//!   stands for every greater length: so no sum wraps (`src/sum.rt`, `specs/CappedLength.antt`).
 //!
 //! To change:
 //! - A form: `specs/Lengths.antt` of `sp_code`, then the function of its syntax class.

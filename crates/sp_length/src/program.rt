@@ -3,7 +3,7 @@
 ghost use Rattle.std.specs.Prelude.{◌≡◌, map};
 ghost use Rattle.sp_tree.specs.PlainOf.{program_of};
 ghost use Rattle.sp_code.specs.Lengths.{tree_length};
-ghost use Rattle.sp_length.specs.Told.{told};
+ghost use Rattle.sp_length.specs.CappedLength.{capped_length};
 
 use crate::statements::stmt_length;
 use crate::sum::sum;
@@ -13,7 +13,7 @@ use sp_tree::Checked;
 /// recurses as deep as the tree is.
 #[tactic(auto, using(crate::proofs::Sums::summed))]
 pub fn length(program: &Checked) -> u32
-    ensures { result ≡ told (tree_length (program_of program.now)) }
+    ensures { result ≡ capped_length (tree_length (program_of program.now)) }
 {
     let mut q = 0;
     for b in program.blocks.items() {

@@ -7,7 +7,7 @@ ghost use Rattle.sp_tree.specs.Plain.{Send, Receive, And, No, Or, NoArm, Case, P
 ghost use Rattle.sp_code.specs.Scopes.{sort_by, Many};
 ghost use Rattle.sp_code.specs.Lengths.{right_length, stmt_length, all_length, children_length, arms_length};
 ghost use Rattle.sp_code.specs.Lengths.{tests_length};
-ghost use Rattle.sp_length.specs.Told.{told};
+ghost use Rattle.sp_length.specs.CappedLength.{capped_length};
 ghost use Rattle.sp_length.specs.Trees.{is_many, right_side, else_length};
 
 use crate::expressions::{actuals_length, form_length, value_length, var_length, width_length};
@@ -28,7 +28,7 @@ fn is_many(kinds: &[KindOf], k: u32) -> bool
 /// The right side of an assignment of an array or record.
 #[tactic(auto, using(crate::proofs::Sums::summed))]
 fn many_length(form: &ExprForm, q: u32) -> u32
-    ensures { result ≡ told (q + right_length Many (form_of form.now)) }
+    ensures { result ≡ capped_length (q + right_length Many (form_of form.now)) }
 {
     match form {
         ExprForm::Read(v) => var_length(v, q),
@@ -39,7 +39,7 @@ fn many_length(form: &ExprForm, q: u32) -> u32
 /// The right side of an assignment.
 #[tactic(auto, using(crate::proofs::Sums::one_cell, crate::proofs::Sums::many_cells))]
 fn right_length(program: &Checked, e: &Expr, q: u32) -> u32
-    ensures { result ≡ told (q + right_side (program_of program.now) (expr_of e.now)) }
+    ensures { result ≡ capped_length (q + right_side (program_of program.now) (expr_of e.now)) }
 {
     if is_many(program.kinds.items(), e.kind) {
         many_length(&e.form, q)
@@ -51,7 +51,7 @@ fn right_length(program: &Checked, e: &Expr, q: u32) -> u32
 #[cycle(stmt)]
 #[tactic(auto, using(crate::proofs::Sums::summed))]
 pub fn stmt_length(program: &Checked, s: &Stmt, q: u32) -> u32
-    ensures { result ≡ told (q + stmt_length (program_of program.now) (stmt_of s.now)) }
+    ensures { result ≡ capped_length (q + stmt_length (program_of program.now) (stmt_of s.now)) }
 {
     stmt_form_length(program, &s.form, q)
 }
@@ -59,7 +59,7 @@ pub fn stmt_length(program: &Checked, s: &Stmt, q: u32) -> u32
 #[cycle(stmt)]
 #[tactic(auto, using(crate::proofs::Sums::summed))]
 fn boxed_length(program: &Checked, s: &Boxed<Stmt>, q: u32) -> u32
-    ensures { result ≡ told (q + stmt_length (program_of program.now) (stmt_of s.now)) }
+    ensures { result ≡ capped_length (q + stmt_length (program_of program.now) (stmt_of s.now)) }
 {
     stmt_length(program, s.get(), q)
 }
@@ -67,7 +67,7 @@ fn boxed_length(program: &Checked, s: &Boxed<Stmt>, q: u32) -> u32
 #[cycle(stmt)]
 #[tactic(auto, using(crate::proofs::Sums::summed))]
 fn stmt_form_length(program: &Checked, form: &Form, q: u32) -> u32
-    ensures { result ≡ told (q + stmt_length (program_of program.now) (stmt_form_of form.now)) }
+    ensures { result ≡ capped_length (q + stmt_length (program_of program.now) (stmt_form_of form.now)) }
 {
     match form {
         Form::Empty => q,
@@ -168,7 +168,7 @@ fn stmt_form_length(program: &Checked, form: &Form, q: u32) -> u32
 #[cycle(stmt)]
 #[tactic(auto, using(crate::proofs::Sums::summed))]
 fn else_length(program: &Checked, b: &Option<Boxed<Stmt>>, q: u32) -> u32
-    ensures { result ≡ told (q + else_length (program_of program.now) (option_map stmt_of b.now)) }
+    ensures { result ≡ capped_length (q + else_length (program_of program.now) (option_map stmt_of b.now)) }
 {
     match b {
         None => sum(q, 1),
@@ -182,7 +182,7 @@ fn else_length(program: &Checked, b: &Option<Boxed<Stmt>>, q: u32) -> u32
 #[cycle(stmt)]
 #[tactic(auto, using(crate::proofs::Sums::summed))]
 fn all_length(program: &Checked, ss: &List<Stmt>, q: u32) -> u32
-    ensures { result ≡ told (q + all_length (program_of program.now) (stmts_of ss.now)) }
+    ensures { result ≡ capped_length (q + all_length (program_of program.now) (stmts_of ss.now)) }
 {
     let mut q = q;
     for s in ss.items() {
@@ -195,7 +195,7 @@ fn all_length(program: &Checked, ss: &List<Stmt>, q: u32) -> u32
 #[cycle(stmt)]
 #[tactic(auto, using(crate::proofs::Sums::summed))]
 fn children_length(program: &Checked, ss: &List<Stmt>, q: u32) -> u32
-    ensures { result ≡ told (q + children_length (program_of program.now) (stmts_of ss.now)) }
+    ensures { result ≡ capped_length (q + children_length (program_of program.now) (stmts_of ss.now)) }
 {
     let mut q = q;
     for s in ss.items() {
@@ -209,7 +209,7 @@ fn children_length(program: &Checked, ss: &List<Stmt>, q: u32) -> u32
 #[cycle(stmt)]
 #[tactic(auto, using(crate::proofs::Sums::summed))]
 fn arms_length(program: &Checked, arms: &List<Arm>, q: u32) -> u32
-    ensures { result ≡ told (q + arms_length (program_of program.now) (arms_of arms.now)) }
+    ensures { result ≡ capped_length (q + arms_length (program_of program.now) (arms_of arms.now)) }
 {
     let mut q = q;
     for a in arms.items() {
@@ -222,7 +222,7 @@ fn arms_length(program: &Checked, arms: &List<Arm>, q: u32) -> u32
 /// The tests of a `case`, one for each constant.
 #[tactic(auto, using(crate::proofs::Sums::summed))]
 fn tests_length(arms: &List<Arm>, q: u32) -> u32
-    ensures { result ≡ told (q + tests_length (arms_of arms.now)) }
+    ensures { result ≡ capped_length (q + tests_length (arms_of arms.now)) }
 {
     let mut q = q;
     for a in arms.items() {
@@ -234,7 +234,7 @@ fn tests_length(arms: &List<Arm>, q: u32) -> u32
 /// Several values on one channel, whose length is counted once.
 #[tactic(auto, using(crate::proofs::Sums::each))]
 fn sends_length(program: &Checked, channel: &Expr, values: &List<Expr>, q: u32) -> u32
-    ensures { result ≡ told (q + all_length (program_of program.now)
+    ensures { result ≡ capped_length (q + all_length (program_of program.now)
         (sends (expr_of channel.now) (map expr_of values.now))) }
 {
     let each = value_length(channel, 1);
@@ -249,7 +249,7 @@ fn sends_length(program: &Checked, channel: &Expr, values: &List<Expr>, q: u32) 
 /// Several variables from one channel, whose length is counted once.
 #[tactic(auto, using(crate::proofs::Sums::each))]
 fn receives_length(program: &Checked, channel: &Expr, variables: &List<Var>, q: u32) -> u32
-    ensures { result ≡ told (q + all_length (program_of program.now)
+    ensures { result ≡ capped_length (q + all_length (program_of program.now)
         (receives (expr_of channel.now) (map var_of variables.now))) }
 {
     let each = value_length(channel, 1);

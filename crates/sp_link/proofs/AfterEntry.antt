@@ -8,41 +8,42 @@ use Rattle.sp_tree.specs.Uses.{Use, In_stmt}
 use Rattle.sp_tree.specs.Interference.{IsFreeOfInterference}
 use Rattle.sp_cell.specs.Map.{Plain}
 use Rattle.sp_meaning.specs.Model.{Name, Channel, Cargo, Message, Takes}
-use Rattle.sp_meaning.specs.Own.{Setting, Loc, Cell, Held, Tree, Position, Written, Address, Own, Who, Item, Do, First}
-use Rattle.sp_meaning.specs.Own.{Again, Test, Leave, Break}
+use Rattle.sp_meaning.specs.LocalWork.{RunInput, Loc, Cell, LocationContent, Tree, Position, Written, Address}
+use Rattle.sp_meaning.specs.LocalWork.{LocalState, Identity, Item, Do, First}
+use Rattle.sp_meaning.specs.LocalWork.{Again, Test, Leave, Break}
 use Rattle.sp_meaning.specs.Run.{Store}
-use Rattle.sp_meaning.proofs.Rights.{Mine}
+use Rattle.sp_meaning.proofs.Rights.{OwnLocation}
 use Rattle.sp_code.specs.declared.code.Parts.{Parts as Code}
 use Rattle.sp_code.specs.declared.code.Layout.{Layout}
 use Rattle.sp_code.specs.Machine.{Entry, Stop, Ops, layout_of}
-use Rattle.sp_code.specs.Places.{after}
+use Rattle.sp_code.specs.Places.{after_statement}
 use Rattle.sp_code.specs.Memory.{Memory}
-use Rattle.sp_codegen.specs.Joints.{Joint}
-use Rattle.sp_codegen.specs.Meets.{due_after}
-use Rattle.sp_codegen.specs.Relation.{Relation, Keeps}
+use Rattle.sp_codegen.specs.FramePairs.{FramePair}
+use Rattle.sp_codegen.specs.TurnAgrees.{due_after}
+use Rattle.sp_codegen.specs.Relation.{Relation, KeepsRelation}
 use Rattle.sp_codegen.specs.Standing.{OwnersWithin}
 use Rattle.sp_codegen.specs.Executions.{Execution}
-use Rattle.sp_codegen.specs.Following.{Slides, Follows}
-use Rattle.sp_link.proofs.Relation.{Ground, Life, Called, Fresh, Fo, Ca, St, Rel, law, ops}
+use Rattle.sp_codegen.specs.Following.{Slides, CodeFollows}
+use Rattle.sp_link.proofs.Relation.{RunContext, BirthRights, Called, Fresh, Fo, Ca, St, Rel, law, ops}
 
 -- the code of what is left goes by the frames that a process made, and by nothing else of what it is
-module _ {M : Type 0} (g : Setting) (code : Code) (moves shares : Stmt → List ℕ) (hush : ℕ → Type 0)
+module _ {M : Type 0} (g : RunInput) (code : Code) (moves shares : Stmt → List ℕ) (hush : ℕ → Type 0)
     (W R : Loc → Type 0) (J : ℕ → Type 0) (ops : Ops M) (free : IsFreeOfInterference g.program)
     (finds : (f : ℕ) (l : Layout) → slice_get code.layouts f ≡ Some l → layout_of code.layouts f ≡ Some l)
     (formed : (f : ℕ) (b : Block) → slice_get g.program.blocks f ≡ Some b → (u : Use) → In_stmt b.body u
     → IsFormedUse g.program u) (reads reads1 : (l : Loc) → W l → R l)
-    (w : Who) (due : Own → Bool) (rel : Relation M) (law : Keeps g w due W R J ops rel)
+    (w : Identity) (due : LocalState → Bool) (rel : Relation M) (law : KeepsRelation g w due W R J ops rel)
     (own : (n x : ℕ) → W (Cell w.name n x))
-    (w1 : Who) (due1 : Own → Bool) (rel1 : Relation M) (law1 : Keeps g w1 due1 W R J ops rel1)
+    (w1 : Identity) (due1 : LocalState → Bool) (rel1 : Relation M) (law1 : KeepsRelation g w1 due1 W R J ops rel1)
     (own1 : (n x : ℕ) → W (Cell w1.name n x))
-    (mine : (j : Joint) (js : List Joint) → rel.Mine j js → rel1.Mine j js) where
+    (mine : (j : FramePair) (js : List FramePair) → rel.Mine j js → rel1.Mine j js) where
   abbrev before : Execution M
   before = record {
     setting = g;
     code = code;
     moves = moves;
     shares = shares;
-    Quiet = hush;
+    IsCallableInFunctions = hush;
     who = w;
     due = due;
     Writes = W;
@@ -64,7 +65,7 @@ module _ {M : Type 0} (g : Setting) (code : Code) (moves shares : Stmt → List 
     code = code;
     moves = moves;
     shares = shares;
-    Quiet = hush;
+    IsCallableInFunctions = hush;
     who = w1;
     due = due1;
     Writes = W;
@@ -83,11 +84,12 @@ module _ {M : Type 0} (g : Setting) (code : Code) (moves shares : Stmt → List 
   slides_again : {pc to : ℕ} {stack : List Entry} → Slides before pc to stack → Slides now pc to stack
   slides_again h = record { by = h.by }
 
-  pub again : (end : ℕ) (base : List Entry) (below : List Joint) (pc : ℕ) (stack : List Entry) (js : List Joint)
-      (todo : List Item) → Follows before end base below pc stack js todo → Follows now end base below pc stack js todo
+  pub again : (end : ℕ) (base : List Entry) (below : List FramePair) (pc : ℕ) (stack : List Entry) (js : List FramePair)
+      (todo : List Item) → CodeFollows before end base below pc stack js todo
+      → CodeFollows now end base below pc stack js todo
   again end base below pc stack js [] h = (slides_again h.0, h.1, h.2)
   again end base below pc stack js (Do s ∷ todo) h =
-      (h.0, h.1, slides_again h.2, h.3, h.4, again end base below (after g.program h.0 s) stack js todo h.5)
+      (h.0, h.1, slides_again h.2, h.3, h.4, again end base below (after_statement g.program h.0 s) stack js todo h.5)
   again end base below pc stack js (First x lo hi d s ∷ todo) h = (
     h.0,
     h.1,
@@ -96,7 +98,7 @@ module _ {M : Type 0} (g : Setting) (code : Code) (moves shares : Stmt → List 
     h.4,
     h.5,
     h.6,
-    again end base below (after g.program (h.0 + 1 + 1) s + 1) h.2 js todo h.7,
+    again end base below (after_statement g.program (h.0 + 1 + 1) s + 1) h.2 js todo h.7,
     h.8,
   )
   again end base below pc stack js (Again x hi d s ∷ todo) h = (
@@ -107,10 +109,17 @@ module _ {M : Type 0} (g : Setting) (code : Code) (moves shares : Stmt → List 
     h.4,
     h.5,
     h.6,
-    again end base below (after g.program (h.0 + 1 + 1) s + 1) h.2 js todo h.7,
+    again end base below (after_statement g.program (h.0 + 1 + 1) s + 1) h.2 js todo h.7,
   )
-  again end base below pc stack js (Test s e ∷ todo) h =
-      (h.0, h.1, slides_again h.2, h.3, h.4, again end base below (after g.program h.0 (Repeat s e)) stack js todo h.5)
+  again end base below pc stack js (Test s e ∷ todo) h = (
+    h.0,
+    h.1,
+    slides_again h.2,
+    h.3,
+    h.4,
+    again end base below (after_statement g.program h.0 (Repeat s e)) stack js
+        todo h.5,
+  )
   again end base below pc stack js (Leave ∷ todo) h = (
     h.0,
     h.1,
@@ -126,9 +135,10 @@ module _ {M : Type 0} (g : Setting) (code : Code) (moves shares : Stmt → List 
   )
   again end base below pc stack js (Break x ∷ todo) h = h
 
-module _ (G : Ground) (lf : Life) (kids : ℕ → ℕ → Life) (q : Name) where
+module _ (G : RunContext) (lf : BirthRights) (kids : ℕ → ℕ → BirthRights) (q : Name) where
   -- its ticks since then
-  pub stand_again : {w w1 : Who} {since since1 : ℕ} {js : List Joint} {o : Own} {s : Store} {n : Memory Plain}
+  pub stand_again : {w w1 : Identity} {since since1 : ℕ} {js : List FramePair} {o : LocalState} {s : Store}
+      {n : Memory Plain}
       → w1.name ≡ w.name → since1 ≡ n.ticks → St G lf kids q w since js o s n
       → St G lf kids q w1 since1 js o s (record n { since = n.ticks })
   stand_again {js = js} {n = n} e f t = record {
@@ -162,18 +172,19 @@ module _ (G : Ground) (lf : Life) (kids : ℕ → ℕ → Life) (q : Name) where
     output = t.output;
   }
 
-  module _ (f f1 : Fresh G lf kids q) (w w1 : Who) (n : w.name ≡ q) (n1 : w1.name ≡ q) (a b : ℕ) where
+  module _ (f f1 : Fresh G lf kids q) (w w1 : Identity) (n : w.name ≡ q) (n1 : w1.name ≡ q) (a b : ℕ) where
     -- the code of what is left
-    pub follows_again : (pc : ℕ) (stack : List Entry) (js : List Joint) (todo : List Item)
+    pub follows_again : (pc : ℕ) (stack : List Entry) (js : List FramePair) (todo : List Item)
         → Fo G lf kids q f w n a pc stack js todo → Fo G lf kids q f1 w1 n1 b pc stack js todo
-    follows_again pc stack js todo h = again G.g G.code G.moves G.shares G.hush (λ l. Mine q l ⊎ lf.W l)
-        (λ l. Mine q l ⊎ lf.R l) lf.J (ops G) G.free G.finds G.formed.uses f.reads f1.reads w (due_after a G.pause)
+    follows_again pc stack js todo h = again G.g G.code G.moves G.shares G.hush (λ l. OwnLocation q l ⊎ lf.W l)
+        (λ l. OwnLocation q l ⊎ lf.R l) lf.J (ops G) G.free G.finds G.formed.uses f.reads f1.reads w
+        (due_after a G.pause)
         (Rel G lf kids q w a) (law G lf kids q f w n a) (λ h x. inl n)
         w1 (due_after b G.pause) (Rel G lf kids q w1 b) (law G lf kids q f1 w1 n1 b) (λ h x. inl n1) (λ j js m. m)
         lf.end [] lf.below pc stack js todo h
 
     -- the offer of one that waits
-    pub cargo_again : (js : List Joint) (c : Channel) (k : ℕ) (x : Cargo Held Address) (z : Stop)
+    pub cargo_again : (js : List FramePair) (c : Channel) (k : ℕ) (x : Cargo LocationContent Address) (z : Stop)
         → Ca G lf kids q f w n a js c k x z → Ca G lf kids q f1 w1 n1 b js c k x z
     cargo_again js c k (Message (Tree v)) z h = h
     cargo_again js c k (Message (Position m)) z h = h

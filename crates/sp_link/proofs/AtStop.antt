@@ -5,34 +5,35 @@ use Rattle.std.proofs.Common.{arith, List, length}
 use Rattle.std.specs.Prelude.{◌≢◌}
 use Rattle.sp_cell.specs.Map.{Plain}
 use Rattle.sp_meaning.specs.Model.{Name, Absent}
-use Rattle.sp_meaning.specs.Steps.{has_ended, Lives as IsLive}
+use Rattle.sp_meaning.specs.Steps.{has_ended, IsAlive as IsLive}
 use Rattle.sp_meaning.specs.Entries.{Happening}
-use Rattle.sp_meaning.specs.Own.{Loc, Output, Item, Own, Process, Came, Got, Bad}
-use Rattle.sp_meaning.specs.Deeds.{Deed, Opened}
+use Rattle.sp_meaning.specs.LocalWork.{Loc, Output, Item, LocalState, Process, WorkOutcome, Computed, EndsInFault}
+use Rattle.sp_meaning.specs.Actions.{Action, Opened}
 use Rattle.sp_base.specs.declared.fault.Fault.{Fault}
 use Rattle.sp_meaning.specs.Run.{Store}
-use Rattle.sp_meaning.specs.Runs.{StateOf, says}
+use Rattle.sp_meaning.specs.Runs.{StateOf, happening_at}
 use Rattle.sp_meaning.specs.Along.{Course}
 use Rattle.sp_meaning.proofs.Keys.{name_test}
 use Rattle.sp_meaning.proofs.Maps.{same_or_not}
 use Rattle.sp_meaning.proofs.Owned.{Inv, Keeps_to}
 use Rattle.sp_meaning.proofs.Parallel.{IsAlone}
-use Rattle.sp_meaning.proofs.QuietDeeds.{IsStop, IsDead, IsSameButOne, quiet_deeds, quiet_opens, quiet_faults}
-use Rattle.sp_meaning.proofs.Reached.{Known}
+use Rattle.sp_meaning.proofs.SilentActions.{IsStop, IsDead, IsSameButOne, actions_are_silent, quiet_opens, quiet_faults}
+use Rattle.sp_meaning.proofs.Reached.{StateKeeps}
 use Rattle.sp_meaning.proofs.Status.{working_lives, lives_ended}
 use Rattle.sp_code.specs.Machine.{Config}
 use Rattle.sp_code.specs.Memory.{Memory}
 use Rattle.sp_code.specs.System.{System}
 use Rattle.sp_code.specs.System as sys
 use Rattle.sp_link.proofs.TurnsMeet.{Keeps_it, keeps, turn_known, pure_blocks, Wr, Rd}
-use Rattle.sp_link.proofs.OneChanges.{q, pr, runs, alone, light, keeps_to, here, present, not_ended, holds_by}
+use Rattle.sp_link.proofs.OneChanges.{q, pr, runs_as_pr, alone, light, keeps_to, here, present, not_ended, holds_by}
 use Rattle.sp_link.proofs.OneChanges.{inv_local}
 use Rattle.sp_link.proofs.Pauses.{kids}
-use Rattle.sp_link.proofs.Relation.{Ground, Lives, W_of, R_of, Stands, Performs_all, Linked}
+use Rattle.sp_link.proofs.Relation.{RunContext, RightsOfAll, W_of, R_of, ProcessMatches, Performs_all, Linked}
 use Rattle.sp_link.proofs.OthersStay.{does_stay}
 use Rattle.sp_link.proofs.SourceTurns.{Comes_to}
 
-module _ (G : Ground) (lv : Lives G) (c : Course) (s : StateOf G.g) (u : System Plain) (l : Linked G lv c s u) (i : ℕ)
+module _ (G : RunContext) (lv : RightsOfAll G) (c : Course) (s : StateOf G.g) (u : System Plain) (l : Linked G lv c s u)
+    (i : ℕ)
     (d : Config (Memory Plain)) (at_i : u.condition i ≡ sys.Working d) where
   abbrev pub w : Name
   w = q G lv c s u l i d at_i
@@ -43,48 +44,49 @@ module _ (G : Ground) (lv : Lives G) (c : Course) (s : StateOf G.g) (u : System 
   abbrev pub kt : Keeps_to G.g.program (W_of G lv) (R_of G lv) s.forks w p1
   kt = keeps_to G lv c s u l i d at_i
 
-  module _ (z : Stands G (lv w) (kids G lv c s u l i d at_i) w (c.since w) p1 s.store d) where
-    abbrev pub Stopped_at : Came Deed × Store → Type 0
+  module _ (z : ProcessMatches G (lv w) (kids G lv c s u l i d at_i) w (c.since w) p1 s.store d) where
+    abbrev pub Stopped_at : WorkOutcome Action × Store → Type 0
     Stopped_at r = Comes_to G.g w G.pause (c.since w)
-        (Keeps_it G (lv w) (kids G lv c s u l i d at_i) w (c.since w) s p1 d z (runs G lv c s u l i d at_i)
+        (Keeps_it G (lv w) (kids G lv c s u l i d at_i) w (c.since w) s p1 d z (runs_as_pr G lv c s u l i d at_i)
         (light G lv c s u l i d at_i) kt.last kt.fit)
-        (keeps G (lv w) (kids G lv c s u l i d at_i) w (c.since w) s p1 d z (runs G lv c s u l i d at_i)
+        (keeps G (lv w) (kids G lv c s u l i d at_i) w (c.since w) s p1 d z (runs_as_pr G lv c s u l i d at_i)
         (light G lv c s u l i d at_i) kt.last kt.fit) s p1 r
 
     -- what its step wrote: of a fork, an offer or an end nothing that is still there, of an open one variable, of a
     -- fault no output
-    pub same_but_dead : (e : Deed) (o : Own) (m : Store) (x : Stopped_at (Got e o, m)) → IsStop e → (a : Loc)
+    pub same_but_dead : (e : Action) (o : LocalState) (m : Store) (x : Stopped_at (Computed e o, m)) → IsStop e
+        → (a : Loc)
         → (x.at.store a ≡ m a) ⊎ IsDead (length o.frames) a
-    same_but_dead e o m x stop = quiet_deeds G.g G.free G.pure (pure_blocks G)
+    same_but_dead e o m x stop = actions_are_silent G.g G.free G.pure (pure_blocks G)
         (Wr G (lv w) (kids G lv c s u l i d at_i) w (c.since w))
         (Rd G (lv w) (kids G lv c s u l i d at_i) w (c.since w)) kt.last x.left x.good.fit x.good.pure x.at.store e o m
         stop x.does
 
-    pub same_but_one : (todo : List Item) (o : Own) (m : Store) (x : Stopped_at (Got (Opened todo) o, m))
+    pub same_but_one : (todo : List Item) (o : LocalState) (m : Store) (x : Stopped_at (Computed (Opened todo) o, m))
         → IsSameButOne (length x.left.own.frames) x.at.store m
     same_but_one todo o m x = quiet_opens G.g G.free G.pure (pure_blocks G)
         (Wr G (lv w) (kids G lv c s u l i d at_i) w (c.since w))
         (Rd G (lv w) (kids G lv c s u l i d at_i) w (c.since w)) kt.last x.left x.good.fit x.good.pure x.at.store todo o
         m x.does
 
-    pub same_output : (f : Fault) (m : Store) (x : Stopped_at (Bad f, m)) → x.at.store Output ≡ m Output
+    pub same_output : (f : Fault) (m : Store) (x : Stopped_at (EndsInFault f, m)) → x.at.store Output ≡ m Output
     same_output f m x = quiet_faults G.g G.free G.pure (pure_blocks G)
         (Wr G (lv w) (kids G lv c s u l i d at_i) w (c.since w))
         (Rd G (lv w) (kids G lv c s u l i d at_i) w (c.since w)) kt.last x.left x.good.fit x.good.pure x.at.store f m
         x.does
 
-    module _ (r : Came Deed × Store) (x : Stopped_at r) (what : Happening)
-        (said : says G.g x.at w x.left ≡ Some what) where
+    module _ (r : WorkOutcome Action × Store) (x : Stopped_at r) (what : Happening)
+        (said : happening_at G.g x.at w x.left ≡ Some what) where
       pub alone_at : IsAlone x.at w
       alone_at = inl (x.left, x.runs)
 
-      pub known_at : Known G.g x.at
+      pub known_at : StateKeeps G.g x.at
       known_at = turn_known G.g G.pause (c.since w) w x.steps s x.at false l.known (x.turn what said)
 
       pub keeps_at : Keeps_to G.g.program (W_of G lv) (R_of G lv) s.forks w x.left
       keeps_at = record {
         named = x.good.named;
-        forked = ap (λ (y : Rattle.sp_meaning.specs.Own.Who). y.forks) x.who_is
+        forked = ap (λ (y : Rattle.sp_meaning.specs.LocalWork.Identity). y.forks) x.who_is
             ∙ kt.forked;
         last = kt.last;
         fit = x.good.fit;

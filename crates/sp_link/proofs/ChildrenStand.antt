@@ -11,28 +11,28 @@ use Rattle.sp_tree.specs.Uses as use_of
 use Rattle.sp_tree.specs.Sets.{IsTarget, IsUsed}
 use Rattle.sp_cell.specs.declared.spot.Spot.{Spot}
 use Rattle.sp_cell.specs.declared.spot.Handing.{Handing}
-use Rattle.sp_cell.specs.Fork.{index_frame, away, handed, moved_of, shared_of}
+use Rattle.sp_cell.specs.Fork.{index_frame, with_away, map_after_fork, moved_of, shared_of}
 use Rattle.sp_cell.specs.Map.{Plain, output_spot}
 use Rattle.sp_cell.specs.Spots.{In, NotIn}
 use Rattle.sp_meaning.specs.Model.{Name, Absent}
-use Rattle.sp_meaning.specs.Own.{Loc, Cell, Input, Output, OfIndex, Own, Who, Process}
-use Rattle.sp_meaning.specs.Deeds.{Birth, push}
+use Rattle.sp_meaning.specs.LocalWork.{Loc, Cell, Input, Output, OfIndex, LocalState, Identity, Process}
+use Rattle.sp_meaning.specs.Actions.{Birth, push}
 use Rattle.sp_meaning.specs.Owning.{Aimed, Used, Sound}
 use Rattle.sp_meaning.specs.Run.{Store}
-use Rattle.sp_meaning.proofs.Rights.{Mine}
+use Rattle.sp_meaning.proofs.Rights.{OwnLocation}
 use Rattle.sp_code.specs.declared.code.ChildTable.{ChildTable}
 use Rattle.sp_code.specs.Machine.{Entry, At}
 use Rattle.sp_code.specs.Memory.{Memory}
 use Rattle.sp_code.specs.PlainStore.{plain}
-use Rattle.sp_code.specs.System.{spot_of, newborn, handing_of, on_store as On_store}
+use Rattle.sp_code.specs.System.{spot_of, child_process, handing_of, on_store as On_store}
 use Rattle.sp_meaning.specs.Steps.{has_ended}
 use Rattle.sp_meaning.specs.Runs.{StateOf}
 use Rattle.sp_codegen.proofs.Joining.{handed_joining}
 use Rattle.sp_link.proofs.OthersStay.{joining_more}
 use Rattle.sp_code.specs.Scopes.{Scope}
-use Rattle.sp_code.specs.Places.{after}
+use Rattle.sp_code.specs.Places.{after_statement}
 use Rattle.sp_code.specs.Emitted.{child_table}
-use Rattle.sp_codegen.specs.Joints.{Joint, sources, from}
+use Rattle.sp_codegen.specs.FramePairs.{FramePair, sources, pairs_from}
 use Rattle.sp_codegen.specs.Relation.{Placed}
 use Rattle.sp_codegen.proofs.Owners.{no_longer_owner}
 use Rattle.sp_codegen.proofs.Begins.{child_begins, memory_in}
@@ -50,11 +50,13 @@ use Rattle.sp_code.specs.Scopes.{slot}
 use Rattle.sp_code.specs.Memory.{position_at}
 use Rattle.sp_tree.specs.Interference.{IsIndexOf}
 use Rattle.sp_meaning.proofs.Within.{part}
-use Rattle.sp_link.proofs.Relation.{Ground, Life, Called, Named, Fresh, St, Stands, Joined, Handed, Fo, left_of}
+use Rattle.sp_link.proofs.Relation.{RunContext, BirthRights, Called, Named, Fresh, St, ProcessMatches, Joined, Handed}
+use Rattle.sp_link.proofs.Relation.{Fo, left_of}
 use Rattle.sp_link.proofs.Relation.{execution, run_is}
 
 -- what is reached from uses that are formed is formed
-pub reached_formed : (G : Ground) {Here : Use → Type 0} (bs : List ℕ) → ((u : Use) → Here u → IsFormedUse G.g.program u)
+pub reached_formed : (G : RunContext) {Here : Use → Type 0} (bs : List ℕ)
+    → ((u : Use) → Here u → IsFormedUse G.g.program u)
     → (u : Use) → Reach G.g.program Here bs u → IsFormedUse G.g.program u
 reached_formed G [] here u r = here u r
 reached_formed G (b ∷ bs) here u r = reached_formed G bs (G.formed.uses b r.2 r.3) u r.5
@@ -62,17 +64,18 @@ reached_formed G (b ∷ bs) here u r = reached_formed G bs (G.formed.uses b r.2 
 same_role : (i v : Variable) → Some i ≡ Some v → i.role ≡ role.Index → v.role ≡ role.Index
 same_role i v e h = let same : i ≡ v = cc e in ap (λ (y : Variable). y.role) (sym same) ∙ h
 
-module _ (G : Ground) (lf : Life) (kids : ℕ → ℕ → Life) (q : Name) where
+module _ (G : RunContext) (lf : BirthRights) (kids : ℕ → ℕ → BirthRights) (q : Name) where
   abbrev Wr : Loc → Type 0
-  Wr l = Mine q l ⊎ lf.W l
+  Wr l = OwnLocation q l ⊎ lf.W l
 
   abbrev Rd : Loc → Type 0
-  Rd l = Mine q l ⊎ lf.R l
+  Rd l = OwnLocation q l ⊎ lf.R l
 
   pub consoles : (y : ℕ) (v : Variable) → slice_get G.g.program.variables y ≡ Some v → v.role ≡ role.Console → y < 2
   consoles y v e r = (G.free.consoles y v e r).1
 
-  module _ (f : Fresh G lf kids q) {w : Who} {since : ℕ} {js : List Joint} {o : Own} {s : Store} {n : Memory Plain}
+  module _ (f : Fresh G lf kids q) {w : Identity} {since : ℕ} {js : List FramePair} {o : LocalState} {s : Store}
+      {n : Memory Plain}
       (t : St G lf kids q w since js o s n) (may_fork : o.depth + 1 ≤ G.g.limits.depth)
       (ss : Stmts) (sc : List Scope) (pl : Placed G.g Wr Rd lf.J sc js (In_stmt (Parallel ss))) (first k : ℕ)
       (b : Birth) (z : ChildIs G.g.program G.moves G.shares G.code G.hush true sc ss first k b)
@@ -96,7 +99,8 @@ module _ (G : Ground) (lf : Life) (kids : ℕ → ℕ → Life) (q : Name) where
     pub sound : Sound G.g.program Wr Rd (sources js) (In_stmt z.statement)
     sound = part (λ u a. inr (inl (z.inside u a))) pl.sound
 
-    pub new_name : (h : ℕ) (j : Joint) (rest : List Joint) → from (suc h) js ≡ j ∷ rest → j.source.owner ≡ child → ⊥
+    pub new_name : (h : ℕ) (j : FramePair) (rest : List FramePair) → pairs_from (suc h) js ≡ j ∷ rest
+        → j.source.owner ≡ child → ⊥
     new_name = no_longer_owner (length w.name) js child t.frames.owners longer
 
     abbrev pub table : ChildTable
@@ -106,7 +110,7 @@ module _ (G : Ground) (lf : Life) (kids : ℕ → ℕ → Life) (q : Name) where
     handing = handing_of G.code.layouts n.frames value k table
 
     -- what its birth gives it
-    abbrev pub life : Life
+    abbrev pub life : BirthRights
     life = record {
       W = λ l. Aimed G.g.program (sources js) z.statement l;
       R = λ l. Used G.g.program (sources js) z.statement l;
@@ -115,7 +119,7 @@ module _ (G : Ground) (lf : Life) (kids : ℕ → ℕ → Life) (q : Name) where
       born = o.depth + 1;
       moved = handing.moved;
       below = js;
-      end = after G.g.program z.entry z.statement;
+      end = after_statement G.g.program z.entry z.statement;
     }
 
     abbrev pub own : Process
@@ -131,12 +135,15 @@ module _ (G : Ground) (lf : Life) (kids : ℕ → ℕ → Life) (q : Name) where
         new_name table refl refl value k consoles no_index_aimed declared a i
 
     module _ (number : ℕ) (called : Called G child number) (pc : ℕ) (stack : List Entry)
-        (shared_known : (a : Spot) → In a handing.shared → IsSome (fin.get n.store.map a)) (more : ℕ → ℕ → Life) where
+        (shared_known : (a : Spot) → In a handing.shared → IsSome (fin.get n.store.map a)) (more : ℕ → ℕ
+        → BirthRights) where
       begins : Rattle.sp_codegen.specs.Standing.Stand G.g G.code own.who (Named G) (Called G)
-          (λ l. Mine child l ⊎ life.W l) (λ l. Mine child l ⊎ life.R l) life.J life.low (length js) life.born 0 G.pause
+          (λ l. OwnLocation child l ⊎ life.W l) (λ l. OwnLocation child l ⊎ life.R l) life.J life.low (length js)
+          life.born 0 G.pause
           life.moved js own.own s
-          (memory_in (newborn plain (run_is G) (At pc stack n) value number k table))
-          × Placed G.g (λ l. Mine child l ⊎ life.W l) (λ l. Mine child l ⊎ life.R l) life.J sc js (In_stmt z.statement)
+          (memory_in (child_process plain (run_is G) (At pc stack n) value number k table))
+          × Placed G.g (λ l. OwnLocation child l ⊎ life.W l) (λ l. OwnLocation child l ⊎ life.R l) life.J sc js
+          (In_stmt z.statement)
       begins = child_begins G.g G.code w (Named G) (Called G) Wr Rd lf.J lf.low (length lf.below) lf.born since G.pause
           lf.moved f.based G.formed G.laid G.free f.reads G.moves G.shares G.sets consoles t may_fork
           ss sc pl G.hush first k b z unread own.who longer number called pc stack value all_moved_known
@@ -152,15 +159,15 @@ module _ (G : Ground) (lf : Life) (kids : ℕ → ℕ → Life) (q : Name) where
         ends = z.end;
       }
 
-      pub child_stands : Stands G life more child 0 own s
-          (newborn plain (run_is G) (At pc stack n) value number k table)
+      pub child_stands : ProcessMatches G life more child 0 own s
+          (child_process plain (run_is G) (At pc stack n) value number k table)
       child_stands = record {
         fresh = fresh;
         named = refl;
         js = js;
         pc = z.entry;
         stack = [];
-        memory = memory_in (newborn plain (run_is G) (At pc stack n) value number k table);
+        memory = memory_in (child_process plain (run_is G) (At pc stack n) value number k table);
         is = refl;
         stand = begins.0;
         follows = child_follows (execution G life more child fresh own.who refl 0)
@@ -184,7 +191,8 @@ module _ (G : Ground) (lf : Life) (kids : ℕ → ℕ → Life) (q : Name) where
         G.pause lf.moved G.formed G.laid G.free f.reads G.moves G.shares G.sets t z.statement sound unread child
         new_name table refl refl value k l a.0 (inl a.1) a.2
 
-    index_stays : (h : ℕ) → lf.J h → (j : Joint) (rest : List Joint) (x : ℕ) (v : ℤ) → from (suc h) js ≡ j ∷ rest
+    index_stays : (h : ℕ) → lf.J h → (j : FramePair) (rest : List FramePair) (x : ℕ) (v : ℤ)
+        → pairs_from (suc h) js ≡ j ∷ rest
         → j.source.home ≡ OfIndex x v → NotIn (spot_at j.machine.number 0) handing.moved
     index_stays h jh j rest x v e hi = ⊎_elim (λ i. absurd (no (moves_so (spot_at j.machine.number 0) i))) (λ d. d)
         (in_or (spot_at j.machine.number 0) handing.moved)
@@ -228,7 +236,7 @@ module _ (G : Ground) (lf : Life) (kids : ℕ → ℕ → Life) (q : Name) where
     abbrev Keeps_spot : Spot → Type 0
     Keeps_spot a = (life.R Input × (a ≡ position_at.spot)) ⊎ ((life.R Output × (a ≡ output_spot))
         ⊎ ((r : Name) × (h : ℕ) × (x : ℕ) × (l : Live G.g.program js r h x)
-        × (Mine child (Cell r h x) ⊎ life.R (Cell r h x))
+        × (OwnLocation child (Cell r h x) ⊎ life.R (Cell r h x))
         × (a ≡ spot_at l.joint.machine.number (slot G.g.program x))))
 
     kept : (a : Spot) → In a handing.moved → Keeps_spot a
@@ -274,12 +282,13 @@ module _ (G : Ground) (lf : Life) (kids : ℕ → ℕ → Life) (q : Name) where
     }
 
 -- and its parent joins: what moved is away
-module _ (G : Ground) (lf : Life) (kids : ℕ → ℕ → Life) (q : Name) (f : Fresh G lf kids q) (since k n : ℕ)
-    (next : Process) (js : List Joint) (s : StateOf G.g) (m : Memory Plain)
+module _ (G : RunContext) (lf : BirthRights) (kids : ℕ → ℕ → BirthRights) (q : Name) (f : Fresh G lf kids q)
+    (since k n : ℕ)
+    (next : Process) (js : List FramePair) (s : StateOf G.g) (m : Memory Plain)
     (t : St G lf kids q next.who since js next.own s.store m) (named : next.who.name ≡ q)
     (pc : ℕ) (stack : List Entry) (follows : Fo G lf kids q f next.who named since pc stack js next.todo)
     (hs : List Handing) (known : (a : Spot) → In a (moved_of hs) ⊎ In a (shared_of hs) → IsSome (fin.get m.store.map a))
-    (dry : Mine q Output ⊎ lf.R Output → NotIn output_spot (shared_of hs))
+    (dry : OwnLocation q Output ⊎ lf.R Output → NotIn output_spot (shared_of hs))
     (some : 1 ≤ n) (living : (j : ℕ) → j < n → has_ended (s.condition ((k, j) ∷ q)) ≡ false)
     (born : (j : ℕ) → j < n → s.condition ((k, j) ∷ q) ≢ Absent)
     (parts : (a : Spot) → In a (moved_of hs) → (j : ℕ) × (j < n) × In a (kids k j).moved)
@@ -302,17 +311,18 @@ module _ (G : Ground) (lf : Life) (kids : ℕ → ℕ → Life) (q : Name) (f : 
     pc = pc;
     stack = stack;
     memory = m;
-    held = handed m.store.map hs;
+    held = map_after_fork m.store.map hs;
     is = refl;
     joining = joining_more G lf kids q (λ a h. let z = parts a h in (z.0, (z.1, living z.0 z.1), z.2))
-        (handed_joining G.g G.code next.who (Named G) (Called G) (λ l. Mine q l ⊎ lf.W l) (λ l. Mine q l ⊎ lf.R l) lf.J
+        (handed_joining G.g G.code next.who (Named G) (Called G) (λ l. OwnLocation q l ⊎ lf.W l)
+        (λ l. OwnLocation q l ⊎ lf.R l) lf.J
         lf.low (length lf.below) lf.born since G.pause lf.moved t hs known dry);
     follows = follows;
     count = sym (all_left n (omega arith));
     some = some;
     there = born;
     children = λ j h. children j h.0;
-    gone = λ i h a e. get_lent_out m.store.map (shared_of hs) (away m.store.map (moved_of hs)) a
+    gone = λ i h a e. get_lent_out m.store.map (shared_of hs) (with_away m.store.map (moved_of hs)) a
         (unshared a (back i h.0 a e)) ∙ get_away_in m.store.map (moved_of hs) a (back i h.0 a e);
     parted = λ i j h g. parted i j h.0 g.0;
   }

@@ -18,11 +18,11 @@ use Rattle.sp_cell.specs.Map.{Plain, IsPiece, output_spot}
 use Rattle.sp_cell.proofs.Plan.{in_or}
 use Rattle.sp_cell.specs.Spots.{In}
 use Rattle.sp_meaning.specs.Model.{Name}
-use Rattle.sp_meaning.specs.Own.{Loc, Output, OfIndex, Own, Who, Process}
-use Rattle.sp_meaning.specs.Deeds.{push}
+use Rattle.sp_meaning.specs.LocalWork.{Loc, Output, OfIndex, LocalState, Identity, Process}
+use Rattle.sp_meaning.specs.Actions.{push}
 use Rattle.sp_meaning.specs.Owning.{Aimed, Used, Sound}
 use Rattle.sp_meaning.specs.Run.{Store}
-use Rattle.sp_meaning.proofs.Rights.{Mine}
+use Rattle.sp_meaning.proofs.Rights.{OwnLocation}
 use Rattle.sp_meaning.proofs.SoundParts.{element_sound}
 use Rattle.sp_cell.proofs.Laws.{known_of_piece}
 use Rattle.sp_code.specs.declared.code.ChildTable.{ChildTable}
@@ -31,14 +31,14 @@ use Rattle.sp_code.specs.Emitted.{child_table}
 use Rattle.sp_code.specs.Machine.{Entry, At}
 use Rattle.sp_code.specs.Memory.{Memory, position_at}
 use Rattle.sp_code.specs.Memory as mem
-use Rattle.sp_code.specs.Places.{after}
+use Rattle.sp_code.specs.Places.{after_statement}
 use Rattle.sp_code.specs.PlainStore.{plain}
 use Rattle.sp_code.specs.Scopes.{Scope, level, is_index, slot}
 use Rattle.sp_code.specs.Scopes as places
-use Rattle.sp_code.specs.Stands.{Stands as StandsIn, HasFork, HasWords, StandsAt}
-use Rattle.sp_code.specs.System.{newborn, handing_of}
-use Rattle.sp_codegen.specs.Joints.{Joint, sources, from}
-use Rattle.sp_codegen.specs.Lives.{Seen}
+use Rattle.sp_code.specs.CodeOfTree.{CodeAt as StandsIn, HasFork, HasWords, StandsAt}
+use Rattle.sp_code.specs.System.{child_process, handing_of}
+use Rattle.sp_codegen.specs.FramePairs.{FramePair, sources, pairs_from}
+use Rattle.sp_codegen.specs.ProcessInfos.{Seen}
 use Rattle.sp_codegen.specs.Relation.{Placed}
 use Rattle.sp_codegen.specs.Standing.{Stand, spot_at}
 use Rattle.sp_codegen.proofs.Begins.{index_child_begins, memory_in}
@@ -48,22 +48,25 @@ use Rattle.sp_codegen.proofs.Handed.{MovedStands, moved_stands, shared_piece, ou
 use Rattle.sp_codegen.proofs.Owners.{no_longer_owner}
 use Rattle.sp_codegen.proofs.Slots.{no_index_console}
 use Rattle.sp_link.proofs.ChildrenStand.{reached_formed, consoles}
-use Rattle.sp_link.proofs.Relation.{Ground, Life, Called, Named, Fresh, St, Stands, Handed, execution, run_is}
+use Rattle.sp_link.proofs.Relation.{RunContext, BirthRights, Called, Named, Fresh, St, ProcessMatches, Handed}
+use Rattle.sp_link.proofs.Relation.{execution, run_is}
 use Rattle.sp_link.proofs.Scoping.{is_scoped, index_further}
 
-module _ (G : Ground) (lf : Life) (kids : ℕ → ℕ → Life) (q : Name) where
+module _ (G : RunContext) (lf : BirthRights) (kids : ℕ → ℕ → BirthRights) (q : Name) where
   abbrev Wr : Loc → Type 0
-  Wr l = Mine q l ⊎ lf.W l
+  Wr l = OwnLocation q l ⊎ lf.W l
 
   abbrev Rd : Loc → Type 0
-  Rd l = Mine q l ⊎ lf.R l
+  Rd l = OwnLocation q l ⊎ lf.R l
 
-  module _ (f : Fresh G lf kids q) {w : Who} {since : ℕ} {js : List Joint} {o : Own} {s : Store} {n : Memory Plain}
+  module _ (f : Fresh G lf kids q) {w : Identity} {since : ℕ} {js : List FramePair} {o : LocalState} {s : Store}
+      {n : Memory Plain}
       (t : St G lf kids q w since js o s n) (may_fork : o.depth + 1 ≤ G.g.limits.depth)
       (x : ℕ) (from1 to : Expr) (st : Stmt) (sc : List Scope)
       (pl : Placed G.g Wr Rd lf.J sc js (In_stmt (Forall x from1 to st))) (entry : ℕ)
       (body : StandsAt G.g.program G.moves G.shares (StandsIn G.code) (HasFork G.code) (HasWords G.code) G.hush true
-      (places.OfIndex x ∷ sc) entry st) (ends : slice_get G.code.instrs (after G.g.program entry st) ≡ Some i.End)
+      (places.OfIndex x ∷ sc) entry st) (ends : slice_get G.code.instrs (after_statement G.g.program entry st)
+      ≡ Some i.End)
       (child : Name) (longer : suc (length w.name) ≤ length child) (value : ℤ) (j : ℕ) where
     -- the element statement has no target, and its index is that of a forall
     pub no_target : (y : ℕ) → IsTarget G.g.program (In_stmt st) y → ⊥
@@ -97,7 +100,8 @@ module _ (G : Ground) (lf : Life) (kids : ℕ → ℕ → Life) (q : Name) where
     sound : Sound G.g.program Wr Rd (sources js) (In_stmt st)
     sound = element_sound x from1 to st pl.sound
 
-    new_name : (h : ℕ) (j : Joint) (rest : List Joint) → from (suc h) js ≡ j ∷ rest → j.source.owner ≡ child → ⊥
+    new_name : (h : ℕ) (j : FramePair) (rest : List FramePair) → pairs_from (suc h) js ≡ j ∷ rest
+        → j.source.owner ≡ child → ⊥
     new_name = no_longer_owner (length w.name) js child t.frames.owners longer
 
     abbrev pub table : ChildTable
@@ -132,7 +136,8 @@ module _ (G : Ground) (lf : Life) (kids : ℕ → ℕ → Life) (q : Name) where
         further r = index_further sc x y r.0 (λ h. other (ap Some h)) r.1
 
     index_held : (y up : ℕ) → (Some x ≡ Some y → ⊥) → In_stmt st (use_of.Seen y) → level (is_index y) sc ≡ Some up
-        → (k : Joint) (rest : List Joint) → Rattle.sp_codegen.specs.Joints.up_at up js ≡ k ∷ rest → lf.J (length rest)
+        → (k : FramePair) (rest : List FramePair) → Rattle.sp_codegen.specs.FramePairs.up_at up js ≡ k ∷ rest
+        → lf.J (length rest)
     index_held y up other a l k rest e = pl.indexes y up (inr (inr (inr (inl (a, λ h. other (ap Some h)))))) l k rest e
 
     -- of what it shares its parent has pieces
@@ -153,7 +158,7 @@ module _ (G : Ground) (lf : Life) (kids : ℕ → ℕ → Life) (q : Name) where
 
     module _ (number : ℕ) where
       -- the frame of its index
-      abbrev pub with_index : Joint
+      abbrev pub with_index : FramePair
       with_index = record {
         source = record {
           owner = child;
@@ -172,7 +177,7 @@ module _ (G : Ground) (lf : Life) (kids : ℕ → ℕ → Life) (q : Name) where
       }
 
       -- what its birth gives it
-      abbrev pub life : Life
+      abbrev pub life : BirthRights
       life = record {
         W = λ l. Aimed G.g.program (sources js) st l;
         R = λ l. Used G.g.program (sources js) st l;
@@ -181,7 +186,7 @@ module _ (G : Ground) (lf : Life) (kids : ℕ → ℕ → Life) (q : Name) where
         born = o.depth + 1;
         moved = handing.moved;
         below = with_index ∷ js;
-        end = after G.g.program entry st;
+        end = after_statement G.g.program entry st;
       }
 
       abbrev pub own : Process
@@ -206,12 +211,14 @@ module _ (G : Ground) (lf : Life) (kids : ℕ → ℕ → Life) (q : Name) where
         kept = λ a h. absurd (nothing_moves a h);
       }
 
-      module _ (called : Called G child number) (pc : ℕ) (stack : List Entry) (more : ℕ → ℕ → Life) where
-        begins : Stand G.g G.code own.who (Named G) (Called G) (λ l. Mine child l ⊎ life.W l)
-            (λ l. Mine child l ⊎ life.R l) life.J life.low (length (with_index ∷ js)) life.born 0 G.pause life.moved
+      module _ (called : Called G child number) (pc : ℕ) (stack : List Entry) (more : ℕ → ℕ → BirthRights) where
+        begins : Stand G.g G.code own.who (Named G) (Called G) (λ l. OwnLocation child l ⊎ life.W l)
+            (λ l. OwnLocation child l ⊎ life.R l) life.J life.low (length (with_index ∷ js)) life.born 0 G.pause
+            life.moved
             (with_index ∷ js) own.own s
-            (memory_in (newborn plain (run_is G) (At pc stack n) value number j table))
-            × Placed G.g (λ l. Mine child l ⊎ life.W l) (λ l. Mine child l ⊎ life.R l) life.J (places.OfIndex x ∷ sc)
+            (memory_in (child_process plain (run_is G) (At pc stack n) value number j table))
+            × Placed G.g (λ l. OwnLocation child l ⊎ life.W l) (λ l. OwnLocation child l ⊎ life.R l) life.J
+            (places.OfIndex x ∷ sc)
             (with_index ∷ js) (In_stmt st)
         begins = index_child_begins G.g G.code w (Named G) (Called G) Wr Rd lf.J lf.low (length lf.below) lf.born since
             G.pause lf.moved f.based G.formed G.laid G.free f.reads G.moves G.shares G.sets (consoles G lf kids q) t
@@ -231,15 +238,15 @@ module _ (G : Ground) (lf : Life) (kids : ℕ → ℕ → Life) (q : Name) where
           ends = ends;
         }
 
-        pub each_stands : Stands G life more child 0 own s
-            (newborn plain (run_is G) (At pc stack n) value number j table)
+        pub each_stands : ProcessMatches G life more child 0 own s
+            (child_process plain (run_is G) (At pc stack n) value number j table)
         each_stands = record {
           fresh = fresh;
           named = refl;
           js = with_index ∷ js;
           pc = entry;
           stack = [];
-          memory = memory_in (newborn plain (run_is G) (At pc stack n) value number j table);
+          memory = memory_in (child_process plain (run_is G) (At pc stack n) value number j table);
           is = refl;
           stand = begins.0;
           follows = child_follows (execution G life more child fresh own.who refl 0) st (places.OfIndex x ∷ sc) entry

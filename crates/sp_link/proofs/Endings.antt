@@ -5,46 +5,46 @@ use Rattle.std.proofs.lemmas.Option.{none-some}
 use Rattle.sp_base.specs.declared.fault.Fault.{Fault}
 use Rattle.sp_tree.specs.Plain.{Stmt}
 use Rattle.sp_journal.specs.declared.entry.Entry.{Entry}
-use Rattle.sp_journal.specs.Births.{at_start, births_from, occurrences_from, NameableFrom}
+use Rattle.sp_journal.specs.Births.{first_births, births_from, occurrences_from, NameableFrom}
 use Rattle.sp_journal.proofs.BirthLaws.{lawful_start}
 use Rattle.sp_cell.specs.Map.{Plain}
-use Rattle.sp_meaning.specs.Own.{Setting}
+use Rattle.sp_meaning.specs.LocalWork.{RunInput}
 use Rattle.sp_meaning.specs.Runs.{StateOf, start}
 use Rattle.sp_meaning.specs.Along.{no_course, IsAlong}
 use Rattle.sp_meaning.specs.Ends.{Waiting, WaitsSo, IsDeadlock, HasFault}
 use Rattle.sp_code.specs.Emitted.{program_code}
 use Rattle.sp_code.specs.Memory as memory
 use Rattle.sp_code.specs.PlainStore.{plain}
-use Rattle.sp_code.specs.System.{System, Gone, IsSystem, opening}
-use Rattle.sp_codegen.specs.Meets.{code_run}
+use Rattle.sp_code.specs.System.{System, Gone, IsSystem, opening_system}
+use Rattle.sp_codegen.specs.TurnAgrees.{code_run}
 use Rattle.sp_link.specs.Endings.{HasFaultEntry, WaitsAs, IsStuck}
 use Rattle.sp_link.specs.Premises.{IsReady}
 use Rattle.sp_link.proofs.FaultEntries.{fault_told, fault_entry}
 use Rattle.sp_link.proofs.Journal.{Goes_along}
 use Rattle.sp_link.proofs.OneState.{one_state}
 use Rattle.sp_link.proofs.Programs.{ground}
-use Rattle.sp_link.proofs.Relation.{Ground, Performs_all, Linked, at_open}
+use Rattle.sp_link.proofs.Relation.{RunContext, Performs_all, Linked, at_open}
 use Rattle.sp_link.proofs.Soundness.{names_on}
 use Rattle.sp_link.proofs.Theorem.{linked_along}
 use Rattle.sp_link.proofs.Waiters.{waits_means, waits_runs, stuck_means, stuck_runs}
 
-module _ (g : Setting) (moves shares : Stmt → List ℕ) (pause : ℕ) (ready : IsReady g moves shares) (es : List Entry)
+module _ (g : RunInput) (moves shares : Stmt → List ℕ) (pause : ℕ) (ready : IsReady g moves shares) (es : List Entry)
     (t : System Plain) (h : IsSystem plain (code_run g (program_code g.program moves shares) pause) es t)
-    (n : ℕ) (s : StateOf g) (k : IsAlong g pause (occurrences_from at_start es) n s) where
-  abbrev run : memory.Setting
+    (n : ℕ) (s : StateOf g) (k : IsAlong g pause (occurrences_from first_births es) n s) where
+  abbrev run : memory.CodeRun
   run = code_run g (program_code g.program moves shares) pause
 
-  named : NameableFrom at_start es
+  named : NameableFrom first_births es
   named = names_on g moves shares pause ready es t h
 
-  abbrev G : Ground
+  abbrev G : RunContext
   G = at_open (ground g moves shares pause ready es named) t.births.channels
 
-  along : Goes_along (ground g moves shares pause ready es named) no_course (start g) at_start es t
+  along : Goes_along (ground g moves shares pause ready es named) no_course (start g) first_births es t
   along = linked_along (ground g moves shares pause ready es named) ready.main ready.first es named refl t h
 
   is_it : along.state ≡ s
-  is_it = (one_state g pause (occurrences_from at_start es) along.steps n along.state s along.along k).1
+  is_it = (one_state g pause (occurrences_from first_births es) along.steps n along.state s along.along k).1
 
   linked : Linked G along.lives along.course s t
   linked = subst (λ y. Linked G along.lives along.course y t) is_it along.linked
@@ -68,13 +68,13 @@ module _ (g : Setting) (moves shares : Stmt → List ℕ) (pause : ℕ) (ready :
   pub program_quiet : t.faulted ≡ false → s.fault ≡ None
   program_quiet e = linked.quiet e
 
-  pub program_fault : (p : ℕ) (f : Fault) → HasFaultEntry es p f → HasFault g s ((births_from at_start es).name p) f
-  program_fault p f i = fault_told g pause es at_start lawful_start named no_course (start g) s n k p f i
+  pub program_fault : (p : ℕ) (f : Fault) → HasFaultEntry es p f → HasFault g s ((births_from first_births es).name p) f
+  program_fault p f i = fault_told g pause es first_births lawful_start named no_course (start g) s n k p f i
 
   -- a fault that stands is that of an entry
   pub program_faulted : t.faulted ≡ true → (p : ℕ) × (f : Fault) × HasFaultEntry es p f
-      × HasFault g s ((births_from at_start es).name p) f
-  program_faulted e = let w = fault_entry run es (opening plain run) t refl h e in
+      × HasFault g s ((births_from first_births es).name p) f
+  program_faulted e = let w = fault_entry run es (opening_system plain run) t refl h e in
       (w.0, w.1, w.2, program_fault w.0 w.1 w.2)
 
   -- one stands in the machine where it stands in the program

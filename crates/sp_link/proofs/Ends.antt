@@ -11,22 +11,22 @@ use Rattle.sp_journal.specs.declared.entry.Event.TheVariants as event
 use Rattle.sp_journal.specs.Births.{happening}
 use Rattle.sp_journal.specs.Maps.{at_key}
 use Rattle.sp_cell.specs.Map.{Plain, output_of}
-use Rattle.sp_meaning.specs.Model.{Name, Condition, Absent, Waits, Joins, Ended, Becomes, changed}
-use Rattle.sp_meaning.specs.Steps.{has_ended, working_in, JoinsAt, Lives as IsLive}
+use Rattle.sp_meaning.specs.Model.{Name, Condition, Absent, Waits, Joins, Ended, Becomes, with_change}
+use Rattle.sp_meaning.specs.Steps.{has_ended, own_part_in, JoinsAt, IsAlive as IsLive}
 use Rattle.sp_journal.specs.Names as happenings
-use Rattle.sp_meaning.specs.Own.{Held, Address, Own, Process, Came, Got}
-use Rattle.sp_meaning.specs.Deeds.{Deed}
-use Rattle.sp_meaning.specs.Deeds as deeds
+use Rattle.sp_meaning.specs.LocalWork.{LocationContent, Address, LocalState, Process, WorkOutcome, Computed}
+use Rattle.sp_meaning.specs.Actions.{Action}
+use Rattle.sp_meaning.specs.Actions as deeds
 use Rattle.sp_meaning.specs.SuperPascal.{superpascal}
 use Rattle.sp_meaning.specs.Run.{Store}
-use Rattle.sp_meaning.specs.Runs.{StateOf, most, next, says}
-use Rattle.sp_meaning.specs.Along.{Course, ticks_in, ticks_of, noted}
+use Rattle.sp_meaning.specs.Runs.{StateOf, total_limits, next_state, happening_at}
+use Rattle.sp_meaning.specs.Along.{Course, ticks_in, ticks_of, with_ticks}
 use Rattle.sp_meaning.specs.Turn as source
 use Rattle.sp_meaning.proofs.Keys.{name_test, number_or}
 use Rattle.sp_meaning.proofs.Maps.{at_same, at_other, same_or_not}
 use Rattle.sp_meaning.proofs.Owned.{Inv}
 use Rattle.sp_meaning.proofs.Parallel.{alone_childless}
-use Rattle.sp_meaning.proofs.Reached.{Known, step_well, raised, lowered}
+use Rattle.sp_meaning.proofs.Reached.{StateKeeps, step_well, raised, lowered}
 use Rattle.sp_meaning.proofs.Sound.{step_sound}
 use Rattle.sp_meaning.proofs.Status.{working_lives}
 use Rattle.sp_code.specs.Machine.{Config, At}
@@ -34,42 +34,44 @@ use Rattle.sp_code.specs.Machine as machine
 use Rattle.sp_code.specs.Turns.{Turn, Stopped, IsTurn}
 use Rattle.sp_code.specs.Memory.{Memory}
 use Rattle.sp_code.specs.PlainStore.{plain}
-use Rattle.sp_code.specs.System.{System, after, event_of, rejoined, reported, becomes}
+use Rattle.sp_code.specs.System.{System, system_after_turn, event_of, parent_after_join, apply_end, becomes}
 use Rattle.sp_code.specs.System as sys
 use Rattle.sp_link.proofs.Journal.{IsOpen, now_by}
 use Rattle.sp_link.proofs.KernelSteps.{kernel_next, kernel_says, stand_dead}
 use Rattle.sp_link.proofs.OneChanges.{here, inv_local, since_other}
 use Rattle.sp_link.proofs.Pauses.{Entry_of, Meant, Machined, kids, turn_is, after_quiet, way_of_step}
 use Rattle.sp_link.proofs.Rejoins.{memory_after, joins_on, runs_on, one_fewer, all_over}
-use Rattle.sp_link.proofs.Relation.{Ground, Lives, W_of, R_of, St, Stands, Joined, Performs_all, Linked, Began, run_is}
+use Rattle.sp_link.proofs.Relation.{RunContext, RightsOfAll, W_of, R_of, St, ProcessMatches, Joined, Performs_all}
+use Rattle.sp_link.proofs.Relation.{Linked, Began, run_is}
 use Rattle.sp_link.proofs.Relation.{ops, left_of}
 use Rattle.sp_link.proofs.OthersStay.{does_stay}
-use Rattle.sp_meaning.proofs.QuietDeeds.{IsDead}
+use Rattle.sp_meaning.proofs.SilentActions.{IsDead}
 use Rattle.sp_link.proofs.AtStop.{same_but_dead, w, p1, alone_at, known_at, rights_at, ended_at, other_name, does_at}
 
-module _ (G : Ground) (lv : Lives G) (c : Course) (s : StateOf G.g) (u : System Plain) (l : Linked G lv c s u) (i : ℕ)
+module _ (G : RunContext) (lv : RightsOfAll G) (c : Course) (s : StateOf G.g) (u : System Plain) (l : Linked G lv c s u)
+    (i : ℕ)
     (d : Config (Memory Plain)) (at_i : u.condition i ≡ sys.Working d)
-    (z : Stands G (lv (w G lv c s u l i d at_i)) (kids G lv c s u l i d at_i) (w G lv c s u l i d at_i)
+    (z : ProcessMatches G (lv (w G lv c s u l i d at_i)) (kids G lv c s u l i d at_i) (w G lv c s u l i d at_i)
     (c.since (w G lv c s u l i d at_i)) (p1 G lv c s u l i d at_i) s.store d)
-    (o : Own) (m : Store) (x : Meant G lv c s u l i d at_i z (Got (source.Stops deeds.Ended) o, m))
-    (t : Machined G lv c s u l i d at_i z (Got (source.Stops deeds.Ended) o, m)) (quiet : u.faulted ≡ false) where
+    (o : LocalState) (m : Store) (x : Meant G lv c s u l i d at_i z (Computed (source.Stops deeds.Ended) o, m))
+    (t : Machined G lv c s u l i d at_i z (Computed (source.Stops deeds.Ended) o, m)) (quiet : u.faulted ≡ false) where
   abbrev v : Name
   v = w G lv c s u l i d at_i
 
-  abbrev r : Came Deed × Store
-  r = (Got deeds.Ended o, m)
+  abbrev r : WorkOutcome Action × Store
+  r = (Computed deeds.Ended o, m)
 
-  said : says G.g x.at v x.left ≡ Some happenings.Ended
+  said : happening_at G.g x.at v x.left ≡ Some happenings.Ended
   said = kernel_says G.g v x.at x.left x.runs r x.does
 
   abbrev t1 : StateOf G.g
-  t1 = changed {L = superpascal G.g} (Becomes v Ended) x.at
+  t1 = with_change {L = superpascal G.g} (Becomes v Ended) x.at
 
-  goes_next : next G.g x.at v ≡ Some t1
+  goes_next : next_state G.g x.at v ≡ Some t1
   goes_next = kernel_next G.g v x.at x.left x.runs r x.does
 
   abbrev c1 : Course
-  c1 = noted v (ticks_of G.g t1 v) c
+  c1 = with_ticks v (ticks_of G.g t1 v) c
 
   gone : t1.condition v ≡ Ended
   gone = at_same name_test x.at.condition v Ended
@@ -77,12 +79,12 @@ module _ (G : Ground) (lv : Lives G) (c : Course) (s : StateOf G.g) (u : System 
   same : (a : Name) → a ≢ v → t1.condition a ≡ x.at.condition a
   same a e = at_other name_test x.at.condition v a Ended (λ h. e (sym h))
 
-  known_then : Known G.g x.at
+  known_then : StateKeeps G.g x.at
   known_then = known_at G lv c s u l i d at_i z r x happenings.Ended said
 
-  known_now : Known G.g t1
+  known_now : StateKeeps G.g t1
   known_now = record {
-    sound = step_sound (most G.g) x.at v t1 known_then.sound goes_next;
+    sound = step_sound (total_limits G.g) x.at v t1 known_then.sound goes_next;
     well = lowered G.g (λ a. ticks_in (x.at.condition a)) t1
         (step_well G.g x.at known_then.sound v (raised G.g x.at known_then.well) t1 goes_next);
   }
@@ -93,7 +95,7 @@ module _ (G : Ground) (lv : Lives G) (c : Course) (s : StateOf G.g) (u : System 
   rights_now : Inv G.g.program (W_of G lv) (R_of G lv) t1.condition t1.forks
   rights_now = inv_local G (W_of G lv) (R_of G lv) x.at.condition t1.condition x.at.forks t1.forks v rights_then refl
       (λ e. subst (λ a. IsLive a) e (working_lives x.at.condition v (x.at.condition v) x.left x.runs)) same
-      (subst (λ a. Rattle.sp_meaning.proofs.Owned.Holds G.g.program (W_of G lv) (R_of G lv) x.at.forks v a)
+      (subst (λ a. Rattle.sp_meaning.proofs.Owned.ConditionInRights G.g.program (W_of G lv) (R_of G lv) x.at.forks v a)
       (sym gone) tt)
 
   -- one that is not its parent
@@ -130,9 +132,9 @@ module _ (G : Ground) (lv : Lives G) (c : Course) (s : StateOf G.g) (u : System 
       (λ a. subst (λ y. (x.at.store a ≡ m a) ⊎ IsDead y a) lengths
       (same_but_dead G lv c s u l i d at_i z deeds.Ended o m x tt a)))
     where
-      count : (js : List Rattle.sp_codegen.specs.Joints.Joint)
-          → length (Rattle.sp_codegen.specs.Joints.sources js) ≡ length js
-      count js = Rattle.sp_codegen.proofs.Joints.sources_length js
+      count : (js : List Rattle.sp_codegen.specs.FramePairs.FramePair)
+          → length (Rattle.sp_codegen.specs.FramePairs.sources js) ≡ length js
+      count js = Rattle.sp_codegen.proofs.FramePairs.sources_length js
 
       lengths : length o.frames ≡ length t.3
       lengths = ap (λ y. length y) (t.6).frames.sources_are ∙ count t.3
@@ -140,7 +142,7 @@ module _ (G : Ground) (lv : Lives G) (c : Course) (s : StateOf G.g) (u : System 
   moved_here : (t.2).store.moved ≡ (lv v).moved
   moved_here = stood.moved_is
 
-  no_absent : ◌≡◌ {A = Condition Process Held Address} Ended Absent → ⊥
+  no_absent : ◌≡◌ {A = Condition Process LocationContent Address} Ended Absent → ⊥
   no_absent e = cc e
 
   -- the relation, once each process does what it should
@@ -249,8 +251,8 @@ module _ (G : Ground) (lv : Lives G) (c : Course) (s : StateOf G.g) (u : System 
         (at_join : x.at.condition P ≡ Joins k n pr)
         (zj : Joined G (lv P) (λ a e. lv ((a, e) ∷ P)) P (c.since P) k n left pr x.at dd)
         (opens_are : pr.who.opens ≡ op) (unlaid : c.laid P ≡ false) where
-      j : JoinsAt {O = Process} {V = Held} {T = Address} b.fork b.child (Joins k n pr)
-      j = subst (λ y. JoinsAt {O = Process} {V = Held} {T = Address} b.fork b.child y) at_join joins_at
+      j : JoinsAt {O = Process} {V = LocationContent} {T = Address} b.fork b.child (Joins k n pr)
+      j = subst (λ y. JoinsAt {O = Process} {V = LocationContent} {T = Address} b.fork b.child y) at_join joins_at
 
       vy : v ≡ (k, b.child) ∷ P
       vy = name_is ∙ ap (λ y. (y, b.child) ∷ P) (sym j.0)
@@ -268,10 +270,10 @@ module _ (G : Ground) (lv : Lives G) (c : Course) (s : StateOf G.g) (u : System 
       moved_there = subst (λ y. (t.2).store.moved ≡ (lv y).moved) vy moved_here
 
       abbrev t2 : StateOf G.g
-      t2 = changed {L = superpascal G.g} (Becomes ((k, b.child) ∷ P) Ended) x.at
+      t2 = with_change {L = superpascal G.g} (Becomes ((k, b.child) ∷ P) Ended) x.at
 
       state_same : t2 ≡ t1
-      state_same = ap (λ y. changed {L = superpascal G.g} (Becomes y Ended) x.at) (sym vy)
+      state_same = ap (λ y. with_change {L = superpascal G.g} (Becomes y Ended) x.at) (sym vy)
 
       abbrev left1 : ℕ
       left1 = left_of G (lv P) (λ a e. lv ((a, e) ∷ P)) P t2.condition k n
@@ -294,10 +296,10 @@ module _ (G : Ground) (lv : Lives G) (c : Course) (s : StateOf G.g) (u : System 
       by_left true e =
           let none : left1 ≡ 0 = omega (arith, fewer, eqb-true left 1 e) in (
             pr,
-            ap (working_in t2.condition P) there
+            ap (own_part_in t2.condition P) there
                 ∙ ap (λ a. if a then Some pr else None)
                 (all_over G lv P (c.since P) k n left b.child pr x.at dd zj j.1 yet t2.condition n none),
-            inl (subst (λ y. Stands G (lv P) (λ a e. lv ((a, e) ∷ P)) P y pr t2.store after_it)
+            inl (subst (λ y. ProcessMatches G (lv P) (λ a e. lv ((a, e) ∷ P)) P y pr t2.store after_it)
                 (sym (since_other c v (ticks_of G.g t1 v) P parent_apart))
                 (runs_on G lv P (c.since P) k n left b.child pr x.at dd zj j.1 yet stood_there moved_there none)),
             opens_are,
@@ -332,7 +334,7 @@ module _ (G : Ground) (lv : Lives G) (c : Course) (s : StateOf G.g) (u : System 
           (subst (λ y. Performs_all G lv P c1 y op (dx left after_it)) state_same (by_left (left == 1) refl))
 
     rejoin : (X : sys.Condition Plain) → Performs_all G lv P c x.at op X
-        → Performs_all G lv P c1 t1 op (rejoined plain (run_is G) left_it X)
+        → Performs_all G lv P c1 t1 op (parent_after_join plain (run_is G) left_it X)
     rejoin sys.Absent h = absurd h
     rejoin (sys.Working dd) h = absurd (not_alone (inl (h.0, h.1)))
     rejoin (sys.Waits y dd) h = absurd (subst (λ a. JoinsAt b.fork b.child a) h.1 joins_at)
@@ -342,15 +344,15 @@ module _ (G : Ground) (lv : Lives G) (c : Course) (s : StateOf G.g) (u : System 
     rejoin (sys.Over dd) h = absurd (subst (λ a. JoinsAt b.fork b.child a) h.0 joins_at)
 
     abbrev pub u1 : System Plain
-    u1 = becomes plain (run_is G) b.parent (rejoined plain (run_is G) left_it (u.condition b.parent))
+    u1 = becomes plain (run_is G) b.parent (parent_after_join plain (run_is G) left_it (u.condition b.parent))
         (becomes plain (run_is G) i sys.Gone u)
 
-    at_p : u1.condition b.parent ≡ rejoined plain (run_is G) left_it (u.condition b.parent)
-    at_p = ap (λ y. cond y (rejoined plain (run_is G) left_it (u.condition b.parent))
+    at_p : u1.condition b.parent ≡ parent_after_join plain (run_is G) left_it (u.condition b.parent)
+    at_p = ap (λ y. cond y (parent_after_join plain (run_is G) left_it (u.condition b.parent))
         (cond (i == b.parent) sys.Gone (u.condition b.parent))) (eq-eqb b.parent b.parent refl)
 
     at_else : (a : ℕ) → b.parent ≢ a → u1.condition a ≡ cond (i == a) sys.Gone (u.condition a)
-    at_else a e = ap (λ y. cond y (rejoined plain (run_is G) left_it (u.condition b.parent))
+    at_else a e = ap (λ y. cond y (parent_after_join plain (run_is G) left_it (u.condition b.parent))
         (cond (i == a) sys.Gone (u.condition a))) (ne_eqb b.parent a e)
 
     at_far : (a : ℕ) → b.parent ≢ a → i ≢ a → u1.condition a ≡ u.condition a
@@ -388,7 +390,7 @@ module _ (G : Ground) (lv : Lives G) (c : Course) (s : StateOf G.g) (u : System 
   -- ---- the entry
 
   by_birth : (y : Option Birth) → u.births.birth i ≡ y
-      → Linked G lv c1 t1 (record (reported plain (run_is G) i left_it y u) { births = u.births })
+      → Linked G lv c1 t1 (record (apply_end plain (run_is G) i left_it y u) { births = u.births })
   by_birth None e = root_ends e (first i refl)
     where
       first : (k : ℕ) → i ≡ k → v ≡ []
@@ -427,7 +429,7 @@ module _ (G : Ground) (lv : Lives G) (c : Course) (s : StateOf G.g) (u : System 
         (λ left n k. (l.faulted ∙ quiet, refl, t1, n, one-add n, (x.left, x.runs, said, goes_next), k)) _ (sym told);
     speaks = subst (λ a. IsOpen u.births (if a then event.Laid else event.End)) (sym quiet) tt;
     lives = lv;
-    linked = λ began. now_by G lv c1 t1 (after plain (run_is G) i tn u)
+    linked = λ began. now_by G lv c1 t1 (system_after_turn plain (run_is G) i tn u)
         (subst (λ y. Linked G lv c1 t1 y) (sym (after_quiet G i tn u quiet)) (by_birth (u.births.birth i) refl));
   }
     where

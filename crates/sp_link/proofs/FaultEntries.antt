@@ -8,20 +8,22 @@ use Rattle.sp_journal.specs.declared.entry.Event.{Event}
 use Rattle.sp_journal.specs.declared.entry.Event.TheVariants as event
 use Rattle.sp_journal.specs.declared.entry.Entry.{Entry}
 use Rattle.sp_journal.specs.declared.entry.Birth.{Birth}
-use Rattle.sp_journal.specs.Births.{Births, after_event, births_from, happening, occurrences_from, NameableFrom}
+use Rattle.sp_journal.specs.Births.{Births, births_after_event, births_from, happening, occurrences_from, NameableFrom}
 use Rattle.sp_journal.proofs.BirthLaws.{Lawful, lawful_after}
 use Rattle.sp_cell.specs.declared.cell.Cell.{Cell}
 use Rattle.sp_cell.specs.declared.spot.Address.{Address}
 use Rattle.sp_cell.specs.Map.{Plain}
-use Rattle.sp_meaning.specs.Model.{Name, Moves, Opens, Forks, Offering, Ends, Fails}
-use Rattle.sp_meaning.specs.Model.{after as After}
-use Rattle.sp_meaning.specs.Steps.{ActOf, Outcome, Advances, Faulty, outcome, passed, unless, acts, cost, result_of}
+use Rattle.sp_meaning.specs.Model.{Name, Moves, Opens, Forks, Offering, EndsProcess, MeetsFault}
+use Rattle.sp_meaning.specs.Model.{with_changes as After}
+use Rattle.sp_meaning.specs.Steps.{ActOf, ActOutcome, Advances, Faulty, step_outcome, limit_fault, fault_or}
+use Rattle.sp_meaning.specs.Steps.{act_outcome, cost, result_of}
 use Rattle.sp_meaning.specs.Steps.{step_with}
 use Rattle.sp_meaning.specs.Entries.{Happening, Occurrence, Opened, Forked, Offered, Ended, Faulted, Laid, Paused}
-use Rattle.sp_meaning.specs.Own.{Setting, Process}
+use Rattle.sp_meaning.specs.LocalWork.{RunInput, Process}
 use Rattle.sp_meaning.specs.SuperPascal.{superpascal}
-use Rattle.sp_meaning.specs.Runs.{StateOf, most, running, next, says, said_of}
-use Rattle.sp_meaning.specs.Along.{Course, Turn, Entered, Along, Either, due, stopped, noted, after_entry, ticks_of}
+use Rattle.sp_meaning.specs.Runs.{StateOf, total_limits, running_process, next_state, happening_at, happening_of}
+use Rattle.sp_meaning.specs.Along.{Course, Turn, EntryStep, Along, Either, is_due_after, with_fault, with_ticks}
+use Rattle.sp_meaning.specs.Along.{course_after, ticks_of}
 use Rattle.sp_meaning.proofs.Frames.{all_in, fault_frame}
 use Rattle.sp_code.specs.Machine.{Config, Stop}
 use Rattle.sp_code.specs.Machine as machine
@@ -29,8 +31,9 @@ use Rattle.sp_code.specs.Turns as turns
 use Rattle.sp_code.specs.Memory.{Memory}
 use Rattle.sp_code.specs.Memory as memory
 use Rattle.sp_code.specs.PlainStore.{plain}
-use Rattle.sp_code.specs.System.{System, Leads, fault_of, event_or, event_of, after, unless_fault, reported, sent}
-use Rattle.sp_code.specs.System.{taken, lays, config_of}
+use Rattle.sp_code.specs.System.{System, EntriesLead, fault_of, event_or, event_of, system_after_turn}
+use Rattle.sp_code.specs.System.{apply_unless_fault, apply_end, apply_send}
+use Rattle.sp_code.specs.System.{apply_receive, lays, config_of}
 use Rattle.sp_code.specs.System as sys
 use Rattle.sp_link.specs.Endings.{HasFaultEntry}
 use Rattle.sp_link.proofs.Fronts.{grows_from}
@@ -48,46 +51,51 @@ fault_after q (Some (Faulted f)) old = Some (q, f)
 fault_after q (Some Laid) old = old
 fault_after q (Some Paused) old = old
 
-module _ (g : Setting) where
+module _ (g : RunInput) where
   by_act : (s : StateOf g) (q : Name) (a : ActOf (superpascal g))
-      (cs : List (Rattle.sp_meaning.specs.Model.Change (superpascal g))) → acts {L = superpascal g} s q a ≡ Advances cs
-      → (After {L = superpascal g} cs s).fault ≡ fault_after q (said_of {L = superpascal g} a (Advances cs)) s.fault
+      (cs : List (Rattle.sp_meaning.specs.Model.Change (superpascal g))) → act_outcome {L = superpascal g} s q a
+      ≡ Advances cs
+      → (After {L = superpascal g} cs s).fault ≡ fault_after q (happening_of {L = superpascal g} a (Advances cs))
+      s.fault
   by_act s q (Moves o ws) cs e = fault_frame s q (Moves o ws) cs s (all_in s q (Moves o ws) cs e)
   by_act s q (Opens o ws) cs e = fault_frame s q (Opens o ws) cs s (all_in s q (Opens o ws) cs e)
   by_act s q (Forks o os) cs e = fault_frame s q (Forks o os) cs s (all_in s q (Forks o os) cs e)
   by_act s q (Offering o) cs e = fault_frame s q (Offering o) cs s (all_in s q (Offering o) cs e)
-  by_act s q Ends cs e = fault_frame s q Ends cs s (all_in s q Ends cs e)
-  by_act s q (Fails f) cs e = absurd (cc e)
+  by_act s q EndsProcess cs e = fault_frame s q EndsProcess cs s (all_in s q EndsProcess cs e)
+  by_act s q (MeetsFault f) cs e = absurd (cc e)
 
   step_fault : (s : StateOf g) (q : Name) (a : ActOf (superpascal g))
-      → (result_of {L = superpascal g} s q (outcome {L = superpascal g} (most g) s q a)).fault
-      ≡ fault_after q (said_of {L = superpascal g} a (outcome {L = superpascal g} (most g) s q a)) s.fault
-  step_fault s q a = by_limit (passed (most g) s.totals (cost a))
+      → (result_of {L = superpascal g} s q (step_outcome {L = superpascal g} (total_limits g) s q a)).fault
+      ≡ fault_after q (happening_of {L = superpascal g} a (step_outcome {L = superpascal g} (total_limits g) s q a))
+      s.fault
+  step_fault s q a = by_limit (limit_fault (total_limits g) s.totals (cost a))
     where
-      by_acts : (o : Outcome (superpascal g)) → acts {L = superpascal g} s q a ≡ o
-          → (result_of {L = superpascal g} s q o).fault ≡ fault_after q (said_of {L = superpascal g} a o) s.fault
+      by_acts : (o : ActOutcome (superpascal g)) → act_outcome {L = superpascal g} s q a ≡ o
+          → (result_of {L = superpascal g} s q o).fault ≡ fault_after q (happening_of {L = superpascal g} a o) s.fault
       by_acts (Advances cs) e = by_act s q a cs e
       by_acts (Faulty f) e = refl
 
       by_limit : (p : Option Fault) → (result_of {L = superpascal g} s q
-          (unless p (acts {L = superpascal g} s q a))).fault
-          ≡ fault_after q (said_of {L = superpascal g} a (unless p (acts {L = superpascal g} s q a))) s.fault
-      by_limit None = by_acts (acts {L = superpascal g} s q a) refl
+          (fault_or p (act_outcome {L = superpascal g} s q a))).fault
+          ≡ fault_after q (happening_of {L = superpascal g} a (fault_or p (act_outcome {L = superpascal g} s q a)))
+          s.fault
+      by_limit None = by_acts (act_outcome {L = superpascal g} s q a) refl
       by_limit (Some f) = refl
 
-  next_fault : (s t : StateOf g) (q : Name) (own : Process) → running g s q ≡ Some own → next g s q ≡ Some t
-      → t.fault ≡ fault_after q (says g s q own) s.fault
+  next_fault : (s t : StateOf g) (q : Name) (own : Process) → running_process g s q ≡ Some own
+      → next_state g s q ≡ Some t
+      → t.fault ≡ fault_after q (happening_at g s q own) s.fault
   next_fault s t q own r n =
       let is : Some (result_of {L = superpascal g} s q
-      (outcome {L = superpascal g} (most g) s q ((superpascal g).next own s.store))) ≡ Some t =
-      sym (ap (λ y. step_with {L = superpascal g} (most g) s q y) r) ∙ n in
+      (step_outcome {L = superpascal g} (total_limits g) s q ((superpascal g).next own s.store))) ≡ Some t =
+      sym (ap (λ y. step_with {L = superpascal g} (total_limits g) s q y) r) ∙ n in
       ap (λ (y : StateOf g). y.fault) (sym (same_Some _ _ is)) ∙ step_fault s q ((superpascal g).next own s.store)
 
   turn_fault : (pause since : ℕ) (q : Name) (n : ℕ) (s t : StateOf g) (paused : Bool)
       → Turn g pause since q n s t paused → t.fault ≡ s.fault
   turn_fault pause since q zero s t paused h = ap (λ (y : StateOf g). y.fault) h.0
   turn_fault pause since q (suc n) s t paused h =
-      by (due g pause since s h.0 q h.3) (λ k. turn_fault pause since q n h.3 t paused k) h.5
+      by (is_due_after g pause since s h.0 q h.3) (λ k. turn_fault pause since q n h.3 t paused k) h.5
     where
       one : h.3.fault ≡ s.fault
       one = next_fault s h.3 q h.0 h.1 h.4 ∙ ap (λ y. fault_after q y s.fault) h.2
@@ -107,10 +115,10 @@ module _ (g : Setting) where
       no : {A : Type 0} → c.faulted ≡ false → A
       no e = let bad : true ≡ false = sym f ∙ e in absurd (cc bad)
 
-      by : (what : Happening) → Entered g (λ c1 u r. Along g pause c1 u os r t) c h.3 h.4 o.who what h.2
+      by : (what : Happening) → EntryStep g (λ c1 u r. Along g pause c1 u os r t) c h.3 h.4 o.who what h.2
           → ((c1 : Course) (r : ℕ) → c1.faulted ≡ true → Along g pause c1 h.3 os r t → t.fault ≡ h.3.fault)
           → t.fault ≡ h.3.fault
-      by Laid k ih = ih (stopped o.who c) h.2 refl k.1
+      by Laid k ih = ih (with_fault o.who c) h.2 refl k.1
       by Paused k ih = no k.0
       by (Forked m) k ih = no k.0
       by Opened k ih = no k.0
@@ -124,7 +132,8 @@ module _ (g : Setting) where
       → (p : ℕ) (f : Fault) → HasFaultEntry es p f → t.fault ≡ Some ((births_from b es).name p, f)
   fault_told pause [] b w m c s t n h p f i = absurd i
   fault_told pause (e ∷ es) b w m c s t n h p f (inl x) =
-      by (subst (λ y. Entered g (λ c1 u r. Along g pause c1 u (occurrences_from (after_event b e.process e.event) es) r
+      by (subst (λ y. EntryStep g
+      (λ c1 u r. Along g pause c1 u (occurrences_from (births_after_event b e.process e.event) es) r
       t) c h.3 h.4 (b.name e.process) (happening b y) h.2) event_is h.7)
     where
       event_is : e.event ≡ event.Fault f
@@ -136,59 +145,60 @@ module _ (g : Setting) where
       name_is : b.name e.process ≡ (births_from b (e ∷ es)).name p
       name_is = (grows_from (e ∷ es) b w m).names e.process m.0.0 ∙ ap (λ y. (births_from b (e ∷ es)).name y) process_is
 
-      by : Entered g (λ c1 u r. Along g pause c1 u (occurrences_from (after_event b e.process e.event) es) r t) c h.3
+      by : EntryStep g (λ c1 u r. Along g pause c1 u (occurrences_from (births_after_event b e.process e.event) es) r
+          t) c h.3
           h.4 (b.name e.process) (Faulted f) h.2 → t.fault ≡ Some ((births_from b (e ∷ es)).name p, f)
-      by k = faulted_stays pause (occurrences_from (after_event b e.process e.event) es)
-          (after_entry (b.name e.process) (Faulted f) (ticks_of g k.2 (b.name e.process)) c) k.2 t k.3 refl k.6
+      by k = faulted_stays pause (occurrences_from (births_after_event b e.process e.event) es)
+          (course_after (b.name e.process) (Faulted f) (ticks_of g k.2 (b.name e.process)) c) k.2 t k.3 refl k.6
           ∙ next_fault h.3 k.2 (b.name e.process) k.5.0 k.5.1 k.5.3
           ∙ ap (λ y. fault_after (b.name e.process) y h.3.fault) k.5.2 ∙ ap (λ y. Some (pair y)) name_is
         where
           pair : Name → Name × Fault
           pair y = (y, f)
   fault_told pause (e ∷ es) b w m c s t n h p f (inr i) =
-      by (happening b e.event) h.7 (λ c1 u r k. fault_told pause es (after_event b e.process e.event)
+      by (happening b e.event) h.7 (λ c1 u r k. fault_told pause es (births_after_event b e.process e.event)
       (lawful_after b e w m.0) m.1 c1 u t r k p f i)
     where
-      by : (what : Happening) → Entered g (λ c1 u r. Along g pause c1 u
-          (occurrences_from (after_event b e.process e.event) es) r t) c h.3 h.4 (b.name e.process) what h.2
+      by : (what : Happening) → EntryStep g (λ c1 u r. Along g pause c1 u
+          (occurrences_from (births_after_event b e.process e.event) es) r t) c h.3 h.4 (b.name e.process) what h.2
           → ((c1 : Course) (u : StateOf g) (r : ℕ)
-          → Along g pause c1 u (occurrences_from (after_event b e.process e.event) es) r t
+          → Along g pause c1 u (occurrences_from (births_after_event b e.process e.event) es) r t
           → t.fault ≡ Some ((births_from b (e ∷ es)).name p, f))
           → t.fault ≡ Some ((births_from b (e ∷ es)).name p, f)
-      by Laid k ih = ih (stopped (b.name e.process) c) h.3 h.2 k.1
-      by Paused k ih = ih (noted (b.name e.process) (ticks_of g h.3 (b.name e.process)) c) h.3 h.2 k.2
-      by (Forked x) k ih = ih (after_entry (b.name e.process) (Forked x) (ticks_of g k.2 (b.name e.process)) c) k.2 k.3
+      by Laid k ih = ih (with_fault (b.name e.process) c) h.3 h.2 k.1
+      by Paused k ih = ih (with_ticks (b.name e.process) (ticks_of g h.3 (b.name e.process)) c) h.3 h.2 k.2
+      by (Forked x) k ih = ih (course_after (b.name e.process) (Forked x) (ticks_of g k.2 (b.name e.process)) c) k.2 k.3
           k.6
-      by Opened k ih = ih (after_entry (b.name e.process) Opened (ticks_of g k.2 (b.name e.process)) c) k.2 k.3 k.6
-      by (Offered x d) k ih = ih (after_entry (b.name e.process) (Offered x d) (ticks_of g k.2 (b.name e.process)) c)
+      by Opened k ih = ih (course_after (b.name e.process) Opened (ticks_of g k.2 (b.name e.process)) c) k.2 k.3 k.6
+      by (Offered x d) k ih = ih (course_after (b.name e.process) (Offered x d) (ticks_of g k.2 (b.name e.process)) c)
           k.2 k.3 k.6
-      by Ended k ih = ih (after_entry (b.name e.process) Ended (ticks_of g k.2 (b.name e.process)) c) k.2 k.3 k.6
-      by (Faulted x) k ih = ih (after_entry (b.name e.process) (Faulted x) (ticks_of g k.2 (b.name e.process)) c) k.2
+      by Ended k ih = ih (course_after (b.name e.process) Ended (ticks_of g k.2 (b.name e.process)) c) k.2 k.3 k.6
+      by (Faulted x) k ih = ih (course_after (b.name e.process) (Faulted x) (ticks_of g k.2 (b.name e.process)) c) k.2
           k.3 k.6
 
 -- ---- in the machine
 
-module _ (g : memory.Setting) where
+module _ (g : memory.CodeRun) where
   sent_keeps : (u : System Plain) (i : ℕ) (stop : Stop) (ch : ℕ) (cs : List Cell) (c : Config (Memory Plain))
-      (z : Option ℕ) → (sent plain g i stop ch cs c z u).faulted ≡ u.faulted
+      (z : Option ℕ) → (apply_send plain g i stop ch cs c z u).faulted ≡ u.faulted
   sent_keeps u i stop ch cs c None = refl
   sent_keeps u i stop ch cs c (Some z) = refl
 
   taken_keeps : (u : System Plain) (i : ℕ) (stop : Stop) (ch : ℕ) (a : Address) (c : Config (Memory Plain))
-      (z : Option ℕ) → (taken plain g i stop ch a c z u).faulted ≡ u.faulted
+      (z : Option ℕ) → (apply_receive plain g i stop ch a c z u).faulted ≡ u.faulted
   taken_keeps u i stop ch a c None = refl
   taken_keeps u i stop ch a c (Some z) = refl
 
   ended_keeps : (u : System Plain) (i : ℕ) (c : Config (Memory Plain)) (b : Option Birth)
-      → (reported plain g i c b u).faulted ≡ u.faulted
+      → (apply_end plain g i c b u).faulted ≡ u.faulted
   ended_keeps u i c None = refl
   ended_keeps u i c (Some b) = refl
 
-  abbrev Told : System Plain → ℕ → Event → Bool → Type 0
-  Told u i e b = b ≡ true → (f : Fault) × (e ≡ event.Fault f)
+  abbrev IsFaultEntry : System Plain → ℕ → Event → Bool → Type 0
+  IsFaultEntry u i e b = b ≡ true → (f : Fault) × (e ≡ event.Fault f)
 
   by_turn : (u : System Plain) (i : ℕ) (f : Option Fault) (t : turns.Turn (Memory Plain)) → u.faulted ≡ false
-      → Told u i (event_or f t) (unless_fault plain g f i t u).faulted
+      → IsFaultEntry u i (event_or f t) (apply_unless_fault plain g f i t u).faulted
   by_turn u i (Some x) (turns.Stopped s c) q = λ e. (x, refl)
   by_turn u i (Some x) (turns.Faulted y c) q = λ e. (x, refl)
   by_turn u i None (turns.Faulted y c) q = λ e. (y, refl)
@@ -197,23 +207,24 @@ module _ (g : memory.Setting) where
   by_turn u i None (turns.Stopped (machine.Opens a) c) q = λ e. (let bad : false ≡ true = sym q ∙ e in absurd (cc bad))
   by_turn u i None (turns.Stopped (machine.Sends ch k cs) c) q =
       λ e. (let bad : false ≡ true = sym q ∙ sym
-      (sent_keeps u i (machine.Sends ch k cs) ch cs (sys.entered_now c) (u.pending ch)) ∙ e in absurd (cc bad))
+      (sent_keeps u i (machine.Sends ch k cs) ch cs (sys.process_at_entry c) (u.pending ch)) ∙ e in absurd (cc bad))
   by_turn u i None (turns.Stopped (machine.Receives ch k a) c) q =
       λ e. (let bad : false ≡ true = sym q ∙ sym
-      (taken_keeps u i (machine.Receives ch k a) ch a (sys.entered_now c) (u.pending ch)) ∙ e in absurd (cc bad))
+      (taken_keeps u i (machine.Receives ch k a) ch a (sys.process_at_entry c) (u.pending ch)) ∙ e in absurd (cc bad))
   by_turn u i None (turns.Stopped machine.Ends c) q =
-      λ e. (let bad : false ≡ true = sym q ∙ sym (ended_keeps u i (sys.entered_now c) (u.births.birth i)) ∙ e in
+      λ e. (let bad : false ≡ true = sym q ∙ sym (ended_keeps u i (sys.process_at_entry c) (u.births.birth i)) ∙ e in
       absurd (cc bad))
   by_turn u i None (turns.Stopped machine.Pauses c) q = λ e. (let bad : false ≡ true = sym q ∙ e in absurd (cc bad))
 
   after_faults : (u : System Plain) (i : ℕ) (t : turns.Turn (Memory Plain)) → u.faulted ≡ false
-      → Told u i (event_of g.limits u t) (after plain g i t u).faulted
-  after_faults u i t q = subst (λ b. Told u i (if b then event.Laid else event_or (fault_of g.limits u t) t)
-      (if b then lays plain g i (config_of t) u else unless_fault plain g (fault_of g.limits u t) i t u).faulted)
+      → IsFaultEntry u i (event_of g.limits u t) (system_after_turn plain g i t u).faulted
+  after_faults u i t q = subst (λ b. IsFaultEntry u i (if b then event.Laid else event_or (fault_of g.limits u t) t)
+      (if b then lays plain g i (config_of t) u else apply_unless_fault plain g (fault_of g.limits u t) i t u).faulted)
       (sym q) (by_turn u i (fault_of g.limits u t) t q)
 
   -- where a fault stands after these entries it stood before, or one of them is it
-  pub fault_entry : (es : List Entry) (s t : System Plain) → s.faulted ≡ false → Leads plain g s es t → t.faulted ≡ true
+  pub fault_entry : (es : List Entry) (s t : System Plain) → s.faulted ≡ false → EntriesLead plain g s es t
+      → t.faulted ≡ true
       → (p : ℕ) × (f : Fault) × HasFaultEntry es p f
   fault_entry [] s t q h e = let bad : false ≡ true = sym q ∙ sym (ap (λ (y : System Plain). y.faulted) h) ∙ e in
       absurd (cc bad)

@@ -16,22 +16,22 @@ use Rattle.sp_cell.specs.Map.{Plain, IsPiece, output_spot}
 use Rattle.sp_cell.proofs.Plan.{in_or}
 use Rattle.sp_cell.specs.Spots.{In, NotIn}
 use Rattle.sp_meaning.specs.Model.{Name}
-use Rattle.sp_meaning.specs.Own.{Loc, Output, OfIndex, Own, Who, Frame, Got, Item, Process}
-use Rattle.sp_meaning.specs.Deeds.{Birth, Forked, newborn, newborns, push, indexed_children}
+use Rattle.sp_meaning.specs.LocalWork.{Loc, Output, OfIndex, LocalState, Identity, Frame, Computed, Item, Process}
+use Rattle.sp_meaning.specs.Actions.{Birth, Forked, new_process, new_processes, push, indexed_children}
 use Rattle.sp_meaning.specs.Owning.{Aimed, Used, Born}
 use Rattle.sp_meaning.specs.Run.{Store}
 use Rattle.sp_meaning.specs.Runs.{StateOf}
 use Rattle.sp_meaning.specs.Along.{Course}
 use Rattle.sp_meaning.specs.Turn as source
 use Rattle.sp_meaning.proofs.Children.{AimedAt, UsedAt}
-use Rattle.sp_meaning.proofs.Rights.{All}
+use Rattle.sp_meaning.proofs.Rights.{OwnOrGiven}
 use Rattle.sp_meaning.proofs.SoundParts.{copies, born_copies, element_sound}
 use Rattle.sp_code.specs.declared.code.ChildTable.{ChildTable}
 use Rattle.sp_code.specs.Emitted.{child_table}
 use Rattle.sp_code.specs.Machine.{Config, At, values_in}
 use Rattle.sp_code.specs.Memory.{Memory}
 use Rattle.sp_code.specs.Memory as mem
-use Rattle.sp_code.specs.Places.{after}
+use Rattle.sp_code.specs.Places.{after_statement}
 use Rattle.sp_code.specs.PlainStore.{plain}
 use Rattle.sp_code.specs.Scopes.{Scope}
 use Rattle.sp_code.specs.Sound.{CanSplit}
@@ -41,16 +41,17 @@ use Rattle.sp_code.specs.System.{System, handing_of, child_or, table_or}
 use Rattle.sp_code.specs.System as sys
 use Rattle.sp_codegen.proofs.Numbers.{next_small}
 use Rattle.sp_codegen.specs.Following.{ForallIs}
-use Rattle.sp_codegen.specs.Joints.{Joint, sources}
-use Rattle.sp_codegen.specs.Lives.{Seen}
+use Rattle.sp_codegen.specs.FramePairs.{FramePair, sources}
+use Rattle.sp_codegen.specs.ProcessInfos.{Seen}
 use Rattle.sp_codegen.proofs.Born.{indexed_is}
-use Rattle.sp_codegen.proofs.Joints.{sources_length}
+use Rattle.sp_codegen.proofs.FramePairs.{sources_length}
 use Rattle.sp_link.proofs.EachStands as each
 use Rattle.sp_link.proofs.Forks as fk
 use Rattle.sp_link.proofs.OneChanges.{q, pr}
 use Rattle.sp_code.proofs.Plans.{none_distinct, moved_by, shared_by}
 use Rattle.sp_link.proofs.Pauses.{Entry_of, Meant, Machined, Kept_to, kids}
-use Rattle.sp_link.proofs.Relation.{Ground, Life, Lives, W_of, R_of, Called, Fresh, Stands, Handed, St, Linked}
+use Rattle.sp_link.proofs.Relation.{RunContext, BirthRights, RightsOfAll, W_of, R_of, Called, Fresh, ProcessMatches}
+use Rattle.sp_link.proofs.Relation.{Handed, St, Linked}
 use Rattle.sp_link.proofs.Relation.{execution, run_is}
 use Rattle.sp_link.proofs.Newborns.{newborns_length, cons}
 
@@ -74,14 +75,15 @@ cut m = omega arith
 whole : (m : ℕ) → min m 18446744073709551615 ≤ 4294967295 → min m 18446744073709551615 ≡ m
 whole m h = omega (arith, h)
 
-module _ (G : Ground) (lv : Lives G) (c : Course) (s : StateOf G.g) (u : System Plain) (l : Linked G lv c s u) (i : ℕ)
+module _ (G : RunContext) (lv : RightsOfAll G) (c : Course) (s : StateOf G.g) (u : System Plain) (l : Linked G lv c s u)
+    (i : ℕ)
     (d : Config (Memory Plain)) (at_i : u.condition i ≡ sys.Working d)
-    (z : Stands G (lv (q G lv c s u l i d at_i)) (kids G lv c s u l i d at_i) (q G lv c s u l i d at_i)
+    (z : ProcessMatches G (lv (q G lv c s u l i d at_i)) (kids G lv c s u l i d at_i) (q G lv c s u l i d at_i)
     (c.since (q G lv c s u l i d at_i)) (pr G lv c s u l i d at_i) s.store d)
-    (bs : List Birth) (todo : List Item) (o : Own) (m : Store)
-    (x : Meant G lv c s u l i d at_i z (Got (source.Stops (Forked bs todo)) o, m))
-    (t : Machined G lv c s u l i d at_i z (Got (source.Stops (Forked bs todo)) o, m))
-    (y : Kept_to G lv c s u l i d at_i z (Got (source.Stops (Forked bs todo)) o, m)) (quiet : u.faulted ≡ false)
+    (bs : List Birth) (todo : List Item) (o : LocalState) (m : Store)
+    (x : Meant G lv c s u l i d at_i z (Computed (source.Stops (Forked bs todo)) o, m))
+    (t : Machined G lv c s u l i d at_i z (Computed (source.Stops (Forked bs todo)) o, m))
+    (y : Kept_to G lv c s u l i d at_i z (Computed (source.Stops (Forked bs todo)) o, m)) (quiet : u.faulted ≡ false)
     (h : ForallIs (execution G (lv (q G lv c s u l i d at_i)) (kids G lv c s u l i d at_i) (q G lv c s u l i d at_i)
     z.fresh (pr G lv c s u l i d at_i).who z.named (c.since (q G lv c s u l i d at_i))) true t.3 bs t.5) where
   abbrev v : Name
@@ -128,7 +130,7 @@ module _ (G : Ground) (lv : Lives G) (c : Course) (s : StateOf G.g) (u : System 
   abbrev pub n1 : Memory Plain
   n1 = record (t.2) { since = (t.2).ticks }
 
-  abbrev w1 : Who
+  abbrev w1 : Identity
   w1 = record (x.left.who) { forks = x.left.who.forks + 1 }
 
   frames_are : o.frames ≡ sources t.3
@@ -144,7 +146,7 @@ module _ (G : Ground) (lv : Lives G) (c : Course) (s : StateOf G.g) (u : System 
   handing_at b = handing_of G.code.layouts n1.frames lo b table
 
   -- the frame of the index of child b, which is the process of this number
-  abbrev index_joint : ℕ → ℕ → Joint
+  abbrev index_joint : ℕ → ℕ → FramePair
   index_joint b number = record {
     source = record {
       owner = (k, b) ∷ v;
@@ -163,7 +165,7 @@ module _ (G : Ground) (lv : Lives G) (c : Course) (s : StateOf G.g) (u : System 
   }
 
   -- the life of child b, whose statement is this one
-  abbrev life_by : Option Stmt → ℕ → Life
+  abbrev life_by : Option Stmt → ℕ → BirthRights
   life_by None b = record { W = λ a. ⊥; R = λ a. ⊥; J = λ a. ⊥; low = 0; born = 0; moved = []; below = []; end = 0 }
   life_by (Some e) b = record {
     W = λ a. Aimed p (sources t.3) e a;
@@ -173,17 +175,17 @@ module _ (G : Ground) (lv : Lives G) (c : Course) (s : StateOf G.g) (u : System 
     born = o.depth + 1;
     moved = (handing_at b).moved;
     below = index_joint b (u.births.processes + b) ∷ t.3;
-    end = after p entry e;
+    end = after_statement p entry e;
   }
 
-  abbrev new_life : ℕ → Life
+  abbrev new_life : ℕ → BirthRights
   new_life b = life_by (slice_get (copies range st) b) b
 
   abbrev Aims_by : Option Stmt → Loc → Type 0
-  Aims_by a b = AimedAt p (λ a. All (W_of G lv) v a) (λ a. All (R_of G lv) v a) o.frames a b
+  Aims_by a b = AimedAt p (λ a. OwnOrGiven (W_of G lv) v a) (λ a. OwnOrGiven (R_of G lv) v a) o.frames a b
 
   abbrev Uses_by : Option Stmt → Loc → Type 0
-  Uses_by a b = UsedAt p (λ a. All (W_of G lv) v a) (λ a. All (R_of G lv) v a) o.frames a b
+  Uses_by a b = UsedAt p (λ a. OwnOrGiven (W_of G lv) v a) (λ a. OwnOrGiven (R_of G lv) v a) o.frames a b
 
   to_w : (b : ℕ) (a : Loc) → Aims_by (slice_get (copies range st) b) a → (new_life b).W a
   to_w b a g = go (slice_get (copies range st) b) g
@@ -213,10 +215,11 @@ module _ (G : Ground) (lv : Lives G) (c : Course) (s : StateOf G.g) (u : System 
       go None g = g
       go (Some e) g = subst (λ f. Used p f e a) (sym frames_are) g
 
-  born : Born p (λ a. All (W_of G lv) v a) (λ a. All (R_of G lv) v a) o.frames (copies range st) bs
-  born = subst (λ f. Born p (λ a. All (W_of G lv) v a) (λ a. All (R_of G lv) v a) f (copies range st) bs)
+  born : Born p (λ a. OwnOrGiven (W_of G lv) v a) (λ a. OwnOrGiven (R_of G lv) v a) o.frames (copies range st) bs
+  born = subst (λ f. Born p (λ a. OwnOrGiven (W_of G lv) v a) (λ a. OwnOrGiven (R_of G lv) v a) f (copies range st) bs)
       (sym frames_are)
-      (subst (λ b. Born p (λ a. All (W_of G lv) v a) (λ a. All (R_of G lv) v a) (sources t.3) (copies range st) b)
+      (subst (λ b. Born p (λ a. OwnOrGiven (W_of G lv) v a) (λ a. OwnOrGiven (R_of G lv) v a) (sources t.3)
+      (copies range st) b)
       (sym h.11)
       (born_copies ix st (element_sound ix h.1 h.2 st h.15.sound) (h.15.sound.kept (ForallOf ix st) (inl refl)).1 lo
       range))
@@ -241,13 +244,13 @@ module _ (G : Ground) (lv : Lives G) (c : Course) (s : StateOf G.g) (u : System 
   longer : (j : ℕ) → suc (length w1.name) ≤ length ((k, j) ∷ v)
   longer j = let a = ap (λ (a : Name). length a) x.good.named in omega (arith, a)
 
-  module _ (more : ℕ → ℕ → Life) where
+  module _ (more : ℕ → ℕ → BirthRights) where
     abbrev fresh : Fresh G (lv v) more v
     fresh = record { based = z.fresh.based; reads = z.fresh.reads; low_small = z.fresh.low_small; ends = z.fresh.ends }
 
     module _ (j : ℕ) where
       kept_of_it : j < range → Handed G (lv v) more v t.3 n1 (new_life j) ((k, j) ∷ v)
-      kept_of_it lt = subst (λ (lf : Life). Handed G (lv v) more v t.3 n1 lf ((k, j) ∷ v)) (sym (life_is j lt))
+      kept_of_it lt = subst (λ (lf : BirthRights). Handed G (lv v) more v t.3 n1 lf ((k, j) ∷ v)) (sym (life_is j lt))
           (each.each_handed G (lv v) more v fresh stood may_fork ix h.1 h.2 st sc h.15 entry h.13 h.14 ((k, j) ∷ v)
           (longer j) lo j (u.births.processes + j))
 
@@ -259,7 +262,7 @@ module _ (G : Ground) (lv : Lives G) (c : Course) (s : StateOf G.g) (u : System 
       shares_piece a f = each.shares_piece G (lv v) more v fresh stood may_fork ix h.1 h.2 st sc h.15 entry h.13 h.14
           ((k, j) ∷ v) (longer j) lo j a f
 
-      output_stays : All (R_of G lv) v Output → In output_spot (handing_at j).shared → ⊥
+      output_stays : OwnOrGiven (R_of G lv) v Output → In output_spot (handing_at j).shared → ⊥
       output_stays may f = each.output_stays G (lv v) more v fresh stood may_fork ix h.1 h.2 st sc h.15 entry h.13 h.14
           ((k, j) ∷ v) (longer j) lo j may f
 
@@ -269,9 +272,10 @@ module _ (G : Ground) (lv : Lives G) (c : Course) (s : StateOf G.g) (u : System 
 
       -- and it stands as it is born
       process_is : (b : Birth) → slice_get bs j ≡ Some b
-          → newborn x.left.who o j b ≡ each.own G (lv v) more v fresh stood may_fork ix h.1 h.2 st sc h.15 entry h.13
+          → new_process x.left.who o j b ≡ each.own G (lv v) more v fresh stood may_fork ix h.1 h.2 st sc h.15
+          entry h.13
           h.14 ((k, j) ∷ v) (longer j) lo j (u.births.processes + j)
-      process_is b e = ap (λ a. newborn x.left.who o j a)
+      process_is b e = ap (λ a. new_process x.left.who o j a)
           (indexed_is ix st lo range j b (ap (λ a. slice_get a j) (sym h.11) ∙ e))
           ∙ ap (λ (a : Name). record {
             todo = push st [];
@@ -314,26 +318,27 @@ module _ (G : Ground) (lv : Lives G) (c : Course) (s : StateOf G.g) (u : System 
           }
 
       it_stands : j < range → (b : Birth) → slice_get bs j ≡ Some b → Called G ((k, j) ∷ v) (u.births.processes + j)
-          → (own_more : ℕ → ℕ → Life)
-          → Stands G (new_life j) own_more ((k, j) ∷ v) 0 (newborn x.left.who o j b) x.at.store
-          (sys.newborn plain (run_is G) (At t.0 t.1 n1) lo (u.births.processes + j) j
+          → (own_more : ℕ → ℕ → BirthRights)
+          → ProcessMatches G (new_life j) own_more ((k, j) ∷ v) 0 (new_process x.left.who o j b) x.at.store
+          (sys.child_process plain (run_is G) (At t.0 t.1 n1) lo (u.births.processes + j) j
           (child_or (child_at (table_or (slice_get G.code.forks h.6)) j)))
       it_stands lt b e called own_more =
-          subst (λ (lf : Life). Stands G lf own_more ((k, j) ∷ v) 0 (newborn x.left.who o j b) x.at.store
-          (sys.newborn plain (run_is G) (At t.0 t.1 n1) lo (u.births.processes + j) j
+          subst (λ (lf : BirthRights). ProcessMatches G lf own_more ((k, j) ∷ v) 0 (new_process x.left.who o j b)
+          x.at.store
+          (sys.child_process plain (run_is G) (At t.0 t.1 n1) lo (u.births.processes + j) j
           (child_or (child_at (table_or (slice_get G.code.forks h.6)) j)))) (sym (life_is j lt))
-          (subst (λ a. Stands G (life_by (Some st) j) own_more ((k, j) ∷ v) 0 a x.at.store
-          (sys.newborn plain (run_is G) (At t.0 t.1 n1) lo (u.births.processes + j) j
+          (subst (λ a. ProcessMatches G (life_by (Some st) j) own_more ((k, j) ∷ v) 0 a x.at.store
+          (sys.child_process plain (run_is G) (At t.0 t.1 n1) lo (u.births.processes + j) j
           (child_or (child_at (table_or (slice_get G.code.forks h.6)) j)))) (sym (process_is b e))
-          (subst (λ a. Stands G (life_by (Some st) j) own_more ((k, j) ∷ v) 0
+          (subst (λ a. ProcessMatches G (life_by (Some st) j) own_more ((k, j) ∷ v) 0
           (each.own G (lv v) more v fresh stood may_fork ix h.1 h.2 st sc h.15 entry h.13 h.14 ((k, j) ∷ v)
           (longer j) lo j (u.births.processes + j)) x.at.store
-          (sys.newborn plain (run_is G) (At t.0 t.1 n1) lo (u.births.processes + j) j a)) (sym (table_is j))
+          (sys.child_process plain (run_is G) (At t.0 t.1 n1) lo (u.births.processes + j) j a)) (sym (table_is j))
           (each.each_stands G (lv v) more v fresh stood may_fork ix h.1 h.2 st sc h.15 entry h.13 h.14 ((k, j) ∷ v)
           (longer j) lo j (u.births.processes + j) called t.0 t.1 own_more)))
 
   -- no children of the parent's own matter here
-  abbrev none : ℕ → ℕ → Life
+  abbrev none : ℕ → ℕ → BirthRights
   none a b = lv ((a, b) ∷ v)
 
   abbrev pub hs : List Handing
@@ -353,7 +358,7 @@ module _ (G : Ground) (lv : Lives G) (c : Course) (s : StateOf G.g) (u : System 
       shares_known none w.0 a (subst (λ tb. In a (handing_of G.code.layouts n1.frames lo w.0 tb).shared) (table_is w.0)
       w.2)
 
-  dry : All (R_of G lv) v Output → NotIn output_spot (shared_of hs)
+  dry : OwnOrGiven (R_of G lv) v Output → NotIn output_spot (shared_of hs)
   dry may = ⊎_elim (λ g. absurd (wet g)) (λ g. g) (in_or output_spot (shared_of hs))
     where
       wet : In output_spot (shared_of hs) → ⊥
@@ -385,13 +390,13 @@ module _ (G : Ground) (lv : Lives G) (c : Course) (s : StateOf G.g) (u : System 
   forall_entry = by (nat_lt G.g.limits.entries (u.entries + 1)) (nat_lt G.g.limits.processes (u.births.processes + n))
       refl refl
     where
-      os_are : length (newborns x.left.who o 0 bs) ≡ range
+      os_are : length (new_processes x.left.who o 0 bs) ≡ range
       os_are = newborns_length x.left.who o 0 bs ∙ length_is
 
       -- the meaning counts no fewer
       both_many : nat_lt G.g.limits.processes (u.births.processes + n) ≡ true
-          → nat_lt G.g.limits.processes (u.births.processes + length (newborns x.left.who o 0 bs)) ≡ true
-      both_many e = fk.is_less G.g.limits.processes (u.births.processes + length (newborns x.left.who o 0 bs))
+          → nat_lt G.g.limits.processes (u.births.processes + length (new_processes x.left.who o 0 bs)) ≡ true
+      both_many e = fk.is_less G.g.limits.processes (u.births.processes + length (new_processes x.left.who o 0 bs))
           (let a = next_is_within G.g.limits.processes (u.births.processes + n) e in let b = cut range in
           omega (arith, a, b, os_are))
 
@@ -405,7 +410,8 @@ module _ (G : Ground) (lv : Lives G) (c : Course) (s : StateOf G.g) (u : System 
       few e j lt = omega (arith, e, lt, length_is)
 
       unmoving : length bs ≡ n → (j : ℕ) → j < n → (a : Spot) → In a (new_life j).moved → ⊥
-      unmoving e j lt a g = nothing_moves none j a (subst (λ (lf : Life). In a lf.moved) (life_is j (few e j lt)) g)
+      unmoving e j lt a g =
+          nothing_moves none j a (subst (λ (lf : BirthRights). In a lf.moved) (life_is j (few e j lt)) g)
 
       by : (e1 e2 : Bool) → nat_lt G.g.limits.entries (u.entries + 1) ≡ e1
           → nat_lt G.g.limits.processes (u.births.processes + n) ≡ e2 → Entry_of G c s u i d

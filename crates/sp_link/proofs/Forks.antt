@@ -11,7 +11,7 @@ use Rattle.sp_base.specs.declared.fault.Fault.{Fault}
 use Rattle.sp_base.specs.declared.fault.Fault.TheVariants as fault
 use Rattle.sp_base.proofs.Facts.{and_with_false, same_head, same_tail, item_there}
 use Rattle.sp_tree.specs.Plain.{Stmt}
-use Rattle.sp_journal.specs.Births.{Births, channel, happening, after_event, is_next}
+use Rattle.sp_journal.specs.Births.{Births, channel, happening, births_after_event, is_next}
 use Rattle.sp_journal.specs.declared.entry.Event.TheVariants as event
 use Rattle.sp_cell.specs.declared.spot.Spot.{Spot}
 use Rattle.sp_cell.specs.declared.spot.Handing.{Handing}
@@ -20,26 +20,28 @@ use Rattle.sp_cell.specs.Map.{Plain, output_spot}
 use Rattle.sp_cell.specs.Spots.{In, NotIn}
 use Rattle.sp_meaning.specs.Maps.{at_key as put_at}
 use Rattle.sp_meaning.specs.Model.{Name, same_name, Condition, Absent, Works, Joins, Ended, Becomes}
-use Rattle.sp_meaning.specs.Model.{Forked as Counts_fork, Adds, Forks, changed, add, Totals}
-use Rattle.sp_meaning.specs.Steps.{has_ended, working_in, Lives as IsLive, Faulty, outcome, passed, unless, acts}
-use Rattle.sp_meaning.specs.Steps.{births, result_of}
+use Rattle.sp_meaning.specs.Model.{Forked as Counts_fork, AddsTotals, Forks, with_change, add, Totals}
+use Rattle.sp_meaning.specs.Steps.{has_ended, own_part_in, IsAlive as IsLive, Faulty, step_outcome, limit_fault}
+use Rattle.sp_meaning.specs.Steps.{fault_or, act_outcome}
+use Rattle.sp_meaning.specs.Steps.{result_of}
 use Rattle.sp_meaning.specs.Entries.{Happening}
 use Rattle.sp_journal.specs.Names as happenings
-use Rattle.sp_meaning.specs.Own.{Loc, Output, Held, Address, Own, Who, Process, Came, Got, Item}
-use Rattle.sp_meaning.specs.Deeds.{Deed, Birth, Forked, newborn, newborns}
+use Rattle.sp_meaning.specs.LocalWork.{Loc, Output, LocationContent, Address, LocalState, Identity, Process}
+use Rattle.sp_meaning.specs.LocalWork.{WorkOutcome, Computed, Item}
+use Rattle.sp_meaning.specs.Actions.{Action, Birth, Forked, new_process, new_processes}
 use Rattle.sp_meaning.specs.Owning.{Born}
 use Rattle.sp_meaning.specs.SuperPascal.{superpascal, with_todo}
 use Rattle.sp_meaning.specs.Run.{Store}
-use Rattle.sp_meaning.specs.Runs.{StateOf, most, next, says, said_of}
-use Rattle.sp_meaning.specs.Along.{Course, ticks_in, ticks_of, noted, Either}
+use Rattle.sp_meaning.specs.Runs.{StateOf, total_limits, next_state, happening_at, happening_of}
+use Rattle.sp_meaning.specs.Along.{Course, ticks_in, ticks_of, with_ticks, Either}
 use Rattle.sp_meaning.specs.Turn as source
 use Rattle.sp_meaning.proofs.Children.{AimedAt, UsedAt, writes_after, reads_after, it_is}
 use Rattle.sp_meaning.proofs.Keys.{name_test, number_or}
 use Rattle.sp_meaning.proofs.Maps.{at_same, at_other, differs, itself, same_or_not}
-use Rattle.sp_meaning.proofs.Owned.{Inv, Holds, known_if, forks_keep, after_births}
-use Rattle.sp_meaning.proofs.QuietDeeds.{IsDead}
-use Rattle.sp_meaning.proofs.Reached.{Known, step_well, raised, lowered, Conditions}
-use Rattle.sp_meaning.proofs.Rights.{All, Mine}
+use Rattle.sp_meaning.proofs.Owned.{Inv, ConditionInRights, known_if, forks_keep, after_births}
+use Rattle.sp_meaning.proofs.SilentActions.{IsDead}
+use Rattle.sp_meaning.proofs.Reached.{StateKeeps, step_well, raised, lowered, Conditions}
+use Rattle.sp_meaning.proofs.Rights.{OwnOrGiven, OwnLocation}
 use Rattle.sp_meaning.proofs.Sound.{step_sound}
 use Rattle.sp_meaning.proofs.Status.{working_lives}
 use Rattle.sp_code.specs.Machine.{Config, At}
@@ -48,23 +50,25 @@ use Rattle.sp_code.specs.Tables.{child_at}
 use Rattle.sp_code.specs.Turns.{Turn, Stopped, IsTurn}
 use Rattle.sp_code.specs.Memory.{Memory}
 use Rattle.sp_code.specs.PlainStore.{plain}
-use Rattle.sp_code.specs.System.{System, after, event_of, event_or, fault_of, unless_fault, on_store, plan_of, child_or}
+use Rattle.sp_code.specs.System.{System, system_after_turn, event_of, event_or, fault_of, apply_unless_fault, on_store}
+use Rattle.sp_code.specs.System.{plan_of, child_or}
 use Rattle.sp_code.specs.System.{table_or}
 use Rattle.sp_code.specs.System as sys
 use Rattle.sp_history.proofs.Orders.{next_not}
-use Rattle.sp_codegen.proofs.Joints.{sources_length}
-use Rattle.sp_codegen.specs.Meets.{due_after}
+use Rattle.sp_codegen.proofs.FramePairs.{sources_length}
+use Rattle.sp_codegen.specs.TurnAgrees.{due_after}
 use Rattle.sp_link.proofs.AfterEntry.{stand_again, again}
 use Rattle.sp_link.proofs.AtStop.{known_at, rights_at, same_but_dead}
 use Rattle.sp_link.proofs.ChildrenStand.{parent_joins}
 use Rattle.sp_link.proofs.Halts.{failed_entry, forked_halt}
 use Rattle.sp_link.proofs.Journal.{IsOpen, now_by}
 use Rattle.sp_link.proofs.KernelSteps.{kernel_next, kernel_says, stand_dead}
-use Rattle.sp_link.proofs.NewLives.{does_lives, inv_same}
+use Rattle.sp_link.proofs.NewRights.{does_lives, inv_same}
 use Rattle.sp_link.proofs.OneChanges.{q, pr, its, alone, here, present, not_ended, keeps_to, since_other}
 use Rattle.sp_link.proofs.OthersStay.{does_stay}
 use Rattle.sp_link.proofs.Pauses.{Entry_of, Meant, Machined, Kept_to, kids, turn_is, after_quiet, way_of_step}
-use Rattle.sp_link.proofs.Relation.{Ground, Life, Lives, W_of, R_of, Stands, Joined, Handed, St, Rel, law, Performs}
+use Rattle.sp_link.proofs.Relation.{RunContext, BirthRights, RightsOfAll, W_of, R_of, ProcessMatches, Joined, Handed}
+use Rattle.sp_link.proofs.Relation.{St, Rel, law, Performs}
 use Rattle.sp_link.proofs.Relation.{Performs_all, Linked, Began, run_is, ops}
 use Rattle.sp_link.proofs.Newborns.{born_at, born_else, born_is, newborns_at, newborns_length, pick, cons}
 
@@ -88,7 +92,8 @@ next_number b n j lt = ap (λ x. x && nat_lt (b.processes + j) (b.processes + n)
     ∙ lt-ltb (b.processes + j) (b.processes + n) (omega (arith, lt))
 
 -- who does anything is there
-not_absent : (G : Ground) (lf : Life) (kids : ℕ → ℕ → Life) (q : Name) (c : Course) (s : StateOf G.g) (opens : ℕ)
+not_absent : (G : RunContext) (lf : BirthRights) (kids : ℕ → ℕ → BirthRights) (q : Name) (c : Course) (s : StateOf G.g)
+    (opens : ℕ)
     (X : sys.Condition Plain) → Performs G lf kids q c s opens X → s.condition q ≢ Absent
 not_absent G lf kids q c s opens sys.Absent h = absurd h
 not_absent G lf kids q c s opens (sys.Working a) h =
@@ -99,21 +104,22 @@ not_absent G lf kids q c s opens (sys.Laid a) h =
     λ e. subst (λ b. IsLive b) e (working_lives s.condition q (s.condition q) h.2.0 h.2.1)
 not_absent G lf kids q c s opens sys.Gone h = λ e. ended_there (sym h.0 ∙ e)
   where
-    ended_there : ◌≡◌ {A = Condition Process Held Address} Ended Absent → ⊥
+    ended_there : ◌≡◌ {A = Condition Process LocationContent Address} Ended Absent → ⊥
     ended_there e = cc e
 not_absent G lf kids q c s opens (sys.Over a) h = λ e. ended_there (sym h.0 ∙ e)
   where
-    ended_there : ◌≡◌ {A = Condition Process Held Address} Ended Absent → ⊥
+    ended_there : ◌≡◌ {A = Condition Process LocationContent Address} Ended Absent → ⊥
     ended_there e = cc e
 
-module _ (G : Ground) (lv : Lives G) (c : Course) (s : StateOf G.g) (u : System Plain) (l : Linked G lv c s u) (i : ℕ)
+module _ (G : RunContext) (lv : RightsOfAll G) (c : Course) (s : StateOf G.g) (u : System Plain) (l : Linked G lv c s u)
+    (i : ℕ)
     (d : Config (Memory Plain)) (at_i : u.condition i ≡ sys.Working d)
-    (z : Stands G (lv (q G lv c s u l i d at_i)) (kids G lv c s u l i d at_i) (q G lv c s u l i d at_i)
+    (z : ProcessMatches G (lv (q G lv c s u l i d at_i)) (kids G lv c s u l i d at_i) (q G lv c s u l i d at_i)
     (c.since (q G lv c s u l i d at_i)) (pr G lv c s u l i d at_i) s.store d)
-    (bs : List Birth) (todo : List Item) (o : Own) (m : Store)
-    (x : Meant G lv c s u l i d at_i z (Got (source.Stops (Forked bs todo)) o, m))
-    (t : Machined G lv c s u l i d at_i z (Got (source.Stops (Forked bs todo)) o, m))
-    (y : Kept_to G lv c s u l i d at_i z (Got (source.Stops (Forked bs todo)) o, m)) (quiet : u.faulted ≡ false)
+    (bs : List Birth) (todo : List Item) (o : LocalState) (m : Store)
+    (x : Meant G lv c s u l i d at_i z (Computed (source.Stops (Forked bs todo)) o, m))
+    (t : Machined G lv c s u l i d at_i z (Computed (source.Stops (Forked bs todo)) o, m))
+    (y : Kept_to G lv c s u l i d at_i z (Computed (source.Stops (Forked bs todo)) o, m)) (quiet : u.faulted ≡ false)
     (tb : ℕ) (val : ℤ) (n : ℕ) (stop_is : t.5 ≡ machine.Forks tb val n) (some : 1 ≤ length bs) where
   abbrev pub v : Name
   v = q G lv c s u l i d at_i
@@ -121,15 +127,15 @@ module _ (G : Ground) (lv : Lives G) (c : Course) (s : StateOf G.g) (u : System 
   abbrev pub p1 : Process
   p1 = pr G lv c s u l i d at_i
 
-  abbrev r : Came Deed × Store
-  r = (Got (Forked bs todo) o, m)
+  abbrev r : WorkOutcome Action × Store
+  r = (Computed (Forked bs todo) o, m)
 
   -- the number of the fork
   abbrev pub k : ℕ
   k = x.at.forks v
 
   abbrev os : List Process
-  os = newborns x.left.who o 0 bs
+  os = new_processes x.left.who o 0 bs
 
   abbrev pub goes_on : Process
   goes_on = with_todo todo (record (x.left.who) { forks = x.left.who.forks + 1 }) o
@@ -149,10 +155,10 @@ module _ (G : Ground) (lv : Lives G) (c : Course) (s : StateOf G.g) (u : System 
 
   passes : (e1 e2 : Bool) → nat_lt G.g.limits.entries (u.entries + 1) ≡ e1
       → nat_lt G.g.limits.processes (u.births.processes + length os) ≡ e2
-      → passed (most G.g) x.at.totals (Some grows)
+      → limit_fault (total_limits G.g) x.at.totals (Some grows)
       ≡ (if e1 then Some fault.F15 else (if e2 then Some fault.F13 else None))
   passes e1 e2 h1 h2 =
-      ap (λ (a : Totals). passed (most G.g) a (Some grows)) x.elsewhere.totals
+      ap (λ (a : Totals). limit_fault (total_limits G.g) a (Some grows)) x.elsewhere.totals
       ∙ ap (λ a. if nat_lt G.g.limits.entries (s.totals.entries + 1) then Some fault.F15 else
       (if (a && nat_lt G.g.limits.processes (s.totals.processes + length os)) then Some fault.F13 else None))
       some_grow
@@ -173,15 +179,16 @@ module _ (G : Ground) (lv : Lives G) (c : Course) (s : StateOf G.g) (u : System 
       (if nat_lt G.g.limits.processes (u.births.processes + n) then Some fault.F13 else None)) None) h1
       ∙ ap (λ b. sys.first_fault (if e1 then Some fault.F15 else (if b then Some fault.F13 else None)) None) h2
 
-  comes_to : (f : Option Fault) → passed (most G.g) x.at.totals (Some grows) ≡ f
-      → outcome {L = superpascal G.g} (most G.g) x.at v (Forks goes_on os)
-      ≡ unless f (acts {L = superpascal G.g} x.at v (Forks goes_on os))
-  comes_to f e = ap (λ a. unless a (acts {L = superpascal G.g} x.at v (Forks goes_on os))) e
+  comes_to : (f : Option Fault) → limit_fault (total_limits G.g) x.at.totals (Some grows) ≡ f
+      → step_outcome {L = superpascal G.g} (total_limits G.g) x.at v (Forks goes_on os)
+      ≡ fault_or f (act_outcome {L = superpascal G.g} x.at v (Forks goes_on os))
+  comes_to f e = ap (λ a. fault_or a (act_outcome {L = superpascal G.g} x.at v (Forks goes_on os))) e
 
-  fails : (f : Fault) → outcome {L = superpascal G.g} (most G.g) x.at v (Forks goes_on os) ≡ Faulty f
+  fails : (f : Fault) → step_outcome {L = superpascal G.g} (total_limits G.g) x.at v (Forks goes_on os) ≡ Faulty f
       → fault_of G.g.limits u tn ≡ Some f → Entry_of G c s u i d
   fails f e h = failed_entry G lv c s u l i d at_i (forked_halt G lv c s u l i d at_i z bs todo o m x t) refl f
-      (kernel_says G.g v x.at x.left x.runs r x.does ∙ ap (λ b. said_of {L = superpascal G.g} (Forks goes_on os) b) e)
+      (kernel_says G.g v x.at x.left x.runs r x.does
+      ∙ ap (λ b. happening_of {L = superpascal G.g} (Forks goes_on os) b) e)
       (kernel_next G.g v x.at x.left x.runs r x.does ∙ ap (λ b. Some (result_of {L = superpascal G.g} x.at v b)) e) h
       quiet
 
@@ -207,54 +214,59 @@ module _ (G : Ground) (lv : Lives G) (c : Course) (s : StateOf G.g) (u : System 
   hs = plan_of plain (run_is G) there tb val n
 
   abbrev pub child_of : ℕ → ℕ → Config (Memory Plain)
-  child_of number j = sys.newborn plain (run_is G) there val number j
+  child_of number j = sys.child_process plain (run_is G) there val number j
       (child_or (child_at (table_or (slice_get G.code.forks tb)) j))
 
   -- where it stands, without what calls wrote in frames that are gone
   pub parent_stand : (since1 : ℕ) → since1 ≡ (t.2).ticks
       → St G (lv v) (λ a b. lv ((a, b) ∷ v)) v goes_on.who since1 t.3 o x.at.store n1
   parent_stand since1 e = stand_again G (lv v) (λ a b. lv ((a, b) ∷ v)) v {w = p1.who} {w1 = goes_on.who}
-      {since = c.since v} {since1 = since1} (ap (λ (a : Who). a.name) x.who_is) e
+      {since = c.since v} {since1 = since1} (ap (λ (a : Identity). a.name) x.who_is) e
       (stand_dead G (lv v) (λ a b. lv ((a, b) ∷ v)) v t.8 x.at.store
       (λ a. subst (λ b. (x.at.store a ≡ m a) ⊎ IsDead b a)
       (ap (λ b. length b) (t.8).frames.sources_are ∙ sources_length t.3)
       (same_but_dead G lv c s u l i d at_i z (Forked bs todo) o m x tt a)))
 
   pub counted : x.left.who.forks ≡ k
-  counted = ap (λ (a : Who). a.forks) x.who_is ∙ (keeps_to G lv c s u l i d at_i).forked
+  counted = ap (λ (a : Identity). a.forks) x.who_is ∙ (keeps_to G lv c s u l i d at_i).forked
       ∙ ap (λ a. a v) (sym x.elsewhere.forks)
 
   -- ---- it forks
 
   module _ (room1 : nat_lt G.g.limits.entries (u.entries + 1) ≡ false)
       (room2 : nat_lt G.g.limits.processes (u.births.processes + n) ≡ false) (count_is : length bs ≡ n)
-      (stmts : List Stmt) (born : Born G.g.program (λ a. All (W_of G lv) v a) (λ a. All (R_of G lv) v a) o.frames stmts
+      (stmts : List Stmt) (born : Born G.g.program (λ a. OwnOrGiven (W_of G lv) v a) (λ a. OwnOrGiven (R_of G lv) v a)
+      o.frames stmts
       bs)
-      (new_life : ℕ → Life)
-      (to_w : (b : ℕ) (a : Loc) → AimedAt G.g.program (λ a. All (W_of G lv) v a) (λ a. All (R_of G lv) v a) o.frames
+      (new_life : ℕ → BirthRights)
+      (to_w : (b : ℕ) (a : Loc) → AimedAt G.g.program (λ a. OwnOrGiven (W_of G lv) v a)
+      (λ a. OwnOrGiven (R_of G lv) v a) o.frames
       (slice_get stmts b) a → (new_life b).W a)
       (from_w : (b : ℕ) (a : Loc) → (new_life b).W a
-      → AimedAt G.g.program (λ a. All (W_of G lv) v a) (λ a. All (R_of G lv) v a) o.frames (slice_get stmts b) a)
-      (to_r : (b : ℕ) (a : Loc) → UsedAt G.g.program (λ a. All (W_of G lv) v a) (λ a. All (R_of G lv) v a) o.frames
+      → AimedAt G.g.program (λ a. OwnOrGiven (W_of G lv) v a) (λ a. OwnOrGiven (R_of G lv) v a) o.frames
+      (slice_get stmts b) a)
+      (to_r : (b : ℕ) (a : Loc) → UsedAt G.g.program (λ a. OwnOrGiven (W_of G lv) v a) (λ a. OwnOrGiven (R_of G lv) v a)
+      o.frames
       (slice_get stmts b) a → (new_life b).R a)
       (from_r : (b : ℕ) (a : Loc) → (new_life b).R a
-      → UsedAt G.g.program (λ a. All (W_of G lv) v a) (λ a. All (R_of G lv) v a) o.frames (slice_get stmts b) a)
+      → UsedAt G.g.program (λ a. OwnOrGiven (W_of G lv) v a) (λ a. OwnOrGiven (R_of G lv) v a) o.frames
+      (slice_get stmts b) a)
       (known : (a : Spot) → In a (moved_of hs) ⊎ In a (shared_of hs) → IsSome (fin.get n1.store.map a))
-      (dry : All (R_of G lv) v Output → NotIn output_spot (shared_of hs))
+      (dry : OwnOrGiven (R_of G lv) v Output → NotIn output_spot (shared_of hs))
       (parts : (a : Spot) → In a (moved_of hs) → (j : ℕ) × (j < n) × In a (new_life j).moved)
       (gives : (j : ℕ) → j < n → (a : Spot) → In a (new_life j).moved → In a (moved_of hs))
       (unshared : (a : Spot) → In a (moved_of hs) → NotIn a (shared_of hs))
       (parted : (a b : ℕ) → a < n → b < n → a ≢ b → (e : Spot) → In e (new_life a).moved → In e (new_life b).moved → ⊥)
-      (handed : (more : ℕ → ℕ → Life) (j : ℕ) → j < n → Handed G (lv v) more v t.3 n1 (new_life j) ((k, j) ∷ v))
-      (children : (more : ℕ → ℕ → Life) (j : ℕ) → j < n → (b : Birth) → slice_get bs j ≡ Some b
+      (handed : (more : ℕ → ℕ → BirthRights) (j : ℕ) → j < n → Handed G (lv v) more v t.3 n1 (new_life j) ((k, j) ∷ v))
+      (children : (more : ℕ → ℕ → BirthRights) (j : ℕ) → j < n → (b : Birth) → slice_get bs j ≡ Some b
       → Rattle.sp_link.proofs.Relation.Called G ((k, j) ∷ v) (u.births.processes + j)
-      → Stands G (new_life j) more ((k, j) ∷ v) 0 (newborn x.left.who o j b) x.at.store
+      → ProcessMatches G (new_life j) more ((k, j) ∷ v) 0 (new_process x.left.who o j b) x.at.store
       (child_of (u.births.processes + j) j)) where
     os_length : length os ≡ n
     os_length = newborns_length x.left.who o 0 bs ∙ count_is
 
-    does_it : outcome {L = superpascal G.g} (most G.g) x.at v (Forks goes_on os)
-        ≡ acts {L = superpascal G.g} x.at v (Forks goes_on os)
+    does_it : step_outcome {L = superpascal G.g} (total_limits G.g) x.at v (Forks goes_on os)
+        ≡ act_outcome {L = superpascal G.g} x.at v (Forks goes_on os)
     does_it = comes_to None (passes false false room1
         (ap (λ a. nat_lt G.g.limits.processes (u.births.processes + a)) os_length ∙ room2))
 
@@ -271,17 +283,17 @@ module _ (G : Ground) (lv : Lives G) (c : Course) (s : StateOf G.g) (u : System 
     abbrev says_now : Happening
     says_now = happenings.Forked (length os)
 
-    said_now : says G.g x.at v x.left ≡ Some says_now
+    said_now : happening_at G.g x.at v x.left ≡ Some says_now
     said_now = kernel_says G.g v x.at x.left x.runs r x.does
-        ∙ ap (λ b. said_of {L = superpascal G.g} (Forks goes_on os) b) does_it
+        ∙ ap (λ b. happening_of {L = superpascal G.g} (Forks goes_on os) b) does_it
 
-    goes_next : next G.g x.at v ≡ Some t1
+    goes_next : next_state G.g x.at v ≡ Some t1
     goes_next = kernel_next G.g v x.at x.left x.runs r x.does
         ∙ ap (λ b. Some (result_of {L = superpascal G.g} x.at v b)) does_it
         ∙ ap (λ b. Some b) (born_is G.g v k 0 os
-        (changed {L = superpascal G.g} (Adds grows)
-        (changed {L = superpascal G.g} (Counts_fork v)
-        (changed {L = superpascal G.g} (Becomes v (Joins k (length os) goes_on)) x.at))))
+        (with_change {L = superpascal G.g} (AddsTotals grows)
+        (with_change {L = superpascal G.g} (Counts_fork v)
+        (with_change {L = superpascal G.g} (Becomes v (Joins k (length os) goes_on)) x.at))))
 
     no_child : (j : ℕ) → v ≢ (k, j) ∷ v
     no_child j e = let h = ap (λ (a : Name). length a) e in omega (arith, h)
@@ -291,10 +303,10 @@ module _ (G : Ground) (lv : Lives G) (c : Course) (s : StateOf G.g) (u : System 
         ∙ at_same name_test x.at.condition v (Joins k (length os) goes_on)
 
     cond_child : (j : ℕ) (b : Birth) → slice_get bs j ≡ Some b
-        → t1.condition ((k, j) ∷ v) ≡ Works (newborn x.left.who o j b)
+        → t1.condition ((k, j) ∷ v) ≡ Works (new_process x.left.who o j b)
     cond_child j b e = ap (λ a. t1.condition (cons (k, a) v)) (sym (zero-add j))
-        ∙ born_at G.g v k 0 os before j (newborn x.left.who o j b)
-        (newborns_at x.left.who o 0 bs j b e ∙ ap (λ a. Some (newborn x.left.who o a b)) (zero-add j))
+        ∙ born_at G.g v k 0 os before j (new_process x.left.who o j b)
+        (newborns_at x.left.who o 0 bs j b e ∙ ap (λ a. Some (new_process x.left.who o a b)) (zero-add j))
 
     cond_r : (a : Name) → a ≢ v → ((j : ℕ) → j < n → a ≢ (k, j) ∷ v) → t1.condition a ≡ s.condition a
     cond_r a e f = born_else G.g v k 0 os before a
@@ -330,19 +342,19 @@ module _ (G : Ground) (lv : Lives G) (c : Course) (s : StateOf G.g) (u : System 
             let ge = ltb-false b n h in omega (arith, lt, is, ge)))
         by false e g h = inr (λ j lt f. (let is : true ≡ false = sym (test j f) ∙ e in absurd (cc is)))
 
-    known_then : Known G.g x.at
+    known_then : StateKeeps G.g x.at
     known_then = known_at G lv c s u l i d at_i z r x says_now said_now
 
-    known_now : Known G.g t1
+    known_now : StateKeeps G.g t1
     known_now = record {
-      sound = step_sound (most G.g) x.at v t1 known_then.sound goes_next;
+      sound = step_sound (total_limits G.g) x.at v t1 known_then.sound goes_next;
       well = lowered G.g (λ b. ticks_in (x.at.condition b)) t1
           (step_well G.g x.at known_then.sound v (raised G.g x.at known_then.well) t1 goes_next);
     }
 
     -- ---- lives and rights
 
-    abbrev lv1 : Lives G
+    abbrev lv1 : RightsOfAll G
     lv1 [] = lv []
     lv1 ((a, b) ∷ w) = pick (same_name v w && (a == k)) (new_life b) (lv ((a, b) ∷ w))
 
@@ -378,11 +390,13 @@ module _ (G : Ground) (lv : Lives G) (c : Course) (s : StateOf G.g) (u : System 
     R1 a b = reads_after G.g.program (W_of G lv) (R_of G lv) v k o.frames stmts a b
 
     abbrev Aims_at : ℕ → Loc → Type 0
-    Aims_at j b = AimedAt G.g.program (λ a. All (W_of G lv) v a) (λ a. All (R_of G lv) v a) o.frames (slice_get stmts j)
+    Aims_at j b = AimedAt G.g.program (λ a. OwnOrGiven (W_of G lv) v a) (λ a. OwnOrGiven (R_of G lv) v a) o.frames
+        (slice_get stmts j)
         b
 
     abbrev Uses_at : ℕ → Loc → Type 0
-    Uses_at j b = UsedAt G.g.program (λ a. All (W_of G lv) v a) (λ a. All (R_of G lv) v a) o.frames (slice_get stmts j)
+    Uses_at j b = UsedAt G.g.program (λ a. OwnOrGiven (W_of G lv) v a) (λ a. OwnOrGiven (R_of G lv) v a) o.frames
+        (slice_get stmts j)
         b
 
     to_writes : (a : Name) (b : Loc) → W1 a b → W_of G lv1 a b
@@ -450,7 +464,7 @@ module _ (G : Ground) (lv : Lives G) (c : Course) (s : StateOf G.g) (u : System 
         (same_or_not name_test b v)
 
     abbrev c1 : Course
-    c1 = noted v (ticks_of G.g t1 v) c
+    c1 = with_ticks v (ticks_of G.g t1 v) c
 
     since_here : c1.since v ≡ (t.2).ticks
     since_here = ap (λ b. cond b (ticks_of G.g t1 v) (c.since v)) (itself name_test v) ∙ ap ticks_in cond_v
@@ -479,7 +493,7 @@ module _ (G : Ground) (lv : Lives G) (c : Course) (s : StateOf G.g) (u : System 
 
     -- ---- the parent
 
-    abbrev kids1 : ℕ → ℕ → Life
+    abbrev kids1 : ℕ → ℕ → BirthRights
     kids1 a b = lv1 ((a, b) ∷ v)
 
     abbrev fresh1 : Rattle.sp_link.proofs.Relation.Fresh G (lv v) kids1 v
@@ -491,7 +505,8 @@ module _ (G : Ground) (lv : Lives G) (c : Course) (s : StateOf G.g) (u : System 
     joined : Joined G (lv v) kids1 v (c1.since v) k n n goes_on t1 left_it
     joined = parent_joins G (lv v) kids1 v fresh1 (c1.since v) k n goes_on t.3 t1 n1
         (parent_stand (c1.since v) since_here) x.good.named t.0 t.1
-        (again G.g G.code G.moves G.shares G.hush (λ a. Mine v a ⊎ (lv v).W a) (λ a. Mine v a ⊎ (lv v).R a) (lv v).J
+        (again G.g G.code G.moves G.shares G.hush (λ a. OwnLocation v a ⊎ (lv v).W a)
+        (λ a. OwnLocation v a ⊎ (lv v).R a) (lv v).J
         (ops G) G.free G.finds G.formed.uses z.fresh.reads fresh1.reads
         p1.who (due_after (c.since v) G.pause) (Rel G (lv v) (kids G lv c s u l i d at_i) v p1.who (c.since v))
         (law G (lv v) (kids G lv c s u l i d at_i) v z.fresh p1.who z.named (c.since v)) (λ a b. inl z.named)
@@ -500,22 +515,23 @@ module _ (G : Ground) (lv : Lives G) (c : Course) (s : StateOf G.g) (u : System 
         (lv v).end [] (lv v).below t.0 t.1 t.3 todo t.9) hs known dry (omega (arith, some, count_is))
         (λ j lt. (let p = at_place j lt in ap (λ b. has_ended b) (cond_child j p.0 p.1)))
         (λ j lt e. (let p = at_place j lt in subst (λ b. IsLive b) (sym (cond_child j p.0 p.1) ∙ e) tt))
-        (λ a h. (let w = parts a h in (w.0, w.1, subst (λ (lf : Life). In a lf.moved) (sym (lv1_child w.0)) w.2)))
-        (λ j lt. subst (λ (lf : Life). Handed G (lv v) kids1 v t.3 n1 lf ((k, j) ∷ v)) (sym (lv1_child j))
+        (λ a h. (let w = parts a h in
+        (w.0, w.1, subst (λ (lf : BirthRights). In a lf.moved) (sym (lv1_child w.0)) w.2)))
+        (λ j lt. subst (λ (lf : BirthRights). Handed G (lv v) kids1 v t.3 n1 lf ((k, j) ∷ v)) (sym (lv1_child j))
         (handed kids1 j lt))
-        (λ j lt a h. gives j lt a (subst (λ (lf : Life). In a lf.moved) (lv1_child j) h)) unshared
-        (λ a b la lb ne e h g. parted a b la lb ne e (subst (λ (lf : Life). In e lf.moved) (lv1_child a) h)
-        (subst (λ (lf : Life). In e lf.moved) (lv1_child b) g))
+        (λ j lt a h. gives j lt a (subst (λ (lf : BirthRights). In a lf.moved) (lv1_child j) h)) unshared
+        (λ a b la lb ne e h g. parted a b la lb ne e (subst (λ (lf : BirthRights). In e lf.moved) (lv1_child a) h)
+        (subst (λ (lf : BirthRights). In e lf.moved) (lv1_child b) g))
 
     parent_does : Performs_all G lv1 v c1 t1 (u.births.opens i) (sys.Joins n left_it)
-    parent_does = subst (λ (lf : Life). Performs G lf kids1 v c1 t1 (u.births.opens i) (sys.Joins n left_it))
+    parent_does = subst (λ (lf : BirthRights). Performs G lf kids1 v c1 t1 (u.births.opens i) (sys.Joins n left_it))
         (sym (lv1_other v (present G lv c s u l i d at_i))) (
           k,
           n,
           goes_on,
           cond_v ∙ ap (λ a. Joins k a goes_on) os_length,
           joined,
-          ap (λ (a : Who). a.opens) x.who_is
+          ap (λ (a : Identity). a.opens) x.who_is
               ∙ (its G lv c s u l i d at_i).3,
           (its G lv c s u l i d at_i).4,
         )
@@ -526,13 +542,13 @@ module _ (G : Ground) (lv : Lives G) (c : Course) (s : StateOf G.g) (u : System 
     P = u.births.processes
 
     abbrev b1 : Births
-    b1 = after_event u.births i (event.Fork n)
+    b1 = births_after_event u.births i (event.Fork n)
 
     abbrev tbl : Rattle.sp_code.specs.declared.code.ForkTable.ForkTable
     tbl = table_or (slice_get G.code.forks tb)
 
     abbrev at_number : ℕ → ℕ → sys.Condition Plain
-    at_number a j = sys.Working (sys.newborn plain (run_is G) there val a j (child_or (child_at tbl j)))
+    at_number a j = sys.Working (sys.child_process plain (run_is G) there val a j (child_or (child_at tbl j)))
 
     abbrev u1 : System Plain
     u1 = record u {
@@ -549,10 +565,11 @@ module _ (G : Ground) (lv : Lives G) (c : Course) (s : StateOf G.g) (u : System 
     no_fault = sym (ap (λ b. fault_of G.g.limits u (Stopped b (At t.0 t.1 t.2))) stop_is)
         ∙ found false false room1 room2
 
-    after_is : after plain (run_is G) i tn u ≡ u1
-    after_is = ap (λ b. after plain (run_is G) i (Stopped b (At t.0 t.1 t.2)) u) stop_is ∙ after_quiet G i tn2 u quiet
-        ∙ ap (λ f. record (unless_fault plain (run_is G) f i tn2 u)
-        { births = after_event u.births i (event_or f tn2) }) no_fault
+    after_is : system_after_turn plain (run_is G) i tn u ≡ u1
+    after_is = ap (λ b. system_after_turn plain (run_is G) i (Stopped b (At t.0 t.1 t.2)) u) stop_is
+        ∙ after_quiet G i tn2 u quiet
+        ∙ ap (λ f. record (apply_unless_fault plain (run_is G) f i tn2 u)
+        { births = births_after_event u.births i (event_or f tn2) }) no_fault
 
     event_is : event_of G.g.limits u tn ≡ event.Fork n
     event_is = ap (λ b. event_of G.g.limits u (Stopped b (At t.0 t.1 t.2))) stop_is
@@ -581,14 +598,14 @@ module _ (G : Ground) (lv : Lives G) (c : Course) (s : StateOf G.g) (u : System 
           (at_number (P + j) j)
       child_does j lt =
           let p = at_place j lt in (
-            newborn x.left.who o j p.0,
-            ap (working_in t1.condition ((k, j) ∷ v)) (cond_child j p.0 p.1),
-            inl (subst (λ a. Stands G (lv1 ((k, j) ∷ v)) (λ a b. lv1 ((a, b) ∷ (k, j) ∷ v)) ((k, j) ∷ v) a
-                (newborn x.left.who o j p.0) t1.store (child_of (P + j) j))
+            new_process x.left.who o j p.0,
+            ap (own_part_in t1.condition ((k, j) ∷ v)) (cond_child j p.0 p.1),
+            inl (subst (λ a. ProcessMatches G (lv1 ((k, j) ∷ v)) (λ a b. lv1 ((a, b) ∷ (k, j) ∷ v)) ((k, j) ∷ v) a
+                (new_process x.left.who o j p.0) t1.store (child_of (P + j) j))
                 (sym (since_other c v (ticks_of G.g t1 v) ((k, j) ∷ v) (λ e. no_child j (sym e))
                 ∙ l.fresh_since ((k, j) ∷ v) (unborn j)))
-                (subst (λ (lf : Life). Stands G lf (λ a b. lv1 ((a, b) ∷ (k, j) ∷ v)) ((k, j) ∷ v) 0
-                (newborn x.left.who o j p.0) t1.store (child_of (P + j) j)) (sym (lv1_child j))
+                (subst (λ (lf : BirthRights). ProcessMatches G lf (λ a b. lv1 ((a, b) ∷ (k, j) ∷ v)) ((k, j) ∷ v) 0
+                (new_process x.left.who o j p.0) t1.store (child_of (P + j) j)) (sym (lv1_child j))
                 (children (λ a b. lv1 ((a, b) ∷ (k, j) ∷ v)) j lt p.0 p.1 (called j lt)))),
             sym (l.unmade (P + j) (omega arith)).1,
             l.unlaid quiet ((k, j) ∷ v),
@@ -632,7 +649,7 @@ module _ (G : Ground) (lv : Lives G) (c : Course) (s : StateOf G.g) (u : System 
       not_i a le e = let b = here G lv c s u l i d at_i in omega (arith, b, le, e)
 
       child_forks : (j : ℕ) → j < n → x.at.forks ((k, j) ∷ v) ≡ 0
-      child_forks j lt = subst (λ b. Holds G.g.program (W_of G lv) (R_of G lv) x.at.forks ((k, j) ∷ v) b)
+      child_forks j lt = subst (λ b. ConditionInRights G.g.program (W_of G lv) (R_of G lv) x.at.forks ((k, j) ∷ v) b)
           (x.elsewhere.condition ((k, j) ∷ v) (λ e. no_child j (sym e)) ∙ unborn j) (rights_then.holds ((k, j) ∷ v))
 
       forks_old : (a : ℕ) → a < P → t1.forks (G.births.name a) ≡ b1.forks a
@@ -673,7 +690,7 @@ module _ (G : Ground) (lv : Lives G) (c : Course) (s : StateOf G.g) (u : System 
             (no_join (sym cond_v ∙ subst (λ k. t1.condition k ≡ Absent) b e)))
             (λ (b : a ≢ v). ⊎_elim (λ (h : (j : ℕ) × (j < n) × (a ≡ (k, j) ∷ v)). absurd
             (let p = at_place h.0 h.1 in
-            no_work (newborn x.left.who o h.0 p.0)
+            no_work (new_process x.left.who o h.0 p.0)
             (sym (cond_child h.0 p.0 p.1) ∙ subst (λ k. t1.condition k ≡ Absent) h.2 e)))
             (λ h. since_other c v (ticks_of G.g t1 v) a b ∙ l.fresh_since a (sym (cond_r a b h) ∙ e)) (child_or_not a))
             (same_or_not name_test a v);
@@ -699,10 +716,10 @@ module _ (G : Ground) (lv : Lives G) (c : Course) (s : StateOf G.g) (u : System 
             (child_or_not a)) (same_or_not name_test a v);
       }
         where
-          no_join : ◌≡◌ {A = Condition Process Held Address} (Joins k (length os) goes_on) Absent → ⊥
+          no_join : ◌≡◌ {A = Condition Process LocationContent Address} (Joins k (length os) goes_on) Absent → ⊥
           no_join e = cc e
 
-          no_work : (a : Process) → ◌≡◌ {A = Condition Process Held Address} (Works a) Absent → ⊥
+          no_work : (a : Process) → ◌≡◌ {A = Condition Process LocationContent Address} (Works a) Absent → ⊥
           no_work a e = cc e
 
     pub fork_entry : Entry_of G c s u i d
@@ -714,7 +731,7 @@ module _ (G : Ground) (lv : Lives G) (c : Course) (s : StateOf G.g) (u : System 
           (sym told);
       speaks = subst (λ f. IsOpen u.births f) (sym event_is) tt;
       lives = lv1;
-      linked = λ began. now_by G lv1 c1 t1 (after plain (run_is G) i tn u)
+      linked = λ began. now_by G lv1 c1 t1 (system_after_turn plain (run_is G) i tn u)
           (subst (λ a. Linked G lv1 c1 t1 a) (sym after_is)
           (linked (subst (λ (a : System Plain). Began G a.births) after_is began)));
     }

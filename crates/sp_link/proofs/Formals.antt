@@ -8,7 +8,7 @@ use Rattle.sp_base.proofs.Facts.{get_in_front}
 use Rattle.sp_tree.specs.declared.checked.Role.{Role}
 use Rattle.sp_tree.specs.declared.checked.Role.TheVariants as role
 use Rattle.sp_tree.specs.Cells.{variables_of, sizes, cells_by}
-use Rattle.sp_tree.specs.Formed.{IsFormed, is_parameter, among, as_list}
+use Rattle.sp_tree.specs.Formed.{IsFormed, is_parameter, numbers_with_role, as_list}
 use Rattle.sp_tree.specs.Interference.{IsMember}
 use Rattle.sp_tree.specs.Plain.{Program, Stmt, Block, Variable}
 use Rattle.sp_tree.proofs.Members.{member_at}
@@ -95,7 +95,8 @@ module _ (p : Program) where
         go None a e = absurd (cc e)
         go (Some x) a e =
             let whole : slice_get (frame_of p f) k ≡ Some x = ap (λ z. slice_get z k) (frame_is p formed f b eb)
-            ∙ get_in_front (b.formals ++ as_list b.answer) (among is_local (variables_of f 0 p.variables)) k x
+            ∙ get_in_front (b.formals ++ as_list b.answer)
+            (numbers_with_role is_local (variables_of f 0 p.variables)) k x
             (get_in_front b.formals (as_list b.answer) k x a) in
             let here : slice_get (map (λ x. cells_of p (slice_get p.variables x)) (frame_of p f)) k
             ≡ Some (cells_of p (slice_get p.variables x)) =

@@ -7,11 +7,11 @@ use Rattle.sp_journal.specs.declared.entry.Event.{Event}
 use Rattle.sp_journal.specs.declared.entry.Event.TheVariants as event
 use Rattle.sp_journal.specs.declared.entry.Entry.{Entry}
 use Rattle.sp_journal.specs.declared.entry.Opening.{Opening}
-use Rattle.sp_journal.specs.Births.{Births, channel, is_next, after_event, births_from, NameableFrom}
+use Rattle.sp_journal.specs.Births.{Births, channel, is_next, births_after_event, births_from, NameableFrom}
 use Rattle.sp_journal.proofs.BirthLaws.{Lawful, lawful_after}
 use Rattle.sp_history.proofs.Orders.{next_not}
 use Rattle.sp_link.proofs.Journal.{AllBegan}
-use Rattle.sp_link.proofs.Relation.{Ground, Began}
+use Rattle.sp_link.proofs.Relation.{RunContext, Began}
 
 pub record Grows (b d : Births) : Type 0 where
   pub processes : b.processes ≤ d.processes
@@ -30,7 +30,7 @@ grows_on b d e h k = record {
   openings = λ j l. h.openings j l ∙ k.openings j (let x = h.channels in omega (arith, x, l));
 }
 
-grows_event : (b : Births) (p : ℕ) (e : Event) → Lawful b → Grows b (after_event b p e)
+grows_event : (b : Births) (p : ℕ) (e : Event) → Lawful b → Grows b (births_after_event b p e)
 grows_event b p (event.Fork n) w = record {
   processes = omega arith;
   channels = omega arith;
@@ -63,11 +63,11 @@ grows_event b p event.Pause w = grows_same b
 
 pub grows_from : (es : List Entry) (b : Births) → Lawful b → NameableFrom b es → Grows b (births_from b es)
 grows_from [] b w n = grows_same b
-grows_from (e ∷ es) b w n = grows_on b (after_event b e.process e.event)
-    (births_from (after_event b e.process e.event) es) (grows_event b e.process e.event w)
-    (grows_from es (after_event b e.process e.event) (lawful_after b e w n.0) n.1)
+grows_from (e ∷ es) b w n = grows_on b (births_after_event b e.process e.event)
+    (births_from (births_after_event b e.process e.event) es) (grows_event b e.process e.event w)
+    (grows_from es (births_after_event b e.process e.event) (lawful_after b e w n.0) n.1)
 
-module _ (G : Ground) where
+module _ (G : RunContext) where
   pub began : (b : Births) → Lawful b → Grows b G.births → Began G b
   began b w g = record {
     processes = g.processes;
@@ -84,8 +84,8 @@ module _ (G : Ground) where
   all_began [] b w n e = tt
   all_began (x ∷ es) b w n e =
       let d = lawful_after b x w n.0 in (
-        began (after_event b x.process x.event) d
-            (subst (λ y. Grows (after_event b x.process x.event) y) e
-            (grows_from es (after_event b x.process x.event) d n.1)),
-        all_began es (after_event b x.process x.event) d n.1 e,
+        began (births_after_event b x.process x.event) d
+            (subst (λ y. Grows (births_after_event b x.process x.event) y) e
+            (grows_from es (births_after_event b x.process x.event) d n.1)),
+        all_began es (births_after_event b x.process x.event) d n.1 e,
       )

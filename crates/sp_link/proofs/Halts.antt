@@ -7,63 +7,65 @@ use Rattle.std.specs.Prelude.{◌≢◌}
 use Rattle.sp_base.specs.declared.fault.Fault.{Fault}
 use Rattle.sp_base.specs.declared.fault.Fault.TheVariants as fault
 use Rattle.sp_base.proofs.Facts.{is_none_plus, not_true_and_false}
-use Rattle.sp_journal.specs.Births.{happening, after_event}
+use Rattle.sp_journal.specs.Births.{happening, births_after_event}
 use Rattle.sp_journal.specs.Maps.{at_key}
 use Rattle.sp_journal.specs.declared.entry.Event.TheVariants as event
 use Rattle.sp_cell.specs.Map.{Plain, output_of}
-use Rattle.sp_meaning.specs.Model.{Name, Faults, changed, Moves, Opens, Forks, Offering, Ends, Fails}
-use Rattle.sp_meaning.specs.Asking.{answer}
-use Rattle.sp_meaning.specs.Steps.{ActOf, Outcome, Advances, Faulty}
+use Rattle.sp_meaning.specs.Model.{Name, Faults, with_change, Moves, Opens, Forks, Offering, EndsProcess, MeetsFault}
+use Rattle.sp_meaning.specs.EffectTree.{run_tree}
+use Rattle.sp_meaning.specs.Steps.{ActOf, ActOutcome, Advances, Faulty}
 use Rattle.sp_meaning.specs.Entries.{Happening, Laid, Opened as Is_opened, Offered as Is_offered}
 use Rattle.sp_journal.specs.Names as happenings
-use Rattle.sp_meaning.specs.Own.{Setting, Loc, Cell, Output, Held, Own, Item, Process, Came, Got, Bad, Lost, Long}
-use Rattle.sp_meaning.specs.Own.{same_loc}
-use Rattle.sp_meaning.specs.Deeds.{Deed, Birth, Stepped, Ticked, Opened, Forked, Offered}
-use Rattle.sp_meaning.specs.Deeds as deeds
-use Rattle.sp_meaning.specs.SuperPascal.{superpascal, deed_of, with_todo, enough, root}
+use Rattle.sp_meaning.specs.LocalWork.{RunInput, Loc, Cell, Output, LocationContent, LocalState, Item, Process}
+use Rattle.sp_meaning.specs.LocalWork.{WorkOutcome, Computed, EndsInFault, IllFormed, OutOfFuel}
+use Rattle.sp_meaning.specs.LocalWork.{same_loc}
+use Rattle.sp_meaning.specs.Actions.{Action, Birth, Stepped, Ticked, Opened, Forked, Offered}
+use Rattle.sp_meaning.specs.Actions as deeds
+use Rattle.sp_meaning.specs.SuperPascal.{superpascal, action_of, with_todo, fuel_of, root}
 use Rattle.sp_meaning.specs.Run.{Store}
-use Rattle.sp_meaning.specs.Runs.{StateOf, most, running, next, says, said_of}
-use Rattle.sp_meaning.specs.Along.{Course, ticks_in, ticks_of, noted, stopped, Entered}
+use Rattle.sp_meaning.specs.Runs.{StateOf, total_limits, running_process, next_state, happening_at, happening_of}
+use Rattle.sp_meaning.specs.Along.{Course, ticks_in, ticks_of, with_ticks, with_fault, EntryStep}
 use Rattle.sp_meaning.specs.Along as along
 use Rattle.sp_meaning.specs.Turn as source
 use Rattle.sp_meaning.proofs.Instance.{loc_test}
 use Rattle.sp_meaning.proofs.Keys.{name_test}
 use Rattle.sp_meaning.proofs.Maps.{differs, itself}
 use Rattle.sp_meaning.proofs.Owned.{Keeps_to}
-use Rattle.sp_meaning.proofs.Reached.{Known, step_well, raised, lowered}
-use Rattle.sp_meaning.proofs.Rights.{All}
+use Rattle.sp_meaning.proofs.Reached.{StateKeeps, step_well, raised, lowered}
+use Rattle.sp_meaning.proofs.Rights.{OwnOrGiven}
 use Rattle.sp_meaning.proofs.Sound.{step_sound}
 use Rattle.sp_code.specs.Machine.{Config, At}
 use Rattle.sp_code.specs.Machine as machine
-use Rattle.sp_code.specs.Turns.{Turn, Stopped, Faulted, IsTurn, Begins}
+use Rattle.sp_code.specs.Turns.{Turn, Stopped, Faulted, IsTurn, BeginsOrFaults}
 use Rattle.sp_code.specs.Memory.{Memory}
 use Rattle.sp_code.specs.PlainStore.{plain}
-use Rattle.sp_code.specs.System.{System, after, event_of, event_or, fault_of, config_of, unless_fault}
+use Rattle.sp_code.specs.System.{System, system_after_turn, event_of, event_or, fault_of, config_of, apply_unless_fault}
 use Rattle.sp_code.specs.System as sys
-use Rattle.sp_codegen.specs.Joints.{Joint}
+use Rattle.sp_codegen.specs.FramePairs.{FramePair}
 use Rattle.sp_codegen.specs.Following.{StandsFor}
-use Rattle.sp_meaning.proofs.QuietDeeds.{IsSameButOne}
+use Rattle.sp_meaning.proofs.SilentActions.{IsSameButOne}
 use Rattle.sp_link.proofs.AtStop.{keeps_at, same_but_dead, same_but_one, same_output}
 use Rattle.sp_link.proofs.Journal.{Way_on, IsOpen, now_by}
 use Rattle.sp_link.proofs.KernelSteps.{kernel_next, kernel_says, act}
-use Rattle.sp_link.proofs.OneChanges.{its, runs, linked_local}
+use Rattle.sp_link.proofs.OneChanges.{its, runs_as_pr, linked_local}
 use Rattle.sp_link.proofs.Pauses.{Entry_of, Meant, Machined, kids, turn_is, after_quiet, after_laid, kt}
 use Rattle.sp_link.proofs.Pauses as at
-use Rattle.sp_link.proofs.Relation.{Ground, Life, Lives, W_of, R_of, St, Rel, Stands, TooLarge, Told, Linked, run_is}
+use Rattle.sp_link.proofs.Relation.{RunContext, BirthRights, RightsOfAll, W_of, R_of, St, Rel, ProcessMatches, TooLarge}
+use Rattle.sp_link.proofs.Relation.{OutputMatches, Linked, run_is}
 use Rattle.sp_link.proofs.Relation.{ops}
 use Rattle.sp_link.proofs.TurnsMeet.{turn_known}
 
 -- a step of the kernel says something
-abbrev pub IsKernel : (g : Setting) → ActOf (superpascal g) → Type 0
+abbrev pub IsKernel : (g : RunInput) → ActOf (superpascal g) → Type 0
 IsKernel g (Moves o ws) = ⊥
 IsKernel g (Opens o ws) = Unit {0}
 IsKernel g (Forks o os) = Unit {0}
 IsKernel g (Offering o) = Unit {0}
-IsKernel g Ends = Unit {0}
-IsKernel g (Fails f) = ⊥
+IsKernel g EndsProcess = Unit {0}
+IsKernel g (MeetsFault f) = ⊥
 
-pub something_said : (g : Setting) (a : ActOf (superpascal g)) → IsKernel g a → (o : Outcome (superpascal g))
-    → (what : Happening) × (said_of {L = superpascal g} a o ≡ Some what)
+pub something_said : (g : RunInput) (a : ActOf (superpascal g)) → IsKernel g a → (o : ActOutcome (superpascal g))
+    → (what : Happening) × (happening_of {L = superpascal g} a o ≡ Some what)
 something_said g (Moves p ws) h o = absurd h
 something_said g (Opens p ws) h (Advances cs) = (Is_opened, refl)
 something_said g (Opens p ws) h (Faulty f) = (happenings.Faulted f, refl)
@@ -72,37 +74,39 @@ something_said g (Forks p os) h (Faulty f) = (happenings.Faulted f, refl)
 something_said g (Offering p) h (Advances cs) =
     (Is_offered (Rattle.sp_meaning.specs.Steps.way_of p.cargo) p.channel, refl)
 something_said g (Offering p) h (Faulty f) = (happenings.Faulted f, refl)
-something_said g Ends h (Advances cs) = (happenings.Ended, refl)
-something_said g Ends h (Faulty f) = (happenings.Faulted f, refl)
-something_said g (Fails e) h o = absurd h
+something_said g EndsProcess h (Advances cs) = (happenings.Ended, refl)
+something_said g EndsProcess h (Faulty f) = (happenings.Faulted f, refl)
+something_said g (MeetsFault e) h o = absurd h
 
 pub no_tree : (y : Rattle.sp_meaning.specs.Values.Value) (bs : List ℕ)
-    → Rattle.sp_meaning.specs.Own.Tree y ≡ Rattle.sp_meaning.specs.Own.Written bs → ⊥
+    → Rattle.sp_meaning.specs.LocalWork.Tree y ≡ Rattle.sp_meaning.specs.LocalWork.Written bs → ⊥
 no_tree y bs e = cc e
 
 -- a component of a variable is not in the output
-pub cell_no_output : (a : Rattle.sp_meaning.specs.Own.Address) (owner : Name) (frame variable : ℕ)
+pub cell_no_output : (a : Rattle.sp_meaning.specs.LocalWork.Address) (owner : Name) (frame variable : ℕ)
     → a.spot ≡ Cell owner frame variable → same_loc a.spot Output ≡ false
 cell_no_output a owner frame variable e = differs loc_test a.spot Output
     (λ f. let b : Cell owner frame variable ≡ Output = sym e ∙ f in cc b)
 
-module _ (G : Ground) (lf : Life) (more : ℕ → ℕ → Life) (q : Name) where
+module _ (G : RunContext) (lf : BirthRights) (more : ℕ → ℕ → BirthRights) (q : Name) where
   -- the output of a memory that stands
-  pub told_by : {w : Rattle.sp_meaning.specs.Own.Who} {since : ℕ} {js : List Joint} {o : Own} {s : Store}
+  pub told_by : {w : Rattle.sp_meaning.specs.LocalWork.Identity} {since : ℕ} {js : List FramePair} {o : LocalState}
+      {s : Store}
       {n : Memory Plain} (pc : ℕ) (st : List machine.Entry) → St G lf more q w since js o s n
-      → Told G lf more q s (At pc st n)
+      → OutputMatches G lf more q s (At pc st n)
   told_by pc st t = λ may. let y = t.output may in (y.0, y.1, ap output_of y.2)
 
-  pub told_break : (w : Rattle.sp_meaning.specs.Own.Who) (since : ℕ) (e : Config (Memory Plain)) (s : Store)
-      → StandsFor (Rel G lf more q w since) e s → Told G lf more q s e
+  pub told_break : (w : Rattle.sp_meaning.specs.LocalWork.Identity) (since : ℕ) (e : Config (Memory Plain)) (s : Store)
+      → StandsFor (Rel G lf more q w since) e s → OutputMatches G lf more q s e
   told_break w since (At pc st n) s h = told_by pc st h.2
 
   -- with a store that has the same output
-  pub told_same : (e : Config (Memory Plain)) (s s1 : Store) → s1 Output ≡ s Output → Told G lf more q s e
-      → Told G lf more q s1 e
+  pub told_same : (e : Config (Memory Plain)) (s s1 : Store) → s1 Output ≡ s Output → OutputMatches G lf more q s e
+      → OutputMatches G lf more q s1 e
   told_same (At pc st n) s s1 same h = λ may. let y = h may in (y.0, same ∙ y.1, y.2)
 
-module _ (G : Ground) (lv : Lives G) (c : Course) (s : StateOf G.g) (u : System Plain) (l : Linked G lv c s u) (i : ℕ)
+module _ (G : RunContext) (lv : RightsOfAll G) (c : Course) (s : StateOf G.g) (u : System Plain) (l : Linked G lv c s u)
+    (i : ℕ)
     (d : Config (Memory Plain)) (at_i : u.condition i ≡ sys.Working d) where
   abbrev v : Name
   v = at.w G lv c s u l i d at_i
@@ -116,21 +120,21 @@ module _ (G : Ground) (lv : Lives G) (c : Course) (s : StateOf G.g) (u : System 
     pub paused : Bool
     pub way : along.Turn G.g G.pause (c.since v) v steps s at paused
     pub left : Process
-    pub runs : running G.g at v ≡ Some left
+    pub runs : running_process G.g at v ≡ Some left
     pub other : (r : Name) → r ≢ v → at.condition r ≡ s.condition r
     pub forks : at.forks ≡ s.forks
     pub pending : at.pending ≡ s.pending
     pub totals : at.totals ≡ s.totals
-    pub stays : (a : Loc) → (at.store a ≡ s.store a) ⊎ All (W_of G lv) v a
+    pub stays : (a : Loc) → (at.store a ≡ s.store a) ⊎ OwnOrGiven (W_of G lv) v a
     pub rights : Keeps_to G.g.program (W_of G lv) (R_of G lv) s.forks v left
-    pub told : Told G (lv v) (λ k n. lv ((k, n) ∷ v)) v at.store (config_of turn)
+    pub told : OutputMatches G (lv v) (λ k n. lv ((k, n) ∷ v)) v at.store (config_of turn)
 
   -- ---- it is laid down
 
-  laid_other : (c1 : Course) (r : Name) → r ≢ v → (stopped v c1).laid r ≡ c1.laid r
+  laid_other : (c1 : Course) (r : Name) → r ≢ v → (with_fault v c1).laid r ≡ c1.laid r
   laid_other c1 r a = ap (λ b. b || c1.laid r) (differs name_test v r (λ e. a (sym e)))
 
-  laid_here : (c1 : Course) → (stopped v c1).laid v ≡ true
+  laid_here : (c1 : Course) → (with_fault v c1).laid v ≡ true
   laid_here c1 = ap (λ b. b || c1.laid v) (itself name_test v)
 
   pub laid_entry : Halted → u.faulted ≡ true → Entry_of G c s u i d
@@ -140,12 +144,12 @@ module _ (G : Ground) (lv : Lives G) (c : Course) (s : StateOf G.g) (u : System 
     way = way_by _ (sym said);
     speaks = subst (IsOpen u.births) (sym event_is) tt;
     lives = lv;
-    linked = λ began. now_by G lv c1 h.at (after plain (run_is G) i h.turn u)
+    linked = λ began. now_by G lv c1 h.at (system_after_turn plain (run_is G) i h.turn u)
         (subst (λ y. Linked G lv c1 h.at y) (sym (after_laid G i h.turn u bad)) linked);
   }
     where
       c1 : Course
-      c1 = stopped v c
+      c1 = with_fault v c
 
       event_is : event_of G.g.limits u h.turn ≡ event.Laid
       event_is = ap (λ b. if b then event.Laid else event_or (fault_of G.g.limits u h.turn) h.turn) bad
@@ -171,15 +175,16 @@ module _ (G : Ground) (lv : Lives G) (c : Course) (s : StateOf G.g) (u : System 
         cost = 0;
         course = c1;
         state = h.at;
-        enters = λ left n y. subst (λ f. Entered G.g left c h.at h.paused v f (0 + n)) k
+        enters = λ left n y. subst (λ f. EntryStep G.g left c h.at h.paused v f (0 + n)) k
             (l.faulted ∙ bad, subst (λ j. left c1 h.at j) (is_none_plus n) y);
       }
 
   -- ---- it faults
 
   pub failed_entry : (h : Halted) → h.paused ≡ false → (f : Fault)
-      → says G.g h.at v h.left ≡ Some (happenings.Faulted f)
-      → next G.g h.at v ≡ Some (changed {L = superpascal G.g} (Faults v f) h.at) → fault_of G.g.limits u h.turn ≡ Some f
+      → happening_at G.g h.at v h.left ≡ Some (happenings.Faulted f)
+      → next_state G.g h.at v ≡ Some (with_change {L = superpascal G.g} (Faults v f) h.at)
+      → fault_of G.g.limits u h.turn ≡ Some f
       → u.faulted ≡ false → Entry_of G c s u i d
   failed_entry h whole f says_it goes_next fault_is quiet =
       record {
@@ -188,25 +193,25 @@ module _ (G : Ground) (lv : Lives G) (c : Course) (s : StateOf G.g) (u : System 
         way = way_by _ (sym said);
         speaks = subst (IsOpen u.births) (sym event_is) tt;
         lives = lv;
-        linked = λ began. now_by G lv c1 t1 (after plain (run_is G) i h.turn u)
+        linked = λ began. now_by G lv c1 t1 (system_after_turn plain (run_is G) i h.turn u)
             (subst (λ y. Linked G lv c1 t1 y) (sym after_is) linked);
       }
     where
       t1 : StateOf G.g
-      t1 = changed {L = superpascal G.g} (Faults v f) h.at
+      t1 = with_change {L = superpascal G.g} (Faults v f) h.at
 
       c0 : Course
-      c0 = noted v (ticks_of G.g t1 v) c
+      c0 = with_ticks v (ticks_of G.g t1 v) c
 
       c1 : Course
-      c1 = stopped v c0
+      c1 = with_fault v c0
 
-      known_then : Known G.g h.at
+      known_then : StateKeeps G.g h.at
       known_then = turn_known G.g G.pause (c.since v) v h.steps s h.at h.paused l.known h.way
 
-      known_now : Known G.g t1
+      known_now : StateKeeps G.g t1
       known_now = record {
-        sound = step_sound (most G.g) h.at v t1 known_then.sound goes_next;
+        sound = step_sound (total_limits G.g) h.at v t1 known_then.sound goes_next;
         well = lowered G.g (λ a. ticks_in (h.at.condition a)) t1
             (step_well G.g h.at known_then.sound v (raised G.g h.at known_then.well) t1 goes_next);
       }
@@ -218,11 +223,11 @@ module _ (G : Ground) (lv : Lives G) (c : Course) (s : StateOf G.g) (u : System 
       said : happening u.births (event_of G.g.limits u h.turn) ≡ happenings.Faulted f
       said = ap (happening u.births) event_is
 
-      after_is : after plain (run_is G) i h.turn u
+      after_is : system_after_turn plain (run_is G) i h.turn u
           ≡ record u { condition = at_key ◌==◌ i (sys.Laid (config_of h.turn)) u.condition; faulted = true }
       after_is = after_quiet G i h.turn u quiet
-          ∙ ap (λ o. record (unless_fault plain (run_is G) o i h.turn u)
-          { births = after_event u.births i (event_or o h.turn) }) fault_is
+          ∙ ap (λ o. record (apply_unless_fault plain (run_is G) o i h.turn u)
+          { births = births_after_event u.births i (event_or o h.turn) }) fault_is
 
       linked : Linked G lv c1 t1 (record u {
         condition = at_key ◌==◌ i (sys.Laid (config_of h.turn)) u.condition;
@@ -245,27 +250,30 @@ module _ (G : Ground) (lv : Lives G) (c : Course) (s : StateOf G.g) (u : System 
         cost = 1;
         course = c1;
         state = t1;
-        enters = λ left n y. subst (λ e. Entered G.g left c h.at h.paused v e (1 + n)) k
+        enters = λ left n y. subst (λ e. EntryStep G.g left c h.at h.paused v e (1 + n)) k
             (l.faulted ∙ quiet, whole, t1, n, one-add n, (h.left, h.runs, says_it, goes_next), y);
       }
 
   -- ---- the first process where the frame of the program is too large
 
   module _ (z : TooLarge G (lv v) (λ k n. lv ((k, n) ∷ v)) v s.store (at.p1 G lv c s u l i d at_i) d) where
-    breaks : ◌≡◌ {A = Came Deed × Store} (answer same_loc (deed_of G.g (at.p1 G lv c s u l i d at_i)) s.store)
-        (Bad fault.F12, s.store)
-    breaks = ap (λ (y : Process). answer same_loc (deed_of G.g y) s.store) z.2
-        ∙ ap (λ y. answer same_loc (Rattle.sp_meaning.specs.Deeds.deed G.g (enough G.g (root G.g).own) y (root G.g).who
+    breaks : ◌≡◌ {A = WorkOutcome Action × Store} (run_tree same_loc (action_of G.g (at.p1 G lv c s u l i d at_i))
+        s.store)
+        (EndsInFault fault.F12, s.store)
+    breaks = ap (λ (y : Process). run_tree same_loc (action_of G.g y) s.store) z.2
+        ∙ ap (λ y. run_tree same_loc (Rattle.sp_meaning.specs.Actions.next_action G.g (fuel_of G.g (root G.g).own) y
+        (root G.g).who
         (root G.g).own) s.store) z.1
 
-    says_it : says G.g s v (at.p1 G lv c s u l i d at_i) ≡ Some (happenings.Faulted fault.F12)
-    says_it = kernel_says G.g v s (at.p1 G lv c s u l i d at_i) (runs G lv c s u l i d at_i) (Bad fault.F12, s.store)
+    says_it : happening_at G.g s v (at.p1 G lv c s u l i d at_i) ≡ Some (happenings.Faulted fault.F12)
+    says_it = kernel_says G.g v s (at.p1 G lv c s u l i d at_i) (runs_as_pr G lv c s u l i d at_i)
+        (EndsInFault fault.F12, s.store)
         breaks
 
     abbrev too_large_halt : Halted
     too_large_halt = record {
       turn = Faulted fault.F12 d;
-      is = subst (λ b. Begins b d (Faulted fault.F12 d)
+      is = subst (λ b. BeginsOrFaults b d (Faulted fault.F12 d)
           (Rattle.sp_code.specs.Turns.Runs (ops G) G.code d (Faulted fault.F12 d))) (sym z.4) refl;
       steps = 0;
       at = s;
@@ -274,12 +282,12 @@ module _ (G : Ground) (lv : Lives G) (c : Course) (s : StateOf G.g) (u : System 
         refl,
         refl,
         at.p1 G lv c s u l i d at_i,
-        runs G lv c s u l i d at_i,
+        runs_as_pr G lv c s u l i d at_i,
         happenings.Faulted fault.F12,
         says_it,
       );
       left = at.p1 G lv c s u l i d at_i;
-      runs = runs G lv c s u l i d at_i;
+      runs = runs_as_pr G lv c s u l i d at_i;
       other = λ r a. refl;
       forks = refl;
       pending = refl;
@@ -291,7 +299,8 @@ module _ (G : Ground) (lv : Lives G) (c : Course) (s : StateOf G.g) (u : System 
 
     pub too_large_fails : u.faulted ≡ false → Entry_of G c s u i d
     too_large_fails quiet = failed_entry too_large_halt refl fault.F12 says_it
-        (kernel_next G.g v s (at.p1 G lv c s u l i d at_i) (runs G lv c s u l i d at_i) (Bad fault.F12, s.store) breaks)
+        (kernel_next G.g v s (at.p1 G lv c s u l i d at_i) (runs_as_pr G lv c s u l i d at_i)
+        (EndsInFault fault.F12, s.store) breaks)
         refl quiet
 
     pub too_large_laid : u.faulted ≡ true → Entry_of G c s u i d
@@ -299,11 +308,11 @@ module _ (G : Ground) (lv : Lives G) (c : Course) (s : StateOf G.g) (u : System 
 
   -- ---- where a turn has come to, by its end
 
-  module _ (z : Stands G (lv v) (kids G lv c s u l i d at_i) v (c.since v) (at.p1 G lv c s u l i d at_i) s.store
+  module _ (z : ProcessMatches G (lv v) (kids G lv c s u l i d at_i) v (c.since v) (at.p1 G lv c s u l i d at_i) s.store
       d) where
-    abbrev pub paused_halt : (todo : List Item) (o : Own) (m : Store)
-        → Meant G lv c s u l i d at_i z (Got (source.Paused todo) o, m)
-        → Machined G lv c s u l i d at_i z (Got (source.Paused todo) o, m) → Halted
+    abbrev pub paused_halt : (todo : List Item) (o : LocalState) (m : Store)
+        → Meant G lv c s u l i d at_i z (Computed (source.Paused todo) o, m)
+        → Machined G lv c s u l i d at_i z (Computed (source.Paused todo) o, m) → Halted
     paused_halt todo o m x t = record {
       turn = Stopped machine.Pauses (At t.0 t.1 t.2);
       is = turn_is G lv c s u l i d at_i z (Stopped machine.Pauses (At t.0 t.1 t.2)) (t.4, t.5, t.6);
@@ -317,21 +326,21 @@ module _ (G : Ground) (lv : Lives G) (c : Course) (s : StateOf G.g) (u : System 
       forks = x.elsewhere.forks;
       pending = x.elsewhere.pending;
       totals = x.elsewhere.totals;
-      stays = subst (λ y. (a : Loc) → (y a ≡ s.store a) ⊎ All (W_of G lv) v a) (sym x.store) x.good.stays;
+      stays = subst (λ y. (a : Loc) → (y a ≡ s.store a) ⊎ OwnOrGiven (W_of G lv) v a) (sym x.store) x.good.stays;
       rights = record {
         named = z.named;
         forked = (kt G lv c s u l i d at_i).forked;
         last = (kt G lv c s u l i d at_i).last;
         fit = x.good.fit;
       };
-      told = subst (λ y. Told G (lv v) (λ k n. lv ((k, n) ∷ v)) v y (At t.0 t.1 t.2)) (sym x.store)
+      told = subst (λ y. OutputMatches G (lv v) (λ k n. lv ((k, n) ∷ v)) v y (At t.0 t.1 t.2)) (sym x.store)
           (told_by G (lv v) (λ k n. lv ((k, n) ∷ v)) v t.0 t.1 t.7);
     }
 
-    module _ (r : Came Deed × Store) (x : Rattle.sp_link.proofs.AtStop.Stopped_at G lv c s u l i d at_i z r)
-        (what : Happening) (said : says G.g x.at v x.left ≡ Some what) where
+    module _ (r : WorkOutcome Action × Store) (x : Rattle.sp_link.proofs.AtStop.Stopped_at G lv c s u l i d at_i z r)
+        (what : Happening) (said : happening_at G.g x.at v x.left ≡ Some what) where
       abbrev pub halt_by : (tn : Turn (Memory Plain)) → IsTurn (ops G) G.code d tn
-          → Told G (lv v) (λ k n. lv ((k, n) ∷ v)) v x.at.store (config_of tn) → Halted
+          → OutputMatches G (lv v) (λ k n. lv ((k, n) ∷ v)) v x.at.store (config_of tn) → Halted
       halt_by tn is told = record {
         turn = tn;
         is = is;
@@ -351,59 +360,63 @@ module _ (G : Ground) (lv : Lives G) (c : Course) (s : StateOf G.g) (u : System 
       }
 
     -- what the step at a stop says
-    pub says_something : (r : Came Deed × Store) (x : Rattle.sp_link.proofs.AtStop.Stopped_at G lv c s u l i d at_i z r)
+    pub says_something : (r : WorkOutcome Action × Store) (x : Rattle.sp_link.proofs.AtStop.Stopped_at G lv c s u l i d
+        at_i z r)
         → IsKernel G.g (act G.g v x.at x.left x.runs r x.does) → (what : Happening)
-        × (says G.g x.at v x.left ≡ Some what)
+        × (happening_at G.g x.at v x.left ≡ Some what)
     says_something r x k =
         let y = something_said G.g (act G.g v x.at x.left x.runs r x.does) k
-        (Rattle.sp_meaning.specs.Steps.outcome (most G.g) x.at v (act G.g v x.at x.left x.runs r x.does)) in
+        (Rattle.sp_meaning.specs.Steps.step_outcome (total_limits G.g) x.at v
+        (act G.g v x.at x.left x.runs r x.does)) in
         (y.0, kernel_says G.g v x.at x.left x.runs r x.does ∙ y.1)
 
-    abbrev pub forked_halt : (bs : List Birth) (todo : List Item) (o : Own) (m : Store)
-        → Meant G lv c s u l i d at_i z (Got (source.Stops (Forked bs todo)) o, m)
-        → Machined G lv c s u l i d at_i z (Got (source.Stops (Forked bs todo)) o, m) → Halted
-    forked_halt bs todo o m x t = let y = says_something (Got (Forked bs todo) o, m) x tt in
-        halt_by (Got (Forked bs todo) o, m) x y.0 y.1 (Stopped t.5 (At t.0 t.1 t.2))
+    abbrev pub forked_halt : (bs : List Birth) (todo : List Item) (o : LocalState) (m : Store)
+        → Meant G lv c s u l i d at_i z (Computed (source.Stops (Forked bs todo)) o, m)
+        → Machined G lv c s u l i d at_i z (Computed (source.Stops (Forked bs todo)) o, m) → Halted
+    forked_halt bs todo o m x t = let y = says_something (Computed (Forked bs todo) o, m) x tt in
+        halt_by (Computed (Forked bs todo) o, m) x y.0 y.1 (Stopped t.5 (At t.0 t.1 t.2))
         (turn_is G lv c s u l i d at_i z (Stopped t.5 (At t.0 t.1 t.2)) (t.4, t.6, t.7))
         (told_same G (lv v) (λ k n. lv ((k, n) ∷ v)) v (At t.0 t.1 t.2) m x.at.store
         (⊎_elim (λ b. b) (λ b. absurd b) (same_but_dead G lv c s u l i d at_i z (Forked bs todo) o m x tt Output))
         (told_by G (lv v) (λ k n. lv ((k, n) ∷ v)) v t.0 t.1 t.8))
 
     abbrev pub offered_halt : (ch : Rattle.sp_meaning.specs.Model.Channel) (k : ℕ)
-        (cg : Rattle.sp_meaning.specs.Model.Cargo Held Rattle.sp_meaning.specs.Own.Address) (todo : List Item) (o : Own)
-        (m : Store) → Meant G lv c s u l i d at_i z (Got (source.Stops (Offered ch k cg todo)) o, m)
-        → Machined G lv c s u l i d at_i z (Got (source.Stops (Offered ch k cg todo)) o, m) → Halted
-    offered_halt ch k cg todo o m x t = let y = says_something (Got (Offered ch k cg todo) o, m) x tt in
-        halt_by (Got (Offered ch k cg todo) o, m) x y.0 y.1 (Stopped t.5 (At t.0 t.1 t.2))
+        (cg : Rattle.sp_meaning.specs.Model.Cargo LocationContent Rattle.sp_meaning.specs.LocalWork.Address)
+        (todo : List Item) (o : LocalState)
+        (m : Store) → Meant G lv c s u l i d at_i z (Computed (source.Stops (Offered ch k cg todo)) o, m)
+        → Machined G lv c s u l i d at_i z (Computed (source.Stops (Offered ch k cg todo)) o, m) → Halted
+    offered_halt ch k cg todo o m x t = let y = says_something (Computed (Offered ch k cg todo) o, m) x tt in
+        halt_by (Computed (Offered ch k cg todo) o, m) x y.0 y.1 (Stopped t.5 (At t.0 t.1 t.2))
         (turn_is G lv c s u l i d at_i z (Stopped t.5 (At t.0 t.1 t.2)) (t.4, t.6, t.7))
         (told_same G (lv v) (λ k n. lv ((k, n) ∷ v)) v (At t.0 t.1 t.2) m x.at.store
         (⊎_elim (λ b. b) (λ b. absurd b)
         (same_but_dead G lv c s u l i d at_i z (Offered ch k cg todo) o m x tt Output))
         (told_by G (lv v) (λ k n. lv ((k, n) ∷ v)) v t.0 t.1 t.8))
 
-    abbrev pub over_halt : (o : Own) (m : Store) → Meant G lv c s u l i d at_i z (Got (source.Stops deeds.Ended) o, m)
-        → Machined G lv c s u l i d at_i z (Got (source.Stops deeds.Ended) o, m) → Halted
-    over_halt o m x t = let y = says_something (Got deeds.Ended o, m) x tt in
-        halt_by (Got deeds.Ended o, m) x y.0 y.1 (Stopped machine.Ends (At t.0 t.1 t.2))
+    abbrev pub over_halt : (o : LocalState) (m : Store)
+        → Meant G lv c s u l i d at_i z (Computed (source.Stops deeds.Ended) o, m)
+        → Machined G lv c s u l i d at_i z (Computed (source.Stops deeds.Ended) o, m) → Halted
+    over_halt o m x t = let y = says_something (Computed deeds.Ended o, m) x tt in
+        halt_by (Computed deeds.Ended o, m) x y.0 y.1 (Stopped machine.Ends (At t.0 t.1 t.2))
         (turn_is G lv c s u l i d at_i z (Stopped machine.Ends (At t.0 t.1 t.2)) (At t.0 t.1 t.2, t.4, t.5))
         (told_same G (lv v) (λ k n. lv ((k, n) ∷ v)) v (At t.0 t.1 t.2) m x.at.store
         (⊎_elim (λ b. b) (λ b. absurd b) (same_but_dead G lv c s u l i d at_i z deeds.Ended o m x tt Output))
         (told_by G (lv v) (λ k n. lv ((k, n) ∷ v)) v t.0 t.1 t.6))
 
     -- the target of an open is no console
-    abbrev pub opened_halt : (todo : List Item) (o : Own) (m : Store)
-        → Meant G lv c s u l i d at_i z (Got (source.Stops (Opened todo)) o, m)
-        → Machined G lv c s u l i d at_i z (Got (source.Stops (Opened todo)) o, m) → Halted
-    opened_halt todo o m x t = let y = says_something (Got (Opened todo) o, m) x tt in
-        halt_by (Got (Opened todo) o, m) x y.0 y.1 (Stopped (machine.Opens t.6) (At t.0 t.1 t.2))
+    abbrev pub opened_halt : (todo : List Item) (o : LocalState) (m : Store)
+        → Meant G lv c s u l i d at_i z (Computed (source.Stops (Opened todo)) o, m)
+        → Machined G lv c s u l i d at_i z (Computed (source.Stops (Opened todo)) o, m) → Halted
+    opened_halt todo o m x t = let y = says_something (Computed (Opened todo) o, m) x tt in
+        halt_by (Computed (Opened todo) o, m) x y.0 y.1 (Stopped (machine.Opens t.6) (At t.0 t.1 t.2))
         (turn_is G lv c s u l i d at_i z (Stopped (machine.Opens t.6) (At t.0 t.1 t.2)) (t.4, t.8, t.9))
         (λ may. (let y = (t.10).output may in
         (y.0, wrote may (same_but_one G lv c s u l i d at_i z todo o m x) ∙ y.1, ap output_of y.2)))
       where
         output_is : m Output ≡ t.7 Output
         output_is = ap (λ (y : Store). y Output) t.13
-            ∙ ap (λ b. cond b (Rattle.sp_meaning.specs.Own.assigned t.5 (t.7 t.5.spot)
-            (Rattle.sp_meaning.specs.Own.Tree
+            ∙ ap (λ b. cond b (Rattle.sp_meaning.specs.LocalWork.content_with t.5 (t.7 t.5.spot)
+            (Rattle.sp_meaning.specs.LocalWork.Tree
             (Rattle.sp_meaning.specs.Values.Chan
             (record {
               owner = (at.p1 G lv c s u l i d at_i).who.name;
@@ -418,33 +431,34 @@ module _ (G : Ground) (lv : Lives G) (c : Course) (s : StateOf G.g) (u : System 
             (let y = (t.10).output may in no_tree h.value y.0 (sym h.now ∙ ap m b ∙ output_is ∙ y.1))) e)
             (h.others Output)
 
-    abbrev pub bad_halt : (f : Fault) (m : Store) → Meant G lv c s u l i d at_i z (Bad f, m)
-        → Machined G lv c s u l i d at_i z (Bad f, m) → Halted
+    abbrev pub bad_halt : (f : Fault) (m : Store) → Meant G lv c s u l i d at_i z (EndsInFault f, m)
+        → Machined G lv c s u l i d at_i z (EndsInFault f, m) → Halted
     bad_halt f m x t =
-        halt_by (Bad f, m) x (happenings.Faulted f) (kernel_says G.g v x.at x.left x.runs (Bad f, m) x.does)
+        halt_by (EndsInFault f, m) x (happenings.Faulted f)
+        (kernel_says G.g v x.at x.left x.runs (EndsInFault f, m) x.does)
         (Faulted f t.at) (turn_is G lv c s u l i d at_i z (Faulted f t.at) (t.at, t.comes, (t.fails, refl)))
         (told_same G (lv v) (λ k n. lv ((k, n) ∷ v)) v t.at m x.at.store (same_output G lv c s u l i d at_i z f m x)
         (told_break G (lv v) (λ k n. lv ((k, n) ∷ v)) v (at.p1 G lv c s u l i d at_i).who (c.since v) t.at m
         t.stands))
 
     -- the entry of a fault of an instruction
-    pub failing : (f : Fault) (m : Store) → Meant G lv c s u l i d at_i z (Bad f, m)
-        → Machined G lv c s u l i d at_i z (Bad f, m) → u.faulted ≡ false → Entry_of G c s u i d
+    pub failing : (f : Fault) (m : Store) → Meant G lv c s u l i d at_i z (EndsInFault f, m)
+        → Machined G lv c s u l i d at_i z (EndsInFault f, m) → u.faulted ≡ false → Entry_of G c s u i d
     failing f m x t quiet = failed_entry (bad_halt f m x t) refl f
-        (kernel_says G.g v x.at x.left x.runs (Bad f, m) x.does)
-        (kernel_next G.g v x.at x.left x.runs (Bad f, m) x.does) refl quiet
+        (kernel_says G.g v x.at x.left x.runs (EndsInFault f, m) x.does)
+        (kernel_next G.g v x.at x.left x.runs (EndsInFault f, m) x.does) refl quiet
 
     -- and of a process that is laid, wherever its turn ends
-    pub laying : (r : Came source.Stop × Store) → Rattle.sp_codegen.proofs.Safe.AtEnd r
+    pub laying : (r : WorkOutcome source.Stop × Store) → Rattle.sp_codegen.proofs.Safe.AtEnd r
         → Meant G lv c s u l i d at_i z r → Machined G lv c s u l i d at_i z r → u.faulted ≡ true → Entry_of G c s u i d
-    laying (Got (source.Paused todo) o, m) e x t bad = laid_entry (paused_halt todo o m x t) bad
-    laying (Got (source.Stops (Stepped todo)) o, m) e x t bad = absurd e
-    laying (Got (source.Stops (Ticked todo)) o, m) e x t bad = absurd e
-    laying (Got (source.Stops (Opened todo)) o, m) e x t bad = laid_entry (opened_halt todo o m x t) bad
-    laying (Got (source.Stops (Forked bs todo)) o, m) e x t bad = laid_entry (forked_halt bs todo o m x t) bad
-    laying (Got (source.Stops (Offered ch k cg todo)) o, m) e x t bad =
+    laying (Computed (source.Paused todo) o, m) e x t bad = laid_entry (paused_halt todo o m x t) bad
+    laying (Computed (source.Stops (Stepped todo)) o, m) e x t bad = absurd e
+    laying (Computed (source.Stops (Ticked todo)) o, m) e x t bad = absurd e
+    laying (Computed (source.Stops (Opened todo)) o, m) e x t bad = laid_entry (opened_halt todo o m x t) bad
+    laying (Computed (source.Stops (Forked bs todo)) o, m) e x t bad = laid_entry (forked_halt bs todo o m x t) bad
+    laying (Computed (source.Stops (Offered ch k cg todo)) o, m) e x t bad =
         laid_entry (offered_halt ch k cg todo o m x t) bad
-    laying (Got (source.Stops deeds.Ended) o, m) e x t bad = laid_entry (over_halt o m x t) bad
-    laying (Bad f, m) e x t bad = laid_entry (bad_halt f m x t) bad
-    laying (Lost, m) e x t bad = absurd e
-    laying (Long, m) e x t bad = absurd e
+    laying (Computed (source.Stops deeds.Ended) o, m) e x t bad = laid_entry (over_halt o m x t) bad
+    laying (EndsInFault f, m) e x t bad = laid_entry (bad_halt f m x t) bad
+    laying (IllFormed, m) e x t bad = absurd e
+    laying (OutOfFuel, m) e x t bad = absurd e

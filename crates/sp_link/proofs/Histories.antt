@@ -16,16 +16,18 @@ use Rattle.sp_journal.specs.declared.entry.Note.{Note}
 use Rattle.sp_journal.specs.declared.outcome.End.{End}
 use Rattle.sp_journal.specs.declared.outcome.End.TheVariants as end
 use Rattle.sp_journal.specs.Maps.{at_key}
-use Rattle.sp_journal.specs.Births.{Births, at_start, channel, births_from, occurrences_from, is_next}
+use Rattle.sp_journal.specs.Births.{Births, first_births, channel, births_from, occurrences_from, is_next}
 use Rattle.sp_journal.proofs.BirthLaws.{Lawful, lawful as lawful_births}
 use Rattle.sp_cell.specs.Map.{Plain}
-use Rattle.sp_meaning.specs.Own.{Setting}
+use Rattle.sp_meaning.specs.LocalWork.{RunInput}
 use Rattle.sp_meaning.specs.Runs.{StateOf, output_of}
 use Rattle.sp_meaning.specs.Along.{IsAlong}
 use Rattle.sp_meaning.specs.Ends.{Waiting, IsDone, IsDeadlock, EndIs}
 use Rattle.sp_code.specs.Control.{Control, Doing, Unborn, Ready, Out, Sending, Receiving, Joining, Laid, Ended, Gone}
-use Rattle.sp_code.specs.Control.{queues, offers, does, one_fewer, reports, happens, abandons, takes, given, noted}
-use Rattle.sp_code.specs.Control.{noted_all, control, control_at_start, Standing, Running, IsMemory, IsFault, has_ended}
+use Rattle.sp_code.specs.Control.{queues, offers, does, one_fewer, reports, happens, abandons, takes, after_give}
+use Rattle.sp_code.specs.Control.{after_note}
+use Rattle.sp_code.specs.Control.{after_notes, control, control_at_start, Standing, Running, IsMemory, IsFault}
+use Rattle.sp_code.specs.Control.{has_ended}
 use Rattle.sp_code.specs.Control.{is_ready, standing, entries_of}
 use Rattle.sp_code.specs.Control as ctrl
 use Rattle.sp_code.specs.Machine.{Stop, Forks, Opens, Sends, Receives, Ends, Pauses, Config}
@@ -34,9 +36,10 @@ use Rattle.sp_code.specs.Memory.{Memory}
 use Rattle.sp_code.specs.Memory as memory
 use Rattle.sp_code.specs.PlainStore.{plain}
 use Rattle.sp_code.specs.System.{System, Condition, Absent, Working, Waits, Joins, Laid as IsLaid, Gone as HasGone}
-use Rattle.sp_code.specs.System.{Over, IsSystem, OutputIs, store_in, opening}
-use Rattle.sp_codegen.specs.Meets.{code_run}
-use Rattle.sp_history.specs.Agreement.{ToSend, ToReceive, Finished, phase, phase_in, IsOrderly, Agrees, HasOuts}
+use Rattle.sp_code.specs.System.{Over, IsSystem, OutputIs, store_in, opening_system}
+use Rattle.sp_codegen.specs.TurnAgrees.{code_run}
+use Rattle.sp_history.specs.Agreement.{ToSend, ToReceive, Finished, phase, phase_in, IsOrderly, AgreesWithSystem}
+use Rattle.sp_history.specs.Agreement.{HasOuts}
 use Rattle.sp_history.specs.Agreement.{Reaches}
 use Rattle.sp_history.proofs.Agreeing.{orderly_start, agrees_start}
 use Rattle.sp_history.proofs.Holders.{one_holder}
@@ -125,7 +128,7 @@ giving_up None k = λ e. absurd (omega (arith, e))
 giving_up (Some p) k = λ e. absurd (omega (arith, e))
 
 giving : (p : Option ℕ) (e : Option Event) (got : Option ℕ) (k : Control) → Unless_given_up k
-    → Unless_given_up (given p e got k)
+    → Unless_given_up (after_give p e got k)
 giving (Some p) (Some e) got k h = λ r. (let w = happening p e k in w.none (h (sym w.same ∙ r)))
 giving None (Some e) got k h = h
 giving None None None k h = giving_up None k
@@ -133,10 +136,10 @@ giving (Some p) None None k h = giving_up (Some p) k
 giving None None (Some q) k h = h
 giving (Some p) None (Some q) k h = h
 
-all_notes : (ns : List Note) (k : Control) → Unless_given_up k → Unless_given_up (noted_all ns k)
+all_notes : (ns : List Note) (k : Control) → Unless_given_up k → Unless_given_up (after_notes ns k)
 all_notes [] k h = h
-all_notes (n ∷ ns) k h = all_notes ns (noted n k)
-    (taking n.worker n.got (given n.given n.event n.got k) (giving n.given n.event n.got k h))
+all_notes (n ∷ ns) k h = all_notes ns (after_note n k)
+    (taking n.worker n.got (after_give n.given n.event n.got k) (giving n.given n.event n.got k h))
 
 none_gone : (ns : List Note) → (control ns).abandons ≡ 0 → (q : ℕ) → (control ns).doing q ≢ Gone
 none_gone ns = all_notes ns control_at_start (λ e q. by q (q == 0))
@@ -234,7 +237,7 @@ receiving Laid c e = absurd (cc e)
 receiving Ended c e = absurd (cc e)
 receiving Gone c e = absurd (cc e)
 
-module _ (k : Control) (t : System Plain) (a : Agrees k t) where
+module _ (k : Control) (t : System Plain) (a : AgreesWithSystem k t) where
   control_waits : (w : Waiting) → IsWaiting k w → WaitsAs t w
   control_waits w h = by h.2
     where
@@ -285,32 +288,33 @@ module _ (k : Control) (t : System Plain) (a : Agrees k t) where
 
 -- ---- histories
 
-module _ (g : Setting) (moves shares : Stmt → List ℕ) (pause : ℕ) (ready : IsReady g moves shares)
+module _ (g : RunInput) (moves shares : Stmt → List ℕ) (pause : ℕ) (ready : IsReady g moves shares)
     (ns : List Note) where
-  abbrev run : memory.Setting
+  abbrev run : memory.CodeRun
   run = code_run g (program_code g.program moves shares) pause
 
-  module _ (t : System Plain) (r : Reaches plain run control_at_start (opening plain run) ns t) where
+  module _ (t : System Plain) (r : Reaches plain run control_at_start (opening_system plain run) ns t) where
     journal : IsSystem plain run (entries_of ns) t
-    journal = reaches_leads plain run control_at_start (opening plain run) t ns r
+    journal = reaches_leads plain run control_at_start (opening_system plain run) t ns r
 
-    alike : IsOrderly (control ns) × Agrees (control ns) t
-    alike = reaches_keeps plain run control_at_start (opening plain run) t ns orderly_start (agrees_start plain run) r
+    alike : IsOrderly (control ns) × AgreesWithSystem (control ns) t
+    alike = reaches_keeps plain run control_at_start (opening_system plain run) t ns orderly_start
+        (agrees_start plain run) r
 
     outs : HasOuts (control ns)
-    outs = outs_all plain run control_at_start (opening plain run) t ns orderly_start (agrees_start plain run)
+    outs = outs_all plain run control_at_start (opening_system plain run) t ns orderly_start (agrees_start plain run)
         outs_start r
 
     lawful : Lawful (control ns).births
     lawful = subst (λ b. Lawful b)
-        (sym (alike.1.births ∙ births_along run (entries_of ns) (opening plain run) t journal))
+        (sym (alike.1.births ∙ births_along run (entries_of ns) (opening_system plain run) t journal))
         (lawful_births (entries_of ns) (names_on g moves shares pause ready (entries_of ns) t journal))
 
-    pub history_means : (n : ℕ) × (s : StateOf g) × IsAlong g pause (occurrences_from at_start (entries_of ns)) n s
+    pub history_means : (n : ℕ) × (s : StateOf g) × IsAlong g pause (occurrences_from first_births (entries_of ns)) n s
     history_means = program_means g moves shares pause ready (entries_of ns)
         (names_on g moves shares pause ready (entries_of ns) t journal) t journal
 
-    module _ (n : ℕ) (s : StateOf g) (k : IsAlong g pause (occurrences_from at_start (entries_of ns)) n s) where
+    module _ (n : ℕ) (s : StateOf g) (k : IsAlong g pause (occurrences_from first_births (entries_of ns)) n s) where
       pub history_output : OutputIs plain run t (output_of g s)
       history_output = program_output g moves shares pause ready (entries_of ns)
           (names_on g moves shares pause ready (entries_of ns) t journal) t journal n s k
@@ -371,7 +375,7 @@ module _ (g : Setting) (moves shares : Stmt → List ℕ) (pause : ℕ) (ready :
       history_ends (end.Deadlock ws) h = let z = all_waiting (control ns) lawful alike.0.unborn ws h.1.all h.1.sorted in
           (z.0, history_deadlock z.0 h.0 z.1, z.2)
       history_ends (end.Fault name f) h = (
-        (births_from at_start (entries_of ns)).name h.1.0,
+        (births_from first_births (entries_of ns)).name h.1.0,
         program_fault g moves shares pause ready (entries_of ns) t journal n s k h.1.0 f h.1.1,
         h.1.2,
       )

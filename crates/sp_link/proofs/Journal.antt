@@ -8,21 +8,21 @@ use Rattle.std.proofs.lemmas.Bool.{cases_lt}
 use Rattle.sp_journal.specs.declared.entry.Event.{Event}
 use Rattle.sp_journal.specs.declared.entry.Event.TheVariants as event
 use Rattle.sp_journal.specs.declared.entry.Entry.{Entry}
-use Rattle.sp_journal.specs.Births.{Births, after_event, happening, occurrence, occurrences_from}
+use Rattle.sp_journal.specs.Births.{Births, births_after_event, happening, occurrence, occurrences_from}
 use Rattle.sp_cell.specs.Map.{Plain}
 use Rattle.sp_meaning.specs.Model.{Name}
 use Rattle.sp_meaning.specs.Entries.{Happening}
-use Rattle.sp_meaning.specs.Own.{Setting}
+use Rattle.sp_meaning.specs.LocalWork.{RunInput}
 use Rattle.sp_meaning.specs.Runs.{StateOf}
-use Rattle.sp_meaning.specs.Along.{Course, Turn, Entered, Along}
+use Rattle.sp_meaning.specs.Along.{Course, Turn, EntryStep, Along}
 use Rattle.sp_code.specs.Machine.{Config}
 use Rattle.sp_code.specs.Memory.{Memory}
 use Rattle.sp_code.specs.PlainStore.{plain}
-use Rattle.sp_code.specs.System.{System, Condition, Absent, Working, Enters, Leads}
-use Rattle.sp_link.proofs.Relation.{Ground, Lives, Began, Linked, at_open, run_is}
+use Rattle.sp_code.specs.System.{System, Condition, Absent, Working, EntryLeads, EntriesLead}
+use Rattle.sp_link.proofs.Relation.{RunContext, RightsOfAll, Began, Linked, at_open, run_is}
 
 -- what q does in the meaning for an entry
-pub record Way_by (g : Setting) (pause : ℕ) (c : Course) (s : StateOf g) (q : Name) (what : Happening) : Type 1 where
+pub record Way_by (g : RunInput) (pause : ℕ) (c : Course) (s : StateOf g) (q : Name) (what : Happening) : Type 1 where
   pub unlaid : c.laid q ≡ false
   pub steps : ℕ
   pub at : StateOf g
@@ -32,17 +32,17 @@ pub record Way_by (g : Setting) (pause : ℕ) (c : Course) (s : StateOf g) (q : 
   pub course : Course
   pub state : StateOf g
   pub enters : (left : Course → StateOf g → ℕ → Type 0) (n : ℕ) → left course state n
-      → Entered g left c at paused q what (cost + n)
+      → EntryStep g left c at paused q what (cost + n)
 
-abbrev pub Way_on : (G : Ground) → Course → StateOf G.g → Name → Happening → Type 1
+abbrev pub Way_on : (G : RunContext) → Course → StateOf G.g → Name → Happening → Type 1
 Way_on G c s q what = Way_by G.g G.pause c s q what
 
 -- the relation, with the channels that are open
-abbrev pub Now : (G : Ground) → Lives G → Course → StateOf G.g → System Plain → Type 0
+abbrev pub Now : (G : RunContext) → RightsOfAll G → Course → StateOf G.g → System Plain → Type 0
 Now G lv c s u = Linked (at_open G u.births.channels) lv c s u
 
 -- where it is told with these channels
-pub now_by : (G : Ground) (lv : Lives G) (c : Course) (s : StateOf G.g) (u : System Plain) → Linked G lv c s u
+pub now_by : (G : RunContext) (lv : RightsOfAll G) (c : Course) (s : StateOf G.g) (u : System Plain) → Linked G lv c s u
     → Now G lv c s u
 now_by G lv c s u l = subst (λ n. Linked (at_open G n) lv c s u) l.open_is l
 
@@ -57,17 +57,18 @@ IsOpen b (event.Fault f) = Unit {0}
 IsOpen b event.Laid = Unit {0}
 IsOpen b event.Pause = Unit {0}
 
-module _ (G : Ground) where
+module _ (G : RunContext) where
   -- and the machine's system after it is u
   pub record Goes_on (c : Course) (s : StateOf G.g) (q : Name) (what : Happening) (u : System Plain) : Type 1 where
     pub way : Way_on G c s q what
-    pub lives : Lives G
+    pub lives : RightsOfAll G
     pub linked : Now G lives way.course way.state u
 
   -- one entry on both sides
   abbrev pub OneEntry : Type 1
-  OneEntry = (lv : Lives G) (c : Course) (s : StateOf G.g) (u t : System Plain) (i : ℕ) (e : Event) → Now G lv c s u
-      → Enters plain (run_is G) u i e t → Began G t.births
+  OneEntry = (lv : RightsOfAll G) (c : Course) (s : StateOf G.g) (u t : System Plain) (i : ℕ) (e : Event)
+      → Now G lv c s u
+      → EntryLeads plain (run_is G) u i e t → Began G t.births
       → Goes_on c s (G.births.name i) (happening u.births e) t
 
   -- a whole journal
@@ -76,24 +77,24 @@ module _ (G : Ground) where
     pub course : Course
     pub state : StateOf G.g
     pub along : Along G.g G.pause c s (occurrences_from b es) steps state
-    pub lives : Lives G
+    pub lives : RightsOfAll G
     pub linked : Now G lives course state t
 
   absent_not : (c : Config (Memory Plain)) → ◌≡◌ {A = Condition Plain} Absent (Working c) → ⊥
   absent_not c e = cc e
 
   -- who does anything has a number
-  pub has_number : (lv : Lives G) (c : Course) (s : StateOf G.g) (u : System Plain) → Linked G lv c s u
+  pub has_number : (lv : RightsOfAll G) (c : Course) (s : StateOf G.g) (u : System Plain) → Linked G lv c s u
       → (i : ℕ) (x : Condition Plain) → u.condition i ≡ x → x ≢ Absent → i < u.births.processes
   has_number lv c s u l i x e there = ⊎_elim (λ (h : i < u.births.processes). h)
       (λ (h : u.births.processes ≤ i). absurd (there (sym e ∙ l.unborn i h))) (cases_lt i u.births.processes)
 
-  pub is_born : (lv : Lives G) (c : Course) (s : StateOf G.g) (u : System Plain) → Linked G lv c s u
+  pub is_born : (lv : RightsOfAll G) (c : Course) (s : StateOf G.g) (u : System Plain) → Linked G lv c s u
       → (i : ℕ) (d : Config (Memory Plain)) → u.condition i ≡ Working d → i < u.births.processes
   is_born lv c s u l i d e = ⊎_elim (λ (h : i < u.births.processes). h)
       (λ (h : u.births.processes ≤ i). absurd (absent_not d (sym (l.unborn i h) ∙ e))) (cases_lt i u.births.processes)
 
-  is_born_now : (lv : Lives G) (c : Course) (s : StateOf G.g) (u : System Plain) → Now G lv c s u
+  is_born_now : (lv : RightsOfAll G) (c : Course) (s : StateOf G.g) (u : System Plain) → Now G lv c s u
       → (i : ℕ) (d : Config (Memory Plain)) → u.condition i ≡ Working d → i < u.births.processes
   is_born_now lv c s u l i d e = ⊎_elim (λ (h : i < u.births.processes). h)
       (λ (h : u.births.processes ≤ i). absurd (absent_not d (sym (l.unborn i h) ∙ e))) (cases_lt i u.births.processes)
@@ -101,10 +102,11 @@ module _ (G : Ground) where
   -- each front of the journal has begun
   abbrev pub AllBegan : Births → List Entry → Type 0
   AllBegan b [] = Unit {0}
-  AllBegan b (e ∷ es) = Began G (after_event b e.process e.event) × AllBegan (after_event b e.process e.event) es
+  AllBegan b (e ∷ es) = Began G (births_after_event b e.process e.event)
+      × AllBegan (births_after_event b e.process e.event) es
 
-  pub goes_along : OneEntry → (es : List Entry) (lv : Lives G) (c : Course) (s : StateOf G.g) (u t : System Plain)
-      → Now G lv c s u → AllBegan u.births es → Leads plain (run_is G) u es t → Goes_along c s u.births es t
+  pub goes_along : OneEntry → (es : List Entry) (lv : RightsOfAll G) (c : Course) (s : StateOf G.g) (u t : System Plain)
+      → Now G lv c s u → AllBegan u.births es → EntriesLead plain (run_is G) u es t → Goes_along c s u.births es t
   goes_along one [] lv c s u t l b h = record {
     steps = 0;
     course = c;
@@ -115,13 +117,14 @@ module _ (G : Ground) where
   }
   goes_along one (e ∷ es) lv c s u t l b h = on (λ z lv1 c1 s1 k q. goes_along one es lv1 c1 s1 h.0 t k q h.2)
     where
-      on : ((z : Unit {0}) (lv1 : Lives G) (c1 : Course) (s1 : StateOf G.g) → Now G lv1 c1 s1 h.0
+      on : ((z : Unit {0}) (lv1 : RightsOfAll G) (c1 : Course) (s1 : StateOf G.g) → Now G lv1 c1 s1 h.0
           → AllBegan (h.0).births es → Goes_along c1 s1 (h.0).births es t) → Goes_along c s u.births (e ∷ es) t
       on ih = record {
         steps = x.way.steps + (x.way.cost + y.steps);
         course = y.course;
         state = y.state;
-        along = subst (λ z. Along G.g G.pause c s (z ∷ occurrences_from (after_event u.births e.process e.event) es)
+        along = subst (λ z. Along G.g G.pause c s
+            (z ∷ occurrences_from (births_after_event u.births e.process e.event) es)
             (x.way.steps + (x.way.cost + y.steps)) y.state) (sym names) (
               x.way.unlaid,
               x.way.steps,
@@ -131,7 +134,7 @@ module _ (G : Ground) where
               refl,
               x.way.turn,
               x.way.enters (λ c1 u1 r. Along G.g G.pause c1 u1
-                  (occurrences_from (after_event u.births e.process e.event) es) r y.state) y.steps
+                  (occurrences_from (births_after_event u.births e.process e.event) es) r y.state) y.steps
                   (subst (λ z. Along G.g G.pause x.way.course x.way.state (occurrences_from z es) y.steps y.state) given
                   y.along),
             );
@@ -145,8 +148,8 @@ module _ (G : Ground) where
           d : Config (Memory Plain)
           d = h.1.0
 
-          given : v.births ≡ after_event u.births e.process e.event
-          given = ap (λ (z : System Plain). z.births) h.1.5 ∙ ap (λ z. after_event u.births e.process z) h.1.4
+          given : v.births ≡ births_after_event u.births e.process e.event
+          given = ap (λ (z : System Plain). z.births) h.1.5 ∙ ap (λ z. births_after_event u.births e.process z) h.1.4
 
           names : occurrence u.births e ≡ record { who = G.births.name e.process; what = happening u.births e.event }
           names = ap (λ z. record { who = z; what = happening u.births e.event })

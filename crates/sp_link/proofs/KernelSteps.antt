@@ -4,39 +4,41 @@
 use Rattle.std.proofs.Common.{◌≡◌, ◌⊎◌, ⊎_elim, ℕ, suc, ◌≤◌, List, length, Some, ap, ◌∙◌, arith}
 use Rattle.sp_cell.specs.Map.{Plain}
 use Rattle.sp_meaning.specs.Model.{Name}
-use Rattle.sp_meaning.specs.Asking.{answer, put_by}
-use Rattle.sp_meaning.specs.Steps.{ActOf, outcome, result_of, step_with}
-use Rattle.sp_meaning.specs.Own.{Setting, Loc, Cell, Input, Output, Own, Who, Process, Came, same_loc}
-use Rattle.sp_meaning.specs.Deeds.{Deed}
-use Rattle.sp_meaning.specs.SuperPascal.{superpascal, asks, deed_of, act_of}
+use Rattle.sp_meaning.specs.EffectTree.{run_tree, tree_writes}
+use Rattle.sp_meaning.specs.Steps.{ActOf, step_outcome, result_of, step_with}
+use Rattle.sp_meaning.specs.LocalWork.{RunInput, Loc, Cell, Input, Output, LocalState, Identity, Process, WorkOutcome}
+use Rattle.sp_meaning.specs.LocalWork.{same_loc}
+use Rattle.sp_meaning.specs.Actions.{Action}
+use Rattle.sp_meaning.specs.SuperPascal.{superpascal, act_tree, action_of, act_of}
 use Rattle.sp_meaning.specs.Run.{Store}
-use Rattle.sp_meaning.specs.Runs.{StateOf, most, running, next, says, said_of}
-use Rattle.sp_meaning.proofs.QuietDeeds.{IsDead}
+use Rattle.sp_meaning.specs.Runs.{StateOf, total_limits, running_process, next_state, happening_at, happening_of}
+use Rattle.sp_meaning.proofs.SilentActions.{IsDead}
 use Rattle.sp_meaning.proofs.Reached.{next_is}
 use Rattle.sp_code.specs.Memory.{Memory}
-use Rattle.sp_codegen.specs.Joints.{Joint}
-use Rattle.sp_codegen.proofs.Joints.{from_length}
-use Rattle.sp_link.proofs.Relation.{Ground, Life, St}
+use Rattle.sp_codegen.specs.FramePairs.{FramePair}
+use Rattle.sp_codegen.proofs.FramePairs.{from_length}
+use Rattle.sp_link.proofs.Relation.{RunContext, BirthRights, St}
 
-module _ (g : Setting) (q : Name) (s : StateOf g) (pr : Process) (runs : running g s q ≡ Some pr)
-    (r : Came Deed × Store) (does : ◌≡◌ {A = Came Deed × Store} (answer same_loc (deed_of g pr) s.store) r) where
+module _ (g : RunInput) (q : Name) (s : StateOf g) (pr : Process) (runs : running_process g s q ≡ Some pr)
+    (r : WorkOutcome Action × Store)
+    (does : ◌≡◌ {A = WorkOutcome Action × Store} (run_tree same_loc (action_of g pr) s.store) r) where
   abbrev pub act : ActOf (superpascal g)
-  act = act_of pr.who r.0 (put_by same_loc (asks g pr) s.store)
+  act = act_of pr.who r.0 (tree_writes same_loc (act_tree g pr) s.store)
 
   act_is : (superpascal g).next pr s.store ≡ act
-  act_is = next_is g pr s.store ∙ ap (λ (x : Came Deed × Store). act_of pr.who x.0
-      (put_by same_loc (asks g pr) s.store)) does
+  act_is = next_is g pr s.store ∙ ap (λ (x : WorkOutcome Action × Store). act_of pr.who x.0
+      (tree_writes same_loc (act_tree g pr) s.store)) does
 
-  pub kernel_next : next g s q ≡ Some (result_of s q (outcome (most g) s q act))
-  kernel_next = ap (step_with (most g) s q) runs
-      ∙ ap (λ (a : ActOf (superpascal g)). Some (result_of s q (outcome (most g) s q a))) act_is
+  pub kernel_next : next_state g s q ≡ Some (result_of s q (step_outcome (total_limits g) s q act))
+  kernel_next = ap (step_with (total_limits g) s q) runs
+      ∙ ap (λ (a : ActOf (superpascal g)). Some (result_of s q (step_outcome (total_limits g) s q a))) act_is
 
-  pub kernel_says : says g s q pr ≡ said_of act (outcome (most g) s q act)
-  kernel_says = ap (λ (a : ActOf (superpascal g)). said_of a (outcome (most g) s q a)) act_is
+  pub kernel_says : happening_at g s q pr ≡ happening_of act (step_outcome (total_limits g) s q act)
+  kernel_says = ap (λ (a : ActOf (superpascal g)). happening_of a (step_outcome (total_limits g) s q a)) act_is
 
-module _ (G : Ground) (lf : Life) (kids : ℕ → ℕ → Life) (q : Name) where
+module _ (G : RunContext) (lf : BirthRights) (kids : ℕ → ℕ → BirthRights) (q : Name) where
   -- so it stands without them
-  pub stand_dead : {w : Who} {since : ℕ} {js : List Joint} {o : Own} {s : Store} {n : Memory Plain}
+  pub stand_dead : {w : Identity} {since : ℕ} {js : List FramePair} {o : LocalState} {s : Store} {n : Memory Plain}
       → St G lf kids q w since js o s n → (s1 : Store) → ((l : Loc) → (s1 l ≡ s l) ⊎ IsDead (length js) l)
       → St G lf kids q w since js o s1 n
   stand_dead {js = js} t s1 same = record {

@@ -3,7 +3,7 @@ pub mod Journal
 pub mod SourceTurns
 pub mod TurnsEnd
 pub mod TurnsKeep
-pub mod Stances
+pub mod ParallelOrBelow
 pub mod OthersStay
 pub mod AfterEntry
 pub mod TurnsMeet
@@ -19,7 +19,7 @@ pub mod Parallels
 pub mod Foralls
 pub mod Opens
 pub mod FirstRelation
-pub mod Entries
+pub mod JournalEntries
 pub mod AtStop
 pub mod Ends
 pub mod Halts
@@ -33,7 +33,7 @@ pub mod Fronts
 pub mod Outputs
 pub mod Theorem
 pub mod Programs
-pub mod NewLives
+pub mod NewRights
 pub mod MoreChannels
 pub mod WhoRuns
 pub mod AtOffer

@@ -11,9 +11,9 @@ use Rattle.sp_cell.specs.Map.{Own as Owned, Plain, IsOwn, HasCells}
 use Rattle.sp_meaning.specs.Maps.{at_key}
 use Rattle.sp_meaning.specs.Model.{Name, Channel, Takes}
 use Rattle.sp_meaning.specs.Values.{Value, Ordinal, Chan}
-use Rattle.sp_meaning.specs.Own.{Tree, Address, Own, Process, Who, assigned, same_loc}
+use Rattle.sp_meaning.specs.LocalWork.{Tree, Address, LocalState, Process, Identity, content_with, same_loc}
 use Rattle.sp_meaning.specs.Run.{Store}
-use Rattle.sp_meaning.proofs.Rights.{Mine}
+use Rattle.sp_meaning.proofs.Rights.{OwnLocation}
 use Rattle.sp_code.specs.Machine.{Config, At, Entry, Stop, Forks, Opens, Sends, Receives, Ends, Pauses}
 use Rattle.sp_code.specs.Memory.{Memory, put_cells, cells_at}
 use Rattle.sp_code.specs.PlainStore.{plain}
@@ -21,18 +21,19 @@ use Rattle.sp_code.specs.Scopes.{Sort, Ordinals, Channels, Many, NoSort, sort, s
 use Rattle.sp_code.specs.System.{on_store}
 use Rattle.sp_code.proofs.StoreLaws.{piece_holds}
 use Rattle.sp_codegen.specs.Relation.{Stood}
-use Rattle.sp_codegen.specs.Joints.{Joint}
+use Rattle.sp_codegen.specs.FramePairs.{FramePair}
 use Rattle.sp_codegen.specs.Shapes.{Flat, SameShape, leaves}
 use Rattle.sp_codegen.specs.Following.{IsOwned, cells_in}
 use Rattle.sp_codegen.specs.Standing.{PointsTo}
 use Rattle.sp_codegen.proofs.Reading.{simple_value, has_all, shaped_size}
 use Rattle.sp_codegen.proofs.Shapes.{cells_length}
 use Rattle.sp_codegen.proofs.Writing.{put_cells_law}
-use Rattle.sp_link.proofs.Relation.{Ground, Life, Called, Named, Rel, St, Stands, Ca, Ready, ops}
+use Rattle.sp_link.proofs.Relation.{RunContext, BirthRights, Called, Named, Rel, St, ProcessMatches, Ca, HasOwnTarget}
+use Rattle.sp_link.proofs.Relation.{ops}
 
-module _ (G : Ground) (lf : Life) (kids : ℕ → ℕ → Life) (q : Name) where
+module _ (G : RunContext) (lf : BirthRights) (kids : ℕ → ℕ → BirthRights) (q : Name) where
   -- what is sent, in cells
-  pub sent_flat : (w : Who) (since k : ℕ) (y : Sort) → sort G.g.program k ≡ y → (v : Value) (e : Entry)
+  pub sent_flat : (w : Identity) (since k : ℕ) (y : Sort) → sort G.g.program k ≡ y → (v : Value) (e : Entry)
       → Stood (Rel G lf kids q w since) G.g.program y k v e → Flat G.g.program (Named G) k v (cells_in e)
   sent_flat w since k Ordinals i v e s =
       subst (λ y. Flat G.g.program (Named G) k y (cells_in e)) (sym s.1)
@@ -53,10 +54,10 @@ module _ (G : Ground) (lf : Life) (kids : ℕ → ℕ → Life) (q : Name) where
 
   -- the receiver, whose target is a of the type of the message
   pub receiver_stands : {since : ℕ} {pr : Process} {s : Store} {c : Config (Memory Plain)}
-      (t : Stands G lf kids q since pr s c) (ch : Channel) (k : ℕ) (a : Address) (stop : Stop)
+      (t : ProcessMatches G lf kids q since pr s c) (ch : Channel) (k : ℕ) (a : Address) (stop : Stop)
       → (x : Ca G lf kids q t.fresh pr.who t.named since t.js ch k (Takes a) stop)
       → (v : Value) (ds : List OneCell) → Flat G.g.program (Named G) k v ds
-      → Stands G lf kids q since pr (at_key same_loc a.spot (assigned a (s a.spot) (Tree v)) s)
+      → ProcessMatches G lf kids q since pr (at_key same_loc a.spot (content_with a (s a.spot) (Tree v)) s)
       (on_store (put_cells plain x.1 ds) c)
   receiver_stands {since} {pr} {s} {c} t ch k a stop x v ds f = record {
     fresh = t.fresh;
@@ -66,7 +67,8 @@ module _ (G : Ground) (lf : Life) (kids : ℕ → ℕ → Life) (q : Name) where
     stack = t.stack;
     memory = record (t.memory) { store = put_cells plain x.1 ds t.memory.store };
     is = ap (λ y. on_store (put_cells plain x.1 ds) y) t.is;
-    stand = put_cells_law G.g G.code pr.who (Named G) (Called G) (λ l. Mine q l ⊎ lf.W l) (λ l. Mine q l ⊎ lf.R l) lf.J
+    stand = put_cells_law G.g G.code pr.who (Named G) (Called G) (λ l. OwnLocation q l ⊎ lf.W l)
+        (λ l. OwnLocation q l ⊎ lf.R l) lf.J
         lf.low (length lf.below) lf.born since G.pause lf.moved G.formed t.stand a x.1 x.5 x.6 v ds
         (subst (λ y. Flat G.g.program (Named G) y v ds) (sym x.4) f);
     follows = t.follows;
@@ -77,8 +79,8 @@ own_here : (n : Memory Plain) (a : Spot) (cs : List OneCell) → IsOwn (fin.get 
 own_here n a cs = subst (λ c. IsOwn c) (sym (get_here n.store.map a (Owned cs))) tt
 
 -- a receiver at its stop
-pub owned_ready : (G : Ground) (z : Stop) (pc : ℕ) (st : List Entry) (n : Memory Plain) → IsOwned (ops G) z n
-    → Ready z (At pc st (record n { since = n.ticks }))
+pub owned_ready : (G : RunContext) (z : Stop) (pc : ℕ) (st : List Entry) (n : Memory Plain) → IsOwned (ops G) z n
+    → HasOwnTarget z (At pc st (record n { since = n.ticks }))
 owned_ready G (Forks tb val k) pc st n h = tt
 owned_ready G (Opens a) pc st n h = tt
 owned_ready G (Sends ch k cs) pc st n h = tt
@@ -89,18 +91,19 @@ owned_ready G Pauses pc st n h = tt
 
 -- ---- room for a message
 
-module _ (G : Ground) (lf : Life) (kids : ℕ → ℕ → Life) (q : Name) where
+module _ (G : RunContext) (lf : BirthRights) (kids : ℕ → ℕ → BirthRights) (q : Name) where
   -- where a message of type k goes there is room for it
-  pub room : {w : Who} {since : ℕ} {js : List Joint} {o : Own} {s : Store} {n : Memory Plain}
-      → St G lf kids q w since js o s n → (a : Address) (t : Ptr) → PointsTo G.g.program js a t → Mine q a.spot
+  pub room : {w : Identity} {since : ℕ} {js : List FramePair} {o : LocalState} {s : Store} {n : Memory Plain}
+      → St G lf kids q w since js o s n → (a : Address) (t : Ptr) → PointsTo G.g.program js a t → OwnLocation q a.spot
       ⊎ lf.R a.spot → HasCells n.store.map t (size G.g.program a.kind)
   room {w} {since} {js} {o} {s} {n} st a t p may =
       piece_holds (fin.get n.store.map t.spot) t.offset (size G.g.program a.kind)
-      (has_all G.g G.code w (Named G) (Called G) (λ l. Mine q l ⊎ lf.W l) (λ l. Mine q l ⊎ lf.R l) lf.J lf.low
+      (has_all G.g G.code w (Named G) (Called G) (λ l. OwnLocation q l ⊎ lf.W l) (λ l. OwnLocation q l ⊎ lf.R l)
+      lf.J lf.low
       (length lf.below) lf.born since G.pause lf.moved G.formed st a t p may)
 
 -- a message is as long as its type
-pub message_length : (G : Ground) (k : ℕ) → k < length G.g.program.kinds → (v : Value) (cs : List OneCell)
+pub message_length : (G : RunContext) (k : ℕ) → k < length G.g.program.kinds → (v : Value) (cs : List OneCell)
     → Flat G.g.program (Named G) k v cs → length cs ≡ size G.g.program k
 message_length G k lt v cs f = sym (cells_length (Named G) (leaves v) cs f.1)
     ∙ shaped_size G.g.program G.formed k lt v f.0

@@ -8,28 +8,29 @@ use Rattle.sp_cell.specs.Map.{Map, Plain}
 use Rattle.sp_tree.specs.Plain.{Program}
 use Rattle.sp_meaning.specs.Model.{Name, Channel}
 use Rattle.sp_meaning.specs.Values.{Value, Undefined, Ordinal, Chan, Parts}
-use Rattle.sp_meaning.specs.Own.{Setting, Loc, Own, Who}
+use Rattle.sp_meaning.specs.LocalWork.{RunInput, Loc, LocalState, Identity}
 use Rattle.sp_meaning.specs.Run.{Store}
 use Rattle.sp_code.specs.declared.code.Parts.{Parts as Code}
 use Rattle.sp_code.specs.Memory.{Memory}
-use Rattle.sp_codegen.specs.Joints.{Joint}
+use Rattle.sp_codegen.specs.FramePairs.{FramePair}
 use Rattle.sp_codegen.specs.Shapes.{leaves, CellIs, CellsAre, Flat}
 use Rattle.sp_codegen.specs.Standing.{Stand}
 use Rattle.sp_codegen.proofs.Joining.{Joining}
 use Rattle.std.proofs.Common.{◌≡◌, ◌⊎◌, zero, suc, ◌+◌, length, if◌then◌else◌, refl, sym, ap, ◌∙◌, arith}
 use Rattle.sp_meaning.specs.Model.{Condition, Cargo, Message, Takes}
-use Rattle.sp_meaning.specs.Own.{Held, Tree, Position, Written, Address, Item, Process}
+use Rattle.sp_meaning.specs.LocalWork.{LocationContent, Tree, Position, Written, Address, Item, Process}
 use Rattle.sp_meaning.specs.Runs.{StateOf}
 use Rattle.sp_meaning.specs.Along.{Course}
 use Rattle.sp_meaning.specs.Steps.{has_ended}
-use Rattle.sp_meaning.proofs.Rights.{Mine}
+use Rattle.sp_meaning.proofs.Rights.{OwnLocation}
 use Rattle.sp_code.specs.Machine.{Entry, Config, Stop}
 use Rattle.sp_code.specs.Scopes.{Sort, Ordinals, Channels, Many, NoSort, sort}
 use Rattle.sp_code.specs.System as sys
-use Rattle.sp_codegen.specs.Meets.{due_after}
+use Rattle.sp_codegen.specs.TurnAgrees.{due_after}
 use Rattle.sp_codegen.specs.Relation.{Stood}
 use Rattle.sp_link.proofs.AfterEntry.{again}
-use Rattle.sp_link.proofs.Relation.{Ground, Life, Called, Named, Fresh, Stands, Joined, Handed, Performs, Fo, Ca, Rel}
+use Rattle.sp_link.proofs.Relation.{RunContext, BirthRights, Called, Named, Fresh, ProcessMatches, Joined, Handed}
+use Rattle.sp_link.proofs.Relation.{Performs, Fo, Ca, Rel}
 use Rattle.sp_link.proofs.Relation.{law, left_of, at_open, ops}
 
 module _ (Named Named1 : Channel → ℕ → Type 0) (more : (c : Channel) (j : ℕ) → Named c j → Named1 c j) where
@@ -54,9 +55,10 @@ module _ (Named Named1 : Channel → ℕ → Type 0) (more : (c : Channel) (j : 
   pub flat_more : (p : Program) (k : ℕ) (v : Value) (cs : List OneCell) → Flat p Named k v cs → Flat p Named1 k v cs
   flat_more p k v cs h = (h.0, cells_more (leaves v) cs h.1)
 
-  module _ (g : Setting) (code : Code) (w : Who) (Called : Name → ℕ → Type 0) (W R : Loc → Type 0) (J : ℕ → Type 0)
+  module _ (g : RunInput) (code : Code) (w : Identity) (Called : Name → ℕ → Type 0) (W R : Loc → Type 0)
+      (J : ℕ → Type 0)
       (low base born since pause : ℕ) (moved : List Spot) where
-    pub stand_more : {js : List Joint} {o : Own} {s : Store} {n : Memory Plain}
+    pub stand_more : {js : List FramePair} {o : LocalState} {s : Store} {n : Memory Plain}
         → Stand g code w Named Called W R J low base born since pause moved js o s n
         → Stand g code w Named1 Called W R J low base born since pause moved js o s n
     stand_more t = record {
@@ -79,7 +81,8 @@ module _ (Named Named1 : Channel → ℕ → Type 0) (more : (c : Channel) (j : 
       output = t.output;
     }
 
-    pub joining_grows : {A : Spot → Type 0} {js : List Joint} {o : Own} {s : Store} {n : Memory Plain} {mp : Map}
+    pub joining_grows : {A : Spot → Type 0} {js : List FramePair} {o : LocalState} {s : Store} {n : Memory Plain}
+        {mp : Map}
         → Joining g code w Named Called W R J low base born since pause moved A js o s n mp
         → Joining g code w Named1 Called W R J low base born since pause moved A js o s n mp
     joining_grows t = record {
@@ -101,22 +104,23 @@ module _ (Named Named1 : Channel → ℕ → Type 0) (more : (c : Channel) (j : 
     }
 
 -- one more channel is open
-abbrev pub one_more : Ground → Ground
+abbrev pub one_more : RunContext → RunContext
 one_more G = at_open G (G.opened + 1)
 
-module _ (G : Ground) where
+module _ (G : RunContext) where
   pub named_more : (c : Channel) (j : ℕ) → Named G c j → Named (one_more G) c j
   named_more c j h = ((let a = h.0 in omega (arith, a)), h.1, h.2)
 
-  module _ (lf : Life) (kids : ℕ → ℕ → Life) (q : Name) where
+  module _ (lf : BirthRights) (kids : ℕ → ℕ → BirthRights) (q : Name) where
     abbrev pub fresh_more : Fresh G lf kids q → Fresh (one_more G) lf kids q
     fresh_more f = record { based = f.based; reads = f.reads; low_small = f.low_small; ends = f.ends }
 
-    pub follows_more : (f : Fresh G lf kids q) (w : Who) (n : w.name ≡ q) (since pc : ℕ) (stack : List Entry)
-        (js : List Joint) (todo : List Item) → Fo G lf kids q f w n since pc stack js todo
+    pub follows_more : (f : Fresh G lf kids q) (w : Identity) (n : w.name ≡ q) (since pc : ℕ) (stack : List Entry)
+        (js : List FramePair) (todo : List Item) → Fo G lf kids q f w n since pc stack js todo
         → Fo (one_more G) lf kids q (fresh_more f) w n since pc stack js todo
     follows_more f w n since pc stack js todo h =
-        again G.g G.code G.moves G.shares G.hush (λ l. Mine q l ⊎ lf.W l) (λ l. Mine q l ⊎ lf.R l) lf.J (ops G) G.free
+        again G.g G.code G.moves G.shares G.hush (λ l. OwnLocation q l ⊎ lf.W l) (λ l. OwnLocation q l ⊎ lf.R l) lf.J
+        (ops G) G.free
         G.finds G.formed.uses f.reads f.reads w (due_after since G.pause) (Rel G lf kids q w since)
         (law G lf kids q f w n since) (λ h x. inl n)
         w (due_after since G.pause) (Rel (one_more G) lf kids q w since)
@@ -124,7 +128,7 @@ module _ (G : Ground) where
         stack js todo h
 
     abbrev pub stands_more : (since : ℕ) (pr : Process) (s : Store) (d : Config (Memory Plain))
-        → Stands G lf kids q since pr s d → Stands (one_more G) lf kids q since pr s d
+        → ProcessMatches G lf kids q since pr s d → ProcessMatches (one_more G) lf kids q since pr s d
     stands_more since pr s d z = record {
       fresh = fresh_more z.fresh;
       named = z.named;
@@ -133,12 +137,13 @@ module _ (G : Ground) where
       stack = z.stack;
       memory = z.memory;
       is = z.is;
-      stand = stand_more (Named G) (Named (one_more G)) named_more G.g G.code pr.who (Called G) (λ l. Mine q l ⊎ lf.W l)
-          (λ l. Mine q l ⊎ lf.R l) lf.J lf.low (length lf.below) lf.born since G.pause lf.moved z.stand;
+      stand = stand_more (Named G) (Named (one_more G)) named_more G.g G.code pr.who (Called G)
+          (λ l. OwnLocation q l ⊎ lf.W l)
+          (λ l. OwnLocation q l ⊎ lf.R l) lf.J lf.low (length lf.below) lf.born since G.pause lf.moved z.stand;
       follows = follows_more z.fresh pr.who z.named since z.pc z.stack z.js pr.todo z.follows;
     }
 
-    stood_more : (w : Who) (since : ℕ) (y : Sort) (k : ℕ) (v : Value) (e : Entry)
+    stood_more : (w : Identity) (since : ℕ) (y : Sort) (k : ℕ) (v : Value) (e : Entry)
         → Stood (Rel G lf kids q w since) G.g.program y k v e
         → Stood (Rel (one_more G) lf kids q w since) G.g.program y k v e
     stood_more w since Ordinals k v e h = h
@@ -150,8 +155,9 @@ module _ (G : Ground) where
     )
     stood_more w since NoSort k v e h = h
 
-    cargo_more : (f : Fresh G lf kids q) (w : Who) (n : w.name ≡ q) (since : ℕ) (js : List Joint) (c : Channel) (k : ℕ)
-        (x : Cargo Held Address) (z : Stop) → Ca G lf kids q f w n since js c k x z
+    cargo_more : (f : Fresh G lf kids q) (w : Identity) (n : w.name ≡ q) (since : ℕ) (js : List FramePair) (c : Channel)
+        (k : ℕ)
+        (x : Cargo LocationContent Address) (z : Stop) → Ca G lf kids q f w n since js c k x z
         → Ca (one_more G) lf kids q (fresh_more f) w n since js c k x z
     cargo_more f w n since js c k (Message (Tree v)) z h =
         (h.0, h.1, h.2, named_more c h.0 h.3, stood_more w since (sort G.g.program k) k v h.1 h.4)
@@ -159,7 +165,7 @@ module _ (G : Ground) where
     cargo_more f w n since js c k (Message (Written bs)) z h = h
     cargo_more f w n since js c k (Takes a) z h = (h.0, h.1, h.2, named_more c h.0 h.3, h.4, h.5, h.6)
 
-    handed_more : (js : List Joint) (n : Memory Plain) (v : Life) (z : Name) → Handed G lf kids q js n v z
+    handed_more : (js : List FramePair) (n : Memory Plain) (v : BirthRights) (z : Name) → Handed G lf kids q js n v z
         → Handed (one_more G) lf kids q js n v z
     handed_more js n v z h = record {
       live = h.live;
@@ -173,7 +179,7 @@ module _ (G : Ground) where
       kept = h.kept;
     }
 
-    left_more : (c : Name → Condition Process Held Address) (k n : ℕ)
+    left_more : (c : Name → Condition Process LocationContent Address) (k n : ℕ)
         → left_of (one_more G) lf kids q c k n ≡ left_of G lf kids q c k n
     left_more c k zero = refl
     left_more c k (suc i) = ap (λ n. (if has_ended (c ((k, i) ∷ q)) then 0 else 1) + n) (left_more c k i)
@@ -190,7 +196,8 @@ module _ (G : Ground) where
       held = z.held;
       is = z.is;
       joining = joining_grows (Named G) (Named (one_more G)) named_more G.g G.code pr.who (Called G)
-          (λ l. Mine q l ⊎ lf.W l) (λ l. Mine q l ⊎ lf.R l) lf.J lf.low (length lf.below) lf.born since G.pause lf.moved
+          (λ l. OwnLocation q l ⊎ lf.W l) (λ l. OwnLocation q l ⊎ lf.R l) lf.J lf.low (length lf.below) lf.born since
+          G.pause lf.moved
           z.joining;
       follows = follows_more z.fresh pr.who z.named since z.pc z.stack z.js pr.todo z.follows;
       count = z.count ∙ sym (left_more s.condition k n);

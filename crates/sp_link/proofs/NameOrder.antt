@@ -1,14 +1,16 @@
--- The order of names as the program keeps them is that of the meaning (`in_order`).
+-- The order of names as the program keeps them is that of the meaning (`in_order`), and each is told by its pairs
+-- (`one_name`).
 use Rattle.std.proofs.Common.{◌≡◌, ℕ, ◌==◌, List, [], ◌∷◌, ◌++◌, Bool, true, false, cond, if◌then◌else◌, refl, sym, ap}
 use Rattle.std.proofs.Common.{◌∙◌, arith}
 use Rattle.std.specs.Prelude.{nat_lt, map, reverse}
-use Rattle.std.proofs.lemmas.List.{reverse-append}
+use Rattle.std.proofs.lemmas.List.{reverse-append, reverse-reverse}
 use Rattle.std.specs.declared.cmp.Ordering.{Ordering}
 use Rattle.std.specs.declared.cmp.Ordering.TheVariants.{Less, Equal, Greater}
 use Rattle.std.specs.Ordering.{nat_cmp, ordering_then}
 use Rattle.std.specs.Cmp.Lexicographic.{slice_cmp}
 use Rattle.sp_base.specs.Order.{pair_cmp, name_cmp}
 use Rattle.sp_base.specs.declared.name.Pair.{Pair}
+use Rattle.sp_base.specs.declared.name.ProcName.{ProcName}
 use Rattle.sp_journal.specs.Names.{Name, pairs_of, proc_name}
 use Rattle.sp_meaning.specs.Ends.{pairs_before, name_before}
 
@@ -70,3 +72,10 @@ unpair a = (a.fork, a.child)
 back : (xs : List (ℕ × ℕ)) → map unpair (map pair xs) ≡ xs
 back [] = refl
 back (x ∷ xs) = ap (λ y. x ∷ y) (back xs)
+
+pub one_name : (p q : Name) → proc_name p ≡ proc_name q → p ≡ q
+one_name p q e =
+    let pairs : map pair (reverse p) ≡ map pair (reverse q) = sym (pairs_are p) ∙ ap (λ (y : ProcName). y.pairs) e
+    ∙ pairs_are q in
+    let same : reverse p ≡ reverse q = sym (back (reverse p)) ∙ ap (λ y. map unpair y) pairs ∙ back (reverse q) in
+    sym (reverse-reverse p) ∙ ap (λ y. reverse y) same ∙ reverse-reverse q

@@ -4,29 +4,30 @@ use Rattle.std.proofs.Common.{ap, ◌∙◌, subst, arith, add-zero}
 use Rattle.std.specs.Prelude.{◌≢◌, ◌-◌, slice_get}
 use Rattle.sp_base.proofs.Facts.{is_plus_none, next_goes_right, same_head}
 use Rattle.sp_meaning.specs.Maps.{at_key as put_at}
-use Rattle.sp_meaning.specs.Model.{Name, same_name, Works, Becomes, changed, after as After}
-use Rattle.sp_meaning.specs.Steps.{births}
-use Rattle.sp_meaning.specs.Own.{Setting, Own, Who, Process}
-use Rattle.sp_meaning.specs.Deeds.{Birth, newborn, newborns}
+use Rattle.sp_meaning.specs.Model.{Name, same_name, Works, Becomes, with_change, with_changes as After}
+use Rattle.sp_meaning.specs.Steps.{birth_changes}
+use Rattle.sp_meaning.specs.LocalWork.{RunInput, LocalState, Identity, Process}
+use Rattle.sp_meaning.specs.Actions.{Birth, new_process, new_processes}
 use Rattle.sp_meaning.specs.SuperPascal.{superpascal}
 use Rattle.sp_meaning.specs.Runs.{StateOf}
 use Rattle.sp_meaning.proofs.Keys.{name_test}
 use Rattle.sp_meaning.proofs.Maps.{at_same, at_other}
 use Rattle.sp_meaning.proofs.Owned.{after_births}
 use Rattle.sp_meaning.proofs.Reached.{Conditions}
-use Rattle.sp_link.proofs.Relation.{Life}
+use Rattle.sp_link.proofs.Relation.{BirthRights}
 
 abbrev pub cons : ℕ × ℕ → Name → Name
 cons a w = a ∷ w
 
 -- births change conditions alone
-pub born_is : (g : Setting) (p : Name) (k i : ℕ) (os : List Process) (s : StateOf g)
-    → After {L = superpascal g} (births {L = superpascal g} p k i os) s
+pub born_is : (g : RunInput) (p : Name) (k i : ℕ) (os : List Process) (s : StateOf g)
+    → After {L = superpascal g} (birth_changes {L = superpascal g} p k i os) s
     ≡ record s { condition = after_births g.program p k i os s.condition }
 born_is g p k i [] s = refl
-born_is g p k i (o ∷ os) s = born_is g p k (suc i) os (changed {L = superpascal g} (Becomes ((k, i) ∷ p) (Works o)) s)
+born_is g p k i (o ∷ os) s =
+    born_is g p k (suc i) os (with_change {L = superpascal g} (Becomes ((k, i) ∷ p) (Works o)) s)
 
-module _ (g : Setting) (p : Name) (k : ℕ) where
+module _ (g : RunInput) (p : Name) (k : ℕ) where
   -- who is none of the children is as before
   pub born_else : (i : ℕ) (os : List Process) (m : Conditions) (r : Name)
       → ((j : ℕ) → j < length os → r ≢ (k, i + j) ∷ p)
@@ -55,19 +56,21 @@ module _ (g : Setting) (p : Name) (k : ℕ) where
       (born_at (suc i) os (put_at same_name ((k, i) ∷ p) (Works a) m) j o e)
 
 -- each birth has its newborn
-pub newborns_at : (w : Who) (o : Own) (i : ℕ) (bs : List Birth) (j : ℕ) (b : Birth) → slice_get bs j ≡ Some b
-    → slice_get (newborns w o i bs) j ≡ Some (newborn w o (i + j) b)
+pub newborns_at : (w : Identity) (o : LocalState) (i : ℕ) (bs : List Birth) (j : ℕ) (b : Birth)
+    → slice_get bs j ≡ Some b
+    → slice_get (new_processes w o i bs) j ≡ Some (new_process w o (i + j) b)
 newborns_at w o i [] j b e = absurd (cc e)
 newborns_at w o i (a ∷ bs) zero b e = let same : a ≡ b = cc e in
-    ap (λ z. Some (newborn w o i z)) same ∙ ap (λ z. Some (newborn w o z b)) (is_plus_none i)
+    ap (λ z. Some (new_process w o i z)) same ∙ ap (λ z. Some (new_process w o z b)) (is_plus_none i)
 newborns_at w o i (a ∷ bs) (suc j) b e = newborns_at w o (suc i) bs j b e
-    ∙ ap (λ z. Some (newborn w o z b)) (next_goes_right i j)
+    ∙ ap (λ z. Some (new_process w o z b)) (next_goes_right i j)
 
-pub newborns_length : (w : Who) (o : Own) (i : ℕ) (bs : List Birth) → length (newborns w o i bs) ≡ length bs
+pub newborns_length : (w : Identity) (o : LocalState) (i : ℕ) (bs : List Birth) → length (new_processes w o i bs)
+    ≡ length bs
 newborns_length w o i [] = refl
 newborns_length w o i (b ∷ bs) = ap suc (newborns_length w o (suc i) bs)
 
 -- one life or the other
-abbrev pub pick : Bool → Life → Life → Life
+abbrev pub pick : Bool → BirthRights → BirthRights → BirthRights
 pick true a b = a
 pick false a b = b

@@ -8,13 +8,15 @@ use Rattle.sp_base.specs.declared.fault.Fault.TheVariants as fault
 use Rattle.sp_journal.specs.Births.{channel}
 use Rattle.sp_cell.specs.Map.{Plain}
 use Rattle.sp_meaning.specs.Model.{Name, Channel, Cargo, Message, Takes, Offering, Totals}
-use Rattle.sp_meaning.specs.Steps.{WaitsOn, OfferOf, an_entry, Faulty, outcome, passed, unless, offered, result_of}
+use Rattle.sp_meaning.specs.Steps.{WaitsOn, OfferOf, entry_cost, Faulty, step_outcome, limit_fault, fault_or}
+use Rattle.sp_meaning.specs.Steps.{offer_outcome, result_of}
 use Rattle.sp_meaning.specs.Entries.{Happening}
-use Rattle.sp_meaning.specs.Own.{Held, Address, Own, Came, Got, Item, Tree, Position, Written}
-use Rattle.sp_meaning.specs.Deeds.{Deed, Offered}
+use Rattle.sp_meaning.specs.LocalWork.{LocationContent, Address, LocalState, WorkOutcome, Computed, Item, Tree}
+use Rattle.sp_meaning.specs.LocalWork.{Position, Written}
+use Rattle.sp_meaning.specs.Actions.{Action, Offered}
 use Rattle.sp_meaning.specs.SuperPascal.{superpascal}
 use Rattle.sp_meaning.specs.Run.{Store}
-use Rattle.sp_meaning.specs.Runs.{StateOf, most, says, said_of}
+use Rattle.sp_meaning.specs.Runs.{StateOf, total_limits, happening_at, happening_of}
 use Rattle.sp_meaning.specs.Along.{Course}
 use Rattle.sp_meaning.specs.Turn as source
 use Rattle.sp_code.specs.Machine.{Config, At}
@@ -29,30 +31,31 @@ use Rattle.sp_link.proofs.Halts.{failed_entry, offered_halt, says_something}
 use Rattle.sp_link.proofs.KernelSteps.{kernel_next, kernel_says}
 use Rattle.sp_link.proofs.OffersMeet.{waiting_idle, meeting_entry}
 use Rattle.sp_link.proofs.OffersWait.{waiting_entry}
-use Rattle.sp_link.proofs.OneChanges.{runs}
+use Rattle.sp_link.proofs.OneChanges.{runs_as_pr}
 use Rattle.sp_link.proofs.Pauses.{Entry_of, Meant, Machined, Kept_to, kids}
-use Rattle.sp_link.proofs.Relation.{Ground, Lives, Named, Stands, Ca, Performs_all, IsPending, Linked}
+use Rattle.sp_link.proofs.Relation.{RunContext, RightsOfAll, Named, ProcessMatches, Ca, Performs_all, IsPending, Linked}
 
-module _ (G : Ground) (lv : Lives G) (c : Course) (s : StateOf G.g) (u : System Plain) (l : Linked G lv c s u) (i : ℕ)
+module _ (G : RunContext) (lv : RightsOfAll G) (c : Course) (s : StateOf G.g) (u : System Plain) (l : Linked G lv c s u)
+    (i : ℕ)
     (d : Config (Memory Plain)) (at_i : u.condition i ≡ sys.Working d)
-    (z : Stands G (lv (w G lv c s u l i d at_i)) (kids G lv c s u l i d at_i) (w G lv c s u l i d at_i)
+    (z : ProcessMatches G (lv (w G lv c s u l i d at_i)) (kids G lv c s u l i d at_i) (w G lv c s u l i d at_i)
     (c.since (w G lv c s u l i d at_i)) (p1 G lv c s u l i d at_i) s.store d)
-    (ch : Channel) (kd : ℕ) (cg : Cargo Held Address) (todo : List Item) (o : Own) (m : Store)
-    (x : Meant G lv c s u l i d at_i z (Got (source.Stops (Offered ch kd cg todo)) o, m))
-    (t : Machined G lv c s u l i d at_i z (Got (source.Stops (Offered ch kd cg todo)) o, m))
-    (y : Kept_to G lv c s u l i d at_i z (Got (source.Stops (Offered ch kd cg todo)) o, m))
+    (ch : Channel) (kd : ℕ) (cg : Cargo LocationContent Address) (todo : List Item) (o : LocalState) (m : Store)
+    (x : Meant G lv c s u l i d at_i z (Computed (source.Stops (Offered ch kd cg todo)) o, m))
+    (t : Machined G lv c s u l i d at_i z (Computed (source.Stops (Offered ch kd cg todo)) o, m))
+    (y : Kept_to G lv c s u l i d at_i z (Computed (source.Stops (Offered ch kd cg todo)) o, m))
     (quiet : u.faulted ≡ false) where
   abbrev v : Name
   v = w G lv c s u l i d at_i
 
-  abbrev r : Came Deed × Store
-  r = (Got (Offered ch kd cg todo) o, m)
+  abbrev r : WorkOutcome Action × Store
+  r = (Computed (Offered ch kd cg todo) o, m)
 
   abbrev off : OfferOf (superpascal G.g)
   off = ao.off G lv c s u l i d at_i z ch kd cg todo o m x t y
 
   -- what the step says, whatever it comes to
-  said_any : (what : Happening) × (says G.g x.at v x.left ≡ Some what)
+  said_any : (what : Happening) × (happening_at G.g x.at v x.left ≡ Some what)
   said_any = says_something G lv c s u l i d at_i z r x tt
 
   -- ---- the entries are at their limit
@@ -60,20 +63,21 @@ module _ (G : Ground) (lv : Lives G) (c : Course) (s : StateOf G.g) (u : System 
   over_entry : nat_lt G.g.limits.entries (u.entries + 1) ≡ true → Entry_of G c s u i d
   over_entry full = failed_entry G lv c s u l i d at_i (offered_halt G lv c s u l i d at_i z ch kd cg todo o m x t) refl
       fault.F15
-      (kernel_says G.g v x.at x.left x.runs r x.does ∙ ap (λ b. said_of {L = superpascal G.g} (Offering off) b) faults)
+      (kernel_says G.g v x.at x.left x.runs r x.does ∙ ap (λ b. happening_of {L = superpascal G.g} (Offering off) b)
+      faults)
       (kernel_next G.g v x.at x.left x.runs r x.does ∙ ap (λ b. Some (result_of {L = superpascal G.g} x.at v b)) faults)
       (found cg refl t.9) quiet
     where
-      passes : passed (most G.g) x.at.totals (Some an_entry) ≡ Some fault.F15
+      passes : limit_fault (total_limits G.g) x.at.totals (Some entry_cost) ≡ Some fault.F15
       passes =
-          ap (λ (a : Totals). passed (most G.g) a (Some an_entry)) x.elsewhere.totals
+          ap (λ (a : Totals). limit_fault (total_limits G.g) a (Some entry_cost)) x.elsewhere.totals
           ∙ ap (λ n. if nat_lt G.g.limits.entries (n + 1) then Some fault.F15 else None) l.entries
           ∙ ap (λ b. if b then Some fault.F15 else None) full
 
-      faults : outcome {L = superpascal G.g} (most G.g) x.at v (Offering off) ≡ Faulty fault.F15
-      faults = ap (λ a. unless a (offered {L = superpascal G.g} x.at v off (x.at.pending ch))) passes
+      faults : step_outcome {L = superpascal G.g} (total_limits G.g) x.at v (Offering off) ≡ Faulty fault.F15
+      faults = ap (λ a. fault_or a (offer_outcome {L = superpascal G.g} x.at v off (x.at.pending ch))) passes
 
-      found : (g1 : Cargo Held Address) → cg ≡ g1
+      found : (g1 : Cargo LocationContent Address) → cg ≡ g1
           → Ca G (lv v) (λ a b. lv ((a, b) ∷ v)) v z.fresh (p1 G lv c s u l i d at_i).who z.named (c.since v) t.3 ch kd
           g1 t.5 → fault_of G.g.limits u (Stopped t.5 (At t.0 t.1 t.2)) ≡ Some fault.F15
       found (Message (Tree a)) e h = ap (λ b. fault_of G.g.limits u (Stopped b (At t.0 t.1 t.2))) h.2
@@ -100,7 +104,7 @@ module _ (G : Ground) (lv : Lives G) (c : Course) (s : StateOf G.g) (u : System 
 
     apart : G.births.name zi ≢ v
     apart e = waiting_idle s.condition v ch (s.condition v) _ (subst (λ b. WaitsOn ch (s.condition b)) e waits_on)
-        (runs G lv c s u l i d at_i)
+        (runs_as_pr G lv c s u l i d at_i)
 
     waits_then : WaitsOn ch (x.at.condition (G.births.name zi))
     waits_then = subst (λ b. WaitsOn ch b) (sym (x.elsewhere.condition (G.births.name zi) apart)) waits_on
@@ -140,7 +144,8 @@ module _ (G : Ground) (lv : Lives G) (c : Course) (s : StateOf G.g) (u : System 
   pub offering : Entry_of G c s u i d
   offering = by_limit (nat_lt G.g.limits.entries (u.entries + 1)) refl
     where
-      number : (g1 : Cargo Held Address) → Ca G (lv v) (λ a b. lv ((a, b) ∷ v)) v z.fresh (p1 G lv c s u l i d at_i).who
+      number : (g1 : Cargo LocationContent Address)
+          → Ca G (lv v) (λ a b. lv ((a, b) ∷ v)) v z.fresh (p1 G lv c s u l i d at_i).who
           z.named (c.since v) t.3 ch kd g1 t.5 → (j : ℕ) × Named G ch j
       number (Message (Tree a)) h = (h.0, h.3)
       number (Message (Position n)) h = absurd h

@@ -1,5 +1,6 @@
 -- The entry `Send` or `Receive` on both sides where an offer is pending on the channel. It meets the other one, and
--- both go on, the receiver with the message (`meets`); or both have one way, or other types: F6, F7 (`clashes`).
+-- both go on, the receiver with the message (`meeting_outcome`); or both have one way, or other types: F6, F7
+-- (`clashes`).
 use Rattle.std.proofs.Common.{◌≡◌, ◌⊎◌, inl, inr, ⊎_elim, ℕ, ◌+◌, ◌<◌, ◌==◌, List, [], ◌∷◌, Option, Some, None, Bool}
 use Rattle.std.proofs.Common.{true, false, cond, if◌then◌else◌, eqb-true, eq-eqb, refl, sym, ap, ◌∙◌, subst, arith}
 use Rattle.std.proofs.Common.{one-add}
@@ -7,7 +8,7 @@ use Rattle.std.specs.Prelude.{◌≢◌, nat_lt}
 use Rattle.std.proofs.lemmas.Bool.{ne_eqb}
 use Rattle.sp_base.specs.declared.fault.Fault.{Fault}
 use Rattle.sp_base.specs.declared.fault.Fault.TheVariants as fault
-use Rattle.sp_journal.specs.Births.{channel, happening, after_event}
+use Rattle.sp_journal.specs.Births.{channel, happening, births_after_event}
 use Rattle.sp_journal.specs.declared.entry.Way.{Way}
 use Rattle.sp_journal.specs.declared.entry.Way.TheVariants as way
 use Rattle.sp_journal.specs.declared.entry.Event.TheVariants as event
@@ -16,27 +17,31 @@ use Rattle.sp_cell.specs.declared.cell.Cell.{Cell as OneCell}
 use Rattle.sp_cell.specs.declared.spot.Address.{Address as Ptr}
 use Rattle.sp_cell.specs.Map.{Plain}
 use Rattle.sp_meaning.specs.Maps.{at_key as put_at}
-use Rattle.sp_meaning.specs.Model.{Name, same_name, Condition, Absent, Works, Waits, Joins, Ended, after as After}
+use Rattle.sp_meaning.specs.Model.{Name, same_name, Condition, Absent, Works, Waits, Joins, Ended}
+use Rattle.sp_meaning.specs.Model.{with_changes as After}
 use Rattle.sp_meaning.specs.Model.{same_channel, Channel, Cargo, Message, Takes, Offering, Totals}
-use Rattle.sp_meaning.specs.Steps.{has_ended, working_in, Lives as IsLive, WaitsOn, OfferOf, meeting, message, an_entry}
-use Rattle.sp_meaning.specs.Steps.{way_of, Advances, Faulty, outcome, passed, unless, offered, meets, hands, result_of}
+use Rattle.sp_meaning.specs.Steps.{has_ended, own_part_in, IsAlive as IsLive, WaitsOn, OfferOf, meeting_changes}
+use Rattle.sp_meaning.specs.Steps.{message, entry_cost}
+use Rattle.sp_meaning.specs.Steps.{way_of, Advances, Faulty, step_outcome, limit_fault, fault_or, offer_outcome}
+use Rattle.sp_meaning.specs.Steps.{meeting_outcome, handover_outcome, result_of}
 use Rattle.sp_meaning.specs.Entries.{Happening, Offered as Is_offered}
-use Rattle.sp_meaning.specs.Own.{Loc, Held, Address, Own, Process, Came, Got, Item, Tree, Position, Written, assigned}
-use Rattle.sp_meaning.specs.Own.{same_loc}
+use Rattle.sp_meaning.specs.LocalWork.{Loc, LocationContent, Address, LocalState, Process, WorkOutcome, Computed, Item}
+use Rattle.sp_meaning.specs.LocalWork.{Tree, Position, Written, content_with}
+use Rattle.sp_meaning.specs.LocalWork.{same_loc}
 use Rattle.sp_meaning.specs.Values.{Value}
-use Rattle.sp_meaning.specs.Deeds.{Deed, Offered}
+use Rattle.sp_meaning.specs.Actions.{Action, Offered}
 use Rattle.sp_meaning.specs.SuperPascal.{superpascal}
 use Rattle.sp_meaning.specs.Run.{Store}
-use Rattle.sp_meaning.specs.Runs.{StateOf, most, next, says, said_of}
-use Rattle.sp_meaning.specs.Along.{Course, ticks_in, ticks_of, noted}
+use Rattle.sp_meaning.specs.Runs.{StateOf, total_limits, next_state, happening_at, happening_of}
+use Rattle.sp_meaning.specs.Along.{Course, ticks_in, ticks_of, with_ticks}
 use Rattle.sp_meaning.specs.Turn as source
 use Rattle.sp_meaning.proofs.Instance.{loc_test}
 use Rattle.sp_meaning.proofs.Keys.{name_test, channel_test, number_or}
 use Rattle.sp_meaning.proofs.Maps.{at_same, at_other, differs, itself, same_or_not}
-use Rattle.sp_meaning.proofs.Owned.{Inv, Holds}
+use Rattle.sp_meaning.proofs.Owned.{Inv, ConditionInRights}
 use Rattle.sp_meaning.proofs.Parallel.{IsAlone}
-use Rattle.sp_meaning.proofs.Reached.{Known, step_well, raised, lowered}
-use Rattle.sp_meaning.proofs.Rights.{All}
+use Rattle.sp_meaning.proofs.Reached.{StateKeeps, step_well, raised, lowered}
+use Rattle.sp_meaning.proofs.Rights.{OwnOrGiven}
 use Rattle.sp_meaning.proofs.Sound.{step_sound}
 use Rattle.sp_meaning.proofs.Status.{working_lives}
 use Rattle.sp_code.specs.Machine.{Config, At, Stop, Sends, Receives}
@@ -44,7 +49,7 @@ use Rattle.sp_code.specs.Turns.{Turn, Stopped}
 use Rattle.sp_code.specs.Memory.{Memory, put_cells}
 use Rattle.sp_code.specs.PlainStore.{plain}
 use Rattle.sp_code.specs.Scopes.{sort}
-use Rattle.sp_code.specs.System.{System, after, event_of, event_or, fault_of, unless_fault, on_store}
+use Rattle.sp_code.specs.System.{System, system_after_turn, event_of, event_or, fault_of, apply_unless_fault, on_store}
 use Rattle.sp_code.specs.System as sys
 use Rattle.sp_codegen.specs.Following.{cells_in}
 use Rattle.sp_link.proofs.AtOffer as ao
@@ -56,34 +61,37 @@ use Rattle.sp_link.proofs.Messages.{sent_flat, receiver_stands}
 use Rattle.sp_link.proofs.OneChanges.{its, here, inv_local, since_other}
 use Rattle.sp_link.proofs.OthersStay.{does_stay, stands_stay}
 use Rattle.sp_link.proofs.Pauses.{Entry_of, Meant, Machined, Kept_to, kids, after_quiet, way_of_step}
-use Rattle.sp_link.proofs.Relation.{Ground, Lives, W_of, R_of, Named, Stands, Ca, Performs_all, IsPending, Linked}
+use Rattle.sp_link.proofs.Relation.{RunContext, RightsOfAll, W_of, R_of, Named, ProcessMatches, Ca, Performs_all}
+use Rattle.sp_link.proofs.Relation.{IsPending, Linked}
 use Rattle.sp_link.proofs.Relation.{run_is}
 
 -- one that waits does not run
-pub waiting_idle : (m : Name → Condition Process Held Address) (q : Name) (ch : Channel)
-    (c : Condition Process Held Address) (own : Process) → WaitsOn ch c → working_in m q c ≡ Some own → ⊥
+pub waiting_idle : (m : Name → Condition Process LocationContent Address) (q : Name) (ch : Channel)
+    (c : Condition Process LocationContent Address) (own : Process) → WaitsOn ch c → own_part_in m q c ≡ Some own → ⊥
 waiting_idle m q ch Absent own h e = h
 waiting_idle m q ch (Works pr) own h e = h
 waiting_idle m q ch (Waits w) own h e = absurd (cc e)
 waiting_idle m q ch (Joins k n pr) own h e = h
 waiting_idle m q ch Ended own h e = h
 
-module _ (G : Ground) (lv : Lives G) (c : Course) (s : StateOf G.g) (u : System Plain) (l : Linked G lv c s u) (i : ℕ)
+module _ (G : RunContext) (lv : RightsOfAll G) (c : Course) (s : StateOf G.g) (u : System Plain) (l : Linked G lv c s u)
+    (i : ℕ)
     (d : Config (Memory Plain)) (at_i : u.condition i ≡ sys.Working d)
-    (z : Stands G (lv (w G lv c s u l i d at_i)) (kids G lv c s u l i d at_i) (w G lv c s u l i d at_i)
+    (z : ProcessMatches G (lv (w G lv c s u l i d at_i)) (kids G lv c s u l i d at_i) (w G lv c s u l i d at_i)
     (c.since (w G lv c s u l i d at_i)) (p1 G lv c s u l i d at_i) s.store d)
-    (ch : Channel) (kd : ℕ) (cg : Cargo Held Address) (todo : List Item) (o : Own) (m : Store)
-    (x : Meant G lv c s u l i d at_i z (Got (source.Stops (Offered ch kd cg todo)) o, m))
-    (t : Machined G lv c s u l i d at_i z (Got (source.Stops (Offered ch kd cg todo)) o, m))
-    (y : Kept_to G lv c s u l i d at_i z (Got (source.Stops (Offered ch kd cg todo)) o, m))
-    (what : Happening) (said : says G.g x.at (w G lv c s u l i d at_i) x.left ≡ Some what) (quiet : u.faulted ≡ false)
+    (ch : Channel) (kd : ℕ) (cg : Cargo LocationContent Address) (todo : List Item) (o : LocalState) (m : Store)
+    (x : Meant G lv c s u l i d at_i z (Computed (source.Stops (Offered ch kd cg todo)) o, m))
+    (t : Machined G lv c s u l i d at_i z (Computed (source.Stops (Offered ch kd cg todo)) o, m))
+    (y : Kept_to G lv c s u l i d at_i z (Computed (source.Stops (Offered ch kd cg todo)) o, m))
+    (what : Happening) (said : happening_at G.g x.at (w G lv c s u l i d at_i) x.left ≡ Some what)
+    (quiet : u.faulted ≡ false)
     (zi : ℕ) (few : zi < u.births.processes) (pends : s.pending ch ≡ Some (G.births.name zi)) (j : ℕ)
     (named : Named G ch j) (pending_is : u.pending j ≡ Some zi)
     (enough : nat_lt G.g.limits.entries (u.entries + 1) ≡ false)
     (apart : G.births.name zi ≢ w G lv c s u l i d at_i) (st2 : Stop) (d2 : Config (Memory Plain))
     (at_z : u.condition zi ≡ sys.Waits st2 d2) (off2 : OfferOf (superpascal G.g))
     (waits : x.at.condition (G.births.name zi) ≡ Waits off2) (on : off2.channel ≡ ch)
-    (t2 : Stands G (lv (G.births.name zi)) (λ a b. lv ((a, b) ∷ G.births.name zi)) (G.births.name zi)
+    (t2 : ProcessMatches G (lv (G.births.name zi)) (λ a b. lv ((a, b) ∷ G.births.name zi)) (G.births.name zi)
     (c.since (G.births.name zi)) off2.next x.at.store d2)
     (ca2 : Ca G (lv (G.births.name zi)) (λ a b. lv ((a, b) ∷ G.births.name zi)) (G.births.name zi) t2.fresh
     off2.next.who t2.named (c.since (G.births.name zi)) t2.js off2.channel off2.kind off2.cargo st2)
@@ -94,13 +102,13 @@ module _ (G : Ground) (lv : Lives G) (c : Course) (s : StateOf G.g) (u : System 
   abbrev zn : Name
   zn = G.births.name zi
 
-  abbrev r : Came Deed × Store
-  r = (Got (Offered ch kd cg todo) o, m)
+  abbrev r : WorkOutcome Action × Store
+  r = (Computed (Offered ch kd cg todo) o, m)
 
   abbrev off : OfferOf (superpascal G.g)
   off = ao.off G lv c s u l i d at_i z ch kd cg todo o m x t y
 
-  known_then : Known G.g x.at
+  known_then : StateKeeps G.g x.at
   known_then = known_at G lv c s u l i d at_i z r x what said
 
   rights_then : Inv G.g.program (W_of G lv) (R_of G lv) x.at.condition x.at.forks
@@ -108,19 +116,19 @@ module _ (G : Ground) (lv : Lives G) (c : Course) (s : StateOf G.g) (u : System 
 
   -- ---- what the offer comes to in the meaning
 
-  passes : passed (most G.g) x.at.totals (Some an_entry) ≡ None
+  passes : limit_fault (total_limits G.g) x.at.totals (Some entry_cost) ≡ None
   passes =
-      ap (λ (a : Totals). passed (most G.g) a (Some an_entry)) x.elsewhere.totals
+      ap (λ (a : Totals). limit_fault (total_limits G.g) a (Some entry_cost)) x.elsewhere.totals
       ∙ ap (λ n. if nat_lt G.g.limits.entries (n + 1) then Some fault.F15 else None) l.entries
       ∙ ap (λ b. if b then Some fault.F15 else None) enough
 
-  outcome_is : (mm : Option (Address × Held)) → message cg off2.cargo ≡ mm
-      → outcome {L = superpascal G.g} (most G.g) x.at v (Offering off)
-      ≡ hands {L = superpascal G.g} x.at v off zn off2 mm
-  outcome_is mm e = ap (λ a. unless a (offered {L = superpascal G.g} x.at v off (x.at.pending ch))) passes
-      ∙ ap (λ a. offered {L = superpascal G.g} x.at v off a) (ap (λ a. a ch) x.elsewhere.pending ∙ pends)
-      ∙ ap (λ a. meets {L = superpascal G.g} x.at v off zn a) waits
-      ∙ ap (λ a. hands {L = superpascal G.g} x.at v off zn off2 a) e
+  outcome_is : (mm : Option (Address × LocationContent)) → message cg off2.cargo ≡ mm
+      → step_outcome {L = superpascal G.g} (total_limits G.g) x.at v (Offering off)
+      ≡ handover_outcome {L = superpascal G.g} x.at v off zn off2 mm
+  outcome_is mm e = ap (λ a. fault_or a (offer_outcome {L = superpascal G.g} x.at v off (x.at.pending ch))) passes
+      ∙ ap (λ a. offer_outcome {L = superpascal G.g} x.at v off a) (ap (λ a. a ch) x.elsewhere.pending ∙ pends)
+      ∙ ap (λ a. meeting_outcome {L = superpascal G.g} x.at v off zn a) waits
+      ∙ ap (λ a. handover_outcome {L = superpascal G.g} x.at v off zn off2 a) e
 
   numbers : i ≢ zi
   numbers e = apart (ap (λ n. G.births.name n) (sym e))
@@ -133,25 +141,28 @@ module _ (G : Ground) (lv : Lives G) (c : Course) (s : StateOf G.g) (u : System 
 
   -- ---- the two meet: a is where the message goes, hv the message, wr who receives it
 
-  module _ (a : Address) (hv : Held) (same_kind : kd == off2.kind ≡ true) (msg : message cg off2.cargo ≡ Some (a, hv))
-      (wr : Name) (wr_alone : IsAlone x.at wr) (wr_is : (wr ≡ v) ⊎ (wr ≡ zn)) (may : All (W_of G lv) wr a.spot) where
+  module _ (a : Address) (hv : LocationContent) (same_kind : kd == off2.kind ≡ true)
+      (msg : message cg off2.cargo ≡ Some (a, hv))
+      (wr : Name) (wr_alone : IsAlone x.at wr) (wr_is : (wr ≡ v) ⊎ (wr ≡ zn))
+      (may : OwnOrGiven (W_of G lv) wr a.spot) where
     abbrev t1 : StateOf G.g
-    t1 = After {L = superpascal G.g} (meeting {L = superpascal G.g} x.at v off zn off2 (a, hv)) x.at
+    t1 = After {L = superpascal G.g} (meeting_changes {L = superpascal G.g} x.at v off zn off2 (a, hv)) x.at
 
-    meets_so : outcome {L = superpascal G.g} (most G.g) x.at v (Offering off)
-        ≡ Advances (meeting {L = superpascal G.g} x.at v off zn off2 (a, hv))
+    meets_so : step_outcome {L = superpascal G.g} (total_limits G.g) x.at v (Offering off)
+        ≡ Advances (meeting_changes {L = superpascal G.g} x.at v off zn off2 (a, hv))
     meets_so = outcome_is (Some (a, hv)) msg
-        ∙ ap (λ b. if b then Advances (meeting {L = superpascal G.g} x.at v off zn off2 (a, hv)) else Faulty fault.F7)
+        ∙ ap (λ b. if b then Advances (meeting_changes {L = superpascal G.g} x.at v off zn off2 (a, hv)) else Faulty
+        fault.F7)
         same_kind
 
     abbrev says_now : Happening
     says_now = Is_offered (way_of cg) ch
 
-    said_now : says G.g x.at v x.left ≡ Some says_now
+    said_now : happening_at G.g x.at v x.left ≡ Some says_now
     said_now = kernel_says G.g v x.at x.left x.runs r x.does
-        ∙ ap (λ b. said_of {L = superpascal G.g} (Offering off) b) meets_so
+        ∙ ap (λ b. happening_of {L = superpascal G.g} (Offering off) b) meets_so
 
-    goes_next : next G.g x.at v ≡ Some t1
+    goes_next : next_state G.g x.at v ≡ Some t1
     goes_next = kernel_next G.g v x.at x.left x.runs r x.does
         ∙ ap (λ b. Some (result_of {L = superpascal G.g} x.at v b)) meets_so
 
@@ -166,41 +177,42 @@ module _ (G : Ground) (lv : Lives G) (c : Course) (s : StateOf G.g) (u : System 
     cond_r b nv nz = at_other name_test (put_at same_name v (Works off.next) x.at.condition) zn b (Works off2.next)
         (λ e. nz (sym e)) ∙ at_other name_test x.at.condition v b (Works off.next) (λ e. nv (sym e))
 
-    known_now : Known G.g t1
+    known_now : StateKeeps G.g t1
     known_now = record {
-      sound = step_sound (most G.g) x.at v t1 known_then.sound goes_next;
+      sound = step_sound (total_limits G.g) x.at v t1 known_then.sound goes_next;
       well = lowered G.g (λ b. ticks_in (x.at.condition b)) t1
           (step_well G.g x.at known_then.sound v (raised G.g x.at known_then.well) t1 goes_next);
     }
 
-    holds_z : Holds G.g.program (W_of G lv) (R_of G lv) x.at.forks zn (Waits off2)
-    holds_z = subst (λ b. Holds G.g.program (W_of G lv) (R_of G lv) x.at.forks zn b) waits (rights_then.holds zn)
+    holds_z : ConditionInRights G.g.program (W_of G lv) (R_of G lv) x.at.forks zn (Waits off2)
+    holds_z = subst (λ b. ConditionInRights G.g.program (W_of G lv) (R_of G lv) x.at.forks zn b) waits
+        (rights_then.holds zn)
 
     rights_now : Inv G.g.program (W_of G lv) (R_of G lv) t1.condition t1.forks
     rights_now = inv_local G (W_of G lv) (R_of G lv) first t1.condition x.at.forks x.at.forks zn
         (inv_local G (W_of G lv) (R_of G lv) x.at.condition first x.at.forks x.at.forks v rights_then refl
         (λ e. subst (λ b. IsLive b) e (working_lives x.at.condition v (x.at.condition v) x.left x.runs))
         (λ b e. at_other name_test x.at.condition v b (Works off.next) (λ f. e (sym f)))
-        (subst (λ b. Holds G.g.program (W_of G lv) (R_of G lv) x.at.forks v b)
+        (subst (λ b. ConditionInRights G.g.program (W_of G lv) (R_of G lv) x.at.forks v b)
         (sym (at_same name_test x.at.condition v (Works off.next)))
         (ao.holds G lv c s u l i d at_i z ch kd cg todo o m x t y).0))
         refl (λ e. no_absent (sym waits ∙ sym
         (at_other name_test x.at.condition v zn (Works off.next) (λ f. apart (sym f))) ∙ e))
         (λ b e. at_other name_test first zn b (Works off2.next) (λ f. e (sym f)))
-        (subst (λ b. Holds G.g.program (W_of G lv) (R_of G lv) x.at.forks zn b) (sym cond_z) holds_z.0)
+        (subst (λ b. ConditionInRights G.g.program (W_of G lv) (R_of G lv) x.at.forks zn b) (sym cond_z) holds_z.0)
       where
-        first : Name → Condition Process Held Address
+        first : Name → Condition Process LocationContent Address
         first = put_at same_name v (Works off.next) x.at.condition
 
-        no_absent : ◌≡◌ {A = Condition Process Held Address} (Waits off2) Absent → ⊥
+        no_absent : ◌≡◌ {A = Condition Process LocationContent Address} (Waits off2) Absent → ⊥
         no_absent e = cc e
 
-    stays : (b : Loc) → (t1.store b ≡ x.at.store b) ⊎ All (W_of G lv) wr b
+    stays : (b : Loc) → (t1.store b ≡ x.at.store b) ⊎ OwnOrGiven (W_of G lv) wr b
     stays b = go (same_loc a.spot b) refl
       where
-        go : (f : Bool) → same_loc a.spot b ≡ f → (t1.store b ≡ x.at.store b) ⊎ All (W_of G lv) wr b
-        go true e = inr (subst (λ k. All (W_of G lv) wr k) ((loc_test a.spot b).0 e) may)
-        go false e = inl (ap (λ f. cond f (assigned a (x.at.store a.spot) hv) (x.at.store b)) e)
+        go : (f : Bool) → same_loc a.spot b ≡ f → (t1.store b ≡ x.at.store b) ⊎ OwnOrGiven (W_of G lv) wr b
+        go true e = inr (subst (λ k. OwnOrGiven (W_of G lv) wr k) ((loc_test a.spot b).0 e) may)
+        go false e = inl (ap (λ f. cond f (content_with a (x.at.store a.spot) hv) (x.at.store b)) e)
 
     ended_same : (b : Name) → has_ended (t1.condition b) ≡ has_ended (x.at.condition b)
     ended_same b = ⊎_elim
@@ -222,7 +234,7 @@ module _ (G : Ground) (lv : Lives G) (c : Course) (s : StateOf G.g) (u : System 
         (same_or_not name_test b v)
 
     abbrev c1 : Course
-    c1 = noted v (ticks_of G.g t1 v) c
+    c1 = with_ticks v (ticks_of G.g t1 v) c
 
     since_here : c1.since v ≡ (t.2).ticks
     since_here = ap (λ b. cond b (ticks_of G.g t1 v) (c.since v)) (itself name_test v) ∙ ap ticks_in cond_v
@@ -253,8 +265,8 @@ module _ (G : Ground) (lv : Lives G) (c : Course) (s : StateOf G.g) (u : System 
     with_message = record (x.at) { store = t1.store }
 
     module _ (e1 e2 : Config (Memory Plain))
-        (do_v : Stands G (lv v) (λ a b. lv ((a, b) ∷ v)) v (c1.since v) off.next t1.store e1)
-        (do_z : Stands G (lv zn) (λ a b. lv ((a, b) ∷ zn)) zn (c.since zn) off2.next t1.store e2) where
+        (do_v : ProcessMatches G (lv v) (λ a b. lv ((a, b) ∷ v)) v (c1.since v) off.next t1.store e1)
+        (do_z : ProcessMatches G (lv zn) (λ a b. lv ((a, b) ∷ zn)) zn (c.since zn) off2.next t1.store e2) where
       abbrev u1 : System Plain
       u1 = record u {
         condition = at_key ◌==◌ i (sys.Working e1) (at_key ◌==◌ zi (sys.Working e2) u.condition);
@@ -276,7 +288,7 @@ module _ (G : Ground) (lv : Lives G) (c : Course) (s : StateOf G.g) (u : System 
       its_does : Performs_all G lv v c1 t1 (u.births.opens i) (sys.Working e1)
       its_does = (
         off.next,
-        ap (working_in t1.condition v) cond_v,
+        ap (own_part_in t1.condition v) cond_v,
         inl do_v,
         ao.opens_same G lv c s u l i d at_i z ch kd cg todo o m x t y,
         (its G lv c s u l i d at_i).4,
@@ -285,8 +297,8 @@ module _ (G : Ground) (lv : Lives G) (c : Course) (s : StateOf G.g) (u : System 
       other_does : Performs_all G lv zn c1 t1 (u.births.opens zi) (sys.Working e2)
       other_does = (
         off2.next,
-        ap (working_in t1.condition zn) cond_z,
-        inl (subst (λ k. Stands G (lv zn) (λ a b. lv ((a, b) ∷ zn)) zn k off2.next t1.store e2)
+        ap (own_part_in t1.condition zn) cond_z,
+        inl (subst (λ k. ProcessMatches G (lv zn) (λ a b. lv ((a, b) ∷ zn)) zn k off2.next t1.store e2)
             (sym (since_other c v (ticks_of G.g t1 v) zn apart)) do_z),
         opens2,
         laid2,
@@ -355,11 +367,11 @@ module _ (G : Ground) (lv : Lives G) (c : Course) (s : StateOf G.g) (u : System 
             (same_or_not name_test b zn)) (same_or_not name_test b v);
       }
         where
-          no_absent : (pr : Process) → ◌≡◌ {A = Condition Process Held Address} (Works pr) Absent → ⊥
+          no_absent : (pr : Process) → ◌≡◌ {A = Condition Process LocationContent Address} (Works pr) Absent → ⊥
           no_absent pr e = cc e
 
       -- once it is known what the machine's turn makes
-      entry_by : after plain (run_is G) i (Stopped t.5 (At t.0 t.1 t.2)) u ≡ u1
+      entry_by : system_after_turn plain (run_is G) i (Stopped t.5 (At t.0 t.1 t.2)) u ≡ u1
           → happening u.births (event_of G.g.limits u (Stopped t.5 (At t.0 t.1 t.2))) ≡ says_now
           → IsOpen u.births (event_of G.g.limits u (Stopped t.5 (At t.0 t.1 t.2))) → Entry_of G c s u i d
       entry_by is told speaks = record {
@@ -370,7 +382,7 @@ module _ (G : Ground) (lv : Lives G) (c : Course) (s : StateOf G.g) (u : System 
             (sym told);
         speaks = speaks;
         lives = lv;
-        linked = λ began. now_by G lv c1 t1 (after plain (run_is G) i (Stopped t.5 (At t.0 t.1 t.2)) u)
+        linked = λ began. now_by G lv c1 t1 (system_after_turn plain (run_is G) i (Stopped t.5 (At t.0 t.1 t.2)) u)
             (subst (λ a. Linked G lv c1 t1 a) (sym is) linked);
       }
 
@@ -384,10 +396,11 @@ module _ (G : Ground) (lv : Lives G) (c : Course) (s : StateOf G.g) (u : System 
     alone_z : IsAlone x.at zn
     alone_z = inr (ch, subst (λ b. WaitsOn ch b) (sym waits) on)
 
-    may_z : All (W_of G lv) zn a.spot
-    may_z = (subst (λ b. Rattle.sp_meaning.specs.Owning.MayTake G.g.program (λ k. All (W_of G lv) zn k)
-        (λ k. All (R_of G lv) zn k) b) cargo2
-        (subst (λ b. Holds G.g.program (W_of G lv) (R_of G lv) x.at.forks zn b) waits (rights_then.holds zn)).1)
+    may_z : OwnOrGiven (W_of G lv) zn a.spot
+    may_z = (subst (λ b. Rattle.sp_meaning.specs.Owning.MayTake G.g.program (λ k. OwnOrGiven (W_of G lv) zn k)
+        (λ k. OwnOrGiven (R_of G lv) zn k) b) cargo2
+        (subst (λ b. ConditionInRights G.g.program (W_of G lv) (R_of G lv) x.at.forks zn b) waits
+        (rights_then.holds zn)).1)
 
     abbrev t1s : StateOf G.g
     t1s = t1 a (Tree value) same_kind msg zn alone_z (inr refl) may_z
@@ -418,7 +431,7 @@ module _ (G : Ground) (lv : Lives G) (c : Course) (s : StateOf G.g) (u : System 
         (sent_flat G (lv v) (λ a b. lv ((a, b) ∷ v)) v x.left.who (c1s.since v) kd (sort G.g.program kd) refl value
         gives.1 gives.4)
 
-    sender : Stands G (lv v) (λ a b. lv ((a, b) ∷ v)) v (c1s.since v) off.next t1s.store
+    sender : ProcessMatches G (lv v) (λ a b. lv ((a, b) ∷ v)) v (c1s.since v) off.next t1s.store
         (ao.there G lv c s u l i d at_i z ch kd cg todo o m x t y)
     sender = stands_stay G lv x.at (with_message a (Tree value) same_kind msg zn alone_z (inr refl) may_z)
         known_then.sound rights_then.fair zn alone_z (stays a (Tree value) same_kind msg zn alone_z (inr refl) may_z) v
@@ -426,7 +439,7 @@ module _ (G : Ground) (lv : Lives G) (c : Course) (s : StateOf G.g) (u : System 
         (c1s.since v) off.next (ao.there G lv c s u l i d at_i z ch kd cg todo o m x t y) (inl (x.left, x.runs))
         (ao.stands G lv c s u l i d at_i z ch kd cg todo o m x t y (c1s.since v) since_s)
 
-    receiver : Stands G (lv zn) (λ a b. lv ((a, b) ∷ zn)) zn (c.since zn) off2.next t1s.store
+    receiver : ProcessMatches G (lv zn) (λ a b. lv ((a, b) ∷ zn)) zn (c.since zn) off2.next t1s.store
         (on_store (put_cells plain takes.1 (cells_in gives.1)) d2)
     receiver = receiver_stands G (lv zn) (λ a b. lv ((a, b) ∷ zn)) zn t2 off2.channel off2.kind a st2 takes value
         (cells_in gives.1) flat
@@ -458,24 +471,27 @@ module _ (G : Ground) (lv : Lives G) (c : Course) (s : StateOf G.g) (u : System 
         (ao.there G lv c s u l i d at_i z ch kd cg todo o m x t y)
         (on_store (put_cells plain takes.1 (cells_in gives.1)) d2) sender receiver
 
-    after_is : after plain (run_is G) i tn u ≡ u1s
+    after_is : system_after_turn plain (run_is G) i tn u ≡ u1s
     after_is = after_quiet G i tn u quiet ∙ ap
-        (λ f. record (unless_fault plain (run_is G) f i tn u) { births = after_event u.births i (event_or f tn) })
+        (λ f. record (apply_unless_fault plain (run_is G) f i tn u) {
+          births =
+              births_after_event u.births i (event_or f tn);
+        })
         no_fault
-        ∙ ap (λ b. record (sys.counted plain (run_is G)
-        (sys.sent plain (run_is G) i (Sends j kd (cells_in gives.1)) j (cells_in gives.1)
+        ∙ ap (λ b. record (sys.with_entry_counted plain (run_is G)
+        (sys.apply_send plain (run_is G) i (Sends j kd (cells_in gives.1)) j (cells_in gives.1)
         (ao.there G lv c s u l i d at_i z ch kd cg todo o m x t y) b u)) { births = u.births }) pending_is
         ∙ ap (λ b. record u {
           condition = at_key ◌==◌ i
               (sys.Working (ao.there G lv c s u l i d at_i z ch kd cg todo o m x t y))
-              (at_key ◌==◌ zi (sys.received plain (run_is G) (cells_in gives.1) b) u.condition);
+              (at_key ◌==◌ zi (sys.after_message plain (run_is G) (cells_in gives.1) b) u.condition);
           pending = at_key ◌==◌ j None u.pending;
           entries = u.entries + 1;
         }) at_z
         ∙ ap (λ b. record u {
           condition = at_key ◌==◌ i
               (sys.Working (ao.there G lv c s u l i d at_i z ch kd cg todo o m x t y))
-              (at_key ◌==◌ zi (sys.received plain (run_is G) (cells_in gives.1) (sys.Waits b d2)) u.condition);
+              (at_key ◌==◌ zi (sys.after_message plain (run_is G) (cells_in gives.1) (sys.Waits b d2)) u.condition);
           pending = at_key ◌==◌ j None u.pending;
           entries = u.entries + 1;
         }) takes.2
@@ -488,7 +504,7 @@ module _ (G : Ground) (lv : Lives G) (c : Course) (s : StateOf G.g) (u : System 
     sending_meets = entry_by a (Tree value) same_kind msg zn alone_z (inr refl) may_z
         (ao.there G lv c s u l i d at_i z ch kd cg todo o m x t y)
         (on_store (put_cells plain takes.1 (cells_in gives.1)) d2) sender receiver
-        (ap (λ st. after plain (run_is G) i (Stopped st (At t.0 t.1 t.2)) u) stop_is ∙ after_is)
+        (ap (λ st. system_after_turn plain (run_is G) i (Stopped st (At t.0 t.1 t.2)) u) stop_is ∙ after_is)
         (ap (λ st. happening u.births (event_of G.g.limits u (Stopped st (At t.0 t.1 t.2)))) stop_is
         ∙ ap (λ f. happening u.births f) event_is ∙ ap (λ k. Is_offered way.Send k) name_of
         ∙ ap (λ b. Is_offered (way_of b) ch) (sym cg_is))
@@ -505,9 +521,9 @@ module _ (G : Ground) (lv : Lives G) (c : Course) (s : StateOf G.g) (u : System 
     alone_v : IsAlone x.at v
     alone_v = inl (x.left, x.runs)
 
-    may_v : All (W_of G lv) v a.spot
-    may_v = subst (λ b. Rattle.sp_meaning.specs.Owning.MayTake G.g.program (λ k. All (W_of G lv) v k)
-        (λ k. All (R_of G lv) v k) b) cg_is (ao.holds G lv c s u l i d at_i z ch kd cg todo o m x t y).1
+    may_v : OwnOrGiven (W_of G lv) v a.spot
+    may_v = subst (λ b. Rattle.sp_meaning.specs.Owning.MayTake G.g.program (λ k. OwnOrGiven (W_of G lv) v k)
+        (λ k. OwnOrGiven (R_of G lv) v k) b) cg_is (ao.holds G lv c s u l i d at_i z ch kd cg todo o m x t y).1
 
     abbrev t1r : StateOf G.g
     t1r = t1 a (Tree value) same_kind msg_r v alone_v (inl refl) may_v
@@ -534,13 +550,13 @@ module _ (G : Ground) (lv : Lives G) (c : Course) (s : StateOf G.g) (u : System 
         (sent_flat G (lv zn) (λ a b. lv ((a, b) ∷ zn)) zn off2.next.who (c.since zn) off2.kind
         (sort G.g.program off2.kind) refl value gives_z.1 gives_z.4)
 
-    sender_z : Stands G (lv zn) (λ a b. lv ((a, b) ∷ zn)) zn (c.since zn) off2.next t1r.store d2
+    sender_z : ProcessMatches G (lv zn) (λ a b. lv ((a, b) ∷ zn)) zn (c.since zn) off2.next t1r.store d2
     sender_z = stands_stay G lv x.at (with_message a (Tree value) same_kind msg_r v alone_v (inl refl) may_v)
         known_then.sound rights_then.fair v alone_v (stays a (Tree value) same_kind msg_r v alone_v (inl refl) may_v) zn
         apart refl (λ k n. refl) (λ k n h. h)
         (c.since zn) off2.next d2 (inr (ch, subst (λ b. WaitsOn ch b) (sym waits) on)) t2
 
-    receiver_v : Stands G (lv v) (λ a b. lv ((a, b) ∷ v)) v (c1r.since v) off.next t1r.store
+    receiver_v : ProcessMatches G (lv v) (λ a b. lv ((a, b) ∷ v)) v (c1r.since v) off.next t1r.store
         (on_store (put_cells plain takes_v.1 (cells_in gives_z.1))
         (ao.there G lv c s u l i d at_i z ch kd cg todo o m x t y))
     receiver_v = receiver_stands G (lv v) (λ a b. lv ((a, b) ∷ v)) v
@@ -572,19 +588,22 @@ module _ (G : Ground) (lv : Lives G) (c : Course) (s : StateOf G.g) (u : System 
         (on_store (put_cells plain takes_v.1 (cells_in gives_z.1))
         (ao.there G lv c s u l i d at_i z ch kd cg todo o m x t y)) d2 receiver_v sender_z
 
-    after_is_r : after plain (run_is G) i tr u ≡ u1r
+    after_is_r : system_after_turn plain (run_is G) i tr u ≡ u1r
     after_is_r = after_quiet G i tr u quiet ∙ ap
-        (λ f. record (unless_fault plain (run_is G) f i tr u) { births = after_event u.births i (event_or f tr) })
+        (λ f. record (apply_unless_fault plain (run_is G) f i tr u) {
+          births =
+              births_after_event u.births i (event_or f tr);
+        })
         no_fault_r
-        ∙ ap (λ b. record (sys.counted plain (run_is G)
-        (sys.taken plain (run_is G) i (Receives j kd takes_v.1) j takes_v.1
+        ∙ ap (λ b. record (sys.with_entry_counted plain (run_is G)
+        (sys.apply_receive plain (run_is G) i (Receives j kd takes_v.1) j takes_v.1
         (ao.there G lv c s u l i d at_i z ch kd cg todo o m x t y) b u)) { births = u.births }) pending_is
         ∙ ap (λ b. record u {
           condition = at_key ◌==◌ i
               (sys.Working (on_store (put_cells plain takes_v.1
               (sys.message_of plain (run_is G) (sys.stop_of {S = Plain} b)))
               (ao.there G lv c s u l i d at_i z ch kd cg todo o m x t y)))
-              (at_key ◌==◌ zi (sys.received plain (run_is G) [] b) u.condition);
+              (at_key ◌==◌ zi (sys.after_message plain (run_is G) [] b) u.condition);
           pending = at_key ◌==◌ j None u.pending;
           entries = u.entries + 1;
         }) at_z
@@ -592,7 +611,7 @@ module _ (G : Ground) (lv : Lives G) (c : Course) (s : StateOf G.g) (u : System 
           condition = at_key ◌==◌ i
               (sys.Working (on_store (put_cells plain takes_v.1 (sys.message_of plain (run_is G) (Some b)))
               (ao.there G lv c s u l i d at_i z ch kd cg todo o m x t y)))
-              (at_key ◌==◌ zi (sys.received plain (run_is G) [] (sys.Waits b d2)) u.condition);
+              (at_key ◌==◌ zi (sys.after_message plain (run_is G) [] (sys.Waits b d2)) u.condition);
           pending = at_key ◌==◌ j None u.pending;
           entries = u.entries + 1;
         }) gives_z.2
@@ -605,7 +624,7 @@ module _ (G : Ground) (lv : Lives G) (c : Course) (s : StateOf G.g) (u : System 
     receiving_meets = entry_by a (Tree value) same_kind msg_r v alone_v (inl refl) may_v
         (on_store (put_cells plain takes_v.1 (cells_in gives_z.1))
         (ao.there G lv c s u l i d at_i z ch kd cg todo o m x t y)) d2 receiver_v sender_z
-        (ap (λ st. after plain (run_is G) i (Stopped st (At t.0 t.1 t.2)) u) stop_is_r ∙ after_is_r)
+        (ap (λ st. system_after_turn plain (run_is G) i (Stopped st (At t.0 t.1 t.2)) u) stop_is_r ∙ after_is_r)
         (ap (λ st. happening u.births (event_of G.g.limits u (Stopped st (At t.0 t.1 t.2)))) stop_is_r
         ∙ ap (λ f. happening u.births f) event_is_r ∙ ap (λ k. Is_offered way.Receive k) name_of
         ∙ ap (λ b. Is_offered (way_of b) ch) (sym cg_is))
@@ -614,12 +633,12 @@ module _ (G : Ground) (lv : Lives G) (c : Course) (s : StateOf G.g) (u : System 
 
   -- ---- the two do not go together
 
-  module _ (f : Fault) (faults : outcome {L = superpascal G.g} (most G.g) x.at v (Offering off) ≡ Faulty f)
+  module _ (f : Fault) (faults : step_outcome {L = superpascal G.g} (total_limits G.g) x.at v (Offering off) ≡ Faulty f)
       (fault_is : fault_of G.g.limits u (Stopped t.5 (At t.0 t.1 t.2)) ≡ Some f) where
     clash_entry : Entry_of G c s u i d
     clash_entry = failed_entry G lv c s u l i d at_i (offered_halt G lv c s u l i d at_i z ch kd cg todo o m x t) refl f
         (kernel_says G.g v x.at x.left x.runs r x.does
-        ∙ ap (λ b. said_of {L = superpascal G.g} (Offering off) b) faults)
+        ∙ ap (λ b. happening_of {L = superpascal G.g} (Offering off) b) faults)
         (kernel_next G.g v x.at x.left x.runs r x.does
         ∙ ap (λ b. Some (result_of {L = superpascal G.g} x.at v b)) faults) fault_is quiet
 
@@ -647,11 +666,11 @@ module _ (G : Ground) (lv : Lives G) (c : Course) (s : StateOf G.g) (u : System 
 
   -- ---- the entry, by the two cargos
 
-  abbrev Mine : Cargo Held Address → Type 0
+  abbrev Mine : Cargo LocationContent Address → Type 0
   Mine g1 = Ca G (lv v) (λ a b. lv ((a, b) ∷ v)) v z.fresh (p1 G lv c s u l i d at_i).who z.named (c.since v) t.3 ch kd
       g1 t.5
 
-  abbrev Other : Cargo Held Address → Type 0
+  abbrev Other : Cargo LocationContent Address → Type 0
   Other g2 = Ca G (lv zn) (λ a b. lv ((a, b) ∷ zn)) zn t2.fresh off2.next.who t2.named (c.since zn) t2.js off2.channel
       off2.kind g2 st2
 
@@ -666,7 +685,7 @@ module _ (G : Ground) (lv : Lives G) (c : Course) (s : StateOf G.g) (u : System 
   send_take value a e f h k false q = clash_entry fault.F7
       (outcome_is (Some (a, Tree value)) (ap (λ b. message b off2.cargo) e
       ∙ ap (λ b. message (Message (Tree value)) b) f)
-      ∙ ap (λ b. if b then Advances (meeting {L = superpascal G.g} x.at v off zn off2 (a, Tree value)) else
+      ∙ ap (λ b. if b then Advances (meeting_changes {L = superpascal G.g} x.at v off zn off2 (a, Tree value)) else
       Faulty fault.F7) q)
       (sends_found (cells_in h.1) h.0 h.3 h.2 ∙ ap (λ b. sys.clash_by way.Send kd (Some b)) k.2
       ∙ ap (λ b. if b then None else Some fault.F7) (other_kind false q))
@@ -676,12 +695,12 @@ module _ (G : Ground) (lv : Lives G) (c : Course) (s : StateOf G.g) (u : System 
   take_send value a e f h k true q = receiving_meets value a e f q
   take_send value a e f h k false q = clash_entry fault.F7
       (outcome_is (Some (a, Tree value)) (ap (λ b. message b off2.cargo) e ∙ ap (λ b. message (Takes a) b) f)
-      ∙ ap (λ b. if b then Advances (meeting {L = superpascal G.g} x.at v off zn off2 (a, Tree value)) else
+      ∙ ap (λ b. if b then Advances (meeting_changes {L = superpascal G.g} x.at v off zn off2 (a, Tree value)) else
       Faulty fault.F7) q)
       (takes_found h.1 h.0 h.3 h.2 ∙ ap (λ b. sys.clash_by way.Receive kd (Some b)) k.2
       ∙ ap (λ b. if b then None else Some fault.F7) (other_kind false q))
 
-  both : (g1 g2 : Cargo Held Address) → cg ≡ g1 → off2.cargo ≡ g2 → Mine g1 → Other g2 → Entry_of G c s u i d
+  both : (g1 g2 : Cargo LocationContent Address) → cg ≡ g1 → off2.cargo ≡ g2 → Mine g1 → Other g2 → Entry_of G c s u i d
   both (Message (Tree value)) (Takes a) e f h k = send_take value a e f h k (kd == off2.kind) refl
   both (Takes a) (Message (Tree value)) e f h k = take_send value a e f h k (kd == off2.kind) refl
   both (Message (Tree value)) (Message (Tree other)) e f h k = clash_entry fault.F6

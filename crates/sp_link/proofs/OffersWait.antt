@@ -5,7 +5,7 @@ use Rattle.std.proofs.Common.{cond, if◌then◌else◌, eq-eqb, refl, sym, ap, 
 use Rattle.std.specs.Prelude.{◌≢◌, nat_lt}
 use Rattle.std.proofs.lemmas.Bool.{ne_eqb}
 use Rattle.sp_journal.specs.Births.{Births, channel}
-use Rattle.sp_meaning.proofs.Owned.{Holds}
+use Rattle.sp_meaning.proofs.Owned.{ConditionInRights}
 use Rattle.sp_meaning.proofs.Keys.{channel_test, name_test, number_or}
 use Rattle.sp_link.proofs.AfterEntry.{stand_again, follows_again, cargo_again}
 use Rattle.sp_base.specs.declared.fault.Fault.{Fault}
@@ -15,21 +15,23 @@ use Rattle.sp_journal.specs.declared.entry.Event.TheVariants as event
 use Rattle.sp_journal.specs.Births.{happening}
 use Rattle.sp_journal.specs.Maps.{at_key}
 use Rattle.sp_cell.specs.Map.{Plain}
-use Rattle.sp_meaning.specs.Model.{Name, Condition, Absent, Waits, after as After, same_channel, Channel, Cargo}
+use Rattle.sp_meaning.specs.Model.{Name, Condition, Absent, Waits, with_changes as After, same_channel, Channel, Cargo}
 use Rattle.sp_meaning.specs.Model.{Message, Takes, Totals}
-use Rattle.sp_meaning.specs.Steps.{has_ended, Lives as IsLive, OfferOf, waiting, an_entry, way_of, Advances, outcome}
-use Rattle.sp_meaning.specs.Steps.{passed, unless, offered}
+use Rattle.sp_meaning.specs.Steps.{has_ended, IsAlive as IsLive, OfferOf, waiting_changes, entry_cost, way_of, Advances}
+use Rattle.sp_meaning.specs.Steps.{step_outcome}
+use Rattle.sp_meaning.specs.Steps.{limit_fault, fault_or, offer_outcome}
 use Rattle.sp_meaning.specs.Entries.{Happening, Offered as Is_offered}
-use Rattle.sp_meaning.specs.Own.{Held, Address, Own, Process, Came, Got, Written, Item, Tree, Position}
-use Rattle.sp_meaning.specs.Deeds.{Deed, Offered}
+use Rattle.sp_meaning.specs.LocalWork.{LocationContent, Address, LocalState, Process, WorkOutcome, Computed, Written}
+use Rattle.sp_meaning.specs.LocalWork.{Item, Tree, Position}
+use Rattle.sp_meaning.specs.Actions.{Action, Offered}
 use Rattle.sp_meaning.specs.SuperPascal.{with_todo, superpascal}
 use Rattle.sp_meaning.specs.Run.{Store}
-use Rattle.sp_meaning.specs.Runs.{StateOf, most, next, says}
-use Rattle.sp_meaning.specs.Along.{Course, ticks_in, ticks_of, noted}
+use Rattle.sp_meaning.specs.Runs.{StateOf, total_limits, next_state, happening_at}
+use Rattle.sp_meaning.specs.Along.{Course, ticks_in, ticks_of, with_ticks}
 use Rattle.sp_meaning.specs.Turn as source
 use Rattle.sp_meaning.proofs.Maps.{at_same, at_other, differs, same_or_not}
 use Rattle.sp_meaning.proofs.Owned.{Inv}
-use Rattle.sp_meaning.proofs.Reached.{Known, step_well, raised, lowered}
+use Rattle.sp_meaning.proofs.Reached.{StateKeeps, step_well, raised, lowered}
 use Rattle.sp_meaning.proofs.Sound.{step_sound}
 use Rattle.sp_meaning.proofs.Status.{working_lives}
 use Rattle.sp_code.specs.Machine.{Config, At}
@@ -37,33 +39,36 @@ use Rattle.sp_code.specs.Machine as machine
 use Rattle.sp_code.specs.Turns.{Turn, Stopped, IsTurn}
 use Rattle.sp_code.specs.Memory.{Memory}
 use Rattle.sp_code.specs.PlainStore.{plain}
-use Rattle.sp_code.specs.System.{System, after, event_of}
+use Rattle.sp_code.specs.System.{System, system_after_turn, event_of}
 use Rattle.sp_code.specs.System as sys
 use Rattle.sp_link.proofs.Messages.{owned_ready}
 use Rattle.sp_link.proofs.Journal.{IsOpen, now_by}
 use Rattle.sp_link.proofs.KernelSteps.{kernel_next, kernel_says, stand_dead}
 use Rattle.sp_link.proofs.OneChanges.{its, here, inv_local, since_other}
 use Rattle.sp_link.proofs.Pauses.{Entry_of, Meant, Machined, Kept_to, kids, turn_is, after_quiet, way_of_step}
-use Rattle.sp_link.proofs.Relation.{Ground, Lives, W_of, R_of, Stands, Performs_all, Ca, IsPending, Linked, run_is, ops}
+use Rattle.sp_link.proofs.Relation.{RunContext, RightsOfAll, W_of, R_of, ProcessMatches, Performs_all, Ca, IsPending}
+use Rattle.sp_link.proofs.Relation.{Linked, run_is, ops}
 use Rattle.sp_link.proofs.OthersStay.{does_stay}
-use Rattle.sp_meaning.proofs.QuietDeeds.{IsDead}
+use Rattle.sp_meaning.proofs.SilentActions.{IsDead}
 use Rattle.sp_link.proofs.AtStop.{same_but_dead, w, p1, kt, alone_at, known_at, rights_at, ended_at, other_name}
 use Rattle.sp_link.proofs.AtStop.{does_at}
 
-module _ (G : Ground) (lv : Lives G) (c : Course) (s : StateOf G.g) (u : System Plain) (l : Linked G lv c s u) (i : ℕ)
+module _ (G : RunContext) (lv : RightsOfAll G) (c : Course) (s : StateOf G.g) (u : System Plain) (l : Linked G lv c s u)
+    (i : ℕ)
     (d : Config (Memory Plain)) (at_i : u.condition i ≡ sys.Working d)
-    (z : Stands G (lv (w G lv c s u l i d at_i)) (kids G lv c s u l i d at_i) (w G lv c s u l i d at_i)
+    (z : ProcessMatches G (lv (w G lv c s u l i d at_i)) (kids G lv c s u l i d at_i) (w G lv c s u l i d at_i)
     (c.since (w G lv c s u l i d at_i)) (p1 G lv c s u l i d at_i) s.store d)
-    (ch : Channel) (kd : ℕ) (cg : Cargo Held Address) (todo : List Item) (o : Own) (m : Store)
-    (x : Meant G lv c s u l i d at_i z (Got (source.Stops (Offered ch kd cg todo)) o, m))
-    (t : Machined G lv c s u l i d at_i z (Got (source.Stops (Offered ch kd cg todo)) o, m))
-    (y : Kept_to G lv c s u l i d at_i z (Got (source.Stops (Offered ch kd cg todo)) o, m)) (quiet : u.faulted ≡ false)
+    (ch : Channel) (kd : ℕ) (cg : Cargo LocationContent Address) (todo : List Item) (o : LocalState) (m : Store)
+    (x : Meant G lv c s u l i d at_i z (Computed (source.Stops (Offered ch kd cg todo)) o, m))
+    (t : Machined G lv c s u l i d at_i z (Computed (source.Stops (Offered ch kd cg todo)) o, m))
+    (y : Kept_to G lv c s u l i d at_i z (Computed (source.Stops (Offered ch kd cg todo)) o, m))
+    (quiet : u.faulted ≡ false)
     (alone_there : s.pending ch ≡ None) (enough : nat_lt G.g.limits.entries (u.entries + 1) ≡ false) where
   abbrev v : Name
   v = w G lv c s u l i d at_i
 
-  abbrev r : Came Deed × Store
-  r = (Got (Offered ch kd cg todo) o, m)
+  abbrev r : WorkOutcome Action × Store
+  r = (Computed (Offered ch kd cg todo) o, m)
 
   abbrev off : OfferOf (superpascal G.g)
   off = record { channel = ch; kind = kd; cargo = cg; next = with_todo todo x.left.who o }
@@ -71,9 +76,9 @@ module _ (G : Ground) (lv : Lives G) (c : Course) (s : StateOf G.g) (u : System 
   totals_are : x.at.totals ≡ s.totals
   totals_are = x.elsewhere.totals
 
-  passes : passed (most G.g) x.at.totals (Some an_entry) ≡ None
+  passes : limit_fault (total_limits G.g) x.at.totals (Some entry_cost) ≡ None
   passes =
-      ap (λ (a : Totals). passed (most G.g) a (Some an_entry)) totals_are
+      ap (λ (a : Totals). limit_fault (total_limits G.g) a (Some entry_cost)) totals_are
       ∙ ap (λ n. if nat_lt G.g.limits.entries (n + 1) then
       Some Rattle.sp_base.specs.declared.fault.Fault.TheVariants.F15 else None) l.entries
       ∙ ap (λ b. if b then Some Rattle.sp_base.specs.declared.fault.Fault.TheVariants.F15 else None) enough
@@ -81,20 +86,21 @@ module _ (G : Ground) (lv : Lives G) (c : Course) (s : StateOf G.g) (u : System 
   none_there : x.at.pending ch ≡ None
   none_there = ap (λ a. a ch) x.elsewhere.pending ∙ alone_there
 
-  outcome_is : outcome {L = superpascal G.g} (most G.g) x.at v (Rattle.sp_meaning.specs.Model.Offering off)
-      ≡ Advances (waiting {L = superpascal G.g} x.at v off)
-  outcome_is = ap (λ a. unless a (offered {L = superpascal G.g} x.at v off (x.at.pending ch))) passes
-      ∙ ap (λ a. offered {L = superpascal G.g} x.at v off a) none_there
+  outcome_is : step_outcome {L = superpascal G.g} (total_limits G.g) x.at v (Rattle.sp_meaning.specs.Model.Offering off)
+      ≡ Advances (waiting_changes {L = superpascal G.g} x.at v off)
+  outcome_is = ap (λ a. fault_or a (offer_outcome {L = superpascal G.g} x.at v off (x.at.pending ch))) passes
+      ∙ ap (λ a. offer_outcome {L = superpascal G.g} x.at v off a) none_there
 
   abbrev t1 : StateOf G.g
-  t1 = After {L = superpascal G.g} (waiting {L = superpascal G.g} x.at v off) x.at
+  t1 = After {L = superpascal G.g} (waiting_changes {L = superpascal G.g} x.at v off) x.at
 
-  said : says G.g x.at v x.left ≡ Some (Is_offered (way_of cg) ch)
+  said : happening_at G.g x.at v x.left ≡ Some (Is_offered (way_of cg) ch)
   said = kernel_says G.g v x.at x.left x.runs r x.does
-      ∙ ap (λ a. Rattle.sp_meaning.specs.Runs.said_of {L = superpascal G.g} (Rattle.sp_meaning.specs.Model.Offering off)
+      ∙ ap (λ a. Rattle.sp_meaning.specs.Runs.happening_of {L = superpascal G.g}
+      (Rattle.sp_meaning.specs.Model.Offering off)
       a) outcome_is
 
-  goes_next : next G.g x.at v ≡ Some t1
+  goes_next : next_state G.g x.at v ≡ Some t1
   goes_next = kernel_next G.g v x.at x.left x.runs r x.does
       ∙ ap (λ a. Some (Rattle.sp_meaning.specs.Steps.result_of {L = superpascal G.g} x.at v a)) outcome_is
 
@@ -102,7 +108,7 @@ module _ (G : Ground) (lv : Lives G) (c : Course) (s : StateOf G.g) (u : System 
   what = Is_offered (way_of cg) ch
 
   abbrev c1 : Course
-  c1 = noted v (ticks_of G.g t1 v) c
+  c1 = with_ticks v (ticks_of G.g t1 v) c
 
   waits : t1.condition v ≡ Waits off
   waits = at_same name_test x.at.condition v (Waits off)
@@ -110,12 +116,12 @@ module _ (G : Ground) (lv : Lives G) (c : Course) (s : StateOf G.g) (u : System 
   same : (a : Name) → a ≢ v → t1.condition a ≡ x.at.condition a
   same a e = at_other name_test x.at.condition v a (Waits off) (λ h. e (sym h))
 
-  known_then : Known G.g x.at
+  known_then : StateKeeps G.g x.at
   known_then = known_at G lv c s u l i d at_i z r x what said
 
-  known_now : Known G.g t1
+  known_now : StateKeeps G.g t1
   known_now = record {
-    sound = step_sound (most G.g) x.at v t1 known_then.sound goes_next;
+    sound = step_sound (total_limits G.g) x.at v t1 known_then.sound goes_next;
     well = lowered G.g (λ a. ticks_in (x.at.condition a)) t1
         (step_well G.g x.at known_then.sound v (raised G.g x.at known_then.well) t1 goes_next);
   }
@@ -123,11 +129,11 @@ module _ (G : Ground) (lv : Lives G) (c : Course) (s : StateOf G.g) (u : System 
   rights_then : Inv G.g.program (W_of G lv) (R_of G lv) x.at.condition x.at.forks
   rights_then = rights_at G lv c s u l i d at_i z r x what said
 
-  holds : Holds G.g.program (W_of G lv) (R_of G lv) x.at.forks v (Waits off)
+  holds : ConditionInRights G.g.program (W_of G lv) (R_of G lv) x.at.forks v (Waits off)
   holds = (
     record {
       named = x.good.named;
-      forked = ap (λ (a : Rattle.sp_meaning.specs.Own.Who). a.forks) x.who_is
+      forked = ap (λ (a : Rattle.sp_meaning.specs.LocalWork.Identity). a.forks) x.who_is
           ∙ (kt G lv c s u l i d at_i).forked ∙ ap (λ a. a v) (sym x.elsewhere.forks);
       last = (kt G lv c s u l i d at_i).last;
       fit = y.final.1;
@@ -138,7 +144,7 @@ module _ (G : Ground) (lv : Lives G) (c : Course) (s : StateOf G.g) (u : System 
   rights_now : Inv G.g.program (W_of G lv) (R_of G lv) t1.condition t1.forks
   rights_now = inv_local G (W_of G lv) (R_of G lv) x.at.condition t1.condition x.at.forks t1.forks v rights_then refl
       (λ e. subst (λ a. IsLive a) e (working_lives x.at.condition v (x.at.condition v) x.left x.runs)) same
-      (subst (λ a. Holds G.g.program (W_of G lv) (R_of G lv) x.at.forks v a) (sym waits) holds)
+      (subst (λ a. ConditionInRights G.g.program (W_of G lv) (R_of G lv) x.at.forks v a) (sym waits) holds)
 
   ended_same : (a : Name) → has_ended (t1.condition a) ≡ has_ended (x.at.condition a)
   ended_same a = ⊎_elim (λ (e : a ≡ v). ap (λ b. has_ended (t1.condition b)) e ∙ ap (λ b. has_ended b) waits
@@ -177,7 +183,7 @@ module _ (G : Ground) (lv : Lives G) (c : Course) (s : StateOf G.g) (u : System 
   since_here = ap (λ b. cond b (ticks_of G.g t1 v) (c.since v)) (Rattle.sp_meaning.proofs.Maps.itself name_test v)
       ∙ ap ticks_in waits ∙ (t.8).ticks
 
-  abbrev stands : Stands G (lv v) (λ a b. lv ((a, b) ∷ v)) v (c1.since v) off.next t1.store there
+  abbrev stands : ProcessMatches G (lv v) (λ a b. lv ((a, b) ∷ v)) v (c1.since v) off.next t1.store there
   stands = record {
     fresh = z.fresh;
     named = name_is;
@@ -187,11 +193,12 @@ module _ (G : Ground) (lv : Lives G) (c : Course) (s : StateOf G.g) (u : System 
     memory = n1;
     is = refl;
     stand = stand_again G (lv v) (λ a b. lv ((a, b) ∷ v)) v {w = (p1 G lv c s u l i d at_i).who} {w1 = x.left.who}
-        {since = c.since v} {since1 = c1.since v} (ap (λ (a : Rattle.sp_meaning.specs.Own.Who). a.name) x.who_is)
+        {since = c.since v} {since1 = c1.since v} (ap (λ (a : Rattle.sp_meaning.specs.LocalWork.Identity). a.name)
+        x.who_is)
         since_here
         (stand_dead G (lv v) (λ a b. lv ((a, b) ∷ v)) v t.8 x.at.store
         (λ a. subst (λ b. (x.at.store a ≡ m a) ⊎ IsDead b a)
-        (ap (λ b. length b) (t.8).frames.sources_are ∙ Rattle.sp_codegen.proofs.Joints.sources_length t.3)
+        (ap (λ b. length b) (t.8).frames.sources_are ∙ Rattle.sp_codegen.proofs.FramePairs.sources_length t.3)
         (same_but_dead G lv c s u l i d at_i z (Offered ch kd cg todo) o m x tt a)));
     follows = follows_again G (lv v) (λ a b. lv ((a, b) ∷ v)) v z.fresh z.fresh (p1 G lv c s u l i d at_i).who
         x.left.who z.named name_is (c.since v) (c1.since v) t.0 t.1 t.3 todo t.10;
@@ -207,7 +214,7 @@ module _ (G : Ground) (lv : Lives G) (c : Course) (s : StateOf G.g) (u : System 
     waits,
     stands,
     cargo,
-    ap (λ (a : Rattle.sp_meaning.specs.Own.Who). a.opens) x.who_is
+    ap (λ (a : Rattle.sp_meaning.specs.LocalWork.Identity). a.opens) x.who_is
         ∙ (its G lv c s u l i d at_i).3,
     (its G lv c s u l i d at_i).4,
     owned_ready G t.5 t.0 t.1 t.2 t.12,
@@ -295,7 +302,7 @@ module _ (G : Ground) (lv : Lives G) (c : Course) (s : StateOf G.g) (u : System 
           (λ (e : a ≢ v). l.numbered a (λ f. h (same a e ∙ x.elsewhere.condition a e ∙ f))) (same_or_not name_test a v);
     }
       where
-        no_absent : ◌≡◌ {A = Condition Process Held Address} (Waits off) Absent → ⊥
+        no_absent : ◌≡◌ {A = Condition Process LocationContent Address} (Waits off) Absent → ⊥
         no_absent e = cc e
 
     -- what the machine's turn makes of its system, for either way
@@ -314,8 +321,8 @@ module _ (G : Ground) (lv : Lives G) (c : Course) (s : StateOf G.g) (u : System 
         Some Rattle.sp_base.specs.declared.fault.Fault.TheVariants.F15 else None
 
     abbrev made : Option Fault → machine.Stop → System Plain
-    made f st = record (sys.unless_fault plain (run_is G) f i (turn_of st) u)
-        { births = Rattle.sp_journal.specs.Births.after_event u.births i (sys.event_or f (turn_of st)) }
+    made f st = record (sys.apply_unless_fault plain (run_is G) f i (turn_of st) u)
+        { births = Rattle.sp_journal.specs.Births.births_after_event u.births i (sys.event_or f (turn_of st)) }
 
     none_fault : (w1 : Way) → Rattle.sp_code.specs.System.first_fault or_f15
         (sys.clash_by w1 kd (sys.pending_stop u (u.pending j))) ≡ None
@@ -329,18 +336,19 @@ module _ (G : Ground) (lv : Lives G) (c : Course) (s : StateOf G.g) (u : System 
         by way.Receive = refl
 
     sends : (cs : List Rattle.sp_cell.specs.declared.cell.Cell.Cell)
-        → after plain (run_is G) i (turn_of (machine.Sends j kd cs)) u ≡ u1_of (machine.Sends j kd cs)
+        → system_after_turn plain (run_is G) i (turn_of (machine.Sends j kd cs)) u ≡ u1_of (machine.Sends j kd cs)
     sends cs = after_quiet G i (turn_of (machine.Sends j kd cs)) u quiet
         ∙ ap (λ f. made f (machine.Sends j kd cs)) (none_fault way.Send)
-        ∙ ap (λ a. record (sys.counted plain (run_is G)
-        (sys.sent plain (run_is G) i (machine.Sends j kd cs) j cs there a u)) { births = u.births }) nothing_pends
+        ∙ ap (λ a. record (sys.with_entry_counted plain (run_is G)
+        (sys.apply_send plain (run_is G) i (machine.Sends j kd cs) j cs there a u)) { births = u.births }) nothing_pends
 
     takes : (a : Rattle.sp_cell.specs.declared.spot.Address.Address)
-        → after plain (run_is G) i (turn_of (machine.Receives j kd a)) u ≡ u1_of (machine.Receives j kd a)
+        → system_after_turn plain (run_is G) i (turn_of (machine.Receives j kd a)) u ≡ u1_of (machine.Receives j kd a)
     takes a = after_quiet G i (turn_of (machine.Receives j kd a)) u quiet
         ∙ ap (λ f. made f (machine.Receives j kd a)) (none_fault way.Receive)
-        ∙ ap (λ b. record (sys.counted plain (run_is G)
-        (sys.taken plain (run_is G) i (machine.Receives j kd a) j a there b u)) { births = u.births }) nothing_pends
+        ∙ ap (λ b. record (sys.with_entry_counted plain (run_is G)
+        (sys.apply_receive plain (run_is G) i (machine.Receives j kd a) j a there b u)) { births = u.births })
+        nothing_pends
 
     event_sends : (cs : List Rattle.sp_cell.specs.declared.cell.Cell.Cell)
         → event_of G.g.limits u (turn_of (machine.Sends j kd cs)) ≡ event.Send j
@@ -359,7 +367,7 @@ module _ (G : Ground) (lv : Lives G) (c : Course) (s : StateOf G.g) (u : System 
     name_of = l.began.openings j is_open ∙ named.2
 
     -- the entry, once it is known what the machine's turn makes
-    entry_by : after plain (run_is G) i (turn_of t.5) u ≡ u1
+    entry_by : system_after_turn plain (run_is G) i (turn_of t.5) u ≡ u1
         → happening u.births (event_of G.g.limits u (turn_of t.5)) ≡ what
         → IsOpen u.births (event_of G.g.limits u (turn_of t.5)) → Entry_of G c s u i d
     entry_by is told speaks = record {
@@ -369,16 +377,16 @@ module _ (G : Ground) (lv : Lives G) (c : Course) (s : StateOf G.g) (u : System 
           (λ left n k. (l.faulted ∙ quiet, refl, t1, n, one-add n, (x.left, x.runs, said, goes_next), k)) _ (sym told);
       speaks = speaks;
       lives = lv;
-      linked = λ began. now_by G lv c1 t1 (after plain (run_is G) i (turn_of t.5) u)
+      linked = λ began. now_by G lv c1 t1 (system_after_turn plain (run_is G) i (turn_of t.5) u)
           (subst (λ a. Linked G lv c1 t1 a) (sym is) linked);
     }
 
   -- of both ways
-  waiting_by : (g1 : Cargo Held Address) → cg ≡ g1
+  waiting_by : (g1 : Cargo LocationContent Address) → cg ≡ g1
       → Ca G (lv v) (λ a b. lv ((a, b) ∷ v)) v z.fresh x.left.who name_is (c1.since v) t.3 ch kd g1 t.5
       → Entry_of G c s u i d
   waiting_by (Message (Tree a)) e h = entry_by h.0 h.3
-      (ap (λ st. after plain (run_is G) i (Stopped st (At t.0 t.1 t.2)) u) h.2 ∙ sends h.0 h.3 _
+      (ap (λ st. system_after_turn plain (run_is G) i (Stopped st (At t.0 t.1 t.2)) u) h.2 ∙ sends h.0 h.3 _
       ∙ ap (λ st. u1_of h.0 h.3 st) (sym h.2))
       (ap (λ st. happening u.births (event_of G.g.limits u (Stopped st (At t.0 t.1 t.2)))) h.2
       ∙ ap (λ f. happening u.births f) (event_sends h.0 h.3 _) ∙ ap (λ a. Is_offered way.Send a) (name_of h.0 h.3)
@@ -388,7 +396,7 @@ module _ (G : Ground) (lv : Lives G) (c : Course) (s : StateOf G.g) (u : System 
   waiting_by (Message (Position n)) e h = absurd h
   waiting_by (Message (Written bs)) e h = absurd h
   waiting_by (Takes a) e h = entry_by h.0 h.3
-      (ap (λ st. after plain (run_is G) i (Stopped st (At t.0 t.1 t.2)) u) h.2 ∙ takes h.0 h.3 h.1
+      (ap (λ st. system_after_turn plain (run_is G) i (Stopped st (At t.0 t.1 t.2)) u) h.2 ∙ takes h.0 h.3 h.1
       ∙ ap (λ st. u1_of h.0 h.3 st) (sym h.2))
       (ap (λ st. happening u.births (event_of G.g.limits u (Stopped st (At t.0 t.1 t.2)))) h.2
       ∙ ap (λ f. happening u.births f) (event_takes h.0 h.3 h.1)

@@ -6,35 +6,36 @@ use Rattle.std.specs.Prelude.{◌≢◌}
 use Rattle.sp_journal.specs.Maps.{at_key}
 use Rattle.sp_cell.specs.Map.{Plain}
 use Rattle.sp_meaning.specs.Model.{Name, Condition, Absent, Works, Waits, Joins, Ended}
-use Rattle.sp_meaning.specs.Steps.{working_in, has_ended, all_ended, Lives as IsLive}
-use Rattle.sp_meaning.specs.Own.{Loc, Held, Address, Process}
+use Rattle.sp_meaning.specs.Steps.{own_part_in, has_ended, all_ended, IsAlive as IsLive}
+use Rattle.sp_meaning.specs.LocalWork.{Loc, LocationContent, Address, Process}
 use Rattle.sp_meaning.specs.SuperPascal.{weight_of}
-use Rattle.sp_meaning.specs.Runs.{StateOf, most, running}
-use Rattle.sp_meaning.specs.Along.{Course, noted}
+use Rattle.sp_meaning.specs.Runs.{StateOf, total_limits, running_process}
+use Rattle.sp_meaning.specs.Along.{Course, with_ticks}
 use Rattle.sp_meaning.proofs.Keys.{name_test, number_or}
 use Rattle.sp_meaning.proofs.Maps.{same_or_not, differs}
-use Rattle.sp_meaning.proofs.Owned.{Inv, Keeps_to, Holds, works_well}
+use Rattle.sp_meaning.proofs.Owned.{Inv, Keeps_to, ConditionInRights, works_well}
 use Rattle.sp_meaning.proofs.Parallel.{IsAlone}
-use Rattle.sp_meaning.proofs.Reached.{Known, working_keeps, K}
-use Rattle.sp_meaning.proofs.Rights.{All}
+use Rattle.sp_meaning.proofs.Reached.{StateKeeps, working_keeps, K}
+use Rattle.sp_meaning.proofs.Rights.{OwnOrGiven}
 use Rattle.sp_meaning.proofs.Status.{working_lives, lives_ended}
-use Rattle.sp_meaning.proofs.Weights.{AllFit}
+use Rattle.sp_meaning.proofs.Weights.{AreLight}
 use Rattle.sp_code.specs.Machine.{Config}
 use Rattle.sp_code.specs.Memory.{Memory}
 use Rattle.sp_code.specs.System.{System}
 use Rattle.sp_code.specs.System as sys
 use Rattle.sp_link.proofs.Journal.{is_born}
-use Rattle.sp_link.proofs.Relation.{Ground, Lives, W_of, R_of, Performs_all, Linked, IsPending}
+use Rattle.sp_link.proofs.Relation.{RunContext, RightsOfAll, W_of, R_of, Performs_all, Linked, IsPending}
 use Rattle.sp_link.proofs.OthersStay.{does_stay}
 
 -- an entry notes the ticks of its process alone
-pub since_other : (c : Course) (v : Name) (n : ℕ) (a : Name) → a ≢ v → (noted v n c).since a ≡ c.since a
+pub since_other : (c : Course) (v : Name) (n : ℕ) (a : Name) → a ≢ v → (with_ticks v n c).since a ≡ c.since a
 since_other c v n a e = ap (λ b. cond b n (c.since a)) (differs name_test v a (λ h. e (sym h)))
 
 -- a working process, whatever condition it has, keeps to its rights
-pub holds_by : (G : Ground) (W R : Name → Loc → Type 0) (m : Name → Condition Process Held Address) (f : Name → ℕ)
-    (q : Name) (x : Condition Process Held Address) (pr : Process) → working_in m q x ≡ Some pr
-    → Keeps_to G.g.program W R f q pr → Holds G.g.program W R f q x
+pub holds_by : (G : RunContext) (W R : Name → Loc → Type 0) (m : Name → Condition Process LocationContent Address)
+    (f : Name → ℕ)
+    (q : Name) (x : Condition Process LocationContent Address) (pr : Process) → own_part_in m q x ≡ Some pr
+    → Keeps_to G.g.program W R f q pr → ConditionInRights G.g.program W R f q x
 holds_by G W R m f q Absent pr e k = absurd (cc e)
 holds_by G W R m f q (Works o) pr e k = let x : pr ≡ o = cc e in subst (λ z. Keeps_to G.g.program W R f q z) x k
 holds_by G W R m f q (Waits o) pr e k = absurd (cc e)
@@ -46,12 +47,12 @@ holds_by G W R m f q (Joins a b o) pr e k = go (all_ended m q a b) e
 holds_by G W R m f q Ended pr e k = absurd (cc e)
 
 -- the invariant of rights, where only one has changed
-pub inv_local : (G : Ground) (W R : Name → Loc → Type 0) (m m1 : Name → Condition Process Held Address)
+pub inv_local : (G : RunContext) (W R : Name → Loc → Type 0) (m m1 : Name → Condition Process LocationContent Address)
     (f f1 : Name → ℕ) (q : Name) → Inv G.g.program W R m f → f1 ≡ f → (m q ≢ Absent) → ((r : Name) → r ≢ q → m1 r ≡ m r)
-    → Holds G.g.program W R f q (m1 q) → Inv G.g.program W R m1 f1
+    → ConditionInRights G.g.program W R f q (m1 q) → Inv G.g.program W R m1 f1
 inv_local G W R m m1 f f1 q i e here other h = subst (λ z. Inv G.g.program W R m1 z) (sym e) (record {
-  holds = λ r. ⊎_elim (λ (x : r ≡ q). subst (λ z. Holds G.g.program W R f z (m1 z)) (sym x) h)
-      (λ (x : r ≢ q). subst (λ z. Holds G.g.program W R f r z) (sym (other r x)) (i.holds r))
+  holds = λ r. ⊎_elim (λ (x : r ≡ q). subst (λ z. ConditionInRights G.g.program W R f z (m1 z)) (sym x) h)
+      (λ (x : r ≢ q). subst (λ z. ConditionInRights G.g.program W R f r z) (sym (other r x)) (i.holds r))
       (same_or_not name_test r q);
   unborn = λ r k n le. ⊎_elim (λ (x : (k, n) ∷ r ≡ q). absurd (here (ap m (sym x) ∙ i.unborn r k n le)))
       (λ (x : (k, n) ∷ r ≢ q). other ((k, n) ∷ r) x ∙ i.unborn r k n le) (same_or_not name_test ((k, n) ∷ r) q);
@@ -59,7 +60,8 @@ inv_local G W R m m1 f f1 q i e here other h = subst (λ z. Inv G.g.program W R 
   unknown = i.unknown;
 })
 
-module _ (G : Ground) (lv : Lives G) (c : Course) (s : StateOf G.g) (u : System Plain) (l : Linked G lv c s u) (i : ℕ)
+module _ (G : RunContext) (lv : RightsOfAll G) (c : Course) (s : StateOf G.g) (u : System Plain) (l : Linked G lv c s u)
+    (i : ℕ)
     (d : Config (Memory Plain)) (at_i : u.condition i ≡ sys.Working d) where
   abbrev pub q : Name
   q = G.births.name i
@@ -74,33 +76,34 @@ module _ (G : Ground) (lv : Lives G) (c : Course) (s : StateOf G.g) (u : System 
   abbrev pub pr : Process
   pr = its.0
 
-  pub runs : running G.g s q ≡ Some pr
-  runs = its.1
+  pub runs_as_pr : running_process G.g s q ≡ Some pr
+  runs_as_pr = its.1
 
   pub alone : IsAlone s q
-  alone = inl (pr, runs)
+  alone = inl (pr, runs_as_pr)
 
   pub keeps_to : Keeps_to G.g.program (W_of G lv) (R_of G lv) s.forks q pr
-  keeps_to = (works_well G.g (most G.g) G.free (W_of G lv) (R_of G lv) s l.rights q pr runs).0
+  keeps_to = (works_well G.g (total_limits G.g) G.free (W_of G lv) (R_of G lv) s l.rights q pr runs_as_pr).0
 
-  pub light : AllFit (weight_of G.g.program) pr.todo
-  light = (working_keeps (K G.g) s.condition 0 (s.forks q) q (s.condition q) pr (l.known.well q) runs).light
+  pub light : AreLight (weight_of G.g.program) pr.todo
+  light = (working_keeps (K G.g) s.condition 0 (s.forks q) q (s.condition q) pr (l.known.well q) runs_as_pr).light
 
   pub present : s.condition q ≢ Absent
-  present e = subst (λ x. IsLive x) e (working_lives s.condition q (s.condition q) pr runs)
+  present e = subst (λ x. IsLive x) e (working_lives s.condition q (s.condition q) pr runs_as_pr)
 
   pub not_ended : has_ended (s.condition q) ≡ false
   not_ended = go (has_ended (s.condition q)) refl
     where
       go : (b : Bool) → has_ended (s.condition q) ≡ b → b ≡ false
-      go true e = absurd (lives_ended (s.condition q) (working_lives s.condition q (s.condition q) pr runs) e)
+      go true e = absurd (lives_ended (s.condition q) (working_lives s.condition q (s.condition q) pr runs_as_pr) e)
       go false e = refl
 
   module _ (t : StateOf G.g) (c1 : Course) (x : sys.Condition Plain) (f : Bool)
       (other : (r : Name) → r ≢ q → t.condition r ≡ s.condition r) (forks : t.forks ≡ s.forks)
       (pending : t.pending ≡ s.pending) (totals : t.totals ≡ s.totals)
-      (stays : (a : Loc) → (t.store a ≡ s.store a) ⊎ All (W_of G lv) q a) (known : Known G.g t) (left : Process)
-      (works : working_in t.condition q (t.condition q) ≡ Some left)
+      (stays : (a : Loc) → (t.store a ≡ s.store a) ⊎ OwnOrGiven (W_of G lv) q a) (known : StateKeeps G.g t)
+      (left : Process)
+      (works : own_part_in t.condition q (t.condition q) ≡ Some left)
       (rights : Keeps_to G.g.program (W_of G lv) (R_of G lv) s.forks q left)
       (since : (r : Name) → r ≢ q → c1.since r ≡ c.since r) (laid : (r : Name) → r ≢ q → c1.laid r ≡ c.laid r)
       (more : c.faulted ≡ true → c1.faulted ≡ true) (faulted : c1.faulted ≡ f) (quiet : f ≡ false → t.fault ≡ None)
@@ -113,7 +116,7 @@ module _ (G : Ground) (lv : Lives G) (c : Course) (s : StateOf G.g) (u : System 
         go true e = absurd (lives_ended (t.condition q) (working_lives t.condition q (t.condition q) left works) e)
         go false e = refl
 
-    absent_not_ended : (y : Condition Process Held Address) → t.condition q ≡ Absent → ⊥
+    absent_not_ended : (y : Condition Process LocationContent Address) → t.condition q ≡ Absent → ⊥
     absent_not_ended y e = subst (λ a. IsLive a) e (working_lives t.condition q (t.condition q) left works)
 
     ended_same : (r : Name) → has_ended (t.condition r) ≡ has_ended (s.condition r)

@@ -6,7 +6,7 @@ use Rattle.std.specs.Prelude.{◌≢◌, nat_lt}
 use Rattle.std.proofs.lemmas.Bool.{ne_eqb}
 use Rattle.sp_base.specs.declared.fault.Fault.{Fault}
 use Rattle.sp_base.specs.declared.fault.Fault.TheVariants as fault
-use Rattle.sp_journal.specs.Births.{Births, channel, happening, after_event}
+use Rattle.sp_journal.specs.Births.{Births, channel, happening, births_after_event}
 use Rattle.sp_journal.specs.declared.entry.Event.TheVariants as event
 use Rattle.sp_journal.specs.declared.entry.Opening.{Opening}
 use Rattle.sp_journal.specs.Maps.{at_key}
@@ -14,26 +14,28 @@ use Rattle.sp_cell.specs.declared.cell.Cell.TheVariants as cell
 use Rattle.sp_cell.specs.Map.{Plain}
 use Rattle.sp_meaning.specs.Maps.{at_key as put_at}
 use Rattle.sp_meaning.specs.Model.{Name, same_name, Channel, Cargo, Message, Takes, Condition, Absent, Works, Waits}
-use Rattle.sp_meaning.specs.Model.{Joins, Ended, Becomes, Adds, Opens, changed, add, Totals}
-use Rattle.sp_meaning.specs.Asking.{put_by}
-use Rattle.sp_meaning.specs.Steps.{ActOf, has_ended, working_in, Lives as IsLive, WaitsOn, Advances, Faulty, outcome}
-use Rattle.sp_meaning.specs.Steps.{passed, unless, acts, puts, result_of}
+use Rattle.sp_meaning.specs.Model.{Joins, Ended, Becomes, AddsTotals, Opens, with_change, add, Totals}
+use Rattle.sp_meaning.specs.EffectTree.{tree_writes}
+use Rattle.sp_meaning.specs.Steps.{ActOf, has_ended, own_part_in, IsAlive as IsLive, WaitsOn, Advances, Faulty}
+use Rattle.sp_meaning.specs.Steps.{step_outcome}
+use Rattle.sp_meaning.specs.Steps.{limit_fault, fault_or, act_outcome, write_changes, result_of}
 use Rattle.sp_meaning.specs.Entries.{Opened as Is_opened}
-use Rattle.sp_meaning.specs.Own.{Loc, Held, Address, Own, Who, Process, Came, Got, Item, Tree, Position, Written}
-use Rattle.sp_meaning.specs.Own.{same_loc}
+use Rattle.sp_meaning.specs.LocalWork.{Loc, LocationContent, Address, LocalState, Identity, Process, WorkOutcome}
+use Rattle.sp_meaning.specs.LocalWork.{Computed, Item, Tree, Position, Written}
+use Rattle.sp_meaning.specs.LocalWork.{same_loc}
 use Rattle.sp_meaning.specs.Values.{Chan}
-use Rattle.sp_meaning.specs.Deeds.{Deed, Opened}
-use Rattle.sp_meaning.specs.SuperPascal.{superpascal, asks, with_todo}
+use Rattle.sp_meaning.specs.Actions.{Action, Opened}
+use Rattle.sp_meaning.specs.SuperPascal.{superpascal, act_tree, with_todo}
 use Rattle.sp_meaning.specs.Run.{Store}
-use Rattle.sp_meaning.specs.Runs.{StateOf, most, next, says, said_of}
-use Rattle.sp_meaning.specs.Along.{Course, ticks_in, ticks_of, noted}
+use Rattle.sp_meaning.specs.Runs.{StateOf, total_limits, next_state, happening_at, happening_of}
+use Rattle.sp_meaning.specs.Along.{Course, ticks_in, ticks_of, with_ticks}
 use Rattle.sp_meaning.specs.Turn as source
 use Rattle.sp_meaning.proofs.Keys.{name_test, number_or}
 use Rattle.sp_meaning.proofs.Maps.{at_same, at_other, itself, same_or_not}
 use Rattle.sp_meaning.proofs.Moved.{stored, answered}
-use Rattle.sp_meaning.proofs.Owned.{Inv, Holds}
-use Rattle.sp_meaning.proofs.Reached.{Known, step_well, raised, lowered}
-use Rattle.sp_meaning.proofs.Rights.{Mine}
+use Rattle.sp_meaning.proofs.Owned.{Inv, ConditionInRights}
+use Rattle.sp_meaning.proofs.Reached.{StateKeeps, step_well, raised, lowered}
+use Rattle.sp_meaning.proofs.Rights.{OwnLocation}
 use Rattle.sp_meaning.proofs.Sound.{step_sound}
 use Rattle.sp_code.specs.Machine.{Config, At}
 use Rattle.sp_code.specs.Machine as machine
@@ -41,7 +43,7 @@ use Rattle.sp_code.specs.Turns.{Turn, Stopped, IsTurn}
 use Rattle.sp_code.specs.Memory.{Memory, put_cell}
 use Rattle.sp_code.specs.PlainStore.{plain}
 use Rattle.sp_code.specs.Scopes.{sort}
-use Rattle.sp_code.specs.System.{System, after, event_of, event_or, fault_of, unless_fault, on_store}
+use Rattle.sp_code.specs.System.{System, system_after_turn, event_of, event_or, fault_of, apply_unless_fault, on_store}
 use Rattle.sp_code.specs.System as sys
 use Rattle.sp_codegen.specs.Relation.{OneCell, Stood}
 use Rattle.sp_codegen.proofs.Writing.{store_law}
@@ -54,10 +56,12 @@ use Rattle.sp_link.proofs.MoreChannels.{one_more, stands_more, does_more}
 use Rattle.sp_link.proofs.OneChanges.{q, pr, its, alone, here, present, not_ended, keeps_to, inv_local, since_other}
 use Rattle.sp_link.proofs.OthersStay.{does_stay}
 use Rattle.sp_link.proofs.Pauses.{Entry_of, Meant, Machined, Kept_to, kids, turn_is, after_quiet, way_of_step}
-use Rattle.sp_link.proofs.Relation.{Ground, Life, Lives, W_of, R_of, Called, Named, Stands, Ca, Rel, St, Performs_all}
+use Rattle.sp_link.proofs.Relation.{RunContext, BirthRights, RightsOfAll, W_of, R_of, Called, Named, ProcessMatches, Ca}
+use Rattle.sp_link.proofs.Relation.{Rel, St, Performs_all}
 use Rattle.sp_link.proofs.Relation.{IsPending, Linked, Began, at_open, run_is, ops}
 
-module _ (G : Ground) (lv : Lives G) (c : Course) (s : StateOf G.g) (u : System Plain) (l : Linked G lv c s u) where
+module _ (G : RunContext) (lv : RightsOfAll G) (c : Course) (s : StateOf G.g) (u : System Plain)
+    (l : Linked G lv c s u) where
   -- a pending offer is on a channel that is open
   pending_open : (ch : Channel) (zn : Name) → s.pending ch ≡ Some zn → (j : ℕ) × Named G ch j
   pending_open ch zn e = by (u.condition k) (subst (λ y. Performs_all G lv y c s (u.births.opens k) (u.condition k))
@@ -78,17 +82,19 @@ module _ (G : Ground) (lv : Lives G) (c : Course) (s : StateOf G.g) (u : System 
       name_is : G.births.name k ≡ zn
       name_is = n.2
 
-      idle : (x : Condition Process Held Address) (own : Process) → WaitsOn ch x
-          → working_in s.condition zn x ≡ Some own → ⊥
+      idle : (x : Condition Process LocationContent Address) (own : Process) → WaitsOn ch x
+          → own_part_in s.condition zn x ≡ Some own → ⊥
       idle Absent own h f = h
       idle (Works pr) own h f = h
       idle (Waits w) own h f = absurd (cc f)
       idle (Joins a b pr) own h f = h
       idle Ended own h f = h
 
-      cargo : (lf : Life) (more : ℕ → ℕ → Life) (f : Rattle.sp_link.proofs.Relation.Fresh G lf more zn) (w : Who)
-          (nm : w.name ≡ zn) (since : ℕ) (js : List Rattle.sp_codegen.specs.Joints.Joint) (c1 : Channel) (kd : ℕ)
-          (g : Cargo Held Address) (z : machine.Stop) → Ca G lf more zn f w nm since js c1 kd g z → (j : ℕ)
+      cargo : (lf : BirthRights) (more : ℕ → ℕ → BirthRights) (f : Rattle.sp_link.proofs.Relation.Fresh G lf more zn)
+          (w : Identity)
+          (nm : w.name ≡ zn) (since : ℕ) (js : List Rattle.sp_codegen.specs.FramePairs.FramePair) (c1 : Channel)
+          (kd : ℕ)
+          (g : Cargo LocationContent Address) (z : machine.Stop) → Ca G lf more zn f w nm since js c1 kd g z → (j : ℕ)
           × Named G c1 j
       cargo lf more f w nm since js c1 kd (Message (Tree a)) z h = (h.0, h.3)
       cargo lf more f w nm since js c1 kd (Message (Position m)) z h = absurd h
@@ -108,24 +114,26 @@ module _ (G : Ground) (lv : Lives G) (c : Course) (s : StateOf G.g) (u : System 
       by sys.Gone h = absurd (subst (λ b. WaitsOn ch b) h.0 waits)
       by (sys.Over a) h = absurd (subst (λ b. WaitsOn ch b) h.0 waits)
 
-module _ (G : Ground) (lv : Lives G) (c : Course) (s : StateOf G.g) (u : System Plain) (l : Linked G lv c s u) (i : ℕ)
+module _ (G : RunContext) (lv : RightsOfAll G) (c : Course) (s : StateOf G.g) (u : System Plain) (l : Linked G lv c s u)
+    (i : ℕ)
     (d : Config (Memory Plain)) (at_i : u.condition i ≡ sys.Working d)
-    (z : Stands G (lv (q G lv c s u l i d at_i)) (kids G lv c s u l i d at_i) (q G lv c s u l i d at_i)
+    (z : ProcessMatches G (lv (q G lv c s u l i d at_i)) (kids G lv c s u l i d at_i) (q G lv c s u l i d at_i)
     (c.since (q G lv c s u l i d at_i)) (pr G lv c s u l i d at_i) s.store d)
-    (todo : List Item) (o : Own) (m : Store) (x : Meant G lv c s u l i d at_i z (Got (source.Stops (Opened todo)) o, m))
-    (t : Machined G lv c s u l i d at_i z (Got (source.Stops (Opened todo)) o, m))
-    (y : Kept_to G lv c s u l i d at_i z (Got (source.Stops (Opened todo)) o, m)) (quiet : u.faulted ≡ false) where
+    (todo : List Item) (o : LocalState) (m : Store)
+    (x : Meant G lv c s u l i d at_i z (Computed (source.Stops (Opened todo)) o, m))
+    (t : Machined G lv c s u l i d at_i z (Computed (source.Stops (Opened todo)) o, m))
+    (y : Kept_to G lv c s u l i d at_i z (Computed (source.Stops (Opened todo)) o, m)) (quiet : u.faulted ≡ false) where
   abbrev v : Name
   v = q G lv c s u l i d at_i
 
   abbrev p1 : Process
   p1 = pr G lv c s u l i d at_i
 
-  abbrev r : Came Deed × Store
-  r = (Got (Opened todo) o, m)
+  abbrev r : WorkOutcome Action × Store
+  r = (Computed (Opened todo) o, m)
 
-  abbrev ws : List (Loc × Held)
-  ws = put_by same_loc (asks G.g x.left) x.at.store
+  abbrev ws : List (Loc × LocationContent)
+  ws = tree_writes same_loc (act_tree G.g x.left) x.at.store
 
   abbrev goes_on : Process
   goes_on = with_todo todo (record (x.left.who) { opens = x.left.who.opens + 1 }) o
@@ -141,10 +149,10 @@ module _ (G : Ground) (lv : Lives G) (c : Course) (s : StateOf G.g) (u : System 
 
   passes : (e1 e2 : Bool) → nat_lt G.g.limits.entries (u.entries + 1) ≡ e1
       → nat_lt G.g.limits.channels (u.births.channels + 1) ≡ e2
-      → passed (most G.g) x.at.totals (Some a_channel)
+      → limit_fault (total_limits G.g) x.at.totals (Some a_channel)
       ≡ (if e1 then Some fault.F15 else (if e2 then Some fault.F14 else None))
   passes e1 e2 h1 h2 =
-      ap (λ (a : Totals). passed (most G.g) a (Some a_channel)) x.elsewhere.totals
+      ap (λ (a : Totals). limit_fault (total_limits G.g) a (Some a_channel)) x.elsewhere.totals
       ∙ ap (λ n. if nat_lt G.g.limits.entries (n + 1) then Some fault.F15 else
       (if nat_lt G.g.limits.channels (s.totals.channels + 1) then Some fault.F14 else None)) l.entries
       ∙ ap (λ n. if nat_lt G.g.limits.entries (u.entries + 1) then Some fault.F15 else
@@ -162,15 +170,16 @@ module _ (G : Ground) (lv : Lives G) (c : Course) (s : StateOf G.g) (u : System 
       (if nat_lt G.g.limits.channels (u.births.channels + 1) then Some fault.F14 else None)) None) h1
       ∙ ap (λ b. sys.first_fault (if e1 then Some fault.F15 else (if b then Some fault.F14 else None)) None) h2
 
-  comes_to : (f : Option Fault) → passed (most G.g) x.at.totals (Some a_channel) ≡ f
-      → outcome {L = superpascal G.g} (most G.g) x.at v (Opens goes_on ws)
-      ≡ unless f (acts {L = superpascal G.g} x.at v (Opens goes_on ws))
-  comes_to f e = ap (λ a. unless a (acts {L = superpascal G.g} x.at v (Opens goes_on ws))) e
+  comes_to : (f : Option Fault) → limit_fault (total_limits G.g) x.at.totals (Some a_channel) ≡ f
+      → step_outcome {L = superpascal G.g} (total_limits G.g) x.at v (Opens goes_on ws)
+      ≡ fault_or f (act_outcome {L = superpascal G.g} x.at v (Opens goes_on ws))
+  comes_to f e = ap (λ a. fault_or a (act_outcome {L = superpascal G.g} x.at v (Opens goes_on ws))) e
 
-  fails : (f : Fault) → outcome {L = superpascal G.g} (most G.g) x.at v (Opens goes_on ws) ≡ Faulty f
+  fails : (f : Fault) → step_outcome {L = superpascal G.g} (total_limits G.g) x.at v (Opens goes_on ws) ≡ Faulty f
       → fault_of G.g.limits u tn ≡ Some f → Entry_of G c s u i d
   fails f e h = failed_entry G lv c s u l i d at_i (opened_halt G lv c s u l i d at_i z todo o m x t) refl f
-      (kernel_says G.g v x.at x.left x.runs r x.does ∙ ap (λ b. said_of {L = superpascal G.g} (Opens goes_on ws) b) e)
+      (kernel_says G.g v x.at x.left x.runs r x.does
+      ∙ ap (λ b. happening_of {L = superpascal G.g} (Opens goes_on ws) b) e)
       (kernel_next G.g v x.at x.left x.runs r x.does ∙ ap (λ b. Some (result_of {L = superpascal G.g} x.at v b)) e) h
       quiet
 
@@ -178,8 +187,8 @@ module _ (G : Ground) (lv : Lives G) (c : Course) (s : StateOf G.g) (u : System 
 
   module _ (room1 : nat_lt G.g.limits.entries (u.entries + 1) ≡ false)
       (room2 : nat_lt G.g.limits.channels (u.births.channels + 1) ≡ false) where
-    does_it : outcome {L = superpascal G.g} (most G.g) x.at v (Opens goes_on ws)
-        ≡ Advances (Becomes v (Works goes_on) ∷ Adds a_channel ∷ puts {L = superpascal G.g} ws)
+    does_it : step_outcome {L = superpascal G.g} (total_limits G.g) x.at v (Opens goes_on ws)
+        ≡ Advances (Becomes v (Works goes_on) ∷ AddsTotals a_channel ∷ write_changes {L = superpascal G.g} ws)
     does_it = comes_to None (passes false false room1 room2)
 
     abbrev t1 : StateOf G.g
@@ -189,21 +198,21 @@ module _ (G : Ground) (lv : Lives G) (c : Course) (s : StateOf G.g) (u : System 
       store = m;
     }
 
-    said_now : says G.g x.at v x.left ≡ Some Is_opened
+    said_now : happening_at G.g x.at v x.left ≡ Some Is_opened
     said_now = kernel_says G.g v x.at x.left x.runs r x.does
-        ∙ ap (λ b. said_of {L = superpascal G.g} (Opens goes_on ws) b) does_it
+        ∙ ap (λ b. happening_of {L = superpascal G.g} (Opens goes_on ws) b) does_it
 
-    goes_next : next G.g x.at v ≡ Some t1
+    goes_next : next_state G.g x.at v ≡ Some t1
     goes_next = kernel_next G.g v x.at x.left x.runs r x.does
         ∙ ap (λ b. Some (result_of {L = superpascal G.g} x.at v b)) does_it
-        ∙ ap (λ b. Some b) (stored (superpascal G.g) (asks G.g x.left)
-        (changed {L = superpascal G.g} (Adds a_channel)
-        (changed {L = superpascal G.g} (Becomes v (Works goes_on)) x.at))
-        ∙ ap (λ (b : (List (Loc × Held) → ActOf (superpascal G.g)) × Store). record (x.at) {
+        ∙ ap (λ b. Some b) (stored (superpascal G.g) (act_tree G.g x.left)
+        (with_change {L = superpascal G.g} (AddsTotals a_channel)
+        (with_change {L = superpascal G.g} (Becomes v (Works goes_on)) x.at))
+        ∙ ap (λ (b : (List (Loc × LocationContent) → ActOf (superpascal G.g)) × Store). record (x.at) {
           condition = put_at same_name v (Works goes_on) x.at.condition;
           totals = add x.at.totals a_channel;
           store = b.1;
-        }) (answered G.g x.at x.left (Got (Opened todo) o) m x.does))
+        }) (answered G.g x.at x.left (Computed (Opened todo) o) m x.does))
 
     cond_v : t1.condition v ≡ Works goes_on
     cond_v = at_same name_test x.at.condition v (Works goes_on)
@@ -211,12 +220,12 @@ module _ (G : Ground) (lv : Lives G) (c : Course) (s : StateOf G.g) (u : System 
     cond_r : (b : Name) → b ≢ v → t1.condition b ≡ s.condition b
     cond_r b e = at_other name_test x.at.condition v b (Works goes_on) (λ f. e (sym f)) ∙ x.elsewhere.condition b e
 
-    known_then : Known G.g x.at
+    known_then : StateKeeps G.g x.at
     known_then = known_at G lv c s u l i d at_i z r x Is_opened said_now
 
-    known_now : Known G.g t1
+    known_now : StateKeeps G.g t1
     known_now = record {
-      sound = step_sound (most G.g) x.at v t1 known_then.sound goes_next;
+      sound = step_sound (total_limits G.g) x.at v t1 known_then.sound goes_next;
       well = lowered G.g (λ b. ticks_in (x.at.condition b)) t1
           (step_well G.g x.at known_then.sound v (raised G.g x.at known_then.well) t1 goes_next);
     }
@@ -224,10 +233,10 @@ module _ (G : Ground) (lv : Lives G) (c : Course) (s : StateOf G.g) (u : System 
     rights_now : Inv G.g.program (W_of G lv) (R_of G lv) t1.condition t1.forks
     rights_now = inv_local G (W_of G lv) (R_of G lv) s.condition t1.condition s.forks t1.forks v l.rights
         x.elsewhere.forks (present G lv c s u l i d at_i) cond_r
-        (subst (λ b. Holds G.g.program (W_of G lv) (R_of G lv) s.forks v b) (sym cond_v)
+        (subst (λ b. ConditionInRights G.g.program (W_of G lv) (R_of G lv) s.forks v b) (sym cond_v)
         (record {
           named = x.good.named;
-          forked = ap (λ (a : Who). a.forks) x.who_is
+          forked = ap (λ (a : Identity). a.forks) x.who_is
               ∙ (keeps_to G lv c s u l i d at_i).forked;
           last = (keeps_to G lv c s u l i d at_i).last;
           fit = y.final;
@@ -244,7 +253,7 @@ module _ (G : Ground) (lv : Lives G) (c : Course) (s : StateOf G.g) (u : System 
         (same_or_not name_test b v)
 
     abbrev c1 : Course
-    c1 = noted v (ticks_of G.g t1 v) c
+    c1 = with_ticks v (ticks_of G.g t1 v) c
 
     since_here : c1.since v ≡ (t.2).ticks
     since_here = ap (λ b. cond b (ticks_of G.g t1 v) (c.since v)) (itself name_test v) ∙ ap ticks_in cond_v
@@ -275,14 +284,17 @@ module _ (G : Ground) (lv : Lives G) (c : Course) (s : StateOf G.g) (u : System 
     there = on_store (put_cell plain t.6 (cell.Channel u.births.channels)) (At t.0 t.1 n1)
 
     abbrev b1 : Births
-    b1 = after_event u.births i event.Open
+    b1 = births_after_event u.births i event.Open
 
     abbrev u1 : System Plain
     u1 = record u { condition = at_key ◌==◌ i (sys.Working there) u.condition; entries = u.entries + 1; births = b1 }
 
-    after_is : after plain (run_is G) i tn u ≡ u1
+    after_is : system_after_turn plain (run_is G) i tn u ≡ u1
     after_is = after_quiet G i tn u quiet ∙ ap
-        (λ f. record (unless_fault plain (run_is G) f i tn u) { births = after_event u.births i (event_or f tn) })
+        (λ f. record (apply_unless_fault plain (run_is G) f i tn u) {
+          births =
+              births_after_event u.births i (event_or f tn);
+        })
         (found false false room1 room2)
 
     event_is : event_of G.g.limits u tn ≡ event.Open
@@ -324,7 +336,8 @@ module _ (G : Ground) (lv : Lives G) (c : Course) (s : StateOf G.g) (u : System 
               absurd (omega (arith, same, lt, op))
 
       -- before the channel stands in its target
-      abbrev before : Stands (one_more G) (lv v) (λ a b. lv ((a, b) ∷ v)) v (c1.since v) goes_on t.7 (At t.0 t.1 n1)
+      abbrev before : ProcessMatches (one_more G) (lv v) (λ a b. lv ((a, b) ∷ v)) v (c1.since v) goes_on t.7
+          (At t.0 t.1 n1)
       before = stands_more G (lv v) (λ a b. lv ((a, b) ∷ v)) v (c1.since v) goes_on t.7 (At t.0 t.1 n1) (record {
         fresh = z.fresh;
         named = x.good.named;
@@ -334,7 +347,7 @@ module _ (G : Ground) (lv : Lives G) (c : Course) (s : StateOf G.g) (u : System 
         memory = n1;
         is = refl;
         stand = stand_again G (lv v) (λ a b. lv ((a, b) ∷ v)) v {w = p1.who} {w1 = goes_on.who} {since = c.since v}
-            {since1 = c1.since v} (ap (λ (a : Who). a.name) x.who_is) since_here t.10;
+            {since1 = c1.since v} (ap (λ (a : Identity). a.name) x.who_is) since_here t.10;
         follows = follows_again G (lv v) (λ a b. lv ((a, b) ∷ v)) v z.fresh z.fresh p1.who goes_on.who z.named
             x.good.named (c.since v) (c1.since v) t.0 t.1 t.3 todo t.14;
       })
@@ -348,12 +361,12 @@ module _ (G : Ground) (lv : Lives G) (c : Course) (s : StateOf G.g) (u : System 
           (record n1 { store = put_cell plain t.6 (cell.Channel k) n1.store })
       stand_now = subst (λ b. St (one_more G) (lv v) (λ a b. lv ((a, b) ∷ v)) v goes_on.who (c1.since v) t.3 o b
           (record n1 { store = put_cell plain t.6 (cell.Channel k) n1.store })) (sym t.13)
-          (store_law G.g G.code goes_on.who (Named (one_more G)) (Called G) (λ a. Mine v a ⊎ (lv v).W a)
-          (λ a. Mine v a ⊎ (lv v).R a) (lv v).J (lv v).low (length (lv v).below) (lv v).born (c1.since v) G.pause
+          (store_law G.g G.code goes_on.who (Named (one_more G)) (Called G) (λ a. OwnLocation v a ⊎ (lv v).W a)
+          (λ a. OwnLocation v a ⊎ (lv v).R a) (lv v).J (lv v).low (length (lv v).below) (lv v).born (c1.since v) G.pause
           (lv v).moved G.formed before.stand t.5 t.6 t.11 t.12 (subst OneCell (sym t.16) tt) (Chan nm)
           (machine.Chan k) stood)
 
-      stands_now : Stands (one_more G) (lv v) (λ a b. lv ((a, b) ∷ v)) v (c1.since v) goes_on m there
+      stands_now : ProcessMatches (one_more G) (lv v) (λ a b. lv ((a, b) ∷ v)) v (c1.since v) goes_on m there
       stands_now = record {
         fresh = before.fresh;
         named = before.named;
@@ -372,9 +385,9 @@ module _ (G : Ground) (lv : Lives G) (c : Course) (s : StateOf G.g) (u : System 
       its_does : Performs_all (one_more G) lv v c1 t1 (b1.opens i) (sys.Working there)
       its_does = (
         goes_on,
-        ap (working_in t1.condition v) cond_v,
+        ap (own_part_in t1.condition v) cond_v,
         inl stands_now,
-        ap (λ a. a + 1) (ap (λ (a : Who). a.opens) x.who_is ∙ (its G lv c s u l i d at_i).3) ∙ sym opens_here,
+        ap (λ a. a + 1) (ap (λ (a : Identity). a.opens) x.who_is ∙ (its G lv c s u l i d at_i).3) ∙ sym opens_here,
         (its G lv c s u l i d at_i).4,
       )
 
@@ -428,7 +441,7 @@ module _ (G : Ground) (lv : Lives G) (c : Course) (s : StateOf G.g) (u : System 
             (λ (e : a ≢ v). l.numbered a (λ f. h (cond_r a e ∙ f))) (same_or_not name_test a v);
       }
         where
-          no_absent : ◌≡◌ {A = Condition Process Held Address} (Works goes_on) Absent → ⊥
+          no_absent : ◌≡◌ {A = Condition Process LocationContent Address} (Works goes_on) Absent → ⊥
           no_absent e = cc e
 
       now : Now G lv c1 t1 u1

@@ -6,32 +6,36 @@ use Rattle.std.specs.Prelude.{◌≢◌}
 use Rattle.sp_cell.specs.declared.spot.Spot.{Spot}
 use Rattle.sp_cell.specs.Map.{Map, Plain}
 use Rattle.sp_meaning.specs.Model.{Name, Condition, Absent, Works, Waits, Joins, Ended}
-use Rattle.sp_meaning.specs.Steps.{working_in, has_ended, all_ended, Lives as IsLive, JoinsAt, Sound}
+use Rattle.sp_meaning.specs.Steps.{own_part_in, has_ended, all_ended, IsAlive as IsLive, JoinsAt, Sound}
 use Rattle.sp_meaning.specs.Disjoint.{AreParallel}
-use Rattle.sp_meaning.specs.Own.{Loc, Cell, Input, Output, Held, Address, Own, Process}
+use Rattle.sp_meaning.specs.LocalWork.{Loc, Cell, Input, Output, LocationContent, Address, LocalState, Process}
 use Rattle.sp_meaning.specs.Run.{Store}
 use Rattle.sp_meaning.specs.Runs.{StateOf}
 use Rattle.sp_meaning.specs.Along.{Course}
-use Rattle.sp_meaning.proofs.Rights.{Mine, All, Fair_rights, parallel_apart}
+use Rattle.sp_meaning.proofs.Rights.{OwnLocation, OwnOrGiven, Fair_rights, parallel_apart}
 use Rattle.sp_meaning.proofs.Parallel.{IsAlone, alone_lives, ancestors_live}
 use Rattle.sp_code.specs.Machine.{Config, At}
 use Rattle.sp_code.specs.Memory.{Memory}
 use Rattle.sp_code.specs.System as sys
-use Rattle.sp_codegen.specs.Joints.{Joint}
+use Rattle.sp_codegen.specs.FramePairs.{FramePair}
 use Rattle.sp_codegen.proofs.Joining.{Joining, stand_same, joining_same}
-use Rattle.sp_link.proofs.Stances.{Under, stance, child_writes}
-use Rattle.sp_link.proofs.Relation.{Ground, Life, Lives, W_of, R_of, Called, Named, Stands, Joined, Lives_yet}
-use Rattle.sp_link.proofs.Relation.{left_of, Told, Performs_all}
+use Rattle.sp_link.proofs.ParallelOrBelow.{Under, stance, child_writes}
+use Rattle.sp_link.proofs.Relation.{RunContext, BirthRights, RightsOfAll, W_of, R_of, Called, Named, ProcessMatches}
+use Rattle.sp_link.proofs.Relation.{Joined, Lives_yet}
+use Rattle.sp_link.proofs.Relation.{left_of, OutputMatches, Performs_all}
 
 -- ---- what is away may be told otherwise
 
-module _ (G : Ground) (lf : Life) (kids : ℕ → ℕ → Life) (q : Name) where
-  abbrev pub Jo : Rattle.sp_meaning.specs.Own.Who → ℕ → (Spot → Type 0) → List Joint → Own → Store → Memory Plain → Map
+module _ (G : RunContext) (lf : BirthRights) (kids : ℕ → ℕ → BirthRights) (q : Name) where
+  abbrev pub Jo : Rattle.sp_meaning.specs.LocalWork.Identity → ℕ → (Spot → Type 0) → List FramePair → LocalState → Store
+      → Memory Plain → Map
       → Type 0
-  Jo w since A js o s n mp = Joining G.g G.code w (Named G) (Called G) (λ l. Mine q l ⊎ lf.W l) (λ l. Mine q l ⊎ lf.R l)
+  Jo w since A js o s n mp = Joining G.g G.code w (Named G) (Called G) (λ l. OwnLocation q l ⊎ lf.W l)
+      (λ l. OwnLocation q l ⊎ lf.R l)
       lf.J lf.low (Rattle.std.specs.Prelude.length lf.below) lf.born since G.pause lf.moved A js o s n mp
 
-  pub joining_more : {w : Rattle.sp_meaning.specs.Own.Who} {since : ℕ} {A B : Spot → Type 0} {js : List Joint} {o : Own}
+  pub joining_more : {w : Rattle.sp_meaning.specs.LocalWork.Identity} {since : ℕ} {A B : Spot → Type 0}
+      {js : List FramePair} {o : LocalState}
       {s : Store} {n : Memory Plain} {mp : Map} → ((a : Spot) → A a → B a) → Jo w since A js o s n mp
       → Jo w since B js o s n mp
   joining_more f t = record {
@@ -47,16 +51,18 @@ module _ (G : Ground) (lf : Life) (kids : ℕ → ℕ → Life) (q : Name) where
 
 -- ---- conditions
 
-waits_is : (c : Condition Process Held Address) (o : Rattle.sp_meaning.specs.Model.Offer Process Held Address)
+waits_is : (c : Condition Process LocationContent Address)
+    (o : Rattle.sp_meaning.specs.Model.Offer Process LocationContent Address)
     → c ≡ Waits o → Rattle.sp_meaning.specs.Steps.WaitsOn o.channel c
 waits_is c o e = subst (λ z. Rattle.sp_meaning.specs.Steps.WaitsOn o.channel z) (sym e) refl
 
-module _ (G : Ground) (lv : Lives G) (s t : StateOf G.g) (sound : Sound s) (fair : Fair_rights (W_of G lv) (R_of G lv))
-    (w : Name) (alone : IsAlone s w) (stays : (l : Loc) → (t.store l ≡ s.store l) ⊎ All (W_of G lv) w l) where
+module _ (G : RunContext) (lv : RightsOfAll G) (s t : StateOf G.g) (sound : Sound s)
+    (fair : Fair_rights (W_of G lv) (R_of G lv))
+    (w : Name) (alone : IsAlone s w) (stays : (l : Loc) → (t.store l ≡ s.store l) ⊎ OwnOrGiven (W_of G lv) w l) where
   module _ (r : Name) (apart : r ≢ w) (same : t.condition r ≡ s.condition r)
       (ended : (k i : ℕ) → has_ended (t.condition ((k, i) ∷ r)) ≡ has_ended (s.condition ((k, i) ∷ r)))
       (present : (k i : ℕ) → s.condition ((k, i) ∷ r) ≢ Absent → t.condition ((k, i) ∷ r) ≢ Absent) where
-    abbrev pub kids : ℕ → ℕ → Life
+    abbrev pub kids : ℕ → ℕ → BirthRights
     kids k i = lv ((k, i) ∷ r)
 
     all_same : (k n : ℕ) → all_ended t.condition r k n ≡ all_ended s.condition r k n
@@ -64,16 +70,17 @@ module _ (G : Ground) (lv : Lives G) (s t : StateOf G.g) (sound : Sound s) (fair
     all_same k (suc i) = ap (λ b. b && all_ended t.condition r k i) (ended k i)
         ∙ ap (λ b. has_ended (s.condition ((k, i) ∷ r)) && b) (all_same k i)
 
-    works_same : (c : Condition Process Held Address) → working_in t.condition r c ≡ working_in s.condition r c
+    works_same : (c : Condition Process LocationContent Address) → own_part_in t.condition r c
+        ≡ own_part_in s.condition r c
     works_same Absent = refl
     works_same (Works o) = refl
     works_same (Waits o) = refl
     works_same (Joins k n o) = ap (λ b. if b then Some o else None) (all_same k n)
     works_same Ended = refl
 
-    pub working_same : (pr : Process) → working_in s.condition r (s.condition r) ≡ Some pr
-        → working_in t.condition r (t.condition r) ≡ Some pr
-    working_same pr e = ap (working_in t.condition r) same ∙ works_same (s.condition r) ∙ e
+    pub working_same : (pr : Process) → own_part_in s.condition r (s.condition r) ≡ Some pr
+        → own_part_in t.condition r (t.condition r) ≡ Some pr
+    working_same pr e = ap (own_part_in t.condition r) same ∙ works_same (s.condition r) ∙ e
 
     left_same : (k n : ℕ) → left_of G (lv r) kids r t.condition k n ≡ left_of G (lv r) kids r s.condition k n
     left_same k zero = refl
@@ -81,14 +88,14 @@ module _ (G : Ground) (lv : Lives G) (s t : StateOf G.g) (sound : Sound s) (fair
         ∙ ap (λ n. (if has_ended (s.condition ((k, i) ∷ r)) then 0 else 1) + n) (left_same k i)
 
     -- of one that runs or waits
-    pub unread : IsAlone s r → (l : Loc) → All (R_of G lv) r l → t.store l ≡ s.store l
-    unread one l may = ⊎_elim (λ e. e) (λ (x : All (W_of G lv) w l). absurd (⊎_elim
+    pub unread : IsAlone s r → (l : Loc) → OwnOrGiven (R_of G lv) r l → t.store l ≡ s.store l
+    unread one l may = ⊎_elim (λ e. e) (λ (x : OwnOrGiven (W_of G lv) w l). absurd (⊎_elim
         (λ (p : AreParallel w r). parallel_apart (W_of G lv) (R_of G lv) fair w r p l x may)
         (λ (u : Under s w r). Rattle.sp_meaning.proofs.Parallel.alone_childless s r u.fork u.child one u.lives u.joins)
         (stance s w r sound alone (alone_lives s r one) apart))) (stays l)
 
     abbrev pub stands_stay : (since : ℕ) (pr : Process) (d : Config (Memory Plain)) → IsAlone s r
-        → Stands G (lv r) kids r since pr s.store d → Stands G (lv r) kids r since pr t.store d
+        → ProcessMatches G (lv r) kids r since pr s.store d → ProcessMatches G (lv r) kids r since pr t.store d
     stands_stay since pr d one z = record {
       fresh = z.fresh;
       named = z.named;
@@ -97,14 +104,15 @@ module _ (G : Ground) (lv : Lives G) (s t : StateOf G.g) (sound : Sound s) (fair
       stack = z.stack;
       memory = z.memory;
       is = z.is;
-      stand = stand_same G.g G.code pr.who (Named G) (Called G) (λ l. Mine r l ⊎ (lv r).W l)
-          (λ l. Mine r l ⊎ (lv r).R l) (lv r).J (lv r).low (Rattle.std.specs.Prelude.length (lv r).below) (lv r).born
+      stand = stand_same G.g G.code pr.who (Named G) (Called G) (λ l. OwnLocation r l ⊎ (lv r).W l)
+          (λ l. OwnLocation r l ⊎ (lv r).R l) (lv r).J (lv r).low (Rattle.std.specs.Prelude.length (lv r).below)
+          (lv r).born
           since G.pause (lv r).moved z.stand t.store (unread one);
       follows = z.follows;
     }
 
-    told_stay : (d : Config (Memory Plain)) → (All (R_of G lv) r Output → t.store Output ≡ s.store Output)
-        → Told G (lv r) kids r s.store d → Told G (lv r) kids r t.store d
+    told_stay : (d : Config (Memory Plain)) → (OwnOrGiven (R_of G lv) r Output → t.store Output ≡ s.store Output)
+        → OutputMatches G (lv r) kids r s.store d → OutputMatches G (lv r) kids r t.store d
     told_stay (At pc st n) e h = λ may. let z = h may in (z.0, e may ∙ z.1, z.2)
 
     -- of one that joins
@@ -113,15 +121,15 @@ module _ (G : Ground) (lv : Lives G) (s t : StateOf G.g) (sound : Sound s) (fair
       abbrev Moves : Loc → Type 0
       Moves l = (i : ℕ) × Lives_yet G (lv r) kids r s k n i × (kids k i).W l
 
-      moves_or_same : (l : Loc) → All (R_of G lv) r l → Moves l ⊎ (t.store l ≡ s.store l)
-      moves_or_same l may = ⊎_elim (λ e. inr e) (λ (x : All (W_of G lv) w l). ⊎_elim
+      moves_or_same : (l : Loc) → OwnOrGiven (R_of G lv) r l → Moves l ⊎ (t.store l ≡ s.store l)
+      moves_or_same l may = ⊎_elim (λ e. inr e) (λ (x : OwnOrGiven (W_of G lv) w l). ⊎_elim
           (λ (p : AreParallel w r). absurd (parallel_apart (W_of G lv) (R_of G lv) fair w r p l x may))
           (λ (u : Under s w r). inl (under u
           (child_writes (W_of G lv) (R_of G lv) fair u.front r u.fork u.child l
-          (subst (λ y. All (W_of G lv) y l) u.is x) may)))
+          (subst (λ y. OwnOrGiven (W_of G lv) y l) u.is x) may)))
           (stance s w r sound alone (subst (λ y. IsLive y) (sym at) tt) apart)) (stays l)
         where
-          lives_not : (x : Condition Process Held Address) → IsLive x → has_ended x ≡ false
+          lives_not : (x : Condition Process LocationContent Address) → IsLive x → has_ended x ≡ false
           lives_not Absent h = absurd h
           lives_not (Works o) h = refl
           lives_not (Waits o) h = refl
@@ -130,8 +138,8 @@ module _ (G : Ground) (lv : Lives G) (s t : StateOf G.g) (sound : Sound s) (fair
 
           under : (u : Under s w r) → W_of G lv ((u.fork, u.child) ∷ r) l → Moves l
           under u x =
-              let j : JoinsAt {O = Process} {V = Held} {T = Address} u.fork u.child (Joins k n pr) =
-              subst (λ y. JoinsAt {O = Process} {V = Held} {T = Address} u.fork u.child y) at u.joins in (
+              let j : JoinsAt {O = Process} {V = LocationContent} {T = Address} u.fork u.child (Joins k n pr) =
+              subst (λ y. JoinsAt {O = Process} {V = LocationContent} {T = Address} u.fork u.child y) at u.joins in (
                 u.child,
                 (
                   j.1,
@@ -158,8 +166,8 @@ module _ (G : Ground) (lv : Lives G) (s t : StateOf G.g) (sound : Sound s) (fair
         held = z.held;
         is = z.is;
         joining = joining_more G (lv r) kids r (λ a h. (h.0, yet h.0 h.1, h.2))
-            (joining_same G.g G.code pr.who (Named G) (Called G) (λ l. Mine r l ⊎ (lv r).W l)
-            (λ l. Mine r l ⊎ (lv r).R l) (lv r).J (lv r).low (Rattle.std.specs.Prelude.length (lv r).below)
+            (joining_same G.g G.code pr.who (Named G) (Called G) (λ l. OwnLocation r l ⊎ (lv r).W l)
+            (λ l. OwnLocation r l ⊎ (lv r).R l) (lv r).J (lv r).low (Rattle.std.specs.Prelude.length (lv r).below)
             (lv r).born since G.pause (lv r).moved z.joining t.store
             (λ q h x l may. ⊎_elim (λ m. inl (m.0, m.1, (z.children m.0 m.1).aims q h x l m.2)) (λ e. inr e)
             (moves_or_same (Cell q h x) may))
@@ -185,7 +193,7 @@ module _ (G : Ground) (lv : Lives G) (s t : StateOf G.g) (sound : Sound s) (fair
       h.0,
       working_same h.0 h.1,
       ⊎_elim (λ z. inl
-          (subst (λ y. Stands G (lv r) kids r y h.0 t.store d) (sym si)
+          (subst (λ y. ProcessMatches G (lv r) kids r y h.0 t.store d) (sym si)
           (stands_stay (c.since r) h.0 d (inl (h.0, h.1)) z)))
           (λ z. inr (z.0, z.1, z.2, z.3, z.4, told_stay d (unread (inl (h.0, h.1)) Output) z.5)) h.2,
       h.3,
@@ -194,15 +202,15 @@ module _ (G : Ground) (lv : Lives G) (s t : StateOf G.g) (sound : Sound s) (fair
     does_stay c c1 si la fa opens (sys.Waits y d) h =
         (h.0, same ∙ h.1, z.0, z.1, h.4, la ∙ h.5, h.6)
       where
-        both : (a : ℕ) → a ≡ c.since r → (b : Stands G (lv r) kids r a (h.0).next t.store d)
+        both : (a : ℕ) → a ≡ c.since r → (b : ProcessMatches G (lv r) kids r a (h.0).next t.store d)
             × Rattle.sp_link.proofs.Relation.Ca G (lv r) kids r b.fresh (h.0).next.who b.named a b.js (h.0).channel
             (h.0).kind (h.0).cargo y
-        both a e = subst (λ a. (b : Stands G (lv r) kids r a (h.0).next t.store d)
+        both a e = subst (λ a. (b : ProcessMatches G (lv r) kids r a (h.0).next t.store d)
             × Rattle.sp_link.proofs.Relation.Ca G (lv r) kids r b.fresh (h.0).next.who b.named a b.js (h.0).channel
             (h.0).kind (h.0).cargo y) (sym e)
             (stands_stay (c.since r) (h.0).next d (inr ((h.0).channel, waits_is (s.condition r) h.0 h.1)) h.2, h.3)
 
-        z : (b : Stands G (lv r) kids r (c1.since r) (h.0).next t.store d)
+        z : (b : ProcessMatches G (lv r) kids r (c1.since r) (h.0).next t.store d)
             × Rattle.sp_link.proofs.Relation.Ca G (lv r) kids r b.fresh (h.0).next.who b.named (c1.since r) b.js
             (h.0).channel (h.0).kind (h.0).cargo y
         z = both (c1.since r) si

@@ -15,15 +15,15 @@ use Rattle.sp_cell.specs.Map.{Plain, IsPiece, output_spot}
 use Rattle.sp_cell.proofs.Plan.{in_or}
 use Rattle.sp_cell.specs.Spots.{In, NotIn}
 use Rattle.sp_meaning.specs.Model.{Name}
-use Rattle.sp_meaning.specs.Own.{Loc, Output, Own, Who, Got, Item}
-use Rattle.sp_meaning.specs.Deeds.{Birth, Forked, newborn, push, children}
+use Rattle.sp_meaning.specs.LocalWork.{Loc, Output, LocalState, Identity, Computed, Item}
+use Rattle.sp_meaning.specs.Actions.{Birth, Forked, new_process, push, children}
 use Rattle.sp_meaning.specs.Owning.{Aimed, Used, Born}
 use Rattle.sp_meaning.specs.Run.{Store}
 use Rattle.sp_meaning.specs.Runs.{StateOf}
 use Rattle.sp_meaning.specs.Along.{Course}
 use Rattle.sp_meaning.specs.Turn as source
 use Rattle.sp_meaning.proofs.Children.{AimedAt, UsedAt}
-use Rattle.sp_meaning.proofs.Rights.{All, Mine}
+use Rattle.sp_meaning.proofs.Rights.{OwnOrGiven, OwnLocation}
 use Rattle.sp_meaning.proofs.Within.{part}
 use Rattle.sp_meaning.proofs.SoundParts.{list_of, born_of}
 use Rattle.sp_cell.proofs.Laws.{known_of_piece}
@@ -31,16 +31,16 @@ use Rattle.sp_code.specs.declared.code.ForkTable.{ForkTable}
 use Rattle.sp_code.specs.Machine.{Config, At}
 use Rattle.sp_code.specs.Memory.{Memory}
 use Rattle.sp_code.specs.PlainStore.{plain}
-use Rattle.sp_code.specs.Places.{after}
+use Rattle.sp_code.specs.Places.{after_statement}
 use Rattle.sp_code.specs.Scopes.{Scope}
 use Rattle.sp_code.specs.Sound.{CanSplit}
 use Rattle.sp_code.specs.Emitted.{children_tables, child_table}
-use Rattle.sp_code.specs.Stands.{Stands as StandsIn, HasFork, HasWords, ChildrenAt}
+use Rattle.sp_code.specs.CodeOfTree.{CodeAt as StandsIn, HasFork, HasWords, ChildrenAt}
 use Rattle.sp_code.specs.Tables.{child_at}
 use Rattle.sp_code.specs.System.{System, handing_of, plan_from, child_or, table_or}
 use Rattle.sp_code.specs.System as sys
 use Rattle.sp_codegen.specs.Following.{ParallelIs}
-use Rattle.sp_codegen.specs.Joints.{sources}
+use Rattle.sp_codegen.specs.FramePairs.{sources}
 use Rattle.sp_codegen.proofs.Born.{ChildIs, Seen, table_at}
 use Rattle.sp_codegen.proofs.Handed.{shared_piece, output_unshared}
 use Rattle.sp_link.proofs.ChildrenStand as cs
@@ -50,7 +50,8 @@ use Rattle.sp_link.proofs.Pauses.{Entry_of, Meant, Machined, Kept_to, kids}
 use Rattle.sp_code.proofs.Plans.{moved_by, shared_by, moved_in}
 use Rattle.sp_link.proofs.Scoping.{IsScoped, is_scoped}
 use Rattle.sp_link.proofs.Splits.{parallel_split, parts_differ}
-use Rattle.sp_link.proofs.Relation.{Ground, Life, Lives, W_of, R_of, Called, Named, Fresh, Stands, Handed, St, Linked}
+use Rattle.sp_link.proofs.Relation.{RunContext, BirthRights, RightsOfAll, W_of, R_of, Called, Named, Fresh}
+use Rattle.sp_link.proofs.Relation.{ProcessMatches, Handed, St, Linked}
 use Rattle.sp_link.proofs.Relation.{execution, run_is}
 use Rattle.sp_link.proofs.Newborns.{newborns_length, cons}
 
@@ -60,9 +61,9 @@ use Rattle.sp_link.proofs.Newborns.{newborns_length, cons}
 abbrev entry_at : Program → Stmts → ℕ → ℕ → ℕ
 entry_at p No q j = q
 entry_at p (And st rest) q zero = q
-entry_at p (And st rest) q (suc j) = entry_at p rest (after p q st + 1) j
+entry_at p (And st rest) q (suc j) = entry_at p rest (after_statement p q st + 1) j
 
-module _ (G : Ground) (free : Bool) (sc : List Scope) where
+module _ (G : RunContext) (free : Bool) (sc : List Scope) where
   record Child (ss : Stmts) (q j : ℕ) (b : Birth) : Type 0 where
     pub statement : Stmt
     pub is : slice_get (list_of ss) j ≡ Some statement
@@ -90,7 +91,7 @@ module _ (G : Ground) (free : Bool) (sc : List Scope) where
     at = refl;
   }
   child_here (And st rest) q (suc j) b e h =
-      let z = child_here rest (after G.g.program q st + 1) j b e h.2 in
+      let z = child_here rest (after_statement G.g.program q st + 1) j b e h.2 in
       record {
         statement = z.statement;
         is = z.is;
@@ -110,20 +111,21 @@ module _ (G : Ground) (free : Bool) (sc : List Scope) where
   tables_count : (ss : Stmts) (q : ℕ) → length (children ss)
       ≡ length (children_tables G.g.program G.moves G.shares q ss)
   tables_count No q = refl
-  tables_count (And st rest) q = ap suc (tables_count rest (after G.g.program q st + 1))
+  tables_count (And st rest) q = ap suc (tables_count rest (after_statement G.g.program q st + 1))
 
 some_part : (ss : Stmts) → ss ≢ No → 1 ≤ length (children ss)
 some_part No h = absurd (h refl)
 some_part (And st rest) h = omega arith
 
-module _ (G : Ground) (lv : Lives G) (c : Course) (s : StateOf G.g) (u : System Plain) (l : Linked G lv c s u) (i : ℕ)
+module _ (G : RunContext) (lv : RightsOfAll G) (c : Course) (s : StateOf G.g) (u : System Plain) (l : Linked G lv c s u)
+    (i : ℕ)
     (d : Config (Memory Plain)) (at_i : u.condition i ≡ sys.Working d)
-    (z : Stands G (lv (q G lv c s u l i d at_i)) (kids G lv c s u l i d at_i) (q G lv c s u l i d at_i)
+    (z : ProcessMatches G (lv (q G lv c s u l i d at_i)) (kids G lv c s u l i d at_i) (q G lv c s u l i d at_i)
     (c.since (q G lv c s u l i d at_i)) (pr G lv c s u l i d at_i) s.store d)
-    (bs : List Birth) (todo : List Item) (o : Own) (m : Store)
-    (x : Meant G lv c s u l i d at_i z (Got (source.Stops (Forked bs todo)) o, m))
-    (t : Machined G lv c s u l i d at_i z (Got (source.Stops (Forked bs todo)) o, m))
-    (y : Kept_to G lv c s u l i d at_i z (Got (source.Stops (Forked bs todo)) o, m)) (quiet : u.faulted ≡ false)
+    (bs : List Birth) (todo : List Item) (o : LocalState) (m : Store)
+    (x : Meant G lv c s u l i d at_i z (Computed (source.Stops (Forked bs todo)) o, m))
+    (t : Machined G lv c s u l i d at_i z (Computed (source.Stops (Forked bs todo)) o, m))
+    (y : Kept_to G lv c s u l i d at_i z (Computed (source.Stops (Forked bs todo)) o, m)) (quiet : u.faulted ≡ false)
     (h : ParallelIs (execution G (lv (q G lv c s u l i d at_i)) (kids G lv c s u l i d at_i) (q G lv c s u l i d at_i)
     z.fresh (pr G lv c s u l i d at_i).who z.named (c.since (q G lv c s u l i d at_i))) true t.3 bs t.5) where
   abbrev v : Name
@@ -147,14 +149,14 @@ module _ (G : Ground) (lv : Lives G) (c : Course) (s : StateOf G.g) (u : System 
   abbrev pub n1 : Memory Plain
   n1 = record (t.2) { since = (t.2).ticks }
 
-  abbrev w1 : Who
+  abbrev w1 : Identity
   w1 = record (x.left.who) { forks = x.left.who.forks + 1 }
 
   abbrev Wr : Loc → Type 0
-  Wr a = Mine v a ⊎ (lv v).W a
+  Wr a = OwnLocation v a ⊎ (lv v).W a
 
   abbrev Rd : Loc → Type 0
-  Rd a = Mine v a ⊎ (lv v).R a
+  Rd a = OwnLocation v a ⊎ (lv v).R a
 
   frames_are : o.frames ≡ sources t.3
   frames_are = (t.8).frames.sources_are
@@ -166,7 +168,7 @@ module _ (G : Ground) (lv : Lives G) (c : Course) (s : StateOf G.g) (u : System 
   handing_at e b st = handing_of G.code.layouts n1.frames (pos 0) b (child_table p G.moves G.shares e None st)
 
   -- the life of child b, whose statement is this one and begins at e
-  abbrev life_by : Option Stmt → ℕ → ℕ → Life
+  abbrev life_by : Option Stmt → ℕ → ℕ → BirthRights
   life_by None e b = record { W = λ a. ⊥; R = λ a. ⊥; J = λ a. ⊥; low = 0; born = 0; moved = []; below = []; end = 0 }
   life_by (Some st) e b = record {
     W = λ a. Aimed p (sources t.3) st a;
@@ -176,17 +178,17 @@ module _ (G : Ground) (lv : Lives G) (c : Course) (s : StateOf G.g) (u : System 
     born = o.depth + 1;
     moved = (handing_at e b st).moved;
     below = t.3;
-    end = after p e st;
+    end = after_statement p e st;
   }
 
-  abbrev new_life : ℕ → Life
+  abbrev new_life : ℕ → BirthRights
   new_life b = life_by (slice_get (list_of ss) b) (entry_at p ss h.2 b) b
 
   abbrev Aims_by : Option Stmt → Loc → Type 0
-  Aims_by a b = AimedAt p (λ a. All (W_of G lv) v a) (λ a. All (R_of G lv) v a) o.frames a b
+  Aims_by a b = AimedAt p (λ a. OwnOrGiven (W_of G lv) v a) (λ a. OwnOrGiven (R_of G lv) v a) o.frames a b
 
   abbrev Uses_by : Option Stmt → Loc → Type 0
-  Uses_by a b = UsedAt p (λ a. All (W_of G lv) v a) (λ a. All (R_of G lv) v a) o.frames a b
+  Uses_by a b = UsedAt p (λ a. OwnOrGiven (W_of G lv) v a) (λ a. OwnOrGiven (R_of G lv) v a) o.frames a b
 
   to_w : (b : ℕ) (a : Loc) → Aims_by (slice_get (list_of ss) b) a → (new_life b).W a
   to_w b a g = go (slice_get (list_of ss) b) g
@@ -216,9 +218,11 @@ module _ (G : Ground) (lv : Lives G) (c : Course) (s : StateOf G.g) (u : System 
       go None g = g
       go (Some st) g = subst (λ f. Used p f st a) (sym frames_are) g
 
-  born : Born p (λ a. All (W_of G lv) v a) (λ a. All (R_of G lv) v a) o.frames (list_of ss) bs
-  born = subst (λ f. Born p (λ a. All (W_of G lv) v a) (λ a. All (R_of G lv) v a) f (list_of ss) bs) (sym frames_are)
-      (subst (λ b. Born p (λ a. All (W_of G lv) v a) (λ a. All (R_of G lv) v a) (sources t.3) (list_of ss) b) (sym h.6)
+  born : Born p (λ a. OwnOrGiven (W_of G lv) v a) (λ a. OwnOrGiven (R_of G lv) v a) o.frames (list_of ss) bs
+  born = subst (λ f. Born p (λ a. OwnOrGiven (W_of G lv) v a) (λ a. OwnOrGiven (R_of G lv) v a) f (list_of ss) bs)
+      (sym frames_are)
+      (subst (λ b. Born p (λ a. OwnOrGiven (W_of G lv) v a) (λ a. OwnOrGiven (R_of G lv) v a) (sources t.3) (list_of ss)
+      b) (sym h.6)
       (born_of ss (part (λ u a. inr (inl a)) h.8.sound) (h.8.sound.kept (ParallelOf ss) (inl refl))))
 
   -- its parent's memory
@@ -229,7 +233,7 @@ module _ (G : Ground) (lv : Lives G) (c : Course) (s : StateOf G.g) (u : System 
   longer : (j : ℕ) → suc (length w1.name) ≤ length ((k, j) ∷ v)
   longer j = let a = ap (λ (a : Name). length a) x.good.named in omega (arith, a)
 
-  module _ (more : ℕ → ℕ → Life) where
+  module _ (more : ℕ → ℕ → BirthRights) where
     abbrev fresh : Fresh G (lv v) more v
     fresh = record { based = z.fresh.based; reads = z.fresh.reads; low_small = z.fresh.low_small; ends = z.fresh.ends }
 
@@ -255,7 +259,7 @@ module _ (G : Ground) (lv : Lives G) (c : Course) (s : StateOf G.g) (u : System 
           (λ u1 a1. h.8.formed u1 (inr (inl (ch.inside u1 a1))))
 
       kept_of_it : Handed G (lv v) more v t.3 n1 (new_life j) ((k, j) ∷ v)
-      kept_of_it = subst (λ (lf : Life). Handed G (lv v) more v t.3 n1 lf ((k, j) ∷ v)) (sym life_is)
+      kept_of_it = subst (λ (lf : BirthRights). Handed G (lv v) more v t.3 n1 lf ((k, j) ∷ v)) (sym life_is)
           (cs.handed_facts G (lv v) more v fresh stood may_fork ss h.3 h.8 h.2 j b ch ((k, j) ∷ v) (longer j) (pos 0))
 
       shares_piece : (a : Spot) → In a (handing_at ch.entry j ch.statement).shared → IsPiece (fin.get n1.store.map a)
@@ -289,9 +293,9 @@ module _ (G : Ground) (lv : Lives G) (c : Course) (s : StateOf G.g) (u : System 
           (longer j) (pos 0) a f
 
       -- and it stands as it is born
-      process_is : newborn x.left.who o j b ≡ cs.own G (lv v) more v fresh stood may_fork ss h.3 h.8 h.2 j b ch
+      process_is : new_process x.left.who o j b ≡ cs.own G (lv v) more v fresh stood may_fork ss h.3 h.8 h.2 j b ch
           ((k, j) ∷ v) (longer j) (pos 0)
-      process_is = ap (λ a. newborn x.left.who o j a) ch.birth
+      process_is = ap (λ a. new_process x.left.who o j a) ch.birth
           ∙ ap (λ (a : Name). record {
             todo = push ch.statement [];
             who = record { name = a; forks = 0; opens = 0 };
@@ -302,20 +306,21 @@ module _ (G : Ground) (lv : Lives G) (c : Course) (s : StateOf G.g) (u : System 
           (length (children_tables G.g.program G.moves G.shares h.2 h.0)) h.4 some)
           ∙ ap (λ a. cons (k, j) a) x.good.named)
 
-      it_stands : (number : ℕ) → Called G ((k, j) ∷ v) number → (own_more : ℕ → ℕ → Life)
-          → Stands G (new_life j) own_more ((k, j) ∷ v) 0 (newborn x.left.who o j b) x.at.store
-          (sys.newborn plain (run_is G) (At t.0 t.1 n1) (pos 0) number j
+      it_stands : (number : ℕ) → Called G ((k, j) ∷ v) number → (own_more : ℕ → ℕ → BirthRights)
+          → ProcessMatches G (new_life j) own_more ((k, j) ∷ v) 0 (new_process x.left.who o j b) x.at.store
+          (sys.child_process plain (run_is G) (At t.0 t.1 n1) (pos 0) number j
           (child_or (child_at (table_or (slice_get G.code.forks h.1)) j)))
       it_stands number called own_more =
-          subst (λ (lf : Life). Stands G lf own_more ((k, j) ∷ v) 0 (newborn x.left.who o j b) x.at.store
-          (sys.newborn plain (run_is G) (At t.0 t.1 n1) (pos 0) number j
+          subst (λ (lf : BirthRights). ProcessMatches G lf own_more ((k, j) ∷ v) 0 (new_process x.left.who o j b)
+          x.at.store
+          (sys.child_process plain (run_is G) (At t.0 t.1 n1) (pos 0) number j
           (child_or (child_at (table_or (slice_get G.code.forks h.1)) j)))) (sym life_is)
-          (subst (λ a. Stands G (life_by (Some ch.statement) ch.entry j) own_more ((k, j) ∷ v) 0 a x.at.store
-          (sys.newborn plain (run_is G) (At t.0 t.1 n1) (pos 0) number j
+          (subst (λ a. ProcessMatches G (life_by (Some ch.statement) ch.entry j) own_more ((k, j) ∷ v) 0 a x.at.store
+          (sys.child_process plain (run_is G) (At t.0 t.1 n1) (pos 0) number j
           (child_or (child_at (table_or (slice_get G.code.forks h.1)) j)))) (sym process_is)
-          (subst (λ a. Stands G (life_by (Some ch.statement) ch.entry j) own_more ((k, j) ∷ v) 0
+          (subst (λ a. ProcessMatches G (life_by (Some ch.statement) ch.entry j) own_more ((k, j) ∷ v) 0
           (cs.own G (lv v) more v fresh stood may_fork ss h.3 h.8 h.2 j b ch ((k, j) ∷ v) (longer j) (pos 0))
-          x.at.store (sys.newborn plain (run_is G) (At t.0 t.1 n1) (pos 0) number j a)) (sym table_is)
+          x.at.store (sys.child_process plain (run_is G) (At t.0 t.1 n1) (pos 0) number j a)) (sym table_is)
           (cs.child_stands G (lv v) more v fresh stood may_fork ss h.3 h.8 h.2 j b ch ((k, j) ∷ v) (longer j) (pos 0)
           number called t.0 t.1 shares_known own_more)))
 
@@ -326,7 +331,7 @@ module _ (G : Ground) (lv : Lives G) (c : Course) (s : StateOf G.g) (u : System 
   at_place j lt = item_there bs j (omega (arith, lt, count_is))
 
   -- no children of the parent's own matter here
-  abbrev none : ℕ → ℕ → Life
+  abbrev none : ℕ → ℕ → BirthRights
   none a b = lv ((a, b) ∷ v)
 
   abbrev one_of : ℕ → Handing
@@ -348,7 +353,7 @@ module _ (G : Ground) (lv : Lives G) (c : Course) (s : StateOf G.g) (u : System 
       shares_known none w.0 b.0 b.1 a (subst (λ tb. In a (handing_of G.code.layouts n1.frames (pos 0) w.0 tb).shared)
       (table_is none w.0 b.0 b.1) w.2)
 
-  dry : All (R_of G lv) v Output → NotIn output_spot
+  dry : OwnOrGiven (R_of G lv) v Output → NotIn output_spot
       (shared_of (fk.hs G lv c s u l i d at_i z bs todo o m x t y quiet h.1 (pos 0)
       (length (children_tables G.g.program G.moves G.shares h.2 h.0)) h.4 some))
   dry may = ⊎_elim (λ g. absurd (wet g)) (λ g. g)
@@ -372,7 +377,7 @@ module _ (G : Ground) (lv : Lives G) (c : Course) (s : StateOf G.g) (u : System 
       let b = at_place w.0 w.1 in (
         w.0,
         w.1,
-        subst (λ (lf : Life). In a lf.moved) (sym (life_is none w.0 b.0 b.1))
+        subst (λ (lf : BirthRights). In a lf.moved) (sym (life_is none w.0 b.0 b.1))
             (subst (λ tb. In a (handing_of G.code.layouts n1.frames (pos 0) w.0 tb).moved) (table_is none w.0 b.0 b.1)
             w.2),
       )
@@ -401,7 +406,7 @@ module _ (G : Ground) (lv : Lives G) (c : Course) (s : StateOf G.g) (u : System 
   moved_one j lt a g =
       let b = at_place j lt in
       subst (λ tb. In a (handing_of G.code.layouts n1.frames (pos 0) j tb).moved) (sym (table_is none j b.0 b.1))
-      (subst (λ (lf : Life). In a lf.moved) (life_is none j b.0 b.1) g)
+      (subst (λ (lf : BirthRights). In a lf.moved) (life_is none j b.0 b.1) g)
 
   gives : (j : ℕ) → j < n → (a : Spot) → In a (new_life j).moved
       → In a (moved_of (fk.hs G lv c s u l i d at_i z bs todo o m x t y quiet h.1 (pos 0)
@@ -422,7 +427,7 @@ module _ (G : Ground) (lv : Lives G) (c : Course) (s : StateOf G.g) (u : System 
   parallel_entry = by (nat_lt G.g.limits.entries (u.entries + 1)) (nat_lt G.g.limits.processes (u.births.processes + n))
       refl refl
     where
-      os_are : length (Rattle.sp_meaning.specs.Deeds.newborns x.left.who o 0 bs) ≡ n
+      os_are : length (Rattle.sp_meaning.specs.Actions.new_processes x.left.who o 0 bs) ≡ n
       os_are = newborns_length x.left.who o 0 bs ∙ count_is
 
       by : (e1 e2 : Bool) → nat_lt G.g.limits.entries (u.entries + 1) ≡ e1

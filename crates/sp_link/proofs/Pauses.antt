@@ -3,21 +3,21 @@
 use Rattle.std.proofs.Common.{◌≡◌, ◌⊎◌, inl, ℕ, ◌+◌, ◌==◌, List, ◌∷◌, true, false, if◌then◌else◌, cond, refl, sym, ap}
 use Rattle.std.proofs.Common.{◌∙◌, subst}
 use Rattle.sp_base.proofs.Facts.{is_none_plus}
-use Rattle.sp_journal.specs.Births.{after_event}
+use Rattle.sp_journal.specs.Births.{births_after_event}
 use Rattle.sp_journal.specs.Maps.{at_key}
 use Rattle.sp_journal.specs.declared.entry.Event.TheVariants as event
 use Rattle.sp_cell.specs.Map.{Plain}
 use Rattle.sp_meaning.specs.Model.{Name}
 use Rattle.sp_meaning.specs.Entries.{Happening, Paused as Is_paused}
-use Rattle.sp_meaning.specs.Own.{Loc, Own, Item, Process, Came, Got}
+use Rattle.sp_meaning.specs.LocalWork.{Loc, LocalState, Item, Process, WorkOutcome, Computed}
 use Rattle.sp_meaning.specs.SuperPascal.{with_todo}
 use Rattle.sp_meaning.specs.Run.{Store}
 use Rattle.sp_meaning.specs.Runs.{StateOf}
-use Rattle.sp_meaning.specs.Along.{Course, ticks_in, ticks_of, noted, Entered, Turn as source_turn}
+use Rattle.sp_meaning.specs.Along.{Course, ticks_in, ticks_of, with_ticks, EntryStep, Turn as source_turn}
 use Rattle.sp_meaning.specs.Turn as source
 use Rattle.sp_meaning.proofs.Keys.{name_test}
 use Rattle.sp_meaning.proofs.Owned.{Keeps_to}
-use Rattle.sp_meaning.proofs.Rights.{All}
+use Rattle.sp_meaning.proofs.Rights.{OwnOrGiven}
 use Rattle.sp_meaning.proofs.Maps.{itself, differs}
 use Rattle.sp_code.specs.Machine.{Config, At}
 use Rattle.sp_code.specs.Machine as machine
@@ -25,41 +25,46 @@ use Rattle.sp_code.specs.Turns as Turns
 use Rattle.sp_code.specs.Turns.{Turn, Stopped, IsTurn}
 use Rattle.sp_code.specs.Memory.{Memory}
 use Rattle.sp_code.specs.PlainStore.{plain}
-use Rattle.sp_code.specs.System.{System, Working, after, unless_fault, fault_of, event_or, event_of, lays, config_of}
+use Rattle.sp_code.specs.System.{System, Working, system_after_turn, apply_unless_fault, fault_of, event_or, event_of}
+use Rattle.sp_code.specs.System.{lays, config_of}
 use Rattle.sp_link.proofs.AfterEntry.{stand_again, follows_again}
 use Rattle.sp_link.proofs.TurnsMeet.{Outcome_of, Kept_of, Turned_as, is_turn, turn_known}
 use Rattle.sp_link.proofs.Journal.{Way_on, IsOpen, Now, now_by}
-use Rattle.sp_link.proofs.OneChanges.{q, pr, its, runs, light, keeps_to, linked_local}
-use Rattle.sp_link.proofs.Relation.{Ground, Life, Lives, W_of, R_of, Stands, Linked, Began, run_is, ops}
+use Rattle.sp_link.proofs.OneChanges.{q, pr, its, runs_as_pr, light, keeps_to, linked_local}
+use Rattle.sp_link.proofs.Relation.{RunContext, BirthRights, RightsOfAll, W_of, R_of, ProcessMatches, Linked, Began}
+use Rattle.sp_link.proofs.Relation.{run_is, ops}
 
 -- where no fault stands
-pub after_quiet : (G : Ground) (i : ℕ) (t : Turn (Memory Plain)) (u : System Plain) → u.faulted ≡ false
-    → after plain (run_is G) i t u ≡ record (unless_fault plain (run_is G) (fault_of G.g.limits u t) i t u)
-    { births = after_event u.births i (event_or (fault_of G.g.limits u t) t) }
+pub after_quiet : (G : RunContext) (i : ℕ) (t : Turn (Memory Plain)) (u : System Plain) → u.faulted ≡ false
+    → system_after_turn plain (run_is G) i t u
+    ≡ record (apply_unless_fault plain (run_is G) (fault_of G.g.limits u t) i t u)
+    { births = births_after_event u.births i (event_or (fault_of G.g.limits u t) t) }
 after_quiet G i t u e = ap (λ b. record (if b then lays plain (run_is G) i (config_of t) u else
-    unless_fault plain (run_is G) (fault_of G.g.limits u t) i t u)
-    { births = after_event u.births i (if b then event.Laid else event_or (fault_of G.g.limits u t) t) }) e
+    apply_unless_fault plain (run_is G) (fault_of G.g.limits u t) i t u)
+    { births = births_after_event u.births i (if b then event.Laid else event_or (fault_of G.g.limits u t) t) }) e
 
 -- where one stands
-pub after_laid : (G : Ground) (i : ℕ) (t : Turn (Memory Plain)) (u : System Plain) → u.faulted ≡ true
-    → after plain (run_is G) i t u ≡ lays plain (run_is G) i (config_of t) u
+pub after_laid : (G : RunContext) (i : ℕ) (t : Turn (Memory Plain)) (u : System Plain) → u.faulted ≡ true
+    → system_after_turn plain (run_is G) i t u ≡ lays plain (run_is G) i (config_of t) u
 after_laid G i t u e = ap (λ b. record (if b then lays plain (run_is G) i (config_of t) u else
-    unless_fault plain (run_is G) (fault_of G.g.limits u t) i t u)
-    { births = after_event u.births i (if b then event.Laid else event_or (fault_of G.g.limits u t) t) }) e
+    apply_unless_fault plain (run_is G) (fault_of G.g.limits u t) i t u)
+    { births = births_after_event u.births i (if b then event.Laid else event_or (fault_of G.g.limits u t) t) }) e
 
 -- a turn, and the entry that it makes on both sides
-pub record Entry_of (G : Ground) (c : Course) (s : StateOf G.g) (u : System Plain) (i : ℕ) (d : Config (Memory Plain)) :
+pub record Entry_of (G : RunContext) (c : Course) (s : StateOf G.g) (u : System Plain) (i : ℕ)
+    (d : Config (Memory Plain)) :
     Type 1 where
   pub turn : Turn (Memory Plain)
   pub is : IsTurn (ops G) G.code d turn
   pub way : Way_on G c s (G.births.name i) (Rattle.sp_journal.specs.Births.happening u.births
       (event_of G.g.limits u turn))
   pub speaks : IsOpen u.births (event_of G.g.limits u turn)
-  pub lives : Lives G
-  pub linked : Began G (after plain (run_is G) i turn u).births
-      → Now G lives way.course way.state (after plain (run_is G) i turn u)
+  pub lives : RightsOfAll G
+  pub linked : Began G (system_after_turn plain (run_is G) i turn u).births
+      → Now G lives way.course way.state (system_after_turn plain (run_is G) i turn u)
 
-module _ (G : Ground) (lv : Lives G) (c : Course) (s : StateOf G.g) (u : System Plain) (l : Linked G lv c s u) (i : ℕ)
+module _ (G : RunContext) (lv : RightsOfAll G) (c : Course) (s : StateOf G.g) (u : System Plain) (l : Linked G lv c s u)
+    (i : ℕ)
     (d : Config (Memory Plain)) (at_i : u.condition i ≡ Working d) where
   abbrev pub w : Name
   w = q G lv c s u l i d at_i
@@ -67,7 +72,7 @@ module _ (G : Ground) (lv : Lives G) (c : Course) (s : StateOf G.g) (u : System 
   abbrev pub p1 : Process
   p1 = pr G lv c s u l i d at_i
 
-  abbrev pub kids : ℕ → ℕ → Life
+  abbrev pub kids : ℕ → ℕ → BirthRights
   kids k n = lv ((k, n) ∷ w)
 
   abbrev pub kt : Keeps_to G.g.program (W_of G lv) (R_of G lv) s.forks w p1
@@ -76,7 +81,7 @@ module _ (G : Ground) (lv : Lives G) (c : Course) (s : StateOf G.g) (u : System 
   -- the way to an entry that the next step makes, once it is known what the machine says
   abbrev pub way_of_step : (steps : ℕ) (at : StateOf G.g) → source_turn G.g G.pause (c.since w) w steps s at false
       → (what : Happening) (t1 : StateOf G.g) → ((left : Course → StateOf G.g → ℕ → Type 0) (n : ℕ)
-      → left (noted w (ticks_of G.g t1 w) c) t1 n → Entered G.g left c at false w what (1 + n)) → (e : Happening)
+      → left (with_ticks w (ticks_of G.g t1 w) c) t1 n → EntryStep G.g left c at false w what (1 + n)) → (e : Happening)
       → what ≡ e → Way_on G c s w e
   way_of_step steps at turn what t1 enters e h = record {
     unlaid = (its G lv c s u l i d at_i).4;
@@ -85,40 +90,42 @@ module _ (G : Ground) (lv : Lives G) (c : Course) (s : StateOf G.g) (u : System 
     paused = false;
     turn = turn;
     cost = 1;
-    course = noted w (ticks_of G.g t1 w) c;
+    course = with_ticks w (ticks_of G.g t1 w) c;
     state = t1;
-    enters = λ left n k. subst (λ f. Entered G.g left c at false w f (1 + n)) h (enters left n k);
+    enters = λ left n k. subst (λ f. EntryStep G.g left c at false w f (1 + n)) h (enters left n k);
   }
 
-  module _ (z : Stands G (lv w) kids w (c.since w) p1 s.store d) where
+  module _ (z : ProcessMatches G (lv w) kids w (c.since w) p1 s.store d) where
     -- how its turn ends in the meaning, and in the machine
-    abbrev pub Meant : Came source.Stop × Store → Type 0
-    Meant r = Outcome_of G (lv w) kids w (c.since w) s p1 d z (runs G lv c s u l i d at_i) (light G lv c s u l i d at_i)
+    abbrev pub Meant : WorkOutcome source.Stop × Store → Type 0
+    Meant r = Outcome_of G (lv w) kids w (c.since w) s p1 d z (runs_as_pr G lv c s u l i d at_i)
+        (light G lv c s u l i d at_i)
         kt.last kt.fit r
 
-    abbrev pub Machined : Came source.Stop × Store → Type 0
-    Machined r = Turned_as G (lv w) kids w (c.since w) s p1 d z (runs G lv c s u l i d at_i)
+    abbrev pub Machined : WorkOutcome source.Stop × Store → Type 0
+    Machined r = Turned_as G (lv w) kids w (c.since w) s p1 d z (runs_as_pr G lv c s u l i d at_i)
         (light G lv c s u l i d at_i) kt.last kt.fit r
 
     -- what it kept to, and what is left keeps to
-    abbrev pub Kept_to : Came source.Stop × Store → Type 0
-    Kept_to r = Kept_of G (lv w) kids w (c.since w) s p1 d z (runs G lv c s u l i d at_i) (light G lv c s u l i d at_i)
+    abbrev pub Kept_to : WorkOutcome source.Stop × Store → Type 0
+    Kept_to r = Kept_of G (lv w) kids w (c.since w) s p1 d z (runs_as_pr G lv c s u l i d at_i)
+        (light G lv c s u l i d at_i)
         kt.last kt.fit r
 
     pub turn_is : (t : Turn (Memory Plain)) → Turns.Runs (ops G) G.code (At z.pc z.stack z.memory) t
         → IsTurn (ops G) G.code d t
-    turn_is t r = is_turn G (lv w) kids w (c.since w) s p1 d z (runs G lv c s u l i d at_i)
+    turn_is t r = is_turn G (lv w) kids w (c.since w) s p1 d z (runs_as_pr G lv c s u l i d at_i)
         (light G lv c s u l i d at_i) kt.last kt.fit t r
 
-    pub pausing : (todo : List Item) (o : Own) (m : Store) → Meant (Got (source.Paused todo) o, m)
-        → Machined (Got (source.Paused todo) o, m) → u.faulted ≡ false → Entry_of G c s u i d
+    pub pausing : (todo : List Item) (o : LocalState) (m : Store) → Meant (Computed (source.Paused todo) o, m)
+        → Machined (Computed (source.Paused todo) o, m) → u.faulted ≡ false → Entry_of G c s u i d
     pausing todo o m x t quiet = record {
       turn = tn;
       is = tn_is;
       way = way_by _ (sym said);
       speaks = subst (λ b. IsOpen u.births (if b then event.Laid else event.Pause)) (sym quiet) tt;
       lives = lv;
-      linked = λ began. now_by G lv c1 x.at (after plain (run_is G) i tn u)
+      linked = λ began. now_by G lv c1 x.at (system_after_turn plain (run_is G) i tn u)
           (subst (λ y. Linked G lv c1 x.at y) (sym (after_quiet G i tn u quiet)) linked);
     }
       where
@@ -138,7 +145,7 @@ module _ (G : Ground) (lv : Lives G) (c : Course) (s : StateOf G.g) (u : System 
         ticks = ap ticks_in x.condition
 
         c1 : Course
-        c1 = noted w (ticks_of G.g x.at w) c
+        c1 = with_ticks w (ticks_of G.g x.at w) c
 
         since_here : c1.since w ≡ (t.2).ticks
         since_here = ap (λ b. cond b (ticks_of G.g x.at w) (c.since w)) (itself name_test w) ∙ ticks ∙ (t.7).ticks
@@ -146,8 +153,8 @@ module _ (G : Ground) (lv : Lives G) (c : Course) (s : StateOf G.g) (u : System 
         n1 : Memory Plain
         n1 = record (t.2) { since = (t.2).ticks }
 
-        stands : Stands G (lv w) kids w (c1.since w) p2 x.at.store (At t.0 t.1 n1)
-        stands = subst (λ y. Stands G (lv w) kids w (c1.since w) p2 y (At t.0 t.1 n1)) (sym x.store) (record {
+        stands : ProcessMatches G (lv w) kids w (c1.since w) p2 x.at.store (At t.0 t.1 n1)
+        stands = subst (λ y. ProcessMatches G (lv w) kids w (c1.since w) p2 y (At t.0 t.1 n1)) (sym x.store) (record {
           fresh = z.fresh;
           named = z.named;
           js = t.3;
@@ -164,7 +171,7 @@ module _ (G : Ground) (lv : Lives G) (c : Course) (s : StateOf G.g) (u : System 
         linked : Linked G lv c1 x.at (record u { condition = at_key ◌==◌ i (Working (At t.0 t.1 n1)) u.condition })
         linked = linked_local G lv c s u l i d at_i x.at c1 (Working (At t.0 t.1 n1)) u.faulted
             x.elsewhere.condition x.elsewhere.forks x.elsewhere.pending x.elsewhere.totals
-            (subst (λ y. (a : Loc) → (y a ≡ s.store a) ⊎ All (W_of G lv) w a) (sym x.store) x.good.stays)
+            (subst (λ y. (a : Loc) → (y a ≡ s.store a) ⊎ OwnOrGiven (W_of G lv) w a) (sym x.store) x.good.stays)
             (turn_known G.g G.pause (c.since w) w x.steps s x.at true l.known x.turn) p2 x.runs
             (record { named = z.named; forked = kt.forked; last = kt.last; fit = x.good.fit })
             (λ r a. ap (λ b. cond b (ticks_of G.g x.at w) (c.since r)) (differs name_test w r (λ e. a (sym e))))
@@ -182,6 +189,6 @@ module _ (G : Ground) (lv : Lives G) (c : Course) (s : StateOf G.g) (u : System 
           cost = 0;
           course = c1;
           state = x.at;
-          enters = λ left n y. subst (λ f. Entered G.g left c x.at true w f (0 + n)) h
+          enters = λ left n y. subst (λ f. EntryStep G.g left c x.at true w f (0 + n)) h
               (l.faulted ∙ quiet, refl, subst (λ k. left c1 x.at k) (is_none_plus n) y);
         }

@@ -21,12 +21,13 @@ use Rattle.sp_code.specs.Emitted.{right_code, tests_code, code, code_all, code_c
 use Rattle.sp_code.specs.Emitted.{blocks_code, program_code}
 use Rattle.sp_code.specs.Lengths.{value_length, stmt_length, all_length, children_length, arms_length, tests_length}
 use Rattle.sp_code.specs.Lengths.{blocks_length}
-use Rattle.sp_code.specs.Places.{after_value, after_test, after_tests, after, after_all, after_children, after_arms}
+use Rattle.sp_code.specs.Places.{after_value, after_test, after_tests, after_statement, after_all, after_children}
+use Rattle.sp_code.specs.Places.{after_arms}
 use Rattle.sp_code.specs.Places.{after_block}
-use Rattle.sp_code.specs.Ranks.{ways, most, rank, IsRanked}
+use Rattle.sp_code.specs.Ranks.{ways, maximum_of, rank, IsRanked}
 use Rattle.sp_code.specs.Scopes.{Sort, Ordinals, Channels, Many, NoSort, Scope, OfIndex, is_given, kind_of, kind_at}
 use Rattle.sp_code.specs.Scopes.{sort, size, slot, element_type, field_type, type_by, type_of, scopes_of}
-use Rattle.sp_code.specs.Stands.{HasAt}
+use Rattle.sp_code.specs.CodeOfTree.{HasAt}
 use Rattle.sp_code.proofs.Blocks.{has_self, program_count}
 use Rattle.sp_code.proofs.Counts.{value_count, value_after, test_after, tests_after, tests_count, stmt_after, all_after}
 use Rattle.sp_code.proofs.Counts.{arms_after, code_count, last_count}
@@ -57,14 +58,14 @@ module _ (all : List Instr) where
   step q x b e h zero = omega arith
   step q x b e h (suc n) =
       let m = most_max (rank n all) b (ways q (Some x)) (h n) in
-      let w = ap (λ y. most (rank n all) (ways q y)) e in
+      let w = ap (λ y. maximum_of (rank n all) (ways q y)) e in
       omega (arith, m, w)
 
   -- nothing stands there, or what leads nowhere
   none_there : (q : ℕ) → slice_get all q ≡ None → Below q 1
   unfolding rank
   none_there q e zero = omega arith
-  none_there q e (suc n) = let w = ap (λ y. most (rank n all) (ways q y)) e in omega (arith, w)
+  none_there q e (suc n) = let w = ap (λ y. maximum_of (rank n all) (ways q y)) e in omega (arith, w)
 
   join : (q u v r c d e : ℕ) → v ≤ u + 1 → c ≤ e → d ≤ e → Span q u c → Span v r d → Span q r e
   join q u v r c d e g lc ld f h x lx rx = ⊎_elim (λ (l : x ≤ u). raise x c e lc (f x lx l))
@@ -171,8 +172,8 @@ module _ (all : List Instr) where
 
     -- the statement's instructions are straight
     plain : (sc : List Scope) (t n q b : ℕ) (s : Stmt) → Here q (code p sc t n q s) → AllStraight (code p sc t n q s)
-        → Below (after p q s) b → Span q (after p q s) (b + stmt_length p s)
-    plain sc t n q b s h k d = straight_by (code p sc t n q s) q (after p q s) b (stmt_length p s) h k
+        → Below (after_statement p q s) b → Span q (after_statement p q s) (b + stmt_length p s)
+    plain sc t n q b s h k d = straight_by (code p sc t n q s) q (after_statement p q s) b (stmt_length p s) h k
         (code_count p sc t n q s) (stmt_after p q s) d
 
     loop_begins : (down : Bool) (x to q b : ℕ) → Below to b → (n : ℕ) → Below (q + 1) b
@@ -215,7 +216,7 @@ module _ (all : List Instr) where
     vstop : (sc : List Scope) (q : ℕ) (e : Expr) → q + length (value_code p sc e) ≡ after_value q e
     vstop sc q e = omega (arith, value_count p sc e, value_after q e)
 
-    cstop : (sc : List Scope) (t n q : ℕ) (s : Stmt) → q + length (code p sc t n q s) ≡ after p q s
+    cstop : (sc : List Scope) (t n q : ℕ) (s : Stmt) → q + length (code p sc t n q s) ≡ after_statement p q s
     cstop sc t n q s = omega (arith, code_count p sc t n q s, stmt_after p q s)
 
     test_stop : (ms : List ℤ) (q m : ℕ) → q + length (test_code ms m) ≡ after_test q ms
@@ -227,7 +228,7 @@ module _ (all : List Instr) where
     tests NoArm q m b h g d = one_place q (b + 0) (raise q b (b + 0) (omega arith) d)
     tests (Or (On ms s) rest) q m b h g d =
         let v = after_test q ms in
-        let a = after p m s in
+        let a = after_statement p m s in
         let lt = tests_length rest in
         let rv = test_after q ms in
         let rt = tests_after v rest in
@@ -242,8 +243,8 @@ module _ (all : List Instr) where
         (omega (arith, rv)) (omega arith) (omega arith) one ih
 
     mutual
-      stmt : (sc : List Scope) (t n q b : ℕ) (s : Stmt) → Here q (code p sc t n q s) → Below (after p q s) b
-          → Span q (after p q s) (b + stmt_length p s)
+      stmt : (sc : List Scope) (t n q b : ℕ) (s : Stmt) → Here q (code p sc t n q s) → Below (after_statement p q s) b
+          → Span q (after_statement p q s) (b + stmt_length p s)
       stmt sc t n q b Empty h d = plain sc t n q b Empty h tt d
       stmt sc t n q b (Assign v (Typed k form)) h d = plain sc t n q b (Assign v (Typed k form)) h
           (both (var_code p sc v) (right_code p sc k (sort p k) form ++ assign_instr (sort p k) (size p k) ∷ [])
@@ -255,7 +256,7 @@ module _ (all : List Instr) where
       stmt sc t n q b (Sequence ss) h d = seq sc t n q b ss h d
       stmt sc t n q b (If e a) h d =
           let u = after_value q e in
-          let r = after p (u + 1) a in
+          let r = after_statement p (u + 1) a in
           let la = stmt_length p a in
           let le = value_length e in
           let ra = stmt_after p (u + 1) a in
@@ -269,8 +270,8 @@ module _ (all : List Instr) where
           f
       stmt sc t n q b (IfElse e a c) h d =
           let u = after_value q e in
-          let j = after p (u + 1) a in
-          let r = after p (j + 1) c in
+          let j = after_statement p (u + 1) a in
+          let r = after_statement p (j + 1) c in
           let la = stmt_length p a in
           let lc = stmt_length p c in
           let le = value_length e in
@@ -303,7 +304,7 @@ module _ (all : List Instr) where
           (omega arith) ga gc)
       stmt sc t n q b (While e s) h d =
           let u = after_value q e in
-          let j = after p (u + 1 + 1) s in
+          let j = after_statement p (u + 1 + 1) s in
           let ls = stmt_length p s in
           let le = value_length e in
           let rv = value_after q e in
@@ -325,7 +326,7 @@ module _ (all : List Instr) where
           loop q u j (b + 1 + 1 + le) (b + 1 + 1 + le + 1 + ls) b (b + (le + ls + 3)) (omega arith) (omega arith)
           (omega arith) (omega arith) gv tick gs d
       stmt sc t n q b (Repeat s e) h d =
-          let j = after p (q + 1) s in
+          let j = after_statement p (q + 1) s in
           let w = after_value j e in
           let ls = stmt_length p s in
           let le = value_length e in
@@ -348,7 +349,7 @@ module _ (all : List Instr) where
       stmt sc t n q b (For x from down to s) h d =
           let m = after_value q from in
           let u = after_value m to in
-          let j = after p (u + 1 + 1) s in
+          let j = after_statement p (u + 1 + 1) s in
           let ls = stmt_length p s in
           let lf = value_length from in
           let lt = value_length to in
@@ -412,7 +413,7 @@ module _ (all : List Instr) where
       stmt sc t n q b (Forall x from to s) h d =
           let m = after_value q from in
           let u = after_value m to in
-          let j = after p (u + 1 + 1) s in
+          let j = after_statement p (u + 1 + 1) s in
           let ls = stmt_length p s in
           let lf = value_length from in
           let lt = value_length to in
@@ -466,7 +467,7 @@ module _ (all : List Instr) where
           → Span q (after_all p q ss) (b + all_length p ss)
       seq sc t n q b No h d = one_place q (b + 0) (raise q b (b + 0) (omega arith) d)
       seq sc t n q b (And s rest) h d =
-          let a = after p q s in
+          let a = after_statement p q s in
           let ls = stmt_length p s in
           let lr = all_length p rest in
           let rr = all_after p a rest in
@@ -482,7 +483,7 @@ module _ (all : List Instr) where
           → Below (after_children p q ss) b → Span q (after_children p q ss) (b + children_length p ss)
       kids sc t n q b No h d = one_place q (b + 0) (raise q b (b + 0) (omega arith) d)
       kids sc t n q b (And s rest) h d =
-          let a = after p q s in
+          let a = after_statement p q s in
           let ls = stmt_length p s in
           let lr = children_length p rest in
           let more = i.End ∷ code_children p sc (t + tables_in s) (n + texts_in s) (a + 1) rest in
@@ -497,7 +498,7 @@ module _ (all : List Instr) where
           → Below end b → Below (after_arms p q arms) b → Span q (after_arms p q arms) (b + arms_length p arms)
       each sc t n q b NoArm end h de d = one_place q (b + 0) (raise q b (b + 0) (omega arith) d)
       each sc t n q b (Or (On ms s) rest) end h de d =
-          let a = after p q s in
+          let a = after_statement p q s in
           let ls = stmt_length p s in
           let lr = arms_length p rest in
           let more = i.Jump end ∷ code_arms p sc (t + tables_in s) (n + texts_in s) (a + 1) rest end in
@@ -521,7 +522,7 @@ module _ (all : List Instr) where
     blocks k t n q [] h x l r = absurd (omega (arith, l, r))
     blocks k t n q (b ∷ ks) h x l r =
         let sc = scopes_of p k in
-        let a = after p q b.body in
+        let a = after_statement p q b.body in
         let lb = stmt_length p b.body in
         let lr = blocks_length p ks in
         let ra = stmt_after p q b.body in

@@ -6,24 +6,25 @@ use Rattle.std.proofs.Common.{arith}
 use Rattle.std.specs.Prelude.{◌≢◌, IsSome}
 use Rattle.std.specs.FinMap as fin
 use Rattle.sp_cell.specs.declared.spot.Spot.{Spot}
-use Rattle.sp_cell.specs.Fork.{joined}
+use Rattle.sp_cell.specs.Fork.{map_after_join}
 use Rattle.sp_cell.specs.Map.{Plain, Content, with_map}
 use Rattle.sp_cell.proofs.Plan.{get_taken_out, not_both}
 use Rattle.sp_cell.specs.Spots.{In, NotIn}
-use Rattle.sp_meaning.specs.Model.{Name, Condition, Absent, Ended, Becomes, changed}
+use Rattle.sp_meaning.specs.Model.{Name, Condition, Absent, Ended, Becomes, with_change}
 use Rattle.sp_meaning.specs.Steps.{has_ended, all_ended}
-use Rattle.sp_meaning.specs.Own.{Held, Address, Own, Who, Process}
+use Rattle.sp_meaning.specs.LocalWork.{LocationContent, Address, LocalState, Identity, Process}
 use Rattle.sp_meaning.specs.SuperPascal.{superpascal}
 use Rattle.sp_meaning.specs.Runs.{StateOf}
 use Rattle.sp_meaning.proofs.Keys.{name_test}
 use Rattle.sp_meaning.proofs.Maps.{at_same, at_other}
-use Rattle.sp_meaning.proofs.Rights.{Mine}
+use Rattle.sp_meaning.proofs.Rights.{OwnLocation}
 use Rattle.sp_code.specs.Machine.{Config, At}
 use Rattle.sp_code.specs.Memory.{Memory}
 use Rattle.sp_codegen.specs.Standing.{spot_at}
 use Rattle.sp_codegen.proofs.Joining.{joined_joining, all_joined}
 use Rattle.sp_codegen.proofs.Contents.{known_piece}
-use Rattle.sp_link.proofs.Relation.{Ground, Life, Lives, Named, Called, St, Stands, Joined, Handed, Lives_yet, Away_yet}
+use Rattle.sp_link.proofs.Relation.{RunContext, BirthRights, RightsOfAll, Named, Called, St, ProcessMatches, Joined}
+use Rattle.sp_link.proofs.Relation.{Handed, Lives_yet, Away_yet}
 use Rattle.sp_link.proofs.Relation.{left_of}
 use Rattle.sp_link.proofs.OthersStay.{Jo, joining_more}
 use Rattle.sp_code.proofs.Plans.{out_of}
@@ -32,18 +33,18 @@ known_as : (c : Option Content) (x : Content) → c ≡ Some x → IsSome c
 known_as None x e = absurd (cc e)
 known_as (Some c) x e = refl
 
-module _ (G : Ground) (lv : Lives G) (P : Name) (since k n left i : ℕ) (pr : Process) (at : StateOf G.g)
+module _ (G : RunContext) (lv : RightsOfAll G) (P : Name) (since k n left i : ℕ) (pr : Process) (at : StateOf G.g)
     (d : Config (Memory Plain)) (z : Joined G (lv P) (λ a b. lv ((a, b) ∷ P)) P since k n left pr at d) (lt : i < n)
     (yet : has_ended (at.condition ((k, i) ∷ P)) ≡ false) where
   abbrev pub child_name : Name
   child_name = (k, i) ∷ P
 
-  abbrev pub kids : ℕ → ℕ → Life
+  abbrev pub kids : ℕ → ℕ → BirthRights
   kids a b = lv ((a, b) ∷ P)
 
   -- the child is gone
   abbrev pub t1 : StateOf G.g
-  t1 = changed {L = superpascal G.g} (Becomes child_name Ended) at
+  t1 = with_change {L = superpascal G.g} (Becomes child_name Ended) at
 
   gone : t1.condition child_name ≡ Ended
   gone = at_same name_test at.condition child_name Ended
@@ -102,7 +103,7 @@ module _ (G : Ground) (lv : Lives G) (P : Name) (since k n left i : ℕ) (pr : P
   one_fewer = z.count ∙ sym (left_below n lt)
 
   -- where none is left all have ended
-  pub all_over : (c : Name → Condition Process Held Address) (m : ℕ) → left_of G (lv P) kids P c k m ≡ 0
+  pub all_over : (c : Name → Condition Process LocationContent Address) (m : ℕ) → left_of G (lv P) kids P c k m ≡ 0
       → all_ended c P k m ≡ true
   all_over c zero e = refl
   all_over c (suc m) e = by (has_ended (c ((k, m) ∷ P))) refl (λ h. all_over c m h)
@@ -116,7 +117,8 @@ module _ (G : Ground) (lv : Lives G) (P : Name) (since k n left i : ℕ) (pr : P
       by false f ih = let x : left_of G (lv P) kids P c k (suc m) ≡ 1 + left_of G (lv P) kids P c k m =
           ap (λ b. (if b then 0 else 1) + left_of G (lv P) kids P c k m) f in absurd (omega (arith, x, e))
 
-  pub none_lives : (c : Name → Condition Process Held Address) (m : ℕ) → left_of G (lv P) kids P c k m ≡ 0 → (j : ℕ)
+  pub none_lives : (c : Name → Condition Process LocationContent Address) (m : ℕ) → left_of G (lv P) kids P c k m ≡ 0
+      → (j : ℕ)
       → j < m → has_ended (c ((k, j) ∷ P)) ≡ false → ⊥
   none_lives c zero e j h f = omega (arith, h)
   none_lives c (suc m) e j h f = by (j == m) refl (λ a b. none_lives c m a j b f)
@@ -144,8 +146,9 @@ module _ (G : Ground) (lv : Lives G) (P : Name) (since k n left i : ℕ) (pr : P
   there_still : (j : ℕ) → j < n → t1.condition ((k, j) ∷ P) ≢ Absent
   there_still j h e = by (j == i) refl
     where
-      ended_there : ◌≡◌ {A = Condition Rattle.sp_meaning.specs.Own.Process Rattle.sp_meaning.specs.Own.Held
-          Rattle.sp_meaning.specs.Own.Address} Ended Rattle.sp_meaning.specs.Model.Absent → ⊥
+      ended_there : ◌≡◌ {A =
+          Condition Rattle.sp_meaning.specs.LocalWork.Process Rattle.sp_meaning.specs.LocalWork.LocationContent
+          Rattle.sp_meaning.specs.LocalWork.Address} Ended Rattle.sp_meaning.specs.Model.Absent → ⊥
       ended_there f = cc f
 
       by : (b : Bool) → j == i ≡ b → ⊥
@@ -156,7 +159,7 @@ module _ (G : Ground) (lv : Lives G) (P : Name) (since k n left i : ℕ) (pr : P
   pub hd : Handed G (lv P) kids P z.js z.memory (kids k i) child_name
   hd = z.children i (lt, yet)
 
-  module _ {w : Who} {since_c : ℕ} {oc : Own} {nc : Memory Plain}
+  module _ {w : Identity} {since_c : ℕ} {oc : LocalState} {nc : Memory Plain}
       (child : St G (lv child_name) (λ a b. lv ((a, b) ∷ child_name)) child_name w since_c (lv child_name).below oc
       at.store nc) (mo : nc.store.moved ≡ (lv child_name).moved) where
     in_moved : (a : Spot) → In a nc.store.moved → In a (kids k i).moved
@@ -174,11 +177,12 @@ module _ (G : Ground) (lv : Lives G) (P : Name) (since k n left i : ℕ) (pr : P
         (hd.kept a (in_moved a h))
 
     joining_now : Jo G (lv P) kids P pr.who since (λ a. Away_yet G (lv P) kids P at k n a × NotIn a nc.store.moved) z.js
-        pr.own at.store z.memory (joined z.held nc.store)
-    joining_now = joined_joining G.g G.code pr.who (Named G) (Called G) (λ l. Mine P l ⊎ (lv P).W l)
-        (λ l. Mine P l ⊎ (lv P).R l) (lv P).J (lv P).low (length (lv P).below) (lv P).born since G.pause (lv P).moved
+        pr.own at.store z.memory (map_after_join z.held nc.store)
+    joining_now = joined_joining G.g G.code pr.who (Named G) (Called G) (λ l. OwnLocation P l ⊎ (lv P).W l)
+        (λ l. OwnLocation P l ⊎ (lv P).R l) (lv P).J (lv P).low (length (lv P).below) (lv P).born since G.pause
+        (lv P).moved
         z.joining
-        w (λ l. Mine child_name l ⊎ (lv child_name).W l) (λ l. Mine child_name l ⊎ (lv child_name).R l)
+        w (λ l. OwnLocation child_name l ⊎ (lv child_name).W l) (λ l. OwnLocation child_name l ⊎ (lv child_name).R l)
         (lv child_name).J (lv child_name).low (length (lv child_name).below) (lv child_name).born since_c G.pause
         (lv child_name).moved child
         (λ r h x l m a. hd.live r h x l m (in_moved _ a))
@@ -188,7 +192,7 @@ module _ (G : Ground) (lv : Lives G) (P : Name) (since k n left i : ℕ) (pr : P
         (λ a h. hd.old a (in_moved a h))
 
     pub joining_after : Jo G (lv P) kids P pr.who since (Away_yet G (lv P) kids P t1 k n) z.js pr.own t1.store z.memory
-        (joined z.held nc.store)
+        (map_after_join z.held nc.store)
     joining_after = joining_more G (lv P) kids P (λ a h. by a h.0.0 h.0.1 h.0.2 h.1 (h.0.0 == i) refl) joining_now
       where
         by : (a : Spot) (j : ℕ) → Lives_yet G (lv P) kids P at k n j → In a (kids k j).moved → NotIn a nc.store.moved
@@ -199,7 +203,7 @@ module _ (G : Ground) (lv : Lives G) (P : Name) (since k n left i : ℕ) (pr : P
             absurd (cc x) in (j, (y.0, other_same j apart ∙ y.1), m)
 
     abbrev pub memory_after : Memory Plain
-    memory_after = record (z.memory) { store = with_map z.memory.store (joined z.held nc.store) }
+    memory_after = record (z.memory) { store = with_map z.memory.store (map_after_join z.held nc.store) }
 
     -- it goes on to join
     pub joins_on : 1 ≤ left_of G (lv P) kids P t1.condition k n
@@ -212,7 +216,7 @@ module _ (G : Ground) (lv : Lives G) (P : Name) (since k n left i : ℕ) (pr : P
       pc = z.pc;
       stack = z.stack;
       memory = z.memory;
-      held = joined z.held nc.store;
+      held = map_after_join z.held nc.store;
       is = refl;
       joining = joining_after;
       follows = z.follows;
@@ -228,7 +232,7 @@ module _ (G : Ground) (lv : Lives G) (P : Name) (since k n left i : ℕ) (pr : P
 
     -- or it was the last one
     pub runs_on : left_of G (lv P) kids P t1.condition k n ≡ 0
-        → Stands G (lv P) kids P since pr t1.store (At z.pc z.stack memory_after)
+        → ProcessMatches G (lv P) kids P since pr t1.store (At z.pc z.stack memory_after)
     runs_on none = record {
       fresh = z.fresh;
       named = z.named;
@@ -237,8 +241,9 @@ module _ (G : Ground) (lv : Lives G) (P : Name) (since k n left i : ℕ) (pr : P
       stack = z.stack;
       memory = memory_after;
       is = refl;
-      stand = all_joined G.g G.code pr.who (Named G) (Called G) (λ l. Mine P l ⊎ (lv P).W l)
-          (λ l. Mine P l ⊎ (lv P).R l) (lv P).J (lv P).low (length (lv P).below) (lv P).born since G.pause (lv P).moved
+      stand = all_joined G.g G.code pr.who (Named G) (Called G) (λ l. OwnLocation P l ⊎ (lv P).W l)
+          (λ l. OwnLocation P l ⊎ (lv P).R l) (lv P).J (lv P).low (length (lv P).below) (lv P).born since G.pause
+          (lv P).moved
           (λ a h. none_lives t1.condition n none h.0 h.1.0 h.1.1) joining_after;
       follows = z.follows;
     }

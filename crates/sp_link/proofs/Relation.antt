@@ -1,5 +1,7 @@
--- How the system of the machine stands for the state of the meaning after the same entries. `Ground` is what a run is
--- of, `Life` what its birth gives to a process for good, `Performs` what one process does on both sides, condition by
+-- How the system of the machine stands for the state of the meaning after the same entries. `RunContext` is what a run
+-- is
+-- of, `BirthRights` what its birth gives to a process for good, `Performs` what one process does on both sides,
+-- condition by
 -- condition, and `Linked` the whole: names, totals, pending offers, faults, and every process. Names and numbers are
 -- those of the whole journal, so that nothing in the relation has to grow when a process is born; of channels only
 -- those are named that are open so far.
@@ -16,25 +18,26 @@ use Rattle.sp_cell.specs.declared.spot.Spot.{Spot}
 use Rattle.sp_cell.specs.Map.{Map, Plain, Away, IsOwn, with_map, output_spot, output_of}
 use Rattle.sp_cell.specs.Spots.{In, NotIn}
 use Rattle.sp_meaning.specs.Model.{Name, Channel, same_channel, Cargo, Offer, Condition, Absent, Waits, Joins, Ended}
-use Rattle.sp_meaning.specs.Steps.{working_in, has_ended}
-use Rattle.sp_meaning.specs.Own.{Setting, Loc, Cell, Input, Output, OfIndex, Held, Written, Address, Own, Who, Item}
-use Rattle.sp_meaning.specs.Own.{Break, Process}
+use Rattle.sp_meaning.specs.Steps.{own_part_in, has_ended}
+use Rattle.sp_meaning.specs.LocalWork.{RunInput, Loc, Cell, Input, Output, OfIndex, LocationContent, Written, Address}
+use Rattle.sp_meaning.specs.LocalWork.{LocalState, Identity, Item}
+use Rattle.sp_meaning.specs.LocalWork.{Break, Process}
 use Rattle.sp_meaning.specs.Run.{Store}
 use Rattle.sp_meaning.specs.SuperPascal.{root}
 use Rattle.sp_meaning.specs.Runs.{StateOf}
 use Rattle.sp_meaning.specs.Along.{Course}
-use Rattle.sp_meaning.proofs.Rights.{Mine}
+use Rattle.sp_meaning.proofs.Rights.{OwnLocation}
 use Rattle.sp_meaning.proofs.Keys.{channel_test}
 use Rattle.sp_meaning.proofs.Owned.{Inv}
 use Rattle.sp_meaning.proofs.Pure.{AreFunctionsPure, DoFunctionsTakeValues}
-use Rattle.sp_meaning.proofs.Reached.{Known}
+use Rattle.sp_meaning.proofs.Reached.{StateKeeps}
 use Rattle.sp_code.specs.declared.code.Layout.{Layout}
 use Rattle.sp_code.specs.declared.code.Parts.{Parts as Code}
 use Rattle.sp_code.specs.declared.instr.Instr.TheVariants as i
 use Rattle.sp_code.specs.Machine.{Entry, Stop, Config, At, Ops, layout_of}
 use Rattle.sp_code.specs.Machine as machine
-use Rattle.sp_code.specs.Turns.{begins}
-use Rattle.sp_code.specs.Memory.{Memory, memory, position_at, first}
+use Rattle.sp_code.specs.Turns.{frames_fit}
+use Rattle.sp_code.specs.Memory.{Memory, memory, position_at, first_process}
 use Rattle.sp_code.specs.Memory as m
 use Rattle.sp_code.specs.PlainStore.{plain}
 use Rattle.sp_code.specs.System.{System}
@@ -43,21 +46,21 @@ use Rattle.sp_code.specs.Scopes.{slot}
 use Rattle.sp_code.specs.Shares.{SetsAre}
 use Rattle.sp_code.specs.Sizes.{HasSmallTypes}
 use Rattle.sp_code.specs.Sound.{AreLimits}
-use Rattle.sp_code.specs.Stands.{BlocksAt}
+use Rattle.sp_code.specs.CodeOfTree.{BlocksAt}
 use Rattle.sp_tree.specs.Formed.{IsFormed}
-use Rattle.sp_codegen.specs.Joints.{Joint, from}
-use Rattle.sp_codegen.specs.Meets.{code_run, due_after}
+use Rattle.sp_codegen.specs.FramePairs.{FramePair, pairs_from}
+use Rattle.sp_codegen.specs.TurnAgrees.{code_run, due_after}
 use Rattle.sp_codegen.specs.Executions.{Execution}
-use Rattle.sp_codegen.specs.Following.{Follows, CargoIs}
-use Rattle.sp_codegen.specs.Relation.{Relation, Keeps}
+use Rattle.sp_codegen.specs.Following.{CodeFollows, CargoIs}
+use Rattle.sp_codegen.specs.Relation.{Relation, KeepsRelation}
 use Rattle.sp_codegen.specs.Standing.{Live, Stand, relation, spot_at}
 use Rattle.sp_codegen.proofs.Closing.{Laid}
 use Rattle.sp_codegen.proofs.Instance.{instance}
 use Rattle.sp_codegen.proofs.Joining.{Joining}
 
 -- what a run of the code of a tree is of, and all that its journal gives
-pub record Ground : Type 1 where
-  pub g : Setting
+pub record RunContext : Type 1 where
+  pub g : RunInput
   pub code : Code
   pub moves : Stmt → List ℕ
   pub shares : Stmt → List ℕ
@@ -81,19 +84,19 @@ pub record Ground : Type 1 where
   pub one_channel : (c d : ℕ) → c < births.channels → d < births.channels → channel births c ≡ channel births d → c ≡ d
 
 -- so many channels are open
-abbrev pub at_open : Ground → ℕ → Ground
+abbrev pub at_open : RunContext → ℕ → RunContext
 at_open G n = record G { opened = n }
 
 -- what its birth gave to a process: what it may write and read in the frames of others, whose indexes it holds, above
 -- which number its frames are, its depth, what moved to it, its frames, and where its code ends
-pub record Life : Type 1 where
+pub record BirthRights : Type 1 where
   pub W : Loc → Type 0
   pub R : Loc → Type 0
   pub J : ℕ → Type 0
   pub low : ℕ
   pub born : ℕ
   pub moved : List Spot
-  pub below : List Joint
+  pub below : List FramePair
   pub end : ℕ
 
 -- so far the entries have given what they have given in the end
@@ -107,23 +110,23 @@ pub record Begun (all b : Births) : Type 0 where
   pub born : (i : ℕ) → 0 < i → i < b.processes → (z : Birth) × (b.birth i ≡ Some z) × (z.parent < i)
       × (b.name i ≡ (z.fork, z.child) ∷ b.name z.parent) × (z.fork < b.forks z.parent)
 
-abbrev pub Began : Ground → Births → Type 0
+abbrev pub Began : RunContext → Births → Type 0
 Began G b = Begun G.births b
 
 -- one that waits to receive has a piece of its own for it
-abbrev pub Ready : Stop → Config (Memory Plain) → Type 0
-Ready (machine.Forks tb val k) d = Unit {0}
-Ready (machine.Opens a) d = Unit {0}
-Ready (machine.Sends ch k cs) d = Unit {0}
-Ready (machine.Receives ch k a) d = IsOwn (fin.get (sys.store_of d).map a.spot)
-Ready machine.Ends d = Unit {0}
-Ready machine.Pauses d = Unit {0}
+abbrev pub HasOwnTarget : Stop → Config (Memory Plain) → Type 0
+HasOwnTarget (machine.Forks tb val k) d = Unit {0}
+HasOwnTarget (machine.Opens a) d = Unit {0}
+HasOwnTarget (machine.Sends ch k cs) d = Unit {0}
+HasOwnTarget (machine.Receives ch k a) d = IsOwn (fin.get (sys.store_of d).map a.spot)
+HasOwnTarget machine.Ends d = Unit {0}
+HasOwnTarget machine.Pauses d = Unit {0}
 
-module _ (G : Ground) where
+module _ (G : RunContext) where
   abbrev pub p : Program
   p = G.g.program
 
-  abbrev pub run_is : m.Setting
+  abbrev pub run_is : m.CodeRun
   run_is = code_run G.g G.code G.pause
 
   abbrev pub ops : Ops (Memory Plain)
@@ -149,33 +152,35 @@ module _ (G : Ground) where
           other false f = refl
 
   -- kids: the lives of its children, by fork and number
-  module _ (lf : Life) (kids : ℕ → ℕ → Life) (q : Name) where
-    abbrev pub Writes : Loc → Type 0
-    Writes l = Mine q l ⊎ lf.W l
+  module _ (lf : BirthRights) (kids : ℕ → ℕ → BirthRights) (q : Name) where
+    abbrev pub IsWritableLoc : Loc → Type 0
+    IsWritableLoc l = OwnLocation q l ⊎ lf.W l
 
     abbrev pub IsReadable : Loc → Type 0
-    IsReadable l = Mine q l ⊎ lf.R l
+    IsReadable l = OwnLocation q l ⊎ lf.R l
 
     abbrev pub base : ℕ
     base = length lf.below
 
-    abbrev pub St : Who → ℕ → List Joint → Own → Store → Memory Plain → Type 0
-    St w since js o s n = Stand G.g G.code w Named Called Writes IsReadable lf.J lf.low base lf.born since G.pause
+    abbrev pub St : Identity → ℕ → List FramePair → LocalState → Store → Memory Plain → Type 0
+    St w since js o s n = Stand G.g G.code w Named Called IsWritableLoc IsReadable lf.J lf.low base lf.born since
+        G.pause
         lf.moved js o s n
 
-    abbrev pub Rel : Who → ℕ → Relation (Memory Plain)
-    Rel w since = relation G.g G.code w Named Called Writes IsReadable lf.J lf.low base lf.born since G.pause lf.moved
+    abbrev pub Rel : Identity → ℕ → Relation (Memory Plain)
+    Rel w since = relation G.g G.code w Named Called IsWritableLoc IsReadable lf.J lf.low base lf.born since G.pause
+        lf.moved
 
     -- of a birth
     pub record Fresh : Type 0 where
       pub based : 1 ≤ base
-      pub reads : (l : Loc) → Writes l → IsReadable l
+      pub reads : (l : Loc) → IsWritableLoc l → IsReadable l
       pub low_small : lf.low ≤ lf.born + 1
       pub ends : slice_get G.code.instrs lf.end ≡ Some i.End
 
-    module _ (f : Fresh) (w : Who) (named : w.name ≡ q) (since : ℕ) where
-      pub law : Keeps G.g w (due_after since G.pause) Writes IsReadable lf.J ops (Rel w since)
-      law = instance G.g G.code w Named Called Writes IsReadable lf.J lf.low base lf.born since G.pause lf.moved
+    module _ (f : Fresh) (w : Identity) (named : w.name ≡ q) (since : ℕ) where
+      pub law : KeepsRelation G.g w (due_after since G.pause) IsWritableLoc IsReadable lf.J ops (Rel w since)
+      law = instance G.g G.code w Named Called IsWritableLoc IsReadable lf.J lf.low base lf.born since G.pause lf.moved
           G.formed G.small G.laid f.based (λ n x. inl named)
           (let a = f.low_small in let b = G.limits.depth in omega (arith, a, b)) told
 
@@ -186,10 +191,10 @@ module _ (G : Ground) where
         code = G.code;
         moves = G.moves;
         shares = G.shares;
-        Quiet = G.hush;
+        IsCallableInFunctions = G.hush;
         who = w;
         due = due_after since G.pause;
-        Writes = Writes;
+        Writes = IsWritableLoc;
         IsReadable = IsReadable;
         Indexes = lf.J;
         operations = ops;
@@ -203,18 +208,18 @@ module _ (G : Ground) where
       }
 
       -- the code of what is left, from a place with a stack and frames, to the process's end
-      abbrev pub Fo : ℕ → List Entry → List Joint → List Item → Type 0
-      Fo pc stack js todo = Follows execution lf.end [] lf.below pc stack js todo
+      abbrev pub Fo : ℕ → List Entry → List FramePair → List Item → Type 0
+      Fo pc stack js todo = CodeFollows execution lf.end [] lf.below pc stack js todo
 
       -- the offer of a waiting process
-      abbrev pub Ca : List Joint → Channel → ℕ → Cargo Held Address → Stop → Type 0
+      abbrev pub Ca : List FramePair → Channel → ℕ → Cargo LocationContent Address → Stop → Type 0
       Ca js c k x z = CargoIs execution js c k x z
 
     -- a process that runs, or that waits at an offer: c is where the machine has it
-    pub record Stands (since : ℕ) (pr : Process) (s : Store) (c : Config (Memory Plain)) : Type 0 where
+    pub record ProcessMatches (since : ℕ) (pr : Process) (s : Store) (c : Config (Memory Plain)) : Type 0 where
       pub fresh : Fresh
       pub named : pr.who.name ≡ q
-      pub js : List Joint
+      pub js : List FramePair
       pub pc : ℕ
       pub stack : List Entry
       pub memory : Memory Plain
@@ -223,15 +228,16 @@ module _ (G : Ground) where
       pub follows : Fo fresh pr.who named since pc stack js pr.todo
 
     -- a child of which the process that forked it at js with the memory n keeps these facts, as long as it lives
-    pub record Handed (js : List Joint) (n : Memory Plain) (v : Life) (z : Name) : Type 0 where
+    pub record Handed (js : List FramePair) (n : Memory Plain) (v : BirthRights) (z : Name) : Type 0 where
       -- what moved to it is what it may read there, in frames that it knows; and what it may write there moved to it
       pub live : (r : Name) (h x : ℕ) → (l : Live p js r h x) → IsReadable (Cell r h x)
           → In (spot_at l.joint.machine.number (slot p x)) v.moved
-          → (Mine z (Cell r h x) ⊎ v.R (Cell r h x))
+          → (OwnLocation z (Cell r h x) ⊎ v.R (Cell r h x))
           × ((k : Live p v.below r h x) × (k.joint ≡ l.joint) × (k.info ≡ l.info))
       pub aims : (r : Name) (h x : ℕ) → (l : Live p js r h x) → v.W (Cell r h x)
           → In (spot_at l.joint.machine.number (slot p x)) v.moved
-      pub no_index : (h : ℕ) → lf.J h → (j : Joint) (rest : List Joint) (x : ℕ) (i : ℤ) → from (suc h) js ≡ j ∷ rest
+      pub no_index : (h : ℕ) → lf.J h → (j : FramePair) (rest : List FramePair) (x : ℕ) (i : ℤ)
+          → pairs_from (suc h) js ≡ j ∷ rest
           → j.source.home ≡ OfIndex x i → NotIn (spot_at j.machine.number 0) v.moved
       pub input : IsReadable Input → In position_at.spot v.moved → v.R Input
       pub output : IsReadable Output → In output_spot v.moved → v.R Output
@@ -240,7 +246,8 @@ module _ (G : Ground) where
       pub old : (a : Spot) → In a v.moved → IsSome (fin.get n.store.map a)
       -- and each spot that moved is one that it holds
       pub kept : (a : Spot) → In a v.moved → (v.R Input × (a ≡ position_at.spot)) ⊎ ((v.R Output × (a ≡ output_spot))
-          ⊎ ((r : Name) × (h : ℕ) × (x : ℕ) × (k : Live p v.below r h x) × (Mine z (Cell r h x) ⊎ v.R (Cell r h x))
+          ⊎ ((r : Name) × (h : ℕ) × (x : ℕ) × (k : Live p v.below r h x)
+          × (OwnLocation z (Cell r h x) ⊎ v.R (Cell r h x))
           × (a ≡ spot_at k.joint.machine.number (slot p x))))
 
     -- child i of fork k has not ended
@@ -252,7 +259,7 @@ module _ (G : Ground) where
     Away_yet s k n a = (i : ℕ) × Lives_yet s k n i × In a (kids k i).moved
 
     -- how many of the first n children of fork k have not ended
-    abbrev pub left_of : (Name → Condition Process Held Address) → ℕ → ℕ → ℕ
+    abbrev pub left_of : (Name → Condition Process LocationContent Address) → ℕ → ℕ → ℕ
     left_of c k zero = 0
     left_of c k (suc i) = (if has_ended (c ((k, i) ∷ q)) then 0 else 1) + left_of c k i
 
@@ -260,13 +267,14 @@ module _ (G : Ground) where
     pub record Joined (since k n left : ℕ) (pr : Process) (s : StateOf G.g) (c : Config (Memory Plain)) : Type 0 where
       pub fresh : Fresh
       pub named : pr.who.name ≡ q
-      pub js : List Joint
+      pub js : List FramePair
       pub pc : ℕ
       pub stack : List Entry
       pub memory : Memory Plain
       pub held : Map
       pub is : c ≡ At pc stack (record memory { store = with_map memory.store held })
-      pub joining : Joining G.g G.code pr.who Named Called Writes IsReadable lf.J lf.low base lf.born since G.pause
+      pub joining : Joining G.g G.code pr.who Named Called IsWritableLoc IsReadable lf.J lf.low base lf.born since
+          G.pause
           lf.moved (Away_yet s k n) js pr.own s.store memory held
       pub follows : Fo fresh pr.who named since pc stack js pr.todo
       pub count : left ≡ left_of s.condition k n
@@ -279,42 +287,44 @@ module _ (G : Ground) where
           → In a (kids k j).moved → ⊥
 
     -- the output, of a process that does nothing more
-    abbrev pub Told : Store → Config (Memory Plain) → Type 0
-    Told s (At pc st n) = IsReadable Output → (bs : List ℕ) × (s Output ≡ Written bs)
+    abbrev pub OutputMatches : Store → Config (Memory Plain) → Type 0
+    OutputMatches s (At pc st n) = IsReadable Output → (bs : List ℕ) × (s Output ≡ Written bs)
         × (output_of (fin.get n.store.map output_spot) ≡ Some bs)
 
     -- the first process where the frame of the program is too large: F12 comes before its first instruction
     abbrev pub TooLarge : Store → Process → Config (Memory Plain) → Type 0
-    TooLarge s pr c = (q ≡ []) × ((root G.g).todo ≡ Break fault.F12 ∷ []) × (pr ≡ root G.g) × (c ≡ first plain run_is)
-        × (begins ops G.code c ≡ false) × Told s c
+    TooLarge s pr c = (q ≡ []) × ((root G.g).todo ≡ Break fault.F12 ∷ []) × (pr ≡ root G.g)
+        × (c ≡ first_process plain run_is)
+        × (frames_fit ops G.code c ≡ false) × OutputMatches s c
 
     -- condition by condition
     abbrev pub Performs : Course → StateOf G.g → ℕ → sys.Condition Plain → Type 0
     Performs c s opens sys.Absent = ⊥
-    Performs c s opens (sys.Working d) = (pr : Process) × (working_in s.condition q (s.condition q) ≡ Some pr)
-        × (Stands (c.since q) pr s.store d ⊎ TooLarge s.store pr d) × (pr.who.opens ≡ opens) × (c.laid q ≡ false)
-    Performs c s opens (sys.Waits z d) = (o : Offer Process Held Address) × (s.condition q ≡ Waits o)
-        × (t : Stands (c.since q) o.next s.store d)
+    Performs c s opens (sys.Working d) = (pr : Process) × (own_part_in s.condition q (s.condition q) ≡ Some pr)
+        × (ProcessMatches (c.since q) pr s.store d ⊎ TooLarge s.store pr d) × (pr.who.opens ≡ opens)
+        × (c.laid q ≡ false)
+    Performs c s opens (sys.Waits z d) = (o : Offer Process LocationContent Address) × (s.condition q ≡ Waits o)
+        × (t : ProcessMatches (c.since q) o.next s.store d)
         × Ca t.fresh o.next.who t.named (c.since q) t.js o.channel o.kind o.cargo z × (o.next.who.opens ≡ opens)
-        × (c.laid q ≡ false) × Ready z d
+        × (c.laid q ≡ false) × HasOwnTarget z d
     Performs c s opens (sys.Joins left d) = (k n : ℕ) × (pr : Process) × (s.condition q ≡ Joins k n pr)
         × Joined (c.since q) k n left pr s d × (pr.who.opens ≡ opens) × (c.laid q ≡ false)
     Performs c s opens (sys.Laid d) = (c.laid q ≡ true) × (c.faulted ≡ true)
-        × ((pr : Process) × (working_in s.condition q (s.condition q) ≡ Some pr)) × Told s.store d
+        × ((pr : Process) × (own_part_in s.condition q (s.condition q) ≡ Some pr)) × OutputMatches s.store d
     Performs c s opens sys.Gone = (s.condition q ≡ Ended) × (q ≢ [])
-    Performs c s opens (sys.Over d) = (s.condition q ≡ Ended) × (q ≡ []) × Told s.store d
+    Performs c s opens (sys.Over d) = (s.condition q ≡ Ended) × (q ≡ []) × OutputMatches s.store d
 
   -- the lives of all
-  abbrev pub Lives : Type 1
-  Lives = Name → Life
+  abbrev pub RightsOfAll : Type 1
+  RightsOfAll = Name → BirthRights
 
-  abbrev pub W_of : Lives → Name → Loc → Type 0
+  abbrev pub W_of : RightsOfAll → Name → Loc → Type 0
   W_of lv q l = (lv q).W l
 
-  abbrev pub R_of : Lives → Name → Loc → Type 0
+  abbrev pub R_of : RightsOfAll → Name → Loc → Type 0
   R_of lv q l = (lv q).R l
 
-  abbrev pub Performs_all : Lives → Name → Course → StateOf G.g → ℕ → sys.Condition Plain → Type 0
+  abbrev pub Performs_all : RightsOfAll → Name → Course → StateOf G.g → ℕ → sys.Condition Plain → Type 0
   Performs_all lv q c s opens x = Performs (lv q) (λ k i. lv ((k, i) ∷ q)) q c s opens x
 
   -- whose offer is pending, by name and by number
@@ -325,9 +335,9 @@ module _ (G : Ground) where
   IsPending (Some q) (Some z) = Called q z
 
   -- the two states, after the same entries
-  pub record Linked (lv : Lives) (c : Course) (s : StateOf G.g) (u : System Plain) : Type 0 where
+  pub record Linked (lv : RightsOfAll) (c : Course) (s : StateOf G.g) (u : System Plain) : Type 0 where
     pub rights : Inv G.g.program (W_of lv) (R_of lv) s.condition s.forks
-    pub known : Known G.g s
+    pub known : StateKeeps G.g s
     -- the first process may read the output
     pub reads_output : R_of lv [] Output
     pub began : Began G u.births

@@ -9,36 +9,39 @@ use Rattle.sp_journal.specs.declared.entry.Event.TheVariants as event
 use Rattle.sp_journal.specs.declared.entry.Way.{Way}
 use Rattle.sp_journal.specs.declared.entry.Way.TheVariants as way
 use Rattle.sp_journal.specs.declared.entry.Entry.{Entry}
-use Rattle.sp_journal.specs.Births.{Births, channel, after_event, happening, occurrences_from, CanFollow, NameableFrom}
+use Rattle.sp_journal.specs.Births.{Births, channel, births_after_event, happening, occurrences_from, CanFollow}
+use Rattle.sp_journal.specs.Births.{NameableFrom}
 use Rattle.sp_cell.specs.Map.{Plain}
 use Rattle.sp_meaning.specs.Model.{Name, Waits, Joins, Absent, Ended}
-use Rattle.sp_meaning.specs.Steps.{working_in, all_ended, has_ended}
+use Rattle.sp_meaning.specs.Steps.{own_part_in, all_ended, has_ended}
 use Rattle.sp_meaning.specs.Entries.{Happening, Opened, Forked, Offered, Faulted, Laid, Paused}
 use Rattle.sp_journal.specs.Names as happenings
-use Rattle.sp_meaning.specs.Own.{Setting, Process}
-use Rattle.sp_meaning.specs.Runs.{StateOf, running, says}
-use Rattle.sp_meaning.specs.Along.{Turn, Course, Kernel, Entered, Along, stopped, noted, ticks_of, after_entry}
+use Rattle.sp_meaning.specs.LocalWork.{RunInput, Process}
+use Rattle.sp_meaning.specs.Runs.{StateOf, running_process, happening_at}
+use Rattle.sp_meaning.specs.Along.{Turn, Course, KernelStep, EntryStep, Along, with_fault, with_ticks, ticks_of}
+use Rattle.sp_meaning.specs.Along.{course_after}
 use Rattle.sp_code.specs.Machine.{Config}
 use Rattle.sp_code.specs.Memory.{Memory}
 use Rattle.sp_code.specs.PlainStore.{plain}
-use Rattle.sp_code.specs.System.{System, Leads}
+use Rattle.sp_code.specs.System.{System, EntriesLead}
 use Rattle.sp_code.specs.System as sys
-use Rattle.sp_link.proofs.Entries.{entry}
+use Rattle.sp_link.proofs.JournalEntries.{entry}
 use Rattle.sp_link.proofs.Journal.{Now, IsOpen, AllBegan}
-use Rattle.sp_link.proofs.OneState.{Same, turn_one}
-use Rattle.sp_link.proofs.Relation.{Ground, Life, Lives, Linked, Began, at_open, Performs_all, run_is, left_of}
+use Rattle.sp_link.proofs.OneState.{SameTurnEnd, turn_one}
+use Rattle.sp_link.proofs.Relation.{RunContext, BirthRights, RightsOfAll, Linked, Began, at_open, Performs_all, run_is}
+use Rattle.sp_link.proofs.Relation.{left_of}
 
 -- ---- and so is its entry
 
-module _ (g : Setting) where
+module _ (g : RunInput) where
   -- an entry's three forms
   abbrev pub Forms : (Course → StateOf g → ℕ → Type 0) → Course → StateOf g → Bool → Name → Happening → ℕ → Type 0
-  Forms left c m p q what n = ((what ≡ Laid) × (c.faulted ≡ true) × left (stopped q c) m n)
-      ⊎ (((what ≡ Paused) × (c.faulted ≡ false) × (p ≡ true) × left (noted q (ticks_of g m q) c) m n)
-      ⊎ Kernel g left c m p q what n)
+  Forms left c m p q what n = ((what ≡ Laid) × (c.faulted ≡ true) × left (with_fault q c) m n)
+      ⊎ (((what ≡ Paused) × (c.faulted ≡ false) × (p ≡ true) × left (with_ticks q (ticks_of g m q) c) m n)
+      ⊎ KernelStep g left c m p q what n)
 
   forms : (left : Course → StateOf g → ℕ → Type 0) (c : Course) (m : StateOf g) (p : Bool) (q : Name) (what : Happening)
-      (n : ℕ) → Entered g left c m p q what n → Forms left c m p q what n
+      (n : ℕ) → EntryStep g left c m p q what n → Forms left c m p q what n
   forms left c m p q Laid n h = inl (refl, h.0, h.1)
   forms left c m p q Paused n h = inr (inl (refl, h.0, h.1, h.2))
   forms left c m p q (Forked k) n h = inr (inr h)
@@ -53,7 +56,7 @@ module _ (g : Setting) where
   -- two entries from one place are one, and lead to one place
   pub entry_one : (left : Course → StateOf g → ℕ → Type 0) (c c1 : Course) (m s1 : StateOf g) (p : Bool) (q : Name)
       (a b : Happening) (n k : ℕ)
-      → Entered g (Here c1 s1) c m p q a n → Entered g left c m p q b k → (a ≡ b) × ((r : ℕ) × left c1 s1 r)
+      → EntryStep g (Here c1 s1) c m p q a n → EntryStep g left c m p q b k → (a ≡ b) × ((r : ℕ) × left c1 s1 r)
   entry_one left c c1 m s1 p q a b n k h i = both (forms (Here c1 s1) c m p q a n h) (forms left c m p q b k i)
     where
       moved : (c2 : Course) (s2 : StateOf g) (r : ℕ) → Here c1 s1 c2 s2 0 → left c2 s2 r → left c1 s1 r
@@ -70,22 +73,22 @@ module _ (g : Setting) where
       both (inr (inr x)) (inr (inl y)) = absurd (not_true_and_false p y.2 x.1)
       both (inr (inr x)) (inr (inr y)) =
           let own : x.5.0 ≡ y.5.0 = same_Some x.5.0 y.5.0 (sym x.5.1 ∙ y.5.1) in
-          let what : a ≡ b = same_Some a b (sym x.5.2 ∙ ap (λ z. says g m q z) own ∙ y.5.2) in
+          let what : a ≡ b = same_Some a b (sym x.5.2 ∙ ap (λ z. happening_at g m q z) own ∙ y.5.2) in
           let to : x.2 ≡ y.2 = same_Some x.2 y.2 (sym x.5.3 ∙ y.5.3) in (
             what,
             (
               y.3,
-              moved _ _ y.3 x.6 (subst (λ z. left (after_entry q z (ticks_of g x.2 q) c) x.2 y.3) (sym what)
-                  (subst (λ z. left (after_entry q b (ticks_of g z q) c) z y.3) (sym to) y.6)),
+              moved _ _ y.3 x.6 (subst (λ z. left (course_after q z (ticks_of g x.2 q) c) x.2 y.3) (sym what)
+                  (subst (λ z. left (course_after q b (ticks_of g z q) c) z y.3) (sym to) y.6)),
             ),
           )
 
 -- ---- a journal
 
 -- where all have ended none is left
-over_none : (G : Ground) (lf : Life) (kids : ℕ → ℕ → Life) (q : Name)
-    (c : Name → Rattle.sp_meaning.specs.Model.Condition Process Rattle.sp_meaning.specs.Own.Held
-    Rattle.sp_meaning.specs.Own.Address) (k n : ℕ) → all_ended c q k n ≡ true → left_of G lf kids q c k n ≡ 0
+over_none : (G : RunContext) (lf : BirthRights) (kids : ℕ → ℕ → BirthRights) (q : Name)
+    (c : Name → Rattle.sp_meaning.specs.Model.Condition Process Rattle.sp_meaning.specs.LocalWork.LocationContent
+    Rattle.sp_meaning.specs.LocalWork.Address) (k n : ℕ) → all_ended c q k n ≡ true → left_of G lf kids q c k n ≡ 0
 over_none G lf kids q c k zero e = refl
 over_none G lf kids q c k (suc n) e = by (has_ended (c ((k, n) ∷ q))) refl e (λ h. over_none G lf kids q c k n h)
   where
@@ -98,7 +101,7 @@ over_none G lf kids q c k (suc n) e = by (has_ended (c ((k, n) ∷ q))) refl e (
     by false f h ih = absurd (cc h)
 
 -- of the events that speak of open channels one has one name
-module _ (G : Ground) (b : Births) (began : Began G b) where
+module _ (G : RunContext) (b : Births) (began : Began G b) where
   one_channel : (x y : ℕ) → x < b.channels → y < b.channels → channel b x ≡ channel b y → x ≡ y
   one_channel x y l m e = G.one_channel x y (few x l) (few y m) (sym (began.openings x l) ∙ e ∙ began.openings y m)
     where
@@ -190,20 +193,20 @@ follows_open b p (event.Fault f) h = tt
 follows_open b p event.Laid h = tt
 follows_open b p event.Pause h = tt
 
-module _ (G : Ground) where
+module _ (G : RunContext) where
   -- who is running in the meaning runs in the machine
-  pub runs_there : (lv : Lives G) (c : Course) (s : StateOf G.g) (u : System Plain) → Linked G lv c s u → (i : ℕ)
-      → i < u.births.processes → (own : Process) → running G.g s (G.births.name i) ≡ Some own
+  pub runs_there : (lv : RightsOfAll G) (c : Course) (s : StateOf G.g) (u : System Plain) → Linked G lv c s u → (i : ℕ)
+      → i < u.births.processes → (own : Process) → running_process G.g s (G.births.name i) ≡ Some own
       → c.laid (G.births.name i) ≡ false → (d : Config (Memory Plain)) × (u.condition i ≡ sys.Working d)
   runs_there lv c s u l i lt own e la = go (u.condition i) refl (l.does i lt)
     where
       w : Name
       w = G.births.name i
 
-      idle : (x : Rattle.sp_meaning.specs.Model.Condition Process Rattle.sp_meaning.specs.Own.Held
-          Rattle.sp_meaning.specs.Own.Address) → s.condition (G.births.name i) ≡ x
-          → working_in s.condition (G.births.name i) x ≡ Some own
-      idle x h = ap (working_in s.condition (G.births.name i)) (sym h) ∙ e
+      idle : (x : Rattle.sp_meaning.specs.Model.Condition Process Rattle.sp_meaning.specs.LocalWork.LocationContent
+          Rattle.sp_meaning.specs.LocalWork.Address) → s.condition (G.births.name i) ≡ x
+          → own_part_in s.condition (G.births.name i) x ≡ Some own
+      idle x h = ap (own_part_in s.condition (G.births.name i)) (sym h) ∙ e
 
       joined : (left k n : ℕ) (pr : Process) (d : Config (Memory Plain)) → s.condition (G.births.name i) ≡ Joins k n pr
           → Rattle.sp_link.proofs.Relation.Joined G (lv (G.births.name i)) (λ a b. lv ((a, b) ∷ G.births.name i))
@@ -226,15 +229,17 @@ module _ (G : Ground) where
       go sys.Gone h z = absurd (none-some own (idle Ended z.0))
       go (sys.Over d) h z = absurd (none-some own (idle Ended z.0))
 
-module _ (G : Ground) where
+module _ (G : RunContext) where
   turn_runs : (s m : StateOf G.g) (q : Name) (since n : ℕ) (p : Bool) → Turn G.g G.pause since q n s m p
-      → (own : Process) × (running G.g s q ≡ Some own)
+      → (own : Process) × (running_process G.g s q ≡ Some own)
   turn_runs s m q since zero p h = (h.2, h.3)
   turn_runs s m q since (suc n) p h = (h.0, h.1)
 
-  pub replays : (es : List Entry) (lv : Lives G) (c : Course) (s : StateOf G.g) (u : System Plain) → Now G lv c s u
+  pub replays : (es : List Entry) (lv : RightsOfAll G) (c : Course) (s : StateOf G.g) (u : System Plain)
+      → Now G lv c s u
       → AllBegan G u.births es → NameableFrom u.births es → (n : ℕ) (t : StateOf G.g)
-      → Along G.g G.pause c s (occurrences_from u.births es) n t → (v : System Plain) × Leads plain (run_is G) u es v
+      → Along G.g G.pause c s (occurrences_from u.births es) n t → (v : System Plain)
+      × EntriesLead plain (run_is G) u es v
   replays [] lv c s u l b y n t h = (u, refl)
   replays (e ∷ es) lv c s u l b y n t h = on (λ lv1 c1 s1 u1 k b1 y1 r h1. replays es lv1 c1 s1 u1 k b1 y1 r t h1)
     where
@@ -254,12 +259,12 @@ module _ (G : Ground) where
       way = subst (λ a. Turn G.g G.pause (c.since a) a h.1 s h.3 h.4) name_is h.6
 
       left : Course → StateOf G.g → ℕ → Type 0
-      left c1 s1 r = Along G.g G.pause c1 s1 (occurrences_from (after_event u.births e.process e.event) es) r t
+      left c1 s1 r = Along G.g G.pause c1 s1 (occurrences_from (births_after_event u.births e.process e.event) es) r t
 
-      entered : Entered G.g left c h.3 h.4 (G.births.name e.process) (happening u.births e.event) h.2
-      entered = subst (λ a. Entered G.g left c h.3 h.4 a (happening u.births e.event) h.2) name_is h.7
+      entered : EntryStep G.g left c h.3 h.4 (G.births.name e.process) (happening u.births e.event) h.2
+      entered = subst (λ a. EntryStep G.g left c h.3 h.4 a (happening u.births e.event) h.2) name_is h.7
 
-      own : (a : Process) × (running G.g s (G.births.name e.process) ≡ Some a)
+      own : (a : Process) × (running_process G.g s (G.births.name e.process) ≡ Some a)
       own = turn_runs s h.3 (G.births.name e.process) (c.since (G.births.name e.process)) h.1 h.4 way
 
       at : (d : Config (Memory Plain)) × (u.condition e.process ≡ sys.Working d)
@@ -272,18 +277,20 @@ module _ (G : Ground) where
       f = sys.event_of G.g.limits u en.turn
 
       u1 : System Plain
-      u1 = sys.after plain (run_is G) e.process en.turn u
+      u1 = sys.system_after_turn plain (run_is G) e.process en.turn u
 
-      same : Same G.g G.pause (c.since (G.births.name e.process)) (G.births.name e.process) en.way.steps h.1 en.way.at
+      same : SameTurnEnd G.g G.pause (c.since (G.births.name e.process)) (G.births.name e.process) en.way.steps h.1
+          en.way.at
           h.3 en.way.paused h.4
       same = turn_one G.g G.pause (c.since (G.births.name e.process)) (G.births.name e.process) en.way.steps h.1 s
           en.way.at h.3 en.way.paused h.4 en.way.turn way
 
-      its : Entered G.g (Here G.g en.way.course en.way.state) c h.3 h.4 (G.births.name e.process) (happening u.births f)
+      its : EntryStep G.g (Here G.g en.way.course en.way.state) c h.3 h.4 (G.births.name e.process)
+          (happening u.births f)
           (en.way.cost + 0)
-      its = subst (λ a. Entered G.g (Here G.g en.way.course en.way.state) c a h.4 (G.births.name e.process)
+      its = subst (λ a. EntryStep G.g (Here G.g en.way.course en.way.state) c a h.4 (G.births.name e.process)
           (happening u.births f) (en.way.cost + 0)) same.state
-          (subst (λ a. Entered G.g (Here G.g en.way.course en.way.state) c en.way.at a (G.births.name e.process)
+          (subst (λ a. EntryStep G.g (Here G.g en.way.course en.way.state) c en.way.at a (G.births.name e.process)
           (happening u.births f) (en.way.cost + 0)) same.paused
           (en.way.enters (Here G.g en.way.course en.way.state) 0 (refl, refl)))
 
@@ -295,13 +302,13 @@ module _ (G : Ground) where
       event_is = one_event (at_open G u.births.channels) u.births l.began f e.event en.speaks
           (follows_open u.births e.process e.event y.0) one.0
 
-      births_are : u1.births ≡ after_event u.births e.process e.event
-      births_are = ap (λ a. after_event u.births e.process a) event_is
+      births_are : u1.births ≡ births_after_event u.births e.process e.event
+      births_are = ap (λ a. births_after_event u.births e.process a) event_is
 
-      on : ((lv1 : Lives G) (c1 : Course) (s1 : StateOf G.g) (u1 : System Plain) → Now G lv1 c1 s1 u1
+      on : ((lv1 : RightsOfAll G) (c1 : Course) (s1 : StateOf G.g) (u1 : System Plain) → Now G lv1 c1 s1 u1
           → AllBegan G u1.births es → NameableFrom u1.births es → (r : ℕ)
           → Along G.g G.pause c1 s1 (occurrences_from u1.births es) r t → (v : System Plain)
-          × Leads plain (run_is G) u1 es v) → (v : System Plain) × Leads plain (run_is G) u (e ∷ es) v
+          × EntriesLead plain (run_is G) u1 es v) → (v : System Plain) × EntriesLead plain (run_is G) u (e ∷ es) v
       on ih =
           let z = ih en.lives en.way.course en.way.state u1 (en.linked (subst (λ a. Began G a) (sym births_are) b.0))
           (subst (λ a. AllBegan G a es) (sym births_are) b.1) (subst (λ a. NameableFrom a es) (sym births_are) y.1)

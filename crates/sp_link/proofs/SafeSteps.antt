@@ -17,19 +17,20 @@ use Rattle.sp_cell.specs.declared.spot.Address.{Address as Ptr}
 use Rattle.sp_cell.specs.Map.{Plain, IsHeld, IsOwn, HasCells}
 use Rattle.sp_cell.specs.Spots.{In}
 use Rattle.sp_meaning.specs.Model.{Name, Channel, Cargo, Message, Takes, Joins}
-use Rattle.sp_meaning.specs.Steps.{has_ended, JoinsAt, Lives as IsLive}
+use Rattle.sp_meaning.specs.Steps.{has_ended, JoinsAt, IsAlive as IsLive}
 use Rattle.sp_meaning.specs.Values.{Value}
-use Rattle.sp_meaning.specs.Own.{Held, Tree, Position, Written, Address, Own, Who, Process, Came, Got, Bad, Lost, Long}
-use Rattle.sp_meaning.specs.Deeds.{Stepped, Ticked, Opened, Forked, Offered, Ended}
+use Rattle.sp_meaning.specs.LocalWork.{LocationContent, Tree, Position, Written, Address, LocalState, Identity, Process}
+use Rattle.sp_meaning.specs.LocalWork.{WorkOutcome, Computed, EndsInFault, IllFormed, OutOfFuel}
+use Rattle.sp_meaning.specs.Actions.{Stepped, Ticked, Opened, Forked, Offered, Ended}
 use Rattle.sp_meaning.specs.Run.{Store}
 use Rattle.sp_meaning.specs.Runs.{StateOf}
 use Rattle.sp_meaning.specs.Along.{Course}
 use Rattle.sp_meaning.specs.Turn as source
-use Rattle.sp_meaning.proofs.Rights.{Mine}
+use Rattle.sp_meaning.proofs.Rights.{OwnLocation}
 use Rattle.sp_meaning.proofs.Status.{working_lives}
 use Rattle.sp_code.specs.Machine.{Config, At}
 use Rattle.sp_code.specs.Machine as machine
-use Rattle.sp_code.specs.Turns.{Turn, Stopped, Faulted, IsTurn, Begins}
+use Rattle.sp_code.specs.Turns.{Turn, Stopped, Faulted, IsTurn, BeginsOrFaults}
 use Rattle.sp_code.specs.Turns as turns
 use Rattle.sp_code.specs.Memory.{Memory}
 use Rattle.sp_code.specs.PlainStore.{plain}
@@ -40,44 +41,46 @@ use Rattle.sp_code.specs.System as sys
 use Rattle.sp_code.proofs.Turning.{turn_same}
 use Rattle.sp_code.proofs.StoreLaws.{held_of_cells}
 use Rattle.sp_codegen.specs.Following.{ForkIs, CargoIs, cells_in}
-use Rattle.sp_codegen.specs.Joints.{Joint}
+use Rattle.sp_codegen.specs.FramePairs.{FramePair}
 use Rattle.sp_codegen.specs.Shapes.{Flat}
-use Rattle.sp_codegen.specs.Standing.{PointsTo, made}
+use Rattle.sp_codegen.specs.Standing.{PointsTo, made_frames}
 use Rattle.sp_codegen.proofs.Safe.{AtEnd}
 use Rattle.sp_link.proofs.TurnsMeet.{outcome, kept, turned, ends, result}
 use Rattle.sp_link.proofs.Foralls as forall
 use Rattle.sp_link.proofs.Journal.{has_number}
 use Rattle.sp_link.proofs.Messages.{sent_flat, owned_ready, room, message_length}
-use Rattle.sp_link.proofs.OneChanges.{q, pr, its, here, runs, light, keeps_to}
+use Rattle.sp_link.proofs.OneChanges.{q, pr, its, here, runs_as_pr, light, keeps_to}
 use Rattle.sp_link.proofs.Parallels as parallel
 use Rattle.sp_link.proofs.Pauses.{Meant, Machined, Kept_to, kids, turn_is}
 use Rattle.sp_link.proofs.Splits.{bytes_held}
-use Rattle.sp_link.proofs.Relation.{Ground, Life, Lives, Named, St, Ca, Stands, Ready, Joined, Performs_all}
+use Rattle.sp_link.proofs.Relation.{RunContext, BirthRights, RightsOfAll, Named, St, Ca, ProcessMatches, HasOwnTarget}
+use Rattle.sp_link.proofs.Relation.{Joined, Performs_all}
 use Rattle.sp_link.proofs.Relation.{Linked, run_is, ops, execution}
 
 -- what a process made beside its first frames
-none_made : (js : List Joint) → made (length js) js ≡ []
+none_made : (js : List FramePair) → made_frames (length js) js ≡ []
 none_made [] = refl
-none_made (j ∷ js) = ap (λ b. if b then made (length (j ∷ js)) js ++ (j.machine.number ∷ []) else [])
+none_made (j ∷ js) = ap (λ b. if b then made_frames (length (j ∷ js)) js ++ (j.machine.number ∷ []) else [])
     (too_long (length js))
   where
     too_long : (n : ℕ) → nat_le (suc n) n ≡ false
     too_long n = Prim.grind arith
 
 -- what is sent is a value of its type, in cells
-abbrev pub IsMessage : Ground → ℕ → List OneCell → Type 0
+abbrev pub IsMessage : RunContext → ℕ → List OneCell → Type 0
 IsMessage G k cs = (v : Value) × Flat G.g.program (Named G) k v cs
 
 -- where a message of this type goes, there is room for it, in a piece of the process's own
-pub record Takes_well (G : Ground) (k : ℕ) (a : Ptr) (e : Config (Memory Plain)) : Type 0 where
+pub record Takes_well (G : RunContext) (k : ℕ) (a : Ptr) (e : Config (Memory Plain)) : Type 0 where
   pub own : IsOwn (fin.get (store_of e).map a.spot)
   pub room : HasCells (store_of e).map a (size G.g.program k)
   pub typed : k < length G.g.program.kinds
 
-taken_well : (G : Ground) (lf : Life) (kids : ℕ → ℕ → Life) (q : Name) {who : Who} {since : ℕ} {js : List Joint}
-    {o : Own} {s : Store} (k : ℕ) (w : Address) (a : Ptr) (pc : ℕ) (st : List machine.Entry) (n : Memory Plain)
+taken_well : (G : RunContext) (lf : BirthRights) (kids : ℕ → ℕ → BirthRights) (q : Name) {who : Identity} {since : ℕ}
+    {js : List FramePair}
+    {o : LocalState} {s : Store} (k : ℕ) (w : Address) (a : Ptr) (pc : ℕ) (st : List machine.Entry) (n : Memory Plain)
     → St G lf kids q who since js o s n
-    → w.kind ≡ k → PointsTo G.g.program js w a → Mine q w.spot ⊎ lf.R w.spot → IsOwn (fin.get n.store.map a.spot)
+    → w.kind ≡ k → PointsTo G.g.program js w a → OwnLocation q w.spot ⊎ lf.R w.spot → IsOwn (fin.get n.store.map a.spot)
     → Takes_well G k a (At pc st n)
 taken_well G lf kids q k w a pc st n t e p may own = record {
   own = own;
@@ -86,14 +89,14 @@ taken_well G lf kids q k w a pc st n t e p may own = record {
 }
 
 -- a message of its type can be put there
-can_put : (G : Ground) (k : ℕ) (a : Ptr) (e : Config (Memory Plain)) (cs : List OneCell) → Takes_well G k a e
+can_put : (G : RunContext) (k : ℕ) (a : Ptr) (e : Config (Memory Plain)) (cs : List OneCell) → Takes_well G k a e
     → IsMessage G k cs → CanPut (store_of e) a cs
 can_put G k a e cs t m = record {
   own = t.own;
   in_range = subst (λ y. HasCells (store_of e).map a y) (sym (message_length G k t.typed m.0 cs m.1)) t.room;
 }
 
-module _ (G : Ground) (lv : Lives G) (c : Course) (s : StateOf G.g) (u : System Plain) (l : Linked G lv c s u)
+module _ (G : RunContext) (lv : RightsOfAll G) (c : Course) (s : StateOf G.g) (u : System Plain) (l : Linked G lv c s u)
     (quiet : u.faulted ≡ false) where
   -- a process that runs
   module _ (i : ℕ) (d : Config (Memory Plain)) (at : u.condition i ≡ sys.Working d) where
@@ -101,38 +104,40 @@ module _ (G : Ground) (lv : Lives G) (c : Course) (s : StateOf G.g) (u : System 
     v = q G lv c s u l i d at
 
     module _ (P : Turn (Memory Plain) → Type 0)
-        (z : Stands G (lv (q G lv c s u l i d at)) (kids G lv c s u l i d at) (q G lv c s u l i d at)
+        (z : ProcessMatches G (lv (q G lv c s u l i d at)) (kids G lv c s u l i d at) (q G lv c s u l i d at)
         (c.since (q G lv c s u l i d at)) (pr G lv c s u l i d at) s.store d) where
       -- what is so of the end of its turn, whichever it is
-      abbrev Of : Came source.Stop × Store → Type 0
-      Of r = AtEnd r → Meant G lv c s u l i d at z r → Machined G lv c s u l i d at z r
+      abbrev HoldsAtTurnEnd : WorkOutcome source.Stop × Store → Type 0
+      HoldsAtTurnEnd r = AtEnd r → Meant G lv c s u l i d at z r → Machined G lv c s u l i d at z r
           → Kept_to G lv c s u l i d at z r → (tn : Turn (Memory Plain)) × IsTurn (ops G) G.code d tn × P tn
 
       abbrev kt : Rattle.sp_meaning.proofs.Owned.Keeps_to G.g.program (Rattle.sp_link.proofs.Relation.W_of G lv)
           (Rattle.sp_link.proofs.Relation.R_of G lv) s.forks (q G lv c s u l i d at) (pr G lv c s u l i d at)
       kt = keeps_to G lv c s u l i d at
 
-      of_turn : ((r : Came source.Stop × Store) → Of r) → (tn : Turn (Memory Plain)) → IsTurn (ops G) G.code d tn → P tn
+      of_turn : ((r : WorkOutcome source.Stop × Store) → HoldsAtTurnEnd r) → (tn : Turn (Memory Plain))
+          → IsTurn (ops G) G.code d tn → P tn
       of_turn f tn is = by (f (result G (lv v) (kids G lv c s u l i d at) v (c.since v) s (pr G lv c s u l i d at) d z
-          (runs G lv c s u l i d at) (light G lv c s u l i d at) kt.last kt.fit)
+          (runs_as_pr G lv c s u l i d at) (light G lv c s u l i d at) kt.last kt.fit)
           (ends G (lv v) (kids G lv c s u l i d at) v (c.since v) s (pr G lv c s u l i d at) d z
-          (runs G lv c s u l i d at) (light G lv c s u l i d at) kt.last kt.fit)
+          (runs_as_pr G lv c s u l i d at) (light G lv c s u l i d at) kt.last kt.fit)
           (outcome G (lv v) (kids G lv c s u l i d at) v (c.since v) s (pr G lv c s u l i d at) d z
-          (runs G lv c s u l i d at) (light G lv c s u l i d at) kt.last kt.fit)
+          (runs_as_pr G lv c s u l i d at) (light G lv c s u l i d at) kt.last kt.fit)
           (turned G (lv v) (kids G lv c s u l i d at) v (c.since v) s (pr G lv c s u l i d at) d z
-          (runs G lv c s u l i d at) (light G lv c s u l i d at) kt.last kt.fit)
+          (runs_as_pr G lv c s u l i d at) (light G lv c s u l i d at) kt.last kt.fit)
           (kept G (lv v) (kids G lv c s u l i d at) v (c.since v) s (pr G lv c s u l i d at) d z
-          (runs G lv c s u l i d at) (light G lv c s u l i d at) kt.last kt.fit))
+          (runs_as_pr G lv c s u l i d at) (light G lv c s u l i d at) kt.last kt.fit))
         where
           by : (tn1 : Turn (Memory Plain)) × IsTurn (ops G) G.code d tn1 × P tn1 → P tn
           by w = subst (λ y. P y) (turn_same (ops G) G.code d w.0 tn w.1 is) w.2
 
     -- one that stops is no process whose frame is too large
     stands_at : (stop : machine.Stop) (e : Config (Memory Plain)) → IsTurn (ops G) G.code d (Stopped stop e)
-        → Stands G (lv (q G lv c s u l i d at)) (kids G lv c s u l i d at) (q G lv c s u l i d at)
+        → ProcessMatches G (lv (q G lv c s u l i d at)) (kids G lv c s u l i d at) (q G lv c s u l i d at)
         (c.since (q G lv c s u l i d at)) (pr G lv c s u l i d at) s.store d
     stands_at stop e is = ⊎_elim (λ z. z) (λ z. absurd
-        (no_stop (subst (λ b. Begins b d (Stopped stop e) (turns.Runs (ops G) G.code d (Stopped stop e))) z.4 is)))
+        (no_stop (subst (λ b. BeginsOrFaults b d (Stopped stop e) (turns.Runs (ops G) G.code d (Stopped stop e)))
+        z.4 is)))
         (its G lv c s u l i d at).2
       where
         no_stop : ◌≡◌ {A = Turn (Memory Plain)} (Stopped stop e) (Faulted fault.F12 d) → ⊥
@@ -140,7 +145,7 @@ module _ (G : Ground) (lv : Lives G) (c : Course) (s : StateOf G.g) (u : System 
 
     -- it has no frame of its own left, and stands with those that it began with
     record Left_by (e : Config (Memory Plain)) : Type 0 where
-      pub own : Own
+      pub own : LocalState
       pub store : Store
       pub memory : Memory Plain
       pub is : store_of e ≡ memory.store
@@ -157,32 +162,32 @@ module _ (G : Ground) (lv : Lives G) (c : Course) (s : StateOf G.g) (u : System 
     Well (Stopped machine.Ends e) = Left_by e
     Well (Stopped machine.Pauses e) = Unit {0}
 
-    module _ (z : Stands G (lv (q G lv c s u l i d at)) (kids G lv c s u l i d at) (q G lv c s u l i d at)
+    module _ (z : ProcessMatches G (lv (q G lv c s u l i d at)) (kids G lv c s u l i d at) (q G lv c s u l i d at)
         (c.since (q G lv c s u l i d at)) (pr G lv c s u l i d at) s.store d) where
-      abbrev Fork_is : List Joint → List Rattle.sp_meaning.specs.Deeds.Birth → machine.Stop → Type 0
+      abbrev Fork_is : List FramePair → List Rattle.sp_meaning.specs.Actions.Birth → machine.Stop → Type 0
       Fork_is fs bs x = ForkIs (execution G (lv (q G lv c s u l i d at)) (kids G lv c s u l i d at)
           (q G lv c s u l i d at) z.fresh (pr G lv c s u l i d at).who z.named (c.since (q G lv c s u l i d at))) true
           fs bs x
 
-      abbrev Cargo_is : List Joint → Channel → ℕ → Cargo Held Address → machine.Stop → Type 0
+      abbrev Cargo_is : List FramePair → Channel → ℕ → Cargo LocationContent Address → machine.Stop → Type 0
       Cargo_is fs ch k g x = CargoIs (execution G (lv (q G lv c s u l i d at)) (kids G lv c s u l i d at)
           (q G lv c s u l i d at) z.fresh (pr G lv c s u l i d at).who z.named (c.since (q G lv c s u l i d at))) fs ch
           k g x
 
-      by_well : (r : Came source.Stop × Store) → Of Well z r
-      by_well (Got (source.Paused todo) o, m) e x t y = (
+      by_well : (r : WorkOutcome source.Stop × Store) → HoldsAtTurnEnd Well z r
+      by_well (Computed (source.Paused todo) o, m) e x t y = (
         Stopped machine.Pauses (At t.0 t.1 t.2),
         turn_is G lv c s u l i d at z (Stopped machine.Pauses (At t.0 t.1 t.2)) (t.4, t.5, t.6),
         tt,
       )
-      by_well (Got (source.Stops (Stepped todo)) o, m) e x t y = absurd e
-      by_well (Got (source.Stops (Ticked todo)) o, m) e x t y = absurd e
-      by_well (Got (source.Stops (Opened todo)) o, m) e x t y = (
+      by_well (Computed (source.Stops (Stepped todo)) o, m) e x t y = absurd e
+      by_well (Computed (source.Stops (Ticked todo)) o, m) e x t y = absurd e
+      by_well (Computed (source.Stops (Opened todo)) o, m) e x t y = (
         Stopped (machine.Opens t.6) (At t.0 t.1 t.2),
         turn_is G lv c s u l i d at z (Stopped (machine.Opens t.6) (At t.0 t.1 t.2)) (t.4, t.8, t.9),
         tt,
       )
-      by_well (Got (source.Stops (Forked bs todo)) o, m) e x t y = (
+      by_well (Computed (source.Stops (Forked bs todo)) o, m) e x t y = (
         Stopped t.5 (At t.0 t.1 t.2),
         turn_is G lv c s u l i d at z (Stopped t.5 (At t.0 t.1 t.2)) (t.4, t.6, t.7),
         by_form (subst (λ b. ForkIs (execution G (lv (q G lv c s u l i d at)) (kids G lv c s u l i d at)
@@ -195,13 +200,13 @@ module _ (G : Ground) (lv : Lives G) (c : Course) (s : StateOf G.g) (u : System 
               (parallel.can_split G lv c s u l i d at z bs todo o m x t y quiet h)
           by_form (inr h) = subst (λ b. Well (Stopped b (At t.0 t.1 t.2))) (sym h.9)
               (forall.can_split G lv c s u l i d at z bs todo o m x t y quiet h)
-      by_well (Got (source.Stops (Offered ch k a todo)) o, m) e x t y = (
+      by_well (Computed (source.Stops (Offered ch k a todo)) o, m) e x t y = (
         Stopped t.5 (At t.0 t.1 t.2),
         turn_is G lv c s u l i d at z (Stopped t.5 (At t.0 t.1 t.2)) (t.4, t.6, t.7),
         by_cargo a t.9,
       )
         where
-          by_cargo : (g : Cargo Held Address) → Cargo_is t.3 ch k g t.5 → Well (Stopped t.5 (At t.0 t.1 t.2))
+          by_cargo : (g : Cargo LocationContent Address) → Cargo_is t.3 ch k g t.5 → Well (Stopped t.5 (At t.0 t.1 t.2))
           by_cargo (Message (Tree w)) h = subst (λ b. Well (Stopped b (At t.0 t.1 t.2))) (sym h.2) (
             w,
             sent_flat G (lv v) (kids G lv c s u l i d at) v (pr G lv c s u l i d at).who (c.since v) k
@@ -211,9 +216,9 @@ module _ (G : Ground) (lv : Lives G) (c : Course) (s : StateOf G.g) (u : System 
           by_cargo (Message (Written bs)) h = absurd h
           by_cargo (Takes w) h = subst (λ b. Well (Stopped b (At t.0 t.1 t.2))) (sym h.2)
               (taken_well G (lv v) (kids G lv c s u l i d at) v k w h.1 t.0 t.1 t.2 t.8 h.4 h.5 h.6
-              (subst (λ b. Ready b (At t.0 t.1 (record (t.2) { since = (t.2).ticks }))) h.2
+              (subst (λ b. HasOwnTarget b (At t.0 t.1 (record (t.2) { since = (t.2).ticks }))) h.2
               (owned_ready G t.5 t.0 t.1 t.2 t.12)))
-      by_well (Got (source.Stops Ended) o, m) e x t y = (
+      by_well (Computed (source.Stops Ended) o, m) e x t y = (
         Stopped machine.Ends (At t.0 t.1 t.2),
         turn_is G lv c s u l i d at z (Stopped machine.Ends (At t.0 t.1 t.2)) (At t.0 t.1 t.2, t.4, t.5),
         record {
@@ -225,13 +230,13 @@ module _ (G : Ground) (lv : Lives G) (c : Course) (s : StateOf G.g) (u : System 
               t.2) (t.7).2 t.6;
         },
       )
-      by_well (Bad f, m) e x t y = (
+      by_well (EndsInFault f, m) e x t y = (
         Faulted f t.at,
         turn_is G lv c s u l i d at z (Faulted f t.at) (t.at, t.comes, (t.fails, refl)),
         tt,
       )
-      by_well (Lost, m) e x t y = absurd e
-      by_well (Long, m) e x t y = absurd e
+      by_well (IllFormed, m) e x t y = absurd e
+      by_well (OutOfFuel, m) e x t y = absurd e
 
     turns_well : (stop : machine.Stop) (e : Config (Memory Plain)) → IsTurn (ops G) G.code d (Stopped stop e)
         → Well (Stopped stop e)
@@ -288,10 +293,10 @@ module _ (G : Ground) (lv : Lives G) (c : Course) (s : StateOf G.g) (u : System 
 
       live : IsLive (s.condition ((b.fork, b.child) ∷ parent))
       live = subst (λ y. IsLive (s.condition y)) name_is
-          (working_lives s.condition v (s.condition v) (pr G lv c s u l i d at) (runs G lv c s u l i d at))
+          (working_lives s.condition v (s.condition v) (pr G lv c s u l i d at) (runs_as_pr G lv c s u l i d at))
 
-      joins_at : JoinsAt {O = Process} {V = Held} {T = Address} b.fork b.child (Joins does.0 does.1 does.2)
-      joins_at = subst (λ y. JoinsAt {O = Process} {V = Held} {T = Address} b.fork b.child y) does.3
+      joins_at : JoinsAt {O = Process} {V = LocationContent} {T = Address} b.fork b.child (Joins does.0 does.1 does.2)
+      joins_at = subst (λ y. JoinsAt {O = Process} {V = LocationContent} {T = Address} b.fork b.child y) does.3
           (l.known.sound.joined parent b.fork b.child live)
 
       name_now : v ≡ (does.0, b.child) ∷ parent
@@ -353,7 +358,7 @@ module _ (G : Ground) (lv : Lives G) (c : Course) (s : StateOf G.g) (u : System 
       h : Performs_all G lv (G.births.name z) c s (u.births.opens z) (sys.Waits (machine.Sends ch k cs) e)
       h = subst (λ y. Performs_all G lv (G.births.name z) c s (u.births.opens z) y) at (l.does z lt)
 
-      by : (g : Cargo Held Address) → Ca G (lv (G.births.name z)) (λ a b. lv ((a, b) ∷ G.births.name z))
+      by : (g : Cargo LocationContent Address) → Ca G (lv (G.births.name z)) (λ a b. lv ((a, b) ∷ G.births.name z))
           (G.births.name z) (h.2).fresh (h.0).next.who (h.2).named (c.since (G.births.name z)) (h.2).js (h.0).channel
           (h.0).kind g (machine.Sends ch k cs) → IsMessage G k cs
       by (Message (Tree w)) x =
@@ -384,7 +389,7 @@ module _ (G : Ground) (lv : Lives G) (c : Course) (s : StateOf G.g) (u : System 
       h : Performs_all G lv (G.births.name z) c s (u.births.opens z) (sys.Waits (machine.Receives ch k a) e)
       h = subst (λ y. Performs_all G lv (G.births.name z) c s (u.births.opens z) y) at (l.does z lt)
 
-      by : (g : Cargo Held Address) → Ca G (lv (G.births.name z)) (λ a b. lv ((a, b) ∷ G.births.name z))
+      by : (g : Cargo LocationContent Address) → Ca G (lv (G.births.name z)) (λ a b. lv ((a, b) ∷ G.births.name z))
           (G.births.name z) (h.2).fresh (h.0).next.who (h.2).named (c.since (G.births.name z)) (h.2).js (h.0).channel
           (h.0).kind g (machine.Receives ch k a) → Takes_well G k a e
       by (Message (Tree w)) x = absurd (no x.2)

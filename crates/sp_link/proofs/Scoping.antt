@@ -16,13 +16,14 @@ use Rattle.sp_tree.specs.Formed.{IsFormedUse}
 use Rattle.sp_tree.specs.Interference.{IsFreeOfInterference}
 use Rattle.sp_code.specs.declared.code.ForkTable.{ForkTable}
 use Rattle.sp_code.specs.declared.instr.Instr.{Instr}
-use Rattle.sp_code.specs.Places.{after_value, after_var, after_tests, after, after_arms}
+use Rattle.sp_code.specs.Places.{after_value, after_var, after_tests, after_statement, after_arms}
 use Rattle.sp_code.specs.Scopes.{Sort, Ordinals, Channels, Many, NoSort, Scope, OfIndex, is_index, level, one_more}
 use Rattle.sp_code.specs.Scopes.{parent_of, scopes_by, scopes_of, sort}
-use Rattle.sp_code.specs.Stands.{ValueAt, FormAt, PlaceAt, SelectedAt, ActualsAt, WidthAt, RightAt, VarRole, StandsAt}
-use Rattle.sp_code.specs.Stands.{AllAt, ChildrenAt, ArmsAt, Stands, HasFork, HasWords}
+use Rattle.sp_code.specs.CodeOfTree.{ValueAt, FormAt, PlaceAt, SelectedAt, ActualsAt, WidthAt, RightAt, VarRole}
+use Rattle.sp_code.specs.CodeOfTree.{StandsAt}
+use Rattle.sp_code.specs.CodeOfTree.{AllAt, ChildrenAt, ArmsAt, CodeAt, HasFork, HasWords}
 use Rattle.sp_link.proofs.ChildrenStand.{reached_formed}
-use Rattle.sp_link.proofs.Relation.{Ground}
+use Rattle.sp_link.proofs.Relation.{RunContext}
 
 -- another index that is in scope behind this one's forall is in scope before it
 pub index_further : (sc : List Scope) (x y up : ℕ) → (x ≡ y → ⊥) → level (is_index y) (OfIndex x ∷ sc) ≡ Some up
@@ -159,10 +160,10 @@ module _ (p : Program) (free : IsFreeOfInterference p) (moves shares : Stmt → 
     stmt (If e s) fr sc q h u (inr a) = stmt s fr sc (after_value q e + 1) h.2 u a
     stmt (IfElse e s t) fr sc q h u (inl a) = expr e sc q h.0.0 u a
     stmt (IfElse e s t) fr sc q h u (inr (inl a)) = stmt s fr sc (after_value q e + 1) h.2 u a
-    stmt (IfElse e s t) fr sc q h u (inr (inr a)) = stmt t fr sc (after p (after_value q e + 1) s + 1) h.4 u a
+    stmt (IfElse e s t) fr sc q h u (inr (inr a)) = stmt t fr sc (after_statement p (after_value q e + 1) s + 1) h.4 u a
     stmt (While e s) fr sc q h u (inl a) = expr e sc q h.0.0 u a
     stmt (While e s) fr sc q h u (inr a) = stmt s fr sc (after_value q e + 1 + 1) h.3 u a
-    stmt (Repeat s e) fr sc q h u (inl a) = expr e sc (after p (q + 1) s) h.2.0 u a
+    stmt (Repeat s e) fr sc q h u (inl a) = expr e sc (after_statement p (q + 1) s) h.2.0 u a
     stmt (Repeat s e) fr sc q h u (inr a) = stmt s fr sc (q + 1) h.1 u a
     stmt (For x from down to s) fr sc q h u (inl a) = at sc u (Target x) a tt
     stmt (For x from down to s) fr sc q h u (inr (inl a)) = expr from sc q h.0.0 u a
@@ -209,19 +210,19 @@ module _ (p : Program) (free : IsFreeOfInterference p) (moves shares : Stmt → 
         → (u : Use) → In_stmts ss u → D sc u
     all No fr sc q h u a = absurd a
     all (And s rest) fr sc q h u (inl a) = stmt s fr sc q h.0 u a
-    all (And s rest) fr sc q h u (inr a) = all rest fr sc (after p q s) h.1 u a
+    all (And s rest) fr sc q h u (inr a) = all rest fr sc (after_statement p q s) h.1 u a
 
     children : (ss : Stmts) (fr : Bool) (sc : List Scope) (q : ℕ)
         → ChildrenAt p moves shares Is HasTable HasText hush fr sc q ss → (u : Use) → In_stmts ss u → D sc u
     children No fr sc q h u a = absurd a
     children (And s rest) fr sc q h u (inl a) = stmt s fr sc q h.0 u a
-    children (And s rest) fr sc q h u (inr a) = children rest fr sc (after p q s + 1) h.2 u a
+    children (And s rest) fr sc q h u (inr a) = children rest fr sc (after_statement p q s + 1) h.2 u a
 
     each : (arms : Arms) (fr : Bool) (sc : List Scope) (q end : ℕ)
         → ArmsAt p moves shares Is HasTable HasText hush fr sc q arms end → (u : Use) → In_arms arms u → D sc u
     each NoArm fr sc q end h u a = absurd a
     each (Or (On ms s) rest) fr sc q end h u (inl a) = stmt s fr sc q h.0 u a
-    each (Or (On ms s) rest) fr sc q end h u (inr a) = each rest fr sc (after p q s + 1) end h.2 u a
+    each (Or (On ms s) rest) fr sc q end h u (inr a) = each rest fr sc (after_statement p q s + 1) end h.2 u a
 
 -- no scope of a block is an index
 no_index_scope : (p : Program) (n : ℕ) (c : Option ℕ) (x up : ℕ) → level (is_index x) (scopes_by p n c) ≡ Some up → ⊥
@@ -239,7 +240,7 @@ abbrev pub IsScoped : Program → List Scope → Stmt → Type 0
 IsScoped p sc st = (y : ℕ) → IsUsed p (In_stmt st) y → (v : Variable) × (slice_get p.variables y ≡ Some v)
     × (v.role ≡ role.Index → In_stmt st (Seen y) × ((up : ℕ) × (level (is_index y) sc ≡ Some up)))
 
-module _ (G : Ground) where
+module _ (G : RunContext) where
   -- what is seen by a path of calls
   seen : {Here : Use → Type 0} (sc : List Scope) (direct : (u : Use) → Here u → Direct G.g.program sc u) (bs : List ℕ)
       (y : ℕ) → Reach G.g.program Here bs (Seen y)
@@ -249,7 +250,7 @@ module _ (G : Ground) where
   seen {Here = Here} sc direct (b ∷ bs) y r =
       let z = G.blocks b r.2 r.3 in
       let w = seen {Here = λ a. In_stmt r.2.body a} (scopes_of G.g.program b)
-      (λ u a. stmt G.g.program G.free G.moves G.shares (Stands G.code) (HasFork G.code) (HasWords G.code) G.hush
+      (λ u a. stmt G.g.program G.free G.moves G.shares (CodeAt G.code) (HasFork G.code) (HasWords G.code) G.hush
       r.2.body true (scopes_of G.g.program b) z.layout.entry (z.stands.body true tt) u a) bs y r.5 in (
         w.0,
         w.1,
@@ -258,17 +259,17 @@ module _ (G : Ground) where
       )
 
   pub is_scoped : (fr : Bool) (sc : List Scope) (q : ℕ) (st : Stmt)
-      → StandsAt G.g.program G.moves G.shares (Stands G.code) (HasFork G.code) (HasWords G.code) G.hush fr sc q st
+      → StandsAt G.g.program G.moves G.shares (CodeAt G.code) (HasFork G.code) (HasWords G.code) G.hush fr sc q st
       → ((u : Use) → In_stmt st u → IsFormedUse G.g.program u) → IsScoped G.g.program sc st
   is_scoped fr sc q st h formed y (inl a) = let f = reached_formed G a.0 formed (Target y) a.1 in
       (f.0, f.1, λ iv. absurd (f.2 iv))
   is_scoped fr sc q st h formed y (inr a) = seen sc
-      (λ u b. stmt G.g.program G.free G.moves G.shares (Stands G.code) (HasFork G.code) (HasWords G.code) G.hush st fr
+      (λ u b. stmt G.g.program G.free G.moves G.shares (CodeAt G.code) (HasFork G.code) (HasWords G.code) G.hush st fr
       sc q h u b) a.0 y a.1
 
   -- of all children of a parallel statement
   pub parts_scoped : (fr : Bool) (sc : List Scope) (q : ℕ) (ss : Stmts)
-      → ChildrenAt G.g.program G.moves G.shares (Stands G.code) (HasFork G.code) (HasWords G.code) G.hush fr sc q ss
+      → ChildrenAt G.g.program G.moves G.shares (CodeAt G.code) (HasFork G.code) (HasWords G.code) G.hush fr sc q ss
       → ((u : Use) → In_stmt (Parallel ss) u → IsFormedUse G.g.program u) → IsScoped G.g.program sc (Parallel ss)
   parts_scoped fr sc q ss h formed y (inl a) = let f = reached_formed G a.0 formed (Target y) a.1 in
       (f.0, f.1, λ iv. absurd (f.2 iv))
@@ -276,6 +277,6 @@ module _ (G : Ground) where
     where
       direct : (u : Use) → In_stmt (Parallel ss) u → Direct G.g.program sc u
       direct u (inl b) = subst (λ k. Direct G.g.program sc k) (sym b) tt
-      direct u (inr (inl b)) = children G.g.program G.free G.moves G.shares (Stands G.code) (HasFork G.code)
+      direct u (inr (inl b)) = children G.g.program G.free G.moves G.shares (CodeAt G.code) (HasFork G.code)
           (HasWords G.code) G.hush ss fr sc q h u b
       direct u (inr (inr b)) = subst (λ k. Direct G.g.program sc k) (sym b) tt

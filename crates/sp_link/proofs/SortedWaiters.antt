@@ -17,12 +17,11 @@ use Rattle.sp_journal.specs.declared.outcome.Waiter.{Waiter}
 use Rattle.sp_journal.specs.Births.{channel}
 use Rattle.sp_journal.specs.Names.{same_name, proc_name}
 use Rattle.sp_journal.proofs.BirthLaws.{Lawful}
-use Rattle.sp_journal.proofs.NameLaws.{names_differ}
 use Rattle.sp_meaning.specs.Ends.{Waiting, IsIn, IsSorted, name_before, waiter_of}
 use Rattle.sp_meaning.proofs.Keys.{name_test}
 use Rattle.sp_code.specs.Control.{Control, Doing, Unborn, Ready, Out, Sending, Receiving, Joining, Laid, Ended, Gone}
 use Rattle.sp_link.specs.Endings.{IsWaiting, AreAllWaiting, with_waiting, waiting_from}
-use Rattle.sp_link.proofs.NameOrder.{in_order}
+use Rattle.sp_link.proofs.NameOrder.{in_order, one_name}
 
 -- ---- a list that is permuted in another form
 
@@ -113,7 +112,7 @@ before v u h n = in_order v.who u.who (go (name_cmp (proc_name u.who) (proc_name
         → name_cmp (proc_name v.who) (proc_name u.who) ≡ Less
     go Less e f = absurd (cc f)
     go Equal e f =
-        let same : u.who ≡ v.who = names_differ u.who v.who (name_of_tie (proc_name u.who) (proc_name v.who) e) in
+        let same : u.who ≡ v.who = one_name u.who v.who (name_of_tie (proc_name u.who) (proc_name v.who) e) in
         let bad : true ≡ false = sym ((name_test v.who u.who).1 (sym same)) ∙ n in absurd (cc bad)
     go Greater e f = name_total.antisymm (proc_name v.who) (proc_name u.who) ∙ ap ordering_reverse e
 
@@ -158,8 +157,8 @@ module _ (k : Control) (lawful : Lawful k.births) (unborn : (q : ℕ) → k.birt
   later q Ended w ws i = i
   later q Gone w ws i = i
 
-  abbrev At : ℕ → Waiting → Type 0
-  At i w = (c : ℕ)
+  abbrev IsWaitOf : ℕ → Waiting → Type 0
+  IsWaitOf i w = (c : ℕ)
       × (((k.doing i ≡ Sending c) × (w ≡ record {
         who = k.births.name i;
         way = way.Send;
@@ -171,15 +170,15 @@ module _ (k : Control) (lawful : Lawful k.births) (unborn : (q : ℕ) → k.birt
         channel = channel k.births c;
       })))
 
-  first_in : (q : ℕ) (w : Waiting) (ws : List Waiting) → At q w → IsIn w (with_waiting k.births q (k.doing q) ws)
+  first_in : (q : ℕ) (w : Waiting) (ws : List Waiting) → IsWaitOf q w → IsIn w (with_waiting k.births q (k.doing q) ws)
   first_in q w ws (c, x) = ⊎_elim
       (λ y. subst (λ d. IsIn w (with_waiting k.births q d ws)) (sym y.0) (inl y.1))
       (λ y. subst (λ d. IsIn w (with_waiting k.births q d ws)) (sym y.0) (inl y.1)) x
 
-  whole_from : (q n : ℕ) (w : Waiting) (i : ℕ) → q ≤ i → i < q + n → At i w → IsIn w (waiting_from k q n)
+  whole_from : (q n : ℕ) (w : Waiting) (i : ℕ) → q ≤ i → i < q + n → IsWaitOf i w → IsIn w (waiting_from k q n)
   whole_from q zero w i l r a = absurd (omega (arith, l, r))
   whole_from q (suc n) w i l r a = ⊎_elim
-      (λ (e : q ≡ i). first_in q w (waiting_from k (suc q) n) (subst (λ y. At y w) (sym e) a))
+      (λ (e : q ≡ i). first_in q w (waiting_from k (suc q) n) (subst (λ y. IsWaitOf y w) (sym e) a))
       (λ (h : q < i). later q (k.doing q) w (waiting_from k (suc q) n)
       (whole_from (suc q) n w i (omega (arith, h)) (omega (arith, r)) a))
       (first_or q i l)
@@ -249,7 +248,7 @@ module _ (k : Control) (lawful : Lawful k.births) (unborn : (q : ℕ) → k.birt
       by Ended ih = ih
       by Gone ih = ih
 
-  there : (i : ℕ) (w : Waiting) → At i w → i < k.births.processes
+  there : (i : ℕ) (w : Waiting) → IsWaitOf i w → i < k.births.processes
   there i w a = ⊎_elim (λ (h : i < k.births.processes). h)
       (λ (h : k.births.processes ≤ i). absurd (nobody (unborn i h) a.1)) (cases_lt i k.births.processes)
     where

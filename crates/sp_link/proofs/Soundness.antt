@@ -5,9 +5,9 @@ use Rattle.sp_base.specs.declared.limits.Limits.{Limits}
 use Rattle.sp_base.specs.declared.limits.TheConstants.{TURN_TICKS}
 use Rattle.sp_tree.specs.Plain.{Stmt}
 use Rattle.sp_journal.specs.declared.entry.Entry.{Entry}
-use Rattle.sp_journal.specs.Births.{at_start, NameableFrom}
+use Rattle.sp_journal.specs.Births.{first_births, NameableFrom}
 use Rattle.sp_cell.specs.Map.{Plain}
-use Rattle.sp_meaning.specs.Own.{Setting}
+use Rattle.sp_meaning.specs.LocalWork.{RunInput}
 use Rattle.sp_meaning.specs.Runs.{StateOf}
 use Rattle.sp_meaning.specs.Along.{Course}
 use Rattle.sp_code.specs.PlainStore.{plain}
@@ -18,19 +18,20 @@ use Rattle.sp_code.specs.System.{System, IsSystem}
 use Rattle.sp_code.specs.Ranks.{IsRanked}
 use Rattle.sp_code.proofs.Blocks.{distinct_blocks}
 use Rattle.sp_code.proofs.Falls.{ranked_along}
-use Rattle.sp_codegen.specs.Meets.{code_run}
+use Rattle.sp_codegen.specs.TurnAgrees.{code_run}
 use Rattle.sp_history.proofs.Naming.{system_nameable}
 use Rattle.sp_link.specs.Premises.{IsReady}
 use Rattle.sp_link.proofs.Formals.{have_formals}
 use Rattle.sp_link.proofs.Programs.{ground}
 use Rattle.sp_link.proofs.Ranks.{program_ranked}
-use Rattle.sp_link.proofs.Relation.{Ground, Lives, Linked, at_open, run_is, ops}
+use Rattle.sp_link.proofs.Relation.{RunContext, RightsOfAll, Linked, at_open, run_is, ops}
 use Rattle.sp_link.proofs.SafeSteps.{can_split, can_join, put_by_send, put_by_receive}
 use Rattle.sp_link.proofs.Theorem.{linked_along}
 use Rattle.sp_link.proofs.TurnsSafe.{turn_safe}
 
 -- of a system that is linked
-system_well : (G : Ground) (lv : Lives G) (c : Course) (s : StateOf G.g) (u : System Plain) → IsRanked G.code.instrs
+system_well : (G : RunContext) (lv : RightsOfAll G) (c : Course) (s : StateOf G.g) (u : System Plain)
+    → IsRanked G.code.instrs
     → Linked G lv c s u → IsSafeSystem (run_is G) u
 system_well G lv c s u ranked l = record {
   turns = λ q d at. turn_safe G lv c s u l q d at;
@@ -42,12 +43,12 @@ system_well G lv c s u ranked l = record {
       waits;
 }
 
-module _ (g : Setting) (moves shares : Stmt → List ℕ) (pause : ℕ) (ready : IsReady g moves shares) where
-  abbrev run : machine.Setting
+module _ (g : RunInput) (moves shares : Stmt → List ℕ) (pause : ℕ) (ready : IsReady g moves shares) where
+  abbrev run : machine.CodeRun
   run = code_run g (program_code g.program moves shares) pause
 
   -- a journal that the system keeps can be named
-  pub names_on : (es : List Entry) (s : System Plain) → IsSystem plain run es s → NameableFrom at_start es
+  pub names_on : (es : List Entry) (s : System Plain) → IsSystem plain run es s → NameableFrom first_births es
   names_on es s h = system_nameable run ready.limits es s h
 
   pub program_well : (es : List Entry) (s : System Plain) → IsSystem plain run es s → IsSafeSystem run s
@@ -58,7 +59,7 @@ module _ (g : Setting) (moves shares : Stmt → List ℕ) (pause : ℕ) (ready :
       z.state s (program_ranked g.program moves shares) z.linked
 
 -- with any input and limits
-at_run : (g : Setting) (moves shares : Stmt → List ℕ) → IsReady g moves shares → (input : List ℕ) (lim : Limits)
+at_run : (g : RunInput) (moves shares : Stmt → List ℕ) → IsReady g moves shares → (input : List ℕ) (lim : Limits)
     → AreLimits lim → IsReady (record g { input = input; limits = lim }) moves shares
 at_run g moves shares r input lim l = record {
   main = r.main;
@@ -73,7 +74,7 @@ at_run g moves shares r input lim l = record {
   limits = l;
 }
 
-pub program_sound : (g : Setting) (moves shares : Stmt → List ℕ) → IsReady g moves shares
+pub program_sound : (g : RunInput) (moves shares : Stmt → List ℕ) → IsReady g moves shares
     → IsSound (program_code g.program moves shares)
 program_sound g moves shares r = record {
   blocks = distinct_blocks g.program 0 0 g.program.blocks;

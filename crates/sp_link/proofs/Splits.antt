@@ -17,21 +17,21 @@ use Rattle.sp_cell.specs.Fork.{shared_of}
 use Rattle.sp_cell.specs.Map.{Content, Output as Bytes, Plain, IsHeld, IsPiece}
 use Rattle.sp_cell.specs.Spots.{In, IsDistinct}
 use Rattle.sp_meaning.specs.Model.{Name}
-use Rattle.sp_meaning.specs.Own.{Loc, Input, Output, Own, Who}
+use Rattle.sp_meaning.specs.LocalWork.{Loc, Input, Output, LocalState, Identity}
 use Rattle.sp_meaning.specs.Run.{Store}
-use Rattle.sp_meaning.proofs.Rights.{Mine}
+use Rattle.sp_meaning.proofs.Rights.{OwnLocation}
 use Rattle.sp_meaning.proofs.SoundParts.{list_of, used_part, target_part}
 use Rattle.sp_code.specs.declared.code.ChildTable.{ChildTable}
 use Rattle.sp_code.specs.declared.code.ForkTable.{ForkTable}
 use Rattle.sp_code.specs.Emitted.{child_table, children_tables}
 use Rattle.sp_code.specs.Memory.{Memory}
-use Rattle.sp_code.specs.Places.{after}
+use Rattle.sp_code.specs.Places.{after_statement}
 use Rattle.sp_code.specs.Scopes.{Scope}
 use Rattle.sp_code.specs.Sound.{CanSplit}
-use Rattle.sp_code.specs.Stands.{Stands as StandsIn, HasFork, HasWords, ChildrenAt}
+use Rattle.sp_code.specs.CodeOfTree.{CodeAt as StandsIn, HasFork, HasWords, ChildrenAt}
 use Rattle.sp_code.specs.System.{spot_of, handing_of, plan_from, child_or}
 use Rattle.sp_code.specs.Tables.{child_at}
-use Rattle.sp_codegen.specs.Joints.{Joint, sources, from}
+use Rattle.sp_codegen.specs.FramePairs.{FramePair, sources, pairs_from}
 use Rattle.sp_codegen.specs.Relation.{Placed}
 use Rattle.sp_codegen.proofs.Born.{table_at}
 use Rattle.sp_codegen.proofs.Handed.{MovedStands, moved_stands, right_of, once}
@@ -40,7 +40,7 @@ use Rattle.sp_link.proofs.ChildrenStand.{reached_formed, consoles}
 use Rattle.sp_code.proofs.Plans.{in_spots, spots_from, out_of, distinct_spots, moved_by, shared_by, distinct_plan}
 use Rattle.sp_code.proofs.Plans.{index_by}
 use Rattle.sp_code.proofs.StoreLaws.{held_of_cells}
-use Rattle.sp_link.proofs.Relation.{Ground, Life, Called, Named, Fresh, St}
+use Rattle.sp_link.proofs.Relation.{RunContext, BirthRights, Called, Named, Fresh, St}
 use Rattle.sp_link.proofs.Scoping.{parts_scoped}
 use Rattle.sp_link.proofs.Newborns.{cons}
 
@@ -79,20 +79,22 @@ table_of : (p : Program) (moves shares : Stmt → List ℕ) (ss : Stmts) (q j : 
     × (slice_get (children_tables p moves shares q ss) j ≡ Some (child_table p moves shares entry None st))
 table_of p moves shares No q j lt = absurd (omega (arith, lt))
 table_of p moves shares (And s rest) q zero lt = (s, refl, q, refl)
-table_of p moves shares (And s rest) q (suc j) lt = table_of p moves shares rest (after p q s + 1) j (omega (arith, lt))
+table_of p moves shares (And s rest) q (suc j) lt =
+    table_of p moves shares rest (after_statement p q s + 1) j (omega (arith, lt))
 
 same_role : (i v : Variable) → Some i ≡ Some v → i.role ≡ Rattle.sp_tree.specs.declared.checked.Role.TheVariants.Index
     → v.role ≡ Rattle.sp_tree.specs.declared.checked.Role.TheVariants.Index
 same_role i v e h = let same : i ≡ v = cc e in ap (λ (y : Variable). y.role) (sym same) ∙ h
 
-module _ (G : Ground) (lf : Life) (kids : ℕ → ℕ → Life) (q : Name) where
+module _ (G : RunContext) (lf : BirthRights) (kids : ℕ → ℕ → BirthRights) (q : Name) where
   abbrev Wr : Loc → Type 0
-  Wr l = Mine q l ⊎ lf.W l
+  Wr l = OwnLocation q l ⊎ lf.W l
 
   abbrev Rd : Loc → Type 0
-  Rd l = Mine q l ⊎ lf.R l
+  Rd l = OwnLocation q l ⊎ lf.R l
 
-  module _ (f : Fresh G lf kids q) {w : Who} {since : ℕ} {js : List Joint} {o : Own} {s : Store} {n : Memory Plain}
+  module _ (f : Fresh G lf kids q) {w : Identity} {since : ℕ} {js : List FramePair} {o : LocalState} {s : Store}
+      {n : Memory Plain}
       (t : St G lf kids q w since js o s n)
       (ss : Stmts) (sc : List Scope) (pl : Placed G.g Wr Rd lf.J sc js (In_stmt (Parallel ss))) (first : ℕ)
       (stand : ChildrenAt G.g.program G.moves G.shares (StandsIn G.code) (HasFork G.code) (HasWords G.code) G.hush
@@ -110,7 +112,8 @@ module _ (G : Ground) (lf : Life) (kids : ℕ → ℕ → Life) (q : Name) where
     abbrev child : Name
     child = cons (0, 0) w.name
 
-    new_name : (h : ℕ) (j : Joint) (rest : List Joint) → from (suc h) js ≡ j ∷ rest → j.source.owner ≡ child → ⊥
+    new_name : (h : ℕ) (j : FramePair) (rest : List FramePair) → pairs_from (suc h) js ≡ j ∷ rest
+        → j.source.owner ≡ child → ⊥
     new_name = no_longer_owner (length w.name) js child t.frames.owners (omega arith)
 
     unread : IsUsed p (In_stmt whole) 1 → IsTarget p (In_stmt whole) 1
@@ -137,7 +140,7 @@ module _ (G : Ground) (lf : Life) (kids : ℕ → ℕ → Life) (q : Name) where
         (ap (λ fs. spot_of G.code.layouts fs z) (sym t.frames.machines_are) ∙ g)
 
     right : (l : Loc) (y : ℕ) → IsUsed p (In_stmt whole) y
-        → Rattle.sp_meaning.specs.Owning.stands p (sources js) y ≡ Some l → Rd l
+        → Rattle.sp_meaning.specs.Owning.location_of p (sources js) y ≡ Some l → Rd l
     right l y a e = right_of G.g G.code w (Named G) (Called G) Wr Rd lf.J lf.low (length lf.below) lf.born since G.pause
         lf.moved G.formed G.laid G.free f.reads G.moves G.shares G.sets t whole pl.sound unread child new_name table
         refl refl value 0 l y a e
@@ -169,8 +172,8 @@ module _ (G : Ground) (lf : Life) (kids : ℕ → ℕ → Life) (q : Name) where
     abbrev pub count : ℕ
     count = length (children_tables p G.moves G.shares first ss)
 
-    abbrev pub one : ℕ → Handing
-    one j = handing_of G.code.layouts n.frames value j (child_or (child_at tb j))
+    abbrev pub child_handing : ℕ → Handing
+    child_handing j = handing_of G.code.layouts n.frames value j (child_or (child_at tb j))
 
     abbrev pub plan : List Handing
     plan = plan_from G.code.layouts n.frames tb value 0 count
@@ -180,7 +183,7 @@ module _ (G : Ground) (lf : Life) (kids : ℕ → ℕ → Life) (q : Name) where
     IsPart j st = slice_get (list_of ss) j ≡ Some st
 
     part_of : (j : ℕ) → j < count → (st : Stmt) × IsPart j st
-        × ((entry : ℕ) × (one j ≡ handing_of G.code.layouts n.frames value j
+        × ((entry : ℕ) × (child_handing j ≡ handing_of G.code.layouts n.frames value j
         (child_table p G.moves G.shares entry None st)))
     part_of j lt =
         let c = table_of p G.moves G.shares ss first j lt in (
@@ -208,13 +211,13 @@ module _ (G : Ground) (lf : Life) (kids : ℕ → ℕ → Life) (q : Name) where
     Uses j a = (st : Stmt) × IsPart j st × (y : ℕ) × IsUsed p (In_stmt st) y × IsMember y (G.shares st)
         × (spot_of G.code.layouts n.frames y ≡ Some a)
 
-    changes : (j : ℕ) → j < count → (a : Spot) → In a (one j).moved → Changes j a
+    changes : (j : ℕ) → j < count → (a : Spot) → In a (child_handing j).moved → Changes j a
     changes j lt a h =
         let c = part_of j lt in
         let y = spots_from G.code.layouts n.frames (G.moves c.0) a (subst (λ (x : Handing). In a x.moved) c.2.1 h) in
         (c.0, c.1, y.0, G.sets.moved_only c.0 y.0 y.1, y.1, y.2)
 
-    shares_it : (j : ℕ) → j < count → (a : Spot) → In a (one j).shared → Uses j a
+    shares_it : (j : ℕ) → j < count → (a : Spot) → In a (child_handing j).shared → Uses j a
     shares_it j lt a h =
         let c = part_of j lt in
         let y = spots_from G.code.layouts n.frames (G.shares c.0) a (subst (λ (x : Handing). In a x.shared) c.2.1 h) in
@@ -264,7 +267,7 @@ module _ (G : Ground) (lf : Life) (kids : ℕ → ℕ → Life) (q : Name) where
           let r = shared_by G.code.layouts n.frames tb value count a i in
           unshared m.0 r.0 a (changes m.0 m.1 a m.2) (shares_it r.0 r.1 a r.2)));
       number = λ h. (let r = index_by G.code.layouts n.frames tb value count h in let c = part_of r.0 r.1 in
-          absurd (no_index (one r.0).index (ap (λ (x : Handing). x.index) c.2.1) r.2));
+          absurd (no_index (child_handing r.0).index (ap (λ (x : Handing). x.index) c.2.1) r.2));
     }
       where
         no_index : (i : Option (ℕ × ℤ)) → i ≡ None → IsSome i → ⊥
@@ -272,7 +275,8 @@ module _ (G : Ground) (lf : Life) (kids : ℕ → ℕ → Life) (q : Name) where
         no_index (Some x) e h = absurd (cc e)
 
     -- and what moves to two children differs
-    pub parts_differ : (j k : ℕ) → j < count → k < count → j ≢ k → (a : Spot) → In a (one j).moved → In a (one k).moved
+    pub parts_differ : (j k : ℕ) → j < count → k < count → j ≢ k → (a : Spot) → In a (child_handing j).moved
+        → In a (child_handing k).moved
         → ⊥
     parts_differ j k lj lk ne a h g = by (less_more_or_same j k)
       where

@@ -4,67 +4,68 @@
 use Rattle.std.proofs.Common.{◌≡◌, ◌⊎◌, inl, inr, ℕ, zero, suc, List, [], Some, Bool, true, false, refl, sym, subst}
 use Rattle.sp_cell.specs.Map.{Plain}
 use Rattle.sp_meaning.specs.Model.{Name}
-use Rattle.sp_meaning.specs.Asking.{answer}
-use Rattle.sp_meaning.specs.Own.{Setting, Loc, Cell, Own, Item, Frame, Process, Came, Got, Bad, Lost, Long, same_loc}
-use Rattle.sp_meaning.specs.Deeds.{Deed, Stepped, Ticked, Opened, Forked, Offered, Ended}
+use Rattle.sp_meaning.specs.EffectTree.{run_tree}
+use Rattle.sp_meaning.specs.LocalWork.{RunInput, Loc, Cell, LocalState, Item, Frame, Process, WorkOutcome, Computed}
+use Rattle.sp_meaning.specs.LocalWork.{EndsInFault, IllFormed, OutOfFuel, same_loc}
+use Rattle.sp_meaning.specs.Actions.{Action, Stepped, Ticked, Opened, Forked, Offered, Ended}
 use Rattle.sp_meaning.specs.Owning.{Fit, Fair}
-use Rattle.sp_meaning.specs.SuperPascal.{deed_of, with_todo, enough, weight_of}
+use Rattle.sp_meaning.specs.SuperPascal.{action_of, with_todo, fuel_of, weight_of}
 use Rattle.sp_meaning.specs.Run.{Store, run}
-use Rattle.sp_meaning.specs.Runs.{StateOf, most, running}
-use Rattle.sp_meaning.specs.Along.{Turn, Either, due, ticks_in}
+use Rattle.sp_meaning.specs.Runs.{StateOf, total_limits, running_process}
+use Rattle.sp_meaning.specs.Along.{Turn, Either, is_due_after, ticks_in}
 use Rattle.sp_meaning.specs.Turn as source
-use Rattle.sp_meaning.proofs.Deeding.{deed_from}
+use Rattle.sp_meaning.proofs.ActionRights.{next_action_from}
 use Rattle.sp_meaning.proofs.Pure.{PureItems, AreBlocksPure}
-use Rattle.sp_meaning.proofs.QuietDeeds.{pure_kept}
+use Rattle.sp_meaning.proofs.SilentActions.{pure_kept}
 use Rattle.sp_codegen.proofs.PureCode.{blocks_pure, follows_pure}
 use Rattle.sp_meaning.proofs.Owned.{Result, result_within}
-use Rattle.sp_meaning.proofs.Reached.{Known, step_well, raised, lowered}
-use Rattle.sp_meaning.proofs.Rights.{Mine}
+use Rattle.sp_meaning.proofs.Reached.{StateKeeps, step_well, raised, lowered}
+use Rattle.sp_meaning.proofs.Rights.{OwnLocation}
 use Rattle.sp_meaning.proofs.Sound.{step_sound}
-use Rattle.sp_meaning.proofs.Within.{Within}
-use Rattle.sp_meaning.proofs.Weights.{AllFit}
+use Rattle.sp_meaning.proofs.Within.{StaysWithin}
+use Rattle.sp_meaning.proofs.Weights.{AreLight}
 use Rattle.sp_code.specs.Machine.{Config, At}
-use Rattle.sp_code.specs.Turns.{IsSafe, Begins, IsTurn, Turn as Machine_turn, Runs, begins}
+use Rattle.sp_code.specs.Turns.{IsSafe, BeginsOrFaults, IsTurn, Turn as Machine_turn, Runs, frames_fit}
 use Rattle.sp_code.specs.Memory.{Memory}
-use Rattle.sp_codegen.specs.Meets.{due_after}
+use Rattle.sp_codegen.specs.TurnAgrees.{due_after}
 use Rattle.sp_codegen.proofs.Safe.{AtEnd, turn_finishes, finishes_safe}
 use Rattle.sp_codegen.specs.Following.{Turned}
 use Rattle.sp_codegen.proofs.Turn.{turn_meets}
 use Rattle.sp_link.proofs.TurnsEnd.{Ended as Over_now, enough_turn, this_turn_ends}
-use Rattle.sp_link.proofs.TurnsKeep.{Stays, stays_on, stored_within, Kept, turn_keeps}
-use Rattle.sp_link.proofs.Relation.{Ground, Life, Stands, law, execution, ops}
+use Rattle.sp_link.proofs.TurnsKeep.{ChangesWritable, stays_on, stored_within, TurnKeeps, turn_keeps}
+use Rattle.sp_link.proofs.Relation.{RunContext, BirthRights, ProcessMatches, law, execution, ops}
 use Rattle.sp_link.proofs.SourceTurns.{Outcome, turns}
 
 -- what is known of every state is known after local steps
-pub turn_known : (g : Setting) (turn since : ℕ) (q : Name) (n : ℕ) (s t : StateOf g) (paused : Bool) → Known g s
-    → Turn g turn since q n s t paused → Known g t
-turn_known g turn since q zero s t paused k h = subst (Known g) (sym h.0) k
+pub turn_known : (g : RunInput) (turn since : ℕ) (q : Name) (n : ℕ) (s t : StateOf g) (paused : Bool) → StateKeeps g s
+    → Turn g turn since q n s t paused → StateKeeps g t
+turn_known g turn since q zero s t paused k h = subst (StateKeeps g) (sym h.0) k
 turn_known g turn since q (suc n) s t paused k h =
-    by (due g turn since s h.0 q h.3) h.5 (λ x. turn_known g turn since q n h.3 t paused after x)
+    by (is_due_after g turn since s h.0 q h.3) h.5 (λ x. turn_known g turn since q n h.3 t paused after x)
   where
-    after : Known g h.3
+    after : StateKeeps g h.3
     after = record {
-      sound = step_sound (most g) s q h.3 k.sound h.4;
+      sound = step_sound (total_limits g) s q h.3 k.sound h.4;
       well = lowered g (λ r. ticks_in (s.condition r)) h.3 (step_well g s k.sound q (raised g s k.well) h.3 h.4);
     }
 
     by : (b : Bool) → Either b ((n ≡ 0) × (t ≡ h.3) × (paused ≡ true)) (Turn g turn since q n h.3 t paused)
-        → (Turn g turn since q n h.3 t paused → Known g t) → Known g t
-    by true x go = subst (Known g) (sym x.1) after
+        → (Turn g turn since q n h.3 t paused → StateKeeps g t) → StateKeeps g t
+    by true x go = subst (StateKeeps g) (sym x.1) after
     by false x go = go x
 
 -- all expressions of the program are pure
-pub pure_blocks : (G : Ground) → AreBlocksPure G.g.program
+pub pure_blocks : (G : RunContext) → AreBlocksPure G.g.program
 pure_blocks G = blocks_pure G.g.program G.values G.moves G.shares G.code G.hush G.blocks
 
-module _ (G : Ground) (lf : Life) (kids : ℕ → ℕ → Life) (q : Name) (since : ℕ) where
+module _ (G : RunContext) (lf : BirthRights) (kids : ℕ → ℕ → BirthRights) (q : Name) (since : ℕ) where
   abbrev pub Wr : Loc → Type 0
-  Wr l = Mine q l ⊎ lf.W l
+  Wr l = OwnLocation q l ⊎ lf.W l
 
   abbrev pub Rd : Loc → Type 0
-  Rd l = Mine q l ⊎ lf.R l
+  Rd l = OwnLocation q l ⊎ lf.R l
 
-  abbrev pub dues : Own → Bool
+  abbrev pub dues : LocalState → Bool
   dues o = due_after since G.pause o
 
   pub own_right : (n x : ℕ) → Wr (Cell q n x)
@@ -77,44 +78,49 @@ module _ (G : Ground) (lf : Life) (kids : ℕ → ℕ → Life) (q : Name) (sinc
     pub stays : (l : Loc) → (s l ≡ s0 l) ⊎ Wr l
     pub pure : PureItems G.g.program pr.todo
 
-  module _ (s : StateOf G.g) (pr : Process) (d : Config (Memory Plain)) (z : Stands G lf kids q since pr s.store d)
-      (runs : running G.g s q ≡ Some pr) (light : AllFit (weight_of G.g.program) pr.todo)
+  module _ (s : StateOf G.g) (pr : Process) (d : Config (Memory Plain))
+      (z : ProcessMatches G lf kids q since pr s.store d)
+      (runs : running_process G.g s q ≡ Some pr) (light : AreLight (weight_of G.g.program) pr.todo)
       (last : List Frame) (fit : Fit G.g.program Wr Rd last pr.own.frames pr.todo) where
     abbrev pub Keeps_it : Process → Store → Type 0
     Keeps_it p1 s1 = Keeps_right s.store last p1 s1
 
-    pub keeps : (p1 : Process) (s1 : Store) → Keeps_it p1 s1 → (todo : List Item) (o : Own) (m : Store) (e : Deed)
-        → ◌≡◌ {A = Came Deed × Store} (answer same_loc (deed_of G.g p1) s1) (Got e o, m) → (e ≡ Stepped todo)
+    pub keeps : (p1 : Process) (s1 : Store) → Keeps_it p1 s1
+        → (todo : List Item) (o : LocalState) (m : Store) (e : Action)
+        → ◌≡◌ {A = WorkOutcome Action × Store} (run_tree same_loc (action_of G.g p1) s1) (Computed e o, m)
+        → (e ≡ Stepped todo)
         ⊎ (e ≡ Ticked todo) → Keeps_it (with_todo todo p1.who o) m
     keeps p1 s1 k todo o m e er w = record {
       named = k.named;
       fit = by w;
       stays = stays_on G.g G.free q Wr Rd own_right z.fresh.reads dues s.store s1 m k.stays
-          (subst (λ (x : Came Deed × Store). Stays G.g G.free q Wr Rd own_right z.fresh.reads dues s1 x.1) er
-          (stored_within G.g G.free q Wr Rd own_right z.fresh.reads dues F (deed_of G.g p1) s1 within));
+          (subst (λ (x : WorkOutcome Action × Store). ChangesWritable G.g G.free q Wr Rd own_right z.fresh.reads dues s1
+          x.1) er
+          (stored_within G.g G.free q Wr Rd own_right z.fresh.reads dues F (action_of G.g p1) s1 within));
       pure = pure_kept G.g G.free G.pure (pure_blocks G) Wr Rd last p1 k.fit k.pure s1 e o m er todo w;
     }
       where
-        F : Deed → Own → Type 0
+        F : Action → LocalState → Type 0
         F x o1 = Fair G.g.program Wr Rd last x o1.frames
 
-        within : Within Wr Rd F (deed_of G.g p1)
-        within = (deed_from G.g q Wr Rd own_right z.fresh.reads G.free (enough G.g p1.own) last p1.own.frames p1.todo
+        within : StaysWithin Wr Rd F (action_of G.g p1)
+        within = (next_action_from G.g q Wr Rd own_right z.fresh.reads G.free (fuel_of G.g p1.own) last p1.own.frames
+            p1.todo
             k.fit).by p1.who p1.own k.named refl
 
         fair : Fair G.g.program Wr Rd last e o.frames
-        fair = subst (λ (x : Came Deed × Store). Result F x.0) er
-            (result_within Wr Rd F (λ x. x) (deed_of G.g p1) s1 within)
+        fair = subst (λ (x : WorkOutcome Action × Store). Result F x.0) er
+            (result_within Wr Rd F (λ x. x) (action_of G.g p1) s1 within)
 
         by : (e ≡ Stepped todo) ⊎ (e ≡ Ticked todo) → Fit G.g.program Wr Rd last o.frames todo
         by (inl x) = subst (λ y. Fair G.g.program Wr Rd last y o.frames) x fair
         by (inr x) = subst (λ y. Fair G.g.program Wr Rd last y o.frames) x fair
 
     -- the end of the turn in the meaning
-    abbrev pub result : Came source.Stop × Store
+    abbrev pub result : WorkOutcome source.Stop × Store
     result = run (source.turn G.g dues (enough_turn G.g dues pr) pr.todo) pr.who pr.own s.store
 
-    abbrev pub Outcome_of : Came source.Stop × Store → Type 0
+    abbrev pub Outcome_of : WorkOutcome source.Stop × Store → Type 0
     Outcome_of r = Outcome G.g q G.pause since Keeps_it keeps s pr r
 
     pub outcome : Outcome_of result
@@ -126,15 +132,15 @@ module _ (G : Ground) (lf : Life) (kids : ℕ → ℕ → Life) (q : Name) (sinc
           z.js pr.todo z.follows;
     }) runs
 
-    abbrev pub Kept_of : Came source.Stop × Store → Type 0
-    Kept_of r = Kept G.g G.free q Wr Rd own_right z.fresh.reads dues last s.store r
+    abbrev pub Kept_of : WorkOutcome source.Stop × Store → Type 0
+    Kept_of r = TurnKeeps G.g G.free q Wr Rd own_right z.fresh.reads dues last s.store r
 
     pub kept : Kept_of result
     kept = turn_keeps G.g G.free q Wr Rd own_right z.fresh.reads dues last (enough_turn G.g dues pr) pr.todo pr.who
         pr.own s.store z.named fit
 
     -- and in the machine
-    abbrev pub Turned_as : Came source.Stop × Store → Type 0
+    abbrev pub Turned_as : WorkOutcome source.Stop × Store → Type 0
     Turned_as r = Turned (execution G lf kids q z.fresh pr.who z.named since) (At z.pc z.stack z.memory) lf.end []
         lf.below r
 
@@ -142,17 +148,17 @@ module _ (G : Ground) (lf : Life) (kids : ℕ → ℕ → Life) (q : Name) (sinc
     turned = turn_meets (execution G lf kids q z.fresh pr.who z.named since) G.blocks lf.end [] lf.below z.fresh.ends
         refl (enough_turn G.g dues pr) pr.todo z.pc z.stack z.js pr.own s.store z.memory z.stand z.follows
 
-    at_end : (r : Came source.Stop × Store) → Over_now G.g dues r → Turned_as r → AtEnd r
-    at_end (Got (source.Paused todo) o, m) e t = tt
-    at_end (Got (source.Stops (Stepped todo)) o, m) e t = e
-    at_end (Got (source.Stops (Ticked todo)) o, m) e t = e
-    at_end (Got (source.Stops (Opened todo)) o, m) e t = tt
-    at_end (Got (source.Stops (Forked bs todo)) o, m) e t = tt
-    at_end (Got (source.Stops (Offered c k x todo)) o, m) e t = tt
-    at_end (Got (source.Stops Ended) o, m) e t = tt
-    at_end (Bad f, m) e t = tt
-    at_end (Lost, m) e t = absurd t
-    at_end (Long, m) e t = e
+    at_end : (r : WorkOutcome source.Stop × Store) → Over_now G.g dues r → Turned_as r → AtEnd r
+    at_end (Computed (source.Paused todo) o, m) e t = tt
+    at_end (Computed (source.Stops (Stepped todo)) o, m) e t = e
+    at_end (Computed (source.Stops (Ticked todo)) o, m) e t = e
+    at_end (Computed (source.Stops (Opened todo)) o, m) e t = tt
+    at_end (Computed (source.Stops (Forked bs todo)) o, m) e t = tt
+    at_end (Computed (source.Stops (Offered c k x todo)) o, m) e t = tt
+    at_end (Computed (source.Stops Ended) o, m) e t = tt
+    at_end (EndsInFault f, m) e t = tt
+    at_end (IllFormed, m) e t = absurd t
+    at_end (OutOfFuel, m) e t = e
 
     pub ends : AtEnd result
     ends = at_end result (this_turn_ends G.g dues pr s.store light) turned
@@ -163,12 +169,12 @@ module _ (G : Ground) (lf : Life) (kids : ℕ → ℕ → Life) (q : Name) (sinc
         (turn_finishes (execution G lf kids q z.fresh pr.who z.named since) (At z.pc z.stack z.memory) lf.end []
         lf.below result turned ends))
 
-    fits_now : begins (ops G) G.code (At z.pc z.stack z.memory) ≡ true
+    fits_now : frames_fit (ops G) G.code (At z.pc z.stack z.memory) ≡ true
     fits_now = (law G lf kids q z.fresh pr.who z.named since).fits z.stand
 
     -- a run of its instructions is a turn
     pub is_turn : (t : Machine_turn (Memory Plain)) → Runs (ops G) G.code (At z.pc z.stack z.memory) t
         → IsTurn (ops G) G.code d t
     is_turn t r = subst (λ c. IsTurn (ops G) G.code c t) (sym z.is)
-        (subst (λ b. Begins b (At z.pc z.stack z.memory) t (Runs (ops G) G.code (At z.pc z.stack z.memory) t))
+        (subst (λ b. BeginsOrFaults b (At z.pc z.stack z.memory) t (Runs (ops G) G.code (At z.pc z.stack z.memory) t))
         (sym fits_now) r)

@@ -8,27 +8,28 @@ use Rattle.sp_code.specs.Machine.{Config}
 use Rattle.sp_code.specs.Turns.{IsSafe}
 use Rattle.sp_code.specs.Memory.{Memory}
 use Rattle.sp_code.specs.PlainStore.{plain}
-use Rattle.sp_code.specs.System.{System, Working, Enters}
+use Rattle.sp_code.specs.System.{System, Working, EntryLeads}
 use Rattle.sp_link.proofs.TurnsMeet.{safe}
-use Rattle.sp_link.proofs.Entries.{entry}
-use Rattle.sp_link.proofs.OneChanges.{q, pr, its, runs, light, keeps_to}
-use Rattle.sp_link.proofs.Relation.{Ground, Lives, Linked, run_is, ops}
+use Rattle.sp_link.proofs.JournalEntries.{entry}
+use Rattle.sp_link.proofs.OneChanges.{q, pr, its, runs_as_pr, light, keeps_to}
+use Rattle.sp_link.proofs.Relation.{RunContext, RightsOfAll, Linked, run_is, ops}
 
-module _ (G : Ground) (lv : Lives G) (c : Course) (s : StateOf G.g) (u : System Plain) (l : Linked G lv c s u) (i : ℕ)
+module _ (G : RunContext) (lv : RightsOfAll G) (c : Course) (s : StateOf G.g) (u : System Plain) (l : Linked G lv c s u)
+    (i : ℕ)
     (d : Config (Memory Plain)) (at : u.condition i ≡ Working d) where
   pub turn_safe : IsSafe (ops G) G.code d
   turn_safe = ⊎_elim
       (λ z. safe G (lv (q G lv c s u l i d at)) (λ k n. lv ((k, n) ∷ q G lv c s u l i d at)) (q G lv c s u l i d at)
-      (c.since (q G lv c s u l i d at)) s (pr G lv c s u l i d at) d z (runs G lv c s u l i d at)
+      (c.since (q G lv c s u l i d at)) s (pr G lv c s u l i d at) d z (runs_as_pr G lv c s u l i d at)
       (light G lv c s u l i d at) (keeps_to G lv c s u l i d at).last (keeps_to G lv c s u l i d at).fit)
       (λ z b. absurd (let a : false ≡ true = sym z.4 ∙ b in cc a))
       (its G lv c s u l i d at).2
 
   -- and the system goes on with it
-  pub goes_on : (e : Event) × (t : System Plain) × Enters plain (run_is G) u i e t
+  pub goes_on : (e : Event) × (t : System Plain) × EntryLeads plain (run_is G) u i e t
   goes_on =
       let en = entry G lv c s u l i d at in (
         Rattle.sp_code.specs.System.event_of G.g.limits u en.turn,
-        Rattle.sp_code.specs.System.after plain (run_is G) i en.turn u,
+        Rattle.sp_code.specs.System.system_after_turn plain (run_is G) i en.turn u,
         (d, at, en.turn, en.is, refl, refl),
       )

@@ -7,8 +7,8 @@ use Rattle.sp_journal.specs.declared.entry.Way.TheVariants as way
 use Rattle.sp_journal.specs.Births.{channel}
 use Rattle.sp_cell.specs.Map.{Plain}
 use Rattle.sp_meaning.specs.Model.{Name, Channel, Cargo, Message, Takes, Offer, Condition, Absent, Waits, Joins, Ended}
-use Rattle.sp_meaning.specs.Steps.{working_in, way_of}
-use Rattle.sp_meaning.specs.Own.{Tree, Position, Written, Held, Address, Process}
+use Rattle.sp_meaning.specs.Steps.{own_part_in, way_of}
+use Rattle.sp_meaning.specs.LocalWork.{Tree, Position, Written, LocationContent, Address, Process}
 use Rattle.sp_meaning.specs.Runs.{StateOf}
 use Rattle.sp_meaning.specs.Along.{Course}
 use Rattle.sp_meaning.specs.Ends.{Waiting, WaitsSo, IsDeadlock}
@@ -19,10 +19,11 @@ use Rattle.sp_code.specs.System as sys
 use Rattle.sp_link.specs.Endings.{waiting_at, WaitsAs, IsStuck}
 use Rattle.sp_link.proofs.Outputs.{done_there}
 use Rattle.sp_link.proofs.Journal.{has_number}
-use Rattle.sp_link.proofs.Relation.{Ground, Lives, Named, Ca, Performs_all, Linked}
+use Rattle.sp_link.proofs.Relation.{RunContext, RightsOfAll, Named, Ca, Performs_all, Linked}
 use Rattle.sp_link.proofs.WhoRuns.{nobody, somebody, root_over}
 
-module _ (G : Ground) (lv : Lives G) (c : Course) (s : StateOf G.g) (u : System Plain) (l : Linked G lv c s u) where
+module _ (G : RunContext) (lv : RightsOfAll G) (c : Course) (s : StateOf G.g) (u : System Plain)
+    (l : Linked G lv c s u) where
   -- the channel of a number
   named_here : (ch : Channel) (j : ℕ) → Named G ch j → channel u.births j ≡ ch
   named_here ch j n = l.began.openings j (subst (λ y. j < y) l.open_is n.0) ∙ n.2
@@ -33,10 +34,11 @@ module _ (G : Ground) (lv : Lives G) (c : Course) (s : StateOf G.g) (u : System 
     abbrev q : Name
     q = G.births.name i
 
-    abbrev o : Offer Process Held Address
+    abbrev o : Offer Process LocationContent Address
     o = h.0
 
-    offers_so : (g : Cargo Held Address) → Ca G (lv q) (λ a b. lv ((a, b) ∷ q)) q (h.2).fresh o.next.who (h.2).named
+    offers_so : (g : Cargo LocationContent Address) → Ca G (lv q) (λ a b. lv ((a, b) ∷ q)) q (h.2).fresh o.next.who
+        (h.2).named
         (c.since q) (h.2).js o.channel o.kind g stop
         → waiting_at u.births i stop ≡ Some (record { who = q; way = way_of g; channel = o.channel })
     offers_so (Message (Tree v)) x = ap (λ y. waiting_at u.births i y) x.2
@@ -80,20 +82,22 @@ module _ (G : Ground) (lv : Lives G) (c : Course) (s : StateOf G.g) (u : System 
       let n = l.numbered w.who (λ e. present (sym h.1 ∙ e)) in
       by n.0 n.1 n.2 (u.condition n.0) refl (l.does n.0 n.1)
     where
-      present : ◌≡◌ {A = Condition Process Held Address} (Waits h.0) Absent → ⊥
+      present : ◌≡◌ {A = Condition Process LocationContent Address} (Waits h.0) Absent → ⊥
       present e = cc e
 
-      works : {x : Condition Process Held Address} {pr : Process} (q : Name) → x ≡ Waits h.0
-          → working_in s.condition q x ≡ Some pr → ⊥
-      works q e r = none-some _ (sym (ap (working_in s.condition q) e) ∙ r)
+      works : {x : Condition Process LocationContent Address} {pr : Process} (q : Name) → x ≡ Waits h.0
+          → own_part_in s.condition q x ≡ Some pr → ⊥
+      works q e r = none-some _ (sym (ap (own_part_in s.condition q) e) ∙ r)
 
-      ended : ◌≡◌ {A = Condition Process Held Address} Ended (Waits h.0) → ⊥
+      ended : ◌≡◌ {A = Condition Process LocationContent Address} Ended (Waits h.0) → ⊥
       ended e = cc e
 
-      joins : {k n : ℕ} {pr : Process} → ◌≡◌ {A = Condition Process Held Address} (Joins k n pr) (Waits h.0) → ⊥
+      joins : {k n : ℕ} {pr : Process} → ◌≡◌ {A = Condition Process LocationContent Address} (Joins k n pr)
+          (Waits h.0) → ⊥
       joins e = cc e
 
-      one : {x y : Offer Process Held Address} → ◌≡◌ {A = Condition Process Held Address} (Waits x) (Waits y) → x ≡ y
+      one : {x y : Offer Process LocationContent Address} → ◌≡◌ {A = Condition Process LocationContent Address}
+          (Waits x) (Waits y) → x ≡ y
       one e = cc e
 
       by : (i : ℕ) → i < u.births.processes → G.births.name i ≡ w.who → (X : sys.Condition Plain) → u.condition i ≡ X
@@ -103,10 +107,11 @@ module _ (G : Ground) (lv : Lives G) (c : Course) (s : StateOf G.g) (u : System 
       by i lt e (sys.Waits stop d) k x =
           let o : x.0 ≡ h.0 = one (sym x.1 ∙ ap (λ y. s.condition y) e ∙ h.1) in
           let is : record { who = G.births.name i; way = way_of (x.0).cargo; channel = (x.0).channel } ≡ w =
-          ap (λ (y : Offer Process Held Address). same (G.births.name i) y) o ∙ ap (λ y. same y h.0) e ∙ rest in
+          ap (λ (y : Offer Process LocationContent Address). same (G.births.name i) y) o ∙ ap (λ y. same y h.0) e
+          ∙ rest in
           (i, stop, d, k, offers i lt stop d x ∙ ap (λ y. Some y) is)
         where
-          same : Name → Offer Process Held Address → Waiting
+          same : Name → Offer Process LocationContent Address → Waiting
           same y z = record { who = y; way = way_of z.cargo; channel = z.channel }
 
           rest : same w.who h.0 ≡ w

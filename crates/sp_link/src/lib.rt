@@ -17,7 +17,8 @@
 //! To know:
 //! - All laws but the first and the last ask for a ready program: `specs/Premises.antt` is what is asked of it, of its
 //!   sets and of the limits (`IsReady`); `specs/Endings.antt` says who waits and which entry is a fault.
-//! - `proofs/Relation` is how the system stands for the state of the meaning. `Entries` has each entry by its event,
+//! - `proofs/Relation` is how the system stands for the state of the meaning. `JournalEntries` has each entry by its
+//!   event,
 //!   `Parallels` and `Foralls` what each statement gives for a fork; `Theorem` joins them.
 //! - `Ranks`: turns end. `Formals`: frames have room for parameters. `Splits`, `SafeSteps`: what forks, ends and
 //!   messages need. `Soundness` joins them.
@@ -25,7 +26,7 @@
 //!   `Contention`: offers of one way.
 //!
 //! To change:
-//! - An event: its lemma and `proofs/Entries`; what it needs to be carried out: `by_well` in `proofs/SafeSteps`.
+//! - An event: its lemma and `proofs/JournalEntries`; what it needs to be carried out: `by_well` in `proofs/SafeSteps`.
 //! - A form of statement or expression: its clause in `proofs/Ranks`, or in `proofs/StraightCode`.
 #![tactic(auto)]
 

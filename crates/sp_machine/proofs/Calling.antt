@@ -16,19 +16,20 @@ use Rattle.sp_cell.specs.declared.cell.Cell.TheVariants as cell
 use Rattle.sp_cell.specs.declared.spot.Spot.{Spot}
 use Rattle.sp_cell.specs.declared.spot.Address.{Address}
 use Rattle.sp_cell.specs.Map.{Content, Own, Map, Plain, IsOwn, HasCells, cells_of}
-use Rattle.sp_cell.specs.Frame.{with_pieces, pushed, next_frame}
+use Rattle.sp_cell.specs.Frame.{with_pieces, with_new_frame, next_frame}
 use Rattle.sp_cell.proofs.Laws.{get_other, get_here, piece_of_own}
 use Rattle.sp_code.specs.declared.code.Formal.{Formal}
 use Rattle.sp_code.specs.declared.code.Formal.TheVariants as formal
 use Rattle.sp_code.specs.declared.code.Layout.{Layout}
 use Rattle.sp_code.specs.declared.code.Parts.{Parts}
 use Rattle.sp_code.specs.Machine as m
-use Rattle.sp_code.specs.Memory.{Memory, Setting, memory, references, filled, opened, pushes, is_there, frames_up}
+use Rattle.sp_code.specs.Memory.{Memory, CodeRun, memory, references, with_arguments, memory_after_call, pushes}
+use Rattle.sp_code.specs.Memory.{is_there, frames_up}
 use Rattle.sp_code.specs.PlainStore.{plain}
 use Rattle.sp_machine.specs.declared.stack.Operand.{Operand}
 use Rattle.sp_machine.specs.declared.stack.Operand.TheVariants as operand
 use Rattle.sp_machine.specs.Arguments.{HasOwn, Takes, TakeAll}
-use Rattle.sp_machine.specs.Entries.{entry_of, entries_of, pointer_in}
+use Rattle.sp_machine.specs.StackEntries.{entry_of, entries_of, pointer_in}
 use Rattle.sp_code.specs.Sound.{run_of}
 use Rattle.sp_base.specs.declared.halt.Memory.{Memory as Refused}
 use Rattle.sp_machine.specs.declared.state.State.{State}
@@ -36,7 +37,7 @@ use Rattle.sp_machine.specs.declared.state.Stop.{Stop}
 use Rattle.sp_code.specs.Formals.{HasRoom}
 use Rattle.sp_machine.specs.declared.state.Interrupt.{Interrupt}
 use Rattle.sp_machine.specs.declared.state.Interrupt.TheVariants as interrupt
-use Rattle.sp_machine.specs.Procs.{Came, CameBy, stop_by, Stays, memory_of, setting_of}
+use Rattle.sp_machine.specs.Procs.{StepMatches, CameBy, stop_by, KeepsNumberAndInput, memory_of, setting_of}
 
 -- ---- arguments one after another
 
@@ -116,7 +117,7 @@ keeps_all mm n j k cs (e ∷ es) h w =
     (keeps_one mm n j k cs e apart w.0, keeps_all mm n (suc j) k cs es (omega (arith, h)) w.1)
 
 after_one : (s : Plain) (n k : ℕ) (e : m.Entry) (es : List m.Entry) → TakeAll s.map n (suc k) es
-    → TakeAll (filled plain n k (e ∷ []) s).map n (suc k) es
+    → TakeAll (with_arguments plain n k (e ∷ []) s).map n (suc k) es
 after_one s n k (m.Number v) es w = keeps_all s.map n (suc k) k _ es (omega arith) w
 after_one s n k (m.Chan v) es w = keeps_all s.map n (suc k) k _ es (omega arith) w
 after_one s n k (m.Pointer a) es w = w
@@ -125,7 +126,7 @@ after_one s n k (m.Link r) es w = w
 after_one s n k (m.Reply r) es w = w
 
 fill_apart : (s : Plain) (n k : ℕ) (e : m.Entry) (es : List m.Entry)
-    → filled plain n k (e ∷ es) s ≡ filled plain n (suc k) es (filled plain n k (e ∷ []) s)
+    → with_arguments plain n k (e ∷ es) s ≡ with_arguments plain n (suc k) es (with_arguments plain n k (e ∷ []) s)
 fill_apart s n k (m.Number v) es = refl
 fill_apart s n k (m.Chan v) es = refl
 fill_apart s n k (m.Pointer a) es = refl
@@ -134,13 +135,14 @@ fill_apart s n k (m.Link r) es = refl
 fill_apart s n k (m.Reply r) es = refl
 
 pub fill_step : (os : List Operand) (s : Plain) (n i : ℕ) (o : Operand) → i < length os → o ≡ get_or os i o
-    → filled plain n i (entries_of (drop i os)) s
-    ≡ filled plain n (i + 1) (entries_of (drop (i + 1) os)) (filled plain n i (entries_of (o ∷ [])) s)
+    → with_arguments plain n i (entries_of (drop i os)) s
+    ≡ with_arguments plain n (i + 1) (entries_of (drop (i + 1) os)) (with_arguments plain n i (entries_of (o ∷ [])) s)
 fill_step os s n i o h e =
     let one : suc i ≡ i + 1 = omega arith in
-    ap (λ (es : List m.Entry). filled plain n i es s) (next_entry os i o h e)
+    ap (λ (es : List m.Entry). with_arguments plain n i es s) (next_entry os i o h e)
     ∙ fill_apart s n i (entry_of o) (entries_of (drop (i + 1) os))
-    ∙ ap (λ k. filled plain n k (entries_of (drop (i + 1) os)) (filled plain n i (entries_of (o ∷ [])) s)) one
+    ∙ ap (λ k. with_arguments plain n k (entries_of (drop (i + 1) os))
+    (with_arguments plain n i (entries_of (o ∷ [])) s)) one
 
 pub take_here : (os : List Operand) (s : Plain) (n i : ℕ) (o : Operand) → i < length os → o ≡ get_or os i o
     → TakeAll s.map n i (entries_of (drop i os)) → TakeAll s.map n i (entries_of (o ∷ []))
@@ -152,17 +154,17 @@ take_here os s n i o h e w = (
 
 pub take_step : (os : List Operand) (s : Plain) (n i : ℕ) (o : Operand) → i < length os → o ≡ get_or os i o
     → TakeAll s.map n i (entries_of (drop i os))
-    → TakeAll (filled plain n i (entries_of (o ∷ [])) s).map n (i + 1) (entries_of (drop (i + 1) os))
+    → TakeAll (with_arguments plain n i (entries_of (o ∷ [])) s).map n (i + 1) (entries_of (drop (i + 1) os))
 take_step os s n i o h e w =
     let one : suc i ≡ i + 1 = omega arith in
     let v : TakeAll s.map n i (entry_of o ∷ entries_of (drop (i + 1) os)) =
     subst (TakeAll s.map n i) (next_entry os i o h e) w in
-    subst (λ k. TakeAll (filled plain n i (entries_of (o ∷ [])) s).map n k (entries_of (drop (i + 1) os))) one
+    subst (λ k. TakeAll (with_arguments plain n i (entries_of (o ∷ [])) s).map n k (entries_of (drop (i + 1) os))) one
     (after_one s n i (entry_of o) (entries_of (drop (i + 1) os)) v.1)
 
 pub fill_end : (os : List Operand) (s : Plain) (n i : ℕ) → length os ≤ i
-    → filled plain n i (entries_of (drop i os)) s ≡ s
-fill_end os s n i h = ap (λ (x : List Operand). filled plain n i (entries_of x) s) (drop_all i os h)
+    → with_arguments plain n i (entries_of (drop i os)) s ≡ s
+fill_end os s n i h = ap (λ (x : List Operand). with_arguments plain n i (entries_of x) s) (drop_all i os h)
 
 pub own_has : (mm : Map) (q : Spot) (c : ℕ) → HasOwn mm q c → HasCells mm (record { spot = q; offset = 0 }) c
 own_has mm q c h = (piece_of_own (map.get mm q) h.0, omega (arith, h.1))
@@ -233,7 +235,7 @@ take_from mm n v (f ∷ fs) (x ∷ es) (c ∷ ss) e h =
 -- the variables of a new frame take the arguments that fit
 pub take_all : (s : Plain) (l : Layout) (es : List m.Entry) → m.fit_formals l.formals es ≡ true
     → ((k : ℕ) (f : Formal) → slice_get l.formals k ≡ Some f → HasRoom f (slice_get l.sizes k))
-    → TakeAll (pushed s l.sizes).map (next_frame s) 0 es
+    → TakeAll (with_new_frame s l.sizes).map (next_frame s) 0 es
 take_all s l es e h = take_from s.map (next_frame s) 0 l.formals es l.sizes e h
 
 -- ---- what the definition makes of a call
@@ -242,7 +244,7 @@ entries_append : (os ps : List Operand) → entries_of (os ++ ps) ≡ entries_of
 entries_append [] ps = refl
 entries_append (o ∷ os) ps = ap (λ (es : List m.Entry). entry_of o ∷ es) (entries_append os ps)
 
-module _ {M : Type 0} (go : List m.Entry → List m.Entry → m.One M) where
+module _ {M : Type 0} (go : List m.Entry → List m.Entry → m.StepResult M) where
   popped_onto : (k : ℕ) (os : List Operand) (es : List m.Entry) → k ≤ length os
       → m.pop k (entries_of os) es go ≡ go (entries_of (reverse (take k os)) ++ es) (entries_of (drop k os))
   popped_onto zero os es h = refl
@@ -266,41 +268,41 @@ module _ {M : Type 0} (go : List m.Entry → List m.Entry → m.One M) where
   pops_enough (suc k) (o ∷ os) es h = let w = pops_enough k os (entry_of o ∷ es) h in omega (arith, w)
 
 module _ {M : Type 0} where
-  pub when_true : (b : Bool) (o : m.One M) → m.when b o ≢ m.Stuck → b ≡ true
+  pub when_true : (b : Bool) (o : m.StepResult M) → m.when b o ≢ m.Stuck → b ≡ true
   when_true true o h = refl
   when_true false o h = absurd (h refl)
 
-  pub when_is : (b : Bool) (o : m.One M) → b ≡ true → m.when b o ≡ o
+  pub when_is : (b : Bool) (o : m.StepResult M) → b ≡ true → m.when b o ≡ o
   when_is b o e = rw e refl
 
-module _ (g : Setting) (code : Parts) (l : Layout) (up r : ℕ) (os : List Operand) (n : Memory Plain) where
+module _ (g : CodeRun) (code : Parts) (l : Layout) (up r : ℕ) (os : List Operand) (n : Memory Plain) where
   abbrev arguments : List m.Entry
   arguments = entries_of (reverse (take (length l.formals) os))
 
   abbrev rest : List m.Entry
   rest = entries_of (drop (length l.formals) os)
 
-  abbrev call : m.One (Memory Plain)
-  call = m.called (memory plain g) code l up r (entries_of os) n
+  abbrev call : m.StepResult (Memory Plain)
+  call = m.call_step (memory plain g) code l up r (entries_of os) n
 
-  abbrev go_on : List m.Entry → Memory Plain → m.One (Memory Plain)
-  go_on st x = m.entered (memory plain g) code l r st x
+  abbrev go_on : List m.Entry → Memory Plain → m.StepResult (Memory Plain)
+  go_on st x = m.enter_step (memory plain g) code l r st x
 
-  abbrev third : List m.Entry → List m.Entry → m.One (Memory Plain)
+  abbrev third : List m.Entry → List m.Entry → m.StepResult (Memory Plain)
   third es st = m.then_go (pushes plain g l up es n) (go_on st)
 
-  abbrev second : List m.Entry → List m.Entry → m.One (Memory Plain)
-  second es st = m.when ((memory plain g).may_open up n) (third es st)
+  abbrev second : List m.Entry → List m.Entry → m.StepResult (Memory Plain)
+  second es st = m.when ((memory plain g).can_push up n) (third es st)
 
-  abbrev begun : List m.Entry → List m.Entry → m.One (Memory Plain)
+  abbrev begun : List m.Entry → List m.Entry → m.StepResult (Memory Plain)
   begun es st = m.when (m.fit_formals l.formals es) (second es st)
 
   -- the tests of a call, from the last one on
-  abbrev cells_test : m.Did (Memory Plain)
+  abbrev cells_test : m.MemoryResult (Memory Plain)
   cells_test = if nat_lt g.limits.cells (n.cells + sum l.sizes) then m.Failed fault.F12 else
-      m.Done (opened plain g l up arguments n)
+      m.Done (memory_after_call plain g l up arguments n)
 
-  abbrev depth_test : m.Did (Memory Plain)
+  abbrev depth_test : m.MemoryResult (Memory Plain)
   depth_test = if nat_lt n.depth g.limits.depth then cells_test else m.Failed fault.F11
 
   module _ (safe : call ≢ m.Stuck) where
@@ -313,8 +315,8 @@ module _ (g : Setting) (code : Parts) (l : Layout) (up r : ℕ) (os : List Opera
     pub call_fits : m.fit_formals l.formals arguments ≡ true
     call_fits = when_true (m.fit_formals l.formals arguments) (second arguments rest) begun_safe
 
-    pub call_may : (memory plain g).may_open up n ≡ true
-    call_may = when_true ((memory plain g).may_open up n) (third arguments rest)
+    pub call_may : (memory plain g).can_push up n ≡ true
+    call_may = when_true ((memory plain g).can_push up n) (third arguments rest)
         (λ e. begun_safe (when_is (m.fit_formals l.formals arguments) (second arguments rest) call_fits ∙ e))
 
     pub call_numbered : next_frame n.store ≤ 18446744073709551615
@@ -324,7 +326,7 @@ module _ (g : Setting) (code : Parts) (l : Layout) (up r : ℕ) (os : List Opera
     call_is : call ≡ third arguments rest
     call_is = pops begun (length l.formals) os call_enough
         ∙ when_is (m.fit_formals l.formals arguments) (second arguments rest) call_fits
-        ∙ when_is ((memory plain g).may_open up n) (third arguments rest) call_may
+        ∙ when_is ((memory plain g).can_push up n) (third arguments rest) call_may
 
     pub call_f10 : g.limits.ticks ≤ n.ticks → call ≡ m.Fails fault.F10
     call_f10 h = call_is ∙ ap (λ (b : Bool). m.then_go (if b then depth_test else m.Failed fault.F10) (go_on rest))
@@ -345,24 +347,25 @@ module _ (g : Setting) (code : Parts) (l : Layout) (up r : ℕ) (os : List Opera
     pub call_f12 : n.ticks < g.limits.ticks → n.depth < g.limits.depth → g.limits.cells < n.cells + sum l.sizes
         → call ≡ m.Fails fault.F12
     call_f12 h k q = not_deep h k ∙ ap (λ (b : Bool). m.then_go
-        (if b then m.Failed fault.F12 else m.Done (opened plain g l up arguments n)) (go_on rest))
+        (if b then m.Failed fault.F12 else m.Done (memory_after_call plain g l up arguments n)) (go_on rest))
         (lt-ltb g.limits.cells (n.cells + sum l.sizes) q)
 
     pub call_done : n.ticks < g.limits.ticks → n.depth < g.limits.depth → n.cells + sum l.sizes ≤ g.limits.cells
-        → call ≡ m.entered (memory plain g) code l r rest (opened plain g l up arguments n)
+        → call ≡ m.enter_step (memory plain g) code l r rest (memory_after_call plain g l up arguments n)
     call_done h k q = not_deep h k ∙ ap (λ (b : Bool). m.then_go
-        (if b then m.Failed fault.F12 else m.Done (opened plain g l up arguments n)) (go_on rest))
+        (if b then m.Failed fault.F12 else m.Done (memory_after_call plain g l up arguments n)) (go_on rest))
         (le-ltb g.limits.cells (n.cells + sum l.sizes) q)
 
 -- ---- the end of a call
 
-abbrev NeverFails : m.One (Memory Plain) → Type 0
+abbrev NeverFails : m.StepResult (Memory Plain) → Type 0
 NeverFails (m.Goes d) = Unit {0}
 NeverFails (m.Stops t d) = Unit {0}
 NeverFails (m.Fails f) = ⊥
 NeverFails m.Stuck = Unit {0}
 
-came_any : (o : m.One (Memory Plain)) (p s q : State) (x : Option Stop) → NeverFails o → Came o s q x → Came o p q x
+came_any : (o : m.StepResult (Memory Plain)) (p s q : State) (x : Option Stop) → NeverFails o → StepMatches o s q x
+    → StepMatches o p q x
 came_any (m.Goes d) p s q None h w = w
 came_any (m.Goes d) p s q (Some x) h w = w
 came_any (m.Stops t d) p s q None h w = w
@@ -370,9 +373,9 @@ came_any (m.Stops t d) p s q (Some x) h w = w
 came_any (m.Fails f) p s q x h w = absurd h
 came_any m.Stuck p s q x h w = w
 
-entered_never : (g : Setting) (code : Parts) (l : Layout) (r : ℕ) (st : List m.Entry) (n : Memory Plain)
-    → NeverFails (m.entered (memory plain g) code l r st n)
-entered_never g code l r st n = go l.answer (m.outside st) ((memory plain g).due n)
+entered_never : (g : CodeRun) (code : Parts) (l : Layout) (r : ℕ) (st : List m.Entry) (n : Memory Plain)
+    → NeverFails (m.enter_step (memory plain g) code l r st n)
+entered_never g code l r st n = go l.answer (m.is_in_no_function st) ((memory plain g).due n)
   where
     go : (a b d : Bool) → NeverFails (if a then m.Goes (m.At l.entry (m.Reply r ∷ st) n) else
         (if b then (if d then m.Stops m.Pauses (m.At l.entry (m.Link r ∷ st) n) else
@@ -385,38 +388,40 @@ entered_never g code l r st n = go l.answer (m.outside st) ((memory plain g).due
 module _ (p s q : State) (code : Parts) (lim : Limits) (l : Layout) (up : ℕ)
     (safe : call (setting_of p code lim) code l up (p.pc + 1) p.stack (memory_of p) ≢ m.Stuck)
     (ticks : p.ticks < lim.ticks) (depth : p.depth < lim.depth) (cells : p.cells + sum l.sizes ≤ lim.cells)
-    (opens : memory_of s ≡ opened plain (setting_of p code lim) l up
+    (opens : memory_of s ≡ memory_after_call plain (setting_of p code lim) l up
     (arguments (setting_of p code lim) code l up (p.pc + 1) p.stack (memory_of p)) (memory_of p))
-    (stack : s.stack ≡ drop (length l.formals) p.stack) (place : s.pc ≡ p.pc) (same : Stays p s) where
+    (stack : s.stack ≡ drop (length l.formals) p.stack) (place : s.pc ≡ p.pc) (same : KeepsNumberAndInput p s) where
   abbrev new : Memory Plain
-  new = opened plain (setting_of p code lim) l up
+  new = memory_after_call plain (setting_of p code lim) l up
       (arguments (setting_of p code lim) code l up (p.pc + 1) p.stack (memory_of p)) (memory_of p)
 
-  alike : m.entered (memory plain (setting_of p code lim)) code l (p.pc + 1)
+  alike : m.enter_step (memory plain (setting_of p code lim)) code l (p.pc + 1)
       (entries_of (drop (length l.formals) p.stack)) new
-      ≡ m.entered (memory plain (setting_of s code lim)) code l (s.pc + 1) (entries_of s.stack) (memory_of s)
+      ≡ m.enter_step (memory plain (setting_of s code lim)) code l (s.pc + 1) (entries_of s.stack) (memory_of s)
   alike =
       let setting : setting_of p code lim ≡ setting_of s code lim = ap (λ i. run_of code i.value lim) (sym same.1) in
-      ap (λ (g : Setting). m.entered (memory plain g) code l (p.pc + 1) (entries_of (drop (length l.formals) p.stack))
+      ap (λ (g : CodeRun). m.enter_step (memory plain g) code l (p.pc + 1)
+      (entries_of (drop (length l.formals) p.stack))
       new) setting
-      ∙ ap (λ k. m.entered (memory plain (setting_of s code lim)) code l (k + 1)
+      ∙ ap (λ k. m.enter_step (memory plain (setting_of s code lim)) code l (k + 1)
       (entries_of (drop (length l.formals) p.stack)) new) (sym place)
-      ∙ ap (λ (os : List Operand). m.entered (memory plain (setting_of s code lim)) code l (s.pc + 1) (entries_of os)
+      ∙ ap (λ (os : List Operand). m.enter_step (memory plain (setting_of s code lim)) code l (s.pc + 1) (entries_of os)
       new) (sym stack)
-      ∙ ap (λ (n : Memory Plain). m.entered (memory plain (setting_of s code lim)) code l (s.pc + 1)
+      ∙ ap (λ (n : Memory Plain). m.enter_step (memory plain (setting_of s code lim)) code l (s.pc + 1)
       (entries_of s.stack) n) (sym opens)
 
   pub call_came : (r : Result (Option Interrupt) Refused)
-      → IfOk r (λ x. CameBy (m.entered (memory plain (setting_of s code lim)) code l (s.pc + 1) (entries_of s.stack)
+      → IfOk r (λ x. CameBy (m.enter_step (memory plain (setting_of s code lim)) code l (s.pc + 1) (entries_of s.stack)
       (memory_of s)) s q x)
       → IfOk r (λ x. CameBy (call (setting_of p code lim) code l up (p.pc + 1) p.stack (memory_of p)) p q x)
-  call_came (Ok x) w = subst (λ (o : m.One (Memory Plain)). CameBy o p q x)
+  call_came (Ok x) w = subst (λ (o : m.StepResult (Memory Plain)). CameBy o p q x)
       (sym (call_done (setting_of p code lim) code l up (p.pc + 1) p.stack (memory_of p) safe ticks depth cells
       ∙ alike))
       (came_any _ p s q (stop_by q x) (entered_never (setting_of s code lim) code l (s.pc + 1) (entries_of s.stack)
       (memory_of s)) w)
   call_came (Err e) w = tt
 
-pub faulted : (o : m.One (Memory Plain)) (f : Fault) (p : State) → o ≡ m.Fails f
+pub faulted : (o : m.StepResult (Memory Plain)) (f : Fault) (p : State) → o ≡ m.Fails f
     → CameBy o p p (Some (interrupt.Fault f))
-faulted o f p e = subst (λ (x : m.One (Memory Plain)). CameBy x p p (Some (interrupt.Fault f))) (sym e) (refl, refl)
+faulted o f p e = subst (λ (x : m.StepResult (Memory Plain)). CameBy x p p (Some (interrupt.Fault f))) (sym e)
+    (refl, refl)

@@ -8,7 +8,8 @@ use Rattle.std.proofs.lemmas.List.{reverse-append, map-append, length-reverse, l
 use Rattle.std.proofs.lemmas.List.{take-append-drop, take_more, length-take-le, drop_all, take_all, length-append}
 use Rattle.std.proofs.lemmas.List.{append-nil, get_or-take, get_or_append_left, get_or-append_right}
 use Rattle.std.proofs.Math.Seq.{drop-append_seam}
-use Rattle.sp_code.specs.Memory.{Frame as PlainFrame, last_frames, frames_up, addr_in, deref_in, cell_at, referred}
+use Rattle.sp_code.specs.Memory.{Frame as PlainFrame, last_frames, frames_up, addr_in, deref_in, cell_at}
+use Rattle.sp_code.specs.Memory.{reference_target}
 use Rattle.sp_machine.specs.declared.frames.Frame.{Frame}
 use Rattle.sp_machine.specs.Frames.{plain_frames, frame_of}
 
@@ -143,7 +144,8 @@ addr_first fs gs n var f h e k = ap (λ (x : List PlainFrame). addr_in x var)
     (let more : n ≡ n - 1 + 1 = omega (arith, h) in e ∙ ap (λ m. last_frames m fs) more ∙ k)
 
 pub deref_first : (fs gs : List PlainFrame) (n var : ℕ) (f : Frame) → 0 < n → gs ≡ last_frames n fs
-    → last_frames (n - 1 + 1) fs ≡ frame_of f ∷ last_frames (n - 1) fs → deref_in gs var ≡ referred var f.references
+    → last_frames (n - 1 + 1) fs ≡ frame_of f ∷ last_frames (n - 1) fs
+    → deref_in gs var ≡ reference_target var f.references
 deref_first fs gs n var f h e k = ap (λ (x : List PlainFrame). deref_in x var)
     (let more : n ≡ n - 1 + 1 = omega (arith, h) in e ∙ ap (λ m. last_frames m fs) more ∙ k)
 
@@ -177,20 +179,20 @@ up_more fs up i count f h n l e =
 
 -- references one after another
 pub referred_here : (rs : List (ℕ × Address)) (x i : ℕ) (r : ℕ × Address) → i < length rs → r ≡ get_or rs i r → r.0 ≡ x
-    → referred x (drop i rs) ≡ Some r.1
+    → reference_target x (drop i rs) ≡ Some r.1
 referred_here [] x i r h e k = absurd (omega (arith, h))
 referred_here (q ∷ rs) x zero r h e k = rw (sym e) (rw (eq-eqb x r.0 (sym k)) refl)
 referred_here (q ∷ rs) x (suc i) r h e k = referred_here rs x i r (omega (arith, h)) e k
 
 pub referred_on : (rs : List (ℕ × Address)) (x i : ℕ) (r : ℕ × Address) → i < length rs → r ≡ get_or rs i r → r.0 ≢ x
-    → referred x (drop i rs) ≡ referred x (drop (i + 1) rs)
+    → reference_target x (drop i rs) ≡ reference_target x (drop (i + 1) rs)
 referred_on [] x i r h e k = absurd (omega (arith, h))
 referred_on (q ∷ rs) x zero r h e k = rw (sym e) (rw (ne_eqb x r.0 (λ w. k (sym w))) refl)
 referred_on (q ∷ rs) x (suc i) r h e k = let one : suc (i + 1) ≡ suc i + 1 = omega arith in
-    referred_on rs x i r (omega (arith, h)) e k ∙ ap (λ n. referred x (drop n (q ∷ rs))) one
+    referred_on rs x i r (omega (arith, h)) e k ∙ ap (λ n. reference_target x (drop n (q ∷ rs))) one
 
-pub referred_end : (rs : List (ℕ × Address)) (x i : ℕ) → length rs ≤ i → referred x (drop i rs) ≡ None
-referred_end rs x i h = ap (referred x) (drop_all i rs h)
+pub referred_end : (rs : List (ℕ × Address)) (x i : ℕ) → length rs ≤ i → reference_target x (drop i rs) ≡ None
+referred_end rs x i h = ap (reference_target x) (drop_all i rs h)
 
 pub some_visible : (xs : List Frame) (v : ℕ) → plain_frames (take v xs ++ []) ≢ [] → 0 < v
 some_visible xs zero h = absurd (h no_frames)

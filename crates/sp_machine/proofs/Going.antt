@@ -11,8 +11,9 @@ use Rattle.sp_code.specs.declared.code.Parts.{Parts}
 use Rattle.sp_code.specs.declared.instr.Instr.{Instr}
 use Rattle.sp_code.specs.declared.instr.Instr.TheVariants as instr
 use Rattle.sp_code.specs.Machine as m
-use Rattle.sp_code.specs.Turns.{Turn, Stopped, Faulted, ComesIn, EndsSo, Runs, Begins, begins, IsTurn, IsSafe}
-use Rattle.sp_code.specs.Memory.{Memory, memory, Setting, addr_in, frames_up}
+use Rattle.sp_code.specs.Turns.{Turn, Stopped, Faulted, RunsIn, EndsSo, Runs, BeginsOrFaults, frames_fit, IsTurn}
+use Rattle.sp_code.specs.Turns.{IsSafe}
+use Rattle.sp_code.specs.Memory.{Memory, memory, CodeRun, addr_in, frames_up}
 use Rattle.sp_code.specs.PlainStore.{plain}
 use Rattle.sp_code.specs.Sound.{run_of}
 use Rattle.sp_code.specs.Budgets.{left_by, ticks_left}
@@ -22,41 +23,44 @@ use Rattle.sp_machine.specs.declared.state.State.{State}
 use Rattle.sp_machine.specs.declared.state.Interrupt.{Interrupt}
 use Rattle.sp_machine.specs.declared.state.Stop.{Stop}
 use Rattle.sp_machine.specs.declared.state.Stop.TheVariants as stop
-use Rattle.sp_machine.specs.Procs.{from, IsSafeThen, WentTwice, Proceeded, CameBy, does, memory_of}
-use Rattle.sp_machine.specs.Entries.{entries_of}
-use Rattle.sp_machine.specs.Procs.{config_of, setting_of, next_of, Came, StopIs, FaultIs, IsRankedFrom, IsTurnOf}
+use Rattle.sp_machine.specs.Procs.{step_at_config, IsSafeThen, WentTwice, Proceeded, CameBy, does, memory_of}
+use Rattle.sp_machine.specs.StackEntries.{entries_of}
+use Rattle.sp_machine.specs.Procs.{config_of, setting_of, next_of, StepMatches, StopIs, FaultIs, IsRankedFrom, IsTurnOf}
 
-module _ (g : Setting) where
+module _ (g : CodeRun) where
   abbrev ops : m.Ops (Memory Plain)
   ops = memory plain g
 
-  pub comes_more : (n : ℕ) (c d e : m.Config (Memory Plain)) → ComesIn ops g.code n c d → m.one ops g.code d ≡ m.Goes e
-      → ComesIn ops g.code (suc n) c e
-  comes_more zero c d e h k = (e, ap (m.one ops g.code) h ∙ k, refl)
+  pub comes_more : (n : ℕ) (c d e : m.Config (Memory Plain)) → RunsIn ops g.code n c d → m.next_step ops g.code d
+      ≡ m.Goes e
+      → RunsIn ops g.code (suc n) c e
+  comes_more zero c d e h k = (e, ap (m.next_step ops g.code) h ∙ k, refl)
   comes_more (suc n) c d e h k = (h.0, h.1, comes_more n h.0 d e h.2 k)
 
-  went : (o : m.One (Memory Plain)) (p q : State) → Came o p q None → o ≢ m.Stuck → o ≡ m.Goes (config_of q)
+  went : (o : m.StepResult (Memory Plain)) (p q : State) → StepMatches o p q None → o ≢ m.Stuck
+      → o ≡ m.Goes (config_of q)
   went (m.Goes d) p q c n = ap m.Goes (sym c)
   went (m.Stops t d) p q c n = absurd c
   went (m.Fails f) p q c n = absurd c
   went m.Stuck p q c n = absurd (n refl)
 
   -- how a turn that has begun ends
-  ended : (c d : m.Config (Memory Plain)) (t : Turn (Memory Plain)) (n : ℕ) → begins ops g.code c ≡ true
-      → ComesIn ops g.code n c d → EndsSo ops g.code d t → IsTurn ops g.code c t
-  ended c d t n b h k = subst (λ (x : Bool). Begins x c t (Runs ops g.code c t)) (sym b)
+  ended : (c d : m.Config (Memory Plain)) (t : Turn (Memory Plain)) (n : ℕ) → frames_fit ops g.code c ≡ true
+      → RunsIn ops g.code n c d → EndsSo ops g.code d t → IsTurn ops g.code c t
+  ended c d t n b h k = subst (λ (x : Bool). BeginsOrFaults x c t (Runs ops g.code c t)) (sym b)
       (d, record { steps = n; by = h }, k)
 
-  module _ (c : m.Config (Memory Plain)) (p q : State) (n : ℕ) (b : begins ops g.code c ≡ true)
-      (h : ComesIn ops g.code n c (config_of p)) (x : State) (code : Parts) (lim : Limits) (is : c ≡ config_of x)
+  module _ (c : m.Config (Memory Plain)) (p q : State) (n : ℕ) (b : frames_fit ops g.code c ≡ true)
+      (h : RunsIn ops g.code n c (config_of p)) (x : State) (code : Parts) (lim : Limits) (is : c ≡ config_of x)
       (same : g ≡ setting_of x code lim) where
     moved : (u : Turn (Memory Plain)) → IsTurn ops g.code c u
         → IsTurn (memory plain (setting_of x code lim)) code (config_of x) u
     moved u k = subst (λ (y : m.Config (Memory Plain)). IsTurn (memory plain (setting_of x code lim)) code y u) is
-        (subst (λ (y : Setting). IsTurn (memory plain y) y.code c u) same k)
+        (subst (λ (y : CodeRun). IsTurn (memory plain y) y.code c u) same k)
 
     -- the turn that ended at an instruction with this stop
-    stopped_so : (s : Stop) (t : m.Stop) (d : m.Config (Memory Plain)) → m.one ops g.code (config_of p) ≡ m.Stops t d
+    stopped_so : (s : Stop) (t : m.Stop) (d : m.Config (Memory Plain)) → m.next_step ops g.code (config_of p)
+        ≡ m.Stops t d
         → StopIs s q t → config_of q ≡ d → IsTurnOf x code lim q s
     stopped_so s t d e i w = by s i
       where
@@ -76,7 +80,7 @@ module _ (g : Setting) where
         by (stop.Fault f) i = absurd i
         by stop.Memory i = absurd i
 
-    faulted_so : (s : Stop) (f : Fault) → m.one ops g.code (config_of p) ≡ m.Fails f → FaultIs s f
+    faulted_so : (s : Stop) (f : Fault) → m.next_step ops g.code (config_of p) ≡ m.Fails f → FaultIs s f
         → config_of q ≡ config_of p → IsTurnOf x code lim q s
     faulted_so s f e i w = by s i
       where
@@ -95,49 +99,50 @@ module _ (g : Setting) where
         by (stop.Fault z) i = (done z i, tt)
         by stop.Memory i = absurd i
 
-    stopped : (s : Stop) (o : m.One (Memory Plain)) → m.one ops g.code (config_of p) ≡ o → o ≢ m.Stuck
-        → Came o p q (Some s) → IsTurnOf x code lim q s
+    stopped : (s : Stop) (o : m.StepResult (Memory Plain)) → m.next_step ops g.code (config_of p) ≡ o → o ≢ m.Stuck
+        → StepMatches o p q (Some s) → IsTurnOf x code lim q s
     stopped s (m.Goes d) e live came = absurd came
     stopped s (m.Stops t d) e live came = stopped_so s t d e came.0 came.1
     stopped s (m.Fails f) e live came = faulted_so s f e came.0 came.1
     stopped s m.Stuck e live came = absurd (live refl)
 
 module _ (x : State) (code : Parts) (lim : Limits) (p : State) (input : p.input ≡ x.input) where
-  same_next : next_of p code lim ≡ m.one (memory plain (setting_of x code lim)) code (config_of p)
-  same_next = ap (λ (g : Setting). m.one (memory plain g) code (config_of p)) (ap (λ i. run_of code i.value lim) input)
+  same_next : next_of p code lim ≡ m.next_step (memory plain (setting_of x code lim)) code (config_of p)
+  same_next = ap (λ (g : CodeRun). m.next_step (memory plain g) code (config_of p))
+      (ap (λ i. run_of code i.value lim) input)
 
   same_from : (d : m.Config (Memory Plain))
-      → from p code lim d ≡ m.one (memory plain (setting_of x code lim)) code d
-  same_from d = ap (λ (g : Setting). m.one (memory plain g) code d) (ap (λ i. run_of code i.value lim) input)
+      → step_at_config p code lim d ≡ m.next_step (memory plain (setting_of x code lim)) code d
+  same_from d = ap (λ (g : CodeRun). m.next_step (memory plain g) code d) (ap (λ i. run_of code i.value lim) input)
 
   pub safe_next : (n : ℕ) → IsSafe (memory plain (setting_of x code lim)) code (config_of x)
-      → begins (memory plain (setting_of x code lim)) code (config_of x) ≡ true
-      → ComesIn (memory plain (setting_of x code lim)) code n (config_of x) (config_of p) → next_of p code lim ≢ m.Stuck
+      → frames_fit (memory plain (setting_of x code lim)) code (config_of x) ≡ true
+      → RunsIn (memory plain (setting_of x code lim)) code n (config_of x) (config_of p) → next_of p code lim ≢ m.Stuck
   safe_next n safe b h e = safe b (config_of p) (record { steps = n; by = h }) (sym same_next ∙ e)
 
   -- where it goes on by two instructions
-  to_both : (n : ℕ) → ComesIn (memory plain (setting_of x code lim)) code n (config_of x) (config_of p)
+  to_both : (n : ℕ) → RunsIn (memory plain (setting_of x code lim)) code n (config_of x) (config_of p)
       → (d : m.Config (Memory Plain)) → next_of p code lim ≡ m.Goes d
-      → ComesIn (memory plain (setting_of x code lim)) code (suc n) (config_of x) d
+      → RunsIn (memory plain (setting_of x code lim)) code (suc n) (config_of x) d
   to_both n h d e = comes_more (setting_of x code lim) n (config_of x) (config_of p) d h (sym same_next ∙ e)
 
   pub safe_both : (n : ℕ) → IsSafe (memory plain (setting_of x code lim)) code (config_of x)
-      → begins (memory plain (setting_of x code lim)) code (config_of x) ≡ true
-      → ComesIn (memory plain (setting_of x code lim)) code n (config_of x) (config_of p) → IsSafeThen p code lim
+      → frames_fit (memory plain (setting_of x code lim)) code (config_of x) ≡ true
+      → RunsIn (memory plain (setting_of x code lim)) code n (config_of x) (config_of p) → IsSafeThen p code lim
   safe_both n safe b h d e s = safe b d (record { steps = suc n; by = to_both n h d e }) (sym (same_from d) ∙ s)
 
   module _ (q : State) (n : ℕ) (safe : IsSafe (memory plain (setting_of x code lim)) code (config_of x))
-      (b : begins (memory plain (setting_of x code lim)) code (config_of x) ≡ true)
-      (h : ComesIn (memory plain (setting_of x code lim)) code n (config_of x) (config_of p)) where
-    goes_to : Came (next_of p code lim) p q None
-        → m.one (memory plain (setting_of x code lim)) code (config_of p) ≡ m.Goes (config_of q)
+      (b : frames_fit (memory plain (setting_of x code lim)) code (config_of x) ≡ true)
+      (h : RunsIn (memory plain (setting_of x code lim)) code n (config_of x) (config_of p)) where
+    goes_to : StepMatches (next_of p code lim) p q None
+        → m.next_step (memory plain (setting_of x code lim)) code (config_of p) ≡ m.Goes (config_of q)
     goes_to c = sym same_next ∙ went (setting_of x code lim) (next_of p code lim) p q c (safe_next n safe b h)
 
-    pub on_it : Came (next_of p code lim) p q None
-        → ComesIn (memory plain (setting_of x code lim)) code (suc n) (config_of x) (config_of q)
+    pub on_it : StepMatches (next_of p code lim) p q None
+        → RunsIn (memory plain (setting_of x code lim)) code (suc n) (config_of x) (config_of q)
     on_it c = comes_more (setting_of x code lim) n (config_of x) (config_of p) (config_of q) h (goes_to c)
 
-    pub smaller : IsRankedFrom x code lim → Came (next_of p code lim) p q None
+    pub smaller : IsRankedFrom x code lim → StepMatches (next_of p code lim) p q None
         → left_by code.instrs (ticks_left (setting_of x code lim)) (config_of q)
         < left_by code.instrs (ticks_left (setting_of x code lim)) (config_of p)
     smaller ranked c = falls (memory plain (setting_of x code lim)) code (ticks_left (setting_of x code lim))
@@ -145,7 +150,7 @@ module _ (x : State) (code : Parts) (lim : Limits) (p : State) (input : p.input 
         (ranked (config_of p) (record { steps = n; by = h })) (goes_to c)
 
     pub on_both : WentTwice p code lim q
-        → ComesIn (memory plain (setting_of x code lim)) code (suc (suc n)) (config_of x) (config_of q)
+        → RunsIn (memory plain (setting_of x code lim)) code (suc (suc n)) (config_of x) (config_of q)
     on_both w = comes_more (setting_of x code lim) (suc n) (config_of x) w.0 (config_of q) (to_both n h w.0 w.1.0)
         (sym (same_from w.0) ∙ w.1.1)
 
@@ -162,7 +167,7 @@ module _ (x : State) (code : Parts) (lim : Limits) (p : State) (input : p.input 
           (ranked w.0 (record { steps = suc n; by = to_both n h w.0 w.1.0 })) (sym (same_from w.0) ∙ w.1.1),
     )
 
-    pub ends_it : (s : Stop) → Came (next_of p code lim) p q (Some s) → IsTurnOf x code lim q s
+    pub ends_it : (s : Stop) → StepMatches (next_of p code lim) p q (Some s) → IsTurnOf x code lim q s
     ends_it s c = stopped (setting_of x code lim) (config_of x) p q n b h x code lim refl refl s (next_of p code lim)
         (sym same_next) (safe_next n safe b h) c
 
@@ -198,14 +203,14 @@ module _ (p : State) (code : Parts) (lim : Limits) (a : Address) where
   abbrev pub addressed : m.Config (Memory Plain)
   addressed = m.At (p.pc + 1) (m.Pointer a ∷ entries_of p.stack) (memory_of p)
 
-  abbrev pub loads : Option Instr → m.One (Memory Plain)
+  abbrev pub loads : Option Instr → m.StepResult (Memory Plain)
   loads o = m.instruction (memory plain (setting_of p code lim)) code o (p.pc + 1) (m.Pointer a ∷ entries_of p.stack)
       (memory_of p)
 
   pub at_address : (up var : ℕ) → slice_get code.instrs p.pc ≡ Some (instr.Addr up var)
       → Some a ≡ addr_in (frames_up up p.frames) var → next_of p code lim ≡ m.Goes addressed
   at_address up var e f = ap (λ o. does o p code lim) e
-      ∙ ap (λ b. m.there b (λ c. m.Goes (m.At (p.pc + 1) (m.Pointer c ∷ entries_of p.stack) (memory_of p)))) (sym f)
+      ∙ ap (λ b. m.on_some b (λ c. m.Goes (m.At (p.pc + 1) (m.Pointer c ∷ entries_of p.stack) (memory_of p)))) (sym f)
 
   pub safe_load : IsSafeThen p code lim → next_of p code lim ≡ m.Goes addressed
       → slice_get code.instrs (p.pc + 1) ≡ Some instr.Load → loads (Some instr.Load) ≢ m.Stuck

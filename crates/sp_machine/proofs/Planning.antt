@@ -19,19 +19,19 @@ use Rattle.sp_code.specs.declared.code.ForkTable.{ForkTable}
 use Rattle.sp_code.specs.declared.code.Layout.{Layout}
 use Rattle.sp_code.specs.declared.code.Parts.{Parts}
 use Rattle.sp_code.specs.Machine.{At}
-use Rattle.sp_code.specs.Memory.{Frame as PlainFrame, Setting}
+use Rattle.sp_code.specs.Memory.{Frame as PlainFrame, CodeRun}
 use Rattle.sp_code.specs.PlainStore.{plain}
 use Rattle.sp_code.specs.Sound.{CanSplit, run_of}
 use Rattle.sp_code.specs.System.{handing_of, index_by, plan_from, child_or, with_index_frame}
 use Rattle.sp_code.specs.Tables.{child_at}
 use Rattle.sp_store.specs.Layout.{FramesBelow}
 use Rattle.sp_machine.specs.declared.state.State.{State}
-use Rattle.sp_machine.specs.Children.{indexed, handed_to, with_frame, IsBornSo, BornOf, AreBornSo, IsNewborn}
+use Rattle.sp_machine.specs.Children.{index_with_value, handed_to, with_frame, IsBornSo, BornOf, AreBornSo, IsNewborn}
 use Rattle.sp_machine.specs.Children.{AreNewborn}
 
 -- ---- the plan
 
-indexed_is : (v : ℤ) (k : ℕ) (o : Option ℕ) → indexed (v +ℤ pos k) o ≡ index_by v k o
+indexed_is : (v : ℤ) (k : ℕ) (o : Option ℕ) → index_with_value (v +ℤ pos k) o ≡ index_by v k o
 indexed_is v k None = refl
 indexed_is v k (Some x) = refl
 
@@ -161,7 +161,7 @@ born_pushed cs ds x hs t number parent n h p l e inside old new =
 
 -- ---- the children with their stores
 
-frames_same : (g : Setting) (q : ℕ) (h : Handing) (o : Option ℕ) (fs : List PlainFrame)
+frames_same : (g : CodeRun) (q : ℕ) (h : Handing) (o : Option ℕ) (fs : List PlainFrame)
     → with_frame q h o fs ≡ with_index_frame plain g q h o fs
 frames_same g q h None fs = refl
 frames_same g q h (Some x) fs = refl

@@ -3,7 +3,8 @@ use Rattle.std.proofs.Common.{◌≡◌, ℕ, zero, suc, ◌+◌, List, [], ◌�
 use Rattle.std.proofs.Common.{ap, ◌∙◌, arith, replicate, append_assoc}
 use Rattle.std.proofs.lemmas.List.{append-nil}
 use Rattle.std.specs.FinMap as map
-use Rattle.sp_cell.specs.Map.{Content, Own, Shared, Output, Away, Plain, with_map, appended, output_of, output_spot}
+use Rattle.sp_cell.specs.Map.{Content, Own, Shared, Output, Away, Plain, with_map, with_more_output, output_of}
+use Rattle.sp_cell.specs.Map.{output_spot}
 use Rattle.sp_cell.specs.Map.{bytes_of}
 use Rattle.sp_cell.proofs.Laws.{insert_same, insert_twice, get_here}
 use Rattle.sp_code.specs.Memory.{is_held}
@@ -28,7 +29,7 @@ pub appended_more : (p : Plain) (a b : List ℕ) → plain.appended (plain.appen
 appended_more p a b =
     let old : List ℕ = bytes_of (map.get p.map output_spot) in
     ap (with_map p) (
-    ap (λ (o : Option Content). map.insert (appended p.map a) output_spot (Output (bytes_of o ++ b)))
+    ap (λ (o : Option Content). map.insert (with_more_output p.map a) output_spot (Output (bytes_of o ++ b)))
     (get_here p.map output_spot (Output (old ++ a)))
     ∙ insert_twice p.map output_spot (Output (old ++ a)) (Output ((old ++ a) ++ b))
     ∙ ap (λ bs. map.insert p.map output_spot (Output bs)) (append_assoc old a b))

@@ -4,12 +4,12 @@ use Rattle.std.proofs.Common.{false, refl, sym, ap, ◌∙◌, subst, arith, get
 use Rattle.std.specs.Prelude.{reverse}
 use Rattle.std.proofs.lemmas.List.{length-reverse, length-drop, reverse-append, reverse-reverse, take-append-drop}
 use Rattle.std.proofs.lemmas.List.{take-append-le, take_all}
-use Rattle.sp_code.specs.Machine.{outside}
+use Rattle.sp_code.specs.Machine.{is_in_no_function}
 use Rattle.sp_machine.specs.declared.stack.Operand.{Operand}
 use Rattle.sp_machine.specs.declared.stack.Operand.TheVariants as operand
-use Rattle.sp_machine.specs.Entries.{entries_of, counted, replies}
+use Rattle.sp_machine.specs.StackEntries.{entries_of, one_if_reply, replies}
 
-counted_few : (o : Operand) → counted o ≤ 1
+counted_few : (o : Operand) → one_if_reply o ≤ 1
 counted_few (operand.Number n) = omega arith
 counted_few (operand.Channel c) = omega arith
 counted_few (operand.Pointer a) = omega arith
@@ -24,7 +24,7 @@ within (o ∷ os) = omega (arith, counted_few o, within os)
 pub replies_few : (os : List Operand) → replies (reverse os) ≤ length os
 replies_few os = subst (λ n. replies (reverse os) ≤ n) (length-reverse os) (within (reverse os))
 
-pub outside_yes : (os : List Operand) → replies os ≡ 0 → outside (entries_of os) ≡ true
+pub outside_yes : (os : List Operand) → replies os ≡ 0 → is_in_no_function (entries_of os) ≡ true
 outside_yes [] h = refl
 outside_yes (operand.Number n ∷ os) h = outside_yes os (omega (arith, h))
 outside_yes (operand.Channel c ∷ os) h = outside_yes os (omega (arith, h))
@@ -33,7 +33,7 @@ outside_yes (operand.Cells cs ∷ os) h = outside_yes os (omega (arith, h))
 outside_yes (operand.Link r ∷ os) h = outside_yes os (omega (arith, h))
 outside_yes (operand.Reply r ∷ os) h = absurd (omega (arith, h))
 
-pub outside_no : (os : List Operand) → replies os ≢ 0 → outside (entries_of os) ≡ false
+pub outside_no : (os : List Operand) → replies os ≢ 0 → is_in_no_function (entries_of os) ≡ false
 outside_no [] h = absurd (h refl)
 outside_no (operand.Number n ∷ os) h = outside_no os (omega (arith, h))
 outside_no (operand.Channel c ∷ os) h = outside_no os (omega (arith, h))

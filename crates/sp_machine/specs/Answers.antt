@@ -18,8 +18,8 @@ CanResume (answer.Received cs) p = CanPut p.store p.target cs
 CanResume answer.Joined p = Unit {0}
 
 -- the process that got it
-abbrev pub resumed : Answer → State → State
-resumed (answer.Opened c) p = record p { store = put_cell plain p.target (cell.Channel c) p.store }
-resumed answer.Sent p = p
-resumed (answer.Received cs) p = record p { store = put_cells plain p.target cs p.store }
-resumed answer.Joined p = p
+abbrev pub state_after_answer : Answer → State → State
+state_after_answer (answer.Opened c) p = record p { store = put_cell plain p.target (cell.Channel c) p.store }
+state_after_answer answer.Sent p = p
+state_after_answer (answer.Received cs) p = record p { store = put_cells plain p.target cs p.store }
+state_after_answer answer.Joined p = p

@@ -14,22 +14,22 @@ use Rattle.sp_code.specs.Machine.{At}
 use Rattle.sp_code.specs.Memory.{Frame, OfIndex}
 use Rattle.sp_code.specs.PlainStore.{plain}
 use Rattle.sp_code.specs.Sound.{run_of}
-use Rattle.sp_code.specs.System.{spots_of, plan_from, newborn, child_or, table_or}
+use Rattle.sp_code.specs.System.{spots_of, plan_from, child_process, child_or, table_or}
 use Rattle.sp_code.specs.Tables.{child_at}
 use Rattle.sp_machine.specs.declared.state.State.{State}
 use Rattle.sp_machine.specs.Procs.{config_of}
 
 -- the index of a child with this value, if it has one
-abbrev pub indexed : ℤ → Option ℕ → Option (ℕ × ℤ)
-indexed value None = None
-indexed value (Some x) = Some (0, value)
+abbrev pub index_with_value : ℤ → Option ℕ → Option (ℕ × ℤ)
+index_with_value value None = None
+index_with_value value (Some x) = Some (0, value)
 
 -- what a child is handed whose index, if it has one, has this value
 abbrev pub handed_to : List Layout → List Frame → ℤ → ChildTable → Handing
 handed_to ls fs value c = record {
   moved = spots_of ls fs c.moved;
   shared = spots_of ls fs c.shared;
-  index = indexed value c.index;
+  index = index_with_value value c.index;
 }
 
 -- the frames of a parent, and above them that of an index
@@ -73,7 +73,8 @@ plan_by code p count = plan_from code.layouts p.frames (table_or (slice_get code
 -- child k of a fork at which a process stopped
 abbrev pub IsNewborn : Parts → State → ForkTable → ℕ → ℕ → State → Type 0
 IsNewborn code p t number k c =
-    ((lim : Limits) → config_of c ≡ newborn plain (run_of code p.input.value lim) (config_of p) p.first (number + k) k
+    ((lim : Limits) → config_of c ≡ child_process plain (run_of code p.input.value lim) (config_of p) p.first
+    (number + k) k
     (child_or (child_at t k))) × ((c.number ≡ number + k) × (c.input.value ≡ p.input.value))
 
 -- all children

@@ -1,4 +1,4 @@
-pub mod Entries
+pub mod StackEntries
 pub mod Frames
 pub mod Outcomes
 pub mod Procs

@@ -7,9 +7,9 @@ use Rattle.sp_machine.specs.declared.state.Interrupt.TheVariants as interrupt
 use Rattle.sp_machine.specs.declared.state.Outcome.{Outcome}
 use Rattle.sp_machine.specs.declared.state.Outcome.TheVariants as outcome
 
-abbrev pub unpacked : Outcome → Result (Option Interrupt) Memory
-unpacked outcome.On = Ok None
-unpacked outcome.Pause = Ok (Some interrupt.Pause)
-unpacked (outcome.Fault f) = Ok (Some (interrupt.Fault f))
-unpacked outcome.Stop = Ok (Some interrupt.Stop)
-unpacked (outcome.Refused e) = Err e
+abbrev pub result_of_outcome : Outcome → Result (Option Interrupt) Memory
+result_of_outcome outcome.On = Ok None
+result_of_outcome outcome.Pause = Ok (Some interrupt.Pause)
+result_of_outcome (outcome.Fault f) = Ok (Some (interrupt.Fault f))
+result_of_outcome outcome.Stop = Ok (Some interrupt.Stop)
+result_of_outcome (outcome.Refused e) = Err e

@@ -1,6 +1,6 @@
 -- None of this belongs to what the program promises: it is for contracts between crates.
 -- A process in memory as the definitions see it, and what one instruction and one turn of it do. Each instruction's
--- contract here is `Came` of the definition's instruction, and the kernel and the runner cite the turn.
+-- contract here is `StepMatches` of the definition's instruction, and the kernel and the runner cite the turn.
 use Rattle.std.specs.Prelude.{◌≡◌, ◌≢◌, ℕ, ◌+◌, ◌≤◌, ℤ, pos, ◌+ℤ◌, ◌≤ℤ◌, List, Option, Some, None, Bool, not}
 use Rattle.std.specs.Prelude.{if◌then◌else◌, ◌⊎◌, slice_get}
 use Rattle.sp_base.specs.declared.fault.Fault.{Fault}
@@ -12,7 +12,7 @@ use Rattle.sp_code.specs.declared.instr.Instr.{Instr}
 use Rattle.sp_code.specs.Machine as m
 pub use Rattle.sp_code.specs.Formals.{HasRoom, BeginsWithFormals, HaveFormals}
 use Rattle.sp_code.specs.Turns.{Turn, Stopped, Faulted, IsTurn, IsSafe}
-use Rattle.sp_code.specs.Memory.{Memory, memory, first, Setting}
+use Rattle.sp_code.specs.Memory.{Memory, memory, first_process, CodeRun}
 use Rattle.sp_code.specs.PlainStore.{plain}
 use Rattle.sp_code.specs.Ranks.{IsRankedAlong}
 use Rattle.sp_code.specs.Sound.{run_of}
@@ -21,7 +21,7 @@ use Rattle.sp_machine.specs.declared.state.Stop.{Stop}
 use Rattle.sp_machine.specs.declared.state.Stop.TheVariants as stop
 use Rattle.sp_machine.specs.declared.state.Interrupt.{Interrupt}
 use Rattle.sp_machine.specs.declared.state.Interrupt.TheVariants as interrupt
-use Rattle.sp_machine.specs.Entries.{entries_of}
+use Rattle.sp_machine.specs.StackEntries.{entries_of}
 
 -- the memory of the machine's definition
 abbrev pub memory_of : State → Memory Plain
@@ -40,12 +40,12 @@ abbrev pub config_of : State → m.Config (Memory Plain)
 config_of p = m.At p.pc (entries_of p.stack) (memory_of p)
 
 -- the run that it belongs to
-abbrev pub setting_of : State → Parts → Limits → Setting
+abbrev pub setting_of : State → Parts → Limits → CodeRun
 setting_of p code lim = run_of code p.input.value lim
 
 -- the first process of a run; limits make no difference to it
 abbrev pub start_of : Parts → List ℕ → m.Config (Memory Plain)
-start_of code input = first plain (run_of code input
+start_of code input = first_process plain (run_of code input
     (record { ticks = 0; depth = 0; cells = 0; processes = 0; channels = 0; entries = 0; output = 0 }))
 
 -- what waits for an answer goes there
@@ -55,22 +55,22 @@ target_of p = p.target
 -- ---- one instruction
 
 -- this instruction of a process
-abbrev pub does : Option Instr → State → Parts → Limits → m.One (Memory Plain)
+abbrev pub does : Option Instr → State → Parts → Limits → m.StepResult (Memory Plain)
 does o p code lim = m.instruction (memory plain (setting_of p code lim)) code o p.pc (entries_of p.stack) (memory_of p)
 
 -- the next instruction of a process
-abbrev pub next_of : State → Parts → Limits → m.One (Memory Plain)
+abbrev pub next_of : State → Parts → Limits → m.StepResult (Memory Plain)
 next_of p code lim = does (slice_get code.instrs p.pc) p code lim
 
 -- whether the two last operands are equal, or whether they differ, is told, and the process goes on behind it
-abbrev pub compared : Bool → State → Parts → Limits → m.One (Memory Plain)
-compared different p code lim = m.on_equals (entries_of p.stack)
-    (λ b st. m.told (memory plain (setting_of p code lim)) code (if different then not b else b) (p.pc + 1) st
+abbrev pub equality_step : Bool → State → Parts → Limits → m.StepResult (Memory Plain)
+equality_step different p code lim = m.on_equals (entries_of p.stack)
+    (λ b st. m.truth_step (memory plain (setting_of p code lim)) code (if different then not b else b) (p.pc + 1) st
     (memory_of p))
 
 -- the process keeps its number and its input
-abbrev pub Stays : State → State → Type 0
-Stays p q = (q.number ≡ p.number) × (q.input ≡ p.input)
+abbrev pub KeepsNumberAndInput : State → State → Type 0
+KeepsNumberAndInput p q = (q.number ≡ p.number) × (q.input ≡ p.input)
 
 -- a process that stopped at a fork keeps its table and its first value; its children's depth and their values are no
 -- larger than the machine's numbers
@@ -101,14 +101,14 @@ FaultIs (stop.Fault g) f = g ≡ f
 FaultIs stop.Memory f = ⊥
 
 -- what came of an instruction: the process goes on, it stopped, or it met a fault
-abbrev pub Came : m.One (Memory Plain) → State → State → Option Stop → Type 0
-Came (m.Goes d) p q None = config_of q ≡ d
-Came (m.Goes d) p q (Some s) = ⊥
-Came (m.Stops t d) p q None = ⊥
-Came (m.Stops t d) p q (Some s) = StopIs s q t × (config_of q ≡ d)
-Came (m.Fails f) p q None = ⊥
-Came (m.Fails f) p q (Some s) = FaultIs s f × (config_of q ≡ config_of p)
-Came m.Stuck p q s = Unit {0}
+abbrev pub StepMatches : m.StepResult (Memory Plain) → State → State → Option Stop → Type 0
+StepMatches (m.Goes d) p q None = config_of q ≡ d
+StepMatches (m.Goes d) p q (Some s) = ⊥
+StepMatches (m.Stops t d) p q None = ⊥
+StepMatches (m.Stops t d) p q (Some s) = StopIs s q t × (config_of q ≡ d)
+StepMatches (m.Fails f) p q None = ⊥
+StepMatches (m.Fails f) p q (Some s) = FaultIs s f × (config_of q ≡ config_of p)
+StepMatches m.Stuck p q s = Unit {0}
 
 -- why a process stopped that an instruction interrupted: what a stop holds besides is in its state
 abbrev pub stop_by : State → Option Interrupt → Option Stop
@@ -118,21 +118,22 @@ stop_by q (Some (interrupt.Fault f)) = Some (stop.Fault f)
 stop_by q (Some interrupt.Stop) = Some q.stopped
 
 -- so told by an interrupt
-abbrev pub CameBy : m.One (Memory Plain) → State → State → Option Interrupt → Type 0
-CameBy o p q r = Came o p q (stop_by q r)
+abbrev pub CameBy : m.StepResult (Memory Plain) → State → State → Option Interrupt → Type 0
+CameBy o p q r = StepMatches o p q (stop_by q r)
 
 -- the instruction that a process would find at another place
-abbrev pub from : State → Parts → Limits → m.Config (Memory Plain) → m.One (Memory Plain)
-from p code lim d = m.one (memory plain (setting_of p code lim)) code d
+abbrev pub step_at_config : State → Parts → Limits → m.Config (Memory Plain) → m.StepResult (Memory Plain)
+step_at_config p code lim d = m.next_step (memory plain (setting_of p code lim)) code d
 
 -- the instruction behind the next one lacks nothing either
 abbrev pub IsSafeThen : State → Parts → Limits → Type 0
-IsSafeThen p code lim = (d : m.Config (Memory Plain)) → next_of p code lim ≡ m.Goes d → from p code lim d ≢ m.Stuck
+IsSafeThen p code lim = (d : m.Config (Memory Plain)) → next_of p code lim ≡ m.Goes d
+    → step_at_config p code lim d ≢ m.Stuck
 
 -- the process went on by two instructions
 abbrev pub WentTwice : State → Parts → Limits → State → Type 0
 WentTwice p code lim q = (d : m.Config (Memory Plain))
-    × ((next_of p code lim ≡ m.Goes d) × (from p code lim d ≡ m.Goes (config_of q)))
+    × ((next_of p code lim ≡ m.Goes d) × (step_at_config p code lim d ≡ m.Goes (config_of q)))
 
 -- so came of the next instruction, or the process went on by two
 abbrev pub Proceeded : State → Parts → Limits → State → Option Interrupt → Type 0

@@ -2,7 +2,7 @@
 -- Items that are read and values that are written, by the machine's own names. The contracts of `io` cite it.
 use Rattle.std.specs.Prelude.{◌≡◌, ℕ, ◌+◌, ℤ, List, [], ◌∷◌, length, Bool, true, false, nat_lt}
 use Rattle.std.specs.Fmt.{signed_decimal}
-use Rattle.sp_tree.specs.Items.{Taken, number_in, char_in, truth_text, byte}
+use Rattle.sp_tree.specs.Items.{ReadResult, number_in, char_in, truth_text, byte}
 use Rattle.sp_cell.specs.Map.{Plain}
 use Rattle.sp_code.specs.Memory.{bytes_in}
 use Rattle.sp_code.specs.PlainStore.{plain}
@@ -12,7 +12,7 @@ use Rattle.sp_machine.specs.declared.io.Shown.{Shown}
 use Rattle.sp_machine.specs.declared.io.Shown.TheVariants as shown
 
 -- an item read
-abbrev pub item_in : Item → List ℕ → Taken
+abbrev pub item_in : Item → List ℕ → ReadResult
 item_in item.Number = number_in
 item_in item.Char = char_in
 

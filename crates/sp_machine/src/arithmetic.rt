@@ -5,10 +5,10 @@ ghost use Rattle.sp_code.specs.Machine.{Stuck, on_two, on_one};
 ghost use Rattle.sp_code.specs.Memory.{memory};
 ghost use Rattle.sp_code.specs.PlainStore.{plain};
 ghost use Rattle.sp_code.specs.declared.instr.Instr.TheVariants as instr;
-ghost use Rattle.sp_values.specs.Worked.{worked};
-ghost use Rattle.sp_machine.specs.Entries.{entries_of};
-ghost use Rattle.sp_machine.specs.Procs.{compared, does, CameBy, Stays, setting_of, memory_of};
-ghost use Rattle.sp_machine.specs.Conversions.{converted};
+ghost use Rattle.sp_values.specs.OperatorResults.{operator_result};
+ghost use Rattle.sp_machine.specs.StackEntries.{entries_of};
+ghost use Rattle.sp_machine.specs.Procs.{equality_step, does, CameBy, KeepsNumberAndInput, setting_of, memory_of};
+ghost use Rattle.sp_machine.specs.Conversions.{conversion_result};
 
 use crate::stack::Operand;
 use crate::state::{Interrupt, State, unpacked};
@@ -31,7 +31,7 @@ pub(crate) enum Conversion {
 
 /// What it gives, or the fault.
 fn convert(conversion: Conversion, n: i64) -> Result<i64, Fault>
-    ensures { worked result ≡ converted conversion n }
+    ensures { operator_result result ≡ conversion_result conversion n }
 {
     match conversion {
         Conversion::Negative => unary(UnaryOp::Minus, n),
@@ -54,7 +54,7 @@ impl State {
         requires { self.old.pc + 1 < 4294967296 }
         ensures came { IfOk result (λ s. CameBy (does (Some (instr.Const value)) self.old code.now limits.now) self.old
             self.new s) }
-        ensures same { Stays self.old self.new }
+        ensures same { KeepsNumberAndInput self.old self.new }
     {
         self.stack.push(Operand::Number(value))?;
         self.pc += 1;
@@ -69,13 +69,15 @@ impl State {
         limits: &Limits,
     ) -> Result<Option<Interrupt>, Memory>
         requires next { self.old.pc + 1 < 4294967296 }
-        requires safe { on_one (memory plain (setting_of self.old code.now limits.now)) code.now (converted conversion)
+        requires safe { on_one (memory plain (setting_of self.old code.now limits.now)) code.now
+            (conversion_result conversion)
             self.old.pc
             (entries_of self.old.stack) (memory_of self.old) ≢ Stuck }
         ensures came { IfOk result (λ s. CameBy
-            (on_one (memory plain (setting_of self.old code.now limits.now)) code.now (converted conversion) self.old.pc
+            (on_one (memory plain (setting_of self.old code.now limits.now)) code.now (conversion_result conversion)
+            self.old.pc
             (entries_of self.old.stack) (memory_of self.old)) self.old self.new s) }
-        ensures same { Stays self.old self.new }
+        ensures same { KeepsNumberAndInput self.old self.new }
     {
         match self.stack.pop_number() {
             Some(n) => match convert(conversion, n) {
@@ -100,7 +102,7 @@ impl State {
         requires next { self.old.pc + 1 < 4294967296 }
         requires safe { does (Some this) self.old code.now limits.now ≢ Stuck }
         ensures came { IfOk result (λ s. CameBy (does (Some this) self.old code.now limits.now) self.old self.new s) }
-        ensures same { Stays self.old self.new }
+        ensures same { KeepsNumberAndInput self.old self.new }
     {
         match this {
             Instr::Range { low, high } => match self.stack.pop_number() {
@@ -125,7 +127,7 @@ impl State {
         requires next { self.old.pc + 1 < 4294967296 }
         requires safe { does (Some this) self.old code.now limits.now ≢ Stuck }
         ensures came { IfOk result (λ s. CameBy (does (Some this) self.old code.now limits.now) self.old self.new s) }
-        ensures same { Stays self.old self.new }
+        ensures same { KeepsNumberAndInput self.old self.new }
     {
         match this {
             Instr::Succ(high) => match self.stack.pop_number() {
@@ -154,7 +156,7 @@ impl State {
         requires next { self.old.pc + 1 < 4294967296 }
         requires safe { does (Some this) self.old code.now limits.now ≢ Stuck }
         ensures came { IfOk result (λ s. CameBy (does (Some this) self.old code.now limits.now) self.old self.new s) }
-        ensures same { Stays self.old self.new }
+        ensures same { KeepsNumberAndInput self.old self.new }
     {
         match this {
             Instr::Pred(low) => match self.stack.pop_number() {
@@ -188,7 +190,7 @@ impl State {
             (on_two (memory plain (setting_of self.old code.now limits.now)) code.now op self.old.pc
             (entries_of self.old.stack)
             (memory_of self.old)) self.old self.new s) }
-        ensures same { Stays self.old self.new }
+        ensures same { KeepsNumberAndInput self.old self.new }
     {
         match self.stack.pop_number() {
             Some(n) => match self.stack.top_number() {
@@ -215,9 +217,10 @@ impl State {
         limits: &Limits,
     ) -> Result<Option<Interrupt>, Memory>
         requires next { self.old.pc + 1 < 4294967296 }
-        requires safe { compared different self.old code.now limits.now ≢ Stuck }
-        ensures came { IfOk result (λ s. CameBy (compared different self.old code.now limits.now) self.old self.new s) }
-        ensures same { Stays self.old self.new }
+        requires safe { equality_step different self.old code.now limits.now ≢ Stuck }
+        ensures came { IfOk result
+            (λ s. CameBy (equality_step different self.old code.now limits.now) self.old self.new s) }
+        ensures same { KeepsNumberAndInput self.old self.new }
     {
         let equal = match self.stack.pop() {
             Some(Operand::Number(n)) => match self.stack.pop_number() {

@@ -4,14 +4,14 @@ ghost use Rattle.std.specs.Prelude.{◌≡◌, ◌≢◌, ◌+◌, ◌<◌, ◌�
 ghost use Rattle.std.specs.Prelude.{take, drop};
 ghost use Rattle.sp_cell.specs.Frame.{HasNextFrame};
 ghost use Rattle.sp_code.specs.Formals.{HaveFormals, BeginsWithFormals};
-ghost use Rattle.sp_code.specs.Machine.{Stuck, entered, called, fit_formals};
-ghost use Rattle.sp_code.specs.Memory.{memory, may_close, references, filled, opened, without_frame};
+ghost use Rattle.sp_code.specs.Machine.{Stuck, enter_step, call_step, fit_formals};
+ghost use Rattle.sp_code.specs.Memory.{memory, can_pop, references, with_arguments, memory_after_call, without_frame};
 ghost use Rattle.sp_code.specs.PlainStore.{plain};
 ghost use Rattle.sp_code.specs.Sound.{HasDistinctBlocks};
 ghost use Rattle.sp_code.specs.declared.instr.Instr.TheVariants as instr;
 ghost use Rattle.sp_machine.specs.Arguments.{TakeAll};
-ghost use Rattle.sp_machine.specs.Entries.{entries_of};
-ghost use Rattle.sp_machine.specs.Procs.{does, CameBy, Stays, setting_of, memory_of};
+ghost use Rattle.sp_machine.specs.StackEntries.{entries_of};
+ghost use Rattle.sp_machine.specs.Procs.{does, CameBy, KeepsNumberAndInput, setting_of, memory_of};
 
 use crate::frames::{Frame, Home};
 use crate::layouts::{answer_of, cells_of, cells_of_home, layout_of};
@@ -45,7 +45,7 @@ fn references(alloc: Global, arguments: &[Operand]) -> Result<List<(u32, Address
 fn fill(store: &mut Store, frame: u64, arguments: &[Operand]) -> Result<(), Memory>
     requires few { length arguments.now ≤ 4294967295 }
     requires take { TakeAll store.old.map frame 0 (entries_of arguments.now) }
-    ensures { OnOk result (store.new ≡ filled plain frame 0 (entries_of arguments.now) store.old) }
+    ensures { OnOk result (store.new ≡ with_arguments plain frame 0 (entries_of arguments.now) store.old) }
 {
     let mut k = 0u32;
     for argument in arguments {
@@ -59,7 +59,7 @@ fn fill(store: &mut Store, frame: u64, arguments: &[Operand]) -> Result<(), Memo
 #[tactic(auto, using(sp_code::proofs::StoreLaws::cells_same, crate::proofs::Calling::own_has))]
 fn fill_one(store: &mut Store, frame: u64, variable: u32, argument: &Operand) -> Result<(), Memory>
     requires { TakeAll store.old.map frame variable (entries_of (argument.now ∷ [])) }
-    ensures { OnOk result (store.new ≡ filled plain frame variable (entries_of (argument.now ∷ [])) store.old) }
+    ensures { OnOk result (store.new ≡ with_arguments plain frame variable (entries_of (argument.now ∷ [])) store.old) }
 {
     let at = Address {
         spot: Spot { frame, variable },
@@ -99,11 +99,11 @@ impl State {
         requires depth { self.old.depth + 1 < 4294967296 }
         requires total { self.old.cells + cells < 18446744073709551616 }
         ensures opened { OnOk result (memory_of self.new
-            ≡ opened plain (setting_of self.old code.now limits.now) layout.now up
+            ≡ memory_after_call plain (setting_of self.old code.now limits.now) layout.now up
             (entries_of (reverse (take (length layout.now.formals) self.old.stack))) (memory_of self.old)) }
         ensures stack { OnOk result (self.new.stack ≡ drop (length layout.now.formals) self.old.stack) }
         ensures place { self.new.pc ≡ self.old.pc }
-        ensures same { Stays self.old self.new }
+        ensures same { KeepsNumberAndInput self.old self.new }
     {
         let count = layout.formals.len();
         let link = self.frames.level(up);
@@ -134,10 +134,10 @@ impl State {
         limits: &Limits,
     ) -> Result<Option<Interrupt>, Memory>
         ensures came { IfOk result (λ s. CameBy
-            (entered (memory plain (setting_of self.old code.now limits.now)) code.now layout.now to
+            (enter_step (memory plain (setting_of self.old code.now limits.now)) code.now layout.now to
             (entries_of self.old.stack)
             (memory_of self.old)) self.old self.new s) }
-        ensures same { Stays self.old self.new }
+        ensures same { KeepsNumberAndInput self.old self.new }
     {
         self.pc = layout.entry;
         if layout.answer {
@@ -163,13 +163,13 @@ impl State {
         requires sizes { length layout.now.sizes ≤ 4294967294 }
         requires formals { BeginsWithFormals layout.now }
         requires few { length layout.now.formals ≤ length layout.now.sizes }
-        requires safe { called (memory plain (setting_of self.old code.now limits.now)) code.now layout.now up
+        requires safe { call_step (memory plain (setting_of self.old code.now limits.now)) code.now layout.now up
             (self.old.pc + 1)
             (entries_of self.old.stack) (memory_of self.old) ≢ Stuck }
         ensures came { IfOk result (λ s. CameBy
-            (called (memory plain (setting_of self.old code.now limits.now)) code.now layout.now up (self.old.pc + 1)
+            (call_step (memory plain (setting_of self.old code.now limits.now)) code.now layout.now up (self.old.pc + 1)
             (entries_of self.old.stack) (memory_of self.old)) self.old self.new s) }
-        ensures same { Stays self.old self.new }
+        ensures same { KeepsNumberAndInput self.old self.new }
     {
         if self.ticks >= limits.ticks {
             return Ok(Some(Interrupt::Fault(Fault::F10)));
@@ -201,7 +201,7 @@ impl State {
         requires safe { does (Some (instr.Call block up)) self.old code.now limits.now ≢ Stuck }
         ensures came { IfOk result (λ s. CameBy (does (Some (instr.Call block up)) self.old code.now limits.now)
             self.old self.new s) }
-        ensures same { Stays self.old self.new }
+        ensures same { KeepsNumberAndInput self.old self.new }
     {
         let _parts = code.parts();
         match layout_of(code, block) {
@@ -214,11 +214,11 @@ impl State {
     #[tactic(auto, using(sp_code::proofs::StoreLaws::may_go))]
     fn close_frame(&mut self, code: &Code, limits: &Limits)
         requires blocks { HasDistinctBlocks code.now.layouts }
-        requires may { may_close plain (setting_of self.old code.now limits.now) self.old.frames self.old.store ≡ true }
+        requires may { can_pop plain (setting_of self.old code.now limits.now) self.old.frames self.old.store ≡ true }
         ensures closed { memory_of self.new ≡ without_frame plain (setting_of self.old code.now limits.now)
             self.old.frames (memory_of self.old) }
         ensures rest { (self.new.stack ≡ self.old.stack) × (self.new.pc ≡ self.old.pc) }
-        ensures same { Stays self.old self.new }
+        ensures same { KeepsNumberAndInput self.old self.new }
     {
         let (_number, home) = self.frames.newest();
         let cells = cells_of_home(code, home);
@@ -240,7 +240,7 @@ impl State {
         requires safe { does (Some instr.Return) self.old code.now limits.now ≢ Stuck }
         ensures came { IfOk result (λ s. CameBy (does (Some instr.Return) self.old code.now limits.now) self.old
             self.new s) }
-        ensures same { Stays self.old self.new }
+        ensures same { KeepsNumberAndInput self.old self.new }
     {
         match self.stack.pop() {
             Some(Operand::Link(to)) => {

@@ -6,7 +6,7 @@ ghost use Rattle.std.specs.Option.{option_copied};
 ghost use Rattle.sp_cell.specs.declared.spot.Handing.{Handing};
 ghost use Rattle.sp_cell.specs.Map.{Plain};
 ghost use Rattle.sp_cell.specs.Fork.{index_frame};
-ghost use Rattle.sp_cell.specs.Frame.{above, frames};
+ghost use Rattle.sp_cell.specs.Frame.{least_above, frames};
 ghost use Rattle.sp_code.specs.PlainStore.{plain};
 ghost use Rattle.sp_code.specs.Sound.{HasDistinctBlocks, CanSplit};
 ghost use Rattle.sp_code.specs.System.{place_of, first_number, spot_by, spot_in, spot_from, spot_of, spots_of};
@@ -168,7 +168,7 @@ fn beginning(table: &ForkTable, number: u64) -> (u32, Option<u32>)
 #[tactic(auto, using(sp_cell::proofs::Steps::above_step))]
 fn above_all(spots: &[Spot]) -> u64
     requires { FramesBelow spots.now 18446744073709551615 }
-    ensures { result ≡ above (frames spots.now) }
+    ensures { result ≡ least_above (frames spots.now) }
 {
     let mut least = 0;
     for spot in spots {

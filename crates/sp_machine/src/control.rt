@@ -7,8 +7,8 @@ ghost use Rattle.sp_code.specs.Machine.{Stuck, begins_loop, ends_loop};
 ghost use Rattle.sp_code.specs.Memory.{memory};
 ghost use Rattle.sp_code.specs.PlainStore.{plain};
 ghost use Rattle.sp_code.specs.declared.instr.Instr.TheVariants as instr;
-ghost use Rattle.sp_machine.specs.Entries.{entries_of};
-ghost use Rattle.sp_machine.specs.Procs.{does, CameBy, Stays, setting_of, memory_of};
+ghost use Rattle.sp_machine.specs.StackEntries.{entries_of};
+ghost use Rattle.sp_machine.specs.Procs.{does, CameBy, KeepsNumberAndInput, setting_of, memory_of};
 
 use crate::stack::Operand;
 use crate::state::{Interrupt, State};
@@ -58,7 +58,7 @@ impl State {
         requires safe { does (Some (instr.Jump to)) self.old code.now limits.now ≢ Stuck }
         ensures came { IfOk result (λ s. CameBy (does (Some (instr.Jump to)) self.old code.now limits.now) self.old
             self.new s) }
-        ensures same { Stays self.old self.new }
+        ensures same { KeepsNumberAndInput self.old self.new }
     {
         self.pc = to;
         Ok(None)
@@ -76,7 +76,7 @@ impl State {
         requires safe { does (Some (instr.Jumpf to)) self.old code.now limits.now ≢ Stuck }
         ensures came { IfOk result (λ s. CameBy (does (Some (instr.Jumpf to)) self.old code.now limits.now) self.old
             self.new s) }
-        ensures same { Stays self.old self.new }
+        ensures same { KeepsNumberAndInput self.old self.new }
     {
         match self.stack.pop_number() {
             Some(value) => {
@@ -103,7 +103,7 @@ impl State {
         requires safe { does (Some (instr.Casej value to)) self.old code.now limits.now ≢ Stuck }
         ensures came { IfOk result (λ s. CameBy (does (Some (instr.Casej value to)) self.old code.now limits.now)
             self.old self.new s) }
-        ensures same { Stays self.old self.new }
+        ensures same { KeepsNumberAndInput self.old self.new }
     {
         match self.stack.pop_number() {
             Some(n) => {
@@ -129,7 +129,7 @@ impl State {
         requires safe { does (Some instr.Assume) self.old code.now limits.now ≢ Stuck }
         ensures came { IfOk result (λ s. CameBy (does (Some instr.Assume) self.old code.now limits.now) self.old
             self.new s) }
-        ensures same { Stays self.old self.new }
+        ensures same { KeepsNumberAndInput self.old self.new }
     {
         match self.stack.pop_number() {
             Some(value) => {
@@ -150,7 +150,7 @@ impl State {
         requires safe { does (Some instr.Tick) self.old code.now limits.now ≢ Stuck }
         ensures came { IfOk result (λ s. CameBy (does (Some instr.Tick) self.old code.now limits.now) self.old self.new
             s) }
-        ensures same { Stays self.old self.new }
+        ensures same { KeepsNumberAndInput self.old self.new }
     {
         if self.ticks >= limits.ticks {
             return Ok(Some(Interrupt::Fault(Fault::F10)));
@@ -179,7 +179,7 @@ impl State {
         ensures came { IfOk result (λ s. CameBy
             (begins_loop (memory plain (setting_of self.old code.now limits.now)) code.now down var to self.old.pc
             (entries_of self.old.stack) (memory_of self.old)) self.old self.new s) }
-        ensures same { Stays self.old self.new }
+        ensures same { KeepsNumberAndInput self.old self.new }
     {
         match self.stack.pop_number() {
             Some(last) => match self.stack.pop_number() {
@@ -217,7 +217,7 @@ impl State {
         ensures came { IfOk result (λ s. CameBy
             (ends_loop (memory plain (setting_of self.old code.now limits.now)) code.now down var to self.old.pc
             (entries_of self.old.stack) (memory_of self.old)) self.old self.new s) }
-        ensures same { Stays self.old self.new }
+        ensures same { KeepsNumberAndInput self.old self.new }
     {
         match self.stack.top_number() {
             Some(last) => match self.frames.address(0, var) {

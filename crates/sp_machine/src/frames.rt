@@ -2,7 +2,8 @@
 
 ghost use Rattle.std.specs.Prelude.{◌≡◌, ◌≢◌, ◌<◌, ◌≤◌, ◌+◌, ◌∷◌, ◌++◌, [], List, length, min, take, drop, IfOk, OnOk};
 ghost use Rattle.std.specs.Prelude.{OnErr};
-ghost use Rattle.sp_code.specs.Memory.{Frame as PlainFrame, last_frames, frames_up, addr_in, deref_in, referred};
+ghost use Rattle.sp_code.specs.Memory.{Frame as PlainFrame, last_frames, frames_up, addr_in, deref_in};
+ghost use Rattle.sp_code.specs.Memory.{reference_target};
 ghost use Rattle.sp_machine.specs.Frames.{plain_frames, frame_of, home_of};
 
 use sp_base::{List, Memory};
@@ -278,7 +279,7 @@ fn copy_frames(alloc: Global, to: &mut List<Frame>, frames: &[Frame]) -> Result<
 // What the variable parameter of this number stands for.
 #[tactic(auto, using(crate::proofs::Framing::referred_on, crate::proofs::Framing::referred_here, crate::proofs::Framing::referred_end))]
 pub(crate) fn referred(variable: u32, references: &[(u32, Address)]) -> Option<Address>
-    ensures { result ≡ referred variable references.now }
+    ensures { result ≡ reference_target variable references.now }
 {
     for r in references {
         if r.0 == variable {

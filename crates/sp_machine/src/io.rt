@@ -2,16 +2,16 @@
 
 ghost use Rattle.std.specs.Prelude.{◌≡◌, ◌≢◌, ◌+◌, ◌<◌, ◌++◌, IfOk, OnOk, Some, None, true, pos, take, drop, replicate};
 ghost use Rattle.std.specs.Prelude.{if◌then◌else◌};
-ghost use Rattle.sp_tree.specs.Items.{padded};
+ghost use Rattle.sp_tree.specs.Items.{right_justified};
 ghost use Rattle.sp_cell.specs.declared.cell.Cell.TheVariants.{Ordinal};
 ghost use Rattle.sp_cell.specs.Map.{HasCells};
 ghost use Rattle.sp_code.specs.Machine.{Stuck, reads, writes, writes_wide};
 ghost use Rattle.sp_code.specs.Memory.{memory, is_held, left_after, position_in, position_at, or_zero, put_cell};
 ghost use Rattle.sp_code.specs.PlainStore.{plain};
 ghost use Rattle.sp_code.specs.declared.instr.Instr.TheVariants as instr;
-ghost use Rattle.sp_values.specs.Taking.{taken_of};
-ghost use Rattle.sp_machine.specs.Entries.{entries_of};
-ghost use Rattle.sp_machine.specs.Procs.{does, CameBy, Stays, setting_of, memory_of};
+ghost use Rattle.sp_values.specs.ReadResults.{read_result_of};
+ghost use Rattle.sp_machine.specs.StackEntries.{entries_of};
+ghost use Rattle.sp_machine.specs.Procs.{does, CameBy, KeepsNumberAndInput, setting_of, memory_of};
 ghost use Rattle.sp_machine.specs.Texts.{item_in, text_of, is_cut, Emits};
 
 use crate::stack::Operand;
@@ -41,7 +41,7 @@ pub(crate) enum Shown {
 
 /// An item read.
 fn taken(item: Item, bytes: &[u8]) -> Taken
-    ensures { taken_of result ≡ item_in item bytes.now }
+    ensures { read_result_of result ≡ item_in item bytes.now }
 {
     match item {
         Item::Number => number_in(bytes),
@@ -132,7 +132,8 @@ fn emit_wide(
     limits: &Limits,
 ) -> Result<bool, Memory>
     requires { is_held (plain.output store.old) ≡ true }
-    ensures { IfOk result (λ b. Emits b limits.now.output (padded width (if cut then take width text.now else text.now))
+    ensures { IfOk result
+        (λ b. Emits b limits.now.output (right_justified width (if cut then take width text.now else text.now))
         store.old
         store.new) }
 {
@@ -152,7 +153,8 @@ fn show(
 ) -> Result<bool, Memory>
     requires { is_held (plain.output store.old) ≡ true }
     ensures { IfOk result (λ b. Emits b limits.now.output
-        (padded width (if is_cut shown then take width (text_of shown n) else text_of shown n)) store.old store.new) }
+        (right_justified width (if is_cut shown then take width (text_of shown n) else text_of shown n)) store.old
+        store.new) }
 {
     spell(room, shown, n)?;
     emit_wide(store, cuts(shown), width, room.as_slice(), limits)
@@ -183,7 +185,7 @@ impl State {
                   (Ordinal (pos (or_zero (position_in (plain.piece self.old.store position_at.spot)) + bytes)))
                   self.old.store;
             }) }
-        ensures same { Stays self.old self.new }
+        ensures same { KeepsNumberAndInput self.old self.new }
     {
         match self.store.load(input_address()) {
             Cell::Ordinal(place) => {
@@ -208,7 +210,7 @@ impl State {
                   (put_cell plain position_at (Ordinal
                   (pos (or_zero (position_in (plain.piece self.old.store position_at.spot)) + bytes))) self.old.store);
             }) }
-        ensures same { Stays self.old self.new }
+        ensures same { KeepsNumberAndInput self.old self.new }
     {
         self.advance(bytes)?;
         self.store.store(at, Cell::Ordinal(value))
@@ -229,7 +231,7 @@ impl State {
         ensures came { IfOk result (λ s. CameBy
             (reads (memory plain (setting_of self.old code.now limits.now)) code.now (item_in item) (self.old.pc + 1)
             (entries_of self.old.stack) (memory_of self.old)) self.old self.new s) }
-        ensures same { Stays self.old self.new }
+        ensures same { KeepsNumberAndInput self.old self.new }
     {
         match self.stack.pop_pointer() {
             Some(at) => match taken(item, self.left()) {
@@ -254,7 +256,7 @@ impl State {
         requires safe { does (Some instr.Readln) self.old code.now limits.now ≢ Stuck }
         ensures came { IfOk result (λ s. CameBy (does (Some instr.Readln) self.old code.now limits.now) self.old
             self.new s) }
-        ensures same { Stays self.old self.new }
+        ensures same { KeepsNumberAndInput self.old self.new }
     {
         let bytes = line_length(self.left());
         self.advance(bytes)?;
@@ -272,7 +274,7 @@ impl State {
         requires safe { does (Some instr.Eof) self.old code.now limits.now ≢ Stuck }
         ensures came { IfOk result (λ s. CameBy (does (Some instr.Eof) self.old code.now limits.now) self.old self.new
             s) }
-        ensures same { Stays self.old self.new }
+        ensures same { KeepsNumberAndInput self.old self.new }
     {
         let over = self.left().len() == 0;
         self.stack.push(Operand::Number(truth_of(over)))?;
@@ -290,7 +292,7 @@ impl State {
         requires safe { does (Some instr.Eoln) self.old code.now limits.now ≢ Stuck }
         ensures came { IfOk result (λ s. CameBy (does (Some instr.Eoln) self.old code.now limits.now) self.old self.new
             s) }
-        ensures same { Stays self.old self.new }
+        ensures same { KeepsNumberAndInput self.old self.new }
     {
         let over = is_at_line_end(self.left());
         self.stack.push(Operand::Number(truth_of(over)))?;
@@ -312,7 +314,7 @@ impl State {
         ensures came { IfOk result (λ s. CameBy
             (writes (memory plain (setting_of self.old code.now limits.now)) code.now (text_of shown) (self.old.pc + 1)
             (entries_of self.old.stack) (memory_of self.old)) self.old self.new s) }
-        ensures same { Stays self.old self.new }
+        ensures same { KeepsNumberAndInput self.old self.new }
     {
         match self.stack.pop_number() {
             Some(n) => {
@@ -342,7 +344,7 @@ impl State {
             (writes_wide (memory plain (setting_of self.old code.now limits.now)) code.now (is_cut shown)
             (text_of shown)
             (self.old.pc + 1) (entries_of self.old.stack) (memory_of self.old)) self.old self.new s) }
-        ensures same { Stays self.old self.new }
+        ensures same { KeepsNumberAndInput self.old self.new }
     {
         match self.stack.pop_number() {
             Some(width) => match self.stack.pop_number() {
@@ -388,7 +390,7 @@ impl State {
         requires safe { does (Some (instr.WriteText number)) self.old code.now limits.now ≢ Stuck }
         ensures came { IfOk result (λ s. CameBy (does (Some (instr.WriteText number)) self.old code.now limits.now)
             self.old self.new s) }
-        ensures same { Stays self.old self.new }
+        ensures same { KeepsNumberAndInput self.old self.new }
     {
         match code.text(number) {
             Some(text) => {
@@ -413,7 +415,7 @@ impl State {
         requires safe { does (Some (instr.WritewText number)) self.old code.now limits.now ≢ Stuck }
         ensures came { IfOk result (λ s. CameBy (does (Some (instr.WritewText number)) self.old code.now limits.now)
             self.old self.new s) }
-        ensures same { Stays self.old self.new }
+        ensures same { KeepsNumberAndInput self.old self.new }
     {
         match self.stack.pop_number() {
             Some(width) => match code.text(number) {
@@ -449,7 +451,7 @@ impl State {
         requires safe { does (Some instr.Writeln) self.old code.now limits.now ≢ Stuck }
         ensures came { IfOk result (λ s. CameBy (does (Some instr.Writeln) self.old code.now limits.now) self.old
             self.new s) }
-        ensures same { Stays self.old self.new }
+        ensures same { KeepsNumberAndInput self.old self.new }
     {
         if !emit(&mut self.store, 0, b"\n", limits)? {
             return Ok(Some(Interrupt::Fault(Fault::F16)));

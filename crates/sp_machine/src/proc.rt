@@ -6,10 +6,11 @@ ghost use Rattle.sp_code.specs.Machine.{At};
 ghost use Rattle.sp_code.specs.PlainStore.{plain};
 ghost use Rattle.sp_code.specs.Formals.{HaveFormals};
 ghost use Rattle.sp_code.specs.Sound.{HasDistinctBlocks, CanSplit, CanJoin};
-ghost use Rattle.sp_code.specs.System.{entered_now, table_or};
-ghost use Rattle.sp_machine.specs.Procs.{config_of, start_of, Stays, CanTurn, IsRankedFrom, IsTurnOf, IsAtFork};
+ghost use Rattle.sp_code.specs.System.{process_at_entry, table_or};
+ghost use Rattle.sp_machine.specs.Procs.{config_of, start_of, KeepsNumberAndInput, CanTurn, IsRankedFrom, IsTurnOf};
+ghost use Rattle.sp_machine.specs.Procs.{IsAtFork};
 ghost use Rattle.sp_machine.specs.Children.{AreNewborn, plan_by};
-ghost use Rattle.sp_machine.specs.Answers.{CanResume, resumed};
+ghost use Rattle.sp_machine.specs.Answers.{CanResume, state_after_answer};
 
 use crate::frames::{Frame, Frames, Home};
 use crate::layouts::{cells_of, layout_of};
@@ -91,14 +92,14 @@ impl Proc {
         requires formals { HaveFormals code.now.layouts }
         requires safe { CanTurn self.old code.now limits.now }
         ensures turn { IsTurnOf self.old code.now limits.now self.new result }
-        ensures same { Stays self.old self.new }
+        ensures same { KeepsNumberAndInput self.old self.new }
     {
         self.state.turn(code, limits)
     }
 
     /// At its entry in the journal: from here on its ticks count for the next pause.
     pub fn enter(&mut self)
-        ensures config { config_of self.new ≡ entered_now (config_of self.old) }
+        ensures config { config_of self.new ≡ process_at_entry (config_of self.old) }
         ensures state { self.new ≡ record self.old { since = self.old.ticks } }
     {
         self.state.since = self.state.ticks;
@@ -107,7 +108,7 @@ impl Proc {
     /// The process gets what it waits for: a channel or a message goes to its target.
     pub fn resume(&mut self, answer: Answer)
         requires { CanResume answer self.old }
-        ensures { self.new ≡ resumed answer self.old }
+        ensures { self.new ≡ state_after_answer answer self.old }
     {
         self.state.resume(answer);
     }
@@ -230,7 +231,7 @@ impl State {
     #[tactic(auto, using(sp_code::proofs::StoreLaws::cells_same, sp_cell::proofs::Laws::piece_of_own))]
     fn resume(&mut self, answer: Answer)
         requires { CanResume answer self.old }
-        ensures { self.new ≡ resumed answer self.old }
+        ensures { self.new ≡ state_after_answer answer self.old }
     {
         match answer {
             Answer::Opened(channel) => match self.store.store(self.target, Cell::Channel(channel)) {

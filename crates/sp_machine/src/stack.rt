@@ -2,8 +2,9 @@
 
 ghost use Rattle.std.specs.Prelude.{◌≡◌, ◌≤◌, ◌∷◌, [], Some, None, OnOk, OnErr, MatchOption, length, reverse, take};
 ghost use Rattle.std.specs.Prelude.{drop, List};
-ghost use Rattle.sp_code.specs.Machine.{outside};
-ghost use Rattle.sp_machine.specs.Entries.{entries_of, counted, pointer_in, HasNoNumber, HasNoChannel, HasNoPointer};
+ghost use Rattle.sp_code.specs.Machine.{is_in_no_function};
+ghost use Rattle.sp_machine.specs.StackEntries.{entries_of, one_if_reply, pointer_in, HasNoNumber, HasNoChannel};
+ghost use Rattle.sp_machine.specs.StackEntries.{HasNoPointer};
 ghost use Rattle.sp_machine.specs.declared.stack.Operand.{Operand};
 ghost use Rattle.sp_machine.specs.declared.stack.Operand.TheVariants.{Number, Channel, Pointer};
 
@@ -41,7 +42,7 @@ pub struct Stack {
 impl Model for Stack {
     ghost use Rattle.std.specs.Prelude.{◌≡◌, List, reverse};
     ghost use Rattle.sp_machine.specs.declared.stack.Operand.{Operand};
-    ghost use Rattle.sp_machine.specs.Entries.{replies};
+    ghost use Rattle.sp_machine.specs.StackEntries.{replies};
 
     ghost Value = { List Operand };
 
@@ -175,7 +176,7 @@ impl Stack {
     /// Puts a number in place of the top, which is no cells and not where the caller of a function goes on.
     #[inline(always)]
     pub(crate) fn put_number(&mut self, value: i64)
-        requires { (o : Operand) × (os : List Operand) × (counted o ≡ 0) × (self.old ≡ o ∷ os) }
+        requires { (o : Operand) × (os : List Operand) × (one_if_reply o ≡ 0) × (self.old ≡ o ∷ os) }
         ensures { (o : Operand) (os : List Operand) → self.old ≡ o ∷ os → self.new ≡ Number value ∷ os }
     {
         match self.entries.pop() {
@@ -188,7 +189,7 @@ impl Stack {
     /// Puts an address in place of the top, which is no cells and not where the caller of a function goes on.
     #[inline(always)]
     pub(crate) fn put_pointer(&mut self, at: Address)
-        requires { (o : Operand) × (os : List Operand) × (counted o ≡ 0) × (self.old ≡ o ∷ os) }
+        requires { (o : Operand) × (os : List Operand) × (one_if_reply o ≡ 0) × (self.old ≡ o ∷ os) }
         ensures { (o : Operand) (os : List Operand) → self.old ≡ o ∷ os → self.new ≡ Pointer at ∷ os }
     {
         match self.entries.pop() {
@@ -225,7 +226,7 @@ impl Stack {
     /// Whether no function is being called.
     #[tactic(auto, using(crate::proofs::Stacking::outside_yes, crate::proofs::Stacking::outside_no))]
     pub(crate) fn is_outside(&self) -> bool
-        ensures { result ≡ outside (entries_of self.now) }
+        ensures { result ≡ is_in_no_function (entries_of self.now) }
     {
         if self.answering == 0 {
             return true;
@@ -236,7 +237,7 @@ impl Stack {
 
 #[inline(always)]
 fn counted(entry: &Operand) -> usize
-    ensures { result ≡ counted entry.now }
+    ensures { result ≡ one_if_reply entry.now }
 {
     match entry {
         Operand::Reply(_) => 1,

@@ -1,7 +1,7 @@
 //! The state of a process, and why a turn ends.
 
 ghost use Rattle.std.specs.Prelude.{◌≡◌};
-ghost use Rattle.sp_machine.specs.Outcomes.{unpacked};
+ghost use Rattle.sp_machine.specs.Outcomes.{result_of_outcome};
 
 use crate::frames::Frames;
 use crate::stack::Stack;
@@ -68,7 +68,7 @@ pub(crate) enum Outcome {
 /// The same at length.
 #[inline(always)]
 pub(crate) fn unpacked(outcome: Outcome) -> Result<Option<Interrupt>, Memory>
-    ensures { result ≡ unpacked outcome }
+    ensures { result ≡ result_of_outcome outcome }
 {
     match outcome {
         Outcome::On => Ok(None),
@@ -82,7 +82,7 @@ pub(crate) fn unpacked(outcome: Outcome) -> Result<Option<Interrupt>, Memory>
 /// The same in two bytes.
 #[inline(always)]
 pub(crate) fn packed(told: Result<Option<Interrupt>, Memory>) -> Outcome
-    ensures { unpacked result ≡ told }
+    ensures { result_of_outcome result ≡ told }
 {
     match told {
         Ok(None) => Outcome::On,

@@ -3,9 +3,9 @@
 ghost use Rattle.std.specs.Prelude.{◌≡◌, ◌+◌, ◌<◌, ◌∷◌, IfOk};
 ghost use Rattle.sp_code.specs.Machine.{Goes, Fails, At, Number};
 ghost use Rattle.sp_machine.specs.declared.state.State.{State};
-ghost use Rattle.sp_machine.specs.Entries.{entry_of, entries_of};
-ghost use Rattle.sp_machine.specs.Outcomes.{unpacked};
-ghost use Rattle.sp_machine.specs.Procs.{CameBy, Stays, config_of, memory_of};
+ghost use Rattle.sp_machine.specs.StackEntries.{entry_of, entries_of};
+ghost use Rattle.sp_machine.specs.Outcomes.{result_of_outcome};
+ghost use Rattle.sp_machine.specs.Procs.{CameBy, KeepsNumberAndInput, config_of, memory_of};
 
 use crate::stack::Operand;
 use crate::state::{Interrupt, Outcome, State, packed};
@@ -19,7 +19,7 @@ impl State {
         ensures came { (p : State) → IfOk result (λ s. CameBy
             (Goes (At (self.old.pc + 1) (entry_of entry ∷ entries_of self.old.stack) (memory_of self.old))) p self.new
             s) }
-        ensures same { Stays self.old self.new }
+        ensures same { KeepsNumberAndInput self.old self.new }
     {
         self.stack.push(entry)?;
         self.pc += 1;
@@ -32,7 +32,7 @@ impl State {
         ensures came { (p : State) → config_of p
             ≡ At self.old.pc (entry_of entry ∷ entries_of self.old.stack) (memory_of self.old)
             → IfOk result (λ s. CameBy (Fails fault) p self.new s) }
-        ensures same { Stays self.old self.new }
+        ensures same { KeepsNumberAndInput self.old self.new }
     {
         self.stack.push(entry)?;
         Ok(Some(Interrupt::Fault(fault)))
@@ -44,8 +44,8 @@ impl State {
     pub(crate) fn fail_number(&mut self, number: i64, fault: Fault) -> Outcome
         ensures came { (p : State) → config_of p
             ≡ At self.old.pc (Number number ∷ entries_of self.old.stack) (memory_of self.old)
-            → IfOk (unpacked result) (λ s. CameBy (Fails fault) p self.new s) }
-        ensures same { Stays self.old self.new }
+            → IfOk (result_of_outcome result) (λ s. CameBy (Fails fault) p self.new s) }
+        ensures same { KeepsNumberAndInput self.old self.new }
     {
         packed(self.fail(Operand::Number(number), fault))
     }
@@ -61,7 +61,7 @@ impl State {
         ensures came { (p : State) → config_of p
             ≡ At self.old.pc (entry_of top ∷ entry_of below ∷ entries_of self.old.stack) (memory_of self.old)
             → IfOk result (λ s. CameBy (Fails fault) p self.new s) }
-        ensures same { Stays self.old self.new }
+        ensures same { KeepsNumberAndInput self.old self.new }
     {
         self.stack.push(below)?;
         self.fail(top, fault)

@@ -4,8 +4,8 @@ ghost use Rattle.std.specs.Prelude.{◌≡◌, ◌≢◌, ◌+◌, ◌<◌, ◌�
 ghost use Rattle.std.specs.Prelude.{◌≤ℤ◌};
 ghost use Rattle.sp_code.specs.Machine.{Stuck, At, Forks, values_in};
 ghost use Rattle.sp_code.specs.declared.instr.Instr.TheVariants as instr;
-ghost use Rattle.sp_machine.specs.Procs.{does, CameBy, Stays, StopIs, config_of, memory_of};
-ghost use Rattle.sp_machine.specs.Entries.{entries_of};
+ghost use Rattle.sp_machine.specs.Procs.{does, CameBy, KeepsNumberAndInput, StopIs, config_of, memory_of};
+ghost use Rattle.sp_machine.specs.StackEntries.{entries_of};
 
 use crate::stack::Operand;
 use crate::state::{Interrupt, State, Stop};
@@ -37,7 +37,7 @@ impl State {
         requires safe { does (Some instr.Open) self.old code.now limits.now ≢ Stuck }
         ensures came { IfOk result (λ s. CameBy (does (Some instr.Open) self.old code.now limits.now) self.old self.new
             s) }
-        ensures same { Stays self.old self.new }
+        ensures same { KeepsNumberAndInput self.old self.new }
     {
         match self.stack.pop_pointer() {
             Some(at) => {
@@ -62,7 +62,7 @@ impl State {
         requires safe { does (Some (instr.Send message)) self.old code.now limits.now ≢ Stuck }
         ensures came { IfOk result (λ s. CameBy (does (Some (instr.Send message)) self.old code.now limits.now) self.old
             self.new s) }
-        ensures same { Stays self.old self.new }
+        ensures same { KeepsNumberAndInput self.old self.new }
     {
         let cells = match self.stack.pop() {
             Some(Operand::Number(value)) => self.one_cell(Cell::Ordinal(value))?,
@@ -104,7 +104,7 @@ impl State {
         requires safe { does (Some (instr.Receive message)) self.old code.now limits.now ≢ Stuck }
         ensures came { IfOk result (λ s. CameBy (does (Some (instr.Receive message)) self.old code.now limits.now)
             self.old self.new s) }
-        ensures same { Stays self.old self.new }
+        ensures same { KeepsNumberAndInput self.old self.new }
     {
         match self.stack.pop_pointer() {
             Some(at) => match self.stack.pop_channel() {
@@ -132,7 +132,7 @@ impl State {
         requires safe { does (Some (instr.Fork table)) self.old code.now limits.now ≢ Stuck }
         ensures came { IfOk result (λ s. CameBy (does (Some (instr.Fork table)) self.old code.now limits.now) self.old
             self.new s) }
-        ensures same { Stays self.old self.new }
+        ensures same { KeepsNumberAndInput self.old self.new }
     {
         let most = limits.depth;
         match code.table(table) {
@@ -155,7 +155,7 @@ impl State {
         requires values { (pos 0 +ℤ pos count) ≤ℤ pos 9223372036854775808 }
         ensures stop { StopIs self.new.stopped self.new (Forks table (pos 0) count) }
         ensures config { config_of self.new ≡ At (self.old.pc + 1) (entries_of self.old.stack) (memory_of self.old) }
-        ensures same { Stays self.old self.new }
+        ensures same { KeepsNumberAndInput self.old self.new }
     {
         self.table = table;
         self.first = 0;
@@ -178,7 +178,7 @@ impl State {
         requires safe { does (Some (instr.Forall table)) self.old code.now limits.now ≢ Stuck }
         ensures came { IfOk result (λ s. CameBy (does (Some (instr.Forall table)) self.old code.now limits.now) self.old
             self.new s) }
-        ensures same { Stays self.old self.new }
+        ensures same { KeepsNumberAndInput self.old self.new }
     {
         match self.stack.pop_number() {
             Some(last) => match self.stack.pop_number() {
@@ -215,7 +215,7 @@ impl State {
     pub(crate) fn end(&mut self, code: &Code, limits: &Limits) -> Result<Option<Interrupt>, Memory>
         ensures came { IfOk result (λ s. CameBy (does (Some instr.End) self.old code.now limits.now) self.old self.new
             s) }
-        ensures same { Stays self.old self.new }
+        ensures same { KeepsNumberAndInput self.old self.new }
     {
         self.stopped = Stop::End;
         Ok(Some(Interrupt::Stop))

@@ -7,9 +7,10 @@ ghost use Rattle.sp_code.specs.Memory.{memory};
 ghost use Rattle.sp_code.specs.PlainStore.{plain};
 ghost use Rattle.sp_code.specs.declared.instr.Instr.TheVariants as instr;
 ghost use Rattle.sp_code.specs.Sound.{HasDistinctBlocks};
-ghost use Rattle.sp_machine.specs.Entries.{entries_of};
-ghost use Rattle.sp_machine.specs.Outcomes.{unpacked};
-ghost use Rattle.sp_machine.specs.Procs.{CameBy, Stays, next_of, stop_by, CanTurn, IsRankedFrom, IsTurnOf};
+ghost use Rattle.sp_machine.specs.StackEntries.{entries_of};
+ghost use Rattle.sp_machine.specs.Outcomes.{result_of_outcome};
+ghost use Rattle.sp_machine.specs.Procs.{CameBy, KeepsNumberAndInput, next_of, stop_by, CanTurn, IsRankedFrom};
+ghost use Rattle.sp_machine.specs.Procs.{IsTurnOf};
 ghost use Rattle.sp_machine.specs.Procs.{IsSafeThen, WentTwice, Proceeded, config_of, memory_of, setting_of};
 
 use crate::arithmetic::Conversion;
@@ -52,7 +53,7 @@ impl State {
         requires formals { HaveFormals code.now.layouts }
         requires safe { next_of self.old code.now limits.now ≢ Stuck }
         ensures came { IfOk result (λ s. CameBy (next_of self.old code.now limits.now) self.old self.new s) }
-        ensures same { Stays self.old self.new }
+        ensures same { KeepsNumberAndInput self.old self.new }
     {
         let Some(instr) = self.fetch(code) else {
             unreachable!()
@@ -90,9 +91,9 @@ impl State {
         requires blocks { HasDistinctBlocks code.now.layouts }
         requires formals { HaveFormals code.now.layouts }
         requires safe { next_of self.old code.now limits.now ≢ Stuck }
-        ensures came { IfOk (unpacked result)
+        ensures came { IfOk (result_of_outcome result)
             (λ s. CameBy (next_of self.old code.now limits.now) self.old self.new s) }
-        ensures same { Stays self.old self.new }
+        ensures same { KeepsNumberAndInput self.old self.new }
     {
         packed(self.any_step(code, limits))
     }
@@ -103,7 +104,7 @@ impl State {
         requires formals { HaveFormals code.now.layouts }
         requires safe { next_of self.old code.now limits.now ≢ Stuck }
         ensures came { IfOk result (λ s. CameBy (next_of self.old code.now limits.now) self.old self.new s) }
-        ensures same { Stays self.old self.new }
+        ensures same { KeepsNumberAndInput self.old self.new }
     {
         let Some(instr) = self.fetch(code) else {
             unreachable!()
@@ -188,7 +189,7 @@ impl State {
             (self.old.pc + 1) (Pointer at ∷ entries_of self.old.stack) (memory_of self.old)
             ≡ Goes (config_of self.new)) }
         ensures not { IfOk result (λ b. IsFalse b → self.new ≡ self.old) }
-        ensures same { Stays self.old self.new }
+        ensures same { KeepsNumberAndInput self.old self.new }
     {
         match self.store.load(at) {
             Cell::Ordinal(value) => {
@@ -216,7 +217,7 @@ impl State {
         requires then { IsSafeThen self.old code.now limits.now }
         ensures done { IfOk result (λ b. IsTrue b → WentTwice self.old code.now limits.now self.new) }
         ensures not { IfOk result (λ b. IsFalse b → self.new ≡ self.old) }
-        ensures same { Stays self.old self.new }
+        ensures same { KeepsNumberAndInput self.old self.new }
     {
         match instruction_at(code, self.pc as usize + 1) {
             Some(Instr::Load) => {}
@@ -237,7 +238,7 @@ impl State {
         requires safe { next_of self.old code.now limits.now ≢ Stuck }
         requires then { IsSafeThen self.old code.now limits.now }
         ensures came { IfOk result (λ s. Proceeded self.old code.now limits.now self.new s) }
-        ensures same { Stays self.old self.new }
+        ensures same { KeepsNumberAndInput self.old self.new }
     {
         match self.fetch(code) {
             Some(Instr::Addr { up, var }) => {
@@ -269,7 +270,7 @@ impl State {
         requires formals { HaveFormals code.now.layouts }
         requires safe { CanTurn self.old code.now limits.now }
         ensures turn { IsTurnOf self.old code.now limits.now self.new result }
-        ensures same { Stays self.old self.new }
+        ensures same { KeepsNumberAndInput self.old self.new }
     {
         if self.cells > u64::from(limits.cells) {
             return Stop::Fault(Fault::F12);

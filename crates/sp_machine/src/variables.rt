@@ -3,7 +3,7 @@
 ghost use Rattle.std.specs.Prelude.{◌≡◌, ◌≢◌, ◌+◌, ◌*◌, ◌<◌, ◌≤◌, IfOk, MatchOption, Some};
 ghost use Rattle.sp_code.specs.Machine.{Stuck};
 ghost use Rattle.sp_code.specs.declared.instr.Instr.TheVariants as instr;
-ghost use Rattle.sp_machine.specs.Procs.{does, CameBy, Stays};
+ghost use Rattle.sp_machine.specs.Procs.{does, CameBy, KeepsNumberAndInput};
 
 use crate::stack::Operand;
 use crate::state::{Interrupt, State, unpacked};
@@ -41,7 +41,7 @@ impl State {
         requires safe { does (Some (instr.Addr up var)) self.old code.now limits.now ≢ Stuck }
         ensures came { IfOk result (λ s. CameBy (does (Some (instr.Addr up var)) self.old code.now limits.now) self.old
             self.new s) }
-        ensures same { Stays self.old self.new }
+        ensures same { KeepsNumberAndInput self.old self.new }
     {
         match self.frames.address(up, var) {
             Some(at) => self.push_on(Operand::Pointer(at)),
@@ -62,7 +62,7 @@ impl State {
         requires safe { does (Some (instr.Deref up var)) self.old code.now limits.now ≢ Stuck }
         ensures came { IfOk result (λ s. CameBy (does (Some (instr.Deref up var)) self.old code.now limits.now) self.old
             self.new s) }
-        ensures same { Stays self.old self.new }
+        ensures same { KeepsNumberAndInput self.old self.new }
     {
         match self.frames.reference(up, var) {
             Some(at) => self.push_on(Operand::Pointer(at)),
@@ -84,7 +84,7 @@ impl State {
         requires safe { does (Some (instr.Index low high size)) self.old code.now limits.now ≢ Stuck }
         ensures came { IfOk result (λ s. CameBy (does (Some (instr.Index low high size)) self.old code.now limits.now)
             self.old self.new s) }
-        ensures same { Stays self.old self.new }
+        ensures same { KeepsNumberAndInput self.old self.new }
     {
         match self.stack.pop_number() {
             Some(n) => match self.stack.top_pointer() {
@@ -119,7 +119,7 @@ impl State {
         requires safe { does (Some (instr.Field cells)) self.old code.now limits.now ≢ Stuck }
         ensures came { IfOk result (λ s. CameBy (does (Some (instr.Field cells)) self.old code.now limits.now) self.old
             self.new s) }
-        ensures same { Stays self.old self.new }
+        ensures same { KeepsNumberAndInput self.old self.new }
     {
         match self.stack.pop_pointer() {
             Some(at) => match at.offset.checked_add(cells) {
@@ -140,7 +140,7 @@ impl State {
         requires safe { does (Some instr.Load) self.old code.now limits.now ≢ Stuck }
         ensures came { IfOk result (λ s. CameBy (does (Some instr.Load) self.old code.now limits.now) self.old self.new
             s) }
-        ensures same { Stays self.old self.new }
+        ensures same { KeepsNumberAndInput self.old self.new }
     {
         match self.stack.top_pointer() {
             Some(at) => match self.store.load(at) {
@@ -165,7 +165,7 @@ impl State {
         requires safe { does (Some instr.Loadc) self.old code.now limits.now ≢ Stuck }
         ensures came { IfOk result (λ s. CameBy (does (Some instr.Loadc) self.old code.now limits.now) self.old self.new
             s) }
-        ensures same { Stays self.old self.new }
+        ensures same { KeepsNumberAndInput self.old self.new }
     {
         match self.stack.pop_pointer() {
             Some(at) => match self.store.load(at) {
@@ -187,7 +187,7 @@ impl State {
         requires safe { does (Some instr.Store) self.old code.now limits.now ≢ Stuck }
         ensures came { IfOk result (λ s. CameBy (does (Some instr.Store) self.old code.now limits.now) self.old self.new
             s) }
-        ensures same { Stays self.old self.new }
+        ensures same { KeepsNumberAndInput self.old self.new }
     {
         let cell = match self.stack.pop() {
             Some(Operand::Number(value)) => Cell::Ordinal(value),
@@ -215,7 +215,7 @@ impl State {
         requires safe { does (Some (instr.Copy cells)) self.old code.now limits.now ≢ Stuck }
         ensures came { IfOk result (λ s. CameBy (does (Some (instr.Copy cells)) self.old code.now limits.now) self.old
             self.new s) }
-        ensures same { Stays self.old self.new }
+        ensures same { KeepsNumberAndInput self.old self.new }
     {
         match self.stack.pop_pointer() {
             Some(from) => match self.stack.pop_pointer() {
@@ -241,7 +241,7 @@ impl State {
         requires safe { does (Some (instr.Pack cells)) self.old code.now limits.now ≢ Stuck }
         ensures came { IfOk result (λ s. CameBy (does (Some (instr.Pack cells)) self.old code.now limits.now) self.old
             self.new s) }
-        ensures same { Stays self.old self.new }
+        ensures same { KeepsNumberAndInput self.old self.new }
     {
         match self.stack.pop_pointer() {
             Some(at) => {

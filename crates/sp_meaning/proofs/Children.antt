@@ -8,14 +8,15 @@ use Rattle.sp_tree.specs.declared.checked.Role.{Role}
 use Rattle.sp_tree.specs.declared.checked.Role.TheVariants as role
 use Rattle.sp_tree.specs.Plain.{Program, Variable, Stmt}
 use Rattle.sp_meaning.specs.Model.{Name, same_name}
-use Rattle.sp_meaning.specs.Own.{Loc, Cell, Input, Output, OfIndex, Frame, Item, is_block}
-use Rattle.sp_meaning.specs.Deeds.{Birth, push, with_index}
+use Rattle.sp_meaning.specs.LocalWork.{Loc, Cell, Input, Output, OfIndex, Frame, Item, is_block}
+use Rattle.sp_meaning.specs.Actions.{Birth, push, with_index}
 use Rattle.sp_tree.specs.Uses.{Use, Target, Seen, CallOf, ParallelOf, ForallOf, Stop, In_stmt}
 use Rattle.sp_tree.specs.Sets.{IsUsed, Reach}
-use Rattle.sp_meaning.specs.Owning.{find, Linked, cell_of, reference_of, stands_by, stands_at, stands, Touches, Right}
+use Rattle.sp_meaning.specs.Owning.{frame_found, Linked, cell_of, reference_of, location_by, location_at, location_of}
+use Rattle.sp_meaning.specs.Owning.{Touches, Right}
 use Rattle.sp_meaning.specs.Owning.{Sound, Fit, Aimed, Used, IsClearOf, Born}
 use Rattle.sp_meaning.proofs.Keys.{name_test}
-use Rattle.sp_meaning.proofs.Rights.{All, IsAbove, Fair_rights}
+use Rattle.sp_meaning.proofs.Rights.{OwnOrGiven, IsAbove, Fair_rights}
 use Rattle.sp_meaning.proofs.SoundParts.{push_good}
 use Rattle.sp_meaning.specs.Along.{Either}
 
@@ -66,18 +67,19 @@ module _ (p : Program) (W R : Loc → Type 0) where
 
 -- the index of a forall hides nothing
 module _ (p : Program) (fs : List Frame) (q : Name) (ix : Option (ℕ × ℤ)) where
-  index_stands : (x : ℕ) → stands p (with_index q ix fs) x ≡ stands p fs x
+  index_stands : (x : ℕ) → location_of p (with_index q ix fs) x ≡ location_of p fs x
   index_stands x = go ix
     where
       new : ℕ × ℤ → Frame
       new y = record { owner = q; number = length fs; home = OfIndex y.0 y.1; link = length fs; references = [] }
 
-      found : (b : ℕ) (y : ℕ × ℤ) → find (is_block b) (length (new y ∷ fs)) (new y ∷ fs)
-          ≡ find (is_block b) (length fs) fs
-      found b y = ap (λ c. if c then find (is_block b) (length fs) fs else find (is_block b) (length (new y ∷ fs)) fs)
+      found : (b : ℕ) (y : ℕ × ℤ) → frame_found (is_block b) (length (new y ∷ fs)) (new y ∷ fs)
+          ≡ frame_found (is_block b) (length fs) fs
+      found b y = ap (λ c. if c then frame_found (is_block b) (length fs) fs else frame_found (is_block b)
+          (length (new y ∷ fs)) fs)
           (eq-eqb (length (new y ∷ fs)) (length (new y ∷ fs)) refl)
 
-      by_role : (i : Variable) (r : Role) (y : ℕ × ℤ) → stands_by (new y ∷ fs) x i r ≡ stands_by fs x i r
+      by_role : (i : Variable) (r : Role) (y : ℕ × ℤ) → location_by (new y ∷ fs) x i r ≡ location_by fs x i r
       by_role i role.Console y = refl
       by_role i role.Local y = ap (cell_of x) (found i.block y)
       by_role i role.Value y = ap (cell_of x) (found i.block y)
@@ -85,11 +87,11 @@ module _ (p : Program) (fs : List Frame) (q : Name) (ix : Option (ℕ × ℤ)) w
       by_role i role.Index y = refl
       by_role i role.Answer y = ap (cell_of x) (found i.block y)
 
-      by_variable : (v : Option Variable) (y : ℕ × ℤ) → stands_at (new y ∷ fs) x v ≡ stands_at fs x v
+      by_variable : (v : Option Variable) (y : ℕ × ℤ) → location_at (new y ∷ fs) x v ≡ location_at fs x v
       by_variable None y = refl
       by_variable (Some i) y = by_role i i.role y
 
-      go : (iy : Option (ℕ × ℤ)) → stands p (with_index q iy fs) x ≡ stands p fs x
+      go : (iy : Option (ℕ × ℤ)) → location_of p (with_index q iy fs) x ≡ location_of p fs x
       go None = refl
       go (Some y) = by_variable (slice_get p.variables x) y
 
@@ -116,8 +118,8 @@ module _ (p : Program) (W R V T : Loc → Type 0) (fs : List Frame) (q : Name) (
   inner = with_index q ix fs
 
   may : (bs : List ℕ) (u : Use) → Reach p (In_stmt s) bs u → (x : ℕ) (l : Loc) → Touches p fs u x l → Right p V T u l
-  may bs (Target y) r x l t = aims l (y, (bs, r), ap (stands p fs) t.0 ∙ t.1)
-  may bs (Seen y) r x l t = uses l (y, inr (bs, r), ap (stands p fs) t.0 ∙ t.1)
+  may bs (Target y) r x l t = aims l (y, (bs, r), ap (location_of p fs) t.0 ∙ t.1)
+  may bs (Seen y) r x l t = uses l (y, inr (bs, r), ap (location_of p fs) t.0 ∙ t.1)
   may bs (CallOf f args) r x l t = tt
   may bs (ParallelOf ss) r x l t = tt
   may bs (ForallOf y e) r x l t = tt
@@ -140,12 +142,14 @@ module _ (p : Program) (W R V T : Loc → Type 0) (fs : List Frame) (q : Name) (
 module _ (p : Program) (W R : Name → Loc → Type 0) (q : Name) (k : ℕ) (fs : List Frame) (ss : List Stmt) where
   abbrev pub writes_after : Name → Loc → Type 0
   writes_after [] l = W [] l
-  writes_after ((m, i) ∷ r) l = Either (same_name q r && (m == k)) (AimedAt p (All W q) (All R q) fs (slice_get ss i) l)
+  writes_after ((m, i) ∷ r) l =
+      Either (same_name q r && (m == k)) (AimedAt p (OwnOrGiven W q) (OwnOrGiven R q) fs (slice_get ss i) l)
       (W ((m, i) ∷ r) l)
 
   abbrev pub reads_after : Name → Loc → Type 0
   reads_after [] l = R [] l
-  reads_after ((m, i) ∷ r) l = Either (same_name q r && (m == k)) (UsedAt p (All W q) (All R q) fs (slice_get ss i) l)
+  reads_after ((m, i) ∷ r) l =
+      Either (same_name q r && (m == k)) (UsedAt p (OwnOrGiven W q) (OwnOrGiven R q) fs (slice_get ss i) l)
       (R ((m, i) ∷ r) l)
 
   -- names in question
@@ -164,7 +168,7 @@ module _ (p : Program) (W R : Name → Loc → Type 0) (q : Name) (k : ℕ) (fs 
     grow_writes ((m, i) ∷ r) l h = go (same_name q r && (m == k)) refl
       where
         go : (b : Bool) → (same_name q r && (m == k)) ≡ b
-            → Either b (AimedAt p (All W q) (All R q) fs (slice_get ss i) l) (W ((m, i) ∷ r) l)
+            → Either b (AimedAt p (OwnOrGiven W q) (OwnOrGiven R q) fs (slice_get ss i) l) (W ((m, i) ∷ r) l)
         go true e = absurd (no_old r m i l (it_is r m e) (fair.reads ((m, i) ∷ r) l h))
         go false e = h
 
@@ -173,56 +177,59 @@ module _ (p : Program) (W R : Name → Loc → Type 0) (q : Name) (k : ℕ) (fs 
     grow_reads ((m, i) ∷ r) l h = go (same_name q r && (m == k)) refl
       where
         go : (b : Bool) → (same_name q r && (m == k)) ≡ b
-            → Either b (UsedAt p (All W q) (All R q) fs (slice_get ss i) l) (R ((m, i) ∷ r) l)
+            → Either b (UsedAt p (OwnOrGiven W q) (OwnOrGiven R q) fs (slice_get ss i) l) (R ((m, i) ∷ r) l)
         go true e = absurd (no_old r m i l (it_is r m e) h)
         go false e = h
 
-    pub all_writes : (r : Name) (l : Loc) → All W r l → All writes_after r l
+    pub all_writes : (r : Name) (l : Loc) → OwnOrGiven W r l → OwnOrGiven writes_after r l
     all_writes r l (inl h) = inl h
     all_writes r l (inr h) = inr (grow_writes r l h)
 
-    pub all_reads : (r : Name) (l : Loc) → All R r l → All reads_after r l
+    pub all_reads : (r : Name) (l : Loc) → OwnOrGiven R r l → OwnOrGiven reads_after r l
     all_reads r l (inl h) = inl h
     all_reads r l (inr h) = inr (grow_reads r l h)
 
-    module _ (bs : List Birth) (born : Born p (All W q) (All R q) fs ss bs) where
-      reads_all : (l : Loc) → All W q l → All R q l
+    module _ (bs : List Birth) (born : Born p (OwnOrGiven W q) (OwnOrGiven R q) fs ss bs) where
+      reads_all : (l : Loc) → OwnOrGiven W q l → OwnOrGiven R q l
       reads_all l (inl h) = inl h
       reads_all l (inr h) = inr (fair.reads q l h)
 
-      above_all : (r : Name) (m i : ℕ) (l : Loc) → All R r l → IsAbove ((m, i) ∷ r) l
+      above_all : (r : Name) (m i : ℕ) (l : Loc) → OwnOrGiven R r l → IsAbove ((m, i) ∷ r) l
       above_all r m i (Cell o n x) (inl e) = omega (arith, ap length e)
       above_all r m i (Cell o n x) (inr h) = omega (arith, fair.above r (Cell o n x) h)
       above_all r m i Input h = tt
       above_all r m i Output h = tt
 
-      right : (i : ℕ) (l : Loc) → (AimedAt p (All W q) (All R q) fs (slice_get ss i) l → All W q l)
-          × (UsedAt p (All W q) (All R q) fs (slice_get ss i) l → All R q l)
-      right i l = born_right p (All W q) (All R q) fs ss bs reads_all born i l
+      right : (i : ℕ) (l : Loc) → (AimedAt p (OwnOrGiven W q) (OwnOrGiven R q) fs (slice_get ss i) l → OwnOrGiven W q l)
+          × (UsedAt p (OwnOrGiven W q) (OwnOrGiven R q) fs (slice_get ss i) l → OwnOrGiven R q l)
+      right i l = born_right p (OwnOrGiven W q) (OwnOrGiven R q) fs ss bs reads_all born i l
 
       reads' : (r : Name) (l : Loc) → writes_after r l → reads_after r l
       reads' [] l h = fair.reads [] l h
       reads' ((m, i) ∷ r) l h = go (same_name q r && (m == k)) h
         where
-          go : (b : Bool) → Either b (AimedAt p (All W q) (All R q) fs (slice_get ss i) l) (W ((m, i) ∷ r) l)
-              → Either b (UsedAt p (All W q) (All R q) fs (slice_get ss i) l) (R ((m, i) ∷ r) l)
-          go true h = used_if_aimed p (All W q) (All R q) fs (slice_get ss i) l h
+          go : (b : Bool) → Either b (AimedAt p (OwnOrGiven W q) (OwnOrGiven R q) fs (slice_get ss i) l)
+              (W ((m, i) ∷ r) l)
+              → Either b (UsedAt p (OwnOrGiven W q) (OwnOrGiven R q) fs (slice_get ss i) l) (R ((m, i) ∷ r) l)
+          go true h = used_if_aimed p (OwnOrGiven W q) (OwnOrGiven R q) fs (slice_get ss i) l h
           go false h = fair.reads ((m, i) ∷ r) l h
 
-      less_write' : (r : Name) (m i : ℕ) (l : Loc) → writes_after ((m, i) ∷ r) l → All writes_after r l
+      less_write' : (r : Name) (m i : ℕ) (l : Loc) → writes_after ((m, i) ∷ r) l → OwnOrGiven writes_after r l
       less_write' r m i l h = go (same_name q r && (m == k)) refl h
         where
           go : (b : Bool) → (same_name q r && (m == k)) ≡ b
-              → Either b (AimedAt p (All W q) (All R q) fs (slice_get ss i) l) (W ((m, i) ∷ r) l) → All writes_after r l
-          go true e h = all_writes r l (subst (λ z. All W z l) (it_is r m e).0 ((right i l).0 h))
+              → Either b (AimedAt p (OwnOrGiven W q) (OwnOrGiven R q) fs (slice_get ss i) l) (W ((m, i) ∷ r) l)
+              → OwnOrGiven writes_after r l
+          go true e h = all_writes r l (subst (λ z. OwnOrGiven W z l) (it_is r m e).0 ((right i l).0 h))
           go false e h = all_writes r l (fair.less_write r m i l h)
 
-      less_read' : (r : Name) (m i : ℕ) (l : Loc) → reads_after ((m, i) ∷ r) l → All reads_after r l
+      less_read' : (r : Name) (m i : ℕ) (l : Loc) → reads_after ((m, i) ∷ r) l → OwnOrGiven reads_after r l
       less_read' r m i l h = go (same_name q r && (m == k)) refl h
         where
           go : (b : Bool) → (same_name q r && (m == k)) ≡ b
-              → Either b (UsedAt p (All W q) (All R q) fs (slice_get ss i) l) (R ((m, i) ∷ r) l) → All reads_after r l
-          go true e h = all_reads r l (subst (λ z. All R z l) (it_is r m e).0 ((right i l).1 h))
+              → Either b (UsedAt p (OwnOrGiven W q) (OwnOrGiven R q) fs (slice_get ss i) l) (R ((m, i) ∷ r) l)
+              → OwnOrGiven reads_after r l
+          go true e h = all_reads r l (subst (λ z. OwnOrGiven R z l) (it_is r m e).0 ((right i l).1 h))
           go false e h = all_reads r l (fair.less_read r m i l h)
 
       above' : (r : Name) (l : Loc) → reads_after r l → IsAbove r l
@@ -230,17 +237,18 @@ module _ (p : Program) (W R : Name → Loc → Type 0) (q : Name) (k : ℕ) (fs 
       above' ((m, i) ∷ r) l h = go (same_name q r && (m == k)) refl h
         where
           go : (b : Bool) → (same_name q r && (m == k)) ≡ b
-              → Either b (UsedAt p (All W q) (All R q) fs (slice_get ss i) l) (R ((m, i) ∷ r) l)
+              → Either b (UsedAt p (OwnOrGiven W q) (OwnOrGiven R q) fs (slice_get ss i) l) (R ((m, i) ∷ r) l)
               → IsAbove ((m, i) ∷ r) l
-          go true e h = above_all r m i l (subst (λ z. All R z l) (it_is r m e).0 ((right i l).1 h))
+          go true e h = above_all r m i l (subst (λ z. OwnOrGiven R z l) (it_is r m e).0 ((right i l).1 h))
           go false e h = fair.above ((m, i) ∷ r) l h
 
       apart' : (r : Name) (m i j : ℕ) (l : Loc) → i ≢ j → writes_after ((m, i) ∷ r) l → reads_after ((m, j) ∷ r) l → ⊥
       apart' r m i j l n h g = go (same_name q r && (m == k)) h g
         where
-          go : (b : Bool) → Either b (AimedAt p (All W q) (All R q) fs (slice_get ss i) l) (W ((m, i) ∷ r) l)
-              → Either b (UsedAt p (All W q) (All R q) fs (slice_get ss j) l) (R ((m, j) ∷ r) l) → ⊥
-          go true h g = born_clear p (All W q) (All R q) fs ss bs born i j l n h g
+          go : (b : Bool) → Either b (AimedAt p (OwnOrGiven W q) (OwnOrGiven R q) fs (slice_get ss i) l)
+              (W ((m, i) ∷ r) l)
+              → Either b (UsedAt p (OwnOrGiven W q) (OwnOrGiven R q) fs (slice_get ss j) l) (R ((m, j) ∷ r) l) → ⊥
+          go true h g = born_clear p (OwnOrGiven W q) (OwnOrGiven R q) fs ss bs born i j l n h g
           go false h g = fair.apart r m i j l n h g
 
       pub fair_after : Fair_rights writes_after reads_after

@@ -16,51 +16,62 @@ use Rattle.sp_tree.specs.Plain.{Expr, Typed, ExprForm, Number, Read, Unary, Bina
 use Rattle.sp_tree.specs.Plain.{Entire, Index, Field, Selectors, Whole, Select, ByValue, ByReference, Actuals, Nothing}
 use Rattle.sp_tree.specs.Plain.{Pass, Variable}
 use Rattle.sp_meaning.specs.Model.{Channel}
-use Rattle.sp_meaning.specs.Asking.{Asking, Done, Loads, Puts, and_then}
+use Rattle.sp_meaning.specs.EffectTree.{EffectTree, Leaf, ReadThen, WriteThen, and_then}
 use Rattle.sp_meaning.specs.Values.{Value, Undefined, Ordinal, Chan, Parts}
-use Rattle.sp_meaning.specs.Own.{Loc, Held, Address, Home, OfBlock, OfIndex, Frame, Setting, Own, Who, Came, Got, Bad}
-use Rattle.sp_meaning.specs.Own.{Lost, Long, Work, bind, go_on, give, fail, lost, look, put, fetch, assign}
-use Rattle.sp_meaning.specs.Own.{or_lost, visible, seen, seek, reach, reached, is_block, is_index, referred}
-use Rattle.sp_meaning.specs.Eval.{Place, At, Fixed, Given, Calls, work_of, as_ordinal, ordinal, channel, channels_op}
-use Rattle.sp_meaning.specs.Eval.{operate, standard_op, input_op, ordinal_read, channel_read, checked, element_at}
-use Rattle.sp_meaning.specs.Eval.{field_kind, kind_at, indexed, fielded, read_at, address_of, index_in, place_by}
-use Rattle.sp_meaning.specs.Eval.{place_of, left_of, value, form_value, place, selected, actuals, address, ordinal_of}
-use Rattle.sp_meaning.specs.Operators.{Worked, Yields, Faults, ranged, successor, predecessor, absolute, square, is_odd}
-use Rattle.sp_meaning.specs.Operators.{unary_op, binary_op, least, greatest}
+use Rattle.sp_meaning.specs.LocalWork.{Loc, LocationContent, Address, Home, OfBlock, OfIndex, Frame, RunInput}
+use Rattle.sp_meaning.specs.LocalWork.{LocalState, Identity, WorkOutcome, Computed, EndsInFault}
+use Rattle.sp_meaning.specs.LocalWork.{IllFormed, OutOfFuel, Work, bind, go_on, give, fail, ill_formed, read_location}
+use Rattle.sp_meaning.specs.LocalWork.{write_location, fetch, assign}
+use Rattle.sp_meaning.specs.LocalWork.{or_ill_formed, visible_frame, find_visible, seek, link_to, frame_link, is_block}
+use Rattle.sp_meaning.specs.LocalWork.{is_index, reference_target}
+use Rattle.sp_meaning.specs.Eval.{Place, AtAddress, Fixed, ArgumentValue, Calls, work_of, as_ordinal, ordinal, channel}
+use Rattle.sp_meaning.specs.Eval.{channels_op}
+use Rattle.sp_meaning.specs.Eval.{operate, standard_op, input_op, ordinal_read, channel_read, checked_value, element_at}
+use Rattle.sp_meaning.specs.Eval.{field_kind, kind_at, element_place, field_place, read_at, address_of, index_in}
+use Rattle.sp_meaning.specs.Eval.{place_by}
+use Rattle.sp_meaning.specs.Eval.{place_of, input_left, value, form_value, place, component_place, actuals, address}
+use Rattle.sp_meaning.specs.Eval.{ordinal_of}
+use Rattle.sp_meaning.specs.Operators.{OperatorResult, Yields, OperatorFault, value_in_range, successor, predecessor}
+use Rattle.sp_meaning.specs.Operators.{absolute_value, square, is_odd}
+use Rattle.sp_meaning.specs.Operators.{unary_op, binary_op, least_ordinal, greatest_ordinal}
 
 -- it ends, with t ticks or more, and with this fact
-abbrev pub Ends : {A : Type 0} → ℕ → (A → Own → Type 0) → Asking Loc Held (Came A) → Type 0
-Ends t F (Done (Got a o)) = (t ≤ o.ticks) × F a o
-Ends t F (Done (Bad f)) = Unit {0}
-Ends t F (Done Lost) = Unit {0}
-Ends t F (Done Long) = ⊥
-Ends t F (Loads l more) = (h : Held) → Ends t F (more h)
-Ends t F (Puts l h more) = Ends t F more
+abbrev pub EndsInTicks : {A : Type 0} → ℕ → (A → LocalState → Type 0) → EffectTree Loc LocationContent (WorkOutcome A)
+    → Type 0
+EndsInTicks t F (Leaf (Computed a o)) = (t ≤ o.ticks) × F a o
+EndsInTicks t F (Leaf (EndsInFault f)) = Unit {0}
+EndsInTicks t F (Leaf IllFormed) = Unit {0}
+EndsInTicks t F (Leaf OutOfFuel) = ⊥
+EndsInTicks t F (ReadThen l more) = (h : LocationContent) → EndsInTicks t F (more h)
+EndsInTicks t F (WriteThen l h more) = EndsInTicks t F more
 
-pub ends_then : {A B : Type 0} (t : ℕ) (F : A → Own → Type 0) (G : B → Own → Type 0) (x : Asking Loc Held (Came A))
-    (g : A → Work B) (w : Who) → Ends t F x → ((a : A) (o : Own) → t ≤ o.ticks → F a o → Ends t G (g a w o))
-    → Ends t G (and_then x (λ r. go_on g w r))
-ends_then t F G (Done (Got a o)) g w h k = k a o h.0 h.1
-ends_then t F G (Done (Bad f)) g w h k = tt
-ends_then t F G (Done Lost) g w h k = tt
-ends_then t F G (Done Long) g w h k = h
-ends_then t F G (Loads l more) g w h k = λ v. ends_then t F G (more v) g w (h v) k
-ends_then t F G (Puts l v more) g w h k = ends_then t F G more g w h k
+pub ends_then : {A B : Type 0} (t : ℕ) (F : A → LocalState → Type 0) (G : B → LocalState → Type 0)
+    (x : EffectTree Loc LocationContent (WorkOutcome A))
+    (g : A → Work B) (w : Identity) → EndsInTicks t F x
+    → ((a : A) (o : LocalState) → t ≤ o.ticks → F a o → EndsInTicks t G (g a w o))
+    → EndsInTicks t G (and_then x (λ r. go_on g w r))
+ends_then t F G (Leaf (Computed a o)) g w h k = k a o h.0 h.1
+ends_then t F G (Leaf (EndsInFault f)) g w h k = tt
+ends_then t F G (Leaf IllFormed) g w h k = tt
+ends_then t F G (Leaf OutOfFuel) g w h k = h
+ends_then t F G (ReadThen l more) g w h k = λ v. ends_then t F G (more v) g w (h v) k
+ends_then t F G (WriteThen l v more) g w h k = ends_then t F G more g w h k
 
-abbrev pub Any : {A : Type 0} → A → Own → Type 0
+abbrev pub Any : {A : Type 0} → A → LocalState → Type 0
 Any a o = Unit {0}
 
-pub ends_weaker : {A : Type 0} (u t : ℕ) (x : Asking Loc Held (Came A)) → t ≤ u → Ends u Any x → Ends t Any x
-ends_weaker u t (Done (Got a o)) le h = (omega (arith, h.0), tt)
-ends_weaker u t (Done (Bad f)) le h = tt
-ends_weaker u t (Done Lost) le h = tt
-ends_weaker u t (Done Long) le h = h
-ends_weaker u t (Loads l more) le h = λ v. ends_weaker u t (more v) le (h v)
-ends_weaker u t (Puts l v more) le h = ends_weaker u t more le h
+pub ends_weaker : {A : Type 0} (u t : ℕ) (x : EffectTree Loc LocationContent (WorkOutcome A)) → t ≤ u
+    → EndsInTicks u Any x → EndsInTicks t Any x
+ends_weaker u t (Leaf (Computed a o)) le h = (omega (arith, h.0), tt)
+ends_weaker u t (Leaf (EndsInFault f)) le h = tt
+ends_weaker u t (Leaf IllFormed) le h = tt
+ends_weaker u t (Leaf OutOfFuel) le h = h
+ends_weaker u t (ReadThen l more) le h = λ v. ends_weaker u t (more v) le (h v)
+ends_weaker u t (WriteThen l v more) le h = ends_weaker u t more le h
 
 -- begun with t ticks or more it ends so
 pub record Steady {A : Type 0} (t : ℕ) (h : Work A) : Type 0 where
-  pub by : (w : Who) (o : Own) → t ≤ o.ticks → Ends t Any (h w o)
+  pub by : (w : Identity) (o : LocalState) → t ≤ o.ticks → EndsInTicks t Any (h w o)
 
 pub then_steady : {A B : Type 0} (t : ℕ) (h : Work A) (g : A → Work B) → Steady t h → ((a : A) → Steady t (g a))
     → Steady t (bind h g)
@@ -76,16 +87,16 @@ module _ (t : ℕ) where
   pub fail_steady : (A : Type 0) (f : Fault) → Steady {A = A} t (fail f)
   fail_steady A f = record { by = λ w o le. tt }
 
-  pub lost_steady : (A : Type 0) → Steady {A = A} t lost
+  pub lost_steady : (A : Type 0) → Steady {A = A} t ill_formed
   lost_steady A = record { by = λ w o le. tt }
 
-  pub look_steady : (l : Loc) → Steady t (look l)
+  pub look_steady : (l : Loc) → Steady t (read_location l)
   look_steady l = record { by = λ w o le h. (le, tt) }
 
-  pub put_steady : (l : Loc) (h : Held) → Steady t (put l h)
+  pub put_steady : (l : Loc) (h : LocationContent) → Steady t (write_location l h)
   put_steady l h = record { by = λ w o le. (le, tt) }
 
-  pub or_lost_steady : {A : Type 0} (x : Option A) → Steady t (or_lost x)
+  pub or_lost_steady : {A : Type 0} (x : Option A) → Steady t (or_ill_formed x)
   or_lost_steady {A} None = lost_steady A
   or_lost_steady (Some a) = give_steady a
 
@@ -94,24 +105,24 @@ module _ (t : ℕ) where
   if_steady false h g x y = y
 
   pub fetch_steady : (a : Address) → Steady t (fetch a)
-  fetch_steady a = then_steady t (look a.spot) _ (look_steady a.spot) (λ h. give_steady _)
+  fetch_steady a = then_steady t (read_location a.spot) _ (look_steady a.spot) (λ h. give_steady _)
 
   pub assign_steady : (a : Address) (v : Value) → Steady t (assign a v)
-  assign_steady a v = then_steady t (look a.spot) _ (look_steady a.spot) (λ h. put_steady a.spot _)
+  assign_steady a v = then_steady t (read_location a.spot) _ (look_steady a.spot) (λ h. put_steady a.spot _)
 
-  pub visible_steady : (fits : Home → Bool) → Steady t (visible fits)
-  visible_steady fits = record { by = λ w o le. (or_lost_steady (seen fits o.frames)).by w o le }
+  pub visible_steady : (fits : Home → Bool) → Steady t (visible_frame fits)
+  visible_steady fits = record { by = λ w o le. (or_lost_steady (find_visible fits o.frames)).by w o le }
 
-  pub reach_steady : (fits : Home → Bool) → Steady t (reach fits)
+  pub reach_steady : (fits : Home → Bool) → Steady t (link_to fits)
   reach_steady fits = record { by = λ w o le. go w o le (seek fits (length o.frames) o.frames) }
     where
-      go : (w : Who) (o : Own) → t ≤ o.ticks → (fs : List Frame) → Ends t Any (reached fs w o)
+      go : (w : Identity) (o : LocalState) → t ≤ o.ticks → (fs : List Frame) → EndsInTicks t Any (frame_link fs w o)
       go w o le [] = tt
       go w o le (f ∷ fs) = (le, tt)
 
-  work_steady : (x : Worked) → Steady t (work_of x)
+  work_steady : (x : OperatorResult) → Steady t (work_of x)
   work_steady (Yields n) = give_steady (Ordinal n)
-  work_steady (Faults f) = fail_steady _ f
+  work_steady (OperatorFault f) = fail_steady _ f
 
   pub ordinal_steady : (v : Value) → Steady t (ordinal v)
   ordinal_steady Undefined = lost_steady _
@@ -147,13 +158,13 @@ module _ (t : ℕ) where
   binary_steady op (Parts vs) w = lost_steady _
 
   standard_steady : (f : StandardFn) (k : KindOf) (n : ℤ) → Steady t (standard_op f k n)
-  standard_steady standard.Abs k n = work_steady (absolute n)
+  standard_steady standard.Abs k n = work_steady (absolute_value n)
   standard_steady standard.Sqr k n = work_steady (square n)
   standard_steady standard.Odd k n = work_steady (is_odd n)
   standard_steady standard.Ord k n = give_steady _
-  standard_steady standard.Chr k n = work_steady (ranged (pos 0) (pos 255) n)
-  standard_steady standard.Succ k n = work_steady (successor (greatest k) n)
-  standard_steady standard.Pred k n = work_steady (predecessor (least k) n)
+  standard_steady standard.Chr k n = work_steady (value_in_range (pos 0) (pos 255) n)
+  standard_steady standard.Succ k n = work_steady (successor (greatest_ordinal k) n)
+  standard_steady standard.Pred k n = work_steady (predecessor (least_ordinal k) n)
   standard_steady standard.Eof k n = lost_steady _
   standard_steady standard.Eoln k n = lost_steady _
 
@@ -180,7 +191,7 @@ module _ (t : ℕ) where
   channel_read_steady (Chan c) = give_steady _
   channel_read_steady (Parts vs) = fail_steady _ fault.F5
 
-  checked_steady : (k : KindOf) (v : Value) → Steady t (checked k v)
+  checked_steady : (k : KindOf) (v : Value) → Steady t (checked_value k v)
   checked_steady kind.Integer v = ordinal_read_steady v
   checked_steady kind.Boolean v = ordinal_read_steady v
   checked_steady kind.Char v = ordinal_read_steady v
@@ -196,31 +207,32 @@ module _ (t : ℕ) where
   element_steady a n (kind.Enumeration m) = lost_steady _
   element_steady a n (kind.Array low high index element) =
       if_steady (int_le low n && int_le n high)
-      (give (At (record { spot = a.spot; path = a.path ++ nat_abs (n -ℤ low) ∷ []; kind = element }))) (fail fault.F1)
+      (give (AtAddress (record { spot = a.spot; path = a.path ++ nat_abs (n -ℤ low) ∷ []; kind = element })))
+      (fail fault.F1)
       (give_steady _) (fail_steady _ fault.F1)
   element_steady a n (kind.Fields fs) = lost_steady _
   element_steady a n (kind.Channel ks) = lost_steady _
 
-  module _ (g : Setting) where
+  module _ (g : RunInput) where
     pub kind_steady : (k : ℕ) → Steady t (kind_at g k)
     kind_steady k = or_lost_steady _
 
-    indexed_steady : (q : Place) (n : ℤ) → Steady t (indexed g q n)
-    indexed_steady (At a) n = then_steady t (kind_at g a.kind) _ (kind_steady a.kind) (λ k. element_steady a n k)
+    indexed_steady : (q : Place) (n : ℤ) → Steady t (element_place g q n)
+    indexed_steady (AtAddress a) n = then_steady t (kind_at g a.kind) _ (kind_steady a.kind) (λ k. element_steady a n k)
     indexed_steady (Fixed m) n = lost_steady _
 
-    fielded_steady : (f : ℕ) (q : Place) → Steady t (fielded g f q)
-    fielded_steady f (At a) = then_steady t (kind_at g a.kind) _ (kind_steady a.kind)
-        (λ k. then_steady t (or_lost (field_kind f k)) _ (or_lost_steady _) (λ u. give_steady _))
+    fielded_steady : (f : ℕ) (q : Place) → Steady t (field_place g f q)
+    fielded_steady f (AtAddress a) = then_steady t (kind_at g a.kind) _ (kind_steady a.kind)
+        (λ k. then_steady t (or_ill_formed (field_kind f k)) _ (or_lost_steady _) (λ u. give_steady _))
     fielded_steady f (Fixed m) = lost_steady _
 
     pub read_steady : (q : Place) → Steady t (read_at g q)
-    read_steady (At a) = then_steady t (kind_at g a.kind) _ (kind_steady a.kind)
+    read_steady (AtAddress a) = then_steady t (kind_at g a.kind) _ (kind_steady a.kind)
         (λ k. then_steady t (fetch a) _ (fetch_steady a) (λ v. checked_steady k v))
     read_steady (Fixed n) = give_steady _
 
     pub address_of_steady : (q : Place) → Steady t (address_of g q)
-    address_of_steady (At a) = give_steady a
+    address_of_steady (AtAddress a) = give_steady a
     address_of_steady (Fixed n) = lost_steady _
 
     index_in_steady : (h : Home) → Steady t (index_in g h)
@@ -229,29 +241,29 @@ module _ (t : ℕ) where
 
     place_by_steady : (x : ℕ) (i : Variable) (r : Role) → Steady t (place_by g x i r)
     place_by_steady x i role.Console = lost_steady _
-    place_by_steady x i role.Local = then_steady t (visible (is_block i.block)) _ (visible_steady _)
+    place_by_steady x i role.Local = then_steady t (visible_frame (is_block i.block)) _ (visible_steady _)
         (λ f. give_steady _)
-    place_by_steady x i role.Value = then_steady t (visible (is_block i.block)) _ (visible_steady _)
+    place_by_steady x i role.Value = then_steady t (visible_frame (is_block i.block)) _ (visible_steady _)
         (λ f. give_steady _)
-    place_by_steady x i role.Reference = then_steady t (visible (is_block i.block)) _ (visible_steady _)
-        (λ f. then_steady t (or_lost (referred x f.references)) _ (or_lost_steady _) (λ a. give_steady _))
-    place_by_steady x i role.Index = then_steady t (visible (is_index x)) _ (visible_steady _)
+    place_by_steady x i role.Reference = then_steady t (visible_frame (is_block i.block)) _ (visible_steady _)
+        (λ f. then_steady t (or_ill_formed (reference_target x f.references)) _ (or_lost_steady _) (λ a. give_steady _))
+    place_by_steady x i role.Index = then_steady t (visible_frame (is_index x)) _ (visible_steady _)
         (λ f. index_in_steady f.home)
-    place_by_steady x i role.Answer = then_steady t (visible (is_block i.block)) _ (visible_steady _)
+    place_by_steady x i role.Answer = then_steady t (visible_frame (is_block i.block)) _ (visible_steady _)
         (λ f. give_steady _)
 
     pub place_of_steady : (x : ℕ) → Steady t (place_of g x)
-    place_of_steady x = then_steady t (or_lost (slice_get g.program.variables x)) _ (or_lost_steady _)
+    place_of_steady x = then_steady t (or_ill_formed (slice_get g.program.variables x)) _ (or_lost_steady _)
         (λ i. place_by_steady x i i.role)
 
-    pub left_steady : Steady t (left_of g)
-    left_steady = then_steady t (look _) _ (look_steady _) (λ h. give_steady _)
+    pub left_steady : Steady t (input_left g)
+    left_steady = then_steady t (read_location _) _ (look_steady _) (λ h. give_steady _)
 
     as_ordinal_steady : (h : Work Value) → Steady t h → Steady t (as_ordinal h)
     as_ordinal_steady h st = then_steady t h _ st (λ v. ordinal_steady v)
 
     pub record CallsEnd (call : Calls) : Type 0 where
-      pub by : (f : ℕ) (gs : List Given) → Steady t (call f gs)
+      pub by : (f : ℕ) (gs : List ArgumentValue) → Steady t (call f gs)
 
     mutual
       pub value_steady : (call : Calls) → CallsEnd call → (e : Expr) → Steady t (value g call e)
@@ -270,19 +282,20 @@ module _ (t : ℕ) where
       form_steady call ok k (Standard f a) =
           then_steady t (as_ordinal (value g call a)) _ (as_ordinal_steady _ (value_steady call ok a))
           (λ n. then_steady t (kind_at g k) _ (kind_steady k) (λ u. standard_steady f u n))
-      form_steady call ok k (AtInput f) = then_steady t (left_of g) _ left_steady (λ bs. input_steady f bs)
+      form_steady call ok k (AtInput f) = then_steady t (input_left g) _ left_steady (λ bs. input_steady f bs)
 
       pub place_steady : (call : Calls) → CallsEnd call → (v : Var) → Steady t (place g call v)
       place_steady call ok (Entire x ss) = then_steady t (place_of g x) _ (place_of_steady x)
           (λ q. selected_steady call ok ss q)
 
-      selected_steady : (call : Calls) → CallsEnd call → (ss : Selectors) (q : Place) → Steady t (selected g call ss q)
+      selected_steady : (call : Calls) → CallsEnd call → (ss : Selectors) (q : Place)
+          → Steady t (component_place g call ss q)
       selected_steady call ok Whole q = give_steady q
       selected_steady call ok (Select (Index e) rest) q =
           then_steady t (as_ordinal (value g call e)) _ (as_ordinal_steady _ (value_steady call ok e))
-          (λ n. then_steady t (indexed g q n) _ (indexed_steady q n) (λ r. selected_steady call ok rest r))
+          (λ n. then_steady t (element_place g q n) _ (indexed_steady q n) (λ r. selected_steady call ok rest r))
       selected_steady call ok (Select (Field f) rest) q =
-          then_steady t (fielded g f q) _ (fielded_steady f q) (λ r. selected_steady call ok rest r)
+          then_steady t (field_place g f q) _ (fielded_steady f q) (λ r. selected_steady call ok rest r)
 
       pub actuals_steady : (call : Calls) → CallsEnd call → (args : Actuals) → Steady t (actuals g call args)
       actuals_steady call ok Nothing = give_steady _

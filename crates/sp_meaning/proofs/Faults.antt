@@ -12,8 +12,8 @@ use Rattle.sp_base.specs.declared.fault.Fault.{Fault}
 use Rattle.sp_base.specs.declared.fault.Fault.TheVariants as fault
 use Rattle.sp_base.specs.declared.limits.Limits.{Limits}
 use Rattle.sp_meaning.specs.Model.{Name}
-use Rattle.sp_meaning.specs.Own.{Setting}
-use Rattle.sp_meaning.specs.Runs.{StateOf, start, next, output_of}
+use Rattle.sp_meaning.specs.LocalWork.{RunInput}
+use Rattle.sp_meaning.specs.Runs.{StateOf, start, next_state, output_of}
 
 abbrev limits_of : (ticks depth cells output processes channels entries : ℕ) → Limits
 limits_of ticks depth cells output processes channels entries =
@@ -31,10 +31,10 @@ abbrev pub ample : Limits
 ample = limits_of 100 10 100 100 10 10 100
 
 -- the program without input
-abbrev pub of : Program → Limits → Setting
+abbrev pub of : Program → Limits → RunInput
 of p lim = record { program = p; input = []; limits = lim }
 
-module _ (g : Setting) where
+module _ (g : RunInput) where
   abbrev then_run : (StateOf g → Option (StateOf g)) → Option (StateOf g) → Option (StateOf g)
   then_run go None = None
   then_run go (Some t) = go t
@@ -42,7 +42,7 @@ module _ (g : Setting) where
   -- the state that a schedule leads to
   abbrev pub runs : List Name → StateOf g → Option (StateOf g)
   runs [] s = Some s
-  runs (q ∷ qs) s = then_run (runs qs) (next g s q)
+  runs (q ∷ qs) s = then_run (runs qs) (next_state g s q)
 
   abbrev fault_in : Option (StateOf g) → Option (Name × Fault)
   fault_in None = None

@@ -5,13 +5,14 @@ use Rattle.std.proofs.Common.{zero-add}
 use Rattle.sp_base.specs.declared.fault.Fault.{Fault}
 use Rattle.sp_base.proofs.Facts.{is_plus_none, next_goes_right}
 use Rattle.sp_meaning.specs.Model.{Name}
-use Rattle.sp_meaning.specs.Own.{Setting}
-use Rattle.sp_meaning.specs.Runs.{StateOf, start, next, Lawful}
-use Rattle.sp_meaning.specs.Fronts.{Stops, IsLongestFront, go_on_or, longest_from, longest}
+use Rattle.sp_meaning.specs.LocalWork.{RunInput}
+use Rattle.sp_meaning.specs.Runs.{StateOf, start, next_state, Lawful}
+use Rattle.sp_meaning.specs.Fronts.{CannotStep, IsLongestFront, go_on_or, longest_from, longest_front}
 
-module _ (g : Setting) where
+module _ (g : RunInput) where
   -- one step in front
-  longer : (s m : StateOf g) (q : Name) (qs : List Name) (k : ℕ) (t : StateOf g) → s.fault ≡ None → next g s q ≡ Some m
+  longer : (s m : StateOf g) (q : Name) (qs : List Name) (k : ℕ) (t : StateOf g) → s.fault ≡ None
+      → next_state g s q ≡ Some m
       → IsLongestFront g m qs k t → IsLongestFront g s (q ∷ qs) (suc k) t
   longer s m q qs k t quiet e f = record {
     front = q ∷ f.front;
@@ -22,20 +23,20 @@ module _ (g : Setting) where
     stops = f.stops;
   }
 
-  at_once : (s : StateOf g) (qs : List Name) → Stops g s qs → IsLongestFront g s qs 0 s
+  at_once : (s : StateOf g) (qs : List Name) → CannotStep g s qs → IsLongestFront g s qs 0 s
   at_once s qs h = record { front = []; rest = qs; whole = refl; size = refl; leads = refl; stops = h }
 
   -- it is found from n on
-  abbrev Found : StateOf g → List Name → ℕ → ℕ × StateOf g → Type 0
-  Found s qs n r = (k : ℕ) × (r.0 ≡ n + k) × IsLongestFront g s qs k r.1
+  abbrev IsFrontFrom : StateOf g → List Name → ℕ → ℕ × StateOf g → Type 0
+  IsFrontFrom s qs n r = (k : ℕ) × (r.0 ≡ n + k) × IsLongestFront g s qs k r.1
 
-  found : (qs : List Name) (n : ℕ) (s : StateOf g) → Found s qs n (longest_from g qs n s)
+  found : (qs : List Name) (n : ℕ) (s : StateOf g) → IsFrontFrom s qs n (longest_from g qs n s)
   found [] n s = (0, omega arith, at_once s [] tt)
-  found (q ∷ qs) n s = by s.fault refl (next g s q) refl (λ m. found qs (suc n) m)
+  found (q ∷ qs) n s = by s.fault refl (next_state g s q) refl (λ m. found qs (suc n) m)
     where
-      by : (x : Option (Name × Fault)) → s.fault ≡ x → (y : Option (StateOf g)) → next g s q ≡ y
-          → ((m : StateOf g) → Found m qs (suc n) (longest_from g qs (suc n) m))
-          → Found s (q ∷ qs) n (go_on_or g (longest_from g qs (suc n)) (n, s) x y)
+      by : (x : Option (Name × Fault)) → s.fault ≡ x → (y : Option (StateOf g)) → next_state g s q ≡ y
+          → ((m : StateOf g) → IsFrontFrom m qs (suc n) (longest_from g qs (suc n) m))
+          → IsFrontFrom s (q ∷ qs) n (go_on_or g (longest_from g qs (suc n)) (n, s) x y)
       by None e None d more = (0, omega arith, at_once s (q ∷ qs) (inr d))
       by None e (Some m) d more = let r = more m in
           (suc r.0, r.1 ∙ next_goes_right n r.0, longer s m q qs r.0 (longest_from g qs (suc n) m).1 e d r.2)
@@ -45,37 +46,38 @@ module _ (g : Setting) where
         at_once s (q ∷ qs) (inl (λ z. let x : Some f ≡ None = sym e ∙ z in absurd (cc x))),
       )
 
-  pub longest_is : (qs : List Name) → IsLongestFront g (start g) qs (longest g qs).0 (longest g qs).1
+  pub longest_is : (qs : List Name) → IsLongestFront g (start g) qs (longest_front g qs).0 (longest_front g qs).1
   longest_is qs =
       let r = found qs 0 (start g) in
-      subst (λ k. IsLongestFront g (start g) qs k (longest g qs).1) (sym (r.1 ∙ zero-add r.0)) r.2
+      subst (λ k. IsLongestFront g (start g) qs k (longest_front g qs).1) (sym (r.1 ∙ zero-add r.0)) r.2
 
-  from : (k : ℕ) (s : StateOf g) (q : Name) (rest : List Name) → (s.fault ≢ None) ⊎ (next g s q ≡ None)
+  from : (k : ℕ) (s : StateOf g) (q : Name) (rest : List Name) → (s.fault ≢ None) ⊎ (next_state g s q ≡ None)
       → longest_from g (q ∷ rest) k s ≡ (k, s)
-  from k s q rest h = by s.fault refl (next g s q) refl h
+  from k s q rest h = by s.fault refl (next_state g s q) refl h
     where
-      by : (x : Option (Name × Fault)) → s.fault ≡ x → (y : Option (StateOf g)) → next g s q ≡ y → (s.fault ≢ None)
-          ⊎ (next g s q ≡ None) → go_on_or g (longest_from g rest (suc k)) (k, s) x y ≡ (k, s)
+      by : (x : Option (Name × Fault)) → s.fault ≡ x → (y : Option (StateOf g)) → next_state g s q ≡ y
+          → (s.fault ≢ None)
+          ⊎ (next_state g s q ≡ None) → go_on_or g (longest_from g rest (suc k)) (k, s) x y ≡ (k, s)
       by None e None d h = refl
       by None e (Some m) d (inl f) = absurd (f e)
       by None e (Some m) d (inr n) = let x : ◌≡◌ {A = Option (StateOf g)} (Some m) None = sym d ∙ n in absurd (cc x)
       by (Some f) e y d h = refl
 
-  at_end : (k : ℕ) (s t : StateOf g) (rest : List Name) → t ≡ s → Stops g t rest → longest_from g rest k s ≡ (k, s)
+  at_end : (k : ℕ) (s t : StateOf g) (rest : List Name) → t ≡ s → CannotStep g t rest → longest_from g rest k s ≡ (k, s)
   at_end k s t [] l h = refl
-  at_end k s t (q ∷ rest) l h = from k s q rest (subst (λ (z : StateOf g). Stops g z (q ∷ rest)) l h)
+  at_end k s t (q ∷ rest) l h = from k s q rest (subst (λ (z : StateOf g). CannotStep g z (q ∷ rest)) l h)
 
-  only_by : (front rest : List Name) (k : ℕ) (s t : StateOf g) → Lawful g s front t → Stops g t rest
+  only_by : (front rest : List Name) (k : ℕ) (s t : StateOf g) → Lawful g s front t → CannotStep g t rest
       → longest_from g (front ++ rest) k s ≡ (k + length front, t)
   only_by [] rest k s t l h = at_end k s t rest l h ∙ pair (is_plus_none k) (sym l)
     where
       pair : {a b : ℕ} {c d : StateOf g} → a ≡ b → c ≡ d → ◌≡◌ {A = ℕ × StateOf g} (a, c) (b, d)
       pair e f = λ i. (e i, f i)
   only_by (q ∷ front) rest k s t l h =
-      ap (λ x. go_on_or g (longest_from g (front ++ rest) (suc k)) (k, s) x (next g s q)) l.1
+      ap (λ x. go_on_or g (longest_from g (front ++ rest) (suc k)) (k, s) x (next_state g s q)) l.1
       ∙ ap (go_on_or g (longest_from g (front ++ rest) (suc k)) (k, s) None) l.2
       ∙ only_by front rest (suc k) l.0 t l.3 h ∙ ap (λ n. (n, t)) (next_goes_right k (length front))
 
-  pub only : (qs : List Name) (n : ℕ) (t : StateOf g) → IsLongestFront g (start g) qs n t → longest g qs ≡ (n, t)
+  pub only : (qs : List Name) (n : ℕ) (t : StateOf g) → IsLongestFront g (start g) qs n t → longest_front g qs ≡ (n, t)
   only qs n t f = ap (λ z. longest_from g z 0 (start g)) f.whole ∙ only_by f.front f.rest 0 (start g) t f.leads f.stops
       ∙ ap (λ k. (k, t)) (zero-add (length f.front) ∙ f.size)

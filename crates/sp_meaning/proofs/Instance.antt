@@ -5,8 +5,9 @@ use Rattle.sp_base.proofs.Facts.{first_true, second_true}
 use Rattle.sp_meaning.specs.Maps.{IsTest}
 use Rattle.sp_meaning.specs.Model.{same_name}
 use Rattle.sp_meaning.specs.Steps.{Laws}
-use Rattle.sp_meaning.specs.Own.{Setting, Loc, Cell, Input, Output, Held, Address, Process, same_loc, assigned}
-use Rattle.sp_meaning.specs.SuperPascal.{superpascal, asks}
+use Rattle.sp_meaning.specs.LocalWork.{RunInput, Loc, Cell, Input, Output, LocationContent, Address, Process, same_loc}
+use Rattle.sp_meaning.specs.LocalWork.{content_with}
+use Rattle.sp_meaning.specs.SuperPascal.{superpascal, act_tree}
 use Rattle.sp_meaning.proofs.Keys.{name_test}
 use Rattle.sp_meaning.proofs.Trees.{trees_keep}
 
@@ -40,5 +41,6 @@ loc_test l k = (loc_is l k, loc_same l k)
     loc_same l k e = subst (λ z. same_loc l z ≡ true) e (self l)
 
 -- a step goes by the locations that it touches alone, for every program
-pub superpascal_keeps : (g : Setting) → Laws (superpascal g)
-superpascal_keeps g = trees_keep Process Loc Held Address same_loc (asks g) (λ a. a.spot) assigned loc_test
+pub superpascal_keeps : (g : RunInput) → Laws (superpascal g)
+superpascal_keeps g = trees_keep Process Loc LocationContent Address same_loc (act_tree g) (λ a. a.spot) content_with
+    loc_test

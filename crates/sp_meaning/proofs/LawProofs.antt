@@ -2,13 +2,14 @@
 use Rattle.std.proofs.Common.{◌≡◌, ◌≢◌, inl, inr, [], ◌++◌, Option, Some, None, refl, sym, ap, ◌∙◌, subst, append-nil}
 use Rattle.std.proofs.lemmas.Option.{same_Some}
 use Rattle.sp_base.specs.declared.fault.Fault.{Fault}
-use Rattle.sp_meaning.specs.Model.{Name, Moves, Opens, Forks, Offering, Ends, Fails}
-use Rattle.sp_meaning.specs.Steps.{ActOf, ConditionOf, working, Outcome, Advances, Faulty, acts, passed, cost, unless}
-use Rattle.sp_meaning.specs.Steps.{outcome, result_of, step_with, Lives, Sound}
+use Rattle.sp_meaning.specs.Model.{Name, Moves, Opens, Forks, Offering, EndsProcess, MeetsFault}
+use Rattle.sp_meaning.specs.Steps.{ActOf, ConditionOf, own_part, ActOutcome, Advances, Faulty, act_outcome, limit_fault}
+use Rattle.sp_meaning.specs.Steps.{cost, fault_or}
+use Rattle.sp_meaning.specs.Steps.{step_outcome, result_of, step_with, IsAlive, Sound}
 use Rattle.sp_meaning.specs.Disjoint.{AreParallel, Assigns, WritesIn, receiver}
-use Rattle.sp_meaning.specs.Own.{Setting, Loc, Process}
+use Rattle.sp_meaning.specs.LocalWork.{RunInput, Loc, Process}
 use Rattle.sp_meaning.specs.SuperPascal.{superpascal}
-use Rattle.sp_meaning.specs.Runs.{StateOf, most, next}
+use Rattle.sp_meaning.specs.Runs.{StateOf, total_limits, next_state}
 use Rattle.sp_meaning.specs.Along.{ticks_in}
 use Rattle.sp_meaning.specs.Ends.{IsDone, IsIdle}
 use Rattle.sp_meaning.specs.Laws.{OwnIs, IsReached, IsBounded, HasNotFallen, IsUnwritten, IsAlone}
@@ -16,18 +17,18 @@ use Rattle.sp_meaning.proofs.Instance.{loc_test}
 use Rattle.sp_meaning.proofs.Frames.{WritesTo, all_in, store_frame}
 use Rattle.sp_meaning.proofs.Status.{working_lives}
 use Rattle.sp_meaning.proofs.Parallel.{ancestors_live, parallel}
-use Rattle.sp_meaning.proofs.Reached.{Result, deed_is, working_keeps, risen, own_is, step_well, raised, known, K}
+use Rattle.sp_meaning.proofs.Reached.{Result, action_is, working_keeps, risen, own_is, step_well, raised, known, K}
 
-module _ (g : Setting) where
+module _ (g : RunInput) where
   pub bounded : (s : StateOf g) → IsReached g s → (q : Name) → IsBounded g s q
   bounded s r q pr run e =
       let keeps = working_keeps (K g) s.condition 0 (s.forks q) q (s.condition q) pr ((known g s r).well q) run in
-      subst (Result _ _) e (deed_is g pr s.store keeps.light)
+      subst (Result _ _) e (action_is g pr s.store keeps.light)
 
   pub named : (s : StateOf g) → IsReached g s → (q : Name) → OwnIs q (s.forks q) (s.condition q)
   named s r q = own_is (K g) 0 (s.forks q) q (s.condition q) ((known g s r).well q)
 
-  pub not_fallen : (s : StateOf g) → IsReached g s → (p : Name) (t : StateOf g) → next g s p ≡ Some t → (q : Name)
+  pub not_fallen : (s : StateOf g) → IsReached g s → (p : Name) (t : StateOf g) → next_state g s p ≡ Some t → (q : Name)
       → HasNotFallen g s t q
   not_fallen s r p t e q =
       let k = known g s r in
@@ -43,15 +44,15 @@ module _ (g : Setting) where
 
   -- where the root has ended, nobody is running
   pub done_idle : (s : StateOf g) → IsReached g s → IsDone g s → IsIdle g s
-  done_idle s r done q = by (working s q) refl
+  done_idle s r done q = by (own_part s q) refl
     where
-      by : (o : Option Process) → working s q ≡ o → working s q ≡ None
+      by : (o : Option Process) → own_part s q ≡ o → own_part s q ≡ None
       by None e = e
       by (Some own) e =
-          let lives : Lives (s.condition (q ++ [])) =
-          subst (λ z. Lives (s.condition z)) (sym (append-nil q))
+          let lives : IsAlive (s.condition (q ++ [])) =
+          subst (λ z. IsAlive (s.condition z)) (sym (append-nil q))
           (working_lives s.condition q (s.condition q) own e) in
-          absurd (subst (λ (c : ConditionOf (superpascal g)). Lives c) done
+          absurd (subst (λ (c : ConditionOf (superpascal g)). IsAlive c) done
           (ancestors_live s (known g s r).sound q [] lives))
 
   writes_there : (s : StateOf g) (p : Name) (own : Process) (l : Loc) → WritesTo s ((superpascal g).next own s.store) l
@@ -64,28 +65,32 @@ module _ (g : Setting) where
       by (Opens o ws) e w = (p, inl (refl, subst (λ (x : ActOf (superpascal g)). Assigns x l) (sym e) w))
       by (Forks o os) e w = absurd w
       by (Offering o) e w = (receiver o.cargo p w.other, inr (record { offer = o; is = e; goes = w; who_is = refl }))
-      by Ends e w = absurd w
-      by (Fails f) e w = absurd w
+      by EndsProcess e w = absurd w
+      by (MeetsFault f) e w = absurd w
 
   -- what nobody writes in a step stays
-  pub unwritten : (s : StateOf g) (p : Name) (t : StateOf g) → next g s p ≡ Some t → (l : Loc) → IsUnwritten g s p l
+  pub unwritten : (s : StateOf g) (p : Name) (t : StateOf g) → next_state g s p ≡ Some t → (l : Loc)
+      → IsUnwritten g s p l
       → t.store l ≡ s.store l
-  unwritten s p t e l free = go (working s p) refl
+  unwritten s p t e l free = go (own_part s p) refl
     where
-      by : (own : Process) → working s p ≡ Some own → (x : Option Fault) (out : Outcome (superpascal g))
-          → acts s p ((superpascal g).next own s.store) ≡ out → (result_of s p (unless x out)).store l ≡ s.store l
+      by : (own : Process) → own_part s p ≡ Some own → (x : Option Fault) (out : ActOutcome (superpascal g))
+          → act_outcome s p ((superpascal g).next own s.store) ≡ out → (result_of s p (fault_or x out)).store l
+          ≡ s.store l
       by own w None (Advances cs) e = store_frame s p ((superpascal g).next own s.store) loc_test l
           (λ h. let x = writes_there s p own l h in free own w x.0 x.1) cs s
           (all_in s p ((superpascal g).next own s.store) cs e)
       by own w None (Faulty f) e = refl
       by own w (Some f) out e = refl
 
-      go : (o : Option Process) → working s p ≡ o → t.store l ≡ s.store l
-      go None w = let x : ◌≡◌ {A = Option (StateOf g)} None (Some t) = sym (ap (step_with (most g) s p) w) ∙ e in
+      go : (o : Option Process) → own_part s p ≡ o → t.store l ≡ s.store l
+      go None w = let x : ◌≡◌ {A = Option (StateOf g)} None (Some t) =
+          sym (ap (step_with (total_limits g) s p) w) ∙ e in
           absurd (cc x)
       go (Some own) w =
           let a = (superpascal g).next own s.store in
-          let is : result_of s p (outcome (most g) s p a) ≡ t =
-          same_Some (result_of s p (outcome (most g) s p a)) t (sym (ap (step_with (most g) s p) w) ∙ e) in
+          let is : result_of s p (step_outcome (total_limits g) s p a) ≡ t =
+          same_Some (result_of s p (step_outcome (total_limits g) s p a)) t (sym (ap (step_with (total_limits g) s p) w)
+          ∙ e) in
           subst (λ (z : StateOf g). z.store l ≡ s.store l) is
-          (by own w (passed (most g) s.totals (cost a)) (acts s p a) refl)
+          (by own w (limit_fault (total_limits g) s.totals (cost a)) (act_outcome s p a) refl)

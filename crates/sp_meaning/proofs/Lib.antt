@@ -1,6 +1,6 @@
 pub mod Maps
 pub mod Keys
-pub mod Asking
+pub mod EffectTree
 pub mod Trees
 pub mod Instance
 pub mod Frames
@@ -16,7 +16,7 @@ pub mod EnoughSteps
 pub mod Moved
 pub mod Sound
 pub mod Reached
-pub mod Journeys
+pub mod JournalSchedules
 pub mod LawProofs
 pub mod Faults
 pub mod Reading
@@ -26,12 +26,12 @@ pub mod Rows
 pub mod Fronts
 pub mod Static
 pub mod Within
-pub mod Entered
+pub mod CallRights
 pub mod Rights
 pub mod SoundParts
-pub mod Deeding
+pub mod ActionRights
 pub mod Children
 pub mod Owned
 pub mod Started
 pub mod Pure
-pub mod QuietDeeds
+pub mod SilentActions

@@ -2,7 +2,7 @@
 use Rattle.std.proofs.Common.{◌≡◌, ◌≢◌, ◌⊎◌, ⊎_elim, inl, inr, ℕ, [], ◌∷◌, ◌++◌, Some, refl, sym, ap, ◌∙◌, subst}
 use Rattle.std.proofs.Common.{append_assoc, append-nil}
 use Rattle.sp_meaning.specs.Model.{Name, Channel, Language, Condition, Absent, Works, Waits, Joins, Ended, State}
-use Rattle.sp_meaning.specs.Steps.{working, WaitsOn, Lives, JoinsAt, Sound}
+use Rattle.sp_meaning.specs.Steps.{own_part, WaitsOn, IsAlive, JoinsAt, Sound}
 use Rattle.sp_meaning.proofs.Maps.{same_or_not}
 use Rattle.sp_meaning.proofs.Keys.{name_test}
 use Rattle.sp_meaning.specs.Disjoint.{AreParallel}
@@ -83,7 +83,7 @@ parts (x ∷ a) b = ⊎_elim
         })))
         (same_pair x l.last)
 
-pub joins_lives : {O V T : Type 0} (k i : ℕ) (c : Condition O V T) → JoinsAt k i c → Lives c
+pub joins_lives : {O V T : Type 0} (k i : ℕ) (c : Condition O V T) → JoinsAt k i c → IsAlive c
 joins_lives k i Absent h = h
 joins_lives k i (Works o) h = tt
 joins_lives k i (Waits w) h = tt
@@ -98,27 +98,28 @@ one_fork k i m j (Joins n x o) h g = sym h.0 ∙ g.0
 one_fork k i m j Ended h g = absurd h
 
 -- each ancestor of a process that lives joins, and so lives
-pub ancestors_live : {L : Language} (s : State L) → Sound s → (u : Name) (z : Name) → Lives (s.condition (u ++ z))
-    → Lives (s.condition z)
+pub ancestors_live : {L : Language} (s : State L) → Sound s → (u : Name) (z : Name) → IsAlive (s.condition (u ++ z))
+    → IsAlive (s.condition z)
 ancestors_live s sound [] z l = l
 ancestors_live s sound (x ∷ u) z l = ancestors_live s sound u z
     (joins_lives x.0 x.1 (s.condition (u ++ z)) (sound.joined (u ++ z) x.0 x.1 l))
 
 -- p works, or waits for a message
 abbrev pub IsAlone : {L : Language} → State L → Name → Type 0
-IsAlone {L} s p = ((own : L.Own) × (working s p ≡ Some own)) ⊎ ((c : Channel) × WaitsOn c (s.condition p))
+IsAlone {L} s p = ((own : L.Own) × (own_part s p ≡ Some own)) ⊎ ((c : Channel) × WaitsOn c (s.condition p))
 
-pub alone_lives : {L : Language} (s : State L) (p : Name) → IsAlone s p → Lives (s.condition p)
+pub alone_lives : {L : Language} (s : State L) (p : Name) → IsAlone s p → IsAlive (s.condition p)
 alone_lives s p h = ⊎_elim (λ w. working_lives s.condition p (s.condition p) w.0 w.1)
     (λ w. waits_lives w.0 (s.condition p) w.1) h
 
-pub alone_childless : {L : Language} (s : State L) (p : Name) (k i : ℕ) → IsAlone s p → Lives (s.condition ((k, i) ∷ p))
+pub alone_childless : {L : Language} (s : State L) (p : Name) (k i : ℕ) → IsAlone s p
+    → IsAlive (s.condition ((k, i) ∷ p))
     → JoinsAt k i (s.condition p) → ⊥
 alone_childless s p k i h l j = ⊎_elim
     (λ w. lives_ended (s.condition ((k, i) ∷ p)) l (working_joins s.condition p (s.condition p) w.0 k i w.1 j))
     (λ w. waits_joins w.0 k i (s.condition p) w.1 j) h
 
-pub not_above : {L : Language} (s : State L) (a b : Name) → Sound s → IsAlone s b → Lives (s.condition a) → a ≢ b
+pub not_above : {L : Language} (s : State L) (a b : Name) → Sound s → IsAlone s b → IsAlive (s.condition a) → a ≢ b
     → Below a b → ⊥
 not_above {L} s a b sound alone lives apart h = over h.rest h.is
   where
@@ -127,8 +128,8 @@ not_above {L} s a b sound alone lives apart h = over h.rest h.is
     over (v ∷ r) e =
         let l = last_of v r in
         let a_is : a ≡ l.front ++ l.last ∷ b = e ∙ ap (λ z. z ++ b) l.is ∙ moved l.front l.last b in
-        let child : Lives (s.condition (l.last ∷ b)) =
-        ancestors_live s sound l.front (l.last ∷ b) (subst (λ z. Lives (s.condition z)) a_is lives) in
+        let child : IsAlive (s.condition (l.last ∷ b)) =
+        ancestors_live s sound l.front (l.last ∷ b) (subst (λ z. IsAlive (s.condition z)) a_is lives) in
         alone_childless s b (l.last).0 (l.last).1 alone child (sound.joined b (l.last).0 (l.last).1 child)
 
 pub parallel : {L : Language} (s : State L) (a b : Name) → Sound s → IsAlone s a → IsAlone s b → a ≢ b → AreParallel a b
@@ -139,10 +140,10 @@ parallel s a b sound one other apart = ⊎_elim
     (λ (h : Parts a b).
     let ja = sound.joined h.common (h.x).0 (h.x).1
     (ancestors_live s sound h.after_x (h.x ∷ h.common)
-    (subst (λ z. Lives (s.condition z)) h.a_is (alone_lives s a one))) in
+    (subst (λ z. IsAlive (s.condition z)) h.a_is (alone_lives s a one))) in
     let jb = sound.joined h.common (h.y).0 (h.y).1
     (ancestors_live s sound h.after_y (h.y ∷ h.common)
-    (subst (λ z. Lives (s.condition z)) h.b_is (alone_lives s b other))) in
+    (subst (λ z. IsAlive (s.condition z)) h.b_is (alone_lives s b other))) in
     let fork : (h.x).0 ≡ (h.y).0 = one_fork (h.x).0 (h.x).1 (h.y).0 (h.y).1 (s.condition h.common) ja jb in
     record {
       common = h.common;

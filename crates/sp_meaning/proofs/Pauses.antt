@@ -1,16 +1,16 @@
 -- A worked process that is due after two ticks, pauses, and ends.
 use Rattle.std.proofs.Common.{ℕ, zero, suc, true, false, List, [], ◌∷◌, Option, Some, None, refl}
 use Rattle.sp_tree.specs.Plain.{Empty, For}
-use Rattle.sp_meaning.specs.Own.{Process}
+use Rattle.sp_meaning.specs.LocalWork.{Process}
 use Rattle.sp_meaning.specs.SuperPascal.{root}
-use Rattle.sp_meaning.specs.Own.{Setting}
+use Rattle.sp_meaning.specs.LocalWork.{RunInput}
 use Rattle.sp_meaning.specs.Entries.{Paused, Ended}
-use Rattle.sp_meaning.specs.Runs.{StateOf, running}
+use Rattle.sp_meaning.specs.Runs.{StateOf, running_process}
 use Rattle.sp_meaning.specs.Along.{IsAlong}
 use Rattle.sp_meaning.specs.Ends.{IsDone}
 use Rattle.sp_meaning.proofs.Faults.{program, num, ample, of, after}
 
-abbrev loop : Setting
+abbrev loop : RunInput
 loop = of (program (For 3 (num 1) false (num 3) Empty ∷ [])) ample
 
 abbrev roots : ℕ → List (List (ℕ × ℕ))
@@ -25,7 +25,7 @@ own_by None = root loop
 own_by (Some o) = o
 
 abbrev own_at : ℕ → Process
-own_at n = own_by (running loop (at n) [])
+own_at n = own_by (running_process loop (at n) [])
 
 pauses : IsAlong loop 2 (record { who = []; what = Paused } ∷ record { who = []; what = Ended } ∷ []) 5 (at 5)
 pauses = (

@@ -13,7 +13,7 @@ use Rattle.sp_tree.specs.Uses.{Use, Target, Seen, CallOf, ParallelOf, ForallOf, 
 use Rattle.sp_tree.specs.Uses.{In_actuals, In_width}
 use Rattle.sp_tree.specs.Sets.{Reach, ImplicitTarget}
 use Rattle.sp_tree.specs.Interference.{IsMember, IsFunction}
-use Rattle.sp_meaning.specs.Own.{Item, Do, First, Again, Test, Leave, Break}
+use Rattle.sp_meaning.specs.LocalWork.{Item, Do, First, Again, Test, Leave, Break}
 
 module _ (p : Program) where
   -- no function changes a variable from outside (rule I8)

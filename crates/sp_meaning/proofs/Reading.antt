@@ -3,14 +3,14 @@ use Rattle.std.proofs.Common.{◌≡◌, ℕ, List, [], ◌∷◌, None, refl}
 use Rattle.sp_tree.specs.declared.checked.KindOf.TheVariants as kind
 use Rattle.sp_tree.specs.declared.checked.Role.TheVariants as role
 use Rattle.sp_tree.specs.Plain.{Variable, Entire, Whole, Stmt, Sequence, ReadValue, ReadLine, WriteValue}
-use Rattle.sp_meaning.specs.Own.{Setting}
+use Rattle.sp_meaning.specs.LocalWork.{RunInput}
 use Rattle.sp_meaning.proofs.Faults.{prints, ample, console, read, root, sequence}
 
 abbrev char : Variable
 char = record { kind = 1; block = 0; role = role.Local }
 
 -- variables 2 and 3 are chars, and the input has two lines: ab, c
-abbrev reading : List Stmt → Setting
+abbrev reading : List Stmt → RunInput
 reading ss = record {
   program = record {
     kinds = kind.Integer ∷ kind.Char ∷ [];

@@ -5,17 +5,17 @@ use Rattle.std.proofs.Common.{ap, ◌∙◌, subst, arith}
 use Rattle.std.specs.Prelude.{drop}
 use Rattle.std.proofs.Math.Seq.{drop-append_seam}
 use Rattle.sp_meaning.specs.Model.{Name}
-use Rattle.sp_meaning.specs.Own.{Loc, Cell, Input, Output}
+use Rattle.sp_meaning.specs.LocalWork.{Loc, Cell, Input, Output}
 use Rattle.sp_meaning.specs.Disjoint.{AreParallel}
 
-abbrev pub Mine : Name → Loc → Type 0
-Mine q (Cell r n x) = r ≡ q
-Mine q Input = ⊥
-Mine q Output = ⊥
+abbrev pub OwnLocation : Name → Loc → Type 0
+OwnLocation q (Cell r n x) = r ≡ q
+OwnLocation q Input = ⊥
+OwnLocation q Output = ⊥
 
 -- its own, or given
-abbrev pub All : (Name → Loc → Type 0) → Name → Loc → Type 0
-All W q l = Mine q l ⊎ W q l
+abbrev pub OwnOrGiven : (Name → Loc → Type 0) → Name → Loc → Type 0
+OwnOrGiven W q l = OwnLocation q l ⊎ W q l
 
 -- the owner is further up
 abbrev pub IsAbove : Name → Loc → Type 0
@@ -26,8 +26,8 @@ IsAbove q Output = Unit {0}
 pub record Fair_rights (W R : Name → Loc → Type 0) : Type 0 where
   pub reads : (q : Name) (l : Loc) → W q l → R q l
   pub above : (q : Name) (l : Loc) → R q l → IsAbove q l
-  pub less_write : (q : Name) (k i : ℕ) (l : Loc) → W ((k, i) ∷ q) l → All W q l
-  pub less_read : (q : Name) (k i : ℕ) (l : Loc) → R ((k, i) ∷ q) l → All R q l
+  pub less_write : (q : Name) (k i : ℕ) (l : Loc) → W ((k, i) ∷ q) l → OwnOrGiven W q l
+  pub less_read : (q : Name) (k i : ℕ) (l : Loc) → R ((k, i) ∷ q) l → OwnOrGiven R q l
   pub apart : (q : Name) (k i j : ℕ) (l : Loc) → i ≢ j → W ((k, i) ∷ q) l → R ((k, j) ∷ q) l → ⊥
 
 -- the owner is this process or one below it
@@ -36,13 +36,13 @@ IsBelow q (Cell r n x) = (more : Name) × (r ≡ more ++ q)
 IsBelow q Input = ⊥
 IsBelow q Output = ⊥
 
-pub mine_below : (more q : Name) (l : Loc) → Mine (more ++ q) l → IsBelow q l
+pub mine_below : (more q : Name) (l : Loc) → OwnLocation (more ++ q) l → IsBelow q l
 mine_below more q (Cell r n x) e = (more, e)
 mine_below more q Input e = absurd e
 mine_below more q Output e = absurd e
 
-pub came_down : (V : Name → Loc → Type 0) → ((q : Name) (k i : ℕ) (l : Loc) → V ((k, i) ∷ q) l → All V q l)
-    → (more q : Name) (l : Loc) → All V (more ++ q) l → IsBelow q l ⊎ V q l
+pub came_down : (V : Name → Loc → Type 0) → ((q : Name) (k i : ℕ) (l : Loc) → V ((k, i) ∷ q) l → OwnOrGiven V q l)
+    → (more q : Name) (l : Loc) → OwnOrGiven V (more ++ q) l → IsBelow q l ⊎ V q l
 came_down V less [] q l (inl m) = inl (mine_below [] q l m)
 came_down V less [] q l (inr v) = inr v
 came_down V less (a ∷ more) q l (inl m) = inl (mine_below (a ∷ more) q l m)
@@ -72,10 +72,10 @@ below_both z k i j Input apart a b = a
 below_both z k i j Output apart a b = a
 
 pub parallel_apart : (W R : Name → Loc → Type 0) → Fair_rights W R → (a b : Name) → AreParallel a b → (l : Loc)
-    → All W a l → All R b l → ⊥
+    → OwnOrGiven W a l → OwnOrGiven R b l → ⊥
 parallel_apart W R f a b h l w r = go (came_down W f.less_write h.after_one ((h.fork, h.one) ∷ h.common) l
-    (subst (λ x. All W x l) h.a_is w)) (came_down R f.less_read h.after_other ((h.fork, h.other) ∷ h.common) l
-    (subst (λ x. All R x l) h.b_is r))
+    (subst (λ x. OwnOrGiven W x l) h.a_is w)) (came_down R f.less_read h.after_other ((h.fork, h.other) ∷ h.common) l
+    (subst (λ x. OwnOrGiven R x l) h.b_is r))
   where
     one : Name
     one = (h.fork, h.one) ∷ h.common

@@ -11,13 +11,13 @@ use Rattle.sp_tree.specs.declared.operators.StandardFn.TheVariants as standard
 use Rattle.sp_tree.specs.Plain.{Expr, Typed, Number, Binary, Standard, Entire, Whole, Var, Nothing, Pass, ByValue}
 use Rattle.sp_tree.specs.Plain.{Empty, Stmt, Assign, Call, Sequence, Parallel, Forall, WriteValue, Open, Send, Receive}
 use Rattle.sp_meaning.specs.Model.{Name}
-use Rattle.sp_meaning.specs.Own.{Setting}
-use Rattle.sp_meaning.specs.Runs.{StateOf, next}
+use Rattle.sp_meaning.specs.LocalWork.{RunInput}
+use Rattle.sp_meaning.specs.Runs.{StateOf, next_state}
 use Rattle.sp_meaning.specs.Ends.{IsDone, WaitsSo}
 use Rattle.sp_meaning.proofs.Faults.{of, ample, fault_of, after, prints, console, read, child, num, root, sequence}
 
 -- types integer, *(integer) and char; variable 2 is a channel, 3 and 4 are integers
-abbrev with_body : List Stmt → Setting
+abbrev with_body : List Stmt → RunInput
 with_body ss = of (record {
   kinds = kind.Integer ∷ kind.Channel (0 ∷ []) ∷ kind.Char ∷ [];
   variables = console ∷ console ∷ record { kind = 1; block = 0; role = role.Local }
@@ -55,7 +55,7 @@ abbrev digit : ℕ → Stmt
 digit v = writes (add (read 0 v) 48)
 
 -- x := 6; write(chr(x * 7))
-abbrev product : Setting
+abbrev product : RunInput
 product = with_body (Assign x (num 6) ∷ writes (Typed 0 (Binary binary.Mul (read 0 3) (num 7))) ∷ [])
 
 -- three steps: it prints char 42 and is done; a fourth name can make no step; with two steps there is no end
@@ -65,7 +65,7 @@ product_prints = refl
 product_done : IsDone product (after product (root ∷ root ∷ root ∷ []))
 product_done = refl
 
-product_over : next product (after product (root ∷ root ∷ root ∷ [])) root ≡ None
+product_over : next_state product (after product (root ∷ root ∷ root ∷ [])) root ≡ None
 product_over = refl
 
 product_early : prints product (root ∷ root ∷ []) ≡ 42 ∷ []
@@ -81,7 +81,7 @@ opens_alone : fault_of (record (with_body (opens ∷ [])) { limits = record ampl
 opens_alone = refl
 
 -- open(c); parallel begin receive(c, x); receive(c, y) end | send(c, 1) | send(c, 2) end; write(x, y)
-abbrev raced : Setting
+abbrev raced : RunInput
 raced = with_body (opens ∷ Parallel (sequence (both (receives x ∷ receives y ∷ []) ∷ sends 1 ∷ sends 2 ∷ [])) ∷ digit 3
     ∷ digit 4 ∷ [])
 
@@ -103,7 +103,7 @@ raced_contends : fault_of raced (root ∷ root ∷ child 1 ∷ child 2 ∷ []) �
 raced_contends = refl
 
 -- open(c); parallel begin send(c, 1); send(c, 2) end | receive(c, x) | receive(c, y) end
-abbrev receivers : Setting
+abbrev receivers : RunInput
 receivers = with_body (opens ∷ Parallel (sequence (both (sends 1 ∷ sends 2 ∷ []) ∷ receives x ∷ receives y ∷ [])) ∷ [])
 
 receivers_done : IsDone receivers (after receivers
@@ -111,14 +111,14 @@ receivers_done : IsDone receivers (after receivers
 receivers_done = refl
 
 -- open(c); parallel send(c, 1) | send(c, 2) | receive(c, x) end
-abbrev contending : Setting
+abbrev contending : RunInput
 contending = with_body (opens ∷ Parallel (sequence (sends 1 ∷ sends 2 ∷ receives x ∷ [])) ∷ [])
 
 contention : fault_of contending (root ∷ root ∷ child 0 ∷ child 1 ∷ []) ≡ Some (child 1, fault.F6)
 contention = refl
 
 -- open(c); receive(c, x): the root waits, and nobody can step
-abbrev alone : Setting
+abbrev alone : RunInput
 alone = with_body (opens ∷ receives x ∷ [])
 
 abbrev waiting : StateOf alone
@@ -127,11 +127,11 @@ waiting = after alone (root ∷ root ∷ [])
 alone_waits : WaitsSo alone waiting (record { who = []; way = way.Receive; channel = record { owner = []; nth = 0 } })
 alone_waits = (_, refl, refl, refl)
 
-alone_stuck : next alone waiting root ≡ None
+alone_stuck : next_state alone waiting root ≡ None
 alone_stuck = refl
 
 -- the same channel twice, in forks one after the other
-abbrev joined : Setting
+abbrev joined : RunInput
 joined = with_body (opens ∷ Parallel (sequence (sends 1 ∷ receives x ∷ []))
     ∷ Parallel (sequence (sends 2 ∷ receives y ∷ [])) ∷ digit 3 ∷ digit 4 ∷ [])
 
@@ -143,7 +143,7 @@ joined_prints : prints joined (root ∷ root ∷ child 0 ∷ child 1 ∷ child 0
 joined_prints = refl
 
 -- procedure node(i: integer); begin end; forall i := 1 to 0 do node(i)
-abbrev nobody : Setting
+abbrev nobody : RunInput
 nobody = of (record {
   kinds = kind.Integer ∷ [];
   variables = console ∷ console ∷ record { kind = 0; block = 1; role = role.Value }

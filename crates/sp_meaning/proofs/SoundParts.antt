@@ -5,13 +5,14 @@ use Rattle.std.specs.Prelude.{◌+ℤ◌, ℤ, pos}
 use Rattle.sp_tree.specs.Plain.{Expr, Program, Stmt, Empty, Assign, Call, Sequence, If, IfElse, While, Repeat, For}
 use Rattle.sp_tree.specs.Plain.{Case, Parallel, Forall, Assume, ReadValue, ReadLine, WriteValue, WriteText, WriteLine}
 use Rattle.sp_tree.specs.Plain.{Open, Send, Receive, Stmts, No, And, On, Arms, NoArm, Or}
-use Rattle.sp_meaning.specs.Own.{Loc, Frame, Item, Do, First, Again, Test, Leave, Break}
-use Rattle.sp_meaning.specs.Deeds.{push, push_all, children, indexed_children, has, arm_for}
+use Rattle.sp_meaning.specs.LocalWork.{Loc, Frame, Item, Do, First, Again, Test, Leave, Break}
+use Rattle.sp_meaning.specs.Actions.{push, push_all, children, indexed_children, has_constant, arm_for}
 use Rattle.sp_tree.specs.Uses.{Use, Target, Seen, CallOf, ParallelOf, ForallOf, Stop, In_stmt, In_stmts, In_arms}
 use Rattle.sp_tree.specs.Uses.{IsOther}
 use Rattle.sp_tree.specs.Sets.{Reach, IsTarget, IsUsed}
 use Rattle.sp_tree.specs.Interference.{KeepsI1, KeepsRules}
-use Rattle.sp_meaning.specs.Owning.{Linked, below, last_of, stands_by, stands_at, stands, Touches, Sound, Fit, AreClear}
+use Rattle.sp_meaning.specs.Owning.{Linked, frames_below, last_of, location_by, location_at, location_of, Touches}
+use Rattle.sp_meaning.specs.Owning.{Sound, Fit, AreClear}
 use Rattle.sp_meaning.specs.Owning.{IsClearOf, Born}
 use Rattle.sp_meaning.proofs.Within.{reach_part, part}
 use Rattle.sp_meaning.proofs.Keys.{number_or}
@@ -27,7 +28,8 @@ target_part p i x h = (h.0, reach_part p i h.0 (Target x) h.1)
 
 -- two variables in use are two locations
 uses_apart : {p : Program} {W R : Loc → Type 0} {fs : List Frame} {Here : Use → Type 0} → Sound p W R fs Here
-    → (x y : ℕ) (l : Loc) → x ≢ y → stands p fs x ≡ Some l → stands p fs y ≡ Some l → IsUsed p Here x → IsUsed p Here y
+    → (x y : ℕ) (l : Loc) → x ≢ y → location_of p fs x ≡ Some l → location_of p fs y ≡ Some l → IsUsed p Here x
+    → IsUsed p Here y
     → ⊥
 uses_apart s x y l n e d (inl a) (inl b) = s.apart a.0 b.0 (Target x) (Target y) a.1 b.1 x y l n (refl, e) (refl, d)
 uses_apart s x y l n e d (inl a) (inr b) = s.apart a.0 b.0 (Target x) (Seen y) a.1 b.1 x y l n (refl, e) (refl, d)
@@ -94,16 +96,16 @@ born_copies {p} {W} {R} {fs} x s so i m (suc n) =
 -- the element statement of a forall: its index is no location
 module _ {p : Program} {W R : Loc → Type 0} {fs : List Frame} (x : ℕ) (from to : Expr) (s : Stmt)
     (so : Sound p W R fs (In_stmt (Forall x from to s))) where
-  no_spot : (l : Loc) → stands p fs x ≡ Some l → ⊥
+  no_spot : (l : Loc) → location_of p fs x ≡ Some l → ⊥
   no_spot l e =
       let i = (so.kept (ForallOf x s) (inl refl)).0 in
-      let none : stands p fs x ≡ None = ap (stands_at fs x) i.1 ∙ ap (stands_by fs x i.0) i.2 in
+      let none : location_of p fs x ≡ None = ap (location_at fs x) i.1 ∙ ap (location_by fs x i.0) i.2 in
       let h : None ≡ Some l = sym none ∙ e in absurd (cc h)
 
   other_or : (u : Use) → ((y : ℕ) (l : Loc) → Touches p fs u y l → ⊥) ⊎ IsOther x u
-  other_or (Target y) = ⊎_elim (λ (e : x ≡ y). inl (λ z l t. no_spot l (ap (stands p fs) (e ∙ t.0) ∙ t.1)))
+  other_or (Target y) = ⊎_elim (λ (e : x ≡ y). inl (λ z l t. no_spot l (ap (location_of p fs) (e ∙ t.0) ∙ t.1)))
       (λ (n : x ≢ y). inr n) (number_or x y)
-  other_or (Seen y) = ⊎_elim (λ (e : x ≡ y). inl (λ z l t. no_spot l (ap (stands p fs) (e ∙ t.0) ∙ t.1)))
+  other_or (Seen y) = ⊎_elim (λ (e : x ≡ y). inl (λ z l t. no_spot l (ap (location_of p fs) (e ∙ t.0) ∙ t.1)))
       (λ (n : x ≢ y). inr n) (number_or x y)
   other_or (CallOf f args) = inr tt
   other_or (ParallelOf ss) = inr tt
@@ -173,14 +175,14 @@ InArm arms (Some s) = (u : Use) → In_stmt s u → In_arms arms u
 
 pub in_arm : (n : ℤ) (arms : Arms) → InArm arms (arm_for n arms)
 in_arm n NoArm = tt
-in_arm n (Or (On ms s) rest) = go (has n ms) (arm_for n rest) (in_arm n rest)
+in_arm n (Or (On ms s) rest) = go (has_constant n ms) (arm_for n rest) (in_arm n rest)
   where
     go : (b : Bool) (o : Option Stmt) → InArm rest o → InArm (Or (On ms s) rest) (if b then Some s else o)
     go true o h = λ u i. inl i
     go false None h = tt
     go false (Some r) h = λ u i. inr (h u i)
 
-pub linked_below : (fs : List Frame) → Linked fs → Linked (below fs)
+pub linked_below : (fs : List Frame) → Linked fs → Linked (frames_below fs)
 linked_below [] l = tt
 linked_below (f ∷ fs) l = l.3
 
@@ -191,9 +193,10 @@ last_shorter fs (Do s ∷ todo) = last_shorter fs todo
 last_shorter fs (First x m n down s ∷ todo) = last_shorter fs todo
 last_shorter fs (Again x n down s ∷ todo) = last_shorter fs todo
 last_shorter fs (Test s e ∷ todo) = last_shorter fs todo
-last_shorter fs (Leave ∷ todo) = let a = last_shorter (below fs) todo in let b = below_shorter fs in omega (arith, a, b)
+last_shorter fs (Leave ∷ todo) = let a = last_shorter (frames_below fs) todo in let b = below_shorter fs in
+    omega (arith, a, b)
   where
-    below_shorter : (gs : List Frame) → length (below gs) ≤ length gs
+    below_shorter : (gs : List Frame) → length (frames_below gs) ≤ length gs
     below_shorter [] = omega arith
     below_shorter (g ∷ gs) = omega arith
 last_shorter fs (Break f ∷ todo) = last_shorter fs todo

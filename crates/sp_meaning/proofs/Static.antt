@@ -2,8 +2,8 @@
 use Rattle.std.proofs.Common.{◌≡◌, ℕ, suc, ◌<◌, ◌≤◌, ◌==◌, Bool, true, false, List, [], ◌∷◌, length, Some, refl, sym}
 use Rattle.std.proofs.Common.{ap, ◌∙◌, subst, arith, if◌then◌else◌, eqb-true, eq-eqb}
 use Rattle.std.proofs.lemmas.Option.{same_Some}
-use Rattle.sp_meaning.specs.Own.{Home, OfBlock, OfIndex, Frame, seek, newest, is_block}
-use Rattle.sp_meaning.specs.Owning.{find, IsInside, Linked}
+use Rattle.sp_meaning.specs.LocalWork.{Home, OfBlock, OfIndex, Frame, seek, top_frame, is_block}
+use Rattle.sp_meaning.specs.Owning.{frame_found, IsInside, Linked}
 
 pub unequal : (a b : ℕ) → b < a → a == b ≡ false
 unequal a b l = go (a == b) refl
@@ -13,21 +13,21 @@ unequal a b l = go (a == b) refl
     go true e = let d : a ≡ b = eqb-true a b e in absurd (omega (arith, d))
 
 -- the frame that is found is the first of those that the meaning seeks
-pub find_is : (fits : Home → Bool) (n : ℕ) (fs : List Frame) → newest (seek fits n fs) ≡ find fits n fs
+pub find_is : (fits : Home → Bool) (n : ℕ) (fs : List Frame) → top_frame (seek fits n fs) ≡ frame_found fits n fs
 find_is fits n [] = refl
 find_is fits n (f ∷ fs) = go (λ m. find_is fits m fs) (length (f ∷ fs) == n) (fits f.home)
   where
-    go : ((m : ℕ) → newest (seek fits m fs) ≡ find fits m fs) → (a b : Bool)
-        → newest (if a then (if b then f ∷ fs else seek fits f.link fs) else seek fits n fs)
-        ≡ (if a then (if b then Some f else find fits f.link fs) else find fits n fs)
+    go : ((m : ℕ) → top_frame (seek fits m fs) ≡ frame_found fits m fs) → (a b : Bool)
+        → top_frame (if a then (if b then f ∷ fs else seek fits f.link fs) else seek fits n fs)
+        ≡ (if a then (if b then Some f else frame_found fits f.link fs) else frame_found fits n fs)
     go ih true true = refl
     go ih true false = ih f.link
     go ih false b = ih n
 
 -- it is found where the list is as long as its number and one more
 pub sought : (fits : Home → Bool) (n : ℕ) (fs : List Frame) (g : Frame) (gs : List Frame) → Linked fs
-    → seek fits n fs ≡ g ∷ gs → (find fits n fs ≡ Some g) × (length (g ∷ gs) ≡ suc g.number)
-sought fits n fs g gs l e = (sym (find_is fits n fs) ∙ ap newest e, numbered fits n fs g gs l e)
+    → seek fits n fs ≡ g ∷ gs → (frame_found fits n fs ≡ Some g) × (length (g ∷ gs) ≡ suc g.number)
+sought fits n fs g gs l e = (sym (find_is fits n fs) ∙ ap top_frame e, numbered fits n fs g gs l e)
   where
     nil_is : (a : Frame) (rest : List Frame) → [] ≡ a ∷ rest → ⊥
     nil_is a rest e = cc e
@@ -51,18 +51,18 @@ sought fits n fs g gs l e = (sym (find_is fits n fs) ∙ ap newest e, numbered f
         go ih true false e = ih f.link e
         go ih false b e = ih n e
 
-pub lower : (fits : Home → Bool) (n : ℕ) (fs : List Frame) (f : Frame) → Linked fs → find fits n fs ≡ Some f
+pub lower : (fits : Home → Bool) (n : ℕ) (fs : List Frame) (f : Frame) → Linked fs → frame_found fits n fs ≡ Some f
     → f.number < length fs
 lower fits n [] f l e = absurd (cc e)
 lower fits n (g ∷ fs) f l e = go (λ m x. lower fits m fs f l.3 x) (length (g ∷ fs) == n) e
   where
-    inner : ((m : ℕ) → find fits m fs ≡ Some f → f.number < length fs) → (b : Bool)
-        → (if b then Some g else find fits g.link fs) ≡ Some f → f.number < suc (length fs)
+    inner : ((m : ℕ) → frame_found fits m fs ≡ Some f → f.number < length fs) → (b : Bool)
+        → (if b then Some g else frame_found fits g.link fs) ≡ Some f → f.number < suc (length fs)
     inner ih true e = let d : g ≡ f = same_Some g f e in omega (arith, sym (ap (λ (z : Frame). z.number) d) ∙ l.0)
     inner ih false e = omega (arith, ih g.link e)
 
-    go : ((m : ℕ) → find fits m fs ≡ Some f → f.number < length fs) → (b : Bool)
-        → (if b then (if fits g.home then Some g else find fits g.link fs) else find fits n fs) ≡ Some f
+    go : ((m : ℕ) → frame_found fits m fs ≡ Some f → f.number < length fs) → (b : Bool)
+        → (if b then (if fits g.home then Some g else frame_found fits g.link fs) else frame_found fits n fs) ≡ Some f
         → f.number < suc (length fs)
     go ih true e = inner ih (fits g.home) e
     go ih false e = omega (arith, ih n e)
@@ -72,48 +72,52 @@ home_is c (OfBlock b) e = ap OfBlock (sym (eqb-true c b e))
 home_is c (OfIndex x n) e = absurd (cc e)
 
 -- from a frame of block c outward, block d's frame is the one that is seen through c's, and d is no inner block
-pub through : (c d n : ℕ) (f g : Frame) (fs : List Frame) → Linked fs → find (is_block c) n fs ≡ Some f
-    → find (is_block d) (suc f.number) fs ≡ Some g → (find (is_block d) n fs ≡ Some g) × (d ≤ c)
+pub through : (c d n : ℕ) (f g : Frame) (fs : List Frame) → Linked fs → frame_found (is_block c) n fs ≡ Some f
+    → frame_found (is_block d) (suc f.number) fs ≡ Some g → (frame_found (is_block d) n fs ≡ Some g) × (d ≤ c)
 through c d n f g [] l e h = absurd (cc e)
 through c d n f g (k ∷ fs) l e h = go (λ m x y. through c d m f g fs l.3 x y) (length (k ∷ fs) == n) e
   where
-    skip : f.number < length fs → find (is_block d) (suc f.number) fs ≡ Some g
-    skip lt = subst (λ z. (if z then (if is_block d k.home then Some k else find (is_block d) k.link fs) else
-        find (is_block d) (suc f.number) fs) ≡ Some g) (unequal (length (k ∷ fs)) (suc f.number) (omega (arith, lt))) h
+    skip : f.number < length fs → frame_found (is_block d) (suc f.number) fs ≡ Some g
+    skip lt = subst (λ z. (if z then (if is_block d k.home then Some k else frame_found (is_block d) k.link fs) else
+        frame_found (is_block d) (suc f.number) fs) ≡ Some g)
+        (unequal (length (k ∷ fs)) (suc f.number) (omega (arith, lt))) h
 
-    deeper : (z : Bool) → is_block d k.home ≡ z → (find (is_block d) k.link fs ≡ Some g) × (d ≤ c)
-        → ((if z then Some k else find (is_block d) k.link fs) ≡ Some g) × (d ≤ c)
+    deeper : (z : Bool) → is_block d k.home ≡ z → (frame_found (is_block d) k.link fs ≡ Some g) × (d ≤ c)
+        → ((if z then Some k else frame_found (is_block d) k.link fs) ≡ Some g) × (d ≤ c)
     deeper true m r = absurd (omega (arith, subst (λ x. IsInside x k.link fs) (home_is d k.home m) l.1 d g r.0))
     deeper false m r = r
 
     same : (z : Bool) → is_block d k.home ≡ z → is_block c k.home ≡ true
-        → (if z then Some k else find (is_block d) k.link fs) ≡ Some g → d ≤ c
+        → (if z then Some k else frame_found (is_block d) k.link fs) ≡ Some g → d ≤ c
     same true m mc r =
         let e1 : OfBlock c ≡ OfBlock d = sym (home_is c k.home mc) ∙ home_is d k.home m in
         let e2 : c ≡ d = cc e1 in
         omega (arith, e2)
     same false m mc r = omega (arith, subst (λ x. IsInside x k.link fs) (home_is c k.home mc) l.1 d g r)
 
-    inner : ((m : ℕ) → find (is_block c) m fs ≡ Some f → find (is_block d) (suc f.number) fs ≡ Some g
-        → (find (is_block d) m fs ≡ Some g) × (d ≤ c)) → (z : Bool) → is_block c k.home ≡ z
-        → (if z then Some k else find (is_block c) k.link fs) ≡ Some f
-        → ((if is_block d k.home then Some k else find (is_block d) k.link fs) ≡ Some g) × (d ≤ c)
+    inner : ((m : ℕ) → frame_found (is_block c) m fs ≡ Some f → frame_found (is_block d) (suc f.number) fs ≡ Some g
+        → (frame_found (is_block d) m fs ≡ Some g) × (d ≤ c)) → (z : Bool) → is_block c k.home ≡ z
+        → (if z then Some k else frame_found (is_block c) k.link fs) ≡ Some f
+        → ((if is_block d k.home then Some k else frame_found (is_block d) k.link fs) ≡ Some g) × (d ≤ c)
     inner ih true m e =
         let k_is : k ≡ f = same_Some k f e in
-        let h1 : find (is_block d) (suc k.number) (k ∷ fs) ≡ Some g =
-        subst (λ (z : Frame). find (is_block d) (suc z.number) (k ∷ fs) ≡ Some g) (sym k_is) h in
-        let h2 : (if is_block d k.home then Some k else find (is_block d) k.link fs) ≡ Some g =
-        subst (λ z. (if z then (if is_block d k.home then Some k else find (is_block d) k.link fs) else
-        find (is_block d) (suc k.number) fs) ≡ Some g) (eq-eqb (length (k ∷ fs)) (suc k.number) (ap suc (sym l.0)))
+        let h1 : frame_found (is_block d) (suc k.number) (k ∷ fs) ≡ Some g =
+        subst (λ (z : Frame). frame_found (is_block d) (suc z.number) (k ∷ fs) ≡ Some g) (sym k_is) h in
+        let h2 : (if is_block d k.home then Some k else frame_found (is_block d) k.link fs) ≡ Some g =
+        subst (λ z. (if z then (if is_block d k.home then Some k else frame_found (is_block d) k.link fs) else
+        frame_found (is_block d) (suc k.number) fs) ≡ Some g)
+        (eq-eqb (length (k ∷ fs)) (suc k.number) (ap suc (sym l.0)))
         h1 in
         (h2, same (is_block d k.home) refl m h2)
     inner ih false m e = deeper (is_block d k.home) refl (ih k.link e (skip (lower (is_block c) k.link fs f l.3 e)))
 
-    go : ((m : ℕ) → find (is_block c) m fs ≡ Some f → find (is_block d) (suc f.number) fs ≡ Some g
-        → (find (is_block d) m fs ≡ Some g) × (d ≤ c)) → (z : Bool)
-        → (if z then (if is_block c k.home then Some k else find (is_block c) k.link fs) else find (is_block c) n fs)
+    go : ((m : ℕ) → frame_found (is_block c) m fs ≡ Some f → frame_found (is_block d) (suc f.number) fs ≡ Some g
+        → (frame_found (is_block d) m fs ≡ Some g) × (d ≤ c)) → (z : Bool)
+        → (if z then (if is_block c k.home then Some k else frame_found (is_block c) k.link fs) else frame_found
+        (is_block c) n fs)
         ≡ Some f
-        → ((if z then (if is_block d k.home then Some k else find (is_block d) k.link fs) else find (is_block d) n fs)
+        → ((if z then (if is_block d k.home then Some k else frame_found (is_block d) k.link fs) else frame_found
+        (is_block d) n fs)
         ≡ Some g) × (d ≤ c)
     go ih true e = inner ih (is_block c k.home) refl e
     go ih false e = ih n e (skip (lower (is_block c) n fs f l.3 e))

@@ -3,32 +3,34 @@ use Rattle.std.proofs.Common.{◌≡◌, ◌≢◌, ◌⊎◌, ⊎_elim, inl, in
 use Rattle.std.proofs.Common.{Some, None, nat_lt, refl, sym, ap, ◌∙◌, subst, arith}
 use Rattle.std.proofs.lemmas.Bool.{and_from}
 use Rattle.sp_base.proofs.Facts.{first_true, second_true}
-use Rattle.sp_meaning.specs.Model.{Name, Channel, Totals, Language, Moves, Opens, Forks, Offering, Ends, Fails}
-use Rattle.sp_meaning.specs.Model.{Condition, Absent, Works, Waits, Joins, Ended, State, Change, after}
-use Rattle.sp_meaning.specs.Steps.{ActOf, ConditionOf, has_ended, all_ended, working_in, working, Advances, acts}
-use Rattle.sp_meaning.specs.Steps.{passed, cost, WaitsOn, Lives, JoinsAt, Sound}
+use Rattle.sp_meaning.specs.Model.{Name, Channel, Totals, Language, Moves, Opens, Forks, Offering, EndsProcess}
+use Rattle.sp_meaning.specs.Model.{MeetsFault}
+use Rattle.sp_meaning.specs.Model.{Condition, Absent, Works, Waits, Joins, Ended, State, Change, with_changes}
+use Rattle.sp_meaning.specs.Steps.{ActOf, ConditionOf, has_ended, all_ended, own_part_in, own_part, Advances}
+use Rattle.sp_meaning.specs.Steps.{act_outcome}
+use Rattle.sp_meaning.specs.Steps.{limit_fault, cost, WaitsOn, IsAlive, JoinsAt, Sound}
 use Rattle.sp_meaning.proofs.Frames.{IsOn, IsPartner, IsChild, IsNear, AllIn, all_in, condition_frame}
 
 -- p can step in s, and does so without a fault, by these changes
 pub record Makes {L : Language} (limits : Totals) (s : State L) (p : Name) (cs : List (Change L)) : Type 0 where
   pub own : L.Own
-  pub works : working s p ≡ Some own
-  pub within : passed limits s.totals (cost (L.next own s.store)) ≡ None
-  pub does : acts s p (L.next own s.store) ≡ Advances cs
+  pub works : own_part s p ≡ Some own
+  pub within : limit_fault limits s.totals (cost (L.next own s.store)) ≡ None
+  pub does : act_outcome s p (L.next own s.store) ≡ Advances cs
 
 -- r is the parent of p
 abbrev pub IsParent : Name → Name → Type 0
 IsParent r p = (a : ℕ × ℕ) × (p ≡ a ∷ r)
 
 -- it is there, and waits for no message
-abbrev pub Stands : {O V T : Type 0} → Condition O V T → Type 0
-Stands Absent = ⊥
-Stands (Works o) = Unit
-Stands (Waits w) = ⊥
-Stands (Joins k n o) = Unit
-Stands Ended = Unit
+abbrev pub IsNotWaiting : {O V T : Type 0} → Condition O V T → Type 0
+IsNotWaiting Absent = ⊥
+IsNotWaiting (Works o) = Unit
+IsNotWaiting (Waits w) = ⊥
+IsNotWaiting (Joins k n o) = Unit
+IsNotWaiting Ended = Unit
 
-pub waits_stands : {O V T : Type 0} (c : Channel) (x : Condition O V T) → WaitsOn c x → Stands x → ⊥
+pub waits_stands : {O V T : Type 0} (c : Channel) (x : Condition O V T) → WaitsOn c x → IsNotWaiting x → ⊥
 waits_stands c Absent h k = h
 waits_stands c (Works o) h k = h
 waits_stands c (Waits w) h k = k
@@ -36,7 +38,7 @@ waits_stands c (Joins n m o) h k = h
 waits_stands c Ended h k = h
 
 pub working_stands : {O V T : Type 0} (m : Name → Condition O V T) (p : Name) (x : Condition O V T) (own : O)
-    → working_in m p x ≡ Some own → Stands x
+    → own_part_in m p x ≡ Some own → IsNotWaiting x
 working_stands m p Absent own h = absurd (cc h)
 working_stands m p (Works o) own h = tt
 working_stands m p (Waits w) own h = absurd (cc h)
@@ -44,21 +46,21 @@ working_stands m p (Joins k n o) own h = tt
 working_stands m p Ended own h = tt
 
 pub working_lives : {O V T : Type 0} (m : Name → Condition O V T) (p : Name) (x : Condition O V T) (own : O)
-    → working_in m p x ≡ Some own → Lives x
+    → own_part_in m p x ≡ Some own → IsAlive x
 working_lives m p Absent own h = absurd (cc h)
 working_lives m p (Works o) own h = tt
 working_lives m p (Waits w) own h = tt
 working_lives m p (Joins k n o) own h = tt
 working_lives m p Ended own h = absurd (cc h)
 
-pub lives_ended : {O V T : Type 0} (x : Condition O V T) → Lives x → has_ended x ≡ true → ⊥
+pub lives_ended : {O V T : Type 0} (x : Condition O V T) → IsAlive x → has_ended x ≡ true → ⊥
 lives_ended Absent h e = h
 lives_ended (Works o) h e = cc e
 lives_ended (Waits w) h e = cc e
 lives_ended (Joins k n o) h e = cc e
 lives_ended Ended h e = h
 
-pub ended_stands : {O V T : Type 0} (x : Condition O V T) → has_ended x ≡ true → Stands x
+pub ended_stands : {O V T : Type 0} (x : Condition O V T) → has_ended x ≡ true → IsNotWaiting x
 ended_stands Absent e = absurd (cc e)
 ended_stands (Works o) e = tt
 ended_stands (Waits w) e = absurd (cc e)
@@ -80,7 +82,7 @@ ended_at m q k (suc n) i h lt = ⊎_elim
 
 -- a process whose children have ended is joined by none that lives
 pub working_joins : {O V T : Type 0} (m : Name → Condition O V T) (q : Name) (x : Condition O V T) (own : O) (k i : ℕ)
-    → working_in m q x ≡ Some own → JoinsAt k i x → has_ended (m ((k, i) ∷ q)) ≡ true
+    → own_part_in m q x ≡ Some own → JoinsAt k i x → has_ended (m ((k, i) ∷ q)) ≡ true
 working_joins m q Absent own k i h j = absurd j
 working_joins m q (Works o) own k i h j = absurd j
 working_joins m q (Waits w) own k i h j = absurd j
@@ -102,8 +104,8 @@ all_ended_same m l q k (suc n) h e =
     (all_ended_same m l q k n h (second_true (has_ended (m ((k, n) ∷ q))) (all_ended m q k n) e))
 
 pub working_same : {O V T : Type 0} (m l : Name → Condition O V T) (q : Name) (x : Condition O V T) (own : O)
-    → ((k i : ℕ) → has_ended (m ((k, i) ∷ q)) ≡ true → l ((k, i) ∷ q) ≡ m ((k, i) ∷ q)) → working_in m q x ≡ Some own
-    → working_in l q x ≡ Some own
+    → ((k i : ℕ) → has_ended (m ((k, i) ∷ q)) ≡ true → l ((k, i) ∷ q) ≡ m ((k, i) ∷ q)) → own_part_in m q x ≡ Some own
+    → own_part_in l q x ≡ Some own
 working_same m l q Absent own h e = e
 working_same m l q (Works o) own h e = e
 working_same m l q (Waits w) own h e = e
@@ -120,29 +122,29 @@ module _ {L : Language} (s : State L) (p : Name) where
   child_absent sound (Moves o ws) r h = absurd h
   child_absent sound (Opens o ws) r h = absurd h
   child_absent sound (Offering o) r h = absurd h
-  child_absent sound Ends r h = absurd h
-  child_absent sound (Fails f) r h = absurd h
+  child_absent sound EndsProcess r h = absurd h
+  child_absent sound (MeetsFault f) r h = absurd h
 
   pub child_below : (a : ActOf L) (r : Name) → IsChild s p a r → (x : ℕ × ℕ) × (r ≡ x ∷ p)
   child_below (Forks o os) r h = ((s.forks p, h.0), h.1)
   child_below (Moves o ws) r h = absurd h
   child_below (Opens o ws) r h = absurd h
   child_below (Offering o) r h = absurd h
-  child_below Ends r h = absurd h
-  child_below (Fails f) r h = absurd h
+  child_below EndsProcess r h = absurd h
+  child_below (MeetsFault f) r h = absurd h
 
-  pub near_stands : Sound s → (a : ActOf L) (r : Name) → r ≢ p → IsNear s p a r → Stands (s.condition r) → ⊥
+  pub near_stands : Sound s → (a : ActOf L) (r : Name) → r ≢ p → IsNear s p a r → IsNotWaiting (s.condition r) → ⊥
   near_stands sound a r apart n st = ⊎_elim apart
       (⊎_elim (λ (h : IsPartner s a r). partner a h)
-      (λ (h : IsChild s p a r). subst (λ (c : ConditionOf L). Stands c) (child_absent sound a r h) st)) n
+      (λ (h : IsChild s p a r). subst (λ (c : ConditionOf L). IsNotWaiting c) (child_absent sound a r h) st)) n
     where
       partner : (a : ActOf L) → IsPartner s a r → ⊥
       partner (Offering o) h = waits_stands o.channel (s.condition r) (sound.waits o.channel r h) st
       partner (Moves o ws) h = h
       partner (Opens o ws) h = h
       partner (Forks o os) h = h
-      partner Ends h = h
-      partner (Fails f) h = h
+      partner EndsProcess h = h
+      partner (MeetsFault f) h = h
 
 pub waits_joins : {O V T : Type 0} (c : Channel) (k i : ℕ) (x : Condition O V T) → WaitsOn c x → JoinsAt k i x → ⊥
 waits_joins c k i Absent h j = h
@@ -170,25 +172,27 @@ module _ {L : Language} {limits : Totals} (s : State L) (p : Name) (cs : List (C
   pub ins : AllIn s p act_of cs
   ins = all_in s p act_of cs does.does
 
-  pub far : (q : Name) → q ≢ p → Stands (s.condition q) → IsNear s p act_of q → ⊥
+  pub far : (q : Name) → q ≢ p → IsNotWaiting (s.condition q) → IsNear s p act_of q → ⊥
   far q apart st n = near_stands s p sound act_of q apart n st
 
-  pub keeps_condition : (q : Name) → q ≢ p → Stands (s.condition q) → (after cs s).condition q ≡ s.condition q
+  pub keeps_condition : (q : Name) → q ≢ p → IsNotWaiting (s.condition q) → (with_changes cs s).condition q
+      ≡ s.condition q
   keeps_condition q apart st = condition_frame s p act_of q (far q apart st) cs s ins
 
-  pub keeps_working : (q : Name) (own : L.Own) → q ≢ p → working s q ≡ Some own → working (after cs s) q ≡ Some own
+  pub keeps_working : (q : Name) (own : L.Own) → q ≢ p → own_part s q ≡ Some own → own_part (with_changes cs s) q
+      ≡ Some own
   keeps_working q own apart w =
       let e = keeps_condition q apart (working_stands s.condition q (s.condition q) own w) in
-      rw e (working_same s.condition (after cs s).condition q (s.condition q) own (λ k i ended.
+      rw e (working_same s.condition (with_changes cs s).condition q (s.condition q) own (λ k i ended.
       keeps_condition ((k, i) ∷ q) (λ e. lives_ended (s.condition p)
       (working_lives s.condition p (s.condition p) does.own does.works)
       (subst (λ z. has_ended (s.condition z) ≡ true) e ended)) (ended_stands (s.condition ((k, i) ∷ q)) ended)) w)
 
   joins : (q : Name) (h : IsParent q p) → JoinsAt (h.0).0 (h.0).1 (s.condition q)
   joins q h = sound.joined q (h.0).0 (h.0).1
-      (subst (λ z. Lives (s.condition z)) h.1 (working_lives s.condition p (s.condition p) does.own does.works))
+      (subst (λ z. IsAlive (s.condition z)) h.1 (working_lives s.condition p (s.condition p) does.own does.works))
 
-  pub working_no_parent : (q : Name) (own : L.Own) → working s q ≡ Some own → IsParent q p → ⊥
+  pub working_no_parent : (q : Name) (own : L.Own) → own_part s q ≡ Some own → IsParent q p → ⊥
   working_no_parent q own w h =
       let e = working_joins s.condition q (s.condition q) own (h.0).0 (h.0).1 w (joins q h) in
       lives_ended (s.condition p) (working_lives s.condition p (s.condition p) does.own does.works)
@@ -202,13 +206,13 @@ module _ {L : Language} {limits : Totals} (s : State L) (p : Name) (cs : List (C
   on_partner (Moves o ws) z h = absurd h
   on_partner (Opens o ws) z h = absurd h
   on_partner (Forks o os) z h = absurd h
-  on_partner Ends z h = absurd h
-  on_partner (Fails f) z h = absurd h
+  on_partner EndsProcess z h = absurd h
+  on_partner (MeetsFault f) z h = absurd h
 
   pub waiting_far : (c : Channel) (z : Name) → WaitsOn c (s.condition z) → (IsOn act_of c → ⊥) → IsNear s p act_of z → ⊥
   waiting_far c z w off n = ⊎_elim
       (λ (e : z ≡ p). waits_stands c (s.condition z) w
-      (subst (λ r. Stands (s.condition r)) (sym e)
+      (subst (λ r. IsNotWaiting (s.condition r)) (sym e)
       (working_stands s.condition p (s.condition p) does.own does.works)))
       (⊎_elim
       (λ (h : IsPartner s act_of z). let k = on_partner act_of z h in

@@ -5,8 +5,8 @@ use Rattle.std.specs.Prelude.{ℤ, pos, ◌+ℤ◌}
 use Rattle.sp_tree.specs.Plain.{Block, Stmt, Empty, Assign, Call, Sequence, If, IfElse, While, Repeat, For, Case}
 use Rattle.sp_tree.specs.Plain.{Parallel, Forall, Assume, ReadValue, ReadLine, WriteValue, WriteText, WriteLine, Open}
 use Rattle.sp_tree.specs.Plain.{Send, Receive, Stmts, No, And, On, Arms, NoArm, Or}
-use Rattle.sp_meaning.specs.Own.{Item, Do, First, Again, Test, Leave, Break}
-use Rattle.sp_meaning.specs.Deeds.{Birth, push, push_all, has, arm_for, children, indexed_children}
+use Rattle.sp_meaning.specs.LocalWork.{Item, Do, First, Again, Test, Leave, Break}
+use Rattle.sp_meaning.specs.Actions.{Birth, push, push_all, has_constant, arm_for, children, indexed_children}
 use Rattle.sp_meaning.specs.SuperPascal.{weight, weight_all, weight_arms}
 
 abbrev pub weight_item : Item → ℕ
@@ -22,22 +22,22 @@ weights [] = 0
 weights (i ∷ todo) = weight_item i + weights todo
 
 -- what is left to do is light
-abbrev pub Fit : ℕ → Item → Type 0
-Fit k (Do s) = weight s ≤ k
-Fit k (First x m n down s) = weight s + 3 ≤ k
-Fit k (Again x n down s) = weight s + 3 ≤ k
-Fit k (Test s e) = weight s + 3 ≤ k
-Fit k Leave = Unit {0}
-Fit k (Break f) = Unit {0}
+abbrev pub IsLight : ℕ → Item → Type 0
+IsLight k (Do s) = weight s ≤ k
+IsLight k (First x m n down s) = weight s + 3 ≤ k
+IsLight k (Again x n down s) = weight s + 3 ≤ k
+IsLight k (Test s e) = weight s + 3 ≤ k
+IsLight k Leave = Unit {0}
+IsLight k (Break f) = Unit {0}
 
-abbrev pub AllFit : ℕ → List Item → Type 0
-AllFit k [] = Unit {0}
-AllFit k (i ∷ todo) = Fit k i × AllFit k todo
+abbrev pub AreLight : ℕ → List Item → Type 0
+AreLight k [] = Unit {0}
+AreLight k (i ∷ todo) = IsLight k i × AreLight k todo
 
 -- and so is what each child is to do
 abbrev pub AllBorn : ℕ → List Birth → Type 0
 AllBorn k [] = Unit {0}
-AllBorn k (b ∷ bs) = AllFit k b.todo × AllBorn k bs
+AllBorn k (b ∷ bs) = AreLight k b.todo × AllBorn k bs
 
 mutual
   pub push_weight : (s : Stmt) (todo : List Item) → weights (push s todo) ≤ weight s + weights todo
@@ -68,7 +68,7 @@ mutual
   push_all_weight (And s rest) todo = omega (arith, push_weight s (push_all rest todo), push_all_weight rest todo)
 
 mutual
-  pub push_fit : (k : ℕ) (s : Stmt) (todo : List Item) → weight s ≤ k → AllFit k todo → AllFit k (push s todo)
+  pub push_fit : (k : ℕ) (s : Stmt) (todo : List Item) → weight s ≤ k → AreLight k todo → AreLight k (push s todo)
   push_fit k Empty todo h f = f
   push_fit k (Assign v e) todo h f = (h, f)
   push_fit k (Call g args) todo h f = (h, f)
@@ -91,8 +91,8 @@ mutual
   push_fit k (Send c e) todo h f = (h, f)
   push_fit k (Receive c v) todo h f = (h, f)
 
-  pub push_all_fit : (k : ℕ) (ss : Stmts) (todo : List Item) → weight_all ss ≤ k → AllFit k todo
-      → AllFit k (push_all ss todo)
+  pub push_all_fit : (k : ℕ) (ss : Stmts) (todo : List Item) → weight_all ss ≤ k → AreLight k todo
+      → AreLight k (push_all ss todo)
   push_all_fit k No todo h f = f
   push_all_fit k (And s rest) todo h f = push_fit k s (push_all rest todo) (omega arith)
       (push_all_fit k rest todo (omega arith) f)
@@ -111,7 +111,7 @@ LightStmt w (Some s) = weight s ≤ w
 
 pub arm_light : (n : ℤ) (arms : Arms) → LightStmt (weight_arms arms) (arm_for n arms)
 arm_light n NoArm = tt
-arm_light n (Or (On ms s) rest) = go (has n ms) (arm_for n rest) (arm_light n rest)
+arm_light n (Or (On ms s) rest) = go (has_constant n ms) (arm_for n rest) (arm_light n rest)
   where
     go : (b : Bool) (o : Option Stmt) → LightStmt (weight_arms rest) o
         → LightStmt (weight s + weight_arms rest) (if b then Some s else o)

@@ -6,11 +6,11 @@
 use Rattle.std.specs.Prelude.{◌≡◌, ℕ, zero, suc, ◌+◌, Bool, true, false, cond, ◌&&◌, ◌||◌, if◌then◌else◌, nat_le, List}
 use Rattle.std.specs.Prelude.{[], ◌∷◌, Some, None}
 use Rattle.sp_meaning.specs.Model.{Name, Condition, Absent, Works, Waits, Joins, Ended, same_name}
-use Rattle.sp_meaning.specs.Own.{Setting, Held, Address, Process}
-use Rattle.sp_meaning.specs.SuperPascal.{beats}
+use Rattle.sp_meaning.specs.LocalWork.{RunInput, LocationContent, Address, Process}
+use Rattle.sp_meaning.specs.SuperPascal.{pauses_next}
 use Rattle.sp_meaning.specs.Entries.{Happening, Opened, Forked, Offered, Faulted, Laid, Paused, Occurrence, is_fault}
 use Rattle.sp_journal.specs.Names as happenings
-use Rattle.sp_meaning.specs.Runs.{StateOf, start, running, next, says}
+use Rattle.sp_meaning.specs.Runs.{StateOf, start, running_process, next_state, happening_at}
 
 -- the first where the test holds, and else the second
 abbrev pub Either : Bool → Type 0 → Type 0 → Type 0
@@ -18,11 +18,11 @@ Either true A B = A
 Either false A B = B
 
 -- the ticks that a process has made, whatever it does
-abbrev pub ticks_in : Condition Process Held Address → ℕ
+abbrev pub ticks_in : Condition Process LocationContent Address → ℕ
 ticks_in Absent = 0
 ticks_in (Works own) = own.own.ticks
 ticks_in (Waits o) = o.next.own.ticks
-ticks_in (Joins fork count next) = next.own.ticks
+ticks_in (Joins fork count next_state) = next_state.own.ticks
 ticks_in Ended = 0
 
 -- what is kept beside the state: each process's ticks at its last entry, whether a fault stands, and who is laid
@@ -36,54 +36,57 @@ abbrev pub no_course : Course
 no_course = record { since = λ q. 0; faulted = false; laid = λ q. false }
 
 -- the process's ticks at this entry
-abbrev pub noted : Name → ℕ → Course → Course
-noted q n c = record c { since = λ r. cond (same_name q r) n (c.since r) }
+abbrev pub with_ticks : Name → ℕ → Course → Course
+with_ticks q n c = record c { since = λ r. cond (same_name q r) n (c.since r) }
 
 -- a fault stands, and who met it is laid
-abbrev pub stopped : Name → Course → Course
-stopped q c = record c { faulted = true; laid = λ r. same_name q r || c.laid r }
+abbrev pub with_fault : Name → Course → Course
+with_fault q c = record c { faulted = true; laid = λ r. same_name q r || c.laid r }
 
 -- an entry notes its process's ticks; who faults is laid from there on
-abbrev pub after_entry : Name → Happening → ℕ → Course → Course
-after_entry q what n c = if is_fault what then stopped q (noted q n c) else noted q n c
+abbrev pub course_after : Name → Happening → ℕ → Course → Course
+course_after q what n c = if is_fault what then with_fault q (with_ticks q n c) else with_ticks q n c
 
-module _ (g : Setting) where
+module _ (g : RunInput) where
   -- the ticks of a process in a state
   abbrev pub ticks_of : StateOf g → Name → ℕ
   ticks_of s q = ticks_in (s.condition q)
 
   -- after this step of q from s to t, q is due: the step paused, and q has made so many ticks since its last entry
-  abbrev pub due : ℕ → (since : ℕ) → StateOf g → Process → Name → StateOf g → Bool
-  due turn since s own q t = beats g own s.store && nat_le (since + turn) (ticks_of t q)
+  abbrev pub is_due_after : ℕ → (since : ℕ) → StateOf g → Process → Name → StateOf g → Bool
+  is_due_after turn since s own q t = pauses_next g own s.store && nat_le (since + turn) (ticks_of t q)
 
   -- n local steps of q lead from s to t: up to the first moment at which it is due, or its next step is a kernel step
   abbrev pub Turn : ℕ → ℕ → Name → ℕ → StateOf g → StateOf g → Bool → Type 0
-  Turn turn since q zero s t paused = (t ≡ s) × (paused ≡ false) × (own : Process) × (running g s q ≡ Some own)
-      × (what : Happening) × (says g s q own ≡ Some what)
+  Turn turn since q zero s t paused = (t ≡ s) × (paused ≡ false) × (own : Process) × (running_process g s q ≡ Some own)
+      × (what : Happening) × (happening_at g s q own ≡ Some what)
   Turn turn since q (suc n) s t paused =
-      (own : Process) × (running g s q ≡ Some own) × (says g s q own ≡ None) × (m : StateOf g) × (next g s q ≡ Some m)
-      × Either (due turn since s own q m) ((n ≡ 0) × (t ≡ m) × (paused ≡ true)) (Turn turn since q n m t paused)
+      (own : Process) × (running_process g s q ≡ Some own) × (happening_at g s q own ≡ None) × (m : StateOf g)
+      × (next_state g s q ≡ Some m)
+      × Either (is_due_after turn since s own q m) ((n ≡ 0) × (t ≡ m) × (paused ≡ true))
+      (Turn turn since q n m t paused)
 
   -- the entry's step at s: it makes this entry
-  abbrev pub Enters : StateOf g → Name → Happening → StateOf g → Type 0
-  Enters s q what t = (own : Process) × (running g s q ≡ Some own) × (says g s q own ≡ Some what)
-      × (next g s q ≡ Some t)
+  abbrev pub MakesEntry : StateOf g → Name → Happening → StateOf g → Type 0
+  MakesEntry s q what t = (own : Process) × (running_process g s q ≡ Some own) × (happening_at g s q own ≡ Some what)
+      × (next_state g s q ≡ Some t)
 
   -- a kernel step: only where no fault stands, and where the process is not due
-  abbrev pub Kernel : (Course → StateOf g → ℕ → Type 0) → Course → StateOf g → Bool → Name → Happening → ℕ → Type 0
-  Kernel left c m paused q what n = (c.faulted ≡ false) × (paused ≡ false) × (u : StateOf g) × (rest : ℕ)
-      × (n ≡ suc rest) × Enters m q what u × left (after_entry q what (ticks_of u q) c) u rest
+  abbrev pub KernelStep : (Course → StateOf g → ℕ → Type 0) → Course → StateOf g → Bool → Name → Happening → ℕ → Type 0
+  KernelStep left c m paused q what n = (c.faulted ≡ false) × (paused ≡ false) × (u : StateOf g) × (rest : ℕ)
+      × (n ≡ suc rest) × MakesEntry m q what u × left (course_after q what (ticks_of u q) c) u rest
 
   -- what the entry's process does after its local steps, which led to m, and what is then left. Laid comes only after a
   -- fault
-  abbrev pub Entered : (Course → StateOf g → ℕ → Type 0) → Course → StateOf g → Bool → Name → Happening → ℕ → Type 0
-  Entered left c m paused q Laid n = (c.faulted ≡ true) × left (stopped q c) m n
-  Entered left c m paused q Paused n = (c.faulted ≡ false) × (paused ≡ true) × left (noted q (ticks_of m q) c) m n
-  Entered left c m paused q (Forked count) n = Kernel left c m paused q (Forked count) n
-  Entered left c m paused q Opened n = Kernel left c m paused q Opened n
-  Entered left c m paused q (Offered w ch) n = Kernel left c m paused q (Offered w ch) n
-  Entered left c m paused q happenings.Ended n = Kernel left c m paused q happenings.Ended n
-  Entered left c m paused q (Faulted f) n = Kernel left c m paused q (Faulted f) n
+  abbrev pub EntryStep : (Course → StateOf g → ℕ → Type 0) → Course → StateOf g → Bool → Name → Happening → ℕ → Type 0
+  EntryStep left c m paused q Laid n = (c.faulted ≡ true) × left (with_fault q c) m n
+  EntryStep left c m paused q Paused n = (c.faulted ≡ false) × (paused ≡ true)
+      × left (with_ticks q (ticks_of m q) c) m n
+  EntryStep left c m paused q (Forked count) n = KernelStep left c m paused q (Forked count) n
+  EntryStep left c m paused q Opened n = KernelStep left c m paused q Opened n
+  EntryStep left c m paused q (Offered w ch) n = KernelStep left c m paused q (Offered w ch) n
+  EntryStep left c m paused q happenings.Ended n = KernelStep left c m paused q happenings.Ended n
+  EntryStep left c m paused q (Faulted f) n = KernelStep left c m paused q (Faulted f) n
 
   -- the entries in order lead from s to t by n steps in all, where a process pauses after so many ticks
   abbrev pub Along : ℕ → Course → StateOf g → List Occurrence → ℕ → StateOf g → Type 0
@@ -91,7 +94,7 @@ module _ (g : Setting) where
   Along turn c s (e ∷ es) n t =
       (c.laid e.who ≡ false) × (k rest : ℕ) × (m : StateOf g) × (paused : Bool) × (n ≡ k + rest)
       × Turn turn (c.since e.who) e.who k s m paused
-      × Entered (λ c1 u r. Along turn c1 u es r t) c m paused e.who e.what rest
+      × EntryStep (λ c1 u r. Along turn c1 u es r t) c m paused e.who e.what rest
 
   -- along a journal from the start
   abbrev pub IsAlong : ℕ → List Occurrence → ℕ → StateOf g → Type 0

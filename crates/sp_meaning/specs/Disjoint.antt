@@ -2,10 +2,11 @@
 -- Disjoint programs: in no schedule does a process write what a parallel one uses. The promise of a program without
 -- interference is said by it, in the words of the model and of no rule.
 use Rattle.std.specs.Prelude.{◌≡◌, ◌≢◌, ◌⊎◌, ℕ, List, [], ◌∷◌, ◌++◌, Some}
-use Rattle.sp_meaning.specs.Model.{Name, Totals, Language, Act, Moves, Opens, Forks, Offering, Ends, Fails, Cargo}
+use Rattle.sp_meaning.specs.Model.{Name, Totals, Language, Act, Moves, Opens, Forks, Offering, EndsProcess, MeetsFault}
+use Rattle.sp_meaning.specs.Model.{Cargo}
 use Rattle.sp_meaning.specs.Model.{Message, Takes, Waits, State}
-use Rattle.sp_meaning.specs.Steps.{ActOf, OfferOf, working, message, step, processes}
-use Rattle.sp_meaning.specs.Schedules.{Leads}
+use Rattle.sp_meaning.specs.Steps.{ActOf, OfferOf, own_part, message, step, process_system}
+use Rattle.sp_meaning.specs.Schedules.{ScheduleLeads}
 
 -- after a common beginning, they go on with the same fork and different children. (The newest step stands first)
 pub record AreParallel (a b : Name) : Type 0 where
@@ -20,18 +21,18 @@ pub record AreParallel (a b : Name) : Type 0 where
   pub b_is : b ≡ after_other ++ (fork, other) ∷ common
 
 -- the location is written
-abbrev pub IsAmong : {M V : Type 0} → List (M × V) → M → Type 0
-IsAmong [] l = ⊥
-IsAmong (w ∷ ws) l = (w.0 ≡ l) ⊎ IsAmong ws l
+abbrev pub IsWrittenIn : {M V : Type 0} → List (M × V) → M → Type 0
+IsWrittenIn [] l = ⊥
+IsWrittenIn (w ∷ ws) l = (w.0 ≡ l) ⊎ IsWrittenIn ws l
 
 -- an assignment that is no message
 abbrev pub Assigns : {O M V T : Type 0} → Act O M V T → M → Type 0
-Assigns (Moves o ws) l = IsAmong ws l
-Assigns (Opens o ws) l = IsAmong ws l
+Assigns (Moves o ws) l = IsWrittenIn ws l
+Assigns (Opens o ws) l = IsWrittenIn ws l
 Assigns (Forks o os) l = ⊥
 Assigns (Offering o) l = ⊥
-Assigns Ends l = ⊥
-Assigns (Fails f) l = ⊥
+Assigns EndsProcess l = ⊥
+Assigns (MeetsFault f) l = ⊥
 
 -- who receives, of p that offers this and of z that waits
 abbrev pub receiver : {V T : Type 0} → Cargo V T → Name → Name → Name
@@ -66,12 +67,12 @@ AccessesIn {L} s p own who l = ((who ≡ p) × (L.touches own s.store l)) ⊎ Wr
 -- somewhere along the schedule from s
 abbrev pub Happens : {L : Language} → Totals → (State L → Name → L.Own → Type 0) → State L → List Name → Type 0
 Happens limits it s [] = ⊥
-Happens {L} limits it s (p ∷ ps) = ((own : L.Own) × (working s p ≡ Some own) × it s p own)
+Happens {L} limits it s (p ∷ ps) = ((own : L.Own) × (own_part s p ≡ Some own) × it s p own)
     ⊎ ((m : State L) × (step limits s p ≡ Some m) × Happens limits it m ps)
 
 -- from this opening state no schedule has a process write what a parallel one reads or writes
 abbrev pub IsDisjoint : (L : Language) → Totals → State L → Type 0
-IsDisjoint L limits s = (ps : List Name) (t : State L) → Leads (processes L limits) s ps t → (a b : Name)
+IsDisjoint L limits s = (ps : List Name) (t : State L) → ScheduleLeads (process_system L limits) s ps t → (a b : Name)
     → AreParallel a b → (l : L.Loc)
     → Happens limits (λ u p own. WritesIn u p own a l) s ps → Happens limits (λ u p own. AccessesIn u p own b l) s ps
     → ⊥

@@ -11,9 +11,9 @@ use Rattle.sp_journal.specs.declared.outcome.Waiter.{Waiter}
 use Rattle.sp_journal.specs.Names.{proc_name, chan_name}
 use Rattle.sp_meaning.specs.Model.{Name, Channel, Waits, Ended}
 use Rattle.sp_meaning.specs.Steps.{OfferOf, way_of}
-use Rattle.sp_meaning.specs.Own.{Setting}
+use Rattle.sp_meaning.specs.LocalWork.{RunInput}
 use Rattle.sp_meaning.specs.SuperPascal.{superpascal}
-use Rattle.sp_meaning.specs.Runs.{StateOf, running}
+use Rattle.sp_meaning.specs.Runs.{StateOf, running_process}
 
 -- pair by pair, by fork and then child, a prefix first
 abbrev pub pairs_before : List (ℕ × ℕ) → List (ℕ × ℕ) → Bool
@@ -45,14 +45,14 @@ IsSorted [] = Unit
 IsSorted (w ∷ []) = Unit
 IsSorted (w ∷ v ∷ vs) = (name_before w.who v.who ≡ true) × IsSorted (v ∷ vs)
 
-module _ (g : Setting) where
+module _ (g : RunInput) where
   -- the root has ended
   abbrev pub IsDone : StateOf g → Type 0
   IsDone s = s.condition [] ≡ Ended
 
   -- no process is running
   abbrev pub IsIdle : StateOf g → Type 0
-  IsIdle s = (q : Name) → running g s q ≡ None
+  IsIdle s = (q : Name) → running_process g s q ≡ None
 
   -- the process waits so
   abbrev pub WaitsSo : StateOf g → Waiting → Type 0
@@ -78,13 +78,13 @@ abbrev pub waiter_of : Waiting → Waiter
 waiter_of w = record { process = proc_name w.who; way = w.way; channel = chan_name w.channel }
 
 -- the end of a state as the program tells it; a state may have none, and want of memory is the end of none
-abbrev pub EndIs : (g : Setting) → StateOf g → End → Type 0
+abbrev pub EndIs : (g : RunInput) → StateOf g → End → Type 0
 EndIs g s end.Done = IsDone g s
 EndIs g s (end.Deadlock ws) = (vs : List Waiting) × IsDeadlock g s vs × (ws ≡ map waiter_of vs)
 EndIs g s (end.Fault p f) = (q : Name) × HasFault g s q f × (p ≡ proc_name q)
 EndIs g s end.Memory = ⊥
 
 -- it has this end, or none
-abbrev pub EndsSo : (g : Setting) → StateOf g → Option End → Type 0
+abbrev pub EndsSo : (g : RunInput) → StateOf g → Option End → Type 0
 EndsSo g s None = (e : End) → EndIs g s e → ⊥
 EndsSo g s (Some e) = EndIs g s e

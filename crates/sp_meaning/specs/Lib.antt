@@ -1,5 +1,5 @@
 pub mod Maps
-pub mod Asking
+pub mod EffectTree
 pub mod Model
 pub mod Schedules
 pub mod Steps
@@ -8,9 +8,9 @@ pub mod Disjoint
 pub mod Operators
 pub mod Values
 pub mod Texts
-pub mod Own
+pub mod LocalWork
 pub mod Eval
-pub mod Deeds
+pub mod Actions
 pub mod SuperPascal
 pub mod Turn
 pub mod Run

@@ -25,8 +25,8 @@ pub data Act (Own Loc Value Target : Type 0) : Type 0 where
   Opens : (next : Own) (writes : List (Loc × Value)) → Act Own Loc Value Target
   Forks : (next : Own) (children : List Own) → Act Own Loc Value Target
   Offering : (offer : Offer Own Value Target) → Act Own Loc Value Target
-  Ends : Act Own Loc Value Target
-  Fails : (fault : Fault) → Act Own Loc Value Target
+  EndsProcess : Act Own Loc Value Target
+  MeetsFault : (fault : Fault) → Act Own Loc Value Target
 
 -- what a language gives: the parts of a process, its locations and values, and the next step
 pub record Language : Type 1 where
@@ -70,9 +70,9 @@ pub record State (L : Language) : Type 0 where
 pub data Change (L : Language) : Type 0 where
   Becomes : (p : Name) (c : Condition L.Own L.Value L.Target) → Change L
   Forked : (p : Name) → Change L
-  Writes : (l : L.Loc) (v : L.Value) → Change L
+  WritesLocation : (l : L.Loc) (v : L.Value) → Change L
   Pends : (c : Channel) (o : Option Name) → Change L
-  Adds : (n : Totals) → Change L
+  AddsTotals : (n : Totals) → Change L
   Faults : (p : Name) (f : Fault) → Change L
 
 abbrev pub add : Totals → Totals → Totals
@@ -82,15 +82,15 @@ add a b = record {
   entries = a.entries + b.entries;
 }
 
-abbrev pub changed : {L : Language} → Change L → State L → State L
-changed (Becomes p c) s = record s { condition = at_key same_name p c s.condition }
-changed (Forked p) s = record s { forks = at_key same_name p (s.forks p + 1) s.forks }
-changed {L} (Writes l v) s = record s { store = at_key L.same_loc l v s.store }
-changed (Pends c o) s = record s { pending = at_key same_channel c o s.pending }
-changed (Adds n) s = record s { totals = add s.totals n }
-changed (Faults p f) s = record s { fault = Some (p, f) }
+abbrev pub with_change : {L : Language} → Change L → State L → State L
+with_change (Becomes p c) s = record s { condition = at_key same_name p c s.condition }
+with_change (Forked p) s = record s { forks = at_key same_name p (s.forks p + 1) s.forks }
+with_change {L} (WritesLocation l v) s = record s { store = at_key L.same_loc l v s.store }
+with_change (Pends c o) s = record s { pending = at_key same_channel c o s.pending }
+with_change (AddsTotals n) s = record s { totals = add s.totals n }
+with_change (Faults p f) s = record s { fault = Some (p, f) }
 
 -- the changes, one after another
-abbrev pub after : {L : Language} → List (Change L) → State L → State L
-after [] s = s
-after (c ∷ cs) s = after cs (changed c s)
+abbrev pub with_changes : {L : Language} → List (Change L) → State L → State L
+with_changes [] s = s
+with_changes (c ∷ cs) s = with_changes cs (with_change c s)

@@ -7,19 +7,21 @@ use Rattle.sp_tree.specs.declared.checked.Role.{Role}
 use Rattle.sp_tree.specs.declared.checked.Role.TheVariants as role
 use Rattle.sp_tree.specs.Plain.{Program, Variable, Entire, ByValue, ByReference, Actuals, Nothing, Pass, Stmt, Repeat}
 use Rattle.sp_meaning.specs.Model.{Cargo, Message, Takes}
-use Rattle.sp_meaning.specs.Own.{Held, Loc, Cell, Input, Output, Address, Home, OfBlock, OfIndex, Frame, Item, Do}
-use Rattle.sp_meaning.specs.Own.{First, Again, Test, Leave, Break, is_block, referred}
-use Rattle.sp_meaning.specs.Deeds.{Birth, Deed, Stepped, Ticked, Opened, Forked, Offered, Ended, push}
-use Rattle.sp_meaning.specs.Eval.{Given, ValueOf, PlaceOf}
+use Rattle.sp_meaning.specs.LocalWork.{LocationContent, Loc, Cell, Input, Output, Address, Home, OfBlock, OfIndex}
+use Rattle.sp_meaning.specs.LocalWork.{Frame, Item, Do}
+use Rattle.sp_meaning.specs.LocalWork.{First, Again, Test, Leave, Break, is_block, reference_target}
+use Rattle.sp_meaning.specs.Actions.{Birth, Action, Stepped, Ticked, Opened, Forked, Offered, Ended, push}
+use Rattle.sp_meaning.specs.Eval.{ArgumentValue, ValueOf, PlaceOf}
 use Rattle.sp_tree.specs.Uses.{Use, Target, Seen, CallOf, ParallelOf, ForallOf, Stop, In_stmt, In_loop}
 use Rattle.sp_tree.specs.Sets.{IsTarget, IsUsed, Reach}
 use Rattle.sp_tree.specs.Interference.{KeepsRules}
 
 -- from where the list is so long outward along the links, the first frame that fits
-abbrev pub find : (Home → Bool) → ℕ → List Frame → Option Frame
-find fits n [] = None
-find fits n (f ∷ fs) = if length (f ∷ fs) == n then (if fits f.home then Some f else find fits f.link fs) else
-    find fits n fs
+abbrev pub frame_found : (Home → Bool) → ℕ → List Frame → Option Frame
+frame_found fits n [] = None
+frame_found fits n (f ∷ fs) =
+    if length (f ∷ fs) == n then (if fits f.home then Some f else frame_found fits f.link fs) else
+    frame_found fits n fs
 
 -- the entire location that a variable stands for in these frames
 
@@ -33,24 +35,24 @@ spot_of (Some a) = Some a.spot
 
 abbrev pub reference_of : ℕ → Option Frame → Option Loc
 reference_of x None = None
-reference_of x (Some f) = spot_of (referred x f.references)
+reference_of x (Some f) = spot_of (reference_target x f.references)
 
 abbrev pub console : ℕ → Loc
 console zero = Input
 console (suc n) = Output
 
-abbrev pub stands_by : List Frame → ℕ → Variable → Role → Option Loc
-stands_by fs x i role.Console = Some (console x)
-stands_by fs x i role.Local = cell_of x (find (is_block i.block) (length fs) fs)
-stands_by fs x i role.Value = cell_of x (find (is_block i.block) (length fs) fs)
-stands_by fs x i role.Reference = reference_of x (find (is_block i.block) (length fs) fs)
-stands_by fs x i role.Index = None
-stands_by fs x i role.Answer = cell_of x (find (is_block i.block) (length fs) fs)
+abbrev pub location_by : List Frame → ℕ → Variable → Role → Option Loc
+location_by fs x i role.Console = Some (console x)
+location_by fs x i role.Local = cell_of x (frame_found (is_block i.block) (length fs) fs)
+location_by fs x i role.Value = cell_of x (frame_found (is_block i.block) (length fs) fs)
+location_by fs x i role.Reference = reference_of x (frame_found (is_block i.block) (length fs) fs)
+location_by fs x i role.Index = None
+location_by fs x i role.Answer = cell_of x (frame_found (is_block i.block) (length fs) fs)
 
 -- where variable x stands, by its declaration
-abbrev pub stands_at : List Frame → ℕ → Option Variable → Option Loc
-stands_at fs x None = None
-stands_at fs x (Some i) = stands_by fs x i i.role
+abbrev pub location_at : List Frame → ℕ → Option Variable → Option Loc
+location_at fs x None = None
+location_at fs x (Some i) = location_by fs x i i.role
 
 -- Frames: numbered from below; outward along the static links the numbers of the blocks fall; what a variable parameter
 -- stands for is older than its frame
@@ -67,7 +69,7 @@ AreOlder n [] = Unit
 AreOlder n (r ∷ rs) = IsOlder n r.1.spot × AreOlder n rs
 
 abbrev pub IsInside : Home → ℕ → List Frame → Type 0
-IsInside (OfBlock b) link fs = (c : ℕ) (f : Frame) → find (is_block c) link fs ≡ Some f → c < b
+IsInside (OfBlock b) link fs = (c : ℕ) (f : Frame) → frame_found (is_block c) link fs ≡ Some f → c < b
 IsInside (OfIndex x n) link fs = link ≡ length fs
 
 -- each frame is linked to one around it
@@ -76,9 +78,9 @@ Linked [] = Unit
 Linked (f ∷ fs) = (f.number ≡ length fs) × IsInside f.home f.link fs × AreOlder (length fs) f.references × Linked fs
 
 -- the frames that one was pushed on
-abbrev pub below : List Frame → List Frame
-below [] = []
-below (f ∷ fs) = fs
+abbrev pub frames_below : List Frame → List Frame
+frames_below [] = []
+frames_below (f ∷ fs) = fs
 
 -- the frames that are left when all items are done
 abbrev pub last_of : List Frame → List Item → List Frame
@@ -87,39 +89,39 @@ last_of fs (Do s ∷ todo) = last_of fs todo
 last_of fs (First x m n down s ∷ todo) = last_of fs todo
 last_of fs (Again x n down s ∷ todo) = last_of fs todo
 last_of fs (Test s e ∷ todo) = last_of fs todo
-last_of fs (Leave ∷ todo) = last_of (below fs) todo
+last_of fs (Leave ∷ todo) = last_of (frames_below fs) todo
 last_of fs (Break f ∷ todo) = last_of fs todo
 
 module _ (p : Program) where
-  abbrev pub stands : List Frame → ℕ → Option Loc
-  stands fs x = stands_at fs x (slice_get p.variables x)
+  abbrev pub location_of : List Frame → ℕ → Option Loc
+  location_of fs x = location_at fs x (slice_get p.variables x)
 
   -- this use is of variable x, which stands for l
   abbrev pub Touches : List Frame → Use → ℕ → Loc → Type 0
-  Touches fs (Target y) x l = (y ≡ x) × (stands fs x ≡ Some l)
-  Touches fs (Seen y) x l = (y ≡ x) × (stands fs x ≡ Some l)
+  Touches fs (Target y) x l = (y ≡ x) × (location_of fs x ≡ Some l)
+  Touches fs (Seen y) x l = (y ≡ x) × (location_of fs x ≡ Some l)
   Touches fs (CallOf f args) x l = ⊥
   Touches fs (ParallelOf ss) x l = ⊥
   Touches fs (ForallOf y s) x l = ⊥
   Touches fs Stop x l = ⊥
 
   -- the evaluated arguments are those of a call in these frames
-  abbrev pub Gave : List Frame → Actuals → List Given → Type 0
+  abbrev pub Gave : List Frame → Actuals → List ArgumentValue → Type 0
   Gave fs Nothing [] = Unit
   Gave fs Nothing (g ∷ gs) = ⊥
   Gave fs (Pass a rest) [] = ⊥
   Gave fs (Pass (ByValue e) rest) (ValueOf v ∷ gs) = Gave fs rest gs
   Gave fs (Pass (ByValue e) rest) (PlaceOf a ∷ gs) = ⊥
   Gave fs (Pass (ByReference (Entire x ss)) rest) (ValueOf v ∷ gs) = ⊥
-  Gave fs (Pass (ByReference (Entire x ss)) rest) (PlaceOf a ∷ gs) = (stands fs x ≡ Some a.spot) × Gave fs rest gs
+  Gave fs (Pass (ByReference (Entire x ss)) rest) (PlaceOf a ∷ gs) = (location_of fs x ≡ Some a.spot) × Gave fs rest gs
 
   -- some target of it, or some variable of it, stands for l
   abbrev pub Aimed : List Frame → Stmt → Loc → Type 0
-  Aimed fs s l = (x : ℕ) × IsTarget p (In_stmt s) x × (stands fs x ≡ Some l)
+  Aimed fs s l = (x : ℕ) × IsTarget p (In_stmt s) x × (location_of fs x ≡ Some l)
 
   -- the statement uses the variable that stands there
   abbrev pub Used : List Frame → Stmt → Loc → Type 0
-  Used fs s l = (x : ℕ) × IsUsed p (In_stmt s) x × (stands fs x ≡ Some l)
+  Used fs s l = (x : ℕ) × IsUsed p (In_stmt s) x × (location_of fs x ≡ Some l)
 
   -- what one writes the other does not use
   abbrev pub AreClear : List Frame → Stmt → Stmt → Type 0
@@ -148,19 +150,19 @@ module _ (p : Program) where
       pub kept : (u : Use) → Here u → KeepsRules p u
 
     -- each item in the frames in which it will be done
-    abbrev pub Ready : List Frame → List Item → Type 0
-    Ready fs [] = Unit
-    Ready fs (Do s ∷ todo) = Sound fs (In_stmt s) × Ready fs todo
-    Ready fs (First x m n down s ∷ todo) = Sound fs (In_loop x s) × Ready fs todo
-    Ready fs (Again x n down s ∷ todo) = Sound fs (In_loop x s) × Ready fs todo
-    Ready fs (Test s e ∷ todo) = Sound fs (In_stmt (Repeat s e)) × Ready fs todo
-    Ready fs (Leave ∷ todo) = Ready (below fs) todo
-    Ready fs (Break f ∷ todo) = Ready fs todo
+    abbrev pub ItemsAreSound : List Frame → List Item → Type 0
+    ItemsAreSound fs [] = Unit
+    ItemsAreSound fs (Do s ∷ todo) = Sound fs (In_stmt s) × ItemsAreSound fs todo
+    ItemsAreSound fs (First x m n down s ∷ todo) = Sound fs (In_loop x s) × ItemsAreSound fs todo
+    ItemsAreSound fs (Again x n down s ∷ todo) = Sound fs (In_loop x s) × ItemsAreSound fs todo
+    ItemsAreSound fs (Test s e ∷ todo) = Sound fs (In_stmt (Repeat s e)) × ItemsAreSound fs todo
+    ItemsAreSound fs (Leave ∷ todo) = ItemsAreSound (frames_below fs) todo
+    ItemsAreSound fs (Break f ∷ todo) = ItemsAreSound fs todo
 
     -- a process's items and frames, which come to z in the end
     pub record Fit (z fs : List Frame) (todo : List Item) : Type 0 where
       pub linked : Linked fs
-      pub ready : Ready fs todo
+      pub ready : ItemsAreSound fs todo
       pub ends : last_of fs todo ≡ z
 
     -- the children that are to be born do these statements
@@ -171,12 +173,12 @@ module _ (p : Program) where
     Born fs (s ∷ ss) (b ∷ bs) = (b.todo ≡ push s []) × Sound fs (In_stmt s) × IsClearOf fs s ss × Born fs ss bs
 
     -- a target that the process may write
-    abbrev pub MayTake : Cargo Held Address → Type 0
+    abbrev pub MayTake : Cargo LocationContent Address → Type 0
     MayTake (Message v) = Unit
     MayTake (Takes a) = W a.spot
 
     -- what a step of such a process comes to
-    abbrev pub Fair : List Frame → Deed → List Frame → Type 0
+    abbrev pub Fair : List Frame → Action → List Frame → Type 0
     Fair z (Stepped todo) fs = Fit z fs todo
     Fair z (Ticked todo) fs = Fit z fs todo
     Fair z (Opened todo) fs = Fit z fs todo

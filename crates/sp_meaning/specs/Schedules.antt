@@ -8,12 +8,12 @@ pub record System : Type 1 where
   pub State : Type 0
   pub Name : Type 0
   pub step : State → Name → Option State
-  pub Quiet : State → Type 0
+  pub HasNoFault : State → Type 0
 
 -- From s, the schedule is lawful and leads to t: each name can step in the state before it, and no fault stands there
-abbrev pub Leads : (y : System) → y.State → List y.Name → y.State → Type 0
-Leads y s [] t = t ≡ s
-Leads y s (p ∷ ps) t = (m : y.State) × y.Quiet s × (y.step s p ≡ Some m) × Leads y m ps t
+abbrev pub ScheduleLeads : (y : System) → y.State → List y.Name → y.State → Type 0
+ScheduleLeads y s [] t = t ≡ s
+ScheduleLeads y s (p ∷ ps) t = (m : y.State) × y.HasNoFault s × (y.step s p ≡ Some m) × ScheduleLeads y m ps t
 
 -- no process can step
 abbrev pub IsStuck : (y : System) → y.State → Type 0
@@ -23,7 +23,7 @@ IsStuck y t = (p : y.Name) → y.step t p ≡ None
 -- the front of a lawful one of length n that leads to t
 pub record EndsAlike (y : System) (s : y.State) (n : ℕ) (t : y.State) (qs : List y.Name) (u : y.State) : Type 0 where
   pub bounded : length qs ≤ n
-  pub quiet : y.Quiet u
+  pub quiet : y.HasNoFault u
   pub rest : List y.Name
   pub full : length (qs ++ rest) ≡ n
-  pub goes_on : Leads y u rest t
+  pub goes_on : ScheduleLeads y u rest t

@@ -8,9 +8,11 @@ use Rattle.sp_base.specs.declared.fault.Fault.TheVariants as fault
 use Rattle.sp_journal.specs.declared.entry.Way.{Way}
 use Rattle.sp_journal.specs.declared.entry.Way.TheVariants as way
 use Rattle.sp_meaning.specs.Maps.{IsTest}
-use Rattle.sp_meaning.specs.Model.{Name, Channel, Totals, Language, Act, Moves, Opens, Forks, Offering, Ends, Fails}
+use Rattle.sp_meaning.specs.Model.{Name, Channel, Totals, Language, Act, Moves, Opens, Forks, Offering, EndsProcess}
+use Rattle.sp_meaning.specs.Model.{MeetsFault}
 use Rattle.sp_meaning.specs.Model.{Cargo, Message, Takes, Offer, Condition, Absent, Works, Waits, Joins, Ended, State}
-use Rattle.sp_meaning.specs.Model.{Change, Becomes, Forked, Writes, Pends, Adds, Faults, changed, after}
+use Rattle.sp_meaning.specs.Model.{Change, Becomes, Forked, WritesLocation, Pends, AddsTotals, Faults, with_change}
+use Rattle.sp_meaning.specs.Model.{with_changes}
 use Rattle.sp_meaning.specs.Schedules.{System}
 
 abbrev pub ActOf : Language → Type 0
@@ -38,31 +40,31 @@ all_ended m p k (suc i) = has_ended (m ((k, i) ∷ p)) && all_ended m p k i
 
 -- the own part of a process in this condition, where it is running: it works, or it joins and all its children have
 -- ended
-abbrev pub working_in : {O V T : Type 0} → (Name → Condition O V T) → Name → Condition O V T → Option O
-working_in m p Absent = None
-working_in m p (Works o) = Some o
-working_in m p (Waits o) = None
-working_in m p (Joins k n o) = if all_ended m p k n then Some o else None
-working_in m p Ended = None
+abbrev pub own_part_in : {O V T : Type 0} → (Name → Condition O V T) → Name → Condition O V T → Option O
+own_part_in m p Absent = None
+own_part_in m p (Works o) = Some o
+own_part_in m p (Waits o) = None
+own_part_in m p (Joins k n o) = if all_ended m p k n then Some o else None
+own_part_in m p Ended = None
 
 -- the own part of a process that is running
-abbrev pub working : {L : Language} → State L → Name → Option L.Own
-working s p = working_in s.condition p (s.condition p)
+abbrev pub own_part : {L : Language} → State L → Name → Option L.Own
+own_part s p = own_part_in s.condition p (s.condition p)
 
 -- what a step comes to: changes, or a fault
-pub data Outcome (L : Language) : Type 0 where
-  Advances : (changes : List (Change L)) → Outcome L
-  Faulty : (fault : Fault) → Outcome L
+pub data ActOutcome (L : Language) : Type 0 where
+  Advances : (changes : List (Change L)) → ActOutcome L
+  Faulty : (fault : Fault) → ActOutcome L
 
 -- writes, as changes
-abbrev pub puts : {L : Language} → List (L.Loc × L.Value) → List (Change L)
-puts [] = []
-puts (w ∷ ws) = Writes w.0 w.1 ∷ puts ws
+abbrev pub write_changes : {L : Language} → List (L.Loc × L.Value) → List (Change L)
+write_changes [] = []
+write_changes (w ∷ ws) = WritesLocation w.0 w.1 ∷ write_changes ws
 
 -- the children of fork k, from number i on
-abbrev pub births : {L : Language} → Name → ℕ → ℕ → List L.Own → List (Change L)
-births p k i [] = []
-births p k i (o ∷ os) = Becomes ((k, i) ∷ p) (Works o) ∷ births p k (suc i) os
+abbrev pub birth_changes : {L : Language} → Name → ℕ → ℕ → List L.Own → List (Change L)
+birth_changes p k i [] = []
+birth_changes p k i (o ∷ os) = Becomes ((k, i) ∷ p) (Works o) ∷ birth_changes p k (suc i) os
 
 -- offers
 
@@ -78,100 +80,103 @@ message (Message v) (Message w) = None
 message (Takes t) (Takes u) = None
 
 -- the cost of an entry
-abbrev pub an_entry : Totals
-an_entry = record { processes = 0; channels = 0; entries = 1 }
+abbrev pub entry_cost : Totals
+entry_cost = record { processes = 0; channels = 0; entries = 1 }
 
 -- p's offer meets that of z: both go on, nothing is pending, and the message is assigned
-abbrev pub meeting : {L : Language} → State L → Name → OfferOf L → Name → OfferOf L → L.Target × L.Value
+abbrev pub meeting_changes : {L : Language} → State L → Name → OfferOf L → Name → OfferOf L → L.Target × L.Value
     → List (Change L)
-meeting {L} s p o z w m =
+meeting_changes {L} s p o z w m =
     Becomes p (Works o.next) ∷ Becomes z (Works w.next) ∷ Pends o.channel None
-    ∷ Writes (L.place m.0) (L.put m.0 (s.store (L.place m.0)) m.1) ∷ Adds an_entry ∷ []
+    ∷ WritesLocation (L.place m.0) (L.put m.0 (s.store (L.place m.0)) m.1) ∷ AddsTotals entry_cost ∷ []
 
 -- the offer waits
-abbrev pub waiting : {L : Language} → State L → Name → OfferOf L → List (Change L)
-waiting s p o = Becomes p (Waits o) ∷ Pends o.channel (Some p) ∷ Adds an_entry ∷ []
+abbrev pub waiting_changes : {L : Language} → State L → Name → OfferOf L → List (Change L)
+waiting_changes s p o = Becomes p (Waits o) ∷ Pends o.channel (Some p) ∷ AddsTotals entry_cost ∷ []
 
 -- F6 where both have one way, F7 where the message types differ
-abbrev pub hands : {L : Language} → State L → Name → OfferOf L → Name → OfferOf L → Option (L.Target × L.Value)
-    → Outcome L
-hands s p o z w None = Faulty fault.F6
-hands s p o z w (Some m) = if o.kind == w.kind then Advances (meeting s p o z w m) else Faulty fault.F7
+abbrev pub handover_outcome : {L : Language} → State L → Name → OfferOf L → Name → OfferOf L
+    → Option (L.Target × L.Value)
+    → ActOutcome L
+handover_outcome s p o z w None = Faulty fault.F6
+handover_outcome s p o z w (Some m) = if o.kind == w.kind then Advances (meeting_changes s p o z w m) else Faulty
+    fault.F7
 
 -- z's offer is pending. No case but the third comes up
-abbrev pub meets : {L : Language} → State L → Name → OfferOf L → Name → ConditionOf L → Outcome L
-meets s p o z Absent = Faulty fault.F6
-meets s p o z (Works own) = Faulty fault.F6
-meets s p o z (Waits w) = hands s p o z w (message o.cargo w.cargo)
-meets s p o z (Joins k n own) = Faulty fault.F6
-meets s p o z Ended = Faulty fault.F6
+abbrev pub meeting_outcome : {L : Language} → State L → Name → OfferOf L → Name → ConditionOf L → ActOutcome L
+meeting_outcome s p o z Absent = Faulty fault.F6
+meeting_outcome s p o z (Works own) = Faulty fault.F6
+meeting_outcome s p o z (Waits w) = handover_outcome s p o z w (message o.cargo w.cargo)
+meeting_outcome s p o z (Joins k n own) = Faulty fault.F6
+meeting_outcome s p o z Ended = Faulty fault.F6
 
 -- the offer waits, or it meets the one that is pending
-abbrev pub offered : {L : Language} → State L → Name → OfferOf L → Option Name → Outcome L
-offered s p o None = Advances (waiting s p o)
-offered s p o (Some z) = meets s p o z (s.condition z)
+abbrev pub offer_outcome : {L : Language} → State L → Name → OfferOf L → Option Name → ActOutcome L
+offer_outcome s p o None = Advances (waiting_changes s p o)
+offer_outcome s p o (Some z) = meeting_outcome s p o z (s.condition z)
 
 -- what p's act does to the state
-abbrev pub acts : {L : Language} → State L → Name → ActOf L → Outcome L
-acts s p (Moves o ws) = Advances (Becomes p (Works o) ∷ puts ws)
-acts s p (Opens o ws) = Advances (Becomes p (Works o) ∷ Adds (record { processes = 0; channels = 1; entries = 1 })
-    ∷ puts ws)
-acts s p (Forks o os) = Advances (Becomes p (Joins (s.forks p) (length os) o) ∷ Forked p
-    ∷ Adds (record { processes = length os; channels = 0; entries = 1 }) ∷ births p (s.forks p) 0 os)
-acts s p (Offering o) = offered s p o (s.pending o.channel)
-acts s p Ends = Advances (Becomes p Ended ∷ [])
-acts s p (Fails f) = Faulty f
+abbrev pub act_outcome : {L : Language} → State L → Name → ActOf L → ActOutcome L
+act_outcome s p (Moves o ws) = Advances (Becomes p (Works o) ∷ write_changes ws)
+act_outcome s p (Opens o ws) =
+    Advances (Becomes p (Works o) ∷ AddsTotals (record { processes = 0; channels = 1; entries = 1 })
+    ∷ write_changes ws)
+act_outcome s p (Forks o os) = Advances (Becomes p (Joins (s.forks p) (length os) o) ∷ Forked p
+    ∷ AddsTotals (record { processes = length os; channels = 0; entries = 1 }) ∷ birth_changes p (s.forks p) 0 os)
+act_outcome s p (Offering o) = offer_outcome s p o (s.pending o.channel)
+act_outcome s p EndsProcess = Advances (Becomes p Ended ∷ [])
+act_outcome s p (MeetsFault f) = Faulty f
 
 -- what counts against the totals
 abbrev pub cost : {O M V T : Type 0} → Act O M V T → Option Totals
 cost (Moves o ws) = None
 cost (Opens o ws) = Some (record { processes = 0; channels = 1; entries = 1 })
 cost (Forks o os) = Some (record { processes = length os; channels = 0; entries = 1 })
-cost (Offering o) = Some an_entry
-cost Ends = None
-cost (Fails f) = None
+cost (Offering o) = Some entry_cost
+cost EndsProcess = None
+cost (MeetsFault f) = None
 
 -- a total that grows by n would pass its limit; one that does not grow passes none
-abbrev pub is_over : ℕ → ℕ → ℕ → Bool
-is_over limit total n = nat_lt 0 n && nat_lt limit (total + n)
+abbrev pub is_limit_passed : ℕ → ℕ → ℕ → Bool
+is_limit_passed limit total n = nat_lt 0 n && nat_lt limit (total + n)
 
 -- the fault of the total that would pass its limit: first F15, then F13, then F14
-abbrev pub passed : Totals → Totals → Option Totals → Option Fault
-passed limits t None = None
-passed limits t (Some n) =
-    if is_over limits.entries t.entries n.entries then Some fault.F15
-    else (if is_over limits.processes t.processes n.processes then Some fault.F13
-    else (if is_over limits.channels t.channels n.channels then Some fault.F14 else None))
+abbrev pub limit_fault : Totals → Totals → Option Totals → Option Fault
+limit_fault limits t None = None
+limit_fault limits t (Some n) =
+    if is_limit_passed limits.entries t.entries n.entries then Some fault.F15
+    else (if is_limit_passed limits.processes t.processes n.processes then Some fault.F13
+    else (if is_limit_passed limits.channels t.channels n.channels then Some fault.F14 else None))
 
 -- a fault comes first
-abbrev pub unless : {L : Language} → Option Fault → Outcome L → Outcome L
-unless None x = x
-unless (Some f) x = Faulty f
+abbrev pub fault_or : {L : Language} → Option Fault → ActOutcome L → ActOutcome L
+fault_or None x = x
+fault_or (Some f) x = Faulty f
 
 -- what a step does, or the limit that it would pass
-abbrev pub outcome : {L : Language} → Totals → State L → Name → ActOf L → Outcome L
-outcome limits s p a = unless (passed limits s.totals (cost a)) (acts s p a)
+abbrev pub step_outcome : {L : Language} → Totals → State L → Name → ActOf L → ActOutcome L
+step_outcome limits s p a = fault_or (limit_fault limits s.totals (cost a)) (act_outcome s p a)
 
 -- a fault is set, and nothing else changes
-abbrev pub result_of : {L : Language} → State L → Name → Outcome L → State L
-result_of s p (Advances cs) = after cs s
-result_of s p (Faulty f) = changed (Faults p f) s
+abbrev pub result_of : {L : Language} → State L → Name → ActOutcome L → State L
+result_of s p (Advances cs) = with_changes cs s
+result_of s p (Faulty f) = with_change (Faults p f) s
 
 abbrev pub step_with : {L : Language} → Totals → State L → Name → Option L.Own → Option (State L)
 step_with limits s p None = None
-step_with {L} limits s p (Some own) = Some (result_of s p (outcome limits s p (L.next own s.store)))
+step_with {L} limits s p (Some own) = Some (result_of s p (step_outcome limits s p (L.next own s.store)))
 
 -- the next state when p steps, or none where p is not running
 abbrev pub step : {L : Language} → Totals → State L → Name → Option (State L)
-step limits s p = step_with limits s p (working s p)
+step limits s p = step_with limits s p (own_part s p)
 
 -- no fault stands
-abbrev pub Quiet : {L : Language} → State L → Type 0
-Quiet s = s.fault ≡ None
+abbrev pub HasNoFault : {L : Language} → State L → Type 0
+HasNoFault s = s.fault ≡ None
 
 -- the states and steps as a system of named processes
-abbrev pub processes : Language → Totals → System
-processes L limits = record { State = State L; Name = Name; step = step limits; Quiet = Quiet }
+abbrev pub process_system : Language → Totals → System
+process_system L limits = record { State = State L; Name = Name; step = step limits; HasNoFault = HasNoFault }
 
 -- the laws of a language
 pub record Laws (L : Language) : Type 0 where
@@ -191,12 +196,12 @@ WaitsOn c (Joins k n o) = ⊥
 WaitsOn c Ended = ⊥
 
 -- it is there and has not ended
-abbrev pub Lives : {O V T : Type 0} → Condition O V T → Type 0
-Lives Absent = ⊥
-Lives (Works o) = Unit
-Lives (Waits w) = Unit
-Lives (Joins k n o) = Unit
-Lives Ended = ⊥
+abbrev pub IsAlive : {O V T : Type 0} → Condition O V T → Type 0
+IsAlive Absent = ⊥
+IsAlive (Works o) = Unit
+IsAlive (Waits w) = Unit
+IsAlive (Joins k n o) = Unit
+IsAlive Ended = ⊥
 
 abbrev pub JoinsAt : {O V T : Type 0} → ℕ → ℕ → Condition O V T → Type 0
 JoinsAt k i Absent = ⊥
@@ -211,7 +216,7 @@ pub record Sound {L : Language} (s : State L) : Type 0 where
   -- there is no child of a fork that was not made yet
   pub unborn : (z : Name) (k i : ℕ) → s.forks z ≤ k → s.condition ((k, i) ∷ z) ≡ Absent
   -- the parent of a child that lives joins it
-  pub joined : (z : Name) (k i : ℕ) → Lives (s.condition ((k, i) ∷ z)) → JoinsAt k i (s.condition z)
+  pub joined : (z : Name) (k i : ℕ) → IsAlive (s.condition ((k, i) ∷ z)) → JoinsAt k i (s.condition z)
 
 -- the root alone, with this own part and this store
 abbrev pub first_condition : {O V T : Type 0} → O → Name → Condition O V T
@@ -219,8 +224,8 @@ first_condition own [] = Works own
 first_condition own (x ∷ p) = Absent
 
 -- the root alone
-abbrev pub opening : (L : Language) → L.Own → (L.Loc → L.Value) → State L
-opening L own store = record {
+abbrev pub opening_state : (L : Language) → L.Own → (L.Loc → L.Value) → State L
+opening_state L own store = record {
   condition = first_condition own;
   forks = λ p. 0;
   store = store;

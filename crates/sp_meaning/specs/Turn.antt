@@ -2,30 +2,30 @@
 -- A turn of a process: its local steps up to the first moment at which it is due, or its next step is a kernel step.
 -- Generated code is compared with the meaning turn by turn.
 use Rattle.std.specs.Prelude.{ℕ, zero, suc, Bool, if◌then◌else◌, List}
-use Rattle.sp_meaning.specs.Own.{Setting, Own, Item, Work, bind, give, long, mine}
-use Rattle.sp_meaning.specs.Deeds.{Deed, Stepped, Ticked, Opened, Forked, Offered, Ended, deed}
-use Rattle.sp_meaning.specs.SuperPascal.{enough}
+use Rattle.sp_meaning.specs.LocalWork.{RunInput, LocalState, Item, Work, bind, give, out_of_fuel, local_state}
+use Rattle.sp_meaning.specs.Actions.{Action, Stepped, Ticked, Opened, Forked, Offered, Ended, next_action}
+use Rattle.sp_meaning.specs.SuperPascal.{fuel_of}
 
 -- where a turn ends: due, with what is left to do, or at a kernel step
 pub data Stop : Type 0 where
   Paused : (todo : List Item) → Stop
-  Stops : (d : Deed) → Stop
+  Stops : (d : Action) → Stop
 
-module _ (g : Setting) (due : Own → Bool) where
+module _ (g : RunInput) (due : LocalState → Bool) where
   -- on after a local step, or no further
-  abbrev pub onward : (List Item → Work Stop) → Deed → Work Stop
-  onward go (Stepped todo) = go todo
-  onward go (Ticked todo) = bind mine (λ o. if due o then give (Paused todo) else go todo)
-  onward go (Opened todo) = give (Stops (Opened todo))
-  onward go (Forked os todo) = give (Stops (Forked os todo))
-  onward go (Offered c k cargo todo) = give (Stops (Offered c k cargo todo))
-  onward go Ended = give (Stops Ended)
+  abbrev pub rest_of_turn : (List Item → Work Stop) → Action → Work Stop
+  rest_of_turn go (Stepped todo) = go todo
+  rest_of_turn go (Ticked todo) = bind local_state (λ o. if due o then give (Paused todo) else go todo)
+  rest_of_turn go (Opened todo) = give (Stops (Opened todo))
+  rest_of_turn go (Forked os todo) = give (Stops (Forked os todo))
+  rest_of_turn go (Offered c k cargo todo) = give (Stops (Offered c k cargo todo))
+  rest_of_turn go Ended = give (Stops Ended)
 
   -- one step
-  abbrev pub one : List Item → Work Deed
-  one todo w o = deed g (enough g o) todo w o
+  abbrev pub turn_step : List Item → Work Action
+  turn_step todo w o = next_action g (fuel_of g o) todo w o
 
   -- no more than n steps
   abbrev pub turn : ℕ → List Item → Work Stop
-  turn zero todo = long
-  turn (suc n) todo = bind (one todo) (onward (turn n))
+  turn zero todo = out_of_fuel
+  turn (suc n) todo = bind (turn_step todo) (rest_of_turn (turn n))

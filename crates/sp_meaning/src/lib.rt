@@ -20,10 +20,13 @@
 //!   does a process write what a parallel one reads or writes.
 //!
 //! To know:
-//! - `specs/Model.antt` and `Steps` are the processes, whatever their language; `Own`, `Asking`, `Eval`, `Deeds`,
+//! - `specs/Model.antt` and `Steps` are the processes, whatever their language; `LocalWork`, `EffectTree`, `Eval`,
+//!   `Actions`,
 //!   `Turn` and `SuperPascal` are one process; `Runs`, `Along`, `Ends`, `Disjoint` are what is said of a run.
-//! - `Owning` is what each process has the right to, which `proofs/Started.antt`, `Deeding`, `Children` and `Owned`
-//!   keep along a run. `proofs/QuietDeeds.antt`: what a step that forks, offers, ends or fails leaves as it was, where
+//! - `Owning` is what each process has the right to, which `proofs/Started.antt`, `ActionRights`, `Children` and
+//!   `Owned`
+//!   keep along a run. `proofs/SilentActions.antt`: what a step that forks, offers, ends or fails leaves as it was,
+//!   where
 //!   expressions are pure (`Pure`).
 //! - Names have the newest step first, so that a parent is the tail. Texts have the oldest first, and the order of
 //!   names is by the oldest first.
@@ -36,7 +39,7 @@
 //!   the language that it does without.
 //!
 //! To change:
-//! - A statement: `specs/Deeds.antt` (`start`, `push`) and a line in `proofs/EnoughSteps.antt`.
+//! - A statement: `specs/Actions.antt` (`start`, `push`) and a line in `proofs/EnoughSteps.antt`.
 //! - An operator: `sp_tree/specs/Operators.antt`, which `specs/Operators.antt` passes on.
 #![tactic(auto)]
 

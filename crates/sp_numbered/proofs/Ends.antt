@@ -9,7 +9,7 @@ use Rattle.sp_journal.specs.declared.outcome.End.{End}
 use Rattle.sp_journal.specs.declared.outcome.End.TheVariants as end
 use Rattle.sp_journal.specs.Names.{Name, Channel, proc_name}
 use Rattle.sp_journal.specs.Births.{occurrences}
-use Rattle.sp_meaning.specs.Own.{Setting}
+use Rattle.sp_meaning.specs.LocalWork.{RunInput}
 use Rattle.sp_meaning.specs.Runs.{StateOf}
 use Rattle.sp_meaning.specs.Along.{IsAlong}
 use Rattle.sp_meaning.specs.Ends.{IsDone, IsIdle, EndIs, EndsSo}
@@ -20,7 +20,7 @@ use Rattle.sp_witness.specs.Numbered.{witness_journal}
 use Rattle.sp_numbered.specs.Journals.{IsWitness}
 
 -- in contention a process is running, and a fault stands: so the end is that fault alone
-module _ (g : Setting) (u : StateOf g) (w : Way) (c : Channel) (first second : Name)
+module _ (g : RunInput) (u : StateOf g) (w : Way) (c : Channel) (first second : Name)
     (h : IsContention g u w c first second) (idle : IsDone g u → IsIdle g u) where
   abbrev the_fault : End
   the_fault = end.Fault (proc_name second) fault.F6
@@ -48,7 +48,7 @@ module _ (g : Setting) (u : StateOf g) (w : Way) (c : Channel) (first second : N
   ends_so (Some x) e = ap (λ z. Some z) (one_end x e)
 
 -- the same of every state along the journal of the witness
-pub witness_ends : (g : Setting) (turn : ℕ) (j : Journal) (w : Way) (c : Channel) (earlier later : ℕ)
+pub witness_ends : (g : RunInput) (turn : ℕ) (j : Journal) (w : Way) (c : Channel) (earlier later : ℕ)
     → IsWitness g turn j w c earlier later
     → ((s : StateOf g) → (n : ℕ) → IsAlong g turn (witness (occurrences j) earlier later) n s → IsDone g s
     → IsIdle g s)

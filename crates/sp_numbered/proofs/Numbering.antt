@@ -6,12 +6,13 @@ use Rattle.sp_tree.specs.Plain.{Stmt}
 use Rattle.sp_journal.specs.declared.entry.Entry.{Entry}
 use Rattle.sp_journal.specs.declared.entry.Event.TheVariants as event
 use Rattle.sp_journal.specs.Names.{Happening, Occurrence}
-use Rattle.sp_journal.specs.Births.{Births, at_start, after_entry, births_from, happening, occurrence, occurrences_from}
+use Rattle.sp_journal.specs.Births.{Births, first_births, births_after_entry, births_from, happening, occurrence}
+use Rattle.sp_journal.specs.Births.{occurrences_from}
 use Rattle.sp_journal.specs.Births.{NameableFrom}
 use Rattle.sp_cell.specs.Map.{Plain}
-use Rattle.sp_meaning.specs.Steps.{Lives as IsLive}
-use Rattle.sp_meaning.specs.Own.{Setting}
-use Rattle.sp_meaning.specs.Runs.{StateOf, start, running}
+use Rattle.sp_meaning.specs.Steps.{IsAlive as IsLive}
+use Rattle.sp_meaning.specs.LocalWork.{RunInput}
+use Rattle.sp_meaning.specs.Runs.{StateOf, start, running_process}
 use Rattle.sp_meaning.specs.Along.{no_course, IsAlong, IsCleanly, IsClean}
 use Rattle.sp_meaning.proofs.Status.{working_lives}
 use Rattle.sp_code.specs.Emitted.{program_code}
@@ -19,17 +20,18 @@ use Rattle.sp_code.specs.Machine.{Config}
 use Rattle.sp_code.specs.Memory.{Memory}
 use Rattle.sp_code.specs.Memory as memory
 use Rattle.sp_code.specs.PlainStore.{plain}
-use Rattle.sp_code.specs.System.{System, Working, Enters, Leads, IsSystem, opening, after, event_of}
-use Rattle.sp_codegen.specs.Meets.{code_run}
+use Rattle.sp_code.specs.System.{System, Working, EntryLeads, EntriesLead, IsSystem, opening_system, system_after_turn}
+use Rattle.sp_code.specs.System.{event_of}
+use Rattle.sp_codegen.specs.TurnAgrees.{code_run}
 use Rattle.sp_link.specs.Premises.{IsReady}
 use Rattle.sp_link.specs.Endings.{HasFaultEntry}
-use Rattle.sp_link.proofs.Entries.{entry}
+use Rattle.sp_link.proofs.JournalEntries.{entry}
 use Rattle.sp_link.proofs.FaultEntries.{fault_entry}
 use Rattle.sp_link.proofs.Journal.{Goes_along}
 use Rattle.sp_link.proofs.OneState.{one_state}
 use Rattle.sp_link.proofs.Pauses.{Entry_of}
 use Rattle.sp_link.proofs.Programs.{ground, program_means, program_runs}
-use Rattle.sp_link.proofs.Relation.{Ground, Linked, at_open}
+use Rattle.sp_link.proofs.Relation.{RunContext, Linked, at_open}
 use Rattle.sp_link.proofs.Replay.{runs_there}
 use Rattle.sp_link.proofs.Soundness.{names_on}
 use Rattle.sp_link.proofs.Theorem.{linked_along}
@@ -40,7 +42,7 @@ use Rattle.sp_numbered.proofs.Ways.{Front, front, along_front, next_one}
 names_last : (s : Births) (es : List Entry) (e : Entry)
     → occurrences_from s (es ++ e ∷ []) ≡ occurrences_from s es ++ occurrence (births_from s es) e ∷ []
 names_last s [] e = refl
-names_last s (x ∷ es) e = ap (λ z. occurrence s x ∷ z) (names_last (after_entry s x) es e)
+names_last s (x ∷ es) e = ap (λ z. occurrence s x ∷ z) (names_last (births_after_entry s x) es e)
 
 -- a clean journal has no fault
 no_fault : (s : Births) (es : List Entry) → IsClean (occurrences_from s es) → (p : ℕ) (f : Fault) → HasFaultEntry es p f
@@ -49,26 +51,26 @@ no_fault s [] clean p f h = h
 no_fault s (e ∷ es) clean p f h = ⊎_elim
     (λ (is : e ≡ record { process = p; event = event.Fault f }). subst (λ (z : Entry). IsCleanly (happening s z.event))
     is clean.0)
-    (λ (x : HasFaultEntry es p f). no_fault (after_entry s e) es clean.1 p f x)
+    (λ (x : HasFaultEntry es p f). no_fault (births_after_entry s e) es clean.1 p f x)
     h
 
-module _ (g : Setting) (moves shares : Stmt → List ℕ) (pause : ℕ) (ready : IsReady g moves shares) where
-  abbrev run : memory.Setting
+module _ (g : RunInput) (moves shares : Stmt → List ℕ) (pause : ℕ) (ready : IsReady g moves shares) where
+  abbrev run : memory.CodeRun
   run = code_run g (program_code g.program moves shares) pause
 
-  leads_last : (s : System Plain) (es : List Entry) (e : Entry) (t u : System Plain) → Leads plain run s es t
-      → Enters plain run t e.process e.event u → Leads plain run s (es ++ e ∷ []) u
-  leads_last s [] e t u h k = (u, subst (λ z. Enters plain run z e.process e.event u) h k, refl)
+  leads_last : (s : System Plain) (es : List Entry) (e : Entry) (t u : System Plain) → EntriesLead plain run s es t
+      → EntryLeads plain run t e.process e.event u → EntriesLead plain run s (es ++ e ∷ []) u
+  leads_last s [] e t u h k = (u, subst (λ z. EntryLeads plain run z e.process e.event u) h k, refl)
   leads_last s (x ∷ es) e t u h k = (h.0, h.1, leads_last h.0 es e t u h.2 k)
 
   -- one more entry
   module _ (done : List Occurrence) (o : Occurrence) (clean : IsClean done) (n : ℕ) (s : StateOf g)
-      (along : IsAlong g pause (done ++ o ∷ []) n s) (es : List Entry) (named : NameableFrom at_start es)
-      (names : occurrences_from at_start es ≡ done) where
+      (along : IsAlong g pause (done ++ o ∷ []) n s) (es : List Entry) (named : NameableFrom first_births es)
+      (names : occurrences_from first_births es ≡ done) where
     before : Front g pause no_course (start g) done o.who
     before = front g pause done o [] no_course (start g) n s along
 
-    its : IsAlong g pause (occurrences_from at_start es) before.steps before.state
+    its : IsAlong g pause (occurrences_from first_births es) before.steps before.state
     its = subst (λ z. IsAlong g pause z before.steps before.state) (sym names) before.along
 
     system : (t : System Plain) × IsSystem plain run es t
@@ -77,14 +79,15 @@ module _ (g : Setting) (moves shares : Stmt → List ℕ) (pause : ℕ) (ready :
     abbrev t : System Plain
     t = system.0
 
-    abbrev G : Ground
+    abbrev G : RunContext
     G = at_open (ground g moves shares pause ready es named) t.births.channels
 
-    goes : Goes_along (ground g moves shares pause ready es named) no_course (start g) at_start es t
+    goes : Goes_along (ground g moves shares pause ready es named) no_course (start g) first_births es t
     goes = linked_along (ground g moves shares pause ready es named) ready.main ready.first es named refl t system.1
 
     is_it : goes.state ≡ before.state
-    is_it = (one_state g pause (occurrences_from at_start es) goes.steps before.steps goes.state before.state goes.along
+    is_it = (one_state g pause (occurrences_from first_births es) goes.steps before.steps goes.state before.state
+        goes.along
         its).1
 
     linked : Linked G goes.lives goes.course before.state t
@@ -100,12 +103,13 @@ module _ (g : Setting) (moves shares : Stmt → List ℕ) (pause : ℕ) (ready :
       where
         by : (b : Bool) → t.faulted ≡ b → t.faulted ≡ false
         by false e = e
-        by true e = let w = fault_entry run es (opening plain run) t refl system.1 e in
-            absurd (no_fault at_start es (subst IsClean (sym names) clean) w.0 w.1 w.2)
+        by true e = let w = fault_entry run es (opening_system plain run) t refl system.1 e in
+            absurd (no_fault first_births es (subst IsClean (sym names) clean) w.0 w.1 w.2)
 
     works : (d : Config (Memory Plain)) × (t.condition number.0 ≡ Working d)
     works = runs_there G goes.lives goes.course before.state t linked number.0 number.1 before.own
-        (ap (λ y. running g before.state y) number.2 ∙ before.runs) (linked.unlaid quiet (G.births.name number.0))
+        (ap (λ y. running_process g before.state y) number.2 ∙ before.runs)
+        (linked.unlaid quiet (G.births.name number.0))
 
     turns : Entry_of G goes.course before.state t number.0 works.0
     turns = entry G goes.lives goes.course before.state t linked number.0 works.0 works.1
@@ -114,22 +118,22 @@ module _ (g : Setting) (moves shares : Stmt → List ℕ) (pause : ℕ) (ready :
     e = record { process = number.0; event = event_of g.limits t turns.turn }
 
     abbrev u : System Plain
-    u = after plain run number.0 turns.turn t
+    u = system_after_turn plain run number.0 turns.turn t
 
     leads : IsSystem plain run (es ++ e ∷ []) u
-    leads = leads_last (opening plain run) es e t u system.1 (works.0, works.1, turns.turn, turns.is, refl, refl)
+    leads = leads_last (opening_system plain run) es e t u system.1 (works.0, works.1, turns.turn, turns.is, refl, refl)
 
-    nameable : NameableFrom at_start (es ++ e ∷ [])
+    nameable : NameableFrom first_births (es ++ e ∷ [])
     nameable = names_on g moves shares pause ready (es ++ e ∷ []) u leads
 
-    means : (n : ℕ) × (s : StateOf g) × IsAlong g pause (occurrences_from at_start (es ++ e ∷ [])) n s
+    means : (n : ℕ) × (s : StateOf g) × IsAlong g pause (occurrences_from first_births (es ++ e ∷ [])) n s
     means = program_means g moves shares pause ready (es ++ e ∷ []) nameable u leads
 
     abbrev said : Happening
-    said = happening (births_from at_start es) e.event
+    said = happening (births_from first_births es) e.event
 
-    are : occurrences_from at_start (es ++ e ∷ []) ≡ done ++ record { who = o.who; what = said } ∷ []
-    are = names_last at_start es e ∙ (λ i. names i ++ record { who = number.2 i; what = said } ∷ [])
+    are : occurrences_from first_births (es ++ e ∷ []) ≡ done ++ record { who = o.who; what = said } ∷ []
+    are = names_last first_births es e ∙ (λ i. names i ++ record { who = number.2 i; what = said } ∷ [])
 
     same : said ≡ o.what
     same = next_one g pause done o.who said o.what no_course (start g) means.0 n means.1 s

@@ -4,40 +4,42 @@ use Rattle.std.proofs.Common.{sym, ap, ◌∙◌, subst}
 use Rattle.std.proofs.lemmas.List.{append-nil}
 use Rattle.std.proofs.lemmas.Option.{same_Some}
 use Rattle.sp_meaning.specs.Model.{Name}
-use Rattle.sp_meaning.specs.Own.{Setting, Process}
+use Rattle.sp_meaning.specs.LocalWork.{RunInput, Process}
 use Rattle.sp_meaning.specs.Entries.{Happening, Opened, Forked, Offered, Faulted, Laid, Paused, Occurrence}
 use Rattle.sp_journal.specs.Names as happenings
-use Rattle.sp_meaning.specs.Runs.{StateOf, running, says}
-use Rattle.sp_meaning.specs.Along.{Turn, Course, stopped, noted, after_entry, ticks_of, Kernel, Entered, Along}
+use Rattle.sp_meaning.specs.Runs.{StateOf, running_process, happening_at}
+use Rattle.sp_meaning.specs.Along.{Turn, Course, with_fault, with_ticks, course_after, ticks_of, KernelStep, EntryStep}
+use Rattle.sp_meaning.specs.Along.{Along}
 use Rattle.sp_link.proofs.OneState.{turn_one}
 
-module _ (g : Setting) (turn : ℕ) where
+module _ (g : RunInput) (turn : ℕ) where
   -- the front of a journal, and that the process of the entry after it runs
   pub record Front (c : Course) (s : StateOf g) (xs : List Occurrence) (q : Name) : Type 0 where
     pub steps : ℕ
     pub state : StateOf g
     pub along : Along g turn c s xs steps state
     pub own : Process
-    pub runs : running g state q ≡ Some own
+    pub runs : running_process g state q ≡ Some own
 
   -- an entry in front of a front
-  record Entry (xs : List Occurrence) (r : Name) (c : Course) (m : StateOf g) (p : Bool) (q : Name) (what : Happening) :
+  record FrontEntry (xs : List Occurrence) (r : Name) (c : Course) (m : StateOf g) (p : Bool) (q : Name)
+      (what : Happening) :
       Type 0 where
     state : StateOf g
     count : ℕ
-    entered : Entered g (λ c1 v k. Along g turn c1 v xs k state) c m p q what count
+    entered : EntryStep g (λ c1 v k. Along g turn c1 v xs k state) c m p q what count
     own : Process
-    runs : running g state r ≡ Some own
+    runs : running_process g state r ≡ Some own
 
   module _ (xs : List Occurrence) (r : Name) (left : Course → StateOf g → ℕ → Type 0)
       (go : (c1 : Course) (u : StateOf g) (k : ℕ) → left c1 u k → Front c1 u xs r) (c : Course) (m : StateOf g)
       (p : Bool) (q : Name) where
-    entry : (what : Happening) (n : ℕ) → Entered g left c m p q what n → Entry xs r c m p q what
-    entry Laid n h = let x = go (stopped q c) m n h.1 in
+    entry : (what : Happening) (n : ℕ) → EntryStep g left c m p q what n → FrontEntry xs r c m p q what
+    entry Laid n h = let x = go (with_fault q c) m n h.1 in
         record { state = x.state; count = x.steps; entered = (h.0, x.along); own = x.own; runs = x.runs }
-    entry Paused n h = let x = go (noted q (ticks_of g m q) c) m n h.2 in
+    entry Paused n h = let x = go (with_ticks q (ticks_of g m q) c) m n h.2 in
         record { state = x.state; count = x.steps; entered = (h.0, h.1, x.along); own = x.own; runs = x.runs }
-    entry (Forked k) n h = let x = go (after_entry q (Forked k) (ticks_of g h.2 q) c) h.2 h.3 h.6 in
+    entry (Forked k) n h = let x = go (course_after q (Forked k) (ticks_of g h.2 q) c) h.2 h.3 h.6 in
         record {
           state = x.state;
           count = suc x.steps;
@@ -46,7 +48,7 @@ module _ (g : Setting) (turn : ℕ) where
               x.own;
           runs = x.runs;
         }
-    entry Opened n h = let x = go (after_entry q Opened (ticks_of g h.2 q) c) h.2 h.3 h.6 in
+    entry Opened n h = let x = go (course_after q Opened (ticks_of g h.2 q) c) h.2 h.3 h.6 in
         record {
           state = x.state;
           count = suc x.steps;
@@ -55,7 +57,7 @@ module _ (g : Setting) (turn : ℕ) where
               x.own;
           runs = x.runs;
         }
-    entry (Offered w d) n h = let x = go (after_entry q (Offered w d) (ticks_of g h.2 q) c) h.2 h.3 h.6 in
+    entry (Offered w d) n h = let x = go (course_after q (Offered w d) (ticks_of g h.2 q) c) h.2 h.3 h.6 in
         record {
           state = x.state;
           count = suc x.steps;
@@ -64,7 +66,7 @@ module _ (g : Setting) (turn : ℕ) where
               x.own;
           runs = x.runs;
         }
-    entry happenings.Ended n h = let x = go (after_entry q happenings.Ended (ticks_of g h.2 q) c) h.2 h.3 h.6 in
+    entry happenings.Ended n h = let x = go (course_after q happenings.Ended (ticks_of g h.2 q) c) h.2 h.3 h.6 in
         record {
           state = x.state;
           count = suc x.steps;
@@ -73,7 +75,7 @@ module _ (g : Setting) (turn : ℕ) where
               x.own;
           runs = x.runs;
         }
-    entry (Faulted f) n h = let x = go (after_entry q (Faulted f) (ticks_of g h.2 q) c) h.2 h.3 h.6 in
+    entry (Faulted f) n h = let x = go (course_after q (Faulted f) (ticks_of g h.2 q) c) h.2 h.3 h.6 in
         record {
           state = x.state;
           count = suc x.steps;
@@ -84,7 +86,7 @@ module _ (g : Setting) (turn : ℕ) where
         }
 
   turn_runs : (since : ℕ) (q : Name) (k : ℕ) (s m : StateOf g) (p : Bool) → Turn g turn since q k s m p
-      → (own : Process) × (running g s q ≡ Some own)
+      → (own : Process) × (running_process g s q ≡ Some own)
   turn_runs since q zero s m p h = (h.2, h.3)
   turn_runs since q (suc k) s m p h = (h.0, h.1)
 
@@ -112,7 +114,7 @@ module _ (g : Setting) (turn : ℕ) where
   -- what a process's next entry says, by the state
   said_by : Option Process → StateOf g → Name → Option Happening
   said_by None m q = None
-  said_by (Some own) m q = says g m q own
+  said_by (Some own) m q = happening_at g m q own
 
   abbrev pick : Bool → Bool → Option Happening → Option Happening
   pick true p w = Some Laid
@@ -120,16 +122,16 @@ module _ (g : Setting) (turn : ℕ) where
   pick false false w = w
 
   module _ (left : Course → StateOf g → ℕ → Type 0) (c : Course) (m : StateOf g) (p : Bool) (q : Name) where
-    kernel_says : (what : Happening) (n : ℕ) → Kernel g left c m p q what n
-        → Some what ≡ pick c.faulted p (said_by (running g m q) m q)
+    kernel_says : (what : Happening) (n : ℕ) → KernelStep g left c m p q what n
+        → Some what ≡ pick c.faulted p (said_by (running_process g m q) m q)
     unfolding said_by
     kernel_says what n h = sym h.5.2 ∙ ap (λ o. said_by o m q) (sym h.5.1)
-        ∙ (λ i. pick (sym h.0 i) (sym h.1 i) (said_by (running g m q) m q))
+        ∙ (λ i. pick (sym h.0 i) (sym h.1 i) (said_by (running_process g m q) m q))
 
-    entry_says : (what : Happening) (n : ℕ) → Entered g left c m p q what n
-        → Some what ≡ pick c.faulted p (said_by (running g m q) m q)
-    entry_says Laid n h = ap (λ b. pick b p (said_by (running g m q) m q)) (sym h.0)
-    entry_says Paused n h = λ i. pick (sym h.0 i) (sym h.1 i) (said_by (running g m q) m q)
+    entry_says : (what : Happening) (n : ℕ) → EntryStep g left c m p q what n
+        → Some what ≡ pick c.faulted p (said_by (running_process g m q) m q)
+    entry_says Laid n h = ap (λ b. pick b p (said_by (running_process g m q) m q)) (sym h.0)
+    entry_says Paused n h = λ i. pick (sym h.0 i) (sym h.1 i) (said_by (running_process g m q) m q)
     entry_says (Forked k) n h = kernel_says (Forked k) n h
     entry_says Opened n h = kernel_says Opened n h
     entry_says (Offered w d) n h = kernel_says (Offered w d) n h
@@ -139,16 +141,16 @@ module _ (g : Setting) (turn : ℕ) where
   -- two ways on after one entry
   module _ (A : Type 0) (left right : Course → StateOf g → ℕ → Type 0) (c : Course) (m : StateOf g) (p : Bool)
       (q : Name) (go : (c1 : Course) (u : StateOf g) (n k : ℕ) → left c1 u n → right c1 u k → A) where
-    kernel_two : (what : Happening) (n k : ℕ) → Kernel g left c m p q what n → Kernel g right c m p q what k → A
+    kernel_two : (what : Happening) (n k : ℕ) → KernelStep g left c m p q what n → KernelStep g right c m p q what k → A
     kernel_two what n k h i =
         let own = same_Some h.5.0 i.5.0 (sym h.5.1 ∙ i.5.1) in
         let to : i.2 ≡ h.2 = same_Some i.2 h.2 (sym i.5.3 ∙ h.5.3) in
-        go (after_entry q what (ticks_of g h.2 q) c) h.2 h.3 i.3 h.6
-        (subst (λ y. right (after_entry q what (ticks_of g y q) c) y i.3) to i.6)
+        go (course_after q what (ticks_of g h.2 q) c) h.2 h.3 i.3 h.6
+        (subst (λ y. right (course_after q what (ticks_of g y q) c) y i.3) to i.6)
 
-    entered_two : (what : Happening) (n k : ℕ) → Entered g left c m p q what n → Entered g right c m p q what k → A
-    entered_two Laid n k h i = go (stopped q c) m n k h.1 i.1
-    entered_two Paused n k h i = go (noted q (ticks_of g m q) c) m n k h.2 i.2
+    entered_two : (what : Happening) (n k : ℕ) → EntryStep g left c m p q what n → EntryStep g right c m p q what k → A
+    entered_two Laid n k h i = go (with_fault q c) m n k h.1 i.1
+    entered_two Paused n k h i = go (with_ticks q (ticks_of g m q) c) m n k h.2 i.2
     entered_two (Forked j) n k h i = kernel_two (Forked j) n k h i
     entered_two Opened n k h i = kernel_two Opened n k h i
     entered_two (Offered w d) n k h i = kernel_two (Offered w d) n k h i
@@ -163,16 +165,16 @@ module _ (g : Setting) (turn : ℕ) where
       let z = turn_one g turn (c.since q) q i.1 h.1 s i.3 h.3 i.4 h.4 i.6 h.6 in
       let one = entry_says (λ c1 u r. Along g turn c1 u [] r t) c h.3 h.4 q a h.2 h.7 in
       let two = entry_says (λ c1 u r. Along g turn c1 u [] r v) c i.3 i.4 q b i.2 i.7 in
-      let same : pick c.faulted i.4 (said_by (running g i.3 q) i.3 q)
-      ≡ pick c.faulted h.4 (said_by (running g h.3 q) h.3 q) =
-      λ j. pick c.faulted (z.paused j) (said_by (running g (z.state j) q) (z.state j) q) in
+      let same : pick c.faulted i.4 (said_by (running_process g i.3 q) i.3 q)
+      ≡ pick c.faulted h.4 (said_by (running_process g h.3 q) h.3 q) =
+      λ j. pick c.faulted (z.paused j) (said_by (running_process g (z.state j) q) (z.state j) q) in
       same_Some a b (one ∙ sym (two ∙ same))
   next_one (x ∷ xs) q a b c s n k t v h i =
       let z = turn_one g turn (c.since x.who) x.who i.1 h.1 s i.3 h.3 i.4 h.4 i.6 h.6 in
       let right : Course → StateOf g → ℕ → Type 0 =
       λ c1 u r. Along g turn c1 u (xs ++ record { who = q; what = b } ∷ []) r v in
-      let at : Entered g right c h.3 h.4 x.who x.what i.2 =
-      subst (λ y. Entered g right c h.3 y x.who x.what i.2) z.paused
-      (subst (λ y. Entered g right c y i.4 x.who x.what i.2) z.state i.7) in
+      let at : EntryStep g right c h.3 h.4 x.who x.what i.2 =
+      subst (λ y. EntryStep g right c h.3 y x.who x.what i.2) z.paused
+      (subst (λ y. EntryStep g right c y i.4 x.who x.what i.2) z.state i.7) in
       entered_two (a ≡ b) (λ c1 u r. Along g turn c1 u (xs ++ record { who = q; what = a } ∷ []) r t) right c h.3 h.4
       x.who (λ c1 u r d y w. next_one xs q a b c1 u r d t v y w) x.what h.2 i.2 h.7 at

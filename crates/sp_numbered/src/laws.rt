@@ -10,7 +10,7 @@ ghost use Rattle.sp_journal.specs.declared.outcome.End.{End};
 ghost use Rattle.sp_journal.specs.declared.outcome.End.TheVariants as end;
 ghost use Rattle.sp_journal.specs.Names.{Channel, Occurrence, proc_name};
 ghost use Rattle.sp_journal.specs.Births.{occurrences};
-ghost use Rattle.sp_meaning.specs.Own.{Setting};
+ghost use Rattle.sp_meaning.specs.LocalWork.{RunInput};
 ghost use Rattle.sp_meaning.specs.Runs.{StateOf};
 ghost use Rattle.sp_meaning.specs.Along.{IsAlong, IsClean};
 ghost use Rattle.sp_meaning.specs.Ends.{EndsSo};
@@ -27,7 +27,7 @@ use sp_witness::races_are_real;
 /// Where the meaning of a program is defined along some occurrences, of which none but the last is a fault, there is a
 /// nameable journal of entries with these occurrences.
 pub fn runs_can_be_numbered()
-    ensures { (g : Setting) (moves shares : Stmt → List ℕ) (pause : ℕ) → IsReady g moves shares
+    ensures { (g : RunInput) (moves shares : Stmt → List ℕ) (pause : ℕ) → IsReady g moves shares
         → (os : List Occurrence) (o : Occurrence) → IsClean os
         → (n : ℕ) (s : StateOf g) → IsAlong g pause (os ++ o ∷ []) n s → Numbered (os ++ o ∷ []) }
 {}
@@ -35,7 +35,7 @@ pub fn runs_can_be_numbered()
 /// The witness is a journal. Of a program that is ready, with a run along a journal without a fault and its least race,
 /// the witness by numbers is nameable, its names are those of the definition, and it shows the race.
 pub fn witnesses_are_journals()
-    ensures { (g : Setting) (moves shares : Stmt → List ℕ) (turn : ℕ) → IsReady g moves shares
+    ensures { (g : RunInput) (moves shares : Stmt → List ℕ) (turn : ℕ) → IsReady g moves shares
         → (j : Journal) (n : ℕ) (t : StateOf g) → IsAlong g turn (occurrences j) n t → IsClean (occurrences j)
         → (w : Way) (c : Channel) (earlier later : ℕ)
         → IsLeastRace (occurrences j) w c earlier later → IsWitness g turn j w c earlier later }
@@ -47,7 +47,7 @@ pub fn witnesses_are_journals()
 /// What a program that is ready does along that witness is one thing: it ends there, with the fault F6 of the later
 /// offer's process.
 pub fn witnesses_end_in_contention()
-    ensures { (g : Setting) (moves shares : Stmt → List ℕ) (turn : ℕ) → IsReady g moves shares
+    ensures { (g : RunInput) (moves shares : Stmt → List ℕ) (turn : ℕ) → IsReady g moves shares
         → (j : Journal) (n : ℕ) (t : StateOf g) → IsAlong g turn (occurrences j) n t → IsClean (occurrences j)
         → (w : Way) (c : Channel) (earlier later : ℕ) → IsLeastRace (occurrences j) w c earlier later
         → (m : ℕ) (u : StateOf g) → IsAlong g turn (occurrences (witness_journal j earlier later)) m u

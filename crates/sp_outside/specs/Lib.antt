@@ -1,6 +1,6 @@
 pub mod Counts
-pub mod Told
+pub mod Visible
 pub mod Plans
-pub mod Rooms
+pub mod OutputBuffers
 pub mod Files
-pub mod Tapes
+pub mod InputBuffers

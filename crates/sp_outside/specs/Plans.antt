@@ -11,17 +11,17 @@ abbrev pub fails_next : Plan → Bool
 fails_next p = list_any (λ k. k == p.calls) p.failing
 
 -- one call more
-abbrev pub called : Plan → Plan
-called p = record p { calls = next_count p.calls }
+abbrev pub with_call : Plan → Plan
+with_call p = record p { calls = next_count p.calls }
 
 -- one fault more
-abbrev pub faulted : Plan → Plan
-faulted p = record p { faults = next_count p.faults }
+abbrev pub with_failed_call : Plan → Plan
+with_failed_call p = record p { faults = next_count p.faults }
 
 -- after a call, with a fault or without
-abbrev pub after_call : Bool → Plan → Plan
-after_call fails p = cond fails (faulted (called p)) (called p)
+abbrev pub plan_after_call : Bool → Plan → Plan
+plan_after_call fails p = cond fails (with_failed_call (with_call p)) (with_call p)
 
 -- no call was made
-abbrev pub unused : List ℕ → Plan
-unused failing = record { failing = failing; calls = 0; faults = 0 }
+abbrev pub first_plan : List ℕ → Plan
+first_plan failing = record { failing = failing; calls = 0; faults = 0 }

@@ -4,7 +4,7 @@ ghost use Rattle.std.specs.Prelude.{◌≡◌, ◌≢◌, ◌↔◌, ◌||◌, �
 ghost use Rattle.std.specs.Prelude.{IfSome, IsTrue, vec_len, unwrap_or, drop};
 ghost use Rattle.std.specs.Option.{option_copied};
 ghost use Rattle.sp_outside.specs.Counts.{Rose};
-ghost use Rattle.sp_outside.specs.Plans.{fails_next, after_call, unused};
+ghost use Rattle.sp_outside.specs.Plans.{fails_next, plan_after_call, first_plan};
 ghost use Rattle.sp_outside.specs.Files.{bytes_under};
 
 use crate::failed::LoadError;
@@ -23,7 +23,7 @@ pub struct MemoryLibrary {
 
 impl MemoryLibrary {
     pub fn new(files: List<(Text, Text)>, failing: List<u32>) -> MemoryLibrary
-        ensures { result ≡ record { files = files; plan = unused failing } }
+        ensures { result ≡ record { files = files; plan = first_plan failing } }
     {
         MemoryLibrary {
             files,
@@ -50,7 +50,7 @@ impl Library for MemoryLibrary {
         ensures exact { (result ≡ Err LoadError.Failed) ↔
             IsTrue (fails_next self.old.plan || is_none (bytes_under self.old.files name.now)) }
         ensures plan { self.new.plan ≡
-            after_call (fails_next self.old.plan || is_none (bytes_under self.old.files name.now)) self.old.plan }
+            plan_after_call (fails_next self.old.plan || is_none (bytes_under self.old.files name.now)) self.old.plan }
     {
         let fails = self.plan.fails();
         self.plan.call();

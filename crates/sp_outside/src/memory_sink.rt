@@ -3,7 +3,7 @@
 ghost use Rattle.std.specs.Prelude.{◌≡◌, ◌↔◌, ◌<◌, ◌≤◌, ◌++◌, Ok, min, take, length, IfOk, OnErr, IsErr, IsTrue};
 ghost use Rattle.std.specs.Prelude.{vec_len};
 ghost use Rattle.sp_outside.specs.Counts.{Rose};
-ghost use Rattle.sp_outside.specs.Told.{Grows};
+ghost use Rattle.sp_outside.specs.Visible.{Grows};
 
 use crate::failed::Failed;
 use crate::plan::Plan;
@@ -23,14 +23,14 @@ pub struct MemorySink {
 }
 
 impl MemorySink {
-    ghost use Rattle.sp_outside.specs.Rooms.{IsEmptyRoom, fitted};
-    ghost use Rattle.sp_outside.specs.Plans.{unused};
+    ghost use Rattle.sp_outside.specs.OutputBuffers.{IsEmptyBuffer, kept_bytes};
+    ghost use Rattle.sp_outside.specs.Plans.{first_plan};
 
     pub fn new(room: Vec<u8>, most: usize, failing: List<u32>) -> MemorySink
         requires { 1 ≤ most }
-        ensures room { IsEmptyRoom (vec_len room) result.room }
+        ensures room { IsEmptyBuffer (vec_len room) result.room }
         ensures most { result.most ≡ most }
-        ensures plan { result.plan ≡ unused failing }
+        ensures plan { result.plan ≡ first_plan failing }
     {
         MemorySink {
             room: Room::new(room),
@@ -41,31 +41,32 @@ impl MemorySink {
 
     /// What has fitted.
     pub fn bytes(&self) -> &[u8]
-        ensures { result.now ≡ fitted self.now.room }
+        ensures { result.now ≡ kept_bytes self.now.room }
     {
         self.room.fitted()
     }
 }
 
 impl Sink for MemorySink {
-    ghost use Rattle.sp_outside.specs.Rooms.{told, IsPut};
-    ghost use Rattle.sp_outside.specs.Plans.{fails_next, after_call};
+    ghost use Rattle.sp_outside.specs.OutputBuffers.{visible_bytes, IsPut};
+    ghost use Rattle.sp_outside.specs.Plans.{fails_next, plan_after_call};
 
-    ghost written = { λ s. told s.room };
+    ghost written = { λ s. visible_bytes s.room };
 
     ghost faults = { λ s. s.plan.faults };
 
     fn put(&mut self, piece: &[u8]) -> Result<usize, Failed>
         ensures within { IfOk result (λ n. n ≤ length piece.now) }
         ensures some { IfOk result (λ n. 0 < length piece.now → 0 < n) }
-        ensures ok { IfOk result (λ n. Grows (told self.old.room) (told self.new.room) (take n piece.now)) }
+        ensures ok { IfOk result
+            (λ n. Grows (visible_bytes self.old.room) (visible_bytes self.new.room) (take n piece.now)) }
         ensures failed { OnErr result (Rose self.old.plan.faults self.new.plan.faults) }
-        ensures unchanged { OnErr result (told self.new.room ≡ told self.old.room) }
+        ensures unchanged { OnErr result (visible_bytes self.new.room ≡ visible_bytes self.old.room) }
         ensures counted { self.old.plan.faults ≤ self.new.plan.faults }
 
         // Exactly the calls that are to fail do. What fits of the bytes taken is kept.
         ensures exact { IsErr result ↔ IsTrue (fails_next self.old.plan) }
-        ensures plan { self.new.plan ≡ after_call (fails_next self.old.plan) self.old.plan }
+        ensures plan { self.new.plan ≡ plan_after_call (fails_next self.old.plan) self.old.plan }
         ensures most { self.new.most ≡ self.old.most }
         ensures count { IfOk result (λ n. n ≡ min (length piece.now) self.old.most) }
         ensures kept { IfOk result (λ n. IsPut self.old.room (take n piece.now) self.new.room) }
@@ -90,10 +91,10 @@ pub struct SureSink {
 }
 
 impl SureSink {
-    ghost use Rattle.sp_outside.specs.Rooms.{IsEmptyRoom, fitted};
+    ghost use Rattle.sp_outside.specs.OutputBuffers.{IsEmptyBuffer, kept_bytes};
 
     pub fn new(room: Vec<u8>) -> SureSink
-        ensures { IsEmptyRoom (vec_len room) result.room }
+        ensures { IsEmptyBuffer (vec_len room) result.room }
     {
         SureSink {
             room: Room::new(room),
@@ -102,25 +103,26 @@ impl SureSink {
 
     /// What has fitted.
     pub fn bytes(&self) -> &[u8]
-        ensures { result.now ≡ fitted self.now.room }
+        ensures { result.now ≡ kept_bytes self.now.room }
     {
         self.room.fitted()
     }
 }
 
 impl Sink for SureSink {
-    ghost use Rattle.sp_outside.specs.Rooms.{told, IsPut};
+    ghost use Rattle.sp_outside.specs.OutputBuffers.{visible_bytes, IsPut};
 
-    ghost written = { λ s. told s.room };
+    ghost written = { λ s. visible_bytes s.room };
 
     ghost faults = { λ _. 0 };
 
     fn put(&mut self, piece: &[u8]) -> Result<usize, Failed>
         ensures within { IfOk result (λ n. n ≤ length piece.now) }
         ensures some { IfOk result (λ n. 0 < length piece.now → 0 < n) }
-        ensures ok { IfOk result (λ n. Grows (told self.old.room) (told self.new.room) (take n piece.now)) }
+        ensures ok { IfOk result
+            (λ n. Grows (visible_bytes self.old.room) (visible_bytes self.new.room) (take n piece.now)) }
         ensures failed { OnErr result (Rose 0 0) }
-        ensures unchanged { OnErr result (told self.new.room ≡ told self.old.room) }
+        ensures unchanged { OnErr result (visible_bytes self.new.room ≡ visible_bytes self.old.room) }
         ensures counted { 0 ≤ 0 }
 
         // Each piece is taken whole. What fits of it is kept.

@@ -1,7 +1,7 @@
 //! Sources in memory: one whose calls may be made to fail, and one whose calls never fail.
 
 ghost use Rattle.std.specs.Prelude.{◌≡◌, ◌↔◌, ◌<◌, ◌≤◌, Some, Ok, min, take, drop, length, IfOk, OnErr, IsErr, IsTrue};
-ghost use Rattle.sp_outside.specs.Told.{Shrinks, IsAtEnd};
+ghost use Rattle.sp_outside.specs.Visible.{Shrinks, IsAtEnd};
 ghost use Rattle.sp_outside.specs.Counts.{Rose};
 
 use crate::failed::Failed;
@@ -21,14 +21,14 @@ pub struct MemorySource {
 }
 
 impl MemorySource {
-    ghost use Rattle.sp_outside.specs.Tapes.{left_on};
-    ghost use Rattle.sp_outside.specs.Plans.{unused};
+    ghost use Rattle.sp_outside.specs.InputBuffers.{bytes_left};
+    ghost use Rattle.sp_outside.specs.Plans.{first_plan};
 
     pub fn new(bytes: Vec<u8>, most: usize, failing: List<u32>) -> MemorySource
         requires { 1 ≤ most }
-        ensures left { left_on result.tape ≡ bytes.items }
+        ensures left { bytes_left result.tape ≡ bytes.items }
         ensures most { result.most ≡ most }
-        ensures plan { result.plan ≡ unused failing }
+        ensures plan { result.plan ≡ first_plan failing }
     {
         MemorySource {
             tape: Tape::new(bytes),
@@ -39,29 +39,29 @@ impl MemorySource {
 }
 
 impl Source for MemorySource {
-    ghost use Rattle.sp_outside.specs.Tapes.{left_on};
-    ghost use Rattle.sp_outside.specs.Plans.{fails_next, after_call};
+    ghost use Rattle.sp_outside.specs.InputBuffers.{bytes_left};
+    ghost use Rattle.sp_outside.specs.Plans.{fails_next, plan_after_call};
 
-    ghost left = { λ s. Some (left_on s.tape) };
+    ghost left = { λ s. Some (bytes_left s.tape) };
 
     ghost faults = { λ s. s.plan.faults };
 
     fn take(&mut self, buf: &mut [u8]) -> Result<usize, Failed>
         ensures within { IfOk result (λ n. n ≤ length buf.old) }
         ensures moved { IfOk result (λ n.
-            Shrinks (Some (left_on self.old.tape)) (Some (left_on self.new.tape)) (take n buf.new)) }
+            Shrinks (Some (bytes_left self.old.tape)) (Some (bytes_left self.new.tape)) (take n buf.new)) }
         ensures rest { IfOk result (λ n. drop n buf.new ≡ drop n buf.old) }
-        ensures end { IfOk result (λ n. n ≡ 0 → 0 < length buf.old → IsAtEnd (Some (left_on self.old.tape))) }
+        ensures end { IfOk result (λ n. n ≡ 0 → 0 < length buf.old → IsAtEnd (Some (bytes_left self.old.tape))) }
         ensures failed { OnErr result (Rose self.old.plan.faults self.new.plan.faults) }
-        ensures unchanged { OnErr result (Some (left_on self.new.tape) ≡ Some (left_on self.old.tape)) }
+        ensures unchanged { OnErr result (Some (bytes_left self.new.tape) ≡ Some (bytes_left self.old.tape)) }
         ensures counted { self.old.plan.faults ≤ self.new.plan.faults }
 
         // Exactly the calls that are to fail do, and the others give all that they may.
         ensures exact { IsErr result ↔ IsTrue (fails_next self.old.plan) }
-        ensures plan { self.new.plan ≡ after_call (fails_next self.old.plan) self.old.plan }
+        ensures plan { self.new.plan ≡ plan_after_call (fails_next self.old.plan) self.old.plan }
         ensures most { self.new.most ≡ self.old.most }
         ensures count { IfOk result (λ n. n ≡ min (min (length buf.old) self.old.most)
-            (length (left_on self.old.tape))) }
+            (length (bytes_left self.old.tape))) }
     {
         let fails = self.plan.fails();
         self.plan.call();
@@ -80,10 +80,10 @@ pub struct SureSource {
 }
 
 impl SureSource {
-    ghost use Rattle.sp_outside.specs.Tapes.{left_on};
+    ghost use Rattle.sp_outside.specs.InputBuffers.{bytes_left};
 
     pub fn new(bytes: Vec<u8>) -> SureSource
-        ensures { left_on result.tape ≡ bytes.items }
+        ensures { bytes_left result.tape ≡ bytes.items }
     {
         SureSource {
             tape: Tape::new(bytes),
@@ -92,24 +92,24 @@ impl SureSource {
 }
 
 impl Source for SureSource {
-    ghost use Rattle.sp_outside.specs.Tapes.{left_on};
+    ghost use Rattle.sp_outside.specs.InputBuffers.{bytes_left};
 
-    ghost left = { λ s. Some (left_on s.tape) };
+    ghost left = { λ s. Some (bytes_left s.tape) };
 
     ghost faults = { λ _. 0 };
 
     fn take(&mut self, buf: &mut [u8]) -> Result<usize, Failed>
         ensures within { IfOk result (λ n. n ≤ length buf.old) }
         ensures moved { IfOk result (λ n.
-            Shrinks (Some (left_on self.old.tape)) (Some (left_on self.new.tape)) (take n buf.new)) }
+            Shrinks (Some (bytes_left self.old.tape)) (Some (bytes_left self.new.tape)) (take n buf.new)) }
         ensures rest { IfOk result (λ n. drop n buf.new ≡ drop n buf.old) }
-        ensures end { IfOk result (λ n. n ≡ 0 → 0 < length buf.old → IsAtEnd (Some (left_on self.old.tape))) }
+        ensures end { IfOk result (λ n. n ≡ 0 → 0 < length buf.old → IsAtEnd (Some (bytes_left self.old.tape))) }
         ensures failed { OnErr result (Rose 0 0) }
-        ensures unchanged { OnErr result (Some (left_on self.new.tape) ≡ Some (left_on self.old.tape)) }
+        ensures unchanged { OnErr result (Some (bytes_left self.new.tape) ≡ Some (bytes_left self.old.tape)) }
         ensures counted { 0 ≤ 0 }
 
         // Each call gives all that it may.
-        ensures all { result ≡ Ok (min (length buf.old) (length (left_on self.old.tape))) }
+        ensures all { result ≡ Ok (min (length buf.old) (length (bytes_left self.old.tape))) }
     {
         let most = buf.len();
         Ok(self.tape.give(buf, most))

@@ -3,7 +3,7 @@
 
 ghost use Rattle.std.specs.Prelude.{◌≡◌, ◌≤◌};
 ghost use Rattle.sp_outside.specs.Counts.{Rose};
-ghost use Rattle.sp_outside.specs.Plans.{unused, fails_next, called, faulted};
+ghost use Rattle.sp_outside.specs.Plans.{first_plan, fails_next, with_call, with_failed_call};
 
 use sp_base::List;
 
@@ -18,7 +18,7 @@ pub struct Plan {
 
 impl Plan {
     pub fn new(failing: List<u32>) -> Plan
-        ensures { result ≡ unused failing }
+        ensures { result ≡ first_plan failing }
     {
         Plan {
             failing,
@@ -40,14 +40,14 @@ impl Plan {
 
     /// Counts a call.
     pub fn call(&mut self)
-        ensures { self.new ≡ called self.old }
+        ensures { self.new ≡ with_call self.old }
     {
         self.calls = self.calls.saturating_add(1);
     }
 
     /// Counts a fault.
     pub fn fault(&mut self)
-        ensures value { self.new ≡ faulted self.old }
+        ensures value { self.new ≡ with_failed_call self.old }
         ensures rose { Rose self.old.faults self.new.faults }
         ensures counted { self.old.faults ≤ self.new.faults }
     {

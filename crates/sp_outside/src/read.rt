@@ -1,7 +1,7 @@
 //! Reading a source to its end, up to a limit.
 
 ghost use Rattle.std.specs.Prelude.{◌≡◌, ◌<◌, ◌≤◌, length, IfOk, IfSome, OnOk};
-ghost use Rattle.sp_outside.specs.Told.{IsAtEnd};
+ghost use Rattle.sp_outside.specs.Visible.{IsAtEnd};
 ghost use Rattle.sp_outside.specs.Counts.{Rose};
 
 use crate::failed::ReadError;

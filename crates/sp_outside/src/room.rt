@@ -13,12 +13,12 @@ pub struct Room {
 }
 
 impl Room {
-    ghost use Rattle.sp_outside.specs.Rooms.{IsEmptyRoom, fitted, told, IsPut};
-    ghost use Rattle.sp_outside.specs.Told.{Grows};
+    ghost use Rattle.sp_outside.specs.OutputBuffers.{IsEmptyBuffer, kept_bytes, visible_bytes, IsPut};
+    ghost use Rattle.sp_outside.specs.Visible.{Grows};
 
     /// A room as long as the vector, with nothing in it.
     pub fn new(mut bytes: Vec<u8>) -> Room
-        ensures { IsEmptyRoom (vec_len bytes) result }
+        ensures { IsEmptyBuffer (vec_len bytes) result }
     {
         let size = bytes.len();
         bytes.clear();
@@ -32,7 +32,7 @@ impl Room {
     /// Puts as much of the piece as fits. It takes no memory, since the vector has room.
     pub fn put(&mut self, piece: &[u8])
         ensures put { IsPut self.old piece.now self.new }
-        ensures told { Grows (told self.old) (told self.new) piece.now }
+        ensures told { Grows (visible_bytes self.old) (visible_bytes self.new) piece.now }
     {
         let count = piece.len().min(self.size - self.bytes.len());
         let _ = self.bytes.extend_from_slice(&piece[..count]);
@@ -43,7 +43,7 @@ impl Room {
 
     /// What has fitted.
     pub fn fitted(&self) -> &[u8]
-        ensures { result.now ≡ fitted self.now }
+        ensures { result.now ≡ kept_bytes self.now }
     {
         self.bytes.as_slice()
     }

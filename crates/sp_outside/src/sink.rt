@@ -2,7 +2,7 @@
 
 ghost use Rattle.std.specs.Prelude.{◌≡◌, ℕ, List, Option, ◌<◌, ◌≤◌, ◌++◌, take, length, IfOk, OnErr, OnOk};
 ghost use Rattle.sp_outside.specs.Counts.{Rose};
-ghost use Rattle.sp_outside.specs.Told.{Grows};
+ghost use Rattle.sp_outside.specs.Visible.{Grows};
 
 use crate::failed::Failed;
 

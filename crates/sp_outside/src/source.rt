@@ -1,7 +1,7 @@
 //! Where input comes from: the trait `Source`.
 
 ghost use Rattle.std.specs.Prelude.{◌≡◌, ℕ, List, Option, ◌<◌, ◌≤◌, take, drop, length, IfOk, OnErr};
-ghost use Rattle.sp_outside.specs.Told.{Shrinks, IsAtEnd};
+ghost use Rattle.sp_outside.specs.Visible.{Shrinks, IsAtEnd};
 ghost use Rattle.sp_outside.specs.Counts.{Rose};
 
 use crate::failed::Failed;

@@ -11,18 +11,18 @@ pub struct Tape {
 }
 
 impl Tape {
-    ghost use Rattle.sp_outside.specs.Tapes.{left_on};
+    ghost use Rattle.sp_outside.specs.InputBuffers.{bytes_left};
 
     pub fn new(bytes: Vec<u8>) -> Tape
-        ensures { left_on result ≡ bytes.items }
+        ensures { bytes_left result ≡ bytes.items }
     {
         Tape { bytes, given: 0 }
     }
 
     /// Moves the next bytes into the front of the buffer, as many as it takes and `most` allows.
     pub fn give(&mut self, buf: &mut [u8], most: usize) -> usize
-        ensures count { result ≡ min (min (length buf.old) most) (length (left_on self.old)) }
-        ensures moved { left_on self.old ≡ take result buf.new ++ left_on self.new }
+        ensures count { result ≡ min (min (length buf.old) most) (length (bytes_left self.old)) }
+        ensures moved { bytes_left self.old ≡ take result buf.new ++ bytes_left self.new }
         ensures rest { drop result buf.new ≡ drop result buf.old }
     {
         let (_, left) = self.bytes.as_slice().split_at(self.given);

@@ -9,7 +9,7 @@ use Rattle.sp_grammar.specs.Symbols.{Symbol, Values, AToken}
 use Rattle.sp_grammar.specs.Derives.{and}
 use Rattle.sp_parse.specs.declared.source.Source.{Source}
 use Rattle.sp_parse.specs.Productions.{production}
-use Rattle.sp_parse.specs.Reads.{breaks, HasRead, Halts, Reads, Expected}
+use Rattle.sp_parse.specs.Reads.{breaks, HasRead, Halts, ParsesAs, Expected}
 use Rattle.sp_parse.proofs.Steps.{has_read, expected}
 
 -- the symbols behind those that are read are not there
@@ -28,7 +28,7 @@ halts_behind m a (halt.Refused f) h = λ q. a.leads (m ++ q) ∙ h q
 -- a token is read, and the answer about what is behind it is that about the whole
 pub behind_result : {X V : Type 0} {source : Source} {k : Kind} {ts r : List Token} (l : List Symbol)
     (of : Values l → V) (plain : X → V) → Expected source k ts r → (result : Result (X × Bor (List Token)) Halt)
-    → Reads source (production l of) plain r result
-    → Reads source (production (AToken k ∷ l) (λ vs. of vs.1)) plain ts result
+    → ParsesAs source (production l of) plain r result
+    → ParsesAs source (production (AToken k ∷ l) (λ vs. of vs.1)) plain ts result
 behind_result l of plain a (Ok x) h = has_read h.ready (and (expected a) h.derives) h.same
 behind_result l of plain a (Err e) h = halts_behind l a e h

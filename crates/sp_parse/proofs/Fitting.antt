@@ -13,12 +13,12 @@ use Rattle.sp_tree.specs.Places.{place_at}
 use Rattle.sp_tree.specs.Spelling.{spelling, number_of, digits_value}
 use Rattle.sp_tree.specs.Lexemes.{Run, run_ends, run_goes_on, TextBody, text_ends, two_quotes, text_byte, BraceBody}
 use Rattle.sp_tree.specs.Lexemes.{brace_ends, brace_byte, StarBody, star_ends, star_byte, Comment, brace_comment}
-use Rattle.sp_tree.specs.Lexemes.{star_comment, Lexeme, Longest, lowered}
+use Rattle.sp_tree.specs.Lexemes.{star_comment, Lexeme, Longest, lower_case_prefix}
 use Rattle.sp_tree.specs.Lexemes as l
 use Rattle.sp_tree.specs.Scans.{Scans, nothing, blank, comment, token, offset, token_from, BreaksLexis, IsTokens}
 use Rattle.sp_grammar.proofs.Rising.{lexeme_length}
 use Rattle.sp_grammar.proofs.Scanned.{scans_chain, lower_number}
-use Rattle.sp_parse.specs.Reads.{AllFit}
+use Rattle.sp_parse.specs.Reads.{TokensFit}
 
 -- the second list is the end of the first
 abbrev pub Tail : List ℕ → List ℕ → Type 0
@@ -74,7 +74,7 @@ module _ (text : List ℕ) (kept : (r : Rule) (at : Place) → BreaksLexis text 
       ap (λ n. take n (drop (offset text bs) text)) n ∙ ap (take (length bs - length u)) (dropped text bs a)
 
   small : (bs u : List ℕ) (before : List Token) → Scans text text bs before → Longest kind.Number bs u
-      → digits_value 0 (lowered bs u) ≤ 9223372036854775807
+      → digits_value 0 (lower_case_prefix bs u) ≤ 9223372036854775807
   small bs u before along g = by_size (λ h. kept rule.S4 (place_at text (offset text bs))
       (record {
         rest = bs;
@@ -84,20 +84,20 @@ module _ (text : List ℕ) (kept : (r : Rule) (at : Place) → BreaksLexis text 
         place = refl;
       }))
     where
-      by_size : (9223372036854775807 < digits_value 0 (lowered bs u) → ⊥)
-          → digits_value 0 (lowered bs u) ≤ 9223372036854775807
+      by_size : (9223372036854775807 < digits_value 0 (lower_case_prefix bs u) → ⊥)
+          → digits_value 0 (lower_case_prefix bs u) ≤ 9223372036854775807
       by_size h = grind (arith, nat_tests)
 
   number_fits : (k : Kind) (bs u : List ℕ) (before : List Token) → Tail text bs → Scans text text bs before
       → Longest k bs u → k ≡ kind.Number → number_of text (token_from text k bs u) ≤ 9223372036854775807
   number_fits k bs u before a along g p =
       let n : Longest kind.Number bs u = subst (λ k. Longest k bs u) p g in
-      let e : number_of text (token_from text k bs u) ≡ digits_value 0 (lowered bs u) =
+      let e : number_of text (token_from text k bs u) ≡ digits_value 0 (lower_case_prefix bs u) =
       ap (digits_value 0) (spelled k bs u a (lexeme_tail g.spelled) ∙ back_of (lower_number n.spelled)) in
       omega (arith, e, small bs u before along n)
 
   fit : {bs r : List ℕ} {ts : List Token} (before : List Token) → Tail text bs → Scans text text bs before
-      → Scans text bs r ts → AllFit text ts
+      → Scans text bs r ts → TokensFit text ts
   fit before a along nothing = tt
   fit {bs = b ∷ bs} before a along (blank b' h x) =
       fit (before ++ []) (behind a (b ∷ [], refl)) (scans_chain along (blank b h nothing)) x
@@ -113,7 +113,7 @@ module _ (text : List ℕ) (kept : (r : Rule) (at : Place) → BreaksLexis text 
         (scans_chain along (token k o g nothing)) x,
   )
 
-pub all_fit : (text : List ℕ) (ts : List Token) → IsTokens text ts → AllFit text ts
+pub all_fit : (text : List ℕ) (ts : List Token) → IsTokens text ts → TokensFit text ts
 all_fit text ts h = fit text h.kept [] ([], refl) nothing h.scans
 
 -- a text has at most so many bytes

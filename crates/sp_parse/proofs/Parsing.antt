@@ -19,15 +19,15 @@ use Rattle.sp_tree.specs.Scans.{IsTokens}
 use Rattle.sp_tree.specs.First.{IsFirst}
 use Rattle.sp_tree.specs.Breaches.{nesting, BreaksGrammar}
 use Rattle.sp_grammar.specs.Symbols.{AProgram}
-use Rattle.sp_grammar.specs.Machine.{End, Done, Stuck, run}
-use Rattle.sp_grammar.specs.Stops.{Stops}
+use Rattle.sp_grammar.specs.Machine.{RunEnd, Done, StuckAt, run}
+use Rattle.sp_grammar.specs.Stops.{GetsStuck}
 use Rattle.sp_grammar.proofs.From.{from}
 use Rattle.sp_grammar.proofs.Wider.{wider_program}
 use Rattle.sp_grammar.proofs.Firsts.{first_broken, spells, none_broken}
 use Rattle.sp_parse.specs.declared.source.Source.{Source}
-use Rattle.sp_parse.specs.Reads.{Within, Ready, breaks, refused_by, HasRead, Halts, Cuts}
+use Rattle.sp_parse.specs.Reads.{IsNestable, HasTokens, breaks, refused_by, HasRead, Halts, CutsToken}
 use Rattle.sp_parse.specs.Parses.{SpellsWell, Parsed}
-use Rattle.sp_parse.proofs.Steps.{one}
+use Rattle.sp_parse.proofs.Steps.{first_derived}
 use Rattle.sp_parse.proofs.Fitting.{all_fit}
 
 -- the place behind what is passed
@@ -43,17 +43,17 @@ pub at_end : (text : List ℕ) (p : Place) → p ≡ place_behind start text →
 at_end text p h = h ∙ ap (place_behind start) (back_of (whole_text text))
 
 pub is_ready : (source : Source) (ts : List Token) → source.end ≡ place_at source.text.now (length source.text.now)
-    → IsTokens source.text.now ts → Ready source ts
+    → IsTokens source.text.now ts → HasTokens source ts
 is_ready source ts e h = record { end = e; fit = all_fit source.text.now ts h }
 
 -- a refusal is that of the machine
-stopped : (text : List ℕ) (ts : List Token) (f : Refusal) (x : End) → run (Some nesting) ts (AProgram ∷ []) ≡ x
-    → refused_by text x ≡ Some f → Stops text ts (AProgram ∷ []) f
+stopped : (text : List ℕ) (ts : List Token) (f : Refusal) (x : RunEnd) → run (Some nesting) ts (AProgram ∷ []) ≡ x
+    → refused_by text x ≡ Some f → GetsStuck text ts (AProgram ∷ []) f
 stopped text ts f Done e h = absurd cc
-stopped text ts f (Stuck w us) e h = record { why = w; rest = us; by = e; is = cc }
+stopped text ts f (StuckAt w us) e h = record { why = w; rest = us; by = e; is = cc }
 
 stops : (source : Source) (ts : List Token) (f : Refusal) → breaks source ts (AProgram ∷ []) ≡ Some f
-    → Stops source.text.now ts (AProgram ∷ []) f
+    → GetsStuck source.text.now ts (AProgram ∷ []) f
 unfolding breaks
 stops source ts f h = stopped source.text.now ts f (run (Some nesting) ts (AProgram ∷ [])) refl h
 
@@ -86,14 +86,14 @@ too_long source ts rest t us tree e h x q p =
     (first source ts (record { rule = rule.G1; at = t.at }) h (x.leads [] ∙ more_behind source rest t us q))
 
 -- no token is left
-pub none_left : (source : Source) (ts : List Token) (e : Halt) → Cuts source ts (Err e) → ts ≡ []
+pub none_left : (source : Source) (ts : List Token) (e : Halt) → CutsToken source ts (Err e) → ts ≡ []
 none_left source ts halt.Memory h = absurd h
 none_left source ts (halt.Refused f) h = h.0
 
 -- the tree
-shallow : (source : Source) (ts : List Token) (p : Program) → IsProgram source.text.now Within ts [] p
+shallow : (source : Source) (ts : List Token) (p : Program) → IsProgram source.text.now IsNestable ts [] p
     → IsProgram source.text.now (Shallow nesting 0) ts [] p
-shallow source ts p x = wider_program source.text.now Within (Shallow nesting 0) (λ d us h g. h) x
+shallow source ts p x = wider_program source.text.now IsNestable (Shallow nesting 0) (λ d us h g. h) x
 
 spelled : (source : Source) (ts : List Token) (p : Program) → IsProgram source.text.now (Shallow nesting 0) ts [] p
     → SpellsWell source.text.now ts p
@@ -104,6 +104,6 @@ pub is_tree : (source : Source) (ts rest : List Token) (tree : Syntax)
     → Parsed source.text.now ts (Ok tree)
 is_tree source ts rest tree x q =
     let text = source.text.now in
-    let y : IsProgram text Within ts [] x.values.0 =
-    subst (λ r. IsProgram text Within ts r x.values.0) q (from text Within (one x)) in
+    let y : IsProgram text IsNestable ts [] x.values.0 =
+    subst (λ r. IsProgram text IsNestable ts r x.values.0) q (from text IsNestable (first_derived x)) in
     subst (SpellsWell text ts) (back_of x.same) (spelled source ts x.values.0 (shallow source ts x.values.0 y))

@@ -13,21 +13,22 @@ use Rattle.sp_tree.specs.declared.syntax.SynPart.{SynPart}
 use Rattle.sp_tree.specs.declared.syntax.SynStmt.{SynStmt}
 use Rattle.sp_tree.specs.PlainSyntax as tree
 use Rattle.sp_tree.specs.SyntaxOf.{part_of, parts as laid, parts_of, block_of, statements_of}
-use Rattle.sp_tree.specs.Grammar.{declared}
+use Rattle.sp_tree.specs.Grammar.{with_part_first}
 use Rattle.sp_tree.specs.Words as w
 use Rattle.sp_tree.specs.Breaches.{nesting}
 use Rattle.sp_grammar.specs.Symbols.{Symbol, Values, AToken, AStatement, MoreStatements, ABlock, Parts}
 use Rattle.sp_grammar.specs.Table as row
-use Rattle.sp_grammar.specs.Table.{Entry, Row, entry, rows, look, build, kind_is, PartsRow, parts_rows}
+use Rattle.sp_grammar.specs.Table.{RowEntry, Row, row_entry, rows, look, build, kind_is, PartsRow, parts_rows}
 use Rattle.sp_grammar.specs.Derives.{Derives, none, and}
 use Rattle.sp_parse.specs.declared.source.Source.{Source}
 use Rattle.sp_parse.specs.Productions.{production, single}
-use Rattle.sp_parse.specs.Reads.{Within, Ready, breaks, HasRead, Halts, Reads, Begins, BeginsOther, BeginsWith, SoFar}
+use Rattle.sp_parse.specs.Reads.{IsNestable, HasTokens, breaks, HasRead, Halts, ParsesAs, HasFirstToken, BeginsOther}
+use Rattle.sp_parse.specs.Reads.{BeginsWith, SoFar}
 use Rattle.sp_parse.specs.Reads.{ReadsSoFar}
 use Rattle.sp_parse.specs.Operators.{is_some}
 use Rattle.sp_parse.specs.Trees.{lay}
 use Rattle.sp_parse.specs.Declares.{and_parts, BeginsBlock, HasDeclared, Declares}
-use Rattle.sp_parse.proofs.Steps.{has_read, head, one, take, step_ends, below}
+use Rattle.sp_parse.proofs.Steps.{has_read, head, first_derived, take, step_ends, below}
 use Rattle.sp_parse.proofs.SoFar.{glue, ends, nothing_yet, goes_on, halts_on, chain}
 use Rattle.sp_parse.proofs.Rows.{lifted, look_map, bare_leads, bare_derives, row_halts, halts_same}
 use Rattle.sp_parse.proofs.Declares.{none_if}
@@ -41,44 +42,46 @@ module _ (source : Source) where
   block_leads d (t ∷ ts) h q =
       bare_leads source (PartsRow (suc d)) (ABlock d) (Parts (suc d)) (λ e. row.block e.row) (λ e. row.parts e.row) t ts
       (look (parts_rows (suc d)) t.kind)
-      (look_map (λ e. entry e.key e.left (row.block e.row)) (λ e. refl) (parts_rows (suc d)) t.kind)
-      (look_map (λ e. entry e.key e.left (row.parts e.row)) (λ e. refl) (parts_rows (suc d)) t.kind)
+      (look_map (λ e. row_entry e.key e.left (row.block e.row)) (λ e. refl) (parts_rows (suc d)) t.kind)
+      (look_map (λ e. row_entry e.key e.left (row.parts e.row)) (λ e. refl) (parts_rows (suc d)) t.kind)
       refl refl (below d nesting h) refl q
 
   block_derives : (d : ℕ) {ts r : List Token} {b : tree.Block} → d < nesting
-      → Derives source.text.now Within (Parts (suc d)) ts r b → Derives source.text.now Within (ABlock d) ts r b
+      → Derives source.text.now IsNestable (Parts (suc d)) ts r b → Derives source.text.now IsNestable (ABlock d) ts r b
   block_derives d {ts = t ∷ ts} {r} h x =
       bare_derives source (PartsRow (suc d)) (ABlock d) (Parts (suc d)) (λ e. row.block e.row) (λ e. row.parts e.row)
       (λ b. b) (λ e t us. refl) t ts r (look (parts_rows (suc d)) t.kind)
-      (look_map (λ e. entry e.key e.left (row.block e.row)) (λ e. refl) (parts_rows (suc d)) t.kind)
-      (look_map (λ e. entry e.key e.left (row.parts e.row)) (λ e. refl) (parts_rows (suc d)) t.kind)
+      (look_map (λ e. row_entry e.key e.left (row.block e.row)) (λ e. refl) (parts_rows (suc d)) t.kind)
+      (look_map (λ e. row_entry e.key e.left (row.parts e.row)) (λ e. refl) (parts_rows (suc d)) t.kind)
       refl h x
   block_derives d {ts = []} h x = elim x [ ]
 
   inner_result : (d : ℕ) (ts : List Token) → d < nesting → (result : Result (SynBlock × Bor (List Token)) Halt)
-      → Reads source (single (Parts (suc d))) block_of ts result → Reads source (single (ABlock d)) block_of ts result
-  inner_result d ts b (Ok x) h = has_read h.ready (and (block_derives d b (one h)) none) h.same
+      → ParsesAs source (single (Parts (suc d))) block_of ts result
+      → ParsesAs source (single (ABlock d)) block_of ts result
+  inner_result d ts b (Ok x) h = has_read h.ready (and (block_derives d b (first_derived h)) none) h.same
   inner_result d ts b (Err e) h = halts_same source (ABlock d ∷ []) (Parts (suc d) ∷ []) ts ts (block_leads d ts b) e h
 
   pub block_result : (d inner : ℕ) (ts : List Token) → inner ≡ suc d → d < nesting
-      → (result : Result (SynBlock × Bor (List Token)) Halt) → Reads source (single (Parts inner)) block_of ts result
-      → Reads source (single (ABlock d)) block_of ts result
+      → (result : Result (SynBlock × Bor (List Token)) Halt) → ParsesAs source (single (Parts inner)) block_of ts result
+      → ParsesAs source (single (ABlock d)) block_of ts result
   block_result d inner ts p b result h = inner_result d ts b result
-      (subst (λ n. Reads source (single (Parts n)) block_of ts result) p h)
+      (subst (λ n. ParsesAs source (single (Parts n)) block_of ts result) p h)
 
-some_same : {R S : Kind → List Symbol → Type 0} (f : Entry R → Entry S) (o : Option (Entry R))
+some_same : {R S : Kind → List Symbol → Type 0} (f : RowEntry R → RowEntry S) (o : Option (RowEntry R))
     → is_some (lifted f o) ≡ is_some o
 some_same f None = refl
 some_same f (Some e) = refl
 
 pub block_rows : (t : Token) (b : Bool) → BeginsBlock t b → (d : ℕ) → is_some (look (rows (ABlock d)) t.kind) ≡ b
 block_rows t b h d =
-    let f : Entry (PartsRow (suc d)) → Entry (Row (ABlock d)) = λ e. entry e.key e.left (row.block e.row) in
+    let f : RowEntry (PartsRow (suc d)) → RowEntry (Row (ABlock d)) = λ e. row_entry e.key e.left (row.block e.row) in
     ap is_some (look_map f (λ e. refl) (parts_rows (suc d)) t.kind) ∙ some_same f (look (parts_rows (suc d)) t.kind)
     ∙ h (suc d)
 
 -- tokens with which no declaration begins
-pub other_first : {source : Source} {ts r : List Token} {t : Token} {k : Kind} → Begins source ts t r → BeginsOther ts k
+pub other_first : {source : Source} {ts r : List Token} {t : Token} {k : Kind} → HasFirstToken source ts t r
+    → BeginsOther ts k
     → kind_is k t.kind ≡ false
 other_first {t = t} {k = k} a b = let same : b.token ≡ t = cc (a.all, b.all) in
     subst (λ t. kind_is k t.kind ≡ false) same b.other
@@ -92,7 +95,7 @@ no_part d k a b c e f g = none_if _ a (none_if _ b (none_if _ c (none_if _ e (no
 abbrev pub PartsSoFar : Source → ℕ → List SynPart → List Token → List Token → Type 0
 PartsSoFar source d all ts rest = SoFar source (Parts d ∷ []) (λ vs. vs.0) (Parts d) (λ b. and_parts all b) ts rest
 
-pub parts_start : {source : Source} {ts : List Token} (d : ℕ) {all : List SynPart} → Ready source ts → all ≡ []
+pub parts_start : {source : Source} {ts : List Token} (d : ℕ) {all : List SynPart} → HasTokens source ts → all ≡ []
     → PartsSoFar source d all ts ts
 parts_start d {all} a e = nothing_yet (Parts d) (λ vs. vs.0) (λ b. and_parts all b) (λ b. ap (λ l. and_parts l b) e) a
 
@@ -129,20 +132,20 @@ pub parts_end : {source : Source} {ts rest behind r : List Token} (d : ℕ) (all
     → HasRead source (Parts d ∷ []) (λ vs. vs.0) block_of ts r b
 parts_end {source} {r = r} d all so first h e =
     let text = source.text.now in
-    ends so (subst (λ ts. Derives text Within (Parts d) ts r
+    ends so (subst (λ ts. Derives text IsNestable (Parts d) ts r
     (build text (row.parts (row.parts_begin {d = d})) first.token h.values)) (back_of first.all)
-    (take (entry w.Begin (AStatement d ∷ MoreStatements d ∷ AToken w.End ∷ [])
+    (take (row_entry w.Begin (AStatement d ∷ MoreStatements d ∷ AToken w.End ∷ [])
     (row.parts (row.parts_begin {d = d}))) refl first.token first.is tt h.derives)) h.ready
     (e ∙ block_same first.token.at (back_of (lay_parts (map part_of all))) h.same)
 
 -- one more section
-untouched : {source : Source} {ts : List Token} (d : ℕ) (before : List SynPart) → Ready source ts
+untouched : {source : Source} {ts : List Token} (d : ℕ) (before : List SynPart) → HasTokens source ts
     → SoFar source (Parts d ∷ []) (λ vs. and_parts before vs.0) (Parts d) (λ b. and_parts before b) ts ts
 untouched d before a = nothing_yet (Parts d) (λ vs. and_parts before vs.0) (λ b. and_parts before b) (λ b. refl) a
 
 pub section_result : {source : Source} {ts rest : List Token} {k : Kind} {a : List Symbol} (d : ℕ)
     (before : List SynPart) (from : Values a → tree.Block) (row : Row (Parts d) k a)
-    → look (rows (Parts d)) k ≡ Some (entry k a row) → Ready source ts → (b : BeginsWith source ts k rest)
+    → look (rows (Parts d)) k ≡ Some (row_entry k a row) → HasTokens source ts → (b : BeginsWith source ts k rest)
     → ((vs : Values a) → from vs ≡ and_parts before (build source.text.now row b.token vs))
     → (result : Result (List SynPart × Bor (List Token)) Halt)
     → ReadsSoFar source (production a from) (Parts d) (λ ps b. and_parts ps b) rest result
@@ -156,20 +159,21 @@ section_result d before from row found y b e (Err f) h = row_halts row found b r
 
 pub one_more : {source : Source} {ts rest r : List Token} {k : Kind} {a : List Symbol} {of : Values a → tree.Part}
     {p : SynPart} {new : List SynPart} (d : ℕ) (before : List SynPart) (row : Row (Parts d) k (a ++ Parts d ∷ []))
-    → look (rows (Parts d)) k ≡ Some (entry k (a ++ Parts d ∷ []) row) → Ready source ts
+    → look (rows (Parts d)) k ≡ Some (row_entry k (a ++ Parts d ∷ []) row) → HasTokens source ts
     → (b : BeginsWith source ts k rest) → (h : HasRead source a of part_of rest r p) → new ≡ before ++ p ∷ []
-    → ((v : tree.Block) → declared (of h.values) v ≡ build source.text.now row b.token (glue a (Parts d) h.values v))
+    → ((v : tree.Block) → with_part_first (of h.values) v ≡ build source.text.now row b.token
+    (glue a (Parts d) h.values v))
     → HasDeclared source d before ts r new
 one_more {p = p} d before row found y b h e same = record {
   so_far = goes_on row found refl (untouched d before y) b h
-      (λ v. ap (λ l. and_parts l v) e ∙ part_behind before p v ∙ ap (λ q. and_parts before (declared q v)) h.same
+      (λ v. ap (λ l. and_parts l v) e ∙ part_behind before p v ∙ ap (λ q. and_parts before (with_part_first q v)) h.same
       ∙ ap (and_parts before) (same v));
   less = omega (arith, h.shorter, ap length b.all);
 }
 
 pub no_more : {source : Source} {ts rest : List Token} {k : Kind} (a : List Symbol) (d : ℕ) (before : List SynPart)
-    (row : Row (Parts d) k (a ++ Parts d ∷ [])) → look (rows (Parts d)) k ≡ Some (entry k (a ++ Parts d ∷ []) row)
-    → Ready source ts → BeginsWith source ts k rest → (e : Halt) → Halts source a rest e
+    (row : Row (Parts d) k (a ++ Parts d ∷ [])) → look (rows (Parts d)) k ≡ Some (row_entry k (a ++ Parts d ∷ []) row)
+    → HasTokens source ts → BeginsWith source ts k rest → (e : Halt) → Halts source a rest e
     → Halts source (Parts d ∷ []) ts e
 no_more a d before row found y b e h = halts_on a row found refl (untouched d before y) b e h
 

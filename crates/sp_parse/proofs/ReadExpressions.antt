@@ -19,32 +19,34 @@ use Rattle.sp_tree.specs.SyntaxOf.{expression_of}
 use Rattle.sp_grammar.specs.Symbols as sym
 use Rattle.sp_grammar.specs.Symbols.{Symbol, Values}
 use Rattle.sp_grammar.specs.Table as row
-use Rattle.sp_grammar.specs.Table.{FactorRow, SimpleRow, Row, Entry, entry, rows, look, kind_is, build}
+use Rattle.sp_grammar.specs.Table.{FactorRow, SimpleRow, Row, RowEntry, row_entry, rows, look, kind_is, build}
 use Rattle.sp_grammar.specs.Table.{factor_rows, simple_rows, factor_value, simple_value}
 use Rattle.sp_grammar.specs.Derives.{Derives, DerivesAll, none, and}
 use Rattle.sp_grammar.proofs.Looks.{look_relation, look_adding, look_multiplying}
 use Rattle.sp_parse.specs.declared.source.Source.{Source}
 use Rattle.sp_parse.specs.Productions.{production, single}
-use Rattle.sp_parse.specs.Reads.{Within, Ready, breaks, HasRead, Halts, Reads, Begins, BeginsWith, SoFar, ReadsSoFar}
-use Rattle.sp_parse.specs.Operators.{IsSign, Operator, NoOperator, Operates}
-use Rattle.sp_parse.proofs.Steps.{has_read, one, take, step_ends, below}
+use Rattle.sp_parse.specs.Reads.{IsNestable, HasTokens, breaks, HasRead, Halts, ParsesAs, HasFirstToken, BeginsWith}
+use Rattle.sp_parse.specs.Reads.{SoFar, ReadsSoFar}
+use Rattle.sp_parse.specs.Operators.{IsSign, Operator, NoOperator, ReadsOperator}
+use Rattle.sp_parse.proofs.Steps.{has_read, first_derived, take, step_ends, below}
 use Rattle.sp_parse.proofs.SoFar.{skipped, ends, halts_on, halts_chain, goes_on, starts, chain, nothing_yet}
 use Rattle.sp_parse.proofs.Rows.{look_map, after_two, split_join, copy_leads, copy_derives, halts_same, row_halts}
 
 -- operators
 pub operator_halts : (Is : Kind → BinaryOp → Type 0) (tail : ℕ → Symbol) (source : Source) (ts : List Token)
-    (s : Symbol) (e : Halt) → Operates Is tail source ts (Err e) → Halts source (s ∷ []) ts e
+    (s : Symbol) (e : Halt) → ReadsOperator Is tail source ts (Err e) → Halts source (s ∷ []) ts e
 operator_halts Is tail source ts s halt.Memory h = absurd h
 operator_halts Is tail source ts s (halt.Refused f) h = λ q. h.1 s q
 
 pub an_operator : (Is : Kind → BinaryOp → Type 0) (tail : ℕ → Symbol) (source : Source) (ts : List Token)
-    (o : Option (BinaryOp × Bor (List Token))) (x : BinaryOp × Bor (List Token)) → Operates Is tail source ts (Ok o)
+    (o : Option (BinaryOp × Bor (List Token))) (x : BinaryOp × Bor (List Token))
+    → ReadsOperator Is tail source ts (Ok o)
     → o ≡ Some x → Operator Is source ts x.0 x.1.now
-an_operator Is tail source ts o x h e = subst (λ o. Operates Is tail source ts (Ok o)) e h
+an_operator Is tail source ts o x h e = subst (λ o. ReadsOperator Is tail source ts (Ok o)) e h
 
 pub no_operator : (Is : Kind → BinaryOp → Type 0) (tail : ℕ → Symbol) (source : Source) (ts : List Token)
-    (o : Option (BinaryOp × Bor (List Token))) → Operates Is tail source ts (Ok o) → o ≡ None → NoOperator tail ts
-no_operator Is tail source ts o h e = subst (λ o. Operates Is tail source ts (Ok o)) e h
+    (o : Option (BinaryOp × Bor (List Token))) → ReadsOperator Is tail source ts (Ok o) → o ≡ None → NoOperator tail ts
+no_operator Is tail source ts o h e = subst (λ o. ReadsOperator Is tail source ts (Ok o)) e h
 
 pub behind_operator : {Is : Kind → BinaryOp → Type 0} {source : Source} {ts r : List Token} {o : BinaryOp}
     (h : Operator Is source ts o r) → BeginsWith source ts h.key r
@@ -59,15 +61,15 @@ module _ (source : Source) where
   expression_leads d (t ∷ ts) h q =
       copy_leads source (SimpleRow (suc d)) (sym.AnExpression d) (sym.ASimple (suc d)) (sym.ARelation (suc d) ∷ [])
       (λ e. row.expression e.row) (λ e. row.simple e.row) t ts (look (simple_rows (suc d)) t.kind)
-      (look_map (λ e. entry e.key (e.left ++ sym.ARelation (suc d) ∷ []) (row.expression e.row)) (λ e. refl)
+      (look_map (λ e. row_entry e.key (e.left ++ sym.ARelation (suc d) ∷ []) (row.expression e.row)) (λ e. refl)
       (simple_rows (suc d)) t.kind)
-      (look_map (λ e. entry e.key e.left (row.simple e.row)) (λ e. refl) (simple_rows (suc d)) t.kind)
+      (look_map (λ e. row_entry e.key e.left (row.simple e.row)) (λ e. refl) (simple_rows (suc d)) t.kind)
       refl refl (below d nesting h) refl q
 
   pub expression_derives : (d : ℕ) {ts u r : List Token} {a : tree.Expression} {f : tree.Expression → tree.Expression}
-      → d < nesting → Derives source.text.now Within (sym.ASimple (suc d)) ts u a
-      → Derives source.text.now Within (sym.ARelation (suc d)) u r f
-      → Derives source.text.now Within (sym.AnExpression d) ts r (f a)
+      → d < nesting → Derives source.text.now IsNestable (sym.ASimple (suc d)) ts u a
+      → Derives source.text.now IsNestable (sym.ARelation (suc d)) u r f
+      → Derives source.text.now IsNestable (sym.AnExpression d) ts r (f a)
   expression_derives d {ts = t ∷ ts} {u} {r} {f = f} h x y =
       copy_derives source (SimpleRow (suc d)) (sym.AnExpression d) (sym.ASimple (suc d)) (sym.ARelation (suc d) ∷ [])
       (λ e. row.expression e.row) (λ e. row.simple e.row)
@@ -75,9 +77,9 @@ module _ (source : Source) where
       (λ e t us ws. ap (λ p. p.1.0 (simple_value source.text.now e.row t p.0))
       (split_join e.left (sym.ARelation (suc d) ∷ []) us ws))
       t ts u r (f, tt) (look (simple_rows (suc d)) t.kind)
-      (look_map (λ e. entry e.key (e.left ++ sym.ARelation (suc d) ∷ []) (row.expression e.row)) (λ e. refl)
+      (look_map (λ e. row_entry e.key (e.left ++ sym.ARelation (suc d) ∷ []) (row.expression e.row)) (λ e. refl)
       (simple_rows (suc d)) t.kind)
-      (look_map (λ e. entry e.key e.left (row.simple e.row)) (λ e. refl) (simple_rows (suc d)) t.kind)
+      (look_map (λ e. row_entry e.key e.left (row.simple e.row)) (λ e. refl) (simple_rows (suc d)) t.kind)
       refl h x (and y none)
   expression_derives d {ts = []} h x y = elim x [ ]
 
@@ -88,7 +90,7 @@ module _ (source : Source) where
   expression_begun_at : (d : ℕ) {ts rest : List Token} (e : SynExpr) → d < nesting
       → HasRead source (sym.ASimple (suc d) ∷ []) (λ vs. vs.0) expression_of ts rest e → ExpressionSoFar d e ts rest
   expression_begun_at d {ts} e b h = record {
-    is = λ r f y. ((f h.values.0, tt), and (expression_derives d b (one h) y) none, ap f h.same);
+    is = λ r f y. ((f h.values.0, tt), and (expression_derives d b (first_derived h) y) none, ap f h.same);
     leads = λ q. expression_leads d ts b q ∙ h.leads (sym.ARelation (suc d) ∷ q);
     shorter = h.shorter;
     ready = h.ready;
@@ -122,17 +124,18 @@ module _ (source : Source) where
   relation_is_at : (d : ℕ) {ts rest behind left : List Token} (e b new : SynExpr) {o : BinaryOp}
       → ExpressionSoFar d e ts rest → Operator g.IsRelational source rest o behind
       → HasRead source (sym.ASimple (suc d) ∷ []) (λ vs. vs.0) expression_of behind left b
-      → expression_of new ≡ g.joined o (expression_of e) (expression_of b)
+      → expression_of new ≡ g.binary_at_left o (expression_of e) (expression_of b)
       → HasRead source (sym.AnExpression d ∷ []) (λ vs. vs.0) expression_of ts left new
   relation_is_at d {rest = rest} {left = left} e b new {o = o} so h x p =
-      ends so (subst (λ l. Derives source.text.now Within (sym.ARelation (suc d)) l left (λ a. g.joined o a x.values.0))
-      (back_of h.all) (take (entry _ _ (row.relation h.is_operator)) (look_relation (suc d) h.is_operator) h.token
-      h.is tt (and (one x) none))) x.ready (p ∙ ap (g.joined o (expression_of e)) x.same)
+      ends so (subst (λ l. Derives source.text.now IsNestable (sym.ARelation (suc d)) l left
+      (λ a. g.binary_at_left o a x.values.0))
+      (back_of h.all) (take (row_entry _ _ (row.relation h.is_operator)) (look_relation (suc d) h.is_operator) h.token
+      h.is tt (and (first_derived x) none))) x.ready (p ∙ ap (g.binary_at_left o (expression_of e)) x.same)
 
   pub relation_is : (d inner : ℕ) {ts rest behind left : List Token} (e b new : SynExpr) {o : BinaryOp} → inner ≡ suc d
       → ExpressionSoFar d e ts rest → Operator g.IsRelational source rest o behind
       → HasRead source (sym.ASimple inner ∷ []) (λ vs. vs.0) expression_of behind left b
-      → expression_of new ≡ g.joined o (expression_of e) (expression_of b)
+      → expression_of new ≡ g.binary_at_left o (expression_of e) (expression_of b)
       → HasRead source (sym.AnExpression d ∷ []) (λ vs. vs.0) expression_of ts left new
   relation_is d inner {behind = behind} {left = left} e b new p so h x q =
       relation_is_at d e b new so h (subst (λ n. HasRead source (sym.ASimple n ∷ []) (λ vs. vs.0) expression_of behind
@@ -146,14 +149,15 @@ module _ (source : Source) where
   term_leads d (t ∷ ts) q =
       copy_leads source (FactorRow d) (sym.ATerm d) (sym.AFactor d) (sym.MoreFactors d ∷ []) (λ e. row.term e.row)
       (λ e. row.factor e.row) t ts (look (factor_rows d) t.kind)
-      (look_map (λ e. entry e.key (e.left ++ sym.MoreFactors d ∷ []) (row.term e.row)) (λ e. refl) (factor_rows d)
+      (look_map (λ e. row_entry e.key (e.left ++ sym.MoreFactors d ∷ []) (row.term e.row)) (λ e. refl) (factor_rows d)
       t.kind)
-      (look_map (λ e. entry e.key e.left (row.factor e.row)) (λ e. refl) (factor_rows d) t.kind)
+      (look_map (λ e. row_entry e.key e.left (row.factor e.row)) (λ e. refl) (factor_rows d) t.kind)
       refl refl refl refl q
 
   term_derives : (d : ℕ) {ts u r : List Token} {a : tree.Expression} {f : tree.Expression → tree.Expression}
-      → Derives source.text.now Within (sym.AFactor d) ts u a → Derives source.text.now Within (sym.MoreFactors d) u r f
-      → Derives source.text.now Within (sym.ATerm d) ts r (f a)
+      → Derives source.text.now IsNestable (sym.AFactor d) ts u a
+      → Derives source.text.now IsNestable (sym.MoreFactors d) u r f
+      → Derives source.text.now IsNestable (sym.ATerm d) ts r (f a)
   term_derives d {ts = t ∷ ts} {u} {r} {f = f} x y =
       copy_derives source (FactorRow d) (sym.ATerm d) (sym.AFactor d) (sym.MoreFactors d ∷ []) (λ e. row.term e.row)
       (λ e. row.factor e.row)
@@ -161,9 +165,9 @@ module _ (source : Source) where
       (λ e t us ws. ap (λ p. p.1.0 (factor_value source.text.now e.row t p.0))
       (split_join e.left (sym.MoreFactors d ∷ []) us ws))
       t ts u r (f, tt) (look (factor_rows d) t.kind)
-      (look_map (λ e. entry e.key (e.left ++ sym.MoreFactors d ∷ []) (row.term e.row)) (λ e. refl) (factor_rows d)
+      (look_map (λ e. row_entry e.key (e.left ++ sym.MoreFactors d ∷ []) (row.term e.row)) (λ e. refl) (factor_rows d)
       t.kind)
-      (look_map (λ e. entry e.key e.left (row.factor e.row)) (λ e. refl) (factor_rows d) t.kind)
+      (look_map (λ e. row_entry e.key e.left (row.factor e.row)) (λ e. refl) (factor_rows d) t.kind)
       refl tt x (and y none)
   term_derives d {ts = []} x y = elim x [ ]
 
@@ -171,8 +175,8 @@ module _ (source : Source) where
   IsTerm d ts r e = HasRead source (sym.AFactor d ∷ sym.MoreFactors d ∷ []) (λ vs. vs.1.0 vs.0) expression_of ts r e
 
   first_of : {d : ℕ} {ts r : List Token} {vs : Values (sym.AFactor d ∷ sym.MoreFactors d ∷ [])}
-      → DerivesAll source.text.now Within (sym.AFactor d ∷ sym.MoreFactors d ∷ []) ts r vs
-      → Derives source.text.now Within (sym.ATerm d) ts r (vs.1.0 vs.0)
+      → DerivesAll source.text.now IsNestable (sym.AFactor d ∷ sym.MoreFactors d ∷ []) ts r vs
+      → Derives source.text.now IsNestable (sym.ATerm d) ts r (vs.1.0 vs.0)
   first_of {d} (and x (and y none)) = term_derives d x y
 
   pub term_whole : (d : ℕ) {ts r : List Token} (e : SynExpr) → IsTerm d ts r e
@@ -187,8 +191,8 @@ module _ (source : Source) where
   -- a simple expression without a sign is a term and further ones
   module _ (d : ℕ) (t : Token) (ts : List Token) (p : kind_is w.Plus t.kind ≡ false)
       (m : kind_is w.Minus t.kind ≡ false) where
-    abbrev as_simple : Entry (FactorRow d) → Entry (Row (sym.ASimple d))
-    as_simple e = entry e.key (e.left ++ sym.MoreFactors d ∷ sym.MoreTerms d ∷ [])
+    abbrev as_simple : RowEntry (FactorRow d) → RowEntry (Row (sym.ASimple d))
+    as_simple e = row_entry e.key (e.left ++ sym.MoreFactors d ∷ sym.MoreTerms d ∷ [])
         (row.simple (row.simple_factor e.row))
 
     look_unsigned : look (rows (sym.ASimple d)) t.kind ≡ look (map as_simple (factor_rows d)) t.kind
@@ -200,14 +204,14 @@ module _ (source : Source) where
         copy_leads source (FactorRow d) (sym.ASimple d) (sym.AFactor d) (sym.MoreFactors d ∷ sym.MoreTerms d ∷ [])
         (λ e. row.simple (row.simple_factor e.row)) (λ e. row.factor e.row) t ts (look (factor_rows d) t.kind)
         (look_unsigned ∙ look_map as_simple (λ e. refl) (factor_rows d) t.kind)
-        (look_map (λ e. entry e.key e.left (row.factor e.row)) (λ e. refl) (factor_rows d) t.kind)
+        (look_map (λ e. row_entry e.key e.left (row.factor e.row)) (λ e. refl) (factor_rows d) t.kind)
         refl refl refl refl q
 
     unsigned_derives : {u v r : List Token} {a : tree.Expression} {f h : tree.Expression → tree.Expression}
-        → Derives source.text.now Within (sym.AFactor d) (t ∷ ts) u a
-        → Derives source.text.now Within (sym.MoreFactors d) u v f
-        → Derives source.text.now Within (sym.MoreTerms d) v r h
-        → Derives source.text.now Within (sym.ASimple d) (t ∷ ts) r (h (f a))
+        → Derives source.text.now IsNestable (sym.AFactor d) (t ∷ ts) u a
+        → Derives source.text.now IsNestable (sym.MoreFactors d) u v f
+        → Derives source.text.now IsNestable (sym.MoreTerms d) v r h
+        → Derives source.text.now IsNestable (sym.ASimple d) (t ∷ ts) r (h (f a))
     unsigned_derives {u} {v} {r} {f = f} {h = h} x y z =
         copy_derives source (FactorRow d) (sym.ASimple d) (sym.AFactor d) (sym.MoreFactors d ∷ sym.MoreTerms d ∷ [])
         (λ e. row.simple (row.simple_factor e.row)) (λ e. row.factor e.row)
@@ -216,14 +220,14 @@ module _ (source : Source) where
         (split_join e.left (sym.MoreFactors d ∷ sym.MoreTerms d ∷ []) us ws))
         t ts u r (f, (h, tt)) (look (factor_rows d) t.kind)
         (look_unsigned ∙ look_map as_simple (λ e. refl) (factor_rows d) t.kind)
-        (look_map (λ e. entry e.key e.left (row.factor e.row)) (λ e. refl) (factor_rows d) t.kind)
+        (look_map (λ e. row_entry e.key e.left (row.factor e.row)) (λ e. refl) (factor_rows d) t.kind)
         refl tt x (and y (and z none))
 
     unsigned_all : {v r : List Token} {vs : Values (sym.AFactor d ∷ sym.MoreFactors d ∷ [])}
         {h : tree.Expression → tree.Expression}
-        → DerivesAll source.text.now Within (sym.AFactor d ∷ sym.MoreFactors d ∷ []) (t ∷ ts) v vs
-        → Derives source.text.now Within (sym.MoreTerms d) v r h
-        → Derives source.text.now Within (sym.ASimple d) (t ∷ ts) r (h (vs.1.0 vs.0))
+        → DerivesAll source.text.now IsNestable (sym.AFactor d ∷ sym.MoreFactors d ∷ []) (t ∷ ts) v vs
+        → Derives source.text.now IsNestable (sym.MoreTerms d) v r h
+        → Derives source.text.now IsNestable (sym.ASimple d) (t ∷ ts) r (h (vs.1.0 vs.0))
     unsigned_all (and x (and y none)) z = unsigned_derives x y z
 
     pub unsigned_begun : {rest : List Token} (e : SynExpr) → IsTerm d (t ∷ ts) rest e
@@ -242,20 +246,21 @@ module _ (source : Source) where
 
   unsigned_at : (d : ℕ) (t : Token) (ts : List Token) → kind_is w.Plus t.kind ≡ false → kind_is w.Minus t.kind ≡ false
       → (result : Result (SynExpr × Bor (List Token)) Halt)
-      → Reads source (production (sym.AFactor d ∷ sym.MoreFactors d ∷ []) (λ vs. vs.1.0 vs.0)) expression_of (t ∷ ts)
+      → ParsesAs source (production (sym.AFactor d ∷ sym.MoreFactors d ∷ []) (λ vs. vs.1.0 vs.0)) expression_of (t ∷ ts)
       result → ReadsSoFar source (single (sym.ASimple d)) (sym.MoreTerms d) (λ e f. f (expression_of e)) (t ∷ ts) result
   unsigned_at d t ts p m (Ok x) h = unsigned_begun d t ts p m x.0 h
   unsigned_at d t ts p m (Err e) h = unsigned_halts d t ts p m e h
 
-  pub unsigned : (d : ℕ) (ts r : List Token) (t : Token) (o : Option UnaryOp) → Begins source ts t r → IsSign t o
+  pub unsigned : (d : ℕ) (ts r : List Token) (t : Token) (o : Option UnaryOp) → HasFirstToken source ts t r → IsSign t o
       → o ≡ None → (result : Result (SynExpr × Bor (List Token)) Halt)
-      → Reads source (production (sym.AFactor d ∷ sym.MoreFactors d ∷ []) (λ vs. vs.1.0 vs.0)) expression_of ts result
+      → ParsesAs source (production (sym.AFactor d ∷ sym.MoreFactors d ∷ []) (λ vs. vs.1.0 vs.0)) expression_of
+      ts result
       → ReadsSoFar source (single (sym.ASimple d)) (sym.MoreTerms d) (λ e f. f (expression_of e)) ts result
   unsigned d ts r t o b s e result h =
       let n : IsSign t None = subst (IsSign t) e s in
       subst (λ l. ReadsSoFar source (single (sym.ASimple d)) (sym.MoreTerms d) (λ e f. f (expression_of e)) l result)
       (back_of b.all) (unsigned_at d t r n.0 n.1 result
-      (subst (λ l. Reads source (production (sym.AFactor d ∷ sym.MoreFactors d ∷ []) (λ vs. vs.1.0 vs.0))
+      (subst (λ l. ParsesAs source (production (sym.AFactor d ∷ sym.MoreFactors d ∷ []) (λ vs. vs.1.0 vs.0))
       expression_of l result) b.all h))
 
   -- a sign and a term
@@ -268,7 +273,8 @@ module _ (source : Source) where
   more_halts d ts halt.Memory h = tt
   more_halts d ts (halt.Refused f) h = λ q. term_leads d ts (sym.MoreTerms d ∷ q) ∙ h (sym.MoreTerms d ∷ q)
 
-  pub signed_halts : (d : ℕ) (ts r : List Token) (t : Token) (o : UnaryOp) → Begins source ts t r → IsSign t (Some o)
+  pub signed_halts : (d : ℕ) (ts r : List Token) (t : Token) (o : UnaryOp) → HasFirstToken source ts t r
+      → IsSign t (Some o)
       → (e : Halt) → Halts source (sym.AFactor d ∷ sym.MoreFactors d ∷ []) r e → Halts source (sym.ASimple d ∷ []) ts e
   signed_halts d ts r t unary.Plus b s e h =
       row_halts (row.simple row.simple_plus) refl (record { token = t; is = s; all = b.all; ready = b.ready }) refl e
@@ -280,20 +286,22 @@ module _ (source : Source) where
 
   signed_by : (d : ℕ) {k : Kind} {ts r left : List Token} (o : UnaryOp) (a new : SynExpr)
       (row : Row (sym.ASimple d) k (sym.ATerm d ∷ sym.MoreTerms d ∷ []))
-      → look (rows (sym.ASimple d)) k ≡ Some (entry k (sym.ATerm d ∷ sym.MoreTerms d ∷ []) row) → Ready source ts
+      → look (rows (sym.ASimple d)) k ≡ Some (row_entry k (sym.ATerm d ∷ sym.MoreTerms d ∷ []) row)
+      → HasTokens source ts
       → (b : BeginsWith source ts k r) → ((vs : Values (sym.ATerm d ∷ sym.MoreTerms d ∷ []))
-      → build source.text.now row b.token vs ≡ vs.1.0 (tree.At b.token.at (tree.Unary o vs.0))) → IsTerm d r left a
-      → expression_of new ≡ tree.At b.token.at (tree.Unary o (expression_of a)) → SimpleSoFar d new ts left
+      → build source.text.now row b.token vs ≡ vs.1.0 (tree.ExpressionAt b.token.at (tree.Unary o vs.0)))
+      → IsTerm d r left a
+      → expression_of new ≡ tree.ExpressionAt b.token.at (tree.Unary o (expression_of a)) → SimpleSoFar d new ts left
   signed_by d o a new row found ready b builds h e =
       let x = term_whole d a h in
       chain row found refl (nothing_yet (sym.ASimple d) (λ vs. vs.0) (λ v. v) (λ v. refl) ready) b
-      (starts {of = λ vs. vs.1.0 (tree.At b.token.at (tree.Unary o vs.0))} x
-      (λ f. ap f (e ∙ ap (λ y. tree.At b.token.at (tree.Unary o y)) x.same)))
+      (starts {of = λ vs. vs.1.0 (tree.ExpressionAt b.token.at (tree.Unary o vs.0))} x
+      (λ f. ap f (e ∙ ap (λ y. tree.ExpressionAt b.token.at (tree.Unary o y)) x.same)))
       (λ vs. back_of (builds vs))
 
-  pub signed : (d : ℕ) {ts r left : List Token} (t : Token) (o : UnaryOp) (a new : SynExpr) → Ready source ts
-      → Begins source ts t r → IsSign t (Some o) → IsTerm d r left a
-      → expression_of new ≡ tree.At t.at (tree.Unary o (expression_of a)) → SimpleSoFar d new ts left
+  pub signed : (d : ℕ) {ts r left : List Token} (t : Token) (o : UnaryOp) (a new : SynExpr) → HasTokens source ts
+      → HasFirstToken source ts t r → IsSign t (Some o) → IsTerm d r left a
+      → expression_of new ≡ tree.ExpressionAt t.at (tree.Unary o (expression_of a)) → SimpleSoFar d new ts left
   signed d t unary.Plus a new ready b s h e =
       signed_by d unary.Plus a new (row.simple row.simple_plus) refl ready
       (record { token = t; is = s; all = b.all; ready = b.ready }) (λ vs. refl) h e
@@ -312,10 +320,10 @@ module _ (source : Source) where
 
   pub sum_more : (d : ℕ) {ts rest behind left : List Token} (sum next new : SynExpr) {o : BinaryOp}
       → SimpleSoFar d sum ts rest → Operator g.IsAdding source rest o behind → IsTerm d behind left next
-      → expression_of new ≡ g.joined o (expression_of sum) (expression_of next) → SimpleSoFar d new ts left
+      → expression_of new ≡ g.binary_at_left o (expression_of sum) (expression_of next) → SimpleSoFar d new ts left
   sum_more d sum next new {o = o} so h x e = let y = term_whole d next x in
       goes_on (row.next_term h.is_operator) (look_adding d h.is_operator) refl so (behind_operator h) y
-      (λ f. ap f (e ∙ ap (g.joined o (expression_of sum)) y.same))
+      (λ f. ap f (e ∙ ap (g.binary_at_left o (expression_of sum)) y.same))
 
   pub sum_done : (d : ℕ) {ts rest : List Token} (sum : SynExpr) → SimpleSoFar d sum ts rest
       → NoOperator sym.MoreTerms rest → HasRead source (sym.ASimple d ∷ []) (λ vs. vs.0) expression_of ts rest sum
@@ -340,10 +348,10 @@ module _ (source : Source) where
 
   pub product_more : (d : ℕ) {ts rest behind left : List Token} (product next new : SynExpr) {o : BinaryOp}
       → TermSoFar d product ts rest → Operator g.IsMultiplying source rest o behind → IsFactor d behind left next
-      → expression_of new ≡ g.joined o (expression_of product) (expression_of next) → TermSoFar d new ts left
+      → expression_of new ≡ g.binary_at_left o (expression_of product) (expression_of next) → TermSoFar d new ts left
   product_more d product next new {o = o} so h x e =
       goes_on (row.next_factor h.is_operator) (look_multiplying d h.is_operator) refl so (behind_operator h) x
-      (λ f. ap f (e ∙ ap (g.joined o (expression_of product)) x.same))
+      (λ f. ap f (e ∙ ap (g.binary_at_left o (expression_of product)) x.same))
 
   pub product_done : (d : ℕ) {ts rest : List Token} (product : SynExpr) → TermSoFar d product ts rest
       → NoOperator sym.MoreFactors rest → IsTerm d ts rest product

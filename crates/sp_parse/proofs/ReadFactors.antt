@@ -23,14 +23,15 @@ use Rattle.sp_tree.specs.SyntaxOf as syntax
 use Rattle.sp_grammar.specs.Symbols as sym
 use Rattle.sp_grammar.specs.Symbols.{Symbol}
 use Rattle.sp_grammar.specs.Table as row
-use Rattle.sp_grammar.specs.Table.{FactorRow, SelectorRow, Entry, entry, rows, look, kind_is}
+use Rattle.sp_grammar.specs.Table.{FactorRow, SelectorRow, RowEntry, row_entry, rows, look, kind_is}
 use Rattle.sp_grammar.specs.Table.{factor_rows, selector_rows}
 use Rattle.sp_grammar.specs.Derives.{Derives, DerivesAll, none, and}
 use Rattle.sp_parse.specs.declared.source.Source.{Source}
 use Rattle.sp_parse.specs.Productions.{production, single}
-use Rattle.sp_parse.specs.Reads.{Within, Ready, breaks, HasRead, Halts, Reads, BeginsOther, BeginsWith, Expected, SoFar}
+use Rattle.sp_parse.specs.Reads.{IsNestable, HasTokens, breaks, HasRead, Halts, ParsesAs, BeginsOther, BeginsWith}
+use Rattle.sp_parse.specs.Reads.{Expected, SoFar}
 use Rattle.sp_parse.specs.Trees.{lay, selectors_of, and_selectors, and_arguments, width_of}
-use Rattle.sp_parse.proofs.Steps.{has_read, one, take, expected, step_ends, below}
+use Rattle.sp_parse.proofs.Steps.{has_read, first_derived, take, expected, step_ends, below}
 use Rattle.sp_parse.proofs.SoFar.{skipped, ends, halts_on, halts_chain, halts_close, goes_on, starts, chain}
 use Rattle.sp_parse.proofs.SoFar.{nothing_yet}
 use Rattle.sp_parse.proofs.Rounds.{Pending, none_read, item_read, round_on}
@@ -63,29 +64,31 @@ module _ (source : Source) where
 
   -- factors of one token
   pub number_is : (d : ℕ) {ts r : List Token} (b : BeginsWith source ts kind.Number r) (n : ℕ) (x : SynExpr)
-      → n ≡ number_of text b.token → expression_of x ≡ tree.At b.token.at (tree.Number n) → IsFactor d ts r x
+      → n ≡ number_of text b.token → expression_of x ≡ tree.ExpressionAt b.token.at (tree.Number n) → IsFactor d ts r x
   number_is d {ts} {r} b n x p e = has_read b.ready
-      (subst (λ l. DerivesAll text Within (sym.AFactor d ∷ []) l r
-      (tree.At b.token.at (tree.Number (number_of text b.token)), tt)) (back_of b.all)
-      (and (take (entry _ _ (row.factor row.factor_number)) refl b.token b.is tt none) none))
-      (e ∙ ap (λ n. tree.At b.token.at (tree.Number n)) p)
+      (subst (λ l. DerivesAll text IsNestable (sym.AFactor d ∷ []) l r
+      (tree.ExpressionAt b.token.at (tree.Number (number_of text b.token)), tt)) (back_of b.all)
+      (and (take (row_entry _ _ (row.factor row.factor_number)) refl b.token b.is tt none) none))
+      (e ∙ ap (λ n. tree.ExpressionAt b.token.at (tree.Number n)) p)
 
   pub quoted_is : (d : ℕ) {ts r : List Token} (b : BeginsWith source ts kind.Text r) (q : List ℕ) (x : SynExpr)
-      → q ≡ quoted_of text b.token → expression_of x ≡ tree.At b.token.at (tree.Quoted q) → IsFactor d ts r x
+      → q ≡ quoted_of text b.token → expression_of x ≡ tree.ExpressionAt b.token.at (tree.Quoted q) → IsFactor d ts r x
   quoted_is d {ts} {r} b q x p e = has_read b.ready
-      (subst (λ l. DerivesAll text Within (sym.AFactor d ∷ []) l r
-      (tree.At b.token.at (tree.Quoted (quoted_of text b.token)), tt)) (back_of b.all)
-      (and (take (entry _ _ (row.factor row.factor_text)) refl b.token b.is tt none) none))
-      (e ∙ ap (λ q. tree.At b.token.at (tree.Quoted q)) p)
+      (subst (λ l. DerivesAll text IsNestable (sym.AFactor d ∷ []) l r
+      (tree.ExpressionAt b.token.at (tree.Quoted (quoted_of text b.token)), tt)) (back_of b.all)
+      (and (take (row_entry _ _ (row.factor row.factor_text)) refl b.token b.is tt none) none))
+      (e ∙ ap (λ q. tree.ExpressionAt b.token.at (tree.Quoted q)) p)
 
   -- a variable or a call
   pub reference_result : (d : ℕ) (ts rest : List Token) (b : BeginsWith source ts kind.Name rest) (n : Name)
       → n ≡ name_of text b.token → (result : Result (SynExpr × Bor (List Token)) Halt)
-      → Reads source (production (sym.AReference d ∷ []) (λ vs. tree.At b.token.at (vs.0 n))) expression_of rest result
-      → Reads source (single (sym.AFactor d)) expression_of ts result
+      → ParsesAs source (production (sym.AReference d ∷ []) (λ vs. tree.ExpressionAt b.token.at (vs.0 n))) expression_of
+      rest result
+      → ParsesAs source (single (sym.AFactor d)) expression_of ts result
   reference_result d ts rest b n p result h =
-      row_result (λ vs. tree.At b.token.at (vs.0 n)) expression_of (λ vs. vs.0) (row.factor row.factor_name) refl b refl
-      tt (λ vs. ap (λ n. tree.At b.token.at (vs.0 n)) p) result h
+      row_result (λ vs. tree.ExpressionAt b.token.at (vs.0 n)) expression_of (λ vs. vs.0) (row.factor row.factor_name)
+      refl b refl
+      tt (λ vs. ap (λ n. tree.ExpressionAt b.token.at (vs.0 n)) p) result h
 
   -- in parentheses
   pub inner_halts : (d : ℕ) {ts rest : List Token} → BeginsWith source ts w.Open rest → (e : Halt)
@@ -103,16 +106,18 @@ module _ (source : Source) where
 
   pub in_parentheses : (d : ℕ) {ts rest left r : List Token} (x y : SynExpr) (b : BeginsWith source ts w.Open rest)
       → IsExpression d rest left x → Expected source w.Close left r
-      → expression_of y ≡ g.moved b.token.at (expression_of x) → IsFactor d ts r y
+      → expression_of y ≡ g.with_place b.token.at (expression_of x) → IsFactor d ts r y
   in_parentheses d x y b i c e = row_derives (row.factor row.factor_open) refl b tt c.first.ready
-      (and (one i) (and (expected c) none)) (e ∙ ap (g.moved b.token.at) i.same)
+      (and (first_derived i) (and (expected c) none)) (e ∙ ap (g.with_place b.token.at) i.same)
 
   -- behind `not`
   pub negation_result : (d : ℕ) (ts rest : List Token) (b : BeginsWith source ts w.Not rest)
       → (result : Result (SynExpr × Bor (List Token)) Halt)
-      → Reads source (production (sym.ANegated d ∷ []) (λ vs. tree.At b.token.at (tree.Unary unary.Not vs.0)))
-      expression_of rest result → Reads source (single (sym.AFactor d)) expression_of ts result
-  negation_result d ts rest b result h = row_result (λ vs. tree.At b.token.at (tree.Unary unary.Not vs.0)) expression_of
+      → ParsesAs source (production (sym.ANegated d ∷ [])
+      (λ vs. tree.ExpressionAt b.token.at (tree.Unary unary.Not vs.0)))
+      expression_of rest result → ParsesAs source (single (sym.AFactor d)) expression_of ts result
+  negation_result d ts rest b result h = row_result (λ vs. tree.ExpressionAt b.token.at (tree.Unary unary.Not vs.0))
+      expression_of
       (λ vs. vs.0) (row.factor row.factor_not) refl b refl tt (λ vs. refl) result h
 
   negated_leads : (d : ℕ) (ts : List Token) → d < nesting → (q : List Symbol)
@@ -121,17 +126,17 @@ module _ (source : Source) where
   negated_leads d (t ∷ ts) h q =
       bare_leads source (FactorRow (suc d)) (sym.ANegated d) (sym.AFactor (suc d)) (λ e. row.negated e.row)
       (λ e. row.factor e.row) t ts (look (factor_rows (suc d)) t.kind)
-      (look_map (λ e. entry e.key e.left (row.negated e.row)) (λ e. refl) (factor_rows (suc d)) t.kind)
-      (look_map (λ e. entry e.key e.left (row.factor e.row)) (λ e. refl) (factor_rows (suc d)) t.kind)
+      (look_map (λ e. row_entry e.key e.left (row.negated e.row)) (λ e. refl) (factor_rows (suc d)) t.kind)
+      (look_map (λ e. row_entry e.key e.left (row.factor e.row)) (λ e. refl) (factor_rows (suc d)) t.kind)
       refl refl (below d nesting h) refl q
 
   negated_derives : (d : ℕ) {ts r : List Token} {a : tree.Expression} → d < nesting
-      → Derives text Within (sym.AFactor (suc d)) ts r a → Derives text Within (sym.ANegated d) ts r a
+      → Derives text IsNestable (sym.AFactor (suc d)) ts r a → Derives text IsNestable (sym.ANegated d) ts r a
   negated_derives d {ts = t ∷ ts} {r} h x =
       bare_derives source (FactorRow (suc d)) (sym.ANegated d) (sym.AFactor (suc d)) (λ e. row.negated e.row)
       (λ e. row.factor e.row) (λ a. a) (λ e t us. refl) t ts r (look (factor_rows (suc d)) t.kind)
-      (look_map (λ e. entry e.key e.left (row.negated e.row)) (λ e. refl) (factor_rows (suc d)) t.kind)
-      (look_map (λ e. entry e.key e.left (row.factor e.row)) (λ e. refl) (factor_rows (suc d)) t.kind)
+      (look_map (λ e. row_entry e.key e.left (row.negated e.row)) (λ e. refl) (factor_rows (suc d)) t.kind)
+      (look_map (λ e. row_entry e.key e.left (row.factor e.row)) (λ e. refl) (factor_rows (suc d)) t.kind)
       refl h x
   negated_derives d {ts = []} h x = elim x [ ]
 
@@ -141,22 +146,26 @@ module _ (source : Source) where
       (negated_leads d ts b) e (subst (λ n. Halts source (sym.AFactor n ∷ []) ts e) p h)
 
   negated_at : (d : ℕ) {ts r : List Token} (at : Place) (a x : SynExpr) → d < nesting → IsFactor (suc d) ts r a
-      → expression_of x ≡ tree.At at (tree.Unary unary.Not (expression_of a))
-      → HasRead source (sym.ANegated d ∷ []) (λ vs. tree.At at (tree.Unary unary.Not vs.0)) expression_of ts r x
-  negated_at d at a x b h e = has_read h.ready (and (negated_derives d b (one h)) none)
-      (e ∙ ap (λ y. tree.At at (tree.Unary unary.Not y)) h.same)
+      → expression_of x ≡ tree.ExpressionAt at (tree.Unary unary.Not (expression_of a))
+      → HasRead source (sym.ANegated d ∷ []) (λ vs. tree.ExpressionAt at (tree.Unary unary.Not vs.0))
+      expression_of ts r x
+  negated_at d at a x b h e = has_read h.ready (and (negated_derives d b (first_derived h)) none)
+      (e ∙ ap (λ y. tree.ExpressionAt at (tree.Unary unary.Not y)) h.same)
 
   pub negated : (d inner : ℕ) {ts r : List Token} (at : Place) (a x : SynExpr) → inner ≡ suc d → d < nesting
-      → IsFactor inner ts r a → expression_of x ≡ tree.At at (tree.Unary unary.Not (expression_of a))
-      → HasRead source (sym.ANegated d ∷ []) (λ vs. tree.At at (tree.Unary unary.Not vs.0)) expression_of ts r x
+      → IsFactor inner ts r a → expression_of x ≡ tree.ExpressionAt at (tree.Unary unary.Not (expression_of a))
+      → HasRead source (sym.ANegated d ∷ []) (λ vs. tree.ExpressionAt at (tree.Unary unary.Not vs.0))
+      expression_of ts r x
   negated d inner {ts} {r} at a x p b h e = negated_at d at a x b (subst (λ n. IsFactor n ts r a) p h) e
 
   -- selectors stand behind a name where no `(` does
   module _ (d : ℕ) (t : Token) (ts : List Token) (o : kind_is w.Open t.kind ≡ false) where
     look_reference : look (rows (sym.AReference d)) t.kind
-        ≡ look (map (λ (e : Entry (SelectorRow d)). entry e.key e.left (row.reference e.row)) (selector_rows d)) t.kind
-    look_reference = ap (λ b. cond b (Some (entry _ _ row.arguments))
-        (look (map (λ (e : Entry (SelectorRow d)). entry e.key e.left (row.reference e.row)) (selector_rows d)) t.kind))
+        ≡ look (map (λ (e : RowEntry (SelectorRow d)). row_entry e.key e.left (row.reference e.row))
+        (selector_rows d)) t.kind
+    look_reference = ap (λ b. cond b (Some (row_entry _ _ row.arguments))
+        (look (map (λ (e : RowEntry (SelectorRow d)). row_entry e.key e.left (row.reference e.row)) (selector_rows d))
+        t.kind))
         o
 
     reference_leads_at : (q : List Symbol) → breaks source (t ∷ ts) (sym.AReference d ∷ q)
@@ -164,27 +173,30 @@ module _ (source : Source) where
     reference_leads_at q =
         loose_leads source (SelectorRow d) (sym.AReference d) (sym.Selectors d) (λ e. row.reference e.row)
         (λ e. row.selector e.row) t ts (look (selector_rows d) t.kind) _ _
-        (look_reference ∙ look_map (λ e. entry e.key e.left (row.reference e.row)) (λ e. refl) (selector_rows d) t.kind)
-        (look_map (λ e. entry e.key e.left (row.selector e.row)) (λ e. refl) (selector_rows d) t.kind)
+        (look_reference ∙ look_map (λ e. row_entry e.key e.left (row.reference e.row)) (λ e. refl) (selector_rows d)
+        t.kind)
+        (look_map (λ e. row_entry e.key e.left (row.selector e.row)) (λ e. refl) (selector_rows d) t.kind)
         refl refl refl refl q
 
-    reference_derives_at : {r : List Token} {ss : tree.Selectors} → Derives text Within (sym.Selectors d) (t ∷ ts) r ss
-        → Derives text Within (sym.AReference d) (t ∷ ts) r (λ n. tree.Read (tree.Entire n ss))
+    reference_derives_at : {r : List Token} {ss : tree.Selectors}
+        → Derives text IsNestable (sym.Selectors d) (t ∷ ts) r ss
+        → Derives text IsNestable (sym.AReference d) (t ∷ ts) r (λ n. tree.Read (tree.Entire n ss))
     reference_derives_at {r} x =
         loose_derives source (SelectorRow d) (sym.AReference d) (sym.Selectors d) (λ e. row.reference e.row)
         (λ e. row.selector e.row) (λ ss. λ n. tree.Read (tree.Entire n ss)) (λ e t us. refl) t ts r
         (look (selector_rows d) t.kind)
-        (look_reference ∙ look_map (λ e. entry e.key e.left (row.reference e.row)) (λ e. refl) (selector_rows d) t.kind)
-        (look_map (λ e. entry e.key e.left (row.selector e.row)) (λ e. refl) (selector_rows d) t.kind)
+        (look_reference ∙ look_map (λ e. row_entry e.key e.left (row.reference e.row)) (λ e. refl) (selector_rows d)
+        t.kind)
+        (look_map (λ e. row_entry e.key e.left (row.selector e.row)) (λ e. refl) (selector_rows d) t.kind)
         (λ v h. let same : tree.Whole ≡ v = cc in ap (λ ss. Some (λ n. tree.Read (tree.Entire n ss))) same) tt x
 
   reference_derives : (d : ℕ) {ts r : List Token} {ss : tree.Selectors} → BeginsOther ts w.Open
-      → Derives text Within (sym.Selectors d) ts r ss
-      → Derives text Within (sym.AReference d) ts r (λ n. tree.Read (tree.Entire n ss))
+      → Derives text IsNestable (sym.Selectors d) ts r ss
+      → Derives text IsNestable (sym.AReference d) ts r (λ n. tree.Read (tree.Entire n ss))
   reference_derives d {r = r} {ss = ss} b x =
-      subst (λ l. Derives text Within (sym.AReference d) l r (λ n. tree.Read (tree.Entire n ss))) (back_of b.all)
+      subst (λ l. Derives text IsNestable (sym.AReference d) l r (λ n. tree.Read (tree.Entire n ss))) (back_of b.all)
       (reference_derives_at d b.token b.rest b.other
-      (subst (λ l. Derives text Within (sym.Selectors d) l r ss) b.all x))
+      (subst (λ l. Derives text IsNestable (sym.Selectors d) l r ss) b.all x))
 
   pub variable_halts : (d : ℕ) (ts : List Token) → BeginsOther ts w.Open → (e : Halt)
       → Halts source (sym.Selectors d ∷ []) ts e → Halts source (sym.AReference d ∷ []) ts e
@@ -196,13 +208,14 @@ module _ (source : Source) where
   IsSelectors d ts r ss = HasRead source (sym.Selectors d ∷ []) (λ vs. vs.0) selectors_of ts r ss
 
   abbrev pub IsReference : ℕ → Place → Name → List Token → List Token → SynExpr → Type 0
-  IsReference d at n ts r x = HasRead source (sym.AReference d ∷ []) (λ vs. tree.At at (vs.0 n)) expression_of ts r x
+  IsReference d at n ts r x = HasRead source (sym.AReference d ∷ []) (λ vs. tree.ExpressionAt at (vs.0 n))
+      expression_of ts r x
 
   pub variable_is : (d : ℕ) {ts r : List Token} (at : Place) (n : Name) (ss : List SynSelector) (v : SynVar)
       (x : SynExpr) → BeginsOther ts w.Open → IsSelectors d ts r ss → variable_of v ≡ tree.Entire n (selectors_of ss)
-      → expression_of x ≡ tree.At at (tree.Read (variable_of v)) → IsReference d at n ts r x
-  variable_is d at n ss v x b h p e = has_read h.ready (and (reference_derives d b (one h)) none)
-      (e ∙ ap (λ v. tree.At at (tree.Read v)) (p ∙ ap (tree.Entire n) h.same))
+      → expression_of x ≡ tree.ExpressionAt at (tree.Read (variable_of v)) → IsReference d at n ts r x
+  variable_is d at n ss v x b h p e = has_read h.ready (and (reference_derives d b (first_derived h)) none)
+      (e ∙ ap (λ v. tree.ExpressionAt at (tree.Read v)) (p ∙ ap (tree.Entire n) h.same))
 
   abbrev pub IsArguments : ℕ → List Token → List Token → List SynArg → Type 0
   IsArguments d ts r args = HasRead source (sym.AnExpression d ∷ sym.AWidth d ∷ sym.MoreArguments d ∷ [])
@@ -215,15 +228,16 @@ module _ (source : Source) where
 
   pub call_is : (d : ℕ) {ts rest r : List Token} (at : Place) (n : Name) (args : List SynArg) (x : SynExpr)
       → BeginsWith source ts w.Open rest → IsArguments d rest r args
-      → expression_of x ≡ tree.At at (tree.Apply n (arguments_of args)) → IsReference d at n ts r x
-  call_is d at n args x b h e = row_reads row.arguments refl b tt h (e ∙ ap (λ a. tree.At at (tree.Apply n a)) h.same)
+      → expression_of x ≡ tree.ExpressionAt at (tree.Apply n (arguments_of args)) → IsReference d at n ts r x
+  call_is d at n args x b h e =
+      row_reads row.arguments refl b tt h (e ∙ ap (λ a. tree.ExpressionAt at (tree.Apply n a)) h.same)
 
   -- selectors
   abbrev pub SelectorsSoFar : ℕ → List SynSelector → List Token → List Token → Type 0
   SelectorsSoFar d all ts rest = SoFar source (sym.Selectors d ∷ []) (λ vs. vs.0) (sym.Selectors d) (and_selectors all)
       ts rest
 
-  pub no_selector_yet : (d : ℕ) {ts : List Token} (all : List SynSelector) → all ≡ [] → Ready source ts
+  pub no_selector_yet : (d : ℕ) {ts : List Token} (all : List SynSelector) → all ≡ [] → HasTokens source ts
       → SelectorsSoFar d all ts ts
   no_selector_yet d all e a = nothing_yet (sym.Selectors d) (λ vs. vs.0) (and_selectors all)
       (λ v. ap (λ l. and_selectors l v) e) a
@@ -256,9 +270,9 @@ module _ (source : Source) where
   pub selectors_done : (d : ℕ) {ts rest : List Token} (all : List SynSelector) → SelectorsSoFar d all ts rest
       → BeginsOther rest w.OpenIndex → BeginsOther rest w.Dot → IsSelectors d ts rest all
   selectors_done d all so a b = ends so (skipped (sym.Selectors d) a.token a.rest a.all
-      (ap (λ x. cond x (Some (entry _ _ (row.selector row.selector_index)))
-      (cond (kind_is w.Dot a.token.kind) (Some (entry _ _ (row.selector row.selector_field))) None)) a.other
-      ∙ ap (λ x. cond x (Some (entry _ _ (row.selector row.selector_field))) None) (neither a b)) refl) so.ready
+      (ap (λ x. cond x (Some (row_entry _ _ (row.selector row.selector_index)))
+      (cond (kind_is w.Dot a.token.kind) (Some (row_entry _ _ (row.selector row.selector_field))) None)) a.other
+      ∙ ap (λ x. cond x (Some (row_entry _ _ (row.selector row.selector_field))) None) (neither a b)) refl) so.ready
       (back_of (lay_selectors (map selector_of all)))
 
   -- indices
@@ -272,7 +286,7 @@ module _ (source : Source) where
       (λ vs. and_selectors before (tree.Select (tree.Index vs.0) vs.1.0)) (sym.AnExpression d ∷ sym.MoreIndices d ∷ [])
       (λ vs. and_selectors all (tree.Select (tree.Index vs.0) vs.1.0)) ts rest
 
-  pub indices_none : (d : ℕ) {ts : List Token} (before : List SynSelector) → Ready source ts
+  pub indices_none : (d : ℕ) {ts : List Token} (before : List SynSelector) → HasTokens source ts
       → IndicesPending d before before ts ts
   indices_none d before a = none_read (λ vs. refl) a
 
@@ -294,7 +308,8 @@ module _ (source : Source) where
       → Halts source (sym.AnExpression d ∷ sym.MoreIndices d ∷ []) ts e
   indices_close_halts d before all so b e h =
       halts_close row.indices_end b (ap (λ x. cond (kind_is w.CloseIndex b.token.kind)
-      (Some (entry _ _ row.indices_end)) (cond x (Some (entry _ _ row.next_index)) None)) b.other) refl refl so e h
+      (Some (row_entry _ _ row.indices_end)) (cond x (Some (row_entry _ _ row.next_index)) None)) b.other) refl
+      refl so e h
 
   pub indices_close : (d : ℕ) {ts rest r : List Token} (before all : List SynSelector)
       → MoreIndicesSoFar d before all ts rest → Expected source w.CloseIndex rest r
@@ -320,7 +335,8 @@ module _ (source : Source) where
   pub no_width : (d : ℕ) {ts rest : List Token} (e : SynExpr) (a : SynArg) → IsExpression d ts rest e
       → BeginsOther rest w.Colon → argument_of a ≡ tree.Pass (expression_of e) (width_of None) → IsArgument d ts rest a
   no_width d e a h b p = let so = argument_start d e h in
-      ends so (skipped (sym.AWidth d) b.token b.rest b.all (ap (λ x. cond x (Some (entry _ _ row.width)) None) b.other)
+      ends so (skipped (sym.AWidth d) b.token b.rest b.all
+      (ap (λ x. cond x (Some (row_entry _ _ row.width)) None) b.other)
       refl) so.ready p
 
   pub width_halts : (d : ℕ) {ts rest behind : List Token} (e : SynExpr) → IsExpression d ts rest e
@@ -332,9 +348,9 @@ module _ (source : Source) where
       → BeginsWith source rest w.Colon behind → IsExpression d behind left m
       → argument_of a ≡ tree.Pass (expression_of e) (width_of (Some m)) → IsArgument d ts left a
   width_is d {left = left} e m a h b x p = ends (argument_start d e h)
-      (subst (λ l. Derives text Within (sym.AWidth d) l left (tree.Within x.values.0)) (back_of b.all)
-      (take (entry _ _ row.width) refl b.token b.is tt (and (one x) none))) x.ready
-      (p ∙ ap (λ y. tree.Pass (expression_of e) (tree.Within y)) x.same)
+      (subst (λ l. Derives text IsNestable (sym.AWidth d) l left (tree.WithWidth x.values.0)) (back_of b.all)
+      (take (row_entry _ _ row.width) refl b.token b.is tt (and (first_derived x) none))) x.ready
+      (p ∙ ap (λ y. tree.Pass (expression_of e) (tree.WithWidth y)) x.same)
 
   abbrev pub ArgumentsSoFar : ℕ → List SynArg → List Token → List Token → Type 0
   ArgumentsSoFar d all ts rest = SoFar source (sym.AnExpression d ∷ sym.AWidth d ∷ sym.MoreArguments d ∷ [])
@@ -346,7 +362,7 @@ module _ (source : Source) where
       (sym.AnExpression d ∷ sym.AWidth d ∷ sym.MoreArguments d ∷ [])
       (λ vs. and_arguments all (tree.AndArgument (tree.Pass vs.0 vs.1.0) vs.1.1.0)) ts rest
 
-  pub arguments_none : (d : ℕ) {ts : List Token} (all : List SynArg) → all ≡ [] → Ready source ts
+  pub arguments_none : (d : ℕ) {ts : List Token} (all : List SynArg) → all ≡ [] → HasTokens source ts
       → ArgumentsPending d all ts ts
   arguments_none d all e a = none_read (λ vs. ap
       (λ l. and_arguments l (tree.AndArgument (tree.Pass vs.0 vs.1.0) vs.1.1.0)) e) a
@@ -365,14 +381,14 @@ module _ (source : Source) where
       → BeginsOther rest w.Comma → (e : Halt) → Halts source (sym.AToken w.Close ∷ []) rest e
       → Halts source (sym.AnExpression d ∷ sym.AWidth d ∷ sym.MoreArguments d ∷ []) ts e
   arguments_close_halts d all so b e h = halts_close row.arguments_end b
-      (ap (λ x. cond (kind_is w.Close b.token.kind) (Some (entry _ _ row.arguments_end))
-      (cond x (Some (entry _ _ row.next_argument)) None)) b.other) refl refl so e h
+      (ap (λ x. cond (kind_is w.Close b.token.kind) (Some (row_entry _ _ row.arguments_end))
+      (cond x (Some (row_entry _ _ row.next_argument)) None)) b.other) refl refl so e h
 
   pub arguments_done : (d : ℕ) {ts rest r : List Token} (all : List SynArg) → ArgumentsSoFar d all ts rest
       → Expected source w.Close rest r → IsArguments d ts r all
   arguments_done d {r = r} all so h = ends so
-      (subst (λ l. Derives text Within (sym.MoreArguments d) l r tree.NoArgument) (back_of h.first.all)
-      (take (entry _ _ row.arguments_end) refl h.first.token h.first.is tt none)) h.first.ready
+      (subst (λ l. Derives text IsNestable (sym.MoreArguments d) l r tree.NoArgument) (back_of h.first.all)
+      (take (row_entry _ _ row.arguments_end) refl h.first.token h.first.is tt none)) h.first.ready
       (back_of (lay_arguments (map argument_of all)))
 
 -- no factor begins so

@@ -9,9 +9,9 @@ use Rattle.sp_tree.specs.declared.syntax.SynGroup.{SynGroup}
 use Rattle.sp_tree.specs.Words as w
 use Rattle.sp_grammar.specs.Symbols.{AToken, AFormal, MoreFormals}
 use Rattle.sp_grammar.specs.Table as row
-use Rattle.sp_grammar.specs.Table.{entry, kind_is}
+use Rattle.sp_grammar.specs.Table.{row_entry, kind_is}
 use Rattle.sp_parse.specs.declared.source.Source.{Source}
-use Rattle.sp_parse.specs.Reads.{Ready, HasRead, Halts, BeginsOther, BeginsWith, SoFar}
+use Rattle.sp_parse.specs.Reads.{HasTokens, HasRead, Halts, BeginsOther, BeginsWith, SoFar}
 use Rattle.sp_parse.proofs.Rows.{row_reads}
 use Rattle.sp_parse.proofs.SoFar.{halts_close}
 use Rattle.sp_parse.proofs.Rounds.{Pending, none_read, item_read, round_on}
@@ -32,7 +32,7 @@ pub by_reference : {source : Source} {ts rest r : List Token} {g : SynGroup} {f 
     → f ≡ record { by_reference = true; names = g.names; kind = g.kind } → FormalRead source ts r f
 by_reference b h e = row_reads row.by_reference refl b tt h (e ∙ ap references_of h.same)
 
-pub by_value : {source : Source} {ts r : List Token} {g : SynGroup} {f : SynFormal} → Ready source ts
+pub by_value : {source : Source} {ts r : List Token} {g : SynGroup} {f : SynFormal} → HasTokens source ts
     → GroupRead source ts r g → f ≡ record { by_reference = false; names = g.names; kind = g.kind }
     → FormalRead source ts r f
 by_value a h e = let n = name_first a h in row_reads row.by_value refl n.begins tt n.read (e ∙ ap parameters_of n.same)
@@ -50,7 +50,7 @@ abbrev pub FormalsPending : Source → List SynFormal → List Token → List To
 FormalsPending source all ts rest = Pending source (AFormal ∷ MoreFormals ∷ []) (λ vs. vs.0 ∷ vs.1.0)
     (AFormal ∷ MoreFormals ∷ []) (λ vs. all ++ vs.0 ∷ vs.1.0) ts rest
 
-pub formals_none : {source : Source} {ts : List Token} (all : List SynFormal) → all ≡ [] → Ready source ts
+pub formals_none : {source : Source} {ts : List Token} (all : List SynFormal) → all ≡ [] → HasTokens source ts
     → FormalsPending source all ts ts
 formals_none all e a = none_read (λ vs. ap (λ l. l ++ vs.0 ∷ vs.1.0) e) a
 
@@ -73,5 +73,5 @@ pub no_formals : {source : Source} {ts rest : List Token} (all : List SynFormal)
     → BeginsOther rest w.Semicolon → (e : Halt) → Halts source (AToken w.Close ∷ []) rest e
     → Halts source (AFormal ∷ MoreFormals ∷ []) ts e
 no_formals all so b e h = halts_close row.formals_end b
-    (ap (λ x. cond (kind_is w.Close b.token.kind) (Some (entry w.Close [] row.formals_end))
-    (cond x (Some (entry w.Semicolon (AFormal ∷ MoreFormals ∷ []) row.next_formal)) None)) b.other) refl refl so e h
+    (ap (λ x. cond (kind_is w.Close b.token.kind) (Some (row_entry w.Close [] row.formals_end))
+    (cond x (Some (row_entry w.Semicolon (AFormal ∷ MoreFormals ∷ []) row.next_formal)) None)) b.other) refl refl so e h

@@ -10,10 +10,10 @@ use Rattle.sp_tree.specs.Spelling.{name_of}
 use Rattle.sp_tree.specs.Words as w
 use Rattle.sp_grammar.specs.Symbols.{AName, MoreNames}
 use Rattle.sp_grammar.specs.Table as row
-use Rattle.sp_grammar.specs.Table.{entry, rows, look}
+use Rattle.sp_grammar.specs.Table.{row_entry, rows, look}
 use Rattle.sp_grammar.specs.Derives.{DerivesAll, none, and}
 use Rattle.sp_parse.specs.declared.source.Source.{Source}
-use Rattle.sp_parse.specs.Reads.{Within, Ready, HasRead, Begins, BeginsOther, BeginsWith, SoFar}
+use Rattle.sp_parse.specs.Reads.{IsNestable, HasTokens, HasRead, HasFirstToken, BeginsOther, BeginsWith, SoFar}
 use Rattle.sp_parse.proofs.Steps.{has_read, take}
 use Rattle.sp_parse.proofs.SoFar.{ends, skipped}
 use Rattle.sp_parse.proofs.Rounds.{Pending, none_read, item_read, round_on}
@@ -22,11 +22,12 @@ pub not_name : (k : Kind) → (k ≡ kind.Name → ⊥) → look (rows AName) k 
 not_name kind.Name h = absurd (h refl)
 not_name k h = refl
 
-pub name_is : {source : Source} {ts r : List Token} {t : Token} {n : Name} → Begins source ts t r → t.kind ≡ kind.Name
+pub name_is : {source : Source} {ts r : List Token} {t : Token} {n : Name} → HasFirstToken source ts t r
+    → t.kind ≡ kind.Name
     → n ≡ name_of source.text.now t → HasRead source (AName ∷ []) (λ vs. vs.0) (λ (n : Name). n) ts r n
 name_is {source} {ts} {r} {t} {n} b p e = has_read b.ready
-    (subst (λ l. DerivesAll source.text.now Within (AName ∷ []) l r (name_of source.text.now t, tt)) (back_of b.all)
-    (and (take (entry _ _ row.name) refl t p tt none) none)) e
+    (subst (λ l. DerivesAll source.text.now IsNestable (AName ∷ []) l r (name_of source.text.now t, tt)) (back_of b.all)
+    (and (take (row_entry _ _ row.name) refl t p tt none) none)) e
 
 abbrev pub NamesSoFar : Source → List Name → List Token → List Token → Type 0
 NamesSoFar source all ts rest = SoFar source (AName ∷ MoreNames ∷ []) (λ vs. vs.0 ∷ vs.1.0) MoreNames (λ ns. all ++ ns)
@@ -36,7 +37,7 @@ abbrev pub NamesPending : Source → List Name → List Token → List Token →
 NamesPending source all ts rest = Pending source (AName ∷ MoreNames ∷ []) (λ vs. vs.0 ∷ vs.1.0) (AName ∷ MoreNames ∷ [])
     (λ vs. all ++ vs.0 ∷ vs.1.0) ts rest
 
-pub names_none : {source : Source} {ts : List Token} (all : List Name) → all ≡ [] → Ready source ts
+pub names_none : {source : Source} {ts : List Token} (all : List Name) → all ≡ [] → HasTokens source ts
     → NamesPending source all ts ts
 names_none all e a = none_read (λ vs. ap (λ l. l ++ vs.0 ∷ vs.1.0) e) a
 
@@ -54,4 +55,4 @@ pub names_end : {source : Source} {ts rest : List Token} (all : List Name) → N
     → BeginsOther rest w.Comma → HasRead source (AName ∷ MoreNames ∷ []) (λ vs. vs.0 ∷ vs.1.0) (λ (ns : List Name). ns)
     ts rest all
 names_end all so b = ends so (skipped MoreNames b.token b.rest b.all
-    (ap (λ x. cond x (Some (entry _ _ row.next_name)) None) b.other) refl) so.ready (back_of (append-nil all))
+    (ap (λ x. cond x (Some (row_entry _ _ row.next_name)) None) b.other) refl) so.ready (back_of (append-nil all))

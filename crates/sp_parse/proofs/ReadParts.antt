@@ -10,22 +10,22 @@ use Rattle.sp_tree.specs.declared.syntax.SynGroup.{SynGroup}
 use Rattle.sp_tree.specs.declared.syntax.SynPart.{SynPart}
 use Rattle.sp_tree.specs.PlainSyntax as tree
 use Rattle.sp_tree.specs.SyntaxOf.{part_of}
-use Rattle.sp_tree.specs.Grammar.{declared}
+use Rattle.sp_tree.specs.Grammar.{with_part_first}
 use Rattle.sp_tree.specs.Words as w
 use Rattle.sp_grammar.specs.Symbols.{AToken, AName, MoreNames, AConstant, AType, Parts, MoreConstants, MoreTypes}
 use Rattle.sp_grammar.specs.Symbols.{MoreVariables}
 use Rattle.sp_grammar.specs.Table as row
-use Rattle.sp_grammar.specs.Table.{Entry, entry, rows, look, kind_is, PartsRow, parts_rows}
+use Rattle.sp_grammar.specs.Table.{RowEntry, row_entry, rows, look, kind_is, PartsRow, parts_rows}
 use Rattle.sp_grammar.specs.Derives.{Derives}
 use Rattle.sp_parse.specs.declared.source.Source.{Source}
-use Rattle.sp_parse.specs.Reads.{Within, Ready, breaks, HasRead, BeginsOther, BeginsWith, SoFar}
+use Rattle.sp_parse.specs.Reads.{IsNestable, HasTokens, breaks, HasRead, BeginsOther, BeginsWith, SoFar}
 use Rattle.sp_parse.specs.Declares.{and_parts}
 use Rattle.sp_parse.proofs.Rounds.{Pending, none_read, item_read, round_at}
 use Rattle.sp_parse.proofs.Rows.{look_map, bare_leads, bare_derives}
 use Rattle.sp_parse.proofs.ReadFactors.{lay_push}
 
 pub part_behind : (ps : List SynPart) (p : SynPart) (b : tree.Block)
-    → and_parts (ps ++ p ∷ []) b ≡ and_parts ps (declared (part_of p) b)
+    → and_parts (ps ++ p ∷ []) b ≡ and_parts ps (with_part_first (part_of p) b)
 part_behind ps p b = ap (λ l. (let r : tree.Block = record { parts = l; body = b.body } in r))
     (lay_push tree.Declare part_of ps p b.parts)
 
@@ -53,17 +53,18 @@ ConstantsRead source ts r p = HasRead source (AName ∷ AToken w.Equal ∷ ACons
 abbrev pub ConstantsSoFar : Source → ℕ → List SynPart → List SynPart → List Token → List Token → Type 0
 ConstantsSoFar source d before all ts rest =
     SoFar source (AName ∷ AToken w.Equal ∷ AConstant ∷ AToken w.Semicolon ∷ MoreConstants d ∷ [])
-    (λ vs. and_parts before (declared (tree.Const vs.0 vs.1.1.0) vs.1.1.1.1.0)) (MoreConstants d) (λ b. and_parts all b)
+    (λ vs. and_parts before (with_part_first (tree.Const vs.0 vs.1.1.0) vs.1.1.1.1.0)) (MoreConstants d)
+    (λ b. and_parts all b)
     ts rest
 
 abbrev pub ConstantsPending : Source → ℕ → List SynPart → List SynPart → List Token → List Token → Type 0
 ConstantsPending source d before all ts rest =
     Pending source (AName ∷ AToken w.Equal ∷ AConstant ∷ AToken w.Semicolon ∷ MoreConstants d ∷ [])
-    (λ vs. and_parts before (declared (tree.Const vs.0 vs.1.1.0) vs.1.1.1.1.0))
+    (λ vs. and_parts before (with_part_first (tree.Const vs.0 vs.1.1.0) vs.1.1.1.1.0))
     (AName ∷ AToken w.Equal ∷ AConstant ∷ AToken w.Semicolon ∷ MoreConstants d ∷ [])
-    (λ vs. and_parts all (declared (tree.Const vs.0 vs.1.1.0) vs.1.1.1.1.0)) ts rest
+    (λ vs. and_parts all (with_part_first (tree.Const vs.0 vs.1.1.0) vs.1.1.1.1.0)) ts rest
 
-pub constants_none : {source : Source} {ts : List Token} (before : List SynPart) → Ready source ts → (d : ℕ)
+pub constants_none : {source : Source} {ts : List Token} (before : List SynPart) → HasTokens source ts → (d : ℕ)
     → ConstantsPending source d before before ts ts
 constants_none before a d = none_read (λ vs. refl) a
 
@@ -72,7 +73,7 @@ pub constants_read : {source : Source} {ts rest left : List Token} {p : SynPart}
     → (d : ℕ) → ConstantsSoFar source d before new ts left
 constants_read {p = p} before all new y h e d =
     item_read (y d) h (λ b. ap (λ l. and_parts l b) e ∙ part_behind all p b
-    ∙ ap (λ q. and_parts all (declared q b)) h.same)
+    ∙ ap (λ q. and_parts all (with_part_first q b)) h.same)
 
 pub constants_on : {source : Source} {ts rest behind : List Token} (before all : List SynPart)
     → ((d : ℕ) → ConstantsSoFar source d before all ts rest) → BeginsWith source rest kind.Name behind → (d : ℕ)
@@ -82,27 +83,29 @@ constants_on {behind = behind} before all so b d =
 
 look_constants : (d : ℕ) (t : Token) → kind_is kind.Name t.kind ≡ false
     → look (rows (MoreConstants d)) t.kind ≡ look
-    (map (λ (e : Entry (PartsRow d)). entry e.key e.left (row.after_constants e.row)) (parts_rows d)) t.kind
+    (map (λ (e : RowEntry (PartsRow d)). row_entry e.key e.left (row.after_constants e.row)) (parts_rows d)) t.kind
 look_constants d t h = ap (λ x. cond x (Some
-    (entry kind.Name (AToken w.Equal ∷ AConstant ∷ AToken w.Semicolon ∷ MoreConstants d ∷ []) row.next_constant))
-    (look (map (λ (e : Entry (PartsRow d)). entry e.key e.left (row.after_constants e.row)) (parts_rows d)) t.kind)) h
+    (row_entry kind.Name (AToken w.Equal ∷ AConstant ∷ AToken w.Semicolon ∷ MoreConstants d ∷ []) row.next_constant))
+    (look (map (λ (e : RowEntry (PartsRow d)). row_entry e.key e.left (row.after_constants e.row)) (parts_rows d))
+    t.kind)) h
 
 pub constants_end : {source : Source} {ts rest : List Token} (before all : List SynPart)
     → ((d : ℕ) → ConstantsSoFar source d before all ts rest) → BeginsOther rest kind.Name → (d : ℕ)
     → SoFar source (AName ∷ AToken w.Equal ∷ AConstant ∷ AToken w.Semicolon ∷ MoreConstants d ∷ [])
-    (λ vs. and_parts before (declared (tree.Const vs.0 vs.1.1.0) vs.1.1.1.1.0)) (Parts d) (λ b. and_parts all b) ts rest
+    (λ vs. and_parts before (with_part_first (tree.Const vs.0 vs.1.1.0) vs.1.1.1.1.0)) (Parts d)
+    (λ b. and_parts all b) ts rest
 constants_end {source} {ts} {rest} before all so b d = record {
-  is = λ r v x. (so d).is r v (subst (λ l. Derives source.text.now Within (MoreConstants d) l r v) (back_of b.all)
+  is = λ r v x. (so d).is r v (subst (λ l. Derives source.text.now IsNestable (MoreConstants d) l r v) (back_of b.all)
       (bare_derives source (PartsRow d) (MoreConstants d) (Parts d) (λ e. row.after_constants e.row)
       (λ e. row.parts e.row) (λ v. v) (λ e t us. refl) b.token b.rest r (look (parts_rows d) b.token.kind)
-      (look_constants d b.token b.other ∙ look_map (λ e. entry e.key e.left (row.after_constants e.row)) (λ e. refl)
-      (parts_rows d) b.token.kind) (look_map (λ e. entry e.key e.left (row.parts e.row)) (λ e. refl) (parts_rows d)
-      b.token.kind) refl tt (subst (λ l. Derives source.text.now Within (Parts d) l r v) b.all x)));
+      (look_constants d b.token b.other ∙ look_map (λ e. row_entry e.key e.left (row.after_constants e.row)) (λ e. refl)
+      (parts_rows d) b.token.kind) (look_map (λ e. row_entry e.key e.left (row.parts e.row)) (λ e. refl) (parts_rows d)
+      b.token.kind) refl tt (subst (λ l. Derives source.text.now IsNestable (Parts d) l r v) b.all x)));
   leads = λ q. (so d).leads q ∙ ap (λ l. breaks source l (MoreConstants d ∷ q)) b.all
       ∙ bare_leads source (PartsRow d) (MoreConstants d) (Parts d) (λ e. row.after_constants e.row)
       (λ e. row.parts e.row) b.token b.rest (look (parts_rows d) b.token.kind)
-      (look_constants d b.token b.other ∙ look_map (λ e. entry e.key e.left (row.after_constants e.row)) (λ e. refl)
-      (parts_rows d) b.token.kind) (look_map (λ e. entry e.key e.left (row.parts e.row)) (λ e. refl) (parts_rows d)
+      (look_constants d b.token b.other ∙ look_map (λ e. row_entry e.key e.left (row.after_constants e.row)) (λ e. refl)
+      (parts_rows d) b.token.kind) (look_map (λ e. row_entry e.key e.left (row.parts e.row)) (λ e. refl) (parts_rows d)
       b.token.kind) refl refl refl refl q ∙ ap (λ l. breaks source l (Parts d ∷ q)) (back_of b.all);
   shorter = (so d).shorter;
   ready = (so d).ready;
@@ -116,17 +119,18 @@ TypesRead source ts r p = HasRead source (AName ∷ AToken w.Equal ∷ AType ∷
 abbrev pub TypesSoFar : Source → ℕ → List SynPart → List SynPart → List Token → List Token → Type 0
 TypesSoFar source d before all ts rest = SoFar source
     (AName ∷ AToken w.Equal ∷ AType ∷ AToken w.Semicolon ∷ MoreTypes d ∷ [])
-    (λ vs. and_parts before (declared (tree.Kind vs.0 vs.1.1.0) vs.1.1.1.1.0)) (MoreTypes d) (λ b. and_parts all b) ts
+    (λ vs. and_parts before (with_part_first (tree.Kind vs.0 vs.1.1.0) vs.1.1.1.1.0)) (MoreTypes d)
+    (λ b. and_parts all b) ts
     rest
 
 abbrev pub TypesPending : Source → ℕ → List SynPart → List SynPart → List Token → List Token → Type 0
 TypesPending source d before all ts rest = Pending source
     (AName ∷ AToken w.Equal ∷ AType ∷ AToken w.Semicolon ∷ MoreTypes d ∷ [])
-    (λ vs. and_parts before (declared (tree.Kind vs.0 vs.1.1.0) vs.1.1.1.1.0))
+    (λ vs. and_parts before (with_part_first (tree.Kind vs.0 vs.1.1.0) vs.1.1.1.1.0))
     (AName ∷ AToken w.Equal ∷ AType ∷ AToken w.Semicolon ∷ MoreTypes d ∷ [])
-    (λ vs. and_parts all (declared (tree.Kind vs.0 vs.1.1.0) vs.1.1.1.1.0)) ts rest
+    (λ vs. and_parts all (with_part_first (tree.Kind vs.0 vs.1.1.0) vs.1.1.1.1.0)) ts rest
 
-pub types_none : {source : Source} {ts : List Token} (before : List SynPart) → Ready source ts → (d : ℕ)
+pub types_none : {source : Source} {ts : List Token} (before : List SynPart) → HasTokens source ts → (d : ℕ)
     → TypesPending source d before before ts ts
 types_none before a d = none_read (λ vs. refl) a
 
@@ -134,7 +138,7 @@ pub types_read : {source : Source} {ts rest left : List Token} {p : SynPart} (be
     → ((d : ℕ) → TypesPending source d before all ts rest) → TypesRead source rest left p → new ≡ all ++ p ∷ []
     → (d : ℕ) → TypesSoFar source d before new ts left
 types_read {p = p} before all new y h e d = item_read (y d) h
-    (λ b. ap (λ l. and_parts l b) e ∙ part_behind all p b ∙ ap (λ q. and_parts all (declared q b)) h.same)
+    (λ b. ap (λ l. and_parts l b) e ∙ part_behind all p b ∙ ap (λ q. and_parts all (with_part_first q b)) h.same)
 
 pub types_on : {source : Source} {ts rest behind : List Token} (before all : List SynPart)
     → ((d : ℕ) → TypesSoFar source d before all ts rest) → BeginsWith source rest kind.Name behind → (d : ℕ)
@@ -144,27 +148,29 @@ types_on {behind = behind} before all so b d =
 
 look_types : (d : ℕ) (t : Token) → kind_is kind.Name t.kind ≡ false
     → look (rows (MoreTypes d)) t.kind ≡ look
-    (map (λ (e : Entry (PartsRow d)). entry e.key e.left (row.after_types e.row)) (parts_rows d)) t.kind
-look_types d t h = ap (λ x. cond x (Some (entry kind.Name
+    (map (λ (e : RowEntry (PartsRow d)). row_entry e.key e.left (row.after_types e.row)) (parts_rows d)) t.kind
+look_types d t h = ap (λ x. cond x (Some (row_entry kind.Name
     (AToken w.Equal ∷ AType ∷ AToken w.Semicolon ∷ MoreTypes d ∷ []) row.next_type))
-    (look (map (λ (e : Entry (PartsRow d)). entry e.key e.left (row.after_types e.row)) (parts_rows d)) t.kind)) h
+    (look (map (λ (e : RowEntry (PartsRow d)). row_entry e.key e.left (row.after_types e.row)) (parts_rows d))
+    t.kind)) h
 
 pub types_end : {source : Source} {ts rest : List Token} (before all : List SynPart)
     → ((d : ℕ) → TypesSoFar source d before all ts rest) → BeginsOther rest kind.Name → (d : ℕ)
     → SoFar source (AName ∷ AToken w.Equal ∷ AType ∷ AToken w.Semicolon ∷ MoreTypes d ∷ [])
-    (λ vs. and_parts before (declared (tree.Kind vs.0 vs.1.1.0) vs.1.1.1.1.0)) (Parts d) (λ b. and_parts all b) ts rest
+    (λ vs. and_parts before (with_part_first (tree.Kind vs.0 vs.1.1.0) vs.1.1.1.1.0)) (Parts d)
+    (λ b. and_parts all b) ts rest
 types_end {source} {ts} {rest} before all so b d = record {
-  is = λ r v x. (so d).is r v (subst (λ l. Derives source.text.now Within (MoreTypes d) l r v) (back_of b.all)
+  is = λ r v x. (so d).is r v (subst (λ l. Derives source.text.now IsNestable (MoreTypes d) l r v) (back_of b.all)
       (bare_derives source (PartsRow d) (MoreTypes d) (Parts d) (λ e. row.after_types e.row) (λ e. row.parts e.row)
       (λ v. v) (λ e t us. refl) b.token b.rest r (look (parts_rows d) b.token.kind)
-      (look_types d b.token b.other ∙ look_map (λ e. entry e.key e.left (row.after_types e.row)) (λ e. refl)
-      (parts_rows d) b.token.kind) (look_map (λ e. entry e.key e.left (row.parts e.row)) (λ e. refl) (parts_rows d)
-      b.token.kind) refl tt (subst (λ l. Derives source.text.now Within (Parts d) l r v) b.all x)));
+      (look_types d b.token b.other ∙ look_map (λ e. row_entry e.key e.left (row.after_types e.row)) (λ e. refl)
+      (parts_rows d) b.token.kind) (look_map (λ e. row_entry e.key e.left (row.parts e.row)) (λ e. refl) (parts_rows d)
+      b.token.kind) refl tt (subst (λ l. Derives source.text.now IsNestable (Parts d) l r v) b.all x)));
   leads = λ q. (so d).leads q ∙ ap (λ l. breaks source l (MoreTypes d ∷ q)) b.all
       ∙ bare_leads source (PartsRow d) (MoreTypes d) (Parts d) (λ e. row.after_types e.row) (λ e. row.parts e.row)
       b.token b.rest (look (parts_rows d) b.token.kind)
-      (look_types d b.token b.other ∙ look_map (λ e. entry e.key e.left (row.after_types e.row)) (λ e. refl)
-      (parts_rows d) b.token.kind) (look_map (λ e. entry e.key e.left (row.parts e.row)) (λ e. refl) (parts_rows d)
+      (look_types d b.token b.other ∙ look_map (λ e. row_entry e.key e.left (row.after_types e.row)) (λ e. refl)
+      (parts_rows d) b.token.kind) (look_map (λ e. row_entry e.key e.left (row.parts e.row)) (λ e. refl) (parts_rows d)
       b.token.kind) refl refl refl refl q ∙ ap (λ l. breaks source l (Parts d ∷ q)) (back_of b.all);
   shorter = (so d).shorter;
   ready = (so d).ready;
@@ -178,17 +184,17 @@ VariablesRead source ts r p = HasRead source (AName ∷ MoreNames ∷ AToken w.C
 abbrev pub VariablesSoFar : Source → ℕ → List SynPart → List SynPart → List Token → List Token → Type 0
 VariablesSoFar source d before all ts rest =
     SoFar source (AName ∷ MoreNames ∷ AToken w.Colon ∷ AName ∷ AToken w.Semicolon ∷ MoreVariables d ∷ [])
-    (λ vs. and_parts before (declared (tree.Var (vs.0 ∷ vs.1.0) vs.1.1.1.0) vs.1.1.1.1.1.0)) (MoreVariables d)
+    (λ vs. and_parts before (with_part_first (tree.Var (vs.0 ∷ vs.1.0) vs.1.1.1.0) vs.1.1.1.1.1.0)) (MoreVariables d)
     (λ b. and_parts all b) ts rest
 
 abbrev pub VariablesPending : Source → ℕ → List SynPart → List SynPart → List Token → List Token → Type 0
 VariablesPending source d before all ts rest =
     Pending source (AName ∷ MoreNames ∷ AToken w.Colon ∷ AName ∷ AToken w.Semicolon ∷ MoreVariables d ∷ [])
-    (λ vs. and_parts before (declared (tree.Var (vs.0 ∷ vs.1.0) vs.1.1.1.0) vs.1.1.1.1.1.0))
+    (λ vs. and_parts before (with_part_first (tree.Var (vs.0 ∷ vs.1.0) vs.1.1.1.0) vs.1.1.1.1.1.0))
     (AName ∷ MoreNames ∷ AToken w.Colon ∷ AName ∷ AToken w.Semicolon ∷ MoreVariables d ∷ [])
-    (λ vs. and_parts all (declared (tree.Var (vs.0 ∷ vs.1.0) vs.1.1.1.0) vs.1.1.1.1.1.0)) ts rest
+    (λ vs. and_parts all (with_part_first (tree.Var (vs.0 ∷ vs.1.0) vs.1.1.1.0) vs.1.1.1.1.1.0)) ts rest
 
-pub variables_none : {source : Source} {ts : List Token} (before : List SynPart) → Ready source ts → (d : ℕ)
+pub variables_none : {source : Source} {ts : List Token} (before : List SynPart) → HasTokens source ts → (d : ℕ)
     → VariablesPending source d before before ts ts
 variables_none before a d = none_read (λ vs. refl) a
 
@@ -197,7 +203,7 @@ pub variables_read : {source : Source} {ts rest left : List Token} {p : SynPart}
     → (d : ℕ) → VariablesSoFar source d before new ts left
 variables_read {p = p} before all new y h e d =
     item_read (y d) h (λ b. ap (λ l. and_parts l b) e ∙ part_behind all p b
-    ∙ ap (λ q. and_parts all (declared q b)) h.same)
+    ∙ ap (λ q. and_parts all (with_part_first q b)) h.same)
 
 pub variables_on : {source : Source} {ts rest behind : List Token} (before all : List SynPart)
     → ((d : ℕ) → VariablesSoFar source d before all ts rest) → BeginsWith source rest kind.Name behind → (d : ℕ)
@@ -207,29 +213,29 @@ variables_on {behind = behind} before all so b d =
 
 look_variables : (d : ℕ) (t : Token) → kind_is kind.Name t.kind ≡ false
     → look (rows (MoreVariables d)) t.kind ≡ look
-    (map (λ (e : Entry (PartsRow d)). entry e.key e.left (row.after_variables e.row)) (parts_rows d)) t.kind
+    (map (λ (e : RowEntry (PartsRow d)). row_entry e.key e.left (row.after_variables e.row)) (parts_rows d)) t.kind
 look_variables d t h = ap (λ x. cond x (Some
-    (entry kind.Name (MoreNames ∷ AToken w.Colon ∷ AName ∷ AToken w.Semicolon ∷ MoreVariables d ∷ [])
-    row.next_variable)) (look (map (λ (e : Entry (PartsRow d)). entry e.key e.left (row.after_variables e.row))
+    (row_entry kind.Name (MoreNames ∷ AToken w.Colon ∷ AName ∷ AToken w.Semicolon ∷ MoreVariables d ∷ [])
+    row.next_variable)) (look (map (λ (e : RowEntry (PartsRow d)). row_entry e.key e.left (row.after_variables e.row))
     (parts_rows d)) t.kind)) h
 
 pub variables_end : {source : Source} {ts rest : List Token} (before all : List SynPart)
     → ((d : ℕ) → VariablesSoFar source d before all ts rest) → BeginsOther rest kind.Name → (d : ℕ)
     → SoFar source (AName ∷ MoreNames ∷ AToken w.Colon ∷ AName ∷ AToken w.Semicolon ∷ MoreVariables d ∷ [])
-    (λ vs. and_parts before (declared (tree.Var (vs.0 ∷ vs.1.0) vs.1.1.1.0) vs.1.1.1.1.1.0)) (Parts d)
+    (λ vs. and_parts before (with_part_first (tree.Var (vs.0 ∷ vs.1.0) vs.1.1.1.0) vs.1.1.1.1.1.0)) (Parts d)
     (λ b. and_parts all b) ts rest
 variables_end {source} {ts} {rest} before all so b d = record {
-  is = λ r v x. (so d).is r v (subst (λ l. Derives source.text.now Within (MoreVariables d) l r v) (back_of b.all)
+  is = λ r v x. (so d).is r v (subst (λ l. Derives source.text.now IsNestable (MoreVariables d) l r v) (back_of b.all)
       (bare_derives source (PartsRow d) (MoreVariables d) (Parts d) (λ e. row.after_variables e.row)
       (λ e. row.parts e.row) (λ v. v) (λ e t us. refl) b.token b.rest r (look (parts_rows d) b.token.kind)
-      (look_variables d b.token b.other ∙ look_map (λ e. entry e.key e.left (row.after_variables e.row)) (λ e. refl)
-      (parts_rows d) b.token.kind) (look_map (λ e. entry e.key e.left (row.parts e.row)) (λ e. refl) (parts_rows d)
-      b.token.kind) refl tt (subst (λ l. Derives source.text.now Within (Parts d) l r v) b.all x)));
+      (look_variables d b.token b.other ∙ look_map (λ e. row_entry e.key e.left (row.after_variables e.row)) (λ e. refl)
+      (parts_rows d) b.token.kind) (look_map (λ e. row_entry e.key e.left (row.parts e.row)) (λ e. refl) (parts_rows d)
+      b.token.kind) refl tt (subst (λ l. Derives source.text.now IsNestable (Parts d) l r v) b.all x)));
   leads = λ q. (so d).leads q ∙ ap (λ l. breaks source l (MoreVariables d ∷ q)) b.all
       ∙ bare_leads source (PartsRow d) (MoreVariables d) (Parts d) (λ e. row.after_variables e.row)
       (λ e. row.parts e.row) b.token b.rest (look (parts_rows d) b.token.kind)
-      (look_variables d b.token b.other ∙ look_map (λ e. entry e.key e.left (row.after_variables e.row)) (λ e. refl)
-      (parts_rows d) b.token.kind) (look_map (λ e. entry e.key e.left (row.parts e.row)) (λ e. refl) (parts_rows d)
+      (look_variables d b.token b.other ∙ look_map (λ e. row_entry e.key e.left (row.after_variables e.row)) (λ e. refl)
+      (parts_rows d) b.token.kind) (look_map (λ e. row_entry e.key e.left (row.parts e.row)) (λ e. refl) (parts_rows d)
       b.token.kind) refl refl refl refl q ∙ ap (λ l. breaks source l (Parts d ∷ q)) (back_of b.all);
   shorter = (so d).shorter;
   ready = (so d).ready;

@@ -24,17 +24,18 @@ use Rattle.sp_tree.specs.SyntaxOf as syntax
 use Rattle.sp_grammar.specs.Symbols as sym
 use Rattle.sp_grammar.specs.Symbols.{Symbol, Values}
 use Rattle.sp_grammar.specs.Table as row
-use Rattle.sp_grammar.specs.Table.{FormRow, SelectorRow, ConstantRow, Row, Entry, entry, rows, look, kind_is}
+use Rattle.sp_grammar.specs.Table.{FormRow, SelectorRow, ConstantRow, Row, RowEntry, row_entry, rows, look, kind_is}
 use Rattle.sp_grammar.specs.Table.{form_rows, selector_rows, constant_rows, form_value, selector_value}
 use Rattle.sp_grammar.specs.Table.{constant_value}
 use Rattle.sp_grammar.specs.Derives.{Derives, DerivesAll, none, and}
 use Rattle.sp_parse.specs.declared.source.Source.{Source}
 use Rattle.sp_parse.specs.Productions.{production, single}
-use Rattle.sp_parse.specs.Reads.{Within, Ready, breaks, HasRead, Halts, Reads, Begins, BeginsOther, BeginsWith}
+use Rattle.sp_parse.specs.Reads.{IsNestable, HasTokens, breaks, HasRead, Halts, ParsesAs, HasFirstToken, BeginsOther}
+use Rattle.sp_parse.specs.Reads.{BeginsWith}
 use Rattle.sp_parse.specs.Reads.{Expected, SoFar}
 use Rattle.sp_parse.specs.Operators.{is_some, BeginsForm}
 use Rattle.sp_parse.specs.Trees.{lay, other_of, arms_of, branches_of, and_statements, and_arms, and_branches}
-use Rattle.sp_parse.proofs.Steps.{has_read, one, take, expected, below}
+use Rattle.sp_parse.proofs.Steps.{has_read, first_derived, take, expected, below}
 use Rattle.sp_parse.proofs.SoFar.{skipped, ends, halts_chain, halts_close}
 use Rattle.sp_parse.proofs.Rounds.{Pending, none_read, item_read, round_on}
 use Rattle.sp_parse.proofs.Rows.{look_map, after_two, lifted, split_join, copy_leads, copy_derives, copied_leads}
@@ -58,7 +59,8 @@ lay_branches (a ∷ rest) = ap (tree.Beside a) (lay_branches rest)
 pub form_starts : (t : Token) (b : Bool) → BeginsForm t b → (d : ℕ)
     → is_some (look (rows (sym.AStatement d)) t.kind) ≡ b
 form_starts t b h d =
-    let f : Entry (FormRow (suc d)) → Entry (Row (sym.AStatement d)) = λ e. entry e.key e.left (row.statement e.row) in
+    let f : RowEntry (FormRow (suc d)) → RowEntry (Row (sym.AStatement d)) =
+    λ e. row_entry e.key e.left (row.statement e.row) in
     ap is_some (look_map f (λ e. refl) (form_rows (suc d)) t.kind) ∙ some_lifted f (look (form_rows (suc d)) t.kind)
     ∙ h (suc d)
 
@@ -69,32 +71,34 @@ module _ (source : Source) where
   abbrev pub IsStatement : ℕ → List Token → List Token → SynStmt → Type 0
   IsStatement d ts r s = HasRead source (sym.AStatement d ∷ []) (λ vs. vs.0) statement_of ts r s
 
-  pub empty_is : (d : ℕ) {ts r : List Token} {t : Token} (s : SynStmt) → Ready source ts → Begins source ts t r
+  pub empty_is : (d : ℕ) {ts r : List Token} {t : Token} (s : SynStmt) → HasTokens source ts
+      → HasFirstToken source ts t r
       → look (rows (sym.AStatement d)) t.kind ≡ None → statement_of s ≡ tree.Does t.at tree.Empty
       → IsStatement d ts ts s
   empty_is d {r = r} {t = t} s a b h e = has_read a (and (skipped (sym.AStatement d) t r b.all h refl) none) e
 
   -- a form behind its first token
   form_at : (d : ℕ) {k : Kind} {ts rest : List Token} {l : List Symbol} (c : FormRow (suc d) k l)
-      → look (rows (sym.AStatement d)) k ≡ Some (entry k l (row.statement {d = d} c))
+      → look (rows (sym.AStatement d)) k ≡ Some (row_entry k l (row.statement {d = d} c))
       → (b : BeginsWith source ts k rest) → d < nesting → (of : Values l → tree.Form)
       → ((vs : Values l) → of vs ≡ form_value text c b.token vs) → (result : Result (SynStmt × Bor (List Token)) Halt)
-      → Reads source (production l (λ vs. tree.Does b.token.at (of vs))) statement_of rest result
-      → Reads source (single (sym.AStatement d)) statement_of ts result
+      → ParsesAs source (production l (λ vs. tree.Does b.token.at (of vs))) statement_of rest result
+      → ParsesAs source (single (sym.AStatement d)) statement_of ts result
   form_at d c found b h of e result x = row_result (λ vs. tree.Does b.token.at (of vs)) statement_of (λ vs. vs.0)
       (row.statement c) found b (below d nesting h) h (λ vs. ap (tree.Does b.token.at) (e vs)) result x
 
   pub form_result : (d inner : ℕ) {k : Kind} {ts rest : List Token} (l : ℕ → List Symbol)
       (c : (n : ℕ) → FormRow n k (l n)) → look (rows (sym.AStatement d)) k
-      ≡ Some (entry k (l (suc d)) (row.statement {d = d} (c (suc d)))) → (b : BeginsWith source ts k rest)
+      ≡ Some (row_entry k (l (suc d)) (row.statement {d = d} (c (suc d)))) → (b : BeginsWith source ts k rest)
       → inner ≡ suc d → d < nesting → (of : (n : ℕ) → Values (l n) → tree.Form)
       → ((n : ℕ) (vs : Values (l n)) → of n vs ≡ form_value text (c n) b.token vs)
       → (result : Result (SynStmt × Bor (List Token)) Halt)
-      → Reads source (production (l inner) (λ vs. tree.Does b.token.at (of inner vs))) statement_of rest result
-      → Reads source (single (sym.AStatement d)) statement_of ts result
+      → ParsesAs source (production (l inner) (λ vs. tree.Does b.token.at (of inner vs))) statement_of rest result
+      → ParsesAs source (single (sym.AStatement d)) statement_of ts result
   form_result d inner {rest = rest} l c found b p h of e result x =
       form_at d (c (suc d)) found b h (of (suc d)) (e (suc d)) result
-      (subst (λ n. Reads source (production (l n) (λ vs. tree.Does b.token.at (of n vs))) statement_of rest result) p x)
+      (subst (λ n. ParsesAs source (production (l n) (λ vs. tree.Does b.token.at (of n vs))) statement_of rest
+      result) p x)
 
   -- behind a name
   pub call_halts : (d : ℕ) {ts rest : List Token} → BeginsWith source ts w.Open rest → (e : Halt)
@@ -120,20 +124,20 @@ module _ (source : Source) where
   becomes_is d at n v x s b h p e = row_reads row.becomes refl b tt h
       (e ∙ (λ i. tree.Does at (tree.Assign (p i) (h.same i))))
 
-  pub plain_call : (d : ℕ) {ts r : List Token} {t : Token} (at : Place) (n : Name) (s : SynStmt) → Ready source ts
-      → Begins source ts t r → look (rows (sym.AfterName d)) t.kind ≡ None
+  pub plain_call : (d : ℕ) {ts r : List Token} {t : Token} (at : Place) (n : Name) (s : SynStmt) → HasTokens source ts
+      → HasFirstToken source ts t r → look (rows (sym.AfterName d)) t.kind ≡ None
       → statement_of s ≡ tree.Does at (tree.Call n tree.NoArgument) → IsAfterName d at n ts ts s
   plain_call d {r = r} {t = t} at n s a b h e = has_read a (and (skipped (sym.AfterName d) t r b.all h refl) none) e
 
   -- an assignment to a part of a variable
   module _ (d : ℕ) (t : Token) (ts : List Token) (o : kind_is w.Open t.kind ≡ false)
-      (c : kind_is w.Becomes t.kind ≡ false) (e : Entry (SelectorRow d))
+      (c : kind_is w.Becomes t.kind ≡ false) (e : RowEntry (SelectorRow d))
       (f : look (selector_rows d) t.kind ≡ Some e) where
-    abbrev as_target : Entry (SelectorRow d) → Entry (Row (sym.AfterName d))
-    as_target e = entry e.key (e.left ++ sym.AToken w.Becomes ∷ sym.AnExpression d ∷ []) (row.target e.row)
+    abbrev as_target : RowEntry (SelectorRow d) → RowEntry (Row (sym.AfterName d))
+    as_target e = row_entry e.key (e.left ++ sym.AToken w.Becomes ∷ sym.AnExpression d ∷ []) (row.target e.row)
 
-    abbrev as_selector : Entry (SelectorRow d) → Entry (Row (sym.Selectors d))
-    as_selector e = entry e.key e.left (row.selector e.row)
+    abbrev as_selector : RowEntry (SelectorRow d) → RowEntry (Row (sym.Selectors d))
+    as_selector e = row_entry e.key e.left (row.selector e.row)
 
     look_target : look (rows (sym.AfterName d)) t.kind ≡ Some (as_target e)
     look_target =
@@ -156,9 +160,10 @@ module _ (source : Source) where
         look_target look_selector refl refl q
 
     target_derives : {u v r : List Token} {ss : tree.Selectors} {x : tree.Expression}
-        → Derives text Within (sym.Selectors d) (t ∷ ts) u ss → Derives text Within (sym.AToken w.Becomes) u v tt
-        → Derives text Within (sym.AnExpression d) v r x
-        → Derives text Within (sym.AfterName d) (t ∷ ts) r (λ n. tree.Assign (tree.Entire n ss) x)
+        → Derives text IsNestable (sym.Selectors d) (t ∷ ts) u ss
+        → Derives text IsNestable (sym.AToken w.Becomes) u v tt
+        → Derives text IsNestable (sym.AnExpression d) v r x
+        → Derives text IsNestable (sym.AfterName d) (t ∷ ts) r (λ n. tree.Assign (tree.Entire n ss) x)
     target_derives {u} {v} {r} {x = x} a b y =
         copied_derives source (SelectorRow d) (sym.AfterName d) (sym.Selectors d)
         (sym.AToken w.Becomes ∷ sym.AnExpression d ∷ []) (λ e. row.target e.row) (λ e. row.selector e.row)
@@ -168,37 +173,38 @@ module _ (source : Source) where
         t ts u r (tt, (x, tt)) e look_target look_selector tt a (and b (and y none))
 
     target_all : {r : List Token} {vs : Values (sym.Selectors d ∷ sym.AToken w.Becomes ∷ sym.AnExpression d ∷ [])}
-        → DerivesAll text Within (sym.Selectors d ∷ sym.AToken w.Becomes ∷ sym.AnExpression d ∷ []) (t ∷ ts) r vs
-        → Derives text Within (sym.AfterName d) (t ∷ ts) r (λ n. tree.Assign (tree.Entire n vs.0) vs.1.1.0)
+        → DerivesAll text IsNestable (sym.Selectors d ∷ sym.AToken w.Becomes ∷ sym.AnExpression d ∷ []) (t ∷ ts) r vs
+        → Derives text IsNestable (sym.AfterName d) (t ∷ ts) r (λ n. tree.Assign (tree.Entire n vs.0) vs.1.1.0)
     target_all (and a (and b (and y none))) = target_derives a b y
 
     target_at : (at : Place) (n : Name) (result : Result (SynStmt × Bor (List Token)) Halt)
-        → Reads source (production (sym.Selectors d ∷ sym.AToken w.Becomes ∷ sym.AnExpression d ∷ [])
+        → ParsesAs source (production (sym.Selectors d ∷ sym.AToken w.Becomes ∷ sym.AnExpression d ∷ [])
         (λ vs. tree.Does at (tree.Assign (tree.Entire n vs.0) vs.1.1.0))) statement_of (t ∷ ts) result
-        → Reads source (production (sym.AfterName d ∷ []) (λ vs. tree.Does at (vs.0 n))) statement_of (t ∷ ts) result
+        → ParsesAs source (production (sym.AfterName d ∷ []) (λ vs. tree.Does at (vs.0 n))) statement_of (t ∷ ts) result
     target_at at n (Ok x) h = has_read h.ready (and (target_all h.derives) none) h.same
     target_at at n (Err x) h = halts_same source (sym.AfterName d ∷ [])
         (sym.Selectors d ∷ sym.AToken w.Becomes ∷ sym.AnExpression d ∷ []) (t ∷ ts) (t ∷ ts) target_leads x h
 
-  pub target_result : (d : ℕ) (ts r : List Token) (t : Token) (at : Place) (n : Name) → Begins source ts t r
+  pub target_result : (d : ℕ) (ts r : List Token) (t : Token) (at : Place) (n : Name) → HasFirstToken source ts t r
       → kind_is w.Open t.kind ≡ false → kind_is w.Becomes t.kind ≡ false
       → is_some (look (selector_rows d) t.kind) ≡ true → (result : Result (SynStmt × Bor (List Token)) Halt)
-      → Reads source (production (sym.Selectors d ∷ sym.AToken w.Becomes ∷ sym.AnExpression d ∷ [])
+      → ParsesAs source (production (sym.Selectors d ∷ sym.AToken w.Becomes ∷ sym.AnExpression d ∷ [])
       (λ vs. tree.Does at (tree.Assign (tree.Entire n vs.0) vs.1.1.0))) statement_of ts result
-      → Reads source (production (sym.AfterName d ∷ []) (λ vs. tree.Does at (vs.0 n))) statement_of ts result
+      → ParsesAs source (production (sym.AfterName d ∷ []) (λ vs. tree.Does at (vs.0 n))) statement_of ts result
   target_result d ts r t at n b o c s result h =
       let f = some_of (look (selector_rows d) t.kind) s in
-      subst (λ l. Reads source (production (sym.AfterName d ∷ []) (λ vs. tree.Does at (vs.0 n))) statement_of l result)
+      subst (λ l. ParsesAs source (production (sym.AfterName d ∷ []) (λ vs. tree.Does at (vs.0 n))) statement_of l
+      result)
       (back_of b.all)
       (target_at d t r o c f.0 f.1 at n result
-      (subst (λ l. Reads source (production (sym.Selectors d ∷ sym.AToken w.Becomes ∷ sym.AnExpression d ∷ [])
+      (subst (λ l. ParsesAs source (production (sym.Selectors d ∷ sym.AToken w.Becomes ∷ sym.AnExpression d ∷ [])
       (λ vs. tree.Does at (tree.Assign (tree.Entire n vs.0) vs.1.1.0))) statement_of l result) b.all h))
 
   pub no_target : (d : ℕ) (t : Token) → kind_is w.Open t.kind ≡ false → kind_is w.Becomes t.kind ≡ false
       → is_some (look (selector_rows d) t.kind) ≡ false → look (rows (sym.AfterName d)) t.kind ≡ None
   no_target d t o c s =
-      let f : Entry (SelectorRow d) → Entry (Row (sym.AfterName d)) =
-      λ e. entry e.key (e.left ++ sym.AToken w.Becomes ∷ sym.AnExpression d ∷ []) (row.target e.row) in
+      let f : RowEntry (SelectorRow d) → RowEntry (Row (sym.AfterName d)) =
+      λ e. row_entry e.key (e.left ++ sym.AToken w.Becomes ∷ sym.AnExpression d ∷ []) (row.target e.row) in
       let skip : look (rows (sym.AfterName d)) t.kind ≡ look (map f (selector_rows d)) t.kind =
       after_two _ _ (look (map f (selector_rows d)) t.kind) c o in
       let same : look (map f (selector_rows d)) t.kind ≡ lifted f (look (selector_rows d) t.kind) =
@@ -220,7 +226,7 @@ module _ (source : Source) where
       (λ vs. tree.AndThen vs.0 vs.1.0) (sym.AStatement d ∷ sym.MoreStatements d ∷ [])
       (λ vs. and_statements all (tree.AndThen vs.0 vs.1.0)) ts rest
 
-  pub statements_none : (d : ℕ) {ts : List Token} (all : List SynStmt) → all ≡ [] → Ready source ts
+  pub statements_none : (d : ℕ) {ts : List Token} (all : List SynStmt) → all ≡ [] → HasTokens source ts
       → StatementsPending d all ts ts
   statements_none d all e a = none_read (λ vs. ap (λ l. and_statements l (tree.AndThen vs.0 vs.1.0)) e) a
 
@@ -238,12 +244,12 @@ module _ (source : Source) where
   pub statements_done : (d : ℕ) {ts rest : List Token} (all : List SynStmt) → StatementsSoFar d all ts rest
       → BeginsOther rest w.Semicolon → AreStatements d ts rest all
   statements_done d all so b = ends so (skipped (sym.MoreStatements d) b.token b.rest b.all
-      (ap (λ x. cond x (Some (entry _ _ row.next_statement)) None) b.other) refl) so.ready
+      (ap (λ x. cond x (Some (row_entry _ _ row.next_statement)) None) b.other) refl) so.ready
       (back_of (lay_statements (map statement_of all)))
 
   compound_all : (d : ℕ) {ts rest r : List Token} (all : List SynStmt)
       {vs : Values (sym.AStatement d ∷ sym.MoreStatements d ∷ [])}
-      → DerivesAll text Within (sym.AStatement d ∷ sym.MoreStatements d ∷ []) ts rest vs
+      → DerivesAll text IsNestable (sym.AStatement d ∷ sym.MoreStatements d ∷ []) ts rest vs
       → statements_of all ≡ tree.AndThen vs.0 vs.1.0 → Expected source w.End rest r
       → HasRead source (sym.AStatement d ∷ sym.MoreStatements d ∷ sym.AToken w.End ∷ [])
       (λ vs. tree.AndThen vs.0 vs.1.0) statements_of ts r all
@@ -265,14 +271,14 @@ module _ (source : Source) where
   -- a condition last
   repeat_all : (d : ℕ) {ts rest behind r : List Token} (at : Place) (all : List SynStmt) (x : SynExpr) (s : SynStmt)
       {vs : Values (sym.AStatement d ∷ sym.MoreStatements d ∷ [])}
-      → DerivesAll text Within (sym.AStatement d ∷ sym.MoreStatements d ∷ []) ts rest vs
+      → DerivesAll text IsNestable (sym.AStatement d ∷ sym.MoreStatements d ∷ []) ts rest vs
       → statements_of all ≡ tree.AndThen vs.0 vs.1.0 → Expected source w.Until rest behind
       → IsExpression source d behind r x → statement_of s
       ≡ tree.Does at (tree.Repeat (statements_of all) (expression_of x))
       → HasRead source (sym.AStatement d ∷ sym.MoreStatements d ∷ sym.AToken w.Until ∷ sym.AnExpression d ∷ [])
       (λ vs. tree.Does at (tree.Repeat (tree.AndThen vs.0 vs.1.0) vs.1.1.1.0)) statement_of ts r s
   repeat_all d at all x s (and a (and b none)) p u h e =
-      has_read h.ready (and a (and b (and (expected u) (and (one h) none))))
+      has_read h.ready (and a (and b (and (expected u) (and (first_derived h) none))))
       (e ∙ (λ i. tree.Does at (tree.Repeat (p i) (h.same i))))
 
   pub repeat_is : (d : ℕ) {ts rest behind r : List Token} (at : Place) (all : List SynStmt) (x : SynExpr) (s : SynStmt)
@@ -283,10 +289,10 @@ module _ (source : Source) where
   repeat_is d at all x s h u y e = repeat_all d at all x s h.derives h.same u y e
 
   -- behind `else`
-  pub no_other : (d : ℕ) {ts : List Token} → Ready source ts → BeginsOther ts w.Else
+  pub no_other : (d : ℕ) {ts : List Token} → HasTokens source ts → BeginsOther ts w.Else
       → HasRead source (sym.AnElse d ∷ []) (λ vs. vs.0) other_of ts ts None
   no_other d a b = has_read a (and (skipped (sym.AnElse d) b.token b.rest b.all
-      (ap (λ x. cond x (Some (entry _ _ row.other)) None) b.other) refl) none) refl
+      (ap (λ x. cond x (Some (row_entry _ _ row.other)) None) b.other) refl) none) refl
 
   pub other_halts : (d : ℕ) {ts rest : List Token} → BeginsWith source ts w.Else rest → (e : Halt)
       → Halts source (sym.AStatement d ∷ []) rest e → Halts source (sym.AnElse d ∷ []) ts e
@@ -308,7 +314,7 @@ module _ (source : Source) where
   LabelsPending all ts rest = Pending source (sym.AConstant ∷ sym.MoreLabels ∷ []) (λ vs. vs.0 ∷ vs.1.0)
       (sym.AConstant ∷ sym.MoreLabels ∷ []) (λ vs. all ++ vs.0 ∷ vs.1.0) ts rest
 
-  pub labels_none : {ts : List Token} (all : List SynConst) → all ≡ [] → Ready source ts → LabelsPending all ts ts
+  pub labels_none : {ts : List Token} (all : List SynConst) → all ≡ [] → HasTokens source ts → LabelsPending all ts ts
   labels_none all e a = none_read (λ vs. ap (λ l. l ++ vs.0 ∷ vs.1.0) e) a
 
   pub labels_read : {ts rest left : List Token} (c : SynConst) (all new : List SynConst) → LabelsPending all ts rest
@@ -324,14 +330,16 @@ module _ (source : Source) where
       → BeginsOther rest w.Comma → (e : Halt) → Halts source (sym.AToken w.Colon ∷ []) rest e
       → Halts source (sym.AConstant ∷ sym.MoreLabels ∷ []) ts e
   labels_close_halt all so b e h = halts_close row.labels_end b
-      (ap (λ x. cond (kind_is w.Colon b.token.kind) (Some (entry _ _ row.labels_end))
-      (cond x (Some (entry _ _ row.next_label)) None)) b.other) refl refl so e h
+      (ap (λ x. cond (kind_is w.Colon b.token.kind) (Some (row_entry _ _ row.labels_end))
+      (cond x (Some (row_entry _ _ row.next_label)) None)) b.other) refl refl so e h
 
   pub labels_done : {ts rest r : List Token} (all : List SynConst) → LabelsSoFar all ts rest
       → Expected source w.Colon rest r → HasRead source (sym.AConstant ∷ sym.MoreLabels ∷ []) (λ vs. vs.0 ∷ vs.1.0)
       (λ (cs : List SynConst). cs) ts r all
-  labels_done {r = r} all so h = ends so (subst (λ l. Derives text Within sym.MoreLabels l r []) (back_of h.first.all)
-      (take (entry _ _ row.labels_end) refl h.first.token h.first.is tt none)) h.first.ready (back_of (append-nil all))
+  labels_done {r = r} all so h =
+      ends so (subst (λ l. Derives text IsNestable sym.MoreLabels l r []) (back_of h.first.all)
+      (take (row_entry _ _ row.labels_end) refl h.first.token h.first.is tt none)) h.first.ready
+      (back_of (append-nil all))
 
   -- arms
   abbrev pub IsArm : ℕ → List Token → List Token → SynArm → Type 0
@@ -340,10 +348,10 @@ module _ (source : Source) where
 
   arm_all : (d : ℕ) {ts rest r : List Token} (cs : List SynConst) (s : SynStmt) (a : SynArm)
       {vs : Values (sym.AConstant ∷ sym.MoreLabels ∷ [])}
-      → DerivesAll text Within (sym.AConstant ∷ sym.MoreLabels ∷ []) ts rest vs → cs ≡ vs.0 ∷ vs.1.0
+      → DerivesAll text IsNestable (sym.AConstant ∷ sym.MoreLabels ∷ []) ts rest vs → cs ≡ vs.0 ∷ vs.1.0
       → IsStatement d rest r s → arm_of a ≡ tree.On cs (statement_of s) → IsArm d ts r a
   arm_all d cs s a (and x (and y none)) p h e =
-      has_read h.ready (and x (and y (and (one h) none))) (e ∙ (λ i. tree.On (p i) (h.same i)))
+      has_read h.ready (and x (and y (and (first_derived h) none))) (e ∙ (λ i. tree.On (p i) (h.same i)))
 
   pub arm_is : (d : ℕ) {ts rest r : List Token} (cs : List SynConst) (s : SynStmt) (a : SynArm)
       → HasRead source (sym.AConstant ∷ sym.MoreLabels ∷ []) (λ vs. vs.0 ∷ vs.1.0) (λ (cs : List SynConst). cs) ts rest
@@ -364,7 +372,8 @@ module _ (source : Source) where
       (sym.AConstant ∷ sym.MoreLabels ∷ sym.AStatement d ∷ sym.MoreArms d ∷ [])
       (λ vs. and_arms all (tree.Or (tree.On (vs.0 ∷ vs.1.0) vs.1.1.0) vs.1.1.1.0)) ts rest
 
-  pub arms_none : (d : ℕ) {ts : List Token} (all : List SynArm) → all ≡ [] → Ready source ts → ArmsPending d all ts ts
+  pub arms_none : (d : ℕ) {ts : List Token} (all : List SynArm) → all ≡ [] → HasTokens source ts
+      → ArmsPending d all ts ts
   arms_none d all e a = none_read (λ vs. ap (λ l. and_arms l (tree.Or (tree.On (vs.0 ∷ vs.1.0) vs.1.1.0) vs.1.1.1.0)) e)
       a
 
@@ -374,11 +383,11 @@ module _ (source : Source) where
       (λ v. ap (λ l. and_arms l v) e ∙ lay_push tree.Or arm_of all a v ∙ ap (λ x. and_arms all (tree.Or x v)) h.same)
 
   module _ (d : ℕ) (t : Token) (ts : List Token) (n : kind_is w.End t.kind ≡ false) where
-    abbrev as_arm : Entry ConstantRow → Entry (Row (sym.ArmOrEnd d))
-    as_arm e = entry e.key (e.left ++ sym.MoreLabels ∷ sym.AStatement d ∷ sym.MoreArms d ∷ []) (row.next_arm e.row)
+    abbrev as_arm : RowEntry ConstantRow → RowEntry (Row (sym.ArmOrEnd d))
+    as_arm e = row_entry e.key (e.left ++ sym.MoreLabels ∷ sym.AStatement d ∷ sym.MoreArms d ∷ []) (row.next_arm e.row)
 
     look_arm : look (rows (sym.ArmOrEnd d)) t.kind ≡ look (map as_arm constant_rows) t.kind
-    look_arm = ap (λ b. cond b (Some (entry _ _ row.no_arm)) (look (map as_arm constant_rows) t.kind)) n
+    look_arm = ap (λ b. cond b (Some (row_entry _ _ row.no_arm)) (look (map as_arm constant_rows) t.kind)) n
 
     arm_leads_at : (q : List Symbol) → breaks source (t ∷ ts) (sym.ArmOrEnd d ∷ q)
         ≡ breaks source (t ∷ ts) (sym.AConstant ∷ sym.MoreLabels ∷ sym.AStatement d ∷ sym.MoreArms d ∷ q)
@@ -387,13 +396,13 @@ module _ (source : Source) where
         (sym.MoreLabels ∷ sym.AStatement d ∷ sym.MoreArms d ∷ []) (λ e. row.next_arm e.row)
         (λ e. row.constant e.row) t ts (look constant_rows t.kind)
         (look_arm ∙ look_map as_arm (λ e. refl) constant_rows t.kind)
-        (look_map (λ e. entry e.key e.left (row.constant e.row)) (λ e. refl) constant_rows t.kind)
+        (look_map (λ e. row_entry e.key e.left (row.constant e.row)) (λ e. refl) constant_rows t.kind)
         refl refl refl refl q
 
     arm_derives_at : {u v x r : List Token} {c : SynConst} {cs : List SynConst} {s : tree.Statement} {m : tree.Arms}
-        → Derives text Within sym.AConstant (t ∷ ts) u c → Derives text Within sym.MoreLabels u v cs
-        → Derives text Within (sym.AStatement d) v x s → Derives text Within (sym.MoreArms d) x r m
-        → Derives text Within (sym.ArmOrEnd d) (t ∷ ts) r (tree.Or (tree.On (c ∷ cs) s) m)
+        → Derives text IsNestable sym.AConstant (t ∷ ts) u c → Derives text IsNestable sym.MoreLabels u v cs
+        → Derives text IsNestable (sym.AStatement d) v x s → Derives text IsNestable (sym.MoreArms d) x r m
+        → Derives text IsNestable (sym.ArmOrEnd d) (t ∷ ts) r (tree.Or (tree.On (c ∷ cs) s) m)
     arm_derives_at {u} {v} {x} {r} {cs = cs} {s = s} {m = m} a b y z =
         copy_derives source ConstantRow (sym.ArmOrEnd d) sym.AConstant
         (sym.MoreLabels ∷ sym.AStatement d ∷ sym.MoreArms d ∷ []) (λ e. row.next_arm e.row)
@@ -403,13 +412,14 @@ module _ (source : Source) where
         (split_join e.left (sym.MoreLabels ∷ sym.AStatement d ∷ sym.MoreArms d ∷ []) us ws))
         t ts u r (cs, (s, (m, tt))) (look constant_rows t.kind)
         (look_arm ∙ look_map as_arm (λ e. refl) constant_rows t.kind)
-        (look_map (λ e. entry e.key e.left (row.constant e.row)) (λ e. refl) constant_rows t.kind)
+        (look_map (λ e. row_entry e.key e.left (row.constant e.row)) (λ e. refl) constant_rows t.kind)
         refl tt a (and b (and y (and z none)))
 
     arm_derives : {r : List Token} {vs : Values
         (sym.AConstant ∷ sym.MoreLabels ∷ sym.AStatement d ∷ sym.MoreArms d ∷ [])}
-        → DerivesAll text Within (sym.AConstant ∷ sym.MoreLabels ∷ sym.AStatement d ∷ sym.MoreArms d ∷ []) (t ∷ ts) r vs
-        → Derives text Within (sym.ArmOrEnd d) (t ∷ ts) r (tree.Or (tree.On (vs.0 ∷ vs.1.0) vs.1.1.0) vs.1.1.1.0)
+        → DerivesAll text IsNestable (sym.AConstant ∷ sym.MoreLabels ∷ sym.AStatement d ∷ sym.MoreArms d ∷ [])
+        (t ∷ ts) r vs
+        → Derives text IsNestable (sym.ArmOrEnd d) (t ∷ ts) r (tree.Or (tree.On (vs.0 ∷ vs.1.0) vs.1.1.0) vs.1.1.1.0)
     arm_derives (and a (and b (and y (and z none)))) = arm_derives_at a b y z
 
     an_arm_at : {us : List Token} (all : List SynArm)
@@ -447,23 +457,23 @@ module _ (source : Source) where
       → BeginsWith source rest w.Semicolon behind → BeginsWith source behind w.End r → AreArms d ts r all
   arms_last d {r = r} all so b n =
       ends so
-      (subst (λ l. Derives text Within (sym.MoreArms d) l r tree.NoArm) (back_of b.all)
-      (take (entry _ _ row.arms_go_on) refl b.token b.is tt
-      (and (subst (λ l. Derives text Within (sym.ArmOrEnd d) l r tree.NoArm) (back_of n.all)
-      (take (entry _ _ row.no_arm) refl n.token n.is tt none)) none)))
+      (subst (λ l. Derives text IsNestable (sym.MoreArms d) l r tree.NoArm) (back_of b.all)
+      (take (row_entry _ _ row.arms_go_on) refl b.token b.is tt
+      (and (subst (λ l. Derives text IsNestable (sym.ArmOrEnd d) l r tree.NoArm) (back_of n.all)
+      (take (row_entry _ _ row.no_arm) refl n.token n.is tt none)) none)))
       n.ready (no_more_arms all)
 
   pub arms_close_halt : (d : ℕ) {ts rest : List Token} (all : List SynArm) → ArmsSoFar d all ts rest
       → BeginsOther rest w.Semicolon → (e : Halt) → Halts source (sym.AToken w.End ∷ []) rest e
       → Halts source (sym.AConstant ∷ sym.MoreLabels ∷ sym.AStatement d ∷ sym.MoreArms d ∷ []) ts e
   arms_close_halt d all so b e h = halts_close row.arms_end b
-      (ap (λ x. cond (kind_is w.End b.token.kind) (Some (entry _ _ row.arms_end))
-      (cond x (Some (entry _ _ row.arms_go_on)) None)) b.other) refl refl so e h
+      (ap (λ x. cond (kind_is w.End b.token.kind) (Some (row_entry _ _ row.arms_end))
+      (cond x (Some (row_entry _ _ row.arms_go_on)) None)) b.other) refl refl so e h
 
   pub arms_done : (d : ℕ) {ts rest r : List Token} (all : List SynArm) → ArmsSoFar d all ts rest
       → Expected source w.End rest r → AreArms d ts r all
-  arms_done d {r = r} all so h = ends so (subst (λ l. Derives text Within (sym.MoreArms d) l r tree.NoArm)
-      (back_of h.first.all) (take (entry _ _ row.arms_end) refl h.first.token h.first.is tt none)) h.first.ready
+  arms_done d {r = r} all so h = ends so (subst (λ l. Derives text IsNestable (sym.MoreArms d) l r tree.NoArm)
+      (back_of h.first.all) (take (row_entry _ _ row.arms_end) refl h.first.token h.first.is tt none)) h.first.ready
       (no_more_arms all)
 
   -- processes
@@ -481,7 +491,7 @@ module _ (source : Source) where
       (sym.AStatement d ∷ sym.MoreStatements d ∷ sym.MoreBranches d ∷ [])
       (λ vs. and_branches all (tree.Beside (tree.AndThen vs.0 vs.1.0) vs.1.1.0)) ts rest
 
-  pub branches_none : (d : ℕ) {ts : List Token} (all : List SynBranch) → all ≡ [] → Ready source ts
+  pub branches_none : (d : ℕ) {ts : List Token} (all : List SynBranch) → all ≡ [] → HasTokens source ts
       → BranchesPending d all ts ts
   branches_none d all e a = none_read (λ vs. ap (λ l. and_branches l (tree.Beside (tree.AndThen vs.0 vs.1.0) vs.1.1.0))
       e) a
@@ -501,14 +511,14 @@ module _ (source : Source) where
       → BeginsOther rest w.Bar → (e : Halt) → Halts source (sym.AToken w.End ∷ []) rest e
       → Halts source (sym.AStatement d ∷ sym.MoreStatements d ∷ sym.MoreBranches d ∷ []) ts e
   branches_close_halt d all so b e h = halts_close row.branches_end b
-      (ap (λ x. cond (kind_is w.End b.token.kind) (Some (entry _ _ row.branches_end))
-      (cond x (Some (entry _ _ row.next_branch)) None)) b.other) refl refl so e h
+      (ap (λ x. cond (kind_is w.End b.token.kind) (Some (row_entry _ _ row.branches_end))
+      (cond x (Some (row_entry _ _ row.next_branch)) None)) b.other) refl refl so e h
 
   pub branches_done : (d : ℕ) {ts rest r : List Token} (all : List SynBranch) → BranchesSoFar d all ts rest
       → Expected source w.End rest r → AreBranches d ts r all
   branches_done d {r = r} all so h = ends so
-      (subst (λ l. Derives text Within (sym.MoreBranches d) l r tree.NoBranch) (back_of h.first.all)
-      (take (entry _ _ row.branches_end) refl h.first.token h.first.is tt none)) h.first.ready
+      (subst (λ l. Derives text IsNestable (sym.MoreBranches d) l r tree.NoBranch) (back_of h.first.all)
+      (take (row_entry _ _ row.branches_end) refl h.first.token h.first.is tt none)) h.first.ready
       (back_of (lay_branches (map branch_of all)))
 
   pub parallel_is : (d : ℕ) {ts r : List Token} (at : Place) (all : List SynBranch) (s : SynStmt)

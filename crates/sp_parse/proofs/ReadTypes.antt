@@ -13,9 +13,9 @@ use Rattle.sp_tree.specs.declared.syntax.SynKind.TheVariants as kinds
 use Rattle.sp_tree.specs.Words as w
 use Rattle.sp_grammar.specs.Symbols.{Symbol, Values, AToken, AName, MoreNames, AType, MoreFields, FieldOrEnd}
 use Rattle.sp_grammar.specs.Table as row
-use Rattle.sp_grammar.specs.Table.{entry, rows, look, kind_is}
+use Rattle.sp_grammar.specs.Table.{row_entry, rows, look, kind_is}
 use Rattle.sp_parse.specs.declared.source.Source.{Source}
-use Rattle.sp_parse.specs.Reads.{Ready, HasRead, Halts, BeginsOther, BeginsWith, SoFar}
+use Rattle.sp_parse.specs.Reads.{HasTokens, HasRead, Halts, BeginsOther, BeginsWith, SoFar}
 use Rattle.sp_parse.proofs.SoFar.{chain, nothing_yet, halts_close}
 use Rattle.sp_parse.proofs.Rounds.{Pending, none_read, item_read, round_at}
 use Rattle.sp_parse.proofs.Declares.{closes, none_if}
@@ -59,7 +59,7 @@ FieldsPending source all ts rest = Pending source (AName ∷ MoreNames ∷ AToke
     (AName ∷ MoreNames ∷ AToken w.Colon ∷ AName ∷ MoreFields ∷ [])
     (λ vs. all ++ record { names = vs.0 ∷ vs.1.0; kind = vs.1.1.1.0 } ∷ vs.1.1.1.1.0) ts rest
 
-pub fields_none : {source : Source} {ts : List Token} (all : List SynGroup) → all ≡ [] → Ready source ts
+pub fields_none : {source : Source} {ts : List Token} (all : List SynGroup) → all ≡ [] → HasTokens source ts
     → FieldsPending source all ts ts
 fields_none all e a = none_read (λ vs. ap (λ l. l ++ record { names = vs.0 ∷ vs.1.0; kind = vs.1.1.1.0 } ∷ vs.1.1.1.1.0)
     e) a
@@ -94,5 +94,5 @@ pub no_fields : {source : Source} {ts rest : List Token} (all : List SynGroup) �
     → BeginsOther rest w.Semicolon → (e : Halt) → Halts source (AToken w.End ∷ []) rest e
     → Halts source (AName ∷ MoreNames ∷ AToken w.Colon ∷ AName ∷ MoreFields ∷ []) ts e
 no_fields all so b e h = halts_close row.fields_end b
-    (ap (λ x. cond (kind_is w.End b.token.kind) (Some (entry w.End [] row.fields_end))
-    (cond x (Some (entry w.Semicolon (FieldOrEnd ∷ []) row.fields_go_on)) None)) b.other) refl refl so e h
+    (ap (λ x. cond (kind_is w.End b.token.kind) (Some (row_entry w.End [] row.fields_end))
+    (cond x (Some (row_entry w.Semicolon (FieldOrEnd ∷ []) row.fields_go_on)) None)) b.other) refl refl so e h

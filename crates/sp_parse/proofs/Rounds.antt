@@ -10,26 +10,26 @@ use Rattle.sp_tree.specs.declared.token.Kind.TheVariants as kind
 use Rattle.sp_tree.specs.Spelling.{name_of}
 use Rattle.sp_tree.specs.Breaches.{nesting}
 use Rattle.sp_grammar.specs.Symbols.{Symbol, Value, Values, part, AName}
-use Rattle.sp_grammar.specs.Table.{Row, entry, rows, look, gap, build, kind_is}
+use Rattle.sp_grammar.specs.Table.{Row, row_entry, rows, look, gap, build, kind_is}
 use Rattle.sp_grammar.specs.Machine.{allows}
-use Rattle.sp_grammar.specs.Derives.{Begins as MayBegin, Derives, DerivesAll, and}
+use Rattle.sp_grammar.specs.Derives.{PartMayBegin as MayBegin, Derives, DerivesAll, and}
 use Rattle.sp_parse.specs.declared.source.Source.{Source}
-use Rattle.sp_parse.specs.Reads.{Within, Ready, breaks, HasRead, Halts, BeginsWith, SoFar}
+use Rattle.sp_parse.specs.Reads.{IsNestable, HasTokens, breaks, HasRead, Halts, BeginsWith, SoFar}
 use Rattle.sp_parse.proofs.Steps.{take, step_takes}
 use Rattle.sp_parse.proofs.SoFar.{glue, glue_all}
 use Rattle.sp_parse.proofs.Declares.{name_token, named_leads}
 
 pub record Pending {V : Type 0} (source : Source) (l : List Symbol) (of : Values l → V) (p : List Symbol)
     (gives : Values p → V) (ts rest : List Token) : Type 0 where
-  pub is : (r : List Token) (vs : Values p) → DerivesAll source.text.now Within p rest r vs → (ws : Values l)
-      × DerivesAll source.text.now Within l ts r ws × (gives vs ≡ of ws)
+  pub is : (r : List Token) (vs : Values p) → DerivesAll source.text.now IsNestable p rest r vs → (ws : Values l)
+      × DerivesAll source.text.now IsNestable l ts r ws × (gives vs ≡ of ws)
   pub leads : (q : List Symbol) → breaks source ts (l ++ q) ≡ breaks source rest (p ++ q)
   pub shorter : length rest ≤ length ts
-  pub ready : Ready source rest
+  pub ready : HasTokens source rest
 
 -- nothing is read yet
 pub none_read : {V : Type 0} {source : Source} {l : List Symbol} {of gives : Values l → V} {ts : List Token}
-    → ((vs : Values l) → gives vs ≡ of vs) → Ready source ts → Pending source l of l gives ts ts
+    → ((vs : Values l) → gives vs ≡ of vs) → HasTokens source ts → Pending source l of l gives ts ts
 none_read e a = record { is = λ r vs d. (vs, d, e vs); leads = λ q. refl; shorter = omega arith; ready = a }
 
 -- an item is read
@@ -50,19 +50,19 @@ item_read {source = source} {a = a} {s = s} {rest = rest} p h e = record {
 -- the token that stands before another item
 pub round_on : {V : Type 0} {source : Source} {l : List Symbol} {of : Values l → V} {s : Symbol} {gives : Value s → V}
     {m : List Symbol} {new : Values m → V} {ts rest behind : List Token} {k : Kind} (row : Row s k m)
-    → look (rows s) k ≡ Some (entry k m row) → part s ≡ None → SoFar source l of s gives ts rest
+    → look (rows s) k ≡ Some (row_entry k m row) → part s ≡ None → SoFar source l of s gives ts rest
     → (b : BeginsWith source rest k behind) → ((vs : Values m) → new vs ≡ gives (build source.text.now row b.token vs))
     → Pending source l of m new ts behind
 round_on {source = source} {s = s} {m = m} {behind = behind} {k = k} row found whole so b e = record {
   is = λ r vs d.
       let text = source.text.now in
       let i = so.is r (build text row b.token vs)
-      (subst (λ l. Derives text Within s l r (build text row b.token vs)) (back_of b.all)
-      (take (entry k m row) found b.token b.is
-      (subst (λ p. MayBegin Within p (b.token ∷ behind)) (back_of whole) tt) d)) in
+      (subst (λ l. Derives text IsNestable s l r (build text row b.token vs)) (back_of b.all)
+      (take (row_entry k m row) found b.token b.is
+      (subst (λ p. MayBegin IsNestable p (b.token ∷ behind)) (back_of whole) tt) d)) in
       (i.0, i.1, e vs ∙ i.2);
   leads = λ q. so.leads q ∙ ap (λ l. breaks source l (s ∷ q)) b.all
-      ∙ step_takes source s b.token behind (entry k m row) (ap (look (rows s)) b.is ∙ found)
+      ∙ step_takes source s b.token behind (row_entry k m row) (ap (look (rows s)) b.is ∙ found)
       (ap (allows (Some nesting)) whole) q;
   shorter = omega (arith, so.shorter, ap length b.all);
   ready = b.ready;
@@ -79,22 +79,22 @@ no_item {source = source} a m {rest = rest} p (halt.Refused f) h = λ q. p.leads
 -- the token before another item is the name that the item begins with
 named_completes : {V : Type 0} {source : Source} {l : List Symbol} {of : Values l → V} {s : Symbol}
     {gives : Value s → V} {m : List Symbol} (new : Values (AName ∷ m) → V) {ts rest : List Token}
-    (row : Row s kind.Name m) → look (rows s) kind.Name ≡ Some (entry kind.Name m row) → part s ≡ None
+    (row : Row s kind.Name m) → look (rows s) kind.Name ≡ Some (row_entry kind.Name m row) → part s ≡ None
     → SoFar source l of s gives ts rest → ((t : Token) (vs : Values m)
     → new (name_of source.text.now t, vs) ≡ gives (build source.text.now row t vs))
-    → (r : List Token) {vs : Values (AName ∷ m)} → DerivesAll source.text.now Within (AName ∷ m) rest r vs
-    → (ws : Values l) × DerivesAll source.text.now Within l ts r ws × (new vs ≡ of ws)
+    → (r : List Token) {vs : Values (AName ∷ m)} → DerivesAll source.text.now IsNestable (AName ∷ m) rest r vs
+    → (ws : Values l) × DerivesAll source.text.now IsNestable l ts r ws × (new vs ≡ of ws)
 named_completes {source = source} {s = s} {m = m} new row found whole so e r (and {u = u} {vs = us} x xs) =
     let text = source.text.now in
     let i = name_token x in
-    let j = so.is r (build text row i.0 us) (subst (λ l. Derives text Within s l r (build text row i.0 us))
-    (back_of i.1) (take (entry kind.Name m row) found i.0 i.2
-    (subst (λ p. MayBegin Within p (i.0 ∷ u)) (back_of whole) tt) xs)) in
+    let j = so.is r (build text row i.0 us) (subst (λ l. Derives text IsNestable s l r (build text row i.0 us))
+    (back_of i.1) (take (row_entry kind.Name m row) found i.0 i.2
+    (subst (λ p. MayBegin IsNestable p (i.0 ∷ u)) (back_of whole) tt) xs)) in
     (j.0, j.1, ap (λ n. new (n, us)) i.3 ∙ e i.0 us ∙ j.2)
 
 pub round_at : {V : Type 0} {source : Source} {l : List Symbol} {of : Values l → V} {s : Symbol} {gives : Value s → V}
     {m : List Symbol} {new : Values (AName ∷ m) → V} {ts rest : List Token} (row : Row s kind.Name m)
-    → look (rows s) kind.Name ≡ Some (entry kind.Name m row) → part s ≡ None → SoFar source l of s gives ts rest
+    → look (rows s) kind.Name ≡ Some (row_entry kind.Name m row) → part s ≡ None → SoFar source l of s gives ts rest
     → (t : Token) (r : List Token) → rest ≡ t ∷ r → (kind_is kind.Name t.kind ≡ false → look (rows s) t.kind ≡ None)
     → gap s t ≡ None → ((t : Token) (vs : Values m)
     → new (name_of source.text.now t, vs) ≡ gives (build source.text.now row t vs))

@@ -12,14 +12,15 @@ use Rattle.sp_tree.specs.Words as w
 use Rattle.sp_tree.specs.Breaches.{nesting}
 use Rattle.sp_grammar.specs.Symbols.{Symbol, Value, Values, split, part, AnExpression, ARelation, ANegated, MoreFactors}
 use Rattle.sp_grammar.specs.Symbols.{MoreTerms}
-use Rattle.sp_grammar.specs.Table.{Entry, Row, entry, rows, look, gap, build, kind_is, FactorRow, SimpleRow}
+use Rattle.sp_grammar.specs.Table.{RowEntry, Row, row_entry, rows, look, gap, build, kind_is, FactorRow, SimpleRow}
 use Rattle.sp_grammar.specs.Table.{factor_rows, simple_rows, simple_factor, expression, negated}
 use Rattle.sp_grammar.specs.Machine.{allows}
-use Rattle.sp_grammar.specs.Derives.{Begins as MayBegin, Derives, takes, skips, DerivesAll, none, and}
+use Rattle.sp_grammar.specs.Derives.{PartMayBegin as MayBegin, Derives, takes, skips, DerivesAll, none, and}
 use Rattle.sp_grammar.proofs.From.{kind_is-true}
 use Rattle.sp_parse.specs.declared.source.Source.{Source}
 use Rattle.sp_parse.specs.Productions.{production}
-use Rattle.sp_parse.specs.Reads.{Within, Ready, breaks, HasRead, Halts, Reads, Begins, BeginsOther, BeginsWith}
+use Rattle.sp_parse.specs.Reads.{IsNestable, HasTokens, breaks, HasRead, Halts, ParsesAs, HasFirstToken, BeginsOther}
+use Rattle.sp_parse.specs.Reads.{BeginsWith}
 use Rattle.sp_parse.specs.Operators.{Operator, is_some, BeginsFactor, BeginsSimple}
 use Rattle.sp_parse.proofs.Steps.{has_read, take, step_takes, step_fails, step_deep, step_skips}
 
@@ -30,12 +31,14 @@ kind_at t k e h = back_of (kind_is-true k t.kind (back_of e ∙ h))
 pub other_at : {b : Bool} (t : Token) (k : Kind) → b ≡ kind_is k t.kind → b ≡ false → kind_is k t.kind ≡ false
 other_at t k e h = back_of e ∙ h
 
-abbrev pub with_at : {source : Source} {ts r : List Token} {t : Token} {b : Bool} (k : Kind) → Begins source ts t r
+abbrev pub with_at : {source : Source} {ts r : List Token} {t : Token} {b : Bool} (k : Kind)
+    → HasFirstToken source ts t r
     → b ≡ kind_is k t.kind → b ≡ true → BeginsWith source ts k r
 with_at {t = t} k a e h = record { token = t; is = kind_at t k e h; all = a.all; ready = a.ready }
 
 pub operator_is : {Is : Kind → BinaryOp → Type 0} {source : Source} {ts r : List Token} {t : Token} {o : BinaryOp}
-    {b : Bool} (k : Kind) → Is k o → Begins source ts t r → b ≡ kind_is k t.kind → b ≡ true → Operator Is source ts o r
+    {b : Bool} (k : Kind) → Is k o → HasFirstToken source ts t r → b ≡ kind_is k t.kind → b ≡ true
+    → Operator Is source ts o r
 operator_is {t = t} k c a e h = record {
   key = k;
   is_operator = c;
@@ -46,23 +49,25 @@ operator_is {t = t} k c a e h = record {
 }
 
 -- the rows of one list, as rows of another
-abbrev pub lifted : {R S : Kind → List Symbol → Type 0} → (Entry R → Entry S) → Option (Entry R) → Option (Entry S)
+abbrev pub lifted : {R S : Kind → List Symbol → Type 0} → (RowEntry R → RowEntry S) → Option (RowEntry R)
+    → Option (RowEntry S)
 lifted f None = None
 lifted f (Some e) = Some (f e)
 
-look_by : {R S : Kind → List Symbol → Type 0} (f : Entry R → Entry S) (e : Entry R) (k : Kind) (b : Bool)
-    (rest : Option (Entry S)) (more : Option (Entry R)) → rest ≡ lifted f more
+look_by : {R S : Kind → List Symbol → Type 0} (f : RowEntry R → RowEntry S) (e : RowEntry R) (k : Kind) (b : Bool)
+    (rest : Option (RowEntry S)) (more : Option (RowEntry R)) → rest ≡ lifted f more
     → cond b (Some (f e)) rest ≡ lifted f (cond b (Some e) more)
 look_by f e k true rest more h = refl
 look_by f e k false rest more h = h
 
-pub look_map : {R S : Kind → List Symbol → Type 0} (f : Entry R → Entry S) → ((e : Entry R) → (f e).key ≡ e.key)
-    → (es : List (Entry R)) (k : Kind) → look (map f es) k ≡ lifted f (look es k)
+pub look_map : {R S : Kind → List Symbol → Type 0} (f : RowEntry R → RowEntry S)
+    → ((e : RowEntry R) → (f e).key ≡ e.key)
+    → (es : List (RowEntry R)) (k : Kind) → look (map f es) k ≡ lifted f (look es k)
 look_map f same [] k = refl
 look_map f same (e ∷ es) k = ap (λ j. cond (kind_is j k) (Some (f e)) (look (map f es) k)) (same e)
     ∙ look_by f e k (kind_is e.key k) (look (map f es) k) (look es k) (look_map f same es k)
 
-pub some_lifted : {R S : Kind → List Symbol → Type 0} (f : Entry R → Entry S) (o : Option (Entry R))
+pub some_lifted : {R S : Kind → List Symbol → Type 0} (f : RowEntry R → RowEntry S) (o : Option (RowEntry R))
     → is_some (lifted f o) ≡ is_some o
 some_lifted f None = refl
 some_lifted f (Some e) = refl
@@ -70,8 +75,8 @@ some_lifted f (Some e) = refl
 pub after_two : {A : Type 0} {x y : Bool} (a b o : Option A) → x ≡ false → y ≡ false → cond x a (cond y b o) ≡ o
 after_two {y = y} a b o p m = ap (λ x. cond x a (cond y b o)) p ∙ ap (λ y. cond y b o) m
 
-abbrev as_simple : (d : ℕ) → Entry (FactorRow d) → Entry (SimpleRow d)
-as_simple d e = entry e.key (e.left ++ MoreFactors d ∷ MoreTerms d ∷ []) (simple_factor e.row)
+abbrev as_simple : (d : ℕ) → RowEntry (FactorRow d) → RowEntry (SimpleRow d)
+as_simple d e = row_entry e.key (e.left ++ MoreFactors d ∷ MoreTerms d ∷ []) (simple_factor e.row)
 
 pub begins_simple_is : (t : Token) (b : Bool) → kind_is w.Plus t.kind ≡ false → kind_is w.Minus t.kind ≡ false
     → BeginsFactor t b → (d : ℕ) → is_some (look (simple_rows d) t.kind) ≡ b
@@ -85,22 +90,22 @@ begins_simple_is t b p m h d =
 -- a symbol takes a token, and what it leaves is read
 pub row_reads : {X Y U V : Type 0} {source : Source} {s : Symbol} {k : Kind} {l : List Symbol} {of : Values l → U}
     {plain : X → U} {to : Values (s ∷ []) → V} {view : Y → V} {ts rest r : List Token} {x : X} {y : Y} (row : Row s k l)
-    → look (rows s) k ≡ Some (entry k l row) → (b : BeginsWith source ts k rest)
-    → MayBegin Within (part s) (b.token ∷ rest) → (h : HasRead source l of plain rest r x)
+    → look (rows s) k ≡ Some (row_entry k l row) → (b : BeginsWith source ts k rest)
+    → MayBegin IsNestable (part s) (b.token ∷ rest) → (h : HasRead source l of plain rest r x)
     → view y ≡ to (build source.text.now row b.token h.values, tt) → HasRead source (s ∷ []) to view ts r y
 row_reads {source = source} {s = s} {k = k} {l = l} {r = r} row found b o h e =
-    has_read h.ready (subst (λ ts. DerivesAll source.text.now Within (s ∷ []) ts r
+    has_read h.ready (subst (λ ts. DerivesAll source.text.now IsNestable (s ∷ []) ts r
     (build source.text.now row b.token h.values, tt)) (back_of b.all)
-    (and (take (entry k l row) found b.token b.is o h.derives) none)) e
+    (and (take (row_entry k l row) found b.token b.is o h.derives) none)) e
 
 pub row_leads : {source : Source} {s : Symbol} {k : Kind} {l : List Symbol} {ts rest : List Token} (row : Row s k l)
-    → look (rows s) k ≡ Some (entry k l row) → BeginsWith source ts k rest → allows (Some nesting) (part s) ≡ true
+    → look (rows s) k ≡ Some (row_entry k l row) → BeginsWith source ts k rest → allows (Some nesting) (part s) ≡ true
     → (q : List Symbol) → breaks source ts (s ∷ q) ≡ breaks source rest (l ++ q)
 row_leads {source} {s} {k} {l} {ts} {rest} row found b o q = ap (λ ts. breaks source ts (s ∷ q)) b.all
-    ∙ step_takes source s b.token rest (entry k l row) (ap (look (rows s)) b.is ∙ found) o q
+    ∙ step_takes source s b.token rest (row_entry k l row) (ap (look (rows s)) b.is ∙ found) o q
 
 pub row_halts : {source : Source} {s : Symbol} {k : Kind} {l : List Symbol} {ts rest : List Token} (row : Row s k l)
-    → look (rows s) k ≡ Some (entry k l row) → BeginsWith source ts k rest → allows (Some nesting) (part s) ≡ true
+    → look (rows s) k ≡ Some (row_entry k l row) → BeginsWith source ts k rest → allows (Some nesting) (part s) ≡ true
     → (e : Halt) → Halts source l rest e → Halts source (s ∷ []) ts e
 row_halts row found b o halt.Memory h = tt
 row_halts row found b o (halt.Refused f) h = λ q. row_leads row found b o q ∙ h q
@@ -122,8 +127,8 @@ split_join [] m vs us = refl
 split_join (s ∷ l) m vs us = ap (λ p. ((vs.0, p.0), p.1)) (split_join l m vs.1 us)
 
 pub join_all : {text : List ℕ} (l m : List Symbol) {ts u r : List Token} {vs : Values l} {us : Values m}
-    → DerivesAll text Within l ts u vs → DerivesAll text Within m u r us
-    → DerivesAll text Within (l ++ m) ts r (join l m vs us)
+    → DerivesAll text IsNestable l ts u vs → DerivesAll text IsNestable m u r us
+    → DerivesAll text IsNestable (l ++ m) ts r (join l m vs us)
 join_all [] m none b = b
 join_all (s ∷ l) m (and x a) b = and x (join_all l m a b)
 
@@ -132,14 +137,14 @@ clash X o p q = absurd cc
 
 -- A symbol with the rows of another one, and further symbols behind it.
 module _ (source : Source) (R : Kind → List Symbol → Type 0) (s a : Symbol) (m : List Symbol)
-    (lift_s : (e : Entry R) → Row s e.key (e.left ++ m)) (lift_a : (e : Entry R) → Row a e.key e.left) where
-  abbrev entry_s : Entry R → Entry (Row s)
-  entry_s e = entry e.key (e.left ++ m) (lift_s e)
+    (lift_s : (e : RowEntry R) → Row s e.key (e.left ++ m)) (lift_a : (e : RowEntry R) → Row a e.key e.left) where
+  abbrev entry_s : RowEntry R → RowEntry (Row s)
+  entry_s e = row_entry e.key (e.left ++ m) (lift_s e)
 
-  abbrev entry_a : Entry R → Entry (Row a)
-  entry_a e = entry e.key e.left (lift_a e)
+  abbrev entry_a : RowEntry R → RowEntry (Row a)
+  entry_a e = row_entry e.key e.left (lift_a e)
 
-  pub copy_leads : (t : Token) (ts : List Token) (o : Option (Entry R)) → look (rows s) t.kind ≡ lifted entry_s o
+  pub copy_leads : (t : Token) (ts : List Token) (o : Option (RowEntry R)) → look (rows s) t.kind ≡ lifted entry_s o
       → look (rows a) t.kind ≡ lifted entry_a o → gap s t ≡ None → gap a t ≡ None
       → allows (Some nesting) (part s) ≡ true → allows (Some nesting) (part a) ≡ true → (q : List Symbol)
       → breaks source (t ∷ ts) (s ∷ q) ≡ breaks source (t ∷ ts) (a ∷ m ++ q)
@@ -148,7 +153,7 @@ module _ (source : Source) (R : Kind → List Symbol → Type 0) (s a : Symbol) 
       ∙ ap (breaks source ts) (append_assoc e.left m q) ∙ back_of (step_takes source a t ts (entry_a e) y c (m ++ q))
 
   -- where the other one takes its token
-  pub copied_leads : (t : Token) (ts : List Token) (e : Entry R) → look (rows s) t.kind ≡ Some (entry_s e)
+  pub copied_leads : (t : Token) (ts : List Token) (e : RowEntry R) → look (rows s) t.kind ≡ Some (entry_s e)
       → look (rows a) t.kind ≡ Some (entry_a e) → allows (Some nesting) (part s) ≡ true
       → allows (Some nesting) (part a) ≡ true → (q : List Symbol)
       → breaks source (t ∷ ts) (s ∷ q) ≡ breaks source (t ∷ ts) (a ∷ m ++ q)
@@ -156,35 +161,36 @@ module _ (source : Source) (R : Kind → List Symbol → Type 0) (s a : Symbol) 
       ∙ ap (breaks source ts) (append_assoc e.left m q) ∙ back_of (step_takes source a t ts (entry_a e) y c (m ++ q))
 
   module _ (combine : Value a → Values m → Value s)
-      (builds : (e : Entry R) (t : Token) (us : Values e.left) (ws : Values m)
+      (builds : (e : RowEntry R) (t : Token) (us : Values e.left) (ws : Values m)
       → build source.text.now (lift_s e) t (join e.left m us ws)
       ≡ combine (build source.text.now (lift_a e) t us) ws) where
     abbrev text : List ℕ
     text = source.text.now
 
-    by_entry : (t : Token) (ts u r : List Token) (ws : Values m) (e' : Entry R)
-        → look (rows s) t.kind ≡ Some (entry_s e') → MayBegin Within (part s) (t ∷ ts) → DerivesAll text Within m u r ws
-        → (e : Entry (Row a)) → entry_a e' ≡ e → (vs : Values e.left) → DerivesAll text Within e.left ts u vs
-        → Derives text Within s (t ∷ ts) r (combine (build text e.row t vs) ws)
+    by_entry : (t : Token) (ts u r : List Token) (ws : Values m) (e' : RowEntry R)
+        → look (rows s) t.kind ≡ Some (entry_s e') → MayBegin IsNestable (part s) (t ∷ ts)
+        → DerivesAll text IsNestable m u r ws
+        → (e : RowEntry (Row a)) → entry_a e' ≡ e → (vs : Values e.left) → DerivesAll text IsNestable e.left ts u vs
+        → Derives text IsNestable s (t ∷ ts) r (combine (build text e.row t vs) ws)
     by_entry t ts u r ws e' x b y e q = subst
-        (λ e. (vs : Values e.left) → DerivesAll text Within e.left ts u vs
-        → Derives text Within s (t ∷ ts) r (combine (build text e.row t vs) ws)) q
-        (λ vs d. subst (Derives text Within s (t ∷ ts) r) (builds e' t vs ws)
+        (λ e. (vs : Values e.left) → DerivesAll text IsNestable e.left ts u vs
+        → Derives text IsNestable s (t ∷ ts) r (combine (build text e.row t vs) ws)) q
+        (λ vs d. subst (Derives text IsNestable s (t ∷ ts) r) (builds e' t vs ws)
         (takes t (entry_s e') x b (join_all e'.left m d y)))
 
-    pub copy_derives : (t : Token) (ts u r : List Token) (ws : Values m) (o : Option (Entry R))
+    pub copy_derives : (t : Token) (ts u r : List Token) (ws : Values m) (o : Option (RowEntry R))
         → look (rows s) t.kind ≡ lifted entry_s o → look (rows a) t.kind ≡ lifted entry_a o → gap a t ≡ None
-        → MayBegin Within (part s) (t ∷ ts) → {v : Value a} → Derives text Within a (t ∷ ts) u v
-        → DerivesAll text Within m u r ws → Derives text Within s (t ∷ ts) r (combine v ws)
+        → MayBegin IsNestable (part s) (t ∷ ts) → {v : Value a} → Derives text IsNestable a (t ∷ ts) u v
+        → DerivesAll text IsNestable m u r ws → Derives text IsNestable s (t ∷ ts) r (combine v ws)
     copy_derives t ts u r ws None x y g b (takes t' e z p d) k = clash _ (look (rows a) t.kind) z y
     copy_derives t ts u r ws (Some e') x y g b (takes t' e z p d) k =
         by_entry t ts u r ws e' x b k e (let same : entry_a e' ≡ e = cc in same) _ d
     copy_derives t ts u r ws o x y g b (skips t' z h) k = clash _ (gap a t) h g
 
-    pub copied_derives : (t : Token) (ts u r : List Token) (ws : Values m) (e' : Entry R)
+    pub copied_derives : (t : Token) (ts u r : List Token) (ws : Values m) (e' : RowEntry R)
         → look (rows s) t.kind ≡ Some (entry_s e') → look (rows a) t.kind ≡ Some (entry_a e')
-        → MayBegin Within (part s) (t ∷ ts) → {v : Value a} → Derives text Within a (t ∷ ts) u v
-        → DerivesAll text Within m u r ws → Derives text Within s (t ∷ ts) r (combine v ws)
+        → MayBegin IsNestable (part s) (t ∷ ts) → {v : Value a} → Derives text IsNestable a (t ∷ ts) u v
+        → DerivesAll text IsNestable m u r ws → Derives text IsNestable s (t ∷ ts) r (combine v ws)
     copied_derives t ts u r ws e' x y b (takes t' e z p d) k =
         by_entry t ts u r ws e' x b k e (let same : entry_a e' ≡ e = cc in same) _ d
     copied_derives t ts u r ws e' x y b (skips t' z h) k = clash _ (look (rows a) t.kind) y z
@@ -199,7 +205,7 @@ none_of None h = refl
 none_of (Some x) h = absurd cc
 
 -- a part that lies too deep
-pub too_deep_at : {source : Source} {ts r : List Token} {t : Token} (s : Symbol) → Begins source ts t r
+pub too_deep_at : {source : Source} {ts r : List Token} {t : Token} (s : Symbol) → HasFirstToken source ts t r
     → is_some (look (rows s) t.kind) ≡ true → allows (Some nesting) (part s) ≡ false → (e : Halt)
     → e ≡ halt.Refused (record { rule = rule.L2; at = t.at }) → Halts source (s ∷ []) ts e
 too_deep_at {source} {ts} {r} {t} s b h a e p =
@@ -210,38 +216,39 @@ too_deep_at {source} {ts} {r} {t} s b h a e p =
 pub expression_rows : (t : Token) (b : Bool) → BeginsSimple t b → (d : ℕ)
     → is_some (look (rows (AnExpression d)) t.kind) ≡ b
 expression_rows t b h d =
-    let f : Entry (SimpleRow (suc d)) → Entry (Row (AnExpression d)) =
-    λ e. entry e.key (e.left ++ ARelation (suc d) ∷ []) (expression e.row) in
+    let f : RowEntry (SimpleRow (suc d)) → RowEntry (Row (AnExpression d)) =
+    λ e. row_entry e.key (e.left ++ ARelation (suc d) ∷ []) (expression e.row) in
     ap is_some (look_map f (λ e. refl) (simple_rows (suc d)) t.kind) ∙ some_lifted f (look (simple_rows (suc d)) t.kind)
     ∙ h (suc d)
 
 pub negated_rows : (t : Token) (b : Bool) → BeginsFactor t b → (d : ℕ) → is_some (look (rows (ANegated d)) t.kind) ≡ b
 negated_rows t b h d =
-    let f : Entry (FactorRow (suc d)) → Entry (Row (ANegated d)) = λ e. entry e.key e.left (negated e.row) in
+    let f : RowEntry (FactorRow (suc d)) → RowEntry (Row (ANegated d)) = λ e. row_entry e.key e.left (negated e.row) in
     ap is_some (look_map f (λ e. refl) (factor_rows (suc d)) t.kind) ∙ some_lifted f (look (factor_rows (suc d)) t.kind)
     ∙ h (suc d)
 
 -- a symbol takes a token, and the answer about what it leaves is that about itself
 pub row_result : {X V : Type 0} {source : Source} {s : Symbol} {k : Kind} {l : List Symbol} {ts rest : List Token}
     (of : Values l → V) (plain : X → V) (to : Values (s ∷ []) → V) (row : Row s k l)
-    → look (rows s) k ≡ Some (entry k l row) → (b : BeginsWith source ts k rest) → allows (Some nesting) (part s) ≡ true
-    → MayBegin Within (part s) (b.token ∷ rest)
+    → look (rows s) k ≡ Some (row_entry k l row) → (b : BeginsWith source ts k rest)
+    → allows (Some nesting) (part s) ≡ true
+    → MayBegin IsNestable (part s) (b.token ∷ rest)
     → ((vs : Values l) → of vs ≡ to (build source.text.now row b.token vs, tt))
-    → (result : Result (X × Bor (List Token)) Halt) → Reads source (production l of) plain rest result
-    → Reads source (production (s ∷ []) to) plain ts result
+    → (result : Result (X × Bor (List Token)) Halt) → ParsesAs source (production l of) plain rest result
+    → ParsesAs source (production (s ∷ []) to) plain ts result
 row_result of plain to row found b a o e (Ok x) h = row_reads row found b o h (h.same ∙ e h.values)
 row_result of plain to row found b a o e (Err x) h = row_halts row found b a x h
 
 -- A symbol with the rows of another one.
 module _ (source : Source) (R : Kind → List Symbol → Type 0) (s a : Symbol)
-    (lift_s : (e : Entry R) → Row s e.key e.left) (lift_a : (e : Entry R) → Row a e.key e.left) where
-  abbrev bare_s : Entry R → Entry (Row s)
-  bare_s e = entry e.key e.left (lift_s e)
+    (lift_s : (e : RowEntry R) → Row s e.key e.left) (lift_a : (e : RowEntry R) → Row a e.key e.left) where
+  abbrev bare_s : RowEntry R → RowEntry (Row s)
+  bare_s e = row_entry e.key e.left (lift_s e)
 
-  abbrev bare_a : Entry R → Entry (Row a)
-  bare_a e = entry e.key e.left (lift_a e)
+  abbrev bare_a : RowEntry R → RowEntry (Row a)
+  bare_a e = row_entry e.key e.left (lift_a e)
 
-  pub bare_leads : (t : Token) (ts : List Token) (o : Option (Entry R)) → look (rows s) t.kind ≡ lifted bare_s o
+  pub bare_leads : (t : Token) (ts : List Token) (o : Option (RowEntry R)) → look (rows s) t.kind ≡ lifted bare_s o
       → look (rows a) t.kind ≡ lifted bare_a o → gap s t ≡ None → gap a t ≡ None → allows (Some nesting) (part s) ≡ true
       → allows (Some nesting) (part a) ≡ true → (q : List Symbol)
       → breaks source (t ∷ ts) (s ∷ q) ≡ breaks source (t ∷ ts) (a ∷ q)
@@ -249,19 +256,22 @@ module _ (source : Source) (R : Kind → List Symbol → Type 0) (s a : Symbol)
   bare_leads t ts (Some e) x y g h b c q = step_takes source s t ts (bare_s e) x b q
       ∙ back_of (step_takes source a t ts (bare_a e) y c q)
 
-  module _ (turn : Value a → Value s) (builds : (e : Entry R) (t : Token) (us : Values e.left)
+  module _ (turn : Value a → Value s) (builds : (e : RowEntry R) (t : Token) (us : Values e.left)
       → build source.text.now (lift_s e) t us ≡ turn (build source.text.now (lift_a e) t us)) where
-    bare_entry : (t : Token) (ts r : List Token) (e' : Entry R) → look (rows s) t.kind ≡ Some (bare_s e')
-        → MayBegin Within (part s) (t ∷ ts) → (e : Entry (Row a)) → bare_a e' ≡ e → (vs : Values e.left)
-        → DerivesAll source.text.now Within e.left ts r vs
-        → Derives source.text.now Within s (t ∷ ts) r (turn (build source.text.now e.row t vs))
-    bare_entry t ts r e' x b e q = subst (λ e. (vs : Values e.left) → DerivesAll source.text.now Within e.left ts r vs
-        → Derives source.text.now Within s (t ∷ ts) r (turn (build source.text.now e.row t vs))) q
-        (λ vs d. subst (Derives source.text.now Within s (t ∷ ts) r) (builds e' t vs) (takes t (bare_s e') x b d))
+    bare_entry : (t : Token) (ts r : List Token) (e' : RowEntry R) → look (rows s) t.kind ≡ Some (bare_s e')
+        → MayBegin IsNestable (part s) (t ∷ ts) → (e : RowEntry (Row a)) → bare_a e' ≡ e → (vs : Values e.left)
+        → DerivesAll source.text.now IsNestable e.left ts r vs
+        → Derives source.text.now IsNestable s (t ∷ ts) r (turn (build source.text.now e.row t vs))
+    bare_entry t ts r e' x b e q =
+        subst (λ e. (vs : Values e.left) → DerivesAll source.text.now IsNestable e.left ts r vs
+        → Derives source.text.now IsNestable s (t ∷ ts) r (turn (build source.text.now e.row t vs))) q
+        (λ vs d. subst (Derives source.text.now IsNestable s (t ∷ ts) r) (builds e' t vs) (takes t (bare_s e') x b d))
 
-    pub bare_derives : (t : Token) (ts r : List Token) (o : Option (Entry R)) → look (rows s) t.kind ≡ lifted bare_s o
-        → look (rows a) t.kind ≡ lifted bare_a o → gap a t ≡ None → MayBegin Within (part s) (t ∷ ts) → {v : Value a}
-        → Derives source.text.now Within a (t ∷ ts) r v → Derives source.text.now Within s (t ∷ ts) r (turn v)
+    pub bare_derives : (t : Token) (ts r : List Token) (o : Option (RowEntry R))
+        → look (rows s) t.kind ≡ lifted bare_s o
+        → look (rows a) t.kind ≡ lifted bare_a o → gap a t ≡ None → MayBegin IsNestable (part s) (t ∷ ts)
+        → {v : Value a}
+        → Derives source.text.now IsNestable a (t ∷ ts) r v → Derives source.text.now IsNestable s (t ∷ ts) r (turn v)
     bare_derives t ts r None x y g b (takes t' e z p d) = clash _ (look (rows a) t.kind) z y
     bare_derives t ts r (Some e') x y g b (takes t' e z p d) =
         bare_entry t ts r e' x b e (let same : bare_a e' ≡ e = cc in same) _ d
@@ -269,14 +279,14 @@ module _ (source : Source) (R : Kind → List Symbol → Type 0) (s a : Symbol)
 
 -- A symbol with the rows of another one, where both may stand for nothing.
 module _ (source : Source) (R : Kind → List Symbol → Type 0) (s a : Symbol)
-    (lift_s : (e : Entry R) → Row s e.key e.left) (lift_a : (e : Entry R) → Row a e.key e.left) where
-  abbrev loose_s : Entry R → Entry (Row s)
-  loose_s e = entry e.key e.left (lift_s e)
+    (lift_s : (e : RowEntry R) → Row s e.key e.left) (lift_a : (e : RowEntry R) → Row a e.key e.left) where
+  abbrev loose_s : RowEntry R → RowEntry (Row s)
+  loose_s e = row_entry e.key e.left (lift_s e)
 
-  abbrev loose_a : Entry R → Entry (Row a)
-  loose_a e = entry e.key e.left (lift_a e)
+  abbrev loose_a : RowEntry R → RowEntry (Row a)
+  loose_a e = row_entry e.key e.left (lift_a e)
 
-  pub loose_leads : (t : Token) (ts : List Token) (o : Option (Entry R)) (vs : Value s) (va : Value a)
+  pub loose_leads : (t : Token) (ts : List Token) (o : Option (RowEntry R)) (vs : Value s) (va : Value a)
       → look (rows s) t.kind ≡ lifted loose_s o → look (rows a) t.kind ≡ lifted loose_a o → gap s t ≡ Some vs
       → gap a t ≡ Some va → allows (Some nesting) (part s) ≡ true → allows (Some nesting) (part a) ≡ true
       → (q : List Symbol) → breaks source (t ∷ ts) (s ∷ q) ≡ breaks source (t ∷ ts) (a ∷ q)
@@ -285,20 +295,22 @@ module _ (source : Source) (R : Kind → List Symbol → Type 0) (s a : Symbol)
   loose_leads t ts (Some e) vs va x y g h b c q = step_takes source s t ts (loose_s e) x b q
       ∙ back_of (step_takes source a t ts (loose_a e) y c q)
 
-  module _ (turn : Value a → Value s) (builds : (e : Entry R) (t : Token) (us : Values e.left)
+  module _ (turn : Value a → Value s) (builds : (e : RowEntry R) (t : Token) (us : Values e.left)
       → build source.text.now (lift_s e) t us ≡ turn (build source.text.now (lift_a e) t us)) where
-    loose_entry : (t : Token) (ts r : List Token) (e' : Entry R) → look (rows s) t.kind ≡ Some (loose_s e')
-        → MayBegin Within (part s) (t ∷ ts) → (e : Entry (Row a)) → loose_a e' ≡ e → (vs : Values e.left)
-        → DerivesAll source.text.now Within e.left ts r vs
-        → Derives source.text.now Within s (t ∷ ts) r (turn (build source.text.now e.row t vs))
-    loose_entry t ts r e' x b e q = subst (λ e. (vs : Values e.left) → DerivesAll source.text.now Within e.left ts r vs
-        → Derives source.text.now Within s (t ∷ ts) r (turn (build source.text.now e.row t vs))) q
-        (λ vs d. subst (Derives source.text.now Within s (t ∷ ts) r) (builds e' t vs) (takes t (loose_s e') x b d))
+    loose_entry : (t : Token) (ts r : List Token) (e' : RowEntry R) → look (rows s) t.kind ≡ Some (loose_s e')
+        → MayBegin IsNestable (part s) (t ∷ ts) → (e : RowEntry (Row a)) → loose_a e' ≡ e → (vs : Values e.left)
+        → DerivesAll source.text.now IsNestable e.left ts r vs
+        → Derives source.text.now IsNestable s (t ∷ ts) r (turn (build source.text.now e.row t vs))
+    loose_entry t ts r e' x b e q =
+        subst (λ e. (vs : Values e.left) → DerivesAll source.text.now IsNestable e.left ts r vs
+        → Derives source.text.now IsNestable s (t ∷ ts) r (turn (build source.text.now e.row t vs))) q
+        (λ vs d. subst (Derives source.text.now IsNestable s (t ∷ ts) r) (builds e' t vs) (takes t (loose_s e') x b d))
 
-    pub loose_derives : (t : Token) (ts r : List Token) (o : Option (Entry R)) → look (rows s) t.kind ≡ lifted loose_s o
+    pub loose_derives : (t : Token) (ts r : List Token) (o : Option (RowEntry R))
+        → look (rows s) t.kind ≡ lifted loose_s o
         → look (rows a) t.kind ≡ lifted loose_a o → ((v : Value a) → gap a t ≡ Some v → gap s t ≡ Some (turn v))
-        → MayBegin Within (part s) (t ∷ ts) → {v : Value a} → Derives source.text.now Within a (t ∷ ts) r v
-        → Derives source.text.now Within s (t ∷ ts) r (turn v)
+        → MayBegin IsNestable (part s) (t ∷ ts) → {v : Value a} → Derives source.text.now IsNestable a (t ∷ ts) r v
+        → Derives source.text.now IsNestable s (t ∷ ts) r (turn v)
     loose_derives t ts r None x y g b (takes t' e z p d) = clash _ (look (rows a) t.kind) z y
     loose_derives t ts r (Some e') x y g b (takes t' e z p d) =
         loose_entry t ts r e' x b e (let same : loose_a e' ≡ e = cc in same) _ d
@@ -313,18 +325,20 @@ neither {k = k} a b = let same : b.token ≡ a.token = cc (a.all, b.all) in
 -- a symbol takes a token, and what it leaves is derived
 pub row_derives : {Y V : Type 0} {source : Source} {s : Symbol} {k : Kind} {l : List Symbol} {to : Values (s ∷ []) → V}
     {view : Y → V} {ts rest r : List Token} {vs : Values l} {y : Y} (row : Row s k l)
-    → look (rows s) k ≡ Some (entry k l row) → (b : BeginsWith source ts k rest)
-    → MayBegin Within (part s) (b.token ∷ rest) → Ready source r → DerivesAll source.text.now Within l rest r vs
+    → look (rows s) k ≡ Some (row_entry k l row) → (b : BeginsWith source ts k rest)
+    → MayBegin IsNestable (part s) (b.token ∷ rest) → HasTokens source r
+    → DerivesAll source.text.now IsNestable l rest r vs
     → view y ≡ to (build source.text.now row b.token vs, tt) → HasRead source (s ∷ []) to view ts r y
 row_derives {source = source} {s = s} {k = k} {l = l} {r = r} {vs = vs} row found b o a d e =
-    has_read a (subst (λ ts. DerivesAll source.text.now Within (s ∷ []) ts r (build source.text.now row b.token vs, tt))
-    (back_of b.all) (and (take (entry k l row) found b.token b.is o d) none)) e
+    has_read a (subst (λ ts. DerivesAll source.text.now IsNestable (s ∷ []) ts r
+    (build source.text.now row b.token vs, tt))
+    (back_of b.all) (and (take (row_entry k l row) found b.token b.is o d) none)) e
 
 -- no row fits
-abbrev pub NoneIs : {R : Kind → List Symbol → Type 0} → List (Entry R) → Kind → Type 0
+abbrev pub NoneIs : {R : Kind → List Symbol → Type 0} → List (RowEntry R) → Kind → Type 0
 NoneIs [] k = Unit {0}
 NoneIs (e ∷ es) k = (kind_is e.key k ≡ false) × NoneIs es k
 
-pub none_at : {R : Kind → List Symbol → Type 0} (es : List (Entry R)) (k : Kind) → NoneIs es k → look es k ≡ None
+pub none_at : {R : Kind → List Symbol → Type 0} (es : List (RowEntry R)) (k : Kind) → NoneIs es k → look es k ≡ None
 none_at [] k h = refl
 none_at (e ∷ es) k h = ap (λ b. cond b (Some e) (look es k)) h.0 ∙ none_at es k h.1

@@ -7,11 +7,11 @@ use Rattle.sp_tree.specs.declared.token.Token.{Token}
 use Rattle.sp_tree.specs.declared.token.Kind.{Kind}
 use Rattle.sp_tree.specs.Breaches.{nesting}
 use Rattle.sp_grammar.specs.Symbols.{Symbol, Value, Values, part, AToken}
-use Rattle.sp_grammar.specs.Table.{Row, entry, rows, look, gap, build, kind_is, token}
+use Rattle.sp_grammar.specs.Table.{Row, row_entry, rows, look, gap, build, kind_is, token}
 use Rattle.sp_grammar.specs.Machine.{allows}
-use Rattle.sp_grammar.specs.Derives.{Begins as MayBegin, Derives, skips, DerivesAll, none, and}
+use Rattle.sp_grammar.specs.Derives.{PartMayBegin as MayBegin, Derives, skips, DerivesAll, none, and}
 use Rattle.sp_parse.specs.declared.source.Source.{Source}
-use Rattle.sp_parse.specs.Reads.{Within, Ready, breaks, HasRead, Halts, BeginsOther, BeginsWith, SoFar}
+use Rattle.sp_parse.specs.Reads.{IsNestable, HasTokens, breaks, HasRead, Halts, BeginsOther, BeginsWith, SoFar}
 use Rattle.sp_parse.proofs.Steps.{has_read, take, step_takes, step_fails, look_token}
 
 -- values, and one more
@@ -20,8 +20,8 @@ glue [] s vs v = (v, tt)
 glue (a ∷ l) s vs v = (vs.0, glue l s vs.1 v)
 
 pub glue_all : {text : List ℕ} (l : List Symbol) (s : Symbol) {ts m r : List Token} {vs : Values l} {v : Value s}
-    → DerivesAll text Within l ts m vs → Derives text Within s m r v
-    → DerivesAll text Within (l ++ s ∷ []) ts r (glue l s vs v)
+    → DerivesAll text IsNestable l ts m vs → Derives text IsNestable s m r v
+    → DerivesAll text IsNestable (l ++ s ∷ []) ts r (glue l s vs v)
 glue_all [] s none y = and y none
 glue_all (a ∷ l) s (and x xs) y = and x (glue_all l s xs y)
 
@@ -40,7 +40,7 @@ starts {source = source} {a = a} {ts = ts} {s = s} h e = record {
 -- a token, symbols, and the same goes on
 pub goes_on : {X U V : Type 0} {source : Source} {l : List Symbol} {of : Values l → V} {s : Symbol}
     {gives new : Value s → V} {ts rest behind left : List Token} {k : Kind} {a : List Symbol} {from : Values a → U}
-    {plain : X → U} {x : X} (row : Row s k (a ++ s ∷ [])) → look (rows s) k ≡ Some (entry k (a ++ s ∷ []) row)
+    {plain : X → U} {x : X} (row : Row s k (a ++ s ∷ [])) → look (rows s) k ≡ Some (row_entry k (a ++ s ∷ []) row)
     → part s ≡ None → SoFar source l of s gives ts rest
     → (b : BeginsWith source rest k behind) (h : HasRead source a from plain behind left x)
     → ((v : Value s) → new v ≡ gives (build source.text.now row b.token (glue a s h.values v)))
@@ -50,12 +50,12 @@ goes_on {source = source} {s = s} {rest = rest} {behind = behind} {left = left} 
       is = λ r v d.
           let text = source.text.now in
           let i = so.is r (build text row b.token (glue a s h.values v))
-          (subst (λ l. Derives text Within s l r (build text row b.token (glue a s h.values v))) (back_of b.all)
-          (take (entry k (a ++ s ∷ []) row) found b.token b.is
-          (subst (λ p. MayBegin Within p (b.token ∷ behind)) (back_of whole) tt) (glue_all a s h.derives d))) in
+          (subst (λ l. Derives text IsNestable s l r (build text row b.token (glue a s h.values v))) (back_of b.all)
+          (take (row_entry k (a ++ s ∷ []) row) found b.token b.is
+          (subst (λ p. MayBegin IsNestable p (b.token ∷ behind)) (back_of whole) tt) (glue_all a s h.derives d))) in
           (i.0, i.1, e v ∙ i.2);
       leads = λ q. so.leads q ∙ ap (λ l. breaks source l (s ∷ q)) b.all
-          ∙ step_takes source s b.token behind (entry k (a ++ s ∷ []) row) (ap (look (rows s)) b.is ∙ found)
+          ∙ step_takes source s b.token behind (row_entry k (a ++ s ∷ []) row) (ap (look (rows s)) b.is ∙ found)
           (ap (allows (Some nesting)) whole) q ∙ ap (breaks source behind) (append_assoc a (s ∷ []) q)
           ∙ h.leads (s ∷ q);
       shorter = omega (arith, so.shorter, h.shorter, ap length b.all);
@@ -65,28 +65,29 @@ goes_on {source = source} {s = s} {rest = rest} {behind = behind} {left = left} 
 -- the token, and symbols that are not there
 pub halts_on : {V : Type 0} {source : Source} {l : List Symbol} {of : Values l → V} {s : Symbol} {gives : Value s → V}
     {ts rest behind : List Token} {k : Kind} (a : List Symbol) (row : Row s k (a ++ s ∷ []))
-    → look (rows s) k ≡ Some (entry k (a ++ s ∷ []) row) → part s ≡ None → SoFar source l of s gives ts rest
+    → look (rows s) k ≡ Some (row_entry k (a ++ s ∷ []) row) → part s ≡ None → SoFar source l of s gives ts rest
     → BeginsWith source rest k behind → (e : Halt) → Halts source a behind e → Halts source l ts e
 halts_on a row found whole so b halt.Memory h = tt
 halts_on {source = source} {s = s} {behind = behind} {k = k} a row found whole so b (halt.Refused f) h = λ q. so.leads q
     ∙ ap (λ l. breaks source l (s ∷ q)) b.all
-    ∙ step_takes source s b.token behind (entry k (a ++ s ∷ []) row) (ap (look (rows s)) b.is ∙ found)
+    ∙ step_takes source s b.token behind (row_entry k (a ++ s ∷ []) row) (ap (look (rows s)) b.is ∙ found)
     (ap (allows (Some nesting)) whole) q ∙ ap (breaks source behind) (append_assoc a (s ∷ []) q) ∙ h (s ∷ q)
 
 -- the rest is there
 pub ends : {X V : Type 0} {source : Source} {l : List Symbol} {of : Values l → V} {s : Symbol} {gives : Value s → V}
     {ts rest r : List Token} {plain : X → V} {x : X} {v : Value s} → SoFar source l of s gives ts rest
-    → Derives source.text.now Within s rest r v → Ready source r → plain x ≡ gives v → HasRead source l of plain ts r x
+    → Derives source.text.now IsNestable s rest r v → HasTokens source r → plain x ≡ gives v
+    → HasRead source l of plain ts r x
 ends {r = r} {v = v} so d a e = let i = so.is r v d in has_read a i.1 (e ∙ i.2)
 
 -- it stands for nothing
 pub skipped : {text : List ℕ} (s : Symbol) {ts : List Token} {v : Value s} (t : Token) (r : List Token) → ts ≡ t ∷ r
-    → look (rows s) t.kind ≡ None → gap s t ≡ Some v → Derives text Within s ts ts v
-skipped {text} s {v = v} t r e h g = subst (λ l. Derives text Within s l l v) (back_of e) (skips t h g)
+    → look (rows s) t.kind ≡ None → gap s t ≡ Some v → Derives text IsNestable s ts ts v
+skipped {text} s {v = v} t r e h g = subst (λ l. Derives text IsNestable s l l v) (back_of e) (skips t h g)
 
 -- nothing is read yet
 pub nothing_yet : {V : Type 0} {source : Source} {ts : List Token} (s : Symbol) (of : Values (s ∷ []) → V)
-    (gives : Value s → V) → ((v : Value s) → gives v ≡ of (v, tt)) → Ready source ts
+    (gives : Value s → V) → ((v : Value s) → gives v ≡ of (v, tt)) → HasTokens source ts
     → SoFar source (s ∷ []) of s gives ts ts
 nothing_yet s of gives e a = record {
   is = λ r v d. ((v, tt), and d none, e v);
@@ -98,7 +99,7 @@ nothing_yet s of gives e a = record {
 -- the symbols that a row leaves are read so far
 pub chain : {V : Type 0} {source : Source} {l : List Symbol} {of : Values l → V} {s z : Symbol} {gives : Value s → V}
     {new : Value z → V} {ts rest behind left : List Token} {k : Kind} {a : List Symbol} {from : Values a → V}
-    (row : Row s k a) → look (rows s) k ≡ Some (entry k a row) → part s ≡ None → SoFar source l of s gives ts rest
+    (row : Row s k a) → look (rows s) k ≡ Some (row_entry k a row) → part s ≡ None → SoFar source l of s gives ts rest
     → (b : BeginsWith source rest k behind) → SoFar source a from z new behind left
     → ((vs : Values a) → from vs ≡ gives (build source.text.now row b.token vs)) → SoFar source l of z new ts left
 chain {source = source} {s = s} {rest = rest} {behind = behind} {k = k} {a = a} row found whole so b inner e = record {
@@ -106,12 +107,12 @@ chain {source = source} {s = s} {rest = rest} {behind = behind} {k = k} {a = a} 
       let text = source.text.now in
       let i = inner.is r v d in
       let j = so.is r (build text row b.token i.0)
-      (subst (λ l. Derives text Within s l r (build text row b.token i.0)) (back_of b.all)
-      (take (entry k a row) found b.token b.is
-      (subst (λ p. MayBegin Within p (b.token ∷ behind)) (back_of whole) tt) i.1)) in
+      (subst (λ l. Derives text IsNestable s l r (build text row b.token i.0)) (back_of b.all)
+      (take (row_entry k a row) found b.token b.is
+      (subst (λ p. MayBegin IsNestable p (b.token ∷ behind)) (back_of whole) tt) i.1)) in
       (j.0, j.1, i.2 ∙ e i.0 ∙ j.2);
   leads = λ q. so.leads q ∙ ap (λ l. breaks source l (s ∷ q)) b.all
-      ∙ step_takes source s b.token behind (entry k a row) (ap (look (rows s)) b.is ∙ found)
+      ∙ step_takes source s b.token behind (row_entry k a row) (ap (look (rows s)) b.is ∙ found)
       (ap (allows (Some nesting)) whole) q ∙ inner.leads q;
   shorter = omega (arith, so.shorter, inner.shorter, ap length b.all);
   ready = inner.ready;
@@ -120,12 +121,12 @@ chain {source = source} {s = s} {rest = rest} {behind = behind} {k = k} {a = a} 
 -- where the symbols that a row leaves are not there
 pub halts_chain : {V : Type 0} {source : Source} {l : List Symbol} {of : Values l → V} {s : Symbol}
     {gives : Value s → V} {ts rest behind : List Token} {k : Kind} {a : List Symbol} (row : Row s k a)
-    → look (rows s) k ≡ Some (entry k a row) → part s ≡ None → SoFar source l of s gives ts rest
+    → look (rows s) k ≡ Some (row_entry k a row) → part s ≡ None → SoFar source l of s gives ts rest
     → BeginsWith source rest k behind → (e : Halt) → Halts source a behind e → Halts source l ts e
 halts_chain row found whole so b halt.Memory h = tt
 halts_chain {source = source} {s = s} {behind = behind} {k = k} {a = a} row found whole so b (halt.Refused f) h =
     λ q. so.leads q ∙ ap (λ l. breaks source l (s ∷ q)) b.all
-    ∙ step_takes source s b.token behind (entry k a row) (ap (look (rows s)) b.is ∙ found)
+    ∙ step_takes source s b.token behind (row_entry k a row) (ap (look (rows s)) b.is ∙ found)
     (ap (allows (Some nesting)) whole) q ∙ h q
 
 -- where the pending symbol is not there
@@ -137,17 +138,18 @@ halts_pending so (halt.Refused f) h = λ q. so.leads q ∙ h q
 
 -- a symbol that takes one kind alone here stands or falls with that token
 closes_by : (source : Source) (s : Symbol) (k : Kind) (a : List Symbol) (row : Row s k a) (t : Token) (ts : List Token)
-    (b : Bool) → kind_is k t.kind ≡ b → look (rows s) t.kind ≡ cond b (Some (entry k a row)) None → gap s t ≡ None
+    (b : Bool) → kind_is k t.kind ≡ b → look (rows s) t.kind ≡ cond b (Some (row_entry k a row)) None → gap s t ≡ None
     → part s ≡ None → (q : List Symbol) → breaks source (t ∷ ts) (s ∷ q) ≡ breaks source (t ∷ ts) (AToken k ∷ a ++ q)
 closes_by source s k a row t ts true p h g whole q =
-    step_takes source s t ts (entry k a row) h (ap (allows (Some nesting)) whole) q
-    ∙ back_of (step_takes source (AToken k) t ts (entry k [] token) (look_token k t.kind true p) refl (a ++ q))
+    step_takes source s t ts (row_entry k a row) h (ap (allows (Some nesting)) whole) q
+    ∙ back_of (step_takes source (AToken k) t ts (row_entry k [] token) (look_token k t.kind true p) refl (a ++ q))
 closes_by source s k a row t ts false p h g whole q = step_fails source s t ts h g q
     ∙ back_of (step_fails source (AToken k) t ts (look_token k t.kind false p) refl (a ++ q))
 
 pub halts_close : {V : Type 0} {source : Source} {l : List Symbol} {of : Values l → V} {s : Symbol}
     {gives : Value s → V} {ts rest : List Token} {k j : Kind} {a : List Symbol} (row : Row s k a)
-    → (b : BeginsOther rest j) → look (rows s) b.token.kind ≡ cond (kind_is k b.token.kind) (Some (entry k a row)) None
+    → (b : BeginsOther rest j) → look (rows s) b.token.kind ≡ cond (kind_is k b.token.kind)
+    (Some (row_entry k a row)) None
     → gap s b.token ≡ None → part s ≡ None → SoFar source l of s gives ts rest → (e : Halt)
     → Halts source (AToken k ∷ []) rest e → Halts source l ts e
 halts_close row b h g whole so halt.Memory x = tt

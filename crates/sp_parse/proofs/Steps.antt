@@ -12,14 +12,15 @@ use Rattle.sp_tree.specs.declared.token.Kind.TheVariants as kind
 use Rattle.sp_tree.specs.Places.{place_at}
 use Rattle.sp_tree.specs.Breaches.{nesting}
 use Rattle.sp_grammar.specs.Symbols.{Symbol, Value, Values, part, AToken}
-use Rattle.sp_grammar.specs.Table.{Entry, Row, entry, rows, look, gap, build, kind_is, token}
-use Rattle.sp_grammar.specs.Machine.{Why, Bad, Deep, Take, Skip, Fail, allows, skips_if, acts, act, End, Stuck, run}
-use Rattle.sp_grammar.specs.Derives.{Begins as MayBegin, Derives, takes, skips, DerivesAll, none, and}
+use Rattle.sp_grammar.specs.Table.{RowEntry, Row, row_entry, rows, look, gap, build, kind_is, token}
+use Rattle.sp_grammar.specs.Machine.{Why, Bad, Deep, Take, Skip, Fail, allows, skips_if, acts, act, RunEnd, StuckAt}
+use Rattle.sp_grammar.specs.Machine.{run}
+use Rattle.sp_grammar.specs.Derives.{PartMayBegin as MayBegin, Derives, takes, skips, DerivesAll, none, and}
 use Rattle.sp_grammar.proofs.Run.{at_act, act_takes, act_skips, leads_all}
 use Rattle.sp_grammar.proofs.From.{kind_is-true}
 use Rattle.sp_parse.specs.declared.source.Source.{Source}
-use Rattle.sp_parse.specs.Reads.{Within, Ready, breaks, refused_by, HasRead, Halts, Begins, BeginsOther}
-use Rattle.sp_parse.specs.Reads.{BeginsWith, Passes, Expected}
+use Rattle.sp_parse.specs.Reads.{IsNestable, HasTokens, breaks, refused_by, HasRead, Halts, HasFirstToken, BeginsOther}
+use Rattle.sp_parse.specs.Reads.{BeginsWith, PassesToken, Expected}
 
 -- a part inside fewer than 200 others is allowed
 pub below : (a b : ℕ) → a < b → (allows (Some b) (Some a) ≡ true)
@@ -28,56 +29,59 @@ below a b h = grind (arith, nat_tests)
 pub above : (a b : ℕ) → b ≤ a → (allows (Some b) (Some a) ≡ false)
 above a b h = grind (arith, nat_tests)
 
-reaches : (d : ℕ) (ts : List Token) → Within d ts → (allows (Some nesting) (Some d) ≡ true) ⊎ (length ts < 0)
+reaches : (d : ℕ) (ts : List Token) → IsNestable d ts → (allows (Some nesting) (Some d) ≡ true) ⊎ (length ts < 0)
 reaches d ts h = inl (below d nesting h)
 
-same_end : (x y : End) → (x ≡ y) ⊎ ((w : Why) × (us : List Token) × (length us < 0) × (x ≡ Stuck w us)) → x ≡ y
+same_end : (x y : RunEnd) → (x ≡ y) ⊎ ((w : Why) × (us : List Token) × (length us < 0) × (x ≡ StuckAt w us)) → x ≡ y
 same_end x y (inl p) = p
 same_end x y (inr (w, us, h, p)) = absurd (omega (arith, h))
 
 -- the machine follows what is derived
 pub follows : (source : Source) {l : List Symbol} {ts r : List Token} {vs : Values l}
-    → DerivesAll source.text.now Within l ts r vs → (q : List Symbol) → breaks source ts (l ++ q) ≡ breaks source r q
+    → DerivesAll source.text.now IsNestable l ts r vs → (q : List Symbol) → breaks source ts (l ++ q)
+    ≡ breaks source r q
 unfolding breaks
 follows source {l} {ts} {r} d q = ap (refused_by source.text.now)
     (same_end (run (Some nesting) ts (l ++ q)) (run (Some nesting) r q)
-    (leads_all source.text.now Within (Some nesting) 0 reaches d q).by)
+    (leads_all source.text.now IsNestable (Some nesting) 0 reaches d q).by)
 
 mutual
-  shorter_one : {text : List ℕ} {s : Symbol} {ts r : List Token} {v : Value s} → Derives text Within s ts r v
+  shorter_one : {text : List ℕ} {s : Symbol} {ts r : List Token} {v : Value s} → Derives text IsNestable s ts r v
       → length r ≤ length ts
   shorter_one (takes t e h o x) = omega (arith, shorter_all x)
   shorter_one (skips t h g) = omega arith
 
-  shorter_all : {text : List ℕ} {l : List Symbol} {ts r : List Token} {vs : Values l} → DerivesAll text Within l ts r vs
+  shorter_all : {text : List ℕ} {l : List Symbol} {ts r : List Token} {vs : Values l}
+      → DerivesAll text IsNestable l ts r vs
       → length r ≤ length ts
   shorter_all none = omega arith
   shorter_all (and x xs) = omega (arith, shorter_one x, shorter_all xs)
 
 -- what is derived is read
 pub has_read : {X V : Type 0} {source : Source} {l : List Symbol} {of : Values l → V} {plain : X → V}
-    {ts r : List Token} {x : X} {vs : Values l} → Ready source r → DerivesAll source.text.now Within l ts r vs
+    {ts r : List Token} {x : X} {vs : Values l} → HasTokens source r → DerivesAll source.text.now IsNestable l ts r vs
     → plain x ≡ of vs → HasRead source l of plain ts r x
 has_read {source = source} {vs = vs} a d e =
     record { values = vs; derives = d; same = e; leads = λ q. follows source d q; shorter = shorter_all d; ready = a }
 
 -- the first of what is derived
 pub head : {text : List ℕ} {s : Symbol} {ts r : List Token} {vs : Values (s ∷ [])}
-    → DerivesAll text Within (s ∷ []) ts r vs → Derives text Within s ts r vs.0
+    → DerivesAll text IsNestable (s ∷ []) ts r vs → Derives text IsNestable s ts r vs.0
 head (and x none) = x
 
-pub one : {X V : Type 0} {source : Source} {s : Symbol} {of : Values (s ∷ []) → V} {plain : X → V} {ts r : List Token}
-    {x : X} (h : HasRead source (s ∷ []) of plain ts r x) → Derives source.text.now Within s ts r h.values.0
-one h = head h.derives
+pub first_derived : {X V : Type 0} {source : Source} {s : Symbol} {of : Values (s ∷ []) → V} {plain : X → V}
+    {ts r : List Token}
+    {x : X} (h : HasRead source (s ∷ []) of plain ts r x) → Derives source.text.now IsNestable s ts r h.values.0
+first_derived h = head h.derives
 
 -- a symbol takes this token by this row
-pub take : {text : List ℕ} {s : Symbol} (e : Entry (Row s)) → look (rows s) e.key ≡ Some e → (t : Token)
-    → t.kind ≡ e.key → {ts r : List Token} {vs : Values e.left} → MayBegin Within (part s) (t ∷ ts)
-    → DerivesAll text Within e.left ts r vs → Derives text Within s (t ∷ ts) r (build text e.row t vs)
+pub take : {text : List ℕ} {s : Symbol} (e : RowEntry (Row s)) → look (rows s) e.key ≡ Some e → (t : Token)
+    → t.kind ≡ e.key → {ts r : List Token} {vs : Values e.left} → MayBegin IsNestable (part s) (t ∷ ts)
+    → DerivesAll text IsNestable e.left ts r vs → Derives text IsNestable s (t ∷ ts) r (build text e.row t vs)
 take {s = s} e h t p o x = takes t e (ap (look (rows s)) p ∙ h) o x
 
 -- the steps of the machine
-pub step_takes : (source : Source) (s : Symbol) (t : Token) (ts : List Token) (e : Entry (Row s))
+pub step_takes : (source : Source) (s : Symbol) (t : Token) (ts : List Token) (e : RowEntry (Row s))
     → look (rows s) t.kind ≡ Some e → allows (Some nesting) (part s) ≡ true → (q : List Symbol)
     → breaks source (t ∷ ts) (s ∷ q) ≡ breaks source ts (e.left ++ q)
 unfolding breaks
@@ -100,7 +104,7 @@ unfolding breaks
 step_fails source s t ts h g q = ap (refused_by source.text.now)
     (at_act (Some nesting) s t ts q (Fail Bad) (act_fails s t h g))
 
-pub step_deep : (source : Source) (s : Symbol) (t : Token) (ts : List Token) (e : Entry (Row s))
+pub step_deep : (source : Source) (s : Symbol) (t : Token) (ts : List Token) (e : RowEntry (Row s))
     → look (rows s) t.kind ≡ Some e → allows (Some nesting) (part s) ≡ false → (q : List Symbol)
     → breaks source (t ∷ ts) (s ∷ q) ≡ Some (record { rule = rule.L2; at = t.at })
 unfolding breaks
@@ -126,10 +130,10 @@ kind_is-other a b false h n = h
 
 -- one token
 pub look_token : (k j : Kind) (b : Bool) → kind_is k j ≡ b
-    → look (rows (AToken k)) j ≡ cond b (Some (entry k [] token)) None
-look_token k j b h = ap (λ b. cond b (Some (entry k [] token)) None) h
+    → look (rows (AToken k)) j ≡ cond b (Some (row_entry k [] token)) None
+look_token k j b h = ap (λ b. cond b (Some (row_entry k [] token)) None) h
 
-pub cut_ends : (source : Source) (ts : List Token) → length ts < 1 → Ready source ts → (ts ≡ [])
+pub cut_ends : (source : Source) (ts : List Token) → length ts < 1 → HasTokens source ts → (ts ≡ [])
     × ((s : Symbol) (q : List Symbol) → breaks source ts (s ∷ q) ≡ Some (record { rule = rule.G2; at = source.end }))
 cut_ends source [] h a = (
   refl,
@@ -139,11 +143,11 @@ cut_ends source [] h a = (
 cut_ends source (t ∷ ts) h a = absurd (omega arith)
 
 pub token_is : {source : Source} {ts r : List Token} {k : Kind} → BeginsWith source ts k r
-    → Derives source.text.now Within (AToken k) ts r tt
-token_is {source} {ts} {r} {k} b = subst (λ l. Derives source.text.now Within (AToken k) l r tt) (back_of b.all)
-    (take (entry k [] token) (look_token k k true (kind_is-same k)) b.token b.is tt none)
+    → Derives source.text.now IsNestable (AToken k) ts r tt
+token_is {source} {ts} {r} {k} b = subst (λ l. Derives source.text.now IsNestable (AToken k) l r tt) (back_of b.all)
+    (take (row_entry k [] token) (look_token k k true (kind_is-same k)) b.token b.is tt none)
 
-pub expect_is : {source : Source} {ts r : List Token} {t : Token} (k : Kind) → Begins source ts t r → t.kind ≡ k
+pub expect_is : {source : Source} {ts r : List Token} {t : Token} (k : Kind) → HasFirstToken source ts t r → t.kind ≡ k
     → Expected source k ts r
 expect_is {source} {ts} {r} {t} k b p =
     let first : BeginsWith source ts k r = record { token = t; is = p; all = b.all; ready = b.ready } in
@@ -155,23 +159,23 @@ expect_is {source} {ts} {r} {t} k b p =
 
 -- of what is read behind others
 pub expected : {source : Source} {ts r : List Token} {k : Kind} → Expected source k ts r
-    → Derives source.text.now Within (AToken k) ts r tt
+    → Derives source.text.now IsNestable (AToken k) ts r tt
 expected h = token_is h.first
 
 -- no row fits
-pub fails : {source : Source} {ts r : List Token} {t : Token} (s : Symbol) → Begins source ts t r
+pub fails : {source : Source} {ts r : List Token} {t : Token} (s : Symbol) → HasFirstToken source ts t r
     → look (rows s) t.kind ≡ None → gap s t ≡ None → (e : Halt)
     → e ≡ halt.Refused (record { rule = rule.G1; at = t.at }) → Halts source (s ∷ []) ts e
 fails {source} {ts} {r} {t} s b h g e p = subst (Halts source (s ∷ []) ts) (back_of p)
     (λ q. ap (λ l. breaks source l (s ∷ q)) b.all ∙ step_fails source s t r h g q)
 
-pub expect_fails : {source : Source} {ts r : List Token} {t : Token} (k : Kind) → Begins source ts t r
+pub expect_fails : {source : Source} {ts r : List Token} {t : Token} (k : Kind) → HasFirstToken source ts t r
     → (t.kind ≡ k → ⊥) → (e : Halt) → e ≡ halt.Refused (record { rule = rule.G1; at = t.at })
     → Halts source (AToken k ∷ []) ts e
 expect_fails {t = t} k b n = fails (AToken k) b
     (look_token k t.kind false (kind_is-other k t.kind (kind_is k t.kind) refl n)) refl
 
-pub passes_other : {source : Source} {ts r : List Token} {t : Token} (k : Kind) → Begins source ts t r
+pub passes_other : {source : Source} {ts r : List Token} {t : Token} (k : Kind) → HasFirstToken source ts t r
     → (t.kind ≡ k → ⊥) → BeginsOther ts k
 passes_other {r = r} {t = t} k b n = record {
   token = t;
@@ -182,15 +186,16 @@ passes_other {r = r} {t = t} k b n = record {
 
 -- which of both it was
 pub passed : (source : Source) (k : Kind) (ts : List Token) (o : Option (Bor (List Token))) (r : Bor (List Token))
-    → Passes source k ts (Ok o) → o ≡ Some r → BeginsWith source ts k r.now
-passed source k ts o r h e = subst (λ o. Passes source k ts (Ok o)) e h
+    → PassesToken source k ts (Ok o) → o ≡ Some r → BeginsWith source ts k r.now
+passed source k ts o r h e = subst (λ o. PassesToken source k ts (Ok o)) e h
 
 pub not_passed : (source : Source) (k : Kind) (ts : List Token) (o : Option (Bor (List Token)))
-    → Passes source k ts (Ok o) → o ≡ None → BeginsOther ts k
-not_passed source k ts o h e = subst (λ o. Passes source k ts (Ok o)) e h
+    → PassesToken source k ts (Ok o) → o ≡ None → BeginsOther ts k
+not_passed source k ts o h e = subst (λ o. PassesToken source k ts (Ok o)) e h
 
 -- no token is left for a test
-pub pass_halts : (source : Source) (k : Kind) (ts : List Token) (s : Symbol) (e : Halt) → Passes source k ts (Err e)
+pub pass_halts : (source : Source) (k : Kind) (ts : List Token) (s : Symbol) (e : Halt)
+    → PassesToken source k ts (Err e)
     → Halts source (s ∷ []) ts e
 pass_halts source k ts s halt.Memory h = absurd h
 pass_halts source k ts s (halt.Refused f) h = λ q. h.1 s q

@@ -14,7 +14,7 @@ use Rattle.sp_tree.specs.declared.syntax.SynGroup.{SynGroup}
 use Rattle.sp_tree.specs.declared.syntax.SynPart.{SynPart}
 use Rattle.sp_tree.specs.Words as w
 use Rattle.sp_tree.specs.PlainSyntax as tree
-use Rattle.sp_tree.specs.Grammar.{declared}
+use Rattle.sp_tree.specs.Grammar.{with_part_first}
 use Rattle.sp_grammar.specs.Symbols.{AToken, AName, AHeading, MoreNames, AConstant, AType, MoreFields, AFormal}
 use Rattle.sp_grammar.specs.Symbols.{MoreFormals, Formals, ABlock, MoreConstants, MoreTypes, MoreVariables}
 use Rattle.sp_parse.specs.Productions.{Production, production}
@@ -89,18 +89,19 @@ one_group = production (AName ∷ MoreNames ∷ AToken w.Colon ∷ AName ∷ ATo
 -- constants = "const" name "=" constant ";" { name "=" constant ";" }, with the declarations before and behind them
 abbrev pub constants : List SynPart → ℕ → Production tree.Block
 constants before d = production (AName ∷ AToken w.Equal ∷ AConstant ∷ AToken w.Semicolon ∷ MoreConstants d ∷ [])
-    (λ (name, (_, (value, (_, (behind, _))))). and_parts before (declared (tree.Const name value) behind))
+    (λ (name, (_, (value, (_, (behind, _))))). and_parts before (with_part_first (tree.Const name value) behind))
 
 -- types = "type" name "=" type ";" { name "=" type ";" }, in the same way
 abbrev pub types : List SynPart → ℕ → Production tree.Block
 types before d = production (AName ∷ AToken w.Equal ∷ AType ∷ AToken w.Semicolon ∷ MoreTypes d ∷ [])
-    (λ (name, (_, (kind, (_, (behind, _))))). and_parts before (declared (tree.Kind name kind) behind))
+    (λ (name, (_, (kind, (_, (behind, _))))). and_parts before (with_part_first (tree.Kind name kind) behind))
 
 -- variables = "var" names ":" name ";" { names ":" name ";" }, in the same way
 abbrev pub variables : List SynPart → ℕ → Production tree.Block
 variables before d = production
     (AName ∷ MoreNames ∷ AToken w.Colon ∷ AName ∷ AToken w.Semicolon ∷ MoreVariables d ∷ [])
-    (λ (name, (more, (_, (kind, (_, (behind, _)))))). and_parts before (declared (tree.Var (name ∷ more) kind) behind))
+    (λ (name, (more, (_, (kind, (_, (behind, _)))))). and_parts before
+    (with_part_first (tree.Var (name ∷ more) kind) behind))
 
 -- the block of a procedure or function, between its semicolons
 abbrev pub body : ℕ → Production tree.Block

@@ -22,8 +22,8 @@ expression_then d k = production (AnExpression d ∷ AToken k ∷ []) (λ (value
 
 -- simple = [ "+" | "-" ] term { ( "+" | "-" | "or" ) term }, where this much is read and the terms behind it are
 -- pending
-abbrev pub continued : SynExpr → (tree.Expression → tree.Expression) → tree.Expression
-continued sum terms = terms (expression_of sum)
+abbrev pub continued_expression : SynExpr → (tree.Expression → tree.Expression) → tree.Expression
+continued_expression sum terms = terms (expression_of sum)
 
 -- term = factor { ( "*" | "div" | "mod" | "and" ) factor }
 abbrev pub term : ℕ → Production tree.Expression
@@ -31,11 +31,11 @@ term d = production (AFactor d ∷ MoreFactors d ∷ []) (λ (first, (factors, _
 
 -- factor = "not" factor
 abbrev pub negation : ℕ → Place → Production tree.Expression
-negation d at = production (ANegated d ∷ []) (λ (inner, _). tree.At at (tree.Unary unary.Not inner))
+negation d at = production (ANegated d ∷ []) (λ (inner, _). tree.ExpressionAt at (tree.Unary unary.Not inner))
 
 -- factor = variable | call, behind the name that either begins with
 abbrev pub reference : ℕ → Place → Name → Production tree.Expression
-reference d at name = production (AReference d ∷ []) (λ (form_of, _). tree.At at (form_of name))
+reference d at name = production (AReference d ∷ []) (λ (form_of, _). tree.ExpressionAt at (form_of name))
 
 -- variable = name { "[" expression { "," expression } "]" | "." name }, the indices behind one "["
 abbrev pub indices : ℕ → List SynSelector → Production tree.Selectors

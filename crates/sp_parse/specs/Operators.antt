@@ -17,7 +17,7 @@ use Rattle.sp_tree.specs.Grammar.{IsRelational, IsAdding, IsMultiplying}
 use Rattle.sp_grammar.specs.Symbols.{Symbol, ARelation, MoreTerms, MoreFactors}
 use Rattle.sp_grammar.specs.Table.{kind_is, look, rows, factor_rows, simple_rows, selector_rows, form_rows}
 use Rattle.sp_parse.specs.declared.source.Source.{Source}
-use Rattle.sp_parse.specs.Reads.{Ready, breaks}
+use Rattle.sp_parse.specs.Reads.{HasTokens, breaks}
 
 -- a sign before a term
 abbrev pub IsSign : Token → Option UnaryOp → Type 0
@@ -34,7 +34,7 @@ pub record Operator (Is : Kind → BinaryOp → Type 0) (source : Source) (ts : 
   pub token : Token
   pub is : token.kind ≡ key
   pub all : ts ≡ token ∷ r
-  pub ready : Ready source r
+  pub ready : HasTokens source r
 
 -- The first token goes on with none of these symbols.
 pub record NoOperator (tail : ℕ → Symbol) (ts : List Token) : Type 0 where
@@ -44,23 +44,23 @@ pub record NoOperator (tail : ℕ → Symbol) (ts : List Token) : Type 0 where
   pub other : (d : ℕ) → look (rows (tail d)) token.kind ≡ None
 
 -- an operator and what is behind it; or none; or no token is left
-abbrev pub Operates : (Kind → BinaryOp → Type 0) → (ℕ → Symbol) → Source → List Token
+abbrev pub ReadsOperator : (Kind → BinaryOp → Type 0) → (ℕ → Symbol) → Source → List Token
     → Result (Option (BinaryOp × Bor (List Token))) Halt → Type 0
-Operates Is tail source ts (Ok None) = NoOperator tail ts
-Operates Is tail source ts (Ok (Some x)) = Operator Is source ts x.0 x.1.now
-Operates Is tail source ts (Err halt.Memory) = ⊥
-Operates Is tail source ts (Err (halt.Refused r)) = (ts ≡ [])
+ReadsOperator Is tail source ts (Ok None) = NoOperator tail ts
+ReadsOperator Is tail source ts (Ok (Some x)) = Operator Is source ts x.0 x.1.now
+ReadsOperator Is tail source ts (Err halt.Memory) = ⊥
+ReadsOperator Is tail source ts (Err (halt.Refused r)) = (ts ≡ [])
     × ((s : Symbol) (q : List Symbol) → breaks source ts (s ∷ q) ≡ Some r)
 
 -- the same for relations, for operators between terms, and for those between factors
-abbrev pub Relates : Source → List Token → Result (Option (BinaryOp × Bor (List Token))) Halt → Type 0
-Relates = Operates IsRelational ARelation
+abbrev pub ReadsRelation : Source → List Token → Result (Option (BinaryOp × Bor (List Token))) Halt → Type 0
+ReadsRelation = ReadsOperator IsRelational ARelation
 
-abbrev pub Adds : Source → List Token → Result (Option (BinaryOp × Bor (List Token))) Halt → Type 0
-Adds = Operates IsAdding MoreTerms
+abbrev pub ReadsAddition : Source → List Token → Result (Option (BinaryOp × Bor (List Token))) Halt → Type 0
+ReadsAddition = ReadsOperator IsAdding MoreTerms
 
-abbrev pub Multiplies : Source → List Token → Result (Option (BinaryOp × Bor (List Token))) Halt → Type 0
-Multiplies = Operates IsMultiplying MoreFactors
+abbrev pub ReadsMultiplication : Source → List Token → Result (Option (BinaryOp × Bor (List Token))) Halt → Type 0
+ReadsMultiplication = ReadsOperator IsMultiplying MoreFactors
 
 -- whether there is one
 abbrev pub is_some : {A : Type 0} → Option A → Bool

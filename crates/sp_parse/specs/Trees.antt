@@ -10,14 +10,15 @@ use Rattle.sp_tree.specs.declared.syntax.SynStmt.{SynStmt}
 use Rattle.sp_tree.specs.declared.syntax.SynArm.{SynArm}
 use Rattle.sp_tree.specs.declared.syntax.SynBranch.{SynBranch}
 use Rattle.sp_parse.specs.declared.made_statements.Bounds.{Bounds}
-use Rattle.sp_tree.specs.PlainSyntax.{Expression, Width, Selectors, Select, Arguments, AndArgument, Other, Statements}
+use Rattle.sp_tree.specs.PlainSyntax.{Expression, Width, Selectors, Select, Arguments, AndArgument, ElsePart}
+use Rattle.sp_tree.specs.PlainSyntax.{Statements}
 use Rattle.sp_tree.specs.PlainSyntax.{AndThen, Arms, Or, Branches, Beside}
 use Rattle.sp_tree.specs.SyntaxOf.{expression_of, selector_of, argument_of, selectors, width, statement_of, arm_of}
-use Rattle.sp_tree.specs.SyntaxOf.{branch_of, other, arms, branches}
+use Rattle.sp_tree.specs.SyntaxOf.{branch_of, else_part, arms, branches}
 
 -- what is made stands for this, unless there is no memory for it
-abbrev pub Gives : {X V E : Type 0} → (X → V) → V → Result X E → Type 0
-Gives plain v result = IfOk result (λ x. plain x ≡ v)
+abbrev pub MakesTree : {X V E : Type 0} → (X → V) → V → Result X E → Type 0
+MakesTree plain v result = IfOk result (λ x. plain x ≡ v)
 
 -- the width of an argument, if it has one
 abbrev pub width_of : Option SynExpr → Width
@@ -42,9 +43,9 @@ abbrev pub and_arguments : List SynArg → Arguments → Arguments
 and_arguments args more = lay AndArgument (map argument_of args) more
 
 -- what stands behind `else`, and the arms and processes of a statement
-abbrev pub other_of : Option SynStmt → Other
-other_of None = other None
-other_of (Some s) = other (Some (statement_of s))
+abbrev pub other_of : Option SynStmt → ElsePart
+other_of None = else_part None
+other_of (Some s) = else_part (Some (statement_of s))
 
 abbrev pub arms_of : List SynArm → Arms
 arms_of all = arms (map arm_of all)

@@ -5,7 +5,7 @@ ghost use Rattle.sp_tree.specs.Words.{Begin as ABegin};
 ghost use Rattle.sp_tree.specs.SyntaxOf.{block_of, part_of, program_of};
 ghost use Rattle.sp_grammar.specs.Symbols.{AProgram, ABlock, Parts};
 ghost use Rattle.sp_parse.specs.Productions.{single};
-ghost use Rattle.sp_parse.specs.Reads.{Ready, Reads, Halts, BeginsOther};
+ghost use Rattle.sp_parse.specs.Reads.{HasTokens, ParsesAs, Halts, BeginsOther};
 ghost use Rattle.sp_parse.specs.BlockProductions as grammar;
 ghost use Rattle.sp_parse.specs.Declares.{BeginsBlock, Declares};
 
@@ -17,8 +17,9 @@ use crate::names::name;
 use crate::operators::is;
 use crate::source::{Source, cut, expect, misplaced};
 use crate::statements::compound;
+use crate::take;
 use crate::types::type_name;
-use sp_base::{Boxed, Halt, List, take};
+use sp_base::{Boxed, Halt, List};
 use sp_tree::{Kind, MAX_NESTING, SynBlock, SynPart, Syntax, Token, sign, word};
 
 /// Whether a block begins with the token.
@@ -35,7 +36,7 @@ fn begins_block(token: Token) -> bool
 
 /// Why no block may stand here.
 fn deep_block(source: &Source, tokens: &[Token]) -> Halt
-    requires { Ready source.now tokens.now }
+    requires { HasTokens source.now tokens.now }
     ensures { (d : ℕ) → 200 ≤ d → Halts source.now (ABlock d ∷ []) tokens.now result }
 {
     match cut(source, tokens) {
@@ -57,8 +58,8 @@ fn block<'t>(
     tokens: &'t [Token],
     depth: u32,
 ) -> Result<(SynBlock, &'t [Token]), Halt>
-    requires { Ready source.now tokens.now }
-    ensures { Reads source.now (single (ABlock depth)) block_of tokens.now result }
+    requires { HasTokens source.now tokens.now }
+    ensures { ParsesAs source.now (single (ABlock depth)) block_of tokens.now result }
 {
     if depth >= MAX_NESTING {
         return Err(deep_block(source, tokens));
@@ -74,8 +75,8 @@ fn parts<'t>(
     tokens: &'t [Token],
     depth: u32,
 ) -> Result<(SynBlock, &'t [Token]), Halt>
-    requires { Ready source.now tokens.now }
-    ensures { Reads source.now (single (Parts depth)) block_of tokens.now result }
+    requires { HasTokens source.now tokens.now }
+    ensures { ParsesAs source.now (single (Parts depth)) block_of tokens.now result }
 {
     let mut all = List::new(source.alloc);
     let mut rest = tokens;
@@ -100,7 +101,7 @@ fn declarations<'t>(
     depth: u32,
     mut all: List<SynPart>,
 ) -> Result<(List<SynPart>, &'t [Token]), Halt>
-    requires ready { Ready source.now tokens.now }
+    requires ready { HasTokens source.now tokens.now }
     requires other { BeginsOther tokens.now ABegin }
     ensures { Declares source.now depth all tokens.now result }
 {
@@ -135,8 +136,8 @@ fn procedure<'t>(
     tokens: &'t [Token],
     depth: u32,
 ) -> Result<(SynPart, &'t [Token]), Halt>
-    requires { Ready source.now tokens.now }
-    ensures { Reads source.now (grammar.procedure depth) part_of tokens.now result }
+    requires { HasTokens source.now tokens.now }
+    ensures { ParsesAs source.now (grammar.procedure depth) part_of tokens.now result }
 {
     let (called, rest) = take!(name(source, tokens));
     let (given, rest) = take!(formals(source, rest));
@@ -153,8 +154,8 @@ fn body<'t>(
     tokens: &'t [Token],
     depth: u32,
 ) -> Result<(Boxed<SynBlock>, &'t [Token]), Halt>
-    requires { Ready source.now tokens.now }
-    ensures { Reads source.now (grammar.body depth) block_of tokens.now result }
+    requires { HasTokens source.now tokens.now }
+    ensures { ParsesAs source.now (grammar.body depth) block_of tokens.now result }
 {
     let rest = take!(expect(source, tokens, Kind::Sign(sign::SEMICOLON)));
     let (inner, rest) = take!(block(source, rest, depth));
@@ -171,8 +172,8 @@ fn function<'t>(
     tokens: &'t [Token],
     depth: u32,
 ) -> Result<(SynPart, &'t [Token]), Halt>
-    requires { Ready source.now tokens.now }
-    ensures { Reads source.now (grammar.function depth) part_of tokens.now result }
+    requires { HasTokens source.now tokens.now }
+    ensures { ParsesAs source.now (grammar.function depth) part_of tokens.now result }
 {
     let (called, rest) = take!(name(source, tokens));
     let (given, rest) = take!(formals(source, rest));
@@ -185,8 +186,8 @@ fn function<'t>(
 // outer_block = ";" block "."
 /// The block of a program, behind its heading.
 fn outer_block<'t>(source: &Source, tokens: &'t [Token]) -> Result<(SynBlock, &'t [Token]), Halt>
-    requires { Ready source.now tokens.now }
-    ensures { Reads source.now grammar.outer_block block_of tokens.now result }
+    requires { HasTokens source.now tokens.now }
+    ensures { ParsesAs source.now grammar.outer_block block_of tokens.now result }
 {
     let rest = take!(expect(source, tokens, Kind::Sign(sign::SEMICOLON)));
     let (whole, rest) = take!(block(source, rest, 0));
@@ -202,8 +203,8 @@ fn outer_block<'t>(source: &Source, tokens: &'t [Token]) -> Result<(SynBlock, &'
 // titled = name [ "(" names ")" ] ";" block "."
 /// A program, behind the word `program`.
 fn titled<'t>(source: &Source, tokens: &'t [Token]) -> Result<(Syntax, &'t [Token]), Halt>
-    requires { Ready source.now tokens.now }
-    ensures { Reads source.now grammar.program program_of tokens.now result }
+    requires { HasTokens source.now tokens.now }
+    ensures { ParsesAs source.now grammar.program program_of tokens.now result }
 {
     let (called, rest) = take!(name(source, tokens));
     let (listed, rest) = take!(heading(source, rest));
@@ -221,8 +222,8 @@ fn titled<'t>(source: &Source, tokens: &'t [Token]) -> Result<(Syntax, &'t [Toke
 // program = "program" name [ "(" names ")" ] ";" block "."
 /// A program.
 pub fn program<'t>(source: &Source, tokens: &'t [Token]) -> Result<(Syntax, &'t [Token]), Halt>
-    requires { Ready source.now tokens.now }
-    ensures { Reads source.now (single AProgram) program_of tokens.now result }
+    requires { HasTokens source.now tokens.now }
+    ensures { ParsesAs source.now (single AProgram) program_of tokens.now result }
 {
     let (first, rest) = take!(cut(source, tokens));
     if is(first, Kind::Word(word::PROGRAM)) {

@@ -3,20 +3,21 @@
 ghost use Rattle.std.specs.Prelude.{◌≡◌, None};
 ghost use Rattle.sp_grammar.specs.Symbols.{AConstant, AValue};
 ghost use Rattle.sp_parse.specs.Productions.{itself, single};
-ghost use Rattle.sp_parse.specs.Reads.{Ready, Reads};
+ghost use Rattle.sp_parse.specs.Reads.{HasTokens, ParsesAs};
 ghost use Rattle.sp_parse.specs.BlockProductions as grammar;
 
 use crate::operators::is;
 use crate::source::{Source, cut, expect, misplaced};
 use crate::spelled::{name_at, number_at, quoted_at};
-use sp_base::{Halt, Place, take};
+use crate::take;
+use sp_base::{Halt, Place};
 use sp_tree::{Kind, SynConst, SynValue, Token, sign};
 
 // value = number | name
 /// A number or a name.
 fn value<'t>(source: &Source, tokens: &'t [Token]) -> Result<(SynValue, &'t [Token]), Halt>
-    requires { Ready source.now tokens.now }
-    ensures { Reads source.now (single AValue) itself tokens.now result }
+    requires { HasTokens source.now tokens.now }
+    ensures { ParsesAs source.now (single AValue) itself tokens.now result }
 {
     let (first, rest) = take!(cut(source, tokens));
     match first.kind {
@@ -40,8 +41,8 @@ fn unsigned(at: Place, value: SynValue) -> SynConst
 // constant = [ "+" | "-" ] ( number | name ) | text
 /// A constant: a number or a name, with a sign or without, or a text.
 pub fn constant<'t>(source: &Source, tokens: &'t [Token]) -> Result<(SynConst, &'t [Token]), Halt>
-    requires { Ready source.now tokens.now }
-    ensures { Reads source.now (single AConstant) itself tokens.now result }
+    requires { HasTokens source.now tokens.now }
+    ensures { ParsesAs source.now (single AConstant) itself tokens.now result }
 {
     let (first, rest) = take!(cut(source, tokens));
     let at = first.at;
@@ -88,8 +89,8 @@ pub fn constant_then<'t>(
     tokens: &'t [Token],
     kind: Kind,
 ) -> Result<(SynConst, &'t [Token]), Halt>
-    requires { Ready source.now tokens.now }
-    ensures { Reads source.now (grammar.constant_then kind) itself tokens.now result }
+    requires { HasTokens source.now tokens.now }
+    ensures { ParsesAs source.now (grammar.constant_then kind) itself tokens.now result }
 {
     let (value, rest) = take!(constant(source, tokens));
     let rest = take!(expect(source, rest, kind));

@@ -4,7 +4,7 @@ ghost use Rattle.std.specs.Prelude.{ℕ};
 ghost use Rattle.sp_tree.specs.SyntaxOf.{part_of};
 ghost use Rattle.sp_grammar.specs.Symbols.{Parts};
 ghost use Rattle.sp_parse.specs.Productions.{itself};
-ghost use Rattle.sp_parse.specs.Reads.{Ready, Reads, ReadsSoFar};
+ghost use Rattle.sp_parse.specs.Reads.{HasTokens, ParsesAs, ReadsSoFar};
 ghost use Rattle.sp_parse.specs.BlockProductions as grammar;
 ghost use Rattle.sp_parse.specs.Declares.{and_parts};
 
@@ -12,15 +12,16 @@ use crate::constants::constant_then;
 use crate::made_blocks::{constant_declaration, type_declaration, variable_declaration};
 use crate::names::name_then;
 use crate::source::{Source, expect, pass};
+use crate::take;
 use crate::types::{group, type_of};
-use sp_base::{Halt, List, take};
+use sp_base::{Halt, List};
 use sp_tree::{Kind, SynKind, SynPart, Token, sign};
 
 // one_constant = name "=" constant ";"
 /// A constant and its value.
 fn one_constant<'t>(source: &Source, tokens: &'t [Token]) -> Result<(SynPart, &'t [Token]), Halt>
-    requires { Ready source.now tokens.now }
-    ensures { Reads source.now grammar.one_constant part_of tokens.now result }
+    requires { HasTokens source.now tokens.now }
+    ensures { ParsesAs source.now grammar.one_constant part_of tokens.now result }
 {
     let (called, rest) = take!(name_then(source, tokens, Kind::Sign(sign::EQUAL)));
     let (value, rest) = take!(constant_then(source, rest, Kind::Sign(sign::SEMICOLON)));
@@ -30,8 +31,8 @@ fn one_constant<'t>(source: &Source, tokens: &'t [Token]) -> Result<(SynPart, &'
 // one_type = name "=" type ";"
 /// A type and its definition.
 fn one_type<'t>(source: &Source, tokens: &'t [Token]) -> Result<(SynPart, &'t [Token]), Halt>
-    requires { Ready source.now tokens.now }
-    ensures { Reads source.now grammar.one_type part_of tokens.now result }
+    requires { HasTokens source.now tokens.now }
+    ensures { ParsesAs source.now grammar.one_type part_of tokens.now result }
 {
     let (called, rest) = take!(name_then(source, tokens, Kind::Sign(sign::EQUAL)));
     let (kind, rest) = take!(definition(source, rest));
@@ -41,8 +42,8 @@ fn one_type<'t>(source: &Source, tokens: &'t [Token]) -> Result<(SynPart, &'t [T
 // definition = type ";"
 /// The definition of a type, up to its semicolon.
 fn definition<'t>(source: &Source, tokens: &'t [Token]) -> Result<(SynKind, &'t [Token]), Halt>
-    requires { Ready source.now tokens.now }
-    ensures { Reads source.now grammar.definition itself tokens.now result }
+    requires { HasTokens source.now tokens.now }
+    ensures { ParsesAs source.now grammar.definition itself tokens.now result }
 {
     let (kind, rest) = take!(type_of(source, tokens));
     match expect(source, rest, Kind::Sign(sign::SEMICOLON)) {
@@ -57,8 +58,8 @@ fn definition<'t>(source: &Source, tokens: &'t [Token]) -> Result<(SynKind, &'t 
 // one_group = names ":" name ";"
 /// Variables of one type.
 fn one_group<'t>(source: &Source, tokens: &'t [Token]) -> Result<(SynPart, &'t [Token]), Halt>
-    requires { Ready source.now tokens.now }
-    ensures { Reads source.now grammar.one_group part_of tokens.now result }
+    requires { HasTokens source.now tokens.now }
+    ensures { ParsesAs source.now grammar.one_group part_of tokens.now result }
 {
     let (of, rest) = take!(group(source, tokens));
     let rest = take!(expect(source, rest, Kind::Sign(sign::SEMICOLON)));
@@ -72,7 +73,7 @@ pub fn constants<'t>(
     tokens: &'t [Token],
     mut all: List<SynPart>,
 ) -> Result<(List<SynPart>, &'t [Token]), Halt>
-    requires { Ready source.now tokens.now }
+    requires { HasTokens source.now tokens.now }
     ensures { (d : ℕ) → ReadsSoFar source.now (grammar.constants all d) (Parts d) and_parts tokens.now result }
 {
     let mut rest = tokens;
@@ -93,7 +94,7 @@ pub fn types<'t>(
     tokens: &'t [Token],
     mut all: List<SynPart>,
 ) -> Result<(List<SynPart>, &'t [Token]), Halt>
-    requires { Ready source.now tokens.now }
+    requires { HasTokens source.now tokens.now }
     ensures { (d : ℕ) → ReadsSoFar source.now (grammar.types all d) (Parts d) and_parts tokens.now result }
 {
     let mut rest = tokens;
@@ -114,7 +115,7 @@ pub fn variables<'t>(
     tokens: &'t [Token],
     mut all: List<SynPart>,
 ) -> Result<(List<SynPart>, &'t [Token]), Halt>
-    requires { Ready source.now tokens.now }
+    requires { HasTokens source.now tokens.now }
     ensures { (d : ℕ) → ReadsSoFar source.now (grammar.variables all d) (Parts d) and_parts tokens.now result }
 {
     let mut rest = tokens;

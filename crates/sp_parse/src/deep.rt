@@ -6,12 +6,13 @@ ghost use Rattle.sp_base.specs.declared.rule.Rule.TheVariants.{L2};
 ghost use Rattle.sp_tree.specs.SyntaxOf.{statement_of};
 ghost use Rattle.sp_grammar.specs.Symbols.{AnExpression, ANegated, AStatement};
 ghost use Rattle.sp_parse.specs.Productions.{single};
-ghost use Rattle.sp_parse.specs.Reads.{Ready, Halts, Reads};
+ghost use Rattle.sp_parse.specs.Reads.{HasTokens, Halts, ParsesAs};
 
 use crate::made_statements::empty_statement;
 use crate::operators::{begins_factor, begins_form, begins_simple};
 use crate::source::{Source, cut, misplaced};
-use sp_base::{Halt, Refusal, Rule, take};
+use crate::take;
+use sp_base::{Halt, Refusal, Rule};
 use sp_tree::{SynStmt, Token};
 
 /// A part begins with this token and lies too deep.
@@ -26,7 +27,7 @@ pub fn too_deep(token: Token) -> Halt
 
 /// Why no expression may stand here.
 pub fn deep_expression(source: &Source, tokens: &[Token]) -> Halt
-    requires { Ready source.now tokens.now }
+    requires { HasTokens source.now tokens.now }
     ensures { (d : ℕ) → 200 ≤ d → Halts source.now (AnExpression d ∷ []) tokens.now result }
 {
     match cut(source, tokens) {
@@ -42,7 +43,7 @@ pub fn deep_expression(source: &Source, tokens: &[Token]) -> Halt
 
 /// Why no factor may stand here, behind `not`.
 pub fn deep_factor(source: &Source, tokens: &[Token]) -> Halt
-    requires { Ready source.now tokens.now }
+    requires { HasTokens source.now tokens.now }
     ensures { (d : ℕ) → 200 ≤ d → Halts source.now (ANegated d ∷ []) tokens.now result }
 {
     match cut(source, tokens) {
@@ -62,8 +63,8 @@ pub fn deep_statement<'t>(
     source: &Source,
     tokens: &'t [Token],
 ) -> Result<(SynStmt, &'t [Token]), Halt>
-    requires { Ready source.now tokens.now }
-    ensures { (d : ℕ) → 200 ≤ d → Reads source.now (single (AStatement d)) statement_of tokens.now result }
+    requires { HasTokens source.now tokens.now }
+    ensures { (d : ℕ) → 200 ≤ d → ParsesAs source.now (single (AStatement d)) statement_of tokens.now result }
 {
     let (first, _) = take!(cut(source, tokens));
     if begins_form(first) {

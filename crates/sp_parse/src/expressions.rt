@@ -3,7 +3,7 @@
 ghost use Rattle.sp_tree.specs.SyntaxOf.{expression_of, argument_of, arguments_of};
 ghost use Rattle.sp_grammar.specs.Symbols.{AnExpression, ASimple, MoreTerms, AFactor, Selectors};
 ghost use Rattle.sp_parse.specs.Productions.{single};
-ghost use Rattle.sp_parse.specs.Reads.{Ready, Reads, ReadsSoFar};
+ghost use Rattle.sp_parse.specs.Reads.{HasTokens, ParsesAs, ReadsSoFar};
 ghost use Rattle.sp_parse.specs.ExpressionProductions as grammar;
 ghost use Rattle.sp_parse.specs.Trees.{selectors_of, and_selectors};
 
@@ -16,7 +16,8 @@ use crate::names::name;
 use crate::operators::{adding, is, multiplying, relational, sign_of};
 use crate::source::{Source, cut, expect, misplaced, pass};
 use crate::spelled::{name_at, number_at, quoted_at};
-use sp_base::{Halt, List, Place, take};
+use crate::take;
+use sp_base::{Halt, List, Place};
 use sp_tree::{Kind, MAX_NESTING, Name, SynArg, SynExpr, SynSelector, Token, UnaryOp, sign, word};
 
 // expression = simple [ ( "=" | "<>" | "<" | "<=" | ">" | ">=" ) simple ]
@@ -27,8 +28,8 @@ pub fn expression<'t>(
     tokens: &'t [Token],
     depth: u32,
 ) -> Result<(SynExpr, &'t [Token]), Halt>
-    requires { Ready source.now tokens.now }
-    ensures { Reads source.now (single (AnExpression depth)) expression_of tokens.now result }
+    requires { HasTokens source.now tokens.now }
+    ensures { ParsesAs source.now (single (AnExpression depth)) expression_of tokens.now result }
 {
     if depth >= MAX_NESTING {
         return Err(deep_expression(source, tokens));
@@ -49,8 +50,8 @@ pub fn expression_then<'t>(
     depth: u32,
     kind: Kind,
 ) -> Result<(SynExpr, &'t [Token]), Halt>
-    requires { Ready source.now tokens.now }
-    ensures { Reads source.now (grammar.expression_then depth kind) expression_of tokens.now result }
+    requires { HasTokens source.now tokens.now }
+    ensures { ParsesAs source.now (grammar.expression_then depth kind) expression_of tokens.now result }
 {
     let (value, rest) = take!(expression(source, tokens, depth));
     let rest = take!(expect(source, rest, kind));
@@ -65,8 +66,8 @@ fn simple<'t>(
     tokens: &'t [Token],
     depth: u32,
 ) -> Result<(SynExpr, &'t [Token]), Halt>
-    requires { Ready source.now tokens.now }
-    ensures { Reads source.now (single (ASimple depth)) expression_of tokens.now result }
+    requires { HasTokens source.now tokens.now }
+    ensures { ParsesAs source.now (single (ASimple depth)) expression_of tokens.now result }
 {
     let (mut sum, mut rest) = take!(first_term(source, tokens, depth));
     'more: while let Some((op, after)) = take!(adding(source, rest)) {
@@ -85,8 +86,9 @@ fn first_term<'t>(
     tokens: &'t [Token],
     depth: u32,
 ) -> Result<(SynExpr, &'t [Token]), Halt>
-    requires { Ready source.now tokens.now }
-    ensures { ReadsSoFar source.now (single (ASimple depth)) (MoreTerms depth) grammar.continued tokens.now result }
+    requires { HasTokens source.now tokens.now }
+    ensures { ReadsSoFar source.now (single (ASimple depth)) (MoreTerms depth) grammar.continued_expression tokens.now
+        result }
 {
     let (first, behind) = take!(cut(source, tokens));
     let Some(op) = sign_of(first) else {
@@ -104,8 +106,8 @@ fn term<'t>(
     tokens: &'t [Token],
     depth: u32,
 ) -> Result<(SynExpr, &'t [Token]), Halt>
-    requires { Ready source.now tokens.now }
-    ensures { Reads source.now (grammar.term depth) expression_of tokens.now result }
+    requires { HasTokens source.now tokens.now }
+    ensures { ParsesAs source.now (grammar.term depth) expression_of tokens.now result }
 {
     let (mut product, mut rest) = take!(factor(source, tokens, depth));
     'more: while let Some((op, after)) = take!(multiplying(source, rest)) {
@@ -124,8 +126,8 @@ fn factor<'t>(
     tokens: &'t [Token],
     depth: u32,
 ) -> Result<(SynExpr, &'t [Token]), Halt>
-    requires { Ready source.now tokens.now }
-    ensures { Reads source.now (single (AFactor depth)) expression_of tokens.now result }
+    requires { HasTokens source.now tokens.now }
+    ensures { ParsesAs source.now (single (AFactor depth)) expression_of tokens.now result }
 {
     let (first, rest) = take!(cut(source, tokens));
     let at = first.at;
@@ -159,8 +161,8 @@ fn negation<'t>(
     depth: u32,
     at: Place,
 ) -> Result<(SynExpr, &'t [Token]), Halt>
-    requires { Ready source.now tokens.now }
-    ensures { Reads source.now (grammar.negation depth at) expression_of tokens.now result }
+    requires { HasTokens source.now tokens.now }
+    ensures { ParsesAs source.now (grammar.negation depth at) expression_of tokens.now result }
 {
     if depth >= MAX_NESTING {
         return Err(deep_factor(source, tokens));
@@ -179,8 +181,8 @@ fn reference<'t>(
     at: Place,
     name: Name,
 ) -> Result<(SynExpr, &'t [Token]), Halt>
-    requires { Ready source.now tokens.now }
-    ensures { Reads source.now (grammar.reference depth at name) expression_of tokens.now result }
+    requires { HasTokens source.now tokens.now }
+    ensures { ParsesAs source.now (grammar.reference depth at name) expression_of tokens.now result }
 {
     let Some(inner) = take!(pass(source, tokens, Kind::Sign(sign::OPEN))) else {
         let (of, rest) = take!(selectors(source, tokens, depth));
@@ -198,8 +200,8 @@ pub fn selectors<'t>(
     tokens: &'t [Token],
     depth: u32,
 ) -> Result<(List<SynSelector>, &'t [Token]), Halt>
-    requires { Ready source.now tokens.now }
-    ensures { Reads source.now (single (Selectors depth)) selectors_of tokens.now result }
+    requires { HasTokens source.now tokens.now }
+    ensures { ParsesAs source.now (single (Selectors depth)) selectors_of tokens.now result }
 {
     let mut all = List::new(source.alloc);
     let mut rest = tokens;
@@ -228,7 +230,7 @@ fn indices<'t>(
     depth: u32,
     before: List<SynSelector>,
 ) -> Result<(List<SynSelector>, &'t [Token]), Halt>
-    requires { Ready source.now tokens.now }
+    requires { HasTokens source.now tokens.now }
     ensures { ReadsSoFar source.now (grammar.indices depth before) (Selectors depth) and_selectors tokens.now result }
 {
     let mut all = before;
@@ -252,8 +254,8 @@ pub fn arguments<'t>(
     tokens: &'t [Token],
     depth: u32,
 ) -> Result<(List<SynArg>, &'t [Token]), Halt>
-    requires { Ready source.now tokens.now }
-    ensures { Reads source.now (grammar.arguments depth) arguments_of tokens.now result }
+    requires { HasTokens source.now tokens.now }
+    ensures { ParsesAs source.now (grammar.arguments depth) arguments_of tokens.now result }
 {
     let mut all = List::new(source.alloc);
     let mut rest = tokens;
@@ -276,8 +278,8 @@ fn argument<'t>(
     tokens: &'t [Token],
     depth: u32,
 ) -> Result<(SynArg, &'t [Token]), Halt>
-    requires { Ready source.now tokens.now }
-    ensures { Reads source.now (grammar.argument depth) argument_of tokens.now result }
+    requires { HasTokens source.now tokens.now }
+    ensures { ParsesAs source.now (grammar.argument depth) argument_of tokens.now result }
 {
     let (value, rest) = take!(expression(source, tokens, depth));
     let Some(after) = take!(pass(source, rest, Kind::Sign(sign::COLON))) else {

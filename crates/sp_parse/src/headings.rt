@@ -3,12 +3,13 @@
 ghost use Rattle.std.specs.Prelude.{◌≡◌};
 ghost use Rattle.sp_grammar.specs.Symbols.{AFormal, Formals, AHeading};
 ghost use Rattle.sp_parse.specs.Productions.{itself, single};
-ghost use Rattle.sp_parse.specs.Reads.{Ready, Reads};
+ghost use Rattle.sp_parse.specs.Reads.{HasTokens, ParsesAs};
 ghost use Rattle.sp_parse.specs.BlockProductions as grammar;
 
 use crate::source::{Source, expect, pass};
+use crate::take;
 use crate::types::{group, listed};
-use sp_base::{Halt, List, take};
+use sp_base::{Halt, List};
 use sp_tree::{Kind, Name, SynFormal, SynGroup, Token, sign, word};
 
 /// Parameters of one type.
@@ -25,8 +26,8 @@ fn parameters(by_reference: bool, of: SynGroup) -> SynFormal
 // formal = [ "var" ] names ":" name
 /// Formal parameters of one type.
 fn formal<'t>(source: &Source, tokens: &'t [Token]) -> Result<(SynFormal, &'t [Token]), Halt>
-    requires { Ready source.now tokens.now }
-    ensures { Reads source.now (single AFormal) itself tokens.now result }
+    requires { HasTokens source.now tokens.now }
+    ensures { ParsesAs source.now (single AFormal) itself tokens.now result }
 {
     if let Some(after) = take!(pass(source, tokens, Kind::Word(word::VAR))) {
         let (of, rest) = take!(group(source, after));
@@ -42,8 +43,8 @@ fn some_formals<'t>(
     source: &Source,
     tokens: &'t [Token],
 ) -> Result<(List<SynFormal>, &'t [Token]), Halt>
-    requires { Ready source.now tokens.now }
-    ensures { Reads source.now grammar.formals itself tokens.now result }
+    requires { HasTokens source.now tokens.now }
+    ensures { ParsesAs source.now grammar.formals itself tokens.now result }
 {
     let mut all = List::new(source.alloc);
     let mut rest = tokens;
@@ -64,8 +65,8 @@ pub fn formals<'t>(
     source: &Source,
     tokens: &'t [Token],
 ) -> Result<(List<SynFormal>, &'t [Token]), Halt>
-    requires { Ready source.now tokens.now }
-    ensures { Reads source.now (single Formals) itself tokens.now result }
+    requires { HasTokens source.now tokens.now }
+    ensures { ParsesAs source.now (single Formals) itself tokens.now result }
 {
     match take!(pass(source, tokens, Kind::Sign(sign::OPEN))) {
         Some(after) => some_formals(source, after),
@@ -76,8 +77,8 @@ pub fn formals<'t>(
 // heading = [ "(" names ")" ]
 /// The names in the heading of a program, if it has some.
 pub fn heading<'t>(source: &Source, tokens: &'t [Token]) -> Result<(List<Name>, &'t [Token]), Halt>
-    requires { Ready source.now tokens.now }
-    ensures { Reads source.now (single AHeading) itself tokens.now result }
+    requires { HasTokens source.now tokens.now }
+    ensures { ParsesAs source.now (single AHeading) itself tokens.now result }
 {
     match take!(pass(source, tokens, Kind::Sign(sign::OPEN))) {
         Some(after) => listed(source, after),

@@ -8,7 +8,7 @@
 //! - Above each parse function stands its line of the grammar, and its contract names the production that it reads.
 //! - `specs/BlockProductions.antt`, `ExpressionProductions.antt` and `StatementProductions.antt` list the productions:
 //!   their symbols and what these make.
-//! - `Reads` of `specs/Reads.antt` says that the tree is what the production makes, and that the machine of
+//! - `ParsesAs` of `specs/Reads.antt` says that the tree is what the production makes, and that the machine of
 //!   `sp_grammar` goes on the same way or gets stuck at the same place.
 //! - `take!` stands for `?` where the error is `Halt` already: one match, where `?` is two generic calls that each
 //!   proof pays for. Where an error is led to `Halt`, it is `?`.

@@ -1,17 +1,17 @@
 //! Constructors of expressions, from their parts.
 
 ghost use Rattle.std.specs.Prelude.{◌≡◌};
-ghost use Rattle.sp_tree.specs.Grammar.{joined as joined_of, moved as moved_of};
+ghost use Rattle.sp_tree.specs.Grammar.{binary_at_left as joined_of, with_place as moved_of};
 ghost use Rattle.sp_tree.specs.PlainSyntax as tree;
 ghost use Rattle.sp_tree.specs.SyntaxOf.{expression_of, arguments_of, variable_of, selector_of, argument_of};
-ghost use Rattle.sp_parse.specs.Trees.{Gives, selectors_of, width_of};
+ghost use Rattle.sp_parse.specs.Trees.{MakesTree, selectors_of, width_of};
 
 use sp_base::{Boxed, List, Place, Text};
 use sp_tree::{BinaryOp, Name, SynArg, SynExpr, SynExprForm, SynSelector, SynVar, UnaryOp};
 use std::alloc::{AllocError, Global};
 
 pub fn number_expression(at: Place, n: u64) -> SynExpr
-    ensures { expression_of result ≡ tree.At at (tree.Number n) }
+    ensures { expression_of result ≡ tree.ExpressionAt at (tree.Number n) }
 {
     SynExpr {
         at,
@@ -20,7 +20,7 @@ pub fn number_expression(at: Place, n: u64) -> SynExpr
 }
 
 pub fn quoted_expression(at: Place, text: Text) -> SynExpr
-    ensures { expression_of result ≡ tree.At at (tree.Quoted text) }
+    ensures { expression_of result ≡ tree.ExpressionAt at (tree.Quoted text) }
 {
     SynExpr {
         at,
@@ -29,7 +29,7 @@ pub fn quoted_expression(at: Place, text: Text) -> SynExpr
 }
 
 pub fn call_expression(at: Place, name: Name, args: List<SynArg>) -> SynExpr
-    ensures { expression_of result ≡ tree.At at (tree.Apply name (arguments_of args)) }
+    ensures { expression_of result ≡ tree.ExpressionAt at (tree.Apply name (arguments_of args)) }
 {
     SynExpr {
         at,
@@ -47,7 +47,7 @@ pub fn variable(name: Name, of: List<SynSelector>) -> SynVar
 }
 
 pub fn read_expression(at: Place, v: SynVar) -> SynExpr
-    ensures { expression_of result ≡ tree.At at (tree.Read (variable_of v)) }
+    ensures { expression_of result ≡ tree.ExpressionAt at (tree.Read (variable_of v)) }
 {
     SynExpr {
         at,
@@ -56,7 +56,7 @@ pub fn read_expression(at: Place, v: SynVar) -> SynExpr
 }
 
 pub fn unary(alloc: Global, at: Place, op: UnaryOp, a: SynExpr) -> Result<SynExpr, AllocError>
-    ensures { Gives expression_of (tree.At at (tree.Unary op (expression_of a))) result }
+    ensures { MakesTree expression_of (tree.ExpressionAt at (tree.Unary op (expression_of a))) result }
 {
     let a = Boxed::new(alloc, a)?;
     Ok(SynExpr {
@@ -67,7 +67,7 @@ pub fn unary(alloc: Global, at: Place, op: UnaryOp, a: SynExpr) -> Result<SynExp
 
 /// An operator between two operands, at the place of the left one.
 pub fn binary(alloc: Global, op: BinaryOp, a: SynExpr, b: SynExpr) -> Result<SynExpr, AllocError>
-    ensures { Gives expression_of (joined_of op (expression_of a) (expression_of b)) result }
+    ensures { MakesTree expression_of (joined_of op (expression_of a) (expression_of b)) result }
 {
     let at = a.at;
     let a = Boxed::new(alloc, a)?;

@@ -2,19 +2,20 @@
 
 ghost use Rattle.sp_grammar.specs.Symbols.{AName};
 ghost use Rattle.sp_parse.specs.Productions.{itself, single};
-ghost use Rattle.sp_parse.specs.Reads.{Ready, Reads};
+ghost use Rattle.sp_parse.specs.Reads.{HasTokens, ParsesAs};
 ghost use Rattle.sp_parse.specs.BlockProductions as grammar;
 
 use crate::source::{Source, cut, expect, misplaced, pass};
 use crate::spelled::name_at;
-use sp_base::{Halt, List, take};
+use crate::take;
+use sp_base::{Halt, List};
 use sp_tree::{Kind, Name, Token, sign};
 
 // name, a token
 /// A name.
 pub fn name<'t>(source: &Source, tokens: &'t [Token]) -> Result<(Name, &'t [Token]), Halt>
-    requires { Ready source.now tokens.now }
-    ensures { Reads source.now (single AName) itself tokens.now result }
+    requires { HasTokens source.now tokens.now }
+    ensures { ParsesAs source.now (single AName) itself tokens.now result }
 {
     let (first, rest) = take!(cut(source, tokens));
     match first.kind {
@@ -30,8 +31,8 @@ pub fn name_then<'t>(
     tokens: &'t [Token],
     kind: Kind,
 ) -> Result<(Name, &'t [Token]), Halt>
-    requires { Ready source.now tokens.now }
-    ensures { Reads source.now (grammar.name_then kind) itself tokens.now result }
+    requires { HasTokens source.now tokens.now }
+    ensures { ParsesAs source.now (grammar.name_then kind) itself tokens.now result }
 {
     let (name, rest) = take!(name(source, tokens));
     let rest = take!(expect(source, rest, kind));
@@ -41,8 +42,8 @@ pub fn name_then<'t>(
 // names = name { "," name }
 /// Names with commas between them.
 pub fn names<'t>(source: &Source, tokens: &'t [Token]) -> Result<(List<Name>, &'t [Token]), Halt>
-    requires { Ready source.now tokens.now }
-    ensures { Reads source.now grammar.names itself tokens.now result }
+    requires { HasTokens source.now tokens.now }
+    ensures { ParsesAs source.now grammar.names itself tokens.now result }
 {
     let mut all = List::new(source.alloc);
     let mut rest = tokens;

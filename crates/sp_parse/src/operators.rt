@@ -2,8 +2,9 @@
 
 ghost use Rattle.std.specs.Prelude.{◌≡◌};
 ghost use Rattle.sp_grammar.specs.Table.{kind_is};
-ghost use Rattle.sp_parse.specs.Reads.{Ready};
-ghost use Rattle.sp_parse.specs.Operators.{IsSign, Relates, Adds, Multiplies, BeginsFactor, BeginsSimple};
+ghost use Rattle.sp_parse.specs.Reads.{HasTokens};
+ghost use Rattle.sp_parse.specs.Operators.{IsSign, ReadsRelation, ReadsAddition, ReadsMultiplication, BeginsFactor};
+ghost use Rattle.sp_parse.specs.Operators.{BeginsSimple};
 ghost use Rattle.sp_parse.specs.Operators.{BeginsSelector, BeginsForm};
 
 use crate::source::{Source, cut};
@@ -37,8 +38,8 @@ pub fn relational<'t>(
     source: &Source,
     tokens: &'t [Token],
 ) -> Result<Option<(BinaryOp, &'t [Token])>, Halt>
-    requires { Ready source.now tokens.now }
-    ensures { Relates source.now tokens.now result }
+    requires { HasTokens source.now tokens.now }
+    ensures { ReadsRelation source.now tokens.now result }
 {
     let (first, rest) = cut(source, tokens)?;
     if is(first, Kind::Sign(sign::EQUAL)) {
@@ -68,8 +69,8 @@ pub fn adding<'t>(
     source: &Source,
     tokens: &'t [Token],
 ) -> Result<Option<(BinaryOp, &'t [Token])>, Halt>
-    requires { Ready source.now tokens.now }
-    ensures { Adds source.now tokens.now result }
+    requires { HasTokens source.now tokens.now }
+    ensures { ReadsAddition source.now tokens.now result }
 {
     let (first, rest) = cut(source, tokens)?;
     if is(first, Kind::Sign(sign::PLUS)) {
@@ -90,8 +91,8 @@ pub fn multiplying<'t>(
     source: &Source,
     tokens: &'t [Token],
 ) -> Result<Option<(BinaryOp, &'t [Token])>, Halt>
-    requires { Ready source.now tokens.now }
-    ensures { Multiplies source.now tokens.now result }
+    requires { HasTokens source.now tokens.now }
+    ensures { ReadsMultiplication source.now tokens.now result }
 {
     let (first, rest) = cut(source, tokens)?;
     if is(first, Kind::Sign(sign::TIMES)) {

@@ -3,11 +3,23 @@
 ghost use Rattle.std.specs.Prelude.{◌≡◌, [], ◌∷◌};
 ghost use Rattle.sp_base.specs.declared.halt.Halt.TheVariants.{Refused};
 ghost use Rattle.sp_base.specs.declared.rule.Rule.TheVariants.{G1};
-ghost use Rattle.sp_parse.specs.Reads.{Ready, Cuts, Passes, Expects};
+ghost use Rattle.sp_parse.specs.Reads.{HasTokens, CutsToken, PassesToken, Expects};
 
-use sp_base::{Halt, Place, Refusal, Rule, take};
+use sp_base::{Halt, Place, Refusal, Rule};
 use sp_tree::{Kind, Token};
 use std::alloc::Global;
+
+/// The value; where there is none, the function around ends so: one match, where `?` is two generic calls. Each crate
+/// that uses it has its own, since proofs name the steps of another crate's macro otherwise.
+#[macro_export]
+macro_rules! take {
+    ($result:expr) => {
+        match $result {
+            Ok(value) => value,
+            Err(halt) => return Err(halt),
+        }
+    };
+}
 
 /// A text, the place of its end, and where memory comes from.
 #[derive(Clone, Copy)]
@@ -19,8 +31,8 @@ pub struct Source<'a> {
 
 /// The first token and the others. Where none is left, the text ends too early.
 pub fn cut<'t>(source: &Source, tokens: &'t [Token]) -> Result<(Token, &'t [Token]), Halt>
-    requires { Ready source.now tokens.now }
-    ensures { Cuts source.now tokens.now result }
+    requires { HasTokens source.now tokens.now }
+    ensures { CutsToken source.now tokens.now result }
 {
     match tokens {
         [first, rest @ ..] => Ok((*first, rest)),
@@ -37,8 +49,8 @@ pub fn pass<'t>(
     tokens: &'t [Token],
     kind: Kind,
 ) -> Result<Option<&'t [Token]>, Halt>
-    requires { Ready source.now tokens.now }
-    ensures { Passes source.now kind tokens.now result }
+    requires { HasTokens source.now tokens.now }
+    ensures { PassesToken source.now kind tokens.now result }
 {
     let (first, rest) = take!(cut(source, tokens));
     if first.kind == kind {
@@ -49,7 +61,7 @@ pub fn pass<'t>(
 
 /// The tokens behind one of this kind, which has to come first.
 pub fn expect<'t>(source: &Source, tokens: &'t [Token], kind: Kind) -> Result<&'t [Token], Halt>
-    requires { Ready source.now tokens.now }
+    requires { HasTokens source.now tokens.now }
     ensures { Expects source.now kind tokens.now result }
 {
     let (first, rest) = take!(cut(source, tokens));

@@ -1,12 +1,12 @@
 //! What single tokens say: a name in lower case, a number, a text without its quotes.
 
 ghost use Rattle.std.specs.Prelude.{◌≡◌, map};
-ghost use Rattle.sp_tree.specs.Characters.{lower as lower_of};
+ghost use Rattle.sp_tree.specs.Characters.{lower_case_letter as lower_of};
 ghost use Rattle.sp_tree.specs.declared.token.Kind.TheVariants.{Number as ANumber};
 ghost use Rattle.sp_tree.specs.Spelling.{spelling, name_of, number_of, quoted_of, within_quotes};
 ghost use Rattle.sp_parse.specs.Productions.{itself};
-ghost use Rattle.sp_parse.specs.Reads.{Fits};
-ghost use Rattle.sp_parse.specs.Trees.{Gives};
+ghost use Rattle.sp_parse.specs.Reads.{TokenFits};
+ghost use Rattle.sp_parse.specs.Trees.{MakesTree};
 
 use crate::source::Source;
 use sp_base::Text;
@@ -15,14 +15,14 @@ use std::alloc::{AllocError, Global};
 
 /// The bytes of a token.
 fn spelled<'a>(source: &Source<'a>, token: Token) -> &'a [u8]
-    requires { Fits source.now.text.now token }
+    requires { TokenFits source.now.text.now token }
     ensures { result.now ≡ spelling source.now.text.now token }
 {
     &source.text[token.from as usize..token.to as usize]
 }
 
 fn lowered(alloc: Global, bytes: &[u8]) -> Result<Text, AllocError>
-    ensures { Gives itself (map lower_of bytes.now) result }
+    ensures { MakesTree itself (map lower_of bytes.now) result }
 {
     let mut all = Vec::with_capacity(alloc, bytes.len())?;
     let mut rest = bytes;
@@ -35,8 +35,8 @@ fn lowered(alloc: Global, bytes: &[u8]) -> Result<Text, AllocError>
 
 /// A name in lower case.
 pub fn name_at(source: &Source, token: Token) -> Result<Name, AllocError>
-    requires { Fits source.now.text.now token }
-    ensures { Gives itself (name_of source.now.text.now token) result }
+    requires { TokenFits source.now.text.now token }
+    ensures { MakesTree itself (name_of source.now.text.now token) result }
 {
     let text = lowered(source.alloc, spelled(source, token))?;
     Ok(Name { text, at: token.at })
@@ -44,7 +44,7 @@ pub fn name_at(source: &Source, token: Token) -> Result<Name, AllocError>
 
 /// The number that digits write.
 pub fn number_at(source: &Source, token: Token) -> u64
-    requires fits { Fits source.now.text.now token }
+    requires fits { TokenFits source.now.text.now token }
     requires number { token.kind ≡ ANumber }
     ensures { result ≡ number_of source.now.text.now token }
 {
@@ -59,7 +59,7 @@ pub fn number_at(source: &Source, token: Token) -> u64
 
 /// A text without its quotes, where two quotes stand for one.
 fn unquoted(alloc: Global, bytes: &[u8]) -> Result<Text, AllocError>
-    ensures { Gives itself (within_quotes bytes.now) result }
+    ensures { MakesTree itself (within_quotes bytes.now) result }
 {
     let mut all = Vec::new(alloc);
     let mut rest = bytes;
@@ -76,8 +76,8 @@ fn unquoted(alloc: Global, bytes: &[u8]) -> Result<Text, AllocError>
 
 /// A text between quotes.
 pub fn quoted_at(source: &Source, token: Token) -> Result<Text, AllocError>
-    requires { Fits source.now.text.now token }
-    ensures { Gives itself (quoted_of source.now.text.now token) result }
+    requires { TokenFits source.now.text.now token }
+    ensures { MakesTree itself (quoted_of source.now.text.now token) result }
 {
     match spelled(source, token) {
         [_, rest @ ..] => unquoted(source.alloc, rest),

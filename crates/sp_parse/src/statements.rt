@@ -4,7 +4,7 @@
 ghost use Rattle.sp_tree.specs.SyntaxOf.{statement_of, statements_of, arm_of};
 ghost use Rattle.sp_grammar.specs.Symbols.{AStatement, AnElse, ADirection};
 ghost use Rattle.sp_parse.specs.Productions.{itself, single};
-ghost use Rattle.sp_parse.specs.Reads.{Ready, Reads};
+ghost use Rattle.sp_parse.specs.Reads.{HasTokens, ParsesAs};
 ghost use Rattle.sp_parse.specs.StatementProductions as grammar;
 ghost use Rattle.sp_parse.specs.Trees.{other_of, arms_of, branches_of, bounds_of};
 
@@ -21,7 +21,8 @@ use crate::names::name_then;
 use crate::operators::{begins_selector, is};
 use crate::source::{Source, cut, expect, misplaced, pass};
 use crate::spelled::name_at;
-use sp_base::{Boxed, Halt, List, Place, take};
+use crate::take;
+use sp_base::{Boxed, Halt, List, Place};
 use sp_tree::{Kind, MAX_NESTING, Name, SynArm, SynBranch, SynConst, SynStmt, Token, sign, word};
 
 // statement = [ assignment | call | compound | if | while | repeat | for | case
@@ -33,8 +34,8 @@ fn statement<'t>(
     tokens: &'t [Token],
     depth: u32,
 ) -> Result<(SynStmt, &'t [Token]), Halt>
-    requires { Ready source.now tokens.now }
-    ensures { Reads source.now (single (AStatement depth)) statement_of tokens.now result }
+    requires { HasTokens source.now tokens.now }
+    ensures { ParsesAs source.now (single (AStatement depth)) statement_of tokens.now result }
 {
     if depth >= MAX_NESTING {
         return deep_statement(source, tokens);
@@ -83,8 +84,8 @@ fn boxed_statement<'t>(
     tokens: &'t [Token],
     depth: u32,
 ) -> Result<(Boxed<SynStmt>, &'t [Token]), Halt>
-    requires { Ready source.now tokens.now }
-    ensures { Reads source.now (single (AStatement depth)) statement_of tokens.now result }
+    requires { HasTokens source.now tokens.now }
+    ensures { ParsesAs source.now (single (AStatement depth)) statement_of tokens.now result }
 {
     let (body, rest) = take!(statement(source, tokens, depth));
     Ok((Boxed::new(source.alloc, body)?, rest))
@@ -99,8 +100,8 @@ fn after_name<'t>(
     at: Place,
     name: Name,
 ) -> Result<(SynStmt, &'t [Token]), Halt>
-    requires { Ready source.now tokens.now }
-    ensures { Reads source.now (grammar.after_name depth at name) statement_of tokens.now result }
+    requires { HasTokens source.now tokens.now }
+    ensures { ParsesAs source.now (grammar.after_name depth at name) statement_of tokens.now result }
 {
     let (first, rest) = take!(cut(source, tokens));
     if is(first, Kind::Sign(sign::OPEN)) {
@@ -127,8 +128,8 @@ fn target<'t>(
     at: Place,
     name: Name,
 ) -> Result<(SynStmt, &'t [Token]), Halt>
-    requires { Ready source.now tokens.now }
-    ensures { Reads source.now (grammar.assignment depth at name) statement_of tokens.now result }
+    requires { HasTokens source.now tokens.now }
+    ensures { ParsesAs source.now (grammar.assignment depth at name) statement_of tokens.now result }
 {
     let (of, rest) = take!(selectors(source, tokens, depth));
     let rest = take!(expect(source, rest, Kind::Sign(sign::BECOMES)));
@@ -144,8 +145,8 @@ pub fn compound<'t>(
     tokens: &'t [Token],
     depth: u32,
 ) -> Result<(List<SynStmt>, &'t [Token]), Halt>
-    requires { Ready source.now tokens.now }
-    ensures { Reads source.now (grammar.compound depth) statements_of tokens.now result }
+    requires { HasTokens source.now tokens.now }
+    ensures { ParsesAs source.now (grammar.compound depth) statements_of tokens.now result }
 {
     let (all, rest) = take!(statements(source, tokens, depth));
     let rest = take!(expect(source, rest, Kind::Word(word::END)));
@@ -160,8 +161,8 @@ fn statements<'t>(
     tokens: &'t [Token],
     depth: u32,
 ) -> Result<(List<SynStmt>, &'t [Token]), Halt>
-    requires { Ready source.now tokens.now }
-    ensures { Reads source.now (grammar.sequence depth) statements_of tokens.now result }
+    requires { HasTokens source.now tokens.now }
+    ensures { ParsesAs source.now (grammar.sequence depth) statements_of tokens.now result }
 {
     let mut all = List::new(source.alloc);
     let mut rest = tokens;
@@ -184,8 +185,8 @@ fn sequence<'t>(
     depth: u32,
     at: Place,
 ) -> Result<(SynStmt, &'t [Token]), Halt>
-    requires { Ready source.now tokens.now }
-    ensures { Reads source.now (grammar.compound_statement depth at) statement_of tokens.now result }
+    requires { HasTokens source.now tokens.now }
+    ensures { ParsesAs source.now (grammar.compound_statement depth at) statement_of tokens.now result }
 {
     let (all, rest) = take!(compound(source, tokens, depth));
     Ok((sequence_statement(at, all), rest))
@@ -200,8 +201,8 @@ fn choice<'t>(
     depth: u32,
     at: Place,
 ) -> Result<(SynStmt, &'t [Token]), Halt>
-    requires { Ready source.now tokens.now }
-    ensures { Reads source.now (grammar.if_statement depth at) statement_of tokens.now result }
+    requires { HasTokens source.now tokens.now }
+    ensures { ParsesAs source.now (grammar.if_statement depth at) statement_of tokens.now result }
 {
     let (test, rest) = take!(expression_then(source, tokens, depth, Kind::Word(word::THEN)));
     let (body, rest) = take!(boxed_statement(source, rest, depth));
@@ -217,8 +218,8 @@ fn otherwise<'t>(
     tokens: &'t [Token],
     depth: u32,
 ) -> Result<(Option<Boxed<SynStmt>>, &'t [Token]), Halt>
-    requires { Ready source.now tokens.now }
-    ensures { Reads source.now (single (AnElse depth)) other_of tokens.now result }
+    requires { HasTokens source.now tokens.now }
+    ensures { ParsesAs source.now (single (AnElse depth)) other_of tokens.now result }
 {
     let Some(after) = take!(pass(source, tokens, Kind::Word(word::ELSE))) else {
         return Ok((None, tokens));
@@ -236,8 +237,8 @@ fn while_loop<'t>(
     depth: u32,
     at: Place,
 ) -> Result<(SynStmt, &'t [Token]), Halt>
-    requires { Ready source.now tokens.now }
-    ensures { Reads source.now (grammar.while_statement depth at) statement_of tokens.now result }
+    requires { HasTokens source.now tokens.now }
+    ensures { ParsesAs source.now (grammar.while_statement depth at) statement_of tokens.now result }
 {
     let (test, rest) = take!(expression_then(source, tokens, depth, Kind::Word(word::DO)));
     let (body, rest) = take!(boxed_statement(source, rest, depth));
@@ -253,8 +254,8 @@ fn repeat_loop<'t>(
     depth: u32,
     at: Place,
 ) -> Result<(SynStmt, &'t [Token]), Halt>
-    requires { Ready source.now tokens.now }
-    ensures { Reads source.now (grammar.repeat_statement depth at) statement_of tokens.now result }
+    requires { HasTokens source.now tokens.now }
+    ensures { ParsesAs source.now (grammar.repeat_statement depth at) statement_of tokens.now result }
 {
     let (body, rest) = take!(statements(source, tokens, depth));
     let rest = take!(expect(source, rest, Kind::Word(word::UNTIL)));
@@ -271,8 +272,8 @@ fn for_loop<'t>(
     depth: u32,
     at: Place,
 ) -> Result<(SynStmt, &'t [Token]), Halt>
-    requires { Ready source.now tokens.now }
-    ensures { Reads source.now (grammar.for_statement depth at) statement_of tokens.now result }
+    requires { HasTokens source.now tokens.now }
+    ensures { ParsesAs source.now (grammar.for_statement depth at) statement_of tokens.now result }
 {
     let (name, rest) = take!(name_then(source, tokens, Kind::Sign(sign::BECOMES)));
     let (bounds, rest) = take!(bounds(source, rest, depth));
@@ -287,8 +288,8 @@ fn bounds<'t>(
     tokens: &'t [Token],
     depth: u32,
 ) -> Result<(Bounds, &'t [Token]), Halt>
-    requires { Ready source.now tokens.now }
-    ensures { Reads source.now (grammar.bounds depth) bounds_of tokens.now result }
+    requires { HasTokens source.now tokens.now }
+    ensures { ParsesAs source.now (grammar.bounds depth) bounds_of tokens.now result }
 {
     let (from, rest) = take!(expression(source, tokens, depth));
     let (down, rest) = take!(direction(source, rest));
@@ -299,8 +300,8 @@ fn bounds<'t>(
 // direction = "to" | "downto"
 /// Whether a loop goes down.
 fn direction<'t>(source: &Source, tokens: &'t [Token]) -> Result<(bool, &'t [Token]), Halt>
-    requires { Ready source.now tokens.now }
-    ensures { Reads source.now (single ADirection) itself tokens.now result }
+    requires { HasTokens source.now tokens.now }
+    ensures { ParsesAs source.now (single ADirection) itself tokens.now result }
 {
     let (first, rest) = take!(cut(source, tokens));
     if is(first, Kind::Word(word::TO)) {
@@ -321,8 +322,8 @@ fn forall<'t>(
     depth: u32,
     at: Place,
 ) -> Result<(SynStmt, &'t [Token]), Halt>
-    requires { Ready source.now tokens.now }
-    ensures { Reads source.now (grammar.forall_statement depth at) statement_of tokens.now result }
+    requires { HasTokens source.now tokens.now }
+    ensures { ParsesAs source.now (grammar.forall_statement depth at) statement_of tokens.now result }
 {
     let (name, rest) = take!(name_then(source, tokens, Kind::Sign(sign::BECOMES)));
     let (from, rest) = take!(expression_then(source, rest, depth, Kind::Word(word::TO)));
@@ -340,8 +341,8 @@ fn case_choice<'t>(
     depth: u32,
     at: Place,
 ) -> Result<(SynStmt, &'t [Token]), Halt>
-    requires { Ready source.now tokens.now }
-    ensures { Reads source.now (grammar.case_statement depth at) statement_of tokens.now result }
+    requires { HasTokens source.now tokens.now }
+    ensures { ParsesAs source.now (grammar.case_statement depth at) statement_of tokens.now result }
 {
     let (test, rest) = take!(expression_then(source, tokens, depth, Kind::Word(word::OF)));
     let (all, rest) = take!(arms(source, rest, depth));
@@ -356,8 +357,8 @@ fn arms<'t>(
     tokens: &'t [Token],
     depth: u32,
 ) -> Result<(List<SynArm>, &'t [Token]), Halt>
-    requires { Ready source.now tokens.now }
-    ensures { Reads source.now (grammar.arms depth) arms_of tokens.now result }
+    requires { HasTokens source.now tokens.now }
+    ensures { ParsesAs source.now (grammar.arms depth) arms_of tokens.now result }
 {
     let mut all = List::new(source.alloc);
     let mut rest = tokens;
@@ -379,8 +380,8 @@ fn arms<'t>(
 /// One arm: its constants and its statement.
 #[cycle(statement)]
 fn arm<'t>(source: &Source, tokens: &'t [Token], depth: u32) -> Result<(SynArm, &'t [Token]), Halt>
-    requires { Ready source.now tokens.now }
-    ensures { Reads source.now (grammar.arm depth) arm_of tokens.now result }
+    requires { HasTokens source.now tokens.now }
+    ensures { ParsesAs source.now (grammar.arm depth) arm_of tokens.now result }
 {
     let (constants, rest) = take!(labels(source, tokens));
     let (body, rest) = take!(statement(source, rest, depth));
@@ -390,8 +391,8 @@ fn arm<'t>(source: &Source, tokens: &'t [Token], depth: u32) -> Result<(SynArm, 
 // labels = constant { "," constant } ":"
 /// The constants of an arm, up to the colon.
 fn labels<'t>(source: &Source, tokens: &'t [Token]) -> Result<(List<SynConst>, &'t [Token]), Halt>
-    requires { Ready source.now tokens.now }
-    ensures { Reads source.now grammar.labels itself tokens.now result }
+    requires { HasTokens source.now tokens.now }
+    ensures { ParsesAs source.now grammar.labels itself tokens.now result }
 {
     let mut all = List::new(source.alloc);
     let mut rest = tokens;
@@ -415,8 +416,8 @@ fn parallel<'t>(
     depth: u32,
     at: Place,
 ) -> Result<(SynStmt, &'t [Token]), Halt>
-    requires { Ready source.now tokens.now }
-    ensures { Reads source.now (grammar.parallel_statement depth at) statement_of tokens.now result }
+    requires { HasTokens source.now tokens.now }
+    ensures { ParsesAs source.now (grammar.parallel_statement depth at) statement_of tokens.now result }
 {
     let (all, rest) = take!(branches(source, tokens, depth));
     Ok((parallel_statement(at, all), rest))
@@ -430,8 +431,8 @@ fn branches<'t>(
     tokens: &'t [Token],
     depth: u32,
 ) -> Result<(List<SynBranch>, &'t [Token]), Halt>
-    requires { Ready source.now tokens.now }
-    ensures { Reads source.now (grammar.branches depth) branches_of tokens.now result }
+    requires { HasTokens source.now tokens.now }
+    ensures { ParsesAs source.now (grammar.branches depth) branches_of tokens.now result }
 {
     let mut all = List::new(source.alloc);
     let mut rest = tokens;
@@ -454,8 +455,8 @@ fn assume<'t>(
     depth: u32,
     at: Place,
 ) -> Result<(SynStmt, &'t [Token]), Halt>
-    requires { Ready source.now tokens.now }
-    ensures { Reads source.now (grammar.assume_statement depth at) statement_of tokens.now result }
+    requires { HasTokens source.now tokens.now }
+    ensures { ParsesAs source.now (grammar.assume_statement depth at) statement_of tokens.now result }
 {
     let (test, rest) = take!(expression(source, tokens, depth));
     Ok((assume_statement(at, test), rest))

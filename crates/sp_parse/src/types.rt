@@ -2,7 +2,7 @@
 
 ghost use Rattle.sp_grammar.specs.Symbols.{AType};
 ghost use Rattle.sp_parse.specs.Productions.{itself, single};
-ghost use Rattle.sp_parse.specs.Reads.{Ready, Reads};
+ghost use Rattle.sp_parse.specs.Reads.{HasTokens, ParsesAs};
 ghost use Rattle.sp_parse.specs.BlockProductions as grammar;
 
 use crate::constants::constant_then;
@@ -10,14 +10,15 @@ use crate::names::{name, names};
 use crate::operators::is;
 use crate::source::{Source, cut, expect, misplaced, pass};
 use crate::spelled::name_at;
-use sp_base::{Halt, List, take};
+use crate::take;
+use sp_base::{Halt, List};
 use sp_tree::{Kind, Name, SynGroup, SynKind, Token, sign, word};
 
 // group = names ":" name
 /// Names and their type.
 pub fn group<'t>(source: &Source, tokens: &'t [Token]) -> Result<(SynGroup, &'t [Token]), Halt>
-    requires { Ready source.now tokens.now }
-    ensures { Reads source.now grammar.group itself tokens.now result }
+    requires { HasTokens source.now tokens.now }
+    ensures { ParsesAs source.now grammar.group itself tokens.now result }
 {
     let (all, rest) = take!(names(source, tokens));
     let (kind, rest) = take!(type_name(source, rest));
@@ -27,8 +28,8 @@ pub fn group<'t>(source: &Source, tokens: &'t [Token]) -> Result<(SynGroup, &'t 
 // type_name = ":" name
 /// The type that is named behind a colon.
 pub fn type_name<'t>(source: &Source, tokens: &'t [Token]) -> Result<(Name, &'t [Token]), Halt>
-    requires { Ready source.now tokens.now }
-    ensures { Reads source.now grammar.type_name itself tokens.now result }
+    requires { HasTokens source.now tokens.now }
+    ensures { ParsesAs source.now grammar.type_name itself tokens.now result }
 {
     let rest = take!(expect(source, tokens, Kind::Sign(sign::COLON)));
     name(source, rest)
@@ -37,8 +38,8 @@ pub fn type_name<'t>(source: &Source, tokens: &'t [Token]) -> Result<(Name, &'t 
 // fields = names ":" name { ";" names ":" name } [ ";" ]
 /// The fields of a record, behind `record` and up to the `end`.
 fn fields<'t>(source: &Source, tokens: &'t [Token]) -> Result<(List<SynGroup>, &'t [Token]), Halt>
-    requires { Ready source.now tokens.now }
-    ensures { Reads source.now grammar.fields itself tokens.now result }
+    requires { HasTokens source.now tokens.now }
+    ensures { ParsesAs source.now grammar.fields itself tokens.now result }
 {
     let mut all = List::new(source.alloc);
     let mut rest = tokens;
@@ -59,8 +60,8 @@ fn fields<'t>(source: &Source, tokens: &'t [Token]) -> Result<(List<SynGroup>, &
 // listed = names ")"
 /// Names up to the closing parenthesis, behind the opening one.
 pub fn listed<'t>(source: &Source, tokens: &'t [Token]) -> Result<(List<Name>, &'t [Token]), Halt>
-    requires { Ready source.now tokens.now }
-    ensures { Reads source.now grammar.listed_names itself tokens.now result }
+    requires { HasTokens source.now tokens.now }
+    ensures { ParsesAs source.now grammar.listed_names itself tokens.now result }
 {
     let (all, rest) = take!(names(source, tokens));
     let rest = take!(expect(source, rest, Kind::Sign(sign::CLOSE)));
@@ -70,8 +71,8 @@ pub fn listed<'t>(source: &Source, tokens: &'t [Token]) -> Result<(List<Name>, &
 // array = "array" "[" constant ".." constant "]" "of" name
 /// The index and the elements of an array, behind `array`.
 fn array<'t>(source: &Source, tokens: &'t [Token]) -> Result<(SynKind, &'t [Token]), Halt>
-    requires { Ready source.now tokens.now }
-    ensures { Reads source.now grammar.array_type itself tokens.now result }
+    requires { HasTokens source.now tokens.now }
+    ensures { ParsesAs source.now grammar.array_type itself tokens.now result }
 {
     let rest = take!(expect(source, tokens, Kind::Sign(sign::OPEN_INDEX)));
     let (low, rest) = take!(constant_then(source, rest, Kind::Sign(sign::RANGE)));
@@ -83,8 +84,8 @@ fn array<'t>(source: &Source, tokens: &'t [Token]) -> Result<(SynKind, &'t [Toke
 // elements = "of" name
 /// The type of an array's elements.
 fn elements<'t>(source: &Source, tokens: &'t [Token]) -> Result<(Name, &'t [Token]), Halt>
-    requires { Ready source.now tokens.now }
-    ensures { Reads source.now grammar.elements itself tokens.now result }
+    requires { HasTokens source.now tokens.now }
+    ensures { ParsesAs source.now grammar.elements itself tokens.now result }
 {
     let rest = take!(expect(source, tokens, Kind::Word(word::OF)));
     name(source, rest)
@@ -93,8 +94,8 @@ fn elements<'t>(source: &Source, tokens: &'t [Token]) -> Result<(Name, &'t [Toke
 // channel = "*" "(" names ")"
 /// The message types of a channel, behind the `*`.
 fn channel<'t>(source: &Source, tokens: &'t [Token]) -> Result<(SynKind, &'t [Token]), Halt>
-    requires { Ready source.now tokens.now }
-    ensures { Reads source.now grammar.channel_type itself tokens.now result }
+    requires { HasTokens source.now tokens.now }
+    ensures { ParsesAs source.now grammar.channel_type itself tokens.now result }
 {
     let rest = take!(expect(source, tokens, Kind::Sign(sign::OPEN)));
     let (all, rest) = take!(listed(source, rest));
@@ -105,8 +106,8 @@ fn channel<'t>(source: &Source, tokens: &'t [Token]) -> Result<(SynKind, &'t [To
 //      | "record" fields "end" | "*" "(" names ")"
 /// The definition of a type.
 pub fn type_of<'t>(source: &Source, tokens: &'t [Token]) -> Result<(SynKind, &'t [Token]), Halt>
-    requires { Ready source.now tokens.now }
-    ensures { Reads source.now (single AType) itself tokens.now result }
+    requires { HasTokens source.now tokens.now }
+    ensures { ParsesAs source.now (single AType) itself tokens.now result }
 {
     let (first, rest) = take!(cut(source, tokens));
     if is(first, Kind::Name) {

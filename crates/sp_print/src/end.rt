@@ -2,7 +2,7 @@
 
 ghost use Rattle.std.specs.Prelude.{◌≡◌, ◌++◌, IfOk, OnOk};
 ghost use Rattle.std.specs.List.{flat_map};
-ghost use Rattle.sp_print.specs.Lines.{waiter_line, end_text, HasLines};
+ghost use Rattle.sp_print.specs.OutcomeLines.{waiter_line, end_text, HasLines};
 
 use sp_base::Memory;
 use sp_journal::{End, Waiter};

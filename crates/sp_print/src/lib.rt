@@ -7,7 +7,7 @@
 //! - `verdict_line`: exactly `ordered`, `unjudged`, or `race` with way, channel and the indices of the two offers.
 //!
 //! To change:
-//! - A line: `specs/Lines.antt`, and its function in `src/refusal.rt`, `src/end.rt` or `src/verdict.rt`.
+//! - A line: `specs/OutcomeLines.antt`, and its function in `src/refusal.rt`, `src/end.rt` or `src/verdict.rt`.
 #![tactic(auto)]
 
 mod end;

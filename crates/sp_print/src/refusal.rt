@@ -1,7 +1,7 @@
 //! The line of a refusal.
 
 ghost use Rattle.std.specs.Prelude.{◌≡◌, IfOk};
-ghost use Rattle.sp_print.specs.Lines.{refusal_text};
+ghost use Rattle.sp_print.specs.OutcomeLines.{refusal_text};
 
 use sp_base::{Memory, Refusal, put_decimal};
 use std::alloc::Global;

@@ -1,7 +1,7 @@
 //! The line of a verdict.
 
 ghost use Rattle.std.specs.Prelude.{◌≡◌, IfOk};
-ghost use Rattle.sp_print.specs.Lines.{verdict_text};
+ghost use Rattle.sp_print.specs.OutcomeLines.{verdict_text};
 
 use sp_base::{Memory, put_decimal};
 use sp_journal::Verdict;

@@ -7,7 +7,8 @@ use Rattle.std.proofs.lemmas.Option.{none-some, same_Some}
 use Rattle.sp_journal.specs.declared.entry.Way.{Way}
 use Rattle.sp_journal.specs.Names.{Name, Channel, same_name, same_channel, Happening, Opened, Forked, Offered, Ended}
 use Rattle.sp_journal.specs.Names.{Faulted, Laid, Paused, Occurrence}
-use Rattle.sp_journal.specs.Past.{Judged, learn, teach, report, now, met_now, judged_by, nothing_judged}
+use Rattle.sp_journal.specs.Past.{Knowledge, learn, teach, report, known_with, knowledge_after_offer, knowledge_after}
+use Rattle.sp_journal.specs.Past.{no_knowledge}
 use Rattle.sp_journal.specs.Past.{KnowsCompletions, CompletedFrom, AreOrdered}
 use Rattle.sp_meaning.specs.Maps.{at_key}
 use Rattle.sp_meaning.proofs.Maps.{same_or_not, at_other}
@@ -17,11 +18,11 @@ use Rattle.sp_race.proofs.Linking.{grown_size, kept_entry, last_entry}
 use Rattle.sp_race.proofs.LinkedSteps.{learn_below, teach_below, now_below, report_below}
 
 -- where it holds a completion, it holds what was completed
-abbrev pub IsClosed : (ℕ → Option ℕ) → (ℕ → Bool) → Type 0
-IsClosed done known = (i m : ℕ) → done i ≡ Some m → known m ≡ true → known i ≡ true
+abbrev pub KnowsCompletedOffers : (ℕ → Option ℕ) → (ℕ → Bool) → Type 0
+KnowsCompletedOffers done known = (i m : ℕ) → done i ≡ Some m → known m ≡ true → known i ≡ true
 
-pub record Paired (j : Judged) (n : ℕ) : Type 0 where
-  pub closed : (q : Name) → IsClosed j.completed (j.past q)
+pub record Paired (j : Knowledge) (n : ℕ) : Type 0 where
+  pub closed : (q : Name) → KnowsCompletedOffers j.completed (j.past q)
   pub below : (q : Name) (i : ℕ) → j.past q i ≡ true → i < n
   bound : (i m : ℕ) → j.completed i ≡ Some m → m < n
   itself : (i m : ℕ) → j.completed i ≡ Some m → j.completed m ≡ Some m
@@ -29,35 +30,36 @@ pub record Paired (j : Judged) (n : ℕ) : Type 0 where
   single : (c d : Channel) (z y : Name) (k : ℕ) → j.pending c ≡ Some (z, k) → j.pending d ≡ Some (y, k) → c ≡ d
   later : (i : ℕ) → n ≤ i → j.completed i ≡ None
 
-union_closed : (d : ℕ → Option ℕ) (f g : ℕ → Bool) → IsClosed d f → IsClosed d g → IsClosed d (λ i. f i || g i)
+union_closed : (d : ℕ → Option ℕ) (f g : ℕ → Bool) → KnowsCompletedOffers d f → KnowsCompletedOffers d g
+    → KnowsCompletedOffers d (λ i. f i || g i)
 union_closed d f g a b i m e h = ⊎_elim (λ (k : f m ≡ true). or_left (f i) (g i) (a i m e k))
     (λ (k : g m ≡ true). or_right (f i) (g i) (b i m e k)) (or_cases (f m) (g m) h)
 
-learn_closed : (d : ℕ → Option ℕ) (p : Name) (known : ℕ → Bool) (past : Name → ℕ → Bool) → IsClosed d known
-    → ((q : Name) → IsClosed d (past q)) → (q : Name) → IsClosed d (learn p known past q)
+learn_closed : (d : ℕ → Option ℕ) (p : Name) (known : ℕ → Bool) (past : Name → ℕ → Bool) → KnowsCompletedOffers d known
+    → ((q : Name) → KnowsCompletedOffers d (past q)) → (q : Name) → KnowsCompletedOffers d (learn p known past q)
 learn_closed d p known past a b q i m e h = by (same_name p q) h
   where
     by : (c : Bool) → cond c (past q m || known m) (past q m) ≡ true → cond c (past q i || known i) (past q i) ≡ true
     by true k = union_closed d (past q) known (b q) a i m e k
     by false k = b q i m e k
 
-teach_closed : (d : ℕ → Option ℕ) (p : Name) (f : ℕ) (known : ℕ → Bool) → IsClosed d known
-    → (x k : ℕ) (past : Name → ℕ → Bool) → ((q : Name) → IsClosed d (past q)) → (q : Name)
-    → IsClosed d (teach p f known x k past q)
+teach_closed : (d : ℕ → Option ℕ) (p : Name) (f : ℕ) (known : ℕ → Bool) → KnowsCompletedOffers d known
+    → (x k : ℕ) (past : Name → ℕ → Bool) → ((q : Name) → KnowsCompletedOffers d (past q)) → (q : Name)
+    → KnowsCompletedOffers d (teach p f known x k past q)
 teach_closed d p f known a x zero past b = b
 teach_closed d p f known a x (suc k) past b =
     teach_closed d p f known a (suc x) k (learn ((f, x) ∷ p) known past) (learn_closed d ((f, x) ∷ p) known past a b)
 
-report_closed : (d : ℕ → Option ℕ) (p : Name) (known : ℕ → Bool) (past : Name → ℕ → Bool) → IsClosed d known
-    → ((q : Name) → IsClosed d (past q)) → (q : Name) → IsClosed d (report p known past q)
+report_closed : (d : ℕ → Option ℕ) (p : Name) (known : ℕ → Bool) (past : Name → ℕ → Bool) → KnowsCompletedOffers d known
+    → ((q : Name) → KnowsCompletedOffers d (past q)) → (q : Name) → KnowsCompletedOffers d (report p known past q)
 report_closed d [] known past a b = b
 report_closed d (x ∷ p) known past a b = learn_closed d p known past a b
 
-module _ (j : Judged) (n : ℕ) (paired : Paired j n) (p : Name) where
-  this_closed : IsClosed j.completed (λ i. n == i)
+module _ (j : Knowledge) (n : ℕ) (paired : Paired j n) (p : Name) where
+  this_closed : KnowsCompletedOffers j.completed (λ i. n == i)
   this_closed i m e h = let l = paired.bound i m e in let k = eqb-true n m h in absurd (omega (arith, l, k))
 
-  now_closed : IsClosed j.completed (now j p n)
+  now_closed : KnowsCompletedOffers j.completed (known_with j p n)
   now_closed = union_closed j.completed (j.past p) (λ i. n == i) (paired.closed p) this_closed
 
   this_below : (i : ℕ) → n == i ≡ true → i < suc n
@@ -67,7 +69,7 @@ module _ (j : Judged) (n : ℕ) (paired : Paired j n) (p : Name) where
   past_below q i h = let k = paired.below q i h in omega (arith, k)
 
   -- an entry that is no offer
-  same_offers : (j' : Judged) → ((q : Name) → IsClosed j.completed (j'.past q))
+  same_offers : (j' : Knowledge) → ((q : Name) → KnowsCompletedOffers j.completed (j'.past q))
       → ((q : Name) (i : ℕ) → j'.past q i ≡ true → i < suc n) → j'.completed ≡ j.completed → j'.pending ≡ j.pending
       → Paired j' (suc n)
   same_offers j' closed below c_is p_is = record {
@@ -81,7 +83,7 @@ module _ (j : Judged) (n : ℕ) (paired : Paired j n) (p : Name) where
     later = λ i h. ap (λ f. f i) c_is ∙ paired.later i (omega (arith, h));
   }
 
-  waits_paired : (c : Channel) → Paired (met_now j p n c None) (suc n)
+  waits_paired : (c : Channel) → Paired (knowledge_after_offer j p n c None) (suc n)
   waits_paired c = record {
     closed = paired.closed;
     below = past_below;
@@ -117,22 +119,22 @@ module _ (j : Judged) (n : ℕ) (paired : Paired j n) (p : Name) where
       here d e = rw ((channel_test c d).1 e) refl
 
   meets_paired : (c : Channel) (z : Name) (k : ℕ) → j.pending c ≡ Some (z, k)
-      → Paired (met_now j p n c (Some (z, k))) (suc n)
+      → Paired (knowledge_after_offer j p n c (Some (z, k))) (suc n)
   meets_paired c z k pe =
       let w = paired.waits c z k pe in
-      let known : ℕ → Bool = λ i. now j p n i || now j z k i in
-      let at_k : IsClosed j.completed (λ i. k == i) =
+      let known : ℕ → Bool = λ i. known_with j p n i || known_with j z k i in
+      let at_k : KnowsCompletedOffers j.completed (λ i. k == i) =
       λ i m e h. absurd (none-some _ (sym w.1 ∙ ap j.completed (eqb-true k m h) ∙ paired.itself i m e)) in
-      let known_closed : IsClosed j.completed known =
-      union_closed j.completed (now j p n) (now j z k) now_closed
+      let known_closed : KnowsCompletedOffers j.completed known =
+      union_closed j.completed (known_with j p n) (known_with j z k) now_closed
       (union_closed j.completed (j.past z) (λ i. k == i) (paired.closed z) at_k) in
       let k_below : (i : ℕ) → k == i ≡ true → i < suc n = λ i h. (let e = eqb-true k i h in omega (arith, e, w.0)) in
       let known_below : (i : ℕ) → known i ≡ true
-      → i < suc n = λ i h. ⊎_elim (λ (x : now j p n i ≡ true). now_below j p n (paired.below p) i x)
-      (λ (x : now j z k i ≡ true). ⊎_elim (λ (y : j.past z i ≡ true). past_below z i y)
+      → i < suc n = λ i h. ⊎_elim (λ (x : known_with j p n i ≡ true). now_below j p n (paired.below p) i x)
+      (λ (x : known_with j z k i ≡ true). ⊎_elim (λ (y : j.past z i ≡ true). past_below z i y)
       (λ (y : k == i ≡ true). k_below i y) (or_cases (j.past z i) (k == i) x))
-      (or_cases (now j p n i) (now j z k i) h) in
-      let knows_k : known k ≡ true = or_right (now j p n k) (now j z k k)
+      (or_cases (known_with j p n i) (known_with j z k i) h) in
+      let knows_k : known k ≡ true = or_right (known_with j p n k) (known_with j z k k)
       (or_right (j.past z k) (k == k) (eq-eqb k k refl)) in
       record {
         closed = λ q. extended (learn z known (learn p known j.past) q) k
@@ -188,8 +190,8 @@ module _ (j : Judged) (n : ℕ) (paired : Paired j n) (p : Name) where
           pick false true = b
           pick false false = d
 
-      extended : (s : ℕ → Bool) (k : ℕ) → IsClosed j.completed s → (s n ≡ true → s k ≡ true)
-          → IsClosed (λ i. cond (n == i) (Some n) (cond (k == i) (Some n) (j.completed i))) s
+      extended : (s : ℕ → Bool) (k : ℕ) → KnowsCompletedOffers j.completed s → (s n ≡ true → s k ≡ true)
+          → KnowsCompletedOffers (λ i. cond (n == i) (Some n) (cond (k == i) (Some n) (j.completed i))) s
       extended s k a b i m e h = ⊎_elim
           (λ (x : n ≡ i). let y : n ≡ m = same_Some _ _ (sym (first i x) ∙ e) in subst (λ u. s u ≡ true) (sym y ∙ x) h)
           (λ (x : n ≢ i). ⊎_elim
@@ -221,25 +223,26 @@ module _ (j : Judged) (n : ℕ) (paired : Paired j n) (p : Name) where
   stays_paired : Paired j (suc n)
   stays_paired = same_offers j paired.closed past_below refl refl
 
-  pub judged_paired : (h : Happening) → Paired (judged_by j n p h) (suc n)
-  judged_paired Opened = same_offers (judged_by j n p Opened)
+  pub judged_paired : (h : Happening) → Paired (knowledge_after j n p h) (suc n)
+  judged_paired Opened = same_offers (knowledge_after j n p Opened)
       (learn_closed j.completed p (λ i. n == i) j.past this_closed paired.closed)
       (learn_below p (λ i. n == i) (suc n) this_below j.past past_below) refl refl
-  judged_paired (Forked k) = same_offers (judged_by j n p (Forked k))
-      (teach_closed j.completed p (j.forks p) (now j p n) now_closed 0 k (learn p (λ i. n == i) j.past)
+  judged_paired (Forked k) = same_offers (knowledge_after j n p (Forked k))
+      (teach_closed j.completed p (j.forks p) (known_with j p n) now_closed 0 k (learn p (λ i. n == i) j.past)
       (learn_closed j.completed p (λ i. n == i) j.past this_closed paired.closed))
-      (teach_below p (j.forks p) (now j p n) (suc n) (now_below j p n (paired.below p)) 0 k
+      (teach_below p (j.forks p) (known_with j p n) (suc n) (now_below j p n (paired.below p)) 0 k
       (learn p (λ i. n == i) j.past)
       (learn_below p (λ i. n == i) (suc n) this_below j.past past_below)) refl refl
-  judged_paired (Offered w c) = elim (j.pending c) as (λ m. j.pending c ≡ m → Paired (met_now j p n c m) (suc n))
+  judged_paired (Offered w c) =
+      elim (j.pending c) as (λ m. j.pending c ≡ m → Paired (knowledge_after_offer j p n c m) (suc n))
       [ None ↦ λ e. waits_paired c | Some o ↦ λ e. meets_paired c o.0 o.1 e ] refl
   judged_paired (Faulted f) = stays_paired
   judged_paired Laid = stays_paired
   judged_paired Paused = stays_paired
-  judged_paired Ended = same_offers (judged_by j n p Ended)
-      (report_closed j.completed p (now j p n) (learn p (λ i. n == i) j.past) now_closed
+  judged_paired Ended = same_offers (knowledge_after j n p Ended)
+      (report_closed j.completed p (known_with j p n) (learn p (λ i. n == i) j.past) now_closed
       (learn_closed j.completed p (λ i. n == i) j.past this_closed paired.closed))
-      (report_below p (now j p n) (suc n) (now_below j p n (paired.below p)) (learn p (λ i. n == i) j.past)
+      (report_below p (known_with j p n) (suc n) (now_below j p n (paired.below p)) (learn p (λ i. n == i) j.past)
       (learn_below p (λ i. n == i) (suc n) this_below j.past past_below)) refl refl
 
   known_by : (done : List Occurrence) (h : Happening) → KnowsCompletions j done p h → KnowsOffers j done p h
@@ -251,7 +254,7 @@ module _ (j : Judged) (n : ℕ) (paired : Paired j n) (p : Name) where
   known_by done Laid k = tt
   known_by done Paused k = tt
 
-pub nothing_paired : Paired nothing_judged 0
+pub nothing_paired : Paired no_knowledge 0
 nothing_paired = record {
   closed = λ q i m e h. absurd (none-some _ e);
   below = λ q i h. absurd (false≢true h);
@@ -269,7 +272,7 @@ IsComplete es d known = (i : ℕ) (z : Name) (w : Way) (c : Channel)
     → slice_get es i ≡ Some (record { who = z; what = Offered w c }) → known i ≡ true → (m : ℕ) × (d i ≡ Some m)
     × (known m ≡ true)
 
-pub record Rounded (j : Judged) (done : List Occurrence) (n : ℕ) : Type 0 where
+pub record Rounded (j : Knowledge) (done : List Occurrence) (n : ℕ) : Type 0 where
   pub size : length done ≡ n
   pub complete : (q : Name) → IsComplete done j.completed (j.past q)
   pub entries : (c : Channel) (z : Name) (k : ℕ) → j.pending c ≡ Some (z, k) → (w : Way)
@@ -326,7 +329,7 @@ IsNoOffer (Faulted f) = Unit {0}
 IsNoOffer Laid = Unit {0}
 IsNoOffer Paused = Unit {0}
 
-module _ (j : Judged) (done : List Occurrence) (n : ℕ) (paired : Paired j n) (r : Rounded j done n) (p : Name) where
+module _ (j : Knowledge) (done : List Occurrence) (n : ℕ) (paired : Paired j n) (r : Rounded j done n) (p : Name) where
   abbrev longer : Happening → List Occurrence
   longer h = done ++ record { who = p; what = h } ∷ []
 
@@ -345,7 +348,7 @@ module _ (j : Judged) (done : List Occurrence) (n : ℕ) (paired : Paired j n) (
       absurd (subst IsNoOffer (ap (λ (x : Occurrence). x.what) a.1) plain))
       (grown_entry done (record { who = p; what = h }) (record { who = z; what = Offered w c }) i n r.size e)
 
-  now_complete : (h : Happening) → IsNoOffer h → IsComplete (longer h) j.completed (now j p n)
+  now_complete : (h : Happening) → IsNoOffer h → IsComplete (longer h) j.completed (known_with j p n)
   now_complete h plain = union_complete (longer h) j.completed (j.past p) (λ i. n == i) (old_complete h p)
       (this_complete h plain)
 
@@ -356,7 +359,7 @@ module _ (j : Judged) (done : List Occurrence) (n : ℕ) (paired : Paired j n) (
   size_of : (h : Happening) → length (longer h) ≡ suc n
   size_of h = grown_size done n (record { who = p; what = h }) r.size
 
-  waits_rounded : (w : Way) (c : Channel) → Rounded (met_now j p n c None) (longer (Offered w c)) (suc n)
+  waits_rounded : (w : Way) (c : Channel) → Rounded (knowledge_after_offer j p n c None) (longer (Offered w c)) (suc n)
   waits_rounded w c = record {
     size = size_of (Offered w c);
     complete = old_complete (Offered w c);
@@ -391,12 +394,12 @@ module _ (j : Judged) (done : List Occurrence) (n : ℕ) (paired : Paired j n) (
   met_other k i a b = rw (ne_eqb n i a, ne_eqb k i b) refl
 
   meets_rounded : (w : Way) (c : Channel) (z : Name) (k : ℕ) → j.pending c ≡ Some (z, k)
-      → Rounded (met_now j p n c (Some (z, k))) (longer (Offered w c)) (suc n)
+      → Rounded (knowledge_after_offer j p n c (Some (z, k))) (longer (Offered w c)) (suc n)
   meets_rounded w c z k pe =
       let x = paired.waits c z k pe in
       let ke = r.entries c z k pe in
-      let known : ℕ → Bool = λ i. now j p n i || now j z k i in
-      let known_n : known n ≡ true = or_left (now j p n n) (now j z k n)
+      let known : ℕ → Bool = λ i. known_with j p n i || known_with j z k i in
+      let known_n : known n ≡ true = or_left (known_with j p n n) (known_with j z k n)
       (or_right (j.past p n) (n == n) (eq-eqb n n refl)) in
       let not_k : (q : Name) → j.past q k ≡ true
       → ⊥ = λ q h. (let y = r.complete q k z ke.0 c ke.1 h in none-some _ (sym x.1 ∙ y.1)) in
@@ -413,17 +416,17 @@ module _ (j : Judged) (done : List Occurrence) (n : ℕ) (paired : Paired j n) (
       (λ (a : n ≢ i). ⊎_elim
       (λ (b : k ≡ i). (n, met_k k i a b, known_n))
       (λ (b : k ≢ i). ⊎_elim
-      (λ (f : now j p n i ≡ true). ⊎_elim
+      (λ (f : known_with j p n i ≡ true). ⊎_elim
       (λ (g : j.past p i ≡ true). let o = past_complete p i y v d e g in
-      (o.0, o.1, or_left (now j p n o.0) (now j z k o.0) (or_left (j.past p o.0) (n == o.0) o.2)))
+      (o.0, o.1, or_left (known_with j p n o.0) (known_with j z k o.0) (or_left (j.past p o.0) (n == o.0) o.2)))
       (λ (g : n == i ≡ true). absurd (a (eqb-true n i g)))
       (or_cases (j.past p i) (n == i) f))
-      (λ (f : now j z k i ≡ true). ⊎_elim
+      (λ (f : known_with j z k i ≡ true). ⊎_elim
       (λ (g : j.past z i ≡ true). let o = past_complete z i y v d e g in
-      (o.0, o.1, or_right (now j p n o.0) (now j z k o.0) (or_left (j.past z o.0) (k == o.0) o.2)))
+      (o.0, o.1, or_right (known_with j p n o.0) (known_with j z k o.0) (or_left (j.past z o.0) (k == o.0) o.2)))
       (λ (g : k == i ≡ true). absurd (b (eqb-true k i g)))
       (or_cases (j.past z i) (k == i) f))
-      (or_cases (now j p n i) (now j z k i) h))
+      (or_cases (known_with j p n i) (known_with j z k i) h))
       (cases_eq k i))
       (cases_eq n i) in
       record {
@@ -440,7 +443,7 @@ module _ (j : Judged) (done : List Occurrence) (n : ℕ) (paired : Paired j n) (
       gone : (d : Channel) → c ≡ d → at_key same_channel c None j.pending d ≡ None
       gone d e = rw ((channel_test c d).1 e) refl
 
-  same_rounded : (h : Happening) (j' : Judged) → ((q : Name) → IsComplete (longer h) j.completed (j'.past q))
+  same_rounded : (h : Happening) (j' : Knowledge) → ((q : Name) → IsComplete (longer h) j.completed (j'.past q))
       → j'.completed ≡ j.completed → j'.pending ≡ j.pending → Rounded j' (longer h) (suc n)
   same_rounded h j' complete c_is p_is = record {
     size = size_of h;
@@ -448,19 +451,20 @@ module _ (j : Judged) (done : List Occurrence) (n : ℕ) (paired : Paired j n) (
     entries = λ c z k e. old_entries h c z k (ap (λ f. f c) (sym p_is) ∙ e);
   }
 
-  pub judged_rounded : (h : Happening) → Rounded (judged_by j n p h) (longer h) (suc n)
-  judged_rounded Opened = same_rounded Opened (judged_by j n p Opened)
+  pub judged_rounded : (h : Happening) → Rounded (knowledge_after j n p h) (longer h) (suc n)
+  judged_rounded Opened = same_rounded Opened (knowledge_after j n p Opened)
       (learn_complete (longer Opened) j.completed p (λ i. n == i) j.past (this_complete Opened tt)
       (old_complete Opened)) refl refl
-  judged_rounded (Forked k) = same_rounded (Forked k) (judged_by j n p (Forked k))
-      (teach_complete (longer (Forked k)) j.completed p (j.forks p) (now j p n) (now_complete (Forked k) tt) 0 k
+  judged_rounded (Forked k) = same_rounded (Forked k) (knowledge_after j n p (Forked k))
+      (teach_complete (longer (Forked k)) j.completed p (j.forks p) (known_with j p n) (now_complete (Forked k) tt) 0 k
       (learn p (λ i. n == i) j.past) (learn_complete (longer (Forked k)) j.completed p (λ i. n == i) j.past
       (this_complete (Forked k) tt) (old_complete (Forked k)))) refl refl
   judged_rounded (Offered w c) = elim (j.pending c) as
-      (λ m. j.pending c ≡ m → Rounded (met_now j p n c m) (longer (Offered w c)) (suc n))
+      (λ m. j.pending c ≡ m → Rounded (knowledge_after_offer j p n c m) (longer (Offered w c)) (suc n))
       [ None ↦ λ e. waits_rounded w c | Some o ↦ λ e. meets_rounded w c o.0 o.1 e ] refl
-  judged_rounded Ended = same_rounded Ended (judged_by j n p Ended)
-      (report_complete (longer Ended) j.completed p (now j p n) (learn p (λ i. n == i) j.past) (now_complete Ended tt)
+  judged_rounded Ended = same_rounded Ended (knowledge_after j n p Ended)
+      (report_complete (longer Ended) j.completed p (known_with j p n) (learn p (λ i. n == i) j.past)
+      (now_complete Ended tt)
       (learn_complete (longer Ended) j.completed p (λ i. n == i) j.past (this_complete Ended tt)
       (old_complete Ended))) refl refl
   judged_rounded (Faulted f) = same_rounded (Faulted f) j (old_complete (Faulted f)) refl refl
@@ -476,30 +480,31 @@ module _ (j : Judged) (done : List Occurrence) (n : ℕ) (paired : Paired j n) (
   completed_by Laid k = tt
   completed_by Paused k = tt
 
-pub nothing_rounded : Rounded nothing_judged [] 0
+pub nothing_rounded : Rounded no_knowledge [] 0
 nothing_rounded = record {
   size = refl;
   complete = λ q i z w c e h. absurd (none-some _ e);
   entries = λ c z k e. absurd (none-some _ e);
 }
 
-known_by_completions : (es done : List Occurrence) (j : Judged) → Paired j (length done) → CompletedFrom j done es
+known_by_completions : (es done : List Occurrence) (j : Knowledge) → Paired j (length done) → CompletedFrom j done es
     → KnownFrom j done es
 known_by_completions [] done j paired h = tt
 known_by_completions (e ∷ es) done j paired h =
     let size : suc (length done) ≡ length (done ++ e ∷ []) = sym (grown_size done (length done) e refl) in (
       known_by j (length done) paired e.who done e.what h.0,
-      known_by_completions es (done ++ e ∷ []) (judged_by j (length done) e.who e.what)
-          (subst (Paired (judged_by j (length done) e.who e.what)) size
+      known_by_completions es (done ++ e ∷ []) (knowledge_after j (length done) e.who e.what)
+          (subst (Paired (knowledge_after j (length done) e.who e.what)) size
           (judged_paired j (length done) paired e.who e.what)) h.1,
     )
 
-completions_by_known : (es done : List Occurrence) (j : Judged) → Paired j (length done) → Rounded j done (length done)
+completions_by_known : (es done : List Occurrence) (j : Knowledge) → Paired j (length done)
+    → Rounded j done (length done)
     → KnownFrom j done es → CompletedFrom j done es
 completions_by_known [] done j paired r h = tt
 completions_by_known (e ∷ es) done j paired r h =
     let size : suc (length done) ≡ length (done ++ e ∷ []) = sym (grown_size done (length done) e refl) in
-    let j' = judged_by j (length done) e.who e.what in (
+    let j' = knowledge_after j (length done) e.who e.what in (
       completed_by j done (length done) paired r e.who e.what h.0,
       completions_by_known es (done ++ e ∷ []) j'
           (subst (Paired j') size (judged_paired j (length done) paired e.who e.what))
@@ -508,7 +513,7 @@ completions_by_known (e ∷ es) done j paired r h =
 
 -- the two order conditions are the same
 pub ordered_known : (es : List Occurrence) → AreOrdered es → AreKnown es
-ordered_known es h = known_by_completions es [] nothing_judged nothing_paired h
+ordered_known es h = known_by_completions es [] no_knowledge nothing_paired h
 
 pub known_ordered : (es : List Occurrence) → AreKnown es → AreOrdered es
-known_ordered es h = completions_by_known es [] nothing_judged nothing_paired nothing_rounded h
+known_ordered es h = completions_by_known es [] no_knowledge nothing_paired nothing_rounded h

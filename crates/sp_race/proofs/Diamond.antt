@@ -2,15 +2,15 @@
 -- it does.
 use Rattle.std.proofs.Common.{◌≡◌, ◌≢◌, ◌⊎◌, ⊎_elim, ℕ, suc, List, [], ◌∷◌, length, Option, Some, None, refl, sym}
 use Rattle.std.proofs.Common.{subst, arith}
-use Rattle.sp_meaning.specs.Schedules.{System, Leads, IsStuck, EndsAlike}
+use Rattle.sp_meaning.specs.Schedules.{System, ScheduleLeads, IsStuck, EndsAlike}
 
 -- A relation on steps of which the laws below hold: "this step is made in a state with the invariant, it keeps Ordered,
 -- and it sets no fault"
-pub record Good (y : System) : Type 1 where
+pub record CommutingSteps (y : System) : Type 1 where
   pub Step : y.State → y.Name → y.State → Type 0
-  pub quiet_before : (s : y.State) (p : y.Name) (t : y.State) → Step s p t → y.Quiet s
+  pub quiet_before : (s : y.State) (p : y.Name) (t : y.State) → Step s p t → y.HasNoFault s
   pub made : (s : y.State) (p : y.Name) (t : y.State) → Step s p t → y.step s p ≡ Some t
-  pub quiet_after : (s : y.State) (p : y.Name) (t : y.State) → Step s p t → y.Quiet t
+  pub quiet_after : (s : y.State) (p : y.Name) (t : y.State) → Step s p t → y.HasNoFault t
   -- names are told apart
   pub same_or_not : (p q : y.Name) → (p ≡ q) ⊎ (p ≢ q)
   -- who can step still can, once another has made a good step
@@ -21,7 +21,7 @@ pub record Good (y : System) : Type 1 where
       → y.step s q ≡ Some m → Step s q m × Step m p s2
 
 -- a run of good steps
-abbrev pub GoodRun : {y : System} → Good y → y.State → List y.Name → y.State → Type 0
+abbrev pub GoodRun : {y : System} → CommutingSteps y → y.State → List y.Name → y.State → Type 0
 GoodRun g s [] t = t ≡ s
 GoodRun {y} g s (p ∷ ps) t = (m : y.State) × g.Step s p m × GoodRun g m ps t
 
@@ -29,13 +29,14 @@ some_is : {A : Type 0} {o : Option A} {x y : A} → o ≡ Some x → o ≡ Some 
 some_is p q = cc
 
 -- what is left of a good run once a process that can step now was moved to its front
-pub record Fronted {y : System} (g : Good y) (q : y.Name) (s m : y.State) (n : ℕ) (t : y.State) : Type 0 where
+pub record Fronted {y : System} (g : CommutingSteps y) (q : y.Name) (s m : y.State) (n : ℕ) (t : y.State) : Type 0 where
   pub step : g.Step s q m
   pub rest : List y.Name
   pub one_less : suc (length rest) ≡ n
   pub run : GoodRun g m rest t
 
-front : {y : System} (g : Good y) (ps : List y.Name) (s t : y.State) (q : y.Name) (m : y.State) → GoodRun g s ps t
+front : {y : System} (g : CommutingSteps y) (ps : List y.Name) (s t : y.State) (q : y.Name) (m : y.State)
+    → GoodRun g s ps t
     → IsStuck y t → y.step s q ≡ Some m → Fronted g q s m (length ps) t
 front {y} g [] s t q m r stuck e = let h : y.step s q ≡ None = subst (λ z. y.step z q ≡ None) r (stuck q) in
     absurd (cc (h, e))
@@ -56,20 +57,22 @@ front {y} g (p ∷ ps) s t q m r stuck e = ⊎_elim
     record { step = x.0; rest = p ∷ f.rest; one_less = omega (arith, f.one_less); run = (still.0, x.1, f.run) })
     (g.same_or_not p q)
 
-leads : {y : System} (g : Good y) (ps : List y.Name) (s t : y.State) → GoodRun g s ps t → Leads y s ps t
+leads : {y : System} (g : CommutingSteps y) (ps : List y.Name) (s t : y.State) → GoodRun g s ps t
+    → ScheduleLeads y s ps t
 leads g [] s t r = r
 leads g (p ∷ ps) s t r = (r.0, g.quiet_before s p r.0 r.1, g.made s p r.0 r.1, leads g ps r.0 t r.2)
 
 -- the theorem, over any system
-pub ends_alike : {y : System} (g : Good y) (qs ps : List y.Name) (s t u : y.State) → y.Quiet s → GoodRun g s ps t
-    → IsStuck y t → Leads y s qs u → EndsAlike y s (length ps) t qs u
+pub ends_alike : {y : System} (g : CommutingSteps y) (qs ps : List y.Name) (s t u : y.State) → y.HasNoFault s
+    → GoodRun g s ps t
+    → IsStuck y t → ScheduleLeads y s qs u → EndsAlike y s (length ps) t qs u
 ends_alike {y} g [] ps s t u quiet r stuck l =
     record {
       bounded = omega arith;
-      quiet = subst y.Quiet (sym l) quiet;
+      quiet = subst y.HasNoFault (sym l) quiet;
       rest = ps;
       full = refl;
-      goes_on = subst (λ z. Leads y z ps t) (sym l) (leads g ps s t r);
+      goes_on = subst (λ z. ScheduleLeads y z ps t) (sym l) (leads g ps s t r);
     }
 ends_alike {y} g (q ∷ qs) ps s t u quiet r stuck l =
     let f = front g ps s t q l.0 r stuck l.2 in

@@ -6,38 +6,45 @@ use Rattle.std.proofs.lemmas.Bool.{false_from_ne_true, ne_eqb}
 use Rattle.std.proofs.lemmas.Option.{none-some}
 use Rattle.sp_journal.specs.Names.{Happening, Opened, Offered, Paused, Occurrence}
 use Rattle.sp_journal.specs.Names as happenings
-use Rattle.sp_journal.specs.Past.{Judged, learn, teach, report, now, met_now, judged_by}
+use Rattle.sp_journal.specs.Past.{Knowledge, learn, teach, report, known_with, knowledge_after_offer, knowledge_after}
 use Rattle.sp_meaning.specs.Maps.{at_key}
-use Rattle.sp_meaning.specs.Model.{Name, Channel, same_name, Totals, Language, Moves, Opens, Forks, Offering, Ends}
-use Rattle.sp_meaning.specs.Model.{Works, Joins, Ended, State, Change, Becomes, Forked, Writes, Adds, changed, after}
-use Rattle.sp_meaning.specs.Steps.{OfferOf, Advances, puts, births, way_of, acts, Sound}
+use Rattle.sp_meaning.specs.Model.{Name, Channel, same_name, Totals, Language, Moves, Opens, Forks, Offering}
+use Rattle.sp_meaning.specs.Model.{EndsProcess}
+use Rattle.sp_meaning.specs.Model.{Works, Joins, Ended, State, Change, Becomes, Forked, WritesLocation, AddsTotals}
+use Rattle.sp_meaning.specs.Model.{with_change, with_changes}
+use Rattle.sp_meaning.specs.Steps.{OfferOf, Advances, write_changes, birth_changes, way_of, act_outcome, Sound}
 use Rattle.sp_meaning.proofs.Frames.{IsOn, all_in, condition_frame, pending_frame}
 use Rattle.sp_meaning.proofs.Status.{Makes, waiting_far}
 use Rattle.sp_meaning.proofs.Meeting.{met, waited, same_changes}
-use Rattle.sp_race.specs.Notes.{Event, same_event, Notes, Note, Counts, Learns, noted, all_noted, mine, knows, teaches}
-use Rattle.sp_race.specs.Notes.{tells, meeting_notes, offer_notes, notes_of, IsKnowledge}
+use Rattle.sp_race.specs.Notes.{Event, same_event, JudgeNotes, Note, Counts, Learns, with_judge_note, with_judge_notes}
+use Rattle.sp_race.specs.Notes.{next_event_of, known_after_event, notes_to_children}
+use Rattle.sp_race.specs.Notes.{notes_to_parent, meeting_notes, offer_notes, notes_of, IsKnowledge}
 use Rattle.sp_race.specs.Noting.{notes_after}
-use Rattle.sp_race.specs.Linked.{known_label, IsPending, Linked}
+use Rattle.sp_race.specs.Linked.{known_label, IsPending, NotesMatch}
 use Rattle.sp_race.proofs.NotesFrames.{HasCount}
 use Rattle.sp_race.proofs.Linking.{past_is, index_is, spread, linked_on, linked_waits, linked_meets, below_or_at}
 use Rattle.sp_race.proofs.Linking.{kept_entry, grown_size}
 
-puts_forks : {L : Language} (ws : List (L.Loc × L.Value)) (t : State L) → (after (puts ws) t).forks ≡ t.forks
+puts_forks : {L : Language} (ws : List (L.Loc × L.Value)) (t : State L) → (with_changes (write_changes ws) t).forks
+    ≡ t.forks
 puts_forks [] t = refl
-puts_forks (w ∷ ws) t = puts_forks ws (changed (Writes w.0 w.1) t)
+puts_forks (w ∷ ws) t = puts_forks ws (with_change (WritesLocation w.0 w.1) t)
 
 births_forks : {L : Language} (p : Name) (k x : ℕ) (os : List L.Own) (t : State L)
-    → (after (births p k x os) t).forks ≡ t.forks
+    → (with_changes (birth_changes p k x os) t).forks ≡ t.forks
 births_forks p k x [] t = refl
-births_forks p k x (o ∷ os) t = births_forks p k (suc x) os (changed (Becomes ((k, x) ∷ p) (Works o)) t)
+births_forks p k x (o ∷ os) t = births_forks p k (suc x) os (with_change (Becomes ((k, x) ∷ p) (Works o)) t)
 
 -- what children start with, in the journal and in the notes
-teaches_past : (p : Name) (k : ℕ) (known : Event → Bool) (x m : ℕ) (v : Notes) (f : ℕ → Bool) (past : Name → ℕ → Bool)
+teaches_past : (p : Name) (k : ℕ) (known : Event → Bool) (x m : ℕ) (v : JudgeNotes) (f : ℕ → Bool) (past : Name → ℕ
+    → Bool)
     (i : ℕ) (l : Option Event) → f i ≡ known_label known l → ((q : Name) → past q i ≡ known_label (v.past q) l)
-    → (q : Name) → teach p k f x m past q i ≡ known_label ((all_noted (teaches p k known x m) v).past q) l
+    → (q : Name) → teach p k f x m past q i
+    ≡ known_label ((with_judge_notes (notes_to_children p k known x m) v).past q) l
 teaches_past p k known x zero v f past i l fe h q = h q
 teaches_past p k known x (suc m) v f past i l fe h q =
-    teaches_past p k known (suc x) m (noted (Learns ((k, x) ∷ p) known) v) f (learn ((k, x) ∷ p) f past) i l fe
+    teaches_past p k known (suc x) m (with_judge_note (Learns ((k, x) ∷ p) known) v) f
+    (learn ((k, x) ∷ p) f past) i l fe
     (λ r. (λ y. cond (same_name ((k, x) ∷ p) r) (h r y || fe y) (h r y))
     ∙ sym (spread (same_name ((k, x) ∷ p) r) (v.past r) known l)) q
 
@@ -57,8 +64,8 @@ teach_below p k f n g x zero past h q i e = h q i e
 teach_below p k f n g x (suc m) past h q i e =
     teach_below p k f n g (suc x) m (learn ((k, x) ∷ p) f past) (learn_below ((k, x) ∷ p) f n g past h) q i e
 
-pub now_below : (j : Judged) (p : Name) (n : ℕ) → ((i : ℕ) → j.past p i ≡ true → i < n) → (i : ℕ)
-    → now j p n i ≡ true → i < suc n
+pub now_below : (j : Knowledge) (p : Name) (n : ℕ) → ((i : ℕ) → j.past p i ≡ true → i < n) → (i : ℕ)
+    → known_with j p n i ≡ true → i < suc n
 now_below j p n below i e = by (j.past p i) (n == i) (below i) (eqb-true n i) e
   where
     by : (a b : Bool) → (a ≡ true → i < n) → (b ≡ true → n ≡ i) → a || b ≡ true → i < suc n
@@ -70,125 +77,137 @@ pub report_below : (r : Name) (f : ℕ → Bool) (n : ℕ) → ((i : ℕ) → f 
 report_below [] f n g past h = h
 report_below (a ∷ r) f n g past h = learn_below r f n g past h
 
-module _ {L : Language} {limits : Totals} (s : State L) (v : Notes) (p : Name) (cs : List (Change L)) (sound : Sound s)
-    (known : IsKnowledge v) (one : Makes limits s p cs) (j : Judged) (done : List Occurrence) (n : ℕ)
-    (label : ℕ → Option Event) (link : Linked s v j done n label) where
+module _ {L : Language} {limits : Totals} (s : State L) (v : JudgeNotes) (p : Name) (cs : List (Change L))
+    (sound : Sound s)
+    (known : IsKnowledge v) (one : Makes limits s p cs) (j : Knowledge) (done : List Occurrence) (n : ℕ)
+    (label : ℕ → Option Event) (link : NotesMatch s v j done n label) where
   abbrev pub grows_label : ℕ → Option Event
-  grows_label i = cond (n == i) (Some (mine v p)) (label i)
+  grows_label i = cond (n == i) (Some (next_event_of v p)) (label i)
 
-  abbrev counted_notes : Notes
-  counted_notes = noted (Counts p) v
+  abbrev counted_notes : JudgeNotes
+  counted_notes = with_judge_note (Counts p) v
 
   first_past : (h : Happening) (q : Name) (i : ℕ) → i < suc n
-      → learn p (λ x. n == x) j.past q i ≡ known_label ((noted (Learns p (same_event (mine v p))) counted_notes).past q)
+      → learn p (λ x. n == x) j.past q i
+      ≡ known_label ((with_judge_note (Learns p (same_event (next_event_of v p))) counted_notes).past q)
       (grows_label i)
   first_past h q i lt =
       let a = past_is s v p cs sound known one j done n label link h q i lt in
       let b = index_is s v p cs sound known one j done n label link h i lt in
       (λ x. cond (same_name p q) (a x || b x) (a x))
-      ∙ sym (spread (same_name p q) (v.past q) (same_event (mine v p)) (grows_label i))
+      ∙ sym (spread (same_name p q) (v.past q) (same_event (next_event_of v p)) (grows_label i))
 
   first_below : (q : Name) (i : ℕ) → learn p (λ x. n == x) j.past q i ≡ true → i < suc n
   first_below = learn_below p (λ x. n == x) (suc n) (λ i e. let k = eqb-true n i e in omega (arith, k)) j.past
       (λ q i e. let k = link.below q i e in omega (arith, k))
 
-  knows_label : (h : Happening) (i : ℕ) → i < suc n → now j p n i ≡ known_label (knows v p) (grows_label i)
+  knows_label : (h : Happening) (i : ℕ) → i < suc n → known_with j p n i ≡ known_label (known_after_event v p)
+      (grows_label i)
   knows_label h i lt =
       let a = past_is s v p cs sound known one j done n label link h p i lt in
       let b = index_is s v p cs sound known one j done n label link h i lt in
       (λ x. a x || b x) ∙ joined (grows_label i)
     where
       joined : (l : Option Event) → known_label (v.past p) l
-          || known_label (same_event (mine v p)) l ≡ known_label (knows v p) l
+          || known_label (same_event (next_event_of v p)) l ≡ known_label (known_after_event v p) l
       joined None = refl
       joined (Some e) = refl
 
   pub opens_linked : (o : L.Own) (ws : List (L.Loc × L.Value)) → L.next one.own s.store ≡ Opens o ws
-      → Linked (after cs s) (notes_after s v p (L.next one.own s.store)) (judged_by j n p Opened)
+      → NotesMatch (with_changes cs s) (notes_after s v p (L.next one.own s.store)) (knowledge_after j n p Opened)
       (done ++ record { who = p; what = Opened } ∷ []) (suc n) grows_label
   opens_linked o ws is =
-      let es : List (Change L) = Becomes p (Works o) ∷ Adds (record { processes = 0; channels = 1; entries = 1 })
-      ∷ puts ws in
-      let list : cs ≡ es = same_changes _ _ (subst (λ a. acts s p a ≡ Advances cs) is one.does) in
-      let forks_at : (after cs s).forks ≡ s.forks = ap (λ x. (after x s).forks) list
-      ∙ puts_forks ws (changed (Adds (record { processes = 0; channels = 1; entries = 1 }))
-      (changed (Becomes p (Works o)) s)) in
-      let ns : List Note = Counts p ∷ Learns p (same_event (mine v p)) ∷ [] in
+      let es : List (Change L) = Becomes p (Works o) ∷ AddsTotals (record { processes = 0; channels = 1; entries = 1 })
+      ∷ write_changes ws in
+      let list : cs ≡ es = same_changes _ _ (subst (λ a. act_outcome s p a ≡ Advances cs) is one.does) in
+      let forks_at : (with_changes cs s).forks ≡ s.forks = ap (λ x. (with_changes x s).forks) list
+      ∙ puts_forks ws (with_change (AddsTotals (record { processes = 0; channels = 1; entries = 1 }))
+      (with_change (Becomes p (Works o)) s)) in
+      let ns : List Note = Counts p ∷ Learns p (same_event (next_event_of v p)) ∷ [] in
       let notes_are : notes_of s v p (L.next one.own s.store) ≡ ns = ap (notes_of s v p) is in
       linked_on s v p cs sound known one j done n label link Opened (λ c on. subst (λ a. IsOn a c) is on)
-      (subst (HasCount p) (sym notes_are) (inl refl)) (judged_by j n p Opened)
-      (λ q i lt. first_past Opened q i lt ∙ ap (λ x. known_label ((all_noted x v).past q) (grows_label i))
+      (subst (HasCount p) (sym notes_are) (inl refl)) (knowledge_after j n p Opened)
+      (λ q i lt. first_past Opened q i lt ∙ ap (λ x. known_label ((with_judge_notes x v).past q) (grows_label i))
       (sym notes_are))
       first_below (λ c. refl) (λ q. link.forks q ∙ ap (λ f. f q) (sym forks_at))
 
   pub forks_linked : (o : L.Own) (os : List L.Own) → L.next one.own s.store ≡ Forks o os
-      → Linked (after cs s) (notes_after s v p (L.next one.own s.store))
-      (judged_by j n p (happenings.Forked (length os)))
+      → NotesMatch (with_changes cs s) (notes_after s v p (L.next one.own s.store))
+      (knowledge_after j n p (happenings.Forked (length os)))
       (done ++ record { who = p; what = happenings.Forked (length os) } ∷ []) (suc n) grows_label
   forks_linked o os is =
       let h = happenings.Forked (length os) in
       let new : Totals = record { processes = length os; channels = 0; entries = 1 } in
-      let es : List (Change L) = Becomes p (Joins (s.forks p) (length os) o) ∷ Forked p ∷ Adds new
-      ∷ births p (s.forks p) 0 os in
-      let list : cs ≡ es = same_changes _ _ (subst (λ a. acts s p a ≡ Advances cs) is one.does) in
-      let forks_at : (after es s).forks ≡ at_key same_name p (s.forks p + 1) s.forks =
-      births_forks p (s.forks p) 0 os (changed (Adds new)
-      (changed (Forked p) (changed (Becomes p (Joins (s.forks p) (length os) o)) s))) in
-      let ns : List Note = Counts p ∷ Learns p (same_event (mine v p))
-      ∷ teaches p (s.forks p) (knows v p) 0 (length os) in
+      let es : List (Change L) = Becomes p (Joins (s.forks p) (length os) o) ∷ Forked p ∷ AddsTotals new
+      ∷ birth_changes p (s.forks p) 0 os in
+      let list : cs ≡ es = same_changes _ _ (subst (λ a. act_outcome s p a ≡ Advances cs) is one.does) in
+      let forks_at : (with_changes es s).forks ≡ at_key same_name p (s.forks p + 1) s.forks =
+      births_forks p (s.forks p) 0 os (with_change (AddsTotals new)
+      (with_change (Forked p) (with_change (Becomes p (Joins (s.forks p) (length os) o)) s))) in
+      let ns : List Note = Counts p ∷ Learns p (same_event (next_event_of v p))
+      ∷ notes_to_children p (s.forks p) (known_after_event v p) 0 (length os) in
       let notes_are : notes_of s v p (L.next one.own s.store) ≡ ns = ap (notes_of s v p) is in
       linked_on s v p cs sound known one j done n label link h (λ c on. subst (λ a. IsOn a c) is on)
-      (subst (HasCount p) (sym notes_are) (inl refl)) (judged_by j n p h)
+      (subst (HasCount p) (sym notes_are) (inl refl)) (knowledge_after j n p h)
       (λ q i lt.
-      ap (λ k. teach p k (now j p n) 0 (length os) (learn p (λ x. n == x) j.past) q i) (link.forks p)
-      ∙ teaches_past p (s.forks p) (knows v p) 0 (length os) (noted (Learns p (same_event (mine v p))) counted_notes)
-      (now j p n) (learn p (λ x. n == x) j.past) i (grows_label i) (knows_label h i lt) (λ r. first_past h r i lt) q
-      ∙ ap (λ x. known_label ((all_noted x v).past q) (grows_label i)) (sym notes_are))
-      (teach_below p (j.forks p) (now j p n) (suc n) (now_below j p n (link.below p)) 0 (length os)
+      ap (λ k. teach p k (known_with j p n) 0 (length os) (learn p (λ x. n == x) j.past) q i) (link.forks p)
+      ∙ teaches_past p (s.forks p) (known_after_event v p) 0 (length os)
+      (with_judge_note (Learns p (same_event (next_event_of v p))) counted_notes)
+      (known_with j p n) (learn p (λ x. n == x) j.past) i (grows_label i) (knows_label h i lt)
+      (λ r. first_past h r i lt) q
+      ∙ ap (λ x. known_label ((with_judge_notes x v).past q) (grows_label i)) (sym notes_are))
+      (teach_below p (j.forks p) (known_with j p n) (suc n) (now_below j p n (link.below p)) 0 (length os)
       (learn p (λ x. n == x) j.past) first_below)
       (λ c. refl)
       (λ q. (λ x. cond (same_name p q) (link.forks p x + 1) (link.forks q x)) ∙ ap (λ f. f q) (sym forks_at)
-      ∙ ap (λ x. (after x s).forks q) (sym list))
+      ∙ ap (λ x. (with_changes x s).forks q) (sym list))
 
-  tells_past : (r : Name) (w : Notes) (past : Name → ℕ → Bool) (i : ℕ) (l : Option Event)
-      → now j p n i ≡ known_label (knows v p) l → ((q : Name) → past q i ≡ known_label (w.past q) l) → (q : Name)
-      → report r (now j p n) past q i ≡ known_label ((all_noted (tells r (knows v p)) w).past q) l
+  tells_past : (r : Name) (w : JudgeNotes) (past : Name → ℕ → Bool) (i : ℕ) (l : Option Event)
+      → known_with j p n i ≡ known_label (known_after_event v p) l → ((q : Name) → past q i ≡ known_label (w.past q) l)
+      → (q : Name)
+      → report r (known_with j p n) past q i
+      ≡ known_label ((with_judge_notes (notes_to_parent r (known_after_event v p)) w).past q) l
   tells_past [] w past i l fe h q = h q
   tells_past (a ∷ r) w past i l fe h q = (λ y. cond (same_name r q) (h q y || fe y) (h q y))
-      ∙ sym (spread (same_name r q) (w.past q) (knows v p) l)
+      ∙ sym (spread (same_name r q) (w.past q) (known_after_event v p) l)
 
-  pub ends_linked : L.next one.own s.store ≡ Ends
-      → Linked (after cs s) (notes_after s v p (L.next one.own s.store)) (judged_by j n p happenings.Ended)
+  pub ends_linked : L.next one.own s.store ≡ EndsProcess
+      → NotesMatch (with_changes cs s) (notes_after s v p (L.next one.own s.store))
+      (knowledge_after j n p happenings.Ended)
       (done ++ record { who = p; what = happenings.Ended } ∷ []) (suc n) grows_label
   ends_linked is =
       let es : List (Change L) = Becomes p Ended ∷ [] in
-      let list : cs ≡ es = same_changes _ _ (subst (λ a. acts s p a ≡ Advances cs) is one.does) in
-      let ns : List Note = Counts p ∷ Learns p (same_event (mine v p)) ∷ tells p (knows v p) in
+      let list : cs ≡ es = same_changes _ _ (subst (λ a. act_outcome s p a ≡ Advances cs) is one.does) in
+      let ns : List Note = Counts p ∷ Learns p (same_event (next_event_of v p))
+      ∷ notes_to_parent p (known_after_event v p) in
       let notes_are : notes_of s v p (L.next one.own s.store) ≡ ns = ap (notes_of s v p) is in
       linked_on s v p cs sound known one j done n label link happenings.Ended (λ c on. subst (λ a. IsOn a c) is on)
-      (subst (HasCount p) (sym notes_are) (inl refl)) (judged_by j n p happenings.Ended)
+      (subst (HasCount p) (sym notes_are) (inl refl)) (knowledge_after j n p happenings.Ended)
       (λ q i lt.
-      tells_past p (noted (Learns p (same_event (mine v p))) counted_notes) (learn p (λ x. n == x) j.past) i
+      tells_past p (with_judge_note (Learns p (same_event (next_event_of v p))) counted_notes)
+      (learn p (λ x. n == x) j.past) i
       (grows_label i) (knows_label happenings.Ended i lt) (λ r. first_past happenings.Ended r i lt) q
-      ∙ ap (λ x. known_label ((all_noted x v).past q) (grows_label i)) (sym notes_are))
-      (report_below p (now j p n) (suc n) (now_below j p n (link.below p)) (learn p (λ x. n == x) j.past) first_below)
+      ∙ ap (λ x. known_label ((with_judge_notes x v).past q) (grows_label i)) (sym notes_are))
+      (report_below p (known_with j p n) (suc n) (now_below j p n (link.below p)) (learn p (λ x. n == x) j.past)
+      first_below)
       (λ c. refl)
-      (λ q. link.forks q ∙ ap (λ x. (after x s).forks q) (sym list))
+      (λ q. link.forks q ∙ ap (λ x. (with_changes x s).forks q) (sym list))
 
   -- a step without an entry
   pub moves_linked : (o : L.Own) (ws : List (L.Loc × L.Value)) → L.next one.own s.store ≡ Moves o ws
-      → Linked (after cs s) (notes_after s v p (L.next one.own s.store)) j done n label
+      → NotesMatch (with_changes cs s) (notes_after s v p (L.next one.own s.store)) j done n label
   moves_linked o ws is =
       let a = L.next one.own s.store in
-      let es : List (Change L) = Becomes p (Works o) ∷ puts ws in
-      let list : cs ≡ es = same_changes _ _ (subst (λ a. acts s p a ≡ Advances cs) is one.does) in
-      let forks_at : (after cs s).forks ≡ s.forks = ap (λ x. (after x s).forks) list
-      ∙ puts_forks ws (changed (Becomes p (Works o)) s) in
+      let es : List (Change L) = Becomes p (Works o) ∷ write_changes ws in
+      let list : cs ≡ es = same_changes _ _ (subst (λ a. act_outcome s p a ≡ Advances cs) is one.does) in
+      let forks_at : (with_changes cs s).forks ≡ s.forks = ap (λ x. (with_changes x s).forks) list
+      ∙ puts_forks ws (with_change (Becomes p (Works o)) s) in
       let i = all_in s p a cs one.does in
       let off : (c : Channel) → IsOn a c → ⊥ = λ c on. subst (λ a. IsOn a c) is on in
-      let pend : (c : Channel) → (after cs s).pending c ≡ s.pending c = λ c. pending_frame s p a c (off c) cs s i in
-      let same : v ≡ notes_after s v p a = ap (λ x. all_noted x v) (sym (ap (notes_of s v p) is)) in
-      subst (λ w. Linked (after cs s) w j done n label) same (record {
+      let pend : (c : Channel) → (with_changes cs s).pending c ≡ s.pending c =
+      λ c. pending_frame s p a c (off c) cs s i in
+      let same : v ≡ notes_after s v p a = ap (λ x. with_judge_notes x v) (sym (ap (notes_of s v p) is)) in
+      subst (λ w. NotesMatch (with_changes cs s) w j done n label) same (record {
         size = link.size;
         past = link.past;
         below = link.below;
@@ -208,49 +227,55 @@ module _ {L : Language} {limits : Totals} (s : State L) (v : Notes) (p : Name) (
       })
 
   pub offers_linked : (o : OfferOf L) → L.next one.own s.store ≡ Offering o
-      → Linked (after cs s) (notes_after s v p (L.next one.own s.store))
-      (judged_by j n p (Offered (way_of o.cargo) o.channel))
+      → NotesMatch (with_changes cs s) (notes_after s v p (L.next one.own s.store))
+      (knowledge_after j n p (Offered (way_of o.cargo) o.channel))
       (done ++ record { who = p; what = Offered (way_of o.cargo) o.channel } ∷ []) (suc n) grows_label
   offers_linked o is =
       let h = Offered (way_of o.cargo) o.channel in
-      let does = subst (λ a. acts s p a ≡ Advances cs) is one.does in
+      let does = subst (λ a. act_outcome s p a ≡ Advances cs) is one.does in
       let notes_are : notes_after s v p (L.next one.own s.store)
-      ≡ all_noted (offer_notes v p o.channel (way_of o.cargo) (s.pending o.channel)) v =
+      ≡ with_judge_notes (offer_notes v p o.channel (way_of o.cargo) (s.pending o.channel)) v =
       ap (notes_after s v p) is in
       elim (s.pending o.channel) as (λ m. s.pending o.channel ≡ m
-      → Linked (after cs s) (notes_after s v p (L.next one.own s.store)) (judged_by j n p h)
+      → NotesMatch (with_changes cs s) (notes_after s v p (L.next one.own s.store)) (knowledge_after j n p h)
       (done ++ record { who = p; what = h } ∷ []) (suc n) grows_label) [
         | None ↦ λ e.
             let x = linked_waits s v p cs sound known one j done n label link h o refl e in
             let same : v ≡ notes_after s v p (L.next one.own s.store) =
-            sym (notes_are ∙ ap (λ m. all_noted (offer_notes v p o.channel (way_of o.cargo) m) v) e) in
-            subst (λ w. Linked (after cs s) w (judged_by j n p h) (done ++ record { who = p; what = h } ∷ []) (suc n)
+            sym (notes_are ∙ ap (λ m. with_judge_notes (offer_notes v p o.channel (way_of o.cargo) m) v) e) in
+            subst (λ w. NotesMatch (with_changes cs s) w (knowledge_after j n p h) (done ++ record { who = p; what = h }
+            ∷ []) (suc n)
             grows_label) same
-            (subst (λ m. Linked (after cs s) v (met_now j p n o.channel m) (done ++ record { who = p; what = h } ∷ [])
+            (subst (λ m. NotesMatch (with_changes cs s) v (knowledge_after_offer j p n o.channel m)
+            (done ++ record { who = p; what = h } ∷ [])
             (suc n) grows_label) (sym (link.free o.channel e))
-            (subst (λ ds. Linked (after ds s) v (met_now j p n o.channel None)
+            (subst (λ ds. NotesMatch (with_changes ds s) v (knowledge_after_offer j p n o.channel None)
             (done ++ record { who = p; what = h } ∷ []) (suc n) grows_label) (sym (waited s p o cs e does)) x))
         | Some z ↦ λ e.
             let g = met s p o z cs e does in
             let b = link.pends o.channel z g.its e g.waits in
             let x = linked_meets s v p cs sound known one j done n label link h o refl z g.its g.passes e g.waits g.is
             b in
-            let same : all_noted (meeting_notes v p o.channel (way_of o.cargo) z) v
+            let same : with_judge_notes (meeting_notes v p o.channel (way_of o.cargo) z) v
             ≡ notes_after s v p (L.next one.own s.store) =
-            sym (notes_are ∙ ap (λ m. all_noted (offer_notes v p o.channel (way_of o.cargo) m) v) e) in
-            subst (λ w. Linked (after cs s) w (judged_by j n p h) (done ++ record { who = p; what = h } ∷ []) (suc n)
+            sym (notes_are ∙ ap (λ m. with_judge_notes (offer_notes v p o.channel (way_of o.cargo) m) v) e) in
+            subst (λ w. NotesMatch (with_changes cs s) w (knowledge_after j n p h) (done ++ record { who = p; what = h }
+            ∷ []) (suc n)
             grows_label) same
-            (subst (λ m. Linked (after cs s) (all_noted (meeting_notes v p o.channel (way_of o.cargo) z) v)
-            (met_now j p n o.channel m) (done ++ record { who = p; what = h } ∷ []) (suc n) grows_label) (sym b.is)
-            (subst (λ ds. Linked (after ds s) (all_noted (meeting_notes v p o.channel (way_of o.cargo) z) v)
-            (met_now j p n o.channel (Some (z, b.at))) (done ++ record { who = p; what = h } ∷ []) (suc n)
+            (subst (λ m. NotesMatch (with_changes cs s)
+            (with_judge_notes (meeting_notes v p o.channel (way_of o.cargo) z) v)
+            (knowledge_after_offer j p n o.channel m) (done ++ record { who = p; what = h } ∷ []) (suc n) grows_label)
+            (sym b.is)
+            (subst (λ ds. NotesMatch (with_changes ds s)
+            (with_judge_notes (meeting_notes v p o.channel (way_of o.cargo) z) v)
+            (knowledge_after_offer j p n o.channel (Some (z, b.at))) (done ++ record { who = p; what = h } ∷ []) (suc n)
             grows_label) (sym g.made) x))
       ] refl
 
 -- an entry of a pause changes nothing, and has an index
-pub pause_linked : {L : Language} (s : State L) (v : Notes) (j : Judged) (done : List Occurrence) (n : ℕ)
-    (label : ℕ → Option Event) (q : Name) → Linked s v j done n label
-    → Linked s v j (done ++ record { who = q; what = Paused } ∷ []) (suc n) (λ i. cond (n == i) None (label i))
+pub pause_linked : {L : Language} (s : State L) (v : JudgeNotes) (j : Knowledge) (done : List Occurrence) (n : ℕ)
+    (label : ℕ → Option Event) (q : Name) → NotesMatch s v j done n label
+    → NotesMatch s v j (done ++ record { who = q; what = Paused } ∷ []) (suc n) (λ i. cond (n == i) None (label i))
 pause_linked {L} s v j done n label q link = record {
   size = grown_size done n entry link.size;
   past = λ r i lt. ⊎_elim

@@ -6,32 +6,34 @@ use Rattle.std.proofs.lemmas.Bool.{cases_eq, false_from_ne_true, ne_eqb, or_case
 use Rattle.std.proofs.lemmas.Option.{none-some, same_Some}
 use Rattle.sp_journal.specs.declared.entry.Way.{Way}
 use Rattle.sp_journal.specs.Names.{same_way, Happening, Offered, Occurrence}
-use Rattle.sp_journal.specs.Past.{Judged, met_now}
+use Rattle.sp_journal.specs.Past.{Knowledge, knowledge_after_offer}
 use Rattle.sp_meaning.specs.Maps.{at_key}
 use Rattle.sp_meaning.specs.Model.{Name, Channel, same_name, same_channel, Totals, Language, Offering, Works, Waits}
-use Rattle.sp_meaning.specs.Model.{State, Change, after}
-use Rattle.sp_meaning.specs.Steps.{OfferOf, ConditionOf, way_of, meeting, waiting, message, WaitsOn, Sound}
+use Rattle.sp_meaning.specs.Model.{State, Change, with_changes}
+use Rattle.sp_meaning.specs.Steps.{OfferOf, ConditionOf, way_of, meeting_changes, waiting_changes, message, WaitsOn}
+use Rattle.sp_meaning.specs.Steps.{Sound}
 use Rattle.sp_meaning.proofs.Maps.{same_or_not, differs, itself, at_other}
 use Rattle.sp_meaning.proofs.Keys.{name_test, channel_test}
 use Rattle.sp_meaning.proofs.Frames.{IsOn, IsNear, all_in, condition_frame, pending_frame}
 use Rattle.sp_meaning.proofs.Status.{Makes, waits_stands, waits_one, working_stands, waiting_far}
-use Rattle.sp_race.specs.Notes.{Event, same_event, both, Notes, all_noted, mine, other_way, meeting_notes, notes_of}
+use Rattle.sp_race.specs.Notes.{Event, same_event, known_to_either, JudgeNotes, with_judge_notes, next_event_of}
+use Rattle.sp_race.specs.Notes.{other_way, meeting_notes, notes_of}
 use Rattle.sp_race.specs.Notes.{IsKnowledge, KnowsBefore}
 use Rattle.sp_race.specs.Noting.{notes_after}
-use Rattle.sp_race.specs.Linked.{known_label, Pended, Recorded, IsPending, Linked}
+use Rattle.sp_race.specs.Linked.{known_label, Pended, Recorded, IsPending, NotesMatch}
 use Rattle.sp_race.proofs.NotesFrames.{event_test, notes_in, events_frame, offers_frame, events_grow, HasCount, counted}
 use Rattle.sp_race.proofs.Rendezvous.{ways_meet}
 use Rattle.sp_race.proofs.Ways.{way_is}
 
 -- an entry that knows the earlier offers by their own indices
-abbrev pub IsKnown : Judged → List Occurrence → Name → Way → Channel → Type 0
-IsKnown j done p w c = (i : ℕ) (z : Name) → slice_get done i ≡ Some (record { who = z; what = Offered w c })
+abbrev pub KnowsEarlierOffers : Knowledge → List Occurrence → Name → Way → Channel → Type 0
+KnowsEarlierOffers j done p w c = (i : ℕ) (z : Name) → slice_get done i ≡ Some (record { who = z; what = Offered w c })
     → j.past p i ≡ true
 
 -- such an entry is an ordered step
-pub known_linked : {L : Language} (s : State L) (v : Notes) (j : Judged) (done : List Occurrence) (n : ℕ)
-    (label : ℕ → Option Event) (p : Name) (o : OfferOf L) → Linked s v j done n label
-    → IsKnown j done p (way_of o.cargo) o.channel → KnowsBefore L v p (Offering o)
+pub known_linked : {L : Language} (s : State L) (v : JudgeNotes) (j : Knowledge) (done : List Occurrence) (n : ℕ)
+    (label : ℕ → Option Event) (p : Name) (o : OfferOf L) → NotesMatch s v j done n label
+    → KnowsEarlierOffers j done p (way_of o.cargo) o.channel → KnowsBefore L v p (Offering o)
 known_linked s v j done n label p o link k = λ e h.
     let r = link.offers o.channel (way_of o.cargo) e h in
     ap (known_label (v.past p)) (sym r.names) ∙ sym (link.past p r.at r.inside) ∙ k r.at r.who r.entry
@@ -57,7 +59,8 @@ grown_size done n e h = simp length-append (omega (arith, h))
 
 -- one more fact, at a label
 pub spread : (b : Bool) (f known : Event → Bool) (l : Option Event)
-    → known_label (cond b (both f known) f) l ≡ cond b (known_label f l || known_label known l) (known_label f l)
+    → known_label (cond b (known_to_either f known) f) l ≡ cond b (known_label f l || known_label known l)
+    (known_label f l)
 spread true f known None = refl
 spread false f known None = refl
 spread true f known (Some e) = refl
@@ -65,8 +68,10 @@ spread false f known (Some e) = refl
 
 -- what both sides of a meeting know, at a label
 twice : (b c : Bool) (f kp mp kz mz : Event → Bool) (l : Option Event)
-    → known_label (cond b (both (cond c (both f (both (both kp mp) (both kz mz))) f) (both (both kp mp) (both kz mz)))
-    (cond c (both f (both (both kp mp) (both kz mz))) f)) l
+    → known_label (cond b
+    (known_to_either (cond c (known_to_either f (known_to_either (known_to_either kp mp) (known_to_either kz mz))) f)
+    (known_to_either (known_to_either kp mp) (known_to_either kz mz)))
+    (cond c (known_to_either f (known_to_either (known_to_either kp mp) (known_to_either kz mz))) f)) l
     ≡ cond b (cond c (known_label f l || ((known_label kp l || known_label mp l)
     || (known_label kz l || known_label mz l))) (known_label f l)
     || ((known_label kp l || known_label mp l) || (known_label kz l || known_label mz l)))
@@ -83,7 +88,7 @@ twice false false f kp mp kz mz (Some e) = refl
 
 -- two records of offers, at an event
 two_records : (b c : Bool) (f k l : Event → Bool) (e : Event)
-    → cond b (both (cond c (both f l) f) k) (cond c (both f l) f) e
+    → cond b (known_to_either (cond c (known_to_either f l) f) k) (cond c (known_to_either f l) f) e
     ≡ cond b (cond c (f e || l e) (f e) || k e) (cond c (f e || l e) (f e))
 two_records true true f k l e = refl
 two_records true false f k l e = refl
@@ -91,39 +96,42 @@ two_records false true f k l e = refl
 two_records false false f k l e = refl
 
 -- One step that makes an entry, at index n
-module _ {L : Language} {limits : Totals} (s : State L) (v : Notes) (p : Name) (cs : List (Change L)) (sound : Sound s)
-    (known : IsKnowledge v) (one : Makes limits s p cs) (j : Judged) (done : List Occurrence) (n : ℕ)
-    (label : ℕ → Option Event) (link : Linked s v j done n label) (h : Happening) where
+module _ {L : Language} {limits : Totals} (s : State L) (v : JudgeNotes) (p : Name) (cs : List (Change L))
+    (sound : Sound s)
+    (known : IsKnowledge v) (one : Makes limits s p cs) (j : Knowledge) (done : List Occurrence) (n : ℕ)
+    (label : ℕ → Option Event) (link : NotesMatch s v j done n label) (h : Happening) where
   abbrev pub labels : ℕ → Option Event
-  labels i = cond (n == i) (Some (mine v p)) (label i)
+  labels i = cond (n == i) (Some (next_event_of v p)) (label i)
 
   old_label : (i : ℕ) → i < n → labels i ≡ label i
   old_label i lt = rw (ne_eqb n i (λ e. omega (arith, e, lt)))
 
-  new_label : labels n ≡ Some (mine v p)
+  new_label : labels n ≡ Some (next_event_of v p)
   new_label = rw (eq-eqb n n refl)
 
   not_waiting : (c : Channel) → s.pending c ≡ Some p → ⊥
   not_waiting c e = waits_stands c (s.condition p) (sound.waits c p e)
       (working_stands s.condition p (s.condition p) one.own one.works)
 
-  fresh : (i : ℕ) → i < n → label i ≡ Some (mine v p) → ⊥
+  fresh : (i : ℕ) → i < n → label i ≡ Some (next_event_of v p) → ⊥
   fresh i lt e = ⊎_elim
-      (λ (less : (mine v p).nth < v.events p). lt_irrefl (v.events p) less)
-      (λ (w : IsPending s v (mine v p)). not_waiting w.1
+      (λ (less : (next_event_of v p).nth < v.events p). lt_irrefl (v.events p) less)
+      (λ (w : IsPending s v (next_event_of v p)). not_waiting w.1
       (subst (λ z. s.pending w.1 ≡ Some z) (ap (λ (x : Event). x.who) (sym w.3)) w.2))
-      (link.made i lt (mine v p) e)
+      (link.made i lt (next_event_of v p) e)
 
-  other_label : (i : ℕ) → i < n → (x : Option Event) → label i ≡ x → known_label (same_event (mine v p)) x ≡ false
+  other_label : (i : ℕ) → i < n → (x : Option Event) → label i ≡ x → known_label (same_event (next_event_of v p)) x
+      ≡ false
   other_label i lt None e = refl
-  other_label i lt (Some y) e = differs event_test (mine v p) y (λ is. fresh i lt (e ∙ ap (λ z. Some z) (sym is)))
+  other_label i lt (Some y) e = differs event_test (next_event_of v p) y
+      (λ is. fresh i lt (e ∙ ap (λ z. Some z) (sym is)))
 
-  pub index_is : (i : ℕ) → i < suc n → n == i ≡ known_label (same_event (mine v p)) (labels i)
+  pub index_is : (i : ℕ) → i < suc n → n == i ≡ known_label (same_event (next_event_of v p)) (labels i)
   index_is i lt = ⊎_elim
       (λ (less : i < n). ne_eqb n i (λ e. omega (arith, e, less))
-      ∙ sym (ap (known_label (same_event (mine v p))) (old_label i less) ∙ other_label i less (label i) refl))
-      (λ (e : n ≡ i). eq-eqb n i e ∙ sym (subst (λ k. known_label (same_event (mine v p)) (labels k) ≡ true) e
-      (ap (known_label (same_event (mine v p))) new_label ∙ itself event_test (mine v p))))
+      ∙ sym (ap (known_label (same_event (next_event_of v p))) (old_label i less) ∙ other_label i less (label i) refl))
+      (λ (e : n ≡ i). eq-eqb n i e ∙ sym (subst (λ k. known_label (same_event (next_event_of v p)) (labels k) ≡ true) e
+      (ap (known_label (same_event (next_event_of v p))) new_label ∙ itself event_test (next_event_of v p))))
       (below_or_at i n lt)
 
   pub past_is : (q : Name) (i : ℕ) → i < suc n → j.past q i ≡ known_label (v.past q) (labels i)
@@ -132,7 +140,8 @@ module _ {L : Language} {limits : Totals} (s : State L) (v : Notes) (p : Name) (
       (λ (e : n ≡ i). subst (λ k. j.past q k ≡ known_label (v.past q) (labels k)) e
       (false_from_ne_true (j.past q n) (λ k. lt_irrefl n (link.below q n k))
       ∙ sym (ap (known_label (v.past q)) new_label
-      ∙ false_from_ne_true (v.past q (mine v p)) (λ k. lt_irrefl (v.events p) (known q (mine v p) k)))))
+      ∙ false_from_ne_true (v.past q (next_event_of v p))
+      (λ k. lt_irrefl (v.events p) (known q (next_event_of v p) k)))))
       (below_or_at i n lt)
 
   labels_apart : (i k : ℕ) → i < suc n → k < suc n → (e : Event) → labels i ≡ Some e → labels k ≡ Some e → i ≡ k
@@ -140,11 +149,11 @@ module _ {L : Language} {limits : Totals} (s : State L) (v : Notes) (p : Name) (
       (λ (a : i < n). ⊎_elim
       (λ (b : k < n). link.apart i k a b e (sym (old_label i a) ∙ f) (sym (old_label k b) ∙ g))
       (λ (b : n ≡ k). absurd (fresh i a (sym (old_label i a) ∙ f ∙ sym g
-      ∙ subst (λ x. labels x ≡ Some (mine v p)) b new_label)))
+      ∙ subst (λ x. labels x ≡ Some (next_event_of v p)) b new_label)))
       (below_or_at k n lk))
       (λ (a : n ≡ i). ⊎_elim
       (λ (b : k < n). absurd (fresh k b (sym (old_label k b) ∙ g ∙ sym f
-      ∙ subst (λ x. labels x ≡ Some (mine v p)) a new_label)))
+      ∙ subst (λ x. labels x ≡ Some (next_event_of v p)) a new_label)))
       (λ (b : n ≡ k). sym a ∙ b)
       (below_or_at k n lk))
       (below_or_at i n li)
@@ -167,22 +176,23 @@ module _ {L : Language} {limits : Totals} (s : State L) (v : Notes) (p : Name) (
 
   -- an act that is no offer
   pub linked_on : (off : (c : Channel) → IsOn (L.next one.own s.store) c → ⊥)
-      → HasCount p (notes_of s v p (L.next one.own s.store)) → (j' : Judged)
+      → HasCount p (notes_of s v p (L.next one.own s.store)) → (j' : Knowledge)
       → ((q : Name) (i : ℕ) → i < suc n → j'.past q i
       ≡ known_label ((notes_after s v p (L.next one.own s.store)).past q) (labels i))
       → ((q : Name) (i : ℕ) → j'.past q i ≡ true → i < suc n)
-      → ((c : Channel) → j'.pending c ≡ j.pending c) → ((q : Name) → j'.forks q ≡ (after cs s).forks q)
-      → Linked (after cs s) (notes_after s v p (L.next one.own s.store)) j' grown (suc n) labels
+      → ((c : Channel) → j'.pending c ≡ j.pending c) → ((q : Name) → j'.forks q ≡ (with_changes cs s).forks q)
+      → NotesMatch (with_changes cs s) (notes_after s v p (L.next one.own s.store)) j' grown (suc n) labels
   linked_on off count j' past below pending forks =
       let a = L.next one.own s.store in
       let ns = notes_of s v p a in
       let i = all_in s p a cs one.does in
       let k = notes_in s v p a in
-      let pend : (c : Channel) → (after cs s).pending c ≡ s.pending c = λ c. pending_frame s p a c (off c) cs s i in
+      let pend : (c : Channel) → (with_changes cs s).pending c ≡ s.pending c =
+      λ c. pending_frame s p a c (off c) cs s i in
       let away : (c : Channel) (z : Name) → s.pending c ≡ Some z → IsNear s p a z
       → ⊥ = λ c z e. waiting_far s p cs sound one c z (sound.waits c z e) (off c) in
       let mine_is : (c : Channel) (z : Name) → s.pending c ≡ Some z
-      → mine v z ≡ mine (all_noted ns v) z =
+      → next_event_of v z ≡ next_event_of (with_judge_notes ns v) z =
       λ c z e. ap (λ x. record { who = z; nth = x }) (sym (events_frame s p a z (away c z e) ns v k)) in
       record {
         size = grown_size done n entry link.size;
@@ -208,8 +218,9 @@ module _ {L : Language} {limits : Totals} (s : State L) (v : Notes) (p : Name) (
             (λ (w : IsPending s v e). inr (w.0, w.1, pend w.1 ∙ w.2, w.3 ∙ mine_is w.1 w.0 w.2))
             (link.made x less e (sym (old_label x less) ∙ is)))
             (λ (f : n ≡ x).
-            let e_is : mine v p ≡ e = same_Some _ _ (sym new_label ∙ subst (λ u. labels u ≡ Some e) (sym f) is) in
-            inl (subst (λ (y : Event). y.nth < (all_noted ns v).events y.who) e_is (counted ns v p count)))
+            let e_is : next_event_of v p ≡ e =
+            same_Some _ _ (sym new_label ∙ subst (λ u. labels u ≡ Some e) (sym f) is) in
+            inl (subst (λ (y : Event). y.nth < (with_judge_notes ns v).events y.who) e_is (counted ns v p count)))
             (below_or_at x n lt);
         offers = λ c w e f. keep_recorded c w e
             (link.offers c w e (ap (λ g. g e) (sym (offers_frame s p a c w (off c) ns v k)) ∙ f));
@@ -221,9 +232,10 @@ module _ {L : Language} {limits : Totals} (s : State L) (v : Notes) (p : Name) (
 
   -- an offer that waits
   pub linked_waits : (o : OfferOf L) → h ≡ Offered (way_of o.cargo) o.channel → s.pending o.channel ≡ None
-      → Linked (after (waiting s p o) s) v (met_now j p n o.channel None) grown (suc n) labels
+      → NotesMatch (with_changes (waiting_changes s p o) s) v (knowledge_after_offer j p n o.channel None) grown
+      (suc n) labels
   linked_waits o h_is none =
-      let t = after (waiting s p o) s in
+      let t = with_changes (waiting_changes s p o) s in
       record {
         size = grown_size done n entry link.size;
         past = past_is;
@@ -238,7 +250,7 @@ module _ {L : Language} {limits : Totals} (s : State L) (v : Notes) (p : Name) (
               at = n;
               is = at_now c same ∙ ap (λ x. Some (x, n)) z_is;
               inside = omega arith;
-              names = new_label ∙ ap (λ x. Some (mine v x)) z_is;
+              names = new_label ∙ ap (λ x. Some (next_event_of v x)) z_is;
               entry = last_is c (way_of w.cargo)
                   (h_is ∙ ap (λ (x : OfferOf L). Offered (way_of x.cargo) o.channel) w_is
                   ∙ ap (Offered (way_of w.cargo)) same)
@@ -298,24 +310,26 @@ module _ {L : Language} {limits : Totals} (s : State L) (v : Notes) (p : Name) (
   pub linked_meets : (o : OfferOf L) → h ≡ Offered (way_of o.cargo) o.channel
       → (z : Name) (w : OfferOf L) (m : L.Target × L.Value) → s.pending o.channel ≡ Some z → s.condition z ≡ Waits w
       → message o.cargo w.cargo ≡ Some m → (b : Pended s v j done n label o.channel z w)
-      → Linked (after (meeting s p o z w m) s) (all_noted (meeting_notes v p o.channel (way_of o.cargo) z) v)
-      (met_now j p n o.channel (Some (z, b.at))) grown (suc n) labels
+      → NotesMatch (with_changes (meeting_changes s p o z w m) s)
+      (with_judge_notes (meeting_notes v p o.channel (way_of o.cargo) z) v)
+      (knowledge_after_offer j p n o.channel (Some (z, b.at))) grown (suc n) labels
   linked_meets o h_is z w m pe ce me b =
-      let es = meeting s p o z w m in
+      let es = meeting_changes s p o z w m in
       let ns = meeting_notes v p o.channel (way_of o.cargo) z in
-      let t = after es s in
-      let u = all_noted ns v in
+      let t = with_changes es s in
+      let u = with_judge_notes ns v in
       let other : Way = other_way (way_of o.cargo) in
       let w_way : way_of w.cargo ≡ other = ways_meet o.cargo w.cargo m me in
-      let at_is : (i : ℕ) → i < suc n → b.at == i ≡ known_label (same_event (mine v z)) (labels i) = λ i lt. ⊎_elim
+      let at_is : (i : ℕ) → i < suc n → b.at == i ≡ known_label (same_event (next_event_of v z)) (labels i) =
+      λ i lt. ⊎_elim
       (λ (e : b.at ≡ i). eq-eqb b.at i e ∙ sym
-      (subst (λ x. known_label (same_event (mine v z)) (labels x) ≡ true) e
-      (ap (known_label (same_event (mine v z))) (old_label b.at b.inside ∙ b.names)
-      ∙ itself event_test (mine v z))))
+      (subst (λ x. known_label (same_event (next_event_of v z)) (labels x) ≡ true) e
+      (ap (known_label (same_event (next_event_of v z))) (old_label b.at b.inside ∙ b.names)
+      ∙ itself event_test (next_event_of v z))))
       (λ (e : b.at ≢ i). ne_eqb b.at i e ∙ sym
-      (false_from_ne_true (known_label (same_event (mine v z)) (labels i)) (λ x.
+      (false_from_ne_true (known_label (same_event (next_event_of v z)) (labels i)) (λ x.
       let y = is_label z (labels i) x in
-      e (labels_apart b.at i (omega (arith, b.inside)) lt (mine v z) (old_label b.at b.inside ∙ b.names) y))))
+      e (labels_apart b.at i (omega (arith, b.inside)) lt (next_event_of v z) (old_label b.at b.inside ∙ b.names) y))))
       (cases_eq b.at i) in
       let pend_other : (c : Channel) → o.channel ≢ c
       → t.pending c ≡ s.pending c = λ c e. at_other channel_test s.pending o.channel c None e in
@@ -335,8 +349,9 @@ module _ {L : Language} {limits : Totals} (s : State L) (v : Notes) (p : Name) (
             cond (same_name z q) (cond (same_name p q) (pq x || ((pp x || np x) || (pz x || nz x))) (pq x)
             || ((pp x || np x) || (pz x || nz x)))
             (cond (same_name p q) (pq x || ((pp x || np x) || (pz x || nz x))) (pq x)))
-            ∙ sym (twice (same_name z q) (same_name p q) (v.past q) (v.past p) (same_event (mine v p)) (v.past z)
-            (same_event (mine v z)) (labels i));
+            ∙ sym (twice (same_name z q) (same_name p q) (v.past q) (v.past p) (same_event (next_event_of v p))
+            (v.past z)
+            (same_event (next_event_of v z)) (labels i));
         below = λ q i e. in_past (same_name z q) (same_name p q) (j.past q i) (j.past p i) (n == i) (j.past z i)
             (b.at == i) i
             (λ k. link.below q i k) (λ k. link.below p i k) (λ k. link.below z i k) (λ k. eqb-true n i k)
@@ -373,7 +388,7 @@ module _ {L : Language} {limits : Totals} (s : State L) (v : Notes) (p : Name) (
             (λ (k : IsPending s v e). ⊎_elim
             (λ (same : o.channel ≡ k.1).
             let z_is : z ≡ k.0 = same_Some _ _ (sym pe ∙ ap s.pending same ∙ k.2) in
-            inl (subst (λ (y : Event). y.nth < u.events y.who) (sym (k.3 ∙ ap (λ y. mine v y) (sym z_is)))
+            inl (subst (λ (y : Event). y.nth < u.events y.who) (sym (k.3 ∙ ap (λ y. next_event_of v y) (sym z_is)))
             (counted ns v z (inr (inl refl)))))
             (λ (away : o.channel ≢ k.1). inr (
               k.0,
@@ -386,20 +401,22 @@ module _ {L : Language} {limits : Totals} (s : State L) (v : Notes) (p : Name) (
             (same_or_not channel_test o.channel k.1))
             (link.made x less e (sym (old_label x less) ∙ is)))
             (λ (f : n ≡ x).
-            let e_is : mine v p ≡ e = same_Some _ _ (sym new_label ∙ subst (λ d. labels d ≡ Some e) (sym f) is) in
+            let e_is : next_event_of v p ≡ e =
+            same_Some _ _ (sym new_label ∙ subst (λ d. labels d ≡ Some e) (sym f) is) in
             inl (subst (λ (y : Event). y.nth < u.events y.who) e_is (counted ns v p (inl refl))))
             (below_or_at x n lt);
         offers = λ c x e k. recorded other w_way (same_channel o.channel c) (same_way other x)
             (same_way (way_of o.cargo) x) c x e ((channel_test o.channel c).0) (way_is other x)
             (way_is (way_of o.cargo) x) (sym
             (two_records (same_channel o.channel c && same_way other x)
-            (same_channel o.channel c && same_way (way_of o.cargo) x) (v.offers c x) (same_event (mine v z))
-            (same_event (mine v p)) e) ∙ k);
+            (same_channel o.channel c && same_way (way_of o.cargo) x) (v.offers c x) (same_event (next_event_of v z))
+            (same_event (next_event_of v p)) e) ∙ k);
       }
     where
-      is_label : (z : Name) (l : Option Event) → known_label (same_event (mine v z)) l ≡ true → l ≡ Some (mine v z)
+      is_label : (z : Name) (l : Option Event) → known_label (same_event (next_event_of v z)) l ≡ true
+          → l ≡ Some (next_event_of v z)
       is_label z None h = absurd (cc h)
-      is_label z (Some e) h = ap (λ x. Some x) (sym ((event_test (mine v z) e).0 h))
+      is_label z (Some e) h = ap (λ x. Some x) (sym ((event_test (next_event_of v z) e).0 h))
 
       none_now : (c : Channel) → o.channel ≡ c → at_key same_channel o.channel None j.pending c ≡ None
       none_now c e = rw ((channel_test o.channel c).1 e) refl
@@ -418,24 +435,25 @@ module _ {L : Language} {limits : Totals} (s : State L) (v : Notes) (p : Name) (
       in_past false true false false false false false i a b c d e h = absurd (cc h)
       in_past false false false false false false false i a b c d e h = absurd (cc h)
 
-      of_p : (c : Channel) (x : Way) (e : Event) → o.channel ≡ c → way_of o.cargo ≡ x → same_event (mine v p) e ≡ true
+      of_p : (c : Channel) (x : Way) (e : Event) → o.channel ≡ c → way_of o.cargo ≡ x
+          → same_event (next_event_of v p) e ≡ true
           → Recorded grown (suc n) labels c x e
       of_p c x e ce xe k = record {
         at = n;
         who = p;
         inside = omega arith;
         names = new_label
-            ∙ ap (λ y. Some y) ((event_test (mine v p) e).0 k);
+            ∙ ap (λ y. Some y) ((event_test (next_event_of v p) e).0 k);
         entry = last_is c x (h_is ∙ ap (λ y. Offered y o.channel) xe ∙ ap (Offered x) ce);
       }
 
       of_z : (other : Way) → way_of w.cargo ≡ other → (c : Channel) (x : Way) (e : Event) → o.channel ≡ c → other ≡ x
-          → same_event (mine v z) e ≡ true → Recorded grown (suc n) labels c x e
+          → same_event (next_event_of v z) e ≡ true → Recorded grown (suc n) labels c x e
       of_z other is c x e ce xe k = record {
         at = b.at;
         who = z;
         inside = omega (arith, b.inside);
-        names = old_label b.at b.inside ∙ b.names ∙ ap (λ y. Some y) ((event_test (mine v z) e).0 k);
+        names = old_label b.at b.inside ∙ b.names ∙ ap (λ y. Some y) ((event_test (next_event_of v z) e).0 k);
         entry = kept_entry done entry _ b.at b.entry
             ∙ ap (λ y. Some (record { who = z; what = Offered y o.channel })) (is ∙ xe)
             ∙ ap (λ y. Some (record { who = z; what = Offered x y })) ce;
@@ -443,19 +461,20 @@ module _ {L : Language} {limits : Totals} (s : State L) (v : Notes) (p : Name) (
 
       recorded : (other : Way) → way_of w.cargo ≡ other → (sc sw so : Bool) (c : Channel) (x : Way) (e : Event)
           → (sc ≡ true → o.channel ≡ c) → (sw ≡ true → other ≡ x) → (so ≡ true → way_of o.cargo ≡ x)
-          → cond (sc && sw) (cond (sc && so) (v.offers c x e || same_event (mine v p) e) (v.offers c x e)
-          || same_event (mine v z) e) (cond (sc && so) (v.offers c x e || same_event (mine v p) e) (v.offers c x e))
+          → cond (sc && sw) (cond (sc && so) (v.offers c x e || same_event (next_event_of v p) e) (v.offers c x e)
+          || same_event (next_event_of v z) e) (cond (sc && so) (v.offers c x e || same_event (next_event_of v p) e)
+          (v.offers c x e))
           ≡ true → Recorded grown (suc n) labels c x e
       recorded other is false sw so c x e a y f g = keep_recorded c x e (link.offers c x e g)
       recorded other is true true true c x e a y f g =
-          ⊎_elim (λ (k : v.offers c x e || same_event (mine v p) e ≡ true). ⊎_elim
+          ⊎_elim (λ (k : v.offers c x e || same_event (next_event_of v p) e ≡ true). ⊎_elim
           (λ (l : v.offers c x e ≡ true). keep_recorded c x e (link.offers c x e l))
-          (λ (l : same_event (mine v p) e ≡ true). of_p c x e (a refl) (f refl) l) (or_cases _ _ k))
-          (λ (k : same_event (mine v z) e ≡ true). of_z other is c x e (a refl) (y refl) k) (or_cases _ _ g)
+          (λ (l : same_event (next_event_of v p) e ≡ true). of_p c x e (a refl) (f refl) l) (or_cases _ _ k))
+          (λ (k : same_event (next_event_of v z) e ≡ true). of_z other is c x e (a refl) (y refl) k) (or_cases _ _ g)
       recorded other is true true false c x e a y f g =
           ⊎_elim (λ (l : v.offers c x e ≡ true). keep_recorded c x e (link.offers c x e l))
-          (λ (k : same_event (mine v z) e ≡ true). of_z other is c x e (a refl) (y refl) k) (or_cases _ _ g)
+          (λ (k : same_event (next_event_of v z) e ≡ true). of_z other is c x e (a refl) (y refl) k) (or_cases _ _ g)
       recorded other is true false true c x e a y f g =
           ⊎_elim (λ (l : v.offers c x e ≡ true). keep_recorded c x e (link.offers c x e l))
-          (λ (l : same_event (mine v p) e ≡ true). of_p c x e (a refl) (f refl) l) (or_cases _ _ g)
+          (λ (l : same_event (next_event_of v p) e ≡ true). of_p c x e (a refl) (f refl) l) (or_cases _ _ g)
       recorded other is true false false c x e a y f g = keep_recorded c x e (link.offers c x e g)

@@ -1,16 +1,17 @@
 -- Who takes part in a step, what they write and access, and that those of two steps are apart.
 use Rattle.std.proofs.Common.{◌≡◌, ◌≢◌, ◌⊎◌, ⊎_elim, inl, inr, true, Some, refl, sym, ap, ◌∙◌, subst}
 use Rattle.sp_journal.specs.declared.entry.Way.{Way}
-use Rattle.sp_meaning.specs.Model.{Name, Channel, Language, Moves, Opens, Forks, Offering, Ends, Fails, Cargo, Message}
+use Rattle.sp_meaning.specs.Model.{Name, Channel, Language, Moves, Opens, Forks, Offering, EndsProcess, MeetsFault}
+use Rattle.sp_meaning.specs.Model.{Cargo, Message}
 use Rattle.sp_meaning.specs.Model.{Takes, State}
-use Rattle.sp_meaning.specs.Steps.{ActOf, OfferOf, working, way_of, WaitsOn, Sound}
+use Rattle.sp_meaning.specs.Steps.{ActOf, OfferOf, own_part, way_of, WaitsOn, Sound}
 use Rattle.sp_meaning.specs.Disjoint.{Assigns, receiver, WritesIn, AccessesIn}
 use Rattle.sp_meaning.proofs.Maps.{same_or_not}
 use Rattle.sp_meaning.proofs.Keys.{channel_test}
 use Rattle.sp_meaning.proofs.Frames.{IsOn, WritesTo}
-use Rattle.sp_meaning.proofs.Status.{Stands, waits_stands, working_stands, waits_one}
+use Rattle.sp_meaning.proofs.Status.{IsNotWaiting, waits_stands, working_stands, waits_one}
 use Rattle.sp_meaning.proofs.Parallel.{IsAlone}
-use Rattle.sp_race.specs.Notes.{Event, Notes, KnowsBefore}
+use Rattle.sp_race.specs.Notes.{Event, JudgeNotes, KnowsBefore}
 use Rattle.sp_race.proofs.Commuting.{Touches}
 
 -- Who takes part in a step: the process, and whom its offer meets
@@ -38,8 +39,8 @@ writer {L} s p own l h = by_act (L.next own s.store) refl h
       part = inl refl;
     }
     by_act (Forks o os) e h = absurd h
-    by_act Ends e h = absurd h
-    by_act (Fails f) e h = absurd h
+    by_act EndsProcess e h = absurd h
+    by_act (MeetsFault f) e h = absurd h
     by_act (Offering o) e h = record {
       who = receiver o.cargo p h.other;
       writes = inr (record { offer = o; is = e; goes = h; who_is = refl });
@@ -62,24 +63,26 @@ accessor s p own l h = ⊎_elim
     h
 
 pub part_alone : {L : Language} (s : State L) (sound : Sound s) (p : Name) (own : L.Own) (a : ActOf L) (who : Name)
-    → working s p ≡ Some own → TakesPart s p a who → IsAlone s who
+    → own_part s p ≡ Some own → TakesPart s p a who → IsAlone s who
 part_alone {L} s sound p own a who w h = ⊎_elim
-    (λ (e : who ≡ p). inl (own, ap (λ z. working s z) e ∙ w))
+    (λ (e : who ≡ p). inl (own, ap (λ z. own_part s z) e ∙ w))
     (λ (x : (c : Channel) × IsOn a c × (s.pending c ≡ Some who)). inr (x.0, sound.waits x.0 who x.2))
     h
 
 pub parts_apart : {L : Language} (s : State L) (sound : Sound s) (p q : Name) (own other : L.Own) (a b : ActOf L)
-    (x y : Name) → p ≢ q → working s p ≡ Some own → working s q ≡ Some other → ((c : Channel) → IsOn a c → IsOn b c → ⊥)
+    (x y : Name) → p ≢ q → own_part s p ≡ Some own → own_part s q ≡ Some other
+    → ((c : Channel) → IsOn a c → IsOn b c → ⊥)
     → TakesPart s p a x → TakesPart s q b y → x ≢ y
 parts_apart {L} s sound p q own other a b x y apart wp wq off h k e = ⊎_elim
     (λ (xp : x ≡ p). ⊎_elim
     (λ (yq : y ≡ q). apart (sym xp ∙ e ∙ yq))
     (λ (z : (c : Channel) × IsOn b c × (s.pending c ≡ Some y)). waits_stands z.0 (s.condition y) (sound.waits z.0 y z.2)
-    (subst (λ r. Stands (s.condition r)) (sym xp ∙ e) (working_stands s.condition p (s.condition p) own wp)))
+    (subst (λ r. IsNotWaiting (s.condition r)) (sym xp ∙ e) (working_stands s.condition p (s.condition p) own wp)))
     k)
     (λ (z : (c : Channel) × IsOn a c × (s.pending c ≡ Some x)). ⊎_elim
     (λ (yq : y ≡ q). waits_stands z.0 (s.condition x) (sound.waits z.0 x z.2)
-    (subst (λ r. Stands (s.condition r)) (sym yq ∙ sym e) (working_stands s.condition q (s.condition q) other wq)))
+    (subst (λ r. IsNotWaiting (s.condition r)) (sym yq ∙ sym e)
+    (working_stands s.condition q (s.condition q) other wq)))
     (λ (v : (c : Channel) × IsOn b c × (s.pending c ≡ Some y)). off z.0 z.1
     (subst (IsOn b) (waits_one v.0 z.0 (s.condition x)
     (subst (λ r. WaitsOn v.0 (s.condition r)) (sym e) (sound.waits v.0 y v.2)) (sound.waits z.0 x z.2)) v.1))
@@ -94,21 +97,21 @@ clash_or_off L (Offering o) (Offering r) = ⊎_elim (λ (e : o.channel ≡ r.cha
 clash_or_off L (Offering o) (Moves x y) = inr (λ c h k. k)
 clash_or_off L (Offering o) (Opens x y) = inr (λ c h k. k)
 clash_or_off L (Offering o) (Forks x y) = inr (λ c h k. k)
-clash_or_off L (Offering o) Ends = inr (λ c h k. k)
-clash_or_off L (Offering o) (Fails f) = inr (λ c h k. k)
+clash_or_off L (Offering o) EndsProcess = inr (λ c h k. k)
+clash_or_off L (Offering o) (MeetsFault f) = inr (λ c h k. k)
 clash_or_off L (Moves x y) b = inr (λ c h k. h)
 clash_or_off L (Opens x y) b = inr (λ c h k. h)
 clash_or_off L (Forks x y) b = inr (λ c h k. h)
-clash_or_off L Ends b = inr (λ c h k. h)
-clash_or_off L (Fails f) b = inr (λ c h k. h)
+clash_or_off L EndsProcess b = inr (λ c h k. h)
+clash_or_off L (MeetsFault f) b = inr (λ c h k. h)
 
 -- the order condition of a step goes by what is recorded on its channel and what its process knows
-pub knows_same : (L : Language) (t s : Notes) (q : Name) (b : ActOf L)
+pub knows_same : (L : Language) (t s : JudgeNotes) (q : Name) (b : ActOf L)
     → ((c : Channel) (v : Way) (e : Event) → IsOn b c → s.offers c v e ≡ true → t.offers c v e ≡ true)
     → t.past q ≡ s.past q → KnowsBefore L t q b → KnowsBefore L s q b
 knows_same L t s q (Offering o) h p k = λ e x. ap (λ f. f e) (sym p) ∙ k e (h o.channel (way_of o.cargo) e refl x)
 knows_same L t s q (Moves x y) h p k = tt
 knows_same L t s q (Opens x y) h p k = tt
 knows_same L t s q (Forks x y) h p k = tt
-knows_same L t s q Ends h p k = tt
-knows_same L t s q (Fails f) h p k = tt
+knows_same L t s q EndsProcess h p k = tt
+knows_same L t s q (MeetsFault f) h p k = tt

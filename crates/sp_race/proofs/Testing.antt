@@ -7,19 +7,20 @@ use Rattle.sp_base.proofs.Facts.{first_true, is_none_plus, is_plus_none, next_go
 use Rattle.sp_journal.specs.declared.entry.Way.{Way}
 use Rattle.sp_journal.specs.Names.{Name, Channel, Happening, Opened, Forked, Offered, Ended, Faulted, Laid, Paused}
 use Rattle.sp_journal.specs.Names.{Occurrence}
-use Rattle.sp_journal.specs.Past.{Judged, judged_by, nothing_judged, KnowsCompletions, CompletedFrom, AreOrdered}
+use Rattle.sp_journal.specs.Past.{Knowledge, knowledge_after, no_knowledge, KnowsCompletions, CompletedFrom, AreOrdered}
 use Rattle.sp_meaning.proofs.Maps.{itself}
 use Rattle.sp_meaning.proofs.Keys.{channel_test}
 use Rattle.sp_race.specs.Tested.{is_offer, is_known, knows_all, is_in_order, order_from, order_test}
 use Rattle.sp_race.proofs.Ways.{way_itself, way_is}
 
-known_is : (j : Judged) (p : Name) (o : Option ℕ) → is_known j p o ≡ true → (m : ℕ) × (o ≡ Some m) × (j.past p m ≡ true)
+known_is : (j : Knowledge) (p : Name) (o : Option ℕ) → is_known j p o ≡ true → (m : ℕ) × (o ≡ Some m)
+    × (j.past p m ≡ true)
 known_is j p None h = absurd (cc h)
 known_is j p (Some m) h = (m, refl, h)
 
 -- from the test to the condition
 
-all_known : (j : Judged) (p : Name) (w : Way) (c : Channel) (k : ℕ) (es : List Occurrence)
+all_known : (j : Knowledge) (p : Name) (w : Way) (c : Channel) (k : ℕ) (es : List Occurrence)
     → knows_all j p w c k es ≡ true → (i : ℕ) (z : Name)
     → slice_get es i ≡ Some (record { who = z; what = Offered w c }) → (m : ℕ) × (j.completed (k + i) ≡ Some m)
     × (j.past p m ≡ true)
@@ -37,7 +38,7 @@ all_known j p w c k (x ∷ es) h (suc i) z e =
     let m = all_known j p w c (suc k) es (second_true _ _ h) i z e in
     (m.0, ap j.completed (next_goes_left k i) ∙ m.1, m.2)
 
-in_order : (j : Judged) (done : List Occurrence) (p : Name) (h : Happening) → is_in_order j done p h ≡ true
+in_order : (j : Knowledge) (done : List Occurrence) (p : Name) (h : Happening) → is_in_order j done p h ≡ true
     → KnowsCompletions j done p h
 in_order j done p (Offered w c) t = λ i z e. let m = all_known j p w c 0 done t i z e in
     (m.0, ap j.completed (is_none_plus i) ∙ m.1, m.2)
@@ -48,19 +49,19 @@ in_order j done p (Faulted f) t = tt
 in_order j done p Laid t = tt
 in_order j done p Paused t = tt
 
-completed_from : (j : Judged) (done es : List Occurrence) → order_from j done es ≡ true → CompletedFrom j done es
+completed_from : (j : Knowledge) (done es : List Occurrence) → order_from j done es ≡ true → CompletedFrom j done es
 completed_from j done [] h = tt
 completed_from j done (e ∷ es) h = (
   in_order j done e.who e.what (first_true _ _ h),
-  completed_from (judged_by j (length done) e.who e.what) (done ++ e ∷ []) es (second_true _ _ h),
+  completed_from (knowledge_after j (length done) e.who e.what) (done ++ e ∷ []) es (second_true _ _ h),
 )
 
 pub test_ordered : (es : List Occurrence) → order_test es ≡ true → AreOrdered es
-test_ordered es h = completed_from nothing_judged [] es h
+test_ordered es h = completed_from no_knowledge [] es h
 
 -- from the condition to the test
 
-knows_offer : (j : Judged) (p : Name) (o : Option ℕ) (m : ℕ) → o ≡ Some m → j.past p m ≡ true → is_known j p o ≡ true
+knows_offer : (j : Knowledge) (p : Name) (o : Option ℕ) (m : ℕ) → o ≡ Some m → j.past p m ≡ true → is_known j p o ≡ true
 knows_offer j p o m e h = ap (is_known j p) e ∙ h
 
 if_true : (b x : Bool) → (b ≡ true → x ≡ true) → (if b then x else true) ≡ true
@@ -77,7 +78,7 @@ offer_is w c (Faulted f) h = absurd (cc h)
 offer_is w c Laid h = absurd (cc h)
 offer_is w c Paused h = absurd (cc h)
 
-known_all : (j : Judged) (p : Name) (w : Way) (c : Channel) (k : ℕ) (es : List Occurrence)
+known_all : (j : Knowledge) (p : Name) (w : Way) (c : Channel) (k : ℕ) (es : List Occurrence)
     → ((i : ℕ) (z : Name) → slice_get es i ≡ Some (record { who = z; what = Offered w c }) → (m : ℕ)
     × (j.completed (k + i) ≡ Some m) × (j.past p m ≡ true)) → knows_all j p w c k es ≡ true
 known_all j p w c k [] h = refl
@@ -88,7 +89,7 @@ known_all j p w c k (x ∷ es) h = and_from _ _
     (known_all j p w c (suc k) es (λ i z e. let m = h (suc i) z e in
     (m.0, ap j.completed (next_goes_right k i) ∙ m.1, m.2)))
 
-order_in : (j : Judged) (done : List Occurrence) (p : Name) (h : Happening) → KnowsCompletions j done p h
+order_in : (j : Knowledge) (done : List Occurrence) (p : Name) (h : Happening) → KnowsCompletions j done p h
     → is_in_order j done p h ≡ true
 order_in j done p (Offered w c) t = known_all j p w c 0 done
     (λ i z e. let m = t i z e in (m.0, ap j.completed (zero-add i) ∙ m.1, m.2))
@@ -99,10 +100,10 @@ order_in j done p (Faulted f) t = refl
 order_in j done p Laid t = refl
 order_in j done p Paused t = refl
 
-from_completed : (j : Judged) (done es : List Occurrence) → CompletedFrom j done es → order_from j done es ≡ true
+from_completed : (j : Knowledge) (done es : List Occurrence) → CompletedFrom j done es → order_from j done es ≡ true
 from_completed j done [] h = refl
 from_completed j done (e ∷ es) h = and_from _ _ (order_in j done e.who e.what h.0)
-    (from_completed (judged_by j (length done) e.who e.what) (done ++ e ∷ []) es h.1)
+    (from_completed (knowledge_after j (length done) e.who e.what) (done ++ e ∷ []) es h.1)
 
 pub ordered_test : (es : List Occurrence) → AreOrdered es → order_test es ≡ true
-ordered_test es h = from_completed nothing_judged [] es h
+ordered_test es h = from_completed no_knowledge [] es h

@@ -4,27 +4,30 @@ use Rattle.std.proofs.Common.{Option, Some, None, refl, sym, ap, ◌∙◌, subs
 use Rattle.std.proofs.lemmas.Bool.{false≢true}
 use Rattle.std.proofs.lemmas.Option.{none-some, same_Some}
 use Rattle.sp_base.specs.declared.fault.Fault.{Fault}
-use Rattle.sp_journal.specs.Past.{Judged, judged_by, nothing_judged, AreOrdered}
-use Rattle.sp_meaning.specs.Model.{Name, Language, Moves, Opens, Forks, Offering, Ends, Fails, Change, after}
-use Rattle.sp_meaning.specs.Steps.{ActOf, Outcome, Advances, Faulty, way_of, acts, unless, step_with, Sound}
+use Rattle.sp_journal.specs.Past.{Knowledge, knowledge_after, no_knowledge, AreOrdered}
+use Rattle.sp_meaning.specs.Model.{Name, Language, Moves, Opens, Forks, Offering, EndsProcess, MeetsFault, Change}
+use Rattle.sp_meaning.specs.Model.{with_changes}
+use Rattle.sp_meaning.specs.Steps.{ActOf, ActOutcome, Advances, Faulty, way_of, act_outcome, fault_or, step_with, Sound}
 use Rattle.sp_meaning.specs.Schedules.{EndsAlike}
-use Rattle.sp_meaning.specs.Own.{Setting, Process}
+use Rattle.sp_meaning.specs.LocalWork.{RunInput, Process}
 use Rattle.sp_meaning.specs.SuperPascal.{superpascal, root, first_store}
 use Rattle.sp_meaning.specs.Entries.{Happening, Opened, Forked, Offered, Ended, Faulted, Laid, Paused, Occurrence}
-use Rattle.sp_meaning.specs.Runs.{StateOf, start, most, running, next, system_of, Lawful, said_of, says, IsDisjointRun}
-use Rattle.sp_meaning.specs.Along.{Either, due, Turn, Course, no_course, Kernel, Entered, Along, IsAlong, IsCleanly}
+use Rattle.sp_meaning.specs.Runs.{StateOf, start, total_limits, running_process, next_state, system_of, Lawful}
+use Rattle.sp_meaning.specs.Runs.{happening_of, happening_at, IsDisjointRun}
+use Rattle.sp_meaning.specs.Along.{Either, is_due_after, Turn, Course, no_course, KernelStep, EntryStep, Along, IsAlong}
+use Rattle.sp_meaning.specs.Along.{IsCleanly}
 use Rattle.sp_meaning.specs.Along.{IsClean}
 use Rattle.sp_meaning.specs.Ends.{IsDone, IsIdle}
 use Rattle.sp_meaning.proofs.Status.{Makes}
 use Rattle.sp_meaning.proofs.Kept.{sound_kept}
 use Rattle.sp_meaning.proofs.Instance.{superpascal_keeps}
-use Rattle.sp_meaning.proofs.Journeys.{quiet_step}
+use Rattle.sp_meaning.proofs.JournalSchedules.{quiet_step}
 use Rattle.sp_meaning.proofs.LawProofs.{done_idle}
-use Rattle.sp_race.specs.Notes.{Event, Notes, no_notes, IsKnowledge, KnowsBefore}
+use Rattle.sp_race.specs.Notes.{Event, JudgeNotes, no_notes, IsKnowledge, KnowsBefore}
 use Rattle.sp_race.specs.Noting.{notes_after}
 use Rattle.sp_race.specs.Ordered.{IsOrderedRun}
 use Rattle.sp_race.specs.Known.{KnowsOffers, KnownFrom}
-use Rattle.sp_race.specs.Linked.{Linked}
+use Rattle.sp_race.specs.Linked.{NotesMatch}
 use Rattle.sp_race.proofs.NotesFrames.{known_kept}
 use Rattle.sp_race.proofs.GoodSteps.{made_of, sound_opening, knows_nothing, confluence}
 use Rattle.sp_race.proofs.Linking.{known_linked}
@@ -32,66 +35,70 @@ use Rattle.sp_race.proofs.LinkedSteps.{opens_linked, forks_linked, ends_linked, 
 use Rattle.sp_race.proofs.LinkedSteps.{pause_linked}
 use Rattle.sp_race.proofs.Completion.{ordered_known}
 
-module _ (g : Setting) where
+module _ (g : RunInput) where
   -- what is known where these n entries have been made
-  pub record At (s : StateOf g) (v : Notes) (j : Judged) (done : List Occurrence) (n : ℕ) (label : ℕ → Option Event) :
+  pub record KnownAfterEntries (s : StateOf g) (v : JudgeNotes) (j : Knowledge) (done : List Occurrence) (n : ℕ)
+      (label : ℕ → Option Event) :
       Type 0 where
-    pub linked : Linked s v j done n label
+    pub linked : NotesMatch s v j done n label
     pub sound : Sound s
     pub known : IsKnowledge v
     pub quiet : s.fault ≡ None
 
   -- an ordered schedule of n names from s to t, without a fault at its end
-  record Goes (s : StateOf g) (v : Notes) (n : ℕ) (t : StateOf g) : Type 0 where
+  record OrderedSchedule (s : StateOf g) (v : JudgeNotes) (n : ℕ) (t : StateOf g) : Type 0 where
     names : List Name
     size : length names ≡ n
     leads : Lawful g s names t
     still : t.fault ≡ None
-    ordered : IsOrderedRun (most g) s v names
+    ordered : IsOrderedRun (total_limits g) s v names
 
   -- a step without a fault, and its changes
   pub record Stepped (s : StateOf g) (q : Name) (own : Process) (m : StateOf g) : Type 0 where
     pub cs : List (Change (superpascal g))
-    pub one : Makes (most g) s q cs
+    pub one : Makes (total_limits g) s q cs
     pub same : one.own ≡ own
-    pub to : m ≡ after cs s
+    pub to : m ≡ with_changes cs s
     pub quiet : m.fault ≡ None
 
-  pub stepped : (s : StateOf g) (q : Name) (own : Process) (m : StateOf g) → running g s q ≡ Some own
-      → next g s q ≡ Some m → m.fault ≡ None → Stepped s q own m
+  pub stepped : (s : StateOf g) (q : Name) (own : Process) (m : StateOf g) → running_process g s q ≡ Some own
+      → next_state g s q ≡ Some m → m.fault ≡ None → Stepped s q own m
   stepped s q own m run st quiet =
       let x = made_of s q m st quiet in
       record { cs = x.cs; one = x.makes; same = same_Some _ _ (sym x.makes.works ∙ run); to = x.to; quiet = quiet }
 
   -- what the step says
   pub said : (s : StateOf g) (q : Name) (own : Process) (m : StateOf g) (x : Stepped s q own m)
-      → says g s q own ≡ said_of ((superpascal g).next x.one.own s.store) (Advances x.cs)
+      → happening_at g s q own ≡ happening_of ((superpascal g).next x.one.own s.store) (Advances x.cs)
   said s q own m x =
       let a = (superpascal g).next x.one.own s.store in
-      ap (says g s q) (sym x.same) ∙ ap (said_of a) (ap (λ f. unless f (acts s q a)) x.one.within ∙ x.one.does)
+      ap (happening_at g s q) (sym x.same) ∙ ap (happening_of a) (ap (λ f. fault_or f (act_outcome s q a)) x.one.within
+      ∙ x.one.does)
 
-  pub next_at : (s : StateOf g) (v : Notes) (j : Judged) (done : List Occurrence) (n : ℕ) (label : ℕ → Option Event)
-      (q : Name) (own : Process) (m : StateOf g) → At s v j done n label → (x : Stepped s q own m)
-      → (j1 : Judged) (done1 : List Occurrence) (n1 : ℕ) (label1 : ℕ → Option Event)
-      → Linked (after x.cs s) (notes_after s v q ((superpascal g).next x.one.own s.store)) j1 done1 n1 label1
-      → At m (notes_after s v q ((superpascal g).next own s.store)) j1 done1 n1 label1
+  pub next_at : (s : StateOf g) (v : JudgeNotes) (j : Knowledge) (done : List Occurrence) (n : ℕ) (label : ℕ
+      → Option Event)
+      (q : Name) (own : Process) (m : StateOf g) → KnownAfterEntries s v j done n label → (x : Stepped s q own m)
+      → (j1 : Knowledge) (done1 : List Occurrence) (n1 : ℕ) (label1 : ℕ → Option Event)
+      → NotesMatch (with_changes x.cs s) (notes_after s v q ((superpascal g).next x.one.own s.store)) j1 done1 n1 label1
+      → KnownAfterEntries m (notes_after s v q ((superpascal g).next own s.store)) j1 done1 n1 label1
   next_at s v j done n label q own m at x j1 done1 n1 label1 l =
       let notes_are : notes_after s v q ((superpascal g).next x.one.own s.store)
       ≡ notes_after s v q ((superpascal g).next own s.store) =
       ap (λ z. notes_after s v q ((superpascal g).next z s.store)) x.same in
       record {
-        linked = subst (λ (z : StateOf g). Linked z (notes_after s v q ((superpascal g).next own s.store)) j1 done1 n1
-            label1) (sym x.to) (subst (λ z. Linked (after x.cs s) z j1 done1 n1 label1) notes_are l);
+        linked = subst (λ (z : StateOf g). NotesMatch z (notes_after s v q ((superpascal g).next own s.store)) j1
+            done1 n1
+            label1) (sym x.to) (subst (λ z. NotesMatch (with_changes x.cs s) z j1 done1 n1 label1) notes_are l);
         sound = subst (λ (z : StateOf g). Sound z) (sym x.to) (sound_kept s q x.cs at.sound x.one);
         known = known_kept v at.known s q ((superpascal g).next own s.store);
         quiet = x.quiet;
       }
 
   -- one ordered step in front
-  first : (s : StateOf g) (v : Notes) (q : Name) (own : Process) (m : StateOf g) (n : ℕ) (t : StateOf g)
-      → s.fault ≡ None → running g s q ≡ Some own → next g s q ≡ Some m
+  first : (s : StateOf g) (v : JudgeNotes) (q : Name) (own : Process) (m : StateOf g) (n : ℕ) (t : StateOf g)
+      → s.fault ≡ None → running_process g s q ≡ Some own → next_state g s q ≡ Some m
       → KnowsBefore (superpascal g) v q ((superpascal g).next own s.store)
-      → Goes m (notes_after s v q ((superpascal g).next own s.store)) n t → Goes s v (suc n) t
+      → OrderedSchedule m (notes_after s v q ((superpascal g).next own s.store)) n t → OrderedSchedule s v (suc n) t
   first s v q own m n t quiet run st knows go = record {
     names = q ∷ go.names;
     size = ap suc go.size;
@@ -100,9 +107,11 @@ module _ (g : Setting) where
     ordered = (
       λ o w. subst (λ z. KnowsBefore (superpascal g) v q ((superpascal g).next z s.store)) (same_Some _ _ (sym run ∙ w))
           knows,
-      λ o k w e. subst (λ z. IsOrderedRun (most g) k (notes_after s v q ((superpascal g).next z s.store)) go.names)
+      λ o k w e. subst (λ z. IsOrderedRun (total_limits g) k (notes_after s v q ((superpascal g).next z s.store))
+          go.names)
           (same_Some _ _ (sym run ∙ w)) (subst
-          (λ (z : StateOf g). IsOrderedRun (most g) z (notes_after s v q ((superpascal g).next own s.store)) go.names)
+          (λ (z : StateOf g). IsOrderedRun (total_limits g) z (notes_after s v q ((superpascal g).next own s.store))
+          go.names)
           (same_Some _ _ (sym st ∙ e)) go.ordered),
     );
   }
@@ -114,33 +123,37 @@ module _ (g : Setting) where
     pub is : (superpascal g).next own s.store ≡ Moves next_own writes
 
   pub local_moves : (s : StateOf g) (q : Name) (own : Process) (m : StateOf g) (x : Stepped s q own m)
-      → says g s q own ≡ None → IsMove s x.one.own
+      → happening_at g s q own ≡ None → IsMove s x.one.own
   local_moves s q own m x none = by ((superpascal g).next x.one.own s.store) refl (sym (said s q own m x) ∙ none)
     where
-      faulty_does : {L : Language} {f : Fault} {cs : List (Change L)} → ◌≡◌ {A = Outcome L} (Faulty f) (Advances cs) → ⊥
+      faulty_does : {L : Language} {f : Fault} {cs : List (Change L)}
+          → ◌≡◌ {A = ActOutcome L} (Faulty f) (Advances cs) → ⊥
       faulty_does e = cc
 
-      by : (a : ActOf (superpascal g)) → (superpascal g).next x.one.own s.store ≡ a → said_of a (Advances x.cs) ≡ None
+      by : (a : ActOf (superpascal g)) → (superpascal g).next x.one.own s.store ≡ a
+          → happening_of a (Advances x.cs) ≡ None
           → IsMove s x.one.own
       by (Moves o ws) e h = record { next_own = o; writes = ws; is = e }
       by (Opens o ws) e h = absurd (none-some _ (sym h))
       by (Forks o os) e h = absurd (none-some _ (sym h))
       by (Offering o) e h = absurd (none-some _ (sym h))
-      by Ends e h = absurd (none-some _ (sym h))
-      by (Fails f) e h = absurd (faulty_does (ap (acts s q) (sym e) ∙ x.one.does))
+      by EndsProcess e h = absurd (none-some _ (sym h))
+      by (MeetsFault f) e h = absurd (faulty_does (ap (act_outcome s q) (sym e) ∙ x.one.does))
 
-  pub moves_know : (s : StateOf g) (own : Process) (v : Notes) (q : Name) → IsMove s own
+  pub moves_know : (s : StateOf g) (own : Process) (v : JudgeNotes) (q : Name) → IsMove s own
       → KnowsBefore (superpascal g) v q ((superpascal g).next own s.store)
   moves_know s own v q h = subst (λ a. KnowsBefore (superpascal g) v q a) (sym h.is) tt
 
   -- k local steps in front
-  turned : (turn since : ℕ) (q : Name) (k : ℕ) (s m : StateOf g) (paused : Bool) (r : ℕ) (t : StateOf g) (v : Notes)
-      (j : Judged) (done : List Occurrence) (n : ℕ) (label : ℕ → Option Event)
-      → Turn g turn since q k s m paused → At s v j done n label → ((w : Notes) → At m w j done n label → Goes m w r t)
-      → Goes s v (k + r) t
+  turned : (turn since : ℕ) (q : Name) (k : ℕ) (s m : StateOf g) (paused : Bool) (r : ℕ) (t : StateOf g)
+      (v : JudgeNotes)
+      (j : Knowledge) (done : List Occurrence) (n : ℕ) (label : ℕ → Option Event)
+      → Turn g turn since q k s m paused → KnownAfterEntries s v j done n label
+      → ((w : JudgeNotes) → KnownAfterEntries m w j done n label → OrderedSchedule m w r t)
+      → OrderedSchedule s v (k + r) t
   turned turn since q zero s m paused r t v j done n label h at go =
-      subst (λ z. Goes s v z t) zero_add (subst (λ z. Goes z v r t) h.0
-      (go v (subst (λ z. At z v j done n label) (sym h.0) at)))
+      subst (λ z. OrderedSchedule s v z t) zero_add (subst (λ z. OrderedSchedule z v r t) h.0
+      (go v (subst (λ z. KnownAfterEntries z v j done n label) (sym h.0) at)))
     where
       zero_add : r ≡ 0 + r
       zero_add = omega arith
@@ -153,20 +166,23 @@ module _ (g : Setting) where
       (moves_linked s v q x.cs at.sound at.known x.one j done n label at.linked mv.next_own mv.writes mv.is) in
       let knows = subst (λ z. KnowsBefore (superpascal g) v q ((superpascal g).next z s.store)) x.same
       (moves_know s x.one.own v q mv) in
-      subst (λ z. Goes s v z t) suc_add (first s v q own u (k + r) t at.quiet h.1 h.4 knows
-      (rest (notes_after s v q ((superpascal g).next own s.store)) u (due g turn since s own q u) h.5 at1
+      subst (λ z. OrderedSchedule s v z t) suc_add (first s v q own u (k + r) t at.quiet h.1 h.4 knows
+      (rest (notes_after s v q ((superpascal g).next own s.store)) u (is_due_after g turn since s own q u) h.5 at1
       (λ y a. turned turn since q k u m paused r t (notes_after s v q ((superpascal g).next own s.store)) j done n
       label y a go)))
     where
       suc_add : suc (k + r) ≡ suc k + r
       suc_add = omega arith
 
-      rest : (w : Notes) (u : StateOf g) (b : Bool)
-          → Either b ((k ≡ 0) × (m ≡ u) × (paused ≡ true)) (Turn g turn since q k u m paused) → At u w j done n label
-          → (Turn g turn since q k u m paused → At u w j done n label → Goes u w (k + r) t) → Goes u w (k + r) t
-      rest w u true y a later = subst (λ z. Goes u w (z + r) t) (sym y.0)
-          (subst (λ z. Goes u w z t) zero_add
-          (subst (λ z. Goes z w r t) y.1 (go w (subst (λ z. At z w j done n label) (sym y.1) a))))
+      rest : (w : JudgeNotes) (u : StateOf g) (b : Bool)
+          → Either b ((k ≡ 0) × (m ≡ u) × (paused ≡ true)) (Turn g turn since q k u m paused)
+          → KnownAfterEntries u w j done n label
+          → (Turn g turn since q k u m paused → KnownAfterEntries u w j done n label → OrderedSchedule u w (k + r) t)
+          → OrderedSchedule u w (k + r) t
+      rest w u true y a later = subst (λ z. OrderedSchedule u w (z + r) t) (sym y.0)
+          (subst (λ z. OrderedSchedule u w z t) zero_add
+          (subst (λ z. OrderedSchedule z w r t) y.1
+          (go w (subst (λ z. KnownAfterEntries z w j done n label) (sym y.1) a))))
         where
           zero_add : r ≡ 0 + r
           zero_add = omega arith
@@ -176,17 +192,19 @@ module _ (g : Setting) where
   abbrev With : List Occurrence → Name → Happening → List Occurrence
   With done q w = done ++ record { who = q; what = w } ∷ []
 
-  record Enters_at (s : StateOf g) (v : Notes) (q : Name) (own : Process) (m : StateOf g) (j : Judged)
+  record Enters_at (s : StateOf g) (v : JudgeNotes) (q : Name) (own : Process) (m : StateOf g) (j : Knowledge)
       (done : List Occurrence) (n : ℕ) : Type 0 where
     label : ℕ → Option Event
-    at : At m (notes_after s v q ((superpascal g).next own s.store)) j done n label
+    at : KnownAfterEntries m (notes_after s v q ((superpascal g).next own s.store)) j done n label
     knows : KnowsBefore (superpascal g) v q ((superpascal g).next own s.store)
 
   -- a kernel step keeps the link, and is ordered where its entry is
-  enters : (s : StateOf g) (v : Notes) (q : Name) (own : Process) (m : StateOf g) (j : Judged) (done : List Occurrence)
-      (n : ℕ) (label : ℕ → Option Event) (w : Happening) → At s v j done n label → (x : Stepped s q own m)
-      → says g s q own ≡ Some w → KnowsOffers j done q w
-      → Enters_at s v q own m (judged_by j n q w) (With done q w) (suc n)
+  enters : (s : StateOf g) (v : JudgeNotes) (q : Name) (own : Process) (m : StateOf g) (j : Knowledge)
+      (done : List Occurrence)
+      (n : ℕ) (label : ℕ → Option Event) (w : Happening) → KnownAfterEntries s v j done n label
+      → (x : Stepped s q own m)
+      → happening_at g s q own ≡ Some w → KnowsOffers j done q w
+      → Enters_at s v q own m (knowledge_after j n q w) (With done q w) (suc n)
   enters s v q own m j done n label w at x is knows =
       by ((superpascal g).next x.one.own s.store) refl w (sym (said s q own m x) ∙ is) knows
     where
@@ -194,61 +212,66 @@ module _ (g : Setting) where
       L = superpascal g
 
       put : (w : Happening) (lb : ℕ → Option Event)
-          → Linked (after x.cs s) (notes_after s v q ((superpascal g).next x.one.own s.store)) (judged_by j n q w)
+          → NotesMatch (with_changes x.cs s) (notes_after s v q ((superpascal g).next x.one.own s.store))
+          (knowledge_after j n q w)
           (With done q w) (suc n) lb → KnowsBefore (superpascal g) v q ((superpascal g).next x.one.own s.store)
-          → Enters_at s v q own m (judged_by j n q w) (With done q w) (suc n)
+          → Enters_at s v q own m (knowledge_after j n q w) (With done q w) (suc n)
       put w lb l k = record {
         label = lb;
-        at = next_at s v j done n label q own m at x (judged_by j n q w) (With done q w) (suc n) lb l;
+        at = next_at s v j done n label q own m at x (knowledge_after j n q w) (With done q w) (suc n) lb l;
         knows = subst (λ z. KnowsBefore (superpascal g) v q ((superpascal g).next z s.store)) x.same k;
       }
 
       by : (a : ActOf (superpascal g)) → (superpascal g).next x.one.own s.store ≡ a → (w : Happening)
-          → said_of a (Advances x.cs) ≡ Some w → KnowsOffers j done q w
-          → Enters_at s v q own m (judged_by j n q w) (With done q w) (suc n)
+          → happening_of a (Advances x.cs) ≡ Some w → KnowsOffers j done q w
+          → Enters_at s v q own m (knowledge_after j n q w) (With done q w) (suc n)
       by (Moves o ws) e w h k = absurd (none-some _ h)
-      by (Fails f) e w h k = absurd (none-some _ h)
-      by (Opens o ws) e w h k = subst (λ z. Enters_at s v q own m (judged_by j n q z) (With done q z) (suc n))
+      by (MeetsFault f) e w h k = absurd (none-some _ h)
+      by (Opens o ws) e w h k = subst (λ z. Enters_at s v q own m (knowledge_after j n q z) (With done q z) (suc n))
           (same_Some _ _ h)
           (put Opened _ (opens_linked s v q x.cs at.sound at.known x.one j done n label at.linked o ws e)
           (subst (λ a. KnowsBefore (superpascal g) v q a) (sym e) tt))
-      by (Forks o os) e w h k = subst (λ z. Enters_at s v q own m (judged_by j n q z) (With done q z) (suc n))
+      by (Forks o os) e w h k = subst (λ z. Enters_at s v q own m (knowledge_after j n q z) (With done q z) (suc n))
           (same_Some _ _ h)
           (put (Forked (length os)) _ (forks_linked s v q x.cs at.sound at.known x.one j done n label at.linked o os e)
           (subst (λ a. KnowsBefore (superpascal g) v q a) (sym e) tt))
       by (Offering o) e w h k =
           let k' : KnowsOffers j done q (Offered (way_of o.cargo) o.channel) =
           subst (KnowsOffers j done q) (sym (same_Some _ _ h)) k in
-          subst (λ z. Enters_at s v q own m (judged_by j n q z) (With done q z) (suc n)) (same_Some _ _ h)
+          subst (λ z. Enters_at s v q own m (knowledge_after j n q z) (With done q z) (suc n)) (same_Some _ _ h)
           (put (Offered (way_of o.cargo) o.channel) _
           (offers_linked s v q x.cs at.sound at.known x.one j done n label at.linked o e)
           (subst (λ a. KnowsBefore (superpascal g) v q a) (sym e) (known_linked s v j done n label q o at.linked k')))
-      by Ends e w h k = subst (λ z. Enters_at s v q own m (judged_by j n q z) (With done q z) (suc n)) (same_Some _ _ h)
+      by EndsProcess e w h k = subst (λ z. Enters_at s v q own m (knowledge_after j n q z) (With done q z) (suc n))
+          (same_Some _ _ h)
           (put Ended _ (ends_linked s v q x.cs at.sound at.known x.one j done n label at.linked e)
           (subst (λ a. KnowsBefore (superpascal g) v q a) (sym e) tt))
 
-  abbrev Goes_on : (Course → StateOf g → ℕ → Type 0) → StateOf g → Judged → List Occurrence → ℕ → Type 0
-  Goes_on left t j done n = (c1 : Course) (u : StateOf g) (r : ℕ) → left c1 u r → (w : Notes) (label : ℕ → Option Event)
-      → At u w j done n label → Goes u w r t
+  abbrev Goes_on : (Course → StateOf g → ℕ → Type 0) → StateOf g → Knowledge → List Occurrence → ℕ → Type 0
+  Goes_on left t j done n = (c1 : Course) (u : StateOf g) (r : ℕ) → left c1 u r
+      → (w : JudgeNotes) (label : ℕ → Option Event)
+      → KnownAfterEntries u w j done n label → OrderedSchedule u w r t
 
   kernel_goes : (left : Course → StateOf g → ℕ → Type 0) (c : Course) (m : StateOf g) (paused : Bool) (q : Name)
-      (w : Happening) (r : ℕ) (t : StateOf g) (v : Notes) (j : Judged) (done : List Occurrence) (n : ℕ)
-      (label : ℕ → Option Event) → IsCleanly w → Kernel g left c m paused q w r
-      → At m v j done n label → KnowsOffers j done q w → Goes_on left t (judged_by j n q w) (With done q w) (suc n)
-      → Goes m v r t
+      (w : Happening) (r : ℕ) (t : StateOf g) (v : JudgeNotes) (j : Knowledge) (done : List Occurrence) (n : ℕ)
+      (label : ℕ → Option Event) → IsCleanly w → KernelStep g left c m paused q w r
+      → KnownAfterEntries m v j done n label → KnowsOffers j done q w
+      → Goes_on left t (knowledge_after j n q w) (With done q w) (suc n)
+      → OrderedSchedule m v r t
   kernel_goes left c m paused q w r t v j done n label ok h at knows go =
       let own = h.5.0 in
       let u = h.2 in
       let x = stepped m q own u h.5.1 h.5.3 (quiet_step g m q own u (Some w) h.5.1 h.5.2 ok h.5.3 at.quiet) in
       let y = enters m v q own u j done n label w at x h.5.2 knows in
-      subst (λ z. Goes m v z t) (sym h.4) (first m v q own u h.3 t at.quiet h.5.1 h.5.3 y.knows
+      subst (λ z. OrderedSchedule m v z t) (sym h.4) (first m v q own u h.3 t at.quiet h.5.1 h.5.3 y.knows
       (go _ u h.3 h.6 (notes_after m v q ((superpascal g).next own m.store)) y.label y.at))
 
   entered_goes : (left : Course → StateOf g → ℕ → Type 0) (c : Course) (m : StateOf g) (paused : Bool) (q : Name)
-      (w : Happening) (r : ℕ) (t : StateOf g) (v : Notes) (j : Judged) (done : List Occurrence) (n : ℕ)
-      (label : ℕ → Option Event) → IsCleanly w → Entered g left c m paused q w r
-      → At m v j done n label → KnowsOffers j done q w → Goes_on left t (judged_by j n q w) (With done q w) (suc n)
-      → Goes m v r t
+      (w : Happening) (r : ℕ) (t : StateOf g) (v : JudgeNotes) (j : Knowledge) (done : List Occurrence) (n : ℕ)
+      (label : ℕ → Option Event) → IsCleanly w → EntryStep g left c m paused q w r
+      → KnownAfterEntries m v j done n label → KnowsOffers j done q w
+      → Goes_on left t (knowledge_after j n q w) (With done q w) (suc n)
+      → OrderedSchedule m v r t
   entered_goes left c m paused q Opened r t v j done n label ok h at k go =
       kernel_goes left c m paused q Opened r t v j done n label ok h at k go
   entered_goes left c m paused q (Forked i) r t v j done n label ok h at k go =
@@ -267,9 +290,9 @@ module _ (g : Setting) where
         quiet = at.quiet;
       })
 
-  along_goes : (turn : ℕ) (es : List Occurrence) (c : Course) (s : StateOf g) (r : ℕ) (t : StateOf g) (v : Notes)
-      (j : Judged) (done : List Occurrence) (n : ℕ) (label : ℕ → Option Event) → Along g turn c s es r t → IsClean es
-      → At s v j done n label → KnownFrom j done es → Goes s v r t
+  along_goes : (turn : ℕ) (es : List Occurrence) (c : Course) (s : StateOf g) (r : ℕ) (t : StateOf g) (v : JudgeNotes)
+      (j : Knowledge) (done : List Occurrence) (n : ℕ) (label : ℕ → Option Event) → Along g turn c s es r t → IsClean es
+      → KnownAfterEntries s v j done n label → KnownFrom j done es → OrderedSchedule s v r t
   along_goes turn [] c s r t v j done n label a clean at k =
       record {
         names = [];
@@ -279,13 +302,15 @@ module _ (g : Setting) where
         ordered = tt;
       }
   along_goes turn (e ∷ es) c s r t v j done n label a clean at k =
-      subst (λ z. Goes s v z t) (sym a.5) (turned turn (c.since e.who) e.who a.1 s a.3 a.4 a.2 t v j done n label a.6 at
+      subst (λ z. OrderedSchedule s v z t) (sym a.5) (turned turn (c.since e.who) e.who a.1 s a.3 a.4 a.2 t v j done n
+      label a.6 at
       (λ w at1. entered_goes _ c a.3 a.4 e.who e.what a.2 t w j done n label clean.0 a.7 at1 k.0
-      (λ c1 u d b x lb at2. along_goes turn es c1 u d t x (judged_by j n e.who e.what) (With done e.who e.what) (suc n)
+      (λ c1 u d b x lb at2. along_goes turn es c1 u d t x (knowledge_after j n e.who e.what) (With done e.who e.what)
+      (suc n)
       lb b clean.1 at2
-      (subst (λ z. KnownFrom (judged_by j z e.who e.what) (With done e.who e.what) es) at.linked.size k.1))))
+      (subst (λ z. KnownFrom (knowledge_after j z e.who e.what) (With done e.who e.what) es) at.linked.size k.1))))
 
-  pub linked_start : Linked (start g) no_notes nothing_judged [] 0 (λ i. None)
+  pub linked_start : NotesMatch (start g) no_notes no_knowledge [] 0 (λ i. None)
   linked_start = record {
     size = refl;
     past = λ q i h. absurd (omega (arith, h));
@@ -303,7 +328,7 @@ module _ (g : Setting) where
       → IsAlong g turn es n t → IsClean es → IsDone g t ⊎ IsIdle g t → AreOrdered es
       → (qs : List Name) (u : StateOf g) → Lawful g (start g) qs u → EndsAlike (system_of g) (start g) n t qs u
   each_ends_alike turn es n t disjoint along clean end ordered qs u other =
-      let go = along_goes turn es no_course (start g) n t no_notes nothing_judged [] 0 (λ i. None) along clean
+      let go = along_goes turn es no_course (start g) n t no_notes no_knowledge [] 0 (λ i. None) along clean
       (record {
         linked = linked_start;
         sound = sound_opening (superpascal g) (root g) (first_store g);
@@ -313,5 +338,6 @@ module _ (g : Setting) where
       let idle : IsIdle g t = ⊎_elim (λ (d : IsDone g t). done_idle g t (go.names, go.leads) d) (λ (i : IsIdle g t). i)
       end in
       subst (λ k. EndsAlike (system_of g) (start g) k t qs u) go.size
-      (confluence (superpascal g) (most g) (root g) (first_store g) (superpascal_keeps g) disjoint go.names t go.leads
-      go.still (λ p. ap (step_with (most g) t p) (idle p)) go.ordered qs u other)
+      (confluence (superpascal g) (total_limits g) (root g) (first_store g) (superpascal_keeps g) disjoint go.names t
+      go.leads
+      go.still (λ p. ap (step_with (total_limits g) t p) (idle p)) go.ordered qs u other)

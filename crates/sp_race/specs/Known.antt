@@ -3,10 +3,10 @@
 -- says that it is the same, and the judge, which meets the offer first, goes by it.
 use Rattle.std.specs.Prelude.{◌≡◌, ℕ, true, List, [], ◌∷◌, ◌++◌, length, Some, slice_get}
 use Rattle.sp_journal.specs.Names.{Name, Happening, Opened, Forked, Offered, Ended, Faulted, Laid, Paused, Occurrence}
-use Rattle.sp_journal.specs.Past.{Judged, judged_by, nothing_judged}
+use Rattle.sp_journal.specs.Past.{Knowledge, knowledge_after, no_knowledge}
 
 -- who offers knows the index of each earlier offer of this way on this channel
-abbrev pub KnowsOffers : Judged → List Occurrence → Name → Happening → Type 0
+abbrev pub KnowsOffers : Knowledge → List Occurrence → Name → Happening → Type 0
 KnowsOffers j done p (Offered w c) = (i : ℕ) (z : Name)
     → slice_get done i ≡ Some (record { who = z; what = Offered w c }) → j.past p i ≡ true
 KnowsOffers j done p Opened = Unit {0}
@@ -16,11 +16,11 @@ KnowsOffers j done p (Faulted f) = Unit {0}
 KnowsOffers j done p Laid = Unit {0}
 KnowsOffers j done p Paused = Unit {0}
 
-abbrev pub KnownFrom : Judged → List Occurrence → List Occurrence → Type 0
+abbrev pub KnownFrom : Knowledge → List Occurrence → List Occurrence → Type 0
 KnownFrom j done [] = Unit {0}
 KnownFrom j done (e ∷ es) = KnowsOffers j done e.who e.what
-    × KnownFrom (judged_by j (length done) e.who e.what) (done ++ e ∷ []) es
+    × KnownFrom (knowledge_after j (length done) e.who e.what) (done ++ e ∷ []) es
 
 -- of any two offers of one way on one channel, the later one's process knew the earlier one just before it offered
 abbrev pub AreKnown : List Occurrence → Type 0
-AreKnown es = KnownFrom nothing_judged [] es
+AreKnown es = KnownFrom no_knowledge [] es

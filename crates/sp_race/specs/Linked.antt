@@ -4,10 +4,10 @@
 use Rattle.std.specs.Prelude.{◌≡◌, ◌⊎◌, ℕ, ◌<◌, Bool, true, false, List, length, Option, Some, None, slice_get}
 use Rattle.sp_journal.specs.declared.entry.Way.{Way}
 use Rattle.sp_journal.specs.Names.{Offered, Occurrence}
-use Rattle.sp_journal.specs.Past.{Judged}
+use Rattle.sp_journal.specs.Past.{Knowledge}
 use Rattle.sp_meaning.specs.Model.{Name, Channel, Language, Waits, State}
 use Rattle.sp_meaning.specs.Steps.{OfferOf, way_of}
-use Rattle.sp_race.specs.Notes.{Event, Notes, mine}
+use Rattle.sp_race.specs.Notes.{Event, JudgeNotes, next_event_of}
 
 -- an entry of a pause has no event, and nobody knows of it
 abbrev pub known_label : (Event → Bool) → Option Event → Bool
@@ -15,12 +15,12 @@ known_label f None = false
 known_label f (Some e) = f e
 
 -- the pending offer's entry
-pub record Pended {L : Language} (s : State L) (v : Notes) (j : Judged) (done : List Occurrence) (n : ℕ)
+pub record Pended {L : Language} (s : State L) (v : JudgeNotes) (j : Knowledge) (done : List Occurrence) (n : ℕ)
     (label : ℕ → Option Event) (c : Channel) (z : Name) (w : OfferOf L) : Type 0 where
   pub at : ℕ
   pub is : j.pending c ≡ Some (z, at)
   pub inside : at < n
-  pub names : label at ≡ Some (mine v z)
+  pub names : label at ≡ Some (next_event_of v z)
   pub entry : slice_get done at ≡ Some (record { who = z; what = Offered (way_of w.cargo) c })
 
 -- the entry of a completed offer
@@ -32,12 +32,12 @@ pub record Recorded (done : List Occurrence) (n : ℕ) (label : ℕ → Option E
   pub names : label at ≡ Some e
   pub entry : slice_get done at ≡ Some (record { who = who; what = Offered w c })
 
-abbrev pub IsPending : {L : Language} → State L → Notes → Event → Type 0
-IsPending s v e = (z : Name) × (c : Channel) × (s.pending c ≡ Some z) × (e ≡ mine v z)
+abbrev pub IsPending : {L : Language} → State L → JudgeNotes → Event → Type 0
+IsPending s v e = (z : Name) × (c : Channel) × (s.pending c ≡ Some z) × (e ≡ next_event_of v z)
 
 -- what is judged of these n entries, and the state with its notes after the steps that made them; label names the event
 -- of each index
-pub record Linked {L : Language} (s : State L) (v : Notes) (j : Judged) (done : List Occurrence) (n : ℕ)
+pub record NotesMatch {L : Language} (s : State L) (v : JudgeNotes) (j : Knowledge) (done : List Occurrence) (n : ℕ)
     (label : ℕ → Option Event) : Type 0 where
   pub size : length done ≡ n
   pub past : (q : Name) (i : ℕ) → i < n → j.past q i ≡ known_label (v.past q) (label i)

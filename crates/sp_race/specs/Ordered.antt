@@ -3,14 +3,14 @@
 -- starts from it.
 use Rattle.std.specs.Prelude.{◌≡◌, List, [], ◌∷◌, Some}
 use Rattle.sp_meaning.specs.Model.{Name, Totals, Language, State}
-use Rattle.sp_meaning.specs.Steps.{working, step}
-use Rattle.sp_race.specs.Notes.{Notes, KnowsBefore}
+use Rattle.sp_meaning.specs.Steps.{own_part, step}
+use Rattle.sp_race.specs.Notes.{JudgeNotes, KnowsBefore}
 use Rattle.sp_race.specs.Noting.{notes_after}
 
 -- each step of the schedule keeps the order condition
-abbrev pub IsOrderedRun : {L : Language} → Totals → State L → Notes → List Name → Type 0
+abbrev pub IsOrderedRun : {L : Language} → Totals → State L → JudgeNotes → List Name → Type 0
 IsOrderedRun limits s n [] = Unit {0}
 IsOrderedRun {L} limits s n (p ∷ ps) =
-    ((own : L.Own) → working s p ≡ Some own → KnowsBefore L n p (L.next own s.store))
-    × ((own : L.Own) (m : State L) → working s p ≡ Some own → step limits s p ≡ Some m
+    ((own : L.Own) → own_part s p ≡ Some own → KnowsBefore L n p (L.next own s.store))
+    × ((own : L.Own) (m : State L) → own_part s p ≡ Some own → step limits s p ≡ Some m
     → IsOrderedRun limits m (notes_after s n p (L.next own s.store)) ps)

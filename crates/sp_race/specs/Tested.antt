@@ -6,7 +6,7 @@ use Rattle.std.specs.Prelude.{None}
 use Rattle.sp_journal.specs.declared.entry.Way.{Way}
 use Rattle.sp_journal.specs.Names.{Name, Channel, same_way, same_channel, Happening, Opened, Forked, Offered, Ended}
 use Rattle.sp_journal.specs.Names.{Faulted, Laid, Paused, Occurrence}
-use Rattle.sp_journal.specs.Past.{Judged, judged_by, nothing_judged}
+use Rattle.sp_journal.specs.Past.{Knowledge, knowledge_after, no_knowledge}
 
 -- an offer of this way on this channel
 abbrev pub is_offer : Way → Channel → Happening → Bool
@@ -19,18 +19,18 @@ is_offer w c Laid = false
 is_offer w c Paused = false
 
 -- the completion is there, and p knows it
-abbrev pub is_known : Judged → Name → Option ℕ → Bool
+abbrev pub is_known : Knowledge → Name → Option ℕ → Bool
 is_known j p None = false
 is_known j p (Some m) = j.past p m
 
 -- of these entries, from index i on, p knows the completion of each offer of this way on this channel
-abbrev pub knows_all : Judged → Name → Way → Channel → ℕ → List Occurrence → Bool
+abbrev pub knows_all : Knowledge → Name → Way → Channel → ℕ → List Occurrence → Bool
 knows_all j p w c i [] = true
 knows_all j p w c i (e ∷ es) = (if is_offer w c e.what then is_known j p (j.completed i) else true)
     && knows_all j p w c (suc i) es
 
 -- the condition at one entry
-abbrev pub is_in_order : Judged → List Occurrence → Name → Happening → Bool
+abbrev pub is_in_order : Knowledge → List Occurrence → Name → Happening → Bool
 is_in_order j done p (Offered w c) = knows_all j p w c 0 done
 is_in_order j done p Opened = true
 is_in_order j done p (Forked k) = true
@@ -39,10 +39,10 @@ is_in_order j done p (Faulted f) = true
 is_in_order j done p Laid = true
 is_in_order j done p Paused = true
 
-abbrev pub order_from : Judged → List Occurrence → List Occurrence → Bool
+abbrev pub order_from : Knowledge → List Occurrence → List Occurrence → Bool
 order_from j done [] = true
 order_from j done (e ∷ es) = is_in_order j done e.who e.what
-    && order_from (judged_by j (length done) e.who e.what) (done ++ e ∷ []) es
+    && order_from (knowledge_after j (length done) e.who e.what) (done ++ e ∷ []) es
 
 abbrev pub order_test : List Occurrence → Bool
-order_test es = order_from nothing_judged [] es
+order_test es = order_from no_knowledge [] es

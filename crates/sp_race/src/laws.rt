@@ -4,7 +4,7 @@ ghost use Rattle.std.specs.Prelude.{◌≡◌, ℕ, ◌↔◌, ◌⊎◌, List, 
 ghost use Rattle.sp_journal.specs.Names.{Name, Occurrence};
 ghost use Rattle.sp_journal.specs.Past.{AreOrdered};
 ghost use Rattle.sp_tree.specs.Interference.{IsFreeOfInterference};
-ghost use Rattle.sp_meaning.specs.Own.{Setting};
+ghost use Rattle.sp_meaning.specs.LocalWork.{RunInput};
 ghost use Rattle.sp_meaning.specs.Runs.{StateOf, start, system_of, Lawful};
 ghost use Rattle.sp_meaning.specs.Along.{IsAlong, IsClean};
 ghost use Rattle.sp_meaning.specs.Ends.{IsDone, IsIdle};
@@ -17,7 +17,7 @@ ghost use Rattle.sp_race.specs.Tested.{order_test};
 /// every lawful schedule of the same program, input and limits has at most n names, meets no fault, and is the front of
 /// one with n names that leads to t. So the output and the end are those of the run in every schedule.
 pub fn ordered_runs_end_alike()
-    ensures { (g : Setting) (turn : ℕ) (es : List Occurrence) (n : ℕ) (t : StateOf g)
+    ensures { (g : RunInput) (turn : ℕ) (es : List Occurrence) (n : ℕ) (t : StateOf g)
         → IsFreeOfInterference g.program → IsAlong g turn es n t → IsClean es → (IsDone g t ⊎ IsIdle g t)
         → AreOrdered es
         → (qs : List Name) (u : StateOf g) → Lawful g (start g) qs u → EndsAlike (system_of g) (start g) n t qs u }

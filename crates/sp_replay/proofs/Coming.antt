@@ -12,14 +12,14 @@ use Rattle.sp_journal.specs.Maps.{at_key}
 use Rattle.sp_journal.specs.Births.{births}
 use Rattle.sp_journal.proofs.BirthLaws.{Lawful, lawful}
 use Rattle.sp_code.specs.declared.code.Parts.{Parts}
-use Rattle.sp_code.specs.Memory.{Setting}
+use Rattle.sp_code.specs.Memory.{CodeRun}
 use Rattle.sp_code.specs.PlainStore.{plain}
-use Rattle.sp_code.specs.Control.{Control, Ready, Unborn, control_at_start, entries_of, comes_back, takes, behind}
+use Rattle.sp_code.specs.Control.{Control, Ready, Unborn, control_at_start, entries_of, comes_back, takes, queue_tail}
 use Rattle.sp_code.specs.Control.{front, front_while, standing, Standing, Running as Going, IsDone, IsDeadlock, IsFault}
 use Rattle.sp_code.specs.Control.{IsMemory, is_ready, has_ended}
-use Rattle.sp_code.specs.System.{System, Enters, IsSystem, opening, event_of}
+use Rattle.sp_code.specs.System.{System, EntryLeads, IsSystem, opening_system, event_of}
 use Rattle.sp_history.specs.Agreement.{HasOuts, IsGot}
-use Rattle.sp_history.specs.Lines.{HasChildren}
+use Rattle.sp_history.specs.WorkerHistory.{HasChildren}
 use Rattle.sp_history.proofs.Agreeing.{agrees_start, orderly_start}
 use Rattle.sp_history.proofs.Families.{children_start, children_all}
 use Rattle.sp_history.proofs.Legal.{got_of}
@@ -34,19 +34,20 @@ use Rattle.sp_kernel.specs.declared.ask.Got.{Got}
 use Rattle.sp_kernel.specs.declared.ask.Got.TheVariants as got
 use Rattle.sp_kernel.specs.Procs.{turn_of}
 use Rattle.sp_kernel.specs.Kernels.{control_of, system_of, setting_of, IsKernel, Gave, Takes}
-use Rattle.sp_kernel.specs.Fits.{Fits}
-use Rattle.sp_kernel.specs.Closes.{IsNamed}
-use Rattle.sp_kernel.specs.Asks.{IsOpening, Steps, Answers}
-use Rattle.sp_kernel.specs.Keeping.{it, from_start, control_is, along, later}
+use Rattle.sp_kernel.specs.Fits.{FitsHanded}
+use Rattle.sp_kernel.specs.Closes.{IsNameableKernel}
+use Rattle.sp_kernel.specs.Asks.{IsOpening, KernelSteps, GotMatchesNote}
+use Rattle.sp_kernel.specs.Keeping.{after_log, from_start, control_is, along, later}
 use Rattle.sp_kernel.proofs.Ending.{named}
 use Rattle.sp_kernel.proofs.Serving.{same_setting, noted_take, noted_turn, taken_abandons, back_abandons}
 use Rattle.sp_runner.specs.Runs.{notes_of_worker}
 use Rattle.sp_runner.specs.Works.{IsRunOf}
-use Rattle.sp_runner.proofs.Working.{Has, is_ranked, may_turn, may_hand_in}
+use Rattle.sp_runner.proofs.Working.{HasProcessOut, is_ranked, may_turn, may_hand_in}
 use Rattle.sp_replay.specs.declared.followed.Followed.{Followed}
 use Rattle.sp_replay.specs.Held.{held_at}
-use Rattle.sp_replay.specs.Following.{IsAway, HasCome, IsOutAs, AreOut, Follows, Stands, RunsOn, WasTurned, SameRun}
-use Rattle.sp_replay.specs.Following.{IsInHand, Made, Exchanged}
+use Rattle.sp_replay.specs.Following.{IsOutOfKernel, HasCome, IsOutAs, AreOut, IsReplayKernel, HoldsAllReady, RunsOn}
+use Rattle.sp_replay.specs.Following.{WasTurned, SameRun}
+use Rattle.sp_replay.specs.Following.{IsInHand, EventMade, Exchanged}
 use Rattle.sp_replay.proofs.Living.{ended_none, few_out}
 use Rattle.sp_replay.proofs.Giving.{out_same, taken_some, taken_out, given_out}
 
@@ -54,32 +55,35 @@ use Rattle.sp_replay.proofs.Giving.{out_same, taken_some, taken_out, given_out}
 
 module _ (x : Kernel) (c : HasCome x) where
   pub is_whole : IsKernel x
-  is_whole = (it c.opened c.opening c.log x c.told).whole
+  is_whole = (after_log c.opened c.opening c.log x c.told).whole
 
   pub setting_is : setting_of x ≡ setting_of c.opened
-  setting_is = (it c.opened c.opening c.log x c.told).setting
+  setting_is = (after_log c.opened c.opening c.log x c.told).setting
 
-  pub is_named : IsNamed x
+  pub is_named : IsNameableKernel x
   is_named = named c.opened c.opening c.log x c.told
 
   pub entries_are : x.journal.entries ≡ entries_of c.log
-  entries_are = (it c.opened c.opening c.log x c.told).journal ∙ ap (λ l. l ++ entries_of c.log) c.opening.journal
+  entries_are = (after_log c.opened c.opening c.log x c.told).journal
+      ∙ ap (λ l. l ++ entries_of c.log) c.opening.journal
 
   -- the system of the kernel is that along its journal
   pub is_system : IsSystem plain (setting_of x) x.journal.entries (system_of x)
-  is_system = subst (λ (g : Setting). IsSystem plain g x.journal.entries (system_of x)) (sym setting_is)
+  is_system = subst (λ (g : CodeRun). IsSystem plain g x.journal.entries (system_of x)) (sym setting_is)
       (subst (λ (es : List Entry). IsSystem plain (setting_of c.opened) es (system_of x)) (sym entries_are)
       (along c.opened c.opening c.log x c.told))
 
   pub has_outs : HasOuts (control_of x)
   has_outs = subst HasOuts (sym (control_is c.opened c.opening c.log x c.told))
-      (outs_all plain (setting_of c.opened) control_at_start (opening plain (setting_of c.opened)) (system_of x) c.log
+      (outs_all plain (setting_of c.opened) control_at_start (opening_system plain (setting_of c.opened))
+      (system_of x) c.log
       orderly_start (agrees_start plain (setting_of c.opened)) outs_start
       (from_start c.opened c.opening c.log x c.told))
 
   has_children : HasChildren (control_of x)
   has_children = subst HasChildren (sym (control_is c.opened c.opening c.log x c.told))
-      (children_all plain (setting_of c.opened) control_at_start (opening plain (setting_of c.opened)) (system_of x)
+      (children_all plain (setting_of c.opened) control_at_start (opening_system plain (setting_of c.opened))
+      (system_of x)
       c.log orderly_start (agrees_start plain (setting_of c.opened)) children_start
       (from_start c.opened c.opening c.log x c.told))
 
@@ -112,21 +116,21 @@ module _ (x : Kernel) (c : HasCome x) where
   -- ---- a process that is held
 
   module _ (code : Parts) (lim : Limits) (runs : RunsOn x code lim) (p : Proc) (o : IsOutAs x p.number p) where
-    has : Has c.opened c.log 0 p
+    has : HasProcessOut c.opened c.log 0 p
     has = record {
       system = system_of x;
       reaches = from_start c.opened c.opening c.log x c.told;
       along = along c.opened c.opening c.log x c.told;
       out = ap (λ (k : Control). k.doing p.number) (sym (control_is c.opened c.opening c.log x c.told)) ∙ o.out;
       runs = o.runs;
-      input = o.input ∙ ap (λ (g : Setting). g.input) setting_is;
+      input = o.input ∙ ap (λ (g : CodeRun). g.input) setting_is;
     }
 
     run : IsRunOf c.opened code lim
     run = record {
       opening = c.opening;
-      code = ap (λ (g : Setting). g.code) (sym setting_is) ∙ runs.code;
-      limits = ap (λ (g : Setting). g.limits) (sym setting_is) ∙ runs.limits;
+      code = ap (λ (g : CodeRun). g.code) (sym setting_is) ∙ runs.code;
+      limits = ap (λ (g : CodeRun). g.limits) (sym setting_is) ∙ runs.limits;
     }
 
     -- it can make a turn
@@ -137,7 +141,7 @@ module _ (x : Kernel) (c : HasCome x) where
     ranked = is_ranked c.opened code lim run c.log 0 p has
 
     -- and may be handed in after it
-    pub fits : (h : Handed) → WasTurned p code lim h → Fits x 0 h
+    pub fits : (h : Handed) → WasTurned p code lim h → FitsHanded x 0 h
     fits h t =
         let may = may_hand_in c.opened code lim run c.log 0 p has (notes_of_worker 0 c.log) h.proc h.stop refl t.turn
         t.same t.whole in
@@ -153,7 +157,7 @@ module _ (x : Kernel) (c : HasCome x) where
     opened = c.opened;
     opening = c.opening;
     log = c.log ++ record { worker = 0; given = None; event = None; got = Some p.number } ∷ [];
-    told = runs_on Steps c.opened c.log x y 0 (ask.Turn None) (got.Work p)
+    told = runs_on KernelSteps c.opened c.log x y 0 (ask.Turn None) (got.Work p)
         (record { worker = 0; given = None; event = None; got = Some p.number }) c.told (noted_take x 0 y p t);
     kept = ap (λ (k : Control). k.abandons) t.control ∙ c.kept;
   }
@@ -163,8 +167,8 @@ module _ (x : Kernel) (c : HasCome x) where
   fewer y p t =
       let g : IsGot (control_of x) (Some p.number) =
       got_of (control_of x) (is_whole x c).orderly (Some p.number) t.front in
-      let r : y.ready ≡ behind x.ready = ap (λ (k : Control). k.ready) t.control in
-      let a : length y.ready ≡ length g.0.0 = ap length (r ∙ ap behind g.0.1) in
+      let r : y.ready ≡ queue_tail x.ready = ap (λ (k : Control). k.ready) t.control in
+      let a : length y.ready ≡ length g.0.0 = ap length (r ∙ ap queue_tail g.0.1) in
       let b : length x.ready ≡ length (p.number ∷ g.0.0) = ap length g.0.1 in
       omega (arith, a, b)
 
@@ -181,26 +185,27 @@ module _ (x : Kernel) (c : HasCome x) where
   )
 
   -- what is told where none is taken
-  nothing : (y : Kernel) → front (control_of y) ≡ None → (g : Got) × Answers y g None
+  nothing : (y : Kernel) → front (control_of y) ≡ None → (g : Got) × GotMatchesNote y g None
   nothing y is = go (standing (control_of y)) y.out refl refl
     where
       over : (st : Standing) (n : ℕ) → st ≢ Going → standing (control_of y) ≡ st → y.out ≡ n → (g : Got)
-          × Answers y g None
+          × GotMatchesNote y g None
       over st zero n s o = (got.Finished, ((λ e. n (sym s ∙ e)), o))
       over st (suc k) n s o = (got.Nothing, (is, inr (omega (arith, o))))
 
-      go : (st : Standing) (n : ℕ) → standing (control_of y) ≡ st → y.out ≡ n → (g : Got) × Answers y g None
+      go : (st : Standing) (n : ℕ) → standing (control_of y) ≡ st → y.out ≡ n → (g : Got) × GotMatchesNote y g None
       go Going n s o = (got.Nothing, (is, inl s))
       go IsDone n s o = over IsDone n (λ e. absurd (cc e)) s o
       go IsDeadlock n s o = over IsDeadlock n (λ e. absurd (cc e)) s o
       go IsFault n s o = over IsFault n (λ e. absurd (cc e)) s o
       go IsMemory n s o = over IsMemory n (λ e. absurd (cc e)) s o
 
-  module _ (h : Handed) (f : Fits x 0 h) (m : Kernel) (gave : Gave x h.proc.number h m) (y : Kernel) where
+  module _ (h : Handed) (f : FitsHanded x 0 h) (m : Kernel) (gave : Gave x h.proc.number h m) (y : Kernel) where
     abbrev e : Event
     e = event_of x.limits (system_of x) (turn_of h)
 
-    answered : (r : Option Proc) → Takes m 0 y r → (g : Got) × Answers y g (option_map (λ (p : Proc). p.number) r)
+    answered : (r : Option Proc) → Takes m 0 y r → (g : Got)
+        × GotMatchesNote y g (option_map (λ (p : Proc). p.number) r)
     answered None t = nothing y (ap (λ (z : Kernel). front (control_of z)) (t.same refl) ∙ sym t.front)
     answered (Some p) t = (
       got.Work p,
@@ -208,7 +213,7 @@ module _ (x : Kernel) (c : HasCome x) where
         refl,
         ap (λ (s : System Plain). s.condition p.number) t.system ∙ (t.work p refl).0,
         (t.work p refl).1
-            ∙ ap (λ (g : Setting). g.input) (sym (same_setting m y t.setting)),
+            ∙ ap (λ (g : CodeRun). g.input) (sym (same_setting m y t.setting)),
       ),
     )
 
@@ -226,7 +231,7 @@ module _ (x : Kernel) (c : HasCome x) where
           opened = c.opened;
           opening = c.opening;
           log = c.log ++ n ∷ [];
-          told = runs_on Steps c.opened c.log x y 0 (ask.Turn (Some h)) a.0 n c.told
+          told = runs_on KernelSteps c.opened c.log x y 0 (ask.Turn (Some h)) a.0 n c.told
               (noted_turn x 0 h m y r a.0 e f gave t refl a.1);
           kept = ap (λ (k : Control). k.abandons)
               (t.control ∙ ap (takes 0 (option_map (λ (p : Proc). p.number) r)) gave.control)
@@ -237,25 +242,25 @@ module _ (x : Kernel) (c : HasCome x) where
 -- ---- the steps of a run that is followed
 
 -- at the start none is out
-pub starts : (x : Kernel) → IsOpening x → (held : List (Option Proc)) → held ≡ [] → Follows x (held_at held)
+pub starts : (x : Kernel) → IsOpening x → (held : List (Option Proc)) → held ≡ [] → IsReplayKernel x (held_at held)
 starts x o held e = record {
   come = record { opened = x; opening = o; log = []; told = refl; kept = o.abandons };
   held = record {
     each = λ q p f. absurd (let g : held_at [] q ≡ Some p =
         subst (λ (l : List (Option Proc)). held_at l q ≡ Some p) e f in cc g);
-    all = λ q a. absurd (at_start (q == 0) (subst IsAway (ap (λ (k : Control). k.doing q) o.control) a));
+    all = λ q a. absurd (at_start (q == 0) (subst IsOutOfKernel (ap (λ (k : Control). k.doing q) o.control) a));
     still = λ f. absurd (let g = ap (λ (k : Control). k.faulted) o.control in cc (f, g));
   };
 }
   where
-    at_start : (b : Bool) → IsAway (if b then Ready else Unborn) → ⊥
+    at_start : (b : Bool) → IsOutOfKernel (if b then Ready else Unborn) → ⊥
     at_start true i = i
     at_start false i = i
 
 -- one more was taken, and is held
-pub take_more : (x y : Kernel) (held new : List (Option Proc)) (p : Proc) → Follows x (held_at held)
+pub take_more : (x y : Kernel) (held new : List (Option Proc)) (p : Proc) → IsReplayKernel x (held_at held)
     → Takes x 0 y (Some p) → ((q : ℕ) → held_at new q ≡ at_key ◌==◌ p.number (Some p) (held_at held) q)
-    → Follows y (held_at new) × SameRun x y × (length y.ready < length x.ready)
+    → IsReplayKernel y (held_at new) × SameRun x y × (length y.ready < length x.ready)
 take_more x y held new p f t same =
     let s = takes_some x f.come y p t in (
       record {
@@ -268,11 +273,11 @@ take_more x y held new p f t same =
     )
 
 -- none was taken, and all that can run are held
-pub take_none : (x y : Kernel) (held : List (Option Proc)) → Follows x (held_at held) → Takes x 0 y None
-    → Follows y (held_at held) × (y.ready ≡ []) × SameRun x y
+pub take_none : (x y : Kernel) (held : List (Option Proc)) → IsReplayKernel x (held_at held) → Takes x 0 y None
+    → IsReplayKernel y (held_at held) × (y.ready ≡ []) × SameRun x y
 take_none x y held f t =
     let same : x ≡ y = sym (t.same refl) in
-    subst (λ (z : Kernel). Follows z (held_at held) × (z.ready ≡ []) × SameRun x z) same (
+    subst (λ (z : Kernel). IsReplayKernel z (held_at held) × (z.ready ≡ []) × SameRun x z) same (
       f,
       none_ready x f.come (held_at held) f.held (sym t.front),
       record { setting = refl; entries = refl; system = refl },
@@ -289,7 +294,7 @@ same_again x y z a b = record {
 module _ (f : Followed) (code : Parts) (lim : Limits) (runs : RunsOn f.kernel code lim) (h : Handed)
     (i : IsInHand f code lim h) where
   -- what is in hand may be handed in
-  pub fits_in : Fits f.kernel 0 h
+  pub fits_in : FitsHanded f.kernel 0 h
   fits_in = fits f.kernel i.follows.come code lim runs i.before (i.follows.held.each i.before.number i.before i.picked)
       h i.turned
 
@@ -319,16 +324,17 @@ module _ (f : Followed) (code : Parts) (lim : Limits) (runs : RunsOn f.kernel co
     }
 
 -- the same kernel, with the same processes in another list
-pub follows_same : (x y : Kernel) (f h : ℕ → Option Proc) → y ≡ x → ((q : ℕ) → h q ≡ f q) → Follows x f → Follows y h
-follows_same x y f h e same s = subst (λ (z : Kernel). Follows z h) (sym e)
+pub follows_same : (x y : Kernel) (f h : ℕ → Option Proc) → y ≡ x → ((q : ℕ) → h q ≡ f q) → IsReplayKernel x f
+    → IsReplayKernel y h
+follows_same x y f h e same s = subst (λ (z : Kernel). IsReplayKernel z h) (sym e)
     (record { come = s.come; held = out_same x f h same s.held })
 
 -- an event was made, and then others were taken
-pub made_then : (x y z : Kernel) (p : ℕ) (e : Event) → Made x p e y → SameRun y z → Made x p e z
+pub made_then : (x y z : Kernel) (p : ℕ) (e : Event) → EventMade x p e y → SameRun y z → EventMade x p e z
 made_then x y z p e m s = record {
   setting = s.setting ∙ m.setting;
   entries = s.entries ∙ m.entries;
-  enters = subst (λ (t : System Plain). Enters plain (setting_of x) (system_of x) p e t) (sym s.system) m.enters;
+  enters = subst (λ (t : System Plain). EntryLeads plain (setting_of x) (system_of x) p e t) (sym s.system) m.enters;
 }
 
 -- who is held has its number
@@ -337,7 +343,7 @@ pub picked_out : (x : Kernel) (who : ℕ → Option Proc) → AreOut x who → (
 picked_out x who o q p e = let w = o.each q p e in subst (λ n. IsOutAs x n p) (sym w.number) w
 
 -- one was picked and turned, and all others are held
-pub in_hand : (f g : Followed) (code : Parts) (lim : Limits) (q : ℕ) (p : Proc) (h : Handed) → Stands f
+pub in_hand : (f g : Followed) (code : Parts) (lim : Limits) (q : ℕ) (p : Proc) (h : Handed) → HoldsAllReady f
     → g.kernel ≡ f.kernel → held_at f.held q ≡ Some p
     → ((r : ℕ) → held_at g.held r ≡ at_key ◌==◌ q None (held_at f.held) r) → WasTurned p code lim h
     → IsInHand g code lim h
@@ -345,7 +351,7 @@ in_hand f g code lim q p h s same e others t =
     let n : p.number ≡ q = (s.follows.held.each q p e).number in
     record {
       who = held_at f.held;
-      follows = subst (λ (k : Kernel). Follows k (held_at f.held)) (sym same) s.follows;
+      follows = subst (λ (k : Kernel). IsReplayKernel k (held_at f.held)) (sym same) s.follows;
       none_ready = ap (λ (k : Kernel). k.ready) same ∙ s.none_ready;
       before = p;
       picked = ap (held_at f.held) n ∙ e;

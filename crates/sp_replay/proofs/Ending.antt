@@ -8,7 +8,7 @@ use Rattle.sp_code.specs.PlainStore.{plain}
 use Rattle.sp_code.specs.Control.{Doing, Unborn, Ready, Out, Sending, Receiving, Joining, Laid, Ended, Gone, standing}
 use Rattle.sp_code.specs.Control.{Running as Going, IsDone, IsDeadlock, IsFault, IsMemory, is_ready, has_ended}
 use Rattle.sp_code.specs.System.{store_in}
-use Rattle.sp_history.specs.Agreement.{Each, IsOut, phase, phase_in, Running, HasOuts}
+use Rattle.sp_history.specs.Agreement.{EachNumber, IsOut, phase, phase_in, Running, HasOuts}
 use Rattle.sp_history.specs.Holding.{IsOutputOf}
 use Rattle.sp_history.proofs.Holders.{one_holder}
 use Rattle.sp_history.proofs.Outs.{nobody_runs}
@@ -16,14 +16,14 @@ use Rattle.sp_history.proofs.Phases.{live_phase}
 use Rattle.sp_machine.specs.declared.state.State.{State as Proc}
 use Rattle.sp_kernel.specs.declared.kernel.Kernel.{Kernel}
 use Rattle.sp_kernel.specs.Kernels.{control_of, system_of, setting_of}
-use Rattle.sp_kernel.specs.Closes.{HeldHere, EndsSo as KernelEndsSo}
-use Rattle.sp_kernel.specs.Outputs.{written_by, or_rest}
+use Rattle.sp_kernel.specs.Closes.{HeldHere, KernelEndsAs as KernelEndsSo}
+use Rattle.sp_kernel.specs.Outputs.{output_of_process, or_rest}
 use Rattle.sp_kernel.specs.Keeping.{from_start}
 use Rattle.sp_kernel.proofs.Writing.{or_rest_none}
 use Rattle.sp_runner.proofs.Closing.{ends_at}
 use Rattle.sp_replay.specs.Held.{held_at, output_in, outputs}
-use Rattle.sp_replay.specs.Following.{IsAway, HasCome, AreOut}
-use Rattle.sp_replay.specs.Replays.{GoesOn, EndsSo}
+use Rattle.sp_replay.specs.Following.{IsOutOfKernel, HasCome, AreOut}
+use Rattle.sp_replay.specs.Replays.{GoesOn, ReplayEndsSo}
 use Rattle.sp_replay.proofs.Coming.{is_whole, has_outs}
 
 -- ---- how the control stands
@@ -56,7 +56,7 @@ none_out (p ∷ ps) n is = absurd (cc is)
 -- ---- the end
 
 module _ (x : Kernel) (c : HasCome x) (who : ℕ → Option Proc) (o : AreOut x who) (none : x.ready ≡ []) where
-  first_out : (qs : List ℕ) → 0 < length qs → Each (λ q. IsOut ((control_of x).doing q)) qs → (q : ℕ)
+  first_out : (qs : List ℕ) → 0 < length qs → EachNumber (λ q. IsOut ((control_of x).doing q)) qs → (q : ℕ)
       × (phase_in ((system_of x).condition q) ≡ Running)
   first_out [] l e = absurd (omega (arith, l))
   first_out (q ∷ qs) l e = (q, sym ((is_whole x c).agrees.each q) ∙ ap phase e.0.1)
@@ -74,7 +74,7 @@ module _ (x : Kernel) (c : HasCome x) (who : ℕ → Option Proc) (o : AreOut x 
 
   not_gone : (q : ℕ) → (control_of x).doing q ≢ Gone
   not_gone q is =
-      let w = o.all q (subst IsAway (sym is) tt) in
+      let w = o.all q (subst IsOutOfKernel (sym is) tt) in
       let e = (o.each q w.0 w.1).out in
       absurd (cc (e, is))
 
@@ -83,7 +83,7 @@ module _ (x : Kernel) (c : HasCome x) (who : ℕ → Option Proc) (o : AreOut x 
       (none_out x.ready x.out (by_deadlock (nat_lt 0 x.abandons) x.faulted (has_ended ((control_of x).doing 0))
       (is_ready x.ready || nat_lt 0 x.out) is)) not_gone
 
-  pub ends_so : (e : Option End) → KernelEndsSo x e → EndsSo x.journal.entries (system_of x) e
+  pub ends_so : (e : Option End) → KernelEndsSo x e → ReplayEndsSo x.journal.entries (system_of x) e
   ends_so None is = goes_on is
   ends_so (Some e) is = ends_at x (is_whole x c) c.kept idle e is
 
@@ -111,19 +111,21 @@ module _ (x : Kernel) (c : HasCome x) (who : ℕ → Option Proc) (o : AreOut x 
   store_is q p e = ap store_in (o.each q p e).runs
 
   -- of one that is held
-  pub by_held : (bs : List ℕ) (q : ℕ) (p : Proc) → who q ≡ Some p → written_by p ≡ Some bs → (r : ℕ)
+  pub by_held : (bs : List ℕ) (q : ℕ) (p : Proc) → who q ≡ Some p → output_of_process p ≡ Some bs → (r : ℕ)
       × IsOutputOf (system_of x) r bs
   by_held bs q p e w = (q, is_output q p.store bs (store_is q p e) w)
 
   -- one of both has it
-  pub nowhere : ((bs : List ℕ) → HeldHere x bs → ⊥) → ((q : ℕ) (p : Proc) → who q ≡ Some p → written_by p ≡ None) → ⊥
+  pub nowhere : ((bs : List ℕ) → HeldHere x bs → ⊥)
+      → ((q : ℕ) (p : Proc) → who q ≡ Some p → output_of_process p ≡ None) → ⊥
   nowhere not_here not_held = go ((control_of x).doing holder.0) refl
     where
-      away : IsAway ((control_of x).doing holder.0) → ⊥
+      away : IsOutOfKernel ((control_of x).doing holder.0) → ⊥
       away a =
           let w = o.all holder.0 a in
           let same : w.0.store ≡ holder.2.store = same_Some _ _ (sym (store_is holder.0 w.0 w.1) ∙ holder.2.at) in
-          let some : written_by w.0 ≡ Some holder.1 = ap (λ (m : Plain). plain.output m) same ∙ holder.2.output in
+          let some : output_of_process w.0 ≡ Some holder.1 = ap (λ (m : Plain). plain.output m) same
+          ∙ holder.2.output in
           let no = not_held holder.0 w.0 w.1 in
           absurd (cc (some, no))
 
@@ -137,8 +139,8 @@ module _ (x : Kernel) (c : HasCome x) (who : ℕ → Option Proc) (o : AreOut x 
       )
 
       go : (d : Doing) → (control_of x).doing holder.0 ≡ d → ⊥
-      go (Out w) e = away (subst IsAway (sym e) tt)
-      go Gone e = away (subst IsAway (sym e) tt)
+      go (Out w) e = away (subst IsOutOfKernel (sym e) tt)
+      go Gone e = away (subst IsOutOfKernel (sym e) tt)
       go Unborn e = at_home Unborn e (λ w f. absurd (cc f)) (λ f. absurd (cc f))
       go Ready e = at_home Ready e (λ w f. absurd (cc f)) (λ f. absurd (cc f))
       go (Sending k) e = at_home (Sending k) e (λ w f. absurd (cc f)) (λ f. absurd (cc f))
@@ -150,20 +152,21 @@ module _ (x : Kernel) (c : HasCome x) (who : ℕ → Option Proc) (o : AreOut x 
 -- ---- the outputs of those that are held
 
 pub no_outputs : (held : List (Option Proc)) → outputs held ≡ None → (q : ℕ) (p : Proc) → held_at held q ≡ Some p
-    → written_by p ≡ None
+    → output_of_process p ≡ None
 no_outputs [] e q p is = absurd (cc is)
 no_outputs (o ∷ os) e zero p is = subst (λ (r : Option Proc). output_in r ≡ None) is
     (or_rest_none (output_in o) (outputs os) e).0
 no_outputs (o ∷ os) e (suc q) p is = no_outputs os (or_rest_none (output_in o) (outputs os) e).1 q p is
 
 pub some_output : (held : List (Option Proc)) (bs : List ℕ) → outputs held ≡ Some bs → (q : ℕ) × (p : Proc)
-    × (held_at held q ≡ Some p) × (written_by p ≡ Some bs)
+    × (held_at held q ≡ Some p) × (output_of_process p ≡ Some bs)
 some_output [] bs e = absurd (cc e)
 some_output (None ∷ os) bs e = let r = some_output os bs e in (suc r.0, r.1, r.2, r.3)
-some_output (Some p ∷ os) bs e = go (written_by p) refl e (λ f. some_output os bs f)
+some_output (Some p ∷ os) bs e = go (output_of_process p) refl e (λ f. some_output os bs f)
   where
-    go : (w : Option (List ℕ)) → written_by p ≡ w → or_rest w (outputs os) ≡ Some bs
-        → (outputs os ≡ Some bs → (q : ℕ) × (u : Proc) × (held_at os q ≡ Some u) × (written_by u ≡ Some bs)) → (q : ℕ)
-        × (u : Proc) × (held_at (Some p ∷ os) q ≡ Some u) × (written_by u ≡ Some bs)
+    go : (w : Option (List ℕ)) → output_of_process p ≡ w → or_rest w (outputs os) ≡ Some bs
+        → (outputs os ≡ Some bs → (q : ℕ) × (u : Proc) × (held_at os q ≡ Some u) × (output_of_process u ≡ Some bs))
+        → (q : ℕ)
+        × (u : Proc) × (held_at (Some p ∷ os) q ≡ Some u) × (output_of_process u ≡ Some bs)
     go (Some cs) is f on = (zero, p, refl, is ∙ f)
     go None is f on = let r = on f in (suc r.0, r.1, r.2, r.3)

@@ -4,27 +4,28 @@ use Rattle.std.proofs.Common.{slice_get, MatchBool, Option, Some, None, refl, sy
 use Rattle.sp_cell.specs.Map.{Plain}
 use Rattle.sp_journal.specs.declared.entry.Entry.{Entry}
 use Rattle.sp_journal.specs.declared.entry.Event.{Event}
-use Rattle.sp_code.specs.Memory.{Setting, Stores}
+use Rattle.sp_code.specs.Memory.{CodeRun, Stores}
 use Rattle.sp_code.specs.PlainStore.{plain}
 use Rattle.sp_code.specs.Control.{Doing, Unborn, Ready, Out, Sending, Receiving, Joining, Laid, Ended, Gone}
-use Rattle.sp_code.specs.System.{System, Enters, Leads, IsSystem, opening}
+use Rattle.sp_code.specs.System.{System, EntryLeads, EntriesLead, IsSystem, opening_system}
 use Rattle.sp_code.proofs.Systems.{event_same, leads_same}
 use Rattle.sp_history.specs.Agreement.{Among, phase, phase_in, Running}
 use Rattle.sp_machine.specs.declared.state.State.{State as Proc}
 use Rattle.sp_kernel.specs.declared.kernel.Kernel.{Kernel}
 use Rattle.sp_kernel.specs.Kernels.{control_of, system_of, setting_of}
-use Rattle.sp_replay.specs.Following.{IsAway, HasCome, AreOut, Stands, Made, CannotCome}
+use Rattle.sp_replay.specs.Following.{IsOutOfKernel, HasCome, AreOut, HoldsAllReady, EventMade, CannotCome}
 use Rattle.sp_replay.specs.declared.followed.Followed.{Followed}
 use Rattle.sp_replay.specs.Replays.{IsUnfitAt}
 use Rattle.sp_replay.proofs.Coming.{is_whole}
 
 -- the last entry of several
-leads_last : {S : Type 0} (stores : Stores S) (g : Setting) (s : System S) (es : List Entry) (e : Entry) (t : System S)
-    → Leads stores g s (es ++ e ∷ []) t → (u : System S) × Leads stores g s es u × Enters stores g u e.process e.event t
+leads_last : {S : Type 0} (stores : Stores S) (g : CodeRun) (s : System S) (es : List Entry) (e : Entry) (t : System S)
+    → EntriesLead stores g s (es ++ e ∷ []) t → (u : System S) × EntriesLead stores g s es u
+    × EntryLeads stores g u e.process e.event t
 leads_last {S = S} stores g s [] e t h = (
   s,
   refl,
-  subst (λ (z : System S). Enters stores g s e.process e.event z) (sym h.2) h.1,
+  subst (λ (z : System S). EntryLeads stores g s e.process e.event z) (sym h.2) h.1,
 )
 leads_last stores g s (x ∷ es) e t h = let r = leads_last stores g h.0 es e t h.2 in (r.0, (h.0, h.1, r.1), r.2)
 
@@ -39,21 +40,21 @@ inside (x ∷ es) zero e is = omega arith
 inside (x ∷ es) (suc n) e is = let l = inside es n e is in omega (arith, l)
 
 -- an entry that can't come where the others have led is the first that does not fit
-pub unfit : (g : Setting) (es : List Entry) (n : ℕ) (e : Entry) (s : System Plain) → slice_get es n ≡ Some e
-    → IsSystem plain g (take n es) s → ((t : System Plain) → Enters plain g s e.process e.event t → ⊥)
+pub unfit : (g : CodeRun) (es : List Entry) (n : ℕ) (e : Entry) (s : System Plain) → slice_get es n ≡ Some e
+    → IsSystem plain g (take n es) s → ((t : System Plain) → EntryLeads plain g s e.process e.event t → ⊥)
     → IsUnfitAt g es n
 unfit g es n e s at along cannot = record {
   inside = inside es n e at;
   fits = (s, along);
   unfit = λ t l.
-      let r = leads_last plain g (opening plain g) (take n es) e t
+      let r = leads_last plain g (opening_system plain g) (take n es) e t
       (subst (λ (fs : List Entry). IsSystem plain g fs t) (one_more es n e at) l) in
-      cannot t (subst (λ (z : System Plain). Enters plain g z e.process e.event t)
-      (leads_same plain g (opening plain g) (take n es) r.0 s r.1 along) r.2);
+      cannot t (subst (λ (z : System Plain). EntryLeads plain g z e.process e.event t)
+      (leads_same plain g (opening_system plain g) (take n es) r.0 s r.1 along) r.2);
 }
 
 -- who runs is ready or out
-run_away : (d : Doing) → phase d ≡ Running → (d ≡ Ready → ⊥) → IsAway d
+run_away : (d : Doing) → phase d ≡ Running → (d ≡ Ready → ⊥) → IsOutOfKernel d
 run_away Ready e n = absurd (n refl)
 run_away (Out w) e n = tt {0}
 run_away Gone e n = tt {0}
@@ -78,14 +79,14 @@ not_held x c who o none e free t enters = absurd (cc (sym free ∙ w.1))
         ((is_whole x c).agrees.each e.process ∙ ap phase_in enters.1) not_ready)
 
 -- a turn makes no other event
-other_event : (x y : Kernel) (e : Entry) (f : Event) → Made x e.process f y → f ≢ e.event → CannotCome x e
+other_event : (x y : Kernel) (e : Entry) (f : Event) → EventMade x e.process f y → f ≢ e.event → CannotCome x e
 other_event x y e f made n t enters = n (event_same plain (setting_of x) (system_of x) e.process f e.event (system_of y)
     t made.enters enters)
 
-pub compared : (b : Bool) (f : Event) (x : Kernel) (g : Followed) (d : Entry) (e : Event) → Stands g
-    → Made x d.process e g.kernel → f ≡ e → MatchBool b (f ≡ d.event) (f ≢ d.event)
-    → MatchBool b (Stands g × Made x d.process d.event g.kernel) (CannotCome x d)
-compared true f x g d e s m is c = (s, subst (λ v. Made x d.process v g.kernel) (sym is ∙ c) m)
+pub compared : (b : Bool) (f : Event) (x : Kernel) (g : Followed) (d : Entry) (e : Event) → HoldsAllReady g
+    → EventMade x d.process e g.kernel → f ≡ e → MatchBool b (f ≡ d.event) (f ≢ d.event)
+    → MatchBool b (HoldsAllReady g × EventMade x d.process d.event g.kernel) (CannotCome x d)
+compared true f x g d e s m is c = (s, subst (λ v. EventMade x d.process v g.kernel) (sym is ∙ c) m)
 compared false f x g d e s m is c = other_event x g.kernel d e m (λ w. c (is ∙ w))
 
 pub where_false : (b : Bool) (P Q : Type 0) → MatchBool b P Q → b ≡ false → Q

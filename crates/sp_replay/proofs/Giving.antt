@@ -6,9 +6,9 @@ use Rattle.sp_cell.specs.Map.{Plain}
 use Rattle.sp_journal.specs.declared.entry.Event.{Event}
 use Rattle.sp_journal.specs.declared.entry.Event.TheVariants as event
 use Rattle.sp_journal.specs.Maps.{at_key}
-use Rattle.sp_code.specs.Memory.{Setting}
+use Rattle.sp_code.specs.Memory.{CodeRun}
 use Rattle.sp_code.specs.PlainStore.{plain}
-use Rattle.sp_code.specs.Control.{Control, Out, behind, comes_back}
+use Rattle.sp_code.specs.Control.{Control, Out, queue_tail, comes_back}
 use Rattle.sp_code.specs.System.{System, event_of, event_or, fault_of}
 use Rattle.sp_machine.specs.declared.state.State.{State as Proc}
 use Rattle.sp_machine.specs.Procs.{config_of}
@@ -20,9 +20,9 @@ use Rattle.sp_kernel.specs.declared.kernel.Kernel.{Kernel}
 use Rattle.sp_kernel.specs.Procs.{turn_of}
 use Rattle.sp_kernel.specs.Kernels.{control_of, system_of, setting_of, IsKernel, Gave, Takes}
 use Rattle.sp_kernel.proofs.Serving.{same_setting}
-use Rattle.sp_replay.specs.Following.{IsAway, IsOutAs, AreOut, with_taken}
+use Rattle.sp_replay.specs.Following.{IsOutOfKernel, IsOutAs, AreOut, with_taken}
 use Rattle.sp_kernel.proofs.Closing.{back_kept}
-use Rattle.sp_replay.proofs.Away.{away_by_none, back_still}
+use Rattle.sp_replay.proofs.OutOfKernel.{away_by_none, back_still}
 
 -- the same processes by another table
 pub out_same : (y : Kernel) (f h : ℕ → Option Proc) → ((q : ℕ) → h q ≡ f q) → AreOut y f → AreOut y h
@@ -38,14 +38,14 @@ module _ (x y : Kernel) (who : ℕ → Option Proc) (o : AreOut x who) where
     each = each;
     all = all;
     still = λ f. ap (λ (k : Control). k.ready) t.control
-        ∙ ap behind (o.still (sym (ap (λ (k : Control). k.faulted) t.control) ∙ f));
+        ∙ ap queue_tail (o.still (sym (ap (λ (k : Control). k.faulted) t.control) ∙ f));
   }
     where
       doing_is : (q : ℕ) → (control_of y).doing q ≡ at_key ◌==◌ p.number (Out 0) (control_of x).doing q
       doing_is q = ap (λ (k : Control). k.doing q) t.control
 
       input_is : (setting_of x).input ≡ (setting_of y).input
-      input_is = ap (λ (g : Setting). g.input) (sym (same_setting x y t.setting))
+      input_is = ap (λ (g : CodeRun). g.input) (sym (same_setting x y t.setting))
 
       here : at_key ◌==◌ p.number (Some p) who p.number ≡ Some p
       here = at_same who p.number (Some p)
@@ -75,14 +75,16 @@ module _ (x y : Kernel) (who : ℕ → Option Proc) (o : AreOut x who) where
                 input = w.input ∙ input_is;
               }
 
-      all : (q : ℕ) → IsAway ((control_of y).doing q) → (u : Proc) × (at_key ◌==◌ p.number (Some p) who q ≡ Some u)
+      all : (q : ℕ) → IsOutOfKernel ((control_of y).doing q) → (u : Proc)
+          × (at_key ◌==◌ p.number (Some p) who q ≡ Some u)
       all q a = go (number_or p.number q)
         where
           go : (p.number ≡ q) ⊎ ((p.number ≢ q) × (p.number == q ≡ false)) → (u : Proc)
               × (at_key ◌==◌ p.number (Some p) who q ≡ Some u)
           go (inl is) = (p, subst (λ z. at_key ◌==◌ p.number (Some p) who z ≡ Some p) is here)
           go (inr n) =
-              let w = o.all q (subst IsAway (doing_is q ∙ at_other (control_of x).doing p.number q (Out 0) n.0) a) in
+              let w = o.all q (subst IsOutOfKernel (doing_is q ∙ at_other (control_of x).doing p.number q (Out 0)
+              n.0) a) in
               (w.0, at_other who p.number q (Some p) n.0 ∙ w.1)
 
   -- after a process was taken, if any
@@ -119,13 +121,14 @@ module _ (x : Kernel) (whole : IsKernel x) (none : x.ready ≡ []) (who : ℕ �
             runs = ap (λ (s : System Plain). s.condition q) gave.system
                 ∙ after_same plain (setting_of x) (system_of x) q h.proc.number (config_of u) w.runs
                 (out_there whole.orderly q 0 w.out) n.0 (turn_of h);
-            input = w.input ∙ ap (λ (g : Setting). g.input) (sym (same_setting x m gave.setting));
+            input = w.input ∙ ap (λ (g : CodeRun). g.input) (sym (same_setting x m gave.setting));
           }
 
-  all_left : (q : ℕ) → IsAway ((control_of m).doing q) → (u : Proc) × (rest q ≡ Some u)
+  all_left : (q : ℕ) → IsOutOfKernel ((control_of m).doing q) → (u : Proc) × (rest q ≡ Some u)
   all_left q a =
-      let w = back_kept IsAway away_by_none (control_of x) h.proc.number e q (subst IsAway (doing_now q) a) in
-      let v = o.all q (subst IsAway (doing_now q ∙ w.0) a) in
+      let w = back_kept IsOutOfKernel away_by_none (control_of x) h.proc.number e q
+      (subst IsOutOfKernel (doing_now q) a) in
+      let v = o.all q (subst IsOutOfKernel (doing_now q ∙ w.0) a) in
       (v.0, others q ∙ at_other who h.proc.number q None (λ is. w.1 (sym is)) ∙ v.1)
 
   pub given_out : AreOut m rest

@@ -1,4 +1,4 @@
-pub mod Away
+pub mod OutOfKernel
 pub mod Living
 pub mod Giving
 pub mod Coming

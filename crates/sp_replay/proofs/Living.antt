@@ -5,8 +5,8 @@ use Rattle.sp_base.proofs.Facts.{equals_itself}
 use Rattle.sp_journal.proofs.BirthLaws.{Lawful, Born}
 use Rattle.sp_code.specs.Control.{Control, Doing, Unborn, Ready, Out, Sending, Receiving, Joining, Laid, Ended, Gone}
 use Rattle.sp_code.specs.Control.{has_ended}
-use Rattle.sp_history.specs.Agreement.{Each, Differ, Among, IsOrderly, HasOuts, IsOut}
-use Rattle.sp_history.specs.Lines.{left_of, IsLive, HasChildren}
+use Rattle.sp_history.specs.Agreement.{EachNumber, Differ, Among, IsOrderly, HasOuts, IsOut}
+use Rattle.sp_history.specs.WorkerHistory.{left_of, IsLive, HasChildren}
 use Rattle.sp_history.proofs.Queues.{each_of, number_or}
 use Rattle.sp_history.proofs.Orders.{out_there}
 use Rattle.sp_history.proofs.Outs.{without, without_differ}
@@ -65,22 +65,23 @@ module _ (k : Control) (h : IsOrderly k) (c : HasChildren k) (lawful : Lawful k.
   pub ended_none : has_ended (k.doing 0) ≡ true → k.ready ≡ []
   ended_none e = go k.ready h.queue.queued
     where
-      go : (r : List ℕ) → Each (λ q. k.doing q ≡ Ready) r → r ≡ []
+      go : (r : List ℕ) → EachNumber (λ q. k.doing q ≡ Ready) r → r ≡ []
       go [] i = refl
       go (q ∷ qs) i = absurd (ended_dead (k.doing 0) e (root_lives q (subst IsLive (sym i.0) tt)))
 
 -- ---- how many
 
 -- a number is gone from a list of numbers up to it
-less : (p : ℕ) (xs : List ℕ) → Differ xs → Each (λ q. q < suc p) xs → Each (λ q. q < p) (without p xs)
+less : (p : ℕ) (xs : List ℕ) → Differ xs → EachNumber (λ q. q < suc p) xs → EachNumber (λ q. q < p) (without p xs)
 less p [] d e = tt {0}
 less p (x ∷ xs) d e = go (number_or p x) (less p xs d.1 e.1)
   where
-    go : (p ≡ x) ⊎ ((p ≢ x) × (p == x ≡ false)) → Each (λ q. q < p) (without p xs)
-        → Each (λ q. q < p) (cond (p == x) xs (x ∷ without p xs))
+    go : (p ≡ x) ⊎ ((p ≢ x) × (p == x ≡ false)) → EachNumber (λ q. q < p) (without p xs)
+        → EachNumber (λ q. q < p) (cond (p == x) xs (x ∷ without p xs))
     go (inl is) h = rw (subst (λ y. p == y ≡ true) is (equals_itself p)) (smaller xs d.0 e.1)
       where
-        smaller : (ys : List ℕ) → Each (λ y. y ≢ x) ys → Each (λ q. q < suc p) ys → Each (λ q. q < p) ys
+        smaller : (ys : List ℕ) → EachNumber (λ y. y ≢ x) ys → EachNumber (λ q. q < suc p) ys
+            → EachNumber (λ q. q < p) ys
         smaller [] a b = tt {0}
         smaller (y ∷ ys) a b = (let n = a.0 in let l = b.0 in omega (arith, n, l, is), smaller ys a.1 b.1)
     go (inr n) h = rw (n.1) (let m = n.0 in let l = e.0 in (omega (arith, m, l), h))
@@ -95,7 +96,7 @@ no_more p (x ∷ xs) = go (p == x) (no_more p xs)
     go false h = omega (arith, h)
 
 -- as many different numbers are below n as n at most
-few_below : (n : ℕ) (xs : List ℕ) → Differ xs → Each (λ q. q < n) xs → length xs ≤ n
+few_below : (n : ℕ) (xs : List ℕ) → Differ xs → EachNumber (λ q. q < n) xs → length xs ≤ n
 few_below zero [] d e = omega arith
 few_below zero (x ∷ xs) d e = absurd (let l = e.0 in omega (arith, l))
 few_below (suc n) xs d e = let a = few_below n (without n xs) (without_differ n xs d) (less n xs d e) in

@@ -15,26 +15,26 @@ use Rattle.sp_code.specs.System as system
 use Rattle.sp_code.specs.System.{System, Working}
 use Rattle.sp_machine.specs.declared.state.State.{State as Proc}
 use Rattle.sp_machine.specs.declared.state.Stop.TheVariants as stop
-use Rattle.sp_machine.specs.Procs.{config_of, IsTurnOf, Stays}
+use Rattle.sp_machine.specs.Procs.{config_of, IsTurnOf, KeepsNumberAndInput}
 use Rattle.sp_room.specs.History.{LeadsTo as Told}
 use Rattle.sp_kernel.specs.declared.handed.Handed.{Handed}
 use Rattle.sp_kernel.specs.declared.kernel.Kernel.{Kernel}
 use Rattle.sp_kernel.specs.Kernels.{control_of, system_of, setting_of}
-use Rattle.sp_kernel.specs.Asks.{IsOpening, Steps}
+use Rattle.sp_kernel.specs.Asks.{IsOpening, KernelSteps}
 use Rattle.sp_replay.specs.declared.followed.Followed.{Followed}
 use Rattle.sp_replay.specs.Held.{held_at}
 
 -- the kernel does not have the process
-abbrev pub IsAway : Doing → Type 0
-IsAway Unborn = ⊥
-IsAway Ready = ⊥
-IsAway (Out w) = Unit {0}
-IsAway (Sending c) = ⊥
-IsAway (Receiving c) = ⊥
-IsAway (Joining n) = ⊥
-IsAway Laid = ⊥
-IsAway Ended = ⊥
-IsAway Gone = Unit {0}
+abbrev pub IsOutOfKernel : Doing → Type 0
+IsOutOfKernel Unborn = ⊥
+IsOutOfKernel Ready = ⊥
+IsOutOfKernel (Out w) = Unit {0}
+IsOutOfKernel (Sending c) = ⊥
+IsOutOfKernel (Receiving c) = ⊥
+IsOutOfKernel (Joining n) = ⊥
+IsOutOfKernel Laid = ⊥
+IsOutOfKernel Ended = ⊥
+IsOutOfKernel Gone = Unit {0}
 
 -- process q is out, and is this one
 pub record IsOutAs (y : Kernel) (q : ℕ) (p : Proc) : Type 0 where
@@ -48,23 +48,23 @@ pub record HasCome (y : Kernel) : Type 0 where
   pub opened : Kernel
   pub opening : IsOpening opened
   pub log : List Note
-  pub told : Told Steps opened log y
+  pub told : Told KernelSteps opened log y
   pub kept : y.abandons ≡ 0
 
 -- the processes that are out are these, by their numbers; and once a fault stands, none is ready
 pub record AreOut (y : Kernel) (who : ℕ → Option Proc) : Type 0 where
   pub each : (q : ℕ) (p : Proc) → who q ≡ Some p → IsOutAs y q p
-  pub all : (q : ℕ) → IsAway ((control_of y).doing q) → (p : Proc) × (who q ≡ Some p)
+  pub all : (q : ℕ) → IsOutOfKernel ((control_of y).doing q) → (p : Proc) × (who q ≡ Some p)
   pub still : y.faulted ≡ true → y.ready ≡ []
 
 -- the kernel of a run, of which these processes are out
-pub record Follows (y : Kernel) (who : ℕ → Option Proc) : Type 0 where
+pub record IsReplayKernel (y : Kernel) (who : ℕ → Option Proc) : Type 0 where
   pub come : HasCome y
   pub held : AreOut y who
 
 -- all that can run are held
-pub record Stands (f : Followed) : Type 0 where
-  pub follows : Follows f.kernel (held_at f.held)
+pub record HoldsAllReady (f : Followed) : Type 0 where
+  pub follows : IsReplayKernel f.kernel (held_at f.held)
   pub none_ready : f.kernel.ready ≡ []
 
 -- the same run after the same entries
@@ -81,13 +81,13 @@ pub record RunsOn (x : Kernel) (parts : Parts) (lim : Limits) : Type 0 where
 -- a process was run by one turn, which memory did not end
 pub record WasTurned (p : Proc) (code : Parts) (lim : Limits) (h : Handed) : Type 0 where
   pub turn : IsTurnOf p code lim h.proc h.stop
-  pub same : Stays p h.proc
+  pub same : KeepsNumberAndInput p h.proc
   pub whole : h.stop ≡ stop.Memory → ⊥
 
 -- all that can run were held; then one was picked, and was run by one turn
 pub record IsInHand (f : Followed) (code : Parts) (lim : Limits) (h : Handed) : Type 0 where
   pub who : ℕ → Option Proc
-  pub follows : Follows f.kernel who
+  pub follows : IsReplayKernel f.kernel who
   pub none_ready : f.kernel.ready ≡ []
   pub before : Proc
   pub picked : who before.number ≡ Some before
@@ -95,14 +95,14 @@ pub record IsInHand (f : Followed) (code : Parts) (lim : Limits) (h : Handed) : 
   pub turned : WasTurned before code lim h
 
 -- an event of process p was made
-pub record Made (x : Kernel) (p : ℕ) (e : Event) (y : Kernel) : Type 0 where
+pub record EventMade (x : Kernel) (p : ℕ) (e : Event) (y : Kernel) : Type 0 where
   pub setting : setting_of y ≡ setting_of x
   pub entries : y.journal.entries ≡ x.journal.entries ++ record { process = p; event = e } ∷ []
-  pub enters : system.Enters plain (setting_of x) (system_of x) p e (system_of y)
+  pub enters : system.EntryLeads plain (setting_of x) (system_of x) p e (system_of y)
 
 -- no system comes after the entry
 abbrev pub CannotCome : Kernel → Entry → Type 0
-CannotCome x e = (t : System Plain) → system.Enters plain (setting_of x) (system_of x) e.process e.event t → ⊥
+CannotCome x e = (t : System Plain) → system.EntryLeads plain (setting_of x) (system_of x) e.process e.event t → ⊥
 
 -- the process that was taken, if any, is held beside the others
 abbrev pub with_taken : Option Proc → (ℕ → Option Proc) → ℕ → Option Proc
@@ -112,5 +112,5 @@ with_taken (Some p) who = at_key ◌==◌ p.number (Some p) who
 -- an event of process p was made, and the process that was ready for longest was taken, if any
 pub record Exchanged (x : Kernel) (p : ℕ) (held : List (Option Proc)) (r : Option Proc) (y : Kernel) : Type 0 where
   pub event : Event
-  pub made : Made x p event y
-  pub follows : Follows y (with_taken r (held_at held))
+  pub made : EventMade x p event y
+  pub follows : IsReplayKernel y (with_taken r (held_at held))

@@ -2,7 +2,7 @@
 -- Processes that are held, by their numbers: the contracts of `held` cite it.
 use Rattle.std.specs.Prelude.{ℕ, List, [], ◌∷◌, Option, Some, None, slice_get}
 use Rattle.sp_machine.specs.declared.state.State.{State as Proc}
-use Rattle.sp_kernel.specs.Outputs.{written_by, or_rest}
+use Rattle.sp_kernel.specs.Outputs.{output_of_process, or_rest}
 
 -- the process in a place of a list, if there is one
 abbrev pub in_place : Option (Option Proc) → Option Proc
@@ -16,7 +16,7 @@ held_at held q = in_place (slice_get held q)
 -- the output in its store
 abbrev pub output_in : Option Proc → Option (List ℕ)
 output_in None = None
-output_in (Some p) = written_by p
+output_in (Some p) = output_of_process p
 
 -- the first output that one of these has
 abbrev pub outputs : List (Option Proc) → Option (List ℕ)

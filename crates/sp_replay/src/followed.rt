@@ -7,9 +7,10 @@ ghost use Rattle.sp_kernel.specs.Asks.{IsOpening};
 ghost use Rattle.sp_kernel.specs.Kernels.{setting_of, system_of};
 ghost use Rattle.sp_machine.specs.Procs.{CanTurn, IsRankedFrom};
 ghost use Rattle.sp_replay.specs.Held.{held_at};
-ghost use Rattle.sp_replay.specs.Following.{Follows, Stands, SameRun, RunsOn, WasTurned, IsInHand, Exchanged, Made};
+ghost use Rattle.sp_replay.specs.Following.{IsReplayKernel, HoldsAllReady, SameRun, RunsOn, WasTurned, IsInHand};
+ghost use Rattle.sp_replay.specs.Following.{Exchanged, EventMade};
 ghost use Rattle.sp_replay.specs.Following.{CannotCome, with_taken};
-ghost use Rattle.sp_replay.specs.Replays.{Replays, LeadsTo};
+ghost use Rattle.sp_replay.specs.Replays.{Replays, ReplayLeadsTo};
 
 use crate::held::{hold, output, pick};
 use crate::replayer::{ReplayError, Replayed};
@@ -52,7 +53,7 @@ impl Followed {
     /// The run at its start, where the first process is held.
     pub(crate) fn start(alloc: Global, kernel: Kernel) -> Result<Followed, Memory>
         requires { IsOpening kernel }
-        ensures { IfOk result (λ f. Stands f × SameRun kernel f.kernel) }
+        ensures { IfOk result (λ f. HoldsAllReady f × SameRun kernel f.kernel) }
     {
         let mut followed = Followed {
             kernel,
@@ -64,8 +65,8 @@ impl Followed {
 
     // Takes and holds all that are ready.
     fn take_ready(&mut self) -> Result<(), Memory>
-        requires { Follows self.old.kernel (held_at self.old.held) }
-        ensures { OnOk result (Stands self.new × SameRun self.old.kernel self.new.kernel) }
+        requires { IsReplayKernel self.old.kernel (held_at self.old.held) }
+        ensures { OnOk result (HoldsAllReady self.new × SameRun self.old.kernel self.new.kernel) }
     {
         while let Some(proc) = self.kernel.take(0) {
             hold(&mut self.held, proc.number(), proc)?;
@@ -107,8 +108,8 @@ impl Followed {
     fn hand_in(&mut self, code: &Code, limits: &Limits, handed: Handed) -> Result<(), Memory>
         requires run { RunsOn self.old.kernel code.now limits.now }
         requires hand { IsInHand self.old code.now limits.now handed }
-        ensures { OnOk result (Stands self.new
-            × ((e : _) × Made self.old.kernel handed.proc.number e self.new.kernel)) }
+        ensures { OnOk result (HoldsAllReady self.new
+            × ((e : _) × EventMade self.old.kernel handed.proc.number e self.new.kernel)) }
     {
         let taken = self.exchange(code, limits, handed)?;
         self.keep(taken)?;
@@ -119,9 +120,9 @@ impl Followed {
     fn follow(&mut self, code: &Code, limits: &Limits, entry: Entry) -> Result<bool, Memory>
         requires sound { IsSound code.now }
         requires run { RunsOn self.old.kernel code.now limits.now }
-        requires stands { Stands self.old }
+        requires stands { HoldsAllReady self.old }
         ensures { IfOk result (λ fits. MatchBool fits
-            (Stands self.new × Made self.old.kernel entry.process entry.event self.new.kernel)
+            (HoldsAllReady self.new × EventMade self.old.kernel entry.process entry.event self.new.kernel)
             (CannotCome self.old.kernel entry)) }
     {
         let Some(proc) = pick(&mut self.held, entry.process) else {
@@ -141,9 +142,9 @@ impl Followed {
     ) -> Result<(), ReplayError>
         requires sound { IsSound code.now }
         requires run { RunsOn self.old.kernel code.now limits.now }
-        requires stands { Stands self.old }
+        requires stands { HoldsAllReady self.old }
         requires start { self.old.kernel.journal.entries ≡ [] }
-        ensures stands { OnOk result (Stands self.new) }
+        ensures stands { OnOk result (HoldsAllReady self.new) }
         ensures setting { OnOk result (setting_of self.new.kernel ≡ setting_of self.old.kernel) }
         ensures entries { OnOk result (self.new.kernel.journal.entries ≡ entries.now) }
         ensures err { IfErr result (λ e. Replays (setting_of self.old.kernel) entries.now (Err e)) }
@@ -158,7 +159,7 @@ impl Followed {
 
     // What was written so far.
     fn output(&self) -> &[u8]
-        requires { Stands self.now }
+        requires { HoldsAllReady self.now }
         ensures { (q : ℕ) × IsOutputOf (system_of self.now.kernel) q result.now }
     {
         match self.kernel.output() {
@@ -172,8 +173,8 @@ impl Followed {
 
     /// The end and the output after the entries that were followed.
     pub(crate) fn finish(&self, alloc: Global) -> Result<Replayed, Memory>
-        requires { Stands self.now }
-        ensures { IfOk result (λ r. LeadsTo (setting_of self.now.kernel) self.now.kernel.journal.entries r) }
+        requires { HoldsAllReady self.now }
+        ensures { IfOk result (λ r. ReplayLeadsTo (setting_of self.now.kernel) self.now.kernel.journal.entries r) }
     {
         let end = self.kernel.end()?;
         let output = Vec::from_slice(alloc, self.output())?;

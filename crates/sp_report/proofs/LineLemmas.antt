@@ -18,10 +18,10 @@ use Rattle.sp_base.specs.declared.name.ChanName.{ChanName}
 use Rattle.sp_journal.specs.declared.entry.Event.{Event}
 use Rattle.sp_journal.specs.declared.entry.Event.TheVariants as event
 use Rattle.sp_journal.specs.declared.entry.Entry.{Entry}
-use Rattle.sp_journal.specs.Births.{Births, after_entry, channel}
+use Rattle.sp_journal.specs.Births.{Births, births_after_entry, channel}
 use Rattle.sp_journal.specs.Names.{chan_name, proc_name}
 use Rattle.sp_journal.specs.Texts.{entries_text, entry_text, event_text}
-use Rattle.sp_report.specs.Timeline.{numbered, timeline_lines}
+use Rattle.sp_report.specs.Timeline.{numbered_lines, timeline_lines}
 
 -- the text has no line feed
 abbrev no_feed : List ℕ → Bool
@@ -106,7 +106,7 @@ entry_clean s e = joined (name_text (proc_name (s.name e.process)) ++ codes " ")
 
 -- the rest of a line, and then the lines after it
 line_rest : (xs rest : List ℕ) (n : ℕ) → no_feed xs ≡ true
-    → numbered false n ((xs ++ codes "\n") ++ rest) ≡ (xs ++ codes "\n") ++ numbered true n rest
+    → numbered_lines false n ((xs ++ codes "\n") ++ rest) ≡ (xs ++ codes "\n") ++ numbered_lines true n rest
 line_rest [] rest n e = refl
 line_rest (x ∷ xs) rest n e =
     let parts = and_parts (not (x == 10)) (no_feed xs) e in
@@ -115,17 +115,17 @@ line_rest (x ∷ xs) rest n e =
 
 -- the text of entries with a number before each line is their timeline
 pub numbered_entries : (n : ℕ) (s : Births) (es : List Entry)
-    → numbered true n (entries_text s es) ≡ timeline_lines n s es
+    → numbered_lines true n (entries_text s es) ≡ timeline_lines n s es
 numbered_entries n s [] = refl
 numbered_entries n s (e ∷ es) =
     ap (λ ys. (decimal n ++ codes " ") ++ 48 ∷ ys)
     (line_rest ((pairs_text (proc_name (s.name e.process)).pairs ++ codes " ") ++ event_text s e.event)
-    (entries_text (after_entry s e) es) (n + 1) (entry_clean s e))
+    (entries_text (births_after_entry s e) es) (n + 1) (entry_clean s e))
     ∙ ap (λ ys. (decimal n ++ codes " ") ++ ((entry_text s e ++ codes "\n") ++ ys))
-    (numbered_entries (n + 1) (after_entry s e) es)
+    (numbered_entries (n + 1) (births_after_entry s e) es)
     ∙ sym (append_assoc (decimal n ++ codes " ") (entry_text s e ++ codes "\n")
-    (timeline_lines (n + 1) (after_entry s e) es))
-    ∙ ap (λ ys. ys ++ timeline_lines (n + 1) (after_entry s e) es)
+    (timeline_lines (n + 1) (births_after_entry s e) es))
+    ∙ ap (λ ys. ys ++ timeline_lines (n + 1) (births_after_entry s e) es)
     (sym (append_assoc (decimal n ++ codes " ") (entry_text s e) (codes "\n")))
 
 pub whole_rest : (n : ℕ) (xs : List ℕ) → take (length xs - n) (drop n xs) ≡ drop n xs

@@ -5,13 +5,13 @@ use Rattle.std.specs.List.{flat_map, slice_index_or}
 use Rattle.std.proofs.lemmas.List.Concat.{flat_map-append}
 use Rattle.std.proofs.lemmas.List.Elements.{filter-append}
 use Rattle.sp_journal.specs.declared.entry.Entry.{Entry}
-use Rattle.sp_journal.specs.Births.{Births, NameableFrom, after_entry, at_start}
+use Rattle.sp_journal.specs.Births.{Births, NameableFrom, births_after_entry, first_births}
 
 front : (s : Births) (es : List Entry) (i : ℕ) (e : Entry) → NameableFrom s es → i < length es
     → e ≡ slice_index_or es i e → NameableFrom s (take i es ++ e ∷ [])
 front s [] i e h lt is = absurd (omega arith)
 front s (x ∷ es) zero e h lt is = subst (λ (y : Entry). NameableFrom s (y ∷ [])) (sym is) (h.0, tt)
-front s (x ∷ es) (suc i) e h lt is = (h.0, front (after_entry s x) es i e h.1 (omega arith) is)
+front s (x ∷ es) (suc i) e h lt is = (h.0, front (births_after_entry s x) es i e h.1 (omega arith) is)
 
 same_default : (es : List Entry) (i : ℕ) (d e : Entry) → i < length es → slice_index_or es i d ≡ slice_index_or es i e
 same_default [] i d e lt = absurd (omega arith)
@@ -19,11 +19,11 @@ same_default (x ∷ es) zero d e lt = refl
 same_default (x ∷ es) (suc i) d e lt = same_default es i d e (omega arith)
 
 -- the entries so far and the next one
-pub nameable_next : (told es : List Entry) (i : ℕ) (d : Entry) → told ≡ take i es → NameableFrom at_start es
-    → i < length es → NameableFrom at_start (told ++ slice_index_or es i d ∷ [])
+pub nameable_next : (told es : List Entry) (i : ℕ) (d : Entry) → told ≡ take i es → NameableFrom first_births es
+    → i < length es → NameableFrom first_births (told ++ slice_index_or es i d ∷ [])
 nameable_next told es i d t h lt =
-    subst (λ (xs : List Entry). NameableFrom at_start (xs ++ slice_index_or es i d ∷ [])) (sym t)
-    (front at_start es i (slice_index_or es i d) h lt (same_default es i d (slice_index_or es i d) lt))
+    subst (λ (xs : List Entry). NameableFrom first_births (xs ++ slice_index_or es i d ∷ [])) (sym t)
+    (front first_births es i (slice_index_or es i d) h lt (same_default es i d (slice_index_or es i d) lt))
 
 -- ---- the texts so far, with one more watcher
 

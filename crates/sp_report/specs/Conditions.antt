@@ -10,7 +10,7 @@ use Rattle.sp_journal.specs.declared.entry.Entry.{Entry}
 use Rattle.sp_journal.specs.declared.entry.Birth.{Birth}
 use Rattle.sp_journal.specs.Maps.{at_key}
 use Rattle.sp_journal.specs.Names.{same_way}
-use Rattle.sp_journal.specs.Births.{Births, after_entry, at_start, is_next}
+use Rattle.sp_journal.specs.Births.{Births, births_after_entry, first_births, is_next}
 use Rattle.sp_report.specs.declared.condition.Condition.{Condition}
 use Rattle.sp_report.specs.declared.condition.Condition.TheVariants as condition
 use Rattle.sp_report.specs.declared.condition.Pending.{Pending}
@@ -30,52 +30,52 @@ first_conditions = record {
 }
 
 -- process p is in this condition
-abbrev pub becomes : Conditions → ℕ → Condition → Conditions
-becomes t p k = record t { of = at_key ◌==◌ p k t.of }
+abbrev pub with_condition : Conditions → ℕ → Condition → Conditions
+with_condition t p k = record t { of = at_key ◌==◌ p k t.of }
 
 -- process p waits for n children, which run
-abbrev pub forked : Births → Conditions → ℕ → ℕ → Conditions
-forked s t p n = record t {
+abbrev pub conditions_after_fork : Births → Conditions → ℕ → ℕ → Conditions
+conditions_after_fork s t p n = record t {
   of = λ q. cond (is_next s n q) condition.Running
       (at_key ◌==◌ p (condition.Joining s.processes n n) t.of q);
 }
 
 -- an offer waits where none is pending, and meets one of the other way; where one of its own way is pending it changes
 -- nothing
-abbrev pub offered : Conditions → Way → ℕ → ℕ → Option Pending → Conditions
-offered t w p c None = record (becomes t p (condition.Offering w c))
+abbrev pub conditions_after_offer : Conditions → Way → ℕ → ℕ → Option Pending → Conditions
+conditions_after_offer t w p c None = record (with_condition t p (condition.Offering w c))
     { pending = at_key ◌==◌ c (Some (record { way = w; process = p })) t.pending }
-offered t w p c (Some o) = cond (same_way w o.way) t
-    (record (becomes t o.process condition.Running) { pending = at_key ◌==◌ c None t.pending })
+conditions_after_offer t w p c (Some o) = cond (same_way w o.way) t
+    (record (with_condition t o.process condition.Running) { pending = at_key ◌==◌ c None t.pending })
 
 -- one child less has to end; after the last one the process runs
 abbrev pub less_left : ℕ → ℕ → ℕ → Condition
 less_left first n left = cond (left == 1) condition.Running (condition.Joining first n (left - 1))
 
 -- process p waits for a child fewer
-abbrev pub waits_less : Conditions → ℕ → Condition → Conditions
-waits_less t p (condition.Joining first n left) = becomes t p (less_left first n left)
-waits_less t p condition.Unstarted = t
-waits_less t p condition.Running = t
-waits_less t p (condition.Offering w c) = t
-waits_less t p condition.Ended = t
-waits_less t p condition.Laid = t
+abbrev pub with_child_fewer : Conditions → ℕ → Condition → Conditions
+with_child_fewer t p (condition.Joining first n left) = with_condition t p (less_left first n left)
+with_child_fewer t p condition.Unstarted = t
+with_child_fewer t p condition.Running = t
+with_child_fewer t p (condition.Offering w c) = t
+with_child_fewer t p condition.Ended = t
+with_child_fewer t p condition.Laid = t
 
 -- the parent of who ended waits for a child fewer
-abbrev pub reported : Conditions → Option Birth → Conditions
-reported t None = t
-reported t (Some b) = waits_less t b.parent (t.of b.parent)
+abbrev pub conditions_after_end : Conditions → Option Birth → Conditions
+conditions_after_end t None = t
+conditions_after_end t (Some b) = with_child_fewer t b.parent (t.of b.parent)
 
 -- what this event of process p, which runs, changes
-abbrev pub changed : Births → Conditions → ℕ → Event → Conditions
-changed s t p (event.Fork n) = forked s t p n
-changed s t p event.Open = t
-changed s t p (event.Send c) = offered t way.Send p c (t.pending c)
-changed s t p (event.Receive c) = offered t way.Receive p c (t.pending c)
-changed s t p event.End = reported (becomes t p condition.Ended) (s.birth p)
-changed s t p (event.Fault f) = becomes t p condition.Laid
-changed s t p event.Laid = becomes t p condition.Laid
-changed s t p event.Pause = t
+abbrev pub conditions_after_event : Births → Conditions → ℕ → Event → Conditions
+conditions_after_event s t p (event.Fork n) = conditions_after_fork s t p n
+conditions_after_event s t p event.Open = t
+conditions_after_event s t p (event.Send c) = conditions_after_offer t way.Send p c (t.pending c)
+conditions_after_event s t p (event.Receive c) = conditions_after_offer t way.Receive p c (t.pending c)
+conditions_after_event s t p event.End = conditions_after_end (with_condition t p condition.Ended) (s.birth p)
+conditions_after_event s t p (event.Fault f) = with_condition t p condition.Laid
+conditions_after_event s t p event.Laid = with_condition t p condition.Laid
+conditions_after_event s t p event.Pause = t
 
 abbrev pub is_running : Condition → Bool
 is_running condition.Running = true
@@ -107,19 +107,20 @@ is_timely faulted (event.Fault f) = not faulted
 is_timely faulted event.Pause = not faulted
 
 -- a fault counts whoever makes it
-abbrev pub noted : Event → Conditions → Conditions
-noted e t = record t { faulted = cond (is_fault e) true t.faulted }
+abbrev pub conditions_with_fault : Event → Conditions → Conditions
+conditions_with_fault e t = record t { faulted = cond (is_fault e) true t.faulted }
 
 -- after this entry; that of a process which does not run, or at the wrong side of a fault, changes nothing
-abbrev pub after : Births → Conditions → Entry → Conditions
-after s t e = noted e.event (cond (is_running (t.of e.process) && is_timely t.faulted e.event)
-    (changed s t e.process e.event) t)
+abbrev pub conditions_after : Births → Conditions → Entry → Conditions
+conditions_after s t e =
+    conditions_with_fault e.event (cond (is_running (t.of e.process) && is_timely t.faulted e.event)
+    (conditions_after_event s t e.process e.event) t)
 
 -- after all these entries
-abbrev pub after_all : Births → Conditions → List Entry → Conditions
-after_all s t [] = t
-after_all s t (e ∷ es) = after_all (after_entry s e) (after s t e) es
+abbrev pub conditions_after_all : Births → Conditions → List Entry → Conditions
+conditions_after_all s t [] = t
+conditions_after_all s t (e ∷ es) = conditions_after_all (births_after_entry s e) (conditions_after s t e) es
 
 -- after all these entries
 abbrev pub conditions : List Entry → Conditions
-conditions es = after_all at_start first_conditions es
+conditions es = conditions_after_all first_births first_conditions es

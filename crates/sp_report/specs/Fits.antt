@@ -10,22 +10,22 @@ use Rattle.sp_report.specs.declared.table.Table.{Table}
 use Rattle.sp_report.specs.Conditions.{Conditions}
 
 -- the table as the definition sees it
-abbrev pub seen : Table → Conditions
-seen t = record {
+abbrev pub table_conditions : Table → Conditions
+table_conditions t = record {
   of = λ q. unwrap_or (hash.get nat_eq t.of q) condition.Unstarted;
   pending = λ c. hash.get nat_eq t.pending c;
   faulted = t.faulted;
 }
 
 -- what a process waits for is there
-abbrev pub Fits : Births → Condition → Type 0
-Fits s (condition.Offering w c) = c < s.channels
-Fits s (condition.Joining first n left) = first + n ≤ s.processes
-Fits s condition.Unstarted = Unit {0}
-Fits s condition.Running = Unit {0}
-Fits s condition.Ended = Unit {0}
-Fits s condition.Laid = Unit {0}
+abbrev pub ConditionFits : Births → Condition → Type 0
+ConditionFits s (condition.Offering w c) = c < s.channels
+ConditionFits s (condition.Joining first n left) = first + n ≤ s.processes
+ConditionFits s condition.Unstarted = Unit {0}
+ConditionFits s condition.Running = Unit {0}
+ConditionFits s condition.Ended = Unit {0}
+ConditionFits s condition.Laid = Unit {0}
 
 -- so for each process
-abbrev pub AllFit : Births → Conditions → Type 0
-AllFit s t = (q : ℕ) → Fits s (t.of q)
+abbrev pub ConditionsFit : Births → Conditions → Type 0
+ConditionsFit s t = (q : ℕ) → ConditionFits s (t.of q)

@@ -9,14 +9,14 @@ use Rattle.sp_journal.specs.Births.{Births}
 use Rattle.sp_journal.specs.Names.{proc_name}
 
 -- a process by its name and its number
-abbrev pub Named : Type 0
-Named = ProcName × ℕ
+abbrev pub NamedProcess : Type 0
+NamedProcess = ProcName × ℕ
 
 -- these in order already, and each of the others at its place among those before it
-abbrev pub placed : Births → List Named → List ℕ → List Named
-placed s es [] = es
-placed s es (q ∷ qs) = placed s (insert_entry name_cmp es (proc_name (s.name q)) q) qs
+abbrev pub sorted_onto : Births → List NamedProcess → List ℕ → List NamedProcess
+sorted_onto s es [] = es
+sorted_onto s es (q ∷ qs) = sorted_onto s (insert_entry name_cmp es (proc_name (s.name q)) q) qs
 
 -- these processes in the order of their names
-abbrev pub in_order : Births → List ℕ → List Named
-in_order s qs = placed s [] qs
+abbrev pub sorted_by_name : Births → List ℕ → List NamedProcess
+sorted_by_name s qs = sorted_onto s [] qs

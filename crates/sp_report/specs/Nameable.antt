@@ -6,7 +6,7 @@ use Rattle.std.specs.Coded.{×_prop, Unit-prop, le_prop}
 use Rattle.sp_journal.specs.declared.entry.Event.{Event}
 use Rattle.sp_journal.specs.declared.entry.Event.TheVariants as event
 use Rattle.sp_journal.specs.declared.entry.Entry.{Entry}
-use Rattle.sp_journal.specs.Births.{Births, GivesNumbers, NameableFrom, after_entry}
+use Rattle.sp_journal.specs.Births.{Births, GivesNumbers, NameableFrom, births_after_entry}
 
 numbers_prop : (s : Births) (p : ℕ) (e : Event) → IsProp (GivesNumbers s p e)
 numbers_prop s p (event.Fork n) = ×_prop le_prop le_prop
@@ -22,4 +22,4 @@ numbers_prop s p event.Pause = Unit-prop
 pub nameable_prop : (s : Births) (es : List Entry) → IsProp (NameableFrom s es)
 nameable_prop s [] = Unit-prop
 nameable_prop s (e ∷ es) = ×_prop (×_prop le_prop (numbers_prop s e.process e.event))
-    (nameable_prop (after_entry s e) es)
+    (nameable_prop (births_after_entry s e) es)

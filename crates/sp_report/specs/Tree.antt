@@ -8,7 +8,7 @@ use Rattle.sp_base.specs.declared.name.ProcName.{ProcName}
 use Rattle.sp_journal.specs.declared.entry.Entry.{Entry}
 use Rattle.sp_journal.specs.Births.{Births, births}
 use Rattle.sp_journal.specs.Queue.{numbers}
-use Rattle.sp_report.specs.InOrder.{Named, in_order}
+use Rattle.sp_report.specs.InOrder.{NamedProcess, sorted_by_name}
 
 -- two spaces for each pair
 abbrev pub indent : List Pair → List ℕ
@@ -25,13 +25,13 @@ abbrev pub tree_line : ProcName → List ℕ
 tree_line n = indent n.pairs ++ last_pair n.pairs ++ codes "\n"
 
 -- a line for each
-abbrev pub tree_lines : List Named → List ℕ
+abbrev pub tree_lines : List NamedProcess → List ℕ
 tree_lines ns = flat_map (λ n. tree_line n.0) ns
 
 -- every process but the root
-abbrev pub forked : Births → List ℕ
-forked s = numbers 1 (s.processes - 1)
+abbrev pub forked_processes : Births → List ℕ
+forked_processes s = numbers 1 (s.processes - 1)
 
 -- the root, and then the others in order of names
 abbrev pub tree_text : List Entry → List ℕ
-tree_text es = codes "tree\n0\n" ++ tree_lines (in_order (births es) (forked (births es)))
+tree_text es = codes "tree\n0\n" ++ tree_lines (sorted_by_name (births es) (forked_processes (births es)))

@@ -12,7 +12,7 @@ use Rattle.sp_journal.specs.Texts.{offer_text}
 use Rattle.sp_report.specs.declared.condition.Condition.{Condition}
 use Rattle.sp_report.specs.declared.condition.Condition.TheVariants as condition
 use Rattle.sp_report.specs.Conditions.{Conditions, conditions}
-use Rattle.sp_report.specs.InOrder.{Named, in_order}
+use Rattle.sp_report.specs.InOrder.{NamedProcess, sorted_by_name}
 
 -- it sends, receives or joins
 abbrev pub is_waiting : Condition → Bool
@@ -37,30 +37,30 @@ abbrev pub children_text : Births → List ℕ → List ℕ
 children_text s qs = flat_map (λ q. codes " " ++ name_text (proc_name (s.name q))) qs
 
 -- those that have not ended, in order
-abbrev pub left_of : Conditions → ℕ → ℕ → List ℕ
-left_of t first n = filter (λ q. not (has_ended (t.of q))) (numbers first n)
+abbrev pub unended_children : Conditions → ℕ → ℕ → List ℕ
+unended_children t first n = filter (λ q. not (has_ended (t.of q))) (numbers first n)
 
 -- what a process waits for, as `send 0#0` or `join 0/0.0 0/0.1`
 abbrev pub wait_text : Births → Conditions → Condition → List ℕ
 wait_text s t (condition.Offering w c) = offer_text s w c
-wait_text s t (condition.Joining first n left) = codes "join" ++ children_text s (left_of t first n)
+wait_text s t (condition.Joining first n left) = codes "join" ++ children_text s (unended_children t first n)
 wait_text s t condition.Unstarted = []
 wait_text s t condition.Running = []
 wait_text s t condition.Ended = []
 wait_text s t condition.Laid = []
 
 -- the line of a process that waits
-abbrev pub waiting_line : Births → Conditions → Named → List ℕ
+abbrev pub waiting_line : Births → Conditions → NamedProcess → List ℕ
 waiting_line s t n = name_text n.0 ++ codes " " ++ wait_text s t (t.of n.1) ++ codes "\n"
 
-abbrev pub waiting_lines : Births → Conditions → List Named → List ℕ
+abbrev pub waiting_lines : Births → Conditions → List NamedProcess → List ℕ
 waiting_lines s t ns = flat_map (waiting_line s t) ns
 
 -- the processes that wait
-abbrev pub waiting : Births → Conditions → List ℕ
-waiting s t = filter (λ q. is_waiting (t.of q)) (numbers 0 s.processes)
+abbrev pub processes_waiting : Births → Conditions → List ℕ
+processes_waiting s t = filter (λ q. is_waiting (t.of q)) (numbers 0 s.processes)
 
 -- a line for each process that waits, in order of names
 abbrev pub waiting_text : List Entry → List ℕ
 waiting_text es = codes "waiting\n" ++ waiting_lines (births es) (conditions es)
-    (in_order (births es) (waiting (births es) (conditions es)))
+    (sorted_by_name (births es) (processes_waiting (births es) (conditions es)))

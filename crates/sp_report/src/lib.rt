@@ -5,7 +5,7 @@
 //!   list (`text`), and `title` is its name: `name` gives it, `see` tells one entry more, `finish` puts the text.
 //! - `Timeline`, `Census`, `ProcessTree`, `Waiting`: the watchers. `new` gives one that was told nothing; its text is
 //!   exactly that of its file in `specs/`.
-//! - `in_order`: four watchers that were told nothing and have these names, in the order timeline, census, tree,
+//! - `sorted_by_name`: four watchers that were told nothing and have these names, in the order timeline, census, tree,
 //!   waiting.
 //! - `tell`: the texts of the chosen watchers over the journal, in the order in which they are handed in (`reports`);
 //!   the error is want of memory alone.
@@ -21,7 +21,7 @@
 //!
 //! To change:
 //! - A watcher: a file of its own with an `impl Watcher`, its text in `specs/`, its name in `is_chosen`, its place in
-//!   `in_order`.
+//!   `sorted_by_name`.
 //! - What an event does to a process: `specs/Conditions.antt` and `src/table.rt`.
 #![tactic(auto)]
 

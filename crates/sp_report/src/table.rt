@@ -3,9 +3,11 @@
 ghost use Rattle.std.specs.Prelude.{◌≡◌, ◌∷◌, [], IfOk, OnOk};
 ghost use Rattle.sp_journal.specs.Births.{CanFollow, births};
 ghost use Rattle.sp_journal.specs.Ledger.{IsLedger};
-ghost use Rattle.sp_report.specs.Conditions.{after, becomes, changed, first_conditions, forked, less_left, offered};
-ghost use Rattle.sp_report.specs.Conditions.{reported};
-ghost use Rattle.sp_report.specs.Fits.{seen};
+ghost use Rattle.sp_report.specs.Conditions.{conditions_after, with_condition, conditions_after_event};
+ghost use Rattle.sp_report.specs.Conditions.{first_conditions, conditions_after_fork, less_left};
+ghost use Rattle.sp_report.specs.Conditions.{conditions_after_offer};
+ghost use Rattle.sp_report.specs.Conditions.{conditions_after_end};
+ghost use Rattle.sp_report.specs.Fits.{table_conditions};
 
 use crate::condition::{Condition, Pending, is_fault, is_timely};
 use sp_base::Memory;
@@ -24,7 +26,7 @@ pub(crate) struct Table {
 impl Table {
     /// Before the first entry the root runs.
     pub(crate) fn new(alloc: Global) -> Result<Table, Memory>
-        ensures { IfOk result (λ t. seen t ≡ first_conditions) }
+        ensures { IfOk result (λ t. table_conditions t ≡ first_conditions) }
     {
         let mut of = HashMap::new(alloc);
         of.insert(0, Condition::Running)?;
@@ -37,7 +39,7 @@ impl Table {
 
     /// What this process does.
     pub(crate) fn of(&self, process: u32) -> Condition
-        ensures { result ≡ (seen self.now).of process }
+        ensures { result ≡ (table_conditions self.now).of process }
     {
         self.of
             .get(&process)
@@ -46,7 +48,8 @@ impl Table {
     }
 
     fn becomes(&mut self, process: u32, condition: Condition) -> Result<(), Memory>
-        ensures { OnOk result (seen self.new ≡ becomes (seen self.old) process condition) }
+        ensures { OnOk result (table_conditions self.new ≡ with_condition (table_conditions self.old) process
+            condition) }
     {
         self.of.insert(process, condition)?;
         Ok(())
@@ -56,8 +59,8 @@ impl Table {
         requires ledger { IsLedger ledger.now }
         requires next { CanFollow (births ledger.now.journal.entries)
             (record { process = process; event = Event.Fork count }) }
-        ensures { OnOk result (seen self.new
-            ≡ forked (births ledger.now.journal.entries) (seen self.old) process count) }
+        ensures { OnOk result (table_conditions self.new
+            ≡ conditions_after_fork (births ledger.now.journal.entries) (table_conditions self.old) process count) }
     {
         let first = ledger.processes();
         let joining = Condition::Joining {
@@ -73,8 +76,9 @@ impl Table {
     }
 
     fn offer(&mut self, process: u32, way: Way, channel: u32) -> Result<(), Memory>
-        ensures { OnOk result (seen self.new
-            ≡ offered (seen self.old) way process channel ((seen self.old).pending channel)) }
+        ensures { OnOk result (table_conditions self.new
+            ≡ conditions_after_offer (table_conditions self.old) way process channel
+            ((table_conditions self.old).pending channel)) }
     {
         match self.pending.get(&channel).copied() {
             None => {
@@ -93,7 +97,7 @@ impl Table {
 
     /// One child of this process has ended.
     fn report(&mut self, birth: Option<Birth>) -> Result<(), Memory>
-        ensures { OnOk result (seen self.new ≡ reported (seen self.old) birth) }
+        ensures { OnOk result (table_conditions self.new ≡ conditions_after_end (table_conditions self.old) birth) }
     {
         let Some(birth) = birth else {
             return Ok(());
@@ -114,8 +118,9 @@ impl Table {
     fn change(&mut self, ledger: &Ledger, entry: Entry) -> Result<(), Memory>
         requires ledger { IsLedger ledger.now }
         requires next { CanFollow (births ledger.now.journal.entries) entry }
-        ensures { OnOk result (seen self.new
-            ≡ changed (births ledger.now.journal.entries) (seen self.old) entry.process entry.event) }
+        ensures { OnOk result (table_conditions self.new
+            ≡ conditions_after_event (births ledger.now.journal.entries) (table_conditions self.old) entry.process
+            entry.event) }
     {
         let process = entry.process;
         match entry.event {
@@ -135,8 +140,8 @@ impl Table {
     pub(crate) fn tell(&mut self, ledger: &Ledger, entry: Entry) -> Result<(), Memory>
         requires ledger { IsLedger ledger.now }
         requires next { CanFollow (births ledger.now.journal.entries) entry }
-        ensures { OnOk result (seen self.new
-            ≡ after (births ledger.now.journal.entries) (seen self.old) entry) }
+        ensures { OnOk result (table_conditions self.new
+            ≡ conditions_after (births ledger.now.journal.entries) (table_conditions self.old) entry) }
     {
         if self.of(entry.process).is_running() && is_timely(self.faulted, entry.event) {
             self.change(ledger, entry)?;

@@ -1,9 +1,9 @@
 //! The watcher `Timeline`: the entries of a journal with their indices.
 
 ghost use Rattle.std.specs.Prelude.{◌≡◌, ◌++◌, [], IfOk, OnOk, codes, decimal, true};
-ghost use Rattle.sp_journal.specs.Births.{IsNameable, at_start};
+ghost use Rattle.sp_journal.specs.Births.{IsNameable, first_births};
 ghost use Rattle.sp_report.specs.Nameable.{nameable_prop};
-ghost use Rattle.sp_report.specs.Timeline.{numbered, timeline_text};
+ghost use Rattle.sp_report.specs.Timeline.{numbered_lines, timeline_text};
 
 use crate::watcher::Watcher;
 use sp_base::{List, Memory, put_decimal};
@@ -15,7 +15,7 @@ use std::alloc::Global;
 pub struct Timeline {
     alloc: Global,
     journal: Journal,
-    ghost nameable: { IsNameable journal } by { nameable_prop at_start journal.entries },
+    ghost nameable: { IsNameable journal } by { nameable_prop first_births journal.entries },
 }
 
 impl Timeline {
@@ -42,7 +42,7 @@ fn put_number(out: &mut Vec<u8>, number: u64) -> Result<(), Memory>
 
 /// Puts the lines last into `out`, each after its number, which counts from 0.
 fn put_numbered(out: &mut Vec<u8>, lines: &[u8]) -> Result<(), Memory>
-    ensures { OnOk result (out.new.items ≡ out.old.items ++ numbered true 0 lines.now) }
+    ensures { OnOk result (out.new.items ≡ out.old.items ++ numbered_lines true 0 lines.now) }
 {
     let mut next = 0u64;
     let mut begins = true;

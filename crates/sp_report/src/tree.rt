@@ -2,11 +2,11 @@
 //! names.
 
 ghost use Rattle.std.specs.Prelude.{◌≡◌, ◌++◌, [], IfOk, OnOk, codes, decimal};
-ghost use Rattle.sp_journal.specs.Births.{IsNameable, at_start, births};
+ghost use Rattle.sp_journal.specs.Births.{IsNameable, first_births, births};
 ghost use Rattle.sp_journal.specs.Ledger.{IsLedger};
-ghost use Rattle.sp_report.specs.InOrder.{in_order};
+ghost use Rattle.sp_report.specs.InOrder.{sorted_by_name};
 ghost use Rattle.sp_report.specs.Nameable.{nameable_prop};
-ghost use Rattle.sp_report.specs.Tree.{forked, last_pair, tree_line, tree_lines, tree_text};
+ghost use Rattle.sp_report.specs.Tree.{forked_processes, last_pair, tree_line, tree_lines, tree_text};
 
 use crate::watcher::Watcher;
 use sp_base::{List, Memory, Pair, ProcName, put_decimal};
@@ -19,7 +19,7 @@ use std::collections::BTreeMap;
 pub struct ProcessTree {
     alloc: Global,
     journal: Journal,
-    ghost nameable: { IsNameable journal } by { nameable_prop at_start journal.entries },
+    ghost nameable: { IsNameable journal } by { nameable_prop first_births journal.entries },
 }
 
 impl ProcessTree {
@@ -40,7 +40,7 @@ impl ProcessTree {
 fn forked(alloc: Global, ledger: &Ledger) -> Result<BTreeMap<ProcName, u32>, Memory>
     requires { IsLedger ledger.now }
     ensures { IfOk result (λ m. m.entries
-        ≡ in_order (births ledger.now.journal.entries) (forked (births ledger.now.journal.entries))) }
+        ≡ sorted_by_name (births ledger.now.journal.entries) (forked_processes (births ledger.now.journal.entries))) }
 {
     let mut names = BTreeMap::new(alloc);
     for process in 1..ledger.processes() {

@@ -2,13 +2,14 @@
 //! under their names.
 
 ghost use Rattle.std.specs.Prelude.{◌≡◌, ◌++◌, ◌+◌, ◌≤◌, [], IfOk, OnOk, codes};
-ghost use Rattle.sp_journal.specs.Births.{IsNameable, at_start, births};
+ghost use Rattle.sp_journal.specs.Births.{IsNameable, first_births, births};
 ghost use Rattle.sp_journal.specs.Ledger.{IsLedger};
 ghost use Rattle.sp_report.specs.Conditions.{conditions};
-ghost use Rattle.sp_report.specs.Fits.{AllFit, Fits, seen};
-ghost use Rattle.sp_report.specs.InOrder.{in_order};
+ghost use Rattle.sp_report.specs.Fits.{ConditionsFit, ConditionFits, table_conditions};
+ghost use Rattle.sp_report.specs.InOrder.{sorted_by_name};
 ghost use Rattle.sp_report.specs.Nameable.{nameable_prop};
-ghost use Rattle.sp_report.specs.Waiting.{children_text, left_of, wait_text, waiting, waiting_line, waiting_lines};
+ghost use Rattle.sp_report.specs.Waiting.{children_text, unended_children, wait_text, processes_waiting, waiting_line};
+ghost use Rattle.sp_report.specs.Waiting.{waiting_lines};
 ghost use Rattle.sp_report.specs.Waiting.{waiting_text};
 
 use crate::condition::Condition;
@@ -24,7 +25,7 @@ use std::collections::BTreeMap;
 pub struct Waiting {
     alloc: Global,
     journal: Journal,
-    ghost nameable: { IsNameable journal } by { nameable_prop at_start journal.entries },
+    ghost nameable: { IsNameable journal } by { nameable_prop first_births journal.entries },
 }
 
 impl Waiting {
@@ -52,8 +53,8 @@ fn after_all(alloc: Global, journal: &Journal) -> Result<Last, Memory>
     requires { IsNameable journal.now }
     ensures ledger { IfOk result (λ e. IsLedger e.ledger) }
     ensures journal { IfOk result (λ e. e.ledger.journal.entries ≡ journal.now.entries) }
-    ensures table { IfOk result (λ e. seen e.table ≡ conditions journal.now.entries) }
-    ensures fit { IfOk result (λ e. AllFit (births journal.now.entries) (conditions journal.now.entries)) }
+    ensures table { IfOk result (λ e. table_conditions e.table ≡ conditions journal.now.entries) }
+    ensures fit { IfOk result (λ e. ConditionsFit (births journal.now.entries) (conditions journal.now.entries)) }
 {
     let mut ledger = Ledger::new(alloc);
     let mut table = Table::new(alloc)?;
@@ -71,8 +72,8 @@ fn waiting_processes(
     table: &Table,
 ) -> Result<BTreeMap<ProcName, u32>, Memory>
     requires { IsLedger ledger.now }
-    ensures { IfOk result (λ m. m.entries ≡ in_order (births ledger.now.journal.entries)
-        (waiting (births ledger.now.journal.entries) (seen table.now))) }
+    ensures { IfOk result (λ m. m.entries ≡ sorted_by_name (births ledger.now.journal.entries)
+        (processes_waiting (births ledger.now.journal.entries) (table_conditions table.now))) }
 {
     let mut names = BTreeMap::new(alloc);
     for process in 0..ledger.processes() {
@@ -95,7 +96,8 @@ fn put_children(
     requires ledger { IsLedger ledger.now }
     requires there { first + count ≤ (births ledger.now.journal.entries).processes }
     ensures { OnOk result (out.new.items ≡ out.old.items
-        ++ children_text (births ledger.now.journal.entries) (left_of (seen table.now) first count)) }
+        ++ children_text (births ledger.now.journal.entries)
+        (unended_children (table_conditions table.now) first count)) }
 {
     let _processes = ledger.processes();
     for child in first..first + u64::from(count) {
@@ -116,9 +118,9 @@ fn put_wait(
     condition: Condition,
 ) -> Result<(), Memory>
     requires ledger { IsLedger ledger.now }
-    requires fits { Fits (births ledger.now.journal.entries) condition }
+    requires fits { ConditionFits (births ledger.now.journal.entries) condition }
     ensures { OnOk result (out.new.items ≡ out.old.items
-        ++ wait_text (births ledger.now.journal.entries) (seen table.now) condition) }
+        ++ wait_text (births ledger.now.journal.entries) (table_conditions table.now) condition) }
 {
     match condition {
         Condition::Offering { way, channel } => {
@@ -136,9 +138,10 @@ fn put_wait(
 
 fn put_line(out: &mut Vec<u8>, last: &Last, name: &ProcName, process: u32) -> Result<(), Memory>
     requires ledger { IsLedger last.now.ledger }
-    requires fit { AllFit (births last.now.ledger.journal.entries) (seen last.now.table) }
+    requires fit { ConditionsFit (births last.now.ledger.journal.entries) (table_conditions last.now.table) }
     ensures { OnOk result (out.new.items ≡ out.old.items
-        ++ waiting_line (births last.now.ledger.journal.entries) (seen last.now.table) (name.now, process)) }
+        ++ waiting_line (births last.now.ledger.journal.entries) (table_conditions last.now.table)
+        (name.now, process)) }
 {
     name.put(out)?;
     out.extend_from_slice(b" ")?;
@@ -150,9 +153,9 @@ fn put_line(out: &mut Vec<u8>, last: &Last, name: &ProcName, process: u32) -> Re
 
 fn put_lines(out: &mut Vec<u8>, last: &Last, names: &BTreeMap<ProcName, u32>) -> Result<(), Memory>
     requires ledger { IsLedger last.now.ledger }
-    requires fit { AllFit (births last.now.ledger.journal.entries) (seen last.now.table) }
+    requires fit { ConditionsFit (births last.now.ledger.journal.entries) (table_conditions last.now.table) }
     ensures { OnOk result (out.new.items ≡ out.old.items
-        ++ waiting_lines (births last.now.ledger.journal.entries) (seen last.now.table) names.now.entries) }
+        ++ waiting_lines (births last.now.ledger.journal.entries) (table_conditions last.now.table) names.now.entries) }
 {
     for (name, process) in names {
         put_line(out, last, name, *process)?;

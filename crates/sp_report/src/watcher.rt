@@ -1,7 +1,7 @@
 //! What every watcher promises: the trait `Watcher`.
 
 ghost use Rattle.std.specs.Prelude.{◌≡◌, ◌++◌, ◌∷◌, [], List, OnErr, OnOk, ℕ};
-ghost use Rattle.sp_journal.specs.Births.{NameableFrom, at_start};
+ghost use Rattle.sp_journal.specs.Births.{NameableFrom, first_births};
 ghost use Rattle.sp_journal.specs.declared.entry.Entry.{Entry as AnEntry};
 
 use sp_base::Memory;
@@ -22,7 +22,7 @@ pub trait Watcher: Drop {
 
     /// Tells it the next entry. Where memory is refused the watcher is unchanged.
     fn see(&mut self, entry: &Entry) -> Result<(), Memory>
-        requires { NameableFrom at_start (told self.old ++ entry.now ∷ []) }
+        requires { NameableFrom first_births (told self.old ++ entry.now ∷ []) }
         ensures ok { OnOk result (told self.new ≡ told self.old ++ entry.now ∷ []) }
         ensures text { text self.new ≡ text self.old }
         ensures title { title self.new ≡ title self.old }

@@ -13,8 +13,9 @@ use Rattle.atomic_table.specs.Table.{step, keeps, takes, gives, stepped, Allows}
 use Rattle.atomic_table.proofs.Lists.{at_set, set_here, set_else, set_again, exchanged}
 use Rattle.sp_room.specs.declared.view.View.{View}
 use Rattle.sp_room.specs.History.{StartsWith, notes_by, LeadsTo}
-use Rattle.sp_room.specs.Roomed.{Filed, St, Sat, Knows, Roomed, holder, raised, returned, Won, claims_of, in_hand}
-use Rattle.sp_room.specs.Roomed.{Raised, RaisedLast, raised_last, Returned}
+use Rattle.sp_room.specs.RoomRule.{SlotBox, RoomTable, SeatPart, SeatKnows, RoomRule, holder, view_after_note}
+use Rattle.sp_room.specs.RoomRule.{view_after_return, Won, claims_of, in_hand}
+use Rattle.sp_room.specs.RoomRule.{Raised, RaisedLast, view_after_last_note, Returned}
 use Rattle.sp_room.proofs.Histories.{at_inside, starts_self, starts_trans, by_mine, by_other, claims_set, claims_has}
 
 module _ {O A G N : Type 0} (opens : O → Type 0) (steps : O → ℕ → A → O → G → Option N → Type 0) (author : N → ℕ)
@@ -22,15 +23,15 @@ module _ {O A G N : Type 0} (opens : O → Type 0) (steps : O → ℕ → A → 
   abbrev V : Type 0
   V = View O N
 
-  abbrev Rule : St O N → Type 0
-  Rule = Roomed opens steps author opening
+  abbrev Rule : RoomTable O N → Type 0
+  Rule = RoomRule opens steps author opening
 
-  abbrev turn : St O N → ℕ
+  abbrev turn : RoomTable O N → ℕ
   turn s = get_or s.words 0 0
 
   -- the seat id goes from v to w, while the turn is free or its own, and the history grows by notes of its own alone
-  record Moves (s : St O N) (r : Rule s) (id : ℕ) (v w : V) (words : List ℕ)
-      (homes : List (mathlib.Core.Option.Option (Option (Filed O N)))) (log : List N) (last : O) : Type 0 where
+  record SeatMoves (s : RoomTable O N) (r : Rule s) (id : ℕ) (v w : V) (words : List ℕ)
+      (homes : List (mathlib.Core.Option.Option (Option (SlotBox O N)))) (log : List N) (last : O) : Type 0 where
     at : get_elem? s.views id ≡ some v
     active : v.spent ≡ false
     opened : w.opening ≡ v.opening
@@ -50,14 +51,14 @@ module _ {O A G N : Type 0} (opens : O → Type 0) (steps : O → ℕ → A → 
     wide : length words ≡ 2
     deep : length homes ≡ 1
     count : get_or words 1 0 ≡ length log
-    free : get_or words 0 0 ≡ 0 → (d : Filed O N) × (get_elem? homes 0 ≡ some (some (Some d)))
+    free : get_or words 0 0 ≡ 0 → (d : SlotBox O N) × (get_elem? homes 0 ≡ some (some (Some d)))
         × (d.value.notes.items ≡ log) × LeadsTo steps opening log d.value.object
         × (claims_of (set s.views id w) ≤ d.value.reserved) × (length log + d.value.reserved ≤ d.value.notes.cap)
     taken : get_or words 0 0 ≢ 0 → (get_or words 0 0 ≡ id + 1) × (w.holding ≡ true)
 
-  module _ (s : St O N) (r : Rule s) (id : ℕ) (v w : V) (words : List ℕ)
-      (homes : List (mathlib.Core.Option.Option (Option (Filed O N)))) (log : List N) (last : O)
-      (m : Moves s r id v w words homes log last) where
+  module _ (s : RoomTable O N) (r : Rule s) (id : ℕ) (v w : V) (words : List ℕ)
+      (homes : List (mathlib.Core.Option.Option (Option (SlotBox O N)))) (log : List N) (last : O)
+      (m : SeatMoves s r id v w words homes log last) where
     abbrev views : List V
     views = set s.views id w
 
@@ -75,7 +76,7 @@ module _ {O A G N : Type 0} (opens : O → Type 0) (steps : O → ℕ → A → 
         (m.others (u.from + i) h.0 ∙ t.0, t.1, h.1, t.3)
 
     other : (j : ℕ) (u : V) → j ≢ id → get_elem? s.views j ≡ some u → u.spent ≡ false
-        → Knows author opening log (get_or words 0 0) views j u
+        → SeatKnows author opening log (get_or words 0 0) views j u
     other j u ne at on = let k = r.each j u at on in record {
       opened = k.opened;
       numbered = k.numbered;
@@ -89,7 +90,7 @@ module _ {O A G N : Type 0} (opens : O → Type 0) (steps : O → ℕ → A → 
       had_seen = λ i l e. starts_trans log r.log l m.grows (k.had_seen i l e);
     }
 
-    mine : Knows author opening log (get_or words 0 0) views id w
+    mine : SeatKnows author opening log (get_or words 0 0) views id w
     mine = let k = r.each id v m.at m.active in record {
       opened = m.opened ∙ k.opened;
       numbered = m.numbered ∙ k.numbered;
@@ -122,7 +123,7 @@ module _ {O A G N : Type 0} (opens : O → Type 0) (steps : O → ℕ → A → 
       taken = λ j e. let t = m.taken (λ z. absurd (omega (arith, z, e))) in let same : j ≡ id = omega (arith, e, t.0) in
           (w, ap (get_elem? views) same ∙ set_here s.views id w inside, t.1, m.still);
       each = λ j u e on. ⊎_elim (λ (t : (j ≡ id) × (w ≡ u)). subst
-          (λ (z : ℕ × V). Knows author opening log (get_or words 0 0) views z.0 z.1) (λ i. (sym t.0 i, t.1 i)) mine)
+          (λ (z : ℕ × V). SeatKnows author opening log (get_or words 0 0) views z.0 z.1) (λ i. (sym t.0 i, t.1 i)) mine)
           (λ (t : (j ≢ id) × (get_elem? s.views j ≡ some u)). other j u t.0 t.1 on) (at_set s.views id j w u e);
       nobody = λ j le. let out : length s.views ≤ j = subst (λ n. n ≤ j) (length-set s.views id w) le in
           m.others j (λ same. let i : id < length s.views = inside in absurd (omega (arith, same, out, i)))
@@ -130,20 +131,20 @@ module _ {O A G N : Type 0} (opens : O → Type 0) (steps : O → ℕ → A → 
     }
 
   -- nothing changes
-  unmoved : (s : St O N) → Rule s → (i id : ℕ) (v : V) (cs : List (ℕ × Option (Filed O N)))
+  unmoved : (s : RoomTable O N) → Rule s → (i id : ℕ) (v : V) (cs : List (ℕ × Option (SlotBox O N)))
       → get_elem? s.views id ≡ some v → Rule (stepped s i (get_or s.words i 0) id cs v keeps)
   unmoved s r i id v cs at = subst (λ (z : List ℕ × List V). Rule record { words = z.0; homes = s.homes; views = z.1 })
       (λ k. (sym (set-get_or s.words i 0) k, sym (set_again s.views id v at) k)) r
 
-  pub takes_turn : (slots id mine : ℕ) (me : Sat O N) → mine ≡ me.0.number + 1 → me.1 ≡ [] → me.0.spent ≡ false
+  pub takes_turn : (slots id mine : ℕ) (me : SeatPart O N) → mine ≡ me.0.number + 1 → me.1 ≡ [] → me.0.spent ≡ false
       → Allows Rule slots id me 0 (λ n. either (eqb n 0) mine n) (Won opens steps author (step slots 0 0 mine none) me)
   takes_turn slots id flag me num bare active s r deep at small =
       exchanged (turn s) 0 flag
-      (λ n. (w : V) × (a : Rattle.atomic_table.specs.Table.Act (Option (Filed O N)))
+      (λ n. (w : V) × (a : Rattle.atomic_table.specs.Table.Act (Option (SlotBox O N)))
       × Rattle.atomic_table.specs.Table.Valid s.homes me.1 a × Rule (stepped s 0 n id me.1 w a)
       × Won opens steps author (step slots 0 0 flag none) me (turn s)
       (w, Rattle.atomic_table.specs.Table.carried_after me.1 a))
-      (λ free. let t = r.free free in let d : Filed O N = t.0 in let k = r.each id me.0 at active in
+      (λ free. let t = r.free free in let d : SlotBox O N = t.0 in let k = r.each id me.0 at active in
       let w : V = holder me.0 d.value.notes.items d.value.reserved in
       let same_claims = claims_set s.views id me.0 w at in let wide = r.wide in
       let now : get_or (set s.words 0 flag) 0 0 ≡ flag = get_or-set_same s.words 0 flag 0 (omega arith) in
@@ -195,7 +196,7 @@ module _ {O A G N : Type 0} (opens : O → Type 0) (steps : O → ℕ → A → 
       ))
       (λ held. (me.0, keeps, tt, unmoved s r 0 id me.0 me.1 at, ((λ _. refl), λ free. absurd (held free))))
 
-  pub raises : (slots id : ℕ) (me : Sat O N) (note : N) (y : O) → me.0.spent ≡ false → me.0.holding ≡ true
+  pub raises : (slots id : ℕ) (me : SeatPart O N) (note : N) (y : O) → me.0.spent ≡ false → me.0.holding ≡ true
       → in_hand me.1 ≡ me.0.seen ++ note ∷ [] → author note ≡ me.0.number
       → LeadsTo steps opening (me.0.seen ++ note ∷ []) y → length me.0.seen + 1 < 18446744073709551616
       → Allows Rule slots id me 1 (λ n. (n + 1) % 2 ^ 64) (Raised (step slots 1 1 0 none) me)
@@ -203,7 +204,7 @@ module _ {O A G N : Type 0} (opens : O → Type 0) (steps : O → ℕ → A → 
       let h = k.holds holding in
       let e : drop (length me.0.seen) (in_hand me.1) ≡ note ∷ [] = ap (drop (length me.0.seen)) hand
       ∙ drop-append_seam me.0.seen (note ∷ []) in
-      let w : V = raised me.0 (note ∷ []) in let wide = r.wide in let n : ℕ = get_or s.words 1 0 in
+      let w : V = view_after_note me.0 (note ∷ []) in let wide = r.wide in let n : ℕ = get_or s.words 1 0 in
       let count : n ≡ length me.0.seen = r.count ∙ ap (λ (l : List N). length l) (sym h.1) in
       let next : (n + 1) % 2 ^ 64 ≡ n + 1 = omega arith in
       let there : get_or (set s.words 1 ((n + 1) % 2 ^ 64)) 0 0 ≡ turn s =
@@ -211,10 +212,10 @@ module _ {O A G N : Type 0} (opens : O → Type 0) (steps : O → ℕ → A → 
       let here : get_or (set s.words 1 ((n + 1) % 2 ^ 64)) 1 0 ≡ (n + 1) % 2 ^ 64 =
       get_or-set_same s.words 1 ((n + 1) % 2 ^ 64) 0 (omega arith) in
       let by : author note ≡ id = named ∙ k.numbered in (
-        raised me.0 (drop (length me.0.seen) (in_hand me.1)),
+        view_after_note me.0 (drop (length me.0.seen) (in_hand me.1)),
         keeps,
         tt,
-        subst (λ l. Rule (stepped s 1 ((n + 1) % 2 ^ 64) id me.1 (raised me.0 l) keeps)) (sym e)
+        subst (λ l. Rule (stepped s 1 ((n + 1) % 2 ^ 64) id me.1 (view_after_note me.0 l) keeps)) (sym e)
             (moved s r id me.0 w (set s.words 1 ((n + 1) % 2 ^ 64)) s.homes (r.log ++ note ∷ []) y record {
               at = at;
               active = active;
@@ -246,7 +247,7 @@ module _ {O A G N : Type 0} (opens : O → Type 0) (steps : O → ℕ → A → 
         refl,
       )
 
-  pub raises_last : (slots id : ℕ) (me : Sat O N) (note : N) (y : O) → me.0.spent ≡ false → me.0.holding ≡ true
+  pub raises_last : (slots id : ℕ) (me : SeatPart O N) (note : N) (y : O) → me.0.spent ≡ false → me.0.holding ≡ true
       → in_hand me.1 ≡ me.0.seen ++ note ∷ [] → author note ≡ me.0.number
       → LeadsTo steps opening (me.0.seen ++ note ∷ []) y → 0 < me.0.claims → length me.0.seen + 1 < 18446744073709551616
       → Allows Rule slots id me 1 (λ n. (n + 1) % 2 ^ 64) (RaisedLast (step slots 1 1 0 none) me)
@@ -254,7 +255,7 @@ module _ {O A G N : Type 0} (opens : O → Type 0) (steps : O → ℕ → A → 
       r.each id me.0 at active in let h = k.holds holding in
       let e : drop (length me.0.seen) (in_hand me.1) ≡ note ∷ [] = ap (drop (length me.0.seen)) hand
       ∙ drop-append_seam me.0.seen (note ∷ []) in
-      let w : V = raised_last me.0 (note ∷ []) in let wide = r.wide in let n : ℕ = get_or s.words 1 0 in
+      let w : V = view_after_last_note me.0 (note ∷ []) in let wide = r.wide in let n : ℕ = get_or s.words 1 0 in
       let count : n ≡ length me.0.seen = r.count ∙ ap (λ (l : List N). length l) (sym h.1) in
       let next : (n + 1) % 2 ^ 64 ≡ n + 1 = omega arith in
       let there : get_or (set s.words 1 ((n + 1) % 2 ^ 64)) 0 0 ≡ turn s =
@@ -262,10 +263,10 @@ module _ {O A G N : Type 0} (opens : O → Type 0) (steps : O → ℕ → A → 
       let here : get_or (set s.words 1 ((n + 1) % 2 ^ 64)) 1 0 ≡ (n + 1) % 2 ^ 64 =
       get_or-set_same s.words 1 ((n + 1) % 2 ^ 64) 0 (omega arith) in
       let by : author note ≡ id = named ∙ k.numbered in (
-        raised_last me.0 (drop (length me.0.seen) (in_hand me.1)),
+        view_after_last_note me.0 (drop (length me.0.seen) (in_hand me.1)),
         keeps,
         tt,
-        subst (λ l. Rule (stepped s 1 ((n + 1) % 2 ^ 64) id me.1 (raised_last me.0 l) keeps)) (sym e)
+        subst (λ l. Rule (stepped s 1 ((n + 1) % 2 ^ 64) id me.1 (view_after_last_note me.0 l) keeps)) (sym e)
             (moved s r id me.0 w (set s.words 1 ((n + 1) % 2 ^ 64)) s.homes (r.log ++ note ∷ []) y record {
               at = at;
               active = active;
@@ -297,12 +298,12 @@ module _ {O A G N : Type 0} (opens : O → Type 0) (steps : O → ℕ → A → 
         refl,
       )
 
-  pub returns_turn : (slots id : ℕ) (me : Sat O N) (d : Filed O N) → me.0.spent ≡ false → me.0.holding ≡ true
+  pub returns_turn : (slots id : ℕ) (me : SeatPart O N) (d : SlotBox O N) → me.0.spent ≡ false → me.0.holding ≡ true
       → me.1 ≡ (0, Some d) ∷ [] → d.value.notes.items ≡ me.0.seen → LeadsTo steps opening me.0.seen d.value.object
       → d.value.reserved ≡ me.0.reserve → length me.0.seen + d.value.reserved ≤ d.value.notes.cap
       → Allows Rule slots id me 0 (λ _. 0) (λ _. Returned (step slots 0 0 0 none) me 0)
   returns_turn slots id me d active holding hand items runs reserve space s r deep at small = let k =
-      r.each id me.0 at active in let h = k.holds holding in let w : V = returned me.0 in let wide = r.wide in
+      r.each id me.0 at active in let h = k.holds holding in let w : V = view_after_return me.0 in let wide = r.wide in
       let one = r.deep in
       let now : get_or (set s.words 0 0) 0 0 ≡ 0 = get_or-set_same s.words 0 0 0 (omega arith) in (
         w,
@@ -343,107 +344,116 @@ module _ {O A G N : Type 0} (opens : O → Type 0) (steps : O → ℕ → A → 
               );
               taken = λ ne. absurd (ne now);
             }),
-        ap (λ (c : List (ℕ × Option (Filed O N))). (w, Rattle.atomic_table.specs.Table.rest c)) hand,
+        ap (λ (c : List (ℕ × Option (SlotBox O N))). (w, Rattle.atomic_table.specs.Table.rest c)) hand,
       )
 
-  laid : (me me' : Sat O N) (d : Filed O N) → me ≡ (me.0, (0, None) ∷ [])
+  laid : (me me' : SeatPart O N) (d : SlotBox O N) → me ≡ (me.0, (0, None) ∷ [])
       → me' ≡ (me.0, (0, Some d) ∷ Rattle.atomic_table.specs.Table.rest me.1) → me' ≡ (me.0, (0, Some d) ∷ [])
-  laid me me' d bare is = is ∙ ap (λ (m : Sat O N). (me.0, (0, Some d) ∷ Rattle.atomic_table.specs.Table.rest m.1)) bare
+  laid me me' d bare is =
+      is ∙ ap (λ (m : SeatPart O N). (me.0, (0, Some d) ∷ Rattle.atomic_table.specs.Table.rest m.1)) bare
 
   -- the desk was laid back as it was found
-  pub gives_back : (slots id : ℕ) (me me' : Sat O N) (d : Filed O N) → me ≡ (me.0, (0, None) ∷ [])
+  pub gives_back : (slots id : ℕ) (me me' : SeatPart O N) (d : SlotBox O N) → me ≡ (me.0, (0, None) ∷ [])
       → me' ≡ (me.0, (0, Some d) ∷ Rattle.atomic_table.specs.Table.rest me.1)
       → me.0.spent ≡ false → me.0.holding ≡ true → d.value.notes.items ≡ me.0.seen
       → LeadsTo steps opening me.0.seen d.value.object → d.value.reserved ≡ me.0.reserve
       → length me.0.seen + d.value.reserved ≤ d.value.notes.cap
       → Allows Rule slots id me' 0 (λ _. 0) (λ _. Returned (step slots 0 0 0 none) me' 0)
   gives_back slots id me me' d bare is active holding items runs reserve space =
-      subst (λ (m : Sat O N). Allows Rule slots id m 0 (λ _. 0) (λ _. Returned (step slots 0 0 0 none) m 0))
+      subst (λ (m : SeatPart O N). Allows Rule slots id m 0 (λ _. 0) (λ _. Returned (step slots 0 0 0 none) m 0))
       (sym (laid me me' d bare is))
       (returns_turn slots id (me.0, (0, Some d) ∷ []) d active holding refl items runs reserve space)
 
   -- the desk was laid back with one note more
-  pub counts_on : (slots id : ℕ) (me me' : Sat O N) (d : Filed O N) (note : N) → me ≡ (me.0, (0, None) ∷ [])
+  pub counts_on : (slots id : ℕ) (me me' : SeatPart O N) (d : SlotBox O N) (note : N) → me ≡ (me.0, (0, None) ∷ [])
       → me' ≡ (me.0, (0, Some d) ∷ Rattle.atomic_table.specs.Table.rest me.1)
       → me.0.spent ≡ false → me.0.holding ≡ true → author note ≡ me.0.number
       → d.value.notes.items ≡ me.0.seen ++ note ∷ [] → LeadsTo steps opening (me.0.seen ++ note ∷ []) d.value.object
       → length d.value.notes.items < 18446744073709551616
       → Allows Rule slots id me' 1 (λ n. (n + 1) % 2 ^ 64) (Raised (step slots 1 1 0 none) me')
   counts_on slots id me me' d note bare is active holding named items runs small =
-      subst (λ (m : Sat O N). Allows Rule slots id m 1 (λ n. (n + 1) % 2 ^ 64) (Raised (step slots 1 1 0 none) m))
+      subst (λ (m : SeatPart O N). Allows Rule slots id m 1 (λ n. (n + 1) % 2 ^ 64) (Raised (step slots 1 1 0 none) m))
       (sym (laid me me' d bare is))
       (raises slots id (me.0, (0, Some d) ∷ []) note d.value.object active holding items named runs
       (omega (arith, small, ap (λ (l : List N). length l) items, length-append me.0.seen (note ∷ []))))
 
-  counted : (me me' me'' : Sat O N) (d : Filed O N) (note : N) → me ≡ (me.0, (0, None) ∷ [])
+  counted : (me me' me'' : SeatPart O N) (d : SlotBox O N) (note : N) → me ≡ (me.0, (0, None) ∷ [])
       → me' ≡ (me.0, (0, Some d) ∷ Rattle.atomic_table.specs.Table.rest me.1)
       → d.value.notes.items ≡ me.0.seen ++ note ∷ []
-      → me'' ≡ (raised me'.0 (drop (length me'.0.seen) (in_hand me'.1)), me'.1)
-      → me'' ≡ (raised me.0 (note ∷ []), (0, Some d) ∷ [])
+      → me'' ≡ (view_after_note me'.0 (drop (length me'.0.seen) (in_hand me'.1)), me'.1)
+      → me'' ≡ (view_after_note me.0 (note ∷ []), (0, Some d) ∷ [])
   counted me me' me'' d note bare is items up = up
-      ∙ (ap (λ (m : Sat O N). (raised m.0 (drop (length m.0.seen) (in_hand m.1)), m.1)) (laid me me' d bare is)
-      ∙ ap (λ (l : List N). (raised me.0 l, (0, Some d) ∷ []))
+      ∙ (ap (λ (m : SeatPart O N). (view_after_note m.0 (drop (length m.0.seen) (in_hand m.1)), m.1))
+      (laid me me' d bare is)
+      ∙ ap (λ (l : List N). (view_after_note me.0 l, (0, Some d) ∷ []))
       (ap (drop (length me.0.seen)) items ∙ drop-append_seam me.0.seen (note ∷ [])))
 
   -- and then the turn is given back
-  pub gives_on : (slots id : ℕ) (me me' me'' : Sat O N) (d : Filed O N) (note : N) → me ≡ (me.0, (0, None) ∷ [])
+  pub gives_on : (slots id : ℕ) (me me' me'' : SeatPart O N) (d : SlotBox O N) (note : N) → me ≡ (me.0, (0, None) ∷ [])
       → me' ≡ (me.0, (0, Some d) ∷ Rattle.atomic_table.specs.Table.rest me.1)
-      → me'' ≡ (raised me'.0 (drop (length me'.0.seen) (in_hand me'.1)), me'.1)
+      → me'' ≡ (view_after_note me'.0 (drop (length me'.0.seen) (in_hand me'.1)), me'.1)
       → me.0.spent ≡ false → me.0.holding ≡ true → d.value.notes.items ≡ me.0.seen ++ note ∷ []
       → LeadsTo steps opening (me.0.seen ++ note ∷ []) d.value.object → d.value.reserved ≡ me.0.reserve
       → length d.value.notes.items + d.value.reserved ≤ d.value.notes.cap
       → Allows Rule slots id me'' 0 (λ _. 0) (λ _. Returned (step slots 0 0 0 none) me'' 0)
   gives_on slots id me me' me'' d note bare is up active holding items runs reserve space =
-      subst (λ (m : Sat O N). Allows Rule slots id m 0 (λ _. 0) (λ _. Returned (step slots 0 0 0 none) m 0))
+      subst (λ (m : SeatPart O N). Allows Rule slots id m 0 (λ _. 0) (λ _. Returned (step slots 0 0 0 none) m 0))
       (sym (counted me me' me'' d note bare is items up))
-      (returns_turn slots id (raised me.0 (note ∷ []), (0, Some d) ∷ []) d active holding refl items runs reserve
+      (returns_turn slots id (view_after_note me.0 (note ∷ []), (0, Some d) ∷ []) d active holding refl items runs
+      reserve
       (omega (arith, ap (λ (l : List N). length l) items, space)))
 
   -- the desk was laid back with one note more
-  pub counts_last : (slots id : ℕ) (me me' : Sat O N) (d : Filed O N) (note : N) → me ≡ (me.0, (0, None) ∷ [])
+  pub counts_last : (slots id : ℕ) (me me' : SeatPart O N) (d : SlotBox O N) (note : N) → me ≡ (me.0, (0, None) ∷ [])
       → me' ≡ (me.0, (0, Some d) ∷ Rattle.atomic_table.specs.Table.rest me.1)
       → me.0.spent ≡ false → me.0.holding ≡ true → author note ≡ me.0.number
       → d.value.notes.items ≡ me.0.seen ++ note ∷ [] → LeadsTo steps opening (me.0.seen ++ note ∷ []) d.value.object
       → 0 < me.0.claims → length d.value.notes.items < 18446744073709551616
       → Allows Rule slots id me' 1 (λ n. (n + 1) % 2 ^ 64) (RaisedLast (step slots 1 1 0 none) me')
   counts_last slots id me me' d note bare is active holding named items runs claim small =
-      subst (λ (m : Sat O N). Allows Rule slots id m 1 (λ n. (n + 1) % 2 ^ 64) (RaisedLast (step slots 1 1 0 none) m))
+      subst (λ (m : SeatPart O N). Allows Rule slots id m 1
+      (λ n. (n + 1) % 2 ^ 64) (RaisedLast (step slots 1 1 0 none) m))
       (sym (laid me me' d bare is))
       (raises_last slots id (me.0, (0, Some d) ∷ []) note d.value.object active holding items named runs claim
       (omega (arith, small, ap (λ (l : List N). length l) items, length-append me.0.seen (note ∷ []))))
 
-  counted_last : (me me' me'' : Sat O N) (d : Filed O N) (note : N) → me ≡ (me.0, (0, None) ∷ [])
+  counted_last : (me me' me'' : SeatPart O N) (d : SlotBox O N) (note : N) → me ≡ (me.0, (0, None) ∷ [])
       → me' ≡ (me.0, (0, Some d) ∷ Rattle.atomic_table.specs.Table.rest me.1)
       → d.value.notes.items ≡ me.0.seen ++ note ∷ []
-      → me'' ≡ (raised_last me'.0 (drop (length me'.0.seen) (in_hand me'.1)), me'.1)
-      → me'' ≡ (raised_last me.0 (note ∷ []), (0, Some d) ∷ [])
+      → me'' ≡ (view_after_last_note me'.0 (drop (length me'.0.seen) (in_hand me'.1)), me'.1)
+      → me'' ≡ (view_after_last_note me.0 (note ∷ []), (0, Some d) ∷ [])
   counted_last me me' me'' d note bare is items up = up
-      ∙ (ap (λ (m : Sat O N). (raised_last m.0 (drop (length m.0.seen) (in_hand m.1)), m.1)) (laid me me' d bare is)
-      ∙ ap (λ (l : List N). (raised_last me.0 l, (0, Some d) ∷ []))
+      ∙ (ap (λ (m : SeatPart O N). (view_after_last_note m.0 (drop (length m.0.seen) (in_hand m.1)), m.1))
+      (laid me me' d bare is)
+      ∙ ap (λ (l : List N). (view_after_last_note me.0 l, (0, Some d) ∷ []))
       (ap (drop (length me.0.seen)) items ∙ drop-append_seam me.0.seen (note ∷ [])))
 
   -- and then the turn is given back
-  pub gives_last : (slots id : ℕ) (me me' me'' : Sat O N) (d : Filed O N) (note : N) → me ≡ (me.0, (0, None) ∷ [])
+  pub gives_last : (slots id : ℕ) (me me' me'' : SeatPart O N) (d : SlotBox O N) (note : N)
+      → me ≡ (me.0, (0, None) ∷ [])
       → me' ≡ (me.0, (0, Some d) ∷ Rattle.atomic_table.specs.Table.rest me.1)
-      → me'' ≡ (raised_last me'.0 (drop (length me'.0.seen) (in_hand me'.1)), me'.1)
+      → me'' ≡ (view_after_last_note me'.0 (drop (length me'.0.seen) (in_hand me'.1)), me'.1)
       → me.0.spent ≡ false → me.0.holding ≡ true → d.value.notes.items ≡ me.0.seen ++ note ∷ []
       → LeadsTo steps opening (me.0.seen ++ note ∷ []) d.value.object → d.value.reserved ≡ me.0.reserve - 1
       → length d.value.notes.items + d.value.reserved ≤ d.value.notes.cap
       → Allows Rule slots id me'' 0 (λ _. 0) (λ _. Returned (step slots 0 0 0 none) me'' 0)
   gives_last slots id me me' me'' d note bare is up active holding items runs reserve space =
-      subst (λ (m : Sat O N). Allows Rule slots id m 0 (λ _. 0) (λ _. Returned (step slots 0 0 0 none) m 0))
+      subst (λ (m : SeatPart O N). Allows Rule slots id m 0 (λ _. 0) (λ _. Returned (step slots 0 0 0 none) m 0))
       (sym (counted_last me me' me'' d note bare is items up))
-      (returns_turn slots id (raised_last me.0 (note ∷ []), (0, Some d) ∷ []) d active holding refl items runs reserve
+      (returns_turn slots id (view_after_last_note me.0 (note ∷ []), (0, Some d) ∷ []) d active holding refl items runs
+      reserve
       (omega (arith, ap (λ (l : List N). length l) items, space)))
 
-pub given_on : {O N : Type 0} (me me' me'' me''' : Sat O N) (d : Filed O N) (note : N) → me ≡ (me.0, (0, None) ∷ [])
+pub given_on : {O N : Type 0} (me me' me'' me''' : SeatPart O N) (d : SlotBox O N) (note : N)
+    → me ≡ (me.0, (0, None) ∷ [])
     → me' ≡ (me.0, (0, Some d) ∷ Rattle.atomic_table.specs.Table.rest me.1)
     → d.value.notes.items ≡ me.0.seen ++ note ∷ []
-    → me'' ≡ (raised me'.0 (drop (length me'.0.seen) (in_hand me'.1)), me'.1) → me''' ≡ (returned me''.0, [])
-    → me''' ≡ (returned (raised me.0 (note ∷ [])), [])
+    → me'' ≡ (view_after_note me'.0 (drop (length me'.0.seen) (in_hand me'.1)), me'.1)
+    → me''' ≡ (view_after_return me''.0, [])
+    → me''' ≡ (view_after_return (view_after_note me.0 (note ∷ [])), [])
 given_on {O} {N} me me' me'' me''' d note bare is items up back = back
-    ∙ ap (λ (m : Sat O N). (returned m.0, []))
-    (up ∙ (ap (λ (m : Sat O N). (raised m.0 (drop (length m.0.seen) (in_hand m.1)), m.1))
-    (is ∙ ap (λ (m : Sat O N). (me.0, (0, Some d) ∷ Rattle.atomic_table.specs.Table.rest m.1)) bare)
-    ∙ ap (λ (l : List N). (raised me.0 l, (0, Some d) ∷ []))
+    ∙ ap (λ (m : SeatPart O N). (view_after_return m.0, []))
+    (up ∙ (ap (λ (m : SeatPart O N). (view_after_note m.0 (drop (length m.0.seen) (in_hand m.1)), m.1))
+    (is ∙ ap (λ (m : SeatPart O N). (me.0, (0, Some d) ∷ Rattle.atomic_table.specs.Table.rest m.1)) bare)
+    ∙ ap (λ (l : List N). (view_after_note me.0 l, (0, Some d) ∷ []))
     (ap (drop (length me.0.seen)) items ∙ drop-append_seam me.0.seen (note ∷ []))))

@@ -4,7 +4,7 @@ use Rattle.std.proofs.Common.{zero, suc, ◌+◌, List, [], ◌∷◌, ◌++◌,
 use mathlib.Core.Option.{some}
 use lib.ListN.{get_elem?}
 use Rattle.sp_room.specs.declared.view.View.{View}
-use Rattle.sp_room.specs.Roomed.{Stands, taking}
+use Rattle.sp_room.specs.RoomRule.{IsViewAt, view_after_joining}
 
 module _ {X : Type 0} where
   pub get_end : (xs : List X) (x t : X) (k : ℕ) → slice_get (xs ++ x ∷ []) k ≡ Some t → (slice_get xs k ≡ Some t)
@@ -31,20 +31,20 @@ module _ {X : Type 0} where
 
 module _ {X Z O N : Type 0} (view : X → View O N) (tab : X → Z) (z : Z) (n : ℕ) (items : List X) where
   abbrev pub Row : Type 0
-  Row = (k : ℕ) (t : X) → slice_get items k ≡ Some t → (tab t ≡ z) × Stands n k (view t)
+  Row = (k : ℕ) (t : X) → slice_get items k ≡ Some t → (tab t ≡ z) × IsViewAt n k (view t)
 
   -- the seat that has taken in all seats from length rest on
-  abbrev pub Keeps : List X → View O N → Type 0
-  Keeps rest v = (v.spent ≡ false) × (v.holding ≡ false) × (v.from ≡ length rest) × (v.dealt ≡ n)
+  abbrev pub HasTakenIn : List X → View O N → Type 0
+  HasTakenIn rest v = (v.spent ≡ false) × (v.holding ≡ false) × (v.from ≡ length rest) × (v.dealt ≡ n)
       × ((taken : List X) × (items ≡ rest ++ taken) × (v.joined ++ v.own ∷ [] ≡ map (λ t. (view t).own) taken)
       × (v.looked ++ v.seen ∷ [] ≡ map (λ t. (view t).seen) taken))
 
   pub popped : (rest : List X) (x : X) (more : List X) → items ≡ rest ++ x ∷ more → Row → (tab x ≡ z)
-      × Stands n (length rest) (view x)
+      × IsViewAt n (length rest) (view x)
   popped rest x more e row = row (length rest) x (ap (λ l. slice_get l (length rest)) e ∙ get_last rest x more)
 
   pub keeps_first : (rest : List X) (x : X) → items ≡ rest ++ x ∷ [] → n ≡ length items → (view x).spent ≡ false
-      → (view x).holding ≡ false → Row → Keeps rest (view x)
+      → (view x).holding ≡ false → Row → HasTakenIn rest (view x)
   keeps_first rest x e long active idle row = let s = (popped rest x [] e row).1 in (
     active,
     idle,
@@ -53,12 +53,12 @@ module _ {X Z O N : Type 0} (view : X → View O N) (tab : X → Z) (z : Z) (n :
     (x ∷ [], e, ap (λ l. l ++ (view x).own ∷ []) s.joined, ap (λ l. l ++ (view x).seen ∷ []) s.looked),
   )
 
-  pub keeps_next : (rest old : List X) (x : X) (v v' : View O N) → old ≡ rest ++ x ∷ [] → Keeps old v
-      → v' ≡ taking v (view x) → Row → Keeps rest v'
+  pub keeps_next : (rest old : List X) (x : X) (v v' : View O N) → old ≡ rest ++ x ∷ [] → HasTakenIn old v
+      → v' ≡ view_after_joining v (view x) → Row → HasTakenIn rest v'
   keeps_next rest old x v v' e k is row = let taken = k.4.0 in
       let whole : items ≡ rest ++ x ∷ taken = k.4.1 ∙ (ap (λ l. l ++ taken) e ∙ append_assoc rest (x ∷ []) taken) in
       let s = (popped rest x taken whole row).1 in
-      subst (Keeps rest) (sym is) (
+      subst (HasTakenIn rest) (sym is) (
         k.0,
         k.1,
         s.number,
@@ -66,7 +66,8 @@ module _ {X Z O N : Type 0} (view : X → View O N) (tab : X → Z) (z : Z) (n :
         (x ∷ taken, whole, ap (λ l. (view x).own ∷ l) k.4.2, ap (λ l. (view x).seen ∷ l) k.4.3),
       )
 
-  pub next_number : (rest old : List X) (x : X) (v : View O N) → old ≡ rest ++ x ∷ [] → Keeps old v → Row → (tab x ≡ z)
+  pub next_number : (rest old : List X) (x : X) (v : View O N) → old ≡ rest ++ x ∷ [] → HasTakenIn old v → Row
+      → (tab x ≡ z)
       × ((view x).number + 1 ≡ v.from)
   next_number rest old x v e k row = let taken = k.4.0 in
       let whole : items ≡ rest ++ x ∷ taken = k.4.1 ∙ (ap (λ l. l ++ taken) e ∙ append_assoc rest (x ∷ []) taken) in
@@ -74,17 +75,18 @@ module _ {X Z O N : Type 0} (view : X → View O N) (tab : X → Z) (z : Z) (n :
       (s.0, omega (arith, s.1.number, k.2, ap (λ (l : List X). length l) e, length-append rest (x ∷ [])))
 
   -- where it has taken in all
-  pub at_start : (rest : List X) (v : View O N) → length rest ≡ 0 → 0 < length items → n ≡ length items → Keeps rest v
-      → (v.from ≡ 0) × (v.dealt ≢ 0) × Keeps [] v
+  pub at_start : (rest : List X) (v : View O N) → length rest ≡ 0 → 0 < length items → n ≡ length items
+      → HasTakenIn rest v
+      → (v.from ≡ 0) × (v.dealt ≢ 0) × HasTakenIn [] v
   at_start [] v none several same k = (k.2, (λ z. absurd (omega (arith, z, k.3, several, same))), k)
   at_start (x ∷ xs) v none several same k = absurd (omega (arith, none))
 
-  pub owns_of : (v : View O N) → Keeps [] v → (k : ℕ) (t : X) → slice_get items k ≡ Some t
+  pub owns_of : (v : View O N) → HasTakenIn [] v → (k : ℕ) (t : X) → slice_get items k ≡ Some t
       → get_elem? (v.joined ++ v.own ∷ []) k ≡ some (view t).own
   owns_of v kept k t e = ap (λ l. get_elem? l k) (kept.4.2 ∙ ap (map (λ u. (view u).own)) (sym kept.4.1))
       ∙ get_mapped (λ u. (view u).own) items t k e
 
-  pub seens_of : (v : View O N) → Keeps [] v → (k : ℕ) (t : X) → slice_get items k ≡ Some t
+  pub seens_of : (v : View O N) → HasTakenIn [] v → (k : ℕ) (t : X) → slice_get items k ≡ Some t
       → get_elem? (v.looked ++ v.seen ∷ []) k ≡ some (view t).seen
   seens_of v kept k t e = ap (λ l. get_elem? l k) (kept.4.3 ∙ ap (map (λ u. (view u).seen)) (sym kept.4.1))
       ∙ get_mapped (λ u. (view u).seen) items t k e

@@ -9,11 +9,12 @@ use native.Mathlib.Decide.{ℕ_discrete}
 use lib.ListN.{get_elem?}
 use Rattle.atomic_table.specs.Table.{Splits, Joins, Seen, Final, opening}
 use Rattle.atomic_table.proofs.Lists.{at_set, set_here, set_else, at_longer}
-use Rattle.sp_room.specs.declared.desk.Desk.{Desk}
+use Rattle.sp_room.specs.declared.room_slot.RoomSlot.{RoomSlot}
 use Rattle.sp_room.specs.declared.view.View.{View}
 use Rattle.sp_room.specs.History.{StartsWith, notes_by, LeadsTo}
-use Rattle.sp_room.specs.Roomed.{Filed, St, Sat, Knows, Roomed, first_view, dealt_out, newcomer, taking, spent_view}
-use Rattle.sp_room.specs.Roomed.{newborn, claims_of, IsNewAt}
+use Rattle.sp_room.specs.RoomRule.{SlotBox, RoomTable, SeatPart, SeatKnows, RoomRule, first_view, view_after_dealing}
+use Rattle.sp_room.specs.RoomRule.{newcomer, view_after_joining, spent_view}
+use Rattle.sp_room.specs.RoomRule.{newborn, claims_of, IsNewAt}
 use Rattle.sp_room.proofs.Histories.{at_inside, claims_set, claims_end}
 
 pub at_end : {X : Type 0} (l : List X) (a b : X) (j : ℕ) → get_elem? (l ++ a ∷ []) j ≡ some b → (get_elem? l j ≡ some b)
@@ -33,17 +34,17 @@ module _ {O A G N : Type 0} (opens : O → Type 0) (steps : O → ℕ → A → 
   abbrev V : Type 0
   V = View O N
 
-  abbrev Rule : St O N → Type 0
-  Rule = Roomed opens steps author start
+  abbrev Rule : RoomTable O N → Type 0
+  Rule = RoomRule opens steps author start
 
-  abbrev turn : St O N → ℕ
+  abbrev turn : RoomTable O N → ℕ
   turn s = get_or s.words 0 0
 
   -- what a seat knows stays, where the seats that were taken in stay so, and it deals with as many seats
-  stays : (log : List N) (t : ℕ) (old new : List V) (j : ℕ) (u : V) → Knows author start log t old j u
+  stays : (log : List N) (t : ℕ) (old new : List V) (j : ℕ) (u : V) → SeatKnows author start log t old j u
       → ((k : ℕ) (x : V) → get_elem? old k ≡ some x → x.spent ≡ true → get_elem? new k ≡ some x)
       → (u.dealt ≢ 0 → (u.dealt ≡ length new) × (j + 1 ≡ length new)) → claims_of new ≤ claims_of old
-      → Knows author start log t new j u
+      → SeatKnows author start log t new j u
   stays log t old new j u k there counts less = record {
     opened = k.opened;
     numbered = k.numbered;
@@ -59,7 +60,7 @@ module _ {O A G N : Type 0} (opens : O → Type 0) (steps : O → ℕ → A → 
   one : (l : List V) (i : ℕ) (x y : V) → get_elem? l i ≡ some x → get_elem? l i ≡ some y → x ≡ y
   one l i x y a b = some-injective x y (sym a ∙ b)
 
-  pub opens_room : (d : Filed O N) → opens start → d.value.object ≡ start → d.value.notes.items ≡ []
+  pub opens_room : (d : SlotBox O N) → opens start → d.value.object ≡ start → d.value.notes.items ≡ []
       → d.value.reserved ≡ 64 → 64 ≤ d.value.notes.cap → Rule (opening (0 ∷ 0 ∷ []) (Some d ∷ []) (first_view start))
   opens_room d fine is empty kept space = record {
     fine = fine;
@@ -75,8 +76,8 @@ module _ {O A G N : Type 0} (opens : O → Type 0) (steps : O → ℕ → A → 
     nobody = λ _ _. refl;
   } where
     first : (j : ℕ) (v : V) → get_elem? (first_view start ∷ []) j ≡ some v → v.spent ≡ false
-        → Knows author start [] 0 (first_view start ∷ []) j v
-    first zero v e on = subst (λ (z : V). Knows author start [] 0 (first_view start ∷ []) 0 z)
+        → SeatKnows author start [] 0 (first_view start ∷ []) j v
+    first zero v e on = subst (λ (z : V). SeatKnows author start [] 0 (first_view start ∷ []) 0 z)
         (some-injective (first_view start) v e) record {
           opened = refl;
           numbered = refl;
@@ -91,17 +92,17 @@ module _ {O A G N : Type 0} (opens : O → Type 0) (steps : O → ℕ → A → 
     first (suc j) v e on = absurd (some-ne-none v (sym e))
 
   pub deals : (id : ℕ) (v : V) → v.spent ≡ false → v.dealt ≢ 0 → 0 < v.claims
-      → Splits Rule id v (dealt_out v) (newcomer v)
+      → Splits Rule id v (view_after_dealing v) (newcomer v)
   deals id v active dealing claim s r at = let k = r.each id v at active in let n : ℕ = length s.views in
-      let old : List V = set s.views id (dealt_out v) in let new : List V = old ++ newcomer v ∷ [] in
-      let c = k.counts dealing in let wide : length old ≡ n = length-set s.views id (dealt_out v) in
+      let old : List V = set s.views id (view_after_dealing v) in let new : List V = old ++ newcomer v ∷ [] in
+      let c = k.counts dealing in let wide : length old ≡ n = length-set s.views id (view_after_dealing v) in
       let long : length new ≡ length old + 1 = length-append old (newcomer v ∷ []) in
       let inside : id < n = at_inside s.views id v at in
       let less : claims_of new ≤ claims_of s.views =
-      omega (arith, claim, claims_set s.views id v (dealt_out v) at, claims_end old (newcomer v)) in
+      omega (arith, claim, claims_set s.views id v (view_after_dealing v) at, claims_end old (newcomer v)) in
       let there : (j : ℕ) (x : V) → get_elem? s.views j ≡ some x → x.spent ≡ true → get_elem? new j ≡ some x
       = λ j x e gone. at_longer old (newcomer v ∷ []) j x
-      (set_else s.views id j (dealt_out v)
+      (set_else s.views id j (view_after_dealing v)
       (λ same. true≢false (sym gone ∙ (ap (λ (z : V). z.spent)
       (one s.views id x v (ap (get_elem? s.views) (sym same) ∙ e) at) ∙ active))) ∙ e) in record {
         fine = r.fine;
@@ -114,24 +115,25 @@ module _ {O A G N : Type 0} (opens : O → Type 0) (steps : O → ℕ → A → 
         free = λ z. let t = r.free z in (t.0, t.1, t.2, t.3, omega (arith, t.4, less), t.5);
         taken = λ j e. let t = r.taken j e in dite (ℕ_discrete j id)
             (λ same. let is : t.0 ≡ v = one s.views id t.0 v (ap (get_elem? s.views) (sym same) ∙ t.1) at in (
-              dealt_out v,
-              at_longer old (newcomer v ∷ []) j (dealt_out v)
-                  (ap (get_elem? old) same ∙ set_here s.views id (dealt_out v) inside),
+              view_after_dealing v,
+              at_longer old (newcomer v ∷ []) j (view_after_dealing v)
+                  (ap (get_elem? old) same ∙ set_here s.views id (view_after_dealing v) inside),
               ap (λ (z : V). z.holding) (sym is)
                   ∙ t.2,
               active,
             ))
             (λ ne. (
               t.0,
-              at_longer old (newcomer v ∷ []) j t.0 (set_else s.views id j (dealt_out v) ne ∙ t.1),
+              at_longer old (newcomer v ∷ []) j t.0 (set_else s.views id j (view_after_dealing v) ne ∙ t.1),
               t.2,
               t.3,
             ));
         each = λ j u e on. ⊎_elim
             (λ (h : get_elem? old j ≡ some u). ⊎_elim
-            (λ (p : (j ≡ id) × (dealt_out v ≡ u)). subst (λ (z : ℕ × V). Knows author start r.log (turn s) new z.0 z.1)
+            (λ (p : (j ≡ id) × (view_after_dealing v ≡ u)). subst
+            (λ (z : ℕ × V). SeatKnows author start r.log (turn s) new z.0 z.1)
             (λ i. (sym p.0 i, p.1 i))
-            (stays r.log (turn s) s.views new id (dealt_out v) record {
+            (stays r.log (turn s) s.views new id (view_after_dealing v) record {
               opened = k.opened;
               numbered = k.numbered;
               seen = k.seen;
@@ -145,9 +147,9 @@ module _ {O A G N : Type 0} (opens : O → Type 0) (steps : O → ℕ → A → 
             (λ (p : (j ≢ id) × (get_elem? s.views j ≡ some u)). stays r.log (turn s) s.views new j u (r.each j u p.1 on)
             there
             (λ z. let d = (r.each j u p.1 on).counts z in absurd (p.0 (omega (arith, d.1, c.1)))) less)
-            (at_set s.views id j (dealt_out v) u h))
+            (at_set s.views id j (view_after_dealing v) u h))
             (λ (h : (j ≡ length old) × (newcomer v ≡ u)). let here : j ≡ v.dealt = h.0 ∙ (wide ∙ sym c.0) in
-            subst (λ (z : ℕ × V). Knows author start r.log (turn s) new z.0 z.1) (λ i. (sym here i, h.1 i)) record {
+            subst (λ (z : ℕ × V). SeatKnows author start r.log (turn s) new z.0 z.1) (λ i. (sym here i, h.1 i)) record {
               opened = k.opened;
               numbered = refl;
               seen = k.seen;
@@ -164,9 +166,9 @@ module _ {O A G N : Type 0} (opens : O → Type 0) (steps : O → ℕ → A → 
 
   pub joins : (id : ℕ) (v : V) (other : ℕ) (w : V) → v.spent ≡ false → v.holding ≡ false → w.spent ≡ false
       → w.holding ≡ false → w.number + 1 ≡ v.from
-      → Joins Rule id v other w (taking v w) spent_view
+      → Joins Rule id v other w (view_after_joining v w) spent_view
   joins id v other w active idle there_active there_idle next s r at apart at_other = let k = r.each id v at active in
-      let both : V = taking v w in let mid : List V = set s.views id both in
+      let both : V = view_after_joining v w in let mid : List V = set s.views id both in
       let new : List V = set mid other spent_view in
       let was : get_elem? s.views other ≡ some w = sym (set_else s.views id other both apart) ∙ at_other in
       let l = r.each other w was there_active in
@@ -203,7 +205,7 @@ module _ {O A G N : Type 0} (opens : O → Type 0) (steps : O → ℕ → A → 
         each = λ j u e on. ⊎_elim
             (λ (p : (j ≡ other) × (spent_view ≡ u)). absurd (true≢false (ap (λ (z : V). z.spent) p.1 ∙ on)))
             (λ (p : (j ≢ other) × (get_elem? mid j ≡ some u)). ⊎_elim
-            (λ (q : (j ≡ id) × (both ≡ u)). subst (λ (z : ℕ × V). Knows author start r.log (turn s) new z.0 z.1)
+            (λ (q : (j ≡ id) × (both ≡ u)). subst (λ (z : ℕ × V). SeatKnows author start r.log (turn s) new z.0 z.1)
             (λ i. (sym q.0 i, q.1 i)) record {
               opened = k.opened;
               numbered = k.numbered;
@@ -222,8 +224,8 @@ module _ {O A G N : Type 0} (opens : O → Type 0) (steps : O → ℕ → A → 
             (at_set mid other j spent_view u e);
         nobody = λ j le. r.nobody j (subst (λ n. n ≤ j) wide le);
       } where
-        took : (log : List N) (t : ℕ) (old new : List V) → Knows author start log t old id v
-            → Knows author start log t old other w → w.number + 1 ≡ v.from → get_elem? new other ≡ some spent_view
+        took : (log : List N) (t : ℕ) (old new : List V) → SeatKnows author start log t old id v
+            → SeatKnows author start log t old other w → w.number + 1 ≡ v.from → get_elem? new other ≡ some spent_view
             → ((j : ℕ) (x : V) → get_elem? old j ≡ some x → x.spent ≡ true → get_elem? new j ≡ some x)
             → (i : ℕ) (own : List N) → get_elem? (w.own ∷ v.joined) i ≡ some own
             → (notes_by author (w.number + i) log ≡ own) × (x : V) × (get_elem? new (w.number + i) ≡ some x)
@@ -243,14 +245,14 @@ module _ {O A G N : Type 0} (opens : O → Type 0) (steps : O → ℕ → A → 
               h.3,
             )
 
-        looked_too : (log : List N) (t : ℕ) (old : List V) → Knows author start log t old id v
-            → Knows author start log t old other w → (i : ℕ) (x : List N) → get_elem? (w.seen ∷ v.looked) i ≡ some x
+        looked_too : (log : List N) (t : ℕ) (old : List V) → SeatKnows author start log t old id v
+            → SeatKnows author start log t old other w → (i : ℕ) (x : List N) → get_elem? (w.seen ∷ v.looked) i ≡ some x
             → StartsWith log x
         looked_too log t old k l zero x e = subst (StartsWith log) (some-injective w.seen x e) l.seen
         looked_too log t old k l (suc i) x e = k.had_seen i x e
 
   -- at the end, where one seat has taken in all others
-  pub all_home : (s : St O N) (r : Rule s) (id : ℕ) (v : V) → get_elem? s.views id ≡ some v → v.spent ≡ false
+  pub all_home : (s : RoomTable O N) (r : Rule s) (id : ℕ) (v : V) → get_elem? s.views id ≡ some v → v.spent ≡ false
       → v.holding ≡ false → v.from ≡ 0 → v.dealt ≢ 0 → turn s ≡ 0
   all_home s r id v at active idle from deals = dite (ℕ_discrete (turn s) 0) (λ z. z)
       (λ held. let j : ℕ = turn s - 1 in let k = r.each id v at active in let t = r.taken j (omega (arith, held)) in
@@ -264,16 +266,17 @@ module _ {O A G N : Type 0} (opens : O → Type 0) (steps : O → ℕ → A → 
       (one s.views j h.1 t.0 (ap (get_elem? s.views) (sym at_j) ∙ h.2) t.1) ∙ t.3)))))
 
   -- what was laid back, and whose notes are whose
-  pub settles : (words : List ℕ) (slots : List (Option (Filed O N))) (id : ℕ) (v : V) (x : Option (Filed O N))
+  pub settles : (words : List ℕ) (slots : List (Option (SlotBox O N))) (id : ℕ) (v : V) (x : Option (SlotBox O N))
       → Final (Seen Rule id v) words slots → v.spent ≡ false → v.holding ≡ false → v.from ≡ 0 → v.dealt ≢ 0
-      → get_elem? slots 0 ≡ some x → (d : Filed O N) × (x ≡ Some d)
+      → get_elem? slots 0 ≡ some x → (d : SlotBox O N) × (x ≡ Some d)
       × LeadsTo steps start d.value.notes.items d.value.object
       × ((k : ℕ) (own : List N) → get_elem? (v.joined ++ v.own ∷ []) k ≡ some own
       → notes_by author k d.value.notes.items ≡ own)
       × ((k : ℕ) (l : List N) → get_elem? (v.looked ++ v.seen ∷ []) k ≡ some l → StartsWith d.value.notes.items l)
-  settles words slots id v x final active idle from deals found = let s : St O N = final.0 in let r = final.1.0 in
+  settles words slots id v x final active idle from deals found = let s : RoomTable O N = final.0 in
+      let r = final.1.0 in
       let at = final.1.1 in let k = r.each id v at active in
-      let h = r.free (all_home s r id v at active idle from deals) in let d : Filed O N = h.0 in (
+      let h = r.free (all_home s r id v at active idle from deals) in let d : SlotBox O N = h.0 in (
         d,
         some-injective x (Some d) (sym found ∙ final.4 0 (Some d) h.1),
         subst (λ l. LeadsTo steps start l d.value.object) (sym h.2) h.3,
@@ -290,27 +293,27 @@ module _ {O A G N : Type 0} (opens : O → Type 0) (steps : O → ℕ → A → 
       )
 
   -- and nobody else has a note
-  pub nobody_else : (words : List ℕ) (slots : List (Option (Filed O N))) (id : ℕ) (v : V) (x : Option (Filed O N))
-      (d : Filed O N) → Final (Seen Rule id v) words slots → v.spent ≡ false → v.holding ≡ false → v.from ≡ 0
+  pub nobody_else : (words : List ℕ) (slots : List (Option (SlotBox O N))) (id : ℕ) (v : V) (x : Option (SlotBox O N))
+      (d : SlotBox O N) → Final (Seen Rule id v) words slots → v.spent ≡ false → v.holding ≡ false → v.from ≡ 0
       → v.dealt ≢ 0
       → get_elem? slots 0 ≡ some x → x ≡ Some d → (k : ℕ) → v.dealt ≤ k → notes_by author k d.value.notes.items ≡ []
-  nobody_else words slots id v x d final active idle from deals found is k out = let s : St O N = final.0 in
+  nobody_else words slots id v x d final active idle from deals found is k out = let s : RoomTable O N = final.0 in
       let r = final.1.0 in let at = final.1.1 in let c = (r.each id v at active).counts deals in
       let h = r.free (all_home s r id v at active idle from deals) in
       let same : h.0 ≡ d = same_Some h.0 d (sym (some-injective x (Some h.0) (sym found ∙ final.4 0 (Some h.0) h.1))
       ∙ is) in
-      ap (λ (e : Filed O N). notes_by author k e.value.notes.items) (sym same)
+      ap (λ (e : SlotBox O N). notes_by author k e.value.notes.items) (sym same)
       ∙ (ap (λ l. notes_by author k l) h.2 ∙ r.nobody k (omega (arith, c.0, out)))
 
 -- the first of several seats leaves the dealing to the next
 pub deals_on : {O A G N : Type 0} (opens : O → Type 0) (steps : O → ℕ → A → O → G → Option N → Type 0) (author : N → ℕ)
-    (start : O) (id : ℕ) (me : Sat O N) (number : ℕ) (dealt : ℕ) (claims : ℕ)
+    (start : O) (id : ℕ) (me : SeatPart O N) (number : ℕ) (dealt : ℕ) (claims : ℕ)
     → me ≡ (newborn start number dealt claims, []) → 0 < dealt → 0 < claims
-    → Splits (Roomed opens steps author start) id me.0 (dealt_out me.0) (newcomer me.0)
+    → Splits (RoomRule opens steps author start) id me.0 (view_after_dealing me.0) (newcomer me.0)
 deals_on opens steps author start id me number dealt claims is several claim =
-    deals opens steps author start id me.0 (ap (λ (m : Sat _ _). m.0.spent) is)
-    (λ z. let e : dealt ≡ 0 = ap (λ (m : Sat _ _). m.0.dealt) (sym is) ∙ z in absurd (omega arith))
-    (let e : me.0.claims ≡ claims = ap (λ (m : Sat _ _). m.0.claims) is in omega arith)
+    deals opens steps author start id me.0 (ap (λ (m : SeatPart _ _). m.0.spent) is)
+    (λ z. let e : dealt ≡ 0 = ap (λ (m : SeatPart _ _). m.0.dealt) (sym is) ∙ z in absurd (omega arith))
+    (let e : me.0.claims ≡ claims = ap (λ (m : SeatPart _ _). m.0.claims) is in omega arith)
 
 -- a seat that was dealt is new
 pub born : {O N : Type 0} (x : O) (n k : ℕ) (v : View O N) → v ≡ newborn x k v.dealt v.claims → 0 < v.claims
@@ -331,31 +334,33 @@ born x n k v is claim last = record {
 
 -- the table of a new room
 pub opens_table : {O A G N : Type 0} (opens : O → Type 0) (steps : O → ℕ → A → O → G → Option N → Type 0)
-    (author : N → ℕ) (x : O) (d : Filed O N) (slots : List (Option (Filed O N)))
+    (author : N → ℕ) (x : O) (d : SlotBox O N) (slots : List (Option (SlotBox O N)))
     → slots ≡ Some d ∷ [] → x ≡ d.value.object → opens d.value.object → d.value.notes.items ≡ [] → d.value.reserved ≡ 64
-    → 64 ≤ d.value.notes.cap → Roomed opens steps author x (opening (0 ∷ 0 ∷ []) slots (first_view x))
+    → 64 ≤ d.value.notes.cap → RoomRule opens steps author x (opening (0 ∷ 0 ∷ []) slots (first_view x))
 opens_table {O} {A} {G} {N} opens steps author x d slots is same fine empty kept space =
-    subst (λ (z : O × List (Option (Filed O N))). Roomed opens steps author z.0
+    subst (λ (z : O × List (Option (SlotBox O N))). RoomRule opens steps author z.0
     (opening (0 ∷ 0 ∷ []) z.1 (first_view z.0)))
     (λ i. (sym same i, sym is i)) (opens_room opens steps author d.value.object d fine refl empty kept space)
 
 -- the same, of what was filed
 pub opens_filed : {O A G N : Type 0} (opens : O → Type 0) (steps : O → ℕ → A → O → G → Option N → Type 0)
-    (author : N → ℕ) (x : O) (first : Desk O N) (d : Filed O N) (slots : List (Option (Filed O N)))
+    (author : N → ℕ) (x : O) (first : RoomSlot O N) (d : SlotBox O N) (slots : List (Option (SlotBox O N)))
     → d.value ≡ first → slots ≡ Some d ∷ [] → x ≡ first.object → opens first.object → first.notes.items ≡ []
     → first.reserved ≡ 64 → 64 ≤ first.notes.cap
-    → Roomed opens steps author x (opening (0 ∷ 0 ∷ []) slots (first_view x))
+    → RoomRule opens steps author x (opening (0 ∷ 0 ∷ []) slots (first_view x))
 opens_filed {O} {A} {G} {N} opens steps author x first d slots filed is same fine empty kept space =
     let back : first ≡ d.value = sym filed in
-    opens_table opens steps author x d slots is (same ∙ ap (λ (e : Desk O N). e.object) back)
-    (subst (λ (e : Desk O N). opens e.object) back fine) (ap (λ (e : Desk O N). e.notes.items) filed ∙ empty)
-    (ap (λ (e : Desk O N). e.reserved) filed ∙ kept) (subst (λ (e : Desk O N). 64 ≤ e.notes.cap) back space)
+    opens_table opens steps author x d slots is (same ∙ ap (λ (e : RoomSlot O N). e.object) back)
+    (subst (λ (e : RoomSlot O N). opens e.object) back fine) (ap (λ (e : RoomSlot O N). e.notes.items) filed ∙ empty)
+    (ap (λ (e : RoomSlot O N). e.reserved) filed ∙ kept) (subst (λ (e : RoomSlot O N). 64 ≤ e.notes.cap) back space)
 
 -- the desk that was taken out of the slot
 pub settled : {O A G N : Type 0} (opens : O → Type 0) (steps : O → ℕ → A → O → G → Option N → Type 0) (author : N → ℕ)
-    (start : O) (words : List ℕ) (slots : List (Option (Filed O N))) (id : ℕ) (v : View O N) (x : Option (Filed O N))
-    (d : Filed O N)
-    → Final (Seen (Roomed opens steps author start) id v) words slots → v.spent ≡ false → v.holding ≡ false → v.from ≡ 0
+    (start : O) (words : List ℕ) (slots : List (Option (SlotBox O N))) (id : ℕ) (v : View O N)
+    (x : Option (SlotBox O N))
+    (d : SlotBox O N)
+    → Final (Seen (RoomRule opens steps author start) id v) words slots → v.spent ≡ false → v.holding ≡ false
+    → v.from ≡ 0
     → v.dealt ≢ 0 → get_elem? slots 0 ≡ some x → x ≡ Some d
     → LeadsTo steps start d.value.notes.items d.value.object
     × ((k : ℕ) (own : List N) → get_elem? (v.joined ++ v.own ∷ []) k ≡ some own
@@ -364,7 +369,7 @@ pub settled : {O A G N : Type 0} (opens : O → Type 0) (steps : O → ℕ → A
 settled {O} {A} {G} {N} opens steps author start words slots id v x d final active idle from dealing found is = let t =
     settles opens steps author start words slots id v x final active idle from dealing found in
     let same : t.0 ≡ d = same_Some t.0 d (sym t.1 ∙ is) in
-    subst (λ (e : Filed O N). LeadsTo steps start e.value.notes.items e.value.object
+    subst (λ (e : SlotBox O N). LeadsTo steps start e.value.notes.items e.value.object
     × ((k : ℕ) (own : List N) → get_elem? (v.joined ++ v.own ∷ []) k ≡ some own
     → notes_by author k e.value.notes.items ≡ own)
     × ((k : ℕ) (l : List N) → get_elem? (v.looked ++ v.seen ∷ []) k ≡ some l → StartsWith e.value.notes.items l)) same

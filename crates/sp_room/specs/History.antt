@@ -18,9 +18,9 @@ notes_by author w [] = []
 notes_by author w (n ∷ ns) = either_list (author n == w) (n ∷ notes_by author w ns) (notes_by author w ns)
 
 -- a note, if there is one
-abbrev pub noted : {N : Type 0} → Option N → List N
-noted (Some n) = n ∷ []
-noted None = []
+abbrev pub note_list : {N : Type 0} → Option N → List N
+note_list (Some n) = n ∷ []
+note_list None = []
 
 -- asked in this order from the first state, the object gives these notes, and is in the last state then
 abbrev pub LeadsTo : {O A G N : Type 0} → (O → ℕ → A → O → G → Option N → Type 0) → O → List N → O → Type 0

@@ -1,4 +1,4 @@
 pub mod Ends
 pub mod History
-pub mod Roomed
+pub mod RoomRule
 pub mod Seats

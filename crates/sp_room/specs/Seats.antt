@@ -7,7 +7,7 @@ use Rattle.sp_room.specs.declared.kept.Kept.{Ghosts}
 use Rattle.sp_room.specs.declared.seat.Room.{Room}
 use Rattle.sp_room.specs.declared.seat.RoomSeat.{RoomSeat}
 use Rattle.sp_room.specs.declared.view.View.{View}
-use Rattle.sp_room.specs.Roomed.{Stands, IsNewAt}
+use Rattle.sp_room.specs.RoomRule.{IsViewAt, IsNewAt}
 
 module _ {O A G N : Type 0} where
   -- the state with which the room was made
@@ -51,7 +51,7 @@ module _ {O A G N : Type 0} {g : Ghosts O A G N} where
 
   -- the seat of n with the number k
   abbrev pub IsSeatAt : ℕ → ℕ → RoomSeat O A G N g → Type 0
-  IsSeatAt n k t = Stands n k (seat_view t)
+  IsSeatAt n k t = IsViewAt n k (seat_view t)
 
   -- the same seat, later
   pub record SamePlace (t u : RoomSeat O A G N g) : Type 0 where

@@ -6,15 +6,15 @@ ghost use lib.ListN.{get_elem?};
 ghost use Rattle.sp_room.specs.Seats.{opening_of, own_of, seen_by, seat_table, IsSeatAt};
 ghost use Rattle.sp_room.specs.History.{StartsWith, notes_by, LeadsTo};
 
-use crate::desk::Desk;
 use crate::kept::Kept;
 use crate::law::TakeIn;
+use crate::room_slot::RoomSlot;
 use crate::seat::{Room, RoomSeat};
 use atomic_table::Closed;
 use std::alloc::Global;
 
 // The last seat takes in the seat before it, again and again. The seats are all of the room's, in their order.
-pub(crate) fn gather<K: Kept>(room: Room<K>, mut row: Vec<RoomSeat<K>>) -> Box<Desk<K, K::Note>>
+pub(crate) fn gather<K: Kept>(room: Room<K>, mut row: Vec<RoomSeat<K>>) -> Box<RoomSlot<K, K::Note>>
     requires some { 0 < length row.items }
     requires all { (k : ℕ) (t : _) → slice_get row.items k ≡ Some t → (seat_table t ≡ room.table.shared.table_id)
         × IsSeatAt (length row.items) k t }

@@ -1,6 +1,6 @@
 //! The rule of a room's table, and what each step of a seat tells.
-use crate::desk::Desk;
 use crate::kept::Kept;
+use crate::room_slot::RoomSlot;
 use crate::view::View;
 use atomic_table::{Join, Play, Split, TableRule};
 use std::marker::PhantomData;
@@ -11,10 +11,11 @@ pub struct Law<K> {
     of: PhantomData<K>,
 }
 
-impl<K: Kept> TableRule<Option<Box<Desk<K, K::Note>>>, View<K, K::Note>, Snapshot<K>> for Law<K> {
-    ghost use Rattle.sp_room.specs.Roomed.{Roomed, first_view};
+impl<K: Kept> TableRule<Option<Box<RoomSlot<K, K::Note>>>, View<K, K::Note>, Snapshot<K>>
+    for Law<K> {
+    ghost use Rattle.sp_room.specs.RoomRule.{RoomRule, first_view};
 
-    ghost holds = { λ key. Roomed K.opens K.steps K.author key.value };
+    ghost holds = { λ key. RoomRule K.opens K.steps K.author key.value };
 
     ghost first = { λ key. first_view key.value };
 }
@@ -24,8 +25,8 @@ pub struct Take<K> {
     of: PhantomData<K>,
 }
 
-impl<K: Kept> Play<Option<Box<Desk<K, K::Note>>>, View<K, K::Note>> for Take<K> {
-    ghost use Rattle.sp_room.specs.Roomed.{Won};
+impl<K: Kept> Play<Option<Box<RoomSlot<K, K::Note>>>, View<K, K::Note>> for Take<K> {
+    ghost use Rattle.sp_room.specs.RoomRule.{Won};
 
     ghost then = { Won K.opens K.steps K.author };
 }
@@ -33,8 +34,8 @@ impl<K: Kept> Play<Option<Box<Desk<K, K::Note>>>, View<K, K::Note>> for Take<K> 
 /// Counts a note.
 pub struct Raise;
 
-impl<O, N> Play<Option<Box<Desk<O, N>>>, View<O, N>> for Raise {
-    ghost use Rattle.sp_room.specs.Roomed.{Raised};
+impl<O, N> Play<Option<Box<RoomSlot<O, N>>>, View<O, N>> for Raise {
+    ghost use Rattle.sp_room.specs.RoomRule.{Raised};
 
     ghost then = { Raised };
 }
@@ -42,8 +43,8 @@ impl<O, N> Play<Option<Box<Desk<O, N>>>, View<O, N>> for Raise {
 /// Counts a note of the reserve.
 pub struct RaiseLast;
 
-impl<O, N> Play<Option<Box<Desk<O, N>>>, View<O, N>> for RaiseLast {
-    ghost use Rattle.sp_room.specs.Roomed.{RaisedLast};
+impl<O, N> Play<Option<Box<RoomSlot<O, N>>>, View<O, N>> for RaiseLast {
+    ghost use Rattle.sp_room.specs.RoomRule.{RaisedLast};
 
     ghost then = { RaisedLast };
 }
@@ -51,8 +52,8 @@ impl<O, N> Play<Option<Box<Desk<O, N>>>, View<O, N>> for RaiseLast {
 /// Gives the turn back.
 pub struct GiveBack;
 
-impl<O, N> Play<Option<Box<Desk<O, N>>>, View<O, N>> for GiveBack {
-    ghost use Rattle.sp_room.specs.Roomed.{Returned};
+impl<O, N> Play<Option<Box<RoomSlot<O, N>>>, View<O, N>> for GiveBack {
+    ghost use Rattle.sp_room.specs.RoomRule.{Returned};
 
     ghost then = { Returned };
 }
@@ -61,9 +62,9 @@ impl<O, N> Play<Option<Box<Desk<O, N>>>, View<O, N>> for GiveBack {
 pub struct Deal;
 
 impl<O, N> Split<View<O, N>> for Deal {
-    ghost use Rattle.sp_room.specs.Roomed.{dealt_out, newcomer};
+    ghost use Rattle.sp_room.specs.RoomRule.{view_after_dealing, newcomer};
 
-    ghost left = { dealt_out };
+    ghost left = { view_after_dealing };
 
     ghost right = { newcomer };
 }
@@ -72,9 +73,9 @@ impl<O, N> Split<View<O, N>> for Deal {
 pub struct TakeIn;
 
 impl<O, N> Join<View<O, N>> for TakeIn {
-    ghost use Rattle.sp_room.specs.Roomed.{taking, spent_view};
+    ghost use Rattle.sp_room.specs.RoomRule.{view_after_joining, spent_view};
 
-    ghost both = { taking };
+    ghost both = { view_after_joining };
 
     ghost spent = { spent_view };
 }

@@ -21,7 +21,8 @@
 //!   what a seat knows.
 //! - `lobby.rt` counts beside the table who sleeps and who looks for something to take, and wakes by that; `rest.rt` is
 //!   what a seat does that found nothing. No clause speaks of them.
-//! - `specs/Seats.antt`, `Ends.antt` and `History.antt` are the words of the contracts, `specs/Roomed.antt` is the rule
+//! - `specs/Seats.antt`, `Ends.antt` and `History.antt` are the words of the contracts, `specs/RoomRule.antt` is the
+//!   rule
 //!   of the table.
 //! - Beside the own notes `close` says that what each seat has seen is a beginning of the whole history: so what a
 //!   worker was told at its last call can be carried to the end.
@@ -30,7 +31,8 @@
 //! - Turns count a refused ask too. The turn is taken before memory is asked for, so a seat has given back one turn
 //!   more whatever the answer is. That a refused ask left the object and the history as they were is said as far as one
 //!   seat can know it: its own notes are the same, and what it has seen is legal.
-//! - That a turn has seen the whole history of its moment is a part of the rule (`holds` of `Knows`): no clause of a
+//! - That a turn has seen the whole history of its moment is a part of the rule (`holds` of `SeatKnows`): no clause of
+//!   a
 //!   call can name that moment. What the call says is that its history is legal, begins with all that was seen, and has
 //!   every note of the seat.
 //! - `refuse` gives back all that the ask held: that is the law `regained`, by which the ask can be told from the
@@ -66,20 +68,20 @@
 //!   - The turn is given back (word 0, store): it holds no turn, and has given one more back.
 //!
 //! To change:
-//! - What a step does: `specs/Roomed.antt` and the lemma of that step in `proofs/RoomKeeps.antt` (turn) or
+//! - What a step does: `specs/RoomRule.antt` and the lemma of that step in `proofs/RoomKeeps.antt` (turn) or
 //!   `proofs/SeatsKeep.antt` (seats).
 //! - What an object owes: `src/kept.rt`.
 //! - Whom a note wakes: `wake` of `src/lobby.rt`, and what the object says of `left`.
 //! - How long a seat looks: the constants of `src/rest.rt` and `src/turn.rt`; measure with `tests/speed`.
 #![tactic(auto)]
 
-mod desk;
 mod ending;
 mod kept;
 mod law;
 mod lobby;
 mod rest;
 mod room;
+mod room_slot;
 mod seat;
 mod seats;
 mod settled;

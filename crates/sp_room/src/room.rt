@@ -4,14 +4,14 @@ ghost use Rattle.std.specs.Prelude.{IfOk, IfErr};
 ghost use Rattle.sp_room.specs.Seats.{opening_of, number_of, seen_by, own_of, turns_of, claims_of_seat, seat_view};
 ghost use Rattle.sp_room.specs.Seats.{IsSeatOf, IsNewSeat, IsSeatAt, SamePlace};
 ghost use Rattle.sp_room.specs.Ends.{object_of, notes_of};
-ghost use Rattle.sp_room.specs.Roomed.{Called, Declined};
+ghost use Rattle.sp_room.specs.RoomRule.{Called, Declined};
 ghost use Rattle.sp_room.specs.History.{StartsWith, notes_by, LeadsTo};
 
-use crate::desk::{Desk, put, put_last};
 use crate::ending::gather;
 use crate::kept::{Kept, Served};
 use crate::lobby::Lobby;
 use crate::rest::rest_in;
+use crate::room_slot::{RoomSlot, put, put_last};
 use crate::seat::{Room, RoomSeat};
 use crate::seats::deal;
 use crate::settled::Settled;
@@ -46,7 +46,7 @@ impl<K: Kept> Room<K> {
         let Ok(notes) = Vec::with_capacity(alloc, RESERVE as usize) else {
             return Err(object);
         };
-        let desk = Desk {
+        let desk = RoomSlot {
             object,
             notes,
             reserved: RESERVE,
@@ -79,7 +79,7 @@ impl<K: Kept> Room<K> {
         ensures seen { (k : ℕ) (t : _) → slice_get seats k ≡ Some t → StartsWith (notes_of result) (seen_by t) }
         ensures others { (k : ℕ) → length seats ≤ k → notes_by K.author k (notes_of result) ≡ [] }
     {
-        let Desk {
+        let RoomSlot {
             object,
             notes,
             reserved: _,
@@ -90,7 +90,7 @@ impl<K: Kept> Room<K> {
 }
 
 // The object of a table that was not made.
-fn taken_back<K: Kept>(refused: Refused<Option<Box<Desk<K, K::Note>>>, Global>) -> K
+fn taken_back<K: Kept>(refused: Refused<Option<Box<RoomSlot<K, K::Note>>>, Global>) -> K
     requires { (d : _) × (refused.slots.items ≡ Some d ∷ []) }
     ensures { (d : _) → refused.slots.items ≡ Some d ∷ [] → result ≡ d.value.object }
 {
@@ -102,10 +102,10 @@ fn taken_back<K: Kept>(refused: Refused<Option<Box<Desk<K, K::Note>>>, Global>) 
     object_off(Box::into_inner(desk))
 }
 
-fn object_off<K: Kept>(desk: Desk<K, K::Note>) -> K
+fn object_off<K: Kept>(desk: RoomSlot<K, K::Note>) -> K
     ensures { result ≡ desk.object }
 {
-    let Desk {
+    let RoomSlot {
         object,
         notes: _,
         reserved: _,

@@ -1,11 +1,11 @@
 //! The room, and a worker's seat in it.
 ghost use Rattle.std.specs.Prelude.{◌≡◌, length};
-ghost use Rattle.sp_room.specs.Roomed.{IsIdle};
+ghost use Rattle.sp_room.specs.RoomRule.{IsIdleSeat};
 
-use crate::desk::Desk;
 use crate::kept::Kept;
 use crate::law::Law;
 use crate::lobby::Lobby;
+use crate::room_slot::RoomSlot;
 use crate::view::View;
 use atomic_table::{Seat, Table};
 use std::alloc::Global;
@@ -18,7 +18,7 @@ use std::snapshot::Snapshot;
 #[derive(Drop)]
 pub struct Room<K: Kept> {
     pub(crate) table: Table<
-        Option<Box<Desk<K, K::Note>>>,
+        Option<Box<RoomSlot<K, K::Note>>>,
         View<K, K::Note>,
         Snapshot<K>,
         Law<K>,
@@ -33,8 +33,8 @@ pub struct Room<K: Kept> {
 pub struct RoomSeat<K: Kept> {
     pub(crate) number: u32,
     pub(crate) seen: u64,
-    pub(crate) seat: Seat<Option<Box<Desk<K, K::Note>>>, View<K, K::Note>>,
+    pub(crate) seat: Seat<Option<Box<RoomSlot<K, K::Note>>>, View<K, K::Note>>,
     ghost numbered: { number ≡ seat.me.0.number },
     ghost counted: { seen ≡ length seat.me.0.seen },
-    ghost idle: { IsIdle seat.me },
+    ghost idle: { IsIdleSeat seat.me },
 }

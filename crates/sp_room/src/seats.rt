@@ -2,11 +2,11 @@
 ghost use Rattle.std.specs.Prelude.{◌≡◌, ℕ, ◌+◌, ◌<◌, ◌≤◌, Some, [], length, slice_get};
 ghost use Rattle.std.specs.Vec.{vec_capacity};
 ghost use Rattle.sp_room.specs.Seats.{seat_view, seat_table};
-ghost use Rattle.sp_room.specs.Roomed.{newborn};
+ghost use Rattle.sp_room.specs.RoomRule.{newborn};
 
-use crate::desk::Desk;
 use crate::kept::Kept;
 use crate::law::Deal;
+use crate::room_slot::RoomSlot;
 use crate::seat::{Room, RoomSeat};
 use crate::view::View;
 use atomic_table::Seat;
@@ -14,7 +14,7 @@ use atomic_table::Seat;
 // Deals out the seats of a room, the first of which is there.
 pub(crate) fn deal<K: Kept>(
     room: &Room<K>,
-    first: Seat<Option<Box<Desk<K, K::Note>>>, View<K, K::Note>>,
+    first: Seat<Option<Box<RoomSlot<K, K::Note>>>, View<K, K::Note>>,
     mut row: Vec<RoomSeat<K>>,
     seats: u32,
 ) -> Vec<RoomSeat<K>>

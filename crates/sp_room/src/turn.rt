@@ -1,13 +1,14 @@
 //! Taking the turn and giving it back.
 ghost use Rattle.std.specs.Prelude.{◌≡◌, ◌-◌, ◌+◌, ◌<◌, ◌≤◌, true, false, Some, None, [], ◌∷◌, ◌++◌, length};
 ghost use Rattle.std.specs.Vec.{vec_capacity};
-ghost use Rattle.sp_room.specs.Roomed.{holder, raised, raised_last, returned, Holds, IsIdle};
+ghost use Rattle.sp_room.specs.RoomRule.{holder, view_after_note, view_after_last_note, view_after_return, HoldsSlot};
+ghost use Rattle.sp_room.specs.RoomRule.{IsIdleSeat};
 ghost use Rattle.sp_room.specs.History.{LeadsTo};
 
-use crate::desk::Desk;
 use crate::kept::Kept;
 use crate::law::{GiveBack, Raise, RaiseLast, Take};
 use crate::lobby::{low_bits, pause};
+use crate::room_slot::RoomSlot;
 use crate::seat::Room;
 use crate::view::View;
 use atomic_table::Seat;
@@ -30,14 +31,14 @@ const BETWEEN: u32 = 2;
 pub(crate) fn take_turn<K: Kept, R: Wait>(
     rt: &R,
     room: &Room<K>,
-    seat: &mut Seat<Option<Box<Desk<K, K::Note>>>, View<K, K::Note>>,
+    seat: &mut Seat<Option<Box<RoomSlot<K, K::Note>>>, View<K, K::Note>>,
     number: u32,
-) -> Box<Desk<K, K::Note>>
+) -> Box<RoomSlot<K, K::Note>>
     requires room { seat.old.table_id ≡ room.now.table.shared.table_id }
-    requires idle { IsIdle seat.old.me × (number ≡ seat.old.me.0.number) }
+    requires idle { IsIdleSeat seat.old.me × (number ≡ seat.old.me.0.number) }
     ensures same { (seat.new.table_id ≡ seat.old.table_id) × (seat.new.id ≡ seat.old.id) }
     ensures won { (seat.new.me ≡ (holder seat.old.me.0 result.value.notes.items result.value.reserved, (0, None) ∷ []))
-        × Holds K.opens K.steps K.author seat.old.me.0 result }
+        × HoldsSlot K.opens K.steps K.author seat.old.me.0 result }
 {
     let shared = &room.table.shared;
     let mine = number as u64 + 1;
@@ -82,8 +83,8 @@ fn wake_next<K: Kept>(room: &Room<K>) {
 // Lays the desk back as it was found, and gives the turn back.
 pub(crate) fn give_back<K: Kept>(
     room: &Room<K>,
-    seat: &mut Seat<Option<Box<Desk<K, K::Note>>>, View<K, K::Note>>,
-    desk: Box<Desk<K, K::Note>>,
+    seat: &mut Seat<Option<Box<RoomSlot<K, K::Note>>>, View<K, K::Note>>,
+    desk: Box<RoomSlot<K, K::Note>>,
 ) -> u64
     requires room { seat.old.table_id ≡ room.now.table.shared.table_id }
     requires holds { (seat.old.me ≡ (seat.old.me.0, (0, None) ∷ [])) × (seat.old.me.0.holding ≡ true)
@@ -93,7 +94,7 @@ pub(crate) fn give_back<K: Kept>(
         × (desk.value.reserved ≡ seat.old.me.0.reserve)
         × (length seat.old.me.0.seen + desk.value.reserved ≤ vec_capacity desk.value.notes) }
     ensures same { (seat.new.table_id ≡ seat.old.table_id) × (seat.new.id ≡ seat.old.id) }
-    ensures free { seat.new.me ≡ (returned seat.old.me.0, []) }
+    ensures free { seat.new.me ≡ (view_after_return seat.old.me.0, []) }
     ensures count { result ≡ length seat.new.me.0.seen }
 {
     let shared = &room.table.shared;
@@ -108,8 +109,8 @@ pub(crate) fn give_back<K: Kept>(
 // Lays the desk back with one note more, counts it, and gives the turn back.
 pub(crate) fn give_on<K: Kept>(
     room: &Room<K>,
-    seat: &mut Seat<Option<Box<Desk<K, K::Note>>>, View<K, K::Note>>,
-    desk: Box<Desk<K, K::Note>>,
+    seat: &mut Seat<Option<Box<RoomSlot<K, K::Note>>>, View<K, K::Note>>,
+    desk: Box<RoomSlot<K, K::Note>>,
     note: K::Note,
 ) -> u64
     requires room { seat.old.table_id ≡ room.now.table.shared.table_id }
@@ -121,7 +122,7 @@ pub(crate) fn give_on<K: Kept>(
         × (desk.value.reserved ≡ seat.old.me.0.reserve)
         × (length desk.value.notes.items + desk.value.reserved ≤ vec_capacity desk.value.notes) }
     ensures same { (seat.new.table_id ≡ seat.old.table_id) × (seat.new.id ≡ seat.old.id) }
-    ensures free { seat.new.me ≡ (returned (raised seat.old.me.0 (note ∷ [])), []) }
+    ensures free { seat.new.me ≡ (view_after_return (view_after_note seat.old.me.0 (note ∷ [])), []) }
     ensures count { result ≡ length seat.new.me.0.seen }
 {
     let shared = &room.table.shared;
@@ -139,8 +140,8 @@ pub(crate) fn give_on<K: Kept>(
 // Lays the desk back with a note of the reserve, counts it, and gives the turn back.
 pub(crate) fn give_last<K: Kept>(
     room: &Room<K>,
-    seat: &mut Seat<Option<Box<Desk<K, K::Note>>>, View<K, K::Note>>,
-    desk: Box<Desk<K, K::Note>>,
+    seat: &mut Seat<Option<Box<RoomSlot<K, K::Note>>>, View<K, K::Note>>,
+    desk: Box<RoomSlot<K, K::Note>>,
     note: K::Note,
 ) -> u64
     requires room { seat.old.table_id ≡ room.now.table.shared.table_id }
@@ -153,7 +154,7 @@ pub(crate) fn give_last<K: Kept>(
         × (desk.value.reserved ≡ seat.old.me.0.reserve - 1)
         × (length desk.value.notes.items + desk.value.reserved ≤ vec_capacity desk.value.notes) }
     ensures same { (seat.new.table_id ≡ seat.old.table_id) × (seat.new.id ≡ seat.old.id) }
-    ensures free { seat.new.me ≡ (returned (raised_last seat.old.me.0 (note ∷ [])), []) }
+    ensures free { seat.new.me ≡ (view_after_return (view_after_last_note seat.old.me.0 (note ∷ [])), []) }
     ensures count { result ≡ length seat.new.me.0.seen }
 {
     let shared = &room.table.shared;

@@ -14,15 +14,17 @@ use Rattle.sp_code.specs.declared.instr.Instr.{Instr}
 use Rattle.sp_code.specs.declared.instr.Instr.TheVariants as i
 use Rattle.sp_code.specs.Machine.{layout_of}
 use Rattle.sp_code.specs.Memory.{Home, OfBlock, OfIndex}
-use Rattle.sp_rules.specs.Areas.{Area, Found, Plainly, Never, given, found_by, found_in, found_of, found_at}
+use Rattle.sp_rules.specs.Areas.{Area, VariableInfo, Plainly, Never, on_option, found_by, found_in, found_of, found_at}
 use Rattle.sp_rules.specs.Areas.{variable_at, homes, instr_at}
 use Rattle.sp_rules.specs.Chains.{variables_of, variables_in, all_variables}
-use Rattle.sp_rules.specs.Keeps.{Keeps}
+use Rattle.sp_rules.specs.KeepsCodeRules.{KeepsCodeRules}
 use Rattle.sp_rules.specs.Named.{is_plain, is_reference, names_well, InLayout, OfChild}
-use Rattle.sp_rules.specs.Reach.{IsArea, IsBrought, Leads, Brings, Reaches, Passes}
-use Rattle.sp_rules.specs.Shapes.{Shape, O, C, L, A, Shaped, Wrong, To, shaped, answered, take_o, take_c, take_a}
+use Rattle.sp_rules.specs.Reach.{IsArea, IsBrought, LeadsWith, Brings, Reaches, IsInCodeOf}
+use Rattle.sp_rules.specs.Shapes.{Shape, O, C, L, A, Shaped, Wrong, To, instr_shapes, with_answer, take_o, take_c}
+use Rattle.sp_rules.specs.Shapes.{take_a}
 use Rattle.sp_rules.specs.Shapes.{take_value, take_same, take_cells, take_all, take_none, two_to_one, one_to_one}
-use Rattle.sp_rules.specs.Shapes.{one_gone, two_gone, read_as, filled, begins, goes_round, addressed}
+use Rattle.sp_rules.specs.Shapes.{one_gone, two_gone, read_shapes, fill_shapes, loop_start_shapes, loop_end_shapes}
+use Rattle.sp_rules.specs.Shapes.{address_shapes}
 use Rattle.sp_rules.proofs.Scoping.{layout_variable, declared_here, member_home, index_declared, index_in}
 use Rattle.sp_rules.proofs.Walking.{passes}
 
@@ -119,48 +121,50 @@ module _ (P : ℕ → Type 0) where
   both_gone : (p : ℕ) (ss : List Shape) → AllP ss → GoesP (two_gone p ss)
   both_gone p ss h = by_o ss _ h (λ s1 h1. by_o s1 _ h1 (λ s2 h2. (h2, tt)))
 
-  read_o : (p : ℕ) (ss : List Shape) → AllP ss → GoesP (read_as O p ss)
+  read_o : (p : ℕ) (ss : List Shape) → AllP ss → GoesP (read_shapes O p ss)
   read_o p ss h = by_a ss _ h (λ x n s1 a h1. (h1, tt))
 
-  read_c : (p : ℕ) (ss : List Shape) → AllP ss → GoesP (read_as C p ss)
+  read_c : (p : ℕ) (ss : List Shape) → AllP ss → GoesP (read_shapes C p ss)
   read_c p ss h = by_a ss _ h (λ x n s1 a h1. (h1, tt))
 
-  read_l : (k p : ℕ) (ss : List Shape) → AllP ss → GoesP (read_as (L k) p ss)
+  read_l : (k p : ℕ) (ss : List Shape) → AllP ss → GoesP (read_shapes (L k) p ss)
   read_l k p ss h = by_a ss _ h (λ x n s1 a h1. (h1, tt))
 
-  fills : (p : ℕ) (ss : List Shape) → AllP ss → GoesP (filled p ss)
+  fills : (p : ℕ) (ss : List Shape) → AllP ss → GoesP (fill_shapes p ss)
   fills p ss h = by_a ss _ h (λ x n s1 a h1. (h1, tt))
 
-  begin : (p to : ℕ) (ss : List Shape) → AllP ss → GoesP (begins p to ss)
+  begin : (p to : ℕ) (ss : List Shape) → AllP ss → GoesP (loop_start_shapes p to ss)
   begin p to ss h = by_o ss _ h (λ s1 h1. by_o s1 _ h1 (λ s2 h2. (h2, (h2, tt))))
 
-  round : (p to : ℕ) (ss : List Shape) → AllP ss → GoesP (goes_round p to ss)
+  round : (p to : ℕ) (ss : List Shape) → AllP ss → GoesP (loop_end_shapes p to ss)
   round p to ss h = by_o ss _ h (λ s1 h1. (h1, (h1, tt)))
 
-  answer_p : (b : Bool) (ss : List Shape) → AllP ss → AllP (answered b ss)
+  answer_p : (b : Bool) (ss : List Shape) → AllP ss → AllP (with_answer b ss)
   answer_p true ss h = h
   answer_p false ss h = h
 
-  module _ (c : Parts) (a : Area) (found : (up var : ℕ) (f : Found) → variable_at c a up var ≡ Some f
+  module _ (c : Parts) (a : Area) (found : (up var : ℕ) (f : VariableInfo) → variable_at c a up var ≡ Some f
       → (is_plain f.naming ≡ true) ⊎ (is_reference f.naming ≡ true)
       → P f.number) (p : ℕ) (ss : List Shape) (h : AllP ss) where
-    plain : (up var : ℕ) (o : Option Found) → variable_at c a up var ≡ o → given false o (λ f. is_plain f.naming) ≡ true
-        → GoesP (given Wrong o (λ f. addressed p ss f.number f.cells))
+    plain : (up var : ℕ) (o : Option VariableInfo) → variable_at c a up var ≡ o
+        → on_option false o (λ f. is_plain f.naming) ≡ true
+        → GoesP (on_option Wrong o (λ f. address_shapes p ss f.number f.cells))
     plain up var None e w = tt
     plain up var (Some f) e w = ((found up var f e (inl w), h), tt)
 
-    by_reference : (up var : ℕ) (o : Option Found) → variable_at c a up var ≡ o
-        → given false o (λ f. is_reference f.naming) ≡ true
-        → GoesP (given Wrong o (λ f. addressed p ss f.number f.cells))
+    by_reference : (up var : ℕ) (o : Option VariableInfo) → variable_at c a up var ≡ o
+        → on_option false o (λ f. is_reference f.naming) ≡ true
+        → GoesP (on_option Wrong o (λ f. address_shapes p ss f.number f.cells))
     by_reference up var None e w = tt
     by_reference up var (Some f) e w = ((found up var f e (inr w), h), tt)
 
     called : (o : Option Layout)
-        → GoesP (given Wrong o (λ l. take_all (length l.formals) ss (λ s1. To ((p + 1, answered l.answer s1) ∷ []))))
+        → GoesP (on_option Wrong o
+        (λ l. take_all (length l.formals) ss (λ s1. To ((p + 1, with_answer l.answer s1) ∷ []))))
     called None = tt
     called (Some l) = by_all (length l.formals) ss _ h (λ s1 h1. (answer_p l.answer s1 h1, tt))
 
-    step : (o : Option Instr) → names_well c a o ≡ true → GoesP (shaped c a o p ss)
+    step : (o : Option Instr) → names_well c a o ≡ true → GoesP (instr_shapes c a o p ss)
     step None w = tt
     step (Some (i.Const v)) w = (h, tt)
     step (Some (i.Addr up var)) w = plain up var (variable_at c a up var) refl w
@@ -230,21 +234,22 @@ module _ (P : ℕ → Type 0) where
   brought q ts [] e h = absurd h
   brought q ts (w ∷ ws) e h = ⊎_elim (λ z. subst AllP (sym z.1) e.0) (λ z. brought q ts ws e.1 z) h
 
-  leads : (o : Shaped) (q : ℕ) (ts : List Shape) → GoesP o → Leads o q ts → AllP ts
+  leads : (o : Shaped) (q : ℕ) (ts : List Shape) → GoesP o → LeadsWith o q ts → AllP ts
   leads Wrong q ts g l = absurd l
   leads (To ws) q ts g l = brought q ts ws g l
 
   pub brings_p : (c : Parts) (a : Area)
-      → ((up var : ℕ) (f : Found) → variable_at c a up var ≡ Some f → (is_plain f.naming ≡ true)
-      ⊎ (is_reference f.naming ≡ true) → P f.number) → ((p : ℕ) → Passes c a p → names_well c a (instr_at c p) ≡ true)
+      → ((up var : ℕ) (f : VariableInfo) → variable_at c a up var ≡ Some f → (is_plain f.naming ≡ true)
+      ⊎ (is_reference f.naming ≡ true) → P f.number)
+      → ((p : ℕ) → IsInCodeOf c a p → names_well c a (instr_at c p) ≡ true)
       → (n p : ℕ) (ss : List Shape) → Brings c a n p ss → AllP ss
   brings_p c a found names zero p ss b = subst AllP (sym b.1) tt
   brings_p c a found names (suc n) p ss b =
-      leads (shaped c a (instr_at c b.0) b.0 b.1) p ss
+      leads (instr_shapes c a (instr_at c b.0) b.0 b.1) p ss
       (step c a found b.0 b.1 (brings_p c a found names n b.0 b.1 b.2) (instr_at c b.0)
       (names b.0 (passes c a b.0 b.1 (record { steps = n; way = b.2 })))) b.3
 
-module _ (c : Parts) (k : Keeps c) where
+module _ (c : Parts) (k : KeepsCodeRules c) where
   -- a variable around an area is neither the input nor the output
   pub around_real : (a : Area) (x : ℕ) → IsArea c a → IsMember x (all_variables c.layouts (homes c a)) → 2 ≤ x
   around_real a x area m = go (member_home c k x (homes c a) m)
@@ -268,31 +273,33 @@ module _ (c : Parts) (k : Keeps c) where
     at_home (g ∷ hs) (suc up) x h e m = member_back x (variables_in c.layouts g) (all_variables c.layouts hs)
         (at_home hs up x h e m)
 
-    number_is : (x : ℕ) (o : Option Formal) (s : Option ℕ) (f : Found) → found_by x o s ≡ Some f → f.number ≡ x
+    number_is : (x : ℕ) (o : Option Formal) (s : Option ℕ) (f : VariableInfo) → found_by x o s ≡ Some f → f.number ≡ x
     number_is x None None f e = absurd (cc e)
-    number_is x None (Some n) f e = sym (ap (λ (z : Found). z.number) (same_Some _ _ e))
+    number_is x None (Some n) f e = sym (ap (λ (z : VariableInfo). z.number) (same_Some _ _ e))
     number_is x (Some (formal.Value m)) None f e = absurd (cc e)
-    number_is x (Some (formal.Value m)) (Some n) f e = sym (ap (λ (z : Found). z.number) (same_Some _ _ e))
-    number_is x (Some (formal.Reference m)) s f e = sym (ap (λ (z : Found). z.number) (same_Some _ _ e))
+    number_is x (Some (formal.Value m)) (Some n) f e = sym (ap (λ (z : VariableInfo). z.number) (same_Some _ _ e))
+    number_is x (Some (formal.Reference m)) s f e = sym (ap (λ (z : VariableInfo). z.number) (same_Some _ _ e))
 
-    in_layout : (l : Layout) (n : ℕ) (f : Found) → found_in l n ≡ Some f → IsMember f.number l.variables
+    in_layout : (l : Layout) (n : ℕ) (f : VariableInfo) → found_in l n ≡ Some f → IsMember f.number l.variables
     in_layout l n f e = go (slice_get l.variables n) refl e
       where
         go : (o : Option ℕ) → slice_get l.variables n ≡ o
-            → given None o (λ x. found_by x (slice_get l.formals n) (slice_get l.sizes n)) ≡ Some f
+            → on_option None o (λ x. found_by x (slice_get l.formals n) (slice_get l.sizes n)) ≡ Some f
             → IsMember f.number l.variables
         go None is e = absurd (cc e)
         go (Some x) is e = member_at l.variables n f.number (is
             ∙ ap Some (sym (number_is x (slice_get l.formals n) (slice_get l.sizes n) f e)))
 
-    in_home : (h : Home) (var : ℕ) (f : Found) → found_at c.layouts h var ≡ Some f → (is_plain f.naming ≡ true)
+    in_home : (h : Home) (var : ℕ) (f : VariableInfo) → found_at c.layouts h var ≡ Some f → (is_plain f.naming ≡ true)
         ⊎ (is_reference f.naming ≡ true) → IsMember f.number (variables_in c.layouts h)
     in_home (OfBlock b) var f e w = go (layout_of c.layouts b) e
       where
         never : (v : ℕ) → Some (record { number = v; cells = 1; naming = Never }) ≡ Some f → ⊥
         never v e = ⊎_elim
-            (λ z. (let n : is_plain Never ≡ true = ap (λ (z : Found). is_plain z.naming) (same_Some _ _ e) ∙ z in cc n))
-            (λ z. (let n : is_reference Never ≡ true = ap (λ (z : Found). is_reference z.naming) (same_Some _ _ e)
+            (λ z. (let n : is_plain Never ≡ true = ap (λ (z : VariableInfo). is_plain z.naming) (same_Some _ _ e)
+            ∙ z in cc n))
+            (λ z. (let n : is_reference Never ≡ true =
+            ap (λ (z : VariableInfo). is_reference z.naming) (same_Some _ _ e)
             ∙ z in cc n)) w
 
         by : (l : Layout) (t : Bool)
@@ -313,14 +320,15 @@ module _ (c : Parts) (k : Keeps c) where
       where
         go : (t : Bool) → (if t then Some (record { number = x; cells = 1; naming = Plainly }) else None) ≡ Some f
             → IsMember f.number (x ∷ [])
-        go true e = inl (sym (ap (λ (z : Found). z.number) (same_Some _ _ e)))
+        go true e = inl (sym (ap (λ (z : VariableInfo). z.number) (same_Some _ _ e)))
         go false e = absurd (cc e)
 
-    pub found_around : (up var : ℕ) (f : Found) → variable_at c a up var ≡ Some f → (is_plain f.naming ≡ true)
+    pub found_around : (up var : ℕ) (f : VariableInfo) → variable_at c a up var ≡ Some f → (is_plain f.naming ≡ true)
         ⊎ (is_reference f.naming ≡ true) → IsMember f.number (all_variables c.layouts (homes c a))
     found_around up var f e w = go (slice_get (homes c a) up) refl e
       where
-        go : (o : Option Home) → slice_get (homes c a) up ≡ o → given None o (λ h. found_at c.layouts h var) ≡ Some f
+        go : (o : Option Home) → slice_get (homes c a) up ≡ o → on_option None o (λ h. found_at c.layouts h var)
+            ≡ Some f
             → IsMember f.number (all_variables c.layouts (homes c a))
         go None is e = absurd (cc e)
         go (Some h) is e = at_home (homes c a) up f.number h is (in_home h var f e w)

@@ -15,17 +15,17 @@ use Rattle.sp_journal.specs.Births.{Births}
 use Rattle.sp_journal.specs.Maps.{at_key}
 use Rattle.sp_journal.specs.declared.entry.Birth.{Birth}
 use Rattle.sp_code.specs.Machine.{Forks, Opens, Sends, Receives, Ends, Pauses, Config, At}
-use Rattle.sp_code.specs.Memory.{Setting, Home, Memory, put_cells}
+use Rattle.sp_code.specs.Memory.{CodeRun, Home, Memory, put_cells}
 use Rattle.sp_code.specs.PlainStore.{plain}
 use Rattle.sp_code.specs.System.{Condition, Absent, Working, Waits, Joins, Laid, Gone, Over, frames_of, store_of}
-use Rattle.sp_code.specs.System.{on_store, received, rejoined}
+use Rattle.sp_code.specs.System.{on_store, after_message, parent_after_join}
 use Rattle.sp_history.proofs.Queues.{number_or, at_same, at_other}
-use Rattle.sp_rules.specs.Running.{Base, Lives, StopsWell}
-use Rattle.sp_rules.specs.Systems.{without, awaits, IsLive, moved_to, JoinsWell, Fine, Inv}
+use Rattle.sp_rules.specs.Running.{Base, HasActivations, StopsWell}
+use Rattle.sp_rules.specs.Systems.{without_first, awaited_children, IsLive, moved_to, JoinsWell, Fine, Inv}
 use Rattle.sp_rules.proofs.Messages.{lives_received}
 use Rattle.sp_rules.proofs.Rejoining.{lives_whole, lent_rest}
 
-pub without_length : (q : ℕ) (xs : List ℕ) → IsMember q xs → length (without q xs) ≡ length xs - 1
+pub without_length : (q : ℕ) (xs : List ℕ) → IsMember q xs → length (without_first q xs) ≡ length xs - 1
 without_length q [] m = absurd m
 without_length q (x ∷ xs) m = go (q == x) refl m (without_length q xs) (some xs)
   where
@@ -33,34 +33,35 @@ without_length q (x ∷ xs) m = go (q == x) refl m (without_length q xs) (some x
     some [] j = absurd j
     some (y ∷ ys) j = omega arith
 
-    go : (t : Bool) → (q == x) ≡ t → IsMember q (x ∷ xs) → (IsMember q xs → length (without q xs) ≡ length xs - 1)
-        → (IsMember q xs → 1 ≤ length xs) → length (cond t xs (x ∷ without q xs)) ≡ length (x ∷ xs) - 1
+    go : (t : Bool) → (q == x) ≡ t → IsMember q (x ∷ xs) → (IsMember q xs → length (without_first q xs) ≡ length xs - 1)
+        → (IsMember q xs → 1 ≤ length xs) → length (cond t xs (x ∷ without_first q xs)) ≡ length (x ∷ xs) - 1
     go true e m h l = omega arith
     go false e (inl i) h l = absurd (cc (sym e ∙ is_same q x i))
     go false e (inr m) h l = let a = h m in let b = l m in omega (arith, a, b)
 
-pub without_has : (q r : ℕ) (xs : List ℕ) → r ≢ q → IsMember r xs → IsMember r (without q xs)
+pub without_has : (q r : ℕ) (xs : List ℕ) → r ≢ q → IsMember r xs → IsMember r (without_first q xs)
 without_has q r [] d m = absurd m
 without_has q r (x ∷ xs) d m = go (q == x) refl m (without_has q r xs d)
   where
-    go : (t : Bool) → (q == x) ≡ t → IsMember r (x ∷ xs) → (IsMember r xs → IsMember r (without q xs))
-        → IsMember r (cond t xs (x ∷ without q xs))
+    go : (t : Bool) → (q == x) ≡ t → IsMember r (x ∷ xs) → (IsMember r xs → IsMember r (without_first q xs))
+        → IsMember r (cond t xs (x ∷ without_first q xs))
     go true e (inl i) h = absurd (d (i ∙ sym (eqb-true q x e)))
     go true e (inr m) h = m
     go false e (inl i) h = inl i
     go false e (inr m) h = inr (h m)
 
-without_members : (q r : ℕ) (xs : List ℕ) → IsMember r (without q xs) → IsMember r xs
+without_members : (q r : ℕ) (xs : List ℕ) → IsMember r (without_first q xs) → IsMember r xs
 without_members q r [] m = m
 without_members q r (x ∷ xs) m = go (q == x) m (without_members q r xs)
   where
-    go : (t : Bool) → IsMember r (cond t xs (x ∷ without q xs)) → (IsMember r (without q xs) → IsMember r xs)
+    go : (t : Bool) → IsMember r (cond t xs (x ∷ without_first q xs))
+        → (IsMember r (without_first q xs) → IsMember r xs)
         → IsMember r (x ∷ xs)
     go true m h = inr m
     go false (inl e) h = inl e
     go false (inr m) h = inr (h m)
 
-module _ (g : Setting) {Area : Type 0} (H : Area → List Home) (E : Area → ℕ → Type 0) (T : List Area
+module _ (g : CodeRun) {Area : Type 0} (H : Area → List Home) (E : Area → ℕ → Type 0) (T : List Area
     → Config (Memory Plain) → Type 0) (Room Cells : ℕ → ℕ → Type 0)
     (rooms : (k n m : ℕ) → Room k n → Cells k m
     → m ≤ n) (t_store : (us : List Area) (c : Config (Memory Plain)) (f : Plain → Plain)
@@ -70,7 +71,8 @@ module _ (g : Setting) {Area : Type 0} (H : Area → List Home) (E : Area → �
 
   -- one process is in another condition, which awaits as many children
   pub becomes_ok : (f : ℕ → Condition Plain) (b : Births) (i : Ok f b) (q : ℕ) (x : Condition Plain)
-      → Fine g H E T Room Cells i.base (i.base q) (i.children q) x → awaits x ≡ awaits (f q) → (IsLive x → IsLive (f q))
+      → Fine g H E T Room Cells i.base (i.base q) (i.children q) x → awaited_children x ≡ awaited_children (f q)
+      → (IsLive x → IsLive (f q))
       → (b.processes ≤ q → x ≡ Absent) → Ok (at_key ◌==◌ q x f) b
   becomes_ok f b i q x fine same live young = record {
     base = i.base;
@@ -90,10 +92,12 @@ module _ (g : Setting) {Area : Type 0} (H : Area → List Home) (E : Area → �
       one r (inr d) = subst (λ y. Fine g H E T Room Cells i.base (i.base r) (i.children r) y)
           (sym (at_other f q r x d.0)) (i.each r)
 
-      number : (r : ℕ) → (q ≡ r) ⊎ ((q ≢ r) × ((q == r) ≡ false)) → length (i.children r) ≡ awaits (at_key ◌==◌ q x f r)
-      number r (inl e) = subst (λ z. length (i.children z) ≡ awaits (at_key ◌==◌ q x f z)) e (i.count q ∙ sym same
-          ∙ ap awaits (sym (at_same f q x)))
-      number r (inr d) = i.count r ∙ ap awaits (sym (at_other f q r x d.0))
+      number : (r : ℕ) → (q ≡ r) ⊎ ((q ≢ r) × ((q == r) ≡ false))
+          → length (i.children r) ≡ awaited_children (at_key ◌==◌ q x f r)
+      number r (inl e) = subst (λ z. length (i.children z) ≡ awaited_children (at_key ◌==◌ q x f z)) e (i.count q
+          ∙ sym same
+          ∙ ap awaited_children (sym (at_same f q x)))
+      number r (inr d) = i.count r ∙ ap awaited_children (sym (at_other f q r x d.0))
 
       was : (r : ℕ) → (q ≡ r) ⊎ ((q ≢ r) × ((q == r) ≡ false)) → IsLive (at_key ◌==◌ q x f r) → IsLive (f r)
       was r (inl e) l = subst (λ z. IsLive (f z)) e
@@ -113,14 +117,15 @@ module _ (g : Setting) {Area : Type 0} (H : Area → List Home) (E : Area → �
       → length cs ≤ n
 
   received_fine : (base : ℕ → Base g H E T) (b : Base g H E T) (rs : List ℕ) (cs : List Cell) (x : Condition Plain)
-      → Fine g H E T Room Cells base b rs x → HasRoom cs x → Fine g H E T Room Cells base b rs (received plain g cs x)
+      → Fine g H E T Room Cells base b rs x → HasRoom cs x
+      → Fine g H E T Room Cells base b rs (after_message plain g cs x)
   received_fine base b rs cs Absent f r = tt
   received_fine base b rs cs (Working c) f r = f
   received_fine base b rs cs (Waits (Receives d k p) (At pc st n)) f r = go f.0 f.1 f.2 f.3
     where
-      go : (us : List Area) → Lives g H E T b us (At pc st n) → T us (At pc st n)
+      go : (us : List Area) → HasActivations g H E T b us (At pc st n) → T us (At pc st n)
           → StopsWell g H E T Room Cells (Receives d k p) us (At pc st n) → (vs : List Area)
-          × Lives g H E T b vs (on_store (put_cells plain p cs) (At pc st n))
+          × HasActivations g H E T b vs (on_store (put_cells plain p cs) (At pc st n))
           × T vs (on_store (put_cells plain p cs) (At pc st n))
       go [] l t w = absurd w
       go (a ∷ us) l t w = (
@@ -139,7 +144,8 @@ module _ (g : Setting) {Area : Type 0} (H : Area → List Home) (E : Area → �
   received_fine base b rs cs Gone f r = tt
   received_fine base b rs cs (Over c) f r = tt
 
-  received_awaits : (cs : List Cell) (x : Condition Plain) → awaits (received plain g cs x) ≡ awaits x
+  received_awaits : (cs : List Cell) (x : Condition Plain) → awaited_children (after_message plain g cs x)
+      ≡ awaited_children x
   received_awaits cs Absent = refl
   received_awaits cs (Working c) = refl
   received_awaits cs (Waits (Receives d k p) c) = refl
@@ -153,7 +159,7 @@ module _ (g : Setting) {Area : Type 0} (H : Area → List Home) (E : Area → �
   received_awaits cs Gone = refl
   received_awaits cs (Over c) = refl
 
-  received_live : (cs : List Cell) (x : Condition Plain) → IsLive (received plain g cs x) → IsLive x
+  received_live : (cs : List Cell) (x : Condition Plain) → IsLive (after_message plain g cs x) → IsLive x
   received_live cs Absent l = l
   received_live cs (Working c) l = tt
   received_live cs (Waits stop c) l = tt
@@ -164,26 +170,28 @@ module _ (g : Setting) {Area : Type 0} (H : Area → List Home) (E : Area → �
 
   -- the message goes over to the one that waits, and the other goes on
   pub meets_ok : (f : ℕ → Condition Plain) (b : Births) (i : Ok f b) (q z : ℕ) (cs : List Cell) (x : Condition Plain)
-      → HasRoom cs (f z) → Fine g H E T Room Cells i.base (i.base q) (i.children q) x → awaits x ≡ awaits (f q)
+      → HasRoom cs (f z) → Fine g H E T Room Cells i.base (i.base q) (i.children q) x
+      → awaited_children x ≡ awaited_children (f q)
       → IsLive (f q) → (b.processes ≤ q → x ≡ Absent)
-      → Ok (at_key ◌==◌ q x (at_key ◌==◌ z (received plain g cs (f z)) f)) b
+      → Ok (at_key ◌==◌ q x (at_key ◌==◌ z (after_message plain g cs (f z)) f)) b
   unfolding becomes_ok
   meets_ok f b i q z cs x room fine same live young = becomes_ok
-      (at_key ◌==◌ z (received plain g cs (f z)) f) b one q x fine (same
+      (at_key ◌==◌ z (after_message plain g cs (f z)) f) b one q x fine (same
       ∙ sym (still (number_or z q))) (λ l. alive (number_or z q)) young
     where
-      one : Ok (at_key ◌==◌ z (received plain g cs (f z)) f) b
-      one = becomes_ok f b i z (received plain g cs (f z))
+      one : Ok (at_key ◌==◌ z (after_message plain g cs (f z)) f) b
+      one = becomes_ok f b i z (after_message plain g cs (f z))
           (received_fine i.base (i.base z) (i.children z) cs (f z) (i.each z) room) (received_awaits cs (f z))
-          (received_live cs (f z)) (λ le. ap (received plain g cs) (i.young z le))
+          (received_live cs (f z)) (λ le. ap (after_message plain g cs) (i.young z le))
 
       still : (z ≡ q) ⊎ ((z ≢ q) × ((z == q) ≡ false))
-          → awaits (at_key ◌==◌ z (received plain g cs (f z)) f q) ≡ awaits (f q)
-      still (inl e) = subst (λ y. awaits (at_key ◌==◌ z (received plain g cs (f z)) f y) ≡ awaits (f y)) e
-          (ap awaits (at_same f z (received plain g cs (f z))) ∙ received_awaits cs (f z))
-      still (inr d) = ap awaits (at_other f z q (received plain g cs (f z)) d.0)
+          → awaited_children (at_key ◌==◌ z (after_message plain g cs (f z)) f q) ≡ awaited_children (f q)
+      still (inl e) = subst (λ y. awaited_children (at_key ◌==◌ z (after_message plain g cs (f z)) f y)
+          ≡ awaited_children (f y)) e
+          (ap awaited_children (at_same f z (after_message plain g cs (f z))) ∙ received_awaits cs (f z))
+      still (inr d) = ap awaited_children (at_other f z q (after_message plain g cs (f z)) d.0)
 
-      on : (y : Condition Plain) → IsLive y → IsLive (received plain g cs y)
+      on : (y : Condition Plain) → IsLive y → IsLive (after_message plain g cs y)
       on Absent l = l
       on (Working c) l = tt
       on (Waits (Receives d k p) c) l = tt
@@ -197,11 +205,11 @@ module _ (g : Setting) {Area : Type 0} (H : Area → List Home) (E : Area → �
       on Gone l = l
       on (Over c) l = l
 
-      alive : (z ≡ q) ⊎ ((z ≢ q) × ((z == q) ≡ false)) → IsLive (at_key ◌==◌ z (received plain g cs (f z)) f q)
-      alive (inl e) = subst (λ y. IsLive (at_key ◌==◌ z (received plain g cs (f z)) f y)) e
-          (subst (λ y. IsLive y) (sym (at_same f z (received plain g cs (f z))))
+      alive : (z ≡ q) ⊎ ((z ≢ q) × ((z == q) ≡ false)) → IsLive (at_key ◌==◌ z (after_message plain g cs (f z)) f q)
+      alive (inl e) = subst (λ y. IsLive (at_key ◌==◌ z (after_message plain g cs (f z)) f y)) e
+          (subst (λ y. IsLive y) (sym (at_same f z (after_message plain g cs (f z))))
           (on (f z) (subst (λ y. IsLive (f y)) (sym e) live)))
-      alive (inr d) = subst (λ y. IsLive y) (sym (at_other f z q (received plain g cs (f z)) d.0)) live
+      alive (inr d) = subst (λ y. IsLive y) (sym (at_other f z q (after_message plain g cs (f z)) d.0)) live
 
   -- ---- ends
 
@@ -246,37 +254,37 @@ module _ (g : Setting) {Area : Type 0} (H : Area → List Home) (E : Area → �
   -- the parent after a child's end: it goes on, or joins the others
   module _ (base : ℕ → Base g H E T) (b : Base g H E T) (rs : List ℕ) (r : ℕ) (mine : IsMember r rs) (a : Area) (qc : ℕ)
       (qt : List Rattle.sp_code.specs.Machine.Entry) (c : Memory Plain)
-      (l : Lives g H E T (base r) (a ∷ []) (At qc qt c)) where
+      (l : HasActivations g H E T (base r) (a ∷ []) (At qc qt c)) where
     rejoined_fine : (left : ℕ) (d : Config (Memory Plain)) → length rs ≡ left → JoinsWell g H E T Room Cells base b rs d
-        → Fine g H E T Room Cells base b (without r rs) (rejoined plain g (At qc qt c) (Joins left d))
+        → Fine g H E T Room Cells base b (without_first r rs) (parent_after_join plain g (At qc qt c) (Joins left d))
     rejoined_fine left (At pc st n) e j = go (left == 1) refl
       where
-        joined : JoinsWell g H E T Room Cells base b (without r rs)
+        joined : JoinsWell g H E T Room Cells base b (without_first r rs)
             (on_store (λ m. plain.joined m c.store) (At pc st n))
         joined = record {
           area = j.area;
           callers = j.callers;
-          whole = Rattle.sp_cell.specs.Fork.taken c.store.map c.store.moved j.whole;
+          whole = Rattle.sp_cell.specs.Fork.with_contents c.store.map c.store.moved j.whole;
           lives = lives_whole g H E T Room Cells base b rs r mine pc qc st qt n c j a l;
           stands = t_store (j.area ∷ j.callers) (At pc st n) (λ m. plain.joined m c.store)
               (λ m. refl) j.stands;
           lent = lent_rest g H E T Room Cells base b rs r mine pc qc st qt n c j a l;
         }
 
-        back : without r rs ≡ [] → joined.whole ≡ (plain.joined n.store c.store).map
+        back : without_first r rs ≡ [] → joined.whole ≡ (plain.joined n.store c.store).map
         back gone = sym (same_map (plain.joined n.store c.store).map joined.whole
             (λ q. joined.lent.rest q (subst (λ xs. NotIn q (moved_to g H E T Room Cells base xs)) (sym gone) tt)))
 
         go : (t : Bool) → (left == 1) ≡ t
-            → Fine g H E T Room Cells base b (without r rs)
+            → Fine g H E T Room Cells base b (without_first r rs)
             (if t then Working (on_store (λ m. plain.joined m c.store) (At pc st n)) else Joins (left - 1)
             (on_store (λ m. plain.joined m c.store) (At pc st n)))
         go true is =
             let one : left ≡ 1 = eqb-true left 1 is in
-            let gone : without r rs ≡ [] = nil_from_length (without r rs) (without_length r rs mine
+            let gone : without_first r rs ≡ [] = nil_from_length (without_first r rs) (without_length r rs mine
             ∙ ap (λ k. k - 1) (e ∙ one)) in (
               j.area ∷ j.callers,
-              subst (λ (m : Map). Lives g H E T b (j.area ∷ j.callers)
+              subst (λ (m : Map). HasActivations g H E T b (j.area ∷ j.callers)
                   (At pc st (record n { store = record { map = m; own = n.store.own; moved = n.store.moved } })))
                   (back gone) joined.lives,
               joined.stands,
@@ -284,11 +292,11 @@ module _ (g : Setting) {Area : Type 0} (H : Area → List Home) (E : Area → �
         go false is = joined
 
   rejoined_awaits : (c : Config (Memory Plain)) (left : ℕ) (d : Config (Memory Plain))
-      → awaits (rejoined plain g c (Joins left d)) ≡ left - 1
+      → awaited_children (parent_after_join plain g c (Joins left d)) ≡ left - 1
   rejoined_awaits c left d = go (left == 1) refl
     where
       go : (t : Bool) → (left == 1) ≡ t
-          → awaits (if t then Working (on_store (λ m. plain.joined m (store_of c)) d) else Joins (left - 1)
+          → awaited_children (if t then Working (on_store (λ m. plain.joined m (store_of c)) d) else Joins (left - 1)
           (on_store (λ m. plain.joined m (store_of c)) d)) ≡ left - 1
       go true e = ap (λ k. k - 1) (sym (eqb-true left 1 e))
       go false e = refl
@@ -296,9 +304,9 @@ module _ (g : Setting) {Area : Type 0} (H : Area → List Home) (E : Area → �
   -- a child that ends: it is gone, and its parent has it no more among its children
   pub ends_ok : (f : ℕ → Condition Plain) (b : Births) (i : Ok f b) (q : ℕ) (x : Birth) (a : Area) (qc : ℕ)
       (qt : List Rattle.sp_code.specs.Machine.Entry) (c : Memory Plain) → b.birth q ≡ Some x → IsLive (f q)
-      → awaits (f q) ≡ 0
-      → Lives g H E T (i.base q) (a ∷ []) (At qc qt c)
-      → Ok (at_key ◌==◌ x.parent (rejoined plain g (At qc qt c) (f x.parent)) (at_key ◌==◌ q Gone f)) b
+      → awaited_children (f q) ≡ 0
+      → HasActivations g H E T (i.base q) (a ∷ []) (At qc qt c)
+      → Ok (at_key ◌==◌ x.parent (parent_after_join plain g (At qc qt c) (f x.parent)) (at_key ◌==◌ q Gone f)) b
   ends_ok f b i q x a qc qt c birth live none l = go (f x.parent) refl
     where
       mine : IsMember q (i.children x.parent)
@@ -312,23 +320,25 @@ module _ (g : Setting) {Area : Type 0} (H : Area → List Home) (E : Area → �
       some (y ∷ xs) m e = omega (arith, e)
 
       joins : (y : Condition Plain) → f x.parent ≡ y → (left : ℕ) × (d : Config (Memory Plain)) × (y ≡ Joins left d)
-      joins Absent e = absurd (some (i.children x.parent) mine (i.count x.parent ∙ ap awaits e))
-      joins (Working d) e = absurd (some (i.children x.parent) mine (i.count x.parent ∙ ap awaits e))
-      joins (Waits stop d) e = absurd (some (i.children x.parent) mine (i.count x.parent ∙ ap awaits e))
+      joins Absent e = absurd (some (i.children x.parent) mine (i.count x.parent ∙ ap awaited_children e))
+      joins (Working d) e = absurd (some (i.children x.parent) mine (i.count x.parent ∙ ap awaited_children e))
+      joins (Waits stop d) e = absurd (some (i.children x.parent) mine (i.count x.parent ∙ ap awaited_children e))
       joins (Joins left d) e = (left, d, refl)
-      joins (Laid d) e = absurd (some (i.children x.parent) mine (i.count x.parent ∙ ap awaits e))
-      joins Gone e = absurd (some (i.children x.parent) mine (i.count x.parent ∙ ap awaits e))
-      joins (Over d) e = absurd (some (i.children x.parent) mine (i.count x.parent ∙ ap awaits e))
+      joins (Laid d) e = absurd (some (i.children x.parent) mine (i.count x.parent ∙ ap awaited_children e))
+      joins Gone e = absurd (some (i.children x.parent) mine (i.count x.parent ∙ ap awaited_children e))
+      joins (Over d) e = absurd (some (i.children x.parent) mine (i.count x.parent ∙ ap awaited_children e))
 
       go : (y : Condition Plain) → f x.parent ≡ y
-          → Ok (at_key ◌==◌ x.parent (rejoined plain g (At qc qt c) y) (at_key ◌==◌ q Gone f)) b
+          → Ok (at_key ◌==◌ x.parent (parent_after_join plain g (At qc qt c) y) (at_key ◌==◌ q Gone f)) b
       go y is =
           let w = joins y is in
-          subst (λ z. Ok (at_key ◌==◌ x.parent (rejoined plain g (At qc qt c) z) (at_key ◌==◌ q Gone f)) b) (sym w.2)
+          subst (λ z. Ok (at_key ◌==◌ x.parent (parent_after_join plain g (At qc qt c) z) (at_key ◌==◌ q Gone f)) b)
+          (sym w.2)
           (with_left w.0 w.1 (is ∙ w.2))
         where
           with_left : (left : ℕ) (d : Config (Memory Plain)) → f x.parent ≡ Joins left d
-              → Ok (at_key ◌==◌ x.parent (rejoined plain g (At qc qt c) (Joins left d)) (at_key ◌==◌ q Gone f)) b
+              → Ok (at_key ◌==◌ x.parent (parent_after_join plain g (At qc qt c) (Joins left d))
+              (at_key ◌==◌ q Gone f)) b
           with_left left d at = record {
             base = i.base;
             children = children;
@@ -341,18 +351,18 @@ module _ (g : Setting) {Area : Type 0} (H : Area → List Home) (E : Area → �
           }
             where
               children : ℕ → List ℕ
-              children = at_key ◌==◌ x.parent (without q (i.children x.parent)) i.children
+              children = at_key ◌==◌ x.parent (without_first q (i.children x.parent)) i.children
 
               now : Condition Plain
-              now = rejoined plain g (At qc qt c) (Joins left d)
+              now = parent_after_join plain g (At qc qt c) (Joins left d)
 
               after : ℕ → Condition Plain
               after = at_key ◌==◌ x.parent now (at_key ◌==◌ q Gone f)
 
               long : length (i.children x.parent) ≡ left
-              long = i.count x.parent ∙ ap awaits at
+              long = i.count x.parent ∙ ap awaited_children at
 
-              mother : Fine g H E T Room Cells i.base (i.base x.parent) (without q (i.children x.parent)) now
+              mother : Fine g H E T Room Cells i.base (i.base x.parent) (without_first q (i.children x.parent)) now
               mother = rejoined_fine i.base (i.base x.parent) (i.children x.parent) q mine a qc qt c l left d long
                   (subst (λ y. Fine g H E T Room Cells i.base (i.base x.parent) (i.children x.parent) y) at
                   (i.each x.parent))
@@ -363,17 +373,18 @@ module _ (g : Setting) {Area : Type 0} (H : Area → List Home) (E : Area → �
               other : (r : ℕ) → x.parent ≢ r → after r ≡ at_key ◌==◌ q Gone f r
               other r d = at_other (at_key ◌==◌ q Gone f) x.parent r now d
 
-              mine_there : children x.parent ≡ without q (i.children x.parent)
-              mine_there = at_same i.children x.parent (without q (i.children x.parent))
+              mine_there : children x.parent ≡ without_first q (i.children x.parent)
+              mine_there = at_same i.children x.parent (without_first q (i.children x.parent))
 
               others_there : (r : ℕ) → x.parent ≢ r → children r ≡ i.children r
-              others_there r d = at_other i.children x.parent r (without q (i.children x.parent)) d
+              others_there r d = at_other i.children x.parent r (without_first q (i.children x.parent)) d
 
               one : (r : ℕ) → (x.parent ≡ r) ⊎ ((x.parent ≢ r) × ((x.parent == r) ≡ false))
                   → Fine g H E T Room Cells i.base (i.base r) (children r) (after r)
               one r (inl e) = subst (λ z. Fine g H E T Room Cells i.base (i.base z) (children z) (after z)) e
                   (subst (λ xs. Fine g H E T Room Cells i.base (i.base x.parent) xs (after x.parent)) (sym mine_there)
-                  (subst (λ y. Fine g H E T Room Cells i.base (i.base x.parent) (without q (i.children x.parent)) y)
+                  (subst (λ y. Fine g H E T Room Cells i.base (i.base x.parent)
+                  (without_first q (i.children x.parent)) y)
                   (sym here) mother))
               one r (inr d) = subst (λ xs. Fine g H E T Room Cells i.base (i.base r) xs (after r))
                   (sym (others_there r d.0)) (subst (λ y. Fine g H E T Room Cells i.base (i.base r) (i.children r) y)
@@ -388,17 +399,19 @@ module _ (g : Setting) {Area : Type 0} (H : Area → List Home) (E : Area → �
                       (sym (at_other f q r Gone o.0)) (i.each r)
 
               number : (r : ℕ) → (x.parent ≡ r) ⊎ ((x.parent ≢ r) × ((x.parent == r) ≡ false))
-                  → length (children r) ≡ awaits (after r)
-              number r (inl e) = subst (λ z. length (children z) ≡ awaits (after z)) e (ap length mine_there
+                  → length (children r) ≡ awaited_children (after r)
+              number r (inl e) = subst (λ z. length (children z) ≡ awaited_children (after z)) e (ap length mine_there
                   ∙ without_length q (i.children x.parent) mine ∙ ap (λ k. k - 1) long
-                  ∙ sym (rejoined_awaits (At qc qt c) left d) ∙ ap awaits (sym here))
-              number r (inr d) = ap length (others_there r d.0) ∙ rest (number_or q r) ∙ ap awaits (sym (other r d.0))
+                  ∙ sym (rejoined_awaits (At qc qt c) left d) ∙ ap awaited_children (sym here))
+              number r (inr d) = ap length (others_there r d.0) ∙ rest (number_or q r)
+                  ∙ ap awaited_children (sym (other r d.0))
                 where
                   rest : (q ≡ r) ⊎ ((q ≢ r) × ((q == r) ≡ false))
-                      → length (i.children r) ≡ awaits (at_key ◌==◌ q Gone f r)
-                  rest (inl e) = subst (λ z. length (i.children z) ≡ awaits (at_key ◌==◌ q Gone f z)) e (i.count q
-                      ∙ none ∙ ap awaits (sym (at_same f q Gone)))
-                  rest (inr o) = i.count r ∙ ap awaits (sym (at_other f q r Gone o.0))
+                      → length (i.children r) ≡ awaited_children (at_key ◌==◌ q Gone f r)
+                  rest (inl e) = subst (λ z. length (i.children z) ≡ awaited_children (at_key ◌==◌ q Gone f z)) e
+                      (i.count q
+                      ∙ none ∙ ap awaited_children (sym (at_same f q Gone)))
+                  rest (inr o) = i.count r ∙ ap awaited_children (sym (at_other f q r Gone o.0))
 
               -- who lives now lived before, and is another one
               was : (r : ℕ) → (x.parent ≡ r) ⊎ ((x.parent ≢ r) × ((x.parent == r) ≡ false)) → (q ≡ r)

@@ -5,16 +5,17 @@ use Rattle.sp_cell.specs.Map.{Plain}
 use Rattle.sp_code.specs.declared.code.Layout.{Layout}
 use Rattle.sp_code.specs.declared.code.Parts.{Parts}
 use Rattle.sp_code.specs.Machine.{At, Entry, layout_of}
-use Rattle.sp_code.specs.Memory.{Setting, Memory, memory}
+use Rattle.sp_code.specs.Memory.{CodeRun, Memory, memory}
 use Rattle.sp_code.specs.PlainStore.{plain}
-use Rattle.sp_code.specs.Turns.{Comes}
-pub use Rattle.sp_rules.specs.Activations.{IsCallee, Linked, IsAmong}
+use Rattle.sp_code.specs.Turns.{RunsTo}
+pub use Rattle.sp_rules.specs.Activations.{IsCallee, Linked, IsAreaAmong}
 use Rattle.sp_rules.specs.Areas.{Area, Body, instr_at}
-use Rattle.sp_rules.specs.Changes.{areas, areas_of, Same, Beats, Puts, Copies, Reads, Skips, Prints, Owns, Calls}
+use Rattle.sp_rules.specs.Changes.{areas, areas_of, Unchanged, Ticks, PutsCell, Copies, ReadsItem, Skips, Prints}
+use Rattle.sp_rules.specs.Changes.{MakesOwn, Calls}
 use Rattle.sp_rules.specs.Changes.{Returns}
 use Rattle.sp_rules.specs.Effects.{Does, StopsBy}
 use Rattle.sp_rules.specs.Forks as fork
-use Rattle.sp_rules.specs.Keeps.{Keeps}
+use Rattle.sp_rules.specs.KeepsCodeRules.{KeepsCodeRules}
 use Rattle.sp_rules.specs.Reach.{Reaches}
 use Rattle.sp_rules.specs.Shapes.{Shape}
 use Rattle.sp_rules.specs.Standing.{StandsAt}
@@ -24,7 +25,7 @@ use Rattle.sp_rules.proofs.Safe as safe
 module _ (c : Parts) where
   -- from each activation's code the stop is reached
   stops_below : (a : Area) (us : List Area) → Linked c (a ∷ us) → (bs : List Area) × StopsBy c (Does c) (HasStop c) bs a
-      → (d : Area) → IsAmong c d (a ∷ us) → (bs : List Area) × StopsBy c (Does c) (HasStop c) bs d
+      → (d : Area) → IsAreaAmong c d (a ∷ us) → (bs : List Area) × StopsBy c (Does c) (HasStop c) bs d
   stops_below a us l s d (inl e) = subst (λ z. (bs : List Area) × StopsBy c (Does c) (HasStop c) bs z) (sym e) s
   stops_below a [] l s d (inr m) = absurd m
   stops_below a (b ∷ us) l s d (inr m) =
@@ -34,7 +35,7 @@ module _ (c : Parts) where
   pub none_answers : ((f : ℕ) (l : Layout) → layout_of c.layouts f ≡ Some l → fork.BreaksV8 c (Does c) (HasStop c) l f
       → ⊥)
       → (a : Area) (us : List Area) (p : ℕ) (ss : List Shape) → Linked c (a ∷ us) → Reaches c a p ss
-      → is_stop (instr_at c p) ≡ true → (f : ℕ) (l : Layout) → IsAmong c (Body f) (a ∷ us)
+      → is_stop (instr_at c p) ≡ true → (f : ℕ) (l : Layout) → IsAreaAmong c (Body f) (a ∷ us)
       → layout_of c.layouts f ≡ Some l → l.answer ≡ false
   none_answers eight a us p ss l r is f m among at = go m.answer refl
     where
@@ -45,19 +46,19 @@ module _ (c : Parts) where
       go true e = absurd (eight f m at (e, inr stops))
       go false e = e
 
-module _ (g : Setting) (k : Keeps g.code) where
+module _ (g : CodeRun) (k : KeepsCodeRules g.code) where
   -- an instruction keeps the links
   pub linked_kept : (p q : ℕ) (st s1 : List Entry) (n m : Memory Plain) (s : StandsAt g.code p st n.frames)
       (t : StandsAt g.code q s1 m.frames) → Linked g.code (areas s) → safe.ChangesAt plain g k p st n s (areas t) m
       → Linked g.code (areas t)
-  linked_kept p q st s1 n m s t h (Same e d) = subst (Linked g.code) (sym e) h
-  linked_kept p q st s1 n m s t h (Beats e d) = subst (Linked g.code) (sym e) h
-  linked_kept p q st s1 n m s t h (Puts a c e w d) = subst (Linked g.code) (sym e) h
+  linked_kept p q st s1 n m s t h (Unchanged e d) = subst (Linked g.code) (sym e) h
+  linked_kept p q st s1 n m s t h (Ticks e d) = subst (Linked g.code) (sym e) h
+  linked_kept p q st s1 n m s t h (PutsCell a c e w d) = subst (Linked g.code) (sym e) h
   linked_kept p q st s1 n m s t h (Copies a b j e w d) = subst (Linked g.code) (sym e) h
-  linked_kept p q st s1 n m s t h (Reads a c j e w z d) = subst (Linked g.code) (sym e) h
+  linked_kept p q st s1 n m s t h (ReadsItem a c j e w z d) = subst (Linked g.code) (sym e) h
   linked_kept p q st s1 n m s t h (Skips j e z d) = subst (Linked g.code) (sym e) h
   linked_kept p q st s1 n m s t h (Prints bs e z d) = subst (Linked g.code) (sym e) h
-  linked_kept p q st s1 n m s t h (Owns a j e w d) = subst (Linked g.code) (sym e) h
+  linked_kept p q st s1 n m s t h (MakesOwn a j e w d) = subst (Linked g.code) (sym e) h
   linked_kept p q st s1 n m s t h (Calls f up l es e is at pr ft dp d) = subst (Linked g.code) (sym e)
       ((f, p, up, s.shapes, l, refl, record { reached = s.reached; call = is; layout = at }), h)
   linked_kept p q st s1 n m s t h (Returns e is d) = rest s.area (areas_of s.callers) (areas t) h e
@@ -96,9 +97,9 @@ module _ (g : Setting) (k : Keeps g.code) where
 
     -- wherever a turn comes to an instruction that stops, no activation is of a block that answers
     pub answers_quietly : (p q : ℕ) (st s1 : List Entry) (n m : Memory Plain) (s : StandsAt g.code p st n.frames)
-        → Both p st n s → Comes (memory plain g) g.code (At p st n) (At q s1 m) → is_stop (instr_at g.code q) ≡ true
+        → Both p st n s → RunsTo (memory plain g) g.code (At p st n) (At q s1 m) → is_stop (instr_at g.code q) ≡ true
         → (t : StandsAt g.code q s1 m.frames)
-        × ((f : ℕ) (l : Layout) → IsAmong g.code (Body f) (areas t) → layout_of g.code.layouts f ≡ Some l
+        × ((f : ℕ) (l : Layout) → IsAreaAmong g.code (Body f) (areas t) → layout_of g.code.layouts f ≡ Some l
         → l.answer ≡ false)
     answers_quietly p q st s1 n m s h way is =
         let w = safe.comes_in plain g k Both both_ready both_kept way.steps (At p st n) (At q s1 m) (s, h) way.by in

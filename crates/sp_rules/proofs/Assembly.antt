@@ -11,7 +11,7 @@ use Rattle.sp_rules.specs.Activations.{AnswersQuietly}
 use Rattle.sp_rules.specs.Effects.{Does}
 use Rattle.sp_rules.specs.Forks.{KeepsEffects}
 use Rattle.sp_rules.specs.Forks as fork
-use Rattle.sp_rules.specs.Keeps.{Keeps, HaveChildren, FitsTypes}
+use Rattle.sp_rules.specs.KeepsCodeRules.{KeepsCodeRules, HaveChildren, FitsTypes}
 use Rattle.sp_rules.specs.Named.{Unknown, TableUnknown}
 use Rattle.sp_rules.specs.Verdict.{V1, V2, V3, V4, V5, V6, V7, V8, V9, HasStop, IsVerified}
 use Rattle.sp_rules.proofs.Kept.{keeps, distinct, formals_have_room}
@@ -43,7 +43,7 @@ module _ (c : Parts) (small : KeepsSizes c) (v : IsVerified c) where
   types : FitsTypes c
   types = fits_types c small
 
-  pub k : Keeps c
+  pub k : KeepsCodeRules c
   k = keeps c children types (v V1) (v V2) (v V3) (v V4) (v V5)
 
   pub e : KeepsEffects c (Does c)

@@ -11,8 +11,8 @@ use Rattle.sp_cell.specs.declared.cell.Cell.{Cell}
 use Rattle.sp_cell.specs.declared.cell.Cell.TheVariants as cell
 use Rattle.sp_cell.specs.declared.spot.Spot.{Spot}
 use Rattle.sp_cell.specs.declared.spot.Handing.{Handing}
-use Rattle.sp_cell.specs.Fork.{lent, with_index, index_frame, child_map}
-use Rattle.sp_cell.specs.Frame.{above, frames}
+use Rattle.sp_cell.specs.Fork.{with_shared, with_index, index_frame, child_map}
+use Rattle.sp_cell.specs.Frame.{least_above, frames}
 use Rattle.sp_cell.proofs.FrameLaws.{is_same, is_other}
 use Rattle.sp_cell.proofs.Laws.{get_here, known_of_held}
 use Rattle.sp_cell.specs.Map.{Map, Own, IsOutput, output_spot}
@@ -24,17 +24,17 @@ use Rattle.sp_code.specs.declared.code.Layout.{Layout}
 use Rattle.sp_code.specs.Memory.{Home, OfIndex, Frame, last_frames, position_in}
 use Rattle.sp_code.specs.PlainStore.{piece_of}
 use Rattle.sp_code.specs.System.{spot_of, handing_of, index_by, or_outward}
-use Rattle.sp_rules.specs.Chains.{Chain, all_variables, stands, extends}
+use Rattle.sp_rules.specs.Chains.{Chain, all_variables, spot_by_homes, extent_by_homes}
 use Rattle.sp_rules.specs.Extents.{extent, size_in, size_at, or_further}
 use Rattle.sp_rules.specs.Forks.{handed_to}
-use Rattle.sp_rules.specs.Holding.{Has, Allowed, input_spot}
+use Rattle.sp_rules.specs.Holding.{HoldsVariable, Allowed, input_spot}
 use Rattle.sp_rules.proofs.Lists.{different_apart}
 use Rattle.sp_rules.proofs.Chains.{last_up, spot_is, size_is}
 use Rattle.sp_rules.proofs.Forking.{cells_of_position}
 use Rattle.sp_code.proofs.Plans.{spots_from, in_spots, out_of}
 use Rattle.sp_code.proofs.StoreLaws.{piece_cells}
 
-pub above_bound : (ss : List Spot) (n : ℕ) → ((q : Spot) → In q ss → q.frame < n) → above (frames ss) ≤ n
+pub above_bound : (ss : List Spot) (n : ℕ) → ((q : Spot) → In q ss → q.frame < n) → least_above (frames ss) ≤ n
 above_bound [] n h = omega arith
 above_bound (s ∷ ss) n h = omega (arith, h s (inl refl), above_bound ss n (λ q i. h q (inr i)))
 
@@ -74,9 +74,9 @@ module _ (ls : List Layout) (ha : List Home) (fs : List Frame) (chain : Chain ha
       (λ j. (let b = below_above h.shared q (shared_at x q j e) in omega (arith, b)))
       (member_either x t.moved t.shared i)
 
-  there : (x : ℕ) (q : Spot) → E x → spot_of ls fs x ≡ Some q → (q.frame < N) × Has ls fs m x q
+  there : (x : ℕ) (q : Spot) → E x → spot_of ls fs x ≡ Some q → (q.frame < N) × HoldsVariable ls fs m x q
   there x q e at = let w = a.held x e in subst (λ (s : Spot). (s.frame < N)
-      × Has ls fs m x s) (same_Some _ _ (sym w.1 ∙ at)) (w.2, w.3)
+      × HoldsVariable ls fs m x s) (same_Some _ _ (sym w.1 ∙ at)) (w.2, w.3)
 
   index_bound : index_frame h ≤ N
   index_bound =
@@ -102,8 +102,8 @@ module _ (ls : List Layout) (ha : List Home) (fs : List Frame) (chain : Chain ha
       (stays : (x : ℕ) → IsMember x (handed_to t) → spot_of ls gs x ≡ spot_of ls fs x)
       (extends_on : (x : ℕ) → IsMember x (handed_to t) → 2 ≤ x → extent ls gs x ≡ extent ls fs x)
       (sized : (q : Spot) → q.frame < index_frame h → size_in ls gs q ≡ size_in ls fs q) where
-    has_handed : (x : ℕ) (q : Spot) → IsMember x (handed_to t) → spot_of ls fs x ≡ Some q → Has ls fs m x q
-        → Has ls gs child x q
+    has_handed : (x : ℕ) (q : Spot) → IsMember x (handed_to t) → spot_of ls fs x ≡ Some q → HoldsVariable ls fs m x q
+        → HoldsVariable ls gs child x q
     has_handed zero q i e w = let c = cells_of_position (map.get m q) w.0 w.1 in
         (w.0, ap position_in (same_cells 0 q c.0 i e c.1 ∙ sym c.1) ∙ w.1)
     has_handed (suc zero) q i e w = ⊎_elim
@@ -120,7 +120,7 @@ module _ (ls : List Layout) (ha : List Home) (fs : List Frame) (chain : Chain ha
     )
 
     held_handed : (x : ℕ) → IsMember x (handed_to t) → (s : Spot) × (spot_of ls gs x ≡ Some s) × (s.frame < suc N)
-        × Has ls gs child x s
+        × HoldsVariable ls gs child x s
     held_handed x i = let w = a.held x (effect x i) in (
       w.0,
       stays x i
@@ -177,16 +177,16 @@ module _ (ls : List Layout) (ha : List Home) (fs : List Frame) (chain : Chain ha
     outer_stands x i r =
         spot_is ls (OfIndex y ∷ ha) (f ∷ fs) x r chain_new
         ∙ ap (λ b. or_outward (if b then Some (record { frame = index_frame h; variable = 0 }) else None)
-        (stands ls ha (last_frames (length fs) fs) x)) (is_other x y (not_index x i r))
-        ∙ ap (λ gs. stands ls ha gs x) (last_up 0 fs)
+        (spot_by_homes ls ha (last_frames (length fs) fs) x)) (is_other x y (not_index x i r))
+        ∙ ap (λ gs. spot_by_homes ls ha gs x) (last_up 0 fs)
         ∙ sym (spot_is ls ha fs x r chain)
 
     pub outer_extent : (x : ℕ) → IsMember x (handed_to t) → 2 ≤ x → extent ls (f ∷ fs) x ≡ extent ls fs x
     outer_extent x i r =
         size_is ls (OfIndex y ∷ ha) (f ∷ fs) x r chain_new
-        ∙ ap (λ b. or_further (if b then Some 1 else None) (extends ls ha (last_frames (length fs) fs) x))
+        ∙ ap (λ b. or_further (if b then Some 1 else None) (extent_by_homes ls ha (last_frames (length fs) fs) x))
         (is_other x y (not_index x i r))
-        ∙ ap (λ gs. extends ls ha gs x) (last_up 0 fs)
+        ∙ ap (λ gs. extent_by_homes ls ha gs x) (last_up 0 fs)
         ∙ sym (size_is ls ha fs x r chain)
 
     pub stays : (x : ℕ) → IsMember x (handed_to t) → spot_of ls (f ∷ fs) x ≡ spot_of ls fs x
@@ -202,13 +202,14 @@ module _ (ls : List Layout) (ha : List Home) (fs : List Frame) (chain : Chain ha
     index_stands : spot_of ls (f ∷ fs) y ≡ Some index_spot
     index_stands =
         spot_is ls (OfIndex y ∷ ha) (f ∷ fs) y real chain_new
-        ∙ ap (λ b. or_outward (if b then Some index_spot else None) (stands ls ha (last_frames (length fs) fs) y))
+        ∙ ap (λ b. or_outward (if b then Some index_spot else None)
+        (spot_by_homes ls ha (last_frames (length fs) fs) y))
         (is_same y y refl)
 
     index_extent : extent ls (f ∷ fs) y ≡ Some 1
     index_extent =
         size_is ls (OfIndex y ∷ ha) (f ∷ fs) y real chain_new
-        ∙ ap (λ b. or_further (if b then Some 1 else None) (extends ls ha (last_frames (length fs) fs) y))
+        ∙ ap (λ b. or_further (if b then Some 1 else None) (extent_by_homes ls ha (last_frames (length fs) fs) y))
         (is_same y y refl)
 
     index_size : size_in ls (f ∷ fs) index_spot ≡ Some 1
@@ -220,11 +221,13 @@ module _ (ls : List Layout) (ha : List Home) (fs : List Frame) (chain : Chain ha
 
     index_there : map.get child index_spot ≡ Some (Own (cell.Ordinal (value +ℤ pos k) ∷ []))
     index_there =
-        get_taken_out m h.moved (with_index (lent m h.shared map.empty) (index_frame h) h.index) index_spot index_out
-        ∙ ap (λ o. map.get (with_index (lent m h.shared map.empty) (index_frame h) (index_by value k o)) index_spot) is
-        ∙ get_here (lent m h.shared map.empty) index_spot (Own (cell.Ordinal (value +ℤ pos k) ∷ []))
+        get_taken_out m h.moved (with_index (with_shared m h.shared map.empty) (index_frame h) h.index) index_spot
+        index_out
+        ∙ ap (λ o. map.get (with_index (with_shared m h.shared map.empty) (index_frame h) (index_by value k o))
+        index_spot) is
+        ∙ get_here (with_shared m h.shared map.empty) index_spot (Own (cell.Ordinal (value +ℤ pos k) ∷ []))
 
-    has_index : (x : ℕ) → x ≡ y → Has ls (f ∷ fs) child x index_spot
+    has_index : (x : ℕ) → x ≡ y → HoldsVariable ls (f ∷ fs) child x index_spot
     has_index zero e = absurd (omega (arith, real, e))
     has_index (suc zero) e = absurd (omega (arith, real, e))
     has_index (suc (suc x)) e = (
@@ -252,7 +255,7 @@ module _ (ls : List Layout) (ha : List Home) (fs : List Frame) (chain : Chain ha
     far (inr i) = handed_below 1 output_spot i refl
 
     held_new : (x : ℕ) → Rights x → (s : Spot) × (spot_of ls (f ∷ fs) x ≡ Some s) × (s.frame < suc N)
-        × Has ls (f ∷ fs) child x s
+        × HoldsVariable ls (f ∷ fs) child x s
     held_new x (inl i) = held_handed (f ∷ fs) stays outer_extent sized x i
     held_new x (inr e) = (
       index_spot,

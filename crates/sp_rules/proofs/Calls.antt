@@ -18,13 +18,14 @@ use Rattle.sp_code.specs.declared.code.Formal.{Formal}
 use Rattle.sp_code.specs.declared.code.Formal.TheVariants as formal
 use Rattle.sp_code.specs.declared.code.Layout.{Layout}
 use Rattle.sp_code.specs.Machine.{layout_of}
-use Rattle.sp_code.specs.Memory.{Home, OfBlock, Frame, last_frames, frames_up, referred, position_in}
+use Rattle.sp_code.specs.Memory.{Home, OfBlock, Frame, last_frames, frames_up, reference_target, position_in}
 use Rattle.sp_code.specs.PlainStore.{piece_of}
-use Rattle.sp_code.specs.System.{spot_of, spot_at, spot_by, spot_of_layout, entire, or_outward, place_of, first_number}
-use Rattle.sp_rules.specs.Chains.{Chain, variables_of, variables_in, all_variables, stands, extends}
+use Rattle.sp_code.specs.System.{spot_of, spot_at, spot_by, spot_of_layout, spot_of_address, or_outward, place_of}
+use Rattle.sp_code.specs.System.{first_number}
+use Rattle.sp_rules.specs.Chains.{Chain, variables_of, variables_in, all_variables, spot_by_homes, extent_by_homes}
 use Rattle.sp_rules.specs.Extents.{extent, extent_at, extent_by, extent_of_layout, size_in, size_at, size_of}
 use Rattle.sp_rules.specs.Extents.{size_behind, or_further}
-use Rattle.sp_rules.specs.Holding.{Has, Allowed, input_spot}
+use Rattle.sp_rules.specs.Holding.{HoldsVariable, Allowed, input_spot}
 use Rattle.sp_rules.proofs.Lists.{member_or, different_apart, place_some}
 use Rattle.sp_rules.proofs.Chains.{last_up, up_length, not_here, no_extent, chain_up, stands_up, extends_up, spot_is}
 use Rattle.sp_rules.proofs.Chains.{size_is}
@@ -59,18 +60,18 @@ module _ (ls : List Layout) (ha : List Home) (k : ℕ) (l : Layout) (fs : List F
       → spot_of ls (f ∷ fs) y ≡ spot_of ls fs y
   outer_stands y r m =
       spot_is ls hb (f ∷ fs) y r chain_new
-      ∙ ap (λ o. or_outward o (stands ls (drop k ha) (last_frames f.link fs) y))
+      ∙ ap (λ o. or_outward o (spot_by_homes ls (drop k ha) (last_frames f.link fs) y))
       (not_here ls f (OfBlock l.block) y (not_own y m))
-      ∙ ap (λ gs. stands ls (drop k ha) gs y) (last_up k fs)
+      ∙ ap (λ gs. spot_by_homes ls (drop k ha) gs y) (last_up k fs)
       ∙ sym (stands_up ls y k ha fs chain different m)
       ∙ sym (spot_is ls ha fs y r chain)
 
   pub outer_extent : (y : ℕ) → 2 ≤ y → IsMember y (all_variables ls (drop k ha)) → extent ls (f ∷ fs) y ≡ extent ls fs y
   outer_extent y r m =
       size_is ls hb (f ∷ fs) y r chain_new
-      ∙ ap (λ o. or_further o (extends ls (drop k ha) (last_frames f.link fs) y))
+      ∙ ap (λ o. or_further o (extent_by_homes ls (drop k ha) (last_frames f.link fs) y))
       (no_extent ls f fs (OfBlock l.block) y (not_own y m))
-      ∙ ap (λ gs. extends ls (drop k ha) gs y) (last_up k fs)
+      ∙ ap (λ gs. extent_by_homes ls (drop k ha) gs y) (last_up k fs)
       ∙ sym (extends_up ls y k ha fs chain different m)
       ∙ sym (size_is ls ha fs y r chain)
 
@@ -87,10 +88,11 @@ module _ (ls : List Layout) (ha : List Home) (k : ℕ) (l : Layout) (fs : List F
     place = i;
     is = w.2;
     stands_so = λ s e. spot_is ls hb (f ∷ fs) y r chain_new
-        ∙ ap (λ o. or_outward o (stands ls (drop k ha) (last_frames f.link fs) y)) (ap (spot_of_layout f y) lay
+        ∙ ap (λ o. or_outward o (spot_by_homes ls (drop k ha) (last_frames f.link fs) y)) (ap (spot_of_layout f y) lay
         ∙ ap (spot_at f l) place_is ∙ e);
     extends_so = λ n e. size_is ls hb (f ∷ fs) y r chain_new
-        ∙ ap (λ o. or_further o (extends ls (drop k ha) (last_frames f.link fs) y)) (ap (extent_of_layout ls f fs y) lay
+        ∙ ap (λ o. or_further o (extent_by_homes ls (drop k ha) (last_frames f.link fs) y))
+        (ap (extent_of_layout ls f fs y) lay
         ∙ ap (extent_at ls f fs l) place_is ∙ e);
   }
     where
@@ -113,7 +115,7 @@ module _ (ls : List Layout) (ha : List Home) (k : ℕ) (l : Layout) (fs : List F
       (once : (i j x : ℕ) → actual i x → actual j x → i ≡ j)
       (none : (i x : ℕ) → actual i x → D x → IsMember x l.variables)
       (given : (i n : ℕ) → slice_get l.formals i ≡ Some (formal.Reference n) → (x : ℕ) × actual i x
-      × ((p : Address) × (referred i refs ≡ Some p) × (spot_of ls fs x ≡ Some p.spot)))
+      × ((p : Address) × (reference_target i refs ≡ Some p) × (spot_of ls fs x ≡ Some p.spot)))
       (m m1 : Map) (below : (q : Spot) → q.frame < N → map.get m1 q ≡ map.get m q)
       (pieces : (i y : ℕ) → slice_get l.variables i ≡ Some y → IsPlain (slice_get l.formals i) → (c : ℕ)
       × (slice_get l.sizes i ≡ Some c)
@@ -196,7 +198,7 @@ module _ (ls : List Layout) (ha : List Home) (k : ℕ) (l : Layout) (fs : List F
               was = w.0;
               effect = p.0;
               became = inr (o.place, o.is, w.1);
-              at = o.stands_so w.2.0.spot (ap (spot_by f o.place) e ∙ ap entire w.2.1) ∙ sym w.2.2;
+              at = o.stands_so w.2.0.spot (ap (spot_by f o.place) e ∙ ap spot_of_address w.2.1) ∙ sym w.2.2;
               console = λ lt. absurd (omega (arith, lt, real y m));
               true_one = λ r. p.1;
               whole = λ r s n at ext size. (let same : w.2.0.spot ≡ s = same_Some _ _ (sym w.2.2 ∙ at) in
@@ -246,7 +248,7 @@ module _ (ls : List Layout) (ha : List Home) (k : ℕ) (l : Layout) (fs : List F
     frame_new : (i : ℕ) → size_in ls (f ∷ fs) (new_spot i) ≡ size_at ls (OfBlock l.block) i
     frame_new i = ap (λ b. if b then size_at ls (OfBlock l.block) i else size_in ls fs (new_spot i)) (is_same N N refl)
 
-    has_new : (y : ℕ) → 2 ≤ y → (o : IsNew y) → Has ls (f ∷ fs) m1 y (new_spot o.place)
+    has_new : (y : ℕ) → 2 ≤ y → (o : IsNew y) → HoldsVariable ls (f ∷ fs) m1 y (new_spot o.place)
     has_new zero r o = absurd (omega (arith, r))
     has_new (suc zero) r o = absurd (omega (arith, r))
     has_new (suc (suc y)) r o = (o.cells, o.piece, o.whole, frame_new o.place ∙ o.size)
@@ -254,7 +256,7 @@ module _ (ls : List Layout) (ha : List Home) (k : ℕ) (l : Layout) (fs : List F
     -- what was held of it is held
     has_old : (y x : ℕ) (s : Spot) → ((y < 2) → x ≡ y) → (2 ≤ y → 2 ≤ x)
         → (2 ≤ y → (n : ℕ) → extent ls fs x ≡ Some n → size_in ls fs s ≡ Some n → extent ls (f ∷ fs) y ≡ Some n)
-        → s.frame < N → Has ls fs m x s → Has ls (f ∷ fs) m1 y s
+        → s.frame < N → HoldsVariable ls fs m x s → HoldsVariable ls (f ∷ fs) m1 y s
     has_old zero zero s e r ext lt h = (h.0, ap (λ o. position_in (piece_of o)) (below s lt) ∙ h.1)
     has_old zero (suc x) s e r ext lt h = absurd (let z : suc x ≡ 0 = e (omega arith) in omega (arith, z))
     has_old (suc zero) zero s e r ext lt h = absurd (let z : 0 ≡ 1 = e (omega arith) in omega (arith, z))
@@ -272,7 +274,7 @@ module _ (ls : List Layout) (ha : List Home) (k : ℕ) (l : Layout) (fs : List F
     )
 
     held_new : (y : ℕ) → D y → IsNew y ⊎ IsOld y → (s : Spot) × (spot_of ls (f ∷ fs) y ≡ Some s) × (s.frame < suc N)
-        × Has ls (f ∷ fs) m1 y s
+        × HoldsVariable ls (f ∷ fs) m1 y s
     held_new y d (inl o) = (new_spot o.place, o.at, omega arith, has_new y (real y (member o.place l.variables o.is)) o)
       where
         member : (i : ℕ) (ys : List ℕ) → slice_get ys i ≡ Some y → IsMember y ys

@@ -7,7 +7,8 @@ use Rattle.sp_code.specs.declared.code.Layout.{Layout}
 use Rattle.sp_code.specs.Machine.{layout_of}
 use Rattle.sp_code.specs.Memory.{Home, OfBlock, OfIndex, Frame, last_frames, frames_up}
 use Rattle.sp_code.specs.System.{spot_in, or_outward, spot_from, spot_of_layout, spot_at, first_number, spot_of}
-use Rattle.sp_rules.specs.Chains.{Chain, variables_of, variables_in, all_variables, along, stands, extends}
+use Rattle.sp_rules.specs.Chains.{Chain, variables_of, variables_in, all_variables, first_along_links, spot_by_homes}
+use Rattle.sp_rules.specs.Chains.{extent_by_homes}
 use Rattle.sp_rules.specs.Extents.{extent, extent_in, extent_at, extent_of_layout, extent_from, or_further}
 use Rattle.sp_rules.proofs.Lists.{different_back, different_apart, drop_again}
 use Rattle.std.specs.Prelude.{nat_lt}
@@ -62,7 +63,7 @@ module _ (ls : List Layout) where
   no_extent f gs (OfIndex y) x n = ap (λ b. if b then Some 1 else None) (is_other x y (λ e. n (inl e)))
 
   pub from_is : (n : ℕ) (hs : List Home) (fs : List Frame) (x : ℕ) → length fs ≤ n → Chain hs fs
-      → spot_from ls n fs x ≡ stands ls hs fs x
+      → spot_from ls n fs x ≡ spot_by_homes ls hs fs x
   from_is zero [] [] x l c = refl
   from_is zero [] (f ∷ fs) x l c = absurd c
   from_is zero (h ∷ hs) [] x l c = absurd c
@@ -76,7 +77,7 @@ module _ (ls : List Layout) where
       ∙ ap (or_outward (spot_in ls f h x)) on
 
   pub extent_is : (n : ℕ) (hs : List Home) (fs : List Frame) (x : ℕ) → length fs ≤ n → Chain hs fs
-      → extent_from ls n fs x ≡ extends ls hs fs x
+      → extent_from ls n fs x ≡ extent_by_homes ls hs fs x
   extent_is zero [] [] x l c = refl
   extent_is zero [] (f ∷ fs) x l c = absurd c
   extent_is zero (h ∷ hs) [] x l c = absurd c
@@ -109,24 +110,27 @@ module _ (ls : List Layout) where
       (not_at : (f : Frame) (gs : List Frame) (h : Home) → (IsMember x (variables_in ls h) → ⊥)
       → at f gs h ≡ None) where
     pub along_up : (k : ℕ) (hs : List Home) (fs : List Frame) → Chain hs fs → AllDifferent (all_variables ls hs)
-        → IsMember x (all_variables ls (drop k hs)) → along or at hs fs ≡ along or at (drop k hs) (frames_up k fs)
+        → IsMember x (all_variables ls (drop k hs)) → first_along_links or at hs fs ≡ first_along_links or at
+        (drop k hs) (frames_up k fs)
     along_up zero hs fs c d m = refl
     along_up (suc k) [] [] c d m = refl
     along_up (suc k) [] (f ∷ fs) c d m = absurd c
     along_up (suc k) (h ∷ hs) [] c d m = absurd c
     along_up (suc k) (h ∷ hs) (f ∷ fs) c d m =
-        ap (λ o. or o (along or at hs (last_frames f.link fs)))
+        ap (λ o. or o (first_along_links or at hs (last_frames f.link fs)))
         (not_at f fs h (λ n. different_apart x (variables_in ls h) (all_variables ls hs) d n (in_drop k hs x m)))
-        ∙ none (along or at hs (last_frames f.link fs))
+        ∙ none (first_along_links or at hs (last_frames f.link fs))
         ∙ along_up k hs (last_frames f.link fs) c.2 (different_back (variables_in ls h) (all_variables ls hs) d) m
 
   pub stands_up : (x k : ℕ) (hs : List Home) (fs : List Frame) → Chain hs fs → AllDifferent (all_variables ls hs)
-      → IsMember x (all_variables ls (drop k hs)) → stands ls hs fs x ≡ stands ls (drop k hs) (frames_up k fs) x
+      → IsMember x (all_variables ls (drop k hs)) → spot_by_homes ls hs fs x ≡ spot_by_homes ls (drop k hs)
+      (frames_up k fs) x
   stands_up x k hs fs c d m = along_up or_outward (λ o. refl) (λ f gs h. spot_in ls f h x) x
       (λ f gs h n. not_here f h x n) k hs fs c d m
 
   pub extends_up : (x k : ℕ) (hs : List Home) (fs : List Frame) → Chain hs fs → AllDifferent (all_variables ls hs)
-      → IsMember x (all_variables ls (drop k hs)) → extends ls hs fs x ≡ extends ls (drop k hs) (frames_up k fs) x
+      → IsMember x (all_variables ls (drop k hs)) → extent_by_homes ls hs fs x ≡ extent_by_homes ls (drop k hs)
+      (frames_up k fs) x
   extends_up x k hs fs c d m = along_up or_further (λ o. refl) (λ f gs h. extent_in ls f gs h x) x
       (λ f gs h n. no_extent f gs h x n) k hs fs c d m
 
@@ -138,10 +142,12 @@ module _ (ls : List Layout) where
       go true e = absurd (omega (arith, l, ltb-true x 2 e))
       go false e = e
 
-  pub spot_is : (hs : List Home) (fs : List Frame) (x : ℕ) → 2 ≤ x → Chain hs fs → spot_of ls fs x ≡ stands ls hs fs x
+  pub spot_is : (hs : List Home) (fs : List Frame) (x : ℕ) → 2 ≤ x → Chain hs fs
+      → spot_of ls fs x ≡ spot_by_homes ls hs fs x
   spot_is hs fs x l c = ap (λ b. if b then Some (record { frame = 0; variable = x }) else spot_from ls (length fs) fs x)
       (real x l) ∙ from_is (length fs) hs fs x (omega arith) c
 
-  pub size_is : (hs : List Home) (fs : List Frame) (x : ℕ) → 2 ≤ x → Chain hs fs → extent ls fs x ≡ extends ls hs fs x
+  pub size_is : (hs : List Home) (fs : List Frame) (x : ℕ) → 2 ≤ x → Chain hs fs
+      → extent ls fs x ≡ extent_by_homes ls hs fs x
   size_is hs fs x l c = ap (λ b. if b then Some 1 else extent_from ls (length fs) fs x) (real x l)
       ∙ extent_is (length fs) hs fs x (omega arith) c

@@ -15,18 +15,19 @@ use Rattle.sp_code.specs.declared.instr.Instr.TheVariants as i
 use Rattle.sp_code.specs.Machine.{layout_of}
 use Rattle.sp_code.specs.Memory.{Home, OfBlock, OfIndex}
 use Rattle.sp_cell.proofs.FrameLaws.{is_same}
-use Rattle.sp_rules.specs.Areas.{Area, Body, Child, Found, given, variable_at, homes, with_home, instr_at, child_at}
+use Rattle.sp_rules.specs.Areas.{Area, Body, Child, VariableInfo, on_option, variable_at, homes, with_home, instr_at}
+use Rattle.sp_rules.specs.Areas.{child_at}
 use Rattle.sp_rules.specs.Areas.{child_of, table_at, table_named, index_of_child}
 use Rattle.sp_rules.specs.Chains.{variables_of, variables_in, all_variables}
 use Rattle.sp_rules.specs.Effects.{Kind, Stored, Loaded, IsAside, Becomes, IsStarted, IsCalled, EffectBy, IsEffect}
 use Rattle.sp_rules.specs.Effects.{HasEffect, handed_to, does_at, handed_as, Does, Granted, May}
 use Rattle.sp_rules.specs.Forks.{KeepsEffects}
-use Rattle.sp_rules.specs.Keeps.{Keeps}
+use Rattle.sp_rules.specs.KeepsCodeRules.{KeepsCodeRules}
 use Rattle.sp_rules.specs.Named.{Names, Unknown, is_block, is_in, is_loop_variable, is_plain, has_variable, some_has}
 use Rattle.sp_rules.specs.Named.{level_fits, loops_well}
 use Rattle.sp_rules.specs.Reach.{IsIn, IsArea}
-use Rattle.sp_rules.specs.Shapes.{Shape, O, C, L, A, below}
-use Rattle.sp_rules.specs.Touched.{stored_by, loaded_by, topmost, addresses, numbered}
+use Rattle.sp_rules.specs.Shapes.{Shape, O, C, L, A, below_topmost}
+use Rattle.sp_rules.specs.Touched.{stored_by, loaded_by, topmost_variable, addresses, number_list}
 use Rattle.sp_rules.proofs.Addresses.{AllP, addresses_around, found_around}
 use Rattle.sp_rules.proofs.Scoping.{found_layout, area_drop, homes_step, is_block_of, inner}
 use Rattle.sp_rules.proofs.Walking.{passes}
@@ -43,7 +44,7 @@ is_in_list x (y ∷ ys) (inr h) = inr (is_in_list x ys h)
 
 module _ (P : ℕ → Type 0) where
   -- what is touched at the top of the stack
-  pub top_p : (ss : List Shape) (x : ℕ) → AllP P ss → IsIn x (topmost ss) → P x
+  pub top_p : (ss : List Shape) (x : ℕ) → AllP P ss → IsIn x (topmost_variable ss) → P x
   top_p [] x h i = absurd i
   top_p (O ∷ ss) x h i = absurd i
   top_p (C ∷ ss) x h i = absurd i
@@ -51,7 +52,7 @@ module _ (P : ℕ → Type 0) where
   top_p (A y n ∷ ss) x h (inl e) = subst P (sym e) h.0
   top_p (A y n ∷ ss) x h (inr i) = absurd i
 
-  pub below_p : (ss : List Shape) → AllP P ss → AllP P (below ss)
+  pub below_p : (ss : List Shape) → AllP P ss → AllP P (below_topmost ss)
   below_p [] h = tt
   below_p (O ∷ ss) h = h
   below_p (C ∷ ss) h = h
@@ -89,28 +90,29 @@ module _ (P : ℕ → Type 0) where
   one_p x (inl e) = inl (omega (arith, e))
   one_p x (inr i) = absurd i
 
-  module _ (c : Parts) (a : Area) (found : (var : ℕ) (f : Found) → variable_at c a 0 var ≡ Some f
+  module _ (c : Parts) (a : Area) (found : (var : ℕ) (f : VariableInfo) → variable_at c a 0 var ≡ Some f
       → is_loop_variable (Some f) ≡ true → P f.number) (ss : List Shape) (h : AllP P ss) (x : ℕ) where
-    loop : (var : ℕ) (o : Option Found) → variable_at c a 0 var ≡ o → is_loop_variable o ≡ true → IsIn x (numbered o)
+    loop : (var : ℕ) (o : Option VariableInfo) → variable_at c a 0 var ≡ o → is_loop_variable o ≡ true
+        → IsIn x (number_list o)
         → Small x
     loop var None e w i = absurd i
     loop var (Some f) e w (inl s) = inr (subst P (sym s) (found var f e w))
     loop var (Some f) e w (inr i) = absurd i
 
-    called : (o : Option Layout) → IsIn x (given [] o (λ l. addresses (length l.formals) ss)) → Small x
+    called : (o : Option Layout) → IsIn x (on_option [] o (λ l. addresses (length l.formals) ss)) → Small x
     called None i = absurd i
     called (Some l) i = inr (some_p (length l.formals) ss x h i)
 
     stored_p : (o : Option Instr) → loops_well c a o ≡ true → IsIn x (stored_by c a o ss) → Small x
-    stored_p (Some i.Store) w m = inr (top_p (below ss) x (below_p ss h) m)
-    stored_p (Some (i.Copy k)) w m = inr (top_p (below ss) x (below_p ss h) m)
+    stored_p (Some i.Store) w m = inr (top_p (below_topmost ss) x (below_p ss h) m)
+    stored_p (Some (i.Copy k)) w m = inr (top_p (below_topmost ss) x (below_p ss h) m)
     stored_p (Some (i.Forup var to)) w m = loop var (variable_at c a 0 var) refl w m
     stored_p (Some (i.Fordown var to)) w m = loop var (variable_at c a 0 var) refl w m
     stored_p (Some (i.Nextup var to)) w m = loop var (variable_at c a 0 var) refl w m
     stored_p (Some (i.Nextdown var to)) w m = loop var (variable_at c a 0 var) refl w m
     stored_p (Some (i.Call b up)) w m = called (layout_of c.layouts b) m
-    stored_p (Some i.ReadInt) w m = zero_p x (topmost ss) (λ j. inr (top_p ss x h j)) m
-    stored_p (Some i.ReadChar) w m = zero_p x (topmost ss) (λ j. inr (top_p ss x h j)) m
+    stored_p (Some i.ReadInt) w m = zero_p x (topmost_variable ss) (λ j. inr (top_p ss x h j)) m
+    stored_p (Some i.ReadChar) w m = zero_p x (topmost_variable ss) (λ j. inr (top_p ss x h j)) m
     stored_p (Some i.Readln) w m = zero_p x [] (λ j. absurd j) m
     stored_p (Some i.WriteInt) w m = one_p x m
     stored_p (Some i.WriteChar) w m = one_p x m
@@ -134,7 +136,7 @@ module _ (P : ℕ → Type 0) where
     loaded_p (Some i.Eoln) m = zero_p x [] (λ j. absurd j) m
     loaded_p _ m = absurd m
 
-module _ (c : Parts) (k : Keeps c) (e : KeepsEffects c (Does c)) (known : (p : ℕ) → Unknown c p → ⊥) where
+module _ (c : Parts) (k : KeepsCodeRules c) (e : KeepsEffects c (Does c)) (known : (p : ℕ) → Unknown c p → ⊥) where
   abbrev Around : Area → ℕ → Type 0
   Around a x = IsMember x (all_variables c.layouts (homes c a))
 
@@ -162,7 +164,7 @@ module _ (c : Parts) (k : Keeps c) (e : KeepsEffects c (Does c)) (known : (p : �
   has_home : (x : ℕ) (h : Home) → has_variable c.layouts x h ≡ true → IsMember x (variables_in c.layouts h)
   has_home x (OfBlock b) w = go (layout_of c.layouts b) w
     where
-      go : (o : Option Layout) → given false o (λ l. is_in x l.variables) ≡ true → IsMember x (variables_of o)
+      go : (o : Option Layout) → on_option false o (λ l. is_in x l.variables) ≡ true → IsMember x (variables_of o)
       go None w = absurd (cc w)
       go (Some l) w = has_member x l.variables w
   has_home x (OfIndex y) w = inl (eqb-true x y w)
@@ -198,7 +200,7 @@ module _ (c : Parts) (k : Keeps c) (e : KeepsEffects c (Does c)) (known : (p : �
     where
       level : is_block l.parent (slice_get (homes c a) up) ≡ true
       level =
-          ap (λ o. given false o (λ (m : Layout). is_block m.parent (slice_get (homes c a) up))) (sym call.layout)
+          ap (λ o. on_option false o (λ (m : Layout). is_block m.parent (slice_get (homes c a) up))) (sym call.layout)
           ∙ ap (λ o. level_fits c a o) (sym call.call)
           ∙ k.levels a p (area, passes c a p ss call.reached)
 
@@ -232,7 +234,7 @@ module _ (c : Parts) (k : Keeps c) (e : KeepsEffects c (Does c)) (known : (p : �
       loops : loops_well c a (instr_at c p) ≡ true
       loops = k.loops a p (area, passes c a p ss d.2)
 
-      found : (var : ℕ) (f : Found) → variable_at c a 0 var ≡ Some f → is_loop_variable (Some f) ≡ true
+      found : (var : ℕ) (f : VariableInfo) → variable_at c a 0 var ≡ Some f → is_loop_variable (Some f) ≡ true
           → Around a f.number
       found var f s w = found_around c k a 0 var f s (inl (first_true (is_plain f.naming) (f.cells == 1) w))
 

@@ -10,24 +10,25 @@ use Rattle.sp_cell.specs.declared.spot.Address.{Address}
 use Rattle.sp_code.specs.declared.instr.Instr.TheVariants as i
 use Rattle.sp_code.specs.declared.code.Layout.{Layout}
 use Rattle.sp_code.specs.Machine.{Entry, Stop, Forks, Opens, Sends, Receives, Ends, Pauses, Config, At, layout_of}
-use Rattle.sp_code.specs.Turns.{Stopped, Begins, Runs, IsTurn, IsSafe, Comes, begins}
-use Rattle.sp_code.specs.Memory.{Setting, Memory, memory, cells_at, without_frame}
+use Rattle.sp_code.specs.Turns.{Stopped, BeginsOrFaults, Runs, IsTurn, IsSafe, RunsTo, frames_fit}
+use Rattle.sp_code.specs.Memory.{CodeRun, Memory, memory, cells_at, without_frame}
 use Rattle.sp_code.specs.PlainStore.{plain}
-use Rattle.sp_code.specs.System.{depth_of, on_store, entered_now}
+use Rattle.sp_code.specs.System.{depth_of, on_store, process_at_entry}
 use Rattle.sp_rules.specs.Areas.{Area, Body, homes, instr_at}
 use Rattle.sp_rules.specs.Shapes.{Shape}
-use Rattle.sp_rules.specs.Reach.{IsIn, IsArea, Passes, Reaches}
+use Rattle.sp_rules.specs.Reach.{IsIn, IsArea, IsInCodeOf, Reaches}
 use Rattle.sp_rules.specs.Touched.{stored_by}
 use Rattle.sp_rules.specs.Standing.{Points, StandsAt, StoppedAt, StopsSo, IsSent, IsReceived, ForksAt}
-use Rattle.sp_rules.specs.Changes.{areas, areas_of, Same, Beats, Puts, Copies, Reads, Skips, Prints, Owns, Calls}
+use Rattle.sp_rules.specs.Changes.{areas, areas_of, Unchanged, Ticks, PutsCell, Copies, ReadsItem, Skips, Prints}
+use Rattle.sp_rules.specs.Changes.{MakesOwn, Calls}
 use Rattle.sp_rules.specs.Changes.{Returns, IsHere}
-use Rattle.sp_rules.specs.Keeps.{Keeps}
+use Rattle.sp_rules.specs.KeepsCodeRules.{KeepsCodeRules}
 use Rattle.sp_rules.specs.Effects.{IsActual, Does}
 use Rattle.sp_rules.specs.Forks as fork
 use Rattle.sp_rules.specs.Verdict.{is_stop, HasStop}
-use Rattle.sp_rules.specs.Running.{Base, Lives, Aims, ForksWell, StopsWell}
+use Rattle.sp_rules.specs.Running.{Base, HasActivations, Aims, ForksWell, StopsWell}
 use Rattle.sp_rules.specs.Writable.{AllWriteWell, MayWrite}
-use Rattle.sp_rules.proofs.Answering.{Linked, IsAmong, linked_kept, answers_quietly}
+use Rattle.sp_rules.proofs.Answering.{Linked, IsAreaAmong, linked_kept, answers_quietly}
 use Rattle.sp_rules.proofs.Holds.{kept, elsewhere}
 use Rattle.sp_rules.proofs.Pushes.{KeepsCalls}
 use Rattle.sp_rules.proofs.Safe as safe
@@ -36,7 +37,7 @@ use Rattle.sp_rules.specs.Rules.{BreaksV9}
 use Rattle.sp_code.specs.Ranks.{IsRankedAlong}
 use Rattle.sp_rules.proofs.Walking.{passes}
 
-module _ (g : Setting) where
+module _ (g : CodeRun) where
   -- how a process stands whose activations are of these areas; it is no deeper than the limit, each activation is of a
   -- block that the one below it calls, and what it may store stands where the process may write
   abbrev pub T : List Area → Config (Memory Plain) → Type 0
@@ -60,39 +61,40 @@ module _ (g : Setting) where
     subst (λ ss. AllWriteWell g.code n.process ss us n.frames) (sym (same n.store)) t.4,
   )
 
-  pub t_entered : (us : List Area) (c : Config (Memory Plain)) → T us c → T us (entered_now c)
+  pub t_entered : (us : List Area) (c : Config (Memory Plain)) → T us c → T us (process_at_entry c)
   t_entered us (At p st n) t = t
 
   pub t_deep : g.limits.depth ≤ 4294967295 → (us : List Area) (c : Config (Memory Plain)) → T us c
       → depth_of c ≤ 4294967295
   t_deep h us (At p st n) t = let d = t.2 in omega (arith, h, d)
 
-  module _ (k : Keeps g.code) (E : Area → ℕ → Type 0)
+  module _ (k : KeepsCodeRules g.code) (E : Area → ℕ → Type 0)
       (mays : (a : Area) (p : ℕ) (ss : List Shape) (x : ℕ) → IsArea g.code a → Reaches g.code a p ss
       → IsIn x (stored_by g.code a (instr_at g.code p) ss) → E a x)
       (calls : (a : Area) (p : ℕ) (ss : List Shape) (f up : ℕ) (l : Layout) → IsArea g.code a → Reaches g.code a p ss
       → instr_at g.code p ≡ Some (i.Call f up) → layout_of g.code.layouts f ≡ Some l
       → KeepsCalls g.code.layouts (homes g.code a) up l (E a) (E (Body f)) (IsActual l ss))
       (ready : (b : Base g (homes g.code) E T) (p : ℕ) (st : List Entry) (n : Memory Plain)
-      (s : StandsAt g.code p st n.frames) → Lives g (homes g.code) E T b (areas s) (At p st n)
+      (s : StandsAt g.code p st n.frames) → HasActivations g (homes g.code) E T b (areas s) (At p st n)
       → n.depth ≤ g.limits.depth → safe.ReadyAt plain g k p st n s)
       (forks : (a : Area) (p t n : ℕ) (v : ℤ) (d : Config (Memory Plain)) (us : List Area) → IsArea g.code a
-      → Passes g.code a p → ForksAt g.code p t n → T (a ∷ us) d → depth_of d + 1 ≤ g.limits.depth
+      → IsInCodeOf g.code a p → ForksAt g.code p t n → T (a ∷ us) d → depth_of d + 1 ≤ g.limits.depth
       → ForksWell g (homes g.code) E T a t v n d)
       (writes : (b : Base g (homes g.code) E T) (p q : ℕ) (st s1 : List Entry) (n m : Memory Plain)
       (s : StandsAt g.code p st n.frames) (t : StandsAt g.code q s1 m.frames)
-      → Lives g (homes g.code) E T b (areas s) (At p st n) → MayWrite g.code (areas s) n
+      → HasActivations g (homes g.code) E T b (areas s) (At p st n) → MayWrite g.code (areas s) n
       → safe.ChangesAt plain g k p st n s (areas t) m → MayWrite g.code (areas t) m)
       (b : Base g (homes g.code) E T) where
     abbrev Lv : List Area → Config (Memory Plain) → Type 0
-    Lv us c = Lives g (homes g.code) E T b us c
+    Lv us c = HasActivations g (homes g.code) E T b us c
 
     -- what is known beside how it stands
-    abbrev pub Holds : (p : ℕ) (st : List Entry) (n : Memory Plain) → StandsAt g.code p st n.frames → Type 0
-    Holds p st n s = Lv (areas s) (At p st n) × (n.depth ≤ g.limits.depth) × Linked g.code (areas s)
+    abbrev pub IsHoldingAt : (p : ℕ) (st : List Entry) (n : Memory Plain) → StandsAt g.code p st n.frames → Type 0
+    IsHoldingAt p st n s = Lv (areas s) (At p st n) × (n.depth ≤ g.limits.depth) × Linked g.code (areas s)
         × MayWrite g.code (areas s) n
 
-    pub holds_ready : (p : ℕ) (st : List Entry) (n : Memory Plain) (s : StandsAt g.code p st n.frames) → Holds p st n s
+    pub holds_ready : (p : ℕ) (st : List Entry) (n : Memory Plain) (s : StandsAt g.code p st n.frames)
+        → IsHoldingAt p st n s
         → safe.ReadyAt plain g k p st n s
     holds_ready p st n s h = ready b p st n s h.0 h.1
 
@@ -105,22 +107,22 @@ module _ (g : Setting) where
 
     deep : (p : ℕ) (st : List Entry) (n m : Memory Plain) (s : StandsAt g.code p st n.frames) (vs : List Area)
         → safe.ChangesAt plain g k p st n s vs m → n.depth ≤ g.limits.depth → m.depth ≤ g.limits.depth
-    deep p st n m s vs (Same e d) h = subst (λ (z : Memory Plain). z.depth ≤ g.limits.depth) (sym d) h
-    deep p st n m s vs (Beats e d) h = subst (λ (z : Memory Plain). z.depth ≤ g.limits.depth) (sym d) h
-    deep p st n m s vs (Puts q c e w d) h = subst (λ (z : Memory Plain). z.depth ≤ g.limits.depth) (sym d) h
+    deep p st n m s vs (Unchanged e d) h = subst (λ (z : Memory Plain). z.depth ≤ g.limits.depth) (sym d) h
+    deep p st n m s vs (Ticks e d) h = subst (λ (z : Memory Plain). z.depth ≤ g.limits.depth) (sym d) h
+    deep p st n m s vs (PutsCell q c e w d) h = subst (λ (z : Memory Plain). z.depth ≤ g.limits.depth) (sym d) h
     deep p st n m s vs (Copies to from j e w d) h = subst (λ (z : Memory Plain). z.depth ≤ g.limits.depth) (sym d) h
-    deep p st n m s vs (Reads q c j e w z d) h = subst (λ (z : Memory Plain). z.depth ≤ g.limits.depth) (sym d) h
+    deep p st n m s vs (ReadsItem q c j e w z d) h = subst (λ (z : Memory Plain). z.depth ≤ g.limits.depth) (sym d) h
     deep p st n m s vs (Skips j e z d) h = subst (λ (z : Memory Plain). z.depth ≤ g.limits.depth) (sym d) h
     deep p st n m s vs (Prints bs e z d) h = subst (λ (z : Memory Plain). z.depth ≤ g.limits.depth) (sym d) h
-    deep p st n m s vs (Owns q j e w d) h = subst (λ (z : Memory Plain). z.depth ≤ g.limits.depth) (sym d) h
+    deep p st n m s vs (MakesOwn q j e w d) h = subst (λ (z : Memory Plain). z.depth ≤ g.limits.depth) (sym d) h
     deep p st n m s vs (Calls f up l es e is le pr ft dp d) h = subst (λ (z : Memory Plain). z.depth ≤ g.limits.depth)
         (sym d) (let x = ltb-true n.depth g.limits.depth dp in omega (arith, x))
     deep p st n m s vs (Returns e is d) h = subst (λ (z : Memory Plain). z.depth ≤ g.limits.depth) (sym d)
         (let x = closed_depth n in omega (arith, x, h))
 
     pub holds_kept : (p q : ℕ) (st s1 : List Entry) (n m : Memory Plain) (s : StandsAt g.code p st n.frames)
-        (t : StandsAt g.code q s1 m.frames) → Holds p st n s → safe.ChangesAt plain g k p st n s (areas t) m
-        → Holds q s1 m t
+        (t : StandsAt g.code q s1 m.frames) → IsHoldingAt p st n s → safe.ChangesAt plain g k p st n s (areas t) m
+        → IsHoldingAt q s1 m t
     holds_kept p q st s1 n m s t h ch = (
       kept g k E T mays calls b p q st s1 n s h.0 m t ch,
       deep p st n m s (areas t) ch h.1,
@@ -128,10 +130,10 @@ module _ (g : Setting) where
       writes b p q st s1 n m s t h.0 h.3 ch,
     )
 
-    abbrev Known : Config (Memory Plain) → Type 0
-    Known c = safe.Known plain g k Holds holds_ready holds_kept c
+    abbrev StandsHolding : Config (Memory Plain) → Type 0
+    StandsHolding c = safe.StandsWith plain g k IsHoldingAt holds_ready holds_kept c
 
-    pub known : (us : List Area) (c : Config (Memory Plain)) → Lv us c → T us c → Known c
+    pub known : (us : List Area) (c : Config (Memory Plain)) → Lv us c → T us c → StandsHolding c
     known us (At p st n) l t = (
       t.0,
       (
@@ -144,7 +146,7 @@ module _ (g : Setting) where
 
     -- no instruction of its turn lacks anything
     pub turn_safe : (us : List Area) (c : Config (Memory Plain)) → Lv us c → T us c → IsSafe (memory plain g) g.code c
-    turn_safe us c l t = safe.safe plain g k Holds holds_ready holds_kept c (known us c l t)
+    turn_safe us c l t = safe.safe plain g k IsHoldingAt holds_ready holds_kept c (known us c l t)
 
     first_same : (a d : Area) (us vs : List Area) → ◌≡◌ {A = List Area} (a ∷ us) (d ∷ vs) → a ≡ d
     first_same a d us vs e = cc
@@ -152,7 +154,8 @@ module _ (g : Setting) where
     rest_same : (a d : Area) (us vs : List Area) → ◌≡◌ {A = List Area} (a ∷ us) (d ∷ vs) → us ≡ vs
     rest_same a d us vs e = cc
 
-    own_there : (q : Address) (m n : Memory Plain) → m ≡ (memory plain g).own q n → IsOwn (map.get m.store.map q.spot)
+    own_there : (q : Address) (m n : Memory Plain) → m ≡ (memory plain g).make_own q n
+        → IsOwn (map.get m.store.map q.spot)
     own_there q m n e = subst (λ (z : Memory Plain). IsOwn (map.get z.store.map q.spot)) (sym e)
         (subst IsOwn (sym (get_here n.store.map q.spot (Own (cells_at plain n.store q.spot)))) tt)
 
@@ -199,7 +202,7 @@ module _ (g : Setting) where
 
     -- a stop, but for ends and pauses
     stop_well : (x : Stop) (q : ℕ) (s1 : List Entry) (m : Memory Plain) → (x ≡ Ends → ⊥) → (x ≡ Pauses → ⊥)
-        → (s : StandsAt g.code q s1 m.frames) → Holds q s1 m s → (t : StoppedAt g.code x q s1 m.frames)
+        → (s : StandsAt g.code q s1 m.frames) → IsHoldingAt q s1 m s → (t : StoppedAt g.code x q s1 m.frames)
         → IsHere plain g m x (t.area ∷ areas_of t.callers) (areas s) → Out x (At q s1 m)
     stop_well x q s1 m ne np s h t here = record {
       areas = areas s;
@@ -218,7 +221,8 @@ module _ (g : Setting) where
       stands = λ w. (s, refl, h.1, h.2, h.3);
     }
 
-    at_stop : (x : Stop) (d : Config (Memory Plain)) → safe.AtStop plain g k Holds holds_ready holds_kept x d → Out x d
+    at_stop : (x : Stop) (d : Config (Memory Plain)) → safe.AtStop plain g k IsHoldingAt holds_ready holds_kept x d
+        → Out x d
     at_stop (Forks t v n) (At q s1 m) w = stop_well (Forks t v n) q s1 m (λ z. cc z) (λ z. cc z) w.0 w.1 w.2.0 w.2.1
     at_stop (Opens to) (At q s1 m) w = stop_well (Opens to) q s1 m (λ z. cc z) (λ z. cc z) w.0 w.1 w.2.0 w.2.1
     at_stop (Sends ch j cs) (At q s1 m) w = stop_well (Sends ch j cs) q s1 m (λ z. cc z) (λ z. cc z) w.0 w.1 w.2.0 w.2.1
@@ -242,10 +246,10 @@ module _ (g : Setting) where
     pub turn_well : (us : List Area) (c d : Config (Memory Plain)) (x : Stop) → Lv us c → T us c
         → IsTurn (memory plain g) g.code c (Stopped x d) → Out x d
     turn_well us c d x l t is = at_stop x d
-        (safe.stops_well plain g k Holds holds_ready holds_kept c d x (known us c l t)
-        (runs (begins (memory plain g) g.code c) is))
+        (safe.stops_well plain g k IsHoldingAt holds_ready holds_kept c d x (known us c l t)
+        (runs (frames_fit (memory plain g) g.code c) is))
       where
-        runs : (b : Bool) → Begins b c (Stopped x d) (Runs (memory plain g) g.code c (Stopped x d))
+        runs : (b : Bool) → BeginsOrFaults b c (Stopped x d) (Runs (memory plain g) g.code c (Stopped x d))
             → Runs (memory plain g) g.code c (Stopped x d)
         runs true r = r
         runs false r = absurd (cc r)
@@ -254,16 +258,16 @@ module _ (g : Setting) where
     module _ (v9 : (p : ℕ) → BreaksV9 g.code p → ⊥) where
       pub turn_ranked : (us : List Area) (c : Config (Memory Plain)) → Lv us c → T us c
           → IsRankedAlong (memory plain g) g.code c
-      turn_ranked us c l t = safe.ranks_along plain g k Holds holds_ready holds_kept v9 c (known us c l t)
+      turn_ranked us c l t = safe.ranks_along plain g k IsHoldingAt holds_ready holds_kept v9 c (known us c l t)
 
     -- where it comes to an instruction that stops, no activation is of a block that answers
     module _ (eight : (f : ℕ) (l : Layout) → layout_of g.code.layouts f ≡ Some l
         → fork.BreaksV8 g.code (Does g.code) (HasStop g.code) l f → ⊥) where
       pub turn_quiet : (us : List Area) (c : Config (Memory Plain)) (q : ℕ) (s1 : List Entry) (m : Memory Plain)
-          → Lv us c → T us c → Comes (memory plain g) g.code c (At q s1 m) → is_stop (instr_at g.code q) ≡ true
+          → Lv us c → T us c → RunsTo (memory plain g) g.code c (At q s1 m) → is_stop (instr_at g.code q) ≡ true
           → (t : StandsAt g.code q s1 m.frames)
-          × ((f : ℕ) (l : Layout) → IsAmong g.code (Body f) (areas t) → layout_of g.code.layouts f ≡ Some l
+          × ((f : ℕ) (l : Layout) → IsAreaAmong g.code (Body f) (areas t) → layout_of g.code.layouts f ≡ Some l
           → l.answer ≡ false)
       turn_quiet us (At p st n) q s1 m l t way is =
           let w = known us (At p st n) l t in
-          answers_quietly g k Holds holds_ready holds_kept eight p q st s1 n m w.0 (w.1, w.1.2) way is
+          answers_quietly g k IsHoldingAt holds_ready holds_kept eight p q st s1 n m w.0 (w.1, w.1.2) way is

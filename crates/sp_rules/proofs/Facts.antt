@@ -11,8 +11,8 @@ use Rattle.sp_cell.specs.declared.cell.Cell.{Cell}
 use Rattle.sp_cell.specs.declared.spot.Address.{Address}
 use Rattle.sp_cell.specs.Lists.{part}
 use Rattle.sp_code.specs.declared.code.Layout.{Layout}
-use Rattle.sp_code.specs.Machine.{Entry, Did, Done, Failed}
-use Rattle.sp_code.specs.Memory.{Setting, Stores, Memory, memory, has_cells, with_store, bytes_in, opened}
+use Rattle.sp_code.specs.Machine.{Entry, MemoryResult, Done, Failed}
+use Rattle.sp_code.specs.Memory.{CodeRun, Stores, Memory, memory, has_cells, with_store, bytes_in, memory_after_call}
 use Rattle.sp_rules.specs.Shapes.{span}
 use Rattle.sp_rules.specs.Extents.{HasWhole}
 use Rattle.sp_rules.specs.Standing.{Points}
@@ -66,11 +66,11 @@ module _ {S : Type 0} (stores : Stores S) (ls : List Layout) (n : Memory S) (x l
   pub has_left : (k : ℕ) → k ≤ left → has_cells (stores.piece n.store q.spot) q.offset k ≡ true
   has_left k h = has_some (stores.piece n.store q.spot) w.cells q.offset k here (reaches k h)
 
-module _ {S : Type 0} (stores : Stores S) (g : Setting) where
-  same_done : (n m : Memory S) → ◌≡◌ {A = Did (Memory S)} (Done n) (Done m) → n ≡ m
+module _ {S : Type 0} (stores : Stores S) (g : CodeRun) where
+  same_done : (n m : Memory S) → ◌≡◌ {A = MemoryResult (Memory S)} (Done n) (Done m) → n ≡ m
   same_done n m e = cc
 
-  pub beat_is : (n m : Memory S) → (memory stores g).beat n ≡ Done m → m ≡ record n { ticks = n.ticks + 1 }
+  pub beat_is : (n m : Memory S) → (memory stores g).tick n ≡ Done m → m ≡ record n { ticks = n.ticks + 1 }
   beat_is n m = go (nat_lt n.ticks g.limits.ticks)
     where
       go : (t : Bool) → (if t then Done (record n { ticks = n.ticks + 1 }) else Failed fault.F10) ≡ Done m
@@ -88,7 +88,7 @@ module _ {S : Type 0} (stores : Stores S) (g : Setting) where
       go true h = absurd cc
       go false h = sym (same_done (with_store stores n (stores.appended n.store t)) m h)
 
-  pub beat_frames : (n m : Memory S) → (memory stores g).beat n ≡ Done m → m.frames ≡ n.frames
+  pub beat_frames : (n m : Memory S) → (memory stores g).tick n ≡ Done m → m.frames ≡ n.frames
   beat_frames n m = go (nat_lt n.ticks g.limits.ticks)
     where
       go : (t : Bool) → (if t then Done (record n { ticks = n.ticks + 1 }) else Failed fault.F10) ≡ Done m
@@ -106,15 +106,15 @@ module _ {S : Type 0} (stores : Stores S) (g : Setting) where
           (sym (same_done (with_store stores n (stores.appended n.store t)) m h))
 
   pub opened_is : (l : Layout) (up : ℕ) (es : List Entry) (n m : Memory S)
-      → (memory stores g).open_frame l up es n ≡ Done m → m ≡ opened stores g l up es n
+      → (memory stores g).open_frame l up es n ≡ Done m → m ≡ memory_after_call stores g l up es n
   opened_is l up es n m = go (nat_lt n.ticks g.limits.ticks) (nat_lt n.depth g.limits.depth)
       (nat_lt g.limits.cells (n.cells + Rattle.std.specs.Prelude.sum l.sizes))
     where
       go : (t d c : Bool) → (if t then
           (if d then (if c then Failed fault.F12 else Done
-          (opened stores g l up es n)) else Failed fault.F11) else Failed fault.F10) ≡ Done m
-          → m ≡ opened stores g l up es n
-      go true true false h = sym (same_done (opened stores g l up es n) m h)
+          (memory_after_call stores g l up es n)) else Failed fault.F11) else Failed fault.F10) ≡ Done m
+          → m ≡ memory_after_call stores g l up es n
+      go true true false h = sym (same_done (memory_after_call stores g l up es n) m h)
       go true true true h = absurd cc
       go true false c h = absurd cc
       go false d c h = absurd cc
@@ -126,7 +126,7 @@ module _ {S : Type 0} (stores : Stores S) (g : Setting) where
     where
       go : (t d c : Bool) → (if t then
           (if d then (if c then Failed fault.F12 else Done
-          (opened stores g l up es n)) else Failed fault.F11) else Failed fault.F10) ≡ Done m → d ≡ true
+          (memory_after_call stores g l up es n)) else Failed fault.F11) else Failed fault.F10) ≡ Done m → d ≡ true
       go true true c h = refl
       go true false c h = absurd cc
       go false d c h = absurd cc

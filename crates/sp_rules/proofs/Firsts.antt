@@ -11,17 +11,17 @@ use Rattle.sp_code.specs.declared.code.ForkTable.{ForkTable}
 use Rattle.sp_code.specs.declared.code.Parts.{Parts}
 use Rattle.sp_code.specs.Machine.{layout_of}
 use Rattle.sp_code.specs.Tables.{child_at as table_child, index_of, child_by}
-use Rattle.sp_code.specs.Memory.{OfBlock, Setting, Stores, Frame, last_frames, first, entry_of}
+use Rattle.sp_code.specs.Memory.{OfBlock, CodeRun, Stores, Frame, last_frames, first_process, entry_of}
 use Rattle.sp_code.specs.System.{with_index_frame, child_or, table_or}
 use Rattle.sp_rules.specs.Areas.{Area, Body, Child, homes, entry_of_layout, homes_by, with_home, parent_of, child_at}
 use Rattle.sp_rules.specs.Areas.{child_of, table_at, table_named, index_of_child, entry_of_child, leads_by}
-use Rattle.sp_rules.specs.Reach.{IsArea, Passes}
-use Rattle.sp_rules.specs.Standing.{Framed, RefersWell, StandsAt, Stands, ForksAt}
-use Rattle.sp_rules.specs.Keeps.{Keeps}
+use Rattle.sp_rules.specs.Reach.{IsArea, IsInCodeOf}
+use Rattle.sp_rules.specs.Standing.{Framed, RefersWell, StandsAt, ProcessStands, ForksAt}
+use Rattle.sp_rules.specs.KeepsCodeRules.{KeepsCodeRules}
 use Rattle.sp_rules.proofs.Chains.{last_up}
 use Rattle.sp_rules.proofs.Scoping.{found_layout, programs, none_homes, leads_of, homes_led}
 
-module _ (c : Parts) (k : Keeps c) where
+module _ (c : Parts) (k : KeepsCodeRules c) where
   -- the program's frame
   abbrev pub root_frame : Frame
   root_frame = record { owner = 0; number = 0; home = OfBlock 0; link = 0; references = [] }
@@ -59,9 +59,9 @@ module _ (c : Parts) (k : Keeps c) where
 pub index_last : (x : ℕ) (fs : List Frame) → last_frames (length fs) fs ≡ fs
 index_last x fs = last_up 0 fs
 
-module _ {S : Type 0} (stores : Stores S) (g : Setting) (k : Keeps g.code) where
+module _ {S : Type 0} (stores : Stores S) (g : CodeRun) (k : KeepsCodeRules g.code) where
   -- the first process stands at the first instruction of the program
-  abbrev pub first_stands : Stands g.code (first stores g)
+  abbrev pub first_stands : ProcessStands g.code (first_process stores g)
   first_stands =
       let l = k.main in
       record {
@@ -78,7 +78,8 @@ module _ {S : Type 0} (stores : Stores S) (g : Setting) (k : Keeps g.code) where
 
   -- a child stands at its first instruction, with its parent's frames and above them that of its index
   abbrev pub child_stands : (a : Area) (p j : ℕ) (ch : ChildTable) (fs : List Frame) (q : ℕ) (h : Handing)
-      → IsArea g.code a → Passes g.code a p → child_at g.code p j ≡ Some ch → Framed g.code.layouts (homes g.code a) fs
+      → IsArea g.code a → IsInCodeOf g.code a p → child_at g.code p j ≡ Some ch
+      → Framed g.code.layouts (homes g.code a) fs
       → StandsAt g.code ch.entry [] (with_index_frame stores g q h ch.index fs)
   child_stands a p j ch fs q h i w e fr = record {
     area = Child a p j;

@@ -10,7 +10,7 @@ use Rattle.sp_cell.specs.declared.cell.Cell.{Cell}
 use Rattle.sp_cell.specs.declared.cell.Cell.TheVariants as cell
 use Rattle.sp_cell.specs.declared.spot.Spot.{Spot}
 use Rattle.sp_cell.specs.declared.spot.Handing.{Handing}
-use Rattle.sp_cell.specs.Fork.{lent, away, with_index, index_frame, child_map, moved_of, shared_of}
+use Rattle.sp_cell.specs.Fork.{with_shared, with_away, with_index, index_frame, child_map, moved_of, shared_of}
 use Rattle.sp_cell.specs.Frame.{frames, HasNextFrame}
 use Rattle.sp_cell.proofs.FrameLaws.{known_below}
 use Rattle.sp_cell.proofs.Laws.{known_of_held, known_of_piece, get_here, get_other, same_or, own_away, held_not_away}
@@ -22,22 +22,22 @@ use Rattle.sp_cell.specs.Spots.{In, NotIn, IsDistinct}
 use Rattle.sp_code.specs.declared.code.ChildTable.{ChildTable}
 use Rattle.sp_code.specs.declared.code.ForkTable.{ForkTable}
 use Rattle.sp_code.specs.Machine.{Config, At}
-use Rattle.sp_code.specs.Memory.{Setting, Home, OfIndex, Frame, Memory}
+use Rattle.sp_code.specs.Memory.{CodeRun, Home, OfIndex, Frame, Memory}
 use Rattle.sp_code.specs.PlainStore.{plain}
 use Rattle.sp_code.specs.Sound.{CanSplit}
-use Rattle.sp_code.specs.System.{spot_of, frames_of, on_store, handing_of, plan_from, table_or, newborn}
+use Rattle.sp_code.specs.System.{spot_of, frames_of, on_store, handing_of, plan_from, table_or, child_process}
 use Rattle.sp_code.specs.System.{with_index_frame}
 use Rattle.sp_rules.specs.Areas.{with_home}
 use Rattle.sp_rules.specs.Chains.{Chain}
 use Rattle.sp_rules.specs.Extents.{extent}
 use Rattle.sp_rules.specs.Forks.{handed_to}
 use Rattle.sp_rules.specs.Holding.{Allowed, input_spot}
-use Rattle.sp_rules.specs.Running.{Base, HasConsole, Lives, IsChild, ForksWell, table_of}
+use Rattle.sp_rules.specs.Running.{Base, HasConsole, HasActivations, IsChild, ForksWell, table_of}
 use Rattle.sp_rules.specs.Systems.{Heir, moved_to, JoinsWell}
 use Rattle.sp_rules.proofs.Births.{IsRight, born, born_with_index, chain_new, stays, outer_extent, above_bound}
 use Rattle.sp_rules.proofs.Forking.{has_held, KeepsForks, can_split}
 use Rattle.sp_rules.proofs.Holdings.{head, next_low}
-use Rattle.sp_rules.proofs.Keeping.{Keeps, all_keeps, keeps_lent}
+use Rattle.sp_rules.proofs.Keeping.{KeepsLengths, all_keeps, keeps_lent}
 use Rattle.sp_code.proofs.Plans.{spots_from}
 
 -- the same rights under another name
@@ -51,10 +51,10 @@ allowed_iff ls K J R E n fs m to has back a = record {
   clear = λ c x s r e. a.clear (back c) x s r (to x e);
 }
 
-module _ (g : Setting) {Area : Type 0} (H : Area → List Home) (E : Area → ℕ → Type 0) (T : List Area
+module _ (g : CodeRun) {Area : Type 0} (H : Area → List Home) (E : Area → ℕ → Type 0) (T : List Area
     → Config (Memory Plain) → Type 0) (Room Cells : ℕ → ℕ → Type 0) (b : Base g H E T) (a : Area) (us : List Area)
     (pc : ℕ) (st : List Rattle.sp_code.specs.Machine.Entry) (n : Memory Plain)
-    (l : Lives g H E T b (a ∷ us) (At pc st n)) where
+    (l : HasActivations g H E T b (a ∷ us) (At pc st n)) where
   abbrev d : Config (Memory Plain)
   d = At pc st n
 
@@ -82,7 +82,7 @@ module _ (g : Setting) {Area : Type 0} (H : Area → List Home) (E : Area → �
     h = handing_of ls n.frames value k t
 
     abbrev child : Config (Memory Plain)
-    child = newborn plain g d value q k t
+    child = child_process plain g d value q k t
 
     moved_held : (s : Spot) → In s h.moved → IsHeld (map.get n.store.map s)
     moved_held s i = let v = spots_from ls n.frames t.moved s i in effect_known v.0 s
@@ -138,7 +138,7 @@ module _ (g : Setting) {Area : Type 0} (H : Area → List Home) (E : Area → �
         (sym (get_other m (record { frame = f; variable = i.0 }) (Own (cell.Ordinal i.1 ∷ [])) s w) ∙ e))
         (same_or s (record { frame = f; variable = i.0 }))
 
-    none_lent : (s : Spot) → map.get (lent n.store.map h.shared map.empty) s ≢ Some Away
+    none_lent : (s : Spot) → map.get (with_shared n.store.map h.shared map.empty) s ≢ Some Away
     none_lent s e = ⊎_elim
         (λ i. shared_away (sym (get_lent_in n.store.map h.shared map.empty s i) ∙ e))
         (λ o. absent (sym (map.get-empty spot_cmp s) ∙ sym (get_lent_out n.store.map h.shared map.empty s o) ∙ e))
@@ -151,9 +151,9 @@ module _ (g : Setting) {Area : Type 0} (H : Area → List Home) (E : Area → �
     child_away s e = ⊎_elim
         (λ i. held_not_away (map.get n.store.map s) (moved_held s i)
         (sym (child_moved n.store.map h s i (known_of_held (map.get n.store.map s) (moved_held s i))) ∙ e))
-        (λ o. none_index h.index (lent n.store.map h.shared map.empty) (index_frame h) s (none_lent s)
+        (λ o. none_index h.index (with_shared n.store.map h.shared map.empty) (index_frame h) s (none_lent s)
         (sym (get_taken_out n.store.map h.moved
-        (with_index (lent n.store.map h.shared map.empty) (index_frame h) h.index) s o) ∙ e))
+        (with_index (with_shared n.store.map h.shared map.empty) (index_frame h) h.index) s o) ∙ e))
         (in_or s h.moved)
 
     right : (x : ℕ) → E e x → IsRight t x
@@ -163,13 +163,13 @@ module _ (g : Setting) {Area : Type 0} (H : Area → List Home) (E : Area → �
     back z = ⊎_elim (λ r. inl (c.rights 0 r)) (λ r. inr (c.rights 1 r)) z
 
     -- what it holds, with its frames
-    record Begins (fs : List Frame) : Type 0 where
+    record BeginsHolding (fs : List Frame) : Type 0 where
       pub chain : Chain (H e) fs
       pub allowed : Allowed ls (HasConsole g H E T e) (E e) (suc N) fs (child_map n.store.map h)
       pub stood : (x : ℕ) → IsMember x (handed_to t) → spot_of ls fs x ≡ spot_of ls n.frames x
       pub alike : (x : ℕ) → IsMember x (handed_to t) → 2 ≤ x → extent ls fs x ≡ extent ls n.frames x
 
-    begins_by : (o : Option ℕ) → t.index ≡ o → Begins (with_index_frame plain g q h o n.frames)
+    begins_by : (o : Option ℕ) → t.index ≡ o → BeginsHolding (with_index_frame plain g q h o n.frames)
     begins_by None is = record {
       chain = subst (λ hs. Chain hs n.frames) (sym (c.homes ∙ ap (λ o. with_home o (H a)) is)) mother.0;
       allowed = allowed_iff ls (IsRight t 0
@@ -201,7 +201,7 @@ module _ (g : Setting) {Area : Type 0} (H : Area → List Home) (E : Area → �
         f : Frame
         f = record { owner = q; number = index_frame h; home = OfIndex y; link = length n.frames; references = [] }
 
-    begins : Begins (frames_of child)
+    begins : BeginsHolding (frames_of child)
     begins = begins_by t.index refl
 
     abbrev pub child_base : Base g H E T
@@ -219,7 +219,7 @@ module _ (g : Setting) {Area : Type 0} (H : Area → List Home) (E : Area → �
         (has_held ls (frames_of child) (child_map n.store.map h) 1 w.0 w.3)))
 
     -- the child lives
-    pub child_lives : Lives g H E T child_base (e ∷ []) child
+    pub child_lives : HasActivations g H E T child_base (e ∷ []) child
     child_lives = record {
       holding = record {
         bound = suc N;
@@ -273,7 +273,7 @@ module _ (g : Setting) {Area : Type 0} (H : Area → List Home) (E : Area → �
     splits = can_split ls (HasConsole g H E T b.area) (E a) N n.frames n.store table value count keeps mother.1 room
 
     abbrev whole : Map
-    whole = lent n.store.map (shared_of plan) n.store.map
+    whole = with_shared n.store.map (shared_of plan) n.store.map
 
     piece_not_output : (o : Option Content) → IsPiece o → IsOutput o → ⊥
     piece_not_output None p o = p
@@ -282,7 +282,7 @@ module _ (g : Setting) {Area : Type 0} (H : Area → List Home) (E : Area → �
     piece_not_output (Some (Output bs)) p o = p
     piece_not_output (Some Away) p o = p
 
-    keeps_whole : (k : ℕ) → Keeps (HasConsole g H E T b.area) k n.store.map whole
+    keeps_whole : (k : ℕ) → KeepsLengths (HasConsole g H E T b.area) k n.store.map whole
     keeps_whole k = keeps_lent (HasConsole g H E T b.area) k n.store.map (shared_of plan)
         (λ i o. piece_not_output (map.get n.store.map output_spot) (splits.pieces output_spot i) o)
 
@@ -301,7 +301,7 @@ module _ (g : Setting) {Area : Type 0} (H : Area → List Home) (E : Area → �
     not_away : {cs : List Cell} → Some (Shared cs) ≢ Some Away
     not_away e = cc e
 
-    lives_whole : Lives g H E T b (a ∷ us)
+    lives_whole : HasActivations g H E T b (a ∷ us)
         (At pc st (record n { store = record { map = whole; own = n.store.own; moved = n.store.moved } }))
     lives_whole = record {
       holding = record {
@@ -398,7 +398,7 @@ module _ (g : Setting) {Area : Type 0} (H : Area → List Home) (E : Area → �
         stands = stands;
         lent = record {
           away = λ s i. (let m = subst (In s) all_moved i in parent_moved n.store.map plan s m (splits.apart s m));
-          rest = λ s o. lent_alike n.store.map (shared_of plan) (away n.store.map (moved_of plan)) n.store.map s
+          rest = λ s o. lent_alike n.store.map (shared_of plan) (with_away n.store.map (moved_of plan)) n.store.map s
               (get_away_out n.store.map (moved_of plan) s (subst (NotIn s) all_moved o));
           distinct = subst IsDistinct (sym all_moved) splits.distinct;
           heirs = heir_at;

@@ -22,9 +22,9 @@ use Rattle.sp_code.specs.Sound.{CanSplit}
 use Rattle.sp_code.specs.System.{spot_of, plan_from, child_or}
 use Rattle.sp_code.specs.Tables.{child_at}
 use Rattle.sp_rules.specs.Forks.{handed_to}
-use Rattle.sp_rules.specs.Holding.{Has, Allowed}
+use Rattle.sp_rules.specs.Holding.{HoldsVariable, Allowed}
 use Rattle.sp_rules.proofs.Lists.{different_front, different_apart}
-use Rattle.sp_code.proofs.Plans.{spots_from, out_of, one, distinct_spots, distinct_plan, moved_by, shared_by}
+use Rattle.sp_code.proofs.Plans.{spots_from, out_of, child_handing, distinct_spots, distinct_plan, moved_by, shared_by}
 use Rattle.sp_code.proofs.StoreLaws.{piece_of_cells, held_of_cells}
 
 -- ---- contents
@@ -45,12 +45,12 @@ held_of_output (Some (Output bs)) h = tt
 held_of_output (Some Away) h = absurd h
 
 module _ (ls : List Layout) (fs : List Frame) (m : Map) where
-  pub has_held : (x : ℕ) (s : Spot) → Has ls fs m x s → IsHeld (map.get m s)
+  pub has_held : (x : ℕ) (s : Spot) → HoldsVariable ls fs m x s → IsHeld (map.get m s)
   has_held zero s h = let w = cells_of_position (map.get m s) h.0 h.1 in held_of_cells (map.get m s) w.0 w.1
   has_held (suc zero) s h = held_of_output (map.get m s) h
   has_held (suc (suc x)) s h = held_of_cells (map.get m s) h.0 h.1
 
-  pub has_piece : (x : ℕ) (s : Spot) → (x ≡ 1 → ⊥) → Has ls fs m x s → IsPiece (map.get m s)
+  pub has_piece : (x : ℕ) (s : Spot) → (x ≡ 1 → ⊥) → HoldsVariable ls fs m x s → IsPiece (map.get m s)
   has_piece zero s d h = let w = cells_of_position (map.get m s) h.0 h.1 in piece_of_cells (map.get m s) w.0 w.1
   has_piece (suc zero) s d h = absurd (d refl)
   has_piece (suc (suc x)) s d h = piece_of_cells (map.get m s) h.0 h.1
@@ -76,8 +76,9 @@ module _ (ls : List Layout) (K : Type 0) (E : ℕ
   shared_effect j x lt h = keeps.effect j x lt (member_back x (table j).moved (table j).shared h)
 
   -- what is there of a variable that stands at q
-  there : (x : ℕ) (q : Spot) → E x → spot_of ls fs x ≡ Some q → Has ls fs p.map x q
-  there x q e at = let w = a.held x e in subst (λ (s : Spot). Has ls fs p.map x s) (same_Some _ _ (sym w.1 ∙ at)) w.3
+  there : (x : ℕ) (q : Spot) → E x → spot_of ls fs x ≡ Some q → HoldsVariable ls fs p.map x q
+  there x q e at = let w = a.held x e in
+      subst (λ (s : Spot). HoldsVariable ls fs p.map x s) (same_Some _ _ (sym w.1 ∙ at)) w.3
 
   held : (q : Spot) → In q (moved_of (plan_from ls fs t value 0 n)) → IsHeld (map.get p.map q)
   held q i =
@@ -98,8 +99,8 @@ module _ (ls : List Layout) (K : Type 0) (E : ℕ
       (λ y z q i k e g. a.apart y z q (moved_effect j y lt i) (moved_effect j z lt k) e g))
       (λ j k q l lt i h. two j k q (omega (arith, l, lt)) lt (λ e. absurd (omega (arith, l, e))) i h)
     where
-      two : (j k : ℕ) (q : Spot) → j < n → k < n → j ≢ k → In q (one ls fs t value j).moved
-          → In q (one ls fs t value k).moved → ⊥
+      two : (j k : ℕ) (q : Spot) → j < n → k < n → j ≢ k → In q (child_handing ls fs t value j).moved
+          → In q (child_handing ls fs t value k).moved → ⊥
       two j k q lj lk d i h =
           let v = spots_from ls fs (table j).moved q i in
           let w = spots_from ls fs (table k).moved q h in

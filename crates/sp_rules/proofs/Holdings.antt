@@ -11,7 +11,7 @@ use Rattle.sp_base.proofs.Facts.{take_front}
 use Rattle.sp_tree.specs.Interference.{IsMember}
 use Rattle.sp_tree.proofs.Members.{member_front, member_back, member_either}
 use Rattle.sp_cell.specs.declared.spot.Spot.{Spot}
-use Rattle.sp_cell.specs.Frame.{next_frame, newest, popped, without}
+use Rattle.sp_cell.specs.Frame.{next_frame, last_own_frame, without_newest_frame, without_spots_of}
 use Rattle.sp_cell.proofs.FrameLaws.{known_below, above_known, is_same, without_here, without_other, newest_last}
 use Rattle.sp_cell.proofs.Laws.{get_other, get_here, same_or, known_of_held, known_insert, held_not_away}
 use Rattle.sp_cell.specs.Map.{Map, Content, Own, Shared, Output, Away, Plain, IsHeld, output_spot}
@@ -22,7 +22,7 @@ use Rattle.sp_code.proofs.Members.{above_members, member_above}
 use Rattle.sp_rules.specs.Chains.{Chain}
 use Rattle.sp_rules.specs.Holding.{Allowed, AllAllowed, AreOwn, Holding, input_spot}
 use Rattle.sp_rules.proofs.Forking.{has_held}
-use Rattle.sp_rules.proofs.Keeping.{Keeps, all_keeps, keeps_same}
+use Rattle.sp_rules.proofs.Keeping.{KeepsLengths, all_keeps, keeps_same}
 
 -- ---- lists of numbers
 
@@ -89,7 +89,7 @@ module _ (ls : List Layout) {Area : Type 0} (H : Area → List Home) (E : Area �
 
     -- a change of what is at one known spot
     module _ (s : Spot) (c : Content) (was : IsSome (map.get p.map s)) (held : IsHeld (Some c))
-        (keeps : Keeps K h.bound p.map (map.insert p.map s c)) where
+        (keeps : KeepsLengths K h.bound p.map (map.insert p.map s c)) where
       pub holding_set : Holding ls H E K us fs d (record { map = map.insert p.map s c; own = p.own; moved = p.moved })
       holding_set = record {
         bound = h.bound;
@@ -128,8 +128,8 @@ module _ (ls : List Layout) {Area : Type 0} (H : Area → List Home) (E : Area �
     own_is : p.own ≡ h.own.0 ++ f.number ∷ []
     own_is = h.own.1
 
-    newest_is : newest p.own ≡ f.number
-    newest_is = ap newest own_is ∙ newest_last h.own.0 f.number
+    newest_is : last_own_frame p.own ≡ f.number
+    newest_is = ap last_own_frame own_is ∙ newest_last h.own.0 f.number
 
     rest_is : take (length p.own - 1) p.own ≡ h.own.0
     rest_is = ap (λ ns. take (length ns - 1) ns) own_is ∙ take_front h.own.0 f.number
@@ -165,36 +165,38 @@ module _ (ls : List Layout) {Area : Type 0} (H : Area → List Home) (E : Area �
     pub may_go : plain.may_pop p f.number ≡ true
     may_go =
         ap (λ t. (Rattle.sp_code.specs.Memory.is_there p.own && t)
-        && none_away p.map f.number) (is_same (newest p.own) f.number newest_is)
+        && none_away p.map f.number) (is_same (last_own_frame p.own) f.number newest_is)
         ∙ ap (λ t. (t && true) && none_away p.map f.number) (ap Rattle.sp_code.specs.Memory.is_there own_is
         ∙ there h.own.0)
         ∙ none_gone (map.keys p.map)
 
-    gone : (q : Spot) → q.frame ≢ f.number → map.get (popped p).map q ≡ map.get p.map q
-    gone q o = ap (λ n. map.get (without p.map n) q) newest_is ∙ without_other p.map f.number q o
+    gone : (q : Spot) → q.frame ≢ f.number → map.get (without_newest_frame p).map q ≡ map.get p.map q
+    gone q o = ap (λ n. map.get (without_spots_of p.map n) q) newest_is ∙ without_other p.map f.number q o
 
-    absent : (q : Spot) → q.frame ≡ f.number → map.get (popped p).map q ≡ None
-    absent q e = ap (λ n. map.get (without p.map n) q) newest_is ∙ without_here p.map f.number q e
+    absent : (q : Spot) → q.frame ≡ f.number → map.get (without_newest_frame p).map q ≡ None
+    absent q e = ap (λ n. map.get (without_spots_of p.map n) q) newest_is ∙ without_here p.map f.number q e
 
-    still_known : (q : Spot) → IsSome (map.get (popped p).map q) → (q.frame ≢ f.number) × IsSome (map.get p.map q)
+    still_known : (q : Spot) → IsSome (map.get (without_newest_frame p).map q) → (q.frame ≢ f.number)
+        × IsSome (map.get p.map q)
     still_known q k = go (other (q.frame == f.number) refl)
       where
         other : (t : Bool) → (q.frame == f.number) ≡ t → (q.frame ≡ f.number) ⊎ (q.frame ≢ f.number)
         other true e = inl (Rattle.std.proofs.lemmas.Bool.eqb-true q.frame f.number e)
         other false e = inr (λ i. cc (sym e ∙ is_same q.frame f.number i))
 
-        nothing : IsSome (map.get (popped p).map q) → map.get (popped p).map q ≡ None → ⊥
+        nothing : IsSome (map.get (without_newest_frame p).map q) → map.get (without_newest_frame p).map q ≡ None → ⊥
         nothing k e = mathlib.Core.Bool.false≢true (subst (λ z. IsSome z) e k)
 
         go : (q.frame ≡ f.number) ⊎ (q.frame ≢ f.number) → (q.frame ≢ f.number) × IsSome (map.get p.map q)
         go (inl e) = absurd (nothing k (absent q e))
         go (inr o) = (o, subst (λ z. IsSome z) (gone q o) k)
 
-    pub holding_pop : Holding ls H E K (a ∷ us) fs (d - 1) (popped p)
+    pub holding_pop : Holding ls H E K (a ∷ us) fs (d - 1) (without_newest_frame p)
     holding_pop = record {
       bound = f.number;
-      allowed = all_keeps ls K p.map (popped p).map H E f.number (a ∷ us) fs
-          (keeps_same K f.number p.map (popped p).map (λ q l. gone q (λ e. omega (arith, l, e)))) h.allowed.3;
+      allowed = all_keeps ls K p.map (without_newest_frame p).map H E f.number (a ∷ us) fs
+          (keeps_same K f.number p.map (without_newest_frame p).map (λ q l. gone q (λ e. omega (arith, l, e))))
+          h.allowed.3;
       base = h.base;
       own = subst (AreOwn ls H E h.base (a ∷ us) fs) (sym rest_is) h.own.3;
       deep = omega (arith, h.deep, long, ap length rest_is);

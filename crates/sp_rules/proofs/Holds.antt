@@ -17,17 +17,18 @@ use Rattle.sp_code.specs.declared.code.Formal.{Formal}
 use Rattle.sp_code.specs.declared.code.Formal.TheVariants as formal
 use Rattle.sp_code.specs.declared.code.Layout.{Layout}
 use Rattle.sp_code.specs.Machine.{Entry, Number, Chan, Pointer, Cells, Link, Reply, Config, At, layout_of}
-use Rattle.sp_code.specs.Memory.{OfBlock, Setting, Frame, Memory, memory, with_store, without_frame, opened, references}
-use Rattle.sp_code.specs.Memory.{referred, cells_at, cells_in, position_in, or_zero}
+use Rattle.sp_code.specs.Memory.{OfBlock, CodeRun, Frame, Memory, memory, with_store, without_frame, memory_after_call}
+use Rattle.sp_code.specs.Memory.{references}
+use Rattle.sp_code.specs.Memory.{reference_target, cells_at, cells_in, position_in, or_zero}
 use Rattle.sp_code.specs.PlainStore.{plain, piece_of}
 use Rattle.sp_code.specs.System.{spot_of}
 use Rattle.sp_rules.specs.Areas.{Area, Body, homes, block_homes, instr_at}
 use Rattle.sp_rules.specs.Shapes.{Shape, O, C, L, A}
 use Rattle.sp_rules.specs.Reach.{IsIn, IsArea, Reaches}
 use Rattle.sp_rules.specs.Touched.{stored_by}
-use Rattle.sp_rules.specs.Standing.{Points, Fits, StandsAt}
+use Rattle.sp_rules.specs.Standing.{Points, HasShape, StandsAt}
 use Rattle.sp_rules.specs.Rules as rule
-use Rattle.sp_rules.specs.Keeps.{Keeps}
+use Rattle.sp_rules.specs.KeepsCodeRules.{KeepsCodeRules}
 use Rattle.sp_rules.specs.Named.{LiesIn, is_block, level_fits}
 use Rattle.sp_rules.proofs.Scoping.{is_block_of, homes_step, inner, area_drop, found_layout}
 use Rattle.sp_rules.proofs.Walking.{passes}
@@ -36,21 +37,22 @@ use Rattle.sp_rules.proofs.Pieces.{filled_keeps}
 use Rattle.std.proofs.lemmas.Bool.{eq-eqb, ne_eqb, and_parts}
 use Rattle.std.proofs.lemmas.Option.{slice_get_within, same_Some}
 use Rattle.sp_base.proofs.Facts.{less_same_or_more}
-use Rattle.sp_rules.specs.Changes.{Pairs, areas, areas_of, Target, Changes, Same, Beats, Puts, Copies, Reads, Skips}
-use Rattle.sp_rules.specs.Changes.{Prints, Owns, Calls, Returns}
+use Rattle.sp_rules.specs.Changes.{Pairs, areas, areas_of, Target, Changes, Unchanged, Ticks, PutsCell, Copies}
+use Rattle.sp_rules.specs.Changes.{ReadsItem, Skips}
+use Rattle.sp_rules.specs.Changes.{Prints, MakesOwn, Calls, Returns}
 use Rattle.sp_rules.specs.Effects.{IsActual}
 use Rattle.sp_rules.specs.Holding.{Allowed, Holding, input_spot}
-use Rattle.sp_rules.specs.Running.{Base, HasConsole, IsLast, Lives, Aims}
+use Rattle.sp_rules.specs.Running.{Base, HasConsole, IsLast, HasActivations, Aims}
 use Rattle.sp_rules.proofs.Holdings.{head, holding_set, holding_pop}
 use Rattle.sp_rules.proofs.Keeping.{keeps_input, keeps_output}
 use Rattle.sp_rules.proofs.Messages.{lives_with, lives_opened, lives_received, t}
 use Rattle.sp_rules.proofs.Pushes.{KeepsCalls, holding_push}
 use Rattle.sp_history.proofs.Outputs.{output_known}
 
-module _ (g : Setting) (E : Area → ℕ → Type 0) (T : List Area → Config (Memory Plain)
+module _ (g : CodeRun) (E : Area → ℕ → Type 0) (T : List Area → Config (Memory Plain)
     → Type 0) (b : Base g (homes g.code) E T) where
   abbrev L_ : List Area → Config (Memory Plain) → Type 0
-  L_ us c = Lives g (homes g.code) E T b us c
+  L_ us c = HasActivations g (homes g.code) E T b us c
 
   abbrev K : Type 0
   K = HasConsole g (homes g.code) E T b.area
@@ -186,7 +188,8 @@ in_order (suc n) i (s ∷ ss) bs l h = go (less_same_or_more i n) (λ k. in_orde
     go (inr (inr k)) on = absurd (omega (arith, k, l))
 
 -- what stands for a reference formal
-record Passed (ls : List Layout) (fs : List Frame) (bs : List Shape) (k n : ℕ) (o : Option Address) : Type 0 where
+record ReferenceActual (ls : List Layout) (fs : List Frame) (bs : List Shape) (k n : ℕ) (o : Option Address) : Type
+    0 where
   variable : ℕ
   left : ℕ
   shape : slice_get bs k ≡ Some (A variable left)
@@ -195,8 +198,8 @@ record Passed (ls : List Layout) (fs : List Frame) (bs : List Shape) (k n : ℕ)
   points : Points ls fs variable left address
 
 passed_first : (ls : List Layout) (fs : List Frame) (b : Shape) (bs : List Shape) (e1 : Entry) (es : List Entry)
-    (j t m : ℕ) → (t == j) ≡ true → Fits ls fs b e1 → rule.fits_formal (formal.Reference m) b ≡ true
-    → Passed ls fs (b ∷ bs) 0 m (referred t (references j (e1 ∷ es)))
+    (j t m : ℕ) → (t == j) ≡ true → HasShape ls fs b e1 → rule.fits_formal (formal.Reference m) b ≡ true
+    → ReferenceActual ls fs (b ∷ bs) 0 m (reference_target t (references j (e1 ∷ es)))
 passed_first ls fs O bs e1 es j t m e ft r = absurd (cc r)
 passed_first ls fs C bs e1 es j t m e ft r = absurd (cc r)
 passed_first ls fs (L n) bs e1 es j t m e ft r = absurd (cc r)
@@ -209,8 +212,8 @@ passed_first ls fs (A x n) bs (Link d) es j t m e ft r = absurd ft
 passed_first ls fs (A x n) bs (Reply d) es j t m e ft r = absurd ft
 
 passed_later : (ls : List Layout) (fs : List Frame) (b : Shape) (bs : List Shape) (e1 : Entry) (es : List Entry)
-    (j t k m : ℕ) → (t == j) ≡ false → Passed ls fs bs k m (referred t (references (suc j) es))
-    → Passed ls fs (b ∷ bs) (suc k) m (referred t (references j (e1 ∷ es)))
+    (j t k m : ℕ) → (t == j) ≡ false → ReferenceActual ls fs bs k m (reference_target t (references (suc j) es))
+    → ReferenceActual ls fs (b ∷ bs) (suc k) m (reference_target t (references j (e1 ∷ es)))
 passed_later ls fs b bs e1 es j t k m e h = record {
   variable = h.variable;
   left = h.left;
@@ -220,10 +223,10 @@ passed_later ls fs b bs e1 es j t k m e h = record {
   points = h.points;
 }
   where
-    go : (e1 : Entry) → referred t (references j (e1 ∷ es)) ≡ referred t (references (suc j) es)
+    go : (e1 : Entry) → reference_target t (references j (e1 ∷ es)) ≡ reference_target t (references (suc j) es)
     go (Number v) = refl
     go (Chan d) = refl
-    go (Pointer q) = ap (λ z. if z then Some q else referred t (references (suc j) es)) e
+    go (Pointer q) = ap (λ z. if z then Some q else reference_target t (references (suc j) es)) e
     go (Cells cs) = refl
     go (Link r) = refl
     go (Reply r) = refl
@@ -231,7 +234,7 @@ passed_later ls fs b bs e1 es j t k m e h = record {
 passed_at : (ls : List Layout) (fs : List Frame) (ms : List Formal) (bs : List Shape) (es : List Entry) (j : ℕ)
     → Pairs ls fs bs es → rule.fit_formals ms bs ≡ true → (t k m : ℕ) → t ≡ j + k
     → slice_get ms k ≡ Some (formal.Reference m)
-    → Passed ls fs bs k m (referred t (references j es))
+    → ReferenceActual ls fs bs k m (reference_target t (references j es))
 passed_at ls fs [] bs es j pr r t k m e s = absurd (cc s)
 passed_at ls fs (f ∷ ms) [] es j pr r t k m e s = absurd (cc r)
 passed_at ls fs (f ∷ ms) (b ∷ bs) [] j pr r t k m e s = absurd pr
@@ -249,7 +252,7 @@ pub call_given : (ls : List Layout) (fs : List Frame) (lay : Layout) (ss : List 
     → Pairs ls fs (rule.lowest_first (length lay.formals) ss []) es
     → rule.fit_formals lay.formals (rule.lowest_first (length lay.formals) ss []) ≡ true
     → (j m : ℕ) → slice_get lay.formals j ≡ Some (formal.Reference m) → (x : ℕ) × IsActual lay ss j x
-    × ((to : Address) × (referred j (references 0 es) ≡ Some to) × (spot_of ls fs x ≡ Some to.spot))
+    × ((to : Address) × (reference_target j (references 0 es) ≡ Some to) × (spot_of ls fs x ≡ Some to.spot))
 call_given ls fs lay ss es pr ft j m e =
     let bs = rule.lowest_first (length lay.formals) ss [] in
     let w = passed_at ls fs lay.formals bs es 0 pr ft j j m (omega arith) e in
@@ -263,7 +266,8 @@ call_given ls fs lay ss es pr ft j m e =
 
 -- ---- all ways
 
-module _ (g : Setting) (kp : Keeps g.code) (E : Area → ℕ → Type 0) (T : List Area → Config (Memory Plain) → Type 0)
+module _ (g : CodeRun) (kp : KeepsCodeRules g.code) (E : Area → ℕ → Type 0) (T : List Area → Config (Memory Plain)
+    → Type 0)
     (mays : (a : Area) (p : ℕ) (ss : List Shape) (x : ℕ) → IsArea g.code a → Reaches g.code a p ss
     → IsIn x (stored_by g.code a (instr_at g.code p) ss) → E a x)
     (calls : (a : Area) (p : ℕ) (ss : List Shape) (f up : ℕ) (l : Layout) → IsArea g.code a → Reaches g.code a p ss
@@ -271,7 +275,7 @@ module _ (g : Setting) (kp : Keeps g.code) (E : Area → ℕ → Type 0) (T : Li
     → KeepsCalls g.code.layouts (homes g.code a) up l (E a) (E (Body f)) (IsActual l ss))
     (b : Base g (homes g.code) E T) where
   abbrev Lv : List Area → Config (Memory Plain) → Type 0
-  Lv us c = Lives g (homes g.code) E T b us c
+  Lv us c = HasActivations g (homes g.code) E T b us c
 
   module _ (p q : ℕ) (st s1 : List Entry) (n : Memory Plain) (s : StandsAt g.code p st n.frames)
       (l : Lv (areas s) (At p st n)) where
@@ -294,7 +298,7 @@ module _ (g : Setting) (kp : Keeps g.code) (E : Area → ℕ → Type 0) (T : Li
         → layout_of g.code.layouts f ≡ Some lay
         → Pairs g.code.layouts n.frames (rule.lowest_first (length lay.formals) s.shapes []) es
         → rule.fit_formals lay.formals (rule.lowest_first (length lay.formals) s.shapes []) ≡ true
-        → Lv (Body f ∷ areas s) (At q s1 (opened plain g lay up es n))
+        → Lv (Body f ∷ areas s) (At q s1 (memory_after_call plain g lay up es n))
     called f up lay es is le pr ft = record {
       holding = holding_push g.code.layouts (homes g.code) E (HasConsole g (homes g.code) E T b.area) s.area (Body f)
           (areas_of s.callers) n.frames n.depth n.store l.holding up n.process lay es (IsActual lay s.shapes)
@@ -309,7 +313,7 @@ module _ (g : Setting) (kp : Keeps g.code) (E : Area → ℕ → Type 0) (T : Li
         lies = (s.there, passes g.code s.area p s.shapes s.reached)
 
         lev : is_block lay.parent (slice_get (homes g.code s.area) up) ≡ true
-        lev = subst (λ o. Rattle.sp_rules.specs.Areas.given false o
+        lev = subst (λ o. Rattle.sp_rules.specs.Areas.on_option false o
             (λ l. is_block l.parent (slice_get (homes g.code s.area) up)) ≡ true) le
             (subst (λ o. level_fits g.code s.area o ≡ true) is (kp.levels s.area p lies))
 
@@ -321,21 +325,21 @@ module _ (g : Setting) (kp : Keeps g.code) (E : Area → ℕ → Type 0) (T : Li
             ∙ ap (λ hs. OfBlock lay.block ∷ hs) (sym (area_drop g.code kp s.area up w.0 s.there w.2)))
 
         given : (j m : ℕ) → slice_get lay.formals j ≡ Some (formal.Reference m) → (x : ℕ) × IsActual lay s.shapes j x
-            × ((to : Address) × (referred j (references 0 es) ≡ Some to)
+            × ((to : Address) × (reference_target j (references 0 es) ≡ Some to)
             × (spot_of g.code.layouts n.frames x ≡ Some to.spot))
         given = call_given g.code.layouts n.frames lay s.shapes es pr ft
 
-        same_moved : (sizes : List ℕ) → (opened plain g lay up es n).store.moved ≡ b.moved
+        same_moved : (sizes : List ℕ) → (memory_after_call plain g lay up es n).store.moved ≡ b.moved
         same_moved sizes = filled_keeps (next_frame n.store) (λ z. z.moved ≡ b.moved) (λ z j cs h. h) 0 es
             (plain.pushed n.store lay.sizes) l.moved
 
     pub kept : (m : Memory Plain) (t : StandsAt g.code q s1 m.frames)
         → Changes plain g s.area (instr_at g.code p) s.shapes n (areas s) (areas t) m → Lv (areas t) (At q s1 m)
-    kept m t (Same e d) = there m e
+    kept m t (Unchanged e d) = there m e
         (subst (λ z. Lv (areas s) (At q s1 z)) (sym d) (elsewhere g E T b (areas s) p q st s1 n l))
-    kept m t (Beats e d) = there m e
+    kept m t (Ticks e d) = there m e
         (subst (λ z. Lv (areas s) (At q s1 z)) (sym d) (record { holding = l.holding; last = l.last; moved = l.moved }))
-    kept m t (Puts to c e w d) = there m e (subst (λ z. Lv (areas s) (At q s1 z)) (sym d)
+    kept m t (PutsCell to c e w d) = there m e (subst (λ z. Lv (areas s) (At q s1 z)) (sym d)
         (lives_opened g (homes g.code) E T b s.area (areas_of s.callers) q s1 n to 1
         (elsewhere g E T b (areas s) p q st s1 n l) (aims to 1 w) c))
     kept m t (Copies to from k e w d) = there m e (subst (λ z. Lv (areas s) (At q s1 z)) (sym d)
@@ -346,7 +350,7 @@ module _ (g : Setting) (kp : Keeps g.code) (E : Area → ℕ → Type 0) (T : Li
       where
         short : (k : ℕ) (xs : List Cell) → length (take k xs) ≤ k
         short k xs = let h = length-take k xs in Prim.grind (arith, h)
-    kept m t (Reads to c k e w z d) = there m e (subst (λ z. Lv (areas s) (At q s1 z)) (sym d)
+    kept m t (ReadsItem to c k e w z d) = there m e (subst (λ z. Lv (areas s) (At q s1 z)) (sym d)
         (lives_opened g (homes g.code) E T b s.area (areas_of s.callers) q s1 ((memory plain g).advance k n) to 1
         (advanced g E T b s.area (areas_of s.callers) q s1 n (elsewhere g E T b (areas s) p q st s1 n l)
         (mays s.area p s.shapes 0 s.there s.reached z) k) (aims_on (aims to 1 w)) c))
@@ -362,7 +366,7 @@ module _ (g : Setting) (kp : Keeps g.code) (E : Area → ℕ → Type 0) (T : Li
         (subst (λ z. Lv (areas s) (At q s1 z)) (sym d)
         (printed g E T b s.area (areas_of s.callers) q s1 n (elsewhere g E T b (areas s) p q st s1 n l)
         (mays s.area p s.shapes 1 s.there s.reached z) bs))
-    kept m t (Owns to k e w d) = there m e (subst (λ z. Lv (areas s) (At q s1 z)) (sym d)
+    kept m t (MakesOwn to k e w d) = there m e (subst (λ z. Lv (areas s) (At q s1 z)) (sym d)
         (lives_with g (homes g.code) E T b s.area (areas_of s.callers) q s1 n to k
         (elsewhere g E T b (areas s) p q st s1 n l) (aims to k w) (cells_at plain n.store to.spot)
         (ap (λ o. length (cells_in o)) (Rattle.sp_rules.proofs.Messages.t g (homes g.code) E T b s.area

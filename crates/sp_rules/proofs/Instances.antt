@@ -17,17 +17,17 @@ use Rattle.sp_code.specs.declared.code.ChildTable.{ChildTable}
 use Rattle.sp_code.specs.declared.code.ForkTable.{ForkTable}
 use Rattle.sp_code.specs.declared.code.Parts.{Parts}
 use Rattle.sp_code.specs.Machine.{layout_of, Config}
-use Rattle.sp_code.specs.Memory.{OfBlock, OfIndex, Setting, Memory}
+use Rattle.sp_code.specs.Memory.{OfBlock, OfIndex, CodeRun, Memory}
 use Rattle.sp_code.specs.PlainStore.{plain}
-use Rattle.sp_code.specs.System.{newborn, child_or, table_or}
+use Rattle.sp_code.specs.System.{child_process, child_or, table_or}
 use Rattle.sp_rules.specs.Areas.{Area, Body, Child, homes, with_home, child_at, child_of, index_of_child}
 use Rattle.sp_rules.specs.Chains.{variables_of, variables_in, all_variables}
 use Rattle.sp_rules.specs.Effects.{Kind, Stored, Loaded, IsActual, IsStarted, IsCalled, IsEffect, HasEffect, handed_to}
 use Rattle.sp_rules.specs.Effects.{does_at, Does, Granted, May}
 use Rattle.sp_rules.specs.Forks.{KeepsEffects}
-use Rattle.sp_rules.specs.Keeps.{Keeps}
+use Rattle.sp_rules.specs.KeepsCodeRules.{KeepsCodeRules}
 use Rattle.sp_rules.specs.Named.{Unknown, begins_with, formals_cells, answer_cells}
-use Rattle.sp_rules.specs.Reach.{IsIn, IsArea, Passes, Reaches}
+use Rattle.sp_rules.specs.Reach.{IsIn, IsArea, IsInCodeOf, Reaches}
 use Rattle.sp_rules.specs.Running.{IsChild, ForksWell, table_of}
 use Rattle.sp_rules.specs.Shapes.{Shape, O, C, L, A}
 use Rattle.sp_rules.specs.Standing.{ForksAt}
@@ -69,7 +69,7 @@ room_for k (formal.Reference n ∷ fs) ys (z ∷ zs) size b h =
     let w = and_parts (1 == z) (begins_with (formals_cells fs ++ ys) zs) b in
     room_for (suc k) fs ys zs size w.1 (λ j. h (suc j) ∙ ap size (next_goes_left k j))
 
-module _ (c : Parts) (k : Keeps c) (e : KeepsEffects c (Does c)) (known : (p : ℕ) → Unknown c p → ⊥) where
+module _ (c : Parts) (k : KeepsCodeRules c) (e : KeepsEffects c (Does c)) (known : (p : ℕ) → Unknown c p → ⊥) where
   -- what an instruction that is reached stores, loads or selects the activation may touch
   pub may_do : (u : Kind) (a : Area) (p x : ℕ) (ss : List Shape) → IsArea c a → Reaches c a p ss
       → IsIn x (does_at c u a p ss) → May c a x
@@ -108,7 +108,7 @@ module _ (c : Parts) (k : Keeps c) (e : KeepsEffects c (Does c)) (known : (p : �
 
         stored : IsIn x (does_at c Stored a p ss)
         stored = subst (λ o. IsIn x (stored_by c a o ss)) (sym call.call)
-            (subst (λ o. IsIn x (Rattle.sp_rules.specs.Areas.given [] o
+            (subst (λ o. IsIn x (Rattle.sp_rules.specs.Areas.on_option [] o
             (λ (m : Layout). addresses (length m.formals) ss))) (sym call.layout) there)
 
     pub outer_effect : (u : Kind) (y : ℕ) → IsEffect c (Does c) u (Body b) y → (IsMember y l.variables → ⊥)
@@ -159,7 +159,8 @@ module _ (c : Parts) (k : Keeps c) (e : KeepsEffects c (Does c)) (known : (p : �
 
 -- ---- a fork
 
-module _ (g : Setting) (k : Keeps g.code) (e : KeepsEffects g.code (Does g.code)) (known : (p : ℕ) → Unknown g.code p
+module _ (g : CodeRun) (k : KeepsCodeRules g.code) (e : KeepsEffects g.code (Does g.code)) (known : (p : ℕ)
+    → Unknown g.code p
     → ⊥) (T : List Area → Config (Memory Plain) → Type 0) where
   pub is_child : (a : Area) (p j : ℕ) (t : ChildTable) → IsArea g.code a → IsStarted g.code a p j t
       → IsChild g (homes g.code) (May g.code) T a (Child a p j) t
@@ -191,9 +192,9 @@ module _ (g : Setting) (k : Keeps g.code) (e : KeepsEffects g.code (Does g.code)
       effect x (inr m) = inr (record { areas = []; by = inr (p, j, t, s, m) })
 
   module _ (a : Area) (p t n : ℕ) (value : ℤ) (d : Config (Memory Plain)) (area : IsArea g.code a)
-      (pass : Passes g.code a p) (at : ForksAt g.code p t n)
+      (pass : IsInCodeOf g.code a p) (at : ForksAt g.code p t n)
       (stands : (j q : ℕ) (ch : ChildTable) → child_at g.code p j ≡ Some ch → (m : ℕ)
-      → T (Child a p j ∷ []) (newborn plain g d value q m ch)) where
+      → T (Child a p j ∷ []) (child_process plain g d value q m ch)) where
     pub forks_well : ForksWell g (homes g.code) (May g.code) T a t value n d
     forks_well = go at
       where
@@ -208,7 +209,7 @@ module _ (g : Setting) (k : Keeps g.code) (e : KeepsEffects g.code (Does g.code)
               (subst (λ (q : ChildTable). IsMember x q.moved) y.2 u)
               (subst (λ (q : ChildTable). IsMember x (handed_to q)) z.2 v));
           stands = λ j q lt. (let c = fork_child j lt in subst
-              (λ (z : ChildTable). T (Child a p j ∷ []) (newborn plain g d value q j z)) (sym c.2)
+              (λ (z : ChildTable). T (Child a p j ∷ []) (child_process plain g d value q j z)) (sym c.2)
               (stands j q c.0 c.1 j));
         }
           where
@@ -240,7 +241,7 @@ module _ (g : Setting) (k : Keeps g.code) (e : KeepsEffects g.code (Does g.code)
               (let c = forall_child j lj in none x
               (subst (IsMember x) (empty c.0 c.1) (subst (λ (q : ChildTable). IsMember x q.moved) c.2 u)));
           stands = λ j q lt. (let c = forall_child j lt in subst
-              (λ (z : ChildTable). T (Child a p 0 ∷ []) (newborn plain g d value q j z)) (sym c.2)
+              (λ (z : ChildTable). T (Child a p 0 ∷ []) (child_process plain g d value q j z)) (sym c.2)
               (stands 0 q c.0 c.1 j));
         }
           where

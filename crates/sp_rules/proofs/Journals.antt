@@ -6,17 +6,18 @@ use Rattle.std.proofs.lemmas.Option.{same_Some}
 use Rattle.sp_tree.specs.Interference.{IsMember}
 use Rattle.sp_cell.specs.Frame.{HasNextFrame}
 use Rattle.sp_cell.specs.Map.{Plain}
-use Rattle.sp_journal.specs.Births.{Births, is_next, after_event}
+use Rattle.sp_journal.specs.Births.{Births, is_next, births_after_event}
 use Rattle.sp_journal.specs.Maps.{at_key}
 use Rattle.sp_journal.specs.Queue.{numbers}
 use Rattle.sp_journal.specs.declared.entry.Birth.{Birth}
 use Rattle.sp_journal.specs.declared.entry.Event.TheVariants as event
 use Rattle.sp_code.specs.Machine.{Config, At}
-use Rattle.sp_code.specs.Memory.{Setting, Home, Memory}
+use Rattle.sp_code.specs.Memory.{CodeRun, Home, Memory}
 use Rattle.sp_code.specs.PlainStore.{plain}
-use Rattle.sp_code.specs.System.{Condition, Absent, Working, Joins, frames_of, on_store, handing_of, newborn, plan_of}
-use Rattle.sp_rules.specs.Running.{Base, Lives, ForksWell, table_of}
-use Rattle.sp_rules.specs.Systems.{awaits, IsLive, JoinsWell, Fine, Inv}
+use Rattle.sp_code.specs.System.{Condition, Absent, Working, Joins, frames_of, on_store, handing_of, child_process}
+use Rattle.sp_code.specs.System.{plan_of}
+use Rattle.sp_rules.specs.Running.{Base, HasActivations, ForksWell, table_of}
+use Rattle.sp_rules.specs.Systems.{awaited_children, IsLive, JoinsWell, Fine, Inv}
 use Rattle.sp_history.proofs.Orders.{next_is, next_not, next_past, next_yes}
 use Rattle.sp_history.proofs.Queues.{number_or, at_same, at_other, numbers_length}
 use Rattle.sp_rules.proofs.Along.{fine_alike}
@@ -44,20 +45,23 @@ numbers_low a zero q m = absurd m
 numbers_low a (suc n) q (inl e) = (omega (arith, e), omega (arith, e))
 numbers_low a (suc n) q (inr m) = let w = numbers_low (suc a) n q m in (omega (arith, w.0), omega (arith, w.1))
 
-module _ (g : Setting) {Area : Type 0} (H : Area → List Home) (E : Area → ℕ → Type 0) (T : List Area
+module _ (g : CodeRun) {Area : Type 0} (H : Area → List Home) (E : Area → ℕ → Type 0) (T : List Area
     → Config (Memory Plain) → Type 0) (Room Cells : ℕ → ℕ → Type 0)
     (rooms : (k n m : ℕ) → Room k n → Cells k m
     → m ≤ n) (t_store : (us : List Area) (c : Config (Memory Plain)) (f : Plain → Plain)
     → ((p : Plain) → (f p).moved ≡ p.moved) → T us c → T us (on_store f c)) where
-  abbrev Good : (ℕ → Condition Plain) → Births → Type 0
-  Good f b = Inv g H E T Room Cells f b
+  abbrev IsInvariant : (ℕ → Condition Plain) → Births → Type 0
+  IsInvariant f b = Inv g H E T Room Cells f b
 
   -- ---- a fork
 
-  module _ (f : ℕ → Condition Plain) (b : Births) (i : Good f b) (q : ℕ) (there : q < b.processes) (live : IsLive (f q))
-      (none : awaits (f q) ≡ 0) (a : Area) (us : List Area) (pc : ℕ) (st : List Rattle.sp_code.specs.Machine.Entry)
+  module _ (f : ℕ → Condition Plain) (b : Births) (i : IsInvariant f b) (q : ℕ) (there : q < b.processes)
+      (live : IsLive (f q))
+      (none : awaited_children (f q) ≡ 0) (a : Area) (us : List Area) (pc : ℕ)
+      (st : List Rattle.sp_code.specs.Machine.Entry)
       (n : Memory Plain)
-      (l : Lives g H E T (i.base q) (a ∷ us) (At pc st n)) (s : T (a ∷ us) (At pc st n)) (t : ℕ) (value : ℤ) (count : ℕ)
+      (l : HasActivations g H E T (i.base q) (a ∷ us) (At pc st n)) (s : T (a ∷ us) (At pc st n)) (t : ℕ) (value : ℤ)
+      (count : ℕ)
       (fw : ForksWell g H E T a t value count (At pc st n)) (room : HasNextFrame n.store) where
     abbrev c : Config (Memory Plain)
     c = At pc st n
@@ -66,7 +70,7 @@ module _ (g : Setting) {Area : Type 0} (H : Area → List Home) (E : Area → �
     P = b.processes
 
     abbrev young : ℕ → Config (Memory Plain)
-    young r = newborn plain g c value r (r - P) (table_of g H E T t (r - P))
+    young r = child_process plain g c value r (r - P) (table_of g H E T t (r - P))
 
     abbrev joining : Config (Memory Plain)
     joining = on_store (λ m. plain.handed m (plan_of plain g c t value count)) c
@@ -104,7 +108,7 @@ module _ (g : Setting) {Area : Type 0} (H : Area → List Home) (E : Area → �
         same k = record {
           area = fw.area k;
           frames = frames_of
-              (newborn plain g c value (P + j) k (table_of g H E T t k));
+              (child_process plain g c value (P + j) k (table_of g H E T t k));
           moved =
               (handing_of g.code.layouts n.frames value k (table_of g H E T t k)).moved;
         }
@@ -116,7 +120,7 @@ module _ (g : Setting) {Area : Type 0} (H : Area → List Home) (E : Area → �
         let w = next_is b count r e in
         let lt : r - P < count = omega (arith, w.0, w.1) in (
           fw.area (r - P) ∷ [],
-          subst (λ (x : Base g H E T). Lives g H E T x (fw.area (r - P) ∷ []) (young r)) (sym (born_base r e))
+          subst (λ (x : Base g H E T). HasActivations g H E T x (fw.area (r - P) ∷ []) (young r)) (sym (born_base r e))
               (child_lives g H E T Room Cells (i.base q) a us pc st n l value r (r - P) (table_of g H E T t (r - P))
               (fw.area (r - P)) (fw.children (r - P) lt)),
           fw.stands (r - P) r lt,
@@ -156,15 +160,16 @@ module _ (g : Setting) {Area : Type 0} (H : Area → List Home) (E : Area → �
         (sym (at_other f q r (Joins count joining) d.0)) (old_fine r e d.0)
 
     count_one : (r : ℕ) (x : Bool) → is_next b count r ≡ x → (q ≡ r) ⊎ ((q ≢ r) × ((q == r) ≡ false))
-        → length (children r) ≡ awaits (cond x (Working (young r)) (cond (q == r) (Joins count joining) (f r)))
+        → length (children r)
+        ≡ awaited_children (cond x (Working (young r)) (cond (q == r) (Joins count joining) (f r)))
     count_one r true e (inl o) = absurd (let w = next_is b count r e in omega (arith, w.0, there, o))
     count_one r true e (inr d) = let w = next_is b count r e in ap length
-        (at_other i.children q r (numbers P count) d.0) ∙ i.count r ∙ ap awaits (i.young r w.0)
+        (at_other i.children q r (numbers P count) d.0) ∙ i.count r ∙ ap awaited_children (i.young r w.0)
     count_one r false e (inl o) = subst
-        (λ z. length (children z) ≡ awaits (cond (q == z) (Joins count joining) (f z))) o (ap length mine
-        ∙ numbers_length P count ∙ ap awaits (sym (at_same f q (Joins count joining))))
+        (λ z. length (children z) ≡ awaited_children (cond (q == z) (Joins count joining) (f z))) o (ap length mine
+        ∙ numbers_length P count ∙ ap awaited_children (sym (at_same f q (Joins count joining))))
     count_one r false e (inr d) = ap length (at_other i.children q r (numbers P count) d.0) ∙ i.count r
-        ∙ ap awaits (sym (at_other f q r (Joins count joining) d.0))
+        ∙ ap awaited_children (sym (at_other f q r (Joins count joining) d.0))
 
     all_one : (r : ℕ) (y : Birth) (x : Bool) → is_next b count r ≡ x
         → cond x (Some (record { parent = q; fork = b.forks q; child = r - P })) (b.birth r) ≡ Some y
@@ -198,7 +203,7 @@ module _ (g : Setting) {Area : Type 0} (H : Area → List Home) (E : Area → �
     older_one r y false e o = i.older r y o
 
     -- after it
-    pub forks_ok : Good after_fork (after_event b q (event.Fork count))
+    pub forks_ok : IsInvariant after_fork (births_after_event b q (event.Fork count))
     forks_ok = record {
       base = base;
       children = children;

@@ -22,12 +22,13 @@ use Rattle.sp_rules.specs.Reach.{IsArea, Brings, Reaches, IsWhole, Arrives}
 use Rattle.sp_rules.specs.Standing.{IsSent, IsReceived, message_cells}
 use Rattle.sp_rules.specs.Named.{is_some, names_there, level_fits, ends_well, names_well, loops_well, has_sizes}
 use Rattle.sp_rules.specs.Named.{is_program, begins_with, formals_cells, formal_cells, answer_cells, Declared, InLayout}
-use Rattle.sp_rules.specs.Named.{OfChild, IsBefore, declared, IsChild, Names, LiesIn, BreaksV1, NotThere, BlocksApart}
+use Rattle.sp_rules.specs.Named.{OfChild, IsBefore, declaration_at, IsChild, Names, LiesIn, BreaksV1, NotThere}
+use Rattle.sp_rules.specs.Named.{BlocksApart}
 use Rattle.sp_rules.specs.Named.{WithoutProgram, Twice, SizesDiffer, TableUnnamed, TableIndexed, LevelDiffers, InTwo}
 use Rattle.sp_rules.specs.Named.{EndsWrong, NamedWrong, LoopsWrong}
-use Rattle.sp_rules.specs.Rules.{ComesTo, call_fits, BreaksV2, Lacks, Differs, BreaksV3, PassesLeft, BreaksV4}
+use Rattle.sp_rules.specs.Rules.{ComesTo, call_fits, BreaksV2, LacksOperand, Differs, BreaksV3, PassesLeft, BreaksV4}
 use Rattle.sp_rules.specs.Rules.{OtherLength, NoRoom, BreaksV5, NoFit}
-use Rattle.sp_rules.specs.Keeps.{Keeps, HaveChildren, FitsTypes}
+use Rattle.sp_rules.specs.KeepsCodeRules.{KeepsCodeRules, HaveChildren, FitsTypes}
 use Rattle.sp_rules.proofs.Scoping.{found_layout}
 use Rattle.sp_rules.proofs.Tabled.{not_different}
 use Rattle.sp_rules.proofs.Walking.{passes}
@@ -107,7 +108,7 @@ module _ (c : Parts) (v2 : (p : ℕ) → BreaksV2 c p → ⊥) (a : Area) (area 
   whole : (n p : ℕ) → IsWhole c a (Arrives c a n) p
   whole n p = (
     λ ss ts s t. not_different ss ts (λ d. v2 p (Differs a n ss ts (area, s) (area, t) d)),
-    λ ss s e. v2 p (Lacks a n ss (area, s) e),
+    λ ss s e. v2 p (LacksOperand a n ss (area, s) e),
   )
 
   arrives : (n p : ℕ) (ss : List Shape) → Brings c a n p ss → Arrives c a n p ss
@@ -154,7 +155,7 @@ module _ (c : Parts) (children : HaveChildren c) (fitting : FitsTypes c) (v1 : (
   apart : (p : ℕ) (a b : Area) → LiesIn c p a → LiesIn c p b → a ≡ b
   apart p a b x y = not_other_area a b (λ h. v1 p (InTwo (a, x, inl (b, y, h))))
 
-  once : (d e : Declared) (x q r : ℕ) → declared c d ≡ Some (x, q) → declared c e ≡ Some (x, r) → d ≡ e
+  once : (d e : Declared) (x q r : ℕ) → declaration_at c d ≡ Some (x, q) → declaration_at c e ≡ Some (x, r) → d ≡ e
   once d e x q r h k = go (which_first d e)
     where
       go : IsBefore d e ⊎ ((d ≡ e) ⊎ IsBefore e d) → d ≡ e
@@ -202,7 +203,7 @@ module _ (c : Parts) (children : HaveChildren c) (fitting : FitsTypes c) (v1 : (
       go (inr (inl e)) = omega (arith, e)
       go (inr (inr l)) = omega (arith, l)
 
-  real : (d : Declared) (x q : ℕ) → declared c d ≡ Some (x, q) → 2 ≤ x
+  real : (d : Declared) (x q : ℕ) → declaration_at c d ≡ Some (x, q) → 2 ≤ x
   real d x q e = go (less_same_or_more x 2)
     where
       go : (x < 2) ⊎ ((x ≡ 2) ⊎ (2 < x)) → 2 ≤ x
@@ -248,13 +249,13 @@ module _ (c : Parts) (children : HaveChildren c) (fitting : FitsTypes c) (v1 : (
       only (x ∷ []) ch h s = ap (λ z. z ∷ []) (same_Some x ch s)
       only (x ∷ y ∷ cs) ch h s = absurd (omega (arith, eqb-true (suc (suc (length cs))) 1 h))
 
-  pub keeps : Keeps c
+  pub keeps : KeepsCodeRules c
   keeps = record {
     small = fitting;
     main = main;
     forks = forks;
     foralls = foralls;
-    right = λ a p ss r e. v2 p (Lacks a r.1.steps ss (r.0, arrives c v2 a r.0 r.1.steps p ss r.1.way) e);
+    right = λ a p ss r e. v2 p (LacksOperand a r.1.steps ss (r.0, arrives c v2 a r.0 r.1.steps p ss r.1.way) e);
     within = λ a p ss r. true_from_ne_false (stays_within (instr_at c p) ss) (λ e. v3 p (PassesLeft a ss r e));
     fits = λ a p ss r. true_from_ne_false (call_fits c (instr_at c p) ss) (λ e. v5 p (NoFit a ss r e));
     there = there;

@@ -9,22 +9,22 @@ use Rattle.std.proofs.lemmas.Option.{same_Some}
 use Rattle.sp_cell.specs.declared.cell.Cell.{Cell}
 use Rattle.sp_cell.specs.declared.spot.Address.{Address}
 use Rattle.sp_cell.proofs.Laws.{known_of_held, piece_of_own}
-use Rattle.sp_cell.specs.Lists.{overwritten}
+use Rattle.sp_cell.specs.Lists.{splice}
 use Rattle.sp_cell.specs.Map.{Map, Content, Own, Shared, Output, Away, Plain, IsOwn, cells_of, output_spot}
 use Rattle.sp_code.specs.Machine.{Config, At}
-use Rattle.sp_code.specs.Memory.{Setting, Home, Frame, Memory, cells_in, cells_at, put_cell, put_cells}
+use Rattle.sp_code.specs.Memory.{CodeRun, Home, Frame, Memory, cells_in, cells_at, put_cell, put_cells}
 use Rattle.sp_code.specs.PlainStore.{plain, piece_of}
 use Rattle.sp_code.specs.Sound.{CanPut}
 use Rattle.sp_code.specs.System.{spot_of, on_store}
 use Rattle.sp_code.proofs.StoreLaws.{held_of_cells}
 use Rattle.sp_rules.specs.Extents.{extent}
 use Rattle.sp_rules.specs.Holding.{Allowed, input_spot}
-use Rattle.sp_rules.specs.Running.{Base, HasConsole, Lives, Aims}
+use Rattle.sp_rules.specs.Running.{Base, HasConsole, HasActivations, Aims}
 use Rattle.sp_rules.proofs.Holdings.{head, holding_set}
 use Rattle.sp_rules.proofs.Keeping.{keeps_put}
 
 pub overwritten_length : (xs ys : List Cell) (o : ℕ) → o + length ys ≤ length xs
-    → length (overwritten xs o ys) ≡ length xs
+    → length (splice xs o ys) ≡ length xs
 overwritten_length xs ys o l =
     length-append (take o xs) (ys ++ drop (o + length ys) xs)
     ∙ ap (λ k. length (take o xs) + k) (length-append ys (drop (o + length ys) xs))
@@ -34,7 +34,7 @@ overwritten_length xs ys o l =
     sum : (k t d : ℕ) → o + k ≤ length xs → t ≡ o → d ≡ length xs - (o + k) → t + (k + d) ≡ length xs
     sum k t d l e f = omega (arith, l, e, f)
 
-module _ (g : Setting) {Area : Type 0} (H : Area → List Home) (E : Area → ℕ → Type 0) (T : List Area
+module _ (g : CodeRun) {Area : Type 0} (H : Area → List Home) (E : Area → ℕ → Type 0) (T : List Area
     → Config (Memory Plain) → Type 0) (b : Base g H E T) (a : Area) (us : List Area) where
   -- the piece that an address aims at
   pub record Target (fs : List Frame) (m : Map) (p : Address) (n : ℕ) : Type 0 where
@@ -44,7 +44,7 @@ module _ (g : Setting) {Area : Type 0} (H : Area → List Home) (E : Area → �
     pub clear : HasConsole g H E T b.area → (p.spot ≢ input_spot) × (p.spot ≢ output_spot)
 
   pub target : (pc : ℕ) (st : List Rattle.sp_code.specs.Machine.Entry) (n : Memory Plain) (p : Address) (k : ℕ)
-      → Lives g H E T b (a ∷ us) (At pc st n) → Aims g H E T a n.frames p k → Target n.frames n.store.map p k
+      → HasActivations g H E T b (a ∷ us) (At pc st n) → Aims g H E T a n.frames p k → Target n.frames n.store.map p k
   target pc st n p k l aims = go aims.variable aims.real aims.effect aims.stands aims.whole
     where
       al : Allowed g.code.layouts (HasConsole g H E T b.area) (E a) l.holding.bound n.frames n.store.map
@@ -68,7 +68,7 @@ module _ (g : Setting) {Area : Type 0} (H : Area → List Home) (E : Area → �
 
   -- with cells of the same number there
   module _ (pc : ℕ) (st : List Rattle.sp_code.specs.Machine.Entry) (n : Memory Plain) (p : Address) (k : ℕ)
-      (l : Lives g H E T b (a ∷ us) (At pc st n)) (aims : Aims g H E T a n.frames p k) where
+      (l : HasActivations g H E T b (a ∷ us) (At pc st n)) (aims : Aims g H E T a n.frames p k) where
     pub t : Target n.frames n.store.map p k
     t = target pc st n p k l aims
 
@@ -76,7 +76,7 @@ module _ (g : Setting) {Area : Type 0} (H : Area → List Home) (E : Area → �
     cells_is = ap cells_in t.piece
 
     pub lives_with : (cs : List Cell) → length cs ≡ length t.cells
-        → Lives g H E T b (a ∷ us) (At pc st (record n { store = plain.owned n.store p.spot cs }))
+        → HasActivations g H E T b (a ∷ us) (At pc st (record n { store = plain.owned n.store p.spot cs }))
     lives_with cs long = record {
       holding = holding_set g.code.layouts H E (HasConsole g H E T b.area)
           (a ∷ us) n.frames n.depth n.store l.holding p.spot (Own cs)
@@ -88,14 +88,14 @@ module _ (g : Setting) {Area : Type 0} (H : Area → List Home) (E : Area → �
     }
 
     -- a channel
-    pub lives_opened : (c : Cell) → Lives g H E T b (a ∷ us) (on_store (put_cell plain p c) (At pc st n))
+    pub lives_opened : (c : Cell) → HasActivations g H E T b (a ∷ us) (on_store (put_cell plain p c) (At pc st n))
     lives_opened c = lives_with (slice_set (cells_at plain n.store p.spot) p.offset c)
         (length-set (cells_at plain n.store p.spot) p.offset c ∙ ap length cells_is)
 
     -- a message that has room
     pub lives_received : (cs : List Cell) → length cs ≤ k
-        → Lives g H E T b (a ∷ us) (on_store (put_cells plain p cs) (At pc st n))
-    lives_received cs r = lives_with (overwritten (cells_at plain n.store p.spot) p.offset cs)
+        → HasActivations g H E T b (a ∷ us) (on_store (put_cells plain p cs) (At pc st n))
+    lives_received cs r = lives_with (splice (cells_at plain n.store p.spot) p.offset cs)
         (overwritten_length (cells_at plain n.store p.spot) cs p.offset room ∙ ap length cells_is)
       where
         room : p.offset + length cs ≤ length (cells_at plain n.store p.spot)

@@ -17,20 +17,21 @@ use Rattle.sp_cell.proofs.Laws.{get_here, get_other, same_or, own_away, pieces_n
 use Rattle.sp_cell.specs.Map.{Map, Plain, Content, Own, Output, Away, IsOutput, output_spot, spot_cmp}
 use Rattle.sp_code.specs.declared.code.Layout.{Layout}
 use Rattle.sp_code.specs.Machine.{Config, layout_of}
-use Rattle.sp_code.specs.Memory.{Setting, Home, OfBlock, Frame, Memory, first, sizes_of, position_in, last_frames}
+use Rattle.sp_code.specs.Memory.{CodeRun, Home, OfBlock, Frame, Memory, first_process, sizes_of, position_in}
+use Rattle.sp_code.specs.Memory.{last_frames}
 use Rattle.sp_code.specs.PlainStore.{plain, piece_of}
 use Rattle.sp_code.specs.System.{frames_of, spot_of, spot_in, spot_of_layout, spot_at, spot_by, or_outward, place_of}
 use Rattle.sp_code.specs.System.{first_number}
 use Rattle.sp_rules.specs.Areas.{Area, Body, homes}
-use Rattle.sp_rules.specs.Chains.{Chain, variables_of, variables_in, all_variables, stands, extends}
+use Rattle.sp_rules.specs.Chains.{Chain, variables_of, variables_in, all_variables, spot_by_homes, extent_by_homes}
 use Rattle.sp_rules.specs.Effects.{Does, May}
 use Rattle.sp_rules.specs.Extents.{extent, extent_in, extent_of_layout, extent_at, extent_by, size_of, size_at, size_in}
 use Rattle.sp_rules.specs.Extents.{or_further}
 use Rattle.sp_rules.specs.Forks.{KeepsEffects}
-use Rattle.sp_rules.specs.Holding.{Has, input_spot}
-use Rattle.sp_rules.specs.Keeps.{Keeps}
+use Rattle.sp_rules.specs.Holding.{HoldsVariable, input_spot}
+use Rattle.sp_rules.specs.KeepsCodeRules.{KeepsCodeRules}
 use Rattle.sp_rules.specs.Named.{Unknown, begins_with, formals_cells, answer_cells}
-use Rattle.sp_rules.specs.Running.{Lives}
+use Rattle.sp_rules.specs.Running.{HasActivations}
 use Rattle.sp_rules.proofs.Chains.{spot_is, size_is}
 use Rattle.sp_rules.proofs.Effects.{effects_around}
 use Rattle.sp_rules.proofs.Firsts.{first_stands}
@@ -83,7 +84,8 @@ console_known q k = ⊎_elim
     nothing : {o : Option Content} → o ≡ None → IsSome o → ⊥
     nothing e k = mathlib.Core.Bool.false≢true (subst (λ z. IsSome z) e k)
 
-module _ (g : Setting) (k : Keeps g.code) (e : KeepsEffects g.code (Does g.code)) (known : (p : ℕ) → Unknown g.code p
+module _ (g : CodeRun) (k : KeepsCodeRules g.code) (e : KeepsEffects g.code (Does g.code)) (known : (p : ℕ)
+    → Unknown g.code p
     → ⊥) (T : List Area → Config (Memory Plain) → Type 0) where
   abbrev l : Layout
   l = k.main.0
@@ -110,7 +112,7 @@ module _ (g : Setting) (k : Keeps g.code) (e : KeepsEffects g.code (Does g.code)
   chain = chained g.code k (homes g.code (Body 0)) (f ∷ []) (first_stands plain g k).framed
 
   -- a variable of the program by its place
-  record Stays (x : ℕ) : Type 0 where
+  record ProgramSpot (x : ℕ) : Type 0 where
     pub place : ℕ
     pub is : slice_get l.variables place ≡ Some x
     pub stands_so : spot_of g.code.layouts (f ∷ []) x ≡ Some (record { frame = 0; variable = 2 + place })
@@ -132,7 +134,7 @@ module _ (g : Setting) (k : Keeps g.code) (e : KeepsEffects g.code (Does g.code)
       ∙ ap (slice_get l.sizes) {x = 2 + j - 2} {y = j} (omega arith)
       ∙ s
 
-  stays : (x : ℕ) → 2 ≤ x → IsMember x l.variables → Stays x
+  stays : (x : ℕ) → 2 ≤ x → IsMember x l.variables → ProgramSpot x
   stays x real mem = go (homes g.code (Body 0)) chain
     where
       w : (j : ℕ) × (place_of x 2 l.variables ≡ Some (2 + j)) × (slice_get l.variables j ≡ Some x)
@@ -149,32 +151,33 @@ module _ (g : Setting) (k : Keeps g.code) (e : KeepsEffects g.code (Does g.code)
       c : (c : ℕ) × (slice_get l.sizes w.0 ≡ Some c)
       c = item_there l.sizes w.0 (let b = slice_get_within l.variables w.0 x w.2 in omega (arith, b, sizes_long))
 
-      go : (hs : List Home) → Chain hs (f ∷ []) → Stays x
+      go : (hs : List Home) → Chain hs (f ∷ []) → ProgramSpot x
       go [] ch = absurd ch
       go (h ∷ hs) ch = record {
         place = w.0;
         is = w.2;
         stands_so =
             spot_is g.code.layouts (h ∷ hs) (f ∷ []) x real ch
-            ∙ ap (λ z. or_outward (spot_in g.code.layouts f z x) (stands g.code.layouts hs (last_frames 0 []) x))
+            ∙ ap (λ z. or_outward (spot_in g.code.layouts f z x) (spot_by_homes g.code.layouts hs (last_frames 0 []) x))
             (sym ch.0)
-            ∙ ap (λ o. or_outward (spot_of_layout f x o) (stands g.code.layouts hs (last_frames 0 []) x)) at
-            ∙ ap (λ o. or_outward (spot_at f l o) (stands g.code.layouts hs (last_frames 0 []) x)) place_is
-            ∙ ap (λ o. or_outward (spot_by f (2 + w.0) o) (stands g.code.layouts hs (last_frames 0 []) x))
+            ∙ ap (λ o. or_outward (spot_of_layout f x o) (spot_by_homes g.code.layouts hs (last_frames 0 []) x)) at
+            ∙ ap (λ o. or_outward (spot_at f l o) (spot_by_homes g.code.layouts hs (last_frames 0 []) x)) place_is
+            ∙ ap (λ o. or_outward (spot_by f (2 + w.0) o) (spot_by_homes g.code.layouts hs (last_frames 0 []) x))
             (no_formal (2 + w.0));
         cells = c.0;
         size = c.1;
         extends_so =
             size_is g.code.layouts (h ∷ hs) (f ∷ []) x real ch
-            ∙ ap (λ z. or_further (extent_in g.code.layouts f [] z x) (extends g.code.layouts hs (last_frames 0 []) x))
+            ∙ ap (λ z. or_further (extent_in g.code.layouts f [] z x)
+            (extent_by_homes g.code.layouts hs (last_frames 0 []) x))
             (sym ch.0)
             ∙ ap (λ o. or_further (extent_of_layout g.code.layouts f [] x o)
-            (extends g.code.layouts hs (last_frames 0 []) x)) at
+            (extent_by_homes g.code.layouts hs (last_frames 0 []) x)) at
             ∙ ap (λ o. or_further (extent_at g.code.layouts f [] l o)
-            (extends g.code.layouts hs (last_frames 0 []) x)) place_is
+            (extent_by_homes g.code.layouts hs (last_frames 0 []) x)) place_is
             ∙ ap (λ o. or_further (extent_by g.code.layouts f [] (2 + w.0) o)
-            (extends g.code.layouts hs (last_frames 0 []) x)) (no_formal (2 + w.0))
-            ∙ ap (λ o. or_further o (extends g.code.layouts hs (last_frames 0 []) x)) (size_there w.0 c.0 c.1);
+            (extent_by_homes g.code.layouts hs (last_frames 0 []) x)) (no_formal (2 + w.0))
+            ∙ ap (λ o. or_further o (extent_by_homes g.code.layouts hs (last_frames 0 []) x)) (size_there w.0 c.0 c.1);
         sized = size_there w.0 c.0 c.1;
       }
 
@@ -192,17 +195,17 @@ module _ (g : Setting) (k : Keeps g.code) (e : KeepsEffects g.code (Does g.code)
           (⊎_elim (λ z. z) (λ z. absurd z) (member_either x (variables_in g.code.layouts h) [] i)))
       go (h ∷ u ∷ hs) ch i = absurd ch.2
 
-  at_spot : (x : ℕ) (s : Spot) → 2 ≤ x → (u : Stays x) → spot_of g.code.layouts (f ∷ []) x ≡ Some s
+  at_spot : (x : ℕ) (s : Spot) → 2 ≤ x → (u : ProgramSpot x) → spot_of g.code.layouts (f ∷ []) x ≡ Some s
       → s ≡ record { frame = 0; variable = 2 + u.place }
   at_spot x s r u q = same_Some _ _ (sym q ∙ u.stands_so)
 
-  piece_there : (x : ℕ) (u : Stays x)
+  piece_there : (x : ℕ) (u : ProgramSpot x)
       → piece_of (map.get m (record { frame = 0; variable = 2 + u.place })) ≡ Some (replicate u.cells cell.Undefined)
   piece_there x u = ap piece_of (pieces_at with_console 0 2 (sizes_of (layout_of g.code.layouts 0)) u.place u.cells
       (ap (λ ss. slice_get ss u.place) sizes_is ∙ u.size))
 
   held : (x : ℕ) → May g.code (Body 0) x → (s : Spot) × (spot_of g.code.layouts (f ∷ []) x ≡ Some s) × (s.frame < 1)
-      × Has g.code.layouts (f ∷ []) m x s
+      × HoldsVariable g.code.layouts (f ∷ []) m x s
   held zero h = (
     input_spot,
     refl,
@@ -285,8 +288,9 @@ module _ (g : Setting) (k : Keeps g.code) (e : KeepsEffects g.code (Does g.code)
       ∙ get_here empty_map input_spot (Own (cell.Ordinal (pos 0) ∷ [])))) refl
 
   -- the first process lives
-  pub first_lives : Lives g (homes g.code) (May g.code) T
-      (record { area = Body 0; frames = frames_of (first plain g); moved = [] }) (Body 0 ∷ []) (first plain g)
+  pub first_lives : HasActivations g (homes g.code) (May g.code) T
+      (record { area = Body 0; frames = frames_of (first_process plain g); moved = [] }) (Body 0 ∷ [])
+      (first_process plain g)
   first_lives = record {
     holding = record {
       bound = 1;

@@ -10,12 +10,12 @@ use Rattle.sp_cell.specs.declared.cell.Cell.{Cell}
 use Rattle.sp_cell.specs.declared.cell.Cell.TheVariants as cell
 use Rattle.sp_cell.specs.declared.spot.Spot.{Spot}
 use Rattle.sp_cell.proofs.Laws.{get_other, get_here, same_or}
-use Rattle.sp_cell.specs.Lists.{overwritten}
-use Rattle.sp_cell.specs.Map.{Content, Own, Plain, owned}
+use Rattle.sp_cell.specs.Lists.{splice}
+use Rattle.sp_cell.specs.Map.{Content, Own, Plain, with_own_piece}
 use Rattle.sp_code.specs.declared.code.Formal.{Formal}
 use Rattle.sp_code.specs.declared.code.Formal.TheVariants as formal
 use Rattle.sp_code.specs.Machine.{Entry, Number, Chan, Pointer, Cells, Link, Reply, fit_formals}
-use Rattle.sp_code.specs.Memory.{cell_at, cells_in, filled, put_cell, put_cells, cells_at}
+use Rattle.sp_code.specs.Memory.{cell_at, cells_in, with_arguments, put_cell, put_cells, cells_at}
 use Rattle.sp_code.specs.PlainStore.{plain, piece_of}
 use Rattle.sp_code.proofs.Pieces.{spot_at as at_frame}
 
@@ -31,7 +31,7 @@ HaveRoom k [] size = Unit {0}
 HaveRoom k (formal.Value n ∷ fs) size = (size k ≡ Some n) × HaveRoom (suc k) fs size
 HaveRoom k (formal.Reference n ∷ fs) size = HaveRoom (suc k) fs size
 
-overwritten_length : (xs ys : List Cell) → length ys ≤ length xs → length (overwritten xs 0 ys) ≡ length xs
+overwritten_length : (xs ys : List Cell) → length ys ≤ length xs → length (splice xs 0 ys) ≡ length xs
 overwritten_length xs ys l = length-append ys (drop (0 + length ys) xs) ∙ go (length ys) l
   where
     go : (k : ℕ) → k ≤ length xs → k + length (drop (0 + k) xs) ≡ length xs
@@ -52,7 +52,7 @@ module _ (N : ℕ) where
       (λ (i : at_frame N j ≡ at_frame N k). (let same : j ≡ k = ap (λ (q : Spot). q.variable) i in
       record {
         cells = cs;
-        piece = ap (λ q. piece_of (map.get (owned p.map (at_frame N k) cs) q)) i
+        piece = ap (λ q. piece_of (map.get (with_own_piece p.map (at_frame N k) cs) q)) i
             ∙ ap piece_of (get_here p.map (at_frame N k) (Own cs));
         long = long n (ap size (sym same) ∙ e);
       }))
@@ -71,7 +71,7 @@ module _ (N : ℕ) where
       ∙ ap length (cells_found (map.get p.map (at_frame N k)) w.cells w.piece) ∙ w.long
 
   cells_long : (size : ℕ → Option ℕ) (p : Plain) (k m : ℕ) (ds : List Cell) → sized size p → size k ≡ Some m
-      → length ds ≡ m → (n : ℕ) → size k ≡ Some n → length (overwritten (cells_at plain p (at_frame N k)) 0 ds) ≡ n
+      → length ds ≡ m → (n : ℕ) → size k ≡ Some n → length (splice (cells_at plain p (at_frame N k)) 0 ds) ≡ n
   cells_long size p k m ds h at long n e =
       let w = h k n e in
       let is = cells_found (map.get p.map (at_frame N k)) w.cells w.piece in
@@ -80,7 +80,7 @@ module _ (N : ℕ) where
       overwritten_length (cells_at plain p (at_frame N k)) ds (omega (arith, long, same, now)) ∙ now
 
   pub filled_sized : (size : ℕ → Option ℕ) (k : ℕ) (fs : List Formal) (es : List Entry) (p : Plain)
-      → fit_formals fs es ≡ true → HaveRoom k fs size → sized size p → sized size (filled plain N k es p)
+      → fit_formals fs es ≡ true → HaveRoom k fs size → sized size p → sized size (with_arguments plain N k es p)
   filled_sized size k [] [] p f r h = h
   filled_sized size k [] (e ∷ es) p f r h = absurd (cc f)
   filled_sized size k (g ∷ fs) [] p f r h = absurd (cc f)
@@ -98,7 +98,7 @@ module _ (N : ℕ) where
   filled_sized size k (formal.Value n ∷ fs) (Cells cs ∷ es) p f r h =
       let w = and_parts (length cs == n) (fit_formals fs es) f in
       filled_sized size (suc k) fs es (put_cells plain (cell_at N k) cs p) w.1 r.1
-      (write_sized size p k (overwritten (cells_at plain p (at_frame N k)) 0 cs) h
+      (write_sized size p k (splice (cells_at plain p (at_frame N k)) 0 cs) h
       (cells_long size p k n cs h r.0 (eqb-true (length cs) n w.0)))
   filled_sized size k (formal.Value n ∷ fs) (Link x ∷ es) p f r h = absurd (cc f)
   filled_sized size k (formal.Value n ∷ fs) (Reply x ∷ es) p f r h = absurd (cc f)
@@ -112,7 +112,7 @@ module _ (N : ℕ) where
   -- whatever holds of a store, and of each in which a piece of frame N is written, holds of the filled one
   pub filled_keeps : (P : Plain → Type 0)
       → ((p : Plain) (k : ℕ) (cs : List Cell) → P p → P (plain.owned p (at_frame N k) cs))
-      → (k : ℕ) (es : List Entry) (p : Plain) → P p → P (filled plain N k es p)
+      → (k : ℕ) (es : List Entry) (p : Plain) → P p → P (with_arguments plain N k es p)
   filled_keeps P step k [] p h = h
   filled_keeps P step k (Number v ∷ es) p h = filled_keeps P step (suc k) es
       (put_cell plain (cell_at N k) (cell.Ordinal v) p)
@@ -122,6 +122,6 @@ module _ (N : ℕ) where
       (step p k (slice_set (cells_at plain p (at_frame N k)) 0 (cell.Channel c)) h)
   filled_keeps P step k (Pointer a ∷ es) p h = filled_keeps P step (suc k) es p h
   filled_keeps P step k (Cells cs ∷ es) p h = filled_keeps P step (suc k) es (put_cells plain (cell_at N k) cs p)
-      (step p k (overwritten (cells_at plain p (at_frame N k)) 0 cs) h)
+      (step p k (splice (cells_at plain p (at_frame N k)) 0 cs) h)
   filled_keeps P step k (Link x ∷ es) p h = filled_keeps P step (suc k) es p h
   filled_keeps P step k (Reply x ∷ es) p h = filled_keeps P step (suc k) es p h

@@ -13,12 +13,12 @@ use Rattle.sp_cell.specs.declared.spot.Address.{Address}
 use Rattle.sp_cell.specs.Frame.{next_frame, with_pieces}
 use Rattle.sp_cell.proofs.FrameLaws.{known_below}
 use Rattle.sp_cell.proofs.Laws.{get_other, get_here, same_or, known_of_held, own_away, pieces_not_away}
-use Rattle.sp_cell.specs.Map.{Own, Away, Plain, IsHeld, output_spot, owned}
+use Rattle.sp_cell.specs.Map.{Own, Away, Plain, IsHeld, output_spot, with_own_piece}
 use Rattle.sp_cell.specs.Spots.{In}
 use Rattle.sp_code.specs.declared.code.Formal.TheVariants as formal
 use Rattle.sp_code.specs.declared.code.Layout.{Layout}
 use Rattle.sp_code.specs.Machine.{Entry, fit_formals, layout_of}
-use Rattle.sp_code.specs.Memory.{Home, OfBlock, Frame, frames_up, references, referred, filled}
+use Rattle.sp_code.specs.Memory.{Home, OfBlock, Frame, frames_up, references, reference_target, with_arguments}
 use Rattle.sp_code.specs.PlainStore.{plain, piece_of}
 use Rattle.sp_code.specs.System.{spot_of}
 use Rattle.sp_rules.specs.Chains.{Chain, all_variables}
@@ -53,12 +53,12 @@ module _ (ls : List Layout) {Area : Type 0} (H : Area → List Home) (E : Area �
     → Type 0) (homes : H b ≡ OfBlock l.block ∷ drop k (H a)) (keeps : KeepsCalls ls (H a) k l (E a) (E b) actual)
     (fit : fit_formals l.formals es ≡ true)
     (given : (i n : ℕ) → slice_get l.formals i ≡ Some (formal.Reference n) → (x : ℕ) × actual i x
-    × ((q : Address) × (referred i (references 0 es) ≡ Some q) × (spot_of ls fs x ≡ Some q.spot))) where
+    × ((q : Address) × (reference_target i (references 0 es) ≡ Some q) × (spot_of ls fs x ≡ Some q.spot))) where
   abbrev N : ℕ
   N = next_frame p
 
   abbrev pub store : Plain
-  store = filled plain N 0 es (plain.pushed p l.sizes)
+  store = with_arguments plain N 0 es (plain.pushed p l.sizes)
 
   abbrev pub new_frame : Frame
   new_frame = record {
@@ -92,7 +92,7 @@ module _ (ls : List Layout) {Area : Type 0} (H : Area → List Home) (E : Area �
     away = λ q e. ⊎_elim
         (λ (j : q ≡ record { frame = N; variable = i }). own_away
         (sym (get_here s.map (record { frame = N; variable = i }) (Own cs))
-        ∙ ap (λ y. map.get (owned s.map (record { frame = N; variable = i }) cs) y) (sym j) ∙ e))
+        ∙ ap (λ y. map.get (with_own_piece s.map (record { frame = N; variable = i }) cs) y) (sym j) ∙ e))
         (λ (o : q ≢ record { frame = N; variable = i }). g.away q
         (sym (get_other s.map (record { frame = N; variable = i }) (Own cs) q o) ∙ e))
         (same_or q (record { frame = N; variable = i }));

@@ -12,10 +12,10 @@ use Rattle.sp_cell.proofs.FrameLaws.{is_other}
 use Rattle.sp_code.specs.declared.instr.Instr.{Instr}
 use Rattle.sp_code.specs.declared.instr.Instr.TheVariants as i
 use Rattle.sp_code.specs.declared.code.Parts.{Parts}
-use Rattle.sp_code.specs.Ranks.{ways, most, rank, AllBelow}
+use Rattle.sp_code.specs.Ranks.{ways, maximum_of, rank, AllBelow}
 use Rattle.sp_code.proofs.Falls.{rank_max}
 use Rattle.sp_rules.specs.Areas.{Area, instr_at, entry}
-use Rattle.sp_rules.specs.Reach.{nexts, IsIn, Goes}
+use Rattle.sp_rules.specs.Reach.{nexts, IsIn, LeadsInSteps}
 use Rattle.sp_rules.specs.Named.{LiesIn}
 use Rattle.sp_rules.specs.Rules.{free_nexts, Wanders, BreaksV9, ComesBack}
 use Rattle.sp_rules.proofs.Lists.{member_or}
@@ -76,27 +76,29 @@ pigeons (suc n) xs b d =
 
 -- ---- the largest of some
 
-most_some : (f : ℕ → ℕ) (ws : List ℕ) (m : ℕ) → most f ws ≡ suc m → (w : ℕ) × IsIn w ws × (f w ≡ suc m)
+most_some : (f : ℕ → ℕ) (ws : List ℕ) (m : ℕ) → maximum_of f ws ≡ suc m → (w : ℕ) × IsIn w ws × (f w ≡ suc m)
 most_some f [] m e = absurd (cc e)
-most_some f (w ∷ ws) m e = go (nat_lt (f w) (most f ws)) e (most_some f ws m)
+most_some f (w ∷ ws) m e = go (nat_lt (f w) (maximum_of f ws)) e (most_some f ws m)
   where
-    go : (b : Bool) → (if b then most f ws else f w) ≡ suc m → (most f ws ≡ suc m → (w : ℕ) × IsIn w ws × (f w ≡ suc m))
+    go : (b : Bool) → (if b then maximum_of f ws else f w) ≡ suc m
+        → (maximum_of f ws ≡ suc m → (w : ℕ) × IsIn w ws × (f w ≡ suc m))
         → (v : ℕ) × IsIn v (w ∷ ws) × (f v ≡ suc m)
     go true e on = let r = on e in (r.0, inr r.1, r.2)
     go false e on = (w, inl refl, e)
 
-most_above : (f : ℕ → ℕ) (ws : List ℕ) (w : ℕ) → IsIn w ws → f w ≤ most f ws
+most_above : (f : ℕ → ℕ) (ws : List ℕ) (w : ℕ) → IsIn w ws → f w ≤ maximum_of f ws
 most_above f [] w h = absurd h
-most_above f (v ∷ ws) w h = go (nat_lt (f v) (most f ws)) refl h (most_above f ws w)
+most_above f (v ∷ ws) w h = go (nat_lt (f v) (maximum_of f ws)) refl h (most_above f ws w)
   where
-    go : (b : Bool) → nat_lt (f v) (most f ws) ≡ b → (w ≡ v) ⊎ IsIn w ws → (IsIn w ws → f w ≤ most f ws)
-        → f w ≤ (if b then most f ws else f v)
-    go true e (inl s) on = let l = ltb-true (f v) (most f ws) e in let t : f w ≡ f v = ap f s in omega (arith, l, t)
+    go : (b : Bool) → nat_lt (f v) (maximum_of f ws) ≡ b → (w ≡ v) ⊎ IsIn w ws → (IsIn w ws → f w ≤ maximum_of f ws)
+        → f w ≤ (if b then maximum_of f ws else f v)
+    go true e (inl s) on = let l = ltb-true (f v) (maximum_of f ws) e in let t : f w ≡ f v = ap f s in
+        omega (arith, l, t)
     go true e (inr m) on = on m
     go false e (inl s) on = let t : f w ≡ f v = ap f s in omega (arith, t)
-    go false e (inr m) on = let l = ltb-false (f v) (most f ws) e in omega (arith, on m, l)
+    go false e (inr m) on = let l = ltb-false (f v) (maximum_of f ws) e in omega (arith, on m, l)
 
-most_same : (f g : ℕ → ℕ) (ws : List ℕ) → ((w : ℕ) → IsIn w ws → f w ≡ g w) → most f ws ≡ most g ws
+most_same : (f g : ℕ → ℕ) (ws : List ℕ) → ((w : ℕ) → IsIn w ws → f w ≡ g w) → maximum_of f ws ≡ maximum_of g ws
 most_same f g [] h = refl
 most_same f g (w ∷ ws) h = rw (h w (inl refl), most_same f g ws (λ v m. h v (inr m))) refl
 
@@ -205,11 +207,11 @@ module _ (c : Parts) where
   firsts_within (p ∷ x ∷ ps) w q (inr m) = firsts_within (x ∷ ps) w.1 q m
 
   -- ways on stay in the area
-  goes_far : (m n p q s : ℕ) → Goes c m p q → Goes c n q s → (k : ℕ) × Goes c k p s
-  goes_far zero n p q s g h = (n, subst (λ z. Goes c n z s) (sym g) h)
+  goes_far : (m n p q s : ℕ) → LeadsInSteps c m p q → LeadsInSteps c n q s → (k : ℕ) × LeadsInSteps c k p s
+  goes_far zero n p q s g h = (n, subst (λ z. LeadsInSteps c n z s) (sym g) h)
   goes_far (suc m) n p q s g h = let on = goes_far m n g.0 q s g.2 h in (suc on.0, (g.0, g.1, on.1))
 
-  wanders_goes : (n p q : ℕ) → Wanders c n p q → Goes c n p q
+  wanders_goes : (n p q : ℕ) → Wanders c n p q → LeadsInSteps c n p q
   wanders_goes zero p q w = w
   wanders_goes (suc n) p q w = (w.0, free_in p w.0 (instr_at c p) w.1, wanders_goes n w.0 q w.2)
 
@@ -254,7 +256,7 @@ module _ (c : Parts) where
             let max = rank_max (length c.instrs) c.instrs q in
             let max1 = rank_max (suc (length c.instrs)) c.instrs q in
             less (length c.instrs) (r (length c.instrs) q) (r (suc (length c.instrs)) q)
-            (most (r (length c.instrs)) (ways p (instr_at c p))) top max max1 (no_long q m)
+            (maximum_of (r (length c.instrs)) (ways p (instr_at c p))) top max max1 (no_long q m)
             (stays (length c.instrs) q)
           where
             less : (n x y t : ℕ) → x ≤ t → x ≤ n → y ≤ suc n → (y ≡ suc n → ⊥) → (x < n → y ≡ x) → y < suc t

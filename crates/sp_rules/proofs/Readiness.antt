@@ -13,22 +13,22 @@ use Rattle.sp_cell.specs.Map.{Plain, Content, Own, Shared, Output, Away, IsOutpu
 use Rattle.sp_code.specs.declared.code.Formal.{Formal}
 use Rattle.sp_code.specs.declared.code.Layout.{Layout}
 use Rattle.sp_code.specs.Machine.{Config, At, Entry, layout_of}
-use Rattle.sp_code.specs.Memory.{Setting, Home, OfBlock, Frame, Memory, memory, is_held, left_after}
+use Rattle.sp_code.specs.Memory.{CodeRun, Home, OfBlock, Frame, Memory, memory, is_held, left_after}
 use Rattle.sp_code.specs.Memory.{position_in, has_cells, last_frames, cell_at, answer_in, answer_of, answer_by}
 use Rattle.sp_code.specs.PlainStore.{plain, piece_of}
 use Rattle.sp_code.specs.System.{spot_of, spot_of_layout, spot_at, spot_by, or_outward, place_of, first_number}
 use Rattle.sp_rules.specs.Areas.{Area, Body, homes, instr_at}
-use Rattle.sp_rules.specs.Chains.{Chain, variables_of, stands, extends}
+use Rattle.sp_rules.specs.Chains.{Chain, variables_of, spot_by_homes, extent_by_homes}
 use Rattle.sp_rules.specs.Effects.{Stored, Loaded, Does, May}
 use Rattle.sp_rules.specs.Extents.{HasWhole, extent_of_layout, extent_at, extent_by, size_of, or_further}
 use Rattle.sp_rules.specs.Forks.{KeepsEffects}
 use Rattle.sp_rules.specs.Holding.{Allowed, Holding, input_spot}
-use Rattle.sp_rules.specs.Keeps.{Keeps}
+use Rattle.sp_rules.specs.KeepsCodeRules.{KeepsCodeRules}
 use Rattle.sp_rules.specs.Named.{Unknown, begins_with, formals_cells, answer_cells}
 use Rattle.sp_rules.specs.Reach.{IsIn, IsArea, Reaches}
-use Rattle.sp_rules.specs.Running.{Base, HasConsole, Lives}
+use Rattle.sp_rules.specs.Running.{Base, HasConsole, HasActivations}
 use Rattle.sp_rules.specs.Shapes.{Shape}
-use Rattle.sp_rules.specs.Touched.{stored_by, loaded_by, touched, HasAnswer}
+use Rattle.sp_rules.specs.Touched.{stored_by, loaded_by, touched_by, HasAnswer}
 use Rattle.sp_rules.proofs.Chains.{spot_is, size_is}
 use Rattle.sp_rules.proofs.Holdings.{head, next_low, may_go}
 use Rattle.sp_rules.proofs.Instances.{may_do}
@@ -64,10 +64,11 @@ none_behind : {X : Type 0} (fs : List X) → slice_get fs (length fs) ≡ None
 none_behind [] = refl
 none_behind (g ∷ fs) = none_behind fs
 
-module _ (g : Setting) (k : Keeps g.code) (e : KeepsEffects g.code (Does g.code)) (known : (p : ℕ) → Unknown g.code p
+module _ (g : CodeRun) (k : KeepsCodeRules g.code) (e : KeepsEffects g.code (Does g.code)) (known : (p : ℕ)
+    → Unknown g.code p
     → ⊥) (T : List Area → Config (Memory Plain) → Type 0) (b : Base g (homes g.code) (May g.code) T) where
   module _ (a : Area) (us : List Area) (pc : ℕ) (st : List Entry) (n : Memory Plain)
-      (l : Lives g (homes g.code) (May g.code) T b (a ∷ us) (At pc st n)) (area : IsArea g.code a) where
+      (l : HasActivations g (homes g.code) (May g.code) T b (a ∷ us) (At pc st n)) (area : IsArea g.code a) where
     mine : Chain (homes g.code a) n.frames
         × Allowed g.code.layouts (HasConsole g (homes g.code) (May g.code) T b.area)
         (May g.code a) l.holding.bound n.frames n.store.map
@@ -112,20 +113,20 @@ module _ (g : Setting) (k : Keeps g.code) (e : KeepsEffects g.code (Does g.code)
 
     -- at an instruction that is reached
     module _ (ss : List Shape) (r : Reaches g.code a pc ss) where
-      does : (x : ℕ) → IsIn x (touched g.code a (instr_at g.code pc) ss) → May g.code a x
+      does : (x : ℕ) → IsIn x (touched_by g.code a (instr_at g.code pc) ss) → May g.code a x
       does x m = ⊎_elim
           (λ s. may_do g.code k e known Stored a pc x ss area r s)
           (λ s. may_do g.code k e known Loaded a pc x ss area r s)
           (in_split x (stored_by g.code a (instr_at g.code pc) ss) (loaded_by g.code a (instr_at g.code pc) ss) m)
 
-      pub whole : (x : ℕ) → IsIn x (touched g.code a (instr_at g.code pc) ss) → 2 ≤ x
+      pub whole : (x : ℕ) → IsIn x (touched_by g.code a (instr_at g.code pc) ss) → 2 ≤ x
           → HasWhole plain g.code.layouts n x
       whole x m real = whole_of x real (does x m)
 
-      pub input : IsIn 0 (touched g.code a (instr_at g.code pc) ss) → IsSome ((memory plain g).left n)
+      pub input : IsIn 0 (touched_by g.code a (instr_at g.code pc) ss) → IsSome ((memory plain g).left n)
       input m = input_of (does 0 m)
 
-      pub output : IsIn 1 (touched g.code a (instr_at g.code pc) ss) → (memory plain g).has_output n ≡ true
+      pub output : IsIn 1 (touched_by g.code a (instr_at g.code pc) ss) → (memory plain g).has_output n ≡ true
       output m = output_of_it (does 1 m)
 
   -- ---- a return
@@ -138,7 +139,7 @@ module _ (g : Setting) (k : Keeps g.code) (e : KeepsEffects g.code (Does g.code)
       where
         go : (fs : List Frame)
             → Holding g.code.layouts (homes g.code) (May g.code) (HasConsole g (homes g.code) (May g.code) T b.area)
-            (a ∷ d ∷ us) fs n.depth n.store → Rattle.sp_code.specs.Memory.may_close plain g fs n.store ≡ true
+            (a ∷ d ∷ us) fs n.depth n.store → Rattle.sp_code.specs.Memory.can_pop plain g fs n.store ≡ true
         go [] h = absurd h.allowed
         go (f ∷ fs) h = may_go g.code.layouts (homes g.code) (May g.code)
             (HasConsole g (homes g.code) (May g.code) T b.area) a d us f fs n.depth n.store h
@@ -182,22 +183,24 @@ module _ (g : Setting) (k : Keeps g.code) (e : KeepsEffects g.code (Does g.code)
       here (h ∷ hs) c = (
         spot_is g.code.layouts (h ∷ hs) (fr ∷ fs) variable.0 real c
             ∙ ap (λ x. or_outward (Rattle.sp_code.specs.System.spot_in g.code.layouts fr x variable.0)
-            (stands g.code.layouts hs (last_frames fr.link fs) variable.0)) (sym c.0 ∙ home)
+            (spot_by_homes g.code.layouts hs (last_frames fr.link fs) variable.0)) (sym c.0 ∙ home)
             ∙ ap (λ o. or_outward (spot_of_layout fr variable.0 o)
-            (stands g.code.layouts hs (last_frames fr.link fs) variable.0)) at
-            ∙ ap (λ o. or_outward (spot_at fr l o) (stands g.code.layouts hs (last_frames fr.link fs) variable.0)) place
+            (spot_by_homes g.code.layouts hs (last_frames fr.link fs) variable.0)) at
+            ∙ ap (λ o. or_outward (spot_at fr l o)
+            (spot_by_homes g.code.layouts hs (last_frames fr.link fs) variable.0)) place
             ∙ ap (λ o. or_outward (spot_by fr (length l.formals) o)
-            (stands g.code.layouts hs (last_frames fr.link fs) variable.0)) (none_behind l.formals),
+            (spot_by_homes g.code.layouts hs (last_frames fr.link fs) variable.0)) (none_behind l.formals),
         size_is g.code.layouts (h ∷ hs) (fr ∷ fs) variable.0 real c
             ∙ ap (λ x. or_further (Rattle.sp_rules.specs.Extents.extent_in g.code.layouts fr fs x variable.0)
-            (extends g.code.layouts hs (last_frames fr.link fs) variable.0)) (sym c.0 ∙ home)
+            (extent_by_homes g.code.layouts hs (last_frames fr.link fs) variable.0)) (sym c.0 ∙ home)
             ∙ ap (λ o. or_further (extent_of_layout g.code.layouts fr fs variable.0 o)
-            (extends g.code.layouts hs (last_frames fr.link fs) variable.0)) at
+            (extent_by_homes g.code.layouts hs (last_frames fr.link fs) variable.0)) at
             ∙ ap (λ o. or_further (extent_at g.code.layouts fr fs l o)
-            (extends g.code.layouts hs (last_frames fr.link fs) variable.0)) place
+            (extent_by_homes g.code.layouts hs (last_frames fr.link fs) variable.0)) place
             ∙ ap (λ o. or_further (extent_by g.code.layouts fr fs (length l.formals) o)
-            (extends g.code.layouts hs (last_frames fr.link fs) variable.0)) (none_behind l.formals)
-            ∙ ap (λ o. or_further o (extends g.code.layouts hs (last_frames fr.link fs) variable.0)) size_is_one,
+            (extent_by_homes g.code.layouts hs (last_frames fr.link fs) variable.0)) (none_behind l.formals)
+            ∙ ap (λ o. or_further o (extent_by_homes g.code.layouts hs (last_frames fr.link fs) variable.0))
+            size_is_one,
       )
         where
           size_is_one : Rattle.sp_rules.specs.Extents.size_at g.code.layouts fr.home (length l.formals) ≡ Some 1

@@ -8,28 +8,28 @@ use Rattle.std.proofs.lemmas.Option.{same_Some}
 use Rattle.sp_tree.specs.Interference.{IsMember}
 use Rattle.sp_cell.specs.declared.cell.Cell.{Cell}
 use Rattle.sp_cell.specs.declared.spot.Spot.{Spot}
-use Rattle.sp_cell.specs.Fork.{taken}
+use Rattle.sp_cell.specs.Fork.{with_contents}
 use Rattle.sp_cell.proofs.FrameLaws.{is_same}
 use Rattle.sp_cell.proofs.Laws.{known_of_held, held_not_away}
 use Rattle.sp_cell.specs.Map.{Map, Content, Away, Plain, IsHeld, IsOutput, output_spot}
 use Rattle.sp_cell.proofs.Plan.{in_or, not_both, get_taken_in, get_taken_out, in_front, in_back, distinct_back}
 use Rattle.sp_cell.specs.Spots.{In, NotIn, IsDistinct}
 use Rattle.sp_code.specs.Machine.{Config, At}
-use Rattle.sp_code.specs.Memory.{Setting, Home, Memory, position_in}
+use Rattle.sp_code.specs.Memory.{CodeRun, Home, Memory, position_in}
 use Rattle.sp_code.specs.PlainStore.{plain, piece_of}
 use Rattle.sp_code.specs.Sound.{CanJoin}
 use Rattle.sp_code.specs.System.{spot_of}
 use Rattle.sp_rules.specs.Extents.{extent}
-use Rattle.sp_rules.specs.Holding.{Has, Allowed, Holding, input_spot}
-use Rattle.sp_rules.specs.Running.{Base, HasConsole, Lives}
-use Rattle.sp_rules.specs.Systems.{without, Heir, moved_to, Lent, JoinsWell}
+use Rattle.sp_rules.specs.Holding.{HoldsVariable, Allowed, Holding, input_spot}
+use Rattle.sp_rules.specs.Running.{Base, HasConsole, HasActivations}
+use Rattle.sp_rules.specs.Systems.{without_first, Heir, moved_to, Lent, JoinsWell}
 use Rattle.sp_rules.proofs.Holdings.{head}
-use Rattle.sp_rules.proofs.Keeping.{Keeps, all_keeps}
+use Rattle.sp_rules.proofs.Keeping.{KeepsLengths, all_keeps}
 use Rattle.sp_rules.proofs.Forking.{has_held}
 use Rattle.sp_code.proofs.Plans.{out_of, in_either}
 use Rattle.sp_history.proofs.Splitting.{distinct_apart}
 
-module _ (g : Setting) {Area : Type 0} (H : Area → List Home) (E : Area → ℕ → Type 0) (T : List Area
+module _ (g : CodeRun) {Area : Type 0} (H : Area → List Home) (E : Area → ℕ → Type 0) (T : List Area
     → Config (Memory Plain) → Type 0) (Room Cells : ℕ → ℕ → Type 0) where
   -- ---- one child fewer
 
@@ -37,15 +37,16 @@ module _ (g : Setting) {Area : Type 0} (H : Area → List Home) (E : Area → �
     abbrev all : List ℕ → List Spot
     all rs = moved_to g H E T Room Cells base rs
 
-    pub in_rest : (rs : List ℕ) (q : Spot) → In q (all (without r rs)) → In q (all rs)
+    pub in_rest : (rs : List ℕ) (q : Spot) → In q (all (without_first r rs)) → In q (all rs)
     in_rest [] q i = i
     in_rest (x ∷ rs) q i = go (r == x) i (in_rest rs q)
       where
-        go : (t : Bool) → In q (all (cond t rs (x ∷ without r rs))) → (In q (all (without r rs)) → In q (all rs))
+        go : (t : Bool) → In q (all (cond t rs (x ∷ without_first r rs)))
+            → (In q (all (without_first r rs)) → In q (all rs))
             → In q (all (x ∷ rs))
         go true i h = in_back q (base x).moved (all rs) i
         go false i h = ⊎_elim (λ j. in_front q (base x).moved (all rs) j) (λ j. in_back q (base x).moved (all rs) (h j))
-            (in_either q (base x).moved (all (without r rs)) i)
+            (in_either q (base x).moved (all (without_first r rs)) i)
 
     pub in_mine : (rs : List ℕ) (q : Spot) → IsMember r rs → In q (base r).moved → In q (all rs)
     in_mine [] q m i = absurd m
@@ -54,58 +55,61 @@ module _ (g : Setting) {Area : Type 0} (H : Area → List Home) (E : Area → �
 
     -- all spots are the child's or those of the others
     pub in_split : (rs : List ℕ) (q : Spot) → IsMember r rs → In q (all rs) → In q (base r).moved
-        ⊎ In q (all (without r rs))
+        ⊎ In q (all (without_first r rs))
     in_split [] q m i = absurd m
     in_split (x ∷ rs) q m i = go (r == x) refl (in_either q (base x).moved (all rs) i) (λ m j. in_split rs q m j) m
       where
         go : (t : Bool) → r == x ≡ t → In q (base x).moved ⊎ In q (all rs)
-            → (IsMember r rs → In q (all rs) → In q (base r).moved ⊎ In q (all (without r rs))) → IsMember r (x ∷ rs)
-            → In q (base r).moved ⊎ In q (all (cond t rs (x ∷ without r rs)))
+            → (IsMember r rs → In q (all rs) → In q (base r).moved ⊎ In q (all (without_first r rs)))
+            → IsMember r (x ∷ rs)
+            → In q (base r).moved ⊎ In q (all (cond t rs (x ∷ without_first r rs)))
         go true e (inl j) h m = inl (subst (λ y. In q (base y).moved) (sym (eqb-true r x e)) j)
         go true e (inr j) h m = inr j
-        go false e (inl j) h m = inr (in_front q (base x).moved (all (without r rs)) j)
+        go false e (inl j) h m = inr (in_front q (base x).moved (all (without_first r rs)) j)
         go false e (inr j) h (inl is) = absurd (cc (sym e ∙ is_same r x is))
-        go false e (inr j) h (inr m) = ⊎_elim (λ k. inl k) (λ k. inr (in_back q (base x).moved (all (without r rs)) k))
+        go false e (inr j) h (inr m) =
+            ⊎_elim (λ k. inl k) (λ k. inr (in_back q (base x).moved (all (without_first r rs)) k))
             (h m j)
 
-    pub distinct_rest : (rs : List ℕ) → IsDistinct (all rs) → IsDistinct (all (without r rs))
+    pub distinct_rest : (rs : List ℕ) → IsDistinct (all rs) → IsDistinct (all (without_first r rs))
     distinct_rest [] d = d
     distinct_rest (x ∷ rs) d = go (r == x) (distinct_rest rs (distinct_back (base x).moved (all rs) d))
       where
-        cut : (xs : List Spot) → IsDistinct (xs ++ all rs) → IsDistinct (all (without r rs))
-            → IsDistinct (xs ++ all (without r rs))
+        cut : (xs : List Spot) → IsDistinct (xs ++ all rs) → IsDistinct (all (without_first r rs))
+            → IsDistinct (xs ++ all (without_first r rs))
         cut [] d h = h
         cut (y ∷ xs) d h = (
-          out_of y (xs ++ all (without r rs))
+          out_of y (xs ++ all (without_first r rs))
               (λ i. ⊎_elim (λ j. not_both y (xs ++ all rs) (in_front y xs (all rs) j) d.0) (λ j. not_both y (xs
-              ++ all rs) (in_back y xs (all rs) (in_rest rs y j)) d.0) (in_either y xs (all (without r rs)) i)),
+              ++ all rs) (in_back y xs (all rs) (in_rest rs y j)) d.0) (in_either y xs (all (without_first r rs)) i)),
           cut xs d.1 h,
         )
 
-        go : (t : Bool) → IsDistinct (all (without r rs)) → IsDistinct (all (cond t rs (x ∷ without r rs)))
+        go : (t : Bool) → IsDistinct (all (without_first r rs)) → IsDistinct (all (cond t rs (x ∷ without_first r rs)))
         go true h = distinct_back (base x).moved (all rs) d
         go false h = cut (base x).moved d h
 
     pub apart_rest : (rs : List ℕ) (q : Spot) → IsMember r rs → IsDistinct (all rs) → In q (base r).moved
-        → In q (all (without r rs)) → ⊥
+        → In q (all (without_first r rs)) → ⊥
     apart_rest [] q m d i j = m
     apart_rest (x ∷ rs) q m d i j = go (r == x) refl m j
         (λ m k. apart_rest rs q m (distinct_back (base x).moved (all rs) d) i k)
       where
-        go : (t : Bool) → r == x ≡ t → IsMember r (x ∷ rs) → In q (all (cond t rs (x ∷ without r rs)))
-            → (IsMember r rs → In q (all (without r rs)) → ⊥) → ⊥
+        go : (t : Bool) → r == x ≡ t → IsMember r (x ∷ rs) → In q (all (cond t rs (x ∷ without_first r rs)))
+            → (IsMember r rs → In q (all (without_first r rs)) → ⊥) → ⊥
         go true e m j h = distinct_apart q (base x).moved (all rs) d
             (subst (λ y. In q (base y).moved) (eqb-true r x e) i) j
         go false e (inl is) j h = cc (sym e ∙ is_same r x is)
         go false e (inr m) j h = ⊎_elim
             (λ k. distinct_apart q (base x).moved (all rs) d k (in_mine rs q m i)) (λ k. h m k)
-            (in_either q (base x).moved (all (without r rs)) j)
+            (in_either q (base x).moved (all (without_first r rs)) j)
 
-    pub members : (rs : List ℕ) (x : ℕ) → IsMember x (without r rs) → IsMember x rs
+    pub members : (rs : List ℕ) (x : ℕ) → IsMember x (without_first r rs) → IsMember x rs
     members [] x m = m
     members (y ∷ rs) x m = go (r == y) m (members rs x)
       where
-        go : (t : Bool) → IsMember x (cond t rs (y ∷ without r rs)) → (IsMember x (without r rs) → IsMember x rs)
+        go : (t : Bool) → IsMember x (cond t rs (y ∷ without_first r rs))
+            → (IsMember x (without_first r rs) → IsMember x rs)
             → IsMember x (y ∷ rs)
         go true m h = inr m
         go false (inl e) h = inl e
@@ -116,7 +120,7 @@ module _ (g : Setting) {Area : Type 0} (H : Area → List Home) (E : Area → �
   module _ (base : ℕ → Base g H E T) (b : Base g H E T) (rs : List ℕ) (r : ℕ) (mine : IsMember r rs) (pc qc : ℕ)
       (st qt : List Rattle.sp_code.specs.Machine.Entry) (n c : Memory Plain)
       (j : JoinsWell g H E T Room Cells base b rs (At pc st n)) (a : Area)
-      (l : Lives g H E T (base r) (a ∷ []) (At qc qt c)) where
+      (l : HasActivations g H E T (base r) (a ∷ []) (At qc qt c)) where
     moved_is : c.store.moved ≡ (base r).moved
     moved_is = l.moved
 
@@ -143,7 +147,7 @@ module _ (g : Setting) {Area : Type 0} (H : Area → List Home) (E : Area → �
     }
 
     abbrev whole : Map
-    whole = taken c.store.map c.store.moved j.whole
+    whole = with_contents c.store.map c.store.moved j.whole
 
     child_known : (q : Spot) → In q c.store.moved → IsSome (map.get c.store.map q)
     child_known q i = known_of_held (map.get c.store.map q) (l.holding.moved q i)
@@ -167,14 +171,16 @@ module _ (g : Setting) {Area : Type 0} (H : Area → List Home) (E : Area → �
 
     -- what was there of a variable, and what the child has of it
     was : (q : Spot) (h : Heir g H E T Room Cells j.area n.frames (base r) q)
-        → Has g.code.layouts n.frames j.whole h.variable q
+        → HoldsVariable g.code.layouts n.frames j.whole h.variable q
     was q h = let w = mother.held h.variable h.here in subst
-        (λ (s : Spot). Has g.code.layouts n.frames j.whole h.variable s) (same_Some _ _ (sym w.1 ∙ h.stands)) w.3
+        (λ (s : Spot). HoldsVariable g.code.layouts n.frames j.whole h.variable s)
+        (same_Some _ _ (sym w.1 ∙ h.stands)) w.3
 
     is : (q : Spot) (h : Heir g H E T Room Cells j.area n.frames (base r) q)
-        → Has g.code.layouts (base r).frames c.store.map h.variable q
+        → HoldsVariable g.code.layouts (base r).frames c.store.map h.variable q
     is q h = let w = child.held h.variable h.there in subst
-        (λ (s : Spot). Has g.code.layouts (base r).frames c.store.map h.variable s) (same_Some _ _ (sym w.1 ∙ h.stood))
+        (λ (s : Spot). HoldsVariable g.code.layouts (base r).frames c.store.map h.variable s)
+        (same_Some _ _ (sym w.1 ∙ h.stood))
         w.3
 
     known_whole : (q : Spot) → In q c.store.moved → IsSome (map.get j.whole q)
@@ -210,8 +216,8 @@ module _ (g : Setting) {Area : Type 0} (H : Area → List Home) (E : Area → �
         h = heir q i
 
         go : (x : ℕ) → E j.area x → (2 ≤ x → extent g.code.layouts (base r).frames x ≡ extent g.code.layouts n.frames x)
-            → spot_of g.code.layouts n.frames x ≡ Some q → Has g.code.layouts n.frames j.whole x q
-            → Has g.code.layouts (base r).frames c.store.map x q
+            → spot_of g.code.layouts n.frames x ≡ Some q → HoldsVariable g.code.layouts n.frames j.whole x q
+            → HoldsVariable g.code.layouts (base r).frames c.store.map x q
             → (ds : List Cell) × (piece_of (map.get whole q) ≡ Some ds) × (length ds ≡ length cs)
         go zero d alike at u v = absurd ((clear (mother.console (inl d))).0 (sym (same_Some _ _ at)))
         go (suc zero) d alike at u v = absurd ((clear (mother.console (inr d))).1 (sym (same_Some _ _ at)))
@@ -220,7 +226,7 @@ module _ (g : Setting) {Area : Type 0} (H : Area → List Home) (E : Area → �
             let long : length v.0 ≡ length u.0 = same_Some _ _ (sym v.2 ∙ alike (omega arith) ∙ u.2) in
             (v.0, ap piece_of (whole_in q i) ∙ v.1, long ∙ ap length same)
 
-    keeps : (k : ℕ) → Keeps (HasConsole g H E T b.area) k j.whole whole
+    keeps : (k : ℕ) → KeepsLengths (HasConsole g H E T b.area) k j.whole whole
     keeps k = record {
       input = λ con far v e. ⊎_elim (λ i. input_in con i)
           (λ o. (v, ap (λ z. position_in (piece_of z)) (whole_out input_spot o) ∙ e)) (in_or input_spot c.store.moved);
@@ -238,7 +244,7 @@ module _ (g : Setting) {Area : Type 0} (H : Area → List Home) (E : Area → �
             × (position_in (piece_of (map.get whole input_spot)) ≡ Some w)
         input_in con i =
             let h = heir input_spot i in
-            let w = subst (λ x. Has g.code.layouts (base r).frames c.store.map x input_spot) (input_at h con)
+            let w = subst (λ x. HoldsVariable g.code.layouts (base r).frames c.store.map x input_spot) (input_at h con)
             (is input_spot h) in
             (w.0, ap (λ z. position_in (piece_of z)) (whole_in input_spot i) ∙ w.1)
 
@@ -246,7 +252,7 @@ module _ (g : Setting) {Area : Type 0} (H : Area → List Home) (E : Area → �
         output_in con i =
             let h = heir output_spot i in
             subst IsOutput (sym (whole_in output_spot i))
-            (subst (λ x. Has g.code.layouts (base r).frames c.store.map x output_spot) (output_at h con)
+            (subst (λ x. HoldsVariable g.code.layouts (base r).frames c.store.map x output_spot) (output_at h con)
             (is output_spot h))
 
     either : (q : Spot) (P : Option Content → Type 0) → (In q c.store.moved → P (map.get c.store.map q))
@@ -254,7 +260,7 @@ module _ (g : Setting) {Area : Type 0} (H : Area → List Home) (E : Area → �
     either q P x y = ⊎_elim (λ i. subst P (sym (whole_in q i)) (x i)) (λ o. subst P (sym (whole_out q o)) (y o))
         (in_or q c.store.moved)
 
-    pub lives_whole : Lives g H E T b (j.area ∷ j.callers)
+    pub lives_whole : HasActivations g H E T b (j.area ∷ j.callers)
         (At pc st (record n { store = record { map = whole; own = n.store.own; moved = n.store.moved } }))
     lives_whole = record {
       holding = record {
@@ -284,7 +290,8 @@ module _ (g : Setting) {Area : Type 0} (H : Area → List Home) (E : Area → �
     }
 
     -- what is left to come back
-    pub lent_rest : Lent g H E T Room Cells base (without r rs) j.area n.frames (plain.joined n.store c.store).map whole
+    pub lent_rest : Lent g H E T Room Cells base (without_first r rs) j.area n.frames
+        (plain.joined n.store c.store).map whole
     lent_rest = record {
       away = λ q i. get_taken_out c.store.map c.store.moved n.store.map q
           (out_of q c.store.moved (λ m. apart_rest base r rs q mine j.lent.distinct (in_moved q m) i))
@@ -294,7 +301,7 @@ module _ (g : Setting) {Area : Type 0} (H : Area → List Home) (E : Area → �
           (λ d. get_taken_out c.store.map c.store.moved n.store.map q d
           ∙ j.lent.rest q (out_of q (moved_to g H E T Room Cells base rs)
           (λ i. ⊎_elim (λ m. not_both q c.store.moved (back_in q m) d)
-          (λ m. not_both q (moved_to g H E T Room Cells base (without r rs)) m o) (in_split base r rs q mine i)))
+          (λ m. not_both q (moved_to g H E T Room Cells base (without_first r rs)) m o) (in_split base r rs q mine i)))
           ∙ sym (whole_out q d))
           (in_or q c.store.moved);
       distinct = distinct_rest base r rs j.lent.distinct;

@@ -2,25 +2,25 @@
 -- as it should. What it holds is left open: it is the part of the invariant that speaks of the store.
 use Rattle.std.proofs.Common.{◌≡◌, ℕ, zero, suc, List, ◌∷◌, sym, subst}
 use Rattle.sp_code.specs.Machine.{Entry, Stop, Forks, Opens, Sends, Receives, Ends, Pauses, Config, At, Goes, Stops}
-use Rattle.sp_code.specs.Machine.{Stuck, one}
-use Rattle.sp_code.specs.Turns.{ComesIn, IsSafe, Stopped, Runs}
+use Rattle.sp_code.specs.Machine.{Stuck, next_step}
+use Rattle.sp_code.specs.Turns.{RunsIn, IsSafe, Stopped, Runs}
 use Rattle.sp_code.specs.Ranks.{RanksFall, IsRankedAlong}
-use Rattle.sp_code.specs.Memory.{Setting, Stores, Memory, memory}
+use Rattle.sp_code.specs.Memory.{CodeRun, Stores, Memory, memory}
 use Rattle.sp_rules.specs.Areas.{Area, instr_at}
-use Rattle.sp_rules.specs.Touched.{Ready}
+use Rattle.sp_rules.specs.Touched.{MemorySuffices}
 use Rattle.sp_rules.specs.Standing.{StandsAt, StoppedAt}
 use Rattle.sp_rules.specs.Changes.{areas, areas_of, Changes, Well, IsHere}
 use Rattle.sp_rules.specs.Rules.{BreaksV9}
-use Rattle.sp_rules.specs.Keeps.{Keeps}
+use Rattle.sp_rules.specs.KeepsCodeRules.{KeepsCodeRules}
 use Rattle.sp_rules.proofs.Turns.{fine}
 use Rattle.sp_rules.proofs.Scoping.{scoped}
 use Rattle.sp_rules.proofs.Walking.{here, passes}
 use Rattle.sp_rules.proofs.Ranked.{ranked_at}
 
-module _ {S : Type 0} (stores : Stores S) (g : Setting) (k : Keeps g.code) where
+module _ {S : Type 0} (stores : Stores S) (g : CodeRun) (k : KeepsCodeRules g.code) where
   -- what a process at p that stands so needs
   abbrev pub ReadyAt : (p : ℕ) (st : List Entry) (n : Memory S) → StandsAt g.code p st n.frames → Type 0
-  ReadyAt p st n s = Ready stores g s.area (instr_at g.code p) s.shapes n
+  ReadyAt p st n s = MemorySuffices stores g s.area (instr_at g.code p) s.shapes n
 
   -- how its instruction changes its memory
   abbrev pub ChangesAt : (p : ℕ) (st : List Entry) (n : Memory S) → StandsAt g.code p st n.frames → List Area → Memory S
@@ -29,7 +29,7 @@ module _ {S : Type 0} (stores : Stores S) (g : Setting) (k : Keeps g.code) where
 
   -- one instruction
   pub one_well : (p : ℕ) (st : List Entry) (n : Memory S) (s : StandsAt g.code p st n.frames) → ReadyAt p st n s
-      → Well stores g s.area (instr_at g.code p) s.shapes n (areas s) (one (memory stores g) g.code (At p st n))
+      → Well stores g s.area (instr_at g.code p) s.shapes n (areas s) (next_step (memory stores g) g.code (At p st n))
   one_well p st n s r = fine stores g (scoped g.code k) s.area p s.shapes s.callers s.rest st n
       (record { there = s.there; reached = s.reached; framed = s.framed; operands = s.operands; under = s.under })
       (instr_at g.code p)
@@ -42,8 +42,8 @@ module _ {S : Type 0} (stores : Stores S) (g : Setting) (k : Keeps g.code) where
       (kept : (p q : ℕ) (st s1 : List Entry) (n m : Memory S) (s : StandsAt g.code p st n.frames)
       (t : StandsAt g.code q s1 m.frames) → Holds p st n s → ChangesAt p st n s (areas t) m → Holds q s1 m t) where
     -- both
-    abbrev pub Known : Config (Memory S) → Type 0
-    Known (At p st n) = (s : StandsAt g.code p st n.frames) × Holds p st n s
+    abbrev pub StandsWith : Config (Memory S) → Type 0
+    StandsWith (At p st n) = (s : StandsAt g.code p st n.frames) × Holds p st n s
 
     -- the process where it stopped: with an end, where it was; else where it goes on
     abbrev pub AtStop : Stop → Config (Memory S) → Type 0
@@ -52,31 +52,32 @@ module _ {S : Type 0} (stores : Stores S) (g : Setting) (k : Keeps g.code) where
     AtStop x (At q s1 m) = (s : StandsAt g.code q s1 m.frames) × Holds q s1 m s
         × ((t : StoppedAt g.code x q s1 m.frames) × IsHere stores g m x (t.area ∷ areas_of t.callers) (areas s))
 
-    goes : (c d : Config (Memory S)) → Known c → one (memory stores g) g.code c ≡ Goes d → Known d
+    goes : (c d : Config (Memory S)) → StandsWith c → next_step (memory stores g) g.code c ≡ Goes d → StandsWith d
     goes (At p st n) (At q s1 m) w e =
         let o = subst (λ z. Well stores g w.0.area (instr_at g.code p) w.0.shapes n (areas w.0) z) e
         (one_well p st n w.0 (ready p st n w.0 w.1)) in
         (o.0, kept p q st s1 n m w.0 o.0 w.1 o.1)
 
-    pub comes_in : (n : ℕ) (c d : Config (Memory S)) → Known c → ComesIn (memory stores g) g.code n c d → Known d
-    comes_in zero c d w e = subst (λ z. Known z) e w
+    pub comes_in : (n : ℕ) (c d : Config (Memory S)) → StandsWith c → RunsIn (memory stores g) g.code n c d
+        → StandsWith d
+    comes_in zero c d w e = subst (λ z. StandsWith z) e w
     comes_in (suc n) c d w h = comes_in n h.0 d (goes c h.0 w h.1) h.2
 
     -- no instruction of its turn lacks anything
-    pub safe : (c : Config (Memory S)) → Known c → IsSafe (memory stores g) g.code c
+    pub safe : (c : Config (Memory S)) → StandsWith c → IsSafe (memory stores g) g.code c
     safe c w b d h e = stuck d (comes_in h.steps c d w h.by) e
       where
-        stuck : (d : Config (Memory S)) → Known d → one (memory stores g) g.code d ≡ Stuck → ⊥
+        stuck : (d : Config (Memory S)) → StandsWith d → next_step (memory stores g) g.code d ≡ Stuck → ⊥
         stuck (At p st n) w e = subst (λ z. Well stores g w.0.area (instr_at g.code p) w.0.shapes n (areas w.0) z) e
             (one_well p st n w.0 (ready p st n w.0 w.1))
 
     -- and where it stops, the stop is as it should be
-    pub stops_well : (c d : Config (Memory S)) (x : Stop) → Known c → Runs (memory stores g) g.code c (Stopped x d)
+    pub stops_well : (c d : Config (Memory S)) (x : Stop) → StandsWith c → Runs (memory stores g) g.code c (Stopped x d)
         → AtStop x d
     stops_well c d x w (e, h, m) = at_stop e (comes_in h.steps c e w h.by) d x m
       where
-        at_stop : (e : Config (Memory S)) → Known e → (d : Config (Memory S)) (x : Stop)
-            → one (memory stores g) g.code e ≡ Stops x d → AtStop x d
+        at_stop : (e : Config (Memory S)) → StandsWith e → (d : Config (Memory S)) (x : Stop)
+            → next_step (memory stores g) g.code e ≡ Stops x d → AtStop x d
         at_stop (At p st n) w (At q s1 m) x e = by x
             (subst (λ z. Well stores g w.0.area (instr_at g.code p) w.0.shapes n (areas w.0) z) e
             (one_well p st n w.0 (ready p st n w.0 w.1)))
@@ -94,10 +95,10 @@ module _ {S : Type 0} (stores : Stores S) (g : Setting) (k : Keeps g.code) where
 
     -- the ranks fall along its turn, so it ends
     module _ (v9 : (p : ℕ) → BreaksV9 g.code p → ⊥) where
-      ranks_fall : (d : Config (Memory S)) → Known d → RanksFall g.code d
+      ranks_fall : (d : Config (Memory S)) → StandsWith d → RanksFall g.code d
       ranks_fall (At p st n) w = ranked_at g.code v9 w.0.area p
           (w.0.there, passes g.code w.0.area p w.0.shapes w.0.reached)
 
       -- along all that its turn comes to
-      pub ranks_along : (c : Config (Memory S)) → Known c → IsRankedAlong (memory stores g) g.code c
+      pub ranks_along : (c : Config (Memory S)) → StandsWith c → IsRankedAlong (memory stores g) g.code c
       ranks_along c w d h = ranks_fall d (comes_in h.steps c d w h.by)

@@ -19,20 +19,22 @@ use Rattle.sp_code.specs.declared.code.ChildTable.{ChildTable}
 use Rattle.sp_code.specs.declared.code.Parts.{Parts}
 use Rattle.sp_code.specs.Machine.{layout_of}
 use Rattle.sp_code.specs.Memory.{Home, OfBlock, OfIndex, Frame, last_frames, frames_up, addr_in, deref_in, is_there}
-use Rattle.sp_code.specs.Memory.{referred, cell_at}
-use Rattle.sp_code.specs.System.{spot_in, spot_at, spot_by, spot_of_layout, place_of, first_number, entire, or_outward}
-use Rattle.sp_rules.specs.Areas.{Area, Body, Child, Found, Naming, Plainly, Never, ByReference, given, console}
+use Rattle.sp_code.specs.Memory.{reference_target, cell_at}
+use Rattle.sp_code.specs.System.{spot_in, spot_at, spot_by, spot_of_layout, place_of, first_number, spot_of_address}
+use Rattle.sp_code.specs.System.{or_outward}
+use Rattle.sp_rules.specs.Areas.{Area, Body, Child, VariableInfo, Naming, Plainly, Never, ByReference, on_option}
+use Rattle.sp_rules.specs.Areas.{console}
 use Rattle.sp_rules.specs.Areas.{found_by, found_in, found_of, found_at, parent_of, homes_by, with_home, block_homes}
 use Rattle.sp_rules.specs.Areas.{homes, variable_at, instr_at, child_at, child_of, table_at, table_named}
-use Rattle.sp_rules.specs.Areas.{index_of_child, leads_by, is_root, alone}
+use Rattle.sp_rules.specs.Areas.{index_of_child, leads_by, is_root, single_home}
 use Rattle.sp_rules.specs.Reach.{IsArea}
 use Rattle.sp_rules.specs.Extents.{size_of, size_at, size_behind, extent_by, extent_at, extent_of_layout, extent_in}
 use Rattle.sp_rules.specs.Extents.{or_further}
 use Rattle.sp_rules.specs.Standing.{Points, Framed, RefersWell}
 use Rattle.sp_rules.specs.Named.{is_plain, is_reference, is_block, is_none, LiesIn, Names, Declared, InLayout, OfChild}
-use Rattle.sp_rules.specs.Named.{declared, declared_in, declared_by}
-use Rattle.sp_rules.specs.Keeps.{Keeps}
-use Rattle.sp_rules.specs.Chains.{Chain, variables_of, variables_in, all_variables, stands, extends}
+use Rattle.sp_rules.specs.Named.{declaration_at, declared_in, declared_by}
+use Rattle.sp_rules.specs.KeepsCodeRules.{KeepsCodeRules}
+use Rattle.sp_rules.specs.Chains.{Chain, variables_of, variables_in, all_variables, spot_by_homes, extent_by_homes}
 use Rattle.sp_rules.proofs.Lists.{place_some}
 use Rattle.sp_rules.proofs.Chains.{last_up, up_length, spot_is, size_is, stands_up, extends_up}
 use Rattle.sp_rules.proofs.Turns.{Scoped}
@@ -94,7 +96,7 @@ pub none_homes : (n : ℕ) (ls : List Layout) → homes_by n ls None ≡ []
 none_homes zero ls = refl
 none_homes (suc n) ls = refl
 
-module _ (c : Parts) (k : Keeps c) where
+module _ (c : Parts) (k : KeepsCodeRules c) where
   -- the program has no parent and no formals
   pub programs : (b : ℕ) (l : Layout) → layout_of c.layouts b ≡ Some l → (l.block == 0) ≡ true → (l.parent ≡ None)
       × (l.formals ≡ [])
@@ -106,18 +108,18 @@ module _ (c : Parts) (k : Keeps c) where
       (no_parent l.parent r.0, no_list l.formals r.1)
 
   -- a layout that a number leads to
-  abbrev pub IsFound : Option Layout → Type 0
-  IsFound o = (l : Layout) → o ≡ Some l → (b : ℕ) × (layout_of c.layouts b ≡ Some l)
+  abbrev pub IsFoundLayout : Option Layout → Type 0
+  IsFoundLayout o = (l : Layout) → o ≡ Some l → (b : ℕ) × (layout_of c.layouts b ≡ Some l)
 
-  found_parent : (o : Option ℕ) → IsFound (parent_of c.layouts o)
+  found_parent : (o : Option ℕ) → IsFoundLayout (parent_of c.layouts o)
   found_parent None l e = absurd (cc e)
   found_parent (Some b) l e = (b, e)
 
-  found_at_number : (b : ℕ) → IsFound (layout_of c.layouts b)
+  found_at_number : (b : ℕ) → IsFoundLayout (layout_of c.layouts b)
   found_at_number b l e = (b, e)
 
   -- more steps find no more blocks
-  pub stable : (n m : ℕ) (o : Option Layout) → IsFound o → leads_by n c.layouts o ≡ true → n ≤ m
+  pub stable : (n m : ℕ) (o : Option Layout) → IsFoundLayout o → leads_by n c.layouts o ≡ true → n ≤ m
       → homes_by m c.layouts o ≡ homes_by n c.layouts o
   stable zero m o f e h = absurd (cc e)
   stable (suc n) zero o f e h = absurd (omega (arith, h))
@@ -140,7 +142,7 @@ module _ (c : Parts) (k : Keeps c) where
       go false t e on = ap (λ hs. OfBlock l.block ∷ hs) (on e (omega (arith, h)))
 
   -- the blocks around a block around another one
-  pub chain_drop : (n : ℕ) (o : Option Layout) (up d : ℕ) → IsFound o → leads_by n c.layouts o ≡ true
+  pub chain_drop : (n : ℕ) (o : Option Layout) (up d : ℕ) → IsFoundLayout o → leads_by n c.layouts o ≡ true
       → slice_get (homes_by n c.layouts o) up ≡ Some (OfBlock d)
       → (m : ℕ) × (leads_by m c.layouts (layout_of c.layouts d) ≡ true) × (m ≤ n)
       × (drop up (homes_by n c.layouts o) ≡ homes_by m c.layouts (layout_of c.layouts d))
@@ -190,7 +192,7 @@ module _ (c : Parts) (k : Keeps c) where
     where
       root : is_root (layout_of c.layouts 0) ≡ true
       root = let l = k.main in
-          ap is_root l.1 ∙ ap (λ o. given true o (λ b. false))
+          ap is_root l.1 ∙ ap (λ o. on_option true o (λ b. false))
           (programs 0 l.0 l.1 (eq-eqb l.0.block 0 (found_layout c.layouts 0 l.0 l.1).0)).0
 
       none : (t : Bool) (hs : List Home) → hs ≡ [] → (if t then hs else []) ≡ hs
@@ -202,14 +204,14 @@ module _ (c : Parts) (k : Keeps c) where
       go None e =
           let n = length c.layouts in
           ap (λ o. if is_root (layout_of c.layouts 0)
-          && leads_by n c.layouts o then homes_by n c.layouts o else alone o) e
+          && leads_by n c.layouts o then homes_by n c.layouts o else single_home o) e
           ∙ (none (is_root (layout_of c.layouts 0)
           && leads_by n c.layouts None) (homes_by n c.layouts None) (none_homes n c.layouts)
           ∙ ap (λ o. homes_by n c.layouts o) (sym e))
       go (Some l) e =
           let n = length c.layouts in let o = layout_of c.layouts b in
-          ap (λ t. if t && leads_by n c.layouts o then homes_by n c.layouts o else alone o) root
-          ∙ ap (λ t. if t then homes_by n c.layouts o else alone o) (leads_of b l e)
+          ap (λ t. if t && leads_by n c.layouts o then homes_by n c.layouts o else single_home o) root
+          ∙ ap (λ t. if t then homes_by n c.layouts o else single_home o) (leads_of b l e)
 
   pub block_drop : (b : ℕ) (l : Layout) (up d : ℕ) → layout_of c.layouts b ≡ Some l
       → slice_get (block_homes c b) up ≡ Some (OfBlock d) → drop up (block_homes c b) ≡ block_homes c d
@@ -345,8 +347,8 @@ module _ (c : Parts) (k : Keeps c) where
           (l, refl, (f.1.0, p.0, f.1.1, p.2))
 
   pub declared_here : (j t x : ℕ) (l : Layout) → slice_get c.layouts j ≡ Some l → slice_get l.variables t ≡ Some x
-      → declared c (InLayout j t) ≡ Some (x, l.entry)
-  declared_here j t x l e s = ap (λ o. declared_in o t) e ∙ ap (λ o. given None o (λ y. Some (y, l.entry))) s
+      → declaration_at c (InLayout j t) ≡ Some (x, l.entry)
+  declared_here j t x l e s = ap (λ o. declared_in o t) e ∙ ap (λ o. on_option None o (λ y. Some (y, l.entry))) s
 
   abbrev layout_number : Declared → ℕ
   layout_number (InLayout j t) = j
@@ -414,7 +416,7 @@ module _ (c : Parts) (k : Keeps c) where
   longer : (n : ℕ) (hs : List Home) (h : Home) → length (drop n hs) ≡ length (h ∷ hs) → ⊥
   longer n hs h e = omega (arith, length-drop n hs, e)
 
-  pub chain_different : (n : ℕ) (o : Option Layout) → IsFound o → leads_by n c.layouts o ≡ true
+  pub chain_different : (n : ℕ) (o : Option Layout) → IsFoundLayout o → leads_by n c.layouts o ≡ true
       → AllDifferent (all_variables c.layouts (homes_by n c.layouts o))
   chain_different zero o f e = tt
   chain_different (suc n) None f e = tt
@@ -502,15 +504,15 @@ module _ (c : Parts) (k : Keeps c) where
 
   -- what declares the index of a child
   pub index_declared : (p j x : ℕ) → index_of_child (child_at c p j) ≡ Some x → (t : ℕ) × Names c t p
-      × ((e : ℕ) × (declared c (OfChild t j) ≡ Some (x, e)))
+      × ((e : ℕ) × (declaration_at c (OfChild t j) ≡ Some (x, e)))
   index_declared p j x s = go (table_named (instr_at c p)) refl s
     where
       by : (o : Option ChildTable) → index_of_child o ≡ Some x → (e : ℕ) × (declared_by o ≡ Some (x, e))
       by None s = absurd (cc s)
-      by (Some t) s = (t.entry, ap (λ o. given None o (λ y. Some (y, t.entry))) s)
+      by (Some t) s = (t.entry, ap (λ o. on_option None o (λ y. Some (y, t.entry))) s)
 
       go : (o : Option ℕ) → table_named (instr_at c p) ≡ o → index_of_child (child_of (table_at c.forks o) j) ≡ Some x
-          → (t : ℕ) × Names c t p × ((e : ℕ) × (declared c (OfChild t j) ≡ Some (x, e)))
+          → (t : ℕ) × Names c t p × ((e : ℕ) × (declaration_at c (OfChild t j) ≡ Some (x, e)))
       go None e s = absurd (cc s)
       go (Some t) e s = (t, e, by (child_of (slice_get c.forks t) j) s)
 
@@ -552,19 +554,20 @@ module _ (c : Parts) (k : Keeps c) where
   -- ---- a variable found is where its address leads
 
   -- what is found in a layout
-  abbrev IsPlainly : Layout → ℕ → Found → Type 0
+  abbrev IsPlainly : Layout → ℕ → VariableInfo → Type 0
   IsPlainly l t f = (f.naming ≡ Plainly) × (slice_get l.sizes t ≡ Some f.cells)
       × ((slice_get l.formals t ≡ None) ⊎ ((n : ℕ) × (slice_get l.formals t ≡ Some (formal.Value n))))
 
-  abbrev IsReferred : Layout → ℕ → Found → Type 0
+  abbrev IsReferred : Layout → ℕ → VariableInfo → Type 0
   IsReferred l t f = (f.naming ≡ ByReference) × (slice_get l.formals t ≡ Some (formal.Reference f.cells))
 
-  found_cases : (l : Layout) (t : ℕ) (f : Found) → found_in l t ≡ Some f → (slice_get l.variables t ≡ Some f.number)
+  found_cases : (l : Layout) (t : ℕ) (f : VariableInfo) → found_in l t ≡ Some f
+      → (slice_get l.variables t ≡ Some f.number)
       × (IsPlainly l t f ⊎ IsReferred l t f)
   found_cases l t f e = go (slice_get l.variables t) (slice_get l.formals t) (slice_get l.sizes t) refl refl e
     where
       go : (o : Option ℕ) (m : Option Formal) (z : Option ℕ) → slice_get l.formals t ≡ m → slice_get l.sizes t ≡ z
-          → given None o (λ x. found_by x m z) ≡ Some f
+          → on_option None o (λ x. found_by x m z) ≡ Some f
           → (o ≡ Some f.number)
           × (((f.naming ≡ Plainly) × (z ≡ Some f.cells) × ((m ≡ None) ⊎ ((n : ℕ) × (m ≡ Some (formal.Value n)))))
           ⊎ ((f.naming ≡ ByReference) × (m ≡ Some (formal.Reference f.cells))))
@@ -581,14 +584,14 @@ module _ (c : Parts) (k : Keeps c) where
           (ap (λ z. Some z.number) s, inr (ap (λ z. z.naming) (sym s), ap (λ z. Some (formal.Reference z.cells)) s))
 
   -- and in a frame of its block
-  record InFrame (l : Layout) (var : ℕ) (f : Found) : Type 0 where
+  record InFrame (l : Layout) (var : ℕ) (f : VariableInfo) : Type 0 where
     place : ℕ
     at : var ≡ first_number l + place
     found : found_in l place ≡ Some f
     size : size_of (Some l) var ≡ slice_get l.sizes place
     formals : slice_get l.formals var ≡ slice_get l.formals place
 
-  in_frame : (b : ℕ) (l : Layout) (var : ℕ) (f : Found) → layout_of c.layouts b ≡ Some l
+  in_frame : (b : ℕ) (l : Layout) (var : ℕ) (f : VariableInfo) → layout_of c.layouts b ≡ Some l
       → found_of (Some l) var ≡ Some f → (f.naming ≡ Never) ⊎ InFrame l var f
   in_frame b l var f e h = go (l.block == 0) refl h
     where
@@ -648,7 +651,7 @@ module _ (c : Parts) (k : Keeps c) where
   reference_naming ByReference e = (λ z. cc z, λ z. cc z)
 
   module _ (b : ℕ) (l : Layout) (le : layout_of c.layouts b ≡ Some l) (f : Frame) (gs : List Frame)
-      (home : f.home ≡ OfBlock b) (var : ℕ) (v : Found) (i : InFrame l var v) where
+      (home : f.home ≡ OfBlock b) (var : ℕ) (v : VariableInfo) (i : InFrame l var v) where
     cases : (slice_get l.variables i.place ≡ Some v.number) × (IsPlainly l i.place v ⊎ IsReferred l i.place v)
     cases = found_cases l i.place v i.found
 
@@ -706,10 +709,10 @@ module _ (c : Parts) (k : Keeps c) where
         }
 
     by_reference : is_reference v.naming ≡ true → RefersWell c.layouts f gs (OfBlock b) → (q : Address)
-        × (referred var f.references ≡ Some q) × Resolved (OfBlock b) f gs v.number q v.cells
+        × (reference_target var f.references ≡ Some q) × Resolved (OfBlock b) f gs v.number q v.cells
     by_reference rn rw1 = ⊎_elim (λ z. absurd ((reference_naming v.naming rn).1 z.0)) referring cases.1
       where
-        referring : IsReferred l i.place v → (q : Address) × (referred var f.references ≡ Some q)
+        referring : IsReferred l i.place v → (q : Address) × (reference_target var f.references ≡ Some q)
             × Resolved (OfBlock b) f gs v.number q v.cells
         referring (n, z) =
             let r = rw1 l le var v.cells (i.formals ∙ z) in (
@@ -718,7 +721,7 @@ module _ (c : Parts) (k : Keeps c) where
               record {
                 real = is_real;
                 member = is_member;
-                spot = spot_here ∙ (ap (λ o. spot_by f var o) z ∙ ap entire r.is);
+                spot = spot_here ∙ (ap (λ o. spot_by f var o) z ∙ ap spot_of_address r.is);
                 size = r.size;
                 extent = extent_here ∙ (ap (λ o. extent_by c.layouts f gs var o) z
                     ∙ (ap (λ o. size_behind c.layouts gs o) r.is ∙ r.whole));
@@ -732,7 +735,7 @@ module _ (c : Parts) (k : Keeps c) where
   index_real a up x i s = let r = index_in a up x i s in let w = index_declared r.1 r.2 x r.4 in k.real
       (OfChild w.0 r.2) x w.2.0 w.2.1
 
-  plain_at : (h : Home) (f : Frame) (gs : List Frame) (var : ℕ) (v : Found) → f.home ≡ h
+  plain_at : (h : Home) (f : Frame) (gs : List Frame) (var : ℕ) (v : VariableInfo) → f.home ≡ h
       → found_at c.layouts h var ≡ Some v → is_plain v.naming ≡ true → ((x : ℕ) → h ≡ OfIndex x → 2 ≤ x)
       → Resolved h f gs v.number (cell_at f.number var) v.cells
   plain_at (OfBlock b) f gs var v home e pn real = go (layout_of c.layouts b) refl e
@@ -762,20 +765,20 @@ module _ (c : Parts) (k : Keeps c) where
             small = omega arith;
           }
 
-  reference_at : (h : Home) (f : Frame) (gs : List Frame) (var : ℕ) (v : Found) → f.home ≡ h
+  reference_at : (h : Home) (f : Frame) (gs : List Frame) (var : ℕ) (v : VariableInfo) → f.home ≡ h
       → RefersWell c.layouts f gs h → found_at c.layouts h var ≡ Some v → is_reference v.naming ≡ true → (q : Address)
-      × (referred var f.references ≡ Some q) × Resolved h f gs v.number q v.cells
+      × (reference_target var f.references ≡ Some q) × Resolved h f gs v.number q v.cells
   reference_at (OfBlock b) f gs var v home rf e rn = go (layout_of c.layouts b) refl e
     where
       go : (o : Option Layout) → layout_of c.layouts b ≡ o → found_of o var ≡ Some v → (q : Address)
-          × (referred var f.references ≡ Some q) × Resolved (OfBlock b) f gs v.number q v.cells
+          × (reference_target var f.references ≡ Some q) × Resolved (OfBlock b) f gs v.number q v.cells
       go None le h = absurd (cc h)
       go (Some l) le h = ⊎_elim (λ z. absurd ((reference_naming v.naming rn).0 z))
           (λ z. by_reference b l le f gs home var v z rn rf) (in_frame b l var v le h)
   reference_at (OfIndex x) f gs var v home rf e rn = go (var == 0) e
     where
       go : (t : Bool) → (if t then Some (record { number = x; cells = 1; naming = Plainly }) else None) ≡ Some v
-          → (q : Address) × (referred var f.references ≡ Some q) × Resolved (OfIndex x) f gs v.number q v.cells
+          → (q : Address) × (reference_target var f.references ≡ Some q) × Resolved (OfIndex x) f gs v.number q v.cells
       go false h = absurd (cc h)
       go true h = absurd ((reference_naming v.naming rn).1
           (ap (λ z. z.naming) (sym (same_Some (record { number = x; cells = 1; naming = Plainly }) v h))))
@@ -808,25 +811,25 @@ module _ (c : Parts) (k : Keeps c) where
           real = r.real;
           stands = spot_is c.layouts (homes c a) fs x r.real ch
               ∙ (stands_up c.layouts x up (homes c a) fs ch dif m
-              ∙ (ap (λ hs. stands c.layouts hs (frames_up up fs) x) hd.1
-              ∙ (ap (λ gs. stands c.layouts (h ∷ hd.0) gs x) e
-              ∙ ap (λ o. or_outward o (stands c.layouts hd.0 (last_frames f.link gs) x)) r.spot)));
+              ∙ (ap (λ hs. spot_by_homes c.layouts hs (frames_up up fs) x) hd.1
+              ∙ (ap (λ gs. spot_by_homes c.layouts (h ∷ hd.0) gs x) e
+              ∙ ap (λ o. or_outward o (spot_by_homes c.layouts hd.0 (last_frames f.link gs) x)) r.spot)));
           size = r.size;
           whole = size_is c.layouts (homes c a) fs x r.real ch
               ∙ (extends_up c.layouts x up (homes c a) fs ch dif m
-              ∙ (ap (λ hs. extends c.layouts hs (frames_up up fs) x) hd.1
-              ∙ (ap (λ gs. extends c.layouts (h ∷ hd.0) gs x) e
-              ∙ ap (λ o. or_further o (extends c.layouts hd.0 (last_frames f.link gs) x)) r.extent)));
+              ∙ (ap (λ hs. extent_by_homes c.layouts hs (frames_up up fs) x) hd.1
+              ∙ (ap (λ gs. extent_by_homes c.layouts (h ∷ hd.0) gs x) e
+              ∙ ap (λ o. or_further o (extent_by_homes c.layouts hd.0 (last_frames f.link gs) x)) r.extent)));
           fits = r.fits;
           small = r.small;
         }
 
   -- a variable that is found is found in a home
-  home_of : (a : Area) (up var : ℕ) (v : Found) → variable_at c a up var ≡ Some v → (h : Home)
+  home_of : (a : Area) (up var : ℕ) (v : VariableInfo) → variable_at c a up var ≡ Some v → (h : Home)
       × (slice_get (homes c a) up ≡ Some h) × (found_at c.layouts h var ≡ Some v)
   home_of a up var v e = go (slice_get (homes c a) up) refl e
     where
-      go : (o : Option Home) → slice_get (homes c a) up ≡ o → given None o (λ h. found_at c.layouts h var) ≡ Some v
+      go : (o : Option Home) → slice_get (homes c a) up ≡ o → on_option None o (λ h. found_at c.layouts h var) ≡ Some v
           → (h : Home) × (slice_get (homes c a) up ≡ Some h) × (found_at c.layouts h var ≡ Some v)
       go None s e = absurd (cc e)
       go (Some h) s e = (h, s, e)

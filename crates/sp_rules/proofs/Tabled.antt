@@ -7,8 +7,8 @@ use Rattle.std.proofs.lemmas.Bool.{eq-eqb, and_parts}
 use Rattle.sp_base.proofs.Facts.{not_true_and_false}
 use Rattle.sp_code.specs.declared.code.Parts.{Parts}
 use Rattle.sp_rules.specs.Areas.{Area, instr_at, entry}
-use Rattle.sp_rules.specs.Shapes.{Shape, O, C, L, A, Shaped, Wrong, To, shaped}
-use Rattle.sp_rules.specs.Reach.{IsBrought, Leads, Brings, Reaches}
+use Rattle.sp_rules.specs.Shapes.{Shape, O, C, L, A, Shaped, Wrong, To, instr_shapes}
+use Rattle.sp_rules.specs.Reach.{IsBrought, LeadsWith, Brings, Reaches}
 
 abbrev pub same_shape : Shape → Shape → Bool
 same_shape O O = true
@@ -109,9 +109,9 @@ agree_is p ss ts (w ∷ ws) e (inr i) = agree_is p ss ts ws
 module _ (c : Parts) (a : Area) (t : List (ℕ × List Shape)) where
   -- the table has the entry, and is closed: so no instruction of it is wrong
   abbrev pub is_closed : Bool
-  is_closed = has_row (entry c a) [] t && each_row (λ p ss. leads_into (shaped c a (instr_at c p) p ss) t) t
+  is_closed = has_row (entry c a) [] t && each_row (λ p ss. leads_into (instr_shapes c a (instr_at c p) p ss) t) t
 
-  into : (o : Shaped) (q : ℕ) (ts : List Shape) → leads_into o t ≡ true → Leads o q ts → IsBrought q ts t
+  into : (o : Shaped) (q : ℕ) (ts : List Shape) → leads_into o t ≡ true → LeadsWith o q ts → IsBrought q ts t
   into Wrong q ts e h = absurd h
   into (To ws) q ts e h = go ws e h
     where
@@ -127,23 +127,24 @@ module _ (c : Parts) (a : Area) (t : List (ℕ × List Shape)) where
     brought zero p ss b = subst (λ z. IsBrought z ss t) (sym b.0)
         (subst (λ z. IsBrought (entry c a) z t) (sym b.1)
         (row_in (entry c a) [] t (and_parts (has_row (entry c a) [] t)
-        (each_row (λ p ss. leads_into (shaped c a (instr_at c p) p ss) t) t) closed).0))
+        (each_row (λ p ss. leads_into (instr_shapes c a (instr_at c p) p ss) t) t) closed).0))
     brought (suc n) p ss b =
-        into (shaped c a (instr_at c b.0) b.0 b.1) p ss
-        (row_passes (λ p ss. leads_into (shaped c a (instr_at c p) p ss) t) t b.0 b.1
+        into (instr_shapes c a (instr_at c b.0) b.0 b.1) p ss
+        (row_passes (λ p ss. leads_into (instr_shapes c a (instr_at c p) p ss) t) t b.0 b.1
         (and_parts (has_row (entry c a) [] t)
-        (each_row (λ p ss. leads_into (shaped c a (instr_at c p) p ss) t) t) closed).1 (brought n b.0 b.1 b.2)) b.3
+        (each_row (λ p ss. leads_into (instr_shapes c a (instr_at c p) p ss) t) t) closed).1
+        (brought n b.0 b.1 b.2)) b.3
 
     -- the table has all that is reached
     pub reached_in : (p : ℕ) (ss : List Shape) → Reaches c a p ss → IsBrought p ss t
     reached_in p ss r = brought r.steps p ss r.way
 
     -- so no operand is missing or of the wrong shape
-    pub never_wrong : (p : ℕ) (ss : List Shape) → Reaches c a p ss → shaped c a (instr_at c p) p ss ≡ Wrong → ⊥
+    pub never_wrong : (p : ℕ) (ss : List Shape) → Reaches c a p ss → instr_shapes c a (instr_at c p) p ss ≡ Wrong → ⊥
     never_wrong p ss r e =
-        let w = row_passes (λ p ss. leads_into (shaped c a (instr_at c p) p ss) t) t p ss
+        let w = row_passes (λ p ss. leads_into (instr_shapes c a (instr_at c p) p ss) t) t p ss
         (and_parts (has_row (entry c a) [] t)
-        (each_row (λ p ss. leads_into (shaped c a (instr_at c p) p ss) t) t) closed).1 (reached_in p ss r) in
+        (each_row (λ p ss. leads_into (instr_shapes c a (instr_at c p) p ss) t) t) closed).1 (reached_in p ss r) in
         cc (subst (λ o. leads_into o t ≡ true) e w)
 
     -- a test of each row holds of all that is reached

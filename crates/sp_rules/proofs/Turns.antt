@@ -13,9 +13,11 @@ use Rattle.sp_base.proofs.Facts.{not_true_and_false}
 use Rattle.sp_tree.specs.declared.operators.BinaryOp.{BinaryOp}
 use Rattle.sp_tree.specs.declared.operators.BinaryOp.TheVariants as op
 use Rattle.sp_tree.specs.declared.operators.UnaryOp.TheVariants as sign
-use Rattle.sp_tree.specs.Operators.{Worked, ranged, successor, predecessor, absolute, square, is_odd, unary_op}
+use Rattle.sp_tree.specs.Operators.{OperatorResult, value_in_range, successor, predecessor, absolute_value, square}
+use Rattle.sp_tree.specs.Operators.{is_odd, unary_op}
 use Rattle.sp_tree.specs.Operators.{binary_op, same_ordinal}
-use Rattle.sp_tree.specs.Items.{Taken, Takes, Fails as Faulty, number_in, char_in, line_length, at_line_end, padded}
+use Rattle.sp_tree.specs.Items.{ReadResult, ReadItem, ReadFault as Faulty, number_in, char_in, line_length, at_line_end}
+use Rattle.sp_tree.specs.Items.{right_justified}
 use Rattle.sp_tree.specs.Items.{truth_text, byte}
 use Rattle.sp_cell.specs.declared.cell.Cell.{Cell}
 use Rattle.sp_cell.specs.declared.cell.Cell.TheVariants as cell
@@ -26,29 +28,38 @@ use Rattle.sp_code.specs.declared.code.Formal.{Formal}
 use Rattle.sp_code.specs.declared.code.Formal.TheVariants as formal
 use Rattle.sp_code.specs.declared.code.Layout.{Layout}
 use Rattle.sp_code.specs.declared.code.Parts.{Parts}
-use Rattle.sp_code.specs.Machine.{Entry, Number, Chan, Pointer, Cells, Link, Reply, further, Stop, Forks, Opens, Sends}
-use Rattle.sp_code.specs.Machine.{Receives, Ends, Pauses, At, One, Goes, Stops, Fails, outside, is_range, is_before}
-use Rattle.sp_code.specs.Machine.{next_value, values_in, layout_of, fits_formal, fit_formals, there}
-use Rattle.sp_code.specs.Machine.{on_one, on_two, told, selected, paced, entered, called, returned, taken, reads}
-use Rattle.sp_code.specs.Machine.{prints, wide, writes, writes_wide, begins_loop, ends_loop, forked, instruction, one}
-use Rattle.sp_code.specs.Memory.{Home, OfBlock, Setting, Stores, Frame, Memory, memory, frames_up, addr_in, deref_in}
-use Rattle.sp_code.specs.Memory.{is_there, opened, references, referred, cell_at, without_frame, answer_in, answer_of}
+use Rattle.sp_code.specs.Machine.{Entry, Number, Chan, Pointer, Cells, Link, Reply, address_after, Stop, Forks, Opens}
+use Rattle.sp_code.specs.Machine.{Sends}
+use Rattle.sp_code.specs.Machine.{Receives, Ends, Pauses, At, StepResult, Goes, Stops, Fails, is_in_no_function}
+use Rattle.sp_code.specs.Machine.{is_range, is_before}
+use Rattle.sp_code.specs.Machine.{next_value, values_in, layout_of, fits_formal, fit_formals, on_some}
+use Rattle.sp_code.specs.Machine.{on_one, on_two, truth_step, selection_step, pause_step, enter_step, call_step}
+use Rattle.sp_code.specs.Machine.{return_step, item_step, reads}
+use Rattle.sp_code.specs.Machine.{prints, prints_wide, writes, writes_wide, begins_loop, ends_loop, fork_step}
+use Rattle.sp_code.specs.Machine.{instruction, next_step}
+use Rattle.sp_code.specs.Memory.{Home, OfBlock, CodeRun, Stores, Frame, Memory, memory, frames_up, addr_in, deref_in}
+use Rattle.sp_code.specs.Memory.{is_there, memory_after_call, references, reference_target, cell_at, without_frame}
+use Rattle.sp_code.specs.Memory.{answer_in, answer_of}
 use Rattle.sp_code.specs.Memory.{answer_by}
-use Rattle.sp_rules.specs.Areas.{Area, Body, Child, Found, given, variable_at, homes, instr_at}
-use Rattle.sp_rules.specs.Shapes.{Shape, O, C, L, A, Wrong, shaped, addressed, stays_within, has_left, below, span}
-use Rattle.sp_rules.specs.Shapes.{answered, on, take_all, take_none, two_to_one, one_to_one, one_gone, two_gone, begins}
-use Rattle.sp_rules.specs.Shapes.{goes_round, read_as, filled}
+use Rattle.sp_rules.specs.Areas.{Area, Body, Child, VariableInfo, on_option, variable_at, homes, instr_at}
+use Rattle.sp_rules.specs.Shapes.{Shape, O, C, L, A, Wrong, instr_shapes, address_shapes, stays_within, has_left}
+use Rattle.sp_rules.specs.Shapes.{below_topmost, span}
+use Rattle.sp_rules.specs.Shapes.{with_answer, to_one, take_all, take_none, two_to_one, one_to_one, one_gone, two_gone}
+use Rattle.sp_rules.specs.Shapes.{loop_start_shapes}
+use Rattle.sp_rules.specs.Shapes.{loop_end_shapes, read_shapes, fill_shapes}
 use Rattle.sp_rules.specs.Reach.{IsIn, IsArea, Reaches}
 use Rattle.sp_rules.specs.Extents.{HasWhole}
-use Rattle.sp_rules.specs.Touched.{Ready, HasAnswer, stored_by, topmost, numbered, addresses}
-use Rattle.sp_rules.specs.Standing.{Points, Fits, Operands, Framed, RefersWell, Refers, Caller, link_of, IsBottom}
+use Rattle.sp_rules.specs.Touched.{MemorySuffices, HasAnswer, stored_by, topmost_variable, number_list, addresses}
+use Rattle.sp_rules.specs.Standing.{Points, HasShape, Operands, Framed, RefersWell, Refers, Caller, link_of, IsBottom}
 use Rattle.sp_rules.specs.Standing.{Under, StandsAt, StoppedAt, StopsSo, ForksAt, cells_left}
 use Rattle.sp_rules.specs.Named.{is_plain, is_reference, is_block, is_loop_variable, names_there, level_fits, ends_well}
 use Rattle.sp_rules.specs.Named.{names_well, loops_well}
 use Rattle.sp_rules.specs.Rules as rule
-use Rattle.sp_rules.specs.Changes.{Pairs, areas, areas_of, Target, Changes, Same, Beats, Puts, Copies, Reads, Skips}
-use Rattle.sp_rules.specs.Changes.{Prints, Owns, Calls, Returns, Well}
-use Rattle.sp_rules.proofs.Taking.{Good, number, channel, address, value, cells, equals, popped, is_there as is_found}
+use Rattle.sp_rules.specs.Changes.{Pairs, areas, areas_of, Target, Changes, Unchanged, Ticks, PutsCell, Copies}
+use Rattle.sp_rules.specs.Changes.{ReadsItem, Skips}
+use Rattle.sp_rules.specs.Changes.{Prints, MakesOwn, Calls, Returns, Well}
+use Rattle.sp_rules.proofs.Taking.{LeadsToReached, number, channel, address, value, cells, equals, popped}
+use Rattle.sp_rules.proofs.Taking.{is_there as is_found}
 use Rattle.sp_rules.proofs.Taking.{holds, done, yields, ordinal, channel_of, both}
 use Rattle.sp_rules.proofs.Facts.{found, found_some, in_span, part_length}
 use Rattle.sp_rules.proofs.Facts.{has_left as has_cells_left, reaches, here, size_here, beat_frames, print_frames}
@@ -57,10 +68,12 @@ use Rattle.sp_rules.proofs.Facts.{opened_is, beat_is, print_is, opened_deep}
 -- what the scopes of code give its frames: an address by level and number stands in the variable that is found there;
 -- and the frame of a called block has the frames around it
 pub record Scoped (c : Parts) : Type 0 where
-  pub plain : (a : Area) (fs : List Frame) (up var : ℕ) (f : Found) → IsArea c a → Framed c.layouts (homes c a) fs
+  pub plain : (a : Area) (fs : List Frame) (up var : ℕ) (f : VariableInfo) → IsArea c a
+      → Framed c.layouts (homes c a) fs
       → variable_at c a up var ≡ Some f → is_plain f.naming ≡ true
       → (q : Address) × (addr_in (frames_up up fs) var ≡ Some q) × Points c.layouts fs f.number f.cells q
-  pub refers : (a : Area) (fs : List Frame) (up var : ℕ) (f : Found) → IsArea c a → Framed c.layouts (homes c a) fs
+  pub refers : (a : Area) (fs : List Frame) (up var : ℕ) (f : VariableInfo) → IsArea c a
+      → Framed c.layouts (homes c a) fs
       → variable_at c a up var ≡ Some f → is_reference f.naming ≡ true
       → (q : Address) × (deref_in (frames_up up fs) var ≡ Some q) × Points c.layouts fs f.number f.cells q
   pub outward : (a : Area) (fs : List Frame) (up b : ℕ) (l : Layout) → IsArea c a → Framed c.layouts (homes c a) fs
@@ -86,7 +99,7 @@ pub record Place (c : Parts) (a : Area) (p : ℕ) (ss : List Shape) (ks : List C
 -- what the rules give of the instruction there
 pub record Here (c : Parts) (a : Area) (p : ℕ) (ss : List Shape) (o : Option Instr) : Type 0 where
   pub is : instr_at c p ≡ o
-  pub good : Good c a (shaped c a o p ss)
+  pub good : LeadsToReached c a (instr_shapes c a o p ss)
   pub within : stays_within o ss ≡ true
   pub fits : rule.call_fits c o ss ≡ true
   pub named : names_there c o ≡ true
@@ -115,7 +128,7 @@ pointer_fits : (f : Formal) (x k : ℕ) (q : Address) → rule.fits_formal f (A 
 pointer_fits (formal.Value n) x k q e = absurd (cc e)
 pointer_fits (formal.Reference n) x k q e = refl
 
-one_fits : (ls : List Layout) (fs : List Frame) (f : Formal) (s : Shape) (e : Entry) → Fits ls fs s e
+one_fits : (ls : List Layout) (fs : List Frame) (f : Formal) (s : Shape) (e : Entry) → HasShape ls fs s e
     → rule.fits_formal f s ≡ true → fits_formal f e ≡ true
 one_fits ls fs f O (Number v) h r = number_fits f v r
 one_fits ls fs f O (Chan d) h r = absurd h
@@ -177,7 +190,8 @@ more_in x (L n) bs h = h
 more_in x (A y n) bs h = inr h
 
 skips : (ls : List Layout) (fs : List Frame) (e1 : Entry) (es : List Entry) (j t m : ℕ) → (t == j) ≡ false
-    → Refers ls fs (referred t (references (suc j) es)) m → Refers ls fs (referred t (references j (e1 ∷ es))) m
+    → Refers ls fs (reference_target t (references (suc j) es)) m
+    → Refers ls fs (reference_target t (references j (e1 ∷ es))) m
 skips ls fs (Number v) es j t m e h = h
 skips ls fs (Chan d) es j t m e h = h
 skips ls fs (Pointer q) es j t m e h = rw e h
@@ -190,24 +204,24 @@ in_more x [] h = absurd h
 in_more x (y ∷ ys) h = ⊎_elim (λ e. inl e) (λ z. inr (in_more x ys z)) h
 
 -- an address is what a reference formal refers to, where it leads to what is held
-abbrev Leads : List Layout → List Frame → (ℕ → Type 0) → Type 0
-Leads ls fs whole = (x left : ℕ) (q : Address) → Points ls fs x left q → whole x → (k : ℕ) → k ≤ left
+abbrev LeadsToReferent : List Layout → List Frame → (ℕ → Type 0) → Type 0
+LeadsToReferent ls fs whole = (x left : ℕ) (q : Address) → Points ls fs x left q → whole x → (k : ℕ) → k ≤ left
     → Refers ls fs (Some q) k
 
-first_passes : (ls : List Layout) (fs : List Frame) (whole : ℕ → Type 0) → Leads ls fs whole
+first_passes : (ls : List Layout) (fs : List Frame) (whole : ℕ → Type 0) → LeadsToReferent ls fs whole
     → (b : Shape) (e1 : Entry) (es : List Entry) (j t m : ℕ) → (t == j) ≡ true
-    → Fits ls fs b e1 → ((x : ℕ) → AddressIn x (b ∷ []) → 2 ≤ x → whole x)
-    → rule.fits_formal (formal.Reference m) b ≡ true → Refers ls fs (referred t (references j (e1 ∷ es))) m
-first_passes ls fs whole one O e1 es j t m e ft wh r = absurd (cc r)
-first_passes ls fs whole one C e1 es j t m e ft wh r = absurd (cc r)
-first_passes ls fs whole one (L n) e1 es j t m e ft wh r = absurd (cc r)
-first_passes ls fs whole one (A x n) (Number v) es j t m e ft wh r = absurd ft
-first_passes ls fs whole one (A x n) (Chan d) es j t m e ft wh r = absurd ft
-first_passes ls fs whole one (A x n) (Pointer q) es j t m e ft wh r = rw e
-    (one x n q ft (wh x (inl refl) ft.real) m (leb-true m n r))
-first_passes ls fs whole one (A x n) (Cells cs) es j t m e ft wh r = absurd ft
-first_passes ls fs whole one (A x n) (Link d) es j t m e ft wh r = absurd ft
-first_passes ls fs whole one (A x n) (Reply d) es j t m e ft wh r = absurd ft
+    → HasShape ls fs b e1 → ((x : ℕ) → AddressIn x (b ∷ []) → 2 ≤ x → whole x)
+    → rule.fits_formal (formal.Reference m) b ≡ true → Refers ls fs (reference_target t (references j (e1 ∷ es))) m
+first_passes ls fs whole next_step O e1 es j t m e ft wh r = absurd (cc r)
+first_passes ls fs whole next_step C e1 es j t m e ft wh r = absurd (cc r)
+first_passes ls fs whole next_step (L n) e1 es j t m e ft wh r = absurd (cc r)
+first_passes ls fs whole next_step (A x n) (Number v) es j t m e ft wh r = absurd ft
+first_passes ls fs whole next_step (A x n) (Chan d) es j t m e ft wh r = absurd ft
+first_passes ls fs whole next_step (A x n) (Pointer q) es j t m e ft wh r = rw e
+    (next_step x n q ft (wh x (inl refl) ft.real) m (leb-true m n r))
+first_passes ls fs whole next_step (A x n) (Cells cs) es j t m e ft wh r = absurd ft
+first_passes ls fs whole next_step (A x n) (Link d) es j t m e ft wh r = absurd ft
+first_passes ls fs whole next_step (A x n) (Reply d) es j t m e ft wh r = absurd ft
 
 only_first : (x : ℕ) (b : Shape) (bs : List Shape) → AddressIn x (b ∷ []) → AddressIn x (b ∷ bs)
 only_first x O bs h = absurd h
@@ -216,26 +230,28 @@ only_first x (L n) bs h = absurd h
 only_first x (A y n) bs h = ⊎_elim (λ e. inl e) (λ z. absurd z) h
 
 -- each reference formal refers to something
-passes_on : (ls : List Layout) (fs : List Frame) (whole : ℕ → Type 0) → Leads ls fs whole
+passes_on : (ls : List Layout) (fs : List Frame) (whole : ℕ → Type 0) → LeadsToReferent ls fs whole
     → (ms : List Formal) (bs : List Shape) (es : List Entry) (j : ℕ) → Pairs ls fs bs es → rule.fit_formals ms bs ≡ true
     → ((x : ℕ) → AddressIn x bs → 2 ≤ x → whole x)
     → (t k m : ℕ) → t ≡ j + k → slice_get ms k ≡ Some (formal.Reference m)
-    → Refers ls fs (referred t (references j es)) m
-passes_on ls fs whole one [] bs es j pr r wh t k m e s = absurd (cc s)
-passes_on ls fs whole one (f ∷ ms) [] es j pr r wh t k m e s = absurd (cc r)
-passes_on ls fs whole one (f ∷ ms) (b ∷ bs) [] j pr r wh t k m e s = absurd pr
-passes_on ls fs whole one (f ∷ ms) (b ∷ bs) (e1 ∷ es) j pr r wh t zero m e s =
-    first_passes ls fs whole one b e1 es j t m (eq-eqb t j (omega (arith, e))) pr.0 (λ x h. wh x (only_first x b bs h))
+    → Refers ls fs (reference_target t (references j es)) m
+passes_on ls fs whole next_step [] bs es j pr r wh t k m e s = absurd (cc s)
+passes_on ls fs whole next_step (f ∷ ms) [] es j pr r wh t k m e s = absurd (cc r)
+passes_on ls fs whole next_step (f ∷ ms) (b ∷ bs) [] j pr r wh t k m e s = absurd pr
+passes_on ls fs whole next_step (f ∷ ms) (b ∷ bs) (e1 ∷ es) j pr r wh t zero m e s =
+    first_passes ls fs whole next_step b e1 es j t m (eq-eqb t j (omega (arith, e))) pr.0
+    (λ x h. wh x (only_first x b bs h))
     (subst (λ z. rule.fits_formal z b ≡ true) (same_Some f (formal.Reference m) s)
     (and_parts (rule.fits_formal f b) (rule.fit_formals ms bs) r).0)
-passes_on ls fs whole one (f ∷ ms) (b ∷ bs) (e1 ∷ es) j pr r wh t (suc k) m e s =
+passes_on ls fs whole next_step (f ∷ ms) (b ∷ bs) (e1 ∷ es) j pr r wh t (suc k) m e s =
     skips ls fs e1 es j t m (ne_eqb t j (λ h. omega (arith, e, h)))
-    (passes_on ls fs whole one ms bs es (suc j) pr.1 (and_parts (rule.fits_formal f b) (rule.fit_formals ms bs) r).1
+    (passes_on ls fs whole next_step ms bs es (suc j) pr.1
+    (and_parts (rule.fits_formal f b) (rule.fit_formals ms bs) r).1
     (λ x h. wh x (more_in x b bs h)) t k m (omega (arith, e)) s)
 
-module _ {S : Type 0} (stores : Stores S) (g : Setting) (sc : Scoped g.code) (a : Area) (p : ℕ) (ss : List Shape)
+module _ {S : Type 0} (stores : Stores S) (g : CodeRun) (sc : Scoped g.code) (a : Area) (p : ℕ) (ss : List Shape)
     (ks : List Caller) (rest st : List Entry) (n : Memory S) (w : Place g.code a p ss ks rest st n.frames) where
-  abbrev pub Fn : One (Memory S) → Type 0
+  abbrev pub Fn : StepResult (Memory S) → Type 0
   Fn x = Well stores g a (instr_at g.code p) ss n (a ∷ areas_of ks) x
 
   fails : (f : Fault) → Fn (Fails f)
@@ -313,7 +329,7 @@ module _ {S : Type 0} (stores : Stores S) (g : Setting) (sc : Scoped g.code) (a 
       operands = o;
       under = w.under;
     },
-    Same refl refl,
+    Unchanged refl refl,
   )
 
   -- a stop there, after which it goes on
@@ -329,29 +345,30 @@ module _ {S : Type 0} (stores : Stores S) (g : Setting) (sc : Scoped g.code) (a 
     so = so;
   }
 
-  tested : (b : Bool) (x y : One (Memory S)) → (b ≡ true → Fn x) → Fn y → Fn (if b then x else y)
+  tested : (b : Bool) (x y : StepResult (Memory S)) → (b ≡ true → Fn x) → Fn y → Fn (if b then x else y)
   tested true x y h k = h refl
   tested false x y h k = k
 
-  two : (o : BinaryOp) → Good g.code a (two_to_one p ss) → Fn (on_two (memory stores g) g.code o p st n)
+  two : (o : BinaryOp) → LeadsToReached g.code a (two_to_one p ss) → Fn (on_two (memory stores g) g.code o p st n)
   two o gd = number g.code a n.frames rest Fn fails (λ _. Unit {0}) ss st _ _ tt w.operands gd (λ v ts s1 _ o1 g1.
       number g.code a n.frames rest Fn fails (λ _. Unit {0}) ts s1 _ _ tt o1 g1 (λ u us s2 _ o2 g2.
       yields g.code a n.frames rest Fn fails (binary_op o u v) _
       (λ x. stays (p + 1) (O ∷ us) (Number x ∷ s2) g2.0 (tt, o2))))
 
-  alone : (f : ℤ → Worked) → Good g.code a (one_to_one p ss) → Fn (on_one (memory stores g) g.code f p st n)
+  alone : (f : ℤ → OperatorResult) → LeadsToReached g.code a (one_to_one p ss)
+      → Fn (on_one (memory stores g) g.code f p st n)
   alone f gd = number g.code a n.frames rest Fn fails (λ _. Unit {0}) ss st _ _ tt w.operands gd (λ v ts s1 _ o1 g1.
       yields g.code a n.frames rest Fn fails (f v) _ (λ x. stays (p + 1) (O ∷ ts) (Number x ∷ s1) g1.0 (tt, o1)))
 
   tells : (b : Bool) (q : ℕ) (ts : List Shape) (s1 : List Entry) → Reaches g.code a q (O ∷ ts)
-      → Operands g.code.layouts n.frames ts s1 rest → Fn (told (memory stores g) g.code b q s1 n)
+      → Operands g.code.layouts n.frames ts s1 rest → Fn (truth_step (memory stores g) g.code b q s1 n)
   tells b q ts s1 r o = stays q (O ∷ ts) (Number (if b then pos 1 else pos 0) ∷ s1) r (tt, o)
 
   -- a pause or a step on
   paces : (s1 : List Entry) (m : Memory S) (q : ℕ) → (s : StandsAt g.code q s1 m.frames)
       × Changes stores g a (instr_at g.code p) ss n (a ∷ areas_of ks) (areas s) m
-      → StoppedAt g.code Pauses q s1 m.frames → Fn (paced (memory stores g) g.code q s1 m)
-  paces s1 m q h k = both g.code a n.frames rest Fn fails (outside s1) _ _
+      → StoppedAt g.code Pauses q s1 m.frames → Fn (pause_step (memory stores g) g.code q s1 m)
+  paces s1 m q h k = both g.code a n.frames rest Fn fails (is_in_no_function s1) _ _
       (both g.code a n.frames rest Fn fails ((memory stores g).due m) _ _ (k, h.0, h.1, tt) h) h
 
   -- bytes written
@@ -366,36 +383,38 @@ module _ {S : Type 0} (stores : Stores S) (g : Setting) (sc : Scoped g.code) (a 
   wides : (cut : Bool) (t : List ℕ) (m : ℤ) (q : ℕ) (ts : List Shape) (s1 : List Entry)
       → (memory stores g).has_output n ≡ true → Sub (1 ∷ []) → Reaches g.code a q ts
       → Operands g.code.layouts n.frames ts s1 rest
-      → Fn (wide (memory stores g) g.code cut t m q s1 n)
+      → Fn (prints_wide (memory stores g) g.code cut t m q s1 n)
   wides cut t m q ts s1 out sb r o = both g.code a n.frames rest Fn fails (int_le m (pos 0)) _ _ tt
-      (printed (padded (nat_abs m) (if cut then take (nat_abs m) t else t)) q ts s1 out sb r o)
+      (printed (right_justified (nat_abs m) (if cut then take (nat_abs m) t else t)) q ts s1 out sb r o)
 
-  written : (text : ℤ → List ℕ) → (memory stores g).has_output n ≡ true → Sub (1 ∷ []) → Good g.code a (one_gone p ss)
+  written : (text : ℤ → List ℕ) → (memory stores g).has_output n ≡ true → Sub (1 ∷ [])
+      → LeadsToReached g.code a (one_gone p ss)
       → Fn (writes (memory stores g) g.code text (p + 1) st n)
   written text out sb gd = number g.code a n.frames rest Fn fails (λ _. Unit {0}) ss st _ _ tt w.operands gd
       (λ v ts s1 _ o1 g1. printed (text v) (p + 1) ts s1 out sb g1.0 o1)
 
   written_wide : (cut : Bool) (text : ℤ → List ℕ) → (memory stores g).has_output n ≡ true → Sub (1 ∷ [])
-      → Good g.code a (two_gone p ss) → Fn (writes_wide (memory stores g) g.code cut text (p + 1) st n)
+      → LeadsToReached g.code a (two_gone p ss) → Fn (writes_wide (memory stores g) g.code cut text (p + 1) st n)
   written_wide cut text out sb gd = number g.code a n.frames rest Fn fails (λ _. Unit {0}) ss st _ _ tt w.operands gd
       (λ m ts s1 _ o1 g1.
       number g.code a n.frames rest Fn fails (λ _. Unit {0}) ts s1 _ _ tt o1 g1
       (λ v us s2 _ o2 g2. wides cut (text v) m (p + 1) us s2 out sb g2.0 o2))
 
   -- an item read
-  took : (t : Taken) (q1 : Address) (q : ℕ) (ts : List Shape) (s1 : List Entry) → Tg q1 1 → Sub (0 ∷ [])
+  took : (t : ReadResult) (q1 : Address) (q : ℕ) (ts : List Shape) (s1 : List Entry) → Tg q1 1 → Sub (0 ∷ [])
       → Reaches g.code a q ts → Operands g.code.layouts n.frames ts s1 rest
-      → Fn (taken (memory stores g) g.code t q1 q s1 n)
-  took (Takes v bytes) q1 q ts s1 tg sb r o = lands q ts s1
+      → Fn (item_step (memory stores g) g.code t q1 q s1 n)
+  took (ReadItem v bytes) q1 q ts s1 tg sb r o = lands q ts s1
       ((memory stores g).put q1 (cell.Ordinal v) ((memory stores g).advance bytes n)) refl r o
-      (Reads q1 (cell.Ordinal v) bytes refl tg (sb 0 (inl refl)) refl)
+      (ReadsItem q1 (cell.Ordinal v) bytes refl tg (sb 0 (inl refl)) refl)
   took (Faulty f) q1 q ts s1 tg sb r o = tt
 
-  read_item : (item : List ℕ → Taken) → has_left 1 ss ≡ true → Whole ((0 ∷ topmost ss) ++ []) → Sub (0 ∷ topmost ss)
-      → IsSome ((memory stores g).left n) → Good g.code a (filled p ss)
+  read_item : (item : List ℕ → ReadResult) → has_left 1 ss ≡ true → Whole ((0 ∷ topmost_variable ss) ++ [])
+      → Sub (0 ∷ topmost_variable ss)
+      → IsSome ((memory stores g).left n) → LeadsToReached g.code a (fill_shapes p ss)
       → Fn (reads (memory stores g) g.code item (p + 1) st n)
   read_item item le wh sb inp gd = address g.code a n.frames rest Fn fails (λ zs. (has_left 1 zs ≡ true)
-      × Whole ((0 ∷ topmost zs) ++ []) × Sub (0 ∷ topmost zs)) ss st _ _ (le, wh, sb) w.operands gd
+      × Whole ((0 ∷ topmost_variable zs) ++ []) × Sub (0 ∷ topmost_variable zs)) ss st _ _ (le, wh, sb) w.operands gd
       (λ q x m ts s1 z pt o1 g1.
       holds g.code a n.frames rest Fn fails ((memory stores g).has q 1 n) _
       (has_cells_left stores g.code.layouts n x m q pt (z.1 x (inr (inl refl)) pt.real) 1 (leb-true 1 m z.0))
@@ -406,28 +425,30 @@ module _ {S : Type 0} (stores : Stores S) (g : Setting) (sc : Scoped g.code) (a 
 
   -- the variable of a loop is there, and held
   loop_address : (var : ℕ) → is_loop_variable (variable_at g.code a 0 var) ≡ true
-      → Whole (numbered (variable_at g.code a 0 var) ++ []) → Sub (numbered (variable_at g.code a 0 var))
+      → Whole (number_list (variable_at g.code a 0 var) ++ []) → Sub (number_list (variable_at g.code a 0 var))
       → (q : Address) × ((memory stores g).addr 0 var n ≡ Some q) × ((memory stores g).has q 1 n ≡ true) × Tg q 1
   loop_address var lp wh sb = go (variable_at g.code a 0 var) refl lp wh sb
     where
-      go : (o : Option Found) → variable_at g.code a 0 var ≡ o → is_loop_variable o ≡ true → Whole (numbered o ++ [])
-          → Sub (numbered o) → (q : Address) × ((memory stores g).addr 0 var n ≡ Some q)
+      go : (o : Option VariableInfo) → variable_at g.code a 0 var ≡ o → is_loop_variable o ≡ true
+          → Whole (number_list o ++ [])
+          → Sub (number_list o) → (q : Address) × ((memory stores g).addr 0 var n ≡ Some q)
           × ((memory stores g).has q 1 n ≡ true) × Tg q 1
       go None e l wh sb = absurd (cc l)
       go (Some f) e l wh sb =
           let b = and_parts (is_plain f.naming) (f.cells == 1) l in
-          let one = eqb-true f.cells 1 b.1 in
+          let next_step = eqb-true f.cells 1 b.1 in
           let q = sc.plain a n.frames 0 var f w.there w.framed e b.0 in (
             q.0,
             q.1,
             has_cells_left stores g.code.layouts n f.number f.cells q.0 q.2 (wh f.number (inl refl) q.2.real) 1
-                (omega (arith, one)),
-            target q.0 f.number f.cells 1 q.2 (omega (arith, one)) (sb f.number (inl refl)),
+                (omega (arith, next_step)),
+            target q.0 f.number f.cells 1 q.2 (omega (arith, next_step)) (sb f.number (inl refl)),
           )
 
   begun : (down : Bool) (var to : ℕ) → is_loop_variable (variable_at g.code a 0 var) ≡ true
-      → Whole (numbered (variable_at g.code a 0 var) ++ []) → Sub (numbered (variable_at g.code a 0 var))
-      → Good g.code a (begins p to ss) → Fn (begins_loop (memory stores g) g.code down var to p st n)
+      → Whole (number_list (variable_at g.code a 0 var) ++ []) → Sub (number_list (variable_at g.code a 0 var))
+      → LeadsToReached g.code a (loop_start_shapes p to ss)
+      → Fn (begins_loop (memory stores g) g.code down var to p st n)
   begun down var to lp wh sb gd = number g.code a n.frames rest Fn fails (λ _. Unit {0}) ss st _ _ tt w.operands gd
       (λ last ts s1 _ o1 g1.
       number g.code a n.frames rest Fn fails (λ _. Unit {0}) ts s1 _ _ tt o1 g1 (λ first us s2 _ o2 g2.
@@ -436,25 +457,25 @@ module _ {S : Type 0} (stores : Stores S) (g : Setting) (sc : Scoped g.code) (a 
       (holds g.code a n.frames rest Fn fails ((memory stores g).has q.0 1 n) _ q.2
       (both g.code a n.frames rest Fn fails (is_range down first last) _ _
       (lands (p + 1) (O ∷ us) (Number last ∷ s2) ((memory stores g).put q.0 (cell.Ordinal first) n) refl g2.0
-      (tt, o2) (Puts q.0 (cell.Ordinal first) refl q.3 refl)) (stays to us s2 g2.1.0 o2)))))
+      (tt, o2) (PutsCell q.0 (cell.Ordinal first) refl q.3 refl)) (stays to us s2 g2.1.0 o2)))))
 
   goes_on : (down : Bool) (var to : ℕ) → is_loop_variable (variable_at g.code a 0 var) ≡ true
-      → Whole (numbered (variable_at g.code a 0 var) ++ []) → Sub (numbered (variable_at g.code a 0 var))
-      → Good g.code a (goes_round p to ss) → Fn (ends_loop (memory stores g) g.code down var to p st n)
+      → Whole (number_list (variable_at g.code a 0 var) ++ []) → Sub (number_list (variable_at g.code a 0 var))
+      → LeadsToReached g.code a (loop_end_shapes p to ss) → Fn (ends_loop (memory stores g) g.code down var to p st n)
   goes_on down var to lp wh sb gd = number g.code a n.frames rest Fn fails (λ _. Unit {0}) ss st _ _ tt w.operands gd
       (λ last ts s1 _ o1 g1.
       let q = loop_address var lp wh sb in is_found g.code a n.frames rest Fn fails
       ((memory stores g).addr 0 var n) q.0 _ q.1
       (holds g.code a n.frames rest Fn fails ((memory stores g).has q.0 1 n) _ q.2
-      (ordinal g.code a n.frames rest Fn fails ((memory stores g).look q.0 n) _ (λ v.
+      (ordinal g.code a n.frames rest Fn fails ((memory stores g).read q.0 n) _ (λ v.
       both g.code a n.frames rest Fn fails (is_before down v last) _ _
       (lands to (O ∷ ts) (Number last ∷ s1)
       ((memory stores g).put q.0 (cell.Ordinal (next_value down v)) n) refl g1.0 (tt, o1)
-      (Puts q.0 (cell.Ordinal (next_value down v)) refl q.3 refl)) (stays (p + 1) ts s1 g1.1.0 o1)))))
+      (PutsCell q.0 (cell.Ordinal (next_value down v)) refl q.3 refl)) (stays (p + 1) ts s1 g1.1.0 o1)))))
 
   -- an address within another
   further_points : (x left k left1 : ℕ) (q : Address) → Points g.code.layouts n.frames x left q → k + left1 ≤ left
-      → Points g.code.layouts n.frames x left1 (further k q)
+      → Points g.code.layouts n.frames x left1 (address_after k q)
   further_points x left k left1 q pt h = record {
     real = pt.real;
     stands = pt.stands;
@@ -467,24 +488,30 @@ module _ {S : Type 0} (stores : Stores S) (g : Setting) (sc : Scoped g.code) (a 
   selects : (x left k left1 : ℕ) (q : Address) (ts : List Shape) (s1 : List Entry)
       → Points g.code.layouts n.frames x left q → k + left1 ≤ left
       → Reaches g.code a (p + 1) (A x left1 ∷ ts) → Operands g.code.layouts n.frames ts s1 rest
-      → Fn (selected (memory stores g) g.code (further k q) (p + 1) s1 n)
+      → Fn (selection_step (memory stores g) g.code (address_after k q) (p + 1) s1 n)
   selects x left k left1 q ts s1 pt h r o =
       let pt1 = further_points x left k left1 q pt h in
-      holds g.code a n.frames rest Fn fails (nat_le (further k q).offset 4294967295) _
-      (le-leb (further k q).offset 4294967295 (let f = pt1.fits in let sm = pt1.small in omega (arith, f, sm)))
-      (stays (p + 1) (A x left1 ∷ ts) (Pointer (further k q) ∷ s1) r (pt1, o))
+      holds g.code a n.frames rest Fn fails (nat_le (address_after k q).offset 4294967295) _
+      (le-leb (address_after k q).offset 4294967295 (let f = pt1.fits in let sm = pt1.small in omega (arith, f, sm)))
+      (stays (p + 1) (A x left1 ∷ ts) (Pointer (address_after k q) ∷ s1) r (pt1, o))
 
   -- a fork
   forks : (t : ℕ) (first : ℤ) (count : ℕ) (ts : List Shape) (s1 : List Entry) → ForksAt g.code p t count
       → Reaches g.code a (p + 1) ts → Operands g.code.layouts n.frames ts s1 rest
-      → Fn (forked (memory stores g) g.code t first count (p + 1) s1 n)
+      → Fn (fork_step (memory stores g) g.code t first count (p + 1) s1 n)
   forks t first count ts s1 at r o = tested ((memory stores g).may_fork n) _ _
-      (λ e. (stopped (Forks t first count) (p + 1) s1 at, stand_here (p + 1) ts s1 r o, Same refl refl, (refl, e))) tt
+      (λ e. (
+        stopped (Forks t first count) (p + 1) s1 at,
+        stand_here (p + 1) ts s1 r o,
+        Unchanged refl refl,
+        (refl, e),
+      )) tt
 
-  packs : (k : ℕ) → has_left k ss ≡ true → Whole (topmost ss) → Good g.code a (read_as (L k) p ss)
+  packs : (k : ℕ) → has_left k ss ≡ true → Whole (topmost_variable ss)
+      → LeadsToReached g.code a (read_shapes (L k) p ss)
       → Fn (instruction (memory stores g) g.code (Some (i.Pack k)) p st n)
   packs k le wh gd = address g.code a n.frames rest Fn fails (λ zs. (has_left k zs ≡ true)
-      × Whole (topmost zs)) ss st _ _ (le, wh) w.operands gd (λ q x m ts s1 z pt o1 g1.
+      × Whole (topmost_variable zs)) ss st _ _ (le, wh) w.operands gd (λ q x m ts s1 z pt o1 g1.
       let h = z.1 x (inl refl) pt.real in
       let l = leb-true k m z.0 in
       let e : length ((memory stores g).cells q k n) ≡ k = rw (here stores g.code.layouts n x m q pt h)
@@ -493,10 +520,10 @@ module _ {S : Type 0} (stores : Stores S) (g : Setting) (sc : Scoped g.code) (a 
       (has_cells_left stores g.code.layouts n x m q pt h k l)
       (stays (p + 1) (L k ∷ ts) (Cells ((memory stores g).cells q k n) ∷ s1) g1.0 (e, o1)))
 
-  opens : instr_at g.code p ≡ Some i.Open → has_left 1 ss ≡ true → Whole (topmost ss ++ [])
-      → Good g.code a (filled p ss) → Fn (instruction (memory stores g) g.code (Some i.Open) p st n)
+  opens : instr_at g.code p ≡ Some i.Open → has_left 1 ss ≡ true → Whole (topmost_variable ss ++ [])
+      → LeadsToReached g.code a (fill_shapes p ss) → Fn (instruction (memory stores g) g.code (Some i.Open) p st n)
   opens is le wh gd = address g.code a n.frames rest Fn fails (λ zs. (zs ≡ ss) × (has_left 1 zs ≡ true)
-      × Whole (topmost zs ++ [])) ss st _ _ (refl, le, wh) w.operands gd (λ q x m ts s1 z pt o1 g1.
+      × Whole (topmost_variable zs ++ [])) ss st _ _ (refl, le, wh) w.operands gd (λ q x m ts s1 z pt o1 g1.
       let h = z.2 x (inl refl) pt.real in
       let l = leb-true 1 m z.1 in
       holds g.code a n.frames rest Fn fails ((memory stores g).has q 1 n) _
@@ -505,12 +532,13 @@ module _ {S : Type 0} (stores : Stores S) (g : Setting) (sc : Scoped g.code) (a 
       (subst (λ zs. IsIn x (stored_by g.code a (Some i.Open) zs)) z.0 (inl refl)) in (
         stopped (Opens q) (p + 1) s1 (x, m, pt, l, sx),
         stand_here (p + 1) ts s1 g1.0 o1,
-        Owns q 1 refl
+        MakesOwn q 1 refl
             (target q x m 1 pt l sx) refl,
         refl,
       )))
 
-  sends : (k : ℕ) → instr_at g.code p ≡ Some (i.Send k) → Good g.code a (shaped g.code a (Some (i.Send k)) p ss)
+  sends : (k : ℕ) → instr_at g.code p ≡ Some (i.Send k)
+      → LeadsToReached g.code a (instr_shapes g.code a (Some (i.Send k)) p ss)
       → Fn (instruction (memory stores g) g.code (Some (i.Send k)) p st n)
   sends k is gd = cells g.code a n.frames rest Fn fails (λ zs. zs ≡ ss) ss st _ _ refl w.operands gd
       (λ v s ts s1 z mc o1 g1.
@@ -527,15 +555,15 @@ module _ {S : Type 0} (stores : Stores S) (g : Setting) (sc : Scoped g.code) (a 
                   (← z) mc;
             }),
         stand_here (p + 1) us s2 g2.0 o2,
-        Same refl refl,
+        Unchanged refl refl,
         refl,
       )))
 
-  receives : (k : ℕ) → instr_at g.code p ≡ Some (i.Receive k) → Whole (topmost ss ++ [])
-      → Good g.code a (shaped g.code a (Some (i.Receive k)) p ss)
+  receives : (k : ℕ) → instr_at g.code p ≡ Some (i.Receive k) → Whole (topmost_variable ss ++ [])
+      → LeadsToReached g.code a (instr_shapes g.code a (Some (i.Receive k)) p ss)
       → Fn (instruction (memory stores g) g.code (Some (i.Receive k)) p st n)
   receives k is wh gd = address g.code a n.frames rest Fn fails (λ zs. (zs ≡ ss)
-      × Whole (topmost zs ++ [])) ss st _ _ (refl, wh) w.operands gd (λ q x m ts s1 z pt o1 g1.
+      × Whole (topmost_variable zs ++ [])) ss st _ _ (refl, wh) w.operands gd (λ q x m ts s1 z pt o1 g1.
       channel g.code a n.frames rest Fn fails (λ _. Unit {0}) ts s1 _ _ tt o1 g1 (λ ch us s2 _ o2 g2.
       let h = z.1 x (inl refl) pt.real in
       holds g.code a n.frames rest Fn fails ((memory stores g).has q 0 n) _
@@ -558,12 +586,12 @@ module _ {S : Type 0} (stores : Stores S) (g : Setting) (sc : Scoped g.code) (a 
           sx,
         ),
         stand_here (p + 1) us s2 g2.0 o2,
-        Owns q m refl (target q x m m pt (omega arith) sx) refl,
+        MakesOwn q m refl (target q x m m pt (omega arith) sx) refl,
         (refl, (n, refl)),
       ))))
 
   -- what is held whole may be passed by reference
-  may_pass : Leads g.code.layouts n.frames (λ x. HasWhole stores g.code.layouts n x)
+  may_pass : LeadsToReferent g.code.layouts n.frames (λ x. HasWhole stores g.code.layouts n x)
   may_pass x left q pt wh k l =
       let s : q.spot ≡ wh.spot = same_Some q.spot wh.spot (sym pt.stands ∙ wh.stands) in
       record {
@@ -578,7 +606,7 @@ module _ {S : Type 0} (stores : Stores S) (g : Setting) (sc : Scoped g.code) (a 
 
   -- a call
   module _ (b up : ℕ) (is : instr_at g.code p ≡ Some (i.Call b up))
-      (numbered : nat_le (stores.next_frame n.store) 18446744073709551615 ≡ true) where
+      (number_list : nat_le (stores.next_frame n.store) 18446744073709551615 ≡ true) where
     -- in the called block
     enters : (l : Layout) → layout_of g.code.layouts b ≡ Some l
         → is_block l.parent (slice_get (homes g.code a) up) ≡ true
@@ -586,9 +614,9 @@ module _ {S : Type 0} (stores : Stores S) (g : Setting) (sc : Scoped g.code) (a 
         → Whole (addresses (length l.formals) ss ++ []) → (es : List Entry) (ts : List Shape) (s1 : List Entry)
         → Pairs g.code.layouts n.frames (rule.lowest_first (length l.formals) ss []) es
         → Operands g.code.layouts n.frames ts s1 rest
-        → Reaches g.code a (p + 1) (answered l.answer ts) → nat_lt n.depth g.limits.depth ≡ true
-        → (s : StandsAt g.code l.entry (link_of l.answer (p + 1) ∷ s1) (opened stores g l up es n).frames)
-        × Changes stores g a (instr_at g.code p) ss n (a ∷ areas_of ks) (areas s) (opened stores g l up es n)
+        → Reaches g.code a (p + 1) (with_answer l.answer ts) → nat_lt n.depth g.limits.depth ≡ true
+        → (s : StandsAt g.code l.entry (link_of l.answer (p + 1) ∷ s1) (memory_after_call stores g l up es n).frames)
+        × Changes stores g a (instr_at g.code p) ss n (a ∷ areas_of ks) (areas s) (memory_after_call stores g l up es n)
     enters l e lev ft wh es ts s1 pr o1 r deep =
         let out = sc.outward a n.frames up b l w.there w.framed e lev in
         let held : (x : ℕ) → AddressIn x (rule.lowest_first (length l.formals) ss []) → 2 ≤ x
@@ -635,38 +663,38 @@ module _ {S : Type 0} (stores : Stores S) (g : Setting) (sc : Scoped g.code) (a 
         )
 
     -- how a called block's process stands, with its new memory
-    abbrev Entered : Layout → List Entry → Memory S → Bool → Type 0
-    Entered l s1 m t = (s : StandsAt g.code l.entry (link_of t (p + 1) ∷ s1) m.frames)
+    abbrev CalleeStands : Layout → List Entry → Memory S → Bool → Type 0
+    CalleeStands l s1 m t = (s : StandsAt g.code l.entry (link_of t (p + 1) ∷ s1) m.frames)
         × Changes stores g a (instr_at g.code p) ss n (a ∷ areas_of ks) (areas s) m
 
-    enter : (l : Layout) (s1 : List Entry) (m : Memory S) → Entered l s1 m l.answer
-        → Fn (entered (memory stores g) g.code l (p + 1) s1 m)
+    enter : (l : Layout) (s1 : List Entry) (m : Memory S) → CalleeStands l s1 m l.answer
+        → Fn (enter_step (memory stores g) g.code l (p + 1) s1 m)
     enter l s1 m h = go l.answer h
       where
-        go : (t : Bool) → Entered l s1 m t
-            → Fn (if t then Goes (At l.entry (Reply (p + 1) ∷ s1) m) else paced (memory stores g) g.code l.entry
+        go : (t : Bool) → CalleeStands l s1 m t
+            → Fn (if t then Goes (At l.entry (Reply (p + 1) ∷ s1) m) else pause_step (memory stores g) g.code l.entry
             (Link (p + 1) ∷ s1) m)
         go true h = h
         go false h = paces (Link (p + 1) ∷ s1) m l.entry h
             (record { area = a; at = p; shapes = ss; callers = ks; there = w.there; reached = w.reached; so = tt })
 
     calls : (o : Option Layout) → layout_of g.code.layouts b ≡ o
-        → given false o (λ l. is_block l.parent (slice_get (homes g.code a) up)) ≡ true
-        → given false o (λ l. rule.fit_formals l.formals (rule.lowest_first (length l.formals) ss [])) ≡ true
-        → Whole (given [] o (λ l. addresses (length l.formals) ss) ++ [])
-        → Good g.code a (given Wrong o (λ l. take_all (length l.formals) ss
-        (λ s1. on (p + 1) (answered l.answer s1))))
-        → Fn (there o (λ l. called (memory stores g) g.code l up (p + 1) st n))
+        → on_option false o (λ l. is_block l.parent (slice_get (homes g.code a) up)) ≡ true
+        → on_option false o (λ l. rule.fit_formals l.formals (rule.lowest_first (length l.formals) ss [])) ≡ true
+        → Whole (on_option [] o (λ l. addresses (length l.formals) ss) ++ [])
+        → LeadsToReached g.code a (on_option Wrong o (λ l. take_all (length l.formals) ss
+        (λ s1. to_one (p + 1) (with_answer l.answer s1))))
+        → Fn (on_some o (λ l. call_step (memory stores g) g.code l up (p + 1) st n))
     calls None e lev ft wh gd = absurd gd
     calls (Some l) e lev ft wh gd =
         let out = sc.outward a n.frames up b l w.there w.framed e lev in
         popped g.code a n.frames rest Fn fails (length l.formals) ss st [] []
-        (λ s1. on (p + 1) (answered l.answer s1)) _ w.operands gd tt (λ es ts s1 pr o1 g1.
+        (λ s1. to_one (p + 1) (with_answer l.answer s1)) _ w.operands gd tt (λ es ts s1 pr o1 g1.
         holds g.code a n.frames rest Fn fails (fit_formals l.formals es) _
         (all_fit g.code.layouts n.frames l.formals (rule.lowest_first (length l.formals) ss []) es pr ft)
-        (holds g.code a n.frames rest Fn fails ((memory stores g).may_open up n) _ (and_from _ _ out.0 numbered)
+        (holds g.code a n.frames rest Fn fails ((memory stores g).can_push up n) _ (and_from _ _ out.0 number_list)
         (done g.code a n.frames rest Fn fails ((memory stores g).open_frame l up es n) _ (λ m k.
-        enter l s1 m (subst (λ z. Entered l s1 z l.answer) (sym (opened_is stores g l up es n m k))
+        enter l s1 m (subst (λ z. CalleeStands l s1 z l.answer) (sym (opened_is stores g l up es n m k))
         (enters l e lev ft wh es ts s1 pr o1 g1.0 (opened_deep stores g l up es n m k)))))))
 
   -- a return
@@ -681,7 +709,7 @@ module _ {S : Type 0} (stores : Stores S) (g : Setting) (sc : Scoped g.code) (a 
       → Under g.code ks1 a fs rest → ends_well g.code a (Some i.Return) ≡ true → (memory stores g).may_close n ≡ true
       → ((b : ℕ) (l : Layout) → a ≡ Body b → layout_of g.code.layouts b ≡ Some l → l.answer ≡ true
       → HasAnswer stores g n ((memory stores g).answer n)) → st ≡ rest
-      → Fn (returned (memory stores g) g.code st n)
+      → Fn (return_step (memory stores g) g.code st n)
   returns_to is [] fs kse e u ew mc an se = absurd (bottom_stays a u.1 ew)
   returns_to is (k ∷ ks1) [] kse e u ew mc an se = absurd u
   returns_to is (k ∷ ks1) (f ∷ fs) kse e
@@ -714,24 +742,25 @@ module _ {S : Type 0} (stores : Stores S) (g : Setting) (sc : Scoped g.code) (a 
             Returns (ap (λ z. a ∷ areas_of z) kse) is refl,
           )
 
-      go : (t : Bool) → l.answer ≡ t → st ≡ link_of l.answer k.at ∷ s1 → Fn (returned (memory stores g) g.code st n)
+      go : (t : Bool) → l.answer ≡ t → st ≡ link_of l.answer k.at ∷ s1 → Fn (return_step (memory stores g) g.code st n)
       go true la es =
           let q = cell_at f.number (length l.formals) in
-          subst (λ z. Fn (returned (memory stores g) g.code z n)) (sym (es ∙ ap (λ t. link_of t k.at ∷ s1) la))
+          subst (λ z. Fn (return_step (memory stores g) g.code z n)) (sym (es ∙ ap (λ t. link_of t k.at ∷ s1) la))
           (holds g.code a n.frames rest Fn fails ((memory stores g).may_close n) _ mc
           (is_found g.code a n.frames rest Fn fails ((memory stores g).answer n) q _ answer_at
           (holds g.code a n.frames rest Fn fails ((memory stores g).has q 1 n) _
           (subst (λ z. HasAnswer stores g n z) answer_at (an b l ae le la))
-          (ordinal g.code a n.frames rest Fn fails ((memory stores g).look q n) _
+          (ordinal g.code a n.frames rest Fn fails ((memory stores g).read q n) _
           (λ v. back_at (Number v ∷ s1) (O ∷ k.shapes)
-          (subst (λ t. Reaches g.code k.area k.at (answered t k.shapes)) la rc) (tt, os))))))
+          (subst (λ t. Reaches g.code k.area k.at (with_answer t k.shapes)) la rc) (tt, os))))))
       go false la es =
-          subst (λ z. Fn (returned (memory stores g) g.code z n)) (sym (es ∙ ap (λ t. link_of t k.at ∷ s1) la))
+          subst (λ z. Fn (return_step (memory stores g) g.code z n)) (sym (es ∙ ap (λ t. link_of t k.at ∷ s1) la))
           (holds g.code a n.frames rest Fn fails ((memory stores g).may_close n) _ mc
-          (back_at s1 k.shapes (subst (λ t. Reaches g.code k.area k.at (answered t k.shapes)) la rc) os))
+          (back_at s1 k.shapes (subst (λ t. Reaches g.code k.area k.at (with_answer t k.shapes)) la rc) os))
 
   -- nothing is left of the operands
-  none_left : (zs : List Shape) → Good g.code a (take_none zs) → Operands g.code.layouts n.frames zs st rest → st ≡ rest
+  none_left : (zs : List Shape) → LeadsToReached g.code a (take_none zs) → Operands g.code.layouts n.frames zs st rest
+      → st ≡ rest
   none_left [] gd o = o
   none_left (s ∷ zs) gd o = absurd gd
 
@@ -749,7 +778,7 @@ module _ {S : Type 0} (stores : Stores S) (g : Setting) (sc : Scoped g.code) (a 
   -- ---- each instruction
 
   abbrev pub At_ : Option Instr → Type 0
-  At_ o = Here g.code a p ss o → Ready stores g a o ss n → Fn (instruction (memory stores g) g.code o p st n)
+  At_ o = Here g.code a p ss o → MemorySuffices stores g a o ss n → Fn (instruction (memory stores g) g.code o p st n)
 
   sub : {o : Option Instr} → Here g.code a p ss o → Sub (stored_by g.code a o ss)
   sub h x m = subst (λ o. IsIn x (stored_by g.code a o ss)) (sym h.is) m
@@ -759,10 +788,10 @@ module _ {S : Type 0} (stores : Stores S) (g : Setting) (sc : Scoped g.code) (a 
   fine (Some (i.Const v)) h r = stays (p + 1) (O ∷ ss) (Number v ∷ st) h.good.0 (tt, w.operands)
   fine (Some (i.Addr up var)) h r = names_addr up var (variable_at g.code a up var) refl h.names h.good
     where
-      names_addr : (up var : ℕ) (o : Option Found) → variable_at g.code a up var ≡ o
-          → given false o (λ f. is_plain f.naming) ≡ true
-          → Good g.code a (given Wrong o (λ f. addressed p ss f.number f.cells))
-          → Fn (there ((memory stores g).addr up var n) (λ q. Goes (At (p + 1) (Pointer q ∷ st) n)))
+      names_addr : (up var : ℕ) (o : Option VariableInfo) → variable_at g.code a up var ≡ o
+          → on_option false o (λ f. is_plain f.naming) ≡ true
+          → LeadsToReached g.code a (on_option Wrong o (λ f. address_shapes p ss f.number f.cells))
+          → Fn (on_some ((memory stores g).addr up var n) (λ q. Goes (At (p + 1) (Pointer q ∷ st) n)))
       names_addr up var None e k gd = absurd gd
       names_addr up var (Some f) e k gd =
           let q = sc.plain a n.frames up var f w.there w.framed e k in
@@ -770,17 +799,18 @@ module _ {S : Type 0} (stores : Stores S) (g : Setting) (sc : Scoped g.code) (a 
           (stays (p + 1) (A f.number f.cells ∷ ss) (Pointer q.0 ∷ st) gd.0 (q.2, w.operands))
   fine (Some (i.Deref up var)) h r = names_deref up var (variable_at g.code a up var) refl h.names h.good
     where
-      names_deref : (up var : ℕ) (o : Option Found) → variable_at g.code a up var ≡ o
-          → given false o (λ f. is_reference f.naming) ≡ true
-          → Good g.code a (given Wrong o (λ f. addressed p ss f.number f.cells))
-          → Fn (there ((memory stores g).deref up var n) (λ q. Goes (At (p + 1) (Pointer q ∷ st) n)))
+      names_deref : (up var : ℕ) (o : Option VariableInfo) → variable_at g.code a up var ≡ o
+          → on_option false o (λ f. is_reference f.naming) ≡ true
+          → LeadsToReached g.code a (on_option Wrong o (λ f. address_shapes p ss f.number f.cells))
+          → Fn (on_some ((memory stores g).deref up var n) (λ q. Goes (At (p + 1) (Pointer q ∷ st) n)))
       names_deref up var None e k gd = absurd gd
       names_deref up var (Some f) e k gd =
           let q = sc.refers a n.frames up var f w.there w.framed e k in
           is_found g.code a n.frames rest Fn fails ((memory stores g).deref up var n) q.0 _ q.1
           (stays (p + 1) (A f.number f.cells ∷ ss) (Pointer q.0 ∷ st) gd.0 (q.2, w.operands))
   fine (Some (i.Index low high size)) h r = number g.code a n.frames rest Fn fails
-      (λ zs. has_left (span low high * size) (below zs) ≡ true) ss st _ _ h.within w.operands h.good (λ v ts s1 z o1 g1.
+      (λ zs. has_left (span low high * size) (below_topmost zs) ≡ true) ss st _ _ h.within w.operands h.good
+      (λ v ts s1 z o1 g1.
       address g.code a n.frames rest Fn fails (λ zs. has_left (span low high * size) zs ≡ true) ts s1 _ _ z o1 g1
       (λ q x m us s2 z2 pt o2 g2.
       checked (int_le low v && int_le v high) _ _ (λ t.
@@ -789,7 +819,7 @@ module _ {S : Type 0} (stores : Stores S) (g : Setting) (sc : Scoped g.code) (a 
       selects x m (nat_abs (v -ℤ low) * size) size q us s2 pt
       (within_span (nat_abs (v -ℤ low)) (span low high) size m k le) g2.0 o2) tt))
     where
-      checked : (b : Bool) (x y : One (Memory S)) → (b ≡ true → Fn x) → Fn y → Fn (if b then x else y)
+      checked : (b : Bool) (x y : StepResult (Memory S)) → (b ≡ true → Fn x) → Fn y → Fn (if b then x else y)
       checked true x y h k = h refl
       checked false x y h k = k
 
@@ -800,31 +830,33 @@ module _ {S : Type 0} (stores : Stores S) (g : Setting) (sc : Scoped g.code) (a 
       let le = leb-true k m z in
       selects x m k (m - k) q ts s1 pt (omega (arith, le)) g1.0 o1)
   fine (Some i.Load) h r = address g.code a n.frames rest Fn fails (λ zs. (has_left 1 zs ≡ true)
-      × Whole (topmost zs)) ss st _ _ (h.within, r.whole) w.operands h.good (λ q x m ts s1 z pt o1 g1.
+      × Whole (topmost_variable zs)) ss st _ _ (h.within, r.whole) w.operands h.good (λ q x m ts s1 z pt o1 g1.
       holds g.code a n.frames rest Fn fails ((memory stores g).has q 1 n) _
       (has_cells_left stores g.code.layouts n x m q pt (z.1 x (inl refl) pt.real) 1 (leb-true 1 m z.0))
-      (ordinal g.code a n.frames rest Fn fails ((memory stores g).look q n) _
+      (ordinal g.code a n.frames rest Fn fails ((memory stores g).read q n) _
       (λ v. stays (p + 1) (O ∷ ts) (Number v ∷ s1) g1.0 (tt, o1))))
   fine (Some i.Loadc) h r = address g.code a n.frames rest Fn fails (λ zs. (has_left 1 zs ≡ true)
-      × Whole (topmost zs)) ss st _ _ (h.within, r.whole) w.operands h.good (λ q x m ts s1 z pt o1 g1.
+      × Whole (topmost_variable zs)) ss st _ _ (h.within, r.whole) w.operands h.good (λ q x m ts s1 z pt o1 g1.
       holds g.code a n.frames rest Fn fails ((memory stores g).has q 1 n) _
       (has_cells_left stores g.code.layouts n x m q pt (z.1 x (inl refl) pt.real) 1 (leb-true 1 m z.0))
-      (channel_of g.code a n.frames rest Fn fails ((memory stores g).look q n) _
+      (channel_of g.code a n.frames rest Fn fails ((memory stores g).read q n) _
       (λ v. stays (p + 1) (C ∷ ts) (Chan v ∷ s1) g1.0 (tt, o1))))
-  fine (Some i.Store) h r = value g.code a n.frames rest Fn fails (λ zs. (has_left 1 (below zs) ≡ true)
-      × Whole (topmost (below zs) ++ []) × Sub (topmost (below zs))) ss st _ _
+  fine (Some i.Store) h r = value g.code a n.frames rest Fn fails (λ zs. (has_left 1 (below_topmost zs) ≡ true)
+      × Whole (topmost_variable (below_topmost zs) ++ []) × Sub (topmost_variable (below_topmost zs))) ss st _ _
       (h.within, r.whole, sub h) w.operands h.good (λ v s ts s1 z o1 g1.
-      address g.code a n.frames rest Fn fails (λ zs. (has_left 1 zs ≡ true) × Whole (topmost zs ++ [])
-      × Sub (topmost zs)) ts s1 _ _ z o1 g1 (λ q x m us s2 z2 pt o2 g2.
+      address g.code a n.frames rest Fn fails (λ zs. (has_left 1 zs ≡ true) × Whole (topmost_variable zs ++ [])
+      × Sub (topmost_variable zs)) ts s1 _ _ z o1 g1 (λ q x m us s2 z2 pt o2 g2.
       holds g.code a n.frames rest Fn fails ((memory stores g).has q 1 n) _
       (has_cells_left stores g.code.layouts n x m q pt (z2.1 x (inl refl) pt.real) 1 (leb-true 1 m z2.0))
       (lands (p + 1) us s2 ((memory stores g).put q v n) refl g2.0 o2
-      (Puts q v refl (target q x m 1 pt (leb-true 1 m z2.0) (z2.2 x (inl refl))) refl))))
+      (PutsCell q v refl (target q x m 1 pt (leb-true 1 m z2.0) (z2.2 x (inl refl))) refl))))
   fine (Some (i.Copy k)) h r = address g.code a n.frames rest Fn fails (λ zs. ((has_left k zs
-      && has_left k (below zs)) ≡ true) × Whole (topmost (below zs) ++ topmost zs)
-      × Sub (topmost (below zs))) ss st _ _ (h.within, r.whole, sub h) w.operands h.good (λ q x m ts s1 z pt o1 g1.
+      && has_left k (below_topmost zs)) ≡ true) × Whole (topmost_variable (below_topmost zs) ++ topmost_variable zs)
+      × Sub (topmost_variable (below_topmost zs))) ss st _ _ (h.within, r.whole, sub h) w.operands h.good
+      (λ q x m ts s1 z pt o1 g1.
       address g.code a n.frames rest Fn fails (λ zs. ((nat_le k m && has_left k zs) ≡ true)
-      × Whole (topmost zs ++ (x ∷ [])) × Sub (topmost zs)) ts s1 _ _ z o1 g1 (λ q2 y l us s2 z2 pt2 o2 g2.
+      × Whole (topmost_variable zs ++ (x ∷ [])) × Sub (topmost_variable zs)) ts s1 _ _ z o1 g1
+      (λ q2 y l us s2 z2 pt2 o2 g2.
       let b = and_parts (nat_le k m) (nat_le k l) z2.0 in
       holds g.code a n.frames rest Fn fails ((memory stores g).has q k n && (memory stores g).has q2 k n) _
       (and_from _ _ (has_cells_left stores g.code.layouts n x m q pt (z2.1 x (inr (inl refl)) pt.real) k
@@ -838,7 +870,7 @@ module _ {S : Type 0} (stores : Stores S) (g : Setting) (sc : Scoped g.code) (a 
   fine (Some i.Div) h r = two op.Div h.good
   fine (Some i.Mod) h r = two op.Mod h.good
   fine (Some i.Neg) h r = alone (unary_op sign.Minus) h.good
-  fine (Some i.Abs) h r = alone absolute h.good
+  fine (Some i.Abs) h r = alone absolute_value h.good
   fine (Some i.Sqr) h r = alone square h.good
   fine (Some i.Odd) h r = alone is_odd h.good
   fine (Some i.And) h r = two op.And h.good
@@ -852,7 +884,7 @@ module _ {S : Type 0} (stores : Stores S) (g : Setting) (sc : Scoped g.code) (a 
   fine (Some i.Le) h r = two op.Le h.good
   fine (Some i.Gt) h r = two op.Gt h.good
   fine (Some i.Ge) h r = two op.Ge h.good
-  fine (Some (i.Range low high)) h r = alone (ranged low high) h.good
+  fine (Some (i.Range low high)) h r = alone (value_in_range low high) h.good
   fine (Some (i.Succ high)) h r = alone (successor high) h.good
   fine (Some (i.Pred low)) h r = alone (predecessor low) h.good
   fine (Some (i.Jump to)) h r = stays to ss st h.good.0 w.operands
@@ -863,9 +895,9 @@ module _ {S : Type 0} (stores : Stores S) (g : Setting) (sc : Scoped g.code) (a 
       (λ u ts s1 _ o1 g1. both g.code a n.frames rest Fn fails (same_ordinal u v) _ _ (stays to ts s1 g1.1.0 o1)
       (stays (p + 1) (O ∷ ts) (Number u ∷ s1) g1.0 (tt, o1)))
   fine (Some i.Nocase) h r = tt
-  fine (Some i.Tick) h r = done g.code a n.frames rest Fn fails ((memory stores g).beat n) _ (λ m e.
+  fine (Some i.Tick) h r = done g.code a n.frames rest Fn fails ((memory stores g).tick n) _ (λ m e.
       paces st m (p + 1) (lands_with (p + 1) ss st m (beat_frames stores g n m e) h.good.0 w.operands
-      (Beats refl (beat_is stores g n m e)))
+      (Ticks refl (beat_is stores g n m e)))
       (record { area = a; at = p; shapes = ss; callers = ks; there = w.there; reached = w.reached; so = tt }))
   fine (Some i.Assume) h r = number g.code a n.frames rest Fn fails (λ _. Unit {0}) ss st _ _ tt w.operands h.good
       (λ v ts s1 _ o1 g1. both g.code a n.frames rest Fn fails (not (int_le v (pos 0))) _ _

@@ -10,10 +10,10 @@ use Rattle.sp_journal.specs.declared.entry.Event.{Event}
 use Rattle.sp_code.specs.declared.code.Layout.{Layout}
 use Rattle.sp_code.specs.declared.instr.Instr.TheVariants as i
 use Rattle.sp_code.specs.Machine.{Config, At, Entry, layout_of}
-use Rattle.sp_code.specs.Memory.{Setting, Home, Frame, Memory, memory, first_memory}
+use Rattle.sp_code.specs.Memory.{CodeRun, Home, Frame, Memory, memory, first_memory}
 use Rattle.sp_code.specs.PlainStore.{plain}
 use Rattle.sp_code.specs.Sound.{IsSafeSystem, identity, means}
-use Rattle.sp_code.specs.System.{System, Working, Enters, IsSystem, depth_of}
+use Rattle.sp_code.specs.System.{System, Working, EntryLeads, IsSystem, depth_of}
 use Rattle.sp_rules.specs.Areas.{Area, Body, Child, homes, instr_at}
 use Rattle.sp_rules.specs.Changes.{areas, areas_of}
 use Rattle.sp_rules.specs.Chains.{Chain}
@@ -21,10 +21,10 @@ use Rattle.sp_rules.specs.Effects.{Stored, Does, May, IsActual}
 use Rattle.sp_rules.specs.Forks.{KeepsEffects}
 use Rattle.sp_rules.specs.Rules.{BreaksV9}
 use Rattle.sp_rules.specs.Holding.{Allowed, Holding}
-use Rattle.sp_rules.specs.Keeps.{Keeps}
+use Rattle.sp_rules.specs.KeepsCodeRules.{KeepsCodeRules}
 use Rattle.sp_rules.specs.Named.{Unknown, ends_well, InLayout}
-use Rattle.sp_rules.specs.Reach.{IsIn, IsArea, Passes, Reaches}
-use Rattle.sp_rules.specs.Running.{Base, HasConsole, Lives, ForksWell}
+use Rattle.sp_rules.specs.Reach.{IsIn, IsArea, IsInCodeOf, Reaches}
+use Rattle.sp_rules.specs.Running.{Base, HasConsole, HasActivations, ForksWell}
 use Rattle.sp_rules.specs.Shapes.{Shape}
 use Rattle.sp_rules.specs.Systems.{Fine, Inv}
 use Rattle.sp_rules.specs.Standing.{StandsAt, Caller, Under, IsBottom, Framed, ForksAt}
@@ -32,10 +32,10 @@ use Rattle.sp_rules.specs.Touched.{HasAnswer, stored_by}
 use Rattle.sp_rules.specs.Writable.{WritesWell, MayWrite}
 use Rattle.sp_rules.proofs.Ending.{T, Room, Sent, t_store, t_entered, t_deep, turn_safe, turn_well, turn_ranked}
 use Rattle.sp_rules.proofs.Ending.{turn_quiet}
-use Rattle.sp_rules.proofs.Answering.{IsAmong}
+use Rattle.sp_rules.proofs.Answering.{IsAreaAmong}
 use Rattle.sp_rules.specs.Forks as fork
 use Rattle.sp_rules.specs.Verdict.{is_stop, HasStop}
-use Rattle.sp_code.specs.Turns.{Comes}
+use Rattle.sp_code.specs.Turns.{RunsTo}
 use Rattle.sp_rules.proofs.Firsts.{first_stands, child_stands, root_frame}
 use Rattle.sp_rules.proofs.Instances.{may_do, keeps_calls, forks_well}
 use Rattle.sp_rules.proofs.Opening.{first_lives}
@@ -47,7 +47,8 @@ use Rattle.sp_rules.proofs.Scoping.{declared_here, found_layout, layout_differen
 use Rattle.sp_rules.proofs.Walking.{passes}
 use Rattle.sp_rules.proofs.Writing.{writes_kept, child_writes}
 
-module _ (g : Setting) (k : Keeps g.code) (e : KeepsEffects g.code (Does g.code)) (known : (p : ℕ) → Unknown g.code p
+module _ (g : CodeRun) (k : KeepsCodeRules g.code) (e : KeepsEffects g.code (Does g.code)) (known : (p : ℕ)
+    → Unknown g.code p
     → ⊥) (small : g.limits.depth ≤ 4294967295) where
   abbrev pub E : Area → ℕ → Type 0
   E = May g.code
@@ -68,7 +69,7 @@ module _ (g : Setting) (k : Keeps g.code) (e : KeepsEffects g.code (Does g.code)
   -- ---- what the next instruction needs
 
   pub ready : (b : Base g H E (T g)) (p : ℕ) (st : List Entry) (n : Memory Plain) (s : StandsAt g.code p st n.frames)
-      → Lives g H E (T g) b (areas s) (At p st n) → n.depth ≤ g.limits.depth → safe.ReadyAt plain g k p st n s
+      → HasActivations g H E (T g) b (areas s) (At p st n) → n.depth ≤ g.limits.depth → safe.ReadyAt plain g k p st n s
   ready b p st n s l d = record {
     whole = whole g k e known (T g) b s.area (areas_of s.callers) p st n l s.there s.shapes s.reached;
     input = input g k e known (T g) b s.area (areas_of s.callers) p st n l s.there s.shapes s.reached;
@@ -79,7 +80,7 @@ module _ (g : Setting) (k : Keeps g.code) (e : KeepsEffects g.code (Does g.code)
     answers = λ is f m at lay ans. answers f m at lay ans n.frames refl s.callers refl s.under is;
   }
     where
-      lies : Passes g.code s.area p
+      lies : IsInCodeOf g.code s.area p
       lies = passes g.code s.area p s.shapes s.reached
 
       not_bottom : instr_at g.code p ≡ Some i.Return → IsBottom s.area → ⊥
@@ -144,7 +145,7 @@ module _ (g : Setting) (k : Keeps g.code) (e : KeepsEffects g.code (Does g.code)
       first_same a d us vs e = cc
 
   pub forks : (a : Area) (p t n : ℕ) (v : ℤ) (d : Config (Memory Plain)) (us : List Area) → IsArea g.code a
-      → Passes g.code a p → ForksAt g.code p t n → T g (a ∷ us) d → depth_of d + 1 ≤ g.limits.depth
+      → IsInCodeOf g.code a p → ForksAt g.code p t n → T g (a ∷ us) d → depth_of d + 1 ≤ g.limits.depth
       → ForksWell g H E (T g) a t v n d
   forks a p t n v (At q st m) us area pass at stand deep =
       forks_well g k e known (T g) a p t n v (At q st m) area pass at
@@ -160,7 +161,7 @@ module _ (g : Setting) (k : Keeps g.code) (e : KeepsEffects g.code (Does g.code)
 
   pub writes : (b : Base g H E (T g)) (p q : ℕ) (st s1 : List Entry) (n m : Memory Plain)
       (s : StandsAt g.code p st n.frames) (t : StandsAt g.code q s1 m.frames)
-      → Lives g H E (T g) b (areas s) (At p st n) → MayWrite g.code (areas s) n
+      → HasActivations g H E (T g) b (areas s) (At p st n) → MayWrite g.code (areas s) n
       → safe.ChangesAt plain g k p st n s (areas t) m → MayWrite g.code (areas t) m
   writes b p q st s1 n m s t l h ch = writes_kept g k e known (T g) b p q st s1 n m s t l h ch
 
@@ -190,7 +191,7 @@ module _ (g : Setting) (k : Keeps g.code) (e : KeepsEffects g.code (Does g.code)
 
     -- an entry keeps that
     pub enters_live : (s t : System Plain) (q : ℕ) (ev : Event) → Inv g H E (T g) (Room g) (Sent g) s.condition s.births
-        → Enters plain g s q ev t → Inv g H E (T g) (Room g) (Sent g) t.condition t.births
+        → EntryLeads plain g s q ev t → Inv g H E (T g) (Room g) (Sent g) t.condition t.births
     enters_live s t q ev i h =
         enters_ok g H E (T g) (Room g) (Sent g) k.rooms (t_store g) (t_entered g) (t_deep g small)
         (λ b us c d x lv st tn. turn_well g k E mays calls ready forks writes b us c d x lv st tn)
@@ -217,9 +218,9 @@ module _ (g : Setting) (k : Keeps g.code) (e : KeepsEffects g.code (Does g.code)
         → fork.BreaksV8 g.code (Does g.code) (HasStop g.code) l f → ⊥)
         → (es : List Entered) (s : System Plain) → IsSystem plain g es s → (q : ℕ) (c : Config (Memory Plain))
         → s.condition q ≡ Working c → (p : ℕ) (st : List Entry) (m : Memory Plain)
-        → Comes (memory plain g) g.code c (At p st m) → is_stop (instr_at g.code p) ≡ true
+        → RunsTo (memory plain g) g.code c (At p st m) → is_stop (instr_at g.code p) ≡ true
         → (t : StandsAt g.code p st m.frames)
-        × ((f : ℕ) (l : Layout) → IsAmong g.code (Body f) (areas t) → layout_of g.code.layouts f ≡ Some l
+        × ((f : ℕ) (l : Layout) → IsAreaAmong g.code (Body f) (areas t) → layout_of g.code.layouts f ≡ Some l
         → l.answer ≡ false)
     quiet_along eight es s l q c runs p st m way is =
         let i = live_along es s l in

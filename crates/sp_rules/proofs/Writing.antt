@@ -21,24 +21,26 @@ use Rattle.sp_code.specs.declared.code.ChildTable.{ChildTable}
 use Rattle.sp_code.specs.declared.code.Layout.{Layout}
 use Rattle.sp_code.specs.declared.code.Parts.{Parts}
 use Rattle.sp_code.specs.Machine.{Entry, Config, At, layout_of}
-use Rattle.sp_code.specs.Memory.{OfBlock, Setting, Frame, Memory, references, referred, frames_up, without_frame}
-use Rattle.sp_code.specs.Memory.{opened}
+use Rattle.sp_code.specs.Memory.{OfBlock, CodeRun, Frame, Memory, references, reference_target, frames_up}
+use Rattle.sp_code.specs.Memory.{without_frame}
+use Rattle.sp_code.specs.Memory.{memory_after_call}
 use Rattle.sp_code.specs.PlainStore.{plain}
 use Rattle.sp_code.specs.Sound.{identity, means}
-use Rattle.sp_code.specs.System.{spot_of, spot_by, entire, with_index_frame, handing_of}
+use Rattle.sp_code.specs.System.{spot_of, spot_by, spot_of_address, with_index_frame, handing_of}
 use Rattle.sp_code.proofs.Plans.{in_spots}
 use Rattle.sp_rules.specs.Areas.{Area, Body, Child, homes, instr_at, child_at}
 use Rattle.sp_rules.specs.Chains.{Chain, all_variables, variables_of}
-use Rattle.sp_rules.specs.Changes.{areas, areas_of, Pairs, Same, Beats, Puts, Copies, Reads, Skips, Prints, Owns, Calls}
+use Rattle.sp_rules.specs.Changes.{areas, areas_of, Pairs, Unchanged, Ticks, PutsCell, Copies, ReadsItem, Skips, Prints}
+use Rattle.sp_rules.specs.Changes.{MakesOwn, Calls}
 use Rattle.sp_rules.specs.Changes.{Returns, Changes}
 use Rattle.sp_rules.specs.Effects.{Stored, IsEffect, IsActual, IsCalled, Does, Granted, May}
 use Rattle.sp_rules.specs.Forks.{KeepsEffects}
 use Rattle.sp_rules.specs.Holding.{Allowed}
-use Rattle.sp_rules.specs.Keeps.{Keeps}
+use Rattle.sp_rules.specs.KeepsCodeRules.{KeepsCodeRules}
 use Rattle.sp_rules.specs.Named.{Unknown}
-use Rattle.sp_rules.specs.Reach.{IsIn, IsArea, Passes, Reaches}
+use Rattle.sp_rules.specs.Reach.{IsIn, IsArea, IsInCodeOf, Reaches}
 use Rattle.sp_rules.specs.Rules as rule
-use Rattle.sp_rules.specs.Running.{Base, HasConsole, Lives}
+use Rattle.sp_rules.specs.Running.{Base, HasConsole, HasActivations}
 use Rattle.sp_rules.specs.Shapes.{Shape}
 use Rattle.sp_rules.specs.Standing.{StandsAt}
 use Rattle.sp_rules.specs.Touched.{stored_by}
@@ -59,7 +61,8 @@ newest_writes c r ss a [] fs h = h
 newest_writes c r ss a (b ∷ us) [] h = absurd h
 newest_writes c r ss a (b ∷ us) (f ∷ fs) h = h.0
 
-module _ (g : Setting) (k : Keeps g.code) (e : KeepsEffects g.code (Does g.code)) (known : (p : ℕ) → Unknown g.code p
+module _ (g : CodeRun) (k : KeepsCodeRules g.code) (e : KeepsEffects g.code (Does g.code)) (known : (p : ℕ)
+    → Unknown g.code p
     → ⊥) where
   abbrev ls : List Layout
   ls = g.code.layouts
@@ -90,7 +93,7 @@ module _ (g : Setting) (k : Keeps g.code) (e : KeepsEffects g.code (Does g.code)
       (call : IsCalled g.code a p f up ss lay) (fs : List Frame) (chain : Chain (homes g.code a) fs) (r N : ℕ)
       (es : List Entry) (ws : List Spot)
       (given : (j m : ℕ) → slice_get lay.formals j ≡ Some (formal.Reference m) → (x : ℕ) × IsActual lay ss j x
-      × ((to : Address) × (referred j (references 0 es) ≡ Some to) × (spot_of ls fs x ≡ Some to.spot)))
+      × ((to : Address) × (reference_target j (references 0 es) ≡ Some to) × (spot_of ls fs x ≡ Some to.spot)))
       (low : (x : ℕ) (s : Spot) → MayStore g.code a x → spot_of ls fs x ≡ Some s → s.frame < N)
       (was : WritesWell g.code r ws a fs) where
     kc : KeepsCalls ls (homes g.code a) up lay (May g.code a) (May g.code (Body f)) (IsActual lay ss)
@@ -142,7 +145,7 @@ module _ (g : Setting) (k : Keeps g.code) (e : KeepsEffects g.code (Does g.code)
         go (Some (formal.Reference n)) i =
             let w = given o.place n i in
             let same : w.2.0.spot ≡ s = same_Some _ _
-            (sym (o.stands_so w.2.0.spot (ap (spot_by new o.place) i ∙ ap entire w.2.1)) ∙ at) in
+            (sym (o.stands_so w.2.0.spot (ap (spot_by new o.place) i ∙ ap spot_of_address w.2.1)) ∙ at) in
             old w.0 s (may_store a w.0 area
             (actual_stored g.code k e known a p f up ss lay area call o.place w.0 w.1)) (w.2.2 ∙ ap Some same)
 
@@ -170,7 +173,8 @@ module _ (g : Setting) (k : Keeps g.code) (e : KeepsEffects g.code (Does g.code)
   module _ (T : List Area → Config (Memory Plain) → Type 0) (b : Base g (homes g.code) (May g.code) T) (p q : ℕ)
       (st s1 : List Entry) (n m : Memory Plain) (s : StandsAt g.code p st n.frames)
       (t : StandsAt g.code q s1 m.frames)
-      (l : Lives g (homes g.code) (May g.code) T b (areas s) (At p st n)) (was : MayWrite g.code (areas s) n) where
+      (l : HasActivations g (homes g.code) (May g.code) T b (areas s) (At p st n))
+      (was : MayWrite g.code (areas s) n) where
     abbrev K : Type 0
     K = HasConsole g (homes g.code) (May g.code) T b.area
 
@@ -200,9 +204,9 @@ module _ (g : Setting) (k : Keeps g.code) (e : KeepsEffects g.code (Does g.code)
         → instr_at g.code p ≡ Some (i.Call f up) → layout_of ls f ≡ Some lay
         → Pairs ls n.frames (rule.lowest_first (length lay.formals) s.shapes []) es
         → rule.fit_formals lay.formals (rule.lowest_first (length lay.formals) s.shapes []) ≡ true
-        → MayWrite g.code (Body f ∷ areas s) (opened plain g lay up es n)
+        → MayWrite g.code (Body f ∷ areas s) (memory_after_call plain g lay up es n)
     called f up lay es vs is at pr ft =
-        subst (λ zs. AllWriteWell g.code n.process zs (Body f ∷ areas s) (opened plain g lay up es n).frames)
+        subst (λ zs. AllWriteWell g.code n.process zs (Body f ∷ areas s) (memory_after_call plain g lay up es n).frames)
         (sym same_moved) (
           callee_writes s.area p f up s.shapes lay s.there
               (record { reached = s.reached; call = is; layout = at }) n.frames top.0 n.process (next_frame n.store)
@@ -210,7 +214,7 @@ module _ (g : Setting) (k : Keeps g.code) (e : KeepsEffects g.code (Does g.code)
           was,
         )
       where
-        same_moved : (opened plain g lay up es n).store.moved ≡ n.store.moved
+        same_moved : (memory_after_call plain g lay up es n).store.moved ≡ n.store.moved
         same_moved = filled_keeps (next_frame n.store) (λ z. z.moved ≡ n.store.moved) (λ z j cs h. h) 0 es
             (plain.pushed n.store lay.sizes) refl
 
@@ -223,16 +227,16 @@ module _ (g : Setting) (k : Keeps g.code) (e : KeepsEffects g.code (Does g.code)
     -- it keeps where the process may write
     pub writes_kept : Changes plain g s.area (instr_at g.code p) s.shapes n (areas s) (areas t) m
         → MayWrite g.code (areas t) m
-    writes_kept (Same i d) = alike i n d was
-    writes_kept (Beats i d) = alike i _ d was
-    writes_kept (Puts to c i w d) = alike i _ d was
+    writes_kept (Unchanged i d) = alike i n d was
+    writes_kept (Ticks i d) = alike i _ d was
+    writes_kept (PutsCell to c i w d) = alike i _ d was
     writes_kept (Copies to from j i w d) = alike i _ d was
-    writes_kept (Reads to c j i w z d) = alike i _ d was
+    writes_kept (ReadsItem to c j i w z d) = alike i _ d was
     writes_kept (Skips j i z d) = alike i _ d was
     writes_kept (Prints bs i z d) = alike i _ d was
-    writes_kept (Owns to j i w d) = alike i _ d was
+    writes_kept (MakesOwn to j i w d) = alike i _ d was
     writes_kept (Calls f up lay es i is at pr ft dp d) = subst (λ (y : Memory Plain). MayWrite g.code (areas t) y)
-        (sym d) (subst (λ us. MayWrite g.code us (opened plain g lay up es n)) (sym i)
+        (sym d) (subst (λ us. MayWrite g.code us (memory_after_call plain g lay up es n)) (sym i)
         (called f up lay es i is at pr ft))
     writes_kept (Returns i is d) = subst (λ (y : Memory Plain). MayWrite g.code (areas t) y) (sym d)
         (returned t.area (areas_of t.callers) n.frames refl (subst (λ us. MayWrite g.code us n) i was))
@@ -240,7 +244,7 @@ module _ (g : Setting) (k : Keeps g.code) (e : KeepsEffects g.code (Does g.code)
   -- ---- a child
 
   module _ (a : Area) (p j : ℕ) (ch : ChildTable) (pc : ℕ) (st : List Entry) (n : Memory Plain) (value : ℤ)
-      (r number : ℕ) (area : IsArea g.code a) (pass : Passes g.code a p) (is : child_at g.code p j ≡ Some ch) where
+      (r number : ℕ) (area : IsArea g.code a) (pass : IsInCodeOf g.code a p) (is : child_at g.code p j ≡ Some ch) where
     -- a forall moves nothing, so where something moves there is no frame of an index
     pub child_writes : WritesWell g.code r (handing_of ls n.frames value number ch).moved (Child a p j)
         (with_index_frame plain g r (handing_of ls n.frames value number ch) ch.index n.frames)

@@ -12,7 +12,7 @@ use Rattle.sp_code.specs.Memory.{Memory, memory}
 use Rattle.sp_code.specs.PlainStore.{plain}
 use Rattle.sp_code.specs.Sound.{AreLimits, run_of}
 use Rattle.sp_code.specs.System.{System, Working, IsSystem}
-use Rattle.sp_code.specs.Turns.{Comes}
+use Rattle.sp_code.specs.Turns.{RunsTo}
 use Rattle.sp_rules.specs.Areas.{Area, Body, instr_at}
 use Rattle.sp_rules.specs.Changes.{areas}
 use Rattle.sp_rules.specs.Effects.{IsCalled}
@@ -31,16 +31,16 @@ module _ (c : Parts) where
   Linked (a ∷ []) = Unit {0}
   Linked (a ∷ d ∷ us) = IsCallee d a × Linked (d ∷ us)
 
-  abbrev pub IsAmong : Area → List Area → Type 0
-  IsAmong a [] = ⊥
-  IsAmong a (d ∷ us) = (a ≡ d) ⊎ IsAmong a us
+  abbrev pub IsAreaAmong : Area → List Area → Type 0
+  IsAreaAmong a [] = ⊥
+  IsAreaAmong a (d ∷ us) = (a ≡ d) ⊎ IsAreaAmong a us
 
   -- along every journal, wherever a turn comes to an instruction that stops, no activation is of a block that answers
   abbrev pub AnswersQuietly : Type 0
   AnswersQuietly =
       (input : List ℕ) (lim : Limits) → AreLimits lim → (es : List Entered) (s : System Plain)
       → IsSystem plain (run_of c input lim) es s → (q : ℕ) (d : Config (Memory Plain)) → s.condition q ≡ Working d
-      → (p : ℕ) (st : List Entry) (m : Memory Plain) → Comes (memory plain (run_of c input lim)) c d (At p st m)
+      → (p : ℕ) (st : List Entry) (m : Memory Plain) → RunsTo (memory plain (run_of c input lim)) c d (At p st m)
       → is_stop (instr_at c p) ≡ true
       → (t : StandsAt c p st m.frames)
-      × ((f : ℕ) (l : Layout) → IsAmong (Body f) (areas t) → layout_of c.layouts f ≡ Some l → l.answer ≡ false)
+      × ((f : ℕ) (l : Layout) → IsAreaAmong (Body f) (areas t) → layout_of c.layouts f ≡ Some l → l.answer ≡ false)

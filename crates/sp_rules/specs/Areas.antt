@@ -21,9 +21,9 @@ pub data Area : Type 0 where
   Child : (around : Area) (at k : ℕ) → Area
 
 -- on with what is there, or another answer
-abbrev pub given : {A B : Type 0} → B → Option A → (A → B) → B
-given other None go = other
-given other (Some x) go = go x
+abbrev pub on_option : {A B : Type 0} → B → Option A → (A → B) → B
+on_option other None go = other
+on_option other (Some x) go = go x
 
 -- ---- children
 
@@ -71,12 +71,12 @@ leads_by (suc n) ls (Some l) = if l.block == 0 then true else leads_by n ls (par
 -- the program is there and has no parent
 abbrev pub is_root : Option Layout → Bool
 is_root None = false
-is_root (Some l) = given true l.parent (λ b. false)
+is_root (Some l) = on_option true l.parent (λ b. false)
 
 -- a layout's block alone
-abbrev pub alone : Option Layout → List Home
-alone None = []
-alone (Some l) = OfBlock l.block ∷ []
+abbrev pub single_home : Option Layout → List Home
+single_home None = []
+single_home (Some l) = OfBlock l.block ∷ []
 
 -- a block and those around it, the innermost first: no more than n
 abbrev pub homes_by : ℕ → List Layout → Option Layout → List Home
@@ -98,13 +98,13 @@ pub data Naming : Type 0 where
   ByReference : Naming
 
 -- a variable: its number in the tree, its cells, and how it is named. A reference formal has the cells of its type
-pub record Found : Type 0 where
+pub record VariableInfo : Type 0 where
   pub number : ℕ
   pub cells : ℕ
   pub naming : Naming
 
 -- a variable by its formal, if it is one, and its size
-abbrev pub found_by : ℕ → Option Formal → Option ℕ → Option Found
+abbrev pub found_by : ℕ → Option Formal → Option ℕ → Option VariableInfo
 found_by x None None = None
 found_by x None (Some n) = Some (record { number = x; cells = n; naming = Plainly })
 found_by x (Some (formal.Value k)) None = None
@@ -112,21 +112,21 @@ found_by x (Some (formal.Value k)) (Some n) = Some (record { number = x; cells =
 found_by x (Some (formal.Reference k)) n = Some (record { number = x; cells = k; naming = ByReference })
 
 -- the variable of a layout at a place
-abbrev pub found_in : Layout → ℕ → Option Found
-found_in l k = given None (slice_get l.variables k) (λ x. found_by x (slice_get l.formals k) (slice_get l.sizes k))
+abbrev pub found_in : Layout → ℕ → Option VariableInfo
+found_in l k = on_option None (slice_get l.variables k) (λ x. found_by x (slice_get l.formals k) (slice_get l.sizes k))
 
 -- the input and the output of the program
-abbrev pub console : ℕ → Found
+abbrev pub console : ℕ → VariableInfo
 console x = record { number = x; cells = 1; naming = Never }
 
 -- a variable of a block's frame, by its number there: that of the program has the input and the output first
-abbrev pub found_of : Option Layout → ℕ → Option Found
+abbrev pub found_of : Option Layout → ℕ → Option VariableInfo
 found_of None var = None
 found_of (Some l) var = if l.block == 0 then
     (if nat_lt var 2 then Some (console var) else found_in l (var - 2)) else found_in l var
 
 -- a variable of a frame
-abbrev pub found_at : List Layout → Home → ℕ → Option Found
+abbrev pub found_at : List Layout → Home → ℕ → Option VariableInfo
 found_at ls (OfBlock b) var = found_of (layout_of ls b) var
 found_at ls (OfIndex x) var = if var == 0 then Some (record { number = x; cells = 1; naming = Plainly }) else None
 
@@ -149,7 +149,7 @@ module _ (c : Parts) where
 
   -- the blocks around a block, the innermost first; a block that is not led to the program is alone
   abbrev pub block_homes : ℕ → List Home
-  block_homes b = if is_led b then homes_by (length c.layouts) c.layouts (layout_of c.layouts b) else alone
+  block_homes b = if is_led b then homes_by (length c.layouts) c.layouts (layout_of c.layouts b) else single_home
       (layout_of c.layouts b)
 
   -- the blocks and forall indices around an area, the innermost first
@@ -158,8 +158,8 @@ module _ (c : Parts) where
   homes (Child a p k) = with_home (index_of_child (child_at p k)) (homes a)
 
   -- a variable so many levels outward
-  abbrev pub variable_at : Area → (up var : ℕ) → Option Found
-  variable_at a up var = given None (slice_get (homes a) up) (λ h. found_at c.layouts h var)
+  abbrev pub variable_at : Area → (up var : ℕ) → Option VariableInfo
+  variable_at a up var = on_option None (slice_get (homes a) up) (λ h. found_at c.layouts h var)
 
   -- the block whose code an area lies in
   abbrev pub block_of : Area → ℕ

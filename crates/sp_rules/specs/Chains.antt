@@ -30,16 +30,17 @@ all_variables ls [] = []
 all_variables ls (h ∷ hs) = variables_in ls h ++ all_variables ls hs
 
 -- what the first frame that has it says, outward along the links
-abbrev pub along : {X : Type 0} → (Option X → Option X → Option X) → (Frame → List Frame → Home → Option X) → List Home
+abbrev pub first_along_links : {X : Type 0} → (Option X → Option X → Option X) → (Frame → List Frame → Home → Option X)
+    → List Home
     → List Frame → Option X
-along or at [] fs = None
-along or at (h ∷ hs) [] = None
-along or at (h ∷ hs) (f ∷ fs) = or (at f fs h) (along or at hs (last_frames f.link fs))
+first_along_links or at [] fs = None
+first_along_links or at (h ∷ hs) [] = None
+first_along_links or at (h ∷ hs) (f ∷ fs) = or (at f fs h) (first_along_links or at hs (last_frames f.link fs))
 
 -- where a variable stands
-abbrev pub stands : List Layout → List Home → List Frame → ℕ → Option Spot
-stands ls hs fs x = along or_outward (λ f gs h. spot_in ls f h x) hs fs
+abbrev pub spot_by_homes : List Layout → List Home → List Frame → ℕ → Option Spot
+spot_by_homes ls hs fs x = first_along_links or_outward (λ f gs h. spot_in ls f h x) hs fs
 
 -- how many cells it has
-abbrev pub extends : List Layout → List Home → List Frame → ℕ → Option ℕ
-extends ls hs fs x = along or_further (λ f gs h. extent_in ls f gs h x) hs fs
+abbrev pub extent_by_homes : List Layout → List Home → List Frame → ℕ → Option ℕ
+extent_by_homes ls hs fs x = first_along_links or_further (λ f gs h. extent_in ls f gs h x) hs fs

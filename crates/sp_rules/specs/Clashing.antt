@@ -6,8 +6,8 @@ use Rattle.sp_code.specs.declared.code.Formal.TheVariants as formal
 use Rattle.sp_code.specs.declared.code.Parts.{Parts}
 
 -- two children, to both of which variable 2 moves
-abbrev pub clashing : Parts
-clashing = record {
+abbrev pub clashing_children : Parts
+clashing_children = record {
   instrs = i.Fork 0 ∷ i.End ∷ i.End ∷ i.End ∷ [];
   layouts = record {
     block = 0;
@@ -30,8 +30,8 @@ clashing = record {
 }
 
 -- a procedure with two variable parameters, called with variable 2 twice
-abbrev pub doubled : Parts
-doubled = record {
+abbrev pub doubled_actuals : Parts
+doubled_actuals = record {
   instrs = i.Addr 0 2 ∷ i.Addr 0 2 ∷ i.Call 1 0 ∷ i.End ∷ i.Return ∷ [];
   layouts = record {
     block = 0;
@@ -56,8 +56,8 @@ doubled = record {
 }
 
 -- a procedure that is called by a child stores variable 2, which does not move to the child
-abbrev pub distant : Parts
-distant = record {
+abbrev pub distant_store : Parts
+distant_store = record {
   instrs = i.Fork 0 ∷ i.End ∷ i.Call 1 0 ∷ i.End ∷ i.Addr 1 2 ∷ i.Const (pos 7) ∷ i.Store ∷ i.Return ∷ [];
   layouts = record {
     block = 0;
@@ -74,8 +74,8 @@ distant = record {
 }
 
 -- two children, each of which stores the variable that moves to it
-abbrev pub moving : Parts
-moving = record {
+abbrev pub doubly_moved : Parts
+doubly_moved = record {
   instrs = i.Fork 0 ∷ i.End ∷ i.Addr 0 2 ∷ i.Const (pos 7) ∷ i.Store ∷ i.End ∷ i.Addr 0 3 ∷ i.Const
       (pos 8) ∷ i.Store ∷ i.End ∷ [];
   layouts = record {

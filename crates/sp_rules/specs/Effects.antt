@@ -11,7 +11,7 @@ use Rattle.sp_code.specs.declared.code.Parts.{Parts}
 use Rattle.sp_code.specs.Machine.{layout_of}
 use Rattle.sp_rules.specs.Areas.{Area, Body, Child, instr_at, child_at}
 use Rattle.sp_rules.specs.Shapes.{Shape, A}
-use Rattle.sp_rules.specs.Reach.{IsIn, Passes, Reaches}
+use Rattle.sp_rules.specs.Reach.{IsIn, IsInCodeOf, Reaches}
 use Rattle.sp_rules.specs.Touched.{stored_by, loaded_by}
 use Rattle.sp_rules.specs.Chains.{variables_of}
 
@@ -48,7 +48,7 @@ handed_to t = t.moved ++ t.shared
 module _ (c : Parts) where
   -- child k of the fork or forall at p is started in an area
   abbrev pub IsStarted : Area → (p k : ℕ) → ChildTable → Type 0
-  IsStarted a p k t = Passes c a p × (child_at c p k ≡ Some t)
+  IsStarted a p k t = IsInCodeOf c a p × (child_at c p k ≡ Some t)
 
   -- the block is called at p in an area, where the operands have these shapes
   pub record IsCalled (a : Area) (p b up : ℕ) (ss : List Shape) (l : Layout) : Type 0 where

@@ -10,7 +10,7 @@ use Rattle.sp_code.specs.declared.code.Formal.{Formal}
 use Rattle.sp_code.specs.declared.code.Formal.TheVariants as formal
 use Rattle.sp_code.specs.declared.code.Layout.{Layout}
 use Rattle.sp_code.specs.Machine.{layout_of}
-use Rattle.sp_code.specs.Memory.{Home, OfBlock, OfIndex, Frame, Memory, Stores, last_frames, referred}
+use Rattle.sp_code.specs.Memory.{Home, OfBlock, OfIndex, Frame, Memory, Stores, last_frames, reference_target}
 use Rattle.sp_code.specs.System.{place_of, first_number, spot_of}
 
 -- the cells of a variable of a block's frame, by its number there. The input has one, its position
@@ -40,7 +40,7 @@ size_behind ls fs (Some a) = size_in ls fs a.spot
 abbrev pub extent_by : List Layout → Frame → List Frame → ℕ → Option Formal → Option ℕ
 extent_by ls f fs k None = size_at ls f.home k
 extent_by ls f fs k (Some (formal.Value n)) = size_at ls f.home k
-extent_by ls f fs k (Some (formal.Reference n)) = size_behind ls fs (referred k f.references)
+extent_by ls f fs k (Some (formal.Reference n)) = size_behind ls fs (reference_target k f.references)
 
 abbrev pub extent_at : List Layout → Frame → List Frame → Layout → Option ℕ → Option ℕ
 extent_at ls f fs l None = None

@@ -21,16 +21,16 @@ input_spot = position_at.spot
 
 -- what is held of variable x, which stands at s: the input's position, the output, or a piece that has all its cells,
 -- in the newest frame with its number
-abbrev pub Has : List Layout → List Frame → Map → ℕ → Spot → Type 0
-Has ls fs m zero s = (n : ℕ) × (position_in (piece_of (map.get m s)) ≡ Some n)
-Has ls fs m (suc zero) s = IsOutput (map.get m s)
-Has ls fs m (suc (suc x)) s = (cs : List Cell) × (piece_of (map.get m s) ≡ Some cs)
+abbrev pub HoldsVariable : List Layout → List Frame → Map → ℕ → Spot → Type 0
+HoldsVariable ls fs m zero s = (n : ℕ) × (position_in (piece_of (map.get m s)) ≡ Some n)
+HoldsVariable ls fs m (suc zero) s = IsOutput (map.get m s)
+HoldsVariable ls fs m (suc (suc x)) s = (cs : List Cell) × (piece_of (map.get m s) ≡ Some cs)
     × (extent ls fs (suc (suc x)) ≡ Some (length cs)) × (size_in ls fs s ≡ Some (length cs))
 
 -- E: the effects of an activation, which has these frames; n is above the frames of the spots; K: the process has the
 -- input or the output
 pub record Allowed (ls : List Layout) (K : Type 0) (E : ℕ → Type 0) (n : ℕ) (fs : List Frame) (m : Map) : Type 0 where
-  pub held : (x : ℕ) → E x → (s : Spot) × (spot_of ls fs x ≡ Some s) × (s.frame < n) × Has ls fs m x s
+  pub held : (x : ℕ) → E x → (s : Spot) × (spot_of ls fs x ≡ Some s) × (s.frame < n) × HoldsVariable ls fs m x s
   pub apart : (x y : ℕ) (s : Spot) → E x → E y → spot_of ls fs x ≡ Some s → spot_of ls fs y ≡ Some s → x ≡ y
   pub console : E 0 ⊎ E 1 → K
   pub clear : K → (x : ℕ) (s : Spot) → 2 ≤ x → E x → spot_of ls fs x ≡ Some s → (s ≢ input_spot) × (s ≢ output_spot)

@@ -13,7 +13,7 @@ pub mod Systems
 pub mod Writable
 pub mod Named
 pub mod Rules
-pub mod Keeps
+pub mod KeepsCodeRules
 pub mod Changes
 pub mod Clashing
 pub mod Verdict

@@ -13,9 +13,10 @@ use Rattle.sp_code.specs.declared.code.ForkTable.{ForkTable}
 use Rattle.sp_code.specs.declared.code.Parts.{Parts}
 use Rattle.sp_code.specs.Machine.{layout_of}
 use Rattle.sp_code.specs.Memory.{Home, OfBlock, OfIndex}
-use Rattle.sp_rules.specs.Areas.{Area, Body, Child, Found, Naming, Plainly, Never, ByReference, given, instr_at}
+use Rattle.sp_rules.specs.Areas.{Area, Body, Child, VariableInfo, Naming, Plainly, Never, ByReference, on_option}
+use Rattle.sp_rules.specs.Areas.{instr_at}
 use Rattle.sp_rules.specs.Areas.{table_named, child_of, homes, variable_at, leads_by}
-use Rattle.sp_rules.specs.Reach.{IsIn, IsArea, Passes, nexts}
+use Rattle.sp_rules.specs.Reach.{IsIn, IsArea, IsInCodeOf, nexts}
 
 abbrev pub is_some : {T : Type 0} → Option T → Bool
 is_some None = false
@@ -75,15 +76,15 @@ IsBefore (OfChild t k) (OfChild u m) = (t < u) ⊎ ((t ≡ u) × (k < m))
 -- the variable of a layout at a place, and the index of a child, each with the first instruction of what it belongs to
 abbrev pub declared_in : Option Layout → ℕ → Option (ℕ × ℕ)
 declared_in None k = None
-declared_in (Some l) k = given None (slice_get l.variables k) (λ x. Some (x, l.entry))
+declared_in (Some l) k = on_option None (slice_get l.variables k) (λ x. Some (x, l.entry))
 
 abbrev pub declared_by : Option ChildTable → Option (ℕ × ℕ)
 declared_by None = None
-declared_by (Some t) = given None t.index (λ x. Some (x, t.entry))
+declared_by (Some t) = on_option None t.index (λ x. Some (x, t.entry))
 
-abbrev pub declared : Parts → Declared → Option (ℕ × ℕ)
-declared c (InLayout j k) = declared_in (slice_get c.layouts j) k
-declared c (OfChild t k) = declared_by (child_of (slice_get c.forks t) k)
+abbrev pub declaration_at : Parts → Declared → Option (ℕ × ℕ)
+declaration_at c (InLayout j k) = declared_in (slice_get c.layouts j) k
+declaration_at c (OfChild t k) = declared_by (child_of (slice_get c.forks t) k)
 
 -- ---- instructions
 
@@ -105,13 +106,13 @@ is_reference Never = false
 is_reference ByReference = true
 
 -- may end a loop's variable
-abbrev pub is_loop_variable : Option Found → Bool
+abbrev pub is_loop_variable : Option VariableInfo → Bool
 is_loop_variable None = false
 is_loop_variable (Some f) = is_plain f.naming && (f.cells == 1)
 
 -- a home has a variable
 abbrev pub has_variable : List Layout → ℕ → Home → Bool
-has_variable ls x (OfBlock b) = given false (layout_of ls b) (λ l. is_in x l.variables)
+has_variable ls x (OfBlock b) = on_option false (layout_of ls b) (λ l. is_in x l.variables)
 has_variable ls x (OfIndex y) = x == y
 
 abbrev pub some_has : List Layout → ℕ → List Home → Bool
@@ -138,7 +139,7 @@ module _ (c : Parts) where
   module _ (a : Area) where
     -- the level of a call is that of its block's parent
     abbrev pub level_fits : Option Instr → Bool
-    level_fits (Some (i.Call b up)) = given false (layout_of c.layouts b)
+    level_fits (Some (i.Call b up)) = on_option false (layout_of c.layouts b)
         (λ l. is_block l.parent (slice_get (homes c a) up))
     level_fits _ = true
 
@@ -154,8 +155,8 @@ module _ (c : Parts) where
 
     -- and may be named so
     abbrev pub names_well : Option Instr → Bool
-    names_well (Some (i.Addr up var)) = given false (variable_at c a up var) (λ f. is_plain f.naming)
-    names_well (Some (i.Deref up var)) = given false (variable_at c a up var) (λ f. is_reference f.naming)
+    names_well (Some (i.Addr up var)) = on_option false (variable_at c a up var) (λ f. is_plain f.naming)
+    names_well (Some (i.Deref up var)) = on_option false (variable_at c a up var) (λ f. is_reference f.naming)
     names_well _ = true
 
     abbrev pub loops_well : Option Instr → Bool
@@ -186,7 +187,7 @@ module _ (c : Parts) where
 
   -- an instruction is in the code of an area that is there
   abbrev pub LiesIn : ℕ → Area → Type 0
-  LiesIn p a = IsArea c a × Passes c a p
+  LiesIn p a = IsArea c a × IsInCodeOf c a p
 
   -- a layout's entry that is not there, or a child's
   pub record MissesEntry (p : ℕ) : Type 0 where
@@ -211,8 +212,8 @@ module _ (c : Parts) where
 
   -- 4: a variable is declared a second time, or is the input or the output
   abbrev pub DeclaredTwice : ℕ → Type 0
-  DeclaredTwice p = (d : Declared) × (x : ℕ) × (declared c d ≡ Some (x, p))
-      × ((x < 2) ⊎ ((e : Declared) × (q : ℕ) × IsBefore e d × (declared c e ≡ Some (x, q))))
+  DeclaredTwice p = (d : Declared) × (x : ℕ) × (declaration_at c d ≡ Some (x, p))
+      × ((x < 2) ⊎ ((e : Declared) × (q : ℕ) × IsBefore e d × (declaration_at c e ≡ Some (x, q))))
 
   -- 5: a layout's sizes are not as they should be
   abbrev pub Sized : ℕ → Type 0

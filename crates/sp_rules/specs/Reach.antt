@@ -10,7 +10,7 @@ use Rattle.sp_code.specs.declared.code.Layout.{Layout}
 use Rattle.sp_code.specs.declared.code.Parts.{Parts}
 use Rattle.sp_code.specs.Machine.{layout_of}
 use Rattle.sp_rules.specs.Areas.{Area, Body, Child, instr_at, child_at, entry}
-use Rattle.sp_rules.specs.Shapes.{Shape, Shaped, Wrong, To, shaped}
+use Rattle.sp_rules.specs.Shapes.{Shape, Shaped, Wrong, To, instr_shapes}
 
 -- the instructions to which one goes by a jump or by going on. `nocase` counts as going on, by what it takes and leaves
 abbrev pub nexts : ℕ → Option Instr → List ℕ
@@ -37,31 +37,32 @@ IsBrought q ts [] = ⊥
 IsBrought q ts (w ∷ ws) = ((q ≡ w.0) × (ts ≡ w.1)) ⊎ IsBrought q ts ws
 
 -- an instruction leads there with these shapes
-abbrev pub Leads : Shaped → ℕ → List Shape → Type 0
-Leads Wrong q ts = ⊥
-Leads (To ws) q ts = IsBrought q ts ws
+abbrev pub LeadsWith : Shaped → ℕ → List Shape → Type 0
+LeadsWith Wrong q ts = ⊥
+LeadsWith (To ws) q ts = IsBrought q ts ws
 
 module _ (c : Parts) where
   -- n steps lead from an instruction to another
-  abbrev pub Goes : ℕ → ℕ → ℕ → Type 0
-  Goes zero p q = p ≡ q
-  Goes (suc n) p q = (r : ℕ) × IsIn r (nexts p (instr_at c p)) × Goes n r q
+  abbrev pub LeadsInSteps : ℕ → ℕ → ℕ → Type 0
+  LeadsInSteps zero p q = p ≡ q
+  LeadsInSteps (suc n) p q = (r : ℕ) × IsIn r (nexts p (instr_at c p)) × LeadsInSteps n r q
 
   -- an instruction is in the code of an area
-  pub record Passes (a : Area) (p : ℕ) : Type 0 where
+  pub record IsInCodeOf (a : Area) (p : ℕ) : Type 0 where
     pub steps : ℕ
-    pub way : Goes steps (entry c a) p
+    pub way : LeadsInSteps steps (entry c a) p
 
   -- an area is there: its block has a layout, or its fork is in an area that is there, with that child
   abbrev pub IsArea : Area → Type 0
   IsArea (Body b) = (l : Layout) × (layout_of c.layouts b ≡ Some l)
-  IsArea (Child a p k) = IsArea a × Passes a p × ((t : ChildTable) × (child_at c p k ≡ Some t))
+  IsArea (Child a p k) = IsArea a × IsInCodeOf a p × ((t : ChildTable) × (child_at c p k ≡ Some t))
 
   module _ (a : Area) where
     -- a way of n instructions brings these shapes to an instruction
     abbrev pub Brings : ℕ → ℕ → List Shape → Type 0
     Brings zero p ss = (p ≡ entry c a) × (ss ≡ [])
-    Brings (suc n) q ts = (p : ℕ) × (ss : List Shape) × Brings n p ss × Leads (shaped c a (instr_at c p) p ss) q ts
+    Brings (suc n) q ts = (p : ℕ) × (ss : List Shape) × Brings n p ss
+        × LeadsWith (instr_shapes c a (instr_at c p) p ss) q ts
 
     -- some way brings them
     pub record Reaches (p : ℕ) (ss : List Shape) : Type 0 where
@@ -71,7 +72,7 @@ module _ (c : Parts) where
     -- an instruction is whole, where these shapes are brought: no two differ, and it takes what it needs of them
     abbrev pub IsWhole : (ℕ → List Shape → Type 0) → ℕ → Type 0
     IsWhole Brought p = ((ss ts : List Shape) → Brought p ss → Brought p ts → ss ≡ ts)
-        × ((ss : List Shape) → Brought p ss → shaped c a (instr_at c p) p ss ≢ Wrong)
+        × ((ss : List Shape) → Brought p ss → instr_shapes c a (instr_at c p) p ss ≢ Wrong)
 
     -- a way of at most n instructions brings these shapes, and goes on from an instruction only while all such ways
     -- leave it whole
@@ -79,4 +80,4 @@ module _ (c : Parts) where
     Arrives zero p ss = (p ≡ entry c a) × (ss ≡ [])
     Arrives (suc n) q ts = Arrives n q ts
         ⊎ ((p : ℕ) × (ss : List Shape) × Arrives n p ss × IsWhole (Arrives n) p
-        × Leads (shaped c a (instr_at c p) p ss) q ts)
+        × LeadsWith (instr_shapes c a (instr_at c p) p ss) q ts)

@@ -9,8 +9,8 @@ use Rattle.sp_code.specs.declared.code.Formal.TheVariants as formal
 use Rattle.sp_code.specs.declared.code.Layout.{Layout}
 use Rattle.sp_code.specs.declared.code.Parts.{Parts}
 use Rattle.sp_code.specs.Machine.{layout_of}
-use Rattle.sp_rules.specs.Areas.{Area, given, instr_at}
-use Rattle.sp_rules.specs.Shapes.{Shape, O, C, L, A, Wrong, shaped, stays_within}
+use Rattle.sp_rules.specs.Areas.{Area, on_option, instr_at}
+use Rattle.sp_rules.specs.Shapes.{Shape, O, C, L, A, Wrong, instr_shapes, stays_within}
 use Rattle.sp_rules.specs.Reach.{IsIn, IsArea, Reaches, Arrives, nexts}
 use Rattle.sp_rules.specs.Standing.{message_cells, cells_left}
 use Rattle.sp_rules.specs.Named.{IsLayout, LiesIn}
@@ -56,7 +56,7 @@ free_nexts p o = nexts p o
 module _ (c : Parts) where
   -- the operands of a call fit the formals of its block
   abbrev pub call_fits : Option Instr → List Shape → Bool
-  call_fits (Some (i.Call b up)) ss = given false (layout_of c.layouts b)
+  call_fits (Some (i.Call b up)) ss = on_option false (layout_of c.layouts b)
       (λ l. fit_formals l.formals (lowest_first (length l.formals) ss []))
   call_fits o ss = true
 
@@ -71,7 +71,8 @@ module _ (c : Parts) where
   -- V2: an operand is missing, of the wrong shape or left over; two ways bring different shapes. Ways count in the
   -- order of their length, and none goes on from an instruction that is found broken
   pub data BreaksV2 (p : ℕ) : Type 0 where
-    Lacks : (a : Area) (n : ℕ) (ss : List Shape) → ArrivesAt a n p ss → shaped c a (instr_at c p) p ss ≡ Wrong
+    LacksOperand : (a : Area) (n : ℕ) (ss : List Shape) → ArrivesAt a n p ss → instr_shapes c a (instr_at c p) p ss
+        ≡ Wrong
         → BreaksV2 p
     Differs : (a : Area) (n : ℕ) (ss ts : List Shape) → ArrivesAt a n p ss → ArrivesAt a n p ts → ss ≢ ts → BreaksV2 p
 

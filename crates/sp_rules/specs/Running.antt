@@ -8,9 +8,9 @@ use Rattle.sp_cell.specs.declared.spot.Address.{Address}
 use Rattle.sp_cell.specs.Map.{Plain, IsOwn}
 use Rattle.sp_code.specs.declared.code.ChildTable.{ChildTable}
 use Rattle.sp_code.specs.Machine.{Stop, Forks, Opens, Sends, Receives, Ends, Pauses, Config}
-use Rattle.sp_code.specs.Memory.{Setting, Home, Frame, Memory}
+use Rattle.sp_code.specs.Memory.{CodeRun, Home, Frame, Memory}
 use Rattle.sp_code.specs.PlainStore.{plain}
-use Rattle.sp_code.specs.System.{spot_of, frames_of, store_of, depth_of, child_or, table_or, newborn}
+use Rattle.sp_code.specs.System.{spot_of, frames_of, store_of, depth_of, child_or, table_or, child_process}
 use Rattle.sp_code.specs.Tables.{child_at}
 use Rattle.sp_rules.specs.Areas.{with_home}
 use Rattle.sp_rules.specs.Chains.{all_variables}
@@ -20,7 +20,7 @@ use Rattle.sp_rules.specs.Holding.{Holding}
 
 -- H: the blocks and indices around an area; E: what an activation of it may touch; T: how a process stands, whose
 -- activations are of these areas, the newest first (nothing of it is about its store)
-module _ (g : Setting) {Area : Type 0} (H : Area → List Home) (E : Area → ℕ → Type 0) (T : List Area
+module _ (g : CodeRun) {Area : Type 0} (H : Area → List Home) (E : Area → ℕ → Type 0) (T : List Area
     → Config (Memory Plain) → Type 0) where
   -- the area in which a process began, the frames that it had then, and the spots that moved to it
   pub record Base : Type 0 where
@@ -40,7 +40,7 @@ module _ (g : Setting) {Area : Type 0} (H : Area → List Home) (E : Area → �
   IsLast (a ∷ c ∷ us) (f ∷ fs) b = IsLast (c ∷ us) fs b
 
   -- a process that began so, with these activations
-  pub record Lives (b : Base) (us : List Area) (c : Config (Memory Plain)) : Type 0 where
+  pub record HasActivations (b : Base) (us : List Area) (c : Config (Memory Plain)) : Type 0 where
     pub holding : Holding g.code.layouts H E (HasConsole b.area) us (frames_of c) (depth_of c) (store_of c)
     pub last : IsLast us (frames_of c) b
     pub moved : (store_of c).moved ≡ b.moved
@@ -65,7 +65,7 @@ module _ (g : Setting) {Area : Type 0} (H : Area → List Home) (E : Area → �
     pub children : (j : ℕ) → j < n → IsChild a (area j) (table_of t j)
     pub clear : (j k x : ℕ) → j < n → k < n → j ≢ k → IsMember x (table_of t j).moved
         → IsMember x (handed_to (table_of t k)) → ⊥
-    pub stands : (j q : ℕ) → j < n → T (area j ∷ []) (newborn plain g d value q j (table_of t j))
+    pub stands : (j q : ℕ) → j < n → T (area j ∷ []) (child_process plain g d value q j (table_of t j))
 
   -- a variable that the first activation may touch stands there, with room for n cells from the address on
   pub record Aims (a : Area) (fs : List Frame) (p : Address) (n : ℕ) : Type 0 where

@@ -12,10 +12,10 @@ use Rattle.sp_code.specs.declared.code.ForkTable.{ForkTable}
 use Rattle.sp_code.specs.declared.code.Parts.{Parts}
 use Rattle.sp_code.specs.Machine.{Entry, Number, Chan, Pointer, Cells, Link, Reply, Stop, Forks, Opens, Sends, Receives}
 use Rattle.sp_code.specs.Machine.{Ends, Pauses, Config, At, layout_of}
-use Rattle.sp_code.specs.Memory.{Home, OfBlock, OfIndex, Frame, Memory, last_frames, referred}
+use Rattle.sp_code.specs.Memory.{Home, OfBlock, OfIndex, Frame, Memory, last_frames, reference_target}
 use Rattle.sp_code.specs.System.{spot_of}
 use Rattle.sp_rules.specs.Areas.{Area, Body, Child, homes, instr_at}
-use Rattle.sp_rules.specs.Shapes.{Shape, O, C, L, A, answered}
+use Rattle.sp_rules.specs.Shapes.{Shape, O, C, L, A, with_answer}
 use Rattle.sp_rules.specs.Reach.{IsArea, IsIn, Reaches}
 use Rattle.sp_rules.specs.Extents.{extent, size_in}
 use Rattle.sp_rules.specs.Touched.{stored_by}
@@ -32,18 +32,18 @@ pub record Points (ls : List Layout) (fs : List Frame) (x left : ℕ) (p : Addre
   pub small : size ≤ 4294967295
 
 -- an entry is of a shape
-abbrev pub Fits : List Layout → List Frame → Shape → Entry → Type 0
-Fits ls fs O (Number v) = Unit {0}
-Fits ls fs C (Chan ch) = Unit {0}
-Fits ls fs (L n) (Cells cs) = length cs ≡ n
-Fits ls fs (A x n) (Pointer p) = Points ls fs x n p
-Fits ls fs s e = ⊥
+abbrev pub HasShape : List Layout → List Frame → Shape → Entry → Type 0
+HasShape ls fs O (Number v) = Unit {0}
+HasShape ls fs C (Chan ch) = Unit {0}
+HasShape ls fs (L n) (Cells cs) = length cs ≡ n
+HasShape ls fs (A x n) (Pointer p) = Points ls fs x n p
+HasShape ls fs s e = ⊥
 
 -- the topmost entries are of these shapes, and what lies below them is the rest
 abbrev pub Operands : List Layout → List Frame → List Shape → List Entry → List Entry → Type 0
 Operands ls fs [] st rest = st ≡ rest
 Operands ls fs (s ∷ ss) [] rest = ⊥
-Operands ls fs (s ∷ ss) (e ∷ st) rest = Fits ls fs s e × Operands ls fs ss st rest
+Operands ls fs (s ∷ ss) (e ∷ st) rest = HasShape ls fs s e × Operands ls fs ss st rest
 
 -- ---- frames
 
@@ -61,7 +61,7 @@ abbrev pub RefersWell : List Layout → Frame → List Frame → Home → Type 0
 RefersWell ls f fs (OfIndex x) = Unit {0}
 RefersWell ls f fs (OfBlock b) =
     (l : Layout) → layout_of ls b ≡ Some l → (k n : ℕ) → slice_get l.formals k ≡ Some (formal.Reference n)
-    → Refers ls fs (referred k f.references) n
+    → Refers ls fs (reference_target k f.references) n
 
 -- the frames of a process are those of these blocks and indices, outward along the links from the newest, and no others
 abbrev pub Framed : List Layout → List Home → List Frame → Type 0
@@ -97,7 +97,7 @@ module _ (c : Parts) where
   Under (k ∷ ks) a (f ∷ fs) st =
       (b : ℕ) × (l : Layout) × (st1 : List Entry) × (rest : List Entry) × (a ≡ Body b) × ((b == 0) ≡ false)
       × (layout_of c.layouts b ≡ Some l) × (st ≡ link_of l.answer k.at ∷ st1)
-      × IsArea c k.area × Reaches c k.area k.at (answered l.answer k.shapes) × Framed c.layouts (homes c k.area) fs
+      × IsArea c k.area × Reaches c k.area k.at (with_answer l.answer k.shapes) × Framed c.layouts (homes c k.area) fs
       × Operands c.layouts fs k.shapes st1 rest × Under ks k.area fs rest
 
   -- a process stands at p with this stack and these frames
@@ -113,8 +113,8 @@ module _ (c : Parts) where
     pub under : Under callers area fs rest
 
   -- a process stands
-  abbrev pub Stands : {S : Type 0} → Config (Memory S) → Type 0
-  Stands (At p st n) = StandsAt p st n.frames
+  abbrev pub ProcessStands : {S : Type 0} → Config (Memory S) → Type 0
+  ProcessStands (At p st n) = StandsAt p st n.frames
 
   -- ---- at a stop
 

@@ -10,26 +10,26 @@ use Rattle.sp_cell.specs.Spots.{In, NotIn, IsDistinct}
 use Rattle.sp_journal.specs.Births.{Births}
 use Rattle.sp_journal.specs.declared.entry.Birth.{Birth}
 use Rattle.sp_code.specs.Machine.{Config}
-use Rattle.sp_code.specs.Memory.{Setting, Home, Frame, Memory}
+use Rattle.sp_code.specs.Memory.{CodeRun, Home, Frame, Memory}
 use Rattle.sp_code.specs.System.{Condition, Absent, Working, Waits, Joins, Laid, Gone, Over, spot_of, frames_of}
 use Rattle.sp_code.specs.System.{store_of, on_store}
 use Rattle.sp_rules.specs.Extents.{extent}
-use Rattle.sp_rules.specs.Running.{Base, Lives, StopsWell}
+use Rattle.sp_rules.specs.Running.{Base, HasActivations, StopsWell}
 
 -- a list without the first q
-abbrev pub without : ℕ → List ℕ → List ℕ
-without q [] = []
-without q (x ∷ xs) = cond (q == x) xs (x ∷ without q xs)
+abbrev pub without_first : ℕ → List ℕ → List ℕ
+without_first q [] = []
+without_first q (x ∷ xs) = cond (q == x) xs (x ∷ without_first q xs)
 
 -- how many children a process awaits yet
-abbrev pub awaits : {S : Type 0} → Condition S → ℕ
-awaits Absent = 0
-awaits (Working c) = 0
-awaits (Waits stop c) = 0
-awaits (Joins left c) = left
-awaits (Laid c) = 0
-awaits Gone = 0
-awaits (Over c) = 0
+abbrev pub awaited_children : {S : Type 0} → Condition S → ℕ
+awaited_children Absent = 0
+awaited_children (Working c) = 0
+awaited_children (Waits stop c) = 0
+awaited_children (Joins left c) = left
+awaited_children (Laid c) = 0
+awaited_children Gone = 0
+awaited_children (Over c) = 0
 
 -- a process that has not ended
 abbrev pub IsLive : {S : Type 0} → Condition S → Type 0
@@ -41,7 +41,7 @@ IsLive (Laid c) = Unit {0}
 IsLive Gone = ⊥
 IsLive (Over c) = ⊥
 
-module _ (g : Setting) {Area : Type 0} (H : Area → List Home) (E : Area → ℕ → Type 0) (T : List Area
+module _ (g : CodeRun) {Area : Type 0} (H : Area → List Home) (E : Area → ℕ → Type 0) (T : List Area
     → Config (Memory Plain) → Type 0) (Room Cells : ℕ → ℕ → Type 0) where
   -- a spot that moved to a child is that of a variable which both may touch, with the same cells in the frames of both
   pub record Heir (a : Area) (fs : List Frame) (b : Base g H E T) (q : Spot) : Type 0 where
@@ -74,15 +74,15 @@ module _ (g : Setting) {Area : Type 0} (H : Area → List Home) (E : Area → �
     pub area : Area
     pub callers : List Area
     pub whole : Map
-    pub lives : Lives g H E T b (area ∷ callers) (with_whole whole c)
+    pub lives : HasActivations g H E T b (area ∷ callers) (with_whole whole c)
     pub stands : T (area ∷ callers) c
     pub lent : Lent base rs area (frames_of c) (store_of c).map whole
 
   -- a process lives in its condition
   abbrev pub Fine : (ℕ → Base g H E T) → Base g H E T → List ℕ → Condition Plain → Type 0
   Fine base b rs Absent = Unit {0}
-  Fine base b rs (Working c) = (us : List Area) × Lives g H E T b us c × T us c
-  Fine base b rs (Waits stop c) = (us : List Area) × Lives g H E T b us c × T us c
+  Fine base b rs (Working c) = (us : List Area) × HasActivations g H E T b us c × T us c
+  Fine base b rs (Waits stop c) = (us : List Area) × HasActivations g H E T b us c × T us c
       × StopsWell g H E T Room Cells stop us c
   Fine base b rs (Joins left c) = JoinsWell base b rs c
   Fine base b rs (Laid c) = Unit {0}
@@ -94,7 +94,7 @@ module _ (g : Setting) {Area : Type 0} (H : Area → List Home) (E : Area → �
     pub base : ℕ → Base g H E T
     pub children : ℕ → List ℕ
     pub each : (q : ℕ) → Fine base (base q) (children q) (condition q)
-    pub count : (q : ℕ) → length (children q) ≡ awaits (condition q)
+    pub count : (q : ℕ) → length (children q) ≡ awaited_children (condition q)
     pub all : (q : ℕ) (x : Birth) → births.birth q ≡ Some x → IsLive (condition q) → IsMember q (children x.parent)
     pub young : (q : ℕ) → births.processes ≤ q → condition q ≡ Absent
     pub known : (q r : ℕ) → IsMember r (children q) → r < births.processes

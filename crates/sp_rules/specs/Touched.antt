@@ -8,19 +8,19 @@ use Rattle.sp_code.specs.declared.instr.Instr.TheVariants as i
 use Rattle.sp_code.specs.declared.code.Layout.{Layout}
 use Rattle.sp_code.specs.declared.code.Parts.{Parts}
 use Rattle.sp_code.specs.Machine.{layout_of}
-use Rattle.sp_code.specs.Memory.{Setting, Stores, Memory, memory}
-use Rattle.sp_rules.specs.Areas.{Area, Body, Found, given, variable_at}
-use Rattle.sp_rules.specs.Shapes.{Shape, O, C, L, A, below}
+use Rattle.sp_code.specs.Memory.{CodeRun, Stores, Memory, memory}
+use Rattle.sp_rules.specs.Areas.{Area, Body, VariableInfo, on_option, variable_at}
+use Rattle.sp_rules.specs.Shapes.{Shape, O, C, L, A, below_topmost}
 use Rattle.sp_rules.specs.Reach.{IsIn}
 use Rattle.sp_rules.specs.Extents.{HasWhole}
 
 -- the variable of the topmost operand, if it is an address
-abbrev pub topmost : List Shape → List ℕ
-topmost [] = []
-topmost (O ∷ ss) = []
-topmost (C ∷ ss) = []
-topmost (L n ∷ ss) = []
-topmost (A x n ∷ ss) = x ∷ []
+abbrev pub topmost_variable : List Shape → List ℕ
+topmost_variable [] = []
+topmost_variable (O ∷ ss) = []
+topmost_variable (C ∷ ss) = []
+topmost_variable (L n ∷ ss) = []
+topmost_variable (A x n ∷ ss) = x ∷ []
 
 -- the variables of the addresses among the n topmost
 abbrev pub addresses : ℕ → List Shape → List ℕ
@@ -31,23 +31,23 @@ addresses (suc n) (C ∷ ss) = addresses n ss
 addresses (suc n) (L k ∷ ss) = addresses n ss
 addresses (suc n) (A x k ∷ ss) = x ∷ addresses n ss
 
-abbrev pub numbered : Option Found → List ℕ
-numbered None = []
-numbered (Some f) = f.number ∷ []
+abbrev pub number_list : Option VariableInfo → List ℕ
+number_list None = []
+number_list (Some f) = f.number ∷ []
 
 module _ (c : Parts) (a : Area) where
   -- what it stores: an assignment's target, what is read, opened, received or passed by reference, a loop's variable;
   -- reading stores variable 0, writing variable 1
   abbrev pub stored_by : Option Instr → List Shape → List ℕ
-  stored_by (Some i.Store) ss = topmost (below ss)
-  stored_by (Some (i.Copy k)) ss = topmost (below ss)
-  stored_by (Some (i.Forup var to)) ss = numbered (variable_at c a 0 var)
-  stored_by (Some (i.Fordown var to)) ss = numbered (variable_at c a 0 var)
-  stored_by (Some (i.Nextup var to)) ss = numbered (variable_at c a 0 var)
-  stored_by (Some (i.Nextdown var to)) ss = numbered (variable_at c a 0 var)
-  stored_by (Some (i.Call b up)) ss = given [] (layout_of c.layouts b) (λ l. addresses (length l.formals) ss)
-  stored_by (Some i.ReadInt) ss = 0 ∷ topmost ss
-  stored_by (Some i.ReadChar) ss = 0 ∷ topmost ss
+  stored_by (Some i.Store) ss = topmost_variable (below_topmost ss)
+  stored_by (Some (i.Copy k)) ss = topmost_variable (below_topmost ss)
+  stored_by (Some (i.Forup var to)) ss = number_list (variable_at c a 0 var)
+  stored_by (Some (i.Fordown var to)) ss = number_list (variable_at c a 0 var)
+  stored_by (Some (i.Nextup var to)) ss = number_list (variable_at c a 0 var)
+  stored_by (Some (i.Nextdown var to)) ss = number_list (variable_at c a 0 var)
+  stored_by (Some (i.Call b up)) ss = on_option [] (layout_of c.layouts b) (λ l. addresses (length l.formals) ss)
+  stored_by (Some i.ReadInt) ss = 0 ∷ topmost_variable ss
+  stored_by (Some i.ReadChar) ss = 0 ∷ topmost_variable ss
   stored_by (Some i.Readln) ss = 0 ∷ []
   stored_by (Some i.WriteInt) ss = 1 ∷ []
   stored_by (Some i.WriteChar) ss = 1 ∷ []
@@ -58,36 +58,36 @@ module _ (c : Parts) (a : Area) where
   stored_by (Some i.WritewBool) ss = 1 ∷ []
   stored_by (Some (i.WritewText k)) ss = 1 ∷ []
   stored_by (Some i.Writeln) ss = 1 ∷ []
-  stored_by (Some i.Open) ss = topmost ss
-  stored_by (Some (i.Receive k)) ss = topmost ss
+  stored_by (Some i.Open) ss = topmost_variable ss
+  stored_by (Some (i.Receive k)) ss = topmost_variable ss
   stored_by _ ss = []
 
   -- what it loads
   abbrev pub loaded_by : Option Instr → List Shape → List ℕ
-  loaded_by (Some i.Load) ss = topmost ss
-  loaded_by (Some i.Loadc) ss = topmost ss
-  loaded_by (Some (i.Pack k)) ss = topmost ss
-  loaded_by (Some (i.Copy k)) ss = topmost ss
+  loaded_by (Some i.Load) ss = topmost_variable ss
+  loaded_by (Some i.Loadc) ss = topmost_variable ss
+  loaded_by (Some (i.Pack k)) ss = topmost_variable ss
+  loaded_by (Some (i.Copy k)) ss = topmost_variable ss
   loaded_by (Some i.Eof) ss = 0 ∷ []
   loaded_by (Some i.Eoln) ss = 0 ∷ []
   loaded_by _ ss = []
 
   -- both
-  abbrev pub touched : Option Instr → List Shape → List ℕ
-  touched o ss = stored_by o ss ++ loaded_by o ss
+  abbrev pub touched_by : Option Instr → List Shape → List ℕ
+  touched_by o ss = stored_by o ss ++ loaded_by o ss
 
 -- where a block's result is, if it has one, there is a cell
-abbrev pub HasAnswer : {S : Type 0} → Stores S → Setting → Memory S → Option Address → Type 0
+abbrev pub HasAnswer : {S : Type 0} → Stores S → CodeRun → Memory S → Option Address → Type 0
 HasAnswer stores g n None = Unit {0}
 HasAnswer stores g n (Some p) = (memory stores g).has p 1 n ≡ true
 
 -- what an instruction needs of the memory: the variables that it touches are held whole; the input has its position,
 -- and the output is there; a new frame has a number; the newest frame may go
-pub record Ready {S : Type 0} (stores : Stores S) (g : Setting) (a : Area) (o : Option Instr) (ss : List Shape)
+pub record MemorySuffices {S : Type 0} (stores : Stores S) (g : CodeRun) (a : Area) (o : Option Instr) (ss : List Shape)
     (n : Memory S) : Type 0 where
-  pub whole : (x : ℕ) → IsIn x (touched g.code a o ss) → 2 ≤ x → HasWhole stores g.code.layouts n x
-  pub input : IsIn 0 (touched g.code a o ss) → IsSome ((memory stores g).left n)
-  pub output : IsIn 1 (touched g.code a o ss) → (memory stores g).has_output n ≡ true
+  pub whole : (x : ℕ) → IsIn x (touched_by g.code a o ss) → 2 ≤ x → HasWhole stores g.code.layouts n x
+  pub input : IsIn 0 (touched_by g.code a o ss) → IsSome ((memory stores g).left n)
+  pub output : IsIn 1 (touched_by g.code a o ss) → (memory stores g).has_output n ≡ true
   pub calls : (b up : ℕ) → o ≡ Some (i.Call b up) → nat_le (stores.next_frame n.store) 18446744073709551615 ≡ true
   pub returns : o ≡ Some i.Return → (memory stores g).may_close n ≡ true
   pub answers : o ≡ Some i.Return → (b : ℕ) (l : Layout) → a ≡ Body b → layout_of g.code.layouts b ≡ Some l

@@ -67,23 +67,23 @@ module _ (c : Parts) where
   BreaksV8 p = (l : Layout) × IsLayout c l × (l.entry ≡ p) × fork.BreaksV8 c (Does c) HasStop l l.block
 
   -- a rule is broken at an instruction
-  abbrev pub Breaks : Rule → ℕ → Type 0
-  Breaks V1 p = BreaksV1 c p
-  Breaks V2 p = BreaksV2 c p
-  Breaks V3 p = BreaksV3 c p
-  Breaks V4 p = BreaksV4 c p
-  Breaks V5 p = BreaksV5 c p
-  Breaks V6 p = BreaksV6 p
-  Breaks V7 p = BreaksV7 p
-  Breaks V8 p = BreaksV8 p
-  Breaks V9 p = BreaksV9 c p
+  abbrev pub BreaksRuleAt : Rule → ℕ → Type 0
+  BreaksRuleAt V1 p = BreaksV1 c p
+  BreaksRuleAt V2 p = BreaksV2 c p
+  BreaksRuleAt V3 p = BreaksV3 c p
+  BreaksRuleAt V4 p = BreaksV4 c p
+  BreaksRuleAt V5 p = BreaksV5 c p
+  BreaksRuleAt V6 p = BreaksV6 p
+  BreaksRuleAt V7 p = BreaksV7 p
+  BreaksRuleAt V8 p = BreaksV8 p
+  BreaksRuleAt V9 p = BreaksV9 c p
 
   -- no rule is broken
   abbrev pub IsVerified : Type 0
-  IsVerified = (v : Rule) (p : ℕ) → Breaks v p → ⊥
+  IsVerified = (v : Rule) (p : ℕ) → BreaksRuleAt v p → ⊥
 
   -- rejected for rule v at p
   pub record IsRejected (v : Rule) (p : ℕ) : Type 0 where
-    pub broken : Breaks v p
-    pub first : (w : Rule) (q : ℕ) → number w < number v → Breaks w q → ⊥
-    pub least : (q : ℕ) → q < p → Breaks v q → ⊥
+    pub broken : BreaksRuleAt v p
+    pub first : (w : Rule) (q : ℕ) → number w < number v → BreaksRuleAt w q → ⊥
+    pub least : (q : ℕ) → q < p → BreaksRuleAt v q → ⊥

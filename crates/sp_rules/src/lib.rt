@@ -24,7 +24,8 @@
 //!   `EffectRows` codes that break V6 or V7, `KeptRows` a code with a fork that keeps V6 and V7.
 //!
 //! To change:
-//! - A rule: its file of `specs/`, its point in `Keeps` or `Forks`, and of the proofs `Kept`, `Unbroken` or `Ranked`;
+//! - A rule: its file of `specs/`, its point in `KeepsCodeRules` or `Forks`, and of the proofs `Kept`, `Unbroken` or
+//!   `Ranked`;
 //!   then the pass that looks for it, in `sp_areas`, `sp_shapes` or `sp_effects`.
 #![tactic(auto)]
 

@@ -6,23 +6,24 @@ use Rattle.std.specs.Prelude.{ℤ, pos, ◌+ℤ◌}
 use Rattle.sp_tree.specs.declared.checked.Stmt as ast
 use Rattle.sp_tree.specs.Plain.{Stmt}
 use Rattle.sp_tree.specs.PlainOf.{stmt_of, stmts_of}
-use Rattle.sp_run.specs.declared.machine.Setting as set
+use Rattle.sp_run.specs.declared.machine.RunInput as set
 use Rattle.sp_run.specs.declared.state.State.{State}
-use Rattle.sp_meaning.specs.Model.{Name, Becomes, Works, after}
-use Rattle.sp_meaning.specs.Steps.{births}
-use Rattle.sp_meaning.specs.Own as o
+use Rattle.sp_meaning.specs.Model.{Name, Becomes, Works, with_changes}
+use Rattle.sp_meaning.specs.Steps.{birth_changes}
+use Rattle.sp_meaning.specs.LocalWork as o
 use Rattle.sp_meaning.specs.SuperPascal.{superpascal}
-use Rattle.sp_meaning.specs.Deeds.{push, children, indexed_children, newborn, newborns}
+use Rattle.sp_meaning.specs.Actions.{push, children, indexed_children, new_process, new_processes}
 use Rattle.sp_meaning.specs.Runs.{StateOf}
-use Rattle.sp_run.specs.Machines.{setting_of}
+use Rattle.sp_run.specs.Machines.{run_input_of}
 use Rattle.sp_run.specs.States.{state_of, ChangeIn, Changes}
 
-module _ (g : o.Setting) (p : Name) (k : ℕ) (w : o.Who) (own : o.Own) where
+module _ (g : o.RunInput) (p : Name) (k : ℕ) (w : o.Identity) (own : o.LocalState) where
   pub born_on : (ss : List ast.Stmt) (i : ℕ) (s : ast.Stmt) → i < length ss → s ≡ get_or ss i s
-      → births {L = superpascal g} p k i (newborns w own i (children (stmts_of (drop i ss))))
-      ≡ Becomes ((k, i) ∷ p) (Works (newborn w own i (record { todo = push (stmt_of s) []; index = None })))
-      ∷ births {L = superpascal g} p k (suc i) (newborns w own (suc i) (children (stmts_of (drop (suc i) ss))))
-  born_on ss i s h e = ap (λ z. births {L = superpascal g} p k i (newborns w own i (children (stmts_of z))))
+      → birth_changes {L = superpascal g} p k i (new_processes w own i (children (stmts_of (drop i ss))))
+      ≡ Becomes ((k, i) ∷ p) (Works (new_process w own i (record { todo = push (stmt_of s) []; index = None })))
+      ∷ birth_changes {L = superpascal g} p k (suc i)
+      (new_processes w own (suc i) (children (stmts_of (drop (suc i) ss))))
+  born_on ss i s h e = ap (λ z. birth_changes {L = superpascal g} p k i (new_processes w own i (children (stmts_of z))))
       (split ss i s h e)
     where
       split : (ss : List ast.Stmt) (i : ℕ) (s : ast.Stmt) → i < length ss → s ≡ get_or ss i s
@@ -32,8 +33,8 @@ module _ (g : o.Setting) (p : Name) (k : ℕ) (w : o.Who) (own : o.Own) where
       split (t ∷ ss) (suc i) s h e = split ss i s (omega arith) e
 
   pub born_end : (ss : List ast.Stmt) (i : ℕ) → length ss ≤ i
-      → births {L = superpascal g} p k i (newborns w own i (children (stmts_of (drop i ss)))) ≡ []
-  born_end ss i h = ap (λ z. births {L = superpascal g} p k i (newborns w own i (children (stmts_of z))))
+      → birth_changes {L = superpascal g} p k i (new_processes w own i (children (stmts_of (drop i ss)))) ≡ []
+  born_end ss i h = ap (λ z. birth_changes {L = superpascal g} p k i (new_processes w own i (children (stmts_of z))))
       (nothing ss i h)
     where
       nothing : (ss : List ast.Stmt) (i : ℕ) → length ss ≤ i → drop i ss ≡ []
@@ -43,71 +44,74 @@ module _ (g : o.Setting) (p : Name) (k : ℕ) (w : o.Who) (own : o.Own) where
       nothing (t ∷ ss) (suc i) h = nothing ss i (omega arith)
 
   pub indexed_on : (x : ℕ) (s : Stmt) (low value : ℤ) (n i : ℕ) → i < n → value ≡ low +ℤ pos i
-      → births {L = superpascal g} p k i (newborns w own i (indexed_children x s (low +ℤ pos i) (n - i)))
-      ≡ Becomes ((k, i) ∷ p) (Works (newborn w own i (record { todo = push s []; index = Some (x, value) })))
-      ∷ births {L = superpascal g} p k (suc i)
-      (newborns w own (suc i) (indexed_children x s (low +ℤ pos (suc i)) (n - suc i)))
+      → birth_changes {L = superpascal g} p k i (new_processes w own i (indexed_children x s (low +ℤ pos i) (n - i)))
+      ≡ Becomes ((k, i) ∷ p) (Works (new_process w own i (record { todo = push s []; index = Some (x, value) })))
+      ∷ birth_changes {L = superpascal g} p k (suc i)
+      (new_processes w own (suc i) (indexed_children x s (low +ℤ pos (suc i)) (n - suc i)))
   indexed_on x s low value n i h e =
       let d : n - i ≡ suc (n - suc i) = omega arith in
       let f : (low +ℤ pos i) +ℤ pos 1 ≡ low +ℤ pos (suc i) = grind (arith, ints) in
       rw (d, e, ← f) refl
 
   pub indexed_end : (x : ℕ) (s : Stmt) (low : ℤ) (n i : ℕ) → n ≤ i
-      → births {L = superpascal g} p k i (newborns w own i (indexed_children x s (low +ℤ pos i) (n - i))) ≡ []
+      → birth_changes {L = superpascal g} p k i
+      (new_processes w own i (indexed_children x s (low +ℤ pos i) (n - i))) ≡ []
   indexed_end x s low n i h = let d : n - i ≡ 0 = omega arith in rw d refl
 
-module _ (run : set.Setting) (p : Name) (k : ℕ) (w : o.Who) (own : o.Own) where
+module _ (run : set.RunInput) (p : Name) (k : ℕ) (w : o.Identity) (own : o.LocalState) where
   abbrev each_from : List ast.Stmt → ℕ → List (ChangeIn run)
-  each_from ss i = births {L = superpascal (setting_of run)} p k i (newborns w own i (children (stmts_of (drop i ss))))
+  each_from ss i = birth_changes {L = superpascal (run_input_of run)} p k i
+      (new_processes w own i (children (stmts_of (drop i ss))))
 
   -- one child more is born
   pub born_next : (a b : State) (ss : List ast.Stmt) (i j n : ℕ) (s : ast.Stmt) (child : o.Process)
-      (r : StateOf (setting_of run))
+      (r : StateOf (run_input_of run))
       → i < length ss → s ≡ get_or ss i s → j ≡ i + 1 → n ≡ i
-      → child ≡ newborn w own n (record { todo = push (stmt_of s) []; index = None })
+      → child ≡ new_process w own n (record { todo = push (stmt_of s) []; index = None })
       → Changes run a (Becomes ((k, n) ∷ p) (Works child) ∷ []) b
-      → after (each_from ss i) (state_of run a) ≡ r → after (each_from ss j) (state_of run b) ≡ r
+      → with_changes (each_from ss i) (state_of run a) ≡ r → with_changes (each_from ss j) (state_of run b) ≡ r
   born_next a b ss i j n s child r h e f m c d t =
       let u : j ≡ suc i = omega arith in
       let d1 = rw (c, m) at d in
-      rw u (ap (λ (v : StateOf (setting_of run)). after (each_from ss (suc i)) v) d1
-      ∙ (sym (ap (λ (z : List (ChangeIn run)). after z (state_of run a))
-      (born_on (setting_of run) p k w own ss i s h e)) ∙ t))
+      rw u (ap (λ (v : StateOf (run_input_of run)). with_changes (each_from ss (suc i)) v) d1
+      ∙ (sym (ap (λ (z : List (ChangeIn run)). with_changes z (state_of run a))
+      (born_on (run_input_of run) p k w own ss i s h e)) ∙ t))
 
-  pub born_all : (a : State) (ss : List ast.Stmt) (i : ℕ) (r : StateOf (setting_of run)) → length ss ≤ i
-      → after (each_from ss i) (state_of run a) ≡ r → state_of run a ≡ r
-  born_all a ss i r h t = sym (ap (λ (z : List (ChangeIn run)). after z (state_of run a))
-      (born_end (setting_of run) p k w own ss i h)) ∙ t
+  pub born_all : (a : State) (ss : List ast.Stmt) (i : ℕ) (r : StateOf (run_input_of run)) → length ss ≤ i
+      → with_changes (each_from ss i) (state_of run a) ≡ r → state_of run a ≡ r
+  born_all a ss i r h t = sym (ap (λ (z : List (ChangeIn run)). with_changes z (state_of run a))
+      (born_end (run_input_of run) p k w own ss i h)) ∙ t
 
   abbrev indexed_from : ℕ → Stmt → ℤ → ℕ → ℕ → List (ChangeIn run)
-  indexed_from x s low n i = births {L = superpascal (setting_of run)} p k i
-      (newborns w own i (indexed_children x s (low +ℤ pos i) (n - i)))
+  indexed_from x s low n i = birth_changes {L = superpascal (run_input_of run)} p k i
+      (new_processes w own i (indexed_children x s (low +ℤ pos i) (n - i)))
 
   pub indexed_next : (a b : State) (x : ℕ) (s : Stmt) (low value : ℤ) (n i j : ℕ) (child : o.Process)
-      (r : StateOf (setting_of run))
+      (r : StateOf (run_input_of run))
       → i < n → value ≡ low +ℤ pos i → j ≡ i + 1
-      → child ≡ newborn w own i (record { todo = push s []; index = Some (x, value) })
+      → child ≡ new_process w own i (record { todo = push s []; index = Some (x, value) })
       → Changes run a (Becomes ((k, i) ∷ p) (Works child) ∷ []) b
-      → after (indexed_from x s low n i) (state_of run a) ≡ r → after (indexed_from x s low n j) (state_of run b) ≡ r
+      → with_changes (indexed_from x s low n i) (state_of run a) ≡ r
+      → with_changes (indexed_from x s low n j) (state_of run b) ≡ r
   indexed_next a b x s low value n i j child r h e f c d t =
       let u : j ≡ suc i = omega arith in
       let d1 = rw c at d in
-      rw u (ap (λ (v : StateOf (setting_of run)). after (indexed_from x s low n (suc i)) v) d1
-      ∙ (sym (ap (λ (z : List (ChangeIn run)). after z (state_of run a))
-      (indexed_on (setting_of run) p k w own x s low value n i h e)) ∙ t))
+      rw u (ap (λ (v : StateOf (run_input_of run)). with_changes (indexed_from x s low n (suc i)) v) d1
+      ∙ (sym (ap (λ (z : List (ChangeIn run)). with_changes z (state_of run a))
+      (indexed_on (run_input_of run) p k w own x s low value n i h e)) ∙ t))
 
-  pub indexed_all : (a : State) (x : ℕ) (s : Stmt) (low : ℤ) (n i : ℕ) (r : StateOf (setting_of run)) → n ≤ i
-      → after (indexed_from x s low n i) (state_of run a) ≡ r → state_of run a ≡ r
-  indexed_all a x s low n i r h t = sym (ap (λ (z : List (ChangeIn run)). after z (state_of run a))
-      (indexed_end (setting_of run) p k w own x s low n i h)) ∙ t
+  pub indexed_all : (a : State) (x : ℕ) (s : Stmt) (low : ℤ) (n i : ℕ) (r : StateOf (run_input_of run)) → n ≤ i
+      → with_changes (indexed_from x s low n i) (state_of run a) ≡ r → state_of run a ≡ r
+  indexed_all a x s low n i r h t = sym (ap (λ (z : List (ChangeIn run)). with_changes z (state_of run a))
+      (indexed_end (run_input_of run) p k w own x s low n i h)) ∙ t
 
 -- how many they are
-pub each_count : (w : o.Who) (own : o.Own) (ss : List ast.Stmt) (i : ℕ)
-    → length ss ≡ length (newborns w own i (children (stmts_of ss)))
+pub each_count : (w : o.Identity) (own : o.LocalState) (ss : List ast.Stmt) (i : ℕ)
+    → length ss ≡ length (new_processes w own i (children (stmts_of ss)))
 each_count w own [] i = refl
 each_count w own (s ∷ ss) i = ap suc (each_count w own ss (suc i))
 
-pub indexed_count : (w : o.Who) (own : o.Own) (x : ℕ) (s : Stmt) (low : ℤ) (n i : ℕ)
-    → n ≡ length (newborns w own i (indexed_children x s low n))
+pub indexed_count : (w : o.Identity) (own : o.LocalState) (x : ℕ) (s : Stmt) (low : ℤ) (n i : ℕ)
+    → n ≡ length (new_processes w own i (indexed_children x s low n))
 indexed_count w own x s low zero i = refl
 indexed_count w own x s low (suc n) i = ap suc (indexed_count w own x s (low +ℤ pos 1) n (suc i))

@@ -2,18 +2,18 @@
 use Rattle.std.proofs.Common.{◌≡◌, ◌⊎◌, ⊎_elim, ℕ, zero, suc, ◌+◌, ◌<◌, ◌≤◌, List, [], ◌∷◌}
 use Rattle.std.proofs.Common.{Option, Some, None, map, length, get_or, refl, ap, ◌∙◌, sym, subst, arith, add-one}
 use Rattle.sp_base.proofs.Facts.{below_or_at}
-use Rattle.sp_run.specs.declared.machine.Setting as set
+use Rattle.sp_run.specs.declared.machine.RunInput as set
 use Rattle.sp_run.specs.declared.state.Became.{Became}
 use Rattle.sp_run.specs.declared.state.State.{State}
 use Rattle.sp_meaning.specs.Model as m
 use Rattle.sp_meaning.specs.Model.{Name}
-use Rattle.sp_meaning.specs.Own as o
-use Rattle.sp_meaning.specs.Runs.{running}
-use Rattle.sp_meaning.specs.Steps.{way_of, working_in}
+use Rattle.sp_meaning.specs.LocalWork as o
+use Rattle.sp_meaning.specs.Runs.{running_process}
+use Rattle.sp_meaning.specs.Steps.{way_of, own_part_in}
 use Rattle.sp_meaning.specs.Ends.{Waiting, IsIn, IsSorted, IsIdle, WaitsSo}
-use Rattle.sp_run.specs.Machines.{setting_of}
+use Rattle.sp_run.specs.Machines.{run_input_of}
 use Rattle.sp_run.specs.States.{Standing, plain_condition, offer_in, conditions_of, state_of}
-use Rattle.sp_run.specs.Meanings.{inserted, with_offer, AreWaiting}
+use Rattle.sp_run.specs.Meanings.{with_one_waiting, with_offer, AreWaiting}
 use Rattle.sp_run.proofs.Sorting.{sorted_inserted, in_inserted, inserted_keeps, inserted_has, waits_once, entered}
 
 -- the name of an entry
@@ -30,18 +30,20 @@ known : (bs : List Became) (q : Name) → (conditions_of bs q ≡ m.Absent)
     ⊎ ((k : ℕ) × (k < length bs) × (name_at bs k ≡ q))
 known bs q = entered (λ (b : Became). b.name) (λ (b : Became). plain_condition b.condition) (λ p. m.Absent) bs q
 
-pub idle_all : (run : set.Setting) (s : State)
-    → ((k : ℕ) → k < length s.conditions → running (setting_of run) (state_of run s) (name_at s.conditions k) ≡ None)
-    → IsIdle (setting_of run) (state_of run s)
+pub idle_all : (run : set.RunInput) (s : State)
+    → ((k : ℕ) → k < length s.conditions → running_process (run_input_of run) (state_of run s) (name_at s.conditions k)
+    ≡ None)
+    → IsIdle (run_input_of run) (state_of run s)
 unfolding state_of
 idle_all run s h q = ⊎_elim
-    (λ (e : conditions_of s.conditions q ≡ m.Absent). ap (working_in (conditions_of s.conditions) q) e)
+    (λ (e : conditions_of s.conditions q ≡ m.Absent). ap (own_part_in (conditions_of s.conditions) q) e)
     (λ (x : (k : ℕ) × (k < length s.conditions) × (name_at s.conditions k ≡ q)). subst
-    (λ z. running (setting_of run) (state_of run s) z ≡ None) x.2 (h x.0 x.1))
+    (λ z. running_process (run_input_of run) (state_of run s) z ≡ None) x.2 (h x.0 x.1))
     (known s.conditions q)
 
 -- an offer stands in a condition where its process waits
-pub waits_with : (c : Standing) (f : m.Offer o.Process o.Held o.Address) → offer_in c ≡ Some f → c ≡ m.Waits f
+pub waits_with : (c : Standing) (f : m.Offer o.Process o.LocationContent o.Address) → offer_in c ≡ Some f
+    → c ≡ m.Waits f
 waits_with m.Absent f e = absurd (cc e)
 waits_with (m.Works p) f e = absurd (cc e)
 waits_with (m.Waits h) f e = cc e
@@ -49,37 +51,38 @@ waits_with (m.Joins k n p) f e = absurd (cc e)
 waits_with m.Ended f e = absurd (cc e)
 
 -- of the entries below one, those that wait
-pub record AreBelow (run : set.Setting) (s : State) (i : ℕ) (vs : List Waiting) : Type 0 where
+pub record AreBelow (run : set.RunInput) (s : State) (i : ℕ) (vs : List Waiting) : Type 0 where
   pub sorted : IsSorted vs
-  pub only : (w : Waiting) → IsIn w vs → WaitsSo (setting_of run) (state_of run s) w
-  pub whole : (k : ℕ) → k < i → (w : Waiting) → WaitsSo (setting_of run) (state_of run s) w
+  pub only : (w : Waiting) → IsIn w vs → WaitsSo (run_input_of run) (state_of run s) w
+  pub whole : (k : ℕ) → k < i → (w : Waiting) → WaitsSo (run_input_of run) (state_of run s) w
       → name_at s.conditions k ≡ w.who → IsIn w vs
 
-below_waits : (run : set.Setting) (s : State) (i : ℕ) (vs : List Waiting) (f : m.Offer o.Process o.Held o.Address)
+below_waits : (run : set.RunInput) (s : State) (i : ℕ) (vs : List Waiting)
+    (f : m.Offer o.Process o.LocationContent o.Address)
     → AreBelow run s i vs
     → offer_in (conditions_of s.conditions (name_at s.conditions i)) ≡ Some f
-    → AreBelow run s (suc i) (inserted (record
+    → AreBelow run s (suc i) (with_one_waiting (record
     { who = name_at s.conditions i; way = way_of f.cargo; channel = f.channel }) vs)
 unfolding state_of
 below_waits run s i vs f h e =
     let w : Waiting = record { who = name_at s.conditions i; way = way_of f.cargo; channel = f.channel } in
-    let so : WaitsSo (setting_of run) (state_of run s) w =
+    let so : WaitsSo (run_input_of run) (state_of run s) w =
     (f, waits_with (conditions_of s.conditions (name_at s.conditions i)) f e, refl, refl) in
-    let has : IsIn w (inserted w vs) = inserted_has w vs
-    (λ v k n. waits_once (setting_of run) (state_of run s) w v so (h.only v k) n) in
+    let has : IsIn w (with_one_waiting w vs) = inserted_has w vs
+    (λ v k n. waits_once (run_input_of run) (state_of run s) w v so (h.only v k) n) in
     record {
       sorted = sorted_inserted w vs h.sorted;
-      only = λ v k. ⊎_elim (λ (z : v ≡ w). subst (WaitsSo (setting_of run) (state_of run s)) (sym z) so)
+      only = λ v k. ⊎_elim (λ (z : v ≡ w). subst (WaitsSo (run_input_of run) (state_of run s)) (sym z) so)
           (λ (z : IsIn v vs). h.only v z) (in_inserted v w vs k);
       whole = λ k l v t n. ⊎_elim
           (λ (z : k < i). inserted_keeps v w vs (h.whole k z v t n))
           (λ (z : k ≡ i). let q : w.who ≡ v.who = ap (name_at s.conditions) (sym z) ∙ n in
-          let is : w ≡ v = waits_once (setting_of run) (state_of run s) w v so t q in
-          subst (λ u. IsIn u (inserted w vs)) is has)
+          let is : w ≡ v = waits_once (run_input_of run) (state_of run s) w v so t q in
+          subst (λ u. IsIn u (with_one_waiting w vs)) is has)
           (below_or_at k i l);
     }
 
-below_past : (run : set.Setting) (s : State) (i : ℕ) (vs : List Waiting) → AreBelow run s i vs
+below_past : (run : set.RunInput) (s : State) (i : ℕ) (vs : List Waiting) → AreBelow run s i vs
     → offer_in (conditions_of s.conditions (name_at s.conditions i)) ≡ None → AreBelow run s (suc i) vs
 unfolding state_of
 below_past run s i vs h e = record {
@@ -93,14 +96,14 @@ below_past run s i vs h e = record {
       (below_or_at k i l);
 }
 
-below_one : (run : set.Setting) (s : State) (i : ℕ) (vs : List Waiting)
-    (x : Option (m.Offer o.Process o.Held o.Address)) → AreBelow run s i vs
+below_one : (run : set.RunInput) (s : State) (i : ℕ) (vs : List Waiting)
+    (x : Option (m.Offer o.Process o.LocationContent o.Address)) → AreBelow run s i vs
     → offer_in (conditions_of s.conditions (name_at s.conditions i)) ≡ x
     → AreBelow run s (suc i) (with_offer (name_at s.conditions i) x vs)
 below_one run s i vs None h e = below_past run s i vs h e
 below_one run s i vs (Some f) h e = below_waits run s i vs f h e
 
-pub below_next : (run : set.Setting) (s : State) (i : ℕ) (b : Became) (vs us : List Waiting) → AreBelow run s i vs
+pub below_next : (run : set.RunInput) (s : State) (i : ℕ) (b : Became) (vs us : List Waiting) → AreBelow run s i vs
     → i < length s.conditions → b ≡ get_or s.conditions i b
     → us ≡ with_offer b.name (offer_in (conditions_of s.conditions b.name)) vs → AreBelow run s (i + 1) us
 below_next run s i b vs us h l e u =
@@ -109,8 +112,8 @@ below_next run s i b vs us h l e u =
     (with_offer n (offer_in (conditions_of s.conditions n)) vs)) at
     (below_one run s i vs (offer_in (conditions_of s.conditions (name_at s.conditions i))) h refl))
 
-pub below_all : (run : set.Setting) (s : State) (i : ℕ) (vs : List Waiting) → AreBelow run s i vs
-    → length s.conditions ≤ i → AreWaiting (setting_of run) (state_of run s) vs
+pub below_all : (run : set.RunInput) (s : State) (i : ℕ) (vs : List Waiting) → AreBelow run s i vs
+    → length s.conditions ≤ i → AreWaiting (run_input_of run) (state_of run s) vs
 unfolding state_of
 below_all run s i vs h l = record {
   sorted = h.sorted;

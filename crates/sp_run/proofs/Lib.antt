@@ -1,4 +1,4 @@
-mod Acting
+mod ActionSteps
 mod Arms
 mod Births
 mod Blocks
@@ -6,8 +6,8 @@ mod Chains
 mod Changing
 mod Collecting
 mod Ending
-mod Following
-mod Goings
+mod ChainedCalls
+mod RestOfItems
 mod Handing
 mod Logs
 mod Longest
@@ -15,7 +15,7 @@ mod Naming
 mod Opening
 mod Placing
 mod Pushing
-mod SameDeeds
+mod SameActions
 mod SameEval
 mod Sorting
 mod Stepped

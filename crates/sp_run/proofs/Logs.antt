@@ -7,32 +7,34 @@ use Rattle.sp_run.specs.declared.state.Pends.{Pends}
 use Rattle.sp_meaning.specs.Maps.{at_key}
 use Rattle.sp_meaning.specs.Model.{Name, Channel, same_name, same_channel, Absent}
 use Rattle.sp_run.specs.Views.{plain_channel}
-use Rattle.sp_run.specs.States.{logged, plain_condition, conditions_of, forks_of, pending_of}
+use Rattle.sp_run.specs.States.{map_of_log, plain_condition, conditions_of, forks_of, pending_of}
 
 module _ {W K X : Type 0} (same : K → K → Bool) (key : W → K) (held : W → X) where
   pub logged_append : (m : K → X) (ws : List W) (w : W)
-      → logged same key held m (ws ++ w ∷ []) ≡ at_key same (key w) (held w) (logged same key held m ws)
+      → map_of_log same key held m (ws ++ w ∷ []) ≡ at_key same (key w) (held w) (map_of_log same key held m ws)
   logged_append m [] w = refl
   logged_append m (v ∷ ws) w = logged_append (at_key same (key v) (held v) m) ws w
 
   logged_take : (m : K → X) (ws : List W) (i : ℕ) (w : W) → i < length ws → w ≡ get_or ws i w
-      → logged same key held m (take (suc i) ws) ≡ at_key same (key w) (held w) (logged same key held m (take i ws))
+      → map_of_log same key held m (take (suc i) ws) ≡ at_key same (key w) (held w)
+      (map_of_log same key held m (take i ws))
   logged_take m [] i w h e = absurd (omega arith)
   logged_take m (v ∷ ws) zero w h e = rw e refl
   logged_take m (v ∷ ws) (suc i) w h e = logged_take (at_key same (key v) (held v) m) ws i w (omega arith) e
 
   pub here : (m : K → X) (ws : List W) (i : ℕ) (w : W) (q : K) → 0 < i → i ≤ length ws → w ≡ get_or ws (i - 1) w
-      → same (key w) q ≡ true → logged same key held m (take i ws) q ≡ held w
+      → same (key w) q ≡ true → map_of_log same key held m (take i ws) q ≡ held w
   here m ws zero w q h n e b = absurd (omega arith)
   here m ws (suc i) w q h n e b = rw (logged_take m ws i w (omega arith) (rw sub-one at e)) (rw b refl)
 
   pub elsewhere : (m : K → X) (ws : List W) (i : ℕ) (w : W) (q : K) → 0 < i → i ≤ length ws → w ≡ get_or ws (i - 1) w
-      → same (key w) q ≡ false → logged same key held m (take (i - 1) ws) q ≡ logged same key held m (take i ws) q
+      → same (key w) q ≡ false → map_of_log same key held m (take (i - 1) ws) q ≡ map_of_log same key held m
+      (take i ws) q
   elsewhere m ws zero w q h n e b = absurd (omega arith)
   elsewhere m ws (suc i) w q h n e b = rw sub-one
       (rw (logged_take m ws i w (omega arith) (rw sub-one at e)) (rw b refl))
 
-  pub none : (m : K → X) (ws : List W) (i : ℕ) (q : K) → i ≡ 0 → logged same key held m (take i ws) q ≡ m q
+  pub none : (m : K → X) (ws : List W) (i : ℕ) (q : K) → i ≡ 0 → map_of_log same key held m (take i ws) q ≡ m q
   none m ws i q z = rw z refl
 
 pub condition_here : (bs : List Became) (i : ℕ) (b : Became) (q : Name) → 0 < i → i ≤ length bs

@@ -7,8 +7,8 @@ use Rattle.sp_tree.specs.declared.checked.Var as ast_v
 use Rattle.sp_tree.specs.Plain.{Expr, Stmt, Send, Receive, And}
 use Rattle.sp_tree.specs.declared.checked.Stmt as ast_s
 use Rattle.sp_tree.specs.PlainOf.{stmts, sends, receives, expr_of, var_of, stmt_of, stmts_of}
-use Rattle.sp_meaning.specs.Own.{Item}
-use Rattle.sp_meaning.specs.Deeds.{push, push_all}
+use Rattle.sp_meaning.specs.LocalWork.{Item}
+use Rattle.sp_meaning.specs.Actions.{push, push_all}
 
 -- the last of the first i goes on first
 pub push_all_take : {A : Type 0} (p : A → Stmt) (ss : List A) (i : ℕ) (d : A) (todo : List Item) → i < length ss

@@ -17,35 +17,36 @@ use Rattle.sp_tree.specs.Plain.{Entire, Index, Field, Selectors, Whole, Select, 
 use Rattle.sp_tree.specs.Plain.{Pass, Variable}
 use Rattle.sp_meaning.specs.Model.{Channel, same_channel}
 use Rattle.sp_meaning.specs.Values.{Value, Undefined, Ordinal, Chan, Parts}
-use Rattle.sp_meaning.specs.Own.{Input, Address, Home, OfBlock, OfIndex, Setting, position_in, is_block}
-use Rattle.sp_meaning.specs.Own.{is_index, referred}
-use Rattle.sp_meaning.specs.Eval.{Place, At, Fixed, Given, ValueOf, PlaceOf, field_kind, in_frame}
-use Rattle.sp_run.specs.Direct.{Work, bind, give, fail, lost, look, fetch, or_lost, visible}
-use Rattle.sp_meaning.specs.Operators.{Worked, Yields, Faults, truth, ranged, successor, predecessor, absolute, square}
-use Rattle.sp_meaning.specs.Operators.{is_odd, unary_op, binary_op, least, greatest}
+use Rattle.sp_meaning.specs.LocalWork.{Input, Address, Home, OfBlock, OfIndex, RunInput, position_in, is_block}
+use Rattle.sp_meaning.specs.LocalWork.{is_index, reference_target}
+use Rattle.sp_meaning.specs.Eval.{Place, AtAddress, Fixed, ArgumentValue, ValueOf, PlaceOf, field_kind, in_frame}
+use Rattle.sp_run.specs.Direct.{Work, bind, give, fail, ill_formed, read_location, fetch, or_ill_formed, visible_frame}
+use Rattle.sp_meaning.specs.Operators.{OperatorResult, Yields, OperatorFault, truth, value_in_range, successor}
+use Rattle.sp_meaning.specs.Operators.{predecessor, absolute_value, square}
+use Rattle.sp_meaning.specs.Operators.{is_odd, unary_op, binary_op, least_ordinal, greatest_ordinal}
 use Rattle.sp_meaning.specs.Texts.{at_line_end}
 
 -- what a call of a function gives
 abbrev pub Calls : Type 0
-Calls = ℕ → List Given → Work Value
+Calls = ℕ → List ArgumentValue → Work Value
 
 -- what an operator gives
-abbrev pub work_of : Worked → Work Value
+abbrev pub work_of : OperatorResult → Work Value
 work_of (Yields n) = give (Ordinal n)
-work_of (Faults f) = fail f
+work_of (OperatorFault f) = fail f
 
 -- the ordinal that an evaluated expression is
 abbrev pub ordinal : Value → Work ℤ
-ordinal Undefined = lost
+ordinal Undefined = ill_formed
 ordinal (Ordinal n) = give n
-ordinal (Chan c) = lost
-ordinal (Parts vs) = lost
+ordinal (Chan c) = ill_formed
+ordinal (Parts vs) = ill_formed
 
 abbrev pub channel : Value → Work Channel
-channel Undefined = lost
-channel (Ordinal n) = lost
+channel Undefined = ill_formed
+channel (Ordinal n) = ill_formed
 channel (Chan c) = give c
-channel (Parts vs) = lost
+channel (Parts vs) = ill_formed
 
 -- the value of an expression of an ordinal type, as a number
 abbrev pub as_ordinal : Work Value → Work ℤ
@@ -56,45 +57,45 @@ as_ordinal h = bind h ordinal
 abbrev pub channels_op : BinaryOp → Channel → Channel → Work Value
 channels_op binary.Eq c d = work_of (truth (same_channel c d))
 channels_op binary.Ne c d = work_of (truth (not (same_channel c d)))
-channels_op binary.Lt c d = lost
-channels_op binary.Le c d = lost
-channels_op binary.Gt c d = lost
-channels_op binary.Ge c d = lost
-channels_op binary.Add c d = lost
-channels_op binary.Sub c d = lost
-channels_op binary.Or c d = lost
-channels_op binary.Mul c d = lost
-channels_op binary.Div c d = lost
-channels_op binary.Mod c d = lost
-channels_op binary.And c d = lost
+channels_op binary.Lt c d = ill_formed
+channels_op binary.Le c d = ill_formed
+channels_op binary.Gt c d = ill_formed
+channels_op binary.Ge c d = ill_formed
+channels_op binary.Add c d = ill_formed
+channels_op binary.Sub c d = ill_formed
+channels_op binary.Or c d = ill_formed
+channels_op binary.Mul c d = ill_formed
+channels_op binary.Div c d = ill_formed
+channels_op binary.Mod c d = ill_formed
+channels_op binary.And c d = ill_formed
 
 abbrev pub operate : BinaryOp → Value → Value → Work Value
-operate op Undefined w = lost
+operate op Undefined w = ill_formed
 operate op (Ordinal m) w = bind (ordinal w) (λ n. work_of (binary_op op m n))
 operate op (Chan c) w = bind (channel w) (λ d. channels_op op c d)
-operate op (Parts vs) w = lost
+operate op (Parts vs) w = ill_formed
 
 -- a standard function of one argument; the type is that of the result
 abbrev pub standard_op : StandardFn → KindOf → ℤ → Work Value
-standard_op standard.Abs k n = work_of (absolute n)
+standard_op standard.Abs k n = work_of (absolute_value n)
 standard_op standard.Sqr k n = work_of (square n)
 standard_op standard.Odd k n = work_of (is_odd n)
 standard_op standard.Ord k n = give (Ordinal n)
-standard_op standard.Chr k n = work_of (ranged (pos 0) (pos 255) n)
-standard_op standard.Succ k n = work_of (successor (greatest k) n)
-standard_op standard.Pred k n = work_of (predecessor (least k) n)
-standard_op standard.Eof k n = lost
-standard_op standard.Eoln k n = lost
+standard_op standard.Chr k n = work_of (value_in_range (pos 0) (pos 255) n)
+standard_op standard.Succ k n = work_of (successor (greatest_ordinal k) n)
+standard_op standard.Pred k n = work_of (predecessor (least_ordinal k) n)
+standard_op standard.Eof k n = ill_formed
+standard_op standard.Eoln k n = ill_formed
 
 -- eof and eoln, of what is left of the input
 abbrev pub input_op : StandardFn → List ℕ → Work Value
-input_op standard.Abs bs = lost
-input_op standard.Sqr bs = lost
-input_op standard.Odd bs = lost
-input_op standard.Ord bs = lost
-input_op standard.Chr bs = lost
-input_op standard.Succ bs = lost
-input_op standard.Pred bs = lost
+input_op standard.Abs bs = ill_formed
+input_op standard.Sqr bs = ill_formed
+input_op standard.Odd bs = ill_formed
+input_op standard.Ord bs = ill_formed
+input_op standard.Chr bs = ill_formed
+input_op standard.Succ bs = ill_formed
+input_op standard.Pred bs = ill_formed
 input_op standard.Eof bs = work_of (truth (length bs == 0))
 input_op standard.Eoln bs = work_of (truth (at_line_end bs))
 
@@ -111,69 +112,69 @@ channel_read (Ordinal n) = fail fault.F5
 channel_read (Chan c) = give (Chan c)
 channel_read (Parts vs) = fail fault.F5
 
-abbrev pub checked : KindOf → Value → Work Value
-checked kind.Integer v = ordinal_read v
-checked kind.Boolean v = ordinal_read v
-checked kind.Char v = ordinal_read v
-checked (kind.Enumeration n) v = ordinal_read v
-checked (kind.Array low high index element) v = give v
-checked (kind.Fields fs) v = give v
-checked (kind.Channel ks) v = channel_read v
+abbrev pub checked_value : KindOf → Value → Work Value
+checked_value kind.Integer v = ordinal_read v
+checked_value kind.Boolean v = ordinal_read v
+checked_value kind.Char v = ordinal_read v
+checked_value (kind.Enumeration n) v = ordinal_read v
+checked_value (kind.Array low high index element) v = give v
+checked_value (kind.Fields fs) v = give v
+checked_value (kind.Channel ks) v = channel_read v
 
 -- the element at an index, or F1
 abbrev pub element_at : Address → ℤ → KindOf → Work Place
-element_at a n kind.Integer = lost
-element_at a n kind.Boolean = lost
-element_at a n kind.Char = lost
-element_at a n (kind.Enumeration m) = lost
+element_at a n kind.Integer = ill_formed
+element_at a n kind.Boolean = ill_formed
+element_at a n kind.Char = ill_formed
+element_at a n (kind.Enumeration m) = ill_formed
 element_at a n (kind.Array low high index element) =
     if int_le low n && int_le n high then give
-    (At (record { spot = a.spot; path = a.path ++ nat_abs (n -ℤ low) ∷ []; kind = element })) else fail fault.F1
-element_at a n (kind.Fields fs) = lost
-element_at a n (kind.Channel ks) = lost
+    (AtAddress (record { spot = a.spot; path = a.path ++ nat_abs (n -ℤ low) ∷ []; kind = element })) else fail fault.F1
+element_at a n (kind.Fields fs) = ill_formed
+element_at a n (kind.Channel ks) = ill_formed
 
-module _ (g : Setting) where
+module _ (g : RunInput) where
   abbrev pub kind_at : ℕ → Work KindOf
-  kind_at k = or_lost (slice_get g.program.kinds k)
+  kind_at k = or_ill_formed (slice_get g.program.kinds k)
 
-  abbrev pub indexed : Place → ℤ → Work Place
-  indexed (At a) n = bind (kind_at a.kind) (element_at a n)
-  indexed (Fixed m) n = lost
+  abbrev pub element_place : Place → ℤ → Work Place
+  element_place (AtAddress a) n = bind (kind_at a.kind) (element_at a n)
+  element_place (Fixed m) n = ill_formed
 
-  abbrev pub fielded : ℕ → Place → Work Place
-  fielded f (At a) = bind (kind_at a.kind) (λ k. bind (or_lost (field_kind f k))
-      (λ t. give (At (record { spot = a.spot; path = a.path ++ f ∷ []; kind = t }))))
-  fielded f (Fixed m) = lost
+  abbrev pub field_place : ℕ → Place → Work Place
+  field_place f (AtAddress a) = bind (kind_at a.kind) (λ k. bind (or_ill_formed (field_kind f k))
+      (λ t. give (AtAddress (record { spot = a.spot; path = a.path ++ f ∷ []; kind = t }))))
+  field_place f (Fixed m) = ill_formed
 
   -- what stands at a place
   abbrev pub read_at : Place → Work Value
-  read_at (At a) = bind (kind_at a.kind) (λ k. bind (fetch a) (checked k))
+  read_at (AtAddress a) = bind (kind_at a.kind) (λ k. bind (fetch a) (checked_value k))
   read_at (Fixed n) = give (Ordinal n)
 
   abbrev pub address_of : Place → Work Address
-  address_of (At a) = give a
-  address_of (Fixed n) = lost
+  address_of (AtAddress a) = give a
+  address_of (Fixed n) = ill_formed
 
   abbrev pub index_in : Home → Work Place
-  index_in (OfBlock b) = lost
+  index_in (OfBlock b) = ill_formed
   index_in (OfIndex x n) = give (Fixed n)
 
   -- where an entire variable stands
   abbrev pub place_by : ℕ → Variable → Role → Work Place
-  place_by x i role.Console = lost
-  place_by x i role.Local = bind (visible (is_block i.block)) (λ f. give (At (in_frame g x i f)))
-  place_by x i role.Value = bind (visible (is_block i.block)) (λ f. give (At (in_frame g x i f)))
-  place_by x i role.Reference = bind (visible (is_block i.block))
-      (λ f. bind (or_lost (referred x f.references)) (λ a. give (At a)))
-  place_by x i role.Index = bind (visible (is_index x)) (λ f. index_in f.home)
-  place_by x i role.Answer = bind (visible (is_block i.block)) (λ f. give (At (in_frame g x i f)))
+  place_by x i role.Console = ill_formed
+  place_by x i role.Local = bind (visible_frame (is_block i.block)) (λ f. give (AtAddress (in_frame g x i f)))
+  place_by x i role.Value = bind (visible_frame (is_block i.block)) (λ f. give (AtAddress (in_frame g x i f)))
+  place_by x i role.Reference = bind (visible_frame (is_block i.block))
+      (λ f. bind (or_ill_formed (reference_target x f.references)) (λ a. give (AtAddress a)))
+  place_by x i role.Index = bind (visible_frame (is_index x)) (λ f. index_in f.home)
+  place_by x i role.Answer = bind (visible_frame (is_block i.block)) (λ f. give (AtAddress (in_frame g x i f)))
 
   abbrev pub place_of : ℕ → Work Place
-  place_of x = bind (or_lost (slice_get g.program.variables x)) (λ i. place_by x i i.role)
+  place_of x = bind (or_ill_formed (slice_get g.program.variables x)) (λ i. place_by x i i.role)
 
   -- what is left of the input
-  abbrev pub left_of : Work (List ℕ)
-  left_of = bind (look Input) (λ h. give (drop (position_in h) g.input))
+  abbrev pub input_left : Work (List ℕ)
+  input_left = bind (read_location Input) (λ h. give (drop (position_in h) g.input))
 
   abbrev mutual
     -- an expression, with every function that it calls
@@ -187,20 +188,20 @@ module _ (g : Setting) where
     form_value call k (Binary op a b) = bind (value call a) (λ v. bind (value call b) (λ w. operate op v w))
     form_value call k (Apply f args) = bind (actuals call args) (λ gs. call f gs)
     form_value call k (Standard f a) = bind (as_ordinal (value call a)) (λ n. bind (kind_at k) (λ t. standard_op f t n))
-    form_value call k (AtInput f) = bind left_of (input_op f)
+    form_value call k (AtInput f) = bind input_left (input_op f)
 
     -- where a variable with its selectors stands
     pub place : Calls → Var → Work Place
-    place call (Entire x ss) = bind (place_of x) (λ q. selected call ss q)
+    place call (Entire x ss) = bind (place_of x) (λ q. component_place call ss q)
 
-    pub selected : Calls → Selectors → Place → Work Place
-    selected call Whole q = give q
-    selected call (Select (Index e) rest) q =
-        bind (as_ordinal (value call e)) (λ n. bind (indexed q n) (λ r. selected call rest r))
-    selected call (Select (Field f) rest) q = bind (fielded f q) (λ r. selected call rest r)
+    pub component_place : Calls → Selectors → Place → Work Place
+    component_place call Whole q = give q
+    component_place call (Select (Index e) rest) q =
+        bind (as_ordinal (value call e)) (λ n. bind (element_place q n) (λ r. component_place call rest r))
+    component_place call (Select (Field f) rest) q = bind (field_place f q) (λ r. component_place call rest r)
 
     -- the arguments of a call
-    pub actuals : Calls → Actuals → Work (List Given)
+    pub actuals : Calls → Actuals → Work (List ArgumentValue)
     actuals call Nothing = give []
     actuals call (Pass (ByValue e) rest) = bind (value call e)
         (λ v. bind (actuals call rest) (λ gs. give (ValueOf v ∷ gs)))

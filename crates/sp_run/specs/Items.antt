@@ -4,7 +4,7 @@
 use Rattle.std.specs.Prelude.{List, map}
 use Rattle.sp_run.specs.declared.item.Item.{Item}
 use Rattle.sp_run.specs.declared.item.Item.TheVariants as it
-use Rattle.sp_meaning.specs.Own as m
+use Rattle.sp_meaning.specs.LocalWork as m
 use Rattle.sp_tree.specs.Plain.{While, Repeat, Send, Receive}
 use Rattle.sp_tree.specs.PlainOf.{stmt_of, expr_of, var_of}
 

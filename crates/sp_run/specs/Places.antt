@@ -6,15 +6,15 @@ use Rattle.sp_run.specs.declared.frames.Place.{Place}
 use Rattle.sp_run.specs.declared.frames.Place.TheVariants as place
 use Rattle.sp_run.specs.declared.frames.Wanted.{Wanted}
 use Rattle.sp_run.specs.declared.frames.Wanted.TheVariants as wanted
-use Rattle.sp_meaning.specs.Own.{Home, is_block, is_index}
+use Rattle.sp_meaning.specs.LocalWork.{Home, is_block, is_index}
 use Rattle.sp_meaning.specs.Eval as m
 use Rattle.sp_run.specs.Views.{plain_address}
 
 abbrev pub plain_place : Place → m.Place
-plain_place (place.At a) = m.At (plain_address a)
+plain_place (place.At a) = m.AtAddress (plain_address a)
 plain_place (place.Fixed n) = m.Fixed n
 
 -- whether a frame of this home is looked for
-abbrev pub fits : Wanted → Home → Bool
-fits (wanted.Block b) h = is_block b h
-fits (wanted.Index x) h = is_index x h
+abbrev pub is_home_wanted : Wanted → Home → Bool
+is_home_wanted (wanted.Block b) h = is_block b h
+is_home_wanted (wanted.Index x) h = is_index x h

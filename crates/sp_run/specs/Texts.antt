@@ -5,34 +5,34 @@ use Rattle.std.specs.Prelude.{ℕ, ℤ, pos, ◌+ℤ◌, ◌-ℤ◌, nat_abs, in
 use Rattle.std.specs.Prelude.{if◌then◌else◌}
 use Rattle.std.specs.Option.{option_map}
 use Rattle.sp_values.specs.declared.items.Taken.{Taken}
-use Rattle.sp_values.specs.Taking.{taken_of}
+use Rattle.sp_values.specs.ReadResults.{read_result_of}
 use Rattle.sp_tree.specs.Items as i
 use Rattle.sp_tree.specs.Plain.{Stmt}
-use Rattle.sp_meaning.specs.Own.{Setting, Item, Do, First, Again, Test, Leave, Break}
-use Rattle.sp_meaning.specs.Deeds.{Deed, Stepped, indexed_children, goes_on}
+use Rattle.sp_meaning.specs.LocalWork.{RunInput, Item, Do, First, Again, Test, Leave, Break}
+use Rattle.sp_meaning.specs.Actions.{Action, Stepped, indexed_children, goes_on}
 use Rattle.sp_meaning.specs.Values.{Ordinal}
 use Rattle.sp_run.specs.Direct.{Work, bind, give, assign}
 use Rattle.sp_run.specs.DirectEval.{place_of, address_of}
-use Rattle.sp_run.specs.DirectDeeds.{fork, peek}
+use Rattle.sp_run.specs.DirectActions.{fork, peek}
 
 -- what is read, if there is a way to read it
-abbrev pub taken_if : Option Taken → Option i.Taken
-taken_if o = option_map taken_of o
+abbrev pub reading_if : Option Taken → Option i.ReadResult
+reading_if o = option_map read_result_of o
 
 -- the children of a forall, if its range has values
-abbrev pub forall : Setting → ℕ → ℤ → ℤ → Stmt → List Item → Work Deed
-forall g x m n s todo = if int_lt n m then give (Stepped todo) else
+abbrev pub forall_action : RunInput → ℕ → ℤ → ℤ → Stmt → List Item → Work Action
+forall_action g x m n s todo = if int_lt n m then give (Stepped todo) else
     fork g (indexed_children x s m (nat_abs ((n -ℤ m) +ℤ pos 1))) todo
 
 -- the for variable gets a value
-abbrev pub index_set : Setting → ℕ → ℤ → Work (Unit {0})
+abbrev pub index_set : RunInput → ℕ → ℤ → Work (Unit {0})
 index_set g x n = bind (place_of g x) (λ q. bind (address_of g q) (λ a. assign a (Ordinal n)))
 
 -- whether it is a loop that is at its end
-abbrev pub leaves : Setting → Item → Work Bool
-leaves g (Do s) = give false
-leaves g (First x m n down s) = give false
-leaves g (Again x n down s) = bind (peek g x) (λ v. give (not (goes_on down n v)))
-leaves g (Test s e) = give false
-leaves g Leave = give false
-leaves g (Break f) = give false
+abbrev pub is_finished_loop : RunInput → Item → Work Bool
+is_finished_loop g (Do s) = give false
+is_finished_loop g (First x m n down s) = give false
+is_finished_loop g (Again x n down s) = bind (peek g x) (λ v. give (not (goes_on down n v)))
+is_finished_loop g (Test s e) = give false
+is_finished_loop g Leave = give false
+is_finished_loop g (Break f) = give false

@@ -12,7 +12,7 @@ use Rattle.sp_journal.specs.Names.{Channel}
 use Rattle.std.specs.Option.{option_map}
 use Rattle.sp_tree.specs.Cells.{first_or}
 use Rattle.sp_meaning.specs.Values as v
-use Rattle.sp_meaning.specs.Own as m
+use Rattle.sp_meaning.specs.LocalWork as m
 
 abbrev pub plain_channel : Chan → Channel
 plain_channel c = record { owner = c.owner; nth = c.nth }

@@ -2,20 +2,20 @@
 
 ghost use Rattle.std.specs.Prelude.{◌≡◌, [], IfOk};
 ghost use Rattle.sp_tree.specs.PlainOf.{stmt_of};
-ghost use Rattle.sp_meaning.specs.Deeds.{push};
+ghost use Rattle.sp_meaning.specs.Actions.{push};
 ghost use Rattle.sp_run.specs.Items.{items_of};
-ghost use Rattle.sp_run.specs.Machines.{setting_of};
-ghost use Rattle.sp_run.specs.Comings.{Implements};
-ghost use Rattle.sp_run.specs.Following.{Follows};
-ghost use Rattle.sp_run.specs.DirectDeeds.{settle};
+ghost use Rattle.sp_run.specs.Machines.{run_input_of};
+ghost use Rattle.sp_run.specs.Implements.{Implements};
+ghost use Rattle.sp_run.specs.ImplementsNext.{ImplementsNext};
+ghost use Rattle.sp_run.specs.DirectActions.{settle};
 ghost use Rattle.sp_run.specs.Views.{plain_value};
-ghost use Rattle.sp_run.specs.Doings.{plain_deed, nothing_left};
-ghost use Rattle.sp_run.specs.Acts.{ended, left_after, left_if, before};
+ghost use Rattle.sp_run.specs.ActionViews.{plain_action, nothing_left};
+ghost use Rattle.sp_run.specs.ActionParts.{function_end, rest_after_action, left_if, with_item_first};
 
+use crate::actions::{Action, settle};
 use crate::calls::{give_back, leave};
-use crate::deeds::{Deed, settle};
 use crate::item::{Item, push};
-use crate::machine::{Machine, Setting, Who};
+use crate::machine::{Identity, Machine, RunInput};
 use crate::stop::{Done, Halted};
 use crate::take;
 use crate::value::Value;
@@ -23,7 +23,7 @@ use sp_base::Memory;
 use sp_tree::Stmt;
 
 /// All that a body has to do.
-pub fn body_of<'a>(run: &Setting<'a>, body: &'a Stmt) -> Result<Vec<Item<'a>>, Memory>
+pub fn body_of<'a>(run: &RunInput<'a>, body: &'a Stmt) -> Result<Vec<Item<'a>>, Memory>
     ensures { IfOk result (λ todo. items_of todo.items ≡ push (stmt_of body.now) []) }
 {
     let mut todo = Vec::new(run.alloc);
@@ -33,7 +33,7 @@ pub fn body_of<'a>(run: &Setting<'a>, body: &'a Stmt) -> Result<Vec<Item<'a>>, M
 
 /// Takes the first of what is left.
 fn take_first<'a>(todo: &mut Vec<Item<'a>>) -> Option<Item<'a>>
-    ensures { items_of todo.old.items ≡ before result (items_of todo.new.items) }
+    ensures { items_of todo.old.items ≡ with_item_first result (items_of todo.new.items) }
 {
     if todo.is_empty() {
         return None;
@@ -43,13 +43,14 @@ fn take_first<'a>(todo: &mut Vec<Item<'a>>) -> Option<Item<'a>>
 
 /// Takes the first of what is left, once the loops that are at their end are left.
 pub fn first_of<'a>(
-    run: &Setting,
-    who: &Who,
+    run: &RunInput,
+    who: &Identity,
     machine: &mut Machine,
     todo: &mut Vec<Item<'a>>,
 ) -> Done<Option<Item<'a>>>
-    ensures { Implements run.now who.now (λ i. before i (items_of todo.new.items)) machine.old result machine.new
-        (settle (setting_of run.now) (items_of todo.old.items)) }
+    ensures { Implements run.now who.now (λ i. with_item_first i (items_of todo.new.items)) machine.old result
+        machine.new
+        (settle (run_input_of run.now) (items_of todo.old.items)) }
 {
     take!(settle(run, who, machine, todo));
     Done::Gives(take_first(todo))
@@ -57,44 +58,45 @@ pub fn first_of<'a>(
 
 /// Whether something is left after a step, which is a local one.
 pub fn left_after<'a>(
-    run: &Setting,
-    who: &Who,
+    run: &RunInput,
+    who: &Identity,
     machine: &Machine,
     todo: &Vec<Item<'a>>,
-    deed: Done<Deed<'a>>,
+    deed: Done<Action<'a>>,
 ) -> Done<bool>
-    ensures { Follows run.now who.now (plain_deed (items_of todo.now.items)) (left_if (items_of todo.now.items))
-        machine.now deed.entry result machine.now (left_after (setting_of run.now)) }
+    ensures { ImplementsNext run.now who.now (plain_action (items_of todo.now.items))
+        (left_if (items_of todo.now.items))
+        machine.now deed.entry result machine.now (rest_after_action (run_input_of run.now)) }
 {
     match take!(deed) {
-        Deed::Stepped => Done::Gives(true),
-        Deed::Ticked => Done::Gives(true),
-        Deed::Opened => Done::Halts(Halted::Lost),
-        Deed::Forked(_) => Done::Halts(Halted::Lost),
-        Deed::Offered { .. } => Done::Halts(Halted::Lost),
-        Deed::Ended => Done::Halts(Halted::Lost),
+        Action::Stepped => Done::Gives(true),
+        Action::Ticked => Done::Gives(true),
+        Action::Opened => Done::Halts(Halted::IllFormed),
+        Action::Forked(_) => Done::Halts(Halted::IllFormed),
+        Action::Offered { .. } => Done::Halts(Halted::IllFormed),
+        Action::Ended => Done::Halts(Halted::IllFormed),
     }
 }
 
 /// The end of a function: its result, and its frame goes.
 pub fn ended(
-    run: &Setting,
-    who: &Who,
+    run: &RunInput,
+    who: &Identity,
     machine: &mut Machine,
     answer: Option<u32>,
     rest: Done<()>,
 ) -> Done<Value>
-    ensures { Follows run.now who.now nothing_left plain_value machine.old rest result machine.new
-        (λ todo. ended (setting_of run.now) answer) }
+    ensures { ImplementsNext run.now who.now nothing_left plain_value machine.old rest result machine.new
+        (λ todo. function_end (run_input_of run.now) answer) }
 {
     take!(rest);
     end(run, who, machine, answer)
 }
 
 /// The end of a function whose body is done.
-fn end(run: &Setting, who: &Who, machine: &mut Machine, answer: Option<u32>) -> Done<Value>
+fn end(run: &RunInput, who: &Identity, machine: &mut Machine, answer: Option<u32>) -> Done<Value>
     ensures { Implements run.now who.now plain_value machine.old result machine.new
-        (ended (setting_of run.now) answer) }
+        (function_end (run_input_of run.now) answer) }
 {
     let v = take!(give_back(run, who, machine, answer));
     take!(leave(run, who, machine));

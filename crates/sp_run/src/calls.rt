@@ -4,23 +4,25 @@ ghost use Rattle.std.specs.Prelude.{◌≡◌, ◌∷◌, drop, IfOk, OnOk, map,
 ghost use Rattle.sp_tree.specs.PlainOf.{block_of};
 ghost use Rattle.sp_tree.specs.Bare.{variable_of};
 ghost use Rattle.sp_tree.specs.Cells.{variables_of};
-ghost use Rattle.sp_meaning.specs.Own.{is_block};
-ghost use Rattle.sp_meaning.specs.Deeds.{begins, references, pushed_frame, without_frame, cells_of_home};
+ghost use Rattle.sp_meaning.specs.LocalWork.{is_block};
+ghost use Rattle.sp_meaning.specs.Actions.{first_value_by, references, pushed_frame, without_frame, cells_of_home};
 ghost use Rattle.sp_meaning.specs.Values.{initials};
-ghost use Rattle.sp_run.specs.Machines.{setting_of, plain_references, plain_own, plain_home, plain_who};
-ghost use Rattle.sp_run.specs.Comings.{Implements, same, pointed};
-ghost use Rattle.sp_run.specs.Following.{Follows};
-ghost use Rattle.sp_run.specs.Doings.{given_of, block_in};
+ghost use Rattle.sp_run.specs.Machines.{run_input_of, plain_references, plain_local_state, plain_home, plain_identity};
+ghost use Rattle.sp_run.specs.Implements.{Implements, as_plain, pointee};
+ghost use Rattle.sp_run.specs.ImplementsNext.{ImplementsNext};
+ghost use Rattle.sp_run.specs.ActionViews.{plain_arguments, block_in};
 ghost use Rattle.sp_run.specs.Views.{plain_value};
-ghost use Rattle.sp_run.specs.Direct.{tick, deepen, widen, reach, or_lost};
+ghost use Rattle.sp_run.specs.Direct.{tick, deepen, widen, link_to, or_ill_formed};
 ghost use Rattle.sp_run.specs.DirectEval.{read_at};
 ghost use Rattle.std.specs.Option.{option_copied, option_map};
-ghost use Rattle.sp_run.specs.Calling.{laid, entered};
-ghost use Rattle.sp_run.specs.DirectDeeds.{lay_one, lay, copy_in, enclosing, enter, leave, answer_of};
+ghost use Rattle.sp_run.specs.Calling.{laid, callee_frame};
+ghost use Rattle.sp_run.specs.DirectActions.{lay_one, lay, copy_in, enclosing_link, enter, leave, function_result};
 
 use crate::frames::{Wanted, place_of, reach};
 use crate::kinds::{beginning, initials_of, size_of_frame, sum_of};
-use crate::machine::{Frame, Held, Home, Machine, Own, Reference, Setting, Who};
+use crate::machine::{
+    Frame, Home, Identity, LocalState, LocationContent, Machine, Reference, RunInput,
+};
 use crate::operators::read_at;
 use crate::stop::{Done, Halted};
 use crate::store::put;
@@ -32,14 +34,14 @@ use std::mem;
 
 /// An evaluated argument.
 #[derive(Drop)]
-pub enum Given {
+pub enum ArgumentValue {
     Value(Value),
     Place(Address),
 }
 
 /// A tick, or F10.
-pub fn tick(run: &Setting, who: &Who, machine: &mut Machine) -> Done<()>
-    ensures { Implements run.now who.now same machine.old result machine.new (tick run.now.limits.now) }
+pub fn tick(run: &RunInput, who: &Identity, machine: &mut Machine) -> Done<()>
+    ensures { Implements run.now who.now as_plain machine.old result machine.new (tick run.now.limits.now) }
 {
     if machine.own.ticks < run.limits.ticks {
         machine.own.ticks += 1;
@@ -50,8 +52,8 @@ pub fn tick(run: &Setting, who: &Who, machine: &mut Machine) -> Done<()>
 }
 
 /// One level deeper, or F11.
-pub fn deepen(run: &Setting, who: &Who, machine: &mut Machine) -> Done<()>
-    ensures { Implements run.now who.now same machine.old result machine.new (deepen run.now.limits.now) }
+pub fn deepen(run: &RunInput, who: &Identity, machine: &mut Machine) -> Done<()>
+    ensures { Implements run.now who.now as_plain machine.old result machine.new (deepen run.now.limits.now) }
 {
     if machine.own.depth < run.limits.depth as u64 {
         machine.own.depth += 1;
@@ -62,8 +64,8 @@ pub fn deepen(run: &Setting, who: &Who, machine: &mut Machine) -> Done<()>
 }
 
 /// So many cells more, or F12.
-pub fn widen(run: &Setting, who: &Who, machine: &mut Machine, n: u64) -> Done<()>
-    ensures { Implements run.now who.now same machine.old result machine.new (widen run.now.limits.now n) }
+pub fn widen(run: &RunInput, who: &Identity, machine: &mut Machine, n: u64) -> Done<()>
+    ensures { Implements run.now who.now as_plain machine.old result machine.new (widen run.now.limits.now n) }
 {
     let cells = have!(sum_of(machine.own.cells, n));
     if (run.limits.cells as u64) < cells {
@@ -75,22 +77,28 @@ pub fn widen(run: &Setting, who: &Who, machine: &mut Machine, n: u64) -> Done<()
 }
 
 /// How long the list of frames is that begins with the enclosing block's.
-pub fn enclosing(run: &Setting, who: &Who, machine: &Machine, parent: Option<u32>) -> Done<usize>
-    ensures { Implements run.now who.now same machine.now result machine.now (enclosing (setting_of run.now) parent) }
+pub fn enclosing(
+    run: &RunInput,
+    who: &Identity,
+    machine: &Machine,
+    parent: Option<u32>,
+) -> Done<usize>
+    ensures { Implements run.now who.now as_plain machine.now result machine.now
+        (enclosing_link (run_input_of run.now) parent) }
 {
     match parent {
         Some(b) => reach(run, who, machine, Wanted::Block(b as usize)),
-        None => Done::Halts(Halted::Lost),
+        None => Done::Halts(Halted::IllFormed),
     }
 }
 
 /// What the variable parameters stand for.
 pub fn references_of(
-    run: &Setting,
+    run: &RunInput,
     formals: &[u32],
-    given: &[Given],
+    given: &[ArgumentValue],
 ) -> Result<List<Reference>, Memory>
-    ensures { IfOk result (λ rs. plain_references rs ≡ references formals.now (given_of given.now)) }
+    ensures { IfOk result (λ rs. plain_references rs ≡ references formals.now (plain_arguments given.now)) }
 {
     let Some((x, xs)) = formals.split_first() else {
         return Ok(List::new(run.alloc));
@@ -100,8 +108,8 @@ pub fn references_of(
     };
     let rest = references_of(run, xs, gs)?;
     match g {
-        Given::Value(_) => Ok(rest),
-        Given::Place(a) => {
+        ArgumentValue::Value(_) => Ok(rest),
+        ArgumentValue::Place(a) => {
             let stands = copy_address(run.alloc, a)?;
             let reference = Reference {
                 variable: *x as usize,
@@ -130,16 +138,16 @@ fn first_frame(f: Frame, rest: List<Frame>) -> Result<List<Frame>, Memory>
 
 /// A variable of a new frame is undefined, if it has cells of its own.
 fn lay_one(
-    run: &Setting,
-    who: &Who,
+    run: &RunInput,
+    who: &Identity,
     machine: &mut Machine,
     frame: usize,
     x: usize,
     v: &Variable,
     first: Option<&Value>,
 ) -> Done<()>
-    ensures { Implements run.now who.now same machine.old result machine.new
-        (lay_one (setting_of run.now) frame (x, variable_of v.now)
+    ensures { Implements run.now who.now as_plain machine.old result machine.new
+        (lay_one (run_input_of run.now) frame (x, variable_of v.now)
         (option_map plain_value (option_copied first.entry))) }
 {
     match first {
@@ -152,22 +160,22 @@ fn lay_one(
                 frame,
                 variable: x,
             };
-            put(run, who, machine, at, Held::Tree(first))
+            put(run, who, machine, at, LocationContent::Tree(first))
         }
     }
 }
 
 /// The value parameters are copied.
 fn copy_in(
-    run: &Setting,
-    who: &Who,
+    run: &RunInput,
+    who: &Identity,
     machine: &mut Machine,
     frame: usize,
     formals: &[u32],
-    given: &[Given],
+    given: &[ArgumentValue],
 ) -> Done<()>
-    ensures { Implements run.now who.now same machine.old result machine.new
-        (copy_in (setting_of run.now) frame formals.now (given_of given.now)) }
+    ensures { Implements run.now who.now as_plain machine.old result machine.new
+        (copy_in (run_input_of run.now) frame formals.now (plain_arguments given.now)) }
 {
     let Some((x, xs)) = formals.split_first() else {
         return Done::Gives(());
@@ -176,7 +184,7 @@ fn copy_in(
         return Done::Gives(());
     };
     match g {
-        Given::Value(v) => {
+        ArgumentValue::Value(v) => {
             let v = have!(copy_value(run.alloc, v));
             let owner = have!(copy_name(run.alloc, &who.name));
             let at = Loc::Cell {
@@ -184,17 +192,17 @@ fn copy_in(
                 frame,
                 variable: *x as usize,
             };
-            take!(put(run, who, machine, at, Held::Tree(v)));
+            take!(put(run, who, machine, at, LocationContent::Tree(v)));
             copy_in(run, who, machine, frame, xs, gs)
         }
-        Given::Place(_) => copy_in(run, who, machine, frame, xs, gs),
+        ArgumentValue::Place(_) => copy_in(run, who, machine, frame, xs, gs),
     }
 }
 
 /// The variables of a new frame are undefined.
 fn lay(
-    run: &Setting,
-    who: &Who,
+    run: &RunInput,
+    who: &Identity,
     machine: &mut Machine,
     frame: usize,
     block: usize,
@@ -203,8 +211,8 @@ fn lay(
     variables: &[Variable],
 ) -> Done<()>
     requires { map plain_value known.now ≡ initials run.now.checked.now.kinds }
-    ensures { Implements run.now who.now same machine.old result machine.new
-        (lay (setting_of run.now) frame (variables_of block x (map variable_of variables.now))) }
+    ensures { Implements run.now who.now as_plain machine.old result machine.new
+        (lay (run_input_of run.now) frame (variables_of block x (map variable_of variables.now))) }
 {
     let Some((v, rest)) = variables.split_first() else {
         return Done::Gives(());
@@ -222,16 +230,16 @@ fn lay(
 
 /// The variables of a new frame are laid and the value parameters copied.
 fn laid<'a>(
-    run: &Setting,
-    who: &Who,
+    run: &RunInput,
+    who: &Identity,
     machine: &mut Machine,
     frame: usize,
     f: u32,
     b: &'a Block,
-    given: &[Given],
+    given: &[ArgumentValue],
 ) -> Done<&'a Block>
     ensures { Implements run.now who.now block_in machine.old result machine.new
-        (laid (setting_of run.now) frame f (block_of b.now) (given_of given.now)) }
+        (laid (run_input_of run.now) frame f (block_of b.now) (plain_arguments given.now)) }
 {
     let known = have!(initials_of(run.alloc, run.checked.kinds.items()));
     take!(lay(
@@ -249,7 +257,7 @@ fn laid<'a>(
 }
 
 /// A frame is the newest.
-fn push_frame(run: &Setting, machine: &mut Machine, f: Frame) -> Result<(), Memory>
+fn push_frame(run: &RunInput, machine: &mut Machine, f: Frame) -> Result<(), Memory>
     ensures { OnOk result (machine.new ≡ record machine.old
         { own = record machine.old.own { frames = f ∷ machine.old.own.frames } }) }
 {
@@ -260,15 +268,15 @@ fn push_frame(run: &Setting, machine: &mut Machine, f: Frame) -> Result<(), Memo
 
 /// The new frame, and what stands in it.
 fn entered<'a>(
-    run: &Setting,
-    who: &Who,
+    run: &RunInput,
+    who: &Identity,
     machine: &mut Machine,
     f: u32,
     b: &'a Block,
-    given: &[Given],
+    given: &[ArgumentValue],
 ) -> Done<&'a Block>
     ensures { Implements run.now who.now block_in machine.old result machine.new
-        (entered (setting_of run.now) f (block_of b.now) (given_of given.now)) }
+        (callee_frame (run_input_of run.now) f (block_of b.now) (plain_arguments given.now)) }
 {
     let link = take!(enclosing(run, who, machine, b.parent));
     let references = have!(references_of(run, b.formals.items(), given));
@@ -287,14 +295,14 @@ fn entered<'a>(
 
 /// A call, after its arguments: tick, depth, cells, the new frame.
 fn enter<'a>(
-    run: &Setting<'a>,
-    who: &Who,
+    run: &RunInput<'a>,
+    who: &Identity,
     machine: &mut Machine,
     f: u32,
-    given: &[Given],
+    given: &[ArgumentValue],
 ) -> Done<&'a Block>
     ensures { Implements run.now who.now block_in machine.old result machine.new
-        (enter (setting_of run.now) f (given_of given.now)) }
+        (enter (run_input_of run.now) f (plain_arguments given.now)) }
 {
     match run.checked.blocks.get(f as usize) {
         Some(b) => {
@@ -304,28 +312,28 @@ fn enter<'a>(
             take!(widen(run, who, machine, size));
             entered(run, who, machine, f, b, given)
         }
-        None => Done::Halts(Halted::Lost),
+        None => Done::Halts(Halted::IllFormed),
     }
 }
 
 /// A call, where its arguments have values.
 pub fn enter_given<'a>(
-    run: &Setting<'a>,
-    who: &Who,
+    run: &RunInput<'a>,
+    who: &Identity,
     machine: &mut Machine,
     f: u32,
-    given: Done<List<Given>>,
+    given: Done<List<ArgumentValue>>,
 ) -> Done<&'a Block>
-    ensures { Follows run.now who.now given_of block_in machine.old given result machine.new
-        (enter (setting_of run.now) f) }
+    ensures { ImplementsNext run.now who.now plain_arguments block_in machine.old given result machine.new
+        (enter (run_input_of run.now) f) }
 {
     let given = take!(given);
     enter(run, who, machine, f, given.items())
 }
 
 /// The cells of a frame.
-fn cells_of_home(run: &Setting, home: Home) -> Result<u64, Memory>
-    ensures { IfOk result (λ n. n ≡ cells_of_home (setting_of run.now) (plain_home home)) }
+fn cells_of_home(run: &RunInput, home: Home) -> Result<u64, Memory>
+    ensures { IfOk result (λ n. n ≡ cells_of_home (run_input_of run.now) (plain_home home)) }
 {
     match home {
         Home::Block(b) => size_of_frame(run, b),
@@ -334,8 +342,8 @@ fn cells_of_home(run: &Setting, home: Home) -> Result<u64, Memory>
 }
 
 /// The newest frame goes.
-pub fn leave(run: &Setting, who: &Who, machine: &mut Machine) -> Done<()>
-    ensures { Implements run.now who.now same machine.old result machine.new (leave (setting_of run.now)) }
+pub fn leave(run: &RunInput, who: &Identity, machine: &mut Machine) -> Done<()>
+    ensures { Implements run.now who.now as_plain machine.old result machine.new (leave (run_input_of run.now)) }
 {
     match machine.own.frames.items().first() {
         Some(f) => {
@@ -350,7 +358,7 @@ pub fn leave(run: &Setting, who: &Who, machine: &mut Machine) -> Done<()>
 }
 
 /// The newest frame is none.
-fn pop_frame(run: &Setting, machine: &mut Machine) -> Result<(), Memory>
+fn pop_frame(run: &RunInput, machine: &mut Machine) -> Result<(), Memory>
     ensures { machine.new ≡ record machine.old
         { own = record machine.old.own { frames = drop 1 machine.old.own.frames } } }
 {
@@ -364,19 +372,19 @@ fn pop_frame(run: &Setting, machine: &mut Machine) -> Result<(), Memory>
 
 /// A function's result, or F4.
 pub fn give_back(
-    run: &Setting,
-    who: &Who,
+    run: &RunInput,
+    who: &Identity,
     machine: &mut Machine,
     answer: Option<u32>,
 ) -> Done<Value>
     ensures { Implements run.now who.now plain_value machine.old result machine.new
-        (answer_of (setting_of run.now) answer) }
+        (function_result (run_input_of run.now) answer) }
 {
     match answer {
         Some(x) => {
             let place = place_of(run, who, machine, x);
             read_at(run, who, machine, place)
         }
-        None => Done::Halts(Halted::Lost),
+        None => Done::Halts(Halted::IllFormed),
     }
 }

@@ -4,14 +4,15 @@ ghost use Rattle.std.specs.Prelude.{◌≡◌, ◌++◌, ℕ, IfOk, OnOk, revers
 ghost use Rattle.sp_journal.specs.Names.{pairs_of, proc_name, chan_name};
 ghost use Rattle.sp_meaning.specs.Ends.{name_before, pairs_before, waiter_of, EndsSo, IsDone, Waiting};
 ghost use Rattle.sp_meaning.specs.Steps.{has_ended, way_of};
-ghost use Rattle.sp_run.specs.Machines.{setting_of};
+ghost use Rattle.sp_run.specs.Machines.{run_input_of};
 ghost use Rattle.sp_run.specs.Views.{plain_channel};
-ghost use Rattle.sp_run.specs.Doings.{plain_cargo};
+ghost use Rattle.sp_run.specs.ActionViews.{plain_cargo};
 ghost use Rattle.sp_run.specs.States.{conditions_of, offer_in, state_of};
-ghost use Rattle.sp_run.specs.Meanings.{plain_pending, waiting_of, Idles, inserted, with_offer, Places, AreWaiting};
+ghost use Rattle.sp_run.specs.Meanings.{plain_pending, waiting_of, Idles, with_one_waiting, with_offer, Places};
+ghost use Rattle.sp_run.specs.Meanings.{AreWaiting};
 
-use crate::deeds::Cargo;
-use crate::machine::Setting;
+use crate::actions::Cargo;
+use crate::machine::RunInput;
 use crate::state::{Became, Condition, Offer, State, condition_of, offer_of, running};
 use crate::value::{Chan, Name, copy_channel, copy_name};
 use sp_base::{ChanName, Fault, List, Memory, Pair, ProcName};
@@ -157,7 +158,7 @@ fn place_for(alloc: Global, ws: &[Pending], w: &Pending) -> Result<Option<usize>
 
 /// Puts a process where its name stands in order, once.
 fn insert(alloc: Global, ws: &mut Vec<Pending>, w: Pending) -> Result<(), Memory>
-    ensures { OnOk result (waiting_of ws.new.items ≡ inserted (plain_pending w) (waiting_of ws.old.items)) }
+    ensures { OnOk result (waiting_of ws.new.items ≡ with_one_waiting (plain_pending w) (waiting_of ws.old.items)) }
 {
     match place_for(alloc, ws.as_slice(), &w)? {
         Some(n) => {
@@ -172,8 +173,8 @@ fn insert(alloc: Global, ws: &mut Vec<Pending>, w: Pending) -> Result<(), Memory
 }
 
 /// Whether no process is running.
-fn is_idle<'a>(run: &Setting<'a>, s: &State<'a>) -> Result<bool, Memory>
-    ensures { IfOk result (Idles (setting_of run.now) (state_of run.now s.now)) }
+fn is_idle<'a>(run: &RunInput<'a>, s: &State<'a>) -> Result<bool, Memory>
+    ensures { IfOk result (Idles (run_input_of run.now) (state_of run.now s.now)) }
 {
     let conditions = s.conditions.items();
     for became in conditions {
@@ -225,8 +226,8 @@ fn add_waiting<'a>(
 }
 
 /// The processes that wait, each once, in order of names.
-fn waiting<'a>(run: &Setting<'a>, s: &State<'a>) -> Result<Vec<Pending>, Memory>
-    ensures { IfOk result (λ ws. AreWaiting (setting_of run.now) (state_of run.now s.now) (waiting_of ws.items)) }
+fn waiting<'a>(run: &RunInput<'a>, s: &State<'a>) -> Result<Vec<Pending>, Memory>
+    ensures { IfOk result (λ ws. AreWaiting (run_input_of run.now) (state_of run.now s.now) (waiting_of ws.items)) }
 {
     let mut ws = Vec::new(run.alloc);
     let conditions = s.conditions.items();
@@ -249,8 +250,8 @@ fn is_done(s: &State) -> bool
 }
 
 /// The end of a run in this state, if it has one.
-pub fn end_of<'a>(run: &Setting<'a>, s: &State<'a>) -> Result<Option<End>, Memory>
-    ensures { IfOk result (EndsSo (setting_of run.now) (state_of run.now s.now)) }
+pub fn end_of<'a>(run: &RunInput<'a>, s: &State<'a>) -> Result<Option<End>, Memory>
+    ensures { IfOk result (EndsSo (run_input_of run.now) (state_of run.now s.now)) }
 {
     if let Some((p, fault)) = &s.fault {
         let process = proc_name(run.alloc, p.items())?;

@@ -1,34 +1,35 @@
 //! Expressions and statements, by their definitions, with every function that they call. The small parts are in
-//! `acts.rt`, `bodies.rt`, `calls.rt` and `texts.rt`.
+//! `action_parts.rt`, `bodies.rt`, `calls.rt` and `texts.rt`.
 
 ghost use Rattle.sp_tree.specs.PlainOf.{expr_of, form_of, var_of, stmt_of, width_of, selectors_of, actuals_of};
 ghost use Rattle.sp_tree.specs.Plain.{Assign, Call, IfElse, For, Forall, ReadValue, WriteValue, WriteText, Open, Send};
 ghost use Rattle.sp_tree.specs.Plain.{Receive};
 ghost use Rattle.sp_meaning.specs.Operators.{unary_op};
 ghost use Rattle.sp_run.specs.Items.{items_of, item_of};
-ghost use Rattle.sp_run.specs.Machines.{setting_of};
-ghost use Rattle.sp_run.specs.Comings.{Implements, same};
-ghost use Rattle.sp_run.specs.Following.{Follows, after};
+ghost use Rattle.sp_run.specs.Machines.{run_input_of};
+ghost use Rattle.sp_run.specs.Implements.{Implements, as_plain};
+ghost use Rattle.sp_run.specs.ImplementsNext.{ImplementsNext, ordinal_action};
 ghost use Rattle.sp_run.specs.Places.{plain_place};
 ghost use Rattle.sp_run.specs.Views.{plain_value, plain_address, plain_channel};
-ghost use Rattle.sp_run.specs.Doings.{calls_of, block_in, plain_deed, given_of, nothing_left};
+ghost use Rattle.sp_run.specs.ActionViews.{calls_of, block_in, plain_action, plain_arguments, nothing_left};
 ghost use Rattle.sp_run.specs.Direct.{bind};
-ghost use Rattle.sp_run.specs.DirectEval.{value, form_value, place, selected, actuals as given_by, address, ordinal_of};
+ghost use Rattle.sp_run.specs.DirectEval.{value, form_value, place, component_place, actuals as given_by, address};
+ghost use Rattle.sp_run.specs.DirectEval.{ordinal_of};
 ghost use Rattle.sp_run.specs.DirectEval.{channel, kind_at, operate, read_at, standard_op, work_of};
-ghost use Rattle.sp_run.specs.DirectDeeds.{all, act, enter, start, width};
-ghost use Rattle.sp_run.specs.Acts.{one, left_if};
+ghost use Rattle.sp_run.specs.DirectActions.{run_items, item_action, enter, statement_action, width};
+ghost use Rattle.sp_run.specs.ActionParts.{body_step, left_if};
 
-use crate::acts::{
+use crate::action_parts::{
     Then, assigned_to, called, first_given, goes_on, next_turn, opened, ranged, read_line,
     read_value, receive_each, receives, repeated, returned, send_each, sends, sequence, width_of,
     write_bytes, write_shown, write_wide,
 };
+use crate::actions::{Action, Births, forall, fork, turn_of};
 use crate::bodies::{body_of, ended, first_of, left_after};
-use crate::calls::{Given, enter_given};
-use crate::deeds::{Births, Deed, forall, fork, turn_of};
+use crate::calls::{ArgumentValue, enter_given};
 use crate::frames::{Place, address_of, place_of};
 use crate::item::Item;
-use crate::machine::{Machine, Setting, Who};
+use crate::machine::{Identity, Machine, RunInput};
 use crate::operators::{
     channel, fielded, indexed, of_input, operate_one, operate_two, ordinal, read_at, standard_of,
 };
@@ -44,15 +45,15 @@ use sp_tree::{
 /// another, and `levels` how deep the calls of this interpreter may nest: where none is left, that is want of memory.
 #[cycle(interpret)]
 pub fn value(
-    run: &Setting,
-    who: &Who,
+    run: &RunInput,
+    who: &Identity,
     fuel: u128,
     levels: u64,
     machine: &mut Machine,
     e: &Expr,
 ) -> Done<Value>
     ensures { Implements run.now who.now plain_value machine.old result machine.new
-        (value (setting_of run.now) (calls_of run.now fuel) (expr_of e.now)) }
+        (value (run_input_of run.now) (calls_of run.now fuel) (expr_of e.now)) }
 {
     if levels == 0 {
         return Done::NoMemory;
@@ -62,8 +63,8 @@ pub fn value(
 
 #[cycle(interpret)]
 fn form_value(
-    run: &Setting,
-    who: &Who,
+    run: &RunInput,
+    who: &Identity,
     fuel: u128,
     levels: u64,
     machine: &mut Machine,
@@ -71,7 +72,7 @@ fn form_value(
     form: &ExprForm,
 ) -> Done<Value>
     ensures { Implements run.now who.now plain_value machine.old result machine.new
-        (form_value (setting_of run.now) (calls_of run.now fuel) kind (form_of form.now)) }
+        (form_value (run_input_of run.now) (calls_of run.now fuel) kind (form_of form.now)) }
 {
     match form {
         ExprForm::Number(n) => Done::Gives(Value::Ordinal(*n)),
@@ -96,15 +97,15 @@ fn form_value(
 /// What stands in a variable with its selectors.
 #[cycle(interpret)]
 fn read(
-    run: &Setting,
-    who: &Who,
+    run: &RunInput,
+    who: &Identity,
     fuel: u128,
     levels: u64,
     machine: &mut Machine,
     x: &Var,
 ) -> Done<Value>
     ensures { Implements run.now who.now plain_value machine.old result machine.new
-        (bind (place (setting_of run.now) (calls_of run.now fuel) (var_of x.now)) (read_at (setting_of run.now))) }
+        (bind (place (run_input_of run.now) (calls_of run.now fuel) (var_of x.now)) (read_at (run_input_of run.now))) }
 {
     let q = place(run, who, fuel, levels, machine, x);
     read_at(run, who, machine, q)
@@ -113,8 +114,8 @@ fn read(
 /// What an operator gives of one operand.
 #[cycle(interpret)]
 fn on_one(
-    run: &Setting,
-    who: &Who,
+    run: &RunInput,
+    who: &Identity,
     fuel: u128,
     levels: u64,
     machine: &mut Machine,
@@ -122,7 +123,7 @@ fn on_one(
     a: &Expr,
 ) -> Done<Value>
     ensures { Implements run.now who.now plain_value machine.old result machine.new
-        (bind (ordinal_of (setting_of run.now) (calls_of run.now fuel) (expr_of a.now))
+        (bind (ordinal_of (run_input_of run.now) (calls_of run.now fuel) (expr_of a.now))
         (λ n. work_of (unary_op op n))) }
 {
     let n = ordinal_of(run, who, fuel, levels, machine, a);
@@ -132,8 +133,8 @@ fn on_one(
 /// What an operator gives of two operands.
 #[cycle(interpret)]
 fn on_two(
-    run: &Setting,
-    who: &Who,
+    run: &RunInput,
+    who: &Identity,
     fuel: u128,
     levels: u64,
     machine: &mut Machine,
@@ -142,8 +143,8 @@ fn on_two(
     b: &Expr,
 ) -> Done<Value>
     ensures { Implements run.now who.now plain_value machine.old result machine.new
-        (bind (value (setting_of run.now) (calls_of run.now fuel) (expr_of a.now))
-        (λ v. bind (value (setting_of run.now) (calls_of run.now fuel) (expr_of b.now)) (λ w. operate op v w))) }
+        (bind (value (run_input_of run.now) (calls_of run.now fuel) (expr_of a.now))
+        (λ v. bind (value (run_input_of run.now) (calls_of run.now fuel) (expr_of b.now)) (λ w. operate op v w))) }
 {
     let v = take!(value(run, who, fuel, levels, machine, a));
     let w = value(run, who, fuel, levels, machine, b);
@@ -153,8 +154,8 @@ fn on_two(
 /// What a standard function of one argument gives.
 #[cycle(interpret)]
 fn of_one(
-    run: &Setting,
-    who: &Who,
+    run: &RunInput,
+    who: &Identity,
     fuel: u128,
     levels: u64,
     machine: &mut Machine,
@@ -163,8 +164,8 @@ fn of_one(
     a: &Expr,
 ) -> Done<Value>
     ensures { Implements run.now who.now plain_value machine.old result machine.new
-        (bind (ordinal_of (setting_of run.now) (calls_of run.now fuel) (expr_of a.now))
-        (λ n. bind (kind_at (setting_of run.now) kind) (λ t. standard_op f t n))) }
+        (bind (ordinal_of (run_input_of run.now) (calls_of run.now fuel) (expr_of a.now))
+        (λ n. bind (kind_at (run_input_of run.now) kind) (λ t. standard_op f t n))) }
 {
     let n = ordinal_of(run, who, fuel, levels, machine, a);
     standard_of(run, who, machine, f, kind, n)
@@ -173,15 +174,15 @@ fn of_one(
 /// Where a variable with its selectors stands.
 #[cycle(interpret)]
 fn place(
-    run: &Setting,
-    who: &Who,
+    run: &RunInput,
+    who: &Identity,
     fuel: u128,
     levels: u64,
     machine: &mut Machine,
     x: &Var,
 ) -> Done<Place>
     ensures { Implements run.now who.now plain_place machine.old result machine.new
-        (place (setting_of run.now) (calls_of run.now fuel) (var_of x.now)) }
+        (place (run_input_of run.now) (calls_of run.now fuel) (var_of x.now)) }
 {
     let q = take!(place_of(run, who, machine, x.variable));
     selected(
@@ -197,16 +198,16 @@ fn place(
 
 #[cycle(interpret)]
 fn selected(
-    run: &Setting,
-    who: &Who,
+    run: &RunInput,
+    who: &Identity,
     fuel: u128,
     levels: u64,
     machine: &mut Machine,
     ss: &[Selector],
     q: Done<Place>,
 ) -> Done<Place>
-    ensures { Follows run.now who.now plain_place plain_place machine.old q result machine.new
-        (selected (setting_of run.now) (calls_of run.now fuel) (selectors_of ss.now)) }
+    ensures { ImplementsNext run.now who.now plain_place plain_place machine.old q result machine.new
+        (component_place (run_input_of run.now) (calls_of run.now fuel) (selectors_of ss.now)) }
 {
     if levels == 0 {
         return Done::NoMemory;
@@ -231,15 +232,15 @@ fn selected(
 /// The arguments of a call.
 #[cycle(interpret)]
 fn actuals(
-    run: &Setting,
-    who: &Who,
+    run: &RunInput,
+    who: &Identity,
     fuel: u128,
     levels: u64,
     machine: &mut Machine,
     args: &[Actual],
-) -> Done<List<Given>>
-    ensures { Implements run.now who.now given_of machine.old result machine.new
-        (given_by (setting_of run.now) (calls_of run.now fuel) (actuals_of args.now)) }
+) -> Done<List<ArgumentValue>>
+    ensures { Implements run.now who.now plain_arguments machine.old result machine.new
+        (given_by (run_input_of run.now) (calls_of run.now fuel) (actuals_of args.now)) }
 {
     if levels == 0 {
         return Done::NoMemory;
@@ -251,12 +252,12 @@ fn actuals(
         Actual::Value(e) => {
             let v = take!(value(run, who, fuel, levels - 1, machine, e));
             let given = actuals(run, who, fuel, levels - 1, machine, rest);
-            first_given(run, who, machine, Given::Value(v), given)
+            first_given(run, who, machine, ArgumentValue::Value(v), given)
         }
         Actual::Reference(x) => {
             let at = take!(address(run, who, fuel, levels - 1, machine, x));
             let given = actuals(run, who, fuel, levels - 1, machine, rest);
-            first_given(run, who, machine, Given::Place(at), given)
+            first_given(run, who, machine, ArgumentValue::Place(at), given)
         }
     }
 }
@@ -264,8 +265,8 @@ fn actuals(
 /// The block of a call, entered with its arguments.
 #[cycle(interpret)]
 fn begun<'a>(
-    run: &Setting<'a>,
-    who: &Who,
+    run: &RunInput<'a>,
+    who: &Identity,
     fuel: u128,
     levels: u64,
     machine: &mut Machine,
@@ -273,8 +274,8 @@ fn begun<'a>(
     args: &[Actual],
 ) -> Done<&'a Block>
     ensures { Implements run.now who.now block_in machine.old result machine.new
-        (bind (given_by (setting_of run.now) (calls_of run.now fuel) (actuals_of args.now))
-        (enter (setting_of run.now) f)) }
+        (bind (given_by (run_input_of run.now) (calls_of run.now fuel) (actuals_of args.now))
+        (enter (run_input_of run.now) f)) }
 {
     let given = actuals(run, who, fuel, levels, machine, args);
     enter_given(run, who, machine, f, given)
@@ -283,8 +284,8 @@ fn begun<'a>(
 /// A call of a function.
 #[cycle(interpret)]
 fn call(
-    run: &Setting,
-    who: &Who,
+    run: &RunInput,
+    who: &Identity,
     fuel: u128,
     levels: u64,
     machine: &mut Machine,
@@ -292,7 +293,8 @@ fn call(
     args: &[Actual],
 ) -> Done<Value>
     ensures { Implements run.now who.now plain_value machine.old result machine.new
-        (bind (given_by (setting_of run.now) (calls_of run.now fuel) (actuals_of args.now)) (calls_of run.now fuel f)) }
+        (bind (given_by (run_input_of run.now) (calls_of run.now fuel) (actuals_of args.now))
+        (calls_of run.now fuel f)) }
 {
     if levels == 0 {
         return Done::NoMemory;
@@ -306,15 +308,15 @@ fn call(
 /// All that is left, where no more than `fuel` steps and calls stand inside one another.
 #[cycle(interpret)]
 fn all<'a>(
-    run: &Setting<'a>,
-    who: &Who,
+    run: &RunInput<'a>,
+    who: &Identity,
     fuel: u128,
     levels: u64,
     machine: &mut Machine,
     todo: Vec<Item<'a>>,
 ) -> Done<()>
     ensures { Implements run.now who.now nothing_left machine.old result machine.new
-        (all (setting_of run.now) fuel (items_of todo.entry.items)) }
+        (run_items (run_input_of run.now) fuel (items_of todo.entry.items)) }
 {
     let mut todo = todo;
     let mut left = fuel;
@@ -325,21 +327,21 @@ fn all<'a>(
             return Done::Gives(());
         }
     }
-    Done::Halts(Halted::Long)
+    Done::Halts(Halted::OutOfFuel)
 }
 
 /// One step of a function's body, and whether something was left to do.
 #[cycle(interpret)]
 fn one<'a>(
-    run: &Setting<'a>,
-    who: &Who,
+    run: &RunInput<'a>,
+    who: &Identity,
     fuel: u128,
     levels: u64,
     machine: &mut Machine,
     todo: &mut Vec<Item<'a>>,
 ) -> Done<bool>
     ensures { Implements run.now who.now (left_if (items_of todo.new.items)) machine.old result machine.new
-        (one (setting_of run.now) fuel (items_of todo.old.items)) }
+        (body_step (run_input_of run.now) fuel (items_of todo.old.items)) }
 {
     let Some(item) = take!(first_of(run, who, machine, todo)) else {
         return Done::Gives(false);
@@ -351,15 +353,15 @@ fn one<'a>(
 /// The ordinal of an expression.
 #[cycle(interpret)]
 fn ordinal_of(
-    run: &Setting,
-    who: &Who,
+    run: &RunInput,
+    who: &Identity,
     fuel: u128,
     levels: u64,
     machine: &mut Machine,
     e: &Expr,
 ) -> Done<i64>
-    ensures { Implements run.now who.now same machine.old result machine.new
-        (ordinal_of (setting_of run.now) (calls_of run.now fuel) (expr_of e.now)) }
+    ensures { Implements run.now who.now as_plain machine.old result machine.new
+        (ordinal_of (run_input_of run.now) (calls_of run.now fuel) (expr_of e.now)) }
 {
     let v = value(run, who, fuel, levels, machine, e);
     ordinal(run, who, machine, v)
@@ -368,15 +370,15 @@ fn ordinal_of(
 /// The channel that an expression is.
 #[cycle(interpret)]
 fn channel_of(
-    run: &Setting,
-    who: &Who,
+    run: &RunInput,
+    who: &Identity,
     fuel: u128,
     levels: u64,
     machine: &mut Machine,
     e: &Expr,
 ) -> Done<Chan>
     ensures { Implements run.now who.now plain_channel machine.old result machine.new
-        (bind (value (setting_of run.now) (calls_of run.now fuel) (expr_of e.now)) channel) }
+        (bind (value (run_input_of run.now) (calls_of run.now fuel) (expr_of e.now)) channel) }
 {
     let v = value(run, who, fuel, levels, machine, e);
     channel(run, who, machine, v)
@@ -385,15 +387,15 @@ fn channel_of(
 /// The address of a variable with its selectors.
 #[cycle(interpret)]
 fn address(
-    run: &Setting,
-    who: &Who,
+    run: &RunInput,
+    who: &Identity,
     fuel: u128,
     levels: u64,
     machine: &mut Machine,
     x: &Var,
 ) -> Done<Address>
     ensures { Implements run.now who.now plain_address machine.old result machine.new
-        (address (setting_of run.now) (calls_of run.now fuel) (var_of x.now)) }
+        (address (run_input_of run.now) (calls_of run.now fuel) (var_of x.now)) }
 {
     let q = place(run, who, fuel, levels, machine, x);
     address_of(run, who, machine, q)
@@ -402,15 +404,15 @@ fn address(
 /// The width of an item that is written, if it has one.
 #[cycle(interpret)]
 fn width(
-    run: &Setting,
-    who: &Who,
+    run: &RunInput,
+    who: &Identity,
     fuel: u128,
     levels: u64,
     machine: &mut Machine,
     e: &Option<Expr>,
 ) -> Done<Option<i64>>
-    ensures { Implements run.now who.now same machine.old result machine.new
-        (width (setting_of run.now) (calls_of run.now fuel) (width_of e.now)) }
+    ensures { Implements run.now who.now as_plain machine.old result machine.new
+        (width (run_input_of run.now) (calls_of run.now fuel) (width_of e.now)) }
 {
     match e {
         Some(e) => {
@@ -424,16 +426,16 @@ fn width(
 /// The step of what is first.
 #[cycle(interpret)]
 pub fn act<'a>(
-    run: &Setting<'a>,
-    who: &Who,
+    run: &RunInput<'a>,
+    who: &Identity,
     fuel: u128,
     levels: u64,
     machine: &mut Machine,
     item: Item<'a>,
     todo: &mut Vec<Item<'a>>,
-) -> Done<Deed<'a>>
-    ensures { Implements run.now who.now (plain_deed (items_of todo.new.items)) machine.old result machine.new
-        (act (setting_of run.now) (calls_of run.now fuel) (item_of item.entry) (items_of todo.old.items)) }
+) -> Done<Action<'a>>
+    ensures { Implements run.now who.now (plain_action (items_of todo.new.items)) machine.old result machine.new
+        (item_action (run_input_of run.now) (calls_of run.now fuel) (item_of item.entry) (items_of todo.old.items)) }
 {
     match item {
         Item::Do(s) => start(run, who, fuel, levels, machine, s, todo),
@@ -471,17 +473,17 @@ pub fn act<'a>(
 
 #[cycle(interpret)]
 fn start_assign<'a>(
-    run: &Setting<'a>,
-    who: &Who,
+    run: &RunInput<'a>,
+    who: &Identity,
     fuel: u128,
     levels: u64,
     machine: &mut Machine,
     x: &'a Var,
     e: &'a Expr,
     todo: &mut Vec<Item<'a>>,
-) -> Done<Deed<'a>>
-    ensures { Implements run.now who.now (plain_deed (items_of todo.new.items)) machine.old result machine.new
-        (start (setting_of run.now) (calls_of run.now fuel) (Assign (var_of x.now) (expr_of e.now))
+) -> Done<Action<'a>>
+    ensures { Implements run.now who.now (plain_action (items_of todo.new.items)) machine.old result machine.new
+        (statement_action (run_input_of run.now) (calls_of run.now fuel) (Assign (var_of x.now) (expr_of e.now))
         (items_of todo.old.items)) }
 {
     let at = take!(address(run, who, fuel, levels, machine, x));
@@ -491,17 +493,18 @@ fn start_assign<'a>(
 
 #[cycle(interpret)]
 fn start_call<'a>(
-    run: &Setting<'a>,
-    who: &Who,
+    run: &RunInput<'a>,
+    who: &Identity,
     fuel: u128,
     levels: u64,
     machine: &mut Machine,
     f: u32,
     args: &'a [Actual],
     todo: &mut Vec<Item<'a>>,
-) -> Done<Deed<'a>>
-    ensures { Implements run.now who.now (plain_deed (items_of todo.new.items)) machine.old result machine.new
-        (start (setting_of run.now) (calls_of run.now fuel) (Call f (actuals_of args.now)) (items_of todo.old.items)) }
+) -> Done<Action<'a>>
+    ensures { Implements run.now who.now (plain_action (items_of todo.new.items)) machine.old result machine.new
+        (statement_action (run_input_of run.now) (calls_of run.now fuel) (Call f (actuals_of args.now))
+        (items_of todo.old.items)) }
 {
     let block = begun(run, who, fuel, levels, machine, f, args);
     called(run, who, machine, block, todo)
@@ -509,18 +512,18 @@ fn start_call<'a>(
 
 #[cycle(interpret)]
 fn start_after<'a>(
-    run: &Setting<'a>,
-    who: &Who,
+    run: &RunInput<'a>,
+    who: &Identity,
     fuel: u128,
     levels: u64,
     machine: &mut Machine,
     e: &'a Expr,
     then: Then<'a>,
     todo: &mut Vec<Item<'a>>,
-) -> Done<Deed<'a>>
-    ensures { Implements run.now who.now (plain_deed (items_of todo.new.items)) machine.old result machine.new
-        (bind (ordinal_of (setting_of run.now) (calls_of run.now fuel) (expr_of e.now))
-        (λ n. after (setting_of run.now) then.entry n (items_of todo.old.items))) }
+) -> Done<Action<'a>>
+    ensures { Implements run.now who.now (plain_action (items_of todo.new.items)) machine.old result machine.new
+        (bind (ordinal_of (run_input_of run.now) (calls_of run.now fuel) (expr_of e.now))
+        (λ n. ordinal_action (run_input_of run.now) then.entry n (items_of todo.old.items))) }
 {
     let n = ordinal_of(run, who, fuel, levels, machine, e);
     goes_on(run, who, machine, n, then, todo)
@@ -528,8 +531,8 @@ fn start_after<'a>(
 
 #[cycle(interpret)]
 fn start_either<'a>(
-    run: &Setting<'a>,
-    who: &Who,
+    run: &RunInput<'a>,
+    who: &Identity,
     fuel: u128,
     levels: u64,
     machine: &mut Machine,
@@ -537,9 +540,10 @@ fn start_either<'a>(
     a: &'a Stmt,
     b: &'a Stmt,
     todo: &mut Vec<Item<'a>>,
-) -> Done<Deed<'a>>
-    ensures { Implements run.now who.now (plain_deed (items_of todo.new.items)) machine.old result machine.new
-        (start (setting_of run.now) (calls_of run.now fuel) (IfElse (expr_of e.now) (stmt_of a.now) (stmt_of b.now))
+) -> Done<Action<'a>>
+    ensures { Implements run.now who.now (plain_action (items_of todo.new.items)) machine.old result machine.new
+        (statement_action (run_input_of run.now) (calls_of run.now fuel)
+        (IfElse (expr_of e.now) (stmt_of a.now) (stmt_of b.now))
         (items_of todo.old.items)) }
 {
     start_after(run, who, fuel, levels, machine, e, Then::Either(a, b), todo)
@@ -547,8 +551,8 @@ fn start_either<'a>(
 
 #[cycle(interpret)]
 fn start_for<'a>(
-    run: &Setting<'a>,
-    who: &Who,
+    run: &RunInput<'a>,
+    who: &Identity,
     fuel: u128,
     levels: u64,
     machine: &mut Machine,
@@ -558,9 +562,9 @@ fn start_for<'a>(
     to: &'a Expr,
     body: &'a Stmt,
     todo: &mut Vec<Item<'a>>,
-) -> Done<Deed<'a>>
-    ensures { Implements run.now who.now (plain_deed (items_of todo.new.items)) machine.old result machine.new
-        (start (setting_of run.now) (calls_of run.now fuel)
+) -> Done<Action<'a>>
+    ensures { Implements run.now who.now (plain_action (items_of todo.new.items)) machine.old result machine.new
+        (statement_action (run_input_of run.now) (calls_of run.now fuel)
         (For variable (expr_of from.now) down (expr_of to.now) (stmt_of body.now)) (items_of todo.old.items)) }
 {
     let low = take!(ordinal_of(run, who, fuel, levels, machine, from));
@@ -570,8 +574,8 @@ fn start_for<'a>(
 
 #[cycle(interpret)]
 fn start_forall<'a>(
-    run: &Setting<'a>,
-    who: &Who,
+    run: &RunInput<'a>,
+    who: &Identity,
     fuel: u128,
     levels: u64,
     machine: &mut Machine,
@@ -580,9 +584,9 @@ fn start_forall<'a>(
     to: &'a Expr,
     body: &'a Stmt,
     todo: &mut Vec<Item<'a>>,
-) -> Done<Deed<'a>>
-    ensures { Implements run.now who.now (plain_deed (items_of todo.new.items)) machine.old result machine.new
-        (start (setting_of run.now) (calls_of run.now fuel)
+) -> Done<Action<'a>>
+    ensures { Implements run.now who.now (plain_action (items_of todo.new.items)) machine.old result machine.new
+        (statement_action (run_input_of run.now) (calls_of run.now fuel)
         (Forall index (expr_of from.now) (expr_of to.now) (stmt_of body.now))
         (items_of todo.old.items)) }
 {
@@ -593,16 +597,17 @@ fn start_forall<'a>(
 
 #[cycle(interpret)]
 fn start_read<'a>(
-    run: &Setting<'a>,
-    who: &Who,
+    run: &RunInput<'a>,
+    who: &Identity,
     fuel: u128,
     levels: u64,
     machine: &mut Machine,
     x: &'a Var,
     todo: &mut Vec<Item<'a>>,
-) -> Done<Deed<'a>>
-    ensures { Implements run.now who.now (plain_deed (items_of todo.new.items)) machine.old result machine.new
-        (start (setting_of run.now) (calls_of run.now fuel) (ReadValue (var_of x.now)) (items_of todo.old.items)) }
+) -> Done<Action<'a>>
+    ensures { Implements run.now who.now (plain_action (items_of todo.new.items)) machine.old result machine.new
+        (statement_action (run_input_of run.now) (calls_of run.now fuel) (ReadValue (var_of x.now))
+        (items_of todo.old.items)) }
 {
     let at = address(run, who, fuel, levels, machine, x);
     read_value(run, who, machine, at, todo)
@@ -610,17 +615,17 @@ fn start_read<'a>(
 
 #[cycle(interpret)]
 fn start_write<'a>(
-    run: &Setting<'a>,
-    who: &Who,
+    run: &RunInput<'a>,
+    who: &Identity,
     fuel: u128,
     levels: u64,
     machine: &mut Machine,
     e: &'a Expr,
     w: &'a Option<Expr>,
     todo: &mut Vec<Item<'a>>,
-) -> Done<Deed<'a>>
-    ensures { Implements run.now who.now (plain_deed (items_of todo.new.items)) machine.old result machine.new
-        (start (setting_of run.now) (calls_of run.now fuel) (WriteValue (expr_of e.now) (width_of w.now))
+) -> Done<Action<'a>>
+    ensures { Implements run.now who.now (plain_action (items_of todo.new.items)) machine.old result machine.new
+        (statement_action (run_input_of run.now) (calls_of run.now fuel) (WriteValue (expr_of e.now) (width_of w.now))
         (items_of todo.old.items)) }
 {
     let n = take!(ordinal_of(run, who, fuel, levels, machine, e));
@@ -630,17 +635,17 @@ fn start_write<'a>(
 
 #[cycle(interpret)]
 fn start_text<'a>(
-    run: &Setting<'a>,
-    who: &Who,
+    run: &RunInput<'a>,
+    who: &Identity,
     fuel: u128,
     levels: u64,
     machine: &mut Machine,
     t: &'a [u8],
     w: &'a Option<Expr>,
     todo: &mut Vec<Item<'a>>,
-) -> Done<Deed<'a>>
-    ensures { Implements run.now who.now (plain_deed (items_of todo.new.items)) machine.old result machine.new
-        (start (setting_of run.now) (calls_of run.now fuel) (WriteText t.now (width_of w.now))
+) -> Done<Action<'a>>
+    ensures { Implements run.now who.now (plain_action (items_of todo.new.items)) machine.old result machine.new
+        (statement_action (run_input_of run.now) (calls_of run.now fuel) (WriteText t.now (width_of w.now))
         (items_of todo.old.items)) }
 {
     let m = width(run, who, fuel, levels, machine, w);
@@ -649,16 +654,17 @@ fn start_text<'a>(
 
 #[cycle(interpret)]
 fn start_open<'a>(
-    run: &Setting<'a>,
-    who: &Who,
+    run: &RunInput<'a>,
+    who: &Identity,
     fuel: u128,
     levels: u64,
     machine: &mut Machine,
     x: &'a Var,
     todo: &mut Vec<Item<'a>>,
-) -> Done<Deed<'a>>
-    ensures { Implements run.now who.now (plain_deed (items_of todo.new.items)) machine.old result machine.new
-        (start (setting_of run.now) (calls_of run.now fuel) (Open (var_of x.now)) (items_of todo.old.items)) }
+) -> Done<Action<'a>>
+    ensures { Implements run.now who.now (plain_action (items_of todo.new.items)) machine.old result machine.new
+        (statement_action (run_input_of run.now) (calls_of run.now fuel) (Open (var_of x.now))
+        (items_of todo.old.items)) }
 {
     let at = address(run, who, fuel, levels, machine, x);
     opened(run, who, machine, at, todo)
@@ -666,17 +672,17 @@ fn start_open<'a>(
 
 #[cycle(interpret)]
 fn start_send<'a>(
-    run: &Setting<'a>,
-    who: &Who,
+    run: &RunInput<'a>,
+    who: &Identity,
     fuel: u128,
     levels: u64,
     machine: &mut Machine,
     c: &'a Expr,
     e: &'a Expr,
     todo: &mut Vec<Item<'a>>,
-) -> Done<Deed<'a>>
-    ensures { Implements run.now who.now (plain_deed (items_of todo.new.items)) machine.old result machine.new
-        (start (setting_of run.now) (calls_of run.now fuel) (Send (expr_of c.now) (expr_of e.now))
+) -> Done<Action<'a>>
+    ensures { Implements run.now who.now (plain_action (items_of todo.new.items)) machine.old result machine.new
+        (statement_action (run_input_of run.now) (calls_of run.now fuel) (Send (expr_of c.now) (expr_of e.now))
         (items_of todo.old.items)) }
 {
     let to = take!(channel_of(run, who, fuel, levels, machine, c));
@@ -686,17 +692,17 @@ fn start_send<'a>(
 
 #[cycle(interpret)]
 fn start_receive<'a>(
-    run: &Setting<'a>,
-    who: &Who,
+    run: &RunInput<'a>,
+    who: &Identity,
     fuel: u128,
     levels: u64,
     machine: &mut Machine,
     c: &'a Expr,
     x: &'a Var,
     todo: &mut Vec<Item<'a>>,
-) -> Done<Deed<'a>>
-    ensures { Implements run.now who.now (plain_deed (items_of todo.new.items)) machine.old result machine.new
-        (start (setting_of run.now) (calls_of run.now fuel) (Receive (expr_of c.now) (var_of x.now))
+) -> Done<Action<'a>>
+    ensures { Implements run.now who.now (plain_action (items_of todo.new.items)) machine.old result machine.new
+        (statement_action (run_input_of run.now) (calls_of run.now fuel) (Receive (expr_of c.now) (var_of x.now))
         (items_of todo.old.items)) }
 {
     let from = take!(channel_of(run, who, fuel, levels, machine, c));
@@ -707,19 +713,19 @@ fn start_receive<'a>(
 /// The step of a statement that is first.
 #[cycle(interpret)]
 fn start<'a>(
-    run: &Setting<'a>,
-    who: &Who,
+    run: &RunInput<'a>,
+    who: &Identity,
     fuel: u128,
     levels: u64,
     machine: &mut Machine,
     s: &'a Stmt,
     todo: &mut Vec<Item<'a>>,
-) -> Done<Deed<'a>>
-    ensures { Implements run.now who.now (plain_deed (items_of todo.new.items)) machine.old result machine.new
-        (start (setting_of run.now) (calls_of run.now fuel) (stmt_of s.now) (items_of todo.old.items)) }
+) -> Done<Action<'a>>
+    ensures { Implements run.now who.now (plain_action (items_of todo.new.items)) machine.old result machine.new
+        (statement_action (run_input_of run.now) (calls_of run.now fuel) (stmt_of s.now) (items_of todo.old.items)) }
 {
     match &s.form {
-        Form::Empty => Done::Gives(Deed::Stepped),
+        Form::Empty => Done::Gives(Action::Stepped),
         Form::Assign(x, e) => start_assign(run, who, fuel, levels, machine, x, e, todo),
         Form::Call(f, args) => {
             start_call(run, who, fuel, levels, machine, *f, args.items(), todo)

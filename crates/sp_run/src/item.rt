@@ -3,7 +3,7 @@
 
 ghost use Rattle.std.specs.Prelude.{◌≡◌, ◌∷◌, OnOk, map};
 ghost use Rattle.sp_tree.specs.PlainOf.{stmt_of, expr_of, var_of, sends, receives, stmts_of};
-ghost use Rattle.sp_meaning.specs.Deeds.{push, push_all};
+ghost use Rattle.sp_meaning.specs.Actions.{push, push_all};
 ghost use Rattle.sp_run.specs.Items.{item_of, items_of};
 
 use sp_base::{Fault, Memory};

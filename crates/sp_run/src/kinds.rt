@@ -7,12 +7,12 @@ ghost use Rattle.sp_tree.specs.PlainOf.{program_of};
 ghost use Rattle.sp_tree.specs.Bare.{variable_of};
 ghost use Rattle.sp_meaning.specs.Values.{Undefined, field_values, initials, initial_by};
 ghost use Rattle.sp_meaning.specs.SuperPascal.{first_value, value_among};
-ghost use Rattle.sp_meaning.specs.Deeds.{begins};
-ghost use Rattle.sp_run.specs.Machines.{setting_of};
+ghost use Rattle.sp_meaning.specs.Actions.{first_value_by};
+ghost use Rattle.sp_run.specs.Machines.{run_input_of};
 ghost use Rattle.sp_run.specs.Views.{plain_value};
 ghost use Rattle.std.specs.Option.{option_copied, option_map};
 
-use crate::machine::Setting;
+use crate::machine::RunInput;
 use crate::value::{Value, copy_value};
 use sp_base::{List, Memory};
 use sp_tree::{KindOf, Role, Variable};
@@ -126,7 +126,7 @@ fn cells_among(sizes: &[u64], block: usize, variables: &[Variable]) -> Result<u6
 }
 
 /// The cells of a block's frame. A number beyond all memory is answered as want of memory.
-pub fn size_of_frame(run: &Setting, block: usize) -> Result<u64, Memory>
+pub fn size_of_frame(run: &RunInput, block: usize) -> Result<u64, Memory>
     ensures { IfOk result (λ n. n ≡ cells_of_frame (program_of run.now.checked.now) block) }
 {
     let sizes = sizes_of(run.alloc, run.checked.kinds.items())?;
@@ -218,7 +218,7 @@ pub fn initials_of(alloc: Global, kinds: &[KindOf]) -> Result<List<Value>, Memor
 /// What stands at first in a variable of a frame, if it has cells of its own.
 pub fn beginning<'a>(initials: &'a [Value], v: &Variable) -> Option<&'a Value>
     ensures { option_map plain_value (option_copied result)
-        ≡ begins (map plain_value initials.now) v.now.role v.now.kind }
+        ≡ first_value_by (map plain_value initials.now) v.now.role v.now.kind }
 {
     match v.role {
         Role::Console => None,
@@ -231,8 +231,8 @@ pub fn beginning<'a>(initials: &'a [Value], v: &Variable) -> Option<&'a Value>
 }
 
 /// The first value of a variable of the program.
-pub fn first_value(run: &Setting, x: usize) -> Result<Value, Memory>
-    ensures { IfOk result (λ v. plain_value v ≡ first_value (setting_of run.now) x) }
+pub fn first_value(run: &RunInput, x: usize) -> Result<Value, Memory>
+    ensures { IfOk result (λ v. plain_value v ≡ first_value (run_input_of run.now) x) }
 {
     let initials = initials_of(run.alloc, run.checked.kinds.items())?;
     let v = value_among(run, initials.items(), x, 0, run.checked.variables.items())?;
@@ -241,7 +241,7 @@ pub fn first_value(run: &Setting, x: usize) -> Result<Value, Memory>
 
 /// The first value of the variable with this number among the program's, of which the first has number `number`.
 fn value_among(
-    run: &Setting,
+    run: &RunInput,
     known: &[Value],
     x: usize,
     number: usize,
@@ -249,7 +249,7 @@ fn value_among(
 ) -> Result<Value, Memory>
     requires { map plain_value known.now ≡ initials run.now.checked.now.kinds }
     ensures { IfOk result (λ v. plain_value v
-        ≡ value_among (setting_of run.now) x (variables_of 0 number (map variable_of variables.now))) }
+        ≡ value_among (run_input_of run.now) x (variables_of 0 number (map variable_of variables.now))) }
 {
     let Some((v, rest)) = variables.split_first() else {
         return Ok(Value::Undefined);

@@ -13,14 +13,16 @@
 //!   comes to.
 //!
 //! To know:
-//! - `specs/Direct.antt`, `DirectEval` and `DirectDeeds` are the meaning's text with the store passed along;
+//! - `specs/Direct.antt`, `DirectEval` and `DirectActions` are the meaning's text with the store passed along;
 //!   `src/laws.rt` says that they agree with it.
-//! - `specs/Views.antt`, `Machines`, `Places`, `Items`, `Doings`, `States` lead from memory to the definitions.
-//! - `specs/Comings.antt` is the form of every contract below a step (`Implements`), `Following` that of a call which
-//!   goes on from what an earlier one gave (`Follows`), `Meanings` that of the whole (`Means`).
-//! - `src/interpret.rt` is the cycle of expressions and statements, whose small parts are in `acts.rt`, `bodies.rt`,
+//! - `specs/Views.antt`, `Machines`, `Places`, `Items`, `ActionViews`, `States` lead from memory to the definitions.
+//! - `specs/Implements.antt` is the form of every contract below a step (`Implements`), `ChainedCalls` that of a call
+//!   which
+//!   goes on from what an earlier one gave (`ImplementsNext`), `Meanings` that of the whole (`Means`).
+//! - `src/interpret.rt` is the cycle of expressions and statements, whose small parts are in `action_parts.rt`,
+//!   `bodies.rt`,
 //!   `calls.rt`, `operators.rt` and `texts.rt`: in the cycle a call hands on what another gave, and the parts take it
-//!   apart, since all proofs of the cycle are one. `deeds.rt` is what a process does to others, `state.rt` a state as
+//!   apart, since all proofs of the cycle are one. `actions.rt` is what a process does to others, `state.rt` a state as
 //!   logs of what happened, `steps.rt` one step, `ends.rt` the end of a state, `weights.rt` the bound on the work of a
 //!   step, `run.rt` the schedule.
 //! - Several values on one channel are several items of what is left to do (`Item::Send`, `Item::Receive`), which
@@ -30,14 +32,14 @@
 //! - It is a crate of its own, so that a change in it makes nothing else be proved again.
 //!
 //! To change:
-//! - A clause of the meaning: the same clause in `specs/DirectEval.antt` or `DirectDeeds`, its line in
-//!   `proofs/SameEval.antt` or `SameDeeds`, and the function of its name.
+//! - A clause of the meaning: the same clause in `specs/DirectEval.antt` or `DirectActions`, its line in
+//!   `proofs/SameEval.antt` or `SameActions`, and the function of its name.
 #![tactic(auto)]
 
-mod acts;
+mod action_parts;
+mod actions;
 mod bodies;
 mod calls;
-mod deeds;
 mod ends;
 mod frames;
 mod interpret;

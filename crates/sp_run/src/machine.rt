@@ -7,7 +7,7 @@ use std::alloc::Global;
 
 /// What a run is of: a checked tree, an input and limits.
 #[derive(Drop)]
-pub struct Setting<'a> {
+pub struct RunInput<'a> {
     pub checked: &'a Checked,
     pub input: &'a [u8],
     pub limits: &'a Limits,
@@ -16,7 +16,7 @@ pub struct Setting<'a> {
 
 /// What stands at a location.
 #[derive(Drop)]
-pub enum Held {
+pub enum LocationContent {
     Tree(Value),
     Position(usize),
     Written(List<u8>),
@@ -26,7 +26,7 @@ pub enum Held {
 #[derive(Drop)]
 pub struct Write {
     pub at: Loc,
-    pub held: Held,
+    pub held: LocationContent,
 }
 
 /// A frame is that of a block, or of a forall's index with its value.
@@ -56,7 +56,7 @@ pub struct Frame {
 
 /// What a process has of its own. The newest frame is the first.
 #[derive(Drop)]
-pub struct Own {
+pub struct LocalState {
     pub frames: List<Frame>,
     pub depth: u64,
     pub ticks: u64,
@@ -65,7 +65,7 @@ pub struct Own {
 
 /// The name of a process, and how many forks and opens it has made.
 #[derive(Drop)]
-pub struct Who {
+pub struct Identity {
     pub name: Name,
     pub forks: u64,
     pub opens: u64,
@@ -74,6 +74,6 @@ pub struct Who {
 /// The own part of a process and the store, which is kept as all that was written, the oldest first.
 #[derive(Drop)]
 pub struct Machine {
-    pub own: Own,
+    pub own: LocalState,
     pub log: List<Write>,
 }

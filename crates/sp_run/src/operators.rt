@@ -1,24 +1,25 @@
 //! Operators on values, and components of variables.
 
 ghost use Rattle.std.specs.Prelude.{◌≡◌, ◌∷◌, ◌++◌, [], ◌≤ℤ◌, ◌-ℤ◌, nat_abs, IfOk, drop};
-ghost use Rattle.sp_values.specs.Worked.{worked};
-ghost use Rattle.sp_meaning.specs.Own.{position_in};
-ghost use Rattle.sp_run.specs.Machines.{setting_of, plain_held};
-ghost use Rattle.sp_run.specs.Comings.{Implements, same, pointed};
-ghost use Rattle.sp_run.specs.Following.{Follows};
+ghost use Rattle.sp_values.specs.OperatorResults.{operator_result};
+ghost use Rattle.sp_meaning.specs.LocalWork.{position_in};
+ghost use Rattle.sp_run.specs.Machines.{run_input_of, plain_content};
+ghost use Rattle.sp_run.specs.Implements.{Implements, as_plain, pointee};
+ghost use Rattle.sp_run.specs.ImplementsNext.{ImplementsNext};
 ghost use Rattle.sp_run.specs.Direct.{bind};
 ghost use Rattle.sp_meaning.specs.Operators.{unary_op, binary_op};
 ghost use Rattle.sp_run.specs.Places.{plain_place};
 ghost use Rattle.sp_run.specs.Views.{plain_value, plain_address, plain_channel};
 ghost use Rattle.sp_run.specs.Framing.{component};
-ghost use Rattle.sp_tree.specs.Operators.{least, greatest};
-ghost use Rattle.sp_meaning.specs.Eval.{field_kind, At};
+ghost use Rattle.sp_tree.specs.Operators.{least_ordinal, greatest_ordinal};
+ghost use Rattle.sp_meaning.specs.Eval.{field_kind, AtAddress};
 ghost use Rattle.sp_run.specs.DirectEval.{work_of, ordinal, channel, channels_op, operate, standard_op, input_op};
-ghost use Rattle.sp_run.specs.DirectEval.{ordinal_read, channel_read, checked, element_at, kind_at, indexed, fielded};
-ghost use Rattle.sp_run.specs.DirectEval.{read_at, left_of};
+ghost use Rattle.sp_run.specs.DirectEval.{ordinal_read, channel_read, checked_value, element_at, kind_at};
+ghost use Rattle.sp_run.specs.DirectEval.{element_place, field_place};
+ghost use Rattle.sp_run.specs.DirectEval.{read_at, input_left};
 
 use crate::frames::Place;
-use crate::machine::{Held, Machine, Setting, Who};
+use crate::machine::{Identity, LocationContent, Machine, RunInput};
 use crate::stop::{Done, Halted};
 use crate::store::{fetch, look};
 use crate::value::{Address, Chan, Loc, Value, copy_loc, is_same_channel};
@@ -32,8 +33,13 @@ use sp_values::{
 use std::alloc::Global;
 
 /// What an operator gives, as a value.
-pub fn worked_of(run: &Setting, who: &Who, machine: &Machine, r: Result<i64, Fault>) -> Done<Value>
-    ensures { Implements run.now who.now plain_value machine.now result machine.now (work_of (worked r)) }
+pub fn worked_of(
+    run: &RunInput,
+    who: &Identity,
+    machine: &Machine,
+    r: Result<i64, Fault>,
+) -> Done<Value>
+    ensures { Implements run.now who.now plain_value machine.now result machine.now (work_of (operator_result r)) }
 {
     match r {
         Ok(n) => Done::Gives(Value::Ordinal(n)),
@@ -42,32 +48,32 @@ pub fn worked_of(run: &Setting, who: &Who, machine: &Machine, r: Result<i64, Fau
 }
 
 /// The ordinal that an evaluated expression is.
-pub fn ordinal(run: &Setting, who: &Who, machine: &Machine, v: Done<Value>) -> Done<i64>
-    ensures { Follows run.now who.now plain_value same machine.now v result machine.now ordinal }
+pub fn ordinal(run: &RunInput, who: &Identity, machine: &Machine, v: Done<Value>) -> Done<i64>
+    ensures { ImplementsNext run.now who.now plain_value as_plain machine.now v result machine.now ordinal }
 {
     match take!(v) {
-        Value::Undefined => Done::Halts(Halted::Lost),
+        Value::Undefined => Done::Halts(Halted::IllFormed),
         Value::Ordinal(n) => Done::Gives(n),
-        Value::Chan(_) => Done::Halts(Halted::Lost),
-        Value::Parts(_) => Done::Halts(Halted::Lost),
+        Value::Chan(_) => Done::Halts(Halted::IllFormed),
+        Value::Parts(_) => Done::Halts(Halted::IllFormed),
     }
 }
 
 /// The channel that an evaluated expression is.
-pub fn channel(run: &Setting, who: &Who, machine: &Machine, v: Done<Value>) -> Done<Chan>
-    ensures { Follows run.now who.now plain_value plain_channel machine.now v result machine.now channel }
+pub fn channel(run: &RunInput, who: &Identity, machine: &Machine, v: Done<Value>) -> Done<Chan>
+    ensures { ImplementsNext run.now who.now plain_value plain_channel machine.now v result machine.now channel }
 {
     match take!(v) {
-        Value::Undefined => Done::Halts(Halted::Lost),
-        Value::Ordinal(_) => Done::Halts(Halted::Lost),
+        Value::Undefined => Done::Halts(Halted::IllFormed),
+        Value::Ordinal(_) => Done::Halts(Halted::IllFormed),
         Value::Chan(c) => Done::Gives(c),
-        Value::Parts(_) => Done::Halts(Halted::Lost),
+        Value::Parts(_) => Done::Halts(Halted::IllFormed),
     }
 }
 
 fn on_channels(
-    run: &Setting,
-    who: &Who,
+    run: &RunInput,
+    who: &Identity,
     machine: &Machine,
     op: BinaryOp,
     c: &Chan,
@@ -79,24 +85,24 @@ fn on_channels(
     match op {
         BinaryOp::Eq => Done::Gives(Value::Ordinal(truth_of(is_same_channel(c, d)))),
         BinaryOp::Ne => Done::Gives(Value::Ordinal(truth_of(!is_same_channel(c, d)))),
-        BinaryOp::Lt => Done::Halts(Halted::Lost),
-        BinaryOp::Le => Done::Halts(Halted::Lost),
-        BinaryOp::Gt => Done::Halts(Halted::Lost),
-        BinaryOp::Ge => Done::Halts(Halted::Lost),
-        BinaryOp::Add => Done::Halts(Halted::Lost),
-        BinaryOp::Sub => Done::Halts(Halted::Lost),
-        BinaryOp::Or => Done::Halts(Halted::Lost),
-        BinaryOp::Mul => Done::Halts(Halted::Lost),
-        BinaryOp::Div => Done::Halts(Halted::Lost),
-        BinaryOp::Mod => Done::Halts(Halted::Lost),
-        BinaryOp::And => Done::Halts(Halted::Lost),
+        BinaryOp::Lt => Done::Halts(Halted::IllFormed),
+        BinaryOp::Le => Done::Halts(Halted::IllFormed),
+        BinaryOp::Gt => Done::Halts(Halted::IllFormed),
+        BinaryOp::Ge => Done::Halts(Halted::IllFormed),
+        BinaryOp::Add => Done::Halts(Halted::IllFormed),
+        BinaryOp::Sub => Done::Halts(Halted::IllFormed),
+        BinaryOp::Or => Done::Halts(Halted::IllFormed),
+        BinaryOp::Mul => Done::Halts(Halted::IllFormed),
+        BinaryOp::Div => Done::Halts(Halted::IllFormed),
+        BinaryOp::Mod => Done::Halts(Halted::IllFormed),
+        BinaryOp::And => Done::Halts(Halted::IllFormed),
     }
 }
 
 /// What an operator gives of two values.
 fn operate(
-    run: &Setting,
-    who: &Who,
+    run: &RunInput,
+    who: &Identity,
     machine: &Machine,
     op: BinaryOp,
     v: &Value,
@@ -106,21 +112,21 @@ fn operate(
         (operate op (plain_value v.now) (plain_value w.now)) }
 {
     match v {
-        Value::Undefined => Done::Halts(Halted::Lost),
+        Value::Undefined => Done::Halts(Halted::IllFormed),
         Value::Ordinal(m) => on_ordinals(run, who, machine, op, *m, w),
         Value::Chan(c) => match w {
-            Value::Undefined => Done::Halts(Halted::Lost),
-            Value::Ordinal(_) => Done::Halts(Halted::Lost),
+            Value::Undefined => Done::Halts(Halted::IllFormed),
+            Value::Ordinal(_) => Done::Halts(Halted::IllFormed),
             Value::Chan(d) => on_channels(run, who, machine, op, c, d),
-            Value::Parts(_) => Done::Halts(Halted::Lost),
+            Value::Parts(_) => Done::Halts(Halted::IllFormed),
         },
-        Value::Parts(_) => Done::Halts(Halted::Lost),
+        Value::Parts(_) => Done::Halts(Halted::IllFormed),
     }
 }
 
 fn on_ordinals(
-    run: &Setting,
-    who: &Who,
+    run: &RunInput,
+    who: &Identity,
     machine: &Machine,
     op: BinaryOp,
     m: i64,
@@ -130,23 +136,23 @@ fn on_ordinals(
         (bind (ordinal (plain_value w.now)) (λ n. work_of (binary_op op m n))) }
 {
     match w {
-        Value::Undefined => Done::Halts(Halted::Lost),
+        Value::Undefined => Done::Halts(Halted::IllFormed),
         Value::Ordinal(n) => worked_of(run, who, machine, binary(op, m, *n)),
-        Value::Chan(_) => Done::Halts(Halted::Lost),
-        Value::Parts(_) => Done::Halts(Halted::Lost),
+        Value::Chan(_) => Done::Halts(Halted::IllFormed),
+        Value::Parts(_) => Done::Halts(Halted::IllFormed),
     }
 }
 
 /// What an operator gives of a second operand.
 pub fn operate_two(
-    run: &Setting,
-    who: &Who,
+    run: &RunInput,
+    who: &Identity,
     machine: &Machine,
     op: BinaryOp,
     v: Value,
     w: Done<Value>,
 ) -> Done<Value>
-    ensures { Follows run.now who.now plain_value plain_value machine.now w result machine.now
+    ensures { ImplementsNext run.now who.now plain_value plain_value machine.now w result machine.now
         (operate op (plain_value v)) }
 {
     let w = take!(w);
@@ -155,13 +161,13 @@ pub fn operate_two(
 
 /// What an operator gives of an ordinal.
 pub fn operate_one(
-    run: &Setting,
-    who: &Who,
+    run: &RunInput,
+    who: &Identity,
     machine: &Machine,
     op: UnaryOp,
     n: Done<i64>,
 ) -> Done<Value>
-    ensures { Follows run.now who.now same plain_value machine.now n result machine.now
+    ensures { ImplementsNext run.now who.now as_plain plain_value machine.now n result machine.now
         (λ m. work_of (unary_op op m)) }
 {
     let n = take!(n);
@@ -170,7 +176,7 @@ pub fn operate_one(
 
 /// An ordinal type's greatest number.
 fn greatest(kind: &KindOf) -> i64
-    ensures { result ≡ greatest kind.now }
+    ensures { result ≡ greatest_ordinal kind.now }
 {
     match kind {
         KindOf::Integer => MAXINT,
@@ -185,7 +191,7 @@ fn greatest(kind: &KindOf) -> i64
 
 /// An ordinal type's least number.
 fn least(kind: &KindOf) -> i64
-    ensures { result ≡ least kind.now }
+    ensures { result ≡ least_ordinal kind.now }
 {
     match kind {
         KindOf::Integer => -MAXINT,
@@ -200,8 +206,8 @@ fn least(kind: &KindOf) -> i64
 
 /// What a standard function of one argument gives; the type is that of the result.
 fn standard(
-    run: &Setting,
-    who: &Who,
+    run: &RunInput,
+    who: &Identity,
     machine: &Machine,
     f: StandardFn,
     kind: &KindOf,
@@ -217,22 +223,22 @@ fn standard(
         StandardFn::Chr => worked_of(run, who, machine, within(0, 255, n)),
         StandardFn::Succ => worked_of(run, who, machine, next_of(greatest(kind), n)),
         StandardFn::Pred => worked_of(run, who, machine, previous_of(least(kind), n)),
-        StandardFn::Eof => Done::Halts(Halted::Lost),
-        StandardFn::Eoln => Done::Halts(Halted::Lost),
+        StandardFn::Eof => Done::Halts(Halted::IllFormed),
+        StandardFn::Eoln => Done::Halts(Halted::IllFormed),
     }
 }
 
 /// What a standard function gives of an ordinal; the type is that of the result.
 pub fn standard_of(
-    run: &Setting,
-    who: &Who,
+    run: &RunInput,
+    who: &Identity,
     machine: &Machine,
     f: StandardFn,
     kind: u32,
     n: Done<i64>,
 ) -> Done<Value>
-    ensures { Follows run.now who.now same plain_value machine.now n result machine.now
-        (λ m. bind (kind_at (setting_of run.now) kind) (λ t. standard_op f t m)) }
+    ensures { ImplementsNext run.now who.now as_plain plain_value machine.now n result machine.now
+        (λ m. bind (kind_at (run_input_of run.now) kind) (λ t. standard_op f t m)) }
 {
     let n = take!(n);
     let kind = take!(kind_at(run, who, machine, kind));
@@ -240,32 +246,38 @@ pub fn standard_of(
 }
 
 /// What `eof` and `eoln` give of what is left of the input.
-fn at_input(run: &Setting, who: &Who, machine: &Machine, f: StandardFn, left: &[u8]) -> Done<Value>
+fn at_input(
+    run: &RunInput,
+    who: &Identity,
+    machine: &Machine,
+    f: StandardFn,
+    left: &[u8],
+) -> Done<Value>
     ensures { Implements run.now who.now plain_value machine.now result machine.now (input_op f left.now) }
 {
     match f {
-        StandardFn::Abs => Done::Halts(Halted::Lost),
-        StandardFn::Sqr => Done::Halts(Halted::Lost),
-        StandardFn::Odd => Done::Halts(Halted::Lost),
-        StandardFn::Ord => Done::Halts(Halted::Lost),
-        StandardFn::Chr => Done::Halts(Halted::Lost),
-        StandardFn::Succ => Done::Halts(Halted::Lost),
-        StandardFn::Pred => Done::Halts(Halted::Lost),
+        StandardFn::Abs => Done::Halts(Halted::IllFormed),
+        StandardFn::Sqr => Done::Halts(Halted::IllFormed),
+        StandardFn::Odd => Done::Halts(Halted::IllFormed),
+        StandardFn::Ord => Done::Halts(Halted::IllFormed),
+        StandardFn::Chr => Done::Halts(Halted::IllFormed),
+        StandardFn::Succ => Done::Halts(Halted::IllFormed),
+        StandardFn::Pred => Done::Halts(Halted::IllFormed),
         StandardFn::Eof => Done::Gives(Value::Ordinal(truth_of(left.len() == 0))),
         StandardFn::Eoln => Done::Gives(Value::Ordinal(truth_of(is_at_line_end(left)))),
     }
 }
 
 /// What `eof` and `eoln` give.
-pub fn of_input(run: &Setting, who: &Who, machine: &mut Machine, f: StandardFn) -> Done<Value>
+pub fn of_input(run: &RunInput, who: &Identity, machine: &mut Machine, f: StandardFn) -> Done<Value>
     ensures { Implements run.now who.now plain_value machine.old result machine.new
-        (bind (left_of (setting_of run.now)) (input_op f)) }
+        (bind (input_left (run_input_of run.now)) (input_op f)) }
 {
     let left = take!(left_of(run, who, machine));
     at_input(run, who, machine, f, left)
 }
 
-fn ordinal_read(run: &Setting, who: &Who, machine: &Machine, v: Value) -> Done<Value>
+fn ordinal_read(run: &RunInput, who: &Identity, machine: &Machine, v: Value) -> Done<Value>
     ensures { Implements run.now who.now plain_value machine.now result machine.now (ordinal_read (plain_value v)) }
 {
     match v {
@@ -276,7 +288,7 @@ fn ordinal_read(run: &Setting, who: &Who, machine: &Machine, v: Value) -> Done<V
     }
 }
 
-fn channel_read(run: &Setting, who: &Who, machine: &Machine, v: Value) -> Done<Value>
+fn channel_read(run: &RunInput, who: &Identity, machine: &Machine, v: Value) -> Done<Value>
     ensures { Implements run.now who.now plain_value machine.now result machine.now (channel_read (plain_value v)) }
 {
     match v {
@@ -288,8 +300,15 @@ fn channel_read(run: &Setting, who: &Who, machine: &Machine, v: Value) -> Done<V
 }
 
 /// What is read of a type.
-fn checked(run: &Setting, who: &Who, machine: &Machine, kind: &KindOf, v: Value) -> Done<Value>
-    ensures { Implements run.now who.now plain_value machine.now result machine.now (checked kind.now (plain_value v)) }
+fn checked(
+    run: &RunInput,
+    who: &Identity,
+    machine: &Machine,
+    kind: &KindOf,
+    v: Value,
+) -> Done<Value>
+    ensures { Implements run.now who.now plain_value machine.now result machine.now
+        (checked_value kind.now (plain_value v)) }
 {
     match kind {
         KindOf::Integer => ordinal_read(run, who, machine, v),
@@ -303,12 +322,17 @@ fn checked(run: &Setting, who: &Who, machine: &Machine, kind: &KindOf, v: Value)
 }
 
 /// The type with a number.
-pub fn kind_at<'a>(run: &Setting<'a>, who: &Who, machine: &Machine, k: u32) -> Done<&'a KindOf>
-    ensures { Implements run.now who.now pointed machine.now result machine.now (kind_at (setting_of run.now) k) }
+pub fn kind_at<'a>(
+    run: &RunInput<'a>,
+    who: &Identity,
+    machine: &Machine,
+    k: u32,
+) -> Done<&'a KindOf>
+    ensures { Implements run.now who.now pointee machine.now result machine.now (kind_at (run_input_of run.now) k) }
 {
     match run.checked.kinds.get(k as usize) {
         Some(kind) => Done::Gives(kind),
-        None => Done::Halts(Halted::Lost),
+        None => Done::Halts(Halted::IllFormed),
     }
 }
 
@@ -321,8 +345,8 @@ fn distance(low: i64, n: i64) -> usize
 }
 
 fn component(
-    run: &Setting,
-    who: &Who,
+    run: &RunInput,
+    who: &Identity,
     machine: &Machine,
     a: &Address,
     at: usize,
@@ -347,8 +371,8 @@ fn part_of(alloc: Global, a: &Address, at: usize, kind: u32) -> Result<Address, 
 
 /// The element at an index, or F1.
 fn element_at(
-    run: &Setting,
-    who: &Who,
+    run: &RunInput,
+    who: &Identity,
     machine: &Machine,
     a: &Address,
     n: &i64,
@@ -370,40 +394,40 @@ fn element_at(
                 Done::Halts(Halted::Fault(Fault::F1))
             }
         }
-        KindOf::Integer => Done::Halts(Halted::Lost),
-        KindOf::Boolean => Done::Halts(Halted::Lost),
-        KindOf::Char => Done::Halts(Halted::Lost),
-        KindOf::Enumeration(_) => Done::Halts(Halted::Lost),
-        KindOf::Fields(_) => Done::Halts(Halted::Lost),
-        KindOf::Channel(_) => Done::Halts(Halted::Lost),
+        KindOf::Integer => Done::Halts(Halted::IllFormed),
+        KindOf::Boolean => Done::Halts(Halted::IllFormed),
+        KindOf::Char => Done::Halts(Halted::IllFormed),
+        KindOf::Enumeration(_) => Done::Halts(Halted::IllFormed),
+        KindOf::Fields(_) => Done::Halts(Halted::IllFormed),
+        KindOf::Channel(_) => Done::Halts(Halted::IllFormed),
     }
 }
 
 /// The element of a place at an index.
 pub fn indexed(
-    run: &Setting,
-    who: &Who,
+    run: &RunInput,
+    who: &Identity,
     machine: &Machine,
     place: Place,
     n: Done<i64>,
 ) -> Done<Place>
-    ensures { Follows run.now who.now same plain_place machine.now n result machine.now
-        (indexed (setting_of run.now) (plain_place place)) }
+    ensures { ImplementsNext run.now who.now as_plain plain_place machine.now n result machine.now
+        (element_place (run_input_of run.now) (plain_place place)) }
 {
     let n = take!(n);
     match place {
         Place::At(a) => in_array(run, who, machine, &a, &n),
-        Place::Fixed(_) => Done::Halts(Halted::Lost),
+        Place::Fixed(_) => Done::Halts(Halted::IllFormed),
     }
 }
 
-fn in_array(run: &Setting, who: &Who, machine: &Machine, a: &Address, n: &i64) -> Done<Place>
+fn in_array(run: &RunInput, who: &Identity, machine: &Machine, a: &Address, n: &i64) -> Done<Place>
     ensures { Implements run.now who.now plain_place machine.now result machine.now
-        (bind (kind_at (setting_of run.now) a.now.kind) (element_at (plain_address a.now) n.now)) }
+        (bind (kind_at (run_input_of run.now) a.now.kind) (element_at (plain_address a.now) n.now)) }
 {
     match run.checked.kinds.get(a.kind as usize) {
         Some(kind) => element_at(run, who, machine, a, n, kind),
-        None => Done::Halts(Halted::Lost),
+        None => Done::Halts(Halted::IllFormed),
     }
 }
 
@@ -425,31 +449,42 @@ fn field_kind(f: u32, kind: &KindOf) -> Option<u32>
 }
 
 /// The field of a place.
-pub fn fielded(run: &Setting, who: &Who, machine: &Machine, f: u32, place: Place) -> Done<Place>
+pub fn fielded(
+    run: &RunInput,
+    who: &Identity,
+    machine: &Machine,
+    f: u32,
+    place: Place,
+) -> Done<Place>
     ensures { Implements run.now who.now plain_place machine.now result machine.now
-        (fielded (setting_of run.now) f (plain_place place)) }
+        (field_place (run_input_of run.now) f (plain_place place)) }
 {
     match place {
         Place::At(a) => in_record(run, who, machine, &a, f),
-        Place::Fixed(_) => Done::Halts(Halted::Lost),
+        Place::Fixed(_) => Done::Halts(Halted::IllFormed),
     }
 }
 
-fn in_record(run: &Setting, who: &Who, machine: &Machine, a: &Address, f: u32) -> Done<Place>
+fn in_record(run: &RunInput, who: &Identity, machine: &Machine, a: &Address, f: u32) -> Done<Place>
     ensures { Implements run.now who.now plain_place machine.now result machine.now
-        (fielded (setting_of run.now) f (At (plain_address a.now))) }
+        (field_place (run_input_of run.now) f (AtAddress (plain_address a.now))) }
 {
     let kind = take!(kind_at(run, who, machine, a.kind));
     match field_kind(f, kind) {
         Some(t) => component(run, who, machine, a, f as usize, t),
-        None => Done::Halts(Halted::Lost),
+        None => Done::Halts(Halted::IllFormed),
     }
 }
 
 /// What stands at a place.
-pub fn read_at(run: &Setting, who: &Who, machine: &mut Machine, place: Done<Place>) -> Done<Value>
-    ensures { Follows run.now who.now plain_place plain_value machine.old place result machine.new
-        (read_at (setting_of run.now)) }
+pub fn read_at(
+    run: &RunInput,
+    who: &Identity,
+    machine: &mut Machine,
+    place: Done<Place>,
+) -> Done<Value>
+    ensures { ImplementsNext run.now who.now plain_place plain_value machine.old place result machine.new
+        (read_at (run_input_of run.now)) }
 {
     match take!(place) {
         Place::At(a) => read_of(run, who, machine, &a),
@@ -458,9 +493,9 @@ pub fn read_at(run: &Setting, who: &Who, machine: &mut Machine, place: Done<Plac
 }
 
 /// What stands at an address.
-fn read_of(run: &Setting, who: &Who, machine: &mut Machine, a: &Address) -> Done<Value>
+fn read_of(run: &RunInput, who: &Identity, machine: &mut Machine, a: &Address) -> Done<Value>
     ensures { Implements run.now who.now plain_value machine.old result machine.new
-        (read_at (setting_of run.now) (At (plain_address a.now))) }
+        (read_at (run_input_of run.now) (AtAddress (plain_address a.now))) }
 {
     let kind = take!(kind_at(run, who, machine, a.kind));
     let v = take!(fetch(run, who, machine, a));
@@ -468,13 +503,13 @@ fn read_of(run: &Setting, who: &Who, machine: &mut Machine, a: &Address) -> Done
 }
 
 /// The position that is held, if it is.
-pub fn position_of(held: &Held) -> usize
-    ensures { result ≡ position_in (plain_held held.now) }
+pub fn position_of(held: &LocationContent) -> usize
+    ensures { result ≡ position_in (plain_content held.now) }
 {
     match held {
-        Held::Tree(_) => 0,
-        Held::Position(n) => *n,
-        Held::Written(_) => 0,
+        LocationContent::Tree(_) => 0,
+        LocationContent::Position(n) => *n,
+        LocationContent::Written(_) => 0,
     }
 }
 
@@ -489,8 +524,8 @@ fn after<'a>(bytes: &'a [u8], n: usize) -> &'a [u8]
 }
 
 /// What is left of the input.
-pub fn left_of<'a>(run: &Setting<'a>, who: &Who, machine: &mut Machine) -> Done<&'a [u8]>
-    ensures { Implements run.now who.now pointed machine.old result machine.new (left_of (setting_of run.now)) }
+pub fn left_of<'a>(run: &RunInput<'a>, who: &Identity, machine: &mut Machine) -> Done<&'a [u8]>
+    ensures { Implements run.now who.now pointee machine.old result machine.new (input_left (run_input_of run.now)) }
 {
     let held = take!(look(run, who, machine, &Loc::Input));
     Done::Gives(after(run.input, position_of(&held)))

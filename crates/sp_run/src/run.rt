@@ -5,13 +5,13 @@ ghost use Rattle.sp_tree.specs.PlainOf.{program_of};
 ghost use Rattle.sp_meaning.specs.SuperPascal.{weight_of};
 ghost use Rattle.sp_meaning.specs.Fronts.{longest_from};
 ghost use Rattle.sp_meaning.specs.Runs.{start as start_of};
-ghost use Rattle.sp_run.specs.Machines.{setting_of};
+ghost use Rattle.sp_run.specs.Machines.{run_input_of};
 ghost use Rattle.sp_run.specs.States.{state_of};
 ghost use Rattle.sp_run.specs.Meanings.{name_of, names_of, Means};
 
 use crate::ends::end_of;
 use crate::kinds::sum_of;
-use crate::machine::Setting;
+use crate::machine::RunInput;
 use crate::state::{State, output_of, start};
 use crate::steps::step;
 use crate::value::Name;
@@ -49,13 +49,13 @@ fn name_of(alloc: Global, p: &ProcName) -> Result<Name, Memory>
 /// Makes the steps of the schedule in order, and stops before the first name that can make none. Says how many it made.
 #[tactic(auto, using(crate::proofs::Longest::goes_faulted, crate::proofs::Longest::goes_on, crate::proofs::Longest::goes_stuck, crate::proofs::Longest::goes_end))]
 fn goes<'a>(
-    run: &Setting<'a>,
+    run: &RunInput<'a>,
     weight: u64,
     s: &mut State<'a>,
     schedule: &[ProcName],
 ) -> Result<u64, Memory>
     requires { weight ≡ weight_of (program_of run.now.checked.now) }
-    ensures { IfOk result (λ n. longest_from (setting_of run.now) (names_of schedule.now) 0 (state_of run.now s.old)
+    ensures { IfOk result (λ n. longest_from (run_input_of run.now) (names_of schedule.now) 0 (state_of run.now s.old)
         ≡ (n, state_of run.now s.new)) }
 {
     let mut n = 0;
@@ -74,14 +74,14 @@ fn goes<'a>(
 
 /// The steps of the schedule, made in the opening state, with what they write and the end.
 fn ran<'a>(
-    run: &Setting<'a>,
+    run: &RunInput<'a>,
     weight: u64,
     s: &mut State<'a>,
     schedule: &[ProcName],
 ) -> Result<Meant, Memory>
     requires weight { weight ≡ weight_of (program_of run.now.checked.now) }
-    requires opening { state_of run.now s.old ≡ start_of (setting_of run.now) }
-    ensures { IfOk result (Means (setting_of run.now) (names_of schedule.now)) }
+    requires opening { state_of run.now s.old ≡ start_of (run_input_of run.now) }
+    ensures { IfOk result (Means (run_input_of run.now) (names_of schedule.now)) }
 {
     let steps = goes(run, weight, s, schedule)?;
     let output = Text::of(output_of(run, s)?.into_vec());
@@ -91,14 +91,14 @@ fn ran<'a>(
 
 /// The same, in a state of its own.
 fn ran_from<'a>(
-    run: &Setting<'a>,
+    run: &RunInput<'a>,
     weight: u64,
     opening: State<'a>,
     schedule: &[ProcName],
 ) -> Result<Meant, Memory>
     requires weight { weight ≡ weight_of (program_of run.now.checked.now) }
-    requires opening { state_of run.now opening ≡ start_of (setting_of run.now) }
-    ensures { IfOk result (Means (setting_of run.now) (names_of schedule.now)) }
+    requires opening { state_of run.now opening ≡ start_of (run_input_of run.now) }
+    ensures { IfOk result (Means (run_input_of run.now) (names_of schedule.now)) }
 {
     let mut s = opening;
     ran(run, weight, &mut s, schedule)
@@ -116,7 +116,7 @@ pub fn meaning_run(
         (names_of schedule.now)) }
 {
     let alloc = schedule.alloc();
-    let run = Setting {
+    let run = RunInput {
         checked,
         input,
         limits,

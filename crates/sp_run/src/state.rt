@@ -3,22 +3,25 @@
 
 ghost use Rattle.std.specs.Prelude.{◌≡◌, ◌∷◌, [], List, IfOk, OnOk, Option, Some, None, length};
 ghost use Rattle.std.specs.Option.{option_copied, option_map};
-ghost use Rattle.sp_meaning.specs.Model.{Becomes, Forked, Writes, Pends as PendsIn, Adds, Faults, changed};
-ghost use Rattle.sp_meaning.specs.Steps.{has_ended, all_ended, is_over, passed};
-ghost use Rattle.sp_meaning.specs.SuperPascal.{main, root};
-ghost use Rattle.sp_meaning.specs.Deeds.{size_of_frame};
+ghost use Rattle.sp_meaning.specs.Model.{Becomes, Forked, WritesLocation, Pends as PendsIn, AddsTotals, Faults};
+ghost use Rattle.sp_meaning.specs.Model.{with_change};
+ghost use Rattle.sp_meaning.specs.Steps.{has_ended, all_ended, is_limit_passed, limit_fault};
+ghost use Rattle.sp_meaning.specs.SuperPascal.{main_items, root};
+ghost use Rattle.sp_meaning.specs.Actions.{size_of_frame};
 ghost use Rattle.sp_run.specs.Items.{items_of};
-ghost use Rattle.sp_meaning.specs.Own.{assigned, Tree};
-ghost use Rattle.sp_meaning.specs.Runs.{running, most, start as start_of, output_of};
-ghost use Rattle.sp_run.specs.Machines.{setting_of, store_of};
+ghost use Rattle.sp_meaning.specs.LocalWork.{content_with, Tree};
+ghost use Rattle.sp_meaning.specs.Runs.{running_process, total_limits, start as start_of, output_of};
+ghost use Rattle.sp_run.specs.Machines.{run_input_of, store_of};
 ghost use Rattle.sp_run.specs.Views.{plain_channel, plain_loc, plain_address, plain_value};
 ghost use Rattle.sp_run.specs.States.{plain_process, plain_offer, plain_condition, plain_totals, standing, offer_in};
 ghost use Rattle.sp_run.specs.States.{conditions_of, forks_of, pending_of, state_of, Changes};
 
-use crate::deeds::{Cargo, bytes_of};
+use crate::actions::{Cargo, bytes_of};
 use crate::item::{Item, push};
 use crate::kinds::{size_of_frame, sum_of};
-use crate::machine::{Frame, Held, Home, Own, Reference, Setting, Who, Write};
+use crate::machine::{
+    Frame, Home, Identity, LocalState, LocationContent, Reference, RunInput, Write,
+};
 use crate::store::{copy_held, held_at, with_value};
 use crate::value::{
     Address, Chan, Loc, Name, Value, copy_address, copy_channel, copy_loc, copy_name, copy_value,
@@ -31,8 +34,8 @@ use std::alloc::Global;
 #[derive(Drop)]
 pub struct Process<'a> {
     pub todo: Vec<Item<'a>>,
-    pub who: Who,
-    pub own: Own,
+    pub who: Identity,
+    pub own: LocalState,
 }
 
 /// An offer on a channel, of a message type, and how its process goes on.
@@ -130,11 +133,11 @@ pub fn copy_frames(alloc: Global, fs: &[Frame]) -> Result<List<Frame>, Memory>
     Ok(out)
 }
 
-fn copy_own(alloc: Global, o: &Own) -> Result<Own, Memory>
+fn copy_own(alloc: Global, o: &LocalState) -> Result<LocalState, Memory>
     ensures { IfOk result (λ c. c ≡ o.now) }
 {
     let frames = copy_frames(alloc, o.frames.items())?;
-    Ok(Own {
+    Ok(LocalState {
         frames,
         depth: o.depth,
         ticks: o.ticks,
@@ -142,11 +145,11 @@ fn copy_own(alloc: Global, o: &Own) -> Result<Own, Memory>
     })
 }
 
-fn copy_who(alloc: Global, w: &Who) -> Result<Who, Memory>
+fn copy_who(alloc: Global, w: &Identity) -> Result<Identity, Memory>
     ensures { IfOk result (λ c. c ≡ w.now) }
 {
     let name = copy_name(alloc, &w.name)?;
-    Ok(Who {
+    Ok(Identity {
         name,
         forks: w.forks,
         opens: w.opens,
@@ -310,12 +313,12 @@ fn all_ended(
 /// The own part of a process that is running.
 #[tactic(auto, unfolding(crate::specs::States::state_of))]
 pub fn running<'a>(
-    run: &Setting,
+    run: &RunInput,
     s: &State<'a>,
     p: &[(u64, u64)],
 ) -> Result<Option<Process<'a>>, Memory>
     ensures { IfOk result (λ o. option_map plain_process o
-        ≡ running (setting_of run.now) (state_of run.now s.now) p.now) }
+        ≡ running_process (run_input_of run.now) (state_of run.now s.now) p.now) }
 {
     let conditions = s.conditions.items();
     match condition_of(conditions, p) {
@@ -360,7 +363,7 @@ pub fn offer_of<'a>(
 /// A process is in another condition.
 #[tactic(auto, using(crate::proofs::Logs::logged_append), unfolding(crate::specs::States::state_of))]
 pub fn becomes<'a>(
-    run: &Setting,
+    run: &RunInput,
     s: &mut State<'a>,
     p: &[(u64, u64)],
     condition: Condition<'a>,
@@ -381,7 +384,7 @@ pub fn becomes<'a>(
 
 /// A process has made one fork more.
 #[tactic(auto, using(crate::proofs::Logs::logged_append), unfolding(crate::specs::States::state_of))]
-pub fn add_fork(run: &Setting, s: &mut State, p: &[(u64, u64)]) -> Result<(), Memory>
+pub fn add_fork(run: &RunInput, s: &mut State, p: &[(u64, u64)]) -> Result<(), Memory>
     ensures { OnOk result (Changes run.now s.old (Forked p.now ∷ []) s.new) }
 {
     let made = sum_of(forks_made(s.forks.items(), p), 1)?;
@@ -393,7 +396,7 @@ pub fn add_fork(run: &Setting, s: &mut State, p: &[(u64, u64)]) -> Result<(), Me
 /// A channel is pending for a process, or for none.
 #[tactic(auto, using(crate::proofs::Logs::logged_append), unfolding(crate::specs::States::state_of))]
 pub fn set_pending(
-    run: &Setting,
+    run: &RunInput,
     s: &mut State,
     channel: &Chan,
     who: Option<Name>,
@@ -407,9 +410,9 @@ pub fn set_pending(
 
 /// A message is put to an address.
 #[tactic(auto, using(crate::proofs::Stores::written_append), unfolding(crate::specs::States::state_of))]
-pub fn delivers(run: &Setting, s: &mut State, a: &Address, v: &Value) -> Result<(), Memory>
+pub fn delivers(run: &RunInput, s: &mut State, a: &Address, v: &Value) -> Result<(), Memory>
     ensures { OnOk result (Changes run.now s.old
-        (Writes (plain_loc a.now.spot) (assigned (plain_address a.now)
+        (WritesLocation (plain_loc a.now.spot) (content_with (plain_address a.now)
         (store_of run.now s.old.log (plain_loc a.now.spot))
         (Tree (plain_value v.now))) ∷ []) s.new) }
 {
@@ -422,9 +425,9 @@ pub fn delivers(run: &Setting, s: &mut State, a: &Address, v: &Value) -> Result<
 
 /// So many processes and channels more, and an entry.
 #[tactic(auto, unfolding(crate::specs::States::state_of))]
-pub fn adds(run: &Setting, s: &mut State, processes: u64, channels: u64) -> Result<(), Memory>
+pub fn adds(run: &RunInput, s: &mut State, processes: u64, channels: u64) -> Result<(), Memory>
     ensures { OnOk result (Changes run.now s.old
-        (Adds (record { processes = processes; channels = channels; entries = 1 }) ∷ []) s.new) }
+        (AddsTotals (record { processes = processes; channels = channels; entries = 1 }) ∷ []) s.new) }
 {
     s.totals = Totals {
         processes: sum_of(s.totals.processes, processes)?,
@@ -436,7 +439,7 @@ pub fn adds(run: &Setting, s: &mut State, processes: u64, channels: u64) -> Resu
 
 /// A fault is set.
 #[tactic(auto, unfolding(crate::specs::States::state_of))]
-pub fn fails(run: &Setting, s: &mut State, p: &[(u64, u64)], f: Fault) -> Result<(), Memory>
+pub fn fails(run: &RunInput, s: &mut State, p: &[(u64, u64)], f: Fault) -> Result<(), Memory>
     ensures { OnOk result (Changes run.now s.old (Faults p.now f ∷ []) s.new) }
 {
     let name = List::from_slice(run.alloc, p)?;
@@ -446,14 +449,14 @@ pub fn fails(run: &Setting, s: &mut State, p: &[(u64, u64)], f: Fault) -> Result
 
 /// Whether a total that grows by so many passes its limit.
 fn passes(limit: u32, total: u64, more: u64) -> bool
-    ensures { result ≡ is_over limit total more }
+    ensures { result ≡ is_limit_passed limit total more }
 {
     0 < more && (limit as u128) < total as u128 + more as u128
 }
 
 /// The fault of the total that would pass its limit: first F15, then F13, then F14.
-pub fn passed(run: &Setting, t: &Totals, processes: u64, channels: u64) -> Option<Fault>
-    ensures { result ≡ passed (most (setting_of run.now)) (plain_totals t.now)
+pub fn passed(run: &RunInput, t: &Totals, processes: u64, channels: u64) -> Option<Fault>
+    ensures { result ≡ limit_fault (total_limits (run_input_of run.now)) (plain_totals t.now)
         (Some (record { processes = processes; channels = channels; entries = 1 })) }
 {
     if passes(run.limits.entries, t.entries, 1) {
@@ -469,10 +472,10 @@ pub fn passed(run: &Setting, t: &Totals, processes: u64, channels: u64) -> Optio
 }
 
 /// What the root has to do: the program's statement part, or a fault where its frame is too large.
-fn main_of<'a>(run: &Setting<'a>, cells: u64) -> Result<Vec<Item<'a>>, Memory>
-    requires { cells ≡ size_of_frame (setting_of run.now) 0 }
+fn main_of<'a>(run: &RunInput<'a>, cells: u64) -> Result<Vec<Item<'a>>, Memory>
+    requires { cells ≡ size_of_frame (run_input_of run.now) 0 }
     ensures { IfOk result (λ todo. items_of todo.items
-        ≡ main (setting_of run.now) (setting_of run.now).program.blocks) }
+        ≡ main_items (run_input_of run.now) (run_input_of run.now).program.blocks) }
 {
     let mut todo = Vec::new(run.alloc);
     match run.checked.blocks.items().split_first() {
@@ -489,8 +492,8 @@ fn main_of<'a>(run: &Setting<'a>, cells: u64) -> Result<Vec<Item<'a>>, Memory>
 }
 
 /// The root.
-fn root_of<'a>(run: &Setting<'a>) -> Result<Process<'a>, Memory>
-    ensures { IfOk result (λ p. plain_process p ≡ root (setting_of run.now)) }
+fn root_of<'a>(run: &RunInput<'a>) -> Result<Process<'a>, Memory>
+    ensures { IfOk result (λ p. plain_process p ≡ root (run_input_of run.now)) }
 {
     let alloc = run.alloc;
     let cells = size_of_frame(run, 0)?;
@@ -503,13 +506,13 @@ fn root_of<'a>(run: &Setting<'a>) -> Result<Process<'a>, Memory>
         link: 0,
         references: List::new(alloc),
     })?;
-    let own = Own {
+    let own = LocalState {
         frames,
         depth: 0,
         ticks: 0,
         cells,
     };
-    let who = Who {
+    let who = Identity {
         name: List::new(alloc),
         forks: 0,
         opens: 0,
@@ -519,8 +522,8 @@ fn root_of<'a>(run: &Setting<'a>) -> Result<Process<'a>, Memory>
 
 /// The opening state: the root alone.
 #[tactic(auto, unfolding(crate::specs::States::state_of))]
-pub fn start<'a>(run: &Setting<'a>) -> Result<State<'a>, Memory>
-    ensures { IfOk result (λ s. state_of run.now s ≡ start_of (setting_of run.now)) }
+pub fn start<'a>(run: &RunInput<'a>) -> Result<State<'a>, Memory>
+    ensures { IfOk result (λ s. state_of run.now s ≡ start_of (run_input_of run.now)) }
 {
     let alloc = run.alloc;
     let root = root_of(run)?;
@@ -545,8 +548,8 @@ pub fn start<'a>(run: &Setting<'a>) -> Result<State<'a>, Memory>
 
 /// The bytes written.
 #[tactic(auto, unfolding(crate::specs::States::state_of))]
-pub fn output_of(run: &Setting, s: &State) -> Result<List<u8>, Memory>
-    ensures { IfOk result (λ bytes. bytes ≡ output_of (setting_of run.now) (state_of run.now s.now)) }
+pub fn output_of(run: &RunInput, s: &State) -> Result<List<u8>, Memory>
+    ensures { IfOk result (λ bytes. bytes ≡ output_of (run_input_of run.now) (state_of run.now s.now)) }
 {
     let held = held_at(run, s.log.items(), &Loc::Output)?;
     Ok(bytes_of(run, held))

@@ -4,30 +4,34 @@
 ghost use Rattle.std.specs.Prelude.{◌≡◌, ◌+◌, ◌+ℤ◌, ◌∷◌, [], IfOk, OnOk, Option, Some, None, length, map, pos};
 ghost use Rattle.std.specs.Prelude.{replicate};
 ghost use Rattle.sp_tree.specs.PlainOf.{stmt_of, program_of, stmts_of};
-ghost use Rattle.sp_meaning.specs.Model.{Writes, Pends as PendsIn, Adds, Faults, Becomes, Works, Forks, Offering};
-ghost use Rattle.sp_meaning.specs.Model.{changed};
-ghost use Rattle.sp_meaning.specs.Steps.{message, meeting, waiting, hands, meets, births as births_in, acts, result_of};
-ghost use Rattle.sp_meaning.specs.Steps.{outcome};
-ghost use Rattle.sp_meaning.specs.Own.{Who as WhoIn, Own as OwnIn, Tree, assigned};
-ghost use Rattle.sp_meaning.specs.SuperPascal.{weight_of, with_todo, enough};
-ghost use Rattle.sp_meaning.specs.Deeds.{push, children, indexed_children, newborn, newborns, with_index, Opened};
-ghost use Rattle.sp_meaning.specs.Runs.{most};
-ghost use Rattle.sp_run.specs.Machines.{setting_of, plain_own, plain_who, plain_frames, store_of};
+ghost use Rattle.sp_meaning.specs.Model.{WritesLocation, Pends as PendsIn, AddsTotals, Faults, Becomes, Works, Forks};
+ghost use Rattle.sp_meaning.specs.Model.{Offering};
+ghost use Rattle.sp_meaning.specs.Model.{with_change};
+ghost use Rattle.sp_meaning.specs.Steps.{message, meeting_changes, waiting_changes, handover_outcome, meeting_outcome};
+ghost use Rattle.sp_meaning.specs.Steps.{birth_changes as births_in, act_outcome, result_of};
+ghost use Rattle.sp_meaning.specs.Steps.{step_outcome};
+ghost use Rattle.sp_meaning.specs.LocalWork.{Identity as WhoIn, LocalState as OwnIn, Tree, content_with};
+ghost use Rattle.sp_meaning.specs.SuperPascal.{weight_of, with_todo, fuel_of};
+ghost use Rattle.sp_meaning.specs.Actions.{push, children, indexed_children, new_process, new_processes, with_index};
+ghost use Rattle.sp_meaning.specs.Actions.{Opened};
+ghost use Rattle.sp_meaning.specs.Runs.{total_limits};
+ghost use Rattle.sp_run.specs.Machines.{run_input_of, plain_local_state, plain_identity, plain_frames, store_of};
 ghost use Rattle.sp_run.specs.Views.{plain_channel, plain_address, plain_value};
 ghost use Rattle.sp_run.specs.Items.{items_of};
-ghost use Rattle.sp_run.specs.Comings.{Implements};
-ghost use Rattle.sp_run.specs.Direct.{Got, Not};
-ghost use Rattle.sp_run.specs.DirectDeeds.{deed};
-ghost use Rattle.sp_run.specs.declared.deeds.Deed.TheVariants.{Forked};
-ghost use Rattle.sp_run.specs.Doings.{births_of, plain_deed, plain_cargo};
-ghost use Rattle.sp_run.specs.States.{plain_process, plain_offer, state_of, stepped, with_store, Changes, Steps};
+ghost use Rattle.sp_run.specs.Implements.{Implements};
+ghost use Rattle.sp_run.specs.Direct.{Computed, NoResult};
+ghost use Rattle.sp_run.specs.DirectActions.{next_action};
+ghost use Rattle.sp_run.specs.declared.actions.Action.TheVariants.{Forked};
+ghost use Rattle.sp_run.specs.ActionViews.{births_of, plain_action, plain_cargo};
+ghost use Rattle.sp_run.specs.States.{plain_process, plain_offer, state_of, state_after_action, with_store, Changes};
+ghost use Rattle.sp_run.specs.States.{TriesStep};
 
+use crate::actions::{Action, Births, Cargo};
 use crate::bodies::first_of;
-use crate::deeds::{Births, Cargo, Deed};
 use crate::interpret::act;
 use crate::item::{Item, push};
 use crate::kinds::sum_of;
-use crate::machine::{Frame, Home, Machine, Own, Setting, Who, Write};
+use crate::machine::{Frame, Home, Identity, LocalState, Machine, RunInput, Write};
 use crate::state::{
     Condition, Offer, Process, State, add_fork, adds, becomes, child_of, copy_frames, copy_log,
     copy_offer, copy_process, delivers, fails, forks_made, offer_of, passed, pending_on, running,
@@ -45,7 +49,7 @@ const LEVELS: u64 = 1 << 32;
 
 /// The frames of a forall's child: its index stands in a frame of its own.
 fn with_index(
-    run: &Setting,
+    run: &RunInput,
     name: &Name,
     index: Option<(usize, i64)>,
     frames: List<Frame>,
@@ -75,15 +79,15 @@ fn with_index(
 
 /// A child is born, of its parent.
 fn newborn<'a>(
-    run: &Setting,
-    who: &Who,
-    own: &Own,
+    run: &RunInput,
+    who: &Identity,
+    own: &LocalState,
     i: u64,
     body: &'a Stmt,
     index: Option<(usize, i64)>,
 ) -> Result<Process<'a>, Memory>
     ensures { IfOk result (λ c. plain_process c
-        ≡ newborn (plain_who who.now) (plain_own own.now) i
+        ≡ new_process (plain_identity who.now) (plain_local_state own.now) i
         (record { todo = push (stmt_of body.now) []; index = index })) }
 {
     let name = child_of(run.alloc, who.name.items(), who.forks, i)?;
@@ -94,12 +98,12 @@ fn newborn<'a>(
     let depth = sum_of(own.depth, 1)?;
     Ok(Process {
         todo,
-        who: Who {
+        who: Identity {
             name,
             forks: 0,
             opens: 0,
         },
-        own: Own {
+        own: LocalState {
             frames,
             depth,
             ticks: 0,
@@ -110,7 +114,7 @@ fn newborn<'a>(
 
 /// A child begins to work.
 fn birth<'a>(
-    run: &Setting,
+    run: &RunInput,
     s: &mut State<'a>,
     p: &[(u64, u64)],
     fork: u64,
@@ -128,7 +132,7 @@ fn birth<'a>(
 /// A child for each process statement.
 #[tactic(auto, using(crate::proofs::Births::born_on, crate::proofs::Births::born_end))]
 fn births_of_each<'a>(
-    run: &Setting,
+    run: &RunInput,
     s: &mut State<'a>,
     p: &[(u64, u64)],
     fork: u64,
@@ -136,7 +140,7 @@ fn births_of_each<'a>(
     bodies: &'a [Stmt],
 ) -> Result<(), Memory>
     ensures { OnOk result (Changes run.now s.old
-        (births_in p.now fork 0 (newborns (plain_who parent.now.who) (plain_own parent.now.own) 0
+        (births_in p.now fork 0 (new_processes (plain_identity parent.now.who) (plain_local_state parent.now.own) 0
         (children (stmts_of bodies.now)))) s.new) }
 {
     let mut i = 0;
@@ -161,7 +165,7 @@ fn value_at(low: i64, i: u64) -> Result<i64, Memory>
 /// A child for each value of an index.
 #[tactic(auto, using(crate::proofs::Births::indexed_on, crate::proofs::Births::indexed_end))]
 fn births_of_index<'a>(
-    run: &Setting,
+    run: &RunInput,
     s: &mut State<'a>,
     p: &[(u64, u64)],
     fork: u64,
@@ -172,7 +176,7 @@ fn births_of_index<'a>(
     body: &'a Stmt,
 ) -> Result<(), Memory>
     ensures { OnOk result (Changes run.now s.old
-        (births_in p.now fork 0 (newborns (plain_who parent.now.who) (plain_own parent.now.own) 0
+        (births_in p.now fork 0 (new_processes (plain_identity parent.now.who) (plain_local_state parent.now.own) 0
         (indexed_children variable (stmt_of body.now) low count))) s.new) }
 {
     for i in 0..count {
@@ -192,7 +196,7 @@ fn births_of_index<'a>(
 
 /// All children are born.
 fn births<'a>(
-    run: &Setting,
+    run: &RunInput,
     s: &mut State<'a>,
     p: &[(u64, u64)],
     fork: u64,
@@ -200,7 +204,7 @@ fn births<'a>(
     births: Births<'a>,
 ) -> Result<(), Memory>
     ensures { OnOk result (Changes run.now s.old
-        (births_in p.now fork 0 (newborns (plain_who parent.now.who) (plain_own parent.now.own) 0
+        (births_in p.now fork 0 (new_processes (plain_identity parent.now.who) (plain_local_state parent.now.own) 0
         (births_of births.entry))) s.new) }
 {
     match births {
@@ -215,7 +219,7 @@ fn births<'a>(
 }
 
 fn count_of<'a>(births: &Births<'a>) -> u64
-    ensures { (w : WhoIn) (o : OwnIn) → result ≡ length (newborns w o 0 (births_of births.now)) }
+    ensures { (w : WhoIn) (o : OwnIn) → result ≡ length (new_processes w o 0 (births_of births.now)) }
 {
     match births {
         Births::Children(bodies) => bodies.len() as u64,
@@ -224,17 +228,17 @@ fn count_of<'a>(births: &Births<'a>) -> u64
 }
 
 /// The same process with one fork more.
-fn forked<'a>(run: &Setting, parent: &Process<'a>) -> Result<Process<'a>, Memory>
+fn forked<'a>(run: &RunInput, parent: &Process<'a>) -> Result<Process<'a>, Memory>
     ensures { IfOk result (λ c. plain_process c
         ≡ with_todo (items_of parent.now.todo.items)
         (record { name = parent.now.who.name; forks = parent.now.who.forks + 1; opens = parent.now.who.opens })
-        (plain_own parent.now.own)) }
+        (plain_local_state parent.now.own)) }
 {
     let forks = sum_of(parent.who.forks, 1)?;
     let Process { todo, who, own } = copy_process(run.alloc, parent)?;
     Ok(Process {
         todo,
-        who: Who {
+        who: Identity {
             name: who.name,
             forks,
             opens: who.opens,
@@ -245,7 +249,7 @@ fn forked<'a>(run: &Setting, parent: &Process<'a>) -> Result<Process<'a>, Memory
 
 /// A process makes children and joins them.
 fn makes_children<'a>(
-    run: &Setting,
+    run: &RunInput,
     s: &mut State<'a>,
     p: &[(u64, u64)],
     parent: &Process<'a>,
@@ -253,10 +257,11 @@ fn makes_children<'a>(
 ) -> Result<(), Memory>
     ensures { OnOk result (state_of run.now s.new
         ≡ result_of (state_of run.now s.old) p.now
-        (acts (state_of run.now s.old) p.now
+        (act_outcome (state_of run.now s.old) p.now
         (Forks (with_todo (items_of parent.now.todo.items)
         (record { name = parent.now.who.name; forks = parent.now.who.forks + 1; opens = parent.now.who.opens })
-        (plain_own parent.now.own)) (newborns (plain_who parent.now.who) (plain_own parent.now.own) 0
+        (plain_local_state parent.now.own))
+        (new_processes (plain_identity parent.now.who) (plain_local_state parent.now.own) 0
         (births_of children.entry))))) }
 {
     let count = count_of(&children);
@@ -270,15 +275,16 @@ fn makes_children<'a>(
 
 /// A process makes children and joins them, if they pass no limit.
 fn splits<'a>(
-    run: &Setting,
+    run: &RunInput,
     s: &mut State<'a>,
     p: &[(u64, u64)],
     parent: Process<'a>,
     children: Births<'a>,
 ) -> Result<(), Memory>
     ensures { OnOk result (state_of run.now s.new
-        ≡ stepped (setting_of run.now) p.now (plain_who parent.entry.who) (state_of run.now s.old)
-        (Got (plain_deed (items_of parent.entry.todo.items) (Forked children.entry)) (plain_own parent.entry.own)
+        ≡ state_after_action (run_input_of run.now) p.now (plain_identity parent.entry.who) (state_of run.now s.old)
+        (Computed (plain_action (items_of parent.entry.todo.items) (Forked children.entry))
+        (plain_local_state parent.entry.own)
         (store_of run.now s.old.log))) }
 {
     let count = count_of(&children);
@@ -290,7 +296,7 @@ fn splits<'a>(
 
 /// A process goes on.
 fn resumes<'a>(
-    run: &Setting,
+    run: &RunInput,
     s: &mut State<'a>,
     p: &[(u64, u64)],
     next: &Process<'a>,
@@ -303,12 +309,13 @@ fn resumes<'a>(
 
 /// An offer finds none on its channel, and its process waits.
 fn waits<'a>(
-    run: &Setting,
+    run: &RunInput,
     s: &mut State<'a>,
     p: &[(u64, u64)],
     o: &Offer<'a>,
 ) -> Result<(), Memory>
-    ensures { OnOk result (Changes run.now s.old (waiting (state_of run.now s.old) p.now (plain_offer o.now)) s.new) }
+    ensures { OnOk result (Changes run.now s.old (waiting_changes (state_of run.now s.old) p.now (plain_offer o.now))
+        s.new) }
 {
     let offer = copy_offer(run.alloc, o)?;
     becomes(run, s, p, Condition::Waits(offer))?;
@@ -319,7 +326,7 @@ fn waits<'a>(
 
 /// Both processes go on, nothing is pending, and the message is assigned.
 fn meeting<'a>(
-    run: &Setting,
+    run: &RunInput,
     s: &mut State<'a>,
     p: &[(u64, u64)],
     o: &Offer<'a>,
@@ -330,9 +337,9 @@ fn meeting<'a>(
 ) -> Result<(), Memory>
     ensures { OnOk result (Changes run.now s.old
         (Becomes p.now (Works (plain_process o.now.next)) ∷ Becomes z.now (Works (plain_process w.now.next)) ∷ PendsIn
-        (plain_channel o.now.channel) None ∷ Writes (plain_address a.now).spot
-        (assigned (plain_address a.now) (store_of run.now s.old.log (plain_address a.now).spot)
-        (Tree (plain_value v.now))) ∷ Adds
+        (plain_channel o.now.channel) None ∷ WritesLocation (plain_address a.now).spot
+        (content_with (plain_address a.now) (store_of run.now s.old.log (plain_address a.now).spot)
+        (Tree (plain_value v.now))) ∷ AddsTotals
         (record { processes = 0; channels = 0; entries = 1 }) ∷ []) s.new) }
 {
     resumes(run, s, p, &o.next)?;
@@ -344,7 +351,7 @@ fn meeting<'a>(
 
 /// A message goes over, or F7 where the message types differ.
 fn passes_over<'a>(
-    run: &Setting,
+    run: &RunInput,
     s: &mut State<'a>,
     p: &[(u64, u64)],
     o: &Offer<'a>,
@@ -355,7 +362,7 @@ fn passes_over<'a>(
 ) -> Result<(), Memory>
     ensures { OnOk result (state_of run.now s.new
         ≡ result_of (state_of run.now s.old) p.now
-        (hands (state_of run.now s.old) p.now (plain_offer o.now) z.now (plain_offer w.now)
+        (handover_outcome (state_of run.now s.old) p.now (plain_offer o.now) z.now (plain_offer w.now)
         (Some (plain_address a.now, Tree (plain_value v.now))))) }
 {
     if o.kind == w.kind {
@@ -367,7 +374,7 @@ fn passes_over<'a>(
 
 /// An offer meets that of a process that waits: F6 where both have one way.
 fn hands<'a>(
-    run: &Setting,
+    run: &RunInput,
     s: &mut State<'a>,
     p: &[(u64, u64)],
     o: &Offer<'a>,
@@ -376,7 +383,7 @@ fn hands<'a>(
 ) -> Result<(), Memory>
     ensures { OnOk result (state_of run.now s.new
         ≡ result_of (state_of run.now s.old) p.now
-        (hands (state_of run.now s.old) p.now (plain_offer o.now) z.now (plain_offer w.now)
+        (handover_outcome (state_of run.now s.old) p.now (plain_offer o.now) z.now (plain_offer w.now)
         (message (plain_cargo o.now.cargo) (plain_cargo w.now.cargo)))) }
 {
     match (&o.cargo, &w.cargo) {
@@ -389,7 +396,7 @@ fn hands<'a>(
 
 /// An offer meets a pending one.
 fn meets<'a>(
-    run: &Setting,
+    run: &RunInput,
     s: &mut State<'a>,
     p: &[(u64, u64)],
     o: &Offer<'a>,
@@ -397,7 +404,8 @@ fn meets<'a>(
 ) -> Result<(), Memory>
     ensures { OnOk result (state_of run.now s.new
         ≡ result_of (state_of run.now s.old) p.now
-        (meets (state_of run.now s.old) p.now (plain_offer o.now) z.now ((state_of run.now s.old).condition z.now))) }
+        (meeting_outcome (state_of run.now s.old) p.now (plain_offer o.now) z.now
+        ((state_of run.now s.old).condition z.now))) }
 {
     match offer_of(run.alloc, s.conditions.items(), z.items())? {
         Some(w) => hands(run, s, p, o, z, &w),
@@ -407,14 +415,15 @@ fn meets<'a>(
 
 /// A process offers a message, or a place for one.
 fn offers<'a>(
-    run: &Setting,
+    run: &RunInput,
     s: &mut State<'a>,
     p: &[(u64, u64)],
     o: &Offer<'a>,
 ) -> Result<(), Memory>
     ensures { OnOk result (state_of run.now s.new
         ≡ result_of (state_of run.now s.old) p.now
-        (outcome (most (setting_of run.now)) (state_of run.now s.old) p.now (Offering (plain_offer o.now)))) }
+        (step_outcome (total_limits (run_input_of run.now)) (state_of run.now s.old) p.now
+        (Offering (plain_offer o.now)))) }
 {
     if let Some(f) = passed(run, &s.totals, 0, 0) {
         return fails(run, s, p, f);
@@ -431,15 +440,15 @@ fn offers<'a>(
 /// A local step.
 #[tactic(auto, unfolding(crate::specs::States::state_of))]
 fn moves<'a>(
-    run: &Setting,
+    run: &RunInput,
     s: &mut State<'a>,
     p: &[(u64, u64)],
     next: Process<'a>,
     log: List<Write>,
 ) -> Result<(), Memory>
     ensures { OnOk result (state_of run.now s.new
-        ≡ with_store (setting_of run.now) (store_of run.now log)
-        (changed (Becomes p.now (Works (plain_process next.entry))) (state_of run.now s.old))) }
+        ≡ with_store (run_input_of run.now) (store_of run.now log)
+        (with_change (Becomes p.now (Works (plain_process next.entry))) (state_of run.now s.old))) }
 {
     becomes(run, s, p, Condition::Works(next))?;
     s.log = log;
@@ -448,21 +457,22 @@ fn moves<'a>(
 
 /// A channel is opened, if its entry and the channel pass no limit.
 fn opens<'a>(
-    run: &Setting,
+    run: &RunInput,
     s: &mut State<'a>,
     p: &[(u64, u64)],
     next: Process<'a>,
     log: List<Write>,
 ) -> Result<(), Memory>
     ensures { OnOk result (state_of run.now s.new
-        ≡ stepped (setting_of run.now) p.now (plain_who next.entry.who) (state_of run.now s.old)
-        (Got (Opened (items_of next.entry.todo.items)) (plain_own next.entry.own) (store_of run.now log))) }
+        ≡ state_after_action (run_input_of run.now) p.now (plain_identity next.entry.who) (state_of run.now s.old)
+        (Computed (Opened (items_of next.entry.todo.items)) (plain_local_state next.entry.own)
+        (store_of run.now log))) }
 {
     if let Some(f) = passed(run, &s.totals, 0, 1) {
         return fails(run, s, p, f);
     }
     let Process { todo, who, own } = next;
-    let who = Who {
+    let who = Identity {
         name: who.name,
         forks: who.forks,
         opens: sum_of(who.opens, 1)?,
@@ -475,24 +485,24 @@ fn opens<'a>(
 
 /// What a process does becomes of the state.
 fn completes<'a>(
-    run: &Setting,
+    run: &RunInput,
     s: &mut State<'a>,
     p: &[(u64, u64)],
     next: Process<'a>,
     log: List<Write>,
-    deed: Deed<'a>,
+    deed: Action<'a>,
 ) -> Result<(), Memory>
     ensures { OnOk result (state_of run.now s.new
-        ≡ stepped (setting_of run.now) p.now (plain_who next.entry.who) (state_of run.now s.old)
-        (Got (plain_deed (items_of next.entry.todo.items) deed.entry) (plain_own next.entry.own)
+        ≡ state_after_action (run_input_of run.now) p.now (plain_identity next.entry.who) (state_of run.now s.old)
+        (Computed (plain_action (items_of next.entry.todo.items) deed.entry) (plain_local_state next.entry.own)
         (store_of run.now log))) }
 {
     match deed {
-        Deed::Stepped => moves(run, s, p, next, log),
-        Deed::Ticked => moves(run, s, p, next, log),
-        Deed::Opened => opens(run, s, p, next, log),
-        Deed::Forked(children) => splits(run, s, p, next, children),
-        Deed::Offered {
+        Action::Stepped => moves(run, s, p, next, log),
+        Action::Ticked => moves(run, s, p, next, log),
+        Action::Opened => opens(run, s, p, next, log),
+        Action::Forked(children) => splits(run, s, p, next, children),
+        Action::Offered {
             channel,
             kind,
             cargo,
@@ -505,48 +515,48 @@ fn completes<'a>(
             };
             offers(run, s, p, &o)
         }
-        Deed::Ended => becomes(run, s, p, Condition::Ended),
+        Action::Ended => becomes(run, s, p, Condition::Ended),
     }
 }
 
 /// A step that comes to no deed is a fault.
-fn stops(run: &Setting, s: &mut State, p: &[(u64, u64)], halted: Halted) -> Result<(), Memory>
+fn stops(run: &RunInput, s: &mut State, p: &[(u64, u64)], halted: Halted) -> Result<(), Memory>
     ensures { (w : WhoIn) → OnOk result (state_of run.now s.new
-        ≡ stepped (setting_of run.now) p.now w (state_of run.now s.old) (Not halted)) }
+        ≡ state_after_action (run_input_of run.now) p.now w (state_of run.now s.old) (NoResult halted)) }
 {
     match halted {
         Halted::Fault(f) => fails(run, s, p, f),
-        Halted::Lost => fails(run, s, p, Fault::F8),
-        Halted::Long => fails(run, s, p, Fault::F8),
+        Halted::IllFormed => fails(run, s, p, Fault::F8),
+        Halted::OutOfFuel => fails(run, s, p, Fault::F8),
     }
 }
 
 /// What a process does next.
-fn deed_of<'a>(
-    run: &Setting<'a>,
-    who: &Who,
+fn action_of<'a>(
+    run: &RunInput<'a>,
+    who: &Identity,
     fuel: u128,
     machine: &mut Machine,
     todo: &mut Vec<Item<'a>>,
-) -> Done<Deed<'a>>
-    ensures { Implements run.now who.now (plain_deed (items_of todo.new.items)) machine.old result machine.new
-        (deed (setting_of run.now) fuel (items_of todo.old.items)) }
+) -> Done<Action<'a>>
+    ensures { Implements run.now who.now (plain_action (items_of todo.new.items)) machine.old result machine.new
+        (next_action (run_input_of run.now) fuel (items_of todo.old.items)) }
 {
     match take!(first_of(run, who, machine, todo)) {
         Some(item) => act(run, who, fuel, LEVELS, machine, item, todo),
-        None => Done::Gives(Deed::Ended),
+        None => Done::Gives(Action::Ended),
     }
 }
 
 /// One step of a process: whether it can make one.
 pub fn step<'a>(
-    run: &Setting<'a>,
+    run: &RunInput<'a>,
     weight: u64,
     s: &mut State<'a>,
     p: &[(u64, u64)],
 ) -> Result<bool, Memory>
     requires { weight ≡ weight_of (program_of run.now.checked.now) }
-    ensures { IfOk result (λ can. Steps run.now s.old p.now can s.new) }
+    ensures { IfOk result (λ can. TriesStep run.now s.old p.now can s.new) }
 {
     let Some(process) = running(run, s, p)? else {
         return Ok(false);
@@ -557,13 +567,13 @@ pub fn step<'a>(
 
 /// What a step works with: how much it may evaluate, and the store.
 fn means_of(
-    run: &Setting,
+    run: &RunInput,
     weight: u64,
-    own: &Own,
+    own: &LocalState,
     log: &[Write],
 ) -> Result<(u128, List<Write>), Memory>
     requires { weight ≡ weight_of (program_of run.now.checked.now) }
-    ensures { IfOk result (λ both. both ≡ (enough (setting_of run.now) (plain_own own.now), log.now)) }
+    ensures { IfOk result (λ both. both ≡ (fuel_of (run_input_of run.now) (plain_local_state own.now), log.now)) }
 {
     let fuel = enough(run, weight, own)?;
     let log = copy_log(run.alloc, log)?;
@@ -572,7 +582,7 @@ fn means_of(
 
 /// A process that is running makes its step.
 fn works<'a>(
-    run: &Setting<'a>,
+    run: &RunInput<'a>,
     weight: u64,
     s: &mut State<'a>,
     p: &[(u64, u64)],
@@ -580,10 +590,10 @@ fn works<'a>(
 ) -> Result<(), Memory>
     requires { weight ≡ weight_of (program_of run.now.checked.now) }
     ensures { OnOk result (state_of run.now s.new
-        ≡ stepped (setting_of run.now) p.now (plain_who process.entry.who) (state_of run.now s.old)
-        (deed (setting_of run.now) (enough (setting_of run.now) (plain_own process.entry.own))
+        ≡ state_after_action (run_input_of run.now) p.now (plain_identity process.entry.who) (state_of run.now s.old)
+        (next_action (run_input_of run.now) (fuel_of (run_input_of run.now) (plain_local_state process.entry.own))
         (items_of process.entry.todo.items)
-        (plain_who process.entry.who) (plain_own process.entry.own) (store_of run.now s.old.log))) }
+        (plain_identity process.entry.who) (plain_local_state process.entry.own) (store_of run.now s.old.log))) }
 {
     let (fuel, log) = match means_of(run, weight, &process.own, s.log.items()) {
         Ok(both) => both,
@@ -594,7 +604,7 @@ fn works<'a>(
     };
     let Process { mut todo, who, own } = process;
     let mut machine = Machine { own, log };
-    let came = deed_of(run, &who, fuel, &mut machine, &mut todo);
+    let came = action_of(run, &who, fuel, &mut machine, &mut todo);
     let Machine { own, log } = machine;
     match came {
         Done::Gives(deed) => completes(run, s, p, Process { todo, who, own }, log, deed),

@@ -8,9 +8,9 @@ pub enum Halted {
     /// A fault of the program.
     Fault(Fault),
     /// The tree breaks a rule.
-    Lost,
+    IllFormed,
     /// The bound of the computation ran out.
-    Long,
+    OutOfFuel,
 }
 
 /// A value, or how the computation ends without one, or want of memory.

@@ -3,14 +3,14 @@
 ghost use Rattle.std.specs.Prelude.{◌≡◌, IfOk, OnOk, map};
 ghost use Rattle.sp_meaning.specs.Values.{initials};
 ghost use Rattle.sp_meaning.specs.SuperPascal.{first_store};
-ghost use Rattle.sp_meaning.specs.Own.{value_in, assigned, Tree};
-ghost use Rattle.sp_run.specs.Machines.{setting_of, plain_held, store_of, plain_own};
-ghost use Rattle.sp_run.specs.Comings.{Implements, same};
+ghost use Rattle.sp_meaning.specs.LocalWork.{value_in, content_with, Tree};
+ghost use Rattle.sp_run.specs.Machines.{run_input_of, plain_content, store_of, plain_local_state};
+ghost use Rattle.sp_run.specs.Implements.{Implements, as_plain};
 ghost use Rattle.sp_run.specs.Views.{plain_value, plain_loc, plain_address};
-ghost use Rattle.sp_run.specs.Direct.{look, put, fetch, assign};
+ghost use Rattle.sp_run.specs.Direct.{read_location, write_location, fetch, assign};
 
 use crate::kinds::first_value;
-use crate::machine::{Held, Machine, Setting, Who, Write};
+use crate::machine::{Identity, LocationContent, Machine, RunInput, Write};
 use crate::stop::Done;
 use crate::value::{Address, Loc, Value, copy_loc, copy_value, is_same_loc, value_at, with_at};
 use crate::{have, take};
@@ -18,26 +18,26 @@ use sp_base::{List, Memory};
 use std::alloc::Global;
 
 /// The same once more.
-pub fn copy_held(alloc: Global, held: &Held) -> Result<Held, Memory>
+pub fn copy_held(alloc: Global, held: &LocationContent) -> Result<LocationContent, Memory>
     ensures { IfOk result (λ h. h ≡ held.now) }
 {
     match held {
-        Held::Tree(v) => {
+        LocationContent::Tree(v) => {
             let v = copy_value(alloc, v)?;
-            Ok(Held::Tree(v))
+            Ok(LocationContent::Tree(v))
         }
-        Held::Position(n) => Ok(Held::Position(*n)),
-        Held::Written(bytes) => {
+        LocationContent::Position(n) => Ok(LocationContent::Position(*n)),
+        LocationContent::Written(bytes) => {
             let bytes = List::from_slice(alloc, bytes.items())?;
-            Ok(Held::Written(bytes))
+            Ok(LocationContent::Written(bytes))
         }
     }
 }
 
 /// What stands at a location.
 #[tactic(auto, using(crate::proofs::Stores::written_here, crate::proofs::Stores::written_elsewhere))]
-pub fn held_at(run: &Setting, log: &[Write], at: &Loc) -> Result<Held, Memory>
-    ensures { IfOk result (λ h. plain_held h ≡ store_of run.now log.now (plain_loc at.now)) }
+pub fn held_at(run: &RunInput, log: &[Write], at: &Loc) -> Result<LocationContent, Memory>
+    ensures { IfOk result (λ h. plain_content h ≡ store_of run.now log.now (plain_loc at.now)) }
 {
     let mut i = log.len();
     while i > 0 {
@@ -51,8 +51,8 @@ pub fn held_at(run: &Setting, log: &[Write], at: &Loc) -> Result<Held, Memory>
 }
 
 /// What stands at a location where nothing was written.
-fn first_held(run: &Setting, at: &Loc) -> Result<Held, Memory>
-    ensures { IfOk result (λ h. plain_held h ≡ first_store (setting_of run.now) (plain_loc at.now)) }
+fn first_held(run: &RunInput, at: &Loc) -> Result<LocationContent, Memory>
+    ensures { IfOk result (λ h. plain_content h ≡ first_store (run_input_of run.now) (plain_loc at.now)) }
 {
     match at {
         Loc::Cell {
@@ -62,34 +62,47 @@ fn first_held(run: &Setting, at: &Loc) -> Result<Held, Memory>
         } => {
             if owner.is_empty() && *frame == 0 {
                 let v = first_value(run, *variable)?;
-                Ok(Held::Tree(v))
+                Ok(LocationContent::Tree(v))
             } else {
-                Ok(Held::Tree(Value::Undefined))
+                Ok(LocationContent::Tree(Value::Undefined))
             }
         }
-        Loc::Input => Ok(Held::Position(0)),
-        Loc::Output => Ok(Held::Written(List::new(run.alloc))),
+        Loc::Input => Ok(LocationContent::Position(0)),
+        Loc::Output => Ok(LocationContent::Written(List::new(run.alloc))),
     }
 }
 
 /// Writes to a location.
 #[tactic(auto, using(crate::proofs::Stores::written_append))]
-pub fn put(run: &Setting, who: &Who, machine: &mut Machine, at: Loc, held: Held) -> Done<()>
-    ensures { Implements run.now who.now same machine.old result machine.new (put (plain_loc at) (plain_held held)) }
+pub fn put(
+    run: &RunInput,
+    who: &Identity,
+    machine: &mut Machine,
+    at: Loc,
+    held: LocationContent,
+) -> Done<()>
+    ensures { Implements run.now who.now as_plain machine.old result machine.new
+        (write_location (plain_loc at) (plain_content held)) }
 {
     have!(machine.log.push(Write { at, held }));
     Done::Gives(())
 }
 
 /// Reads a location.
-pub fn look(run: &Setting, who: &Who, machine: &mut Machine, at: &Loc) -> Done<Held>
-    ensures { Implements run.now who.now plain_held machine.old result machine.new (look (plain_loc at.now)) }
+pub fn look(
+    run: &RunInput,
+    who: &Identity,
+    machine: &mut Machine,
+    at: &Loc,
+) -> Done<LocationContent>
+    ensures { Implements run.now who.now plain_content machine.old result machine.new
+        (read_location (plain_loc at.now)) }
 {
     Done::Gives(have!(held_at(run, machine.log.items(), at)))
 }
 
 /// The value that stands at an address.
-pub fn fetch(run: &Setting, who: &Who, machine: &mut Machine, a: &Address) -> Done<Value>
+pub fn fetch(run: &RunInput, who: &Identity, machine: &mut Machine, a: &Address) -> Done<Value>
     ensures { Implements run.now who.now plain_value machine.old result machine.new (fetch (plain_address a.now)) }
 {
     let held = take!(look(run, who, machine, &a.spot));
@@ -98,29 +111,40 @@ pub fn fetch(run: &Setting, who: &Who, machine: &mut Machine, a: &Address) -> Do
 }
 
 /// The value that is held, if one is.
-fn value_of(held: Held) -> Value
-    ensures { plain_value result ≡ value_in (plain_held held) }
+fn value_of(held: LocationContent) -> Value
+    ensures { plain_value result ≡ value_in (plain_content held) }
 {
     match held {
-        Held::Tree(v) => v,
-        Held::Position(_) => Value::Undefined,
-        Held::Written(_) => Value::Undefined,
+        LocationContent::Tree(v) => v,
+        LocationContent::Position(_) => Value::Undefined,
+        LocationContent::Written(_) => Value::Undefined,
     }
 }
 
 /// What is held after a value was put to an address.
-pub fn with_value(run: &Setting, a: &Address, held: Held, v: &Value) -> Result<Held, Memory>
-    ensures { IfOk result (λ h. plain_held h
-        ≡ assigned (plain_address a.now) (plain_held held) (Tree (plain_value v.now))) }
+pub fn with_value(
+    run: &RunInput,
+    a: &Address,
+    held: LocationContent,
+    v: &Value,
+) -> Result<LocationContent, Memory>
+    ensures { IfOk result (λ h. plain_content h
+        ≡ content_with (plain_address a.now) (plain_content held) (Tree (plain_value v.now))) }
 {
     let old = value_of(held);
     let new = with_at(run.alloc, a.path.items(), v, &old)?;
-    Ok(Held::Tree(new))
+    Ok(LocationContent::Tree(new))
 }
 
 /// Puts a value to an address.
-pub fn assign(run: &Setting, who: &Who, machine: &mut Machine, a: &Address, v: &Value) -> Done<()>
-    ensures { Implements run.now who.now same machine.old result machine.new
+pub fn assign(
+    run: &RunInput,
+    who: &Identity,
+    machine: &mut Machine,
+    a: &Address,
+    v: &Value,
+) -> Done<()>
+    ensures { Implements run.now who.now as_plain machine.old result machine.new
         (assign (plain_address a.now) (plain_value v.now)) }
 {
     let held = have!(held_at(run, machine.log.items(), &a.spot));

@@ -3,8 +3,8 @@
 ghost use Rattle.std.specs.Prelude.{◌≡◌, ◌++◌, ◌∷◌, [], IfOk, replicate};
 ghost use Rattle.std.specs.Fmt.{signed_decimal};
 ghost use Rattle.sp_tree.specs.Items.{byte};
-ghost use Rattle.sp_meaning.specs.Deeds.{shown, taken_by};
-ghost use Rattle.sp_run.specs.Texts.{taken_if};
+ghost use Rattle.sp_meaning.specs.Actions.{ordinal_text, reading_by};
+ghost use Rattle.sp_run.specs.Texts.{reading_if};
 
 use sp_base::{List, Memory, put_signed};
 use sp_tree::KindOf;
@@ -13,7 +13,7 @@ use std::alloc::Global;
 
 /// What is read of a type.
 pub fn taken_by(kind: &KindOf, bytes: &[u8]) -> Option<Taken>
-    ensures { taken_if result ≡ taken_by kind.now bytes.now }
+    ensures { reading_if result ≡ reading_by kind.now bytes.now }
 {
     match kind {
         KindOf::Integer => Some(number_in(bytes)),
@@ -44,7 +44,7 @@ fn char_text(alloc: Global, n: i64) -> Result<List<u8>, Memory>
 
 /// An item of a type as text, and whether a width cuts it.
 pub fn shown(alloc: Global, kind: &KindOf, n: i64) -> Result<(bool, List<u8>), Memory>
-    ensures { IfOk result (λ r. (r.0, r.1) ≡ shown kind.now n) }
+    ensures { IfOk result (λ r. (r.0, r.1) ≡ ordinal_text kind.now n) }
 {
     match kind {
         KindOf::Integer => Ok((false, number_text(alloc, n)?)),

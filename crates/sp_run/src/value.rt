@@ -4,7 +4,7 @@ ghost use Rattle.std.specs.Prelude.{◌≡◌, ◌<◌, IfOk, length, slice_set}
 ghost use Rattle.std.specs.Option.{option_copied};
 ghost use Rattle.sp_journal.specs.Names.{same_name, same_channel};
 ghost use Rattle.sp_meaning.specs.Values.{part, get_at, set_at};
-ghost use Rattle.sp_meaning.specs.Own.{same_loc};
+ghost use Rattle.sp_meaning.specs.LocalWork.{same_loc};
 ghost use Rattle.sp_run.specs.Views.{plain_value, plain_or, plain_channel, plain_loc};
 
 use sp_base::{List, Memory};

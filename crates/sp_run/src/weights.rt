@@ -4,11 +4,11 @@ ghost use Rattle.std.specs.Prelude.{◌≡◌, IfOk, map};
 ghost use Rattle.sp_tree.specs.PlainOf.{expr_of, var_of, sends, receives, stmt_of, arms_of, blocks_of, program_of};
 ghost use Rattle.sp_tree.specs.PlainOf.{stmts_of};
 ghost use Rattle.sp_meaning.specs.SuperPascal.{weight, weight_all, weight_arms, weight_of as weight_in, weight_blocks};
-ghost use Rattle.sp_meaning.specs.SuperPascal.{enough};
-ghost use Rattle.sp_run.specs.Machines.{setting_of, plain_own};
+ghost use Rattle.sp_meaning.specs.SuperPascal.{fuel_of};
+ghost use Rattle.sp_run.specs.Machines.{run_input_of, plain_local_state};
 
 use crate::kinds::sum_of;
-use crate::machine::{Own, Setting};
+use crate::machine::{LocalState, RunInput};
 use sp_base::Memory;
 use sp_tree::{Arm, Block, Checked, Expr, Form, Stmt, Var};
 
@@ -111,9 +111,9 @@ pub fn weight_of_program(checked: &Checked) -> Result<u64, Memory>
 }
 
 /// Enough for all that one step evaluates: each call and each turn of a loop is a tick.
-pub fn enough(run: &Setting, weight: u64, own: &Own) -> Result<u128, Memory>
+pub fn enough(run: &RunInput, weight: u64, own: &LocalState) -> Result<u128, Memory>
     requires { weight ≡ weight_in (program_of run.now.checked.now) }
-    ensures { IfOk result (λ n. n ≡ enough (setting_of run.now) (plain_own own.now)) }
+    ensures { IfOk result (λ n. n ≡ fuel_of (run_input_of run.now) (plain_local_state own.now)) }
 {
     let weight = weight as u128;
     let ticks = (run.limits.ticks as u128 + 1).saturating_sub(own.ticks as u128);

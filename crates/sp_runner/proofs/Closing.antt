@@ -10,15 +10,15 @@ use Rattle.sp_journal.specs.declared.entry.Note.{Note}
 use Rattle.sp_journal.specs.declared.outcome.End.{End}
 use Rattle.sp_journal.specs.declared.outcome.End.TheVariants as end
 use Rattle.sp_journal.specs.declared.outcome.Waiter.{Waiter}
-use Rattle.sp_journal.specs.Births.{births, at_start}
-use Rattle.sp_journal.specs.Queue.{numbers, InTurnFrom, line_at_start}
+use Rattle.sp_journal.specs.Births.{births, first_births}
+use Rattle.sp_journal.specs.Queue.{numbers, InTurnFrom, first_queue}
 use Rattle.sp_code.specs.PlainStore.{plain}
 use Rattle.sp_code.specs.Control.{control_at_start, entries_of, standing, Running as Going, IsDone as Done}
 use Rattle.sp_code.specs.Control.{IsDeadlock as Deadlock, IsFault as Fault, IsMemory as Memory, has_ended}
-use Rattle.sp_code.specs.System.{IsSystem, opening}
+use Rattle.sp_code.specs.System.{IsSystem, opening_system}
 use Rattle.sp_history.specs.Agreement.{phase_in, Running}
 use Rattle.sp_history.specs.Holding.{IsOutputOf}
-use Rattle.sp_history.specs.Lines.{OneByOne}
+use Rattle.sp_history.specs.WorkerHistory.{OneByOne}
 use Rattle.sp_history.proofs.InTurn.{first_in_first_out}
 use Rattle.sp_history.proofs.Legal.{reaches_legal}
 use Rattle.sp_history.proofs.Phases.{ended_phase, live_phase}
@@ -28,8 +28,8 @@ use Rattle.sp_kernel.specs.declared.kernel.Kernel.{Kernel}
 use Rattle.sp_kernel.specs.Kernels.{control_of, system_of, setting_of, IsKernel}
 use Rattle.sp_kernel.specs.Asks.{IsOpening}
 use Rattle.sp_kernel.specs.Closes.{EndIs, AreWaiters}
-use Rattle.sp_kernel.specs.Keeping.{it, from_start, along}
-use Rattle.sp_runner.specs.Ends.{IsDone, IsDeadlock, EndsAt, waiters_among}
+use Rattle.sp_kernel.specs.Keeping.{after_log, from_start, along}
+use Rattle.sp_runner.specs.Ends.{RootHasEnded, IsDeadlock, EndsAt, waiters_among}
 use Rattle.sp_runner.specs.Runs.{IsRun, notes_of_worker}
 use Rattle.sp_runner.specs.Works.{RanBy}
 use Rattle.sp_runner.proofs.Waiting.{all_wait}
@@ -69,7 +69,7 @@ some_up n e z = grind (arith, e, z)
 
 module _ (y : Kernel) (whole : IsKernel y) (up : y.abandons ≡ 0) (idle : standing (control_of y) ≡ Deadlock → (q : ℕ)
     → phase_in ((system_of y).condition q) ≢ Running) where
-  is_done : standing (control_of y) ≡ Done → IsDone (system_of y)
+  is_done : standing (control_of y) ≡ Done → RootHasEnded (system_of y)
   is_done e =
       let b = by_done (nat_lt 0 y.abandons) y.faulted (has_ended ((control_of y).doing 0)) _ e in
       (sym (whole.agrees.each 0) ∙ ended_phase ((control_of y).doing 0) b.1, b.0)
@@ -129,7 +129,7 @@ pub closed_run : (workers : ℕ) (x : Kernel) (fine : IsOpening x) (log : List N
     → IsRun (setting_of x) workers c
 closed_run workers x fine log y some by c ends journal output idle = record {
   notes = log;
-  legal = reaches_legal plain (setting_of x) control_at_start (opening plain (setting_of x)) (system_of y) log
+  legal = reaches_legal plain (setting_of x) control_at_start (opening_system plain (setting_of x)) (system_of y) log
       (from_start x fine log y by.ran.legal);
   journal = journal;
   calls = by.calls;
@@ -139,10 +139,10 @@ closed_run workers x fine log y some by c ends journal output idle = record {
     along = subst (λ (es : List Entry). IsSystem plain (setting_of x) es (system_of y)) (sym journal)
         (along x fine log y by.ran.legal);
     end = subst (λ (es : List Entry). EndsAt es (system_of y) c.end) (by.ran.journal
-        ∙ sym journal) (ends_at y (it x fine log y by.ran.legal).whole by.kept idle c.end ends);
+        ∙ sym journal) (ends_at y (after_log x fine log y by.ran.legal).whole by.kept idle c.end ends);
     output = output by.kept;
   };
-  in_turn = λ one. subst (λ (es : List Entry). InTurnFrom at_start line_at_start es) (sym journal)
+  in_turn = λ one. subst (λ (es : List Entry). InTurnFrom first_births first_queue es) (sym journal)
       (first_in_first_out plain (setting_of x) (system_of y) log (from_start x fine log y by.ran.legal) (alone one));
 }
   where

@@ -11,10 +11,10 @@ use Rattle.sp_kernel.specs.declared.slot.Slot.TheVariants as slot
 use Rattle.sp_kernel.specs.declared.slot.State.TheVariants as st
 use Rattle.sp_kernel.specs.Kernels.{condition_in}
 use Rattle.sp_kernel.specs.Closes.{with_waiter, waiters_from}
-use Rattle.sp_runner.specs.Ends.{offer_in, waiting, waiters_among}
+use Rattle.sp_runner.specs.Ends.{offer_in, waiter_list, waiters_among}
 
 one_waits : (b : Births) (q : ℕ) (s : Slot) (ws : List Waiter)
-    → with_waiter b q s ws ≡ waiting b q (offer_in (condition_in (Some s))) ++ ws
+    → with_waiter b q s ws ≡ waiter_list b q (offer_in (condition_in (Some s))) ++ ws
 one_waits b q (slot.Here p (st.Sending c k cs)) ws = refl
 one_waits b q (slot.Here p (st.Receiving c k)) ws = refl
 one_waits b q (slot.Here p st.Ready) ws = refl
@@ -32,8 +32,8 @@ pub all_wait : (b : Births) (condition : ℕ → Condition Plain) (q : ℕ) (slo
 all_wait b condition q [] same = refl
 all_wait b condition q (s ∷ ss) same =
     one_waits b q s (waiters_from b (suc q) ss)
-    ∙ ap (λ c. waiting b q (offer_in c) ++ waiters_from b (suc q) ss) (sym (ap condition here ∙ same zero))
-    ∙ ap (λ ws. waiting b q (offer_in (condition q))
+    ∙ ap (λ c. waiter_list b q (offer_in c) ++ waiters_from b (suc q) ss) (sym (ap condition here ∙ same zero))
+    ∙ ap (λ ws. waiter_list b q (offer_in (condition q))
     ++ ws) (all_wait b condition (suc q) ss (λ k. ap condition (next k) ∙ same (suc k)))
   where
     here : q ≡ q + zero

@@ -15,7 +15,7 @@ use Rattle.sp_journal.specs.Births.{Births, channel}
 use Rattle.sp_journal.specs.Names.{proc_name, chan_name}
 use Rattle.sp_journal.specs.Queue.{numbers}
 use Rattle.sp_code.specs.Machine.{Stop, Forks, Opens, Sends, Receives, Ends, Pauses}
-use Rattle.sp_code.specs.Memory.{Setting}
+use Rattle.sp_code.specs.Memory.{CodeRun}
 use Rattle.sp_code.specs.PlainStore.{plain}
 use Rattle.sp_code.specs.System.{System, Condition, Absent, Working, Waits, Joins, Laid, Gone, Over, IsSystem}
 use Rattle.sp_history.specs.Agreement.{phase_in, Running, Finished}
@@ -44,20 +44,25 @@ offer_in Gone = None
 offer_in (Over c) = None
 
 -- process q, if it waits, by its name and that of the channel
-abbrev pub waiting : Births → ℕ → Option (Way × ℕ) → List Waiter
-waiting b q None = []
-waiting b q (Some o) = record { process = proc_name (b.name q); way = o.0; channel = chan_name (channel b o.1) } ∷ []
+abbrev pub waiter_list : Births → ℕ → Option (Way × ℕ) → List Waiter
+waiter_list b q None = []
+waiter_list b q (Some o) = record {
+  process = proc_name (b.name q);
+  way = o.0;
+  channel =
+      chan_name (channel b o.1);
+} ∷ []
 
 -- those of these processes that wait
 abbrev pub waiters_among : Births → (ℕ → Condition Plain) → List ℕ → List Waiter
 waiters_among b condition [] = []
-waiters_among b condition (q ∷ qs) = waiting b q (offer_in (condition q)) ++ waiters_among b condition qs
+waiters_among b condition (q ∷ qs) = waiter_list b q (offer_in (condition q)) ++ waiters_among b condition qs
 
 -- ---- the end
 
 -- the root has ended, and no fault stands
-abbrev pub IsDone : System Plain → Type 0
-IsDone s = (phase_in (s.condition 0) ≡ Finished) × (s.faulted ≡ false)
+abbrev pub RootHasEnded : System Plain → Type 0
+RootHasEnded s = (phase_in (s.condition 0) ≡ Finished) × (s.faulted ≡ false)
 
 -- no process runs, the root has not ended, and no fault stands; these are all that wait, in order of names
 pub record IsDeadlock (s : System Plain) (ws : List Waiter) : Type 0 where
@@ -69,13 +74,13 @@ pub record IsDeadlock (s : System Plain) (ws : List Waiter) : Type 0 where
 
 -- the system after a journal is at this end; want of memory is the end of none
 abbrev pub EndsAt : List Entry → System Plain → End → Type 0
-EndsAt es s end.Done = IsDone s
+EndsAt es s end.Done = RootHasEnded s
 EndsAt es s (end.Deadlock ws) = IsDeadlock s ws
 EndsAt es s (end.Fault name f) = (p : ℕ) × (fault_in es ≡ Some (p, f)) × (name ≡ proc_name (s.births.name p))
 EndsAt es s end.Memory = ⊥
 
 -- what the machine gives along a journal: an end and an output
-pub record EndsWith (g : Setting) (es : List Entry) (e : End) (text : List ℕ) : Type 0 where
+pub record EndsWith (g : CodeRun) (es : List Entry) (e : End) (text : List ℕ) : Type 0 where
   pub system : System Plain
   pub along : IsSystem plain g es system
   pub end : EndsAt es system e

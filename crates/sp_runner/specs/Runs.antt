@@ -5,10 +5,10 @@ use Rattle.std.specs.Prelude.{◌≡◌, ◌<◌, ◌≤◌, ℕ, List, [], None
 use Rattle.sp_journal.specs.declared.entry.Note.{Note}
 use Rattle.sp_journal.specs.Queue.{IsFirstInFirstOut}
 use Rattle.sp_code.specs.Control.{entries_of}
-use Rattle.sp_code.specs.Memory.{Setting}
+use Rattle.sp_code.specs.Memory.{CodeRun}
 use Rattle.sp_code.specs.PlainStore.{plain}
 use Rattle.sp_code.specs.System.{IsLegal}
-use Rattle.sp_history.specs.Lines.{OneByOne}
+use Rattle.sp_history.specs.WorkerHistory.{OneByOne}
 use Rattle.sp_room.specs.History.{notes_by}
 use Rattle.sp_kernel.specs.declared.closed.Closed.{Closed}
 use Rattle.sp_runner.specs.Ends.{EndsWith}
@@ -20,7 +20,7 @@ notes_of_worker w ns = notes_by (λ (n : Note). n.worker) w ns
 -- the journal is that of a legal history of the kernel, which is made of the calls of the workers: each of them gives
 -- what its call before got. The machine along that journal is at that end, with that output. The journal of one worker
 -- is first in, first out
-pub record IsRun (g : Setting) (workers : ℕ) (c : Closed) : Type 0 where
+pub record IsRun (g : CodeRun) (workers : ℕ) (c : Closed) : Type 0 where
   pub notes : List Note
   pub legal : IsLegal plain g notes
   pub journal : c.journal.entries ≡ entries_of notes

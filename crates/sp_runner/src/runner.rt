@@ -2,10 +2,10 @@
 
 ghost use Rattle.std.specs.Prelude.{◌≡◌, ◌<◌, ◌≤◌, [], IfOk};
 ghost use Rattle.sp_code.specs.Sound.{IsSound, AreLimits, run_of};
-ghost use Rattle.sp_history.specs.Lines.{OneByOne};
+ghost use Rattle.sp_history.specs.WorkerHistory.{OneByOne};
 ghost use Rattle.sp_room.specs.Seats.{IsSeatOf, SamePlace, claims_of_seat, opening_of, number_of, seen_by, own_of};
 ghost use Rattle.sp_room.specs.Ends.{object_of, notes_of};
-ghost use Rattle.sp_runner.specs.Works.{IsRunOf, Knows, Left, RanBy};
+ghost use Rattle.sp_runner.specs.Works.{IsRunOf, AreOwnNotes, LeftAfter, RanBy};
 ghost use Rattle.sp_runner.specs.Runs.{IsRun};
 
 use crate::worker::work;
@@ -41,8 +41,9 @@ fn run_all<R: Threads + Wait + Sync, G: Gate>(
         seats.into_vec(),
         &|seat: RoomSeat<Kernel>| -> RoomSeat<Kernel>
             requires { IsSeatOf room seat × IsRunOf (opening_of room) code.now limits.now
-                × Knows (seen_by seat) (own_of seat) (number_of seat) × (own_of seat ≡ []) × (0 < claims_of_seat seat) }
-            ensures { SamePlace seat result × Left (seen_by result) × OneByOne None (own_of result) }
+                × AreOwnNotes (seen_by seat) (own_of seat) (number_of seat) × (own_of seat ≡ [])
+                × (0 < claims_of_seat seat) }
+            ensures { SamePlace seat result × LeftAfter (seen_by result) × OneByOne None (own_of result) }
         { work(rt, &room, seat, code, limits, gate) },
     );
     let Ok(seats) = done else {

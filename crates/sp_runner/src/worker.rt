@@ -1,9 +1,9 @@
 //! What one worker does: it serves the room with what it holds, and runs one turn of what it gets.
 
 ghost use Rattle.std.specs.Prelude.{◌≡◌, ◌<◌, []};
-ghost use Rattle.sp_history.specs.Lines.{OneByOne};
+ghost use Rattle.sp_history.specs.WorkerHistory.{OneByOne};
 ghost use Rattle.sp_room.specs.Seats.{IsSeatOf, SamePlace, claims_of_seat, opening_of, number_of, seen_by, own_of};
-ghost use Rattle.sp_runner.specs.Works.{IsRunOf, Knows, Left, held};
+ghost use Rattle.sp_runner.specs.Works.{IsRunOf, AreOwnNotes, LeftAfter, refused_process};
 
 use sp_base::Limits;
 use sp_code::Code;
@@ -15,7 +15,7 @@ use std::sync::Wait;
 
 // The process that a refused ask held.
 fn held(refused: Option<Handed>) -> Option<Proc>
-    ensures { result ≡ held refused }
+    ensures { result ≡ refused_process refused }
 {
     match refused {
         None => None,
@@ -38,10 +38,10 @@ pub(crate) fn work<R: Wait, G: Gate>(
 ) -> RoomSeat<Kernel>
     requires seat { IsSeatOf room.now seat }
     requires run { IsRunOf (opening_of room.now) code.now limits.now }
-    requires knows { Knows (seen_by seat) (own_of seat) (number_of seat) × (own_of seat ≡ []) }
+    requires knows { AreOwnNotes (seen_by seat) (own_of seat) (number_of seat) × (own_of seat ≡ []) }
     requires claim { 0 < claims_of_seat seat }
     ensures place { SamePlace seat result }
-    ensures left { Left (seen_by result) }
+    ensures left { LeftAfter (seen_by result) }
     ensures calls { OneByOne None (own_of result) }
 {
     let mut ask = Ask::Turn(None);

@@ -4,7 +4,7 @@ use Rattle.std.proofs.Common.{length, map, ◌⊎◌, inl, inr, refl, sym, ap, �
 use Rattle.sp_base.specs.declared.place.Place.{Place}
 use Rattle.sp_tree.specs.Spelling.{digits_value}
 use Rattle.sp_tree.specs.Places.{next_place, place_behind}
-use Rattle.sp_tree.specs.Characters.{lower}
+use Rattle.sp_tree.specs.Characters.{lower_case_letter}
 use Rattle.sp_tree.specs.Lexemes.{Run, run_ends, run_goes_on, Lacks, TextBody, text_ends, two_quotes, text_byte}
 use Rattle.sp_tree.specs.Lexemes.{BraceBody, brace_ends, brace_byte, StarBody, star_ends, star_byte}
 use Rattle.sp_scan.specs.Finds.{EndsRun}
@@ -167,33 +167,36 @@ other_first p rest a behind e h b after f = let same : b ≡ a = cc in ap p same
 
 -- words letter by letter
 pub record SpelledSoFar (bytes word left right : List ℕ) : Type 0 where
-  pub from : map lower left ≡ right → map lower bytes ≡ word
-  pub to : map lower bytes ≡ word → map lower left ≡ right
+  pub from : map lower_case_letter left ≡ right → map lower_case_letter bytes ≡ word
+  pub to : map lower_case_letter bytes ≡ word → map lower_case_letter left ≡ right
 
 pub spelled_more : (bytes word left right behind after : List ℕ) (a b : ℕ) → SpelledSoFar bytes word left right
-    → left ≡ a ∷ behind → right ≡ b ∷ after → lower a ≡ b → SpelledSoFar bytes word behind after
+    → left ≡ a ∷ behind → right ≡ b ∷ after → lower_case_letter a ≡ b → SpelledSoFar bytes word behind after
 spelled_more bytes word left right behind after a b s e f h = record {
-  from = λ g. s.from (ap (map lower) e ∙ (λ i. h i ∷ g i) ∙ sym f);
-  to = λ g. let x : map lower (a ∷ behind) ≡ b ∷ after = sym (ap (map lower) e) ∙ s.to g ∙ f in cc;
+  from = λ g. s.from (ap (map lower_case_letter) e ∙ (λ i. h i ∷ g i) ∙ sym f);
+  to = λ g. let x : map lower_case_letter (a ∷ behind) ≡ b ∷ after = sym (ap (map lower_case_letter) e) ∙ s.to g
+      ∙ f in cc;
 }
 
 pub spelled_short : (bytes word left right behind : List ℕ) (a : ℕ) → SpelledSoFar bytes word left right
-    → left ≡ a ∷ behind → right ≡ [] → map lower bytes ≡ word → ⊥
-spelled_short bytes word left right behind a s e f g = let x : map lower (a ∷ behind) ≡ [] = sym (ap (map lower) e)
+    → left ≡ a ∷ behind → right ≡ [] → map lower_case_letter bytes ≡ word → ⊥
+spelled_short bytes word left right behind a s e f g = let x : map lower_case_letter (a ∷ behind) ≡ [] =
+    sym (ap (map lower_case_letter) e)
     ∙ s.to g ∙ f in cc
 
 pub spelled_other : (bytes word left right behind after : List ℕ) (a b : ℕ) → SpelledSoFar bytes word left right
-    → left ≡ a ∷ behind → right ≡ b ∷ after → lower a ≢ b → map lower bytes ≡ word → ⊥
-spelled_other bytes word left right behind after a b s e f h g = let x : map lower (a ∷ behind) ≡ b ∷ after =
-    sym (ap (map lower) e) ∙ s.to g ∙ f in h (cc)
+    → left ≡ a ∷ behind → right ≡ b ∷ after → lower_case_letter a ≢ b → map lower_case_letter bytes ≡ word → ⊥
+spelled_other bytes word left right behind after a b s e f h g = let x : map lower_case_letter (a ∷ behind) ≡ b
+    ∷ after =
+    sym (ap (map lower_case_letter) e) ∙ s.to g ∙ f in h (cc)
 
 pub spelled_end : (bytes word left right : List ℕ) → SpelledSoFar bytes word left right → left ≡ [] → right ≡ []
-    → map lower bytes ≡ word
-spelled_end bytes word left right s e f = s.from (ap (map lower) e ∙ sym f)
+    → map lower_case_letter bytes ≡ word
+spelled_end bytes word left right s e f = s.from (ap (map lower_case_letter) e ∙ sym f)
 
 pub spelled_long : (bytes word left right : List ℕ) → SpelledSoFar bytes word left right → left ≡ []
-    → map lower bytes ≡ word → right ≡ []
-spelled_long bytes word left right s e g = sym (sym (ap (map lower) e) ∙ s.to g)
+    → map lower_case_letter bytes ≡ word → right ≡ []
+spelled_long bytes word left right s e g = sym (sym (ap (map lower_case_letter) e) ∙ s.to g)
 
 -- what stands first, byte by byte
 pub record StripsSoFar (bytes front rest left : List ℕ) : Type 0 where

@@ -10,11 +10,12 @@ use Rattle.sp_tree.specs.declared.token.Kind.TheVariants as kind
 use Rattle.sp_tree.specs.Characters.{is_blank, is_letter, is_digit}
 use Rattle.sp_tree.specs.Spelling.{digits_value}
 use Rattle.sp_tree.specs.First.{row}
-use Rattle.sp_tree.specs.Lexemes.{signs, refused_words, Comment, brace_comment, star_comment, opens_comment, lowered}
+use Rattle.sp_tree.specs.Lexemes.{signs, refused_words, Comment, brace_comment, star_comment, opens_comment}
+use Rattle.sp_tree.specs.Lexemes.{lower_case_prefix}
 use Rattle.sp_tree.specs.Lexemes.{Lexeme, name, word, number, text, sign, Longest}
 use Rattle.sp_tree.specs.Scans.{NoToken, goes_on_real, OpenComment, OpenText, open_text, LargeNumber, LongName}
 use Rattle.sp_tree.specs.Scans.{RefusedWord, Byte, first, second, RealNumber, StrayByte, stray, BreaksHere}
-use Rattle.sp_grammar.proofs.Rising.{Each, each_at}
+use Rattle.sp_grammar.proofs.Rising.{HoldsOfEach, each_at}
 use Rattle.sp_grammar.proofs.OneList.{not_blank, one_kind, same_rest, blank_opens, opens, differ}
 use Rattle.sp_scan.specs.Finds.{FirstHere, IsGap, blank_gap, comment_gap}
 use Rattle.sp_scan.proofs.Tokens.{no_text_at}
@@ -27,7 +28,7 @@ abbrev Even : List ℕ → Type 0
 Even [] = ⊥
 Even (c ∷ s) = is_odd c ≡ false
 
-signs_even : Each Even signs
+signs_even : HoldsOfEach Even signs
 signs_even = (
   refl,
   (
@@ -180,15 +181,15 @@ module _ {bs r : List ℕ} (closed : opens_comment bs ≡ false) where
     number_u1 (inl b) = name_clash b.name
     number_u1 (inr b) = no_byte 94 64 refl refl l.spelled b
 
-    large_by : (digits_value 0 (lowered bs r) ≤ 9223372036854775807) → LargeNumber bs → ⊥
-    large_by h b = let e : digits_value 0 (lowered bs r) ≡ digits_value 0 (lowered bs b.rest) =
-        ap (λ u. digits_value 0 (lowered bs u)) (same_number b.number) in let g = b.above in omega arith
+    large_by : (digits_value 0 (lower_case_prefix bs r) ≤ 9223372036854775807) → LargeNumber bs → ⊥
+    large_by h b = let e : digits_value 0 (lower_case_prefix bs r) ≡ digits_value 0 (lower_case_prefix bs b.rest) =
+        ap (λ u. digits_value 0 (lower_case_prefix bs u)) (same_number b.number) in let g = b.above in omega arith
 
     real_by : goes_on_real r ≡ false → RealNumber bs ⊎ Byte 47 47 bs → ⊥
     real_by h (inl b) = differ (ap goes_on_real (same_number b.number) ∙ b.real) h
     real_by h (inr b) = no_byte 47 47 refl refl l.spelled b
 
-    pub large_number : 9223372036854775807 < digits_value 0 (lowered bs r) → FirstHere rule.S4 bs
+    pub large_number : 9223372036854775807 < digits_value 0 (lower_case_prefix bs r) → FirstHere rule.S4 bs
     large_number h = record {
       broken = record { rest = r; number = l; above = h };
       first = rows_free 4 bs (record {
@@ -202,7 +203,8 @@ module _ {bs r : List ℕ} (closed : opens_comment bs ≡ false) where
       });
     }
 
-    pub real_number : digits_value 0 (lowered bs r) ≤ 9223372036854775807 → goes_on_real r ≡ true → FirstHere rule.U2 bs
+    pub real_number : digits_value 0 (lower_case_prefix bs r) ≤ 9223372036854775807 → goes_on_real r ≡ true
+        → FirstHere rule.U2 bs
     real_number h g = record {
       broken = inl (record { rest = r; number = l; real = g });
       first = rows_free 7 bs (record {
@@ -216,7 +218,8 @@ module _ {bs r : List ℕ} (closed : opens_comment bs ≡ false) where
       });
     }
 
-    pub fine_number : digits_value 0 (lowered bs r) ≤ 9223372036854775807 → goes_on_real r ≡ false → (s : Rule)
+    pub fine_number : digits_value 0 (lower_case_prefix bs r) ≤ 9223372036854775807 → goes_on_real r ≡ false
+        → (s : Rule)
         → BreaksHere s bs → ⊥
     fine_number h g = none_by bs (record {
       s1 = inr (no_stray l.spelled);
@@ -244,8 +247,9 @@ module _ {bs r : List ℕ} (closed : opens_comment bs ≡ false) where
     long_by h b = let e : length bs - length r ≡ length bs - length b.rest =
         ap (λ u. length bs - length u) (same_name b.name) in let g = b.above in omega arith
 
-    refused_by : ((n : ℕ) → slice_get refused_words n ≢ Some (lowered bs r)) → RefusedWord bs ⊎ Byte 94 64 bs → ⊥
-    refused_by h (inl b) = h b.number (b.refused ∙ ap (λ u. Some (lowered bs u)) (sym (same_name b.name)))
+    refused_by : ((n : ℕ) → slice_get refused_words n ≢ Some (lower_case_prefix bs r)) → RefusedWord bs
+        ⊎ Byte 94 64 bs → ⊥
+    refused_by h (inl b) = h b.number (b.refused ∙ ap (λ u. Some (lower_case_prefix bs u)) (sym (same_name b.name)))
     refused_by h (inr b) = no_byte 94 64 refl refl l.spelled b
 
     pub long_name : 127 < length bs - length r → FirstHere rule.S5 bs
@@ -262,7 +266,7 @@ module _ {bs r : List ℕ} (closed : opens_comment bs ≡ false) where
       });
     }
 
-    pub refused_word : length bs - length r ≤ 127 → (n : ℕ) → slice_get refused_words n ≡ Some (lowered bs r)
+    pub refused_word : length bs - length r ≤ 127 → (n : ℕ) → slice_get refused_words n ≡ Some (lower_case_prefix bs r)
         → FirstHere rule.U1 bs
     refused_word h n e = record {
       broken = inl (record { rest = r; name = l; number = n; refused = e });
@@ -277,7 +281,7 @@ module _ {bs r : List ℕ} (closed : opens_comment bs ≡ false) where
       });
     }
 
-    pub fine_name : length bs - length r ≤ 127 → ((n : ℕ) → slice_get refused_words n ≢ Some (lowered bs r))
+    pub fine_name : length bs - length r ≤ 127 → ((n : ℕ) → slice_get refused_words n ≢ Some (lower_case_prefix bs r))
         → (s : Rule) → BreaksHere s bs → ⊥
     fine_name h f = none_by bs (record {
       s1 = inr (no_stray l.spelled);

@@ -9,7 +9,7 @@ use Rattle.sp_base.specs.declared.rule.Rule.{Rule}
 use Rattle.sp_base.specs.declared.rule.Rule.TheVariants as rule
 use Rattle.sp_tree.specs.declared.token.Token.{Token}
 use Rattle.sp_tree.specs.declared.token.Kind.{Kind}
-use Rattle.sp_tree.specs.First.{before, IsFirst}
+use Rattle.sp_tree.specs.First.{refusal_before, IsFirst}
 use Rattle.sp_tree.specs.Places.{start, next_place, place_behind, place_at}
 use Rattle.sp_tree.specs.Lexemes.{BraceBody, brace_ends, brace_byte, StarBody, star_ends, star_byte, Comment}
 use Rattle.sp_tree.specs.Lexemes.{brace_comment, star_comment, opens_comment, Longest}
@@ -21,7 +21,7 @@ use Rattle.sp_grammar.proofs.Order.{later, no_sooner, rises}
 use Rattle.sp_grammar.proofs.OneList.{Tail, here, there, tail_length, tail_same, lexeme_tail, one_comment, same_rest}
 use Rattle.sp_grammar.proofs.OneList.{blank_opens, opens, differ, not_blank}
 use Rattle.sp_grammar.proofs.Scanned.{scans_chain, taken_more, taken_none}
-use Rattle.sp_scan.specs.Finds.{Item, IsGap, blank_gap, comment_gap, FirstHere}
+use Rattle.sp_scan.specs.Finds.{FrontItem, IsGap, blank_gap, comment_gap, FirstHere}
 use Rattle.sp_scan.proofs.Along.{line_by, column_by}
 
 -- what is left
@@ -253,12 +253,12 @@ too_long text at p h = record {
 }
   where
     by : (o : Refusal) → LongText text o.at ⊎ BreaksAlong text o.rule o.at
-        → before o (record { rule = rule.L1; at = at }) ≡ false
+        → refusal_before o (record { rule = rule.L1; at = at }) ≡ false
     by o (inl b) = no_sooner o (record { rule = rule.L1; at = at }) (b.place ∙ sym p) (omega arith)
     by o (inr b) = split (cases_lt 0 (offset text b.rest))
       where
         split : (0 < offset text b.rest) ⊎ (offset text b.rest ≤ 0)
-            → before o (record { rule = rule.L1; at = at }) ≡ false
+            → refusal_before o (record { rule = rule.L1; at = at }) ≡ false
         split (inl g) = later o (record { rule = rule.L1; at = at })
             (subst (λ q. Earlier q o.at) (sym p)
             (subst (Earlier start) (sym b.place) (rises text start 0 (offset text b.rest) g (omega arith))))
@@ -282,12 +282,12 @@ scan_breaks text rest tokens at r s f = record {
 }
   where
     by : (o : Refusal) → LongText text o.at ⊎ BreaksAlong text o.rule o.at
-        → before o (record { rule = r; at = at }) ≡ false
+        → refusal_before o (record { rule = r; at = at }) ≡ false
     by o (inl b) = absurd (let l = b.above in let m = s.short in omega arith)
     by o (inr b) = split (cases_lt (length rest) (length b.rest)) (cases_lt (length b.rest) (length rest))
       where
         split : (length rest < length b.rest) ⊎ (length b.rest ≤ length rest) → (length b.rest < length rest)
-            ⊎ (length rest ≤ length b.rest) → before o (record { rule = r; at = at }) ≡ false
+            ⊎ (length rest ≤ length b.rest) → refusal_before o (record { rule = r; at = at }) ≡ false
         split (inl h) g = absurd (s.kept o.rule b.rest b.tokens b.along h b.here)
         split (inr h) (inl g) =
             later o (record { rule = r; at = at })
@@ -308,20 +308,20 @@ PassedSoFar text rest at = (tokens : List Token) × ScannedSoFar text rest token
 pub pass_start : (text : List ℕ) (at : Place) → at ≡ start → length text ≤ 1048576 → PassedSoFar text text at
 pass_start text at p h = ([], scan_start text [] at refl p h)
 
-pub item_shorter : (bs r : List ℕ) (o : Option Kind) → Item bs o r → length r < length bs
+pub item_shorter : (bs r : List ℕ) (o : Option Kind) → FrontItem bs o r → length r < length bs
 item_shorter bs r None x = gap_shorter x
 item_shorter bs r (Some k) x = lexeme_length x.1.spelled
 
 pub pass_item : (text rest after : List ℕ) (at next : Place) (o : Option Kind) → PassedSoFar text rest at
-    → Item rest o after → ((r : Rule) → BreaksHere r rest → ⊥)
+    → FrontItem rest o after → ((r : Rule) → BreaksHere r rest → ⊥)
     → next ≡ place_behind at (take (length rest - length after) rest) → PassedSoFar text after next
 pass_item text rest after at next None (ts, s) x n e = (ts, scan_gap s after next x n e)
 pass_item text rest after at next (Some k) (ts, s) x n e = (_, scan_token s after next k _ x.0 x.1 n e refl)
 
 -- what stands first, by what it is called
-pub as_gap : (bs r : List ℕ) (o : Option Kind) → o ≡ None → Item bs o r → IsGap bs r
-as_gap bs r o e x = subst (λ o. Item bs o r) e x
+pub as_gap : (bs r : List ℕ) (o : Option Kind) → o ≡ None → FrontItem bs o r → IsGap bs r
+as_gap bs r o e x = subst (λ o. FrontItem bs o r) e x
 
-pub as_token : (bs r : List ℕ) (o : Option Kind) (k : Kind) → o ≡ Some k → Item bs o r → (opens_comment bs ≡ false)
+pub as_token : (bs r : List ℕ) (o : Option Kind) (k : Kind) → o ≡ Some k → FrontItem bs o r → (opens_comment bs ≡ false)
     × Longest k bs r
-as_token bs r o k e x = subst (λ o. Item bs o r) e x
+as_token bs r o k e x = subst (λ o. FrontItem bs o r) e x

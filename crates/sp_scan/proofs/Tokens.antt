@@ -10,12 +10,13 @@ use Rattle.sp_tree.specs.declared.token.Kind.{Kind}
 use Rattle.sp_tree.specs.declared.token.Kind.TheVariants as kind
 use Rattle.sp_tree.specs.Characters.{is_letter, is_digit, is_name_byte}
 use Rattle.sp_tree.specs.Lexemes.{signs, Run, TextBody, text_ends, two_quotes, text_byte}
-use Rattle.sp_tree.specs.Lexemes.{BraceBody, StarBody, Comment, brace_comment, star_comment, lowered, Lexeme, name}
+use Rattle.sp_tree.specs.Lexemes.{BraceBody, StarBody, Comment, brace_comment, star_comment, lower_case_prefix, Lexeme}
+use Rattle.sp_tree.specs.Lexemes.{name}
 use Rattle.sp_tree.specs.Lexemes.{word, number, text, sign, Longest}
 use Rattle.sp_tree.specs.Scans.{NoToken}
 use Rattle.sp_grammar.proofs.OneList.{sign_plain, no_letter, no_digit, no_quote, letter_digit, letter_quote}
 use Rattle.sp_grammar.proofs.OneList.{digit_quote}
-use Rattle.sp_scan.specs.Finds.{EndsRun, IsWordOf, HasSign, FindsSign, Closes}
+use Rattle.sp_scan.specs.Finds.{EndsRun, IsWordOf, HasSign, FindsSign, EndsBody}
 use Rattle.std.specs.Borrow.{Bor}
 use Rattle.sp_base.proofs.Facts.{below_or_last}
 
@@ -42,7 +43,7 @@ name_longest b rest after r k h f (text q e x) = absurd (letter_quote b h e)
 name_longest b rest after r k h f (sign n s e g) = absurd (no_letter b (sign_plain b rest s r n e g) h)
 
 spelled_name : (b : ℕ) (rest after : List ℕ) (k : Kind) → is_letter b ≡ true → Run is_name_byte rest after
-    → IsWordOf (lowered (b ∷ rest) after) k → Lexeme k (b ∷ rest) after
+    → IsWordOf (lower_case_prefix (b ∷ rest) after) k → Lexeme k (b ∷ rest) after
 spelled_name b rest after kind.Name h x w = name b h x w
 spelled_name b rest after (kind.Word n) h x w = word n b h x w
 spelled_name b rest after kind.Number h x w = absurd w
@@ -50,10 +51,10 @@ spelled_name b rest after kind.Text h x w = absurd w
 spelled_name b rest after (kind.Sign n) h x w = absurd w
 
 pub longest_name : (bytes rest after : List ℕ) (b : ℕ) (k : Kind) → bytes ≡ b ∷ rest → is_letter b ≡ true
-    → EndsRun is_name_byte rest after → IsWordOf (lowered bytes after) k → Longest k bytes after
+    → EndsRun is_name_byte rest after → IsWordOf (lower_case_prefix bytes after) k → Longest k bytes after
 longest_name bytes rest after b k e h f w = record {
   spelled = subst (λ l. Lexeme k l after) (sym e)
-      (spelled_name b rest after k h f.is (subst (λ l. IsWordOf (lowered l after) k) e w));
+      (spelled_name b rest after k h f.is (subst (λ l. IsWordOf (lower_case_prefix l after) k) e w));
   longest = λ j r x. name_longest b rest after r j h f (subst (λ l. Lexeme j l r) e x);
 }
 
@@ -211,12 +212,12 @@ module _ (bytes : List ℕ) (n : ℕ) (s : List ℕ) (h : slice_get signs n ≡ 
 
 -- comments
 pub closes_brace : (bytes rest : List ℕ) (b : ℕ) (o : Option (Bor (List ℕ))) → bytes ≡ b ∷ rest → b ≡ 123
-    → Closes BraceBody rest o → Closes Comment bytes o
+    → EndsBody BraceBody rest o → EndsBody Comment bytes o
 closes_brace bytes rest b None e h f = λ r x. no_brace_at rest b h f (subst (λ l. Comment l r) e x)
 closes_brace bytes rest b (Some r) e h f = subst (λ l. Comment l r.now) (sym e) (brace_comment b h f)
 
 pub closes_star : (bytes rest behind : List ℕ) (a : ℕ) (o : Option (Bor (List ℕ))) → bytes ≡ a ∷ rest → a ≡ 40
-    → rest ≡ 42 ∷ behind → Closes StarBody behind o → Closes Comment bytes o
+    → rest ≡ 42 ∷ behind → EndsBody StarBody behind o → EndsBody Comment bytes o
 closes_star bytes rest behind a None e h g f =
     λ r x. no_star_at behind a 42 h f (subst (λ l. Comment l r) (e ∙ ap (λ l. a ∷ l) g) x)
 closes_star bytes rest behind a (Some r) e h g f =

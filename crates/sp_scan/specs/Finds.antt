@@ -17,14 +17,14 @@ use Rattle.sp_tree.specs.Scans.{NoToken, BreaksHere, BreaksLexis, IsTokens}
 use Rattle.sp_tree.specs.First.{row, IsFirst}
 
 -- the first byte and the others, or none
-abbrev pub Cuts : List ℕ → Option (ℕ × Bor (List ℕ)) → Type 0
-Cuts bs None = bs ≡ []
-Cuts bs (Some x) = bs ≡ x.0 ∷ x.1.now
+abbrev pub CutsByte : List ℕ → Option (ℕ × Bor (List ℕ)) → Type 0
+CutsByte bs None = bs ≡ []
+CutsByte bs (Some x) = bs ≡ x.0 ∷ x.1.now
 
 -- the bytes behind this one, or none
-abbrev pub Passes : List ℕ → ℕ → Option (Bor (List ℕ)) → Type 0
-Passes bs b None = Lacks b bs
-Passes bs b (Some r) = bs ≡ b ∷ r.now
+abbrev pub PassesByte : List ℕ → ℕ → Option (Bor (List ℕ)) → Type 0
+PassesByte bs b None = Lacks b bs
+PassesByte bs b (Some r) = bs ≡ b ∷ r.now
 
 -- the bytes behind these, or none
 abbrev pub Strips : List ℕ → List ℕ → Option (Bor (List ℕ)) → Type 0
@@ -37,9 +37,9 @@ pub record EndsRun (p : ℕ → Bool) (bs r : List ℕ) : Type 0 where
   pub longest : (other : List ℕ) → Run p bs other → length r ≤ length other
 
 -- what is behind, or that nothing is
-abbrev pub Closes : (List ℕ → List ℕ → Type 0) → List ℕ → Option (Bor (List ℕ)) → Type 0
-Closes Body bs None = (r : List ℕ) → Body bs r → ⊥
-Closes Body bs (Some r) = Body bs r.now
+abbrev pub EndsBody : (List ℕ → List ℕ → Type 0) → List ℕ → Option (Bor (List ℕ)) → Type 0
+EndsBody Body bs None = (r : List ℕ) → Body bs r → ⊥
+EndsBody Body bs (Some r) = Body bs r.now
 
 -- the kind of a name, or of a word
 abbrev pub IsWordOf : List ℕ → Kind → Type 0
@@ -84,13 +84,13 @@ pub data IsGap : List ℕ → List ℕ → Type 0 where
   comment_gap : {bs r : List ℕ} → Comment bs r → IsGap bs r
 
 -- what stands first, and what is behind it
-abbrev pub Item : List ℕ → Option Kind → List ℕ → Type 0
-Item bs None r = IsGap bs r
-Item bs (Some k) r = (opens_comment bs ≡ false) × Longest k bs r
+abbrev pub FrontItem : List ℕ → Option Kind → List ℕ → Type 0
+FrontItem bs None r = IsGap bs r
+FrontItem bs (Some k) r = (opens_comment bs ≡ false) × Longest k bs r
 
 -- an item that breaks no rule, or the first rule that is broken here
 abbrev pub ItemAt : List ℕ → Result (Option Kind × Bor (List ℕ)) Rule → Type 0
-ItemAt bs (Ok x) = Item bs x.0 x.1.now × ((r : Rule) → BreaksHere r bs → ⊥)
+ItemAt bs (Ok x) = FrontItem bs x.0 x.1.now × ((r : Rule) → BreaksHere r bs → ⊥)
 ItemAt bs (Err r) = FirstHere r bs
 
 -- The tokens of a text, or the first rule of its characters that it breaks.
@@ -100,6 +100,6 @@ Scanned text (Err (halt.Refused r)) = IsFirst (BreaksLexis text) r
 Scanned text (Err halt.Memory) = Unit {0}
 
 -- The text has tokens, or this is the first rule of its characters that it breaks.
-abbrev pub Passed : List ℕ → Option Refusal → Type 0
-Passed text None = (ts : List Token) × IsTokens text ts
-Passed text (Some r) = IsFirst (BreaksLexis text) r
+abbrev pub FirstBreachOf : List ℕ → Option Refusal → Type 0
+FirstBreachOf text None = (ts : List Token) × IsTokens text ts
+FirstBreachOf text (Some r) = IsFirst (BreaksLexis text) r

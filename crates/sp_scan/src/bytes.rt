@@ -2,14 +2,14 @@
 
 ghost use Rattle.std.specs.Prelude.{◌≡◌, ◌↔◌, IsTrue, map};
 ghost use Rattle.sp_tree.specs.Characters.{is_blank as is_a_blank, is_letter as is_a_letter, is_digit as is_a_digit};
-ghost use Rattle.sp_tree.specs.Characters.{lower as lower_case};
-ghost use Rattle.sp_scan.specs.Finds.{Cuts, Passes, Strips};
+ghost use Rattle.sp_tree.specs.Characters.{lower_case_letter as lower_case};
+ghost use Rattle.sp_scan.specs.Finds.{CutsByte, PassesByte, Strips};
 
 use sp_tree::lower;
 
 /// The first byte and the others, or none.
 pub fn cut(bytes: &[u8]) -> Option<(u8, &[u8])>
-    ensures { Cuts bytes.now result }
+    ensures { CutsByte bytes.now result }
 {
     match bytes {
         [first, rest @ ..] => Some((*first, rest)),
@@ -19,7 +19,7 @@ pub fn cut(bytes: &[u8]) -> Option<(u8, &[u8])>
 
 /// The bytes behind this one, where it comes first.
 pub fn pass(bytes: &[u8], byte: u8) -> Option<&[u8]>
-    ensures { Passes bytes.now byte result }
+    ensures { PassesByte bytes.now byte result }
 {
     match bytes {
         [first, rest @ ..] if *first == byte => Some(rest),

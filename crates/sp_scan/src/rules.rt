@@ -2,7 +2,7 @@
 
 ghost use Rattle.std.specs.Prelude.{◌≡◌, ◌≢◌, ◌<◌, ◌↔◌, ◌∷◌, IsTrue, true, false, map};
 ghost use Rattle.sp_tree.specs.declared.token.Kind.TheVariants.{Number, Name};
-ghost use Rattle.sp_tree.specs.Characters.{lower, is_blank as is_a_blank};
+ghost use Rattle.sp_tree.specs.Characters.{lower_case_letter, is_blank as is_a_blank};
 ghost use Rattle.sp_tree.specs.Spelling.{digits_value};
 ghost use Rattle.sp_tree.specs.Lexemes.{Longest, opens_comment as opens};
 ghost use Rattle.sp_tree.specs.Scans.{NoToken, begins_digit as is_digit_first, begins_signed as is_signed_first};
@@ -70,7 +70,7 @@ fn goes_on_real(bytes: &[u8]) -> bool
 
 /// Whether the bytes are a refused word.
 fn is_refused(spelled: &[u8]) -> bool
-    ensures { IsRefusedWord (map lower spelled.now) result }
+    ensures { IsRefusedWord (map lower_case_letter spelled.now) result }
 {
     for n in 0..REFUSED {
         if is_spelled(spelled, refused_text(n)) {

@@ -3,7 +3,7 @@
 ghost use Rattle.std.specs.Prelude.{◌≡◌};
 ghost use Rattle.sp_tree.specs.Characters.{is_digit, is_name_byte};
 ghost use Rattle.sp_tree.specs.Lexemes.{TextBody, BraceBody, StarBody, Comment, opens_comment as opens};
-ghost use Rattle.sp_scan.specs.Finds.{EndsRun, Closes};
+ghost use Rattle.sp_scan.specs.Finds.{EndsRun, EndsBody};
 
 use crate::bytes::{cut, pass};
 
@@ -37,7 +37,7 @@ pub fn after_number(bytes: &[u8]) -> &[u8]
 
 /// What is behind a text whose quote is open, if it ends on its line.
 pub fn after_text(bytes: &[u8]) -> Option<&[u8]>
-    ensures { Closes TextBody bytes.now result }
+    ensures { EndsBody TextBody bytes.now result }
 {
     let mut rest = bytes;
     'more: while let Some((first, after)) = cut(rest) {
@@ -57,7 +57,7 @@ pub fn after_text(bytes: &[u8]) -> Option<&[u8]>
 
 /// What is behind a comment whose brace is open, if it has an end.
 fn after_brace(bytes: &[u8]) -> Option<&[u8]>
-    ensures { Closes BraceBody bytes.now result }
+    ensures { EndsBody BraceBody bytes.now result }
 {
     let mut rest = bytes;
     'more: while let Some((first, after)) = cut(rest) {
@@ -71,7 +71,7 @@ fn after_brace(bytes: &[u8]) -> Option<&[u8]>
 
 /// What is behind a comment whose parenthesis and star are open, if it has an end.
 fn after_star(bytes: &[u8]) -> Option<&[u8]>
-    ensures { Closes StarBody bytes.now result }
+    ensures { EndsBody StarBody bytes.now result }
 {
     let mut rest = bytes;
     'more: while let Some((first, after)) = cut(rest) {
@@ -98,7 +98,7 @@ pub fn opens_comment(bytes: &[u8]) -> bool
 
 /// What is behind the comment that stands here, if one does and has an end.
 pub fn after_comment(bytes: &[u8]) -> Option<&[u8]>
-    ensures { Closes Comment bytes.now result }
+    ensures { EndsBody Comment bytes.now result }
 {
     let Some((first, rest)) = cut(bytes) else {
         return None;

@@ -3,7 +3,7 @@
 ghost use Rattle.std.specs.Prelude.{◌≡◌, ◌+◌, ◌-◌, ◌<◌, ◌≤◌, ◌^◌, length, take};
 ghost use Rattle.sp_tree.specs.Places.{place_behind, next_place};
 ghost use Rattle.sp_tree.specs.Spelling.{spelling as the_spelling};
-ghost use Rattle.sp_scan.specs.Finds.{Passed, Scanned};
+ghost use Rattle.sp_scan.specs.Finds.{FirstBreachOf, Scanned};
 
 use crate::bytes::cut;
 use crate::rules::item;
@@ -88,7 +88,7 @@ pub fn scan(alloc: Global, text: &[u8]) -> Result<List<Token>, Halt>
 /// The first rule of its characters that a text breaks, if it breaks one. It takes no memory: so each text has tokens
 /// or a first broken rule.
 pub fn first_breach(text: &[u8]) -> Option<Refusal>
-    ensures { Passed text.now result }
+    ensures { FirstBreachOf text.now result }
 {
     let mut at = Place { line: 1, column: 1 };
     if text.len() > MAX_TEXT {

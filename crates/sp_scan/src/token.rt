@@ -1,7 +1,7 @@
 //! The longest token at a place: a name, a word, a number, a text or a sign.
 
 ghost use Rattle.std.specs.Prelude.{◌≡◌, ◌<◌, ◌+◌, ◌∷◌, map, true};
-ghost use Rattle.sp_tree.specs.Characters.{lower, is_letter};
+ghost use Rattle.sp_tree.specs.Characters.{lower_case_letter, is_letter};
 ghost use Rattle.sp_tree.specs.Lexemes.{Longest};
 ghost use Rattle.sp_scan.specs.Finds.{IsWordOf, FindsSign, Finds};
 
@@ -12,7 +12,7 @@ use sp_tree::Kind;
 
 /// The kind of a name or a word.
 fn word_of(spelled: &[u8]) -> Kind
-    ensures { IsWordOf (map lower spelled.now) result }
+    ensures { IsWordOf (map lower_case_letter spelled.now) result }
 {
     for n in 0..WORDS {
         if is_spelled(spelled, word_text(n)) {

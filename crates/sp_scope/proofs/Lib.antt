@@ -6,4 +6,4 @@ pub mod Standards
 pub mod Heads
 pub mod Found
 pub mod NameLaws
-pub mod Least
+pub mod TakenFirst

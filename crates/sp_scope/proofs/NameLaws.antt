@@ -12,18 +12,20 @@ use Rattle.sp_tree.specs.declared.syntax.SynKind.{SynKind}
 use Rattle.sp_tree.specs.declared.syntax.SynKind.TheVariants as kinds
 use Rattle.sp_tree.specs.declared.syntax.SynFormal.{SynFormal}
 use Rattle.sp_tree.specs.declared.syntax.SynGroup.{SynGroup}
-use Rattle.sp_tree.specs.Found.{Found, lesser, listed, taken}
-use Rattle.sp_tree.specs.Scopes.{Scope, Env, Local, declared, variable, next_constant}
+use Rattle.sp_tree.specs.PhaseResults.{FirstRefusal, earlier_refusal, refusal_list, first_of_refusals}
+use Rattle.sp_tree.specs.Scopes.{Scope, Env, Local, with_declaration, variable, next_constant}
 use Rattle.sp_tree.specs.declared.meaning.Meaning.TheVariants as meaning
 use Rattle.sp_tree.specs.declared.meaning.Sort.TheVariants as sort
-use Rattle.sp_tree.specs.NameRules.{Site, broken, aims, same_place}
+use Rattle.sp_tree.specs.NameRules.{Site, broken_rule, needs_variable, same_place}
 use Rattle.sp_tree.specs.NameWalk as w
-use Rattle.sp_tree.specs.NameFirst.{none_more, both, at_site, together, all_at, names_first, names_broken}
-use Rattle.sp_tree.specs.PlainSyntax.{Expression, At, ExpressionForm, Number, Quoted, Read, Apply, Unary, Binary}
+use Rattle.sp_tree.specs.NameFirst.{none_more, then_rest, at_site, both_lists, all_at, names_first, broken_name_rules}
+use Rattle.sp_tree.specs.PlainSyntax.{Expression, ExpressionAt, ExpressionForm, Number, Quoted, Read, Apply, Unary}
+use Rattle.sp_tree.specs.PlainSyntax.{Binary}
 use Rattle.sp_tree.specs.PlainSyntax.{Variable, Entire, Selector, Index, Field, Selectors, Whole, Select, Argument}
-use Rattle.sp_tree.specs.PlainSyntax.{Pass, Width, NoWidth, Within, Arguments, NoArgument, AndArgument, Statement, Does}
+use Rattle.sp_tree.specs.PlainSyntax.{Pass, Width, NoWidth, WithWidth, Arguments, NoArgument, AndArgument, Statement}
+use Rattle.sp_tree.specs.PlainSyntax.{Does}
 use Rattle.sp_tree.specs.PlainSyntax.{Form, Empty, Assign, Call, Sequence, If, While, Repeat, Case, For, Parallel}
-use Rattle.sp_tree.specs.PlainSyntax.{Forall, Assume, Other, NoElse, Else, Statements, NoStatement, AndThen, Arm, On}
+use Rattle.sp_tree.specs.PlainSyntax.{Forall, Assume, ElsePart, NoElse, Else, Statements, NoStatement, AndThen, Arm, On}
 use Rattle.sp_tree.specs.PlainSyntax.{Arms, NoArm, Or, Branches, NoBranch, Beside, Part, Const, Kind, Var, Proc, Parts}
 use Rattle.sp_tree.specs.PlainSyntax.{NoPart, Declare, Program}
 use Rattle.sp_tree.proofs.Gathering.{lesser_none, Leads, no_more, follows}
@@ -41,13 +43,13 @@ module _ {M N : Type 0} (none : M) (join : M → M → M) (site : Env → Site �
     passed_name_leads : (p : Passing) (pl : Place) (x : Name) (whole : Bool)
         → R (w.passed_name_sites none join site env p pl x whole)
         (w.passed_name_sites none2 join2 site2 env p pl x whole)
-    passed_name_leads p pl x whole = chosen (aims p && same_place pl x.at) _ _ _ _ (at env _)
+    passed_name_leads p pl x whole = chosen (needs_variable p && same_place pl x.at) _ _ _ _ (at env _)
         (and _ _ _ _ (at env _) (at env _))
 
     mutual
       expression_leads : (e : Expression) → R (w.expression_sites none join site env e)
           (w.expression_sites none2 join2 site2 env e)
-      expression_leads (At pl form) = form_leads form
+      expression_leads (ExpressionAt pl form) = form_leads form
 
       form_leads : (e : ExpressionForm) → R (w.expression_form_sites none join site env e)
           (w.expression_form_sites none2 join2 site2 env e)
@@ -85,16 +87,18 @@ module _ {M N : Type 0} (none : M) (join : M → M → M) (site : Env → Site �
       width_leads : (p : Passing) (pl : Place) (width : Width)
           → R (w.width_sites none join site env p pl width) (w.width_sites none2 join2 site2 env p pl width)
       width_leads p pl NoWidth = nothing
-      width_leads p pl (Within e) = and _ _ _ _ (at env _) (expression_leads e)
+      width_leads p pl (WithWidth e) = and _ _ _ _ (at env _) (expression_leads e)
 
       passed_leads : (p : Passing) (e : Expression)
           → R (w.passed_sites none join site env p e) (w.passed_sites none2 join2 site2 env p e)
-      passed_leads p (At pl (Number n)) = and _ _ _ _ (at env _) nothing
-      passed_leads p (At pl (Quoted t)) = and _ _ _ _ (at env _) nothing
-      passed_leads p (At pl (Read (Entire x ss))) = and _ _ _ _ (passed_name_leads p pl x _) (selectors_leads ss)
-      passed_leads p (At pl (Apply f args)) = and _ _ _ _ (at env _) (and _ _ _ _ (at env _) (arguments_leads _ _ args))
-      passed_leads p (At pl (Unary op a)) = and _ _ _ _ (at env _) (expression_leads a)
-      passed_leads p (At pl (Binary op a b)) =
+      passed_leads p (ExpressionAt pl (Number n)) = and _ _ _ _ (at env _) nothing
+      passed_leads p (ExpressionAt pl (Quoted t)) = and _ _ _ _ (at env _) nothing
+      passed_leads p (ExpressionAt pl (Read (Entire x ss))) =
+          and _ _ _ _ (passed_name_leads p pl x _) (selectors_leads ss)
+      passed_leads p (ExpressionAt pl (Apply f args)) =
+          and _ _ _ _ (at env _) (and _ _ _ _ (at env _) (arguments_leads _ _ args))
+      passed_leads p (ExpressionAt pl (Unary op a)) = and _ _ _ _ (at env _) (expression_leads a)
+      passed_leads p (ExpressionAt pl (Binary op a b)) =
           and _ _ _ _ (at env _) (and _ _ _ _ (expression_leads a) (expression_leads b))
 
   value_leads : (env : Env) (v : SynValue) → R (w.value_sites none join site env v)
@@ -141,7 +145,7 @@ module _ {M N : Type 0} (none : M) (join : M → M → M) (site : Env → Site �
         (and _ _ _ _ (expression_leads _ to) (and _ _ _ _ (at _ _) (statement_leads _ _ s)))
     statement_form_leads around l (Assume e) = expression_leads _ e
 
-    other_leads : (around : List Scope) (l : Local) (o : Other)
+    other_leads : (around : List Scope) (l : Local) (o : ElsePart)
         → R (w.other_sites none join site around l o) (w.other_sites none2 join2 site2 around l o)
     other_leads around l NoElse = nothing
     other_leads around l (Else s) = statement_leads around l s
@@ -171,7 +175,7 @@ module _ {M N : Type 0} (none : M) (join : M → M → M) (site : Env → Site �
       → R (w.names_sites none join site around r l xs) (w.names_sites none2 join2 site2 around r l xs)
   names_leads around r l [] = nothing
   names_leads around r l (x ∷ xs) = and _ _ _ _ (at _ _)
-      (names_leads around r (declared l x.text sort.Variable (variable l r)) xs)
+      (names_leads around r (with_declaration l x.text sort.Variable (variable l r)) xs)
 
   heading_leads : (env : Env) (fs : List SynFormal)
       → R (w.heading_sites none join site env fs) (w.heading_sites none2 join2 site2 env fs)
@@ -204,7 +208,7 @@ module _ {M N : Type 0} (none : M) (join : M → M → M) (site : Env → Site �
       → R (w.groups_sites none join site env own before gs) (w.groups_sites none2 join2 site2 env own before gs)
   groups_leads env own before [] = nothing
   groups_leads env own before (g ∷ gs) = and _ _ _ _ (fields_leads env before _)
-      (and _ _ _ _ (at env _) (groups_leads env own (w.behind before g.names) gs))
+      (and _ _ _ _ (at env _) (groups_leads env own (w.names_with_fields before g.names) gs))
 
   messages_leads : (env : Env) (own : Name) (ts : List Name)
       → R (w.messages_sites none join site env own ts) (w.messages_sites none2 join2 site2 env own ts)
@@ -215,7 +219,7 @@ module _ {M N : Type 0} (none : M) (join : M → M → M) (site : Env → Site �
       → R (w.enumerated_sites none join site around l xs) (w.enumerated_sites none2 join2 site2 around l xs)
   enumerated_leads around l [] = nothing
   enumerated_leads around l (x ∷ xs) = and _ _ _ _ (at _ _)
-      (enumerated_leads around (declared l x.text sort.Constant (meaning.Constant (next_constant l.counts))) xs)
+      (enumerated_leads around (with_declaration l x.text sort.Constant (meaning.Constant (next_constant l.counts))) xs)
 
   kind_leads : (env : Env) (own : Name) (k : SynKind)
       → R (w.kind_sites none join site env own k) (w.kind_sites none2 join2 site2 env own k)
@@ -264,13 +268,14 @@ module _ {M N : Type 0} (none : M) (join : M → M → M) (site : Env → Site �
   program_leads p = and _ _ _ _ (files_leads [] p.heading)
       (and _ _ _ _ (parts_leads _ _ p.block.parts) (statement_leads _ _ p.block.body))
 
-taken_listed : (f given : Found) → taken (listed f) given ≡ lesser given f
+taken_listed : (f given : FirstRefusal) → first_of_refusals (refusal_list f) given ≡ earlier_refusal given f
 taken_listed None given = lesser_none given
 taken_listed (Some r) given = refl
 
 at_one : (env : Env) (s : Site) → Leads (all_at env s) (at_site env s)
-at_one env s given = taken_listed (broken env s) given
+at_one env s given = taken_listed (broken_rule env s) given
 
 -- the first broken rule is the first of all
-pub first_of_all : (p : Program) → names_first p ≡ taken (names_broken p) None
-first_of_all p = sym (program_leads [] together all_at none_more both at_site Leads no_more follows at_one p None)
+pub first_of_all : (p : Program) → names_first p ≡ first_of_refusals (broken_name_rules p) None
+first_of_all p = sym (program_leads [] both_lists all_at none_more then_rest at_site Leads no_more follows at_one
+    p None)

@@ -2,13 +2,13 @@
 use Rattle.std.proofs.Common.{◌≡◌, refl, ap, ◌∙◌, List, [], ◌∷◌, ◌++◌}
 use Rattle.std.proofs.lemmas.List.{append-nil}
 use Rattle.sp_tree.specs.PlainNamed as n
-use Rattle.sp_tree.specs.NamedTree.{beside, nothing_named}
+use Rattle.sp_tree.specs.NamedTree.{appended_tables, nothing_named}
 
 behind_behind : {A : Type 0} (xs ys zs : List A) → (xs ++ ys) ++ zs ≡ xs ++ (ys ++ zs)
 behind_behind [] ys zs = refl
 behind_behind (x ∷ xs) ys zs = ap (λ l. x ∷ l) (behind_behind xs ys zs)
 
-pub beside_nothing : (a : n.Program) → beside a nothing_named ≡ a
+pub beside_nothing : (a : n.Program) → appended_tables a nothing_named ≡ a
 beside_nothing a =
     ap (λ l. record { constants = l; kinds = a.kinds ++ []; variables = a.variables ++ []; blocks = a.blocks ++ [] })
     (append-nil a.constants)
@@ -19,7 +19,8 @@ beside_nothing a =
     ∙ ap (λ l. record { constants = a.constants; kinds = a.kinds; variables = a.variables; blocks = l })
     (append-nil a.blocks)
 
-pub beside_beside : (a b c : n.Program) → beside (beside a b) c ≡ beside a (beside b c)
+pub beside_beside : (a b c : n.Program) → appended_tables (appended_tables a b) c
+    ≡ appended_tables a (appended_tables b c)
 beside_beside a b c =
     ap (λ l. record {
       constants = l;

@@ -10,29 +10,29 @@ use Rattle.std.specs.BTreeSet.{insert_key}
 use Rattle.sp_base.specs.declared.rule.Rule.TheVariants as rule
 use Rattle.sp_tree.specs.declared.syntax.Name.{Name}
 use Rattle.sp_tree.specs.declared.syntax.SynGroup.{SynGroup}
-use Rattle.sp_tree.specs.Found.{lesser, breaks_if}
+use Rattle.sp_tree.specs.PhaseResults.{earlier_refusal, refusal_if}
 use Rattle.sp_tree.specs.Scopes.{Env}
-use Rattle.sp_tree.specs.NameRules.{AsKind, UsesIn, broken}
+use Rattle.sp_tree.specs.NameRules.{AsKind, UsesIn, broken_rule}
 use Rattle.sp_tree.specs.NameFirst.{Onward}
 
 -- the name is among these
-abbrev pub held : List (List ℕ) → List ℕ → Bool
-held names x = list_any (is_at (slice_cmp nat_cmp x)) names
+abbrev pub names_contain : List (List ℕ) → List ℕ → Bool
+names_contain names x = list_any (is_at (slice_cmp nat_cmp x)) names
 
 -- the names with those of some fields
-abbrev pub held_behind : List (List ℕ) → List Name → List (List ℕ)
-held_behind names [] = names
-held_behind names (x ∷ xs) = held_behind (insert_key (slice_cmp nat_cmp) names x.text) xs
+abbrev pub names_behind : List (List ℕ) → List Name → List (List ℕ)
+names_behind names [] = names
+names_behind names (x ∷ xs) = names_behind (insert_key (slice_cmp nat_cmp) names x.text) xs
 
 -- N2 at each of these names, where the name stands before it
 abbrev pub fields_held : List (List ℕ) → List Name → Onward
 fields_held names [] given = given
 fields_held names (x ∷ xs) given = fields_held (insert_key (slice_cmp nat_cmp) names x.text) xs
-    (lesser given (breaks_if rule.N2 x.at (held names x.text)))
+    (earlier_refusal given (refusal_if rule.N2 x.at (names_contain names x.text)))
 
 -- N2 at each name of the fields, and what is broken at their types
 abbrev pub groups_held : Env → Name → List (List ℕ) → List SynGroup → Onward
 groups_held env own names [] given = given
 groups_held env own names (g ∷ gs) given =
-    groups_held env own (held_behind names g.names) gs
-    (lesser (fields_held names g.names given) (broken env (UsesIn own g.kind AsKind)))
+    groups_held env own (names_behind names g.names) gs
+    (earlier_refusal (fields_held names g.names given) (broken_rule env (UsesIn own g.kind AsKind)))

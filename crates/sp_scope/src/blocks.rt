@@ -1,14 +1,14 @@
 //! The walk through blocks: what their parts declare, and their statement parts.
 
 ghost use Rattle.std.specs.Prelude.{◌≡◌, ◌++◌, ◌∷◌, [], map, None, Ok, OnOk};
-ghost use Rattle.sp_tree.specs.Found.{Answers, AnswersAs};
-ghost use Rattle.sp_tree.specs.Scopes.{inside};
+ghost use Rattle.sp_tree.specs.PhaseResults.{Answers, AnswersAs};
+ghost use Rattle.sp_tree.specs.Scopes.{inner_env};
 ghost use Rattle.sp_tree.specs.NameWalk.{part_local, parts_local, title_local};
-ghost use Rattle.sp_tree.specs.NamedTree.{parts_named, part_named, inside_named, nothing_named, beside};
+ghost use Rattle.sp_tree.specs.NamedTree.{parts_named, part_named, inside_named, nothing_named, appended_tables};
 ghost use Rattle.sp_tree.specs.NamedOf as named;
 ghost use Rattle.sp_tree.specs.PlainSyntax.{Proc};
 ghost use Rattle.sp_tree.specs.SyntaxOf.{block_of, part_of, parts};
-ghost use Rattle.sp_scope.specs.Walks.{Walks, seen_block, declared_by};
+ghost use Rattle.sp_scope.specs.Walks.{WalksTo, seen_block, declared_by};
 ghost use Rattle.sp_scope.specs.Firsts.{parts_first, part_first, block_first, block_local, inner_first, inner_local};
 ghost use Rattle.sp_scope.specs.Firsts.{opened_first, opened_local, opened_named, inner_named};
 
@@ -67,7 +67,7 @@ fn beside_blocks(
 
 /// What is declared in one part behind what is declared in another.
 pub fn beside(a: Named, b: Named) -> Result<Named, Halt>
-    ensures { AnswersAs named.program_of result (Ok (beside (named.program_of a) (named.program_of b))) }
+    ensures { AnswersAs named.program_of result (Ok (appended_tables (named.program_of a) (named.program_of b))) }
 {
     let (constants, kinds) = beside_types(a.constants, a.kinds, b.constants, b.kinds)?;
     let (variables, blocks) = beside_blocks(a.variables, a.blocks, b.variables, b.blocks)?;
@@ -131,10 +131,10 @@ pub fn name_block(
     scopes: &mut Scopes,
     first: Found,
 ) -> Result<Walked<BlockParts>, Halt>
-    ensures found { Walks seen_block result (inside_named scopes.old.around scopes.old.local (block_of b).parts
+    ensures found { WalksTo seen_block result (inside_named scopes.old.around scopes.old.local (block_of b).parts
         (block_of b).body)
         (block_first scopes.old.around scopes.old.local (block_of b).parts (block_of b).body first) }
-    ensures after { OnOk result (scopes.new ≡ inside scopes.old.around
+    ensures after { OnOk result (scopes.new ≡ inner_env scopes.old.around
         (block_local scopes.old.local (block_of b).parts (block_of b).body)) }
 {
     let SynBlock { parts, body } = b;
@@ -162,10 +162,10 @@ fn name_parts(
     scopes: &mut Scopes,
     first: Found,
 ) -> Result<Walked<Named>, Halt>
-    ensures found { Walks named.program_of result
+    ensures found { WalksTo named.program_of result
         (parts_named scopes.old.around scopes.old.local (parts (map part_of ps)))
         (parts_first scopes.old.around scopes.old.local (parts (map part_of ps)) first) }
-    ensures after { OnOk result (scopes.new ≡ inside scopes.old.around
+    ensures after { OnOk result (scopes.new ≡ inner_env scopes.old.around
         (parts_local scopes.old.local (parts (map part_of ps)))) }
 {
     let mut out = nothing(alloc);
@@ -185,9 +185,9 @@ fn name_part(
     scopes: &mut Scopes,
     first: Found,
 ) -> Result<Walked<Named>, Halt>
-    ensures found { Walks named.program_of result (part_named scopes.old.around scopes.old.local (part_of p))
+    ensures found { WalksTo named.program_of result (part_named scopes.old.around scopes.old.local (part_of p))
         (part_first scopes.old.around scopes.old.local (part_of p) first) }
-    ensures after { OnOk result (scopes.new ≡ inside scopes.old.around (part_local scopes.old.local (part_of p))) }
+    ensures after { OnOk result (scopes.new ≡ inner_env scopes.old.around (part_local scopes.old.local (part_of p))) }
 {
     match p {
         SynPart::Const(x, c) => {
@@ -220,13 +220,13 @@ fn name_procedure(
     answer: &Option<Name>,
     first: Found,
 ) -> Result<Walked<Named>, Halt>
-    ensures found { Walks named.program_of result
+    ensures found { WalksTo named.program_of result
         (part_named scopes.old.around scopes.old.local
         (Proc x.now fs.now answer.now (block_of b).parts (block_of b).body))
         (part_first scopes.old.around scopes.old.local
         (Proc x.now fs.now answer.now (block_of b).parts (block_of b).body) first) }
     ensures after { OnOk result (scopes.new
-        ≡ inside scopes.old.around (part_local scopes.old.local
+        ≡ inner_env scopes.old.around (part_local scopes.old.local
         (Proc x.now fs.now answer.now (block_of b).parts (block_of b).body))) }
 {
     let heading = name_heading(alloc, scopes, x, fs, answer, first)?;
@@ -245,14 +245,15 @@ fn name_titled(
     answer: &Option<Name>,
     first: Found,
 ) -> Result<Walked<Named>, Halt>
-    ensures found { Walks named.program_of result
+    ensures found { WalksTo named.program_of result
         (declared_by h x.now answer.now
         (opened_named h.block scopes.old.around (title_local scopes.old.local x.now fs.now answer.now) fs.now answer.now
         (block_of b).parts (block_of b).body))
         (opened_first h.block scopes.old.around (title_local scopes.old.local x.now fs.now answer.now) fs.now answer.now
         (block_of b).parts (block_of b).body first) }
     ensures after { OnOk result (scopes.new
-        ≡ inside scopes.old.around (opened_local h.block (title_local scopes.old.local x.now fs.now answer.now) fs.now
+        ≡ inner_env scopes.old.around
+        (opened_local h.block (title_local scopes.old.local x.now fs.now answer.now) fs.now
         answer.now
         (block_of b).parts (block_of b).body)) }
 {
@@ -276,12 +277,12 @@ fn name_opened(
     answer: &Option<Name>,
     first: Found,
 ) -> Result<Walked<BlockParts>, Halt>
-    ensures found { Walks seen_block result
+    ensures found { WalksTo seen_block result
         (opened_named block scopes.old.around scopes.old.local fs.now answer.now (block_of b).parts (block_of b).body)
         (opened_first block scopes.old.around scopes.old.local fs.now answer.now (block_of b).parts (block_of b).body
         first) }
     ensures after { OnOk result (scopes.new
-        ≡ inside scopes.old.around (opened_local block scopes.old.local fs.now answer.now (block_of b).parts
+        ≡ inner_env scopes.old.around (opened_local block scopes.old.local fs.now answer.now (block_of b).parts
         (block_of b).body)) }
 {
     let outer = scopes.block();
@@ -302,10 +303,10 @@ fn name_inner(
     answer: &Option<Name>,
     first: Found,
 ) -> Result<Walked<BlockParts>, Halt>
-    ensures found { Walks seen_block result
+    ensures found { WalksTo seen_block result
         (inner_named scopes.old.around scopes.old.local fs.now answer.now (block_of b).parts (block_of b).body)
         (inner_first scopes.old.around scopes.old.local fs.now answer.now (block_of b).parts (block_of b).body first) }
-    ensures after { OnOk result (scopes.new ≡ inside scopes.old.around
+    ensures after { OnOk result (scopes.new ≡ inner_env scopes.old.around
         (inner_local scopes.old.local fs.now answer.now (block_of b).parts (block_of b).body)) }
 {
     let first = declare_formals(alloc, scopes, fs, first)?;

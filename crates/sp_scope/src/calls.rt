@@ -2,7 +2,7 @@
 
 ghost use Rattle.std.specs.Prelude.{◌≡◌, map};
 ghost use Rattle.std.specs.Option.{option_copied};
-ghost use Rattle.sp_tree.specs.NameRules.{next_passing, others, references_of, rest_of};
+ghost use Rattle.sp_tree.specs.NameRules.{next_passing, flags_left, references_of, rest_of};
 ghost use Rattle.sp_tree.specs.NameWalk.{count, is_whole};
 ghost use Rattle.sp_tree.specs.SyntaxOf.{arguments, argument_of, selectors, selector_of};
 
@@ -55,7 +55,7 @@ pub fn next_passing(flags: &[bool], rest: Passing) -> Passing
 
 /// The flags behind the first.
 pub fn others(flags: &[bool]) -> &[bool]
-    ensures { result.now ≡ others flags.now }
+    ensures { result.now ≡ flags_left flags.now }
 {
     match flags.split_first() {
         Some((_, rest)) => rest,

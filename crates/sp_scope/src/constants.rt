@@ -2,7 +2,7 @@
 
 ghost use Rattle.std.specs.Prelude.{◌≡◌};
 ghost use Rattle.sp_tree.specs.NamedTree.{named_value, named_const, named_constants};
-ghost use Rattle.sp_scope.specs.Walks.{Walks, itself};
+ghost use Rattle.sp_scope.specs.Walks.{WalksTo, itself};
 ghost use Rattle.sp_scope.specs.Firsts.{value_first, constants_first, bound_first};
 
 use crate::declarations::{check_constant, check_own_constant, constant_number};
@@ -62,7 +62,7 @@ pub fn name_constants(
     cs: List<SynConst>,
     first: Found,
 ) -> Result<Walked<List<NamedConst>>, Halt>
-    ensures { Walks itself result (named_constants scopes.now cs) (constants_first scopes.now cs first) }
+    ensures { WalksTo itself result (named_constants scopes.now cs) (constants_first scopes.now cs first) }
 {
     let mut out = Vec::new(alloc);
     let mut first = first;

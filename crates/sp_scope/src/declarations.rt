@@ -3,7 +3,8 @@
 ghost use Rattle.std.specs.Prelude.{◌≡◌};
 ghost use Rattle.std.specs.Option.{option_copied};
 ghost use Rattle.sp_tree.specs.Scopes.{find};
-ghost use Rattle.sp_tree.specs.NameRules.{broken, use_rule, declare_rule, AsConstant, AsKind, Declares, Uses, UsesIn};
+ghost use Rattle.sp_tree.specs.NameRules.{broken_rule, use_rule, declare_rule, AsConstant, AsKind, Declares, Uses};
+ghost use Rattle.sp_tree.specs.NameRules.{UsesIn};
 ghost use Rattle.sp_tree.specs.NamedTree.{constant_number, kind_number};
 
 use crate::scopes::Scopes;
@@ -32,21 +33,21 @@ fn kind_rule(at: Place, m: Option<&Meaning>) -> Found
 
 /// A constant: N1, N3.
 pub fn check_constant(scopes: &Scopes, x: &Name) -> Found
-    ensures { result ≡ broken scopes.now (Uses x.now AsConstant) }
+    ensures { result ≡ broken_rule scopes.now (Uses x.now AsConstant) }
 {
     constant_rule(x.at, scopes.find(&x.text))
 }
 
 /// A type: N1, N3.
 pub fn check_kind(scopes: &Scopes, x: &Name) -> Found
-    ensures { result ≡ broken scopes.now (Uses x.now AsKind) }
+    ensures { result ≡ broken_rule scopes.now (Uses x.now AsKind) }
 {
     kind_rule(x.at, scopes.find(&x.text))
 }
 
 /// A constant in the definition of a type: N1, N3, N4.
 pub fn check_own_constant(scopes: &Scopes, own: &Name, x: &Name) -> Found
-    ensures { result ≡ broken scopes.now (UsesIn own.now x.now AsConstant) }
+    ensures { result ≡ broken_rule scopes.now (UsesIn own.now x.now AsConstant) }
 {
     if own.text.bytes() == x.text.bytes() {
         breaks(Rule::N4, x.at)
@@ -57,7 +58,7 @@ pub fn check_own_constant(scopes: &Scopes, own: &Name, x: &Name) -> Found
 
 /// A type in the definition of a type: N1, N3, N4.
 pub fn check_own_kind(scopes: &Scopes, own: &Name, x: &Name) -> Found
-    ensures { result ≡ broken scopes.now (UsesIn own.now x.now AsKind) }
+    ensures { result ≡ broken_rule scopes.now (UsesIn own.now x.now AsKind) }
 {
     if own.text.bytes() == x.text.bytes() {
         breaks(Rule::N4, x.at)
@@ -68,7 +69,7 @@ pub fn check_own_kind(scopes: &Scopes, own: &Name, x: &Name) -> Found
 
 /// A declaration in the innermost block: N2, L4.
 pub fn check_declares(scopes: &Scopes, x: &Name, sort: Sort) -> Found
-    ensures { result ≡ broken scopes.now (Declares x.now sort) }
+    ensures { result ≡ broken_rule scopes.now (Declares x.now sort) }
 {
     lesser(
         breaks_if(Rule::N2, x.at, scopes.declares(&x.text)),

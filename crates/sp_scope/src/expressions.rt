@@ -2,9 +2,9 @@
 
 ghost use Rattle.std.specs.Prelude.{◌≡◌, map, None, Ok};
 ghost use Rattle.std.specs.Option.{option_copied};
-ghost use Rattle.sp_scope.specs.Walks.{Walks, width_of};
-ghost use Rattle.sp_tree.specs.Found.{lesser};
-ghost use Rattle.sp_tree.specs.NameRules.{broken, Operand};
+ghost use Rattle.sp_scope.specs.Walks.{WalksTo, width_of};
+ghost use Rattle.sp_tree.specs.PhaseResults.{earlier_refusal};
+ghost use Rattle.sp_tree.specs.NameRules.{broken_rule, Operand};
 ghost use Rattle.sp_tree.specs.Scopes.{find};
 ghost use Rattle.sp_tree.specs.NameWalk.{is_whole};
 ghost use Rattle.sp_tree.specs.NamedTree.{named_expression, named_form, named_operand, named_selectors, named_selector};
@@ -17,7 +17,7 @@ ghost use Rattle.sp_tree.specs.SyntaxOf.{argument_of, arguments, width};
 ghost use Rattle.sp_scope.specs.Firsts.{expression_first, form_first, operand_first, selector_first, selectors_first};
 ghost use Rattle.sp_scope.specs.Firsts.{arguments_first, argument_first, passed_first, passed_name_first, width_first};
 ghost use Rattle.std.specs.Prelude.{option_map, Some};
-ghost use Rattle.sp_tree.specs.PlainSyntax.{At, Read, Apply, Unary};
+ghost use Rattle.sp_tree.specs.PlainSyntax.{ExpressionAt, Read, Apply, Unary};
 ghost use Rattle.sp_tree.specs.declared.syntax.Name.{Name};
 
 use crate::calls::{count, is_whole, next_passing, others, references_of, rest_of};
@@ -39,7 +39,7 @@ pub fn name_expression(
     e: SynExpr,
     first: Found,
 ) -> Result<Walked<NamedExpr>, Halt>
-    ensures { Walks named.expression_of result (named_expression scopes.now (expression_of e))
+    ensures { WalksTo named.expression_of result (named_expression scopes.now (expression_of e))
         (expression_first scopes.now (expression_of e) first) }
 {
     let (at, form) = e.parts();
@@ -57,7 +57,7 @@ fn name_boxed(
     e: Boxed<SynExpr>,
     first: Found,
 ) -> Result<Walked<Boxed<NamedExpr>>, Halt>
-    ensures { Walks named.expression_of result (named_expression scopes.now (expression_of e))
+    ensures { WalksTo named.expression_of result (named_expression scopes.now (expression_of e))
         (expression_first scopes.now (expression_of e) first) }
 {
     let Walked { tree, first } = name_expression(alloc, scopes, e.into_inner(), first)?;
@@ -72,7 +72,7 @@ fn name_form(
     form: SynExprForm,
     first: Found,
 ) -> Result<Walked<NamedExprForm>, Halt>
-    ensures { Walks named.expression_form_of result (named_form scopes.now (expression_form_of form))
+    ensures { WalksTo named.expression_form_of result (named_form scopes.now (expression_form_of form))
         (form_first scopes.now (expression_form_of form) first) }
 {
     match form {
@@ -102,7 +102,7 @@ fn name_unary(
     op: UnaryOp,
     first: Found,
 ) -> Result<Walked<NamedExprForm>, Halt>
-    ensures { Walks named.expression_form_of result (named_form scopes.now (Unary op (expression_of a)))
+    ensures { WalksTo named.expression_form_of result (named_form scopes.now (Unary op (expression_of a)))
         (form_first scopes.now (Unary op (expression_of a)) first) }
 {
     let Walked { tree, first } = name_boxed(alloc, scopes, a, first)?;
@@ -122,7 +122,7 @@ fn name_right(
     op: BinaryOp,
     first: Found,
 ) -> Result<Walked<NamedExprForm>, Halt>
-    ensures { Walks named.expression_form_of result
+    ensures { WalksTo named.expression_form_of result
         (n.Binary op (named.expression_of a) (named_expression scopes.now (expression_of b)))
         (expression_first scopes.now (expression_of b) first) }
 {
@@ -140,7 +140,7 @@ fn name_operand(
     v: SynVar,
     first: Found,
 ) -> Result<Walked<NamedExprForm>, Halt>
-    ensures { Walks named.expression_form_of result (named_operand scopes.now (variable_of v))
+    ensures { WalksTo named.expression_form_of result (named_operand scopes.now (variable_of v))
         (operand_first scopes.now (variable_of v) first) }
 {
     let SynVar { name, selectors } = v;
@@ -157,7 +157,7 @@ fn operand_name<'s>(
     first: Found,
 ) -> (Option<&'s Meaning>, Found)
     ensures found { option_copied result.0 ≡ find scopes.now x.now.text }
-    ensures first { result.1 ≡ lesser first (broken scopes.now (Operand x.now whole)) }
+    ensures first { result.1 ≡ earlier_refusal first (broken_rule scopes.now (Operand x.now whole)) }
 {
     let m = scopes.find(&x.text);
     (m, lesser(first, operand_rule(x.at, whole, m)))
@@ -173,7 +173,7 @@ fn name_read(
     first: Found,
 ) -> Result<Walked<NamedExprForm>, Halt>
     requires found { option_copied m ≡ find scopes.now x.now.text }
-    ensures { Walks named.expression_form_of result
+    ensures { WalksTo named.expression_form_of result
         (operand_named (find scopes.now x.now.text) x.now
         (named.selectors (named_selectors scopes.now (selectors (map selector_of xs)))))
         (selectors_first scopes.now (selectors (map selector_of xs)) first) }
@@ -233,7 +233,8 @@ fn name_function(
     f: Name,
     first: Found,
 ) -> Result<Walked<NamedExprForm>, Halt>
-    ensures { Walks named.expression_form_of result (named_form scopes.now (Apply f (arguments (map argument_of args))))
+    ensures { WalksTo named.expression_form_of result
+        (named_form scopes.now (Apply f (arguments (map argument_of args))))
         (form_first scopes.now (Apply f (arguments (map argument_of args))) first) }
 {
     let m = scopes.find(&f.text);
@@ -267,7 +268,7 @@ pub fn name_arguments(
     rest: Passing,
     first: Found,
 ) -> Result<Walked<List<NamedArg>>, Halt>
-    ensures { Walks (map named.argument_of) result (named_arguments scopes.now (arguments (map argument_of xs)))
+    ensures { WalksTo (map named.argument_of) result (named_arguments scopes.now (arguments (map argument_of xs)))
         (arguments_first scopes.now flags.now rest (arguments (map argument_of xs)) first) }
 {
     let mut out = Vec::new(alloc);
@@ -293,7 +294,7 @@ fn name_argument(
     p: Passing,
     first: Found,
 ) -> Result<Walked<NamedArg>, Halt>
-    ensures { Walks named.argument_of result (named_argument scopes.now (argument_of a))
+    ensures { WalksTo named.argument_of result (named_argument scopes.now (argument_of a))
         (argument_first scopes.now p (argument_of a) first) }
 {
     let SynArg { value, width } = a;
@@ -318,7 +319,7 @@ fn name_width(
     p: Passing,
     first: Found,
 ) -> Result<Walked<Option<NamedExpr>>, Halt>
-    ensures { Walks width_of result
+    ensures { WalksTo width_of result
         (named_width scopes.now (width (option_map expression_of w)))
         (width_first scopes.now p at (width (option_map expression_of w)) first) }
 {
@@ -343,7 +344,7 @@ fn name_passed(
     p: Passing,
     first: Found,
 ) -> Result<Walked<NamedExpr>, Halt>
-    ensures { Walks named.expression_of result (named_expression scopes.now (expression_of e))
+    ensures { WalksTo named.expression_of result (named_expression scopes.now (expression_of e))
         (passed_first scopes.now p (expression_of e) first) }
 {
     let (at, form) = e.parts();
@@ -363,8 +364,8 @@ fn name_passed_form(
     p: Passing,
     first: Found,
 ) -> Result<Walked<NamedExprForm>, Halt>
-    ensures { Walks named.expression_form_of result (named_form scopes.now (expression_form_of form))
-        (passed_first scopes.now p (At at (expression_form_of form)) first) }
+    ensures { WalksTo named.expression_form_of result (named_form scopes.now (expression_form_of form))
+        (passed_first scopes.now p (ExpressionAt at (expression_form_of form)) first) }
 {
     let bare = lesser(first, bare_rule(at, p));
     match form {
@@ -395,8 +396,8 @@ fn name_passed_variable(
     p: Passing,
     first: Found,
 ) -> Result<Walked<NamedExprForm>, Halt>
-    ensures { Walks named.expression_form_of result (named_operand scopes.now (variable_of v))
-        (passed_first scopes.now p (At at (Read (variable_of v))) first) }
+    ensures { WalksTo named.expression_form_of result (named_operand scopes.now (variable_of v))
+        (passed_first scopes.now p (ExpressionAt at (Read (variable_of v))) first) }
 {
     let SynVar { name, selectors } = v;
     let whole = is_whole(selectors.items());
@@ -432,7 +433,7 @@ fn name_selector(
     s: SynSelector,
     first: Found,
 ) -> Result<Walked<NamedSelector>, Halt>
-    ensures { Walks named.selector_of result (named_selector scopes.now (selector_of s))
+    ensures { WalksTo named.selector_of result (named_selector scopes.now (selector_of s))
         (selector_first scopes.now (selector_of s) first) }
 {
     match s {
@@ -458,7 +459,7 @@ pub fn name_selectors(
     xs: List<SynSelector>,
     first: Found,
 ) -> Result<Walked<List<NamedSelector>>, Halt>
-    ensures { Walks (map named.selector_of) result (named_selectors scopes.now (selectors (map selector_of xs)))
+    ensures { WalksTo (map named.selector_of) result (named_selectors scopes.now (selectors (map selector_of xs)))
         (selectors_first scopes.now (selectors (map selector_of xs)) first) }
 {
     let mut out = Vec::new(alloc);

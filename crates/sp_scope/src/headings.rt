@@ -1,12 +1,12 @@
 //! The walk through headings of procedures and functions.
 
 ghost use Rattle.std.specs.Prelude.{◌≡◌, ◌++◌, ◌∷◌, [], map, Ok, OnOk};
-ghost use Rattle.sp_tree.specs.Found.{Answers, AnswersAs};
-ghost use Rattle.sp_tree.specs.Scopes.{inside};
+ghost use Rattle.sp_tree.specs.PhaseResults.{Answers, AnswersAs};
+ghost use Rattle.sp_tree.specs.Scopes.{inner_env};
 ghost use Rattle.sp_tree.specs.NameWalk.{references, block_meaning, title_local};
 ghost use Rattle.sp_tree.specs.NamedTree.{answer_named, answer_of};
 ghost use Rattle.sp_tree.specs.NamedOf as named;
-ghost use Rattle.sp_scope.specs.Walks.{Walks, itself, seen_block, heading_named, declared_by};
+ghost use Rattle.sp_scope.specs.Walks.{WalksTo, itself, seen_block, heading_named, declared_by};
 ghost use Rattle.sp_scope.specs.Flags.{flags, all_flags};
 ghost use Rattle.sp_scope.specs.Firsts.{answer_first, title_first};
 
@@ -65,7 +65,7 @@ pub fn name_heading(
     answer: &Option<Name>,
     first: Found,
 ) -> Result<Walked<Heading>, Halt>
-    ensures { Walks itself result (heading_named scopes.now x.now fs.now answer.now)
+    ensures { WalksTo itself result (heading_named scopes.now x.now fs.now answer.now)
         (title_first scopes.now x.now fs.now answer.now first) }
 {
     let first = lesser(first, check_declares(scopes, x, Sort::Block));
@@ -140,7 +140,7 @@ pub fn declare_title(
     answer: &Option<Name>,
 ) -> Result<(), Halt>
     ensures memory { Answers result (Ok tt) }
-    ensures after { OnOk result (scopes.new ≡ inside scopes.old.around
+    ensures after { OnOk result (scopes.new ≡ inner_env scopes.old.around
         (title_local scopes.old.local x.now fs.now answer.now)) }
 {
     let m = block_meaning(alloc, scopes, fs, answer)?;

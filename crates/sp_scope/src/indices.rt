@@ -1,7 +1,7 @@
 //! The indices of the foralls in a statement part.
 
 ghost use Rattle.std.specs.Prelude.{◌≡◌, ◌++◌, map, Ok, OnOk};
-ghost use Rattle.sp_tree.specs.Found.{Answers};
+ghost use Rattle.sp_tree.specs.PhaseResults.{Answers};
 ghost use Rattle.sp_tree.specs.NamedTree.{indices, form_indices, statements_indices, arms_indices, arm_indices};
 ghost use Rattle.sp_tree.specs.NamedTree.{branches_indices};
 ghost use Rattle.sp_tree.specs.SyntaxOf.{statement_of, statement_form_of, statements, arms, arm_of, branches};

@@ -4,10 +4,10 @@ ghost use Rattle.std.specs.Prelude.{◌≡◌, ◌++◌, [], map, Ok, OnOk};
 ghost use Rattle.std.specs.Ordering.{nat_cmp};
 ghost use Rattle.std.specs.Cmp.Lexicographic.{slice_cmp};
 ghost use Rattle.std.specs.BTreeSet.{insert_key};
-ghost use Rattle.sp_tree.specs.Found.{Answers};
+ghost use Rattle.sp_tree.specs.PhaseResults.{Answers};
 ghost use Rattle.sp_tree.specs.NamedTree.{named_value, named_const, fields_named, groups_named, messages_named};
-ghost use Rattle.sp_tree.specs.NamedTree.{kind_named, enumerated, constants_named};
-ghost use Rattle.sp_scope.specs.Fields.{held, held_behind, fields_held, groups_held};
+ghost use Rattle.sp_tree.specs.NamedTree.{kind_named, enumeration_constants, constants_named};
+ghost use Rattle.sp_scope.specs.Fields.{names_contain, names_behind, fields_held, groups_held};
 ghost use Rattle.sp_scope.specs.Firsts.{groups_first, messages_first, kind_first};
 
 use crate::constants::check_bound;
@@ -24,7 +24,7 @@ use std::collections::BTreeSet;
 
 /// Puts a name among others, and says whether it was there.
 fn note(alloc: Global, names: &mut BTreeSet<Text>, x: &Text) -> Result<bool, Halt>
-    ensures found { Answers result (Ok (held names.old.keys x.now)) }
+    ensures found { Answers result (Ok (names_contain names.old.keys x.now)) }
     ensures after { OnOk result (names.new.keys ≡ insert_key (slice_cmp nat_cmp) names.old.keys x.now) }
 {
     let again = names.contains(x);
@@ -41,7 +41,7 @@ fn check_fields(
     first: Found,
 ) -> Result<Found, Halt>
     ensures found { Answers result (Ok (fields_held names.old.keys xs.now first)) }
-    ensures after { OnOk result (names.new.keys ≡ held_behind names.old.keys xs.now) }
+    ensures after { OnOk result (names.new.keys ≡ names_behind names.old.keys xs.now) }
 {
     let mut first = first;
     for x in xs {
@@ -207,7 +207,7 @@ pub fn name_kind(alloc: Global, scopes: &Scopes, k: &SynKind) -> Result<NamedKin
 }
 
 fn enumerate(alloc: Global, kind: u32, xs: &[Name]) -> Result<List<NamedConstant>, Halt>
-    ensures { Answers result (Ok (enumerated kind 0 xs.now)) }
+    ensures { Answers result (Ok (enumeration_constants kind 0 xs.now)) }
 {
     let mut out = Vec::new(alloc);
     let mut ordinal = 0u32;

@@ -2,7 +2,7 @@
 //! memory.
 
 ghost use Rattle.std.specs.Prelude.{◌≡◌, ◌+◌, Ok};
-ghost use Rattle.sp_tree.specs.Found.{Answers};
+ghost use Rattle.sp_tree.specs.PhaseResults.{Answers};
 ghost use Rattle.sp_tree.specs.Scopes.{next_constant, next_kind, next_variable, next_block};
 
 use sp_base::Halt;

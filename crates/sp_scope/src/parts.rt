@@ -1,8 +1,8 @@
 //! The walk through parts that declare constants, types and variables.
 
 ghost use Rattle.std.specs.Prelude.{◌≡◌, ◌++◌, ◌∷◌, [], Ok, OnOk};
-ghost use Rattle.sp_tree.specs.Found.{Answers, AnswersAs};
-ghost use Rattle.sp_tree.specs.Scopes.{inside, declared, next_constant};
+ghost use Rattle.sp_tree.specs.PhaseResults.{Answers, AnswersAs};
+ghost use Rattle.sp_tree.specs.Scopes.{inner_env, with_declaration, next_constant};
 ghost use Rattle.sp_tree.specs.declared.meaning.Meaning.TheVariants as meaning;
 ghost use Rattle.sp_tree.specs.declared.meaning.Sort.TheVariants as sort;
 ghost use Rattle.sp_tree.specs.NameWalk.{part_local, type_local, kind_local, constants_local};
@@ -11,7 +11,7 @@ ghost use Rattle.sp_tree.specs.NamedOf as named;
 ghost use Rattle.sp_tree.specs.PlainSyntax.{Const, Kind, Var};
 ghost use Rattle.sp_tree.specs.NameRules.{Declares};
 ghost use Rattle.sp_tree.specs.NameFirst.{at_site};
-ghost use Rattle.sp_scope.specs.Walks.{Walks};
+ghost use Rattle.sp_scope.specs.Walks.{WalksTo};
 ghost use Rattle.sp_scope.specs.Firsts.{part_first, enumerated_first, kind_first, kind_constants_first};
 
 use crate::constants::check_value;
@@ -31,7 +31,7 @@ use std::alloc::Global;
 fn declare_constant(alloc: Global, scopes: &mut Scopes, x: &Name) -> Result<(), Halt>
     ensures memory { Answers result (Ok tt) }
     ensures after { OnOk result (scopes.new
-        ≡ inside scopes.old.around (declared scopes.old.local x.now.text sort.Constant
+        ≡ inner_env scopes.old.around (with_declaration scopes.old.local x.now.text sort.Constant
         (meaning.Constant (next_constant scopes.old.local.counts)))) }
 {
     let number = next_constant(scopes.counts())?;
@@ -41,7 +41,7 @@ fn declare_constant(alloc: Global, scopes: &mut Scopes, x: &Name) -> Result<(), 
 /// Declares a type in the innermost block.
 fn declare_type(alloc: Global, scopes: &mut Scopes, x: &Name) -> Result<(), Halt>
     ensures memory { Answers result (Ok tt) }
-    ensures after { OnOk result (scopes.new ≡ inside scopes.old.around (type_local scopes.old.local x.now)) }
+    ensures after { OnOk result (scopes.new ≡ inner_env scopes.old.around (type_local scopes.old.local x.now)) }
 {
     let number = next_kind(scopes.counts())?;
     scopes.declare(alloc, &x.text, Sort::Kind, Meaning::Kind(number))
@@ -69,9 +69,9 @@ pub fn name_constant(
     c: &SynConst,
     first: Found,
 ) -> Result<Walked<Named>, Halt>
-    ensures found { Walks named.program_of result (constant_part (inside scopes.old.around scopes.old.local) c.now)
+    ensures found { WalksTo named.program_of result (constant_part (inner_env scopes.old.around scopes.old.local) c.now)
         (part_first scopes.old.around scopes.old.local (Const x.now c.now) first) }
-    ensures after { OnOk result (scopes.new ≡ inside scopes.old.around
+    ensures after { OnOk result (scopes.new ≡ inner_env scopes.old.around
         (part_local scopes.old.local (Const x.now c.now))) }
 {
     let first = lesser(first, check_declares(scopes, x, Sort::Constant));
@@ -104,7 +104,7 @@ fn declare_constants(
     first: Found,
 ) -> Result<Found, Halt>
     ensures found { Answers result (Ok (enumerated_first scopes.old.around scopes.old.local xs.now first)) }
-    ensures after { OnOk result (scopes.new ≡ inside scopes.old.around (constants_local scopes.old.local xs.now)) }
+    ensures after { OnOk result (scopes.new ≡ inner_env scopes.old.around (constants_local scopes.old.local xs.now)) }
 {
     let mut first = first;
     for x in xs {
@@ -122,7 +122,7 @@ fn declare_enumerated(
     first: Found,
 ) -> Result<Found, Halt>
     ensures found { Answers result (Ok (kind_constants_first scopes.old.around scopes.old.local k.now first)) }
-    ensures after { OnOk result (scopes.new ≡ inside scopes.old.around (kind_local scopes.old.local k.now)) }
+    ensures after { OnOk result (scopes.new ≡ inner_env scopes.old.around (kind_local scopes.old.local k.now)) }
 {
     match k {
         SynKind::Enumeration(xs) => declare_constants(alloc, scopes, xs.items(), first),
@@ -138,9 +138,10 @@ pub fn name_type(
     k: &SynKind,
     first: Found,
 ) -> Result<Walked<Named>, Halt>
-    ensures found { Walks named.program_of result (kind_part (inside scopes.old.around scopes.old.local) x.now k.now)
+    ensures found { WalksTo named.program_of result
+        (kind_part (inner_env scopes.old.around scopes.old.local) x.now k.now)
         (part_first scopes.old.around scopes.old.local (Kind x.now k.now) first) }
-    ensures after { OnOk result (scopes.new ≡ inside scopes.old.around
+    ensures after { OnOk result (scopes.new ≡ inner_env scopes.old.around
         (part_local scopes.old.local (Kind x.now k.now))) }
 {
     let t = name_definition(alloc, scopes, x, k, first)?;
@@ -159,7 +160,7 @@ fn name_definition(
     k: &SynKind,
     first: Found,
 ) -> Result<Walked<Named>, Halt>
-    ensures { Walks named.program_of result (kind_part scopes.now x.now k.now)
+    ensures { WalksTo named.program_of result (kind_part scopes.now x.now k.now)
         (kind_first scopes.now x.now k.now (at_site scopes.now (Declares x.now sort.Kind) first)) }
 {
     let first = lesser(first, check_declares(scopes, x, Sort::Kind));
@@ -178,7 +179,7 @@ fn declare_kind(
 ) -> Result<Found, Halt>
     ensures found { Answers result (Ok (kind_constants_first scopes.old.around (type_local scopes.old.local x.now) k.now
         first)) }
-    ensures after { OnOk result (scopes.new ≡ inside scopes.old.around
+    ensures after { OnOk result (scopes.new ≡ inner_env scopes.old.around
         (kind_local (type_local scopes.old.local x.now) k.now)) }
 {
     declare_type(alloc, scopes, x)?;
@@ -207,10 +208,10 @@ pub fn name_variables(
     t: &Name,
     first: Found,
 ) -> Result<Walked<Named>, Halt>
-    ensures found { Walks named.program_of result
-        (variables_part (inside scopes.old.around scopes.old.local) xs.now t.now)
+    ensures found { WalksTo named.program_of result
+        (variables_part (inner_env scopes.old.around scopes.old.local) xs.now t.now)
         (part_first scopes.old.around scopes.old.local (Var xs.now t.now) first) }
-    ensures after { OnOk result (scopes.new ≡ inside scopes.old.around
+    ensures after { OnOk result (scopes.new ≡ inner_env scopes.old.around
         (part_local scopes.old.local (Var xs.now t.now))) }
 {
     let first = lesser(first, check_kind(scopes, t));

@@ -2,17 +2,17 @@
 //! declares.
 
 ghost use Rattle.std.specs.Prelude.{◌≡◌, ◌++◌, ◌∷◌, [], true, false, None, Some, Ok, codes};
-ghost use Rattle.sp_tree.specs.Found.{Answers, AnswersAs};
+ghost use Rattle.sp_tree.specs.PhaseResults.{Answers, AnswersAs};
 ghost use Rattle.sp_tree.specs.NamedTree.{standard_constants, standard_kinds, consoles, program_tables, inside_named};
-ghost use Rattle.sp_tree.specs.Scopes.{standard, empty};
+ghost use Rattle.sp_tree.specs.Scopes.{standard_scope, empty_local};
 ghost use Rattle.sp_tree.specs.SyntaxOf.{block_of};
-ghost use Rattle.sp_tree.specs.NameFirst.{resolved};
+ghost use Rattle.sp_tree.specs.NameFirst.{name_resolution};
 ghost use Rattle.sp_tree.specs.NamedOf as named;
 ghost use Rattle.sp_tree.specs.SyntaxOf as plain;
 ghost use Rattle.sp_tree.specs.declared.checked.Role.TheVariants as role;
 ghost use Rattle.sp_scope.specs.Files.{files_flagged};
 ghost use Rattle.sp_scope.specs.Firsts.{files_first, block_first};
-ghost use Rattle.sp_scope.specs.Walks.{Walks, seen_block, standard_tables, own_tables};
+ghost use Rattle.sp_scope.specs.Walks.{WalksTo, seen_block, standard_tables, own_tables};
 
 use crate::blocks::{beside, block_in_front, name_block};
 use crate::scopes::Scopes;
@@ -160,8 +160,9 @@ fn program_tables(alloc: Global, x: &Name, b: BlockParts) -> Result<Named, Halt>
 
 /// The block of a program, with the standard names around it.
 fn name_program(alloc: Global, block: SynBlock, first: Found) -> Result<Walked<BlockParts>, Halt>
-    ensures { Walks seen_block result (inside_named (standard ∷ []) empty (block_of block).parts (block_of block).body)
-        (block_first (standard ∷ []) empty (block_of block).parts (block_of block).body first) }
+    ensures { WalksTo seen_block result (inside_named (standard_scope ∷ []) empty_local (block_of block).parts
+        (block_of block).body)
+        (block_first (standard_scope ∷ []) empty_local (block_of block).parts (block_of block).body first) }
 {
     let block = Boxed::new(alloc, block)?;
     let mut scopes = Scopes::new(alloc)?;
@@ -171,7 +172,7 @@ fn name_program(alloc: Global, block: SynBlock, first: Found) -> Result<Walked<B
 /// The tree with numbers for names, or the first rule among N1 to N8 and L4 that is broken: of the earliest place, and
 /// of several at one place the one that stands first in the table of rules. The tree is consumed.
 pub fn resolve(alloc: Global, syntax: Syntax) -> Result<Named, Halt>
-    ensures { AnswersAs named.program_of result (resolved (plain.program_of syntax)) }
+    ensures { AnswersAs named.program_of result (name_resolution (plain.program_of syntax)) }
 {
     let Syntax {
         name,

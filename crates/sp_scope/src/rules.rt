@@ -2,10 +2,10 @@
 
 ghost use Rattle.std.specs.Prelude.{◌≡◌};
 ghost use Rattle.std.specs.Option.{option_copied};
-ghost use Rattle.sp_tree.specs.Found.{breaks, breaks_if};
+ghost use Rattle.sp_tree.specs.PhaseResults.{refusal_at, refusal_if};
 ghost use Rattle.sp_tree.specs.NameRules.{function_takes, procedure_takes, function_rule, procedure_rule, operand_rule};
 ghost use Rattle.sp_tree.specs.NameRules.{alone_rule, selects_rule, variable_rule, target_rule, assign_rule, is_local};
-ghost use Rattle.sp_tree.specs.NameRules.{loop_rule, width_rule, bare_rule, aims};
+ghost use Rattle.sp_tree.specs.NameRules.{loop_rule, width_rule, bare_rule, needs_variable};
 
 use sp_base::{Place, Rule};
 use sp_tree::{
@@ -175,7 +175,7 @@ pub fn bare_rule(at: Place, p: Passing) -> Found
 
 /// Whether an argument is passed to something that it has to be a variable for.
 pub fn aims(p: Passing) -> bool
-    ensures { result ≡ aims p }
+    ensures { result ≡ needs_variable p }
 {
     matches!(p, Passing::Reference | Passing::Target)
 }

@@ -4,10 +4,11 @@
 
 ghost use Rattle.std.specs.Prelude.{◌≡◌, ◌+◌, nat_le, ◌++◌, ◌∷◌, [], map, None, Ok, OnOk};
 ghost use Rattle.std.specs.Option.{option_copied, is_some};
-ghost use Rattle.sp_tree.specs.Found.{Answers};
-ghost use Rattle.sp_tree.specs.Scopes.{find_in, look, find, or_else, put, count, more, most, empty, standard, declared};
-ghost use Rattle.sp_tree.specs.Scopes.{opened, inside};
-ghost use Rattle.sp_tree.specs.NameWalk.{deeper, answer_local};
+ghost use Rattle.sp_tree.specs.PhaseResults.{Answers};
+ghost use Rattle.sp_tree.specs.Scopes.{find_in, look, find, or_else, put, count, with_one_more, declaration_limit};
+ghost use Rattle.sp_tree.specs.Scopes.{empty_local, standard_scope, with_declaration};
+ghost use Rattle.sp_tree.specs.Scopes.{local_of_inner, inner_env};
+ghost use Rattle.sp_tree.specs.NameWalk.{blocks_around, answer_local};
 ghost use Rattle.sp_scope.specs.Firsts.{Leaves};
 ghost use Rattle.sp_scope.specs.Walks.{entries_of};
 
@@ -86,7 +87,7 @@ fn count(sort: Sort, counts: Counts) -> u32
 
 /// One more of a sort.
 fn one_more(sort: Sort, counts: Counts) -> Result<Counts, Halt>
-    ensures { Answers result (Ok (more sort counts)) }
+    ensures { Answers result (Ok (with_one_more sort counts)) }
 {
     let mut counts = counts;
     match sort {
@@ -112,7 +113,7 @@ const MOST: u32 = 4096;
 impl Scopes {
     /// The program's block before anything is declared, with the standard names in a block around it.
     pub fn new(alloc: Global) -> Result<Scopes, Halt>
-        ensures { Answers result (Ok (inside (standard ∷ []) empty)) }
+        ensures { Answers result (Ok (inner_env (standard_scope ∷ []) empty_local)) }
     {
         let standard = standard(alloc)?;
         let mut around = Vec::new(alloc);
@@ -155,7 +156,7 @@ impl Scopes {
 
     /// Whether the limit of a sort is reached.
     pub fn is_full(&self, sort: Sort) -> bool
-        ensures { result ≡ nat_le most (count sort self.now.local.counts) }
+        ensures { result ≡ nat_le declaration_limit (count sort self.now.local.counts) }
     {
         MOST <= count(sort, self.counts)
     }
@@ -169,7 +170,8 @@ impl Scopes {
         m: Meaning,
     ) -> Result<(), Halt>
         ensures memory { Answers result (Ok tt) }
-        ensures after { OnOk result (self.new ≡ inside self.old.around (declared self.old.local name.now sort m)) }
+        ensures after { OnOk result
+            (self.new ≡ inner_env self.old.around (with_declaration self.old.local name.now sort m)) }
     {
         if self.is_full(sort) {
             return Ok(());
@@ -184,7 +186,7 @@ impl Scopes {
     /// Numbers the result of a function, a variable without a name.
     pub fn number_answer(&mut self, answer: &Option<Name>) -> Result<(), Halt>
         ensures memory { Answers result (Ok tt) }
-        ensures after { OnOk result (self.new ≡ inside self.old.around (answer_local self.old.local answer.now)) }
+        ensures after { OnOk result (self.new ≡ inner_env self.old.around (answer_local self.old.local answer.now)) }
     {
         match answer {
             None => Ok(()),
@@ -202,7 +204,7 @@ impl Scopes {
     pub fn open(&mut self, alloc: Global, block: u32, answer: u32) -> Result<(), Halt>
         ensures memory { Answers result (Ok tt) }
         ensures after { OnOk result (self.new
-            ≡ inside (deeper self.old.around self.old.local) (opened block answer self.old.local)) }
+            ≡ inner_env (blocks_around self.old.around self.old.local) (local_of_inner block answer self.old.local)) }
     {
         let here = mem::replace(&mut self.here, IndexMap::new(alloc));
         self.around.push(here)?;

@@ -1,8 +1,8 @@
 //! The standard names, declared in a block of their own.
 
 ghost use Rattle.std.specs.Prelude.{◌≡◌, [], Ok, OnOk, codes};
-ghost use Rattle.sp_tree.specs.Found.{Answers, AnswersAs};
-ghost use Rattle.sp_tree.specs.Scopes.{put, standard};
+ghost use Rattle.sp_tree.specs.PhaseResults.{Answers, AnswersAs};
+ghost use Rattle.sp_tree.specs.Scopes.{put, standard_scope};
 ghost use Rattle.sp_tree.specs.declared.meaning.Meaning.TheVariants as meaning;
 ghost use Rattle.sp_scope.specs.Standard.{with_types, with_functions, with_procedures};
 ghost use Rattle.sp_scope.specs.Walks.{entries_of};
@@ -77,7 +77,7 @@ fn enter_procedures(alloc: Global, b: &mut IndexMap<Text, Meaning>) -> Result<()
 /// The block of the standard names.
 #[tactic(auto, using(crate::proofs::Standards::standard_is))]
 pub fn standard(alloc: Global) -> Result<IndexMap<Text, Meaning>, Halt>
-    ensures { AnswersAs entries_of result (Ok standard) }
+    ensures { AnswersAs entries_of result (Ok standard_scope) }
 {
     let mut b = IndexMap::new(alloc);
     enter_types(alloc, &mut b)?;

@@ -2,10 +2,10 @@
 
 ghost use Rattle.std.specs.Prelude.{◌≡◌, map, option_map, None, Ok, OnOk, Some};
 ghost use Rattle.std.specs.Option.{option_copied};
-ghost use Rattle.sp_scope.specs.Walks.{Walks};
-ghost use Rattle.sp_tree.specs.Scopes.{find, inside, closed, next_variable};
+ghost use Rattle.sp_scope.specs.Walks.{WalksTo};
+ghost use Rattle.sp_tree.specs.Scopes.{find, inner_env, local_of_outer, next_variable};
 ghost use Rattle.sp_tree.specs.NameWalk.{statement_local, form_local, other_local, statements_local, arms_local};
-ghost use Rattle.sp_tree.specs.NameWalk.{arm_local, branches_local, index_local, indexed, deeper};
+ghost use Rattle.sp_tree.specs.NameWalk.{arm_local, branches_local, index_local, local_of_index, blocks_around};
 ghost use Rattle.sp_tree.specs.NamedTree.{named_expression, named_target, named_statement, named_statement_form};
 ghost use Rattle.sp_tree.specs.NamedTree.{named_other, named_statements, named_arms, named_arm, named_branches};
 ghost use Rattle.sp_tree.specs.NamedTree.{named_arguments, procedure_named, assigned_number};
@@ -13,7 +13,7 @@ ghost use Rattle.sp_tree.specs.NamedOf as named;
 ghost use Rattle.sp_tree.specs.PlainSyntax.{For, Forall, Repeat};
 ghost use Rattle.sp_tree.specs.PlainNamed as n;
 ghost use Rattle.sp_tree.specs.SyntaxOf.{expression_of, variable_of, arguments_of, statement_of, statement_form_of};
-ghost use Rattle.sp_tree.specs.SyntaxOf.{other, statements, statements_of, arms, arm_of, branches, branch_of};
+ghost use Rattle.sp_tree.specs.SyntaxOf.{else_part, statements, statements_of, arms, arm_of, branches, branch_of};
 ghost use Rattle.sp_tree.specs.SyntaxOf.{selectors, selector_of};
 ghost use Rattle.sp_scope.specs.Firsts.{expression_first, selectors_first, assigned_first, call_first, statement_first};
 ghost use Rattle.sp_scope.specs.Firsts.{statement_form_first, other_first, statements_first, arms_first, arm_first};
@@ -52,7 +52,7 @@ fn name_assigned(
     v: SynVar,
     first: Found,
 ) -> Result<Walked<NamedVar>, Halt>
-    ensures { Walks named.variable_of result (named_target scopes.now (variable_of v))
+    ensures { WalksTo named.variable_of result (named_target scopes.now (variable_of v))
         (assigned_first scopes.now (variable_of v) first) }
 {
     let SynVar { name, selectors } = v;
@@ -78,7 +78,7 @@ fn name_assignment(
     e: SynExpr,
     first: Found,
 ) -> Result<Walked<NamedForm>, Halt>
-    ensures { Walks named.statement_form_of result
+    ensures { WalksTo named.statement_form_of result
         (n.Assign (named_target scopes.now (variable_of v)) (named_expression scopes.now (expression_of e)))
         (expression_first scopes.now (expression_of e) (assigned_first scopes.now (variable_of v) first)) }
 {
@@ -108,7 +108,7 @@ fn name_call(
     args: List<SynArg>,
     first: Found,
 ) -> Result<Walked<NamedForm>, Halt>
-    ensures { Walks named.statement_form_of result
+    ensures { WalksTo named.statement_form_of result
         (procedure_named (find scopes.now f.text) (named.arguments (named_arguments scopes.now (arguments_of args))))
         (call_first scopes.now f (arguments_of args) first) }
 {
@@ -130,10 +130,10 @@ fn name_statement(
     s: SynStmt,
     first: Found,
 ) -> Result<Walked<NamedStmt>, Halt>
-    ensures found { Walks named.statement_of result
+    ensures found { WalksTo named.statement_of result
         (named_statement scopes.old.around scopes.old.local (statement_of s))
         (statement_first scopes.old.around scopes.old.local (statement_of s) first) }
-    ensures after { OnOk result (scopes.new ≡ inside scopes.old.around
+    ensures after { OnOk result (scopes.new ≡ inner_env scopes.old.around
         (statement_local scopes.old.local (statement_of s))) }
 {
     let SynStmt { at, form } = s;
@@ -151,10 +151,10 @@ pub fn name_boxed_statement(
     s: Boxed<SynStmt>,
     first: Found,
 ) -> Result<Walked<Boxed<NamedStmt>>, Halt>
-    ensures found { Walks named.statement_of result
+    ensures found { WalksTo named.statement_of result
         (named_statement scopes.old.around scopes.old.local (statement_of s))
         (statement_first scopes.old.around scopes.old.local (statement_of s) first) }
-    ensures after { OnOk result (scopes.new ≡ inside scopes.old.around
+    ensures after { OnOk result (scopes.new ≡ inner_env scopes.old.around
         (statement_local scopes.old.local (statement_of s))) }
 {
     let Walked { tree, first } = name_statement(alloc, scopes, s.into_inner(), first)?;
@@ -169,10 +169,10 @@ fn name_statement_form(
     form: SynForm,
     first: Found,
 ) -> Result<Walked<NamedForm>, Halt>
-    ensures found { Walks named.statement_form_of result
+    ensures found { WalksTo named.statement_form_of result
         (named_statement_form scopes.old.around scopes.old.local (statement_form_of form))
         (statement_form_first scopes.old.around scopes.old.local (statement_form_of form) first) }
-    ensures after { OnOk result (scopes.new ≡ inside scopes.old.around
+    ensures after { OnOk result (scopes.new ≡ inner_env scopes.old.around
         (form_local scopes.old.local (statement_form_of form))) }
 {
     match form {
@@ -257,11 +257,11 @@ fn name_else(
     a: Boxed<NamedStmt>,
     first: Found,
 ) -> Result<Walked<NamedForm>, Halt>
-    ensures found { Walks named.statement_form_of result
+    ensures found { WalksTo named.statement_form_of result
         (n.If (named.expression_of e) (named.statement_of a)
         (n.Else (named_statement scopes.old.around scopes.old.local (statement_of b))))
         (statement_first scopes.old.around scopes.old.local (statement_of b) first) }
-    ensures after { OnOk result (scopes.new ≡ inside scopes.old.around
+    ensures after { OnOk result (scopes.new ≡ inner_env scopes.old.around
         (statement_local scopes.old.local (statement_of b))) }
 {
     let b = name_boxed_statement(alloc, scopes, b, first)?;
@@ -292,10 +292,10 @@ fn name_repeat(
     e: SynExpr,
     first: Found,
 ) -> Result<Walked<NamedForm>, Halt>
-    ensures found { Walks named.statement_form_of result
+    ensures found { WalksTo named.statement_form_of result
         (named_statement_form scopes.old.around scopes.old.local (Repeat (statements_of ss) (expression_of e)))
         (statement_form_first scopes.old.around scopes.old.local (Repeat (statements_of ss) (expression_of e)) first) }
-    ensures after { OnOk result (scopes.new ≡ inside scopes.old.around
+    ensures after { OnOk result (scopes.new ≡ inner_env scopes.old.around
         (statements_local scopes.old.local (statements_of ss))) }
 {
     let ss = name_statements(alloc, scopes, ss, first)?;
@@ -317,12 +317,12 @@ fn name_for(
     to: SynExpr,
     first: Found,
 ) -> Result<Walked<NamedForm>, Halt>
-    ensures found { Walks named.statement_form_of result
+    ensures found { WalksTo named.statement_form_of result
         (named_statement_form scopes.old.around scopes.old.local
         (For name (expression_of from) down (expression_of to) (statement_of body)))
         (statement_form_first scopes.old.around scopes.old.local
         (For name (expression_of from) down (expression_of to) (statement_of body)) first) }
-    ensures after { OnOk result (scopes.new ≡ inside scopes.old.around
+    ensures after { OnOk result (scopes.new ≡ inner_env scopes.old.around
         (statement_local scopes.old.local (statement_of body))) }
 {
     let m = scopes.find(&name.text);
@@ -354,14 +354,14 @@ fn name_forall(
     to: SynExpr,
     first: Found,
 ) -> Result<Walked<NamedForm>, Halt>
-    ensures found { Walks named.statement_form_of result
+    ensures found { WalksTo named.statement_form_of result
         (named_statement_form scopes.old.around scopes.old.local
         (Forall name (expression_of from) (expression_of to) (statement_of body)))
         (statement_form_first scopes.old.around scopes.old.local
         (Forall name (expression_of from) (expression_of to) (statement_of body)) first) }
     ensures after { OnOk result (scopes.new
-        ≡ inside scopes.old.around (closed scopes.old.local
-        (statement_local (indexed scopes.old.local name) (statement_of body)))) }
+        ≡ inner_env scopes.old.around (local_of_outer scopes.old.local
+        (statement_local (local_of_index scopes.old.local name) (statement_of body)))) }
 {
     let index = next_variable(scopes.counts())?;
     let from = name_expression(alloc, scopes, from, first)?;
@@ -387,13 +387,13 @@ fn name_element(
     x: &Name,
     first: Found,
 ) -> Result<Walked<Boxed<NamedStmt>>, Halt>
-    ensures found { Walks named.statement_of result
-        (named_statement (deeper scopes.old.around scopes.old.local) (indexed scopes.old.local x.now)
+    ensures found { WalksTo named.statement_of result
+        (named_statement (blocks_around scopes.old.around scopes.old.local) (local_of_index scopes.old.local x.now)
         (statement_of body))
         (element_first scopes.old.around scopes.old.local x.now (statement_of body) first) }
     ensures after { OnOk result (scopes.new
-        ≡ inside scopes.old.around (closed scopes.old.local
-        (statement_local (indexed scopes.old.local x.now) (statement_of body)))) }
+        ≡ inner_env scopes.old.around (local_of_outer scopes.old.local
+        (statement_local (local_of_index scopes.old.local x.now) (statement_of body)))) }
 {
     let block = scopes.block();
     let answer = scopes.answer();
@@ -411,10 +411,10 @@ fn name_indexed(
     x: &Name,
     first: Found,
 ) -> Result<Walked<Boxed<NamedStmt>>, Halt>
-    ensures found { Walks named.statement_of result
+    ensures found { WalksTo named.statement_of result
         (named_statement scopes.old.around (index_local scopes.old.local x.now) (statement_of body))
         (indexed_first scopes.old.around scopes.old.local x.now (statement_of body) first) }
-    ensures after { OnOk result (scopes.new ≡ inside scopes.old.around
+    ensures after { OnOk result (scopes.new ≡ inner_env scopes.old.around
         (statement_local (index_local scopes.old.local x.now) (statement_of body))) }
 {
     let first = lesser(first, check_declares(scopes, x, Sort::Variable));
@@ -429,10 +429,10 @@ fn name_statements(
     ss: List<SynStmt>,
     first: Found,
 ) -> Result<Walked<List<NamedStmt>>, Halt>
-    ensures found { Walks (map named.statement_of) result
+    ensures found { WalksTo (map named.statement_of) result
         (named_statements scopes.old.around scopes.old.local (statements (map statement_of ss)))
         (statements_first scopes.old.around scopes.old.local (statements (map statement_of ss)) first) }
-    ensures after { OnOk result (scopes.new ≡ inside scopes.old.around
+    ensures after { OnOk result (scopes.new ≡ inner_env scopes.old.around
         (statements_local scopes.old.local (statements (map statement_of ss)))) }
 {
     let mut out = Vec::new(alloc);
@@ -455,9 +455,9 @@ fn name_arm(
     a: SynArm,
     first: Found,
 ) -> Result<Walked<NamedArm>, Halt>
-    ensures found { Walks named.arm_of result (named_arm scopes.old.around scopes.old.local (arm_of a))
+    ensures found { WalksTo named.arm_of result (named_arm scopes.old.around scopes.old.local (arm_of a))
         (arm_first scopes.old.around scopes.old.local (arm_of a) first) }
-    ensures after { OnOk result (scopes.new ≡ inside scopes.old.around (arm_local scopes.old.local (arm_of a))) }
+    ensures after { OnOk result (scopes.new ≡ inner_env scopes.old.around (arm_local scopes.old.local (arm_of a))) }
 {
     let SynArm { constants, body } = a;
     let Ok(constants) = name_constants(alloc, scopes, constants, first) else {
@@ -481,10 +481,10 @@ fn name_arms(
     choices: List<SynArm>,
     first: Found,
 ) -> Result<Walked<List<NamedArm>>, Halt>
-    ensures found { Walks (map named.arm_of) result
+    ensures found { WalksTo (map named.arm_of) result
         (named_arms scopes.old.around scopes.old.local (arms (map arm_of choices)))
         (arms_first scopes.old.around scopes.old.local (arms (map arm_of choices)) first) }
-    ensures after { OnOk result (scopes.new ≡ inside scopes.old.around
+    ensures after { OnOk result (scopes.new ≡ inner_env scopes.old.around
         (arms_local scopes.old.local (arms (map arm_of choices)))) }
 {
     let mut out = Vec::new(alloc);
@@ -507,10 +507,10 @@ fn name_branch(
     b: SynBranch,
     first: Found,
 ) -> Result<Walked<NamedBranch>, Halt>
-    ensures found { Walks named.branch_of result
+    ensures found { WalksTo named.branch_of result
         (named.statements (named_statements scopes.old.around scopes.old.local (branch_of b)))
         (statements_first scopes.old.around scopes.old.local (branch_of b) first) }
-    ensures after { OnOk result (scopes.new ≡ inside scopes.old.around
+    ensures after { OnOk result (scopes.new ≡ inner_env scopes.old.around
         (statements_local scopes.old.local (branch_of b))) }
 {
     let SynBranch { statements } = b;
@@ -530,10 +530,10 @@ fn name_branches(
     bs: List<SynBranch>,
     first: Found,
 ) -> Result<Walked<List<NamedBranch>>, Halt>
-    ensures found { Walks (map named.branch_of) result
+    ensures found { WalksTo (map named.branch_of) result
         (named_branches scopes.old.around scopes.old.local (branches (map branch_of bs)))
         (branches_first scopes.old.around scopes.old.local (branches (map branch_of bs)) first) }
-    ensures after { OnOk result (scopes.new ≡ inside scopes.old.around
+    ensures after { OnOk result (scopes.new ≡ inner_env scopes.old.around
         (branches_local scopes.old.local (branches (map branch_of bs)))) }
 {
     let mut out = Vec::new(alloc);

@@ -1,12 +1,12 @@
 //! Variables in the table and in the innermost block.
 
 ghost use Rattle.std.specs.Prelude.{◌≡◌, ◌++◌, map, Ok, OnOk};
-ghost use Rattle.sp_tree.specs.Found.{Answers};
-ghost use Rattle.sp_tree.specs.Scopes.{inside, declared, variable};
+ghost use Rattle.sp_tree.specs.PhaseResults.{Answers};
+ghost use Rattle.sp_tree.specs.Scopes.{inner_env, with_declaration, variable};
 ghost use Rattle.sp_tree.specs.declared.meaning.Sort.TheVariants as sort;
 ghost use Rattle.sp_tree.specs.NameWalk.{names_local, formals_local, role_of};
 ghost use Rattle.sp_tree.specs.NamedTree.{variables_named, formals_named, numbers};
-ghost use Rattle.sp_scope.specs.Walks.{Walks, itself};
+ghost use Rattle.sp_scope.specs.Walks.{WalksTo, itself};
 ghost use Rattle.sp_scope.specs.Firsts.{names_first, formals_first, heading_first};
 
 use crate::declarations::{check_declares, check_kind, kind_number};
@@ -25,8 +25,8 @@ pub fn declare_variable(
     role: Role,
 ) -> Result<(), Halt>
     ensures memory { Answers result (Ok tt) }
-    ensures after { OnOk result (scopes.new ≡ inside scopes.old.around
-        (declared scopes.old.local x.now.text sort.Variable (variable scopes.old.local role))) }
+    ensures after { OnOk result (scopes.new ≡ inner_env scopes.old.around
+        (with_declaration scopes.old.local x.now.text sort.Variable (variable scopes.old.local role))) }
 {
     let number = next_variable(scopes.counts())?;
     let block = scopes.block();
@@ -51,7 +51,7 @@ pub fn declare_variables(
     first: Found,
 ) -> Result<Found, Halt>
     ensures found { Answers result (Ok (names_first scopes.old.around role scopes.old.local xs.now first)) }
-    ensures after { OnOk result (scopes.new ≡ inside scopes.old.around (names_local role scopes.old.local xs.now)) }
+    ensures after { OnOk result (scopes.new ≡ inner_env scopes.old.around (names_local role scopes.old.local xs.now)) }
 {
     let mut first = first;
     for x in xs {
@@ -79,7 +79,7 @@ pub fn declare_formals(
     first: Found,
 ) -> Result<Found, Halt>
     ensures found { Answers result (Ok (formals_first scopes.old.around scopes.old.local fs.now first)) }
-    ensures after { OnOk result (scopes.new ≡ inside scopes.old.around (formals_local scopes.old.local fs.now)) }
+    ensures after { OnOk result (scopes.new ≡ inner_env scopes.old.around (formals_local scopes.old.local fs.now)) }
 {
     let mut first = first;
     for f in fs {
@@ -127,7 +127,7 @@ pub fn name_formals(
     block: u32,
     first: Found,
 ) -> Result<Walked<List<Variable>>, Halt>
-    ensures { Walks itself result (formals_named scopes.now block fs.now) (heading_first scopes.now fs.now first) }
+    ensures { WalksTo itself result (formals_named scopes.now block fs.now) (heading_first scopes.now fs.now first) }
 {
     let mut out = Vec::new(alloc);
     let mut first = first;

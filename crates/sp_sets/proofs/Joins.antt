@@ -6,7 +6,7 @@ use Rattle.sp_sets.specs.Forks.{tree_lines}
 use Rattle.sp_sets.specs.Orders.{IsInOrder, line_cmp}
 use Rattle.sp_sets.specs.SetsText.{IsBoth, IsImplicit, IsLine, IsLineAt, IsOfBlock, IsSetsText, IsVariables, Joined}
 use Rattle.sp_sets.specs.SetsText.{head_by}
-use Rattle.sp_sets.specs.declared.line.Line.{Line}
+use Rattle.sp_sets.specs.declared.sets_line.SetsLine.{SetsLine}
 use Rattle.sp_tree.specs.PlainChecked.{Block, Program}
 use Rattle.sp_tree.specs.declared.checked.Variable.{Variable}
 use Rattle.sp_varsets.specs.AreSets.{targets_of, expressions_of, implicit_targets_of, implicit_expressions_of}
@@ -36,15 +36,15 @@ module _ (Is : ℕ → List ℕ → Type 0) where
       ku) (same n y v (omega arith) hy kv) ∙ sym f)
 
 -- a text that was put behind another
-abbrev pub Puts : (List ℕ → Type 0) → List ℕ → List ℕ → Type 0
-Puts P before after = (t : List ℕ) × P t × (after ≡ before ++ t)
+abbrev pub IsAppended : (List ℕ → Type 0) → List ℕ → List ℕ → Type 0
+IsAppended P before after = (t : List ℕ) × P t × (after ≡ before ++ t)
 
 put_more : (p q : List ℕ) (o x : List ℕ) → p ≡ o ++ x → p ++ q ≡ o ++ (x ++ q)
 put_more p q o x e = ap (λ z. z ++ q) e ∙ append_assoc o x q
 
 pub put_both_is : (vs : List Variable) (v w : VarSet) (o o1 o2 o3 o4 o5 : List ℕ) → o1 ≡ o ++ codes " targets"
-    → Puts (IsVariables vs v) o1 o2 → o3 ≡ o2 ++ codes " expressions" → Puts (IsVariables vs w) o3 o4
-    → o5 ≡ o4 ++ codes "\n" → Puts (IsBoth vs v w) o o5
+    → IsAppended (IsVariables vs v) o1 o2 → o3 ≡ o2 ++ codes " expressions" → IsAppended (IsVariables vs w) o3 o4
+    → o5 ≡ o4 ++ codes "\n" → IsAppended (IsBoth vs v w) o o5
 put_both_is vs v w o o1 o2 o3 o4 o5 e1 (a, h, e2) e3 (b, k, e4) e5 = (
   codes " targets" ++ a ++ codes " expressions" ++ b ++ codes "\n",
   (a, b, h, k, refl),
@@ -53,26 +53,29 @@ put_both_is vs v w o o1 o2 o3 o4 o5 e1 (a, h, e2) e3 (b, k, e4) e5 = (
       (e3 ∙ put_more o2 (codes " expressions") o (codes " targets" ++ a) (e2 ∙ put_more o1 a o (codes " targets") e1))),
 )
 
-as_sets : (vs : List Variable) (v v' w w' : VarSet) (o o1 : List ℕ) → v ≡ v' → w ≡ w' → Puts (IsBoth vs v w) o o1
-    → Puts (IsBoth vs v' w') o o1
-as_sets vs v v' w w' o o1 e f h = subst (λ z. Puts (IsBoth vs z w') o o1) e (subst (λ z. Puts (IsBoth vs v z) o o1) f h)
+as_sets : (vs : List Variable) (v v' w w' : VarSet) (o o1 : List ℕ) → v ≡ v' → w ≡ w' → IsAppended (IsBoth vs v w) o o1
+    → IsAppended (IsBoth vs v' w') o o1
+as_sets vs v v' w w' o o1 e f h =
+    subst (λ z. IsAppended (IsBoth vs z w') o o1) e (subst (λ z. IsAppended (IsBoth vs v z) o o1) f h)
 
 module _ (vs : List Variable) (s : Sets) where
-  pub put_line_is : (l : Line) (v w : VarSet) (o o1 o2 : List ℕ) → v ≡ targets_of s l.statement
-      → w ≡ expressions_of s l.statement → o1 ≡ o ++ head_by l.at l.part → Puts (IsBoth vs v w) o1 o2
-      → Puts (IsLine vs s l) o o2
+  pub put_line_is : (l : SetsLine) (v w : VarSet) (o o1 o2 : List ℕ) → v ≡ targets_of s l.statement
+      → w ≡ expressions_of s l.statement → o1 ≡ o ++ head_by l.at l.part → IsAppended (IsBoth vs v w) o1 o2
+      → IsAppended (IsLine vs s l) o o2
   put_line_is l v w o o1 o2 ev ew e h = by (as_sets vs v _ w _ o1 o2 ev ew h)
     where
-      by : Puts (IsBoth vs (targets_of s l.statement) (expressions_of s l.statement)) o1 o2 → Puts (IsLine vs s l) o o2
+      by : IsAppended (IsBoth vs (targets_of s l.statement) (expressions_of s l.statement)) o1 o2
+          → IsAppended (IsLine vs s l) o o2
       by (t, k, f) = (head_by l.at l.part ++ t, (t, k, refl), f ∙ put_more o1 t o (head_by l.at l.part) e)
 
   pub put_implicit_is : (b : ℕ) (k : Block) (v w : VarSet) (o o1 o2 o3 : List ℕ) → v ≡ implicit_targets_of s b
-      → w ≡ implicit_expressions_of s b → o1 ≡ o ++ codes "implicit " → o2 ≡ o1 ++ k.name → Puts (IsBoth vs v w) o2 o3
-      → Puts (IsImplicit vs s b k) o o3
+      → w ≡ implicit_expressions_of s b → o1 ≡ o ++ codes "implicit " → o2 ≡ o1 ++ k.name
+      → IsAppended (IsBoth vs v w) o2 o3
+      → IsAppended (IsImplicit vs s b k) o o3
   put_implicit_is b k v w o o1 o2 o3 ev ew e1 e2 h = by (as_sets vs v _ w _ o2 o3 ev ew h)
     where
-      by : Puts (IsBoth vs (implicit_targets_of s b) (implicit_expressions_of s b)) o2 o3
-          → Puts (IsImplicit vs s b k) o o3
+      by : IsAppended (IsBoth vs (implicit_targets_of s b) (implicit_expressions_of s b)) o2 o3
+          → IsAppended (IsImplicit vs s b k) o o3
       by (t, g, f) = (
         codes "implicit " ++ k.name ++ t,
         (t, g, refl),
@@ -84,16 +87,16 @@ module _ (vs : List Variable) (s : Sets) where
   nothing_more [] = refl
   nothing_more (x ∷ xs) = ap (λ q. x ∷ q) (nothing_more xs)
 
-  pub put_no_block : (ks : List Block) (b : ℕ) (o : List ℕ) → b ≡ 0 → Puts (IsOfBlock vs s ks b) o o
-  put_no_block ks b o e = subst (λ n. Puts (IsOfBlock vs s ks n) o o) (sym e) ([], refl, nothing_more o)
+  pub put_no_block : (ks : List Block) (b : ℕ) (o : List ℕ) → b ≡ 0 → IsAppended (IsOfBlock vs s ks b) o o
+  put_no_block ks b o e = subst (λ n. IsAppended (IsOfBlock vs s ks n) o o) (sym e) ([], refl, nothing_more o)
 
   pub put_block_is : (ks : List Block) (b : ℕ) (k : Block) (o o1 : List ℕ) → b ≢ 0 → slice_get ks b ≡ Some k
-      → Puts (IsImplicit vs s b k) o o1 → Puts (IsOfBlock vs s ks b) o o1
+      → IsAppended (IsImplicit vs s b k) o o1 → IsAppended (IsOfBlock vs s ks b) o o1
   put_block_is ks zero k o o1 n e h = absurd (n refl)
   put_block_is ks (suc b) k o o1 n e (t, h, f) = (t, (k, e, h), f)
 
-  pub put_line_at : (ls : List Line) (i : ℕ) (l : Line) (o o1 : List ℕ) → slice_get ls i ≡ Some l
-      → Puts (IsLine vs s l) o o1 → Puts (IsLineAt vs s ls i) o o1
+  pub put_line_at : (ls : List SetsLine) (i : ℕ) (l : SetsLine) (o o1 : List ℕ) → slice_get ls i ≡ Some l
+      → IsAppended (IsLine vs s l) o o1 → IsAppended (IsLineAt vs s ls i) o o1
   put_line_at ls i l o o1 e (t, h, f) = (t, (l, e, h), f)
 
 -- what stands at an index
@@ -106,16 +109,16 @@ abbrev mapped : {X Y : Type 0} → (X → Y) → Option X → Option Y
 mapped f None = None
 mapped f (Some z) = Some (f z)
 
-pub put_sets_is : (p : Program) (s : Sets) (vs : List Variable) (ks : List Block) (n : ℕ) (ls : List Line)
+pub put_sets_is : (p : Program) (s : Sets) (vs : List Variable) (ks : List Block) (n : ℕ) (ls : List SetsLine)
     (o o1 o2 : List ℕ) → vs ≡ p.variables → ks ≡ p.blocks → n ≡ length p.blocks → o ≡ []
-    → IsInOrder line_cmp (tree_lines p) ls → Puts (Joined (IsOfBlock vs s ks) n) o o1
-    → Puts (Joined (IsLineAt vs s ls) (length ls)) o1 o2 → IsSetsText p s o2
+    → IsInOrder line_cmp (tree_lines p) ls → IsAppended (Joined (IsOfBlock vs s ks) n) o o1
+    → IsAppended (Joined (IsLineAt vs s ls) (length ls)) o1 o2 → IsSetsText p s o2
 put_sets_is p s vs ks n ls o o1 o2 ev ek en eo up h k =
-    by (subst (λ m. Puts (Joined (IsOfBlock p.variables s p.blocks) m) o o1) en
-    (subst (λ z. Puts (Joined (IsOfBlock p.variables s z) n) o o1) ek
-    (subst (λ z. Puts (Joined (IsOfBlock z s ks) n) o o1) ev h)))
-    (subst (λ z. Puts (Joined (IsLineAt z s ls) (length ls)) o1 o2) ev k)
+    by (subst (λ m. IsAppended (Joined (IsOfBlock p.variables s p.blocks) m) o o1) en
+    (subst (λ z. IsAppended (Joined (IsOfBlock p.variables s z) n) o o1) ek
+    (subst (λ z. IsAppended (Joined (IsOfBlock z s ks) n) o o1) ev h)))
+    (subst (λ z. IsAppended (Joined (IsLineAt z s ls) (length ls)) o1 o2) ev k)
   where
-    by : Puts (Joined (IsOfBlock p.variables s p.blocks) (length p.blocks)) o o1
-        → Puts (Joined (IsLineAt p.variables s ls) (length ls)) o1 o2 → IsSetsText p s o2
+    by : IsAppended (Joined (IsOfBlock p.variables s p.blocks) (length p.blocks)) o o1
+        → IsAppended (Joined (IsLineAt p.variables s ls) (length ls)) o1 o2 → IsSetsText p s o2
     by (a, x, e) (b, y, f) = (ls, up, a, b, x, y, f ∙ ap (λ q. q ++ b) (e ∙ ap (λ q. q ++ a) eo))

@@ -2,7 +2,7 @@
 use Rattle.std.proofs.Common.{◌≡◌, ℕ, zero, suc, ◌+◌, ◌<◌, ◌≤◌, true, false, cond, [], ◌∷◌, ◌++◌, ◌⊎◌, inl, inr, refl}
 use Rattle.std.proofs.Common.{ap, ◌∙◌, arith}
 use Rattle.std.proofs.lemmas.Bool.{cases_lt}
-use Rattle.sp_varsets.specs.Members.{has, IsNext}
+use Rattle.sp_varsets.specs.Members.{has, IsNextMember}
 use Rattle.sp_varsets.specs.declared.var_set.VarSet.{VarSet}
 use Rattle.sp_sets.specs.SetsText.{members}
 
@@ -23,14 +23,14 @@ module _ (v : VarSet) where
       by (inr high) rest = no_more to (none to high (omega arith)) ∙ rest high
 
   -- the next one
-  pub found : (from x : ℕ) → IsNext v from x → members v (x + 1) ≡ members v from ++ x ∷ []
+  pub found : (from x : ℕ) → IsNextMember v from x → members v (x + 1) ≡ members v from ++ x ∷ []
   found from x (low, is, none) = ap (members v) next ∙ (one_more x is ∙ ap (λ xs. xs ++ x ∷ []) (gap from x low none))
     where
       next : x + 1 ≡ suc x
       next = omega arith
 
   -- the next one stands past the end
-  pub past : (from x to : ℕ) → from ≤ to → to ≤ x → IsNext v from x → members v to ≡ members v from
+  pub past : (from x to : ℕ) → from ≤ to → to ≤ x → IsNextMember v from x → members v to ≡ members v from
   past from x to h k (low, is, none) = gap from to h (λ y l m. none y l (omega arith))
 
 pub same_members : (v w : VarSet) → ((x : ℕ) → has v x ≡ has w x) → (n : ℕ) → members v n ≡ members w n

@@ -10,15 +10,15 @@ use Rattle.std.proofs.lemmas.Option.{get_or_from_slice_get}
 use Rattle.sp_base.specs.declared.place.Place.{Place}
 use Rattle.sp_tree.specs.PlainChecked.{Statement, Does, Form, Empty, Assign, Call, Sequence, If, While, Repeat, For}
 use Rattle.sp_tree.specs.PlainChecked.{Case, Parallel, Forall, Assume, ReadValue, ReadLine, WriteValue, WriteText}
-use Rattle.sp_tree.specs.PlainChecked.{WriteLine, Open, Send, Receive, Other, NoElse, Else, Statements, NoStatement}
+use Rattle.sp_tree.specs.PlainChecked.{WriteLine, Open, Send, Receive, ElsePart, NoElse, Else, Statements, NoStatement}
 use Rattle.sp_tree.specs.PlainChecked.{AndThen, On, Arms, NoArm, Or, Block, Program}
 use Rattle.sp_tree.specs.declared.checked.Variable as checked
 use Rattle.sp_varsets.specs.AreSets.{AreSets, targets_of, expressions_of}
 use Rattle.sp_varsets.specs.Members.{has}
-use Rattle.sp_varsets.specs.Parts.{number_of, IsPart, IsInForm, IsInOther, IsAmong, IsInArms}
+use Rattle.sp_varsets.specs.Parts.{number_of, IsPart, IsInForm, IsInOther, IsInStatements, IsInArms}
 use Rattle.sp_varsets.specs.declared.sets.Sets.{Sets}
 use Rattle.sp_varsets.specs.declared.var_set.VarSet.{VarSet}
-use Rattle.sp_sets.specs.declared.line.Line.{Line}
+use Rattle.sp_sets.specs.declared.sets_line.SetsLine.{SetsLine}
 use Rattle.sp_sets.specs.Forks.{process_lines, statement_lines, form_lines, other_lines, statements_lines, arms_lines}
 use Rattle.sp_sets.specs.Forks.{blocks_lines, tree_lines}
 use Rattle.sp_sets.specs.Orders.{IsInOrder, line_cmp, variable_cmp}
@@ -31,17 +31,17 @@ use Rattle.sp_sets.proofs.Ordering.{line_total, one_order, same_line, same_varia
 -- ---- the statements of lines stand in the tree
 
 module _ (P : ℕ → Type 0) where
-  abbrev Of : Line → Type 0
-  Of l = P l.statement
+  abbrev StatementHolds : SetsLine → Type 0
+  StatementHolds l = P l.statement
 
-  abbrev Numbers : List Line → Type 0
-  Numbers = All Of
+  abbrev Numbers : List SetsLine → Type 0
+  Numbers = All StatementHolds
 
-  process_numbers : (at : Place) (k : ℕ) (ss : Statements) → ((t : Statement) → IsAmong t ss → P (number_of t))
+  process_numbers : (at : Place) (k : ℕ) (ss : Statements) → ((t : Statement) → IsInStatements t ss → P (number_of t))
       → Numbers (process_lines at k ss)
-  process_numbers at k NoStatement h = All-nil Of
+  process_numbers at k NoStatement h = All-nil StatementHolds
   process_numbers at k (AndThen (Does n here form) rest) h =
-      All-cons Of (record { at = at; part = Some k; statement = n }) (process_lines at (suc k) rest)
+      All-cons StatementHolds (record { at = at; part = Some k; statement = n }) (process_lines at (suc k) rest)
       (h (Does n here form) (inl (inl refl))) (process_numbers at (suc k) rest (λ t i. h t (inr i)))
 
   mutual
@@ -50,50 +50,50 @@ module _ (P : ℕ → Type 0) where
 
     form_numbers : (at : Place) (form : Form) → ((t : Statement) → IsInForm t form → P (number_of t))
         → Numbers (form_lines at form)
-    form_numbers at Empty h = All-nil Of
-    form_numbers at (Assign v e) h = All-nil Of
-    form_numbers at (Call f args) h = All-nil Of
+    form_numbers at Empty h = All-nil StatementHolds
+    form_numbers at (Assign v e) h = All-nil StatementHolds
+    form_numbers at (Call f args) h = All-nil StatementHolds
     form_numbers at (Sequence ss) h = statements_numbers ss h
-    form_numbers at (If e s other) h = All-append Of (statement_lines s) (other_lines other)
+    form_numbers at (If e s other) h = All-append StatementHolds (statement_lines s) (other_lines other)
         (statement_numbers s (λ t i. h t (inl i))) (other_numbers other (λ t i. h t (inr i)))
     form_numbers at (While e s) h = statement_numbers s h
     form_numbers at (Repeat s e) h = statement_numbers s h
     form_numbers at (For x name from down to s) h = statement_numbers s h
     form_numbers at (Case e choices) h = arms_numbers choices h
-    form_numbers at (Parallel ss) h = All-append Of (process_lines at 0 ss) (statements_lines ss)
+    form_numbers at (Parallel ss) h = All-append StatementHolds (process_lines at 0 ss) (statements_lines ss)
         (process_numbers at 0 ss h) (statements_numbers ss h)
     form_numbers at (Forall x from to (Does n here form)) h =
-        All-cons Of (record { at = at; part = None; statement = n }) (statement_lines (Does n here form))
+        All-cons StatementHolds (record { at = at; part = None; statement = n }) (statement_lines (Does n here form))
         (h (Does n here form) (inl refl)) (statement_numbers (Does n here form) h)
-    form_numbers at (Assume e) h = All-nil Of
-    form_numbers at (ReadValue v) h = All-nil Of
-    form_numbers at ReadLine h = All-nil Of
-    form_numbers at (WriteValue e w) h = All-nil Of
-    form_numbers at (WriteText t w) h = All-nil Of
-    form_numbers at WriteLine h = All-nil Of
-    form_numbers at (Open v) h = All-nil Of
-    form_numbers at (Send c e) h = All-nil Of
-    form_numbers at (Receive c v) h = All-nil Of
+    form_numbers at (Assume e) h = All-nil StatementHolds
+    form_numbers at (ReadValue v) h = All-nil StatementHolds
+    form_numbers at ReadLine h = All-nil StatementHolds
+    form_numbers at (WriteValue e w) h = All-nil StatementHolds
+    form_numbers at (WriteText t w) h = All-nil StatementHolds
+    form_numbers at WriteLine h = All-nil StatementHolds
+    form_numbers at (Open v) h = All-nil StatementHolds
+    form_numbers at (Send c e) h = All-nil StatementHolds
+    form_numbers at (Receive c v) h = All-nil StatementHolds
 
-    other_numbers : (o : Other) → ((t : Statement) → IsInOther t o → P (number_of t)) → Numbers (other_lines o)
-    other_numbers NoElse h = All-nil Of
+    other_numbers : (o : ElsePart) → ((t : Statement) → IsInOther t o → P (number_of t)) → Numbers (other_lines o)
+    other_numbers NoElse h = All-nil StatementHolds
     other_numbers (Else s) h = statement_numbers s h
 
-    statements_numbers : (ss : Statements) → ((t : Statement) → IsAmong t ss → P (number_of t))
+    statements_numbers : (ss : Statements) → ((t : Statement) → IsInStatements t ss → P (number_of t))
         → Numbers (statements_lines ss)
-    statements_numbers NoStatement h = All-nil Of
-    statements_numbers (AndThen s rest) h = All-append Of (statement_lines s) (statements_lines rest)
+    statements_numbers NoStatement h = All-nil StatementHolds
+    statements_numbers (AndThen s rest) h = All-append StatementHolds (statement_lines s) (statements_lines rest)
         (statement_numbers s (λ t i. h t (inl i))) (statements_numbers rest (λ t i. h t (inr i)))
 
     arms_numbers : (xs : Arms) → ((t : Statement) → IsInArms t xs → P (number_of t)) → Numbers (arms_lines xs)
-    arms_numbers NoArm h = All-nil Of
-    arms_numbers (Or (On cs s) rest) h = All-append Of (statement_lines s) (arms_lines rest)
+    arms_numbers NoArm h = All-nil StatementHolds
+    arms_numbers (Or (On cs s) rest) h = All-append StatementHolds (statement_lines s) (arms_lines rest)
         (statement_numbers s (λ t i. h t (inl i))) (arms_numbers rest (λ t i. h t (inr i)))
 
   pub blocks_numbers : (ks : List Block) → ((b : ℕ) (k : Block) → slice_get ks b ≡ Some k → (t : Statement)
       → IsPart t k.body → P (number_of t)) → Numbers (blocks_lines ks)
-  blocks_numbers [] h = All-nil Of
-  blocks_numbers (k ∷ ks) h = All-append Of (statement_lines k.body) (blocks_lines ks)
+  blocks_numbers [] h = All-nil StatementHolds
+  blocks_numbers (k ∷ ks) h = All-append StatementHolds (statement_lines k.body) (blocks_lines ks)
       (statement_numbers k.body (λ t i. h 0 k refl t i)) (blocks_numbers ks (λ b m e t i. h (suc b) m e t i))
 
 -- ---- one text
@@ -119,38 +119,41 @@ module _ (vs : List checked.Variable) where
 
 module _ (p : Program) (s t : Sets) (first : AreSets p s) (second : AreSets p t) where
   -- both sets of a statement are the same in both
-  abbrev Agree : ℕ → Type 0
-  Agree n = ((x : ℕ) → has (targets_of s n) x ≡ has (targets_of t n) x)
+  abbrev SetsAgree : ℕ → Type 0
+  SetsAgree n = ((x : ℕ) → has (targets_of s n) x ≡ has (targets_of t n) x)
       × ((x : ℕ) → has (expressions_of s n) x ≡ has (expressions_of t n) x)
 
-  agree : (b : ℕ) (k : Block) → slice_get p.blocks b ≡ Some k → (u : Statement) → IsPart u k.body → Agree (number_of u)
+  agree : (b : ℕ) (k : Block) → slice_get p.blocks b ≡ Some k → (u : Statement) → IsPart u k.body
+      → SetsAgree (number_of u)
   agree b k e u i =
       let h = first.statements b k e u i in
       let g = second.statements b k e u i in
       (λ x. same_bool _ _ _ (h.targets x) (g.targets x), λ x. same_bool _ _ _ (h.expressions x) (g.expressions x))
 
-  agree_lines : (ls : List Line) → IsInOrder line_cmp (tree_lines p) ls → All (λ (l : Line). Agree l.statement) ls
-  agree_lines ls (moved, up) = All-permutation (λ (l : Line). Agree l.statement) (tree_lines p) ls moved
-      (blocks_numbers Agree p.blocks agree)
+  agree_lines : (ls : List SetsLine) → IsInOrder line_cmp (tree_lines p) ls
+      → All (λ (l : SetsLine). SetsAgree l.statement) ls
+  agree_lines ls (moved, up) = All-permutation (λ (l : SetsLine). SetsAgree l.statement) (tree_lines p) ls moved
+      (blocks_numbers SetsAgree p.blocks agree)
 
-  line_once : (ls : List Line) → All (λ (l : Line). Agree l.statement) ls → (i : ℕ) (a b : List ℕ) → i < length ls
+  line_once : (ls : List SetsLine) → All (λ (l : SetsLine). SetsAgree l.statement) ls → (i : ℕ) (a b : List ℕ)
+      → i < length ls
       → IsLineAt p.variables s ls i a → IsLineAt p.variables t ls i b → a ≡ b
   line_once ls all i a b low (l, at, (c, h, e)) (m, here, (d, k, f)) = go m same f k
     where
       same : l ≡ m
       same = let x : Some l ≡ Some m = sym at ∙ here in cc x
 
-      agrees : Agree l.statement
-      agrees = subst (λ (z : Line). Agree z.statement) (get_or_from_slice_get ls i l l at)
-          (All-get_or (λ (z : Line). Agree z.statement) ls i l low all)
+      agrees : SetsAgree l.statement
+      agrees = subst (λ (z : SetsLine). SetsAgree z.statement) (get_or_from_slice_get ls i l l at)
+          (All-get_or (λ (z : SetsLine). SetsAgree z.statement) ls i l low all)
 
-      go : (m : Line) → l ≡ m → b ≡ head_by m.at m.part ++ d
+      go : (m : SetsLine) → l ≡ m → b ≡ head_by m.at m.part ++ d
           → IsBoth p.variables (targets_of t m.statement) (expressions_of t m.statement) d → a ≡ b
       go m x f k =
           let one = both_once p.variables _ _ _ _ agrees.0 agrees.1 c d h
-          (subst (λ (z : Line). IsBoth p.variables (targets_of t z.statement) (expressions_of t z.statement) d)
+          (subst (λ (z : SetsLine). IsBoth p.variables (targets_of t z.statement) (expressions_of t z.statement) d)
           (sym x) k) in
-          e ∙ (ap (λ z. head_by l.at l.part ++ z) one ∙ (ap (λ (z : Line). head_by z.at z.part ++ d) x ∙ sym f))
+          e ∙ (ap (λ z. head_by l.at l.part ++ z) one ∙ (ap (λ (z : SetsLine). head_by z.at z.part ++ d) x ∙ sym f))
 
   block_once : (b : ℕ) (u v : List ℕ) → b < length p.blocks → IsOfBlock p.variables s p.blocks b u
       → IsOfBlock p.variables t p.blocks b v → u ≡ v

@@ -15,8 +15,8 @@ use Rattle.std.proofs.lemmas.List.Sorted.{ranks_by, sorted_far, sum_by-IsPermuta
 use Rattle.std.proofs.lemmas.List.Sums.{sum_by-cons}
 use Rattle.sp_base.specs.declared.place.Place.{Place}
 use Rattle.sp_base.specs.Order.{both_tie}
-use Rattle.sp_sets.specs.declared.line.Line.{Line}
-use Rattle.sp_sets.specs.Orders.{IsInOrder, line_cmp, part_number, place_cmp, stand, variable_cmp}
+use Rattle.sp_sets.specs.declared.sets_line.SetsLine.{SetsLine}
+use Rattle.sp_sets.specs.Orders.{IsInOrder, line_cmp, part_number, place_cmp, place_of_variable, variable_cmp}
 use Rattle.sp_tree.specs.declared.checked.Variable.{Variable}
 
 -- ---- total orders
@@ -26,12 +26,12 @@ place_total = then_total (on_total (λ (p : Place). p.line) nat_cmp_total)
     (on_total (λ (p : Place). p.column) nat_cmp_total)
 
 pub line_total : IsTotalOrder line_cmp
-line_total = then_total (on_total (λ (l : Line). l.at) place_total)
-    (then_total (on_total (λ (l : Line). part_number l.part) nat_cmp_total)
-    (on_total (λ (l : Line). l.statement) nat_cmp_total))
+line_total = then_total (on_total (λ (l : SetsLine). l.at) place_total)
+    (then_total (on_total (λ (l : SetsLine). part_number l.part) nat_cmp_total)
+    (on_total (λ (l : SetsLine). l.statement) nat_cmp_total))
 
 pub variable_total : (vs : List Variable) → IsTotalOrder (variable_cmp vs)
-variable_total vs = then_total (on_total (stand vs) place_total) nat_cmp_total
+variable_total vs = then_total (on_total (place_of_variable vs) place_total) nat_cmp_total
 
 pub ranks : {X : Type 0} (cmp : X → X → Ordering) → IsTotalOrder cmp → IsStrictWeakOrder (λ a b. is_lt (cmp a b))
 ranks cmp o = ranks_by o (λ x. x)
@@ -51,7 +51,7 @@ same_part None (Some k) e = absurd (omega arith)
 same_part (Some k) None e = absurd (omega arith)
 same_part (Some j) (Some k) e = ap Some (let h : j + 1 ≡ k + 1 = e in omega arith)
 
-pub same_line : (a b : Line) → line_cmp a b ≡ Equal → a ≡ b
+pub same_line : (a b : SetsLine) → line_cmp a b ≡ Equal → a ≡ b
 same_line a b e =
     let x = both_tie (place_cmp a.at b.at) _ e in
     let y = both_tie (nat_cmp (part_number a.part) (part_number b.part)) (nat_cmp a.statement b.statement) x.1 in
@@ -61,7 +61,9 @@ same_line a b e =
     λ i. record { at = p i; part = k i; statement = n i }
 
 pub same_variable : (vs : List Variable) (x y : ℕ) → variable_cmp vs x y ≡ Equal → x ≡ y
-same_variable vs x y e = nat_cmp-IsAntisymmetric x y (both_tie (place_cmp (stand vs x) (stand vs y)) (nat_cmp x y) e).1
+same_variable vs x y e =
+    nat_cmp-IsAntisymmetric x y (both_tie (place_cmp (place_of_variable vs x) (place_of_variable vs y))
+    (nat_cmp x y) e).1
 
 -- ---- one order
 

@@ -3,25 +3,25 @@
 -- for the element statement of each forall. The contract of the walk promises them.
 use Rattle.std.specs.Prelude.{ℕ, suc, List, [], ◌∷◌, ◌++◌, Some, None}
 use Rattle.sp_base.specs.declared.place.Place.{Place}
-use Rattle.sp_sets.specs.declared.line.Line.{Line}
+use Rattle.sp_sets.specs.declared.sets_line.SetsLine.{SetsLine}
 use Rattle.sp_tree.specs.PlainChecked.{Statement, Does, Form, Empty, Assign, Call, Sequence, If, While, Repeat, For}
 use Rattle.sp_tree.specs.PlainChecked.{Case, Parallel, Forall, Assume, ReadValue, ReadLine, WriteValue, WriteText}
-use Rattle.sp_tree.specs.PlainChecked.{WriteLine, Open, Send, Receive, Other, NoElse, Else, Statements, NoStatement}
+use Rattle.sp_tree.specs.PlainChecked.{WriteLine, Open, Send, Receive, ElsePart, NoElse, Else, Statements, NoStatement}
 use Rattle.sp_tree.specs.PlainChecked.{AndThen, On, Arms, NoArm, Or, Block, Program}
 use Rattle.sp_varsets.specs.Parts.{number_of}
 
 -- the process statements of a parallel statement at this place, counted from a number on
-abbrev pub process_lines : Place → ℕ → Statements → List Line
+abbrev pub process_lines : Place → ℕ → Statements → List SetsLine
 process_lines at k NoStatement = []
 process_lines at k (AndThen s rest) = record { at = at; part = Some k; statement = number_of s }
     ∷ process_lines at (suc k) rest
 
 abbrev mutual
-  pub statement_lines : Statement → List Line
+  pub statement_lines : Statement → List SetsLine
   statement_lines (Does n at form) = form_lines at form
 
   -- what stands in a statement at this place
-  pub form_lines : Place → Form → List Line
+  pub form_lines : Place → Form → List SetsLine
   form_lines at Empty = []
   form_lines at (Assign v e) = []
   form_lines at (Call f args) = []
@@ -43,21 +43,21 @@ abbrev mutual
   form_lines at (Send c e) = []
   form_lines at (Receive c v) = []
 
-  pub other_lines : Other → List Line
+  pub other_lines : ElsePart → List SetsLine
   other_lines NoElse = []
   other_lines (Else s) = statement_lines s
 
-  pub statements_lines : Statements → List Line
+  pub statements_lines : Statements → List SetsLine
   statements_lines NoStatement = []
   statements_lines (AndThen s rest) = statement_lines s ++ statements_lines rest
 
-  pub arms_lines : Arms → List Line
+  pub arms_lines : Arms → List SetsLine
   arms_lines NoArm = []
   arms_lines (Or (On cs s) rest) = statement_lines s ++ arms_lines rest
 
-abbrev pub blocks_lines : List Block → List Line
+abbrev pub blocks_lines : List Block → List SetsLine
 blocks_lines [] = []
 blocks_lines (k ∷ ks) = statement_lines k.body ++ blocks_lines ks
 
-abbrev pub tree_lines : Program → List Line
+abbrev pub tree_lines : Program → List SetsLine
 tree_lines p = blocks_lines p.blocks

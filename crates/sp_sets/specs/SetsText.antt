@@ -5,7 +5,7 @@ use Rattle.std.specs.Prelude.{◌≡◌, ℕ, zero, suc, if◌then◌else◌, Li
 use Rattle.std.specs.Prelude.{Some, None, slice_get}
 use Rattle.std.specs.List.{flat_map}
 use Rattle.sp_base.specs.declared.place.Place.{Place}
-use Rattle.sp_sets.specs.declared.line.Line.{Line}
+use Rattle.sp_sets.specs.declared.sets_line.SetsLine.{SetsLine}
 use Rattle.sp_sets.specs.Forks.{tree_lines}
 use Rattle.sp_sets.specs.Orders.{IsInOrder, line_cmp, variable_cmp}
 use Rattle.sp_tree.specs.declared.checked.Variable.{Variable}
@@ -52,7 +52,7 @@ head_by at (Some k) = codes "parallel " ++ place_text at ++ codes " " ++ decimal
 
 -- the line of a process statement, as `parallel 1:45 0 targets x expressions`, or of an element statement, as
 -- `forall 1:34 targets x expressions i`
-abbrev pub IsLine : List Variable → Sets → Line → List ℕ → Type 0
+abbrev pub IsLine : List Variable → Sets → SetsLine → List ℕ → Type 0
 IsLine vs s l out = (rest : List ℕ) × IsBoth vs (targets_of s l.statement) (expressions_of s l.statement) rest
     × (out ≡ head_by l.at l.part ++ rest)
 
@@ -66,8 +66,8 @@ abbrev pub IsOfBlock : List Variable → Sets → List p.Block → ℕ → List 
 IsOfBlock vs s ks zero out = out ≡ []
 IsOfBlock vs s ks (suc b) out = (k : p.Block) × (slice_get ks (suc b) ≡ Some k) × IsImplicit vs s (suc b) k out
 
-abbrev pub IsLineAt : List Variable → Sets → List Line → ℕ → List ℕ → Type 0
-IsLineAt vs s ls i out = (l : Line) × (slice_get ls i ≡ Some l) × IsLine vs s l out
+abbrev pub IsLineAt : List Variable → Sets → List SetsLine → ℕ → List ℕ → Type 0
+IsLineAt vs s ls i out = (l : SetsLine) × (slice_get ls i ≡ Some l) × IsLine vs s l out
 
 -- the texts of the numbers below one, joined
 abbrev pub Joined : (ℕ → List ℕ → Type 0) → ℕ → List ℕ → Type 0
@@ -78,6 +78,6 @@ Joined Is (suc n) out = (a b : List ℕ) × Joined Is n a × Is n b × (out ≡ 
 -- of each process statement and each element statement, in order of place.
 abbrev pub IsSetsText : p.Program → Sets → List ℕ → Type 0
 IsSetsText p s out =
-    (ls : List Line) × IsInOrder line_cmp (tree_lines p) ls
+    (ls : List SetsLine) × IsInOrder line_cmp (tree_lines p) ls
     × (a b : List ℕ) × Joined (IsOfBlock p.variables s p.blocks) (length p.blocks) a
     × Joined (IsLineAt p.variables s ls) (length ls) b × (out ≡ a ++ b)

@@ -2,7 +2,7 @@
 //!
 //! Calls:
 //! - `print_sets`: exactly the text of these sets of the tree (`IsSetsText`); or want of memory.
-//! - `Line`: what has a line of its own, a process statement of a parallel statement by its number from 0, or the
+//! - `SetsLine`: what has a line of its own, a process statement of a parallel statement by its number from 0, or the
 //!   element statement of a forall.
 //!
 //! Laws:
@@ -29,11 +29,11 @@
 #![tactic(auto)]
 
 mod law;
-mod line;
 mod print;
+mod sets_line;
 mod variables;
 mod walk;
 
 pub use law::one_sets_text;
-pub use line::Line;
 pub use print::print_sets;
+pub use sets_line::SetsLine;

@@ -5,7 +5,7 @@ ghost use Rattle.sp_sets.specs.SetsText.{IsImplicit, IsLine, IsLineAt, IsOfBlock
 ghost use Rattle.sp_sets.specs.SetsText.{place_text};
 ghost use Rattle.sp_tree.specs.CheckedOf.{block_of, program_of};
 
-use crate::line::Line;
+use crate::sets_line::SetsLine;
 use crate::variables::put_both;
 use crate::walk::ordered_lines;
 use sp_base::{Memory, Place, put_decimal};
@@ -48,7 +48,7 @@ fn put_line(
     out: &mut Vec<u8>,
     variables: &[Variable],
     sets: &Sets,
-    line: &Line,
+    line: &SetsLine,
 ) -> Result<(), Memory>
     requires { length variables.now ≤ 2 ^ 32 - 1 }
     ensures { OnOk result ((t : List ℕ) × IsLine variables.now sets.now line.now t
@@ -65,7 +65,7 @@ fn put_lines(
     out: &mut Vec<u8>,
     variables: &[Variable],
     sets: &Sets,
-    lines: &[Line],
+    lines: &[SetsLine],
 ) -> Result<(), Memory>
     requires { length variables.now ≤ 2 ^ 32 - 1 }
     ensures { OnOk result ((t : List ℕ) × Joined (IsLineAt variables.now sets.now lines.now) (length lines.now) t

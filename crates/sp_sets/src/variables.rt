@@ -2,10 +2,10 @@
 
 ghost use Rattle.std.specs.Prelude.{◌≡◌, ℕ, ◌≤◌, ◌-◌, ◌^◌, ◌++◌, List, length, IfOk, OnOk};
 ghost use Rattle.std.specs.List.{flat_map};
-ghost use Rattle.sp_sets.specs.Orders.{IsInOrder, stand, variable_cmp};
+ghost use Rattle.sp_sets.specs.Orders.{IsInOrder, place_of_variable, variable_cmp};
 ghost use Rattle.sp_sets.specs.SetsText.{IsBoth, IsVariables, members, name_in, name_text};
 
-use crate::line::place_cmp;
+use crate::sets_line::place_cmp;
 use sp_base::{Memory, Place};
 use sp_tree::Variable;
 use sp_varsets::VarSet;
@@ -36,7 +36,7 @@ fn members(alloc: Global, set: &VarSet, count: u32) -> Result<Vec<u32>, Memory>
 
 /// Where a variable stands: the input and the output before all that is declared.
 fn stand(variables: &[Variable], x: u32) -> Place
-    ensures { result ≡ stand variables.now x }
+    ensures { result ≡ place_of_variable variables.now x }
 {
     if x < 2 {
         return Place { line: 0, column: 0 };

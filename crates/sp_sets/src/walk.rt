@@ -5,15 +5,16 @@ ghost use Rattle.sp_varsets.specs.Parts.{number_of};
 ghost use Rattle.sp_sets.specs.Forks.{arms_lines, form_lines, other_lines, process_lines, statement_lines};
 ghost use Rattle.sp_sets.specs.Forks.{statements_lines, tree_lines};
 ghost use Rattle.sp_sets.specs.Orders.{IsInOrder, line_cmp};
-ghost use Rattle.sp_tree.specs.CheckedOf.{arm_of, arms, other, program_of, statement_form_of, statement_of, statements};
+ghost use Rattle.sp_tree.specs.CheckedOf.{arm_of, arms, else_part, program_of, statement_form_of, statement_of};
+ghost use Rattle.sp_tree.specs.CheckedOf.{statements};
 
-use crate::line::{Line, line_cmp};
+use crate::sets_line::{SetsLine, line_cmp};
 use sp_base::{Boxed, List, Memory, Place};
 use sp_tree::{Arm, Checked, Form, Stmt};
 use std::alloc::Global;
 
 /// Puts a line for each process statement of a parallel statement at this place.
-fn process_lines(lines: &mut Vec<Line>, at: Place, ss: &[Stmt]) -> Result<(), Memory>
+fn process_lines(lines: &mut Vec<SetsLine>, at: Place, ss: &[Stmt]) -> Result<(), Memory>
     ensures { OnOk result (lines.new.items ≡ lines.old.items
         ++ process_lines at 0 (statements (map statement_of ss.now))) }
 {
@@ -21,7 +22,7 @@ fn process_lines(lines: &mut Vec<Line>, at: Place, ss: &[Stmt]) -> Result<(), Me
         return Err(Memory);
     }
     for (k, s) in ss.iter().enumerate() {
-        lines.push(Line {
+        lines.push(SetsLine {
             at,
             part: Some(k as u32),
             statement: s.number,
@@ -31,11 +32,11 @@ fn process_lines(lines: &mut Vec<Line>, at: Place, ss: &[Stmt]) -> Result<(), Me
 }
 
 /// Puts the line of an element statement.
-fn element_line(lines: &mut Vec<Line>, at: Place, s: &Stmt) -> Result<(), Memory>
+fn element_line(lines: &mut Vec<SetsLine>, at: Place, s: &Stmt) -> Result<(), Memory>
     ensures { OnOk result (lines.new.items ≡ lines.old.items
         ++ record { at = at; part = None; statement = number_of (statement_of s.now) } ∷ []) }
 {
-    lines.push(Line {
+    lines.push(SetsLine {
         at,
         part: None,
         statement: s.number,
@@ -44,22 +45,23 @@ fn element_line(lines: &mut Vec<Line>, at: Place, s: &Stmt) -> Result<(), Memory
 }
 
 #[cycle(walk)]
-fn statement_lines(lines: &mut Vec<Line>, s: &Stmt) -> Result<(), Memory>
+fn statement_lines(lines: &mut Vec<SetsLine>, s: &Stmt) -> Result<(), Memory>
     ensures { OnOk result (lines.new.items ≡ lines.old.items ++ statement_lines (statement_of s.now)) }
 {
     form_lines(lines, s.at, &s.form)
 }
 
 #[cycle(walk)]
-fn boxed_lines(lines: &mut Vec<Line>, s: &Boxed<Stmt>) -> Result<(), Memory>
+fn boxed_lines(lines: &mut Vec<SetsLine>, s: &Boxed<Stmt>) -> Result<(), Memory>
     ensures { OnOk result (lines.new.items ≡ lines.old.items ++ statement_lines (statement_of s.now)) }
 {
     statement_lines(lines, s.get())
 }
 
 #[cycle(walk)]
-fn other_lines(lines: &mut Vec<Line>, s: &Option<Boxed<Stmt>>) -> Result<(), Memory>
-    ensures { OnOk result (lines.new.items ≡ lines.old.items ++ other_lines (other (option_map statement_of s.now))) }
+fn other_lines(lines: &mut Vec<SetsLine>, s: &Option<Boxed<Stmt>>) -> Result<(), Memory>
+    ensures { OnOk result
+        (lines.new.items ≡ lines.old.items ++ other_lines (else_part (option_map statement_of s.now))) }
 {
     match s {
         None => Ok(()),
@@ -68,7 +70,7 @@ fn other_lines(lines: &mut Vec<Line>, s: &Option<Boxed<Stmt>>) -> Result<(), Mem
 }
 
 #[cycle(walk)]
-fn statements_lines(lines: &mut Vec<Line>, ss: &List<Stmt>) -> Result<(), Memory>
+fn statements_lines(lines: &mut Vec<SetsLine>, ss: &List<Stmt>) -> Result<(), Memory>
     ensures { OnOk result (lines.new.items ≡ lines.old.items
         ++ statements_lines (statements (map statement_of ss.now))) }
 {
@@ -79,7 +81,7 @@ fn statements_lines(lines: &mut Vec<Line>, ss: &List<Stmt>) -> Result<(), Memory
 }
 
 #[cycle(walk)]
-fn arms_lines(lines: &mut Vec<Line>, choices: &List<Arm>) -> Result<(), Memory>
+fn arms_lines(lines: &mut Vec<SetsLine>, choices: &List<Arm>) -> Result<(), Memory>
     ensures { OnOk result (lines.new.items ≡ lines.old.items ++ arms_lines (arms (map arm_of choices.now))) }
 {
     for arm in choices.items() {
@@ -90,7 +92,7 @@ fn arms_lines(lines: &mut Vec<Line>, choices: &List<Arm>) -> Result<(), Memory>
 
 #[cycle(walk)]
 #[tactic(auto, using(crate::proofs::Walked::no_sends, crate::proofs::Walked::no_receives))]
-fn form_lines(lines: &mut Vec<Line>, at: Place, form: &Form) -> Result<(), Memory>
+fn form_lines(lines: &mut Vec<SetsLine>, at: Place, form: &Form) -> Result<(), Memory>
     ensures { OnOk result (lines.new.items ≡ lines.old.items ++ form_lines at (statement_form_of form.now)) }
 {
     match form {
@@ -129,7 +131,7 @@ fn form_lines(lines: &mut Vec<Line>, at: Place, form: &Form) -> Result<(), Memor
 }
 
 /// The lines of all blocks, in no order.
-fn tree_lines(alloc: Global, checked: &Checked) -> Result<Vec<Line>, Memory>
+fn tree_lines(alloc: Global, checked: &Checked) -> Result<Vec<SetsLine>, Memory>
     ensures { IfOk result (λ lines. lines.items ≡ tree_lines (program_of checked.now)) }
 {
     let mut lines = Vec::new(alloc);
@@ -140,7 +142,7 @@ fn tree_lines(alloc: Global, checked: &Checked) -> Result<Vec<Line>, Memory>
 }
 
 /// The lines of the tree, in order.
-pub(crate) fn ordered_lines(alloc: Global, checked: &Checked) -> Result<Vec<Line>, Memory>
+pub(crate) fn ordered_lines(alloc: Global, checked: &Checked) -> Result<Vec<SetsLine>, Memory>
     ensures { IfOk result (λ lines. IsInOrder line_cmp (tree_lines (program_of checked.now)) lines.items) }
 {
     let mut lines = tree_lines(alloc, checked)?;

@@ -11,18 +11,19 @@ use Rattle.sp_code.specs.declared.code.Parts.{Parts}
 use Rattle.sp_rules.specs.Rules.{ArrivesAt}
 use Rattle.sp_shapes.specs.declared.steps.Arrival.{Arrival}
 use Rattle.sp_shapes.specs.declared.search.Search.{Search}
-use Rattle.sp_shapes.specs.Stacks.{Holds, list_of}
-use Rattle.sp_shapes.specs.Search.{IsAmong, HasAt, IsMarked, BrokenBy, DiffersBy, Comes, IsSound, Compares, KeepsV1}
-use Rattle.sp_shapes.specs.Search.{Places, Past, First, Again, Other, ComparesOne, free, room}
+use Rattle.sp_shapes.specs.Stacks.{IsListNumber, list_of}
+use Rattle.sp_shapes.specs.Search.{IsOneOf, HasAt, IsMarked, BrokenBy, DiffersBy, SomeAreaBrings, IsSound}
+use Rattle.sp_shapes.specs.Search.{WhileComparing, KeepsV1}
+use Rattle.sp_shapes.specs.Search.{Places, Past, First, Again, Other, ComparesOne, free_count, room}
 use Rattle.sp_shapes.proofs.Stacking.{one_number}
 use Rattle.sp_shapes.proofs.Ways.{one_area, lies, within}
 use Rattle.sp_shapes.proofs.Searching.{Moves, among_last, among_left, among_or, covers_stay}
 use Rattle.sp_shapes.proofs.Searching.{closed_stays}
 
-module _ (c : Parts) (n : ℕ) (s new : Search) (h : Compares c n s) (moves : Moves s new) where
-  compares_moved : ((p k : ℕ) → HasAt new p k → HasAt s p k ⊎ IsAmong p new.frontier)
-      → ((p : ℕ) → IsAmong p s.frontier → IsAmong p new.frontier)
-      → IsSound c n n new → Compares c n new
+module _ (c : Parts) (n : ℕ) (s new : Search) (h : WhileComparing c n s) (moves : Moves s new) where
+  compares_moved : ((p k : ℕ) → HasAt new p k → HasAt s p k ⊎ IsOneOf p new.frontier)
+      → ((p : ℕ) → IsOneOf p s.frontier → IsOneOf p new.frontier)
+      → IsSound c n n new → WhileComparing c n new
   compares_moved fresh front sound = record {
     sound = sound;
     closed = closed_stays s new h.sound.held moves h.sound.carried c h.closed fresh (λ p k o f. inr (inl (front p f)));
@@ -30,15 +31,15 @@ module _ (c : Parts) (n : ℕ) (s new : Search) (h : Compares c n s) (moves : Mo
   }
 
 module _ (c : Parts) (v1 : KeepsV1 c) (n : ℕ) (s : Search) (rest : List Arrival) (x : Arrival)
-    (last : s.arrivals ≡ rest ++ x ∷ []) (h : Compares c n s) where
-  here : IsAmong x s.arrivals
-  here = subst (IsAmong x) (sym last) (among_last x rest)
+    (last : s.arrivals ≡ rest ++ x ∷ []) (h : WhileComparing c n s) where
+  here : IsOneOf x s.arrivals
+  here = subst (IsOneOf x) (sym last) (among_last x rest)
 
-  more : (y : Arrival) → IsAmong y rest → IsAmong y s.arrivals
-  more y a = subst (IsAmong y) (sym last) (among_left y rest (x ∷ []) a)
+  more : (y : Arrival) → IsOneOf y rest → IsOneOf y s.arrivals
+  more y a = subst (IsOneOf y) (sym last) (among_left y rest (x ∷ []) a)
 
-  split : (y : Arrival) → IsAmong y s.arrivals → IsAmong y rest ⊎ (y ≡ x)
-  split y a = among_or y x rest (subst (IsAmong y) last a)
+  split : (y : Arrival) → IsOneOf y s.arrivals → IsOneOf y rest ⊎ (y ≡ x)
+  split y a = among_or y x rest (subst (IsOneOf y) last a)
 
   inside : x.at < length s.at
   inside = let z = h.sound.arrive x here in subst (λ m. x.at < m) (sym h.sound.size)
@@ -92,22 +93,24 @@ module _ (c : Parts) (v1 : KeepsV1 c) (n : ℕ) (s : Search) (rest : List Arriva
       stacks = h.sound.stacks;
       size = length-set s.at x.at (Some x.list) ∙ h.sound.size;
       marks = h.sound.marks;
-      held = λ p k w. ⊎_elim (λ o. h.sound.held p k o) (λ z. subst (Holds s.stacks) (sym z.1) (h.sound.carried x here))
+      held = λ p k w. ⊎_elim (λ o. h.sound.held p k o)
+          (λ z. subst (IsListNumber s.stacks) (sym z.1) (h.sound.carried x here))
           (first_fresh p k w);
       come = λ p k w. ⊎_elim (λ o. h.sound.come p k o)
-          (λ z. subst (λ m. Comes c n m (list_of s.stacks k)) (sym z.0)
-          (subst (λ m. Comes c n x.at (list_of s.stacks m)) (sym z.1) (h.sound.arrive x here))) (first_fresh p k w);
+          (λ z. subst (λ m. SomeAreaBrings c n m (list_of s.stacks k)) (sym z.0)
+          (subst (λ m. SomeAreaBrings c n x.at (list_of s.stacks m)) (sym z.1) (h.sound.arrive x here)))
+          (first_fresh p k w);
       marked = h.sound.marked;
       carried = λ y a. h.sound.carried y (more y a);
       arrive = λ y a. h.sound.arrive y (more y a);
     }
 
-    first_placed : Compares c n filled
+    first_placed : WhileComparing c n filled
     unfolding filled
     first_placed =
         compares_moved c n s filled h (first_moves filled refl)
         (λ p k w. ⊎_elim (λ o. inl o)
-        (λ z. inr (subst (λ m. IsAmong m (s.frontier ++ x.at ∷ [])) (sym z.0) (among_last x.at s.frontier)))
+        (λ z. inr (subst (λ m. IsOneOf m (s.frontier ++ x.at ∷ [])) (sym z.0) (among_last x.at s.frontier)))
         (first_fresh p k w))
         (λ p f. among_left p s.frontier (x.at ∷ []) f)
         first_sound
@@ -126,7 +129,7 @@ module _ (c : Parts) (v1 : KeepsV1 c) (n : ℕ) (s : Search) (rest : List Arriva
         λ y a. h.sound.arrive y (more y a);
   }
 
-  again_placed : HasAt s x.at x.list → Compares c n (record s { arrivals = rest })
+  again_placed : HasAt s x.at x.list → WhileComparing c n (record s { arrivals = rest })
   again_placed w =
       compares_moved c n s (record s { arrivals = rest }) h
       (record {
@@ -167,7 +170,7 @@ module _ (c : Parts) (v1 : KeepsV1 c) (n : ℕ) (s : Search) (rest : List Arriva
     marked_new p m = ⊎_elim (λ (z : x.at ≡ p). subst (BrokenBy c n) z differs)
         (λ (d : x.at ≢ p). h.sound.marked p (sym (get_beside_set s.broken x.at p true d) ∙ m)) (cases_eq x.at p)
 
-    other_placed : Compares c n (record s { broken = slice_set s.broken x.at true; arrivals = rest })
+    other_placed : WhileComparing c n (record s { broken = slice_set s.broken x.at true; arrivals = rest })
     other_placed =
         compares_moved c n s (record s { broken = slice_set s.broken x.at true; arrivals = rest }) h
         (record {
@@ -195,12 +198,12 @@ module _ (c : Parts) (v1 : KeepsV1 c) (n : ℕ) (s : Search) (rest : List Arriva
           arrive = λ y a. h.sound.arrive y (more y a);
         })
 
-  pub placed : (new : Search) → Places (record s { arrivals = rest }) new x → Compares c n new
+  pub placed : (new : Search) → Places (record s { arrivals = rest }) new x → WhileComparing c n new
   unfolding filled
   placed new (Past e q) = absurd (item_is_not_none s.at x.at inside e)
-  placed new (First e q) = subst (Compares c n) (sym q) (first_placed e)
-  placed new (Again w q) = subst (Compares c n) (sym q) (again_placed w)
-  placed new (Other k w d q) = subst (Compares c n) (sym q) (other_placed k w d)
+  placed new (First e q) = subst (WhileComparing c n) (sym q) (first_placed e)
+  placed new (Again w q) = subst (WhileComparing c n) (sym q) (again_placed w)
+  placed new (Other k w d q) = subst (WhileComparing c n) (sym q) (other_placed k w d)
 
 -- ---- one after the other
 
@@ -219,11 +222,11 @@ room_of : (s new : Search) (rest : List Arrival) (x : Arrival) → Places (recor
 room_of s new rest x (Past e q) = ap room_in q
 room_of s new rest x (First e q) = ap room_in q ∙ same
   where
-    same : sum_by free (slice_set s.at x.at (Some x.list)) + length (s.frontier ++ x.at ∷ [])
-        ≡ sum_by free s.at + length s.frontier
+    same : sum_by free_count (slice_set s.at x.at (Some x.list)) + length (s.frontier ++ x.at ∷ [])
+        ≡ sum_by free_count s.at + length s.frontier
     same =
-        let a = sum_by-set free s.at x.at (Some x.list) None (slice_get_within s.at x.at None e) in
-        let b = ap free (get_or_from_slice_get s.at x.at None None e) in
+        let a = sum_by-set free_count s.at x.at (Some x.list) None (slice_get_within s.at x.at None e) in
+        let b = ap free_count (get_or_from_slice_get s.at x.at None None e) in
         let d = length_push s.frontier x.at in
         omega (arith, a, b, d)
 room_of s new rest x (Again w q) = ap room_in q

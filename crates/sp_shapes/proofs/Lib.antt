@@ -5,7 +5,7 @@ pub mod Stepping
 pub mod Ways
 pub mod Searching
 pub mod Comparing
-pub mod Walks
+pub mod SearchSteps
 pub mod Starting
 pub mod Closing
 pub mod Reaching

@@ -8,19 +8,19 @@ use Rattle.sp_base.proofs.Facts.{not_true_and_false}
 use Rattle.sp_code.specs.declared.instr.Instr.{Instr}
 use Rattle.sp_code.specs.declared.instr.Instr.TheVariants as i
 use Rattle.sp_code.specs.declared.code.Parts.{Parts}
-use Rattle.sp_rules.specs.Areas.{given, instr_at}
+use Rattle.sp_rules.specs.Areas.{on_option, instr_at}
 use Rattle.sp_rules.specs.Shapes.{Shape}
 use Rattle.sp_rules.specs.Standing.{message_cells, cells_left}
 use Rattle.sp_rules.specs.Rules.{SendsAt, ReceivesAt, BreaksV4, OtherLength, NoRoom}
-use Rattle.sp_areas.specs.Least.{IsLeast, least}
-use Rattle.sp_areas.proofs.Leasts.{same, both}
+use Rattle.sp_areas.specs.LeastPlaces.{IsLeast, earlier_of}
+use Rattle.sp_areas.proofs.Leasts.{least_of_same, both}
 use Rattle.sp_shapes.specs.declared.shapes.Shapes.{Shapes}
 use Rattle.sp_shapes.specs.declared.messages.Message.{Message}
 use Rattle.sp_shapes.specs.Stacks.{list_of}
 use Rattle.sp_shapes.specs.Shapes.{AreShapes}
 use Rattle.sp_shapes.specs.Reached.{shapes_at}
-use Rattle.sp_shapes.specs.Lengths.{of_kind, sent_by, received_by, sent_at, received_at, Differs, Lacks, length_of}
-use Rattle.sp_shapes.specs.Lengths.{Puts, PutsGreatest, AreLengths, is_longer}
+use Rattle.sp_shapes.specs.Lengths.{of_kind, sent_by, received_by, sent_at, received_at, Differs, LacksRoom, length_of}
+use Rattle.sp_shapes.specs.Lengths.{PutsLength, PutsGreatest, AreLengths, is_longer}
 use Rattle.sp_shapes.proofs.Reaching.{some_way, brought}
 
 -- ---- messages
@@ -43,7 +43,7 @@ received_so c (Some (i.Receive k)) ss w e = let m = made_of k (cells_left c ss) 
 received_so c o ss w e = absurd (none-some w e)
 
 -- what is found by a table of shapes is found with some of them
-by_shapes : (f : List Shape → Option Message) (o : Option (List Shape)) (w : Message) → given None o f ≡ Some w
+by_shapes : (f : List Shape → Option Message) (o : Option (List Shape)) (w : Message) → on_option None o f ≡ Some w
     → (ss : List Shape) × (o ≡ Some ss) × (f ss ≡ Some w)
 by_shapes f None w e = absurd (none-some w e)
 by_shapes f (Some ss) w e = (ss, refl, e)
@@ -67,23 +67,24 @@ receives c s h p w e =
 pub sent_there : (c : Parts) (s : Shapes) → AreShapes c s → (p k n : ℕ) → SendsAt c p k n
     → sent_at c s p ≡ Some (record { kind = k; cells = n })
 sent_there c s h p k n r =
-    ap (λ o. given None o (λ ss. sent_by c (instr_at c p) ss)) (brought c s h r.0 p r.1 r.2)
+    ap (λ o. on_option None o (λ ss. sent_by c (instr_at c p) ss)) (brought c s h r.0 p r.1 r.2)
     ∙ ap (λ o. sent_by c o r.1) r.3 ∙ ap (of_kind k) r.4
 
 pub received_there : (c : Parts) (s : Shapes) → AreShapes c s → (p k n : ℕ) → ReceivesAt c p k n
     → received_at c s p ≡ Some (record { kind = k; cells = n })
 received_there c s h p k n r =
-    ap (λ o. given None o (λ ss. received_by c (instr_at c p) ss)) (brought c s h r.0 p r.1 r.2)
+    ap (λ o. on_option None o (λ ss. received_by c (instr_at c p) ss)) (brought c s h r.0 p r.1 r.2)
     ∙ ap (λ o. received_by c o r.1) r.3 ∙ ap (of_kind k) r.4
 
 -- past the code nothing is reached
 pub within : (c : Parts) (s : Shapes) → AreShapes c s → (f : ℕ → List Shape → Option Message) (p : ℕ) (w : Message)
-    → given None (shapes_at s p) (f p) ≡ Some w → p < length c.instrs
+    → on_option None (shapes_at s p) (f p) ≡ Some w → p < length c.instrs
 within c s h f p w e = ⊎_elim (λ r. let l = r.1 in let z = h.size in omega (arith, l, z))
     (λ r. absurd (none-some w (sym (past r.1) ∙ e))) (slice_get_cases s.at p).1
   where
-    past : slice_get s.at p ≡ None → given None (shapes_at s p) (f p) ≡ None
-    past g = ap (λ o. given None (given None (given None o (λ v. v)) (λ n. Some (list_of s.stacks n))) (f p)) g
+    past : slice_get s.at p ≡ None → on_option None (shapes_at s p) (f p) ≡ None
+    past g = ap (λ o. on_option None (on_option None (on_option None o (λ v. v)) (λ n. Some (list_of s.stacks n)))
+        (f p)) g
 
 -- ---- tables
 
@@ -118,7 +119,7 @@ past_kept R c s n m v y h e there good =
     at_last w f = subst (λ (u : Message). (x : ℕ) × (length_of m u.kind ≡ Some x) × R u.cells x) f (y, there, good)
 
 pub past_put : (R : ℕ → ℕ → Type 0) (c : Parts) (s : Shapes) (n : ℕ) (m o : BTreeMap ℕ ℕ) (v : Message)
-    → AreLengths R c s n m → sent_at c s n ≡ Some v → Puts m o v
+    → AreLengths R c s n m → sent_at c s n ≡ Some v → PutsLength m o v
     → R v.cells v.cells → ((x z : ℕ) → length_of m v.kind ≡ Some x → R z x → R z v.cells) → AreLengths R c s (n + 1) o
 past_put R c s n m o v h e puts good more = record { each = each; some = some }
   where
@@ -202,11 +203,12 @@ none_differs c s g n m h l =
 
 -- a receive lacks room where the greatest length of its type is longer
 pub lacks_so : (c : Parts) (s : Shapes) → AreShapes c s → (m : BTreeMap ℕ ℕ)
-    → AreLengths (λ x y. x ≤ y) c s (length c.instrs) m → (p : ℕ) → is_longer m (received_at c s p) ≡ true → Lacks c s p
+    → AreLengths (λ x y. x ≤ y) c s (length c.instrs) m → (p : ℕ) → is_longer m (received_at c s p) ≡ true
+    → LacksRoom c s p
 lacks_so c s g m h p e = go (received_at c s p) refl e
   where
     at : (w : Message) → received_at c s p ≡ Some w → (o : Option ℕ) → length_of m w.kind ≡ o
-        → given false o (λ x. nat_lt w.cells x) ≡ true → Lacks c s p
+        → on_option false o (λ x. nat_lt w.cells x) ≡ true → LacksRoom c s p
     at w f None d b = absurd (cc b)
     at w f (Some x) d b =
         let r = h.some w.kind x d in
@@ -220,27 +222,28 @@ lacks_so c s g m h p e = go (received_at c s p) refl e
           longer = Prim.grind (arith, b);
         }
 
-    go : (o : Option Message) → received_at c s p ≡ o → is_longer m o ≡ true → Lacks c s p
+    go : (o : Option Message) → received_at c s p ≡ o → is_longer m o ≡ true → LacksRoom c s p
     go None f b = absurd (cc b)
     go (Some w) f b = at w f (length_of m w.kind) refl b
 
 pub lacks_there : (c : Parts) (s : Shapes) → AreShapes c s → (m : BTreeMap ℕ ℕ)
-    → AreLengths (λ x y. x ≤ y) c s (length c.instrs) m → (p : ℕ) → Lacks c s p → is_longer m (received_at c s p) ≡ true
+    → AreLengths (λ x y. x ≤ y) c s (length c.instrs) m → (p : ℕ) → LacksRoom c s p
+    → is_longer m (received_at c s p) ≡ true
 lacks_there c s g m h p l =
     let r = h.each l.place l.message (within c s g (λ q ss. sent_by c (instr_at c q) ss) l.place l.message l.sent)
     l.sent in
     let a = l.longer in
     let b = r.2 in
     let t : nat_lt l.room.cells r.0 ≡ true = Prim.grind (arith, a, b) in
-    ap (is_longer m) l.received ∙ ap (λ o. given false o (λ x. nat_lt l.room.cells x))
+    ap (is_longer m) l.received ∙ ap (λ o. on_option false o (λ x. nat_lt l.room.cells x))
     (ap (length_of m) (sym l.kind) ∙ r.1) ∙ t
 
 pub least_length : (c : Parts) (s : Shapes) → AreShapes c s → (m n : Option ℕ) → IsLeast (Differs c s) m
-    → IsLeast (Lacks c s) n → IsLeast (BreaksV4 c) (least m n)
-least_length c s h m n f g = same (λ p. Differs c s p ⊎ Lacks c s p) (BreaksV4 c) (least m n) up down
-    (both (Differs c s) (Lacks c s) m n f g)
+    → IsLeast (LacksRoom c s) n → IsLeast (BreaksV4 c) (earlier_of m n)
+least_length c s h m n f g = least_of_same (λ p. Differs c s p ⊎ LacksRoom c s p) (BreaksV4 c) (earlier_of m n) up down
+    (both (Differs c s) (LacksRoom c s) m n f g)
   where
-    up : (p : ℕ) → Differs c s p ⊎ Lacks c s p → BreaksV4 c p
+    up : (p : ℕ) → Differs c s p ⊎ LacksRoom c s p → BreaksV4 c p
     up p (inl d) =
         OtherLength d.one.kind d.one.cells d.earlier d.other.cells (sends c s h p d.one d.sent) d.before
         (subst (λ k. SendsAt c d.earlier k d.other.cells) d.kind (sends c s h d.earlier d.other d.too)) d.apart
@@ -248,7 +251,7 @@ least_length c s h m n f g = same (λ p. Differs c s p ⊎ Lacks c s p) (BreaksV
         NoRoom l.room.kind l.room.cells l.place l.message.cells (receives c s h p l.room l.received)
         (subst (λ k. SendsAt c l.place k l.message.cells) l.kind (sends c s h l.place l.message l.sent)) l.longer
 
-    down : (p : ℕ) → BreaksV4 c p → Differs c s p ⊎ Lacks c s p
+    down : (p : ℕ) → BreaksV4 c p → Differs c s p ⊎ LacksRoom c s p
     down p (OtherLength k x q y a l b d) =
         inl (record {
           one = record { kind = k; cells = x };
@@ -283,14 +286,14 @@ past_greatest c s n m o v h e (inr r) = past_put (λ x y. x ≤ y) c s n m o v h
 
 -- the first length of a type
 pub past_first : (c : Parts) (s : Shapes) (n : ℕ) (m o : BTreeMap ℕ ℕ) (v : Message) → AreLengths (λ x y. x ≡ y) c s n m
-    → sent_at c s n ≡ Some v → length_of m v.kind ≡ None → Puts m o v
+    → sent_at c s n ≡ Some v → length_of m v.kind ≡ None → PutsLength m o v
     → AreLengths (λ x y. x ≡ y) c s (n + 1) o
 past_first c s n m o v h e none puts = past_put (λ x y. x ≡ y) c s n m o v h e puts refl
     (λ x z f l. absurd (none-some x (sym none ∙ f)))
 
 pub first_lacks : (c : Parts) (s : Shapes) → AreShapes c s → (m : BTreeMap ℕ ℕ)
     → AreLengths (λ x y. x ≤ y) c s (length c.instrs) m → (n : ℕ) → is_longer m (received_at c s n) ≡ true
-    → ((k : ℕ) → k < n → is_longer m (received_at c s k) ≡ false) → IsLeast (Lacks c s) (Some n)
+    → ((k : ℕ) → k < n → is_longer m (received_at c s k) ≡ false) → IsLeast (LacksRoom c s) (Some n)
 first_lacks c s h m g n e none = (
   lacks_so c s h m g n e,
   λ p l k. not_true_and_false (is_longer m (received_at c s p)) (lacks_there c s h m g p k)
@@ -299,7 +302,7 @@ first_lacks c s h m g n e none = (
 
 pub none_lacks : (c : Parts) (s : Shapes) → AreShapes c s → (m : BTreeMap ℕ ℕ)
     → AreLengths (λ x y. x ≤ y) c s (length c.instrs) m → (n : ℕ) → length c.instrs ≤ n
-    → ((k : ℕ) → k < n → is_longer m (received_at c s k) ≡ false) → IsLeast (Lacks c s) None
+    → ((k : ℕ) → k < n → is_longer m (received_at c s k) ≡ false) → IsLeast (LacksRoom c s) None
 none_lacks c s h m g n l none =
     λ p k.
     let b = within c s h (λ q ss. received_by c (instr_at c q) ss) p k.room k.received in

@@ -5,30 +5,32 @@ use Rattle.std.specs.Prelude.{sum_by}
 use Rattle.std.proofs.lemmas.Option.{same_Some}
 use Rattle.sp_code.specs.declared.code.Parts.{Parts}
 use Rattle.sp_rules.specs.Areas.{Area, instr_at}
-use Rattle.sp_rules.specs.Shapes.{Shape, Wrong, shaped}
-use Rattle.sp_rules.specs.Reach.{Arrives, IsWhole, Leads}
+use Rattle.sp_rules.specs.Shapes.{Shape, Wrong, instr_shapes}
+use Rattle.sp_rules.specs.Reach.{Arrives, IsWhole, LeadsWith}
 use Rattle.sp_rules.specs.Named.{LiesIn}
 use Rattle.sp_rules.specs.Rules.{ArrivesAt}
 use Rattle.sp_shapes.specs.declared.steps.Arrival.{Arrival}
 use Rattle.sp_shapes.specs.declared.search.Search.{Search}
-use Rattle.sp_shapes.specs.Stacks.{Extends, Holds, list_of}
-use Rattle.sp_shapes.specs.Search.{IsAmong, HasAt, IsMarked, InTable, Known, BrokenBy, LacksBy, DiffersBy, IsStepped}
-use Rattle.sp_shapes.specs.Search.{IsClosed, Covers, CoversTable, Compares, Steps, AreCompared, AreStepped, IsDone}
-use Rattle.sp_shapes.specs.Search.{KeepsV1, free, room}
+use Rattle.sp_shapes.specs.Stacks.{Extends, IsListNumber, list_of}
+use Rattle.sp_shapes.specs.Search.{IsOneOf, HasAt, IsMarked, InTable, KnowsShapes, BrokenBy, LacksBy, DiffersBy}
+use Rattle.sp_shapes.specs.Search.{IsStepped}
+use Rattle.sp_shapes.specs.Search.{IsClosedSearch, Covers, CoversTable, WhileComparing, WhileStepping, AreCompared}
+use Rattle.sp_shapes.specs.Search.{AreStepped, IsDoneSearch}
+use Rattle.sp_shapes.specs.Search.{KeepsV1, free_count, room}
 use Rattle.sp_shapes.proofs.Ways.{one_area, lies}
 
 -- ---- lists
 
-pub among_last : {T : Type 0} (x : T) (xs : List T) → IsAmong x (xs ++ x ∷ [])
+pub among_last : {T : Type 0} (x : T) (xs : List T) → IsOneOf x (xs ++ x ∷ [])
 among_last x [] = inl refl
 among_last x (y ∷ ys) = inr (among_last x ys)
 
-pub among_left : {T : Type 0} (y : T) (xs zs : List T) → IsAmong y xs → IsAmong y (xs ++ zs)
+pub among_left : {T : Type 0} (y : T) (xs zs : List T) → IsOneOf y xs → IsOneOf y (xs ++ zs)
 among_left y [] zs h = absurd h
 among_left y (x ∷ xs) zs (inl e) = inl e
 among_left y (x ∷ xs) zs (inr h) = inr (among_left y xs zs h)
 
-pub among_or : {T : Type 0} (y x : T) (xs : List T) → IsAmong y (xs ++ x ∷ []) → IsAmong y xs ⊎ (y ≡ x)
+pub among_or : {T : Type 0} (y x : T) (xs : List T) → IsOneOf y (xs ++ x ∷ []) → IsOneOf y xs ⊎ (y ≡ x)
 among_or y x [] (inl e) = inr e
 among_or y x [] (inr h) = absurd h
 among_or y x (z ∷ zs) (inl e) = inl (inl e)
@@ -44,10 +46,10 @@ pub record Moves (old new : Search) : Type 0 where
   pub extends : Extends old.stacks new.stacks
   pub stays : (p k : ℕ) → HasAt old p k → HasAt new p k
   pub more : (p : ℕ) → IsMarked old p → IsMarked new p
-  pub waits : (x : Arrival) → IsAmong x old.arrivals → Holds old.stacks x.list
-      → IsAmong x new.arrivals ⊎ InTable new x.at (list_of new.stacks x.list)
+  pub waits : (x : Arrival) → IsOneOf x old.arrivals → IsListNumber old.stacks x.list
+      → IsOneOf x new.arrivals ⊎ InTable new x.at (list_of new.stacks x.list)
 
-module _ (old new : Search) (held : (p k : ℕ) → HasAt old p k → Holds old.stacks k) (moves : Moves old new) where
+module _ (old new : Search) (held : (p k : ℕ) → HasAt old p k → IsListNumber old.stacks k) (moves : Moves old new) where
   pub list_stays : (p k : ℕ) → HasAt old p k → list_of new.stacks k ≡ list_of old.stacks k
   list_stays p k h = (moves.extends k (held p k h)).1
 
@@ -55,15 +57,15 @@ module _ (old new : Search) (held : (p k : ℕ) → HasAt old p k → Holds old.
   table_stays q ts (k, h, inl e) = (k, moves.stays q k h, inl (list_stays q k h ∙ e))
   table_stays q ts (k, h, inr m) = (k, moves.stays q k h, inr (moves.more q m))
 
-  module _ (carried : (x : Arrival) → IsAmong x old.arrivals → Holds old.stacks x.list) where
-    pub known_stays : (q : ℕ) (ts : List Shape) → Known old q ts → Known new q ts
+  module _ (carried : (x : Arrival) → IsOneOf x old.arrivals → IsListNumber old.stacks x.list) where
+    pub known_stays : (q : ℕ) (ts : List Shape) → KnowsShapes old q ts → KnowsShapes new q ts
     known_stays q ts (inl t) = inl (table_stays q ts t)
     known_stays q ts (inr (x, h, e, f)) = go (moves.waits x h (carried x h))
       where
         same : list_of new.stacks x.list ≡ ts
         same = (moves.extends x.list (carried x h)).1 ∙ f
 
-        go : IsAmong x new.arrivals ⊎ InTable new x.at (list_of new.stacks x.list) → Known new q ts
+        go : IsOneOf x new.arrivals ⊎ InTable new x.at (list_of new.stacks x.list) → KnowsShapes new q ts
         go (inl a) = inr (x, a, e, same)
         go (inr t) = inl (subst (λ z. InTable new z ts) e (subst (InTable new x.at) same t))
 
@@ -74,20 +76,20 @@ module _ (old new : Search) (held : (p k : ℕ) → HasAt old p k → Holds old.
     stepped_stays c p ss h = λ a l. let z = h a l in (z.0, λ q ts k. known_stays q ts (z.1 q ts k))
 
     -- and an instruction that is new, or waits no longer, is seen to
-    pub closed_stays : (c : Parts) → IsClosed c old
-        → ((p k : ℕ) → HasAt new p k → HasAt old p k ⊎ IsAmong p new.frontier)
-        → ((p k : ℕ) → HasAt old p k → IsAmong p old.frontier
-        → IsMarked new p ⊎ (IsAmong p new.frontier ⊎ IsStepped c new p (list_of new.stacks k)))
-        → IsClosed c new
+    pub closed_stays : (c : Parts) → IsClosedSearch c old
+        → ((p k : ℕ) → HasAt new p k → HasAt old p k ⊎ IsOneOf p new.frontier)
+        → ((p k : ℕ) → HasAt old p k → IsOneOf p old.frontier
+        → IsMarked new p ⊎ (IsOneOf p new.frontier ⊎ IsStepped c new p (list_of new.stacks k)))
+        → IsClosedSearch c new
     closed_stays c closed fresh front p k h = go (fresh p k h)
       where
-        go : HasAt old p k ⊎ IsAmong p new.frontier → IsMarked new p
-            ⊎ (IsAmong p new.frontier ⊎ IsStepped c new p (list_of new.stacks k))
+        go : HasAt old p k ⊎ IsOneOf p new.frontier → IsMarked new p
+            ⊎ (IsOneOf p new.frontier ⊎ IsStepped c new p (list_of new.stacks k))
         go (inr f) = inr (inl f)
         go (inl o) = on (closed p k o)
           where
-            on : IsMarked old p ⊎ (IsAmong p old.frontier ⊎ IsStepped c old p (list_of old.stacks k))
-                → IsMarked new p ⊎ (IsAmong p new.frontier ⊎ IsStepped c new p (list_of new.stacks k))
+            on : IsMarked old p ⊎ (IsOneOf p old.frontier ⊎ IsStepped c old p (list_of old.stacks k))
+                → IsMarked new p ⊎ (IsOneOf p new.frontier ⊎ IsStepped c new p (list_of new.stacks k))
             on (inl m) = inl (moves.more p m)
             on (inr (inl f)) = front p k o f
             on (inr (inr s)) = inr
@@ -110,13 +112,14 @@ module _ (c : Parts) where
     not_whole : (n p : ℕ) (a : Area) → LiesIn c p a → BrokenBy c n p → IsWhole c a (Arrives c a n) p → ⊥
     not_whole n p a l (LacksBy b ss h e) w =
         let s : b ≡ a = one_area c v1 p b a (lies c b n p ss h) l in
-        w.1 ss (subst (λ z. Arrives c z n p ss) s h.1) (subst (λ z. shaped c z (instr_at c p) p ss ≡ Wrong) s e)
+        w.1 ss (subst (λ z. Arrives c z n p ss) s h.1) (subst (λ z. instr_shapes c z (instr_at c p) p ss ≡ Wrong) s e)
     not_whole n p a l (DiffersBy b ss ts h g d) w =
         let s : b ≡ a = one_area c v1 p b a (lies c b n p ss h) l in
         d (w.0 ss ts (subst (λ z. Arrives c z n p ss) s h.1) (subst (λ z. Arrives c z n p ts) s g.1))
 
     -- where nothing waits to be stepped from, what longer ways bring is known too
-    pub cover_next : (n : ℕ) (s : Search) → ((p : ℕ) → IsMarked s p → BrokenBy c n p) → CoversTable c n s → IsClosed c s
+    pub cover_next : (n : ℕ) (s : Search) → ((p : ℕ) → IsMarked s p → BrokenBy c n p) → CoversTable c n s
+        → IsClosedSearch c s
         → s.frontier ≡ [] → Covers c (suc n) s
     cover_next n s marked covers closed none a q ts (there, inl h) = inl (covers a q ts (there, h))
     cover_next n s marked covers closed none a q ts (there, inr (p, ss, h, whole, leads)) =
@@ -125,18 +128,18 @@ module _ (c : Parts) where
         l : LiesIn c p a
         l = lies c a n p ss (there, h)
 
-        go : InTable s p ss → Known s q ts
+        go : InTable s p ss → KnowsShapes s q ts
         go (k, has, inr m) = absurd (not_whole n p a l (marked p m) whole)
         go (k, has, inl e) = on (closed p k has)
           where
-            on : IsMarked s p ⊎ (IsAmong p s.frontier ⊎ IsStepped c s p (list_of s.stacks k)) → Known s q ts
+            on : IsMarked s p ⊎ (IsOneOf p s.frontier ⊎ IsStepped c s p (list_of s.stacks k)) → KnowsShapes s q ts
             on (inl m) = absurd (not_whole n p a l (marked p m) whole)
-            on (inr (inl f)) = absurd (subst (IsAmong p) none f)
+            on (inr (inl f)) = absurd (subst (IsOneOf p) none f)
             on (inr (inr z)) = (z a l).1 q ts
-                (subst (λ (w : List Shape). Leads (shaped c a (instr_at c p) p w) q ts) (sym e) leads)
+                (subst (λ (w : List Shape). LeadsWith (instr_shapes c a (instr_at c p) p w) q ts) (sym e) leads)
 
     -- all compared: the next level begins
-    pub begin_steps : (n : ℕ) (s : Search) → Compares c n s → s.arrivals ≡ [] → Steps c n s
+    pub begin_steps : (n : ℕ) (s : Search) → WhileComparing c n s → s.arrivals ≡ [] → WhileStepping c n s
     begin_steps n s h none = record {
       sound = record {
         stacks = h.sound.stacks;
@@ -148,18 +151,18 @@ module _ (c : Parts) where
         marked = h.sound.marked;
         carried = h.sound.carried;
         arrive =
-            λ x w. absurd (subst (IsAmong x) none w);
+            λ x w. absurd (subst (IsOneOf x) none w);
       };
       closed = h.closed;
       covers = λ a p ss w. go p ss (h.covers a p ss w);
     }
       where
-        go : (p : ℕ) (ss : List Shape) → Known s p ss → InTable s p ss
+        go : (p : ℕ) (ss : List Shape) → KnowsShapes s p ss → InTable s p ss
         go p ss (inl t) = t
-        go p ss (inr (x, w, e, f)) = absurd (subst (IsAmong x) none w)
+        go p ss (inr (x, w, e, f)) = absurd (subst (IsOneOf x) none w)
 
     -- all stepped from: what was brought is compared
-    pub end_steps : (n : ℕ) (s : Search) → Steps c n s → s.frontier ≡ [] → Compares c (suc n) s
+    pub end_steps : (n : ℕ) (s : Search) → WhileStepping c n s → s.frontier ≡ [] → WhileComparing c (suc n) s
     end_steps n s h none = record {
       sound = record {
         stacks = h.sound.stacks;
@@ -178,7 +181,7 @@ module _ (c : Parts) where
 -- ---- rounds
 
 -- all compared, and nothing waits: done
-pub done : (c : Parts) (s : Search) → AreCompared c s → s.arrivals ≡ [] → s.frontier ≡ [] → IsDone c s
+pub done : (c : Parts) (s : Search) → AreCompared c s → s.arrivals ≡ [] → s.frontier ≡ [] → IsDoneSearch c s
 done c s h a b = record { true_so_far = h; none = a; still = b }
 
 pub then_steps : (c : Parts) → KeepsV1 c → (s : Search) → AreCompared c s → s.arrivals ≡ [] → AreStepped c s
@@ -196,5 +199,5 @@ less_room a b d e f g h = go b.frontier refl
     go (p ∷ ps) z =
         let i = ap length z in
         let j = ap length f in
-        let k = ap (sum_by free) h in
+        let k = ap (sum_by free_count) h in
         omega (arith, e, i, j, k)

@@ -8,13 +8,13 @@ use Rattle.std.specs.BTreeMap.{is_at}
 use Rattle.std.specs.Cmp.{unsigned_tied}
 use Rattle.std.proofs.lemmas.Option.{slice_get_within, slice_get_cases, none-some, same_Some}
 use Rattle.std.proofs.lemmas.List.{length-append}
-use Rattle.sp_rules.specs.Areas.{given}
+use Rattle.sp_rules.specs.Areas.{on_option}
 use Rattle.sp_rules.specs.Shapes.{Shape}
 use Rattle.sp_shapes.specs.declared.stacks.Shape.{Shape as Kept}
 use Rattle.sp_shapes.specs.declared.stacks.Shape.TheVariants as kept
 use Rattle.sp_shapes.specs.declared.stacks.Cell.{Cell}
 use Rattle.sp_shapes.specs.declared.stacks.Stacks.{Stacks}
-use Rattle.sp_shapes.specs.Stacks.{shape_of, shapes_from, list_of, Holds, Extends, shape_key, key_of, number_at}
+use Rattle.sp_shapes.specs.Stacks.{shape_of, shapes_from, list_of, IsListNumber, Extends, shape_key, key_of, number_at}
 use Rattle.sp_shapes.specs.Stacks.{IsSmall, IsStacks}
 
 -- the rest of each list comes before it
@@ -52,8 +52,8 @@ same_from cs x early (suc k) (suc i) l = rw (kept_at cs x i (omega (arith, l)))
   where
     go : (o : Option Cell) → slice_get cs i ≡ o
         → ((m : ℕ) → m ≤ i → shapes_from (cs ++ x ∷ []) k m ≡ shapes_from cs k m)
-        → given [] o (λ c. shape_of c.shape ∷ shapes_from (cs ++ x ∷ []) k c.below)
-        ≡ given [] o (λ c. shape_of c.shape ∷ shapes_from cs k c.below)
+        → on_option [] o (λ c. shape_of c.shape ∷ shapes_from (cs ++ x ∷ []) k c.below)
+        ≡ on_option [] o (λ c. shape_of c.shape ∷ shapes_from cs k c.below)
     go None e on = refl
     go (Some c) e on = ap (λ ss. shape_of c.shape ∷ ss) (on c.below (early i c e))
 
@@ -69,8 +69,8 @@ enough cs early (suc k) (suc j) (suc i) h g = go (slice_get cs i) refl
     (λ m l. enough cs early k j m (omega (arith, l, h)) (omega (arith, l, g)))
   where
     go : (o : Option Cell) → slice_get cs i ≡ o → ((m : ℕ) → m ≤ i → shapes_from cs k m ≡ shapes_from cs j m)
-        → given [] o (λ c. shape_of c.shape ∷ shapes_from cs k c.below)
-        ≡ given [] o (λ c. shape_of c.shape ∷ shapes_from cs j c.below)
+        → on_option [] o (λ c. shape_of c.shape ∷ shapes_from cs k c.below)
+        ≡ on_option [] o (λ c. shape_of c.shape ∷ shapes_from cs j c.below)
     go None e on = refl
     go (Some c) e on = ap (λ ss. shape_of c.shape ∷ ss) (on c.below (early i c e))
 
@@ -81,7 +81,7 @@ list_at cs early i c e zero s = absurd (omega (arith, s))
 list_at cs early i c e (suc j) s =
     let t : j ≡ i = omega (arith, s) in
     let b : c.below ≤ i = early i c e in
-    ap (λ o. given [] o (λ d. shape_of d.shape ∷ shapes_from cs j d.below)) (ap (slice_get cs) t ∙ e)
+    ap (λ o. on_option [] o (λ d. shape_of d.shape ∷ shapes_from cs j d.below)) (ap (slice_get cs) t ∙ e)
     ∙ ap (λ ss. shape_of c.shape ∷ ss) (enough cs early j c.below c.below (omega (arith, b, t)) (omega arith))
 
 -- ---- keys
@@ -145,14 +145,15 @@ cell_at cs i l = ⊎_elim (λ h. (h.0, h.2)) (λ h. (let g = h.0 in absurd (omeg
 -- the list of a number, by its cell
 pub list_of_cell : (st : Stacks) → IsStacks st → (i : ℕ) (c : Cell) → slice_get st.cells i ≡ Some c → (n : ℕ)
     → n ≡ i + 1
-    → (list_of st n ≡ shape_of c.shape ∷ list_of st c.below) × Holds st c.below × Holds st n
+    → (list_of st n ≡ shape_of c.shape ∷ list_of st c.below) × IsListNumber st c.below × IsListNumber st n
 list_of_cell st h i c e n s =
     let b : c.below ≤ i = h.earlier i c e in
     let l : i < length st.cells = slice_get_within st.cells i c e in
     (list_at st.cells h.earlier i c e n s, omega (arith, b, l), omega (arith, l, s))
 
 -- equal lists have equal numbers
-pub upto : (st : Stacks) → IsStacks st → (k m n : ℕ) → m ≤ k → Holds st m → Holds st n → list_of st m ≡ list_of st n
+pub upto : (st : Stacks) → IsStacks st → (k m n : ℕ) → m ≤ k → IsListNumber st m → IsListNumber st n
+    → list_of st m ≡ list_of st n
     → m ≡ n
 upto st h k zero zero l a b e = refl
 upto st h k zero (suc j) l a b e =
@@ -189,13 +190,14 @@ upto st h (suc k) (suc i) (suc j) l a b e =
     same_parts : (s t : Shape) (ss ts : List Shape) → s ∷ ss ≡ t ∷ ts → (s ≡ t) × (ss ≡ ts)
     same_parts s t ss ts e = (cc, cc)
 
-pub one_number : (st : Stacks) → IsStacks st → (m n : ℕ) → Holds st m → Holds st n → list_of st m ≡ list_of st n → m ≡ n
+pub one_number : (st : Stacks) → IsStacks st → (m n : ℕ) → IsListNumber st m → IsListNumber st n
+    → list_of st m ≡ list_of st n → m ≡ n
 one_number st h m n a b e = upto st h m m n (omega arith) a b e
 
 -- what is known under a key is the list that it is the key of
-pub list_known : (st : Stacks) → IsStacks st → (s : Kept) (below n : ℕ) → IsSmall s → Holds st below
+pub list_known : (st : Stacks) → IsStacks st → (s : Kept) (below n : ℕ) → IsSmall s → IsListNumber st below
     → number_at st (key_of s below) ≡ Some n
-    → Holds st n × (list_of st n ≡ shape_of s ∷ list_of st below)
+    → IsListNumber st n × (list_of st n ≡ shape_of s ∷ list_of st below)
 list_known st h s below n small there e =
     let f = h.found (key_of s below) n e in
     let i = f.0 in
@@ -215,7 +217,7 @@ one_more cs x = length-append cs (x ∷ [])
 -- the stacks with one cell more, whose key was not there
 pub stacks_more : (old new : Stacks) (x : Cell) → IsStacks old → new.cells ≡ old.cells ++ x ∷ []
     → length old.cells + 1 < 4294967296
-    → Holds old x.below → IsSmall x.shape → number_at old (key_of x.shape x.below) ≡ None
+    → IsListNumber old x.below → IsSmall x.shape → number_at old (key_of x.shape x.below) ≡ None
     → ((q : ℕ) → number_at new q ≡ cond (key_of x.shape x.below == q) (Some (length old.cells + 1)) (number_at old q))
     → IsStacks new
 stacks_more old new x h e few there small none now =
@@ -282,7 +284,7 @@ stacks_extend old new x h e n l =
 -- the same, as a table is written
 pub stacks_grow : (old new : Stacks) (x : Cell) (key n : ℕ) → IsStacks old → new.cells ≡ old.cells ++ x ∷ []
     → n ≡ length old.cells + 1 → n ≤ 4294967295
-    → Holds old x.below → IsSmall x.shape → key ≡ key_of x.shape x.below → number_at old key ≡ None
+    → IsListNumber old x.below → IsSmall x.shape → key ≡ key_of x.shape x.below → number_at old key ≡ None
     → ((q : ℕ) → number_at new q ≡ cond (is_at (nat_cmp key) q) (Some n) (number_at old q)) → IsStacks new
 stacks_grow old new x key n h e s few there small k none now =
     stacks_more old new x h e (omega (arith, s, few)) there small (ap (number_at old) (sym k) ∙ none)
@@ -291,7 +293,7 @@ stacks_grow old new x key n h e s few there small k none now =
 
 pub list_more : (old new : Stacks) (x : Cell) (n : ℕ) → IsStacks old → IsStacks new → new.cells ≡ old.cells ++ x ∷ []
     → n ≡ length old.cells + 1
-    → Holds old x.below → Holds new n × (list_of new n ≡ shape_of x.shape ∷ list_of old x.below)
+    → IsListNumber old x.below → IsListNumber new n × (list_of new n ≡ shape_of x.shape ∷ list_of old x.below)
 list_more old new x n h g e s there =
     let at : slice_get new.cells (length old.cells) ≡ Some x = ap (λ cs. slice_get cs (length old.cells)) e
     ∙ new_at old.cells x in

@@ -21,29 +21,30 @@ use Rattle.sp_areas.proofs.Owned.{layout_in}
 use Rattle.sp_shapes.specs.declared.steps.Arrival.{Arrival}
 use Rattle.sp_shapes.specs.declared.search.Search.{Search}
 use Rattle.sp_shapes.specs.Stacks.{IsStacks, list_of}
-use Rattle.sp_shapes.specs.Search.{IsAmong, HasAt, IsMarked, Compares}
-use Rattle.sp_shapes.specs.Starts.{start, AreAll, IsEntry, Adds, IsOfLayouts, IsOfChildren, IsMadeAt, IsMade}
+use Rattle.sp_shapes.specs.Search.{IsOneOf, HasAt, IsMarked, WhileComparing}
+use Rattle.sp_shapes.specs.Starts.{start, AreAll, IsEntry, AddsStarts, IsOfLayouts, IsOfChildren, IsMadeAt, IsMade}
 use Rattle.sp_shapes.proofs.Searching.{among_last, among_left, among_or}
 
 module _ (c : Parts) where
-  pub adds_one : (xs : List Arrival) (q : ℕ) → IsEntry c q → Adds c (λ r. r ≡ q) xs (xs ++ start q ∷ [])
+  pub adds_one : (xs : List Arrival) (q : ℕ) → IsEntry c q → AddsStarts c (λ r. r ≡ q) xs (xs ++ start q ∷ [])
   adds_one xs q h = record {
     keeps = λ x a. among_left x xs (start q ∷ []) a;
     true_of = λ x a. ⊎_elim (λ b. inl b)
         (λ e. inr (subst (λ (z : Arrival). (z ≡ start z.at) × IsEntry c z.at) (sym e) (refl, h)))
         (among_or x (start q) xs a);
-    has = λ r e. subst (λ z. IsAmong (start z) (xs ++ start q ∷ [])) (sym e) (among_last (start q) xs);
+    has = λ r e. subst (λ z. IsOneOf (start z) (xs ++ start q ∷ [])) (sym e) (among_last (start q) xs);
   }
 
-  pub adds_then : (Q R S : ℕ → Type 0) (xs ys zs : List Arrival) → ((q : ℕ) → S q → Q q ⊎ R q) → Adds c Q xs ys
-      → Adds c R ys zs → Adds c S xs zs
+  pub adds_then : (Q R S : ℕ → Type 0) (xs ys zs : List Arrival) → ((q : ℕ) → S q → Q q ⊎ R q) → AddsStarts c Q xs ys
+      → AddsStarts c R ys zs → AddsStarts c S xs zs
   adds_then Q R S xs ys zs f h g = record {
     keeps = λ x a. g.keeps x (h.keeps x a);
     true_of = λ x a. ⊎_elim (λ b. h.true_of x b) (λ b. inr b) (g.true_of x a);
     has = λ q s. ⊎_elim (λ a. g.keeps (start q) (h.has q a)) (λ a. g.has q a) (f q s);
   }
 
-  pub adds_as : (Q R : ℕ → Type 0) (xs ys : List Arrival) → ((q : ℕ) → R q → Q q) → Adds c Q xs ys → Adds c R xs ys
+  pub adds_as : (Q R : ℕ → Type 0) (xs ys : List Arrival) → ((q : ℕ) → R q → Q q) → AddsStarts c Q xs ys
+      → AddsStarts c R xs ys
   adds_as Q R xs ys f h = record { keeps = h.keeps; true_of = h.true_of; has = λ q r. h.has q (f q r) }
 
   -- ---- blocks
@@ -123,13 +124,13 @@ module _ (c : Parts) where
           (sym (ap (λ (o : Option Instr). child_of (table_at c.forks (table_named o)) k) z) ∙ e))
       go (Some i) z = slice_get_within c.instrs p i z
 
-  module _ (xs ys zs : List Arrival) (none : xs ≡ []) (blocks : Adds c (IsOfLayouts c (length c.layouts)) xs ys)
-      (forks : Adds c (IsMade c (length c.instrs)) ys zs) where
-    all_true : (x : Arrival) → IsAmong x zs → (x ≡ start x.at) × IsEntry c x.at
-    all_true x a = ⊎_elim (λ b. ⊎_elim (λ d. absurd (subst (IsAmong x) none d)) (λ z. z) (blocks.true_of x b)) (λ z. z)
+  module _ (xs ys zs : List Arrival) (none : xs ≡ []) (blocks : AddsStarts c (IsOfLayouts c (length c.layouts)) xs ys)
+      (forks : AddsStarts c (IsMade c (length c.instrs)) ys zs) where
+    all_true : (x : Arrival) → IsOneOf x zs → (x ≡ start x.at) × IsEntry c x.at
+    all_true x a = ⊎_elim (λ b. ⊎_elim (λ d. absurd (subst (IsOneOf x) none d)) (λ z. z) (blocks.true_of x b)) (λ z. z)
         (forks.true_of x a)
 
-    all_there : (a : Area) → IsArea c a → IsAmong (start (entry c a)) zs
+    all_there : (a : Area) → IsArea c a → IsOneOf (start (entry c a)) zs
     all_there (Body b) (l, e) =
         let z = layout_in c.layouts b l e in
         forks.keeps (start (entry c (Body b)))
@@ -149,7 +150,7 @@ module _ (c : Parts) where
 
     pub begun : (s : Search) → s.arrivals ≡ zs → IsStacks s.stacks → length s.at ≡ length c.instrs
         → length s.broken ≡ length c.instrs → ((p k : ℕ) → HasAt s p k → ⊥) → ((p : ℕ) → IsMarked s p → ⊥)
-        → Compares c 0 s
+        → WhileComparing c 0 s
     begun s e stacks size marks bare unmarked = record {
       sound = record {
         stacks = stacks;
@@ -164,11 +165,11 @@ module _ (c : Parts) where
       };
       closed = λ p k h. absurd (bare p k h);
       covers = λ a p ss w. inr
-          (start (entry c a), subst (IsAmong (start (entry c a))) (sym e) (all_there a w.0), sym w.1.0, sym w.1.1);
+          (start (entry c a), subst (IsOneOf (start (entry c a))) (sym e) (all_there a w.0), sym w.1.0, sym w.1.1);
     }
       where
-        true_at : (x : Arrival) → IsAmong x s.arrivals → (x ≡ start x.at) × IsEntry c x.at
-        true_at x a = all_true x (subst (IsAmong x) e a)
+        true_at : (x : Arrival) → IsOneOf x s.arrivals → (x ≡ start x.at) × IsEntry c x.at
+        true_at x a = all_true x (subst (IsOneOf x) e a)
 
 pub bare_at : (s : Search) (n : ℕ) → AreAll None n s.at → (p k : ℕ) → HasAt s p k → ⊥
 bare_at s n h p k e = none-some k (sym (h.1 p (Some k) e))

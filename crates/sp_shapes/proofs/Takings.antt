@@ -5,22 +5,22 @@ use Rattle.sp_rules.specs.Shapes.{Shape, Shaped, take_all}
 use Rattle.sp_shapes.specs.declared.stacks.Stacks.{Stacks}
 use Rattle.sp_shapes.specs.declared.plans.Takes.TheVariants as takes
 use Rattle.sp_shapes.specs.declared.taking.Taken.{Taken}
-use Rattle.sp_shapes.specs.Stacks.{Holds, list_of}
+use Rattle.sp_shapes.specs.Stacks.{IsListNumber, list_of}
 use Rattle.sp_shapes.specs.Plans.{take}
 use Rattle.sp_shapes.specs.Taking.{IsTaken}
 
 -- of so many some are taken, and this is the rest
 pub record AreGone (st : Stacks) (n count k rest : ℕ) : Type 0 where
-  pub held : Holds st rest
+  pub held : IsListNumber st rest
   pub left : ℕ
   pub sum : k + left ≡ count
   pub goes : (go : List Shape → Shaped) → take_all count (list_of st n) go ≡ take_all left (list_of st rest) go
 
-pub none_gone : (st : Stacks) (n count : ℕ) → Holds st n → AreGone st n count 0 n
+pub none_gone : (st : Stacks) (n count : ℕ) → IsListNumber st n → AreGone st n count 0 n
 none_gone st n count h = record { held = h; left = count; sum = omega arith; goes = λ go. refl }
 
 pub one_gone : (st : Stacks) (n count k rest below : ℕ) (s : Shape) → AreGone st n count k rest → k < count
-    → list_of st rest ≡ s ∷ list_of st below → Holds st below → AreGone st n count (k + 1) below
+    → list_of st rest ≡ s ∷ list_of st below → IsListNumber st below → AreGone st n count (k + 1) below
 one_gone st n count k rest below s h l e there = go h.left refl
   where
     go : (m : ℕ) → h.left ≡ m → AreGone st n count (k + 1) below
@@ -51,5 +51,5 @@ gone_all st n count k rest h e =
     record {
       goes = λ g. h.goes (g 0 0) ∙ ap (λ i. take_all i (list_of st rest) (g 0 0)) z;
       held =
-          λ t y. subst (Holds st) (ap (λ (w : Taken). w.rest) (same_Some _ t y)) h.held;
+          λ t y. subst (IsListNumber st) (ap (λ (w : Taken). w.rest) (same_Some _ t y)) h.held;
     }

@@ -10,8 +10,8 @@ use Rattle.sp_code.specs.declared.code.ChildTable.{ChildTable}
 use Rattle.sp_code.specs.declared.code.Parts.{Parts}
 use Rattle.sp_rules.specs.Areas.{Area, Body, Child, instr_at, table_named, table_at, child_of, entry, entry_of_child}
 use Rattle.sp_rules.specs.Areas.{entry_of_layout}
-use Rattle.sp_rules.specs.Shapes.{Shape, shaped}
-use Rattle.sp_rules.specs.Reach.{IsIn, IsArea, Goes, Brings, Leads, nexts}
+use Rattle.sp_rules.specs.Shapes.{Shape, instr_shapes}
+use Rattle.sp_rules.specs.Reach.{IsIn, IsArea, LeadsInSteps, Brings, LeadsWith, nexts}
 use Rattle.sp_rules.specs.Named.{LiesIn, NotThere, InTwo, names_there}
 use Rattle.sp_rules.specs.Rules.{ArrivesAt}
 use Rattle.sp_areas.specs.Only.{LiesOnlyIn}
@@ -36,12 +36,13 @@ same_area (Child a p k) (Child d q j) = go (same_area a d) (cases_eq p q) (cases
 
 -- ---- ways
 
-pub goes_on : (c : Parts) (n p q r : ℕ) → Goes c n p q → IsIn r (nexts q (instr_at c q)) → Goes c (suc n) p r
+pub goes_on : (c : Parts) (n p q r : ℕ) → LeadsInSteps c n p q → IsIn r (nexts q (instr_at c q))
+    → LeadsInSteps c (suc n) p r
 goes_on c zero p q r e j = (r, subst (λ z. IsIn r (nexts z (instr_at c z))) (sym e) j, refl)
 goes_on c (suc n) p q r g j = (g.0, g.1, goes_on c n g.0 q r g.2 j)
 
 pub lies_on : (c : Parts) (a : Area) (p q : ℕ) (ss ts : List Shape) → LiesIn c p a
-    → Leads (shaped c a (instr_at c p) p ss) q ts → LiesIn c q a
+    → LeadsWith (instr_shapes c a (instr_at c p) p ss) q ts → LiesIn c q a
 lies_on c a p q ss ts h k = (
   h.0,
   record {
@@ -140,7 +141,8 @@ module _ (c : Parts) (v1 : KeepsV1 c) where
           }))))
 
   -- from within the code one goes on within the code
-  along : (a : Area) (n p q : ℕ) → IsArea c a → LiesIn c p a → p < length c.instrs → Goes c n p q → q < length c.instrs
+  along : (a : Area) (n p q : ℕ) → IsArea c a → LiesIn c p a → p < length c.instrs → LeadsInSteps c n p q
+      → q < length c.instrs
   along a zero p q h k l e = subst (λ z. z < length c.instrs) e l
   along a (suc n) p q h k l (r, j, g) = along a n r q h on (go (next_within c p r (instr_at c p) (there p) j)) g
     where

@@ -7,7 +7,7 @@ use Rattle.std.specs.BTreeMap.{BTreeMap, get}
 use Rattle.sp_code.specs.declared.instr.Instr.{Instr}
 use Rattle.sp_code.specs.declared.instr.Instr.TheVariants as i
 use Rattle.sp_code.specs.declared.code.Parts.{Parts}
-use Rattle.sp_rules.specs.Areas.{given, instr_at}
+use Rattle.sp_rules.specs.Areas.{on_option, instr_at}
 use Rattle.sp_rules.specs.Shapes.{Shape}
 use Rattle.sp_rules.specs.Standing.{message_cells, cells_left}
 use Rattle.sp_shapes.specs.declared.shapes.Shapes.{Shapes}
@@ -31,10 +31,10 @@ received_by c o ss = None
 
 -- with those that it is reached with
 abbrev pub sent_at : Parts → Shapes → ℕ → Option Message
-sent_at c s p = given None (shapes_at s p) (λ ss. sent_by c (instr_at c p) ss)
+sent_at c s p = on_option None (shapes_at s p) (λ ss. sent_by c (instr_at c p) ss)
 
 abbrev pub received_at : Parts → Shapes → ℕ → Option Message
-received_at c s p = given None (shapes_at s p) (λ ss. received_by c (instr_at c p) ss)
+received_at c s p = on_option None (shapes_at s p) (λ ss. received_by c (instr_at c p) ss)
 
 -- a message has another length than one of its type that is sent earlier
 pub record Differs (c : Parts) (s : Shapes) (p : ℕ) : Type 0 where
@@ -48,7 +48,7 @@ pub record Differs (c : Parts) (s : Shapes) (p : ℕ) : Type 0 where
   pub apart : other.cells ≢ one.cells
 
 -- there is no room for a message that is sent somewhere
-pub record Lacks (c : Parts) (s : Shapes) (p : ℕ) : Type 0 where
+pub record LacksRoom (c : Parts) (s : Shapes) (p : ℕ) : Type 0 where
   pub room : Message
   pub received : received_at c s p ≡ Some room
   pub place : ℕ
@@ -64,13 +64,13 @@ abbrev pub length_of : BTreeMap ℕ ℕ → ℕ → Option ℕ
 length_of m k = get nat_cmp m k
 
 -- the message's length stands under its type; all others are as before
-abbrev pub Puts : BTreeMap ℕ ℕ → BTreeMap ℕ ℕ → Message → Type 0
-Puts old new w = (k : ℕ) → length_of new k ≡ cond (w.kind == k) (Some w.cells) (length_of old k)
+abbrev pub PutsLength : BTreeMap ℕ ℕ → BTreeMap ℕ ℕ → Message → Type 0
+PutsLength old new w = (k : ℕ) → length_of new k ≡ cond (w.kind == k) (Some w.cells) (length_of old k)
 
 -- the same, unless a length that is no less stands there
 abbrev pub PutsGreatest : BTreeMap ℕ ℕ → BTreeMap ℕ ℕ → Message → Type 0
 PutsGreatest old new w = ((x : ℕ) × (length_of old w.kind ≡ Some x) × (w.cells ≤ x) × (new ≡ old))
-    ⊎ (Puts old new w × ((x : ℕ) → length_of old w.kind ≡ Some x → x ≤ w.cells))
+    ⊎ (PutsLength old new w × ((x : ℕ) → length_of old w.kind ≡ Some x → x ≤ w.cells))
 
 -- the table has a length for each type of which one of the first n instructions sends a message, to which all of these
 -- are so
@@ -83,4 +83,4 @@ pub record AreLengths (R : ℕ → ℕ → Type 0) (c : Parts) (s : Shapes) (n :
 -- a message of which the table has a greater length
 abbrev pub is_longer : BTreeMap ℕ ℕ → Option Message → Bool
 is_longer m None = false
-is_longer m (Some w) = given false (length_of m w.kind) (λ x. nat_lt w.cells x)
+is_longer m (Some w) = on_option false (length_of m w.kind) (λ x. nat_lt w.cells x)

@@ -6,8 +6,9 @@ use Rattle.sp_code.specs.declared.instr.Instr.TheVariants as i
 use Rattle.sp_code.specs.declared.code.Layout.{Layout}
 use Rattle.sp_code.specs.declared.code.Parts.{Parts}
 use Rattle.sp_code.specs.Machine.{layout_of}
-use Rattle.sp_rules.specs.Areas.{Area, Found, variable_at}
-use Rattle.sp_rules.specs.Shapes.{Shape, Shaped, Wrong, To, on, either, take_o, take_c, take_a, take_value, take_same}
+use Rattle.sp_rules.specs.Areas.{Area, VariableInfo, variable_at}
+use Rattle.sp_rules.specs.Shapes.{Shape, Shaped, Wrong, To, to_one, to_two, take_o, take_c, take_a, take_value}
+use Rattle.sp_rules.specs.Shapes.{take_same}
 use Rattle.sp_rules.specs.Shapes.{take_cells, take_all}
 use Rattle.sp_shapes.specs.declared.stacks.Shape.{Shape as Kept}
 use Rattle.sp_shapes.specs.declared.stacks.Shape.TheVariants as kept
@@ -24,11 +25,11 @@ use Rattle.sp_shapes.specs.Stacks.{shape_of}
 
 -- ---- the forms
 
-abbrev pub straight : Plan
-straight = record { takes = takes.Nothing; leaves = leaves.Nothing; goes = goes.Next }
+abbrev pub straight_plan : Plan
+straight_plan = record { takes = takes.Nothing; leaves = leaves.Nothing; goes = goes.Next }
 
-abbrev pub pushed : Kept → Plan
-pushed s = record { takes = takes.Nothing; leaves = leaves.One s; goes = goes.Next }
+abbrev pub push_plan : Kept → Plan
+push_plan s = record { takes = takes.Nothing; leaves = leaves.One s; goes = goes.Next }
 
 abbrev pub two_to_one : Plan
 two_to_one = record { takes = takes.Two kind.Ordinal kind.Ordinal; leaves = leaves.One kept.Ordinal; goes = goes.Next }
@@ -42,106 +43,109 @@ one_gone = record { takes = takes.One kind.Ordinal; leaves = leaves.Nothing; goe
 abbrev pub two_gone : Plan
 two_gone = record { takes = takes.Two kind.Ordinal kind.Ordinal; leaves = leaves.Nothing; goes = goes.Next }
 
-abbrev pub read : Kept → Plan
-read s = record { takes = takes.One kind.Address; leaves = leaves.One s; goes = goes.Next }
+abbrev pub read_plan : Kept → Plan
+read_plan s = record { takes = takes.One kind.Address; leaves = leaves.One s; goes = goes.Next }
 
-abbrev pub filled : Plan
-filled = record { takes = takes.One kind.Address; leaves = leaves.Nothing; goes = goes.Next }
+abbrev pub fill_plan : Plan
+fill_plan = record { takes = takes.One kind.Address; leaves = leaves.Nothing; goes = goes.Next }
 
 abbrev pub pair_gone : Kind → Kind → Plan
 pair_gone k j = record { takes = takes.Two k j; leaves = leaves.Nothing; goes = goes.Next }
 
-abbrev pub compared : Plan
-compared = record { takes = takes.Same; leaves = leaves.One kept.Ordinal; goes = goes.Next }
+abbrev pub compare_plan : Plan
+compare_plan = record { takes = takes.Same; leaves = leaves.One kept.Ordinal; goes = goes.Next }
 
-abbrev pub last : Plan
-last = record { takes = takes.Last; leaves = leaves.Nothing; goes = goes.Nowhere }
+abbrev pub last_plan : Plan
+last_plan = record { takes = takes.Last; leaves = leaves.Nothing; goes = goes.Nowhere }
 
-abbrev pub led : Takes → Leaves → Goes → Plan
-led t l g = record { takes = t; leaves = l; goes = g }
+abbrev pub plan_of_parts : Takes → Leaves → Goes → Plan
+plan_of_parts t l g = record { takes = t; leaves = l; goes = g }
 
 -- an instruction that names no variable and calls no block
-abbrev pub plain : Instr → Plan
-plain (i.Const v) = pushed kept.Ordinal
-plain (i.Index low high size) = led (takes.Two kind.Ordinal kind.Address) (leaves.Inside size) goes.Next
-plain (i.Field k) = led (takes.One kind.Address) (leaves.Further k) goes.Next
-plain i.Load = read kept.Ordinal
-plain i.Loadc = read kept.Channel
-plain i.Store = pair_gone kind.Value kind.Address
-plain (i.Copy v) = pair_gone kind.Address kind.Address
-plain i.Add = two_to_one
-plain i.Sub = two_to_one
-plain i.Mul = two_to_one
-plain i.Div = two_to_one
-plain i.Mod = two_to_one
-plain i.Neg = one_to_one
-plain i.Abs = one_to_one
-plain i.Sqr = one_to_one
-plain i.Odd = one_to_one
-plain i.And = two_to_one
-plain i.Or = two_to_one
-plain i.Not = one_to_one
-plain i.Eq = compared
-plain i.Ne = compared
-plain i.Lt = two_to_one
-plain i.Le = two_to_one
-plain i.Gt = two_to_one
-plain i.Ge = two_to_one
-plain (i.Range low high) = one_to_one
-plain (i.Succ v) = one_to_one
-plain (i.Pred v) = one_to_one
-plain (i.Jump to) = led takes.Nothing leaves.Nothing (goes.There to)
-plain (i.Jumpf to) = led (takes.One kind.Ordinal) leaves.Nothing (goes.Either to)
-plain (i.Casej v to) = led (takes.One kind.Ordinal) (leaves.One kept.Ordinal) (goes.Past to)
-plain i.Nocase = one_gone
-plain i.Tick = straight
-plain i.Assume = one_gone
-plain (i.Forup var to) = led (takes.Two kind.Ordinal kind.Ordinal) (leaves.One kept.Ordinal) (goes.Past to)
-plain (i.Fordown var to) = led (takes.Two kind.Ordinal kind.Ordinal) (leaves.One kept.Ordinal) (goes.Past to)
-plain (i.Nextup var to) = led (takes.One kind.Ordinal) (leaves.One kept.Ordinal) (goes.Back to)
-plain (i.Nextdown var to) = led (takes.One kind.Ordinal) (leaves.One kept.Ordinal) (goes.Back to)
-plain i.Return = last
-plain i.ReadInt = filled
-plain i.ReadChar = filled
-plain i.Readln = straight
-plain i.Eof = pushed kept.Ordinal
-plain i.Eoln = pushed kept.Ordinal
-plain i.WriteInt = one_gone
-plain i.WriteChar = one_gone
-plain i.WriteBool = one_gone
-plain (i.WriteText v) = straight
-plain i.WritewInt = two_gone
-plain i.WritewChar = two_gone
-plain i.WritewBool = two_gone
-plain (i.WritewText v) = one_gone
-plain i.Writeln = straight
-plain (i.Pack k) = read (kept.Cells k)
-plain i.Open = filled
-plain (i.Send v) = pair_gone kind.Message kind.Channel
-plain (i.Receive v) = pair_gone kind.Address kind.Channel
-plain (i.Fork v) = straight
-plain (i.Forall v) = two_gone
-plain i.End = last
-plain _ = straight
+abbrev pub plain_plan : Instr → Plan
+plain_plan (i.Const v) = push_plan kept.Ordinal
+plain_plan (i.Index low high size) = plan_of_parts (takes.Two kind.Ordinal kind.Address) (leaves.Inside size) goes.Next
+plain_plan (i.Field k) = plan_of_parts (takes.One kind.Address) (leaves.Further k) goes.Next
+plain_plan i.Load = read_plan kept.Ordinal
+plain_plan i.Loadc = read_plan kept.Channel
+plain_plan i.Store = pair_gone kind.Value kind.Address
+plain_plan (i.Copy v) = pair_gone kind.Address kind.Address
+plain_plan i.Add = two_to_one
+plain_plan i.Sub = two_to_one
+plain_plan i.Mul = two_to_one
+plain_plan i.Div = two_to_one
+plain_plan i.Mod = two_to_one
+plain_plan i.Neg = one_to_one
+plain_plan i.Abs = one_to_one
+plain_plan i.Sqr = one_to_one
+plain_plan i.Odd = one_to_one
+plain_plan i.And = two_to_one
+plain_plan i.Or = two_to_one
+plain_plan i.Not = one_to_one
+plain_plan i.Eq = compare_plan
+plain_plan i.Ne = compare_plan
+plain_plan i.Lt = two_to_one
+plain_plan i.Le = two_to_one
+plain_plan i.Gt = two_to_one
+plain_plan i.Ge = two_to_one
+plain_plan (i.Range low high) = one_to_one
+plain_plan (i.Succ v) = one_to_one
+plain_plan (i.Pred v) = one_to_one
+plain_plan (i.Jump to) = plan_of_parts takes.Nothing leaves.Nothing (goes.There to)
+plain_plan (i.Jumpf to) = plan_of_parts (takes.One kind.Ordinal) leaves.Nothing (goes.Either to)
+plain_plan (i.Casej v to) = plan_of_parts (takes.One kind.Ordinal) (leaves.One kept.Ordinal) (goes.Past to)
+plain_plan i.Nocase = one_gone
+plain_plan i.Tick = straight_plan
+plain_plan i.Assume = one_gone
+plain_plan (i.Forup var to) = plan_of_parts (takes.Two kind.Ordinal kind.Ordinal) (leaves.One kept.Ordinal)
+    (goes.Past to)
+plain_plan (i.Fordown var to) = plan_of_parts (takes.Two kind.Ordinal kind.Ordinal) (leaves.One kept.Ordinal)
+    (goes.Past to)
+plain_plan (i.Nextup var to) = plan_of_parts (takes.One kind.Ordinal) (leaves.One kept.Ordinal) (goes.Back to)
+plain_plan (i.Nextdown var to) = plan_of_parts (takes.One kind.Ordinal) (leaves.One kept.Ordinal) (goes.Back to)
+plain_plan i.Return = last_plan
+plain_plan i.ReadInt = fill_plan
+plain_plan i.ReadChar = fill_plan
+plain_plan i.Readln = straight_plan
+plain_plan i.Eof = push_plan kept.Ordinal
+plain_plan i.Eoln = push_plan kept.Ordinal
+plain_plan i.WriteInt = one_gone
+plain_plan i.WriteChar = one_gone
+plain_plan i.WriteBool = one_gone
+plain_plan (i.WriteText v) = straight_plan
+plain_plan i.WritewInt = two_gone
+plain_plan i.WritewChar = two_gone
+plain_plan i.WritewBool = two_gone
+plain_plan (i.WritewText v) = one_gone
+plain_plan i.Writeln = straight_plan
+plain_plan (i.Pack k) = read_plan (kept.Cells k)
+plain_plan i.Open = fill_plan
+plain_plan (i.Send v) = pair_gone kind.Message kind.Channel
+plain_plan (i.Receive v) = pair_gone kind.Address kind.Channel
+plain_plan (i.Fork v) = straight_plan
+plain_plan (i.Forall v) = two_gone
+plain_plan i.End = last_plan
+plain_plan _ = straight_plan
 
 -- one that names a variable, and a call
-abbrev pub addressed : Option Found → Option Plan
-addressed None = None
-addressed (Some f) = Some (pushed (kept.Address f.number f.cells))
+abbrev pub address_plan : Option VariableInfo → Option Plan
+address_plan None = None
+address_plan (Some f) = Some (push_plan (kept.Address f.number f.cells))
 
-abbrev pub calling : Layout → Plan
-calling l = led (takes.Many (length l.formals)) (if l.answer then leaves.One kept.Ordinal else leaves.Nothing) goes.Next
+abbrev pub layout_call_plan : Layout → Plan
+layout_call_plan l = plan_of_parts (takes.Many (length l.formals))
+    (if l.answer then leaves.One kept.Ordinal else leaves.Nothing) goes.Next
 
-abbrev pub called : Option Layout → Option Plan
-called None = None
-called (Some l) = Some (calling l)
+abbrev pub call_plan : Option Layout → Option Plan
+call_plan None = None
+call_plan (Some l) = Some (layout_call_plan l)
 
 -- an instruction in an area
 abbrev pub plan_at : Parts → Area → Instr → Option Plan
-plan_at c a (i.Addr up var) = addressed (variable_at c a up var)
-plan_at c a (i.Deref up var) = addressed (variable_at c a up var)
-plan_at c a (i.Call b up) = called (layout_of c.layouts b)
-plan_at c a o = Some (plain o)
+plan_at c a (i.Addr up var) = address_plan (variable_at c a up var)
+plan_at c a (i.Deref up var) = address_plan (variable_at c a up var)
+plan_at c a (i.Call b up) = call_plan (layout_of c.layouts b)
+plan_at c a o = Some (plain_plan o)
 
 -- ---- what the forms do
 
@@ -173,18 +177,18 @@ left (leaves.One s) x n = Some s
 left (leaves.Inside size) x n = Some (kept.Address x size)
 left (leaves.Further k) x n = Some (kept.Address x (n - k))
 
-abbrev pub topped : Option Kept → List Shape → List Shape
-topped None ss = ss
-topped (Some s) ss = shape_of s ∷ ss
+abbrev pub with_top : Option Kept → List Shape → List Shape
+with_top None ss = ss
+with_top (Some s) ss = shape_of s ∷ ss
 
 -- on from p, with what is left on top and with the rest alone
 abbrev pub go_on : Goes → ℕ → List Shape → List Shape → Shaped
 go_on goes.Nowhere p ts ss = To []
-go_on goes.Next p ts ss = on (p + 1) ts
-go_on (goes.There to) p ts ss = on to ts
-go_on (goes.Either to) p ts ss = either (p + 1) ts to ts
-go_on (goes.Past to) p ts ss = either (p + 1) ts to ss
-go_on (goes.Back to) p ts ss = either to ts (p + 1) ss
+go_on goes.Next p ts ss = to_one (p + 1) ts
+go_on (goes.There to) p ts ss = to_one to ts
+go_on (goes.Either to) p ts ss = to_two (p + 1) ts to ts
+go_on (goes.Past to) p ts ss = to_two (p + 1) ts to ss
+go_on (goes.Back to) p ts ss = to_two to ts (p + 1) ss
 
 -- where that is
 abbrev pub goes_to : Goes → ℕ → List ℕ
@@ -197,7 +201,7 @@ goes_to (goes.Back to) p = to ∷ (p + 1) ∷ []
 
 -- what was taken is gone, and it goes on with what is left
 abbrev pub goes_with : Plan → ℕ → ℕ → ℕ → List Shape → Shaped
-goes_with pl p x n ss = go_on pl.goes p (topped (left pl.leaves x n) ss) ss
+goes_with pl p x n ss = go_on pl.goes p (with_top (left pl.leaves x n) ss) ss
 
 abbrev pub by_plan : Plan → ℕ → List Shape → Shaped
 by_plan pl p ss = take pl.takes ss (goes_with pl p)

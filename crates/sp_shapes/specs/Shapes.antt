@@ -6,17 +6,17 @@ use Rattle.sp_code.specs.declared.code.Parts.{Parts}
 use Rattle.sp_rules.specs.Areas.{Area}
 use Rattle.sp_rules.specs.Shapes.{Shape}
 use Rattle.sp_rules.specs.Rules.{ComesTo, BreaksV2}
-use Rattle.sp_areas.specs.Least.{IsLeast}
+use Rattle.sp_areas.specs.LeastPlaces.{IsLeast}
 use Rattle.sp_shapes.specs.declared.shapes.Shapes.{Shapes}
 use Rattle.sp_shapes.specs.declared.shapes.Outcome.{Outcome}
 use Rattle.sp_shapes.specs.declared.shapes.Outcome.TheVariants as outcome
-use Rattle.sp_shapes.specs.Stacks.{Holds, IsStacks, list_of}
+use Rattle.sp_shapes.specs.Stacks.{IsListNumber, IsStacks, list_of}
 
 -- the table has, for each instruction that is reached, the shapes that it is reached with, and nothing for the others
 pub record AreShapes (c : Parts) (s : Shapes) : Type 0 where
   pub stacks : IsStacks s.stacks
   pub size : length s.at ≡ length c.instrs
-  pub held : (p k : ℕ) → slice_get s.at p ≡ Some (Some k) → Holds s.stacks k
+  pub held : (p k : ℕ) → slice_get s.at p ≡ Some (Some k) → IsListNumber s.stacks k
   pub come : (p k : ℕ) → slice_get s.at p ≡ Some (Some k) → (a : Area) × ComesTo c a p (list_of s.stacks k)
   pub all : (a : Area) (p : ℕ) (ss : List Shape) → ComesTo c a p ss
       → (k : ℕ) × (slice_get s.at p ≡ Some (Some k)) × (list_of s.stacks k ≡ ss)

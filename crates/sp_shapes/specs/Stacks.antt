@@ -3,7 +3,7 @@
 use Rattle.std.specs.Prelude.{◌≡◌, ℕ, zero, suc, ◌+◌, ◌*◌, ◌≤◌, ◌<◌, List, [], ◌∷◌, Option, Some, slice_get, length}
 use Rattle.std.specs.Ordering.{nat_cmp}
 use Rattle.std.specs.BTreeMap.{get}
-use Rattle.sp_rules.specs.Areas.{given}
+use Rattle.sp_rules.specs.Areas.{on_option}
 use Rattle.sp_rules.specs.Shapes.{Shape, O, C, L, A}
 use Rattle.sp_shapes.specs.declared.stacks.Shape.{Shape as Kept}
 use Rattle.sp_shapes.specs.declared.stacks.Shape.TheVariants as kept
@@ -21,19 +21,19 @@ shape_of (kept.Address x n) = A x n
 abbrev pub shapes_from : List Cell → ℕ → ℕ → List Shape
 shapes_from cs zero n = []
 shapes_from cs (suc k) zero = []
-shapes_from cs (suc k) (suc i) = given [] (slice_get cs i) (λ c. shape_of c.shape ∷ shapes_from cs k c.below)
+shapes_from cs (suc k) (suc i) = on_option [] (slice_get cs i) (λ c. shape_of c.shape ∷ shapes_from cs k c.below)
 
 -- the list of a number: 0 is the empty one
 abbrev pub list_of : Stacks → ℕ → List Shape
 list_of st n = shapes_from st.cells n n
 
 -- a number of a list
-abbrev pub Holds : Stacks → ℕ → Type 0
-Holds st n = n ≤ length st.cells
+abbrev pub IsListNumber : Stacks → ℕ → Type 0
+IsListNumber st n = n ≤ length st.cells
 
 -- each list that was there is there, under its number
 abbrev pub Extends : Stacks → Stacks → Type 0
-Extends old new = (n : ℕ) → Holds old n → Holds new n × (list_of new n ≡ list_of old n)
+Extends old new = (n : ℕ) → IsListNumber old n → IsListNumber new n × (list_of new n ≡ list_of old n)
 
 -- a shape by one number; of another shape it is another one
 abbrev pub shape_key : Kept → ℕ

@@ -9,7 +9,7 @@ use Rattle.sp_rules.specs.Areas.{Area, child_at, entry}
 use Rattle.sp_rules.specs.Reach.{IsArea}
 use Rattle.sp_rules.specs.Named.{LiesIn}
 use Rattle.sp_shapes.specs.declared.steps.Arrival.{Arrival}
-use Rattle.sp_shapes.specs.Search.{IsAmong}
+use Rattle.sp_shapes.specs.Search.{IsOneOf}
 
 -- the empty list, brought there
 abbrev pub start : ℕ → Arrival
@@ -24,10 +24,10 @@ abbrev pub IsEntry : Parts → ℕ → Type 0
 IsEntry c q = (a : Area) × IsArea c a × (entry c a ≡ q)
 
 -- starts are added, only where areas begin, and wherever this holds
-pub record Adds (c : Parts) (Q : ℕ → Type 0) (old new : List Arrival) : Type 0 where
-  pub keeps : (x : Arrival) → IsAmong x old → IsAmong x new
-  pub true_of : (x : Arrival) → IsAmong x new → IsAmong x old ⊎ ((x ≡ start x.at) × IsEntry c x.at)
-  pub has : (q : ℕ) → Q q → IsAmong (start q) new
+pub record AddsStarts (c : Parts) (Q : ℕ → Type 0) (old new : List Arrival) : Type 0 where
+  pub keeps : (x : Arrival) → IsOneOf x old → IsOneOf x new
+  pub true_of : (x : Arrival) → IsOneOf x new → IsOneOf x old ⊎ ((x ≡ start x.at) × IsEntry c x.at)
+  pub has : (q : ℕ) → Q q → IsOneOf (start q) new
 
 -- one of the first layouts is its block's, and begins there
 abbrev pub IsOfLayouts : Parts → ℕ → ℕ → Type 0

@@ -6,17 +6,17 @@ use Rattle.sp_shapes.specs.declared.stacks.Stacks.{Stacks}
 use Rattle.sp_shapes.specs.declared.steps.Arrival.{Arrival}
 use Rattle.sp_shapes.specs.declared.steps.Step.{Step}
 use Rattle.sp_shapes.specs.declared.steps.Step.TheVariants as step
-use Rattle.sp_shapes.specs.Stacks.{Holds, list_of}
+use Rattle.sp_shapes.specs.Stacks.{IsListNumber, list_of}
 
 -- with one more, if it is there
-abbrev pub brought : Stacks → Option Arrival → List (ℕ × List Shape) → List (ℕ × List Shape)
-brought st None ws = ws
-brought st (Some x) ws = (x.at, list_of st x.list) ∷ ws
+abbrev pub with_brought : Stacks → Option Arrival → List (ℕ × List Shape) → List (ℕ × List Shape)
+with_brought st None ws = ws
+with_brought st (Some x) ws = (x.at, list_of st x.list) ∷ ws
 
 -- what a step means
 abbrev pub shaped_by : Stacks → Step → Shaped
 shaped_by st step.Wrong = Wrong
-shaped_by st (step.To f s) = To (brought st f (brought st s []))
+shaped_by st (step.To f s) = To (with_brought st f (with_brought st s []))
 
 -- an arrival is of a step
 abbrev pub Brings : Step → Arrival → Type 0
@@ -26,4 +26,4 @@ Brings (step.To f s) x = (f ≡ Some x) ⊎ (s ≡ Some x)
 -- a step means this, and its lists are there
 pub record IsStep (st : Stacks) (o : Step) (sh : Shaped) : Type 0 where
   pub is : shaped_by st o ≡ sh
-  pub held : (x : Arrival) → Brings o x → Holds st x.list
+  pub held : (x : Arrival) → Brings o x → IsListNumber st x.list

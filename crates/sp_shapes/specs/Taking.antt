@@ -1,7 +1,7 @@
 -- None of this belongs to what the program promises: it is for contracts between crates.
 -- What is left of a list of shapes where something was taken from it.
 use Rattle.std.specs.Prelude.{◌≡◌, ℕ, List, Option, Some, Bool, true, false}
-use Rattle.sp_rules.specs.Areas.{given}
+use Rattle.sp_rules.specs.Areas.{on_option}
 use Rattle.sp_rules.specs.Shapes.{Shape, Shaped, Wrong}
 use Rattle.sp_shapes.specs.declared.stacks.Shape.{Shape as Kept}
 use Rattle.sp_shapes.specs.declared.stacks.Shape.TheVariants as kept
@@ -9,7 +9,7 @@ use Rattle.sp_shapes.specs.declared.stacks.Stacks.{Stacks}
 use Rattle.sp_shapes.specs.declared.plans.Kind.{Kind}
 use Rattle.sp_shapes.specs.declared.plans.Kind.TheVariants as kind
 use Rattle.sp_shapes.specs.declared.taking.Taken.{Taken}
-use Rattle.sp_shapes.specs.Stacks.{Holds, list_of}
+use Rattle.sp_shapes.specs.Stacks.{IsListNumber, list_of}
 
 -- a shape is of a kind
 abbrev pub admits : Kind → Kept → Bool
@@ -31,5 +31,5 @@ taken_of s r = record { variable = 0; left = 0; rest = r }
 -- this is what goes on where something is taken, and nothing goes on where that is not there
 pub record IsTaken (st : Stacks) (take : (ℕ → ℕ → List Shape → Shaped) → Shaped) (o : Option Taken) : Type 0 where
   pub goes : (go : ℕ → ℕ → List Shape → Shaped) → take go
-      ≡ given Wrong o (λ t. go t.variable t.left (list_of st t.rest))
-  pub held : (t : Taken) → o ≡ Some t → Holds st t.rest
+      ≡ on_option Wrong o (λ t. go t.variable t.left (list_of st t.rest))
+  pub held : (t : Taken) → o ≡ Some t → IsListNumber st t.rest

@@ -5,7 +5,7 @@ ghost use Rattle.sp_areas.specs.Blocks.{IsNumbered};
 ghost use Rattle.sp_areas.specs.Owners.{AreOwners, Owns};
 ghost use Rattle.sp_code.specs.declared.code.ChildTable.{ChildTable};
 ghost use Rattle.sp_shapes.specs.Search.{AreCompared};
-ghost use Rattle.sp_shapes.specs.Starts.{Adds, AreAll, IsEntry, IsMade, IsMadeAt, IsOfChildren, IsOfLayouts};
+ghost use Rattle.sp_shapes.specs.Starts.{AddsStarts, AreAll, IsEntry, IsMade, IsMadeAt, IsOfChildren, IsOfLayouts};
 
 use crate::search::Search;
 use crate::stacks::Stacks;
@@ -18,7 +18,7 @@ use std::alloc::Global;
 
 fn start(code: &Code, arrivals: &mut List<Arrival>, at: u32) -> Result<(), Memory>
     requires { IsEntry code.now at }
-    ensures { OnOk result (Adds code.now (λ q. q ≡ at) arrivals.old arrivals.new) }
+    ensures { OnOk result (AddsStarts code.now (λ q. q ≡ at) arrivals.old arrivals.new) }
 {
     arrivals.push(Arrival { at, list: 0 })?;
     Ok(())
@@ -27,7 +27,8 @@ fn start(code: &Code, arrivals: &mut List<Arrival>, at: u32) -> Result<(), Memor
 // At the entry of each block.
 fn begin_blocks(code: &Code, blocks: &Blocks, arrivals: &mut List<Arrival>) -> Result<(), Memory>
     requires { IsNumbered blocks.now.first code.now.layouts }
-    ensures { OnOk result (Adds code.now (IsOfLayouts code.now (length code.now.layouts)) arrivals.old arrivals.new) }
+    ensures { OnOk result (AddsStarts code.now (IsOfLayouts code.now (length code.now.layouts)) arrivals.old
+        arrivals.new) }
 {
     let layouts = &code.parts().layouts;
     for l in layouts.items() {
@@ -46,7 +47,8 @@ fn begin_children(
     arrivals: &mut List<Arrival>,
 ) -> Result<(), Memory>
     requires { (k : ℕ) (ch : ChildTable) → slice_get children.now k ≡ Some ch → IsEntry code.now ch.entry }
-    ensures { OnOk result (Adds code.now (IsOfChildren children.now (length children.now)) arrivals.old arrivals.new) }
+    ensures { OnOk result (AddsStarts code.now (IsOfChildren children.now (length children.now)) arrivals.old
+        arrivals.new) }
 {
     for child in children {
         start(code, arrivals, child.entry)?;
@@ -57,7 +59,7 @@ fn begin_children(
 // At the entries of the children that an instruction makes, if it lies in an area.
 fn begin_at(code: &Code, arrivals: &mut List<Arrival>, p: u32, o: Owner) -> Result<(), Memory>
     requires { Owns code.now p o }
-    ensures { OnOk result (Adds code.now (IsMadeAt code.now p) arrivals.old arrivals.new) }
+    ensures { OnOk result (AddsStarts code.now (IsMadeAt code.now p) arrivals.old arrivals.new) }
 {
     if is_same(o, Owner::Nobody) {
         return Ok(());
@@ -79,7 +81,7 @@ fn begin_forks(
     arrivals: &mut List<Arrival>,
 ) -> Result<(), Memory>
     requires { AreOwners code.now owners.now }
-    ensures { OnOk result (Adds code.now (IsMade code.now (length code.now.instrs)) arrivals.old arrivals.new) }
+    ensures { OnOk result (AddsStarts code.now (IsMade code.now (length code.now.instrs)) arrivals.old arrivals.new) }
 {
     let count = code.parts().instrs.len();
     for p in 0..count {

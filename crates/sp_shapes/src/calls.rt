@@ -3,12 +3,12 @@
 ghost use Rattle.std.specs.Prelude.{◌≡◌, [], length, true, Some};
 ghost use Rattle.sp_areas.specs.Alone.{LayoutFails};
 ghost use Rattle.sp_areas.specs.Blocks.{IsNumbered};
-ghost use Rattle.sp_areas.specs.Least.{IsLeast, Upto};
+ghost use Rattle.sp_areas.specs.LeastPlaces.{IsLeast, Upto};
 ghost use Rattle.sp_rules.specs.Rules.{BreaksV5, call_fits, fit_formals, fits_formal, is_by_reference};
 ghost use Rattle.sp_rules.specs.Rules.{lowest_first, some_reference};
 ghost use Rattle.sp_shapes.specs.Reached.{answers_by_reference, fails_at};
 ghost use Rattle.sp_shapes.specs.Shapes.{AreShapes};
-ghost use Rattle.sp_shapes.specs.Stacks.{Holds, IsStacks, list_of, shape_of};
+ghost use Rattle.sp_shapes.specs.Stacks.{IsListNumber, IsStacks, list_of, shape_of};
 
 use crate::reached::reached;
 use crate::shapes::Shapes;
@@ -38,7 +38,7 @@ fn fits_formal(formal: Formal, shape: Shape) -> bool
 // Whether the first shapes of a list, the last operand first, fit formals.
 fn fit_formals(stacks: &Stacks, formals: &[Formal], n: u32) -> bool
     requires stacks { IsStacks stacks.now }
-    requires there { Holds stacks.now n }
+    requires there { IsListNumber stacks.now n }
     ensures { result ≡ fit_formals formals.now (lowest_first (length formals.now) (list_of stacks.now n) []) }
 {
     let count = formals.len();
@@ -61,7 +61,7 @@ fn fit_formals(stacks: &Stacks, formals: &[Formal], n: u32) -> bool
 fn call_fits(parts: &Parts, blocks: &Blocks, stacks: &Stacks, instr: Instr, n: u32) -> bool
     requires blocks { IsNumbered blocks.now.first parts.now.layouts }
     requires stacks { IsStacks stacks.now }
-    requires there { Holds stacks.now n }
+    requires there { IsListNumber stacks.now n }
     ensures { result ≡ call_fits parts.now (Some instr) (list_of stacks.now n) }
 {
     match instr {

@@ -1,12 +1,12 @@
 //! Cells left of an address: rule V3.
 
 ghost use Rattle.std.specs.Prelude.{◌≡◌, Some};
-ghost use Rattle.sp_areas.specs.Least.{IsLeast};
+ghost use Rattle.sp_areas.specs.LeastPlaces.{IsLeast};
 ghost use Rattle.sp_rules.specs.Rules.{BreaksV3};
-ghost use Rattle.sp_rules.specs.Shapes.{below, has_left, span, stays_within};
+ghost use Rattle.sp_rules.specs.Shapes.{below_topmost, has_left, span, stays_within};
 ghost use Rattle.sp_shapes.specs.Reached.{fails_at};
 ghost use Rattle.sp_shapes.specs.Shapes.{AreShapes};
-ghost use Rattle.sp_shapes.specs.Stacks.{Holds, IsStacks, list_of};
+ghost use Rattle.sp_shapes.specs.Stacks.{IsListNumber, IsStacks, list_of};
 
 use crate::reached::reached;
 use crate::shapes::Shapes;
@@ -16,7 +16,7 @@ use sp_code::{Code, Instr};
 // Whether the first shape of a list is no address, or has so many cells left.
 fn has_left(stacks: &Stacks, n: u32, cells: u128) -> bool
     requires stacks { IsStacks stacks.now }
-    requires there { Holds stacks.now n }
+    requires there { IsListNumber stacks.now n }
     ensures { result ≡ has_left cells (list_of stacks.now n) }
 {
     match stacks.top(n) {
@@ -31,9 +31,9 @@ fn has_left(stacks: &Stacks, n: u32, cells: u128) -> bool
 // The list without its first shape.
 fn below(stacks: &Stacks, n: u32) -> u32
     requires stacks { IsStacks stacks.now }
-    requires there { Holds stacks.now n }
-    ensures there { Holds stacks.now result }
-    ensures list { list_of stacks.now result ≡ below (list_of stacks.now n) }
+    requires there { IsListNumber stacks.now n }
+    ensures there { IsListNumber stacks.now result }
+    ensures list { list_of stacks.now result ≡ below_topmost (list_of stacks.now n) }
 {
     match stacks.top(n) {
         None => n,
@@ -55,7 +55,7 @@ fn span(low: i64, high: i64) -> u128
 // Whether an instruction passes no cells left of what a list has.
 fn stays_within(stacks: &Stacks, instr: Instr, n: u32) -> bool
     requires stacks { IsStacks stacks.now }
-    requires there { Holds stacks.now n }
+    requires there { IsListNumber stacks.now n }
     ensures { result ≡ stays_within (Some instr) (list_of stacks.now n) }
 {
     match instr {

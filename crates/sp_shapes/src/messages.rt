@@ -1,13 +1,14 @@
 //! Lengths of messages: rule V4.
 
 ghost use Rattle.std.specs.Prelude.{◌≡◌, ◌≤◌, IfOk, OnOk, Some, length, true};
-ghost use Rattle.sp_areas.specs.Least.{IsLeast};
+ghost use Rattle.sp_areas.specs.LeastPlaces.{IsLeast};
 ghost use Rattle.sp_rules.specs.Rules.{BreaksV4};
-ghost use Rattle.sp_shapes.specs.Lengths.{AreLengths, Differs, Lacks, Puts, PutsGreatest, is_longer, length_of};
+ghost use Rattle.sp_shapes.specs.Lengths.{AreLengths, Differs, LacksRoom, PutsLength, PutsGreatest, is_longer};
+ghost use Rattle.sp_shapes.specs.Lengths.{length_of};
 ghost use Rattle.sp_shapes.specs.Lengths.{of_kind, received_at, sent_at};
 ghost use Rattle.sp_rules.specs.Standing.{cells_left, message_cells};
 ghost use Rattle.sp_shapes.specs.Shapes.{AreShapes};
-ghost use Rattle.sp_shapes.specs.Stacks.{Holds, IsStacks, list_of};
+ghost use Rattle.sp_shapes.specs.Stacks.{IsListNumber, IsStacks, list_of};
 
 use crate::reached::reached;
 use crate::shapes::Shapes;
@@ -28,7 +29,7 @@ pub struct Message {
 // How many cells the first shape of a list is, as a message.
 fn message_cells(parts: &Parts, stacks: &Stacks, n: u32) -> Option<u32>
     requires stacks { IsStacks stacks.now }
-    requires there { Holds stacks.now n }
+    requires there { IsListNumber stacks.now n }
     ensures { result ≡ message_cells parts.now (list_of stacks.now n) }
 {
     match stacks.top(n) {
@@ -45,7 +46,7 @@ fn message_cells(parts: &Parts, stacks: &Stacks, n: u32) -> Option<u32>
 // The cells left of the first shape of a list.
 fn cells_left(parts: &Parts, stacks: &Stacks, n: u32) -> Option<u32>
     requires stacks { IsStacks stacks.now }
-    requires there { Holds stacks.now n }
+    requires there { IsListNumber stacks.now n }
     ensures { result ≡ cells_left parts.now (list_of stacks.now n) }
 {
     match stacks.top(n) {
@@ -102,7 +103,7 @@ fn received(code: &Code, shapes: &Shapes, p: u32) -> Option<Message>
 
 // Puts a message's length under its type.
 fn put(lengths: &mut BTreeMap<u32, u32>, sent: Message) -> Result<(), Memory>
-    ensures { OnOk result (Puts lengths.old lengths.new sent) }
+    ensures { OnOk result (PutsLength lengths.old lengths.new sent) }
 {
     lengths.insert(sent.kind, sent.cells)?;
     Ok(())
@@ -176,7 +177,7 @@ fn is_longer(lengths: &BTreeMap<u32, u32>, room: Option<Message>) -> bool
 fn first_lacking(code: &Code, shapes: &Shapes, lengths: &BTreeMap<u32, u32>) -> Option<u32>
     requires shapes { AreShapes code.now shapes.now }
     requires lengths { AreLengths (λ m n. m ≤ n) code.now shapes.now (length code.now.instrs) lengths.now }
-    ensures { IsLeast (Lacks code.now shapes.now) result }
+    ensures { IsLeast (LacksRoom code.now shapes.now) result }
 {
     for p in 0..code.parts().instrs.len() {
         if is_longer(lengths, received(code, shapes, p as u32)) {

@@ -5,8 +5,10 @@ ghost use Rattle.sp_areas.specs.Blocks.{IsNumbered};
 ghost use Rattle.sp_areas.specs.Homes.{AreHomes, found_of};
 ghost use Rattle.sp_areas.specs.Only.{LiesOnlyIn};
 ghost use Rattle.sp_rules.specs.Areas.{Area};
-ghost use Rattle.sp_shapes.specs.Plans.{addressed, calling, compared, filled, last, led, one_gone, one_to_one};
-ghost use Rattle.sp_shapes.specs.Plans.{pair_gone, plain, plan_at, pushed, read, straight, two_gone, two_to_one};
+ghost use Rattle.sp_shapes.specs.Plans.{address_plan, layout_call_plan, compare_plan, fill_plan, last_plan};
+ghost use Rattle.sp_shapes.specs.Plans.{plan_of_parts, one_gone, one_to_one};
+ghost use Rattle.sp_shapes.specs.Plans.{pair_gone, plain_plan, plan_at, push_plan, read_plan, straight_plan, two_gone};
+ghost use Rattle.sp_shapes.specs.Plans.{two_to_one};
 
 use crate::stacks::Shape;
 use sp_areas::blocks::Blocks;
@@ -74,7 +76,7 @@ pub struct Plan {
 }
 
 fn straight() -> Plan
-    ensures { result ≡ straight }
+    ensures { result ≡ straight_plan }
 {
     Plan {
         takes: Takes::Nothing,
@@ -84,7 +86,7 @@ fn straight() -> Plan
 }
 
 fn pushed(shape: Shape) -> Plan
-    ensures { result ≡ pushed shape }
+    ensures { result ≡ push_plan shape }
 {
     Plan {
         takes: Takes::Nothing,
@@ -134,7 +136,7 @@ fn two_gone() -> Plan
 }
 
 fn read(shape: Shape) -> Plan
-    ensures { result ≡ read shape }
+    ensures { result ≡ read_plan shape }
 {
     Plan {
         takes: Takes::One(Kind::Address),
@@ -144,7 +146,7 @@ fn read(shape: Shape) -> Plan
 }
 
 fn filled() -> Plan
-    ensures { result ≡ filled }
+    ensures { result ≡ fill_plan }
 {
     Plan {
         takes: Takes::One(Kind::Address),
@@ -164,7 +166,7 @@ fn pair_gone(upper: Kind, lower: Kind) -> Plan
 }
 
 fn compared() -> Plan
-    ensures { result ≡ compared }
+    ensures { result ≡ compare_plan }
 {
     Plan {
         takes: Takes::Same,
@@ -174,7 +176,7 @@ fn compared() -> Plan
 }
 
 fn last() -> Plan
-    ensures { result ≡ last }
+    ensures { result ≡ last_plan }
 {
     Plan {
         takes: Takes::Last,
@@ -184,7 +186,7 @@ fn last() -> Plan
 }
 
 fn led(takes: Takes, leaves: Leaves, goes: Goes) -> Plan
-    ensures { result ≡ led takes leaves goes }
+    ensures { result ≡ plan_of_parts takes leaves goes }
 {
     Plan {
         takes: takes,
@@ -195,7 +197,7 @@ fn led(takes: Takes, leaves: Leaves, goes: Goes) -> Plan
 
 // What an instruction does that names no variable and calls no block.
 fn plain(instr: Instr) -> Plan
-    ensures { result ≡ plain instr }
+    ensures { result ≡ plain_plan instr }
 {
     match instr {
         Instr::Const(_) => pushed(Shape::Ordinal),
@@ -292,7 +294,7 @@ fn plain(instr: Instr) -> Plan
 
 // What naming a variable does.
 fn addressed(found: Option<Found>) -> Option<Plan>
-    ensures { result ≡ addressed (found_of found) }
+    ensures { result ≡ address_plan (found_of found) }
 {
     match found {
         None => None,
@@ -305,7 +307,7 @@ fn addressed(found: Option<Found>) -> Option<Plan>
 
 // What a call of a block does.
 fn calling(l: &Layout) -> Plan
-    ensures { result ≡ calling l.now }
+    ensures { result ≡ layout_call_plan l.now }
 {
     let leaves = if l.answer {
         Leaves::One(Shape::Ordinal)

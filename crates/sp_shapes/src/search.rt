@@ -3,8 +3,8 @@
 ghost use Rattle.std.specs.Prelude.{◌≡◌, ℕ, ◌+◌, ◌++◌, ◌<◌, IfOk, OnOk, [], length, slice_get, slice_set, true};
 ghost use Rattle.sp_areas.specs.Blocks.{IsNumbered};
 ghost use Rattle.sp_areas.specs.Homes.{AreHomes};
-ghost use Rattle.sp_shapes.specs.Search.{AreCompared, AreStepped, ComparesAll, ComparesOne, IsDone, IsSane};
-ghost use Rattle.sp_shapes.specs.Search.{KeepsV1, Places, Walks, WalksAll, WalksOne, is_set, waiting};
+ghost use Rattle.sp_shapes.specs.Search.{AreCompared, AreStepped, ComparesAll, ComparesOne, IsDoneSearch, IsSane};
+ghost use Rattle.sp_shapes.specs.Search.{KeepsV1, Places, WalkOutcome, WalksAll, WalksOne, is_set, with_arrival};
 
 use crate::stacks::Stacks;
 use crate::steps::{Arrival, Step, step_from};
@@ -102,7 +102,7 @@ fn compare_all(search: &mut Search) -> Result<(), Memory>
 
 // Has a list wait to be compared.
 fn wait(arrivals: &mut List<Arrival>, x: Option<Arrival>) -> Result<(), Memory>
-    ensures { OnOk result (arrivals.new ≡ waiting x arrivals.old) }
+    ensures { OnOk result (arrivals.new ≡ with_arrival x arrivals.old) }
 {
     match x {
         None => Ok(()),
@@ -126,7 +126,7 @@ fn walk(
     requires sane { IsSane code.now search.old }
     requires there { p < length code.now.instrs }
     requires small { p < 1048576 }
-    ensures { OnOk result (Walks code.now search.old search.new p) }
+    ensures { OnOk result (WalkOutcome code.now search.old search.new p) }
 {
     if is_marked(&search.broken, p) {
         return Ok(());
@@ -201,7 +201,7 @@ pub(crate) fn follow(
     requires homes { AreHomes code.now homes.now }
     requires compared { AreCompared code.now search.old }
     requires still { search.old.frontier ≡ [] }
-    ensures { OnOk result (IsDone code.now search.new) }
+    ensures { OnOk result (IsDoneSearch code.now search.new) }
 {
     'levels: loop {
         compare_all(search)?;

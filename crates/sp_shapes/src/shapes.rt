@@ -3,10 +3,10 @@
 ghost use Rattle.std.specs.Prelude.{◌≡◌, ℕ, ◌≤◌, IfOk, Some, true, length, slice_get};
 ghost use Rattle.sp_areas.specs.Blocks.{IsNumbered};
 ghost use Rattle.sp_areas.specs.Homes.{AreHomes};
-ghost use Rattle.sp_areas.specs.Least.{IsLeast};
+ghost use Rattle.sp_areas.specs.LeastPlaces.{IsLeast};
 ghost use Rattle.sp_areas.specs.Owners.{AreOwners};
 ghost use Rattle.sp_rules.specs.Named.{BreaksV1};
-ghost use Rattle.sp_shapes.specs.Search.{IsDone, KeepsV1};
+ghost use Rattle.sp_shapes.specs.Search.{IsDoneSearch, KeepsV1};
 ghost use Rattle.sp_shapes.specs.Shapes.{IsOutcome};
 
 use crate::begin::begin;
@@ -51,7 +51,7 @@ fn first_marked(broken: &List<bool>) -> Option<u32>
 // What is found where nothing is left to be done.
 fn conclude(code: &Code, search: Search) -> Outcome
     requires kept { KeepsV1 code.now }
-    requires done { IsDone code.now search }
+    requires done { IsDoneSearch code.now search }
     ensures { IsOutcome code.now result }
 {
     // (code is small enough that each mark has a number)

@@ -1,7 +1,8 @@
 //! Lists of shapes, each kept once: equal lists have equal numbers, and a deep one is not copied.
 
 ghost use Rattle.std.specs.Prelude.{◌≡◌, ◌∷◌, [], ◌<◌, IfOk, MatchOption, slice_get, Some, length};
-ghost use Rattle.sp_shapes.specs.Stacks.{Extends, Holds, IsSmall, IsStacks, key_of, list_of, number_at, shape_of};
+ghost use Rattle.sp_shapes.specs.Stacks.{Extends, IsListNumber, IsSmall, IsStacks, key_of, list_of, number_at};
+ghost use Rattle.sp_shapes.specs.Stacks.{shape_of};
 
 use sp_base::{List, Memory};
 use std::alloc::Global;
@@ -62,14 +63,14 @@ impl Stacks {
     // Adds a list that is not there.
     fn add(&mut self, shape: Shape, below: u32, key: u128) -> Result<u32, Memory>
         requires stacks { IsStacks self.old }
-        requires below { Holds self.old below }
+        requires below { IsListNumber self.old below }
         requires small { IsSmall shape }
         requires key { key ≡ key_of shape below }
         requires new { number_at self.old key ≡ None }
         ensures stacks { IsStacks self.new }
         ensures extends { Extends self.old self.new }
         ensures pushed { IfOk result
-            (λ n. Holds self.new n × (list_of self.new n ≡ shape_of shape ∷ list_of self.old below)) }
+            (λ n. IsListNumber self.new n × (list_of self.new n ≡ shape_of shape ∷ list_of self.old below)) }
     {
         let n = self.cells.len() + 1;
         if n > 4_294_967_295 {
@@ -91,11 +92,11 @@ impl Stacks {
     /// Memory was refused, or there are 2^32 lists.
     pub fn push(&mut self, shape: Shape, below: u32) -> Result<u32, Memory>
         requires stacks { IsStacks self.old }
-        requires below { Holds self.old below }
+        requires below { IsListNumber self.old below }
         ensures stacks { IsStacks self.new }
         ensures extends { Extends self.old self.new }
         ensures pushed { IfOk result
-            (λ n. Holds self.new n × (list_of self.new n ≡ shape_of shape ∷ list_of self.old below)) }
+            (λ n. IsListNumber self.new n × (list_of self.new n ≡ shape_of shape ∷ list_of self.old below)) }
     {
         let key = key_of(shape, below);
         match self.known.get(&key).copied() {
@@ -107,9 +108,9 @@ impl Stacks {
     /// The first shape of a list and the number of the rest; nothing of the empty list.
     pub fn top(&self, n: u32) -> Option<(Shape, u32)>
         requires stacks { IsStacks self.now }
-        requires there { Holds self.now n }
+        requires there { IsListNumber self.now n }
         ensures { MatchOption result (list_of self.now n ≡ [])
-            (λ r. (list_of self.now n ≡ shape_of r.0 ∷ list_of self.now r.1) × Holds self.now r.1) }
+            (λ r. (list_of self.now n ≡ shape_of r.0 ∷ list_of self.now r.1) × IsListNumber self.now r.1) }
     {
         if n == 0 {
             return None;

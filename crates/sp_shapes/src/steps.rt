@@ -5,10 +5,10 @@ ghost use Rattle.sp_areas.specs.Blocks.{IsNumbered};
 ghost use Rattle.sp_areas.specs.Homes.{AreHomes};
 ghost use Rattle.sp_areas.specs.Only.{LiesOnlyIn};
 ghost use Rattle.sp_rules.specs.Areas.{Area, instr_at};
-ghost use Rattle.sp_rules.specs.Shapes.{shaped};
+ghost use Rattle.sp_rules.specs.Shapes.{instr_shapes};
 ghost use Rattle.sp_shapes.specs.declared.stacks.Stacks.{Stacks};
-ghost use Rattle.sp_shapes.specs.Plans.{by_plan, go_on, goes_with, left, topped};
-ghost use Rattle.sp_shapes.specs.Stacks.{Extends, Holds, IsStacks, list_of};
+ghost use Rattle.sp_shapes.specs.Plans.{by_plan, go_on, goes_with, left, with_top};
+ghost use Rattle.sp_shapes.specs.Stacks.{Extends, IsListNumber, IsStacks, list_of};
 ghost use Rattle.sp_shapes.specs.Steps.{IsStep};
 
 use crate::plans::{Goes, Leaves, Plan, planned};
@@ -41,7 +41,7 @@ pub enum Step {
 // Where it goes on, with what is left on top and with the rest alone.
 fn go_on(goes: Goes, p: u32, top: u32, rest: u32) -> Step
     requires { p < 1048576 }
-    ensures { (st : Stacks) → Holds st top → Holds st rest
+    ensures { (st : Stacks) → IsListNumber st top → IsListNumber st rest
         → IsStep st result (go_on goes p (list_of st top) (list_of st rest)) }
 {
     let next = Arrival {
@@ -100,11 +100,11 @@ fn left(leaves: Leaves, t: Taken) -> Option<Shape>
 // Puts a shape on top, if there is one.
 fn top(stacks: &mut Stacks, shape: Option<Shape>, rest: u32) -> Result<u32, Memory>
     requires stacks { IsStacks stacks.old }
-    requires there { Holds stacks.old rest }
+    requires there { IsListNumber stacks.old rest }
     ensures stacks { IsStacks stacks.new }
     ensures extends { Extends stacks.old stacks.new }
-    ensures topped { IfOk result (λ n. Holds stacks.new n
-        × (list_of stacks.new n ≡ topped shape (list_of stacks.old rest))) }
+    ensures topped { IfOk result (λ n. IsListNumber stacks.new n
+        × (list_of stacks.new n ≡ with_top shape (list_of stacks.old rest))) }
 {
     match shape {
         None => Ok(rest),
@@ -115,7 +115,7 @@ fn top(stacks: &mut Stacks, shape: Option<Shape>, rest: u32) -> Result<u32, Memo
 // Leaves what is left, and goes on.
 fn leave(stacks: &mut Stacks, plan: Plan, p: u32, t: Taken) -> Result<Step, Memory>
     requires stacks { IsStacks stacks.old }
-    requires there { Holds stacks.old t.rest }
+    requires there { IsListNumber stacks.old t.rest }
     requires small { p < 1048576 }
     ensures stacks { IsStacks stacks.new }
     ensures extends { Extends stacks.old stacks.new }
@@ -129,7 +129,7 @@ fn leave(stacks: &mut Stacks, plan: Plan, p: u32, t: Taken) -> Result<Step, Memo
 // Does what an instruction does to the shapes.
 fn carry_out(stacks: &mut Stacks, plan: Plan, p: u32, s: u32) -> Result<Step, Memory>
     requires stacks { IsStacks stacks.old }
-    requires there { Holds stacks.old s }
+    requires there { IsListNumber stacks.old s }
     requires small { p < 1048576 }
     ensures stacks { IsStacks stacks.new }
     ensures extends { Extends stacks.old stacks.new }
@@ -153,13 +153,13 @@ pub(crate) fn step_from(
     requires blocks { IsNumbered blocks.now.first code.now.layouts }
     requires homes { AreHomes code.now homes.now }
     requires stacks { IsStacks stacks.old }
-    requires held { Holds stacks.old s }
+    requires held { IsListNumber stacks.old s }
     requires there { p < length code.now.instrs }
     requires small { p < 1048576 }
     ensures stacks { IsStacks stacks.new }
     ensures extends { Extends stacks.old stacks.new }
     ensures goes { IfOk result (λ step. (a : Area) → LiesOnlyIn code.now p a
-        → IsStep stacks.new step (shaped code.now a (instr_at code.now p) p (list_of stacks.old s))) }
+        → IsStep stacks.new step (instr_shapes code.now a (instr_at code.now p) p (list_of stacks.old s))) }
 {
     let instr = match code.instr(p) {
         None => return Ok(Step::Wrong),

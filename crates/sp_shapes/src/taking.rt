@@ -3,7 +3,7 @@
 ghost use Rattle.std.specs.Prelude.{◌≡◌};
 ghost use Rattle.sp_shapes.specs.declared.plans.Takes.TheVariants as takes_of;
 ghost use Rattle.sp_shapes.specs.Plans.{take, take_one};
-ghost use Rattle.sp_shapes.specs.Stacks.{Holds, IsStacks, list_of};
+ghost use Rattle.sp_shapes.specs.Stacks.{IsListNumber, IsStacks, list_of};
 ghost use Rattle.sp_shapes.specs.Taking.{IsTaken, admits, taken_of};
 
 use crate::plans::{Kind, Takes};
@@ -64,7 +64,7 @@ fn taken_of(shape: Shape, rest: u32) -> Taken
 
 fn take_one(stacks: &Stacks, kind: Kind, s: u32) -> Option<Taken>
     requires stacks { IsStacks stacks.now }
-    requires there { Holds stacks.now s }
+    requires there { IsListNumber stacks.now s }
     ensures { IsTaken stacks.now (take_one kind (list_of stacks.now s)) result }
 {
     match stacks.top(s) {
@@ -81,7 +81,7 @@ fn take_one(stacks: &Stacks, kind: Kind, s: u32) -> Option<Taken>
 
 fn take_two(stacks: &Stacks, upper: Kind, lower: Kind, s: u32) -> Option<Taken>
     requires stacks { IsStacks stacks.now }
-    requires there { Holds stacks.now s }
+    requires there { IsListNumber stacks.now s }
     ensures { IsTaken stacks.now (take (takes_of.Two upper lower) (list_of stacks.now s)) result }
 {
     match take_one(stacks, upper, s) {
@@ -92,7 +92,7 @@ fn take_two(stacks: &Stacks, upper: Kind, lower: Kind, s: u32) -> Option<Taken>
 
 fn take_same(stacks: &Stacks, s: u32) -> Option<Taken>
     requires stacks { IsStacks stacks.now }
-    requires there { Holds stacks.now s }
+    requires there { IsListNumber stacks.now s }
     ensures { IsTaken stacks.now (take takes_of.Same (list_of stacks.now s)) result }
 {
     match stacks.top(s) {
@@ -107,7 +107,7 @@ fn take_same(stacks: &Stacks, s: u32) -> Option<Taken>
 
 fn take_many(stacks: &Stacks, count: usize, s: u32) -> Option<Taken>
     requires stacks { IsStacks stacks.now }
-    requires there { Holds stacks.now s }
+    requires there { IsListNumber stacks.now s }
     ensures { IsTaken stacks.now (take (takes_of.Many count) (list_of stacks.now s)) result }
 {
     let mut rest = s;
@@ -126,7 +126,7 @@ fn take_many(stacks: &Stacks, count: usize, s: u32) -> Option<Taken>
 
 fn take_last(stacks: &Stacks, s: u32) -> Option<Taken>
     requires stacks { IsStacks stacks.now }
-    requires there { Holds stacks.now s }
+    requires there { IsListNumber stacks.now s }
     ensures { IsTaken stacks.now (take takes_of.Last (list_of stacks.now s)) result }
 {
     match stacks.top(s) {
@@ -142,7 +142,7 @@ fn take_last(stacks: &Stacks, s: u32) -> Option<Taken>
 /// What is left of a list where an instruction takes what it takes; None where that is not there.
 pub(crate) fn take(stacks: &Stacks, takes: Takes, s: u32) -> Option<Taken>
     requires stacks { IsStacks stacks.now }
-    requires there { Holds stacks.now s }
+    requires there { IsListNumber stacks.now s }
     ensures { IsTaken stacks.now (take takes (list_of stacks.now s)) result }
 {
     match takes {

@@ -21,7 +21,7 @@ use Rattle.sp_cell.proofs.Order.{spot_total, spot_same}
 use Rattle.sp_store.specs.declared.entry.Entry.{Entry}
 use Rattle.sp_store.specs.Layout.{content, pairs, layout, IsPlace, IsGap, AllKnown}
 use Rattle.sp_cell.specs.Spots.{DistinctByIndex}
-use Rattle.sp_cell.specs.Frame.{above, frames, without}
+use Rattle.sp_cell.specs.Frame.{least_above, frames, without_spots_of}
 use Rattle.sp_cell.proofs.FrameLaws.{above_at, without_here, without_other}
 use Rattle.sp_cell.proofs.Laws.{same_map, apart_less, apart_greater}
 use Rattle.std.proofs.lemmas.List.{get_or_default, get_or-take, get_or-drop, length-take-le, length-drop, length-take}
@@ -214,7 +214,7 @@ module _ (ss : List Spot) (es : List Entry) (h : IsStrictlySortedBy spot_cmp ss)
   gap_none : (i : ℕ) → IsBetween ss i q → (k : ℕ) (d : Spot) → k < length ss → spot_cmp q (get_or ss k d) ≡ Equal → ⊥
   gap_none i b k d m e = elim (cases_lt k i) [
     | inl below ↦ apart_greater _ (reversed_less _ q (b.0 k d (omega arith) below)) e
-    | inr above ↦ apart_less _ (reversed_greater _ q (b.1 k d above m)) e
+    | inr least_above ↦ apart_less _ (reversed_greater _ q (b.1 k d least_above m)) e
   ]
 
   pub is_place : (i : ℕ) → i < length ss → ((d : Spot) → spot_cmp (get_or ss i d) q ≡ Equal) → IsPlace ss es q i
@@ -410,7 +410,7 @@ module _ (ss : List Spot) (es : List Entry) (h : IsStrictlySortedBy spot_cmp ss)
       find_other (t ∷ ts) (g ∷ gs) o = none_by (spot_cmp q t) (content g) _ (λ e. o.0 (sym (tied_frame q t e) ∙ same))
           (find_other ts gs o.1)
 
-  pub taken_out : layout (take a ss ++ drop b ss) (take a es ++ drop b es) ≡ without (layout ss es) frame
+  pub taken_out : layout (take a ss ++ drop b ss) (take a es ++ drop b es) ≡ without_spots_of (layout ss es) frame
   taken_out = same_map _ _ (λ q. elim (cases_eq q.frame frame) [
     | inl e ↦ frame_gone q e ∙ sym (without_here (layout ss es) frame q e)
     | inr d ↦ frame_out q d ∙ sym (without_other (layout ss es) frame q d)
@@ -439,11 +439,12 @@ length-frames (s ∷ ss) = ap (λ n. suc n) (length-frames ss)
 
 -- the last spot has the greatest frame
 pub above_layout : (ss : List Spot) (es : List Entry) → IsStrictlySortedBy spot_cmp ss → length ss ≡ length es
-    → (d : Spot) → 0 < length ss → above (frames (map.keys (layout ss es))) ≡ (get_or ss (length ss - 1) d).frame + 1
+    → (d : Spot) → 0 < length ss → least_above (frames (map.keys (layout ss es)))
+    ≡ (get_or ss (length ss - 1) d).frame + 1
 above_layout ss es h l d b =
     let top = length ss - 1 in
     let n = length-frames ss in
-    ap (λ ks. above (frames ks)) (keys_layout ss es h l)
+    ap (λ ks. least_above (frames ks)) (keys_layout ss es h l)
     ∙ above_at (frames ss) top (omega arith) (λ j c.
     let last = get_frames ss top d (omega arith) in
     let at = get_frames ss j d (omega arith) in
@@ -460,8 +461,8 @@ above_layout ss es h l d b =
     ∙ ap (λ k. k + 1) (get_frames ss top d (omega arith))
 
 pub above_empty : (ss : List Spot) (es : List Entry) → IsStrictlySortedBy spot_cmp ss → length ss ≡ length es
-    → length ss ≡ 0 → above (frames (map.keys (layout ss es))) ≡ 0
-above_empty [] es h l b = ap (λ ks. above (frames ks)) (keys_layout [] es h l)
+    → length ss ≡ 0 → least_above (frames (map.keys (layout ss es))) ≡ 0
+above_empty [] es h l b = ap (λ ks. least_above (frames ks)) (keys_layout [] es h l)
 above_empty (s ∷ ss) es h l b = absurd (omega arith)
 
 -- both lists are cut alike

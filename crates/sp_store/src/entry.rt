@@ -2,7 +2,7 @@
 
 ghost use Rattle.std.specs.Prelude.{◌≡◌, ◌+◌, ◌<◌, ◌≤◌, ◌++◌, IsOk, OnErr, OnOk, IfOk, Some, length};
 ghost use Rattle.std.specs.Prelude.{replicate, slice_set};
-ghost use Rattle.sp_cell.specs.Lists.{overwritten};
+ghost use Rattle.sp_cell.specs.Lists.{splice};
 ghost use Rattle.sp_cell.specs.declared.cell.Cell.TheVariants.{Undefined};
 ghost use Rattle.sp_cell.specs.Map.{IsOwn, IsPiece, cells_of, IsOutput, bytes_of, Own, Shared, Output as Text};
 ghost use Rattle.sp_store.specs.Layout.{content};
@@ -114,7 +114,7 @@ fn unshare(entry: &mut Entry) -> Result<(), Memory>
 }
 
 #[inline(always)]
-#[tactic(auto, using(crate::proofs::Singles::write_single))]
+#[tactic(auto, using(crate::proofs::OneCellPieces::write_single))]
 pub(crate) fn write(entry: &mut Entry, offset: u32, cell: Cell)
     requires own { IsOwn (Some (content entry.old)) }
     requires in_range { offset < length (cells_of (Some (content entry.old))) }
@@ -127,11 +127,11 @@ pub(crate) fn write(entry: &mut Entry, offset: u32, cell: Cell)
     }
 }
 
-#[tactic(auto, using(crate::proofs::Singles::over_single, crate::proofs::Singles::over_none))]
+#[tactic(auto, using(crate::proofs::OneCellPieces::over_single, crate::proofs::OneCellPieces::over_none))]
 pub(crate) fn overwrite(entry: &mut Entry, offset: u32, cells: &[Cell])
     requires own { IsOwn (Some (content entry.old)) }
     requires in_range { offset + length cells.now ≤ length (cells_of (Some (content entry.old))) }
-    ensures { content entry.new ≡ Own (overwritten (cells_of (Some (content entry.old))) offset cells.now) }
+    ensures { content entry.new ≡ Own (splice (cells_of (Some (content entry.old))) offset cells.now) }
 {
     match entry {
         Entry::Single(own) => {

@@ -3,9 +3,9 @@
 ghost use Rattle.std.specs.Prelude.{◌≡◌, ◌+◌, ◌<◌, IfOk, OnOk, length};
 ghost use Rattle.std.specs.FinMap as map;
 ghost use Rattle.sp_cell.specs.Map.{Shared, IsPiece, cells_at};
-ghost use Rattle.sp_cell.specs.Fork.{lent, away, IsLentAt};
+ghost use Rattle.sp_cell.specs.Fork.{with_shared, with_away, IsLentAt};
 ghost use Rattle.sp_cell.specs.Spots.{PieceAtEach};
-ghost use Rattle.sp_cell.specs.Frame.{above, frames};
+ghost use Rattle.sp_cell.specs.Frame.{least_above, frames};
 ghost use Rattle.sp_store.specs.Layout.{content, IsLent, FramesBelow};
 
 use crate::entry;
@@ -19,7 +19,7 @@ use std::alloc::Global;
 #[tactic(auto, using(sp_cell::proofs::Steps::above_step))]
 pub(crate) fn above_all(spots: &[Spot]) -> u64
     requires { FramesBelow spots.now 18446744073709551615 }
-    ensures { result ≡ above (frames spots.now) }
+    ensures { result ≡ least_above (frames spots.now) }
 {
     let mut least = 0;
     for spot in spots {
@@ -33,7 +33,7 @@ pub(crate) fn above_all(spots: &[Spot]) -> u64
 /// Adds every spot, with nothing there yet.
 #[tactic(auto, using(sp_cell::proofs::Steps::away_step))]
 pub(crate) fn keep_room(slots: &mut Slots, spots: &[Spot]) -> Result<(), Memory>
-    ensures { OnOk result (slots.new ≡ away slots.old spots.now) }
+    ensures { OnOk result (slots.new ≡ with_away slots.old spots.now) }
 {
     for spot in spots {
         slots.insert(*spot, Entry::Away)?;
@@ -71,8 +71,8 @@ pub(crate) fn lend(
 ) -> Result<(), Memory>
     requires pieces { PieceAtEach from.now spots.now }
     requires lent { IsLent from.now ready.old }
-    ensures to { OnOk result (to.new ≡ lent from.now spots.now to.old) }
-    ensures ready { OnOk result (ready.new ≡ lent from.now spots.now ready.old) }
+    ensures to { OnOk result (to.new ≡ with_shared from.now spots.now to.old) }
+    ensures ready { OnOk result (ready.new ≡ with_shared from.now spots.now ready.old) }
     ensures lent { OnOk result (IsLent from.now ready.new) }
 {
     for spot in spots {

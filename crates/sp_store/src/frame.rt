@@ -1,7 +1,7 @@
 //! The adding of a frame's pieces.
 
 ghost use Rattle.std.specs.Prelude.{◌≡◌, ◌+◌, ◌<◌, ◌≤◌, OnOk, OnErr, length};
-ghost use Rattle.sp_cell.specs.Frame.{with_pieces, without};
+ghost use Rattle.sp_cell.specs.Frame.{with_pieces, without_spots_of};
 
 use crate::entry;
 use crate::slots::Slots;
@@ -20,7 +20,7 @@ pub(crate) fn add_pieces(
 ) -> Result<(), Memory>
     requires { first + length sizes.now ≤ 4294967296 }
     ensures ok { OnOk result (slots.new ≡ with_pieces slots.old frame first sizes.now) }
-    ensures err { OnErr result (without slots.new frame ≡ without slots.old frame) }
+    ensures err { OnErr result (without_spots_of slots.new frame ≡ without_spots_of slots.old frame) }
 {
     for (i, size) in sizes.iter().enumerate() {
         let piece = entry::undefined(alloc, *size)?;

@@ -2,7 +2,7 @@
 
 ghost use Rattle.std.specs.Prelude.{◌≡◌, ◌<◌, IsSome, length, slice_index_or, ℕ};
 ghost use Rattle.std.specs.FinMap as map;
-ghost use Rattle.sp_cell.specs.Fork.{taken, away};
+ghost use Rattle.sp_cell.specs.Fork.{with_contents, with_away};
 ghost use Rattle.sp_cell.specs.Spots.{DistinctByIndex};
 ghost use Rattle.sp_store.specs.Layout.{AllKnown};
 
@@ -16,8 +16,8 @@ pub(crate) fn hand(from: &mut Slots, to: &mut Slots, spots: &[Spot])
     requires distinct { DistinctByIndex spots.now }
     requires known { AllKnown from.old spots.now }
     requires room { AllKnown to.old spots.now }
-    ensures to { to.new ≡ taken from.old spots.now to.old }
-    ensures from { from.new ≡ away from.old spots.now }
+    ensures to { to.new ≡ with_contents from.old spots.now to.old }
+    ensures from { from.new ≡ with_away from.old spots.now }
 {
     for spot in spots {
         let entry = mem::replace(from.entry_mut(*spot), Entry::Away);

@@ -9,7 +9,7 @@ ghost use Rattle.std.specs.List.Sorted.{IsStrictlySortedBy};
 ghost use Rattle.std.specs.List.{ContainsAt, insert};
 ghost use Rattle.std.specs.declared.cmp.Ordering.TheVariants.{Less};
 ghost use Rattle.sp_cell.specs.Spots.{DistinctByIndex};
-ghost use Rattle.sp_cell.specs.Frame.{above, frames, without};
+ghost use Rattle.sp_cell.specs.Frame.{least_above, frames, without_spots_of};
 ghost use Rattle.sp_cell.specs.Map.{spot_cmp};
 ghost use Rattle.sp_store.specs.Layout.{layout, content, IsPlace, IsGap, AllKnown};
 ghost use Rattle.sp_store.specs.Lends.{LendsEntry};
@@ -224,15 +224,15 @@ impl Slots {
 
     /// The least number above every frame.
     pub(crate) fn above(&self) -> u64
-        requires { above (frames (map.keys self.now)) ≤ 18446744073709551615 }
-        ensures { result ≡ above (frames (map.keys self.now)) }
+        requires { least_above (frames (map.keys self.now)) ≤ 18446744073709551615 }
+        ensures { result ≡ least_above (frames (map.keys self.now)) }
     {
         above_last(&self.spots, &self.entries)
     }
 
     /// Removes every spot of the frame, in time of that frame and of the frames above it.
     pub(crate) fn remove_frame(&mut self, frame: u64)
-        ensures { self.new ≡ without self.old frame }
+        ensures { self.new ≡ without_spots_of self.old frame }
     {
         let end = end_of(&self.spots, frame);
         let start = start_of(&self.spots, frame, end);
@@ -246,8 +246,8 @@ impl Slots {
 fn above_last(spots: &[Spot], entries: &[Entry]) -> u64
     requires sorted { IsStrictlySortedBy spot_cmp spots.now }
     requires lengths { length spots.now ≡ length entries.now }
-    requires below { above (frames (map.keys (layout spots.now entries.now))) ≤ 18446744073709551615 }
-    ensures { result ≡ above (frames (map.keys (layout spots.now entries.now))) }
+    requires below { least_above (frames (map.keys (layout spots.now entries.now))) ≤ 18446744073709551615 }
+    ensures { result ≡ least_above (frames (map.keys (layout spots.now entries.now))) }
 {
     let n = spots.len();
     if n == 0 {

@@ -4,14 +4,17 @@ ghost use Rattle.std.specs.Prelude.{◌≡◌, ◌≢◌, ◌+◌, ◌<◌, ◌�
 ghost use Rattle.std.specs.Prelude.{length, List, [], ◌∷◌, slice_index_or};
 ghost use Rattle.std.specs.FinMap as map;
 ghost use Rattle.sp_cell.specs.declared.cell.Cell.TheVariants.{Undefined};
-ghost use Rattle.sp_cell.specs.Fork.{children_of, handed, away, joined, lent, moved_of, shared_of, prepared, HasIndex};
+ghost use Rattle.sp_cell.specs.Fork.{children_of, map_after_fork, with_away, map_after_join, with_shared, moved_of};
+ghost use Rattle.sp_cell.specs.Fork.{shared_of, prepared_child, HasIndex};
 ghost use Rattle.sp_cell.specs.Spots.{DistinctByIndex, PieceAtEach};
-ghost use Rattle.sp_cell.specs.Frame.{root_map, next_frame, HasNextFrame, pushed, popped, newest, NoneAway};
+ghost use Rattle.sp_cell.specs.Frame.{root_map, next_frame, HasNextFrame, with_new_frame, without_newest_frame};
+ghost use Rattle.sp_cell.specs.Frame.{last_own_frame, NoneAway};
 ghost use Rattle.sp_cell.specs.Lists.{part};
-ghost use Rattle.sp_cell.specs.Map.{with_map, cells_at, HasCells, written, IsOwn, IsPiece, owned, put_cells, copied};
-ghost use Rattle.sp_cell.specs.Map.{IsOutput, output_spot, output_of, appended};
-ghost use Rattle.sp_cell.specs.Fork.{joined_all};
-ghost use Rattle.sp_cell.specs.Fork.{mixed};
+ghost use Rattle.sp_cell.specs.Map.{with_map, cells_at, HasCells, with_cell, IsOwn, IsPiece, with_own_piece, put_cells};
+ghost use Rattle.sp_cell.specs.Map.{with_copied_cells};
+ghost use Rattle.sp_cell.specs.Map.{IsOutput, output_spot, output_of, with_more_output};
+ghost use Rattle.sp_cell.specs.Fork.{map_after_joins};
+ghost use Rattle.sp_cell.specs.Fork.{children_so_far};
 ghost use Rattle.sp_cell.specs.Spots.{IsDistinct, In, NotIn, AllHeld, AllPieces, AllAway};
 ghost use Rattle.sp_cell.specs.Held.{KeepsPartition, RejoinsPartition};
 ghost use Rattle.sp_store.specs.Layout.{IsLent, FramesBelow};
@@ -99,7 +102,7 @@ impl Store {
         requires sizes { length sizes.now ≤ 4294967294 }
         requires number { HasNextFrame self.old }
         ensures ok { IfOk result (λ n. n ≡ next_frame self.old) }
-        ensures pushed { OnOk result (self.new ≡ pushed self.old sizes.now) }
+        ensures pushed { OnOk result (self.new ≡ with_new_frame self.old sizes.now) }
         ensures err { OnErr result (self.new ≡ self.old) }
     {
         let number = self.next_frame();
@@ -120,8 +123,8 @@ impl Store {
     /// Drops the newest own frame with its pieces.
     pub fn pop_frame(&mut self)
         requires own { self.old.own ≢ [] }
-        requires here { NoneAway self.old.map (newest self.old.own) }
-        ensures { self.new ≡ popped self.old }
+        requires here { NoneAway self.old.map (last_own_frame self.old.own) }
+        ensures { self.new ≡ without_newest_frame self.old }
     {
         match self.own.pop() {
             Some(number) => self.slots.remove_frame(number),
@@ -144,7 +147,7 @@ impl Store {
     }
 
     /// The cell at the address.
-    #[tactic(auto, using(crate::proofs::Singles::read_single))]
+    #[tactic(auto, using(crate::proofs::OneCellPieces::read_single))]
     #[inline(always)]
     pub fn load(&self, at: Address) -> Cell
         requires { HasCells self.now.map at 1 }
@@ -164,7 +167,7 @@ impl Store {
     #[inline(always)]
     pub fn store(&mut self, at: Address, cell: Cell) -> Result<(), Memory>
         requires { HasCells self.old.map at 1 }
-        ensures ok { OnOk result (self.new ≡ with_map self.old (written self.old.map at cell)) }
+        ensures ok { OnOk result (self.new ≡ with_map self.old (with_cell self.old.map at cell)) }
         ensures err { OnErr result (self.new ≡ self.old) }
         ensures succeeds { IsOwn (map.get self.old.map at.spot) → IsOk result }
     {
@@ -179,7 +182,8 @@ impl Store {
     #[tactic(auto, using(sp_cell::proofs::Laws::insert_same))]
     pub fn make_own(&mut self, spot: Spot) -> Result<(), Memory>
         requires { IsPiece (map.get self.old.map spot) }
-        ensures ok { OnOk result (self.new ≡ with_map self.old (owned self.old.map spot (cells_at self.old.map spot))) }
+        ensures ok { OnOk result
+            (self.new ≡ with_map self.old (with_own_piece self.old.map spot (cells_at self.old.map spot))) }
         ensures err { OnErr result (self.new ≡ self.old) }
     {
         let entry = self.slots.entry_mut(spot);
@@ -212,7 +216,7 @@ impl Store {
     #[tactic(auto, using(sp_cell::proofs::Laws::insert_same))]
     pub fn append(&mut self, bytes: &[u8]) -> Result<(), Memory>
         requires { IsOutput (map.get self.old.map output_spot) }
-        ensures ok { OnOk result (self.new ≡ with_map self.old (appended self.old.map bytes.now)) }
+        ensures ok { OnOk result (self.new ≡ with_map self.old (with_more_output self.old.map bytes.now)) }
         ensures err { OnErr result (self.new ≡ self.old) }
     {
         let entry = self.slots.entry_mut(Spot {
@@ -229,7 +233,7 @@ impl Store {
     pub fn copy(&mut self, to: Address, from: Address, cells: u32) -> Result<(), Memory>
         requires target { HasCells self.old.map to cells }
         requires source { HasCells self.old.map from cells }
-        ensures ok { OnOk result (self.new ≡ with_map self.old (copied self.old.map to from cells)) }
+        ensures ok { OnOk result (self.new ≡ with_map self.old (with_copied_cells self.old.map to from cells)) }
         ensures err { OnErr result (self.new ≡ self.old) }
     {
         let taken = self.cells(from, cells)?;
@@ -258,7 +262,7 @@ impl Store {
         requires no_frame { child.own ≡ [] }
         requires held { AllHeld child.map child.moved }
         requires away { AllAway self.old.map child.moved }
-        ensures joined { self.new ≡ with_map self.old (joined self.old.map child) }
+        ensures joined { self.new ≡ with_map self.old (map_after_join self.old.map child) }
         ensures partition { RejoinsPartition self.old.map self.new.map child }
     {
         let Store { slots, own, moved } = child;
@@ -278,8 +282,8 @@ impl Store {
         requires distinct { DistinctByIndex handing.now.moved }
         requires frames { IsSome handing.now.index → FramesBelow handing.now.moved 18446744073709551615
             × FramesBelow handing.now.shared 18446744073709551615 }
-        ensures child { IfOk result (λ c. c ≡ prepared from.now handing.now) }
-        ensures ready { OnOk result (ready.new ≡ lent from.now handing.now.shared ready.old) }
+        ensures child { IfOk result (λ c. c ≡ prepared_child from.now handing.now) }
+        ensures ready { OnOk result (ready.new ≡ with_shared from.now handing.now.shared ready.old) }
         ensures lent { OnOk result (IsLent from.now ready.new) }
     {
         let mut slots = Slots::new(alloc);
@@ -302,11 +306,11 @@ impl Store {
 
     /// Moves to each child what its handing moves.
     fn fill(parent: &mut Slots, children: &mut Vec<Store>, plan: &[Handing])
-        requires prepared { children.old.items ≡ mixed parent.old plan.now 0 }
+        requires prepared { children.old.items ≡ children_so_far parent.old plan.now 0 }
         requires distinct { IsDistinct (moved_of plan.now) }
         requires known { (q : Spot) → In q (moved_of plan.now) → IsSome (map.get parent.old q) }
         ensures children { children.new.items ≡ children_of parent.old plan.now }
-        ensures parent { parent.new ≡ away parent.old (moved_of plan.now) }
+        ensures parent { parent.new ≡ with_away parent.old (moved_of plan.now) }
     {
         for (i, handing) in plan.iter().enumerate() {
             let child = &mut children[i];
@@ -324,11 +328,11 @@ impl Store {
         requires apart { (q : Spot) → In q (moved_of plan.now) → NotIn q (shared_of plan.now) }
         requires number { HasIndex plan.now → HasNextFrame self.old }
         ensures children { IfOk result (λ cs. cs ≡ children_of self.old.map plan.now) }
-        ensures parent { OnOk result (self.new ≡ with_map self.old (handed self.old.map plan.now)) }
+        ensures parent { OnOk result (self.new ≡ with_map self.old (map_after_fork self.old.map plan.now)) }
         ensures partition { IfOk result (λ cs. KeepsPartition self.old.map self.new.map plan.now cs) }
         // Children that are joined as they were made give all back.
-        ensures back { IfOk result (λ cs. joined_all self.new.map cs
-            ≡ lent self.old.map (shared_of plan.now) self.old.map) }
+        ensures back { IfOk result (λ cs. map_after_joins self.new.map cs
+            ≡ with_shared self.old.map (shared_of plan.now) self.old.map) }
         ensures err { OnErr result (self.new ≡ self.old) }
     {
         let children = self.split_by(plan.items())?;
@@ -343,7 +347,7 @@ impl Store {
         requires apart { (q : Spot) → In q (moved_of plan.now) → NotIn q (shared_of plan.now) }
         requires number { HasIndex plan.now → HasNextFrame self.old }
         ensures children { IfOk result (λ cs. cs.items ≡ children_of self.old.map plan.now) }
-        ensures parent { OnOk result (self.new ≡ with_map self.old (handed self.old.map plan.now)) }
+        ensures parent { OnOk result (self.new ≡ with_map self.old (map_after_fork self.old.map plan.now)) }
         ensures err { OnErr result (self.new ≡ self.old) }
     {
         let alloc = *self.own.allocator();

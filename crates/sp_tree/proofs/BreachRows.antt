@@ -9,12 +9,13 @@ use Rattle.sp_tree.specs.declared.checked.Role.{Role}
 use Rattle.sp_tree.specs.declared.checked.Role.TheVariants as role
 use Rattle.sp_tree.specs.declared.checked.Variable.{Variable}
 use Rattle.sp_tree.specs.declared.operators.BinaryOp.TheVariants as op
-use Rattle.sp_tree.specs.PlainChecked.{Expression, At, Number, Read, Binary, Apply, Variable as Var, Entire, Whole}
+use Rattle.sp_tree.specs.PlainChecked.{Expression, ExpressionAt, Number, Read, Binary, Apply, Variable as Var, Entire}
+use Rattle.sp_tree.specs.PlainChecked.{Whole}
 use Rattle.sp_tree.specs.PlainChecked.{Select, Index, Actuals, Nothing, Pass, ByReference, Statement, Does, Empty}
 use Rattle.sp_tree.specs.PlainChecked.{Assign, Call, Sequence, For, Parallel, Forall, Assume, WriteLine, Open}
 use Rattle.sp_tree.specs.PlainChecked.{Statements, NoStatement, AndThen, Block, Program}
 use Rattle.sp_tree.specs.Plain as plain
-use Rattle.sp_tree.specs.Bare.{bare, bare_block}
+use Rattle.sp_tree.specs.Bare.{without_places, bare_block}
 use Rattle.sp_tree.specs.Sets.{IsBelow, IsFree}
 use Rattle.sp_tree.specs.Sites.{SplitsAt, SpreadsAt, LoopsAt, CallsAt, StopsAt}
 use Rattle.sp_tree.specs.Interferes.{Interferes}
@@ -25,13 +26,13 @@ abbrev place : ℕ → Place
 place c = record { line = 1; column = c }
 
 abbrev num : ℕ → ℕ → Expression
-num c n = At (place c) 0 (Number (pos n))
+num c n = ExpressionAt (place c) 0 (Number (pos n))
 
 abbrev var : ℕ → ℕ → Var
 var c x = Entire x (place c) Whole
 
 abbrev get : ℕ → ℕ → Expression
-get c x = At (place c) 0 (Read (var c x))
+get c x = ExpressionAt (place c) 0 (Read (var c x))
 
 abbrev assign : ℕ → ℕ → ℕ → Expression → Statement
 assign n c x e = Does n (place c) (Assign (var c x) e)
@@ -139,7 +140,7 @@ I2_broken = (
 abbrev each_assumes : Program
 each_assumes = integers with_index (the_program
     (compound 28 (one (Does 2 (place 34) (Forall 3 (num 46 1) (num 51 3)
-    (Does 3 (place 56) (Assume (At (place 63) 0 (Binary op.Eq (get 63 3) (get 67 2))))))))) ∷ [])
+    (Does 3 (place 56) (Assume (ExpressionAt (place 63) 0 (Binary op.Eq (get 63 3) (get 67 2))))))))) ∷ [])
 
 pub I2_kept : BreaksNone each_assumes
 I2_kept = breaks_none each_assumes [] (0 ∷ []) refl
@@ -221,7 +222,7 @@ I5_broken = (
     (
       bare_block takes_a,
       refl,
-      free (bare passes_implicit) 0 2 _ _ refl refl refl refl,
+      free (without_places passes_implicit) 0 2 _ _ refl refl refl refl,
       inr ([], inl (inr (inl refl))),
     ),
   ),
@@ -253,7 +254,13 @@ I6_broken = (
   refl,
   (0, 1, refl, bare_block calls_itself, refl, plain.Nothing, inr (inl (inl refl))),
   2,
-  (bare_block calls_itself, refl, free (bare recursive) 0 2 _ _ refl refl refl refl, inl ([], inl (inl (inl refl)))),
+  (
+    bare_block calls_itself,
+    refl,
+    free (without_places recursive) 0 2 _ _ refl refl refl refl,
+    inl
+        ([], inl (inl (inl refl))),
+  ),
   omega arith,
 )
 
@@ -313,7 +320,12 @@ I8_broken = (
   refl,
   (bare_block assigns_global, 3, refl, refl),
   2,
-  (bare_block assigns_global, refl, free (bare with_effect) 0 2 _ _ refl refl refl refl, ([], inl (inl (inl refl)))),
+  (
+    bare_block assigns_global,
+    refl,
+    free (without_places with_effect) 0 2 _ _ refl refl refl refl,
+    ([], inl (inl (inl refl))),
+  ),
 )
 
 -- program e; var x: integer; function f: integer; begin f := x end; begin end.
@@ -354,7 +366,7 @@ writes = function (codes "g") 55 [] 2 (compound 67 (two (assign 2 73 2 (num 78 1
 abbrev selects : ℕ → ℕ → Block
 selects c d = function (codes "f") c [] 3 (compound (c + 22)
     (two (Does 2 (place d) (Assign (Entire 4 (place d)
-    (Select (Index (At (place (d + 2)) 0 (Apply 1 (place (d + 2)) Nothing))) Whole)) (num (d + 8) 1)))
+    (Select (Index (ExpressionAt (place (d + 2)) 0 (Apply 1 (place (d + 2)) Nothing))) Whole)) (num (d + 8) 1)))
     (assign 3 (d + 11) 3 (num (d + 16) 1))))
 
 abbrev arrays : ℕ → ℕ → List Block → Program

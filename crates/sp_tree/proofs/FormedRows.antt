@@ -9,7 +9,7 @@ use Rattle.sp_tree.specs.Cells.{variables_of}
 use Rattle.sp_tree.specs.Plain.{Typed, Number, Read, Entire, Whole, Program, Variable, Block, Stmt, Assign, Parallel}
 use Rattle.sp_tree.specs.Plain.{WriteValue, No, And}
 use Rattle.sp_tree.specs.Uses.{Use, ParallelOf, In_stmt}
-use Rattle.sp_tree.specs.Formed.{is_parameter, is_answer, among, as_list, IsFormedUse, IsFormed}
+use Rattle.sp_tree.specs.Formed.{is_parameter, is_answer, numbers_with_role, as_list, IsFormedUse, IsFormed}
 
 abbrev declared : ℕ → Role → Variable
 declared b r = record { kind = 0; block = b; role = r }
@@ -50,7 +50,7 @@ no_fields zero fs e = cc e
 no_fields (suc k) fs e = cc e
 
 formals_fit : (f : ℕ) (b : Block) → slice_get good.blocks f ≡ Some b
-    → b.formals ≡ among is_parameter (variables_of f 0 good.variables)
+    → b.formals ≡ numbers_with_role is_parameter (variables_of f 0 good.variables)
 formals_fit zero b e = let same : the_program (Parallel (And (sets 2) No)) ≡ b = cc e in
     subst (λ (z : Block). z.formals ≡ []) same refl
 formals_fit (suc zero) b e = let same : writes (3 ∷ []) ≡ b = cc e in
@@ -58,7 +58,7 @@ formals_fit (suc zero) b e = let same : writes (3 ∷ []) ≡ b = cc e in
 formals_fit (suc (suc f)) b e = absurd (cc e)
 
 answers_fit : (f : ℕ) (b : Block) → slice_get good.blocks f ≡ Some b
-    → as_list b.answer ≡ among is_answer (variables_of f 0 good.variables)
+    → as_list b.answer ≡ numbers_with_role is_answer (variables_of f 0 good.variables)
 answers_fit zero b e = let same : the_program (Parallel (And (sets 2) No)) ≡ b = cc e in
     subst (λ (z : Block). as_list z.answer ≡ []) same refl
 answers_fit (suc zero) b e = let same : writes (3 ∷ []) ≡ b = cc e in

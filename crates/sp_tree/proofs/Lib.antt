@@ -5,7 +5,7 @@ pub mod UsesOf
 pub mod Certified
 pub mod Closure
 pub mod InterferenceRows
-pub mod Singles
+pub mod SingleStatements
 pub mod Sited
 pub mod NoBreach
 pub mod Reached

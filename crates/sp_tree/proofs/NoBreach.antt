@@ -6,7 +6,7 @@ use Rattle.sp_base.specs.declared.rule.Rule.{Rule}
 use Rattle.sp_base.specs.declared.rule.Rule.TheVariants as rule
 use Rattle.sp_tree.specs.PlainChecked as p
 use Rattle.sp_tree.specs.Plain.{Program, Block}
-use Rattle.sp_tree.specs.Bare.{bare_statement, bare_statements, bare_actuals, bare_block, bare}
+use Rattle.sp_tree.specs.Bare.{bare_statement, bare_statements, bare_actuals, bare_block, without_places}
 use Rattle.sp_tree.specs.Uses.{Use, Target, Seen, In_stmt, In_stmts}
 use Rattle.sp_tree.specs.Sets.{Reach, IsTarget, IsUsed, Implicit}
 use Rattle.sp_tree.specs.Interference.{refs, IsMember, AllDifferent, KeepsI1, KeepsI5, IsIndexOf, KeepsRules}
@@ -122,30 +122,30 @@ block_at (m ∷ ms) (suc b) k e = block_at ms b k e
 
 module _ (c : p.Program) (calm : (r : Rule) (at : Place) → Interferes c r at → ⊥) where
   pub site_kept : (b : ℕ) (k : p.Block) → slice_get c.blocks b ≡ Some k → (site : Site)
-      → IsSite site (statement_sites k.body) → HasIndex (bare c) site → KeepsSite (bare c) site
-  site_kept b k e (SplitsAt parts) i x = split_kept (bare c) parts
+      → IsSite site (statement_sites k.body) → HasIndex (without_places c) site → KeepsSite (without_places c) site
+  site_kept b k e (SplitsAt parts) i x = split_kept (without_places c) parts
       (λ at h. calm rule.I1 at (b, k, e, SplitsAt parts, i, h))
   site_kept b k e (SpreadsAt here y s) i x =
       (x, λ z t. calm rule.I2 here (b, k, e, SpreadsAt here y s, i, (refl, z, t)))
   site_kept b k e (LoopsAt y here s) i x = tt
   site_kept b k e (CallsAt f here args) i x = (
-    different (bare c) args (λ at h. calm rule.I4 at (b, k, e, CallsAt f here args, i, h)),
-    not_implicit (bare c) f args (λ at h. calm rule.I5 at (b, k, e, CallsAt f here args, i, h)),
+    different (without_places c) args (λ at h. calm rule.I4 at (b, k, e, CallsAt f here args, i, h)),
+    not_implicit (without_places c) f args (λ at h. calm rule.I5 at (b, k, e, CallsAt f here args, i, h)),
   )
   site_kept b k e (StopsAt here) i x = tt
 
-  all_kept : (sites : List Site) → ((site : Site) → IsSite site sites → KeepsSite (bare c) site)
-      → AllKeep (bare c) sites
+  all_kept : (sites : List Site) → ((site : Site) → IsSite site sites → KeepsSite (without_places c) site)
+      → AllKeep (without_places c) sites
   all_kept [] h = tt
   all_kept (s ∷ ss) h = (h s (inl refl), all_kept ss (λ t m. h t (inr m)))
 
   -- every use in every block keeps the rules on which disjointness rests
   pub blocks_kept : ((b : ℕ) (k : p.Block) → slice_get c.blocks b ≡ Some k → (site : Site)
-      → IsSite site (statement_sites k.body) → HasIndex (bare c) site)
-      → (b : ℕ) (k : Block) → slice_get (bare c).blocks b ≡ Some k → (u : Use) → In_stmt k.body u
-      → KeepsRules (bare c) u
+      → IsSite site (statement_sites k.body) → HasIndex (without_places c) site)
+      → (b : ℕ) (k : Block) → slice_get (without_places c).blocks b ≡ Some k → (u : Use) → In_stmt k.body u
+      → KeepsRules (without_places c) u
   blocks_kept indices b k e u i =
       let m = block_at c.blocks b k e in
-      statement_kept (bare c) m.0.body u (all_kept (statement_sites m.0.body)
+      statement_kept (without_places c) m.0.body u (all_kept (statement_sites m.0.body)
       (λ site s. site_kept b m.0 m.1 site s (indices b m.0 m.1 site s)))
       (subst (λ (z : Block). In_stmt z.body u) (sym m.2) i)

@@ -34,7 +34,7 @@ module _ (g : Program) where
   mutual
     pub expression_kept : (e : p.Expression) (u : Use) → AllKeep (expression_sites e) → In_expr (bare_expression e) u
         → KeepsRules g u
-    expression_kept (p.At at k form) u h i = form_kept form u h i
+    expression_kept (p.ExpressionAt at k form) u h i = form_kept form u h i
 
     form_kept : (e : p.ExpressionForm) (u : Use) → AllKeep (form_sites e) → In_form (bare_form e) u → KeepsRules g u
     form_kept (p.Number n) u h i = absurd i

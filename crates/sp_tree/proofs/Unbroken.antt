@@ -13,7 +13,7 @@ use Rattle.sp_tree.specs.declared.checked.Role.TheVariants as role
 use Rattle.sp_tree.specs.declared.checked.Variable as ast_x
 use Rattle.sp_tree.specs.PlainChecked as p
 use Rattle.sp_tree.specs.Plain.{Program, Block, Actuals}
-use Rattle.sp_tree.specs.Bare.{bare_statement, bare_statements, bare_actuals, bare_block, bare}
+use Rattle.sp_tree.specs.Bare.{bare_statement, bare_statements, bare_actuals, bare_block, without_places}
 use Rattle.sp_tree.specs.Uses.{Use, Target, Seen, CallOf, ParallelOf, ForallOf, Stop, In_stmt, In_stmts}
 use Rattle.sp_tree.specs.Sets.{IsBelow, Reach, IsTarget, IsUsed, ImplicitTarget, Implicit}
 use Rattle.sp_tree.specs.Interference.{refs, IsMember, AllDifferent, KeepsI1, KeepsI5, IsCalledInside, IsFunction}
@@ -23,7 +23,7 @@ use Rattle.sp_tree.specs.Interferes.{SiteStops, Interferes}
 use Rattle.sp_tree.proofs.UsesOf.{Among, stmt_uses, stmt_among}
 use Rattle.sp_tree.proofs.Certified.{Claim, has, each, each_has, all_uses, use_passes, member_has, T, S, aims_of, keeps}
 use Rattle.sp_tree.proofs.Certified.{bodies, reached_target, reached_seen, target_has, use_kept}
-use Rattle.sp_tree.proofs.Reached.{IsClosed, complete}
+use Rattle.sp_tree.proofs.Reached.{IsClosedUnderCalls, complete}
 use Rattle.sp_tree.proofs.NoBreach.{block_at}
 
 abbrev pub is_reference : Role → Bool
@@ -164,10 +164,10 @@ pub record BreaksNone (c : p.Program) : Type 0 where
 -- function may not have
 module _ (c : p.Program) (claims : List Claim) (stopping : List ℕ) where
   abbrev pub site_test : Site → Bool
-  site_test (SplitsAt parts) = keeps (bare c) claims (ParallelOf (bare_statements parts))
-  site_test (SpreadsAt at x s) = keeps (bare c) claims (ForallOf x (bare_statement s))
-  site_test (LoopsAt x at s) = not (has (aims_of (bare c) claims (stmt_uses (bare_statement s))) x)
-  site_test (CallsAt f at args) = keeps (bare c) claims (CallOf f (bare_actuals args))
+  site_test (SplitsAt parts) = keeps (without_places c) claims (ParallelOf (bare_statements parts))
+  site_test (SpreadsAt at x s) = keeps (without_places c) claims (ForallOf x (bare_statement s))
+  site_test (LoopsAt x at s) = not (has (aims_of (without_places c) claims (stmt_uses (bare_statement s))) x)
+  site_test (CallsAt f at args) = keeps (without_places c) claims (CallOf f (bare_actuals args))
   site_test (StopsAt at) = true
 
   abbrev pub quiet_test : Site → Bool
@@ -180,7 +180,7 @@ module _ (c : p.Program) (claims : List Claim) (stopping : List ℕ) where
   abbrev pub function_test : ℕ → p.Block → Option ℕ → Bool
   function_test b k None = true
   function_test b k (Some x) = each (λ y. by_role (λ r. not (is_reference r)) (slice_get c.variables y)) k.formals
-      && (each (λ y. false) (T (bare c) claims b) && all_sites quiet_test (statement_sites k.body))
+      && (each (λ y. false) (T (without_places c) claims b) && all_sites quiet_test (statement_sites k.body))
 
   -- it is called only by blocks that stand in none, and not by itself
   abbrev pub outer_calls : ℕ → ℕ → List p.Block → Bool
@@ -189,7 +189,8 @@ module _ (c : p.Program) (claims : List Claim) (stopping : List ℕ) where
       || (is_none k.parent && not (n == b))) && outer_calls b (suc n) ks
 
   abbrev pub recursion_test : ℕ → Bool
-  recursion_test b = (each (λ x. nat_lt x 2) (T (bare c) claims b) && each (λ x. nat_lt x 2) (S (bare c) claims b))
+  recursion_test b = (each (λ x. nat_lt x 2) (T (without_places c) claims b) && each
+      (λ x. nat_lt x 2) (S (without_places c) claims b))
       || outer_calls b 0 c.blocks
 
   abbrev pub stop_test : ℕ → Use → Bool
@@ -209,7 +210,7 @@ module _ (c : p.Program) (claims : List Claim) (stopping : List ℕ) where
   blocks_test b (k ∷ ks) = block_test b k && blocks_test (suc b) ks
 
   abbrev pub unbroken : Bool
-  unbroken = bodies (bare c) claims 0 (bare c).blocks && blocks_test 0 c.blocks
+  unbroken = bodies (without_places c) claims 0 (without_places c).blocks && blocks_test 0 c.blocks
 
   block_passes : (b : ℕ) (ks : List p.Block) (n : ℕ) (k : p.Block) → blocks_test b ks ≡ true → slice_get ks n ≡ Some k
       → block_test (b + n) k ≡ true
@@ -245,12 +246,13 @@ module _ (c : p.Program) (claims : List Claim) (stopping : List ℕ) where
       (z.0, λ q. let same : suc m + n ≡ b = omega (arith, q) in z.1 same)
 
   module _ (passes : unbroken ≡ true) where
-    all : bodies (bare c) claims 0 (bare c).blocks ≡ true
-    all = first_true (bodies (bare c) claims 0 (bare c).blocks) (blocks_test 0 c.blocks) passes
+    all : bodies (without_places c) claims 0 (without_places c).blocks ≡ true
+    all = first_true (bodies (without_places c) claims 0 (without_places c).blocks) (blocks_test 0 c.blocks) passes
 
     tested : (b : ℕ) (k : p.Block) → slice_get c.blocks b ≡ Some k → block_test b k ≡ true
     tested b k e = subst (λ z. block_test z k ≡ true) (zero-add b)
-        (block_passes 0 c.blocks b k (second_true (bodies (bare c) claims 0 (bare c).blocks) (blocks_test 0 c.blocks)
+        (block_passes 0 c.blocks b k (second_true (bodies (without_places c) claims 0 (without_places c).blocks)
+        (blocks_test 0 c.blocks)
         passes) e)
 
     site_passed : (b : ℕ) (k : p.Block) (site : Site) → slice_get c.blocks b ≡ Some k
@@ -270,73 +272,88 @@ module _ (c : p.Program) (claims : List Claim) (stopping : List ℕ) where
     other_passed b k e = second_true (all_sites site_test (statement_sites k.body) && function_test b k k.answer)
         (recursion_test b && all_uses (stop_test b) (stmt_uses (bare_statement k.body))) (tested b k e)
 
-    is_answered : (b : ℕ) (k : p.Block) → slice_get c.blocks b ≡ Some k → IsFunction (bare c) b → (x : ℕ)
+    is_answered : (b : ℕ) (k : p.Block) → slice_get c.blocks b ≡ Some k → IsFunction (without_places c) b → (x : ℕ)
         × (k.answer ≡ Some x)
     is_answered b k e (m, x, at, a) =
         let r = block_at c.blocks b m at in
         let same : r.0 ≡ k = same_Some r.0 k (sym r.1 ∙ e) in
         (x, ap (λ (z : p.Block). z.answer) (sym same) ∙ ap (λ (z : Block). z.answer) r.2 ∙ a)
 
-    site_calm : (site : Site) → site_test site ≡ true → (at : Place) → (SiteBreaks (bare c) site rule.I1 at → ⊥)
-        × (SiteBreaks (bare c) site rule.I2 at → ⊥) × (SiteBreaks (bare c) site rule.I3 at → ⊥)
-        × (SiteBreaks (bare c) site rule.I4 at → ⊥) × (SiteBreaks (bare c) site rule.I5 at → ⊥)
-    site_calm (SplitsAt parts) h at = (
-      no_split (bare c) parts at
-          (use_kept (bare c) claims all (ParallelOf (bare_statements parts)) h),
+    none_broken_at_site : (site : Site) → site_test site ≡ true → (at : Place)
+        → (SiteBreaks (without_places c) site rule.I1 at → ⊥)
+        × (SiteBreaks (without_places c) site rule.I2 at → ⊥) × (SiteBreaks (without_places c) site rule.I3 at → ⊥)
+        × (SiteBreaks (without_places c) site rule.I4 at → ⊥) × (SiteBreaks (without_places c) site rule.I5 at → ⊥)
+    none_broken_at_site (SplitsAt parts) h at = (
+      no_split (without_places c) parts at
+          (use_kept (without_places c) claims all (ParallelOf (bare_statements parts)) h),
       λ k. k,
       λ k. k,
       λ k. k,
       λ k. k,
     )
-    site_calm (SpreadsAt here x s) h at = (
+    none_broken_at_site (SpreadsAt here x s) h at = (
       λ k. k,
-      λ k. (use_kept (bare c) claims all (ForallOf x (bare_statement s)) h).1 k.1 k.2,
+      λ k. (use_kept (without_places c) claims all (ForallOf x (bare_statement s)) h).1 k.1 k.2,
       λ k. k,
       λ k. k,
       λ k. k,
     )
-    site_calm (LoopsAt x here s) h at = (
+    none_broken_at_site (LoopsAt x here s) h at = (
       λ k. k,
       λ k. k,
-      λ k. not_refutes _ h (target_has (bare c) claims all (In_stmt (bare_statement s)) (stmt_uses (bare_statement s))
+      λ k. not_refutes _ h (target_has (without_places c) claims all (In_stmt (bare_statement s))
+          (stmt_uses (bare_statement s))
           (stmt_among (bare_statement s)) x k.1),
       λ k. k,
       λ k. k,
     )
-    site_calm (CallsAt f here args) h at =
-        let kept = use_kept (bare c) claims all (CallOf f (bare_actuals args)) h in
-        (λ k. k, λ k. k, λ k. k, no_repeat (bare c) args at kept.0, no_implicit (bare c) f args at kept.1)
-    site_calm (StopsAt here) h at = (λ k. k, λ k. k, λ k. k, λ k. k, λ k. k)
+    none_broken_at_site (CallsAt f here args) h at =
+        let kept = use_kept (without_places c) claims all (CallOf f (bare_actuals args)) h in (
+          λ k. k,
+          λ k. k,
+          λ k. k,
+          no_repeat (without_places c) args at kept.0,
+          no_implicit (without_places c) f args at
+              kept.1,
+        )
+    none_broken_at_site (StopsAt here) h at = (λ k. k, λ k. k, λ k. k, λ k. k, λ k. k)
 
-    calm_at : (b : ℕ) (k : p.Block) (site : Site) → slice_get c.blocks b ≡ Some k → IsSite site (statement_sites k.body)
-        → (at : Place) → (SiteBreaks (bare c) site rule.I1 at → ⊥) × (SiteBreaks (bare c) site rule.I2 at → ⊥)
-        × (SiteBreaks (bare c) site rule.I3 at → ⊥) × (SiteBreaks (bare c) site rule.I4 at → ⊥)
-        × (SiteBreaks (bare c) site rule.I5 at → ⊥)
-    calm_at b k site e i at = site_calm site (site_passed b k site e i) at
+    none_broken_at : (b : ℕ) (k : p.Block) (site : Site) → slice_get c.blocks b ≡ Some k
+        → IsSite site (statement_sites k.body)
+        → (at : Place) → (SiteBreaks (without_places c) site rule.I1 at → ⊥)
+        × (SiteBreaks (without_places c) site rule.I2 at → ⊥)
+        × (SiteBreaks (without_places c) site rule.I3 at → ⊥) × (SiteBreaks (without_places c) site rule.I4 at → ⊥)
+        × (SiteBreaks (without_places c) site rule.I5 at → ⊥)
+    none_broken_at b k site e i at = none_broken_at_site site (site_passed b k site e i) at
 
-    implicit_has : (b x : ℕ) → Implicit (bare c) b x → (has (T (bare c) claims b) x ≡ true)
-        ⊎ (has (S (bare c) claims b) x ≡ true)
-    implicit_has b x (k, e, f, inl (bs, r)) = inl (reached_target (bare c) claims all bs x b k e r f)
-    implicit_has b x (k, e, f, inr (bs, r)) = inr (reached_seen (bare c) claims all bs x b k e r f)
+    implicit_has : (b x : ℕ) → Implicit (without_places c) b x → (has (T (without_places c) claims b) x ≡ true)
+        ⊎ (has (S (without_places c) claims b) x ≡ true)
+    implicit_has b x (k, e, f, inl (bs, r)) = inl (reached_target (without_places c) claims all bs x b k e r f)
+    implicit_has b x (k, e, f, inr (bs, r)) = inr (reached_seen (without_places c) claims all bs x b k e r f)
 
-    no_recursion : (b x : ℕ) → recursion_test b ≡ true → IsCalledInside (bare c) b → Implicit (bare c) b x → 2 ≤ x → ⊥
+    no_recursion : (b x : ℕ) → recursion_test b ≡ true → IsCalledInside (without_places c) b
+        → Implicit (without_places c) b x → 2 ≤ x → ⊥
     no_recursion b x t (n, d, below, m, at, args, runs) i l =
-        go (or_cases (each (λ x. nat_lt x 2) (T (bare c) claims b) && each (λ x. nat_lt x 2) (S (bare c) claims b))
+        go (or_cases (each (λ x. nat_lt x 2) (T (without_places c) claims b) && each
+        (λ x. nat_lt x 2) (S (without_places c) claims b))
         (outer_calls b 0 c.blocks) t)
       where
         small : nat_lt x 2 ≡ true → ⊥
         small h = grind (arith, h, l)
 
-        listed : each (λ x. nat_lt x 2) (T (bare c) claims b) && each (λ x. nat_lt x 2) (S (bare c) claims b) ≡ true
-            → (has (T (bare c) claims b) x ≡ true) ⊎ (has (S (bare c) claims b) x ≡ true) → ⊥
-        listed h (inl a) = small (each_has (λ x. nat_lt x 2) (T (bare c) claims b) x
-            (first_true (each (λ x. nat_lt x 2) (T (bare c) claims b)) (each (λ x. nat_lt x 2) (S (bare c) claims b)) h)
+        listed : each (λ x. nat_lt x 2) (T (without_places c) claims b) && each
+            (λ x. nat_lt x 2) (S (without_places c) claims b) ≡ true
+            → (has (T (without_places c) claims b) x ≡ true) ⊎ (has (S (without_places c) claims b) x ≡ true) → ⊥
+        listed h (inl a) = small (each_has (λ x. nat_lt x 2) (T (without_places c) claims b) x
+            (first_true (each (λ x. nat_lt x 2) (T (without_places c) claims b))
+            (each (λ x. nat_lt x 2) (S (without_places c) claims b)) h)
             a)
-        listed h (inr a) = small (each_has (λ x. nat_lt x 2) (S (bare c) claims b) x
-            (second_true (each (λ x. nat_lt x 2) (T (bare c) claims b)) (each (λ x. nat_lt x 2) (S (bare c) claims b))
+        listed h (inr a) = small (each_has (λ x. nat_lt x 2) (S (without_places c) claims b) x
+            (second_true (each (λ x. nat_lt x 2) (T (without_places c) claims b))
+            (each (λ x. nat_lt x 2) (S (without_places c) claims b))
             h) a)
 
-        outside : (n : ℕ) → IsBelow (bare c) n d b → outer_calls b 0 c.blocks ≡ true → ⊥
+        outside : (n : ℕ) → IsBelow (without_places c) n d b → outer_calls b 0 c.blocks ≡ true → ⊥
         outside n below h = by n below
           where
             r : (k : p.Block) × (slice_get c.blocks d ≡ Some k) × (bare_block k ≡ m)
@@ -350,13 +367,14 @@ module _ (c : p.Program) (claims : List Claim) (stopping : List ℕ) where
             z : (is_none r.0.parent ≡ true) × (0 + d ≡ b → ⊥)
             z = caller b 0 c.blocks d r.0 h r.1 called
 
-            by : (n : ℕ) → IsBelow (bare c) n d b → ⊥
+            by : (n : ℕ) → IsBelow (without_places c) n d b → ⊥
             by zero e = let same : d ≡ b = e in z.1 (omega (arith, same))
             by (suc n) (k, e, q, o, rest) =
                 let same : m ≡ k = cc (at, e) in
                 none_not r.0.parent q z.0 (ap (λ (y : Block). y.parent) r.2 ∙ ap (λ (y : Block). y.parent) same ∙ o)
 
-        go : (each (λ x. nat_lt x 2) (T (bare c) claims b) && each (λ x. nat_lt x 2) (S (bare c) claims b) ≡ true)
+        go : (each (λ x. nat_lt x 2) (T (without_places c) claims b) && each
+            (λ x. nat_lt x 2) (S (without_places c) claims b) ≡ true)
             ⊎ (outer_calls b 0 c.blocks ≡ true) → ⊥
         go (inl h) = listed h (implicit_has b x i)
         go (inr h) = outside n below h
@@ -365,7 +383,7 @@ module _ (c : p.Program) (claims : List Claim) (stopping : List ℕ) where
     abbrev Listed : ℕ → Use → Type 0
     Listed b u = u ≡ Stop → has stopping b ≡ true
 
-    closed : IsClosed (bare c) Listed
+    closed : IsClosedUnderCalls (without_places c) Listed
     closed b m at u passed = (
       λ h s. use_passes (stop_test b) (stmt_uses m.body) Stop test
           (subst (λ v. Among v (stmt_uses m.body)) s (stmt_among m.body u h)),
@@ -387,16 +405,17 @@ module _ (c : p.Program) (claims : List Claim) (stopping : List ℕ) where
             go (inl n) = absurd (not_refutes (has stopping d) n k)
             go (inr y) = y
 
-    no_stop : (site : Site) (at : Place) → quiet_test site ≡ true → SiteStops (bare c) site at → ⊥
+    no_stop : (site : Site) (at : Place) → quiet_test site ≡ true → SiteStops (without_places c) site at → ⊥
     no_stop (SplitsAt parts) at h s = s
     no_stop (SpreadsAt here x t) at h s = s
     no_stop (LoopsAt x here t) at h s = s
     no_stop (CallsAt f here args) at h (e, (k, found, bs, r)) =
-        not_refutes (has stopping f) h (complete (bare c) Listed closed bs f k Stop found tt r refl)
+        not_refutes (has stopping f) h (complete (without_places c) Listed closed bs f k Stop found tt r refl)
     no_stop (StopsAt here) at h s = cc h
 
     no_reference : (b : ℕ) (k : p.Block) (y : ℕ) (i : ast_x.Variable) → slice_get c.blocks b ≡ Some k
-        → IsFunction (bare c) b → IsMember y k.formals → slice_get c.variables y ≡ Some i → i.role ≡ role.Reference → ⊥
+        → IsFunction (without_places c) b → IsMember y k.formals → slice_get c.variables y ≡ Some i
+        → i.role ≡ role.Reference → ⊥
     no_reference b k y i e f m at is =
         let a = is_answered b k e f in
         let test = first_true (each (λ y. by_role (λ r. not (is_reference r)) (slice_get c.variables y)) k.formals) _
@@ -406,34 +425,35 @@ module _ (c : p.Program) (claims : List Claim) (stopping : List ℕ) where
         (member_has y k.formals m) in
         reference_not i.role (subst (λ o. by_role (λ r. not (is_reference r)) o ≡ true) at one) is
 
-    rest_passed : (b : ℕ) (k : p.Block) → slice_get c.blocks b ≡ Some k → IsFunction (bare c) b
-        → each (λ y. false) (T (bare c) claims b) && all_sites quiet_test (statement_sites k.body) ≡ true
+    rest_passed : (b : ℕ) (k : p.Block) → slice_get c.blocks b ≡ Some k → IsFunction (without_places c) b
+        → each (λ y. false) (T (without_places c) claims b) && all_sites quiet_test (statement_sites k.body) ≡ true
     rest_passed b k e f = let a = is_answered b k e f in
         second_true (each (λ y. by_role (λ r. not (is_reference r)) (slice_get c.variables y)) k.formals) _
         (function_passed b k a.0 e a.1)
 
-    no_target : (b : ℕ) (k : p.Block) (x : ℕ) → slice_get c.blocks b ≡ Some k → IsFunction (bare c) b
-        → ImplicitTarget (bare c) b x → ⊥
+    no_target : (b : ℕ) (k : p.Block) (x : ℕ) → slice_get c.blocks b ≡ Some k → IsFunction (without_places c) b
+        → ImplicitTarget (without_places c) b x → ⊥
     no_target b k x e f (m, at, free, (bs, r)) =
-        let found : false ≡ true = each_has (λ y. false) (T (bare c) claims b) x
-        (first_true (each (λ y. false) (T (bare c) claims b)) (all_sites quiet_test (statement_sites k.body))
-        (rest_passed b k e f)) (reached_target (bare c) claims all bs x b m at r free) in
+        let found : false ≡ true = each_has (λ y. false) (T (without_places c) claims b) x
+        (first_true (each (λ y. false) (T (without_places c) claims b)) (all_sites quiet_test (statement_sites k.body))
+        (rest_passed b k e f)) (reached_target (without_places c) claims all bs x b m at r free) in
         cc found
 
     -- no rule of interference is broken, at no place
     pub breaks_none : BreaksNone c
     breaks_none = record {
-      I1 = λ at (b, k, e, site, i, h). (calm_at b k site e i at).0 h;
-      I2 = λ at (b, k, e, site, i, h). (calm_at b k site e i at).1 h;
-      I3 = λ at (b, k, e, site, i, h). (calm_at b k site e i at).2 h;
-      I4 = λ at (b, k, e, site, i, h). (calm_at b k site e i at).3 h;
-      I5 = λ at (b, k, e, site, i, h). (calm_at b k site e i at).4 h;
+      I1 = λ at (b, k, e, site, i, h). (none_broken_at b k site e i at).0 h;
+      I2 = λ at (b, k, e, site, i, h). (none_broken_at b k site e i at).1 h;
+      I3 = λ at (b, k, e, site, i, h). (none_broken_at b k site e i at).2 h;
+      I4 = λ at (b, k, e, site, i, h). (none_broken_at b k site e i at).3 h;
+      I5 = λ at (b, k, e, site, i, h). (none_broken_at b k site e i at).4 h;
       I6 = λ at (b, k, e, here, inside, x, i, l). no_recursion b x
           (first_true (recursion_test b) _ (other_passed b k e)) inside i l;
       I7 = λ at (b, k, e, f, x, m, i, found, is, here). no_reference b k x i e f m found is;
       I8 = λ at (b, k, e, here, f, x, t). no_target b k x e f t;
       I9 = λ at (b, k, e, f, site, i, s). no_stop site at
           (site_passes quiet_test (statement_sites k.body) site
-          (second_true (each (λ y. false) (T (bare c) claims b)) (all_sites quiet_test (statement_sites k.body))
+          (second_true (each (λ y. false) (T (without_places c) claims b))
+          (all_sites quiet_test (statement_sites k.body))
           (rest_passed b k e f)) i) s;
     }

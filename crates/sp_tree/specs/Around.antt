@@ -46,6 +46,6 @@ module _ (p : Program) where
   scopes_of b = scopes_by (length p.blocks) (Some b)
 
 -- what the variable parameter of this number stands for
-abbrev pub referred : {A : Type 0} → ℕ → List (ℕ × A) → Option A
-referred x [] = None
-referred x (r ∷ rs) = if x == r.0 then Some r.1 else referred x rs
+abbrev pub reference_target : {A : Type 0} → ℕ → List (ℕ × A) → Option A
+reference_target x [] = None
+reference_target x (r ∷ rs) = if x == r.0 then Some r.1 else reference_target x rs

@@ -13,7 +13,7 @@ use Rattle.sp_tree.specs.Plain.{Block, Program}
 
 abbrev mutual
   pub bare_expression : p.Expression → Expr
-  bare_expression (p.At at k form) = Typed k (bare_form form)
+  bare_expression (p.ExpressionAt at k form) = Typed k (bare_form form)
 
   pub bare_form : p.ExpressionForm → ExprForm
   bare_form (p.Number n) = Number n
@@ -93,5 +93,5 @@ bare_block b = record { parent = b.parent; formals = b.formals; answer = b.answe
 abbrev pub variable_of : memory.Variable → Variable
 variable_of x = record { kind = x.kind; block = x.block; role = x.role }
 
-abbrev pub bare : p.Program → Program
-bare c = record { kinds = c.kinds; variables = map variable_of c.variables; blocks = map bare_block c.blocks }
+abbrev pub without_places : p.Program → Program
+without_places c = record { kinds = c.kinds; variables = map variable_of c.variables; blocks = map bare_block c.blocks }

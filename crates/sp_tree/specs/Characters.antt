@@ -24,5 +24,5 @@ abbrev pub is_name_byte : ℕ → Bool
 is_name_byte b = is_letter b || (is_digit b || b == 95)
 
 -- the lower case of a letter, and any other byte itself
-abbrev pub lower : ℕ → ℕ
-lower b = cond (is_upper b) (b + 32) b
+abbrev pub lower_case_letter : ℕ → ℕ
+lower_case_letter b = cond (is_upper b) (b + 32) b

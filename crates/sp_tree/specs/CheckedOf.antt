@@ -16,12 +16,13 @@ use Rattle.sp_tree.specs.declared.checked.Form as checked_stmt_form
 use Rattle.sp_tree.specs.declared.checked.Arm as checked_arm
 use Rattle.sp_tree.specs.declared.checked.Block as checked_block
 use Rattle.sp_tree.specs.declared.checked.Checked as checked
-use Rattle.sp_tree.specs.PlainChecked.{Expression, At, ExpressionForm, Number, Read, Unary, Binary, Apply, Standard}
+use Rattle.sp_tree.specs.PlainChecked.{Expression, ExpressionAt, ExpressionForm, Number, Read, Unary, Binary, Apply}
+use Rattle.sp_tree.specs.PlainChecked.{Standard}
 use Rattle.sp_tree.specs.PlainChecked.{Variable, Entire, Selector, Index, Field, Selectors, Whole, Select, Actual}
 use Rattle.sp_tree.specs.PlainChecked.{ByValue, ByReference, Actuals, Nothing, Pass, Expressions, NoExpression}
 use Rattle.sp_tree.specs.PlainChecked.{AndExpression, Statement, Does, Form, Empty, Assign, Call, Sequence, If, While}
 use Rattle.sp_tree.specs.PlainChecked.{Repeat, For, Case, Parallel, Forall, Assume, ReadValue, ReadLine, WriteValue}
-use Rattle.sp_tree.specs.PlainChecked.{WriteText, WriteLine, Open, Send, Receive, Other, NoElse, Else, Statements}
+use Rattle.sp_tree.specs.PlainChecked.{WriteText, WriteLine, Open, Send, Receive, ElsePart, NoElse, Else, Statements}
 use Rattle.sp_tree.specs.PlainChecked.{NoStatement, AndThen, Arm, On, Arms, NoArm, Or, Block, Program}
 
 -- lists of the plain tree
@@ -55,7 +56,7 @@ form_step (e.Call f at args) = Apply f at (actuals args)
 form_step (e.Standard f args) = Standard f (expressions args)
 
 abbrev pub expression_step : e.Expr-F Actual ExpressionForm Selector Expression Variable → Expression
-expression_step x = At x.at x.kind x.form
+expression_step x = ExpressionAt x.at x.kind x.form
 
 abbrev pub variable_step : e.Var-F Actual ExpressionForm Selector Expression Variable → Variable
 variable_step v = Entire v.variable v.at (selectors v.selectors)
@@ -93,9 +94,9 @@ abbrev pub arms : List Arm → Arms
 arms [] = NoArm
 arms (a ∷ rest) = Or a (arms rest)
 
-abbrev pub other : Option Statement → Other
-other None = NoElse
-other (Some b) = Else b
+abbrev pub else_part : Option Statement → ElsePart
+else_part None = NoElse
+else_part (Some b) = Else b
 
 -- the single statements for several values, or variables, on one channel: at one place, numbered from a number on
 abbrev pub sends : ℕ → Place → Expression → List Expression → Statements
@@ -112,7 +113,7 @@ statement_form_step s.Empty = Empty
 statement_form_step (s.Assign v a) = Assign (variable_of v) (expression_of a)
 statement_form_step (s.Call f args) = Call f (actuals (map actual_of args))
 statement_form_step (s.Sequence ss) = Sequence (statements ss)
-statement_form_step (s.If c a b) = If (expression_of c) a (other b)
+statement_form_step (s.If c a b) = If (expression_of c) a (else_part b)
 statement_form_step (s.While c a) = While (expression_of c) a
 statement_form_step (s.Repeat a c) = Repeat a (expression_of c)
 statement_form_step (s.For x at from down to a) = For x at (expression_of from) down (expression_of to) a

@@ -64,10 +64,10 @@ refusal_cmp = then_cmp (on (λ r. r.at.line) nat_cmp)
     (then_cmp (on (λ r. r.at.column) nat_cmp) (on (λ r. row r.rule) nat_cmp))
 
 -- the first comes before the second
-abbrev pub before : Refusal → Refusal → Bool
-before a b = is_lt (refusal_cmp a b)
+abbrev pub refusal_before : Refusal → Refusal → Bool
+refusal_before a b = is_lt (refusal_cmp a b)
 
 -- Of the rules that Breaks says are broken, with their places, this is the first.
 pub record IsFirst (Breaks : Rule → Place → Type 0) (r : Refusal) : Type 0 where
   pub breaks : Breaks r.rule r.at
-  pub first : (other : Refusal) → Breaks other.rule other.at → before other r ≡ false
+  pub first : (other : Refusal) → Breaks other.rule other.at → refusal_before other r ≡ false

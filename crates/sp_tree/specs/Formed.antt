@@ -30,9 +30,9 @@ is_answer role.Index = false
 is_answer role.Answer = true
 
 -- the numbers of those with such a role
-abbrev pub among : (Role → Bool) → List (ℕ × Variable) → List ℕ
-among fits [] = []
-among fits (x ∷ xs) = if fits x.1.role then x.0 ∷ among fits xs else among fits xs
+abbrev pub numbers_with_role : (Role → Bool) → List (ℕ × Variable) → List ℕ
+numbers_with_role fits [] = []
+numbers_with_role fits (x ∷ xs) = if fits x.1.role then x.0 ∷ numbers_with_role fits xs else numbers_with_role fits xs
 
 -- none or one, as a list
 abbrev pub as_list : Option ℕ → List ℕ
@@ -63,9 +63,9 @@ pub record IsFormed (p : Program) : Type 0 where
       × (1 ≤ length fs)
   -- a block's parameters and its result are its variables with these roles, in order
   pub formals : (f : ℕ) (b : Block) → slice_get p.blocks f ≡ Some b
-      → b.formals ≡ among is_parameter (variables_of f 0 p.variables)
+      → b.formals ≡ numbers_with_role is_parameter (variables_of f 0 p.variables)
   pub answers : (f : ℕ) (b : Block) → slice_get p.blocks f ≡ Some b
-      → as_list b.answer ≡ among is_answer (variables_of f 0 p.variables)
+      → as_list b.answer ≡ numbers_with_role is_answer (variables_of f 0 p.variables)
   -- a variable is of a type and of a block that there are
   pub kinds : (x : ℕ) (v : Variable) → slice_get p.variables x ≡ Some v → suc v.kind ≤ length p.kinds
   pub homes : (x : ℕ) (v : Variable) → slice_get p.variables x ≡ Some v → (b : Block)

@@ -54,16 +54,16 @@ pub data IsMultiplying : Kind → BinaryOp → Type 0 where
   and : IsMultiplying w.And op.And
 
 -- an operator between two operands stands at the place of the left one
-abbrev pub joined : BinaryOp → tree.Expression → tree.Expression → tree.Expression
-joined o (tree.At p f) b = tree.At p (tree.Binary o (tree.At p f) b)
+abbrev pub binary_at_left : BinaryOp → tree.Expression → tree.Expression → tree.Expression
+binary_at_left o (tree.ExpressionAt p f) b = tree.ExpressionAt p (tree.Binary o (tree.ExpressionAt p f) b)
 
 -- an expression in parentheses is itself, at the place of the opening one
-abbrev pub moved : Place → tree.Expression → tree.Expression
-moved p (tree.At q f) = tree.At p f
+abbrev pub with_place : Place → tree.Expression → tree.Expression
+with_place p (tree.ExpressionAt q f) = tree.ExpressionAt p f
 
 -- a declaration before others
-abbrev pub declared : tree.Part → tree.Block → tree.Block
-declared p b = record { parts = tree.Declare p b.parts; body = b.body }
+abbrev pub with_part_first : tree.Part → tree.Block → tree.Block
+with_part_first p b = record { parts = tree.Declare p b.parts; body = b.body }
 
 module _ (text : List ℕ) where
   -- name
@@ -174,22 +174,24 @@ module _ (text : List ℕ) where
       pub data IsRelation : ℕ → tree.Expression → List Token → List Token → tree.Expression → Type 0 where
         no_relation : {d : ℕ} {r : List Token} {a : tree.Expression} → IsRelation d a r r a
         relation : {d : ℕ} {ts u r : List Token} {a b : tree.Expression} {k : Kind} {o : BinaryOp} → IsRelational k o
-            → Is k ts u → IsSimple d u r b → IsRelation d a ts r (joined o a b)
+            → Is k ts u → IsSimple d u r b → IsRelation d a ts r (binary_at_left o a b)
 
       -- simple = [ "+" | "-" ] term { ( "+" | "-" | "or" ) term }
       pub data IsSimple : ℕ → List Token → List Token → tree.Expression → Type 0 where
         simple : {d : ℕ} {ts u r : List Token} {a x : tree.Expression} → IsTerm d ts u a → IsMoreTerms d a u r x
             → IsSimple d ts r x
         after_plus : {d : ℕ} {ts u r : List Token} {a x : tree.Expression} → (t : Token) → t.kind ≡ w.Plus
-            → IsTerm d ts u a → IsMoreTerms d (tree.At t.at (tree.Unary unary.Plus a)) u r x → IsSimple d (t ∷ ts) r x
+            → IsTerm d ts u a → IsMoreTerms d (tree.ExpressionAt t.at (tree.Unary unary.Plus a)) u r x
+            → IsSimple d (t ∷ ts) r x
         after_minus : {d : ℕ} {ts u r : List Token} {a x : tree.Expression} → (t : Token) → t.kind ≡ w.Minus
-            → IsTerm d ts u a → IsMoreTerms d (tree.At t.at (tree.Unary unary.Minus a)) u r x → IsSimple d (t ∷ ts) r x
+            → IsTerm d ts u a → IsMoreTerms d (tree.ExpressionAt t.at (tree.Unary unary.Minus a)) u r x
+            → IsSimple d (t ∷ ts) r x
 
       -- the further terms, after what stands before them
       pub data IsMoreTerms : ℕ → tree.Expression → List Token → List Token → tree.Expression → Type 0 where
         terms_end : {d : ℕ} {r : List Token} {a : tree.Expression} → IsMoreTerms d a r r a
         terms_go_on : {d : ℕ} {ts u v r : List Token} {a b x : tree.Expression} {k : Kind} {o : BinaryOp} → IsAdding k o
-            → Is k ts u → IsTerm d u v b → IsMoreTerms d (joined o a b) v r x → IsMoreTerms d a ts r x
+            → Is k ts u → IsTerm d u v b → IsMoreTerms d (binary_at_left o a b) v r x → IsMoreTerms d a ts r x
 
       -- term = factor { ( "*" | "div" | "mod" | "and" ) factor }
       pub data IsTerm : ℕ → List Token → List Token → tree.Expression → Type 0 where
@@ -200,23 +202,23 @@ module _ (text : List ℕ) where
       pub data IsMoreFactors : ℕ → tree.Expression → List Token → List Token → tree.Expression → Type 0 where
         factors_end : {d : ℕ} {r : List Token} {a : tree.Expression} → IsMoreFactors d a r r a
         factors_go_on : {d : ℕ} {ts u v r : List Token} {a b x : tree.Expression} {k : Kind} {o : BinaryOp}
-            → IsMultiplying k o → Is k ts u → IsFactor d u v b → IsMoreFactors d (joined o a b) v r x
+            → IsMultiplying k o → Is k ts u → IsFactor d u v b → IsMoreFactors d (binary_at_left o a b) v r x
             → IsMoreFactors d a ts r x
 
       -- factor = number | text | variable | call | "(" expression ")" | "not" factor
       pub data IsFactor : ℕ → List Token → List Token → tree.Expression → Type 0 where
         number : {d : ℕ} {r : List Token} → (t : Token) → t.kind ≡ kind.Number
-            → IsFactor d (t ∷ r) r (tree.At t.at (tree.Number (number_of text t)))
+            → IsFactor d (t ∷ r) r (tree.ExpressionAt t.at (tree.Number (number_of text t)))
         text_factor : {d : ℕ} {r : List Token} → (t : Token) → t.kind ≡ kind.Text
-            → IsFactor d (t ∷ r) r (tree.At t.at (tree.Quoted (quoted_of text t)))
+            → IsFactor d (t ∷ r) r (tree.ExpressionAt t.at (tree.Quoted (quoted_of text t)))
         variable_factor : {d : ℕ} {t : Token} {ts r : List Token} {v : tree.Variable} → IsVariable d (t ∷ ts) r v
-            → IsFactor d (t ∷ ts) r (tree.At t.at (tree.Read v))
+            → IsFactor d (t ∷ ts) r (tree.ExpressionAt t.at (tree.Read v))
         call_factor : {d : ℕ} {t : Token} {ts u r : List Token} {n : Name} {args : tree.Arguments} → IsName (t ∷ ts) u n
-            → IsArguments d u r args → IsFactor d (t ∷ ts) r (tree.At t.at (tree.Apply n args))
+            → IsArguments d u r args → IsFactor d (t ∷ ts) r (tree.ExpressionAt t.at (tree.Apply n args))
         in_parentheses : {d : ℕ} {ts u r : List Token} {x : tree.Expression} → (t : Token) → t.kind ≡ w.Open
-            → IsExpression d ts u x → Is w.Close u r → IsFactor d (t ∷ ts) r (moved t.at x)
+            → IsExpression d ts u x → Is w.Close u r → IsFactor d (t ∷ ts) r (with_place t.at x)
         negated : {d : ℕ} {ts r : List Token} {x : tree.Expression} → (t : Token) → t.kind ≡ w.Not → Ok d ts
-            → IsFactor (suc d) ts r x → IsFactor d (t ∷ ts) r (tree.At t.at (tree.Unary unary.Not x))
+            → IsFactor (suc d) ts r x → IsFactor d (t ∷ ts) r (tree.ExpressionAt t.at (tree.Unary unary.Not x))
 
       -- variable = name { "[" expression { "," expression } "]" | "." name }
       pub data IsVariable : ℕ → List Token → List Token → tree.Variable → Type 0 where
@@ -255,7 +257,7 @@ module _ (text : List ℕ) where
       pub data IsWidth : ℕ → List Token → List Token → tree.Width → Type 0 where
         no_width : {d : ℕ} {r : List Token} → IsWidth d r r tree.NoWidth
         width : {d : ℕ} {ts u r : List Token} {x : tree.Expression} → Is w.Colon ts u → IsExpression d u r x
-            → IsWidth d ts r (tree.Within x)
+            → IsWidth d ts r (tree.WithWidth x)
 
     -- constant { "," constant } ":"
     mutual
@@ -290,7 +292,7 @@ module _ (text : List ℕ) where
             → IsForm d ts r (tree.Call n args)
         compound_form : {d : ℕ} {ts r : List Token} {ss : tree.Statements} → IsCompound d ts r ss
             → IsForm d ts r (tree.Sequence ss)
-        choice : {d : ℕ} {ts u v x y r : List Token} {e : tree.Expression} {s : tree.Statement} {o : tree.Other}
+        choice : {d : ℕ} {ts u v x y r : List Token} {e : tree.Expression} {s : tree.Statement} {o : tree.ElsePart}
             → Is w.If ts u → IsExpression d u v e → Is w.Then v x → IsStatement d x y s → IsElse d y r o
             → IsForm d ts r (tree.If e s o)
         while_loop : {d : ℕ} {ts u v x r : List Token} {e : tree.Expression} {s : tree.Statement} → Is w.While ts u
@@ -313,7 +315,7 @@ module _ (text : List ℕ) where
             → IsForm d ts r (tree.Assume e)
 
       -- [ "else" statement ]; an `else` belongs to the nearest `if` that has none
-      pub data IsElse : ℕ → List Token → List Token → tree.Other → Type 0 where
+      pub data IsElse : ℕ → List Token → List Token → tree.ElsePart → Type 0 where
         no_else : {d : ℕ} {r : List Token} → Lacks w.Else r → IsElse d r r tree.NoElse
         other : {d : ℕ} {ts u r : List Token} {s : tree.Statement} → Is w.Else ts u → IsStatement d u r s
             → IsElse d ts r (tree.Else s)
@@ -364,37 +366,38 @@ module _ (text : List ℕ) where
         body : {d : ℕ} {t : Token} {ts r : List Token} {ss : tree.Statements} → IsCompound d (t ∷ ts) r ss
             → IsParts d (t ∷ ts) r (record { parts = tree.NoPart; body = tree.Does t.at (tree.Sequence ss) })
         constants : {d : ℕ} {ts u v r : List Token} {p : tree.Part} {b : tree.Block} → Is w.Const ts u
-            → IsConstantPart u v p → IsMoreConstants d v r b → IsParts d ts r (declared p b)
+            → IsConstantPart u v p → IsMoreConstants d v r b → IsParts d ts r (with_part_first p b)
         types : {d : ℕ} {ts u v r : List Token} {p : tree.Part} {b : tree.Block} → Is w.Type' ts u → IsTypePart u v p
-            → IsMoreTypes d v r b → IsParts d ts r (declared p b)
+            → IsMoreTypes d v r b → IsParts d ts r (with_part_first p b)
         variables : {d : ℕ} {ts u v r : List Token} {p : tree.Part} {b : tree.Block} → Is w.Var ts u
-            → IsVariablePart u v p → IsMoreVariables d v r b → IsParts d ts r (declared p b)
+            → IsVariablePart u v p → IsMoreVariables d v r b → IsParts d ts r (with_part_first p b)
         procedure : {d : ℕ} {ts a b c e f g r : List Token} {n : Name} {fs : List SynFormal} {k m : tree.Block}
             → Is w.Procedure ts a → IsName a b n → IsFormals b c fs → Is w.Semicolon c e → IsBlock d e f k
-            → Is w.Semicolon f g → IsParts d g r m → IsParts d ts r (declared (tree.Proc n fs None k.parts k.body) m)
+            → Is w.Semicolon f g → IsParts d g r m
+            → IsParts d ts r (with_part_first (tree.Proc n fs None k.parts k.body) m)
         function : {d : ℕ} {ts a b c e f g h i r : List Token} {n : Name} {fs : List SynFormal} {answer : Name}
             {k m : tree.Block} → Is w.Function ts a → IsName a b n → IsFormals b c fs → Is w.Colon c e
             → IsName e f answer → Is w.Semicolon f g → IsBlock d g h k → Is w.Semicolon h i → IsParts d i r m
-            → IsParts d ts r (declared (tree.Proc n fs (Some answer) k.parts k.body) m)
+            → IsParts d ts r (with_part_first (tree.Proc n fs (Some answer) k.parts k.body) m)
 
       -- constants = "const" name "=" constant ";" { name "=" constant ";" }: the further ones, and the rest of the
       -- block
       pub data IsMoreConstants : ℕ → List Token → List Token → tree.Block → Type 0 where
         constants_end : {d : ℕ} {ts r : List Token} {b : tree.Block} → IsParts d ts r b → IsMoreConstants d ts r b
         constants_go_on : {d : ℕ} {ts u r : List Token} {p : tree.Part} {b : tree.Block} → IsConstantPart ts u p
-            → IsMoreConstants d u r b → IsMoreConstants d ts r (declared p b)
+            → IsMoreConstants d u r b → IsMoreConstants d ts r (with_part_first p b)
 
       -- types = "type" name "=" type ";" { name "=" type ";" }: the further ones, and the rest of the block
       pub data IsMoreTypes : ℕ → List Token → List Token → tree.Block → Type 0 where
         types_end : {d : ℕ} {ts r : List Token} {b : tree.Block} → IsParts d ts r b → IsMoreTypes d ts r b
         types_go_on : {d : ℕ} {ts u r : List Token} {p : tree.Part} {b : tree.Block} → IsTypePart ts u p
-            → IsMoreTypes d u r b → IsMoreTypes d ts r (declared p b)
+            → IsMoreTypes d u r b → IsMoreTypes d ts r (with_part_first p b)
 
       -- variables = "var" names ":" name ";" { names ":" name ";" }: the further ones, and the rest of the block
       pub data IsMoreVariables : ℕ → List Token → List Token → tree.Block → Type 0 where
         variables_end : {d : ℕ} {ts r : List Token} {b : tree.Block} → IsParts d ts r b → IsMoreVariables d ts r b
         variables_go_on : {d : ℕ} {ts u r : List Token} {p : tree.Part} {b : tree.Block} → IsVariablePart ts u p
-            → IsMoreVariables d u r b → IsMoreVariables d ts r (declared p b)
+            → IsMoreVariables d u r b → IsMoreVariables d ts r (with_part_first p b)
 
     -- program = "program" name [ "(" names ")" ] ";" block "."
     pub data IsProgram : List Token → List Token → tree.Program → Type 0 where

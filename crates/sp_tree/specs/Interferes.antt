@@ -8,7 +8,7 @@ use Rattle.sp_base.specs.declared.rule.Rule.TheVariants as rule
 use Rattle.sp_tree.specs.declared.checked.Role.TheVariants as role
 use Rattle.sp_tree.specs.declared.checked.Variable as ast_x
 use Rattle.sp_tree.specs.PlainChecked as p
-use Rattle.sp_tree.specs.Bare.{bare_statement, bare}
+use Rattle.sp_tree.specs.Bare.{bare_statement, without_places}
 use Rattle.sp_tree.specs.Plain.{Program}
 use Rattle.sp_tree.specs.Uses.{In_stmt}
 use Rattle.sp_tree.specs.Sets.{IsTarget, IsUsed, ImplicitTarget, Implicit, LeadsToStop}
@@ -78,13 +78,14 @@ module _ (c : p.Program) where
   -- what a program breaks
   abbrev pub Interferes : Rule → Place → Type 0
   Interferes rule.I6 at = (b : ℕ) × (k : p.Block) × (slice_get c.blocks b ≡ Some k) × (k.at ≡ at)
-      × IsCalledInside (bare c) b × (x : ℕ) × Implicit (bare c) b x × (2 ≤ x)
-  Interferes rule.I7 at = (b : ℕ) × (k : p.Block) × (slice_get c.blocks b ≡ Some k) × IsFunction (bare c) b × (x : ℕ)
+      × IsCalledInside (without_places c) b × (x : ℕ) × Implicit (without_places c) b x × (2 ≤ x)
+  Interferes rule.I7 at = (b : ℕ) × (k : p.Block) × (slice_get c.blocks b ≡ Some k) × IsFunction (without_places c) b
+      × (x : ℕ)
       × IsMember x k.formals × (i : ast_x.Variable) × (slice_get c.variables x ≡ Some i) × (i.role ≡ role.Reference)
       × (i.at ≡ at)
   Interferes rule.I8 at = (b : ℕ) × (k : p.Block) × (slice_get c.blocks b ≡ Some k) × (k.at ≡ at)
-      × IsFunction (bare c) b × (x : ℕ) × ImplicitTarget (bare c) b x
-  Interferes rule.I9 at = (b : ℕ) × (k : p.Block) × (slice_get c.blocks b ≡ Some k) × IsFunction (bare c) b
-      × (site : Site) × IsSite site (statement_sites k.body) × SiteStops (bare c) site at
+      × IsFunction (without_places c) b × (x : ℕ) × ImplicitTarget (without_places c) b x
+  Interferes rule.I9 at = (b : ℕ) × (k : p.Block) × (slice_get c.blocks b ≡ Some k) × IsFunction (without_places c) b
+      × (site : Site) × IsSite site (statement_sites k.body) × SiteStops (without_places c) site at
   Interferes r at = (b : ℕ) × (k : p.Block) × (slice_get c.blocks b ≡ Some k) × (site : Site)
-      × IsSite site (statement_sites k.body) × SiteBreaks (bare c) site r at
+      × IsSite site (statement_sites k.body) × SiteBreaks (without_places c) site r at

@@ -33,35 +33,35 @@ abbrev pub sign_length : List ℕ → ℕ
 sign_length [] = 0
 sign_length (b ∷ bs) = if (b == 45) || (b == 43) then 1 else 0
 
-abbrev pub signed : Bool → ℕ → ℤ
-signed minus n = if minus then neg_ℤ (pos n) else pos n
+abbrev pub signed_integer : Bool → ℕ → ℤ
+signed_integer minus n = if minus then neg_ℤ (pos n) else pos n
 
 -- what reading gives: a value and how many bytes it took, or a fault
-pub data Taken : Type 0 where
-  Takes : (n : ℤ) (bytes : ℕ) → Taken
-  Fails : (fault : Fault) → Taken
+pub data ReadResult : Type 0 where
+  ReadItem : (n : ℤ) (bytes : ℕ) → ReadResult
+  ReadFault : (fault : Fault) → ReadResult
 
 -- the number of the digits that stand first, after so many bytes: F17 without a digit, F2 outside the integers
-abbrev pub digits_after : ℕ → Bool → List ℕ → Taken
+abbrev pub digits_after : ℕ → Bool → List ℕ → ReadResult
 digits_after before minus bs =
-    if digits bs == 0 then Fails fault.F17
-    else (if is_integer (signed minus (number_from 0 (take (digits bs) bs))) then
-    Takes (signed minus (number_from 0 (take (digits bs) bs))) (before + digits bs) else Fails fault.F2)
+    if digits bs == 0 then ReadFault fault.F17
+    else (if is_integer (signed_integer minus (number_from 0 (take (digits bs) bs))) then
+    ReadItem (signed_integer minus (number_from 0 (take (digits bs) bs))) (before + digits bs) else ReadFault fault.F2)
 
 -- a number after so many blanks, F18 where nothing is left
-abbrev pub number_after : ℕ → List ℕ → Taken
-number_after before [] = Fails fault.F18
+abbrev pub number_after : ℕ → List ℕ → ReadResult
+number_after before [] = ReadFault fault.F18
 number_after before (b ∷ bs) = digits_after (before + sign_length (b ∷ bs)) (is_minus (b ∷ bs))
     (drop (sign_length (b ∷ bs)) (b ∷ bs))
 
 -- an integer: blanks, a sign, and as many digits as there are
-abbrev pub number_in : List ℕ → Taken
+abbrev pub number_in : List ℕ → ReadResult
 number_in bs = number_after (blanks bs) (drop (blanks bs) bs)
 
 -- a char: the next byte, a space for a line feed, F18 where nothing is left
-abbrev pub char_in : List ℕ → Taken
-char_in [] = Fails fault.F18
-char_in (b ∷ bs) = Takes (pos (if b == 10 then 32 else b)) 1
+abbrev pub char_in : List ℕ → ReadResult
+char_in [] = ReadFault fault.F18
+char_in (b ∷ bs) = ReadItem (pos (if b == 10 then 32 else b)) 1
 
 -- how many bytes a line has yet, with its line feed
 abbrev pub line_length : List ℕ → ℕ
@@ -74,8 +74,8 @@ at_line_end [] = true
 at_line_end (b ∷ bs) = b == 10
 
 -- right in m places
-abbrev pub padded : ℕ → List ℕ → List ℕ
-padded m t = replicate (m - length t) 32 ++ t
+abbrev pub right_justified : ℕ → List ℕ → List ℕ
+right_justified m t = replicate (m - length t) 32 ++ t
 
 abbrev pub truth_text : ℤ → List ℕ
 truth_text n = if int_le n (pos 0) then codes "false" else codes "true"

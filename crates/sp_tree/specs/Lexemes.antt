@@ -5,7 +5,7 @@ use Rattle.std.specs.Prelude.{◌≡◌, ◌≢◌, ℕ, ◌-◌, ◌≤◌, Boo
 use Rattle.std.specs.Prelude.{map, take, codes, Some, slice_get}
 use Rattle.sp_tree.specs.declared.token.Kind.{Kind}
 use Rattle.sp_tree.specs.declared.token.Kind.TheVariants as kind
-use Rattle.sp_tree.specs.Characters.{is_letter, is_digit, is_name_byte, lower}
+use Rattle.sp_tree.specs.Characters.{is_letter, is_digit, is_name_byte, lower_case_letter}
 
 -- the reserved words, in the order of the alphabet
 abbrev pub words : List (List ℕ)
@@ -64,15 +64,15 @@ opens_comment (b ∷ []) = b == 123
 opens_comment (b ∷ c ∷ bs) = b == 123 || (b == 40 && c == 42)
 
 -- the bytes in front of the rest, in lower case
-abbrev pub lowered : List ℕ → List ℕ → List ℕ
-lowered bs r = map lower (take (length bs - length r) bs)
+abbrev pub lower_case_prefix : List ℕ → List ℕ → List ℕ
+lower_case_prefix bs r = map lower_case_letter (take (length bs - length r) bs)
 
 -- the spelling of a token of this kind
 pub data Lexeme : Kind → List ℕ → List ℕ → Type 0 where
   name : {bs r : List ℕ} → (b : ℕ) → is_letter b ≡ true → Run is_name_byte bs r
-      → ((n : ℕ) → slice_get words n ≢ Some (lowered (b ∷ bs) r)) → Lexeme kind.Name (b ∷ bs) r
+      → ((n : ℕ) → slice_get words n ≢ Some (lower_case_prefix (b ∷ bs) r)) → Lexeme kind.Name (b ∷ bs) r
   word : {bs r : List ℕ} → (n b : ℕ) → is_letter b ≡ true → Run is_name_byte bs r
-      → slice_get words n ≡ Some (lowered (b ∷ bs) r) → Lexeme (kind.Word n) (b ∷ bs) r
+      → slice_get words n ≡ Some (lower_case_prefix (b ∷ bs) r) → Lexeme (kind.Word n) (b ∷ bs) r
   number : {bs r : List ℕ} → (b : ℕ) → is_digit b ≡ true → Run is_digit bs r → Lexeme kind.Number (b ∷ bs) r
   text : {bs r : List ℕ} → (q : ℕ) → q ≡ 39 → TextBody bs r → Lexeme kind.Text (q ∷ bs) r
   sign : {bs r : List ℕ} → (n : ℕ) (s : List ℕ) → slice_get signs n ≡ Some s → bs ≡ s ++ r → Lexeme (kind.Sign n) bs r

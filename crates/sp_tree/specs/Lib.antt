@@ -28,7 +28,7 @@ pub mod Interferes
 pub mod PlainNamed
 pub mod NamedOf
 pub mod Scopes
-pub mod Found
+pub mod PhaseResults
 pub mod NameRules
 pub mod NameWalk
 pub mod NamedTree

@@ -20,8 +20,8 @@ use Rattle.sp_tree.specs.declared.meaning.Passing.{Passing}
 use Rattle.sp_tree.specs.declared.meaning.Passing.TheVariants as passing
 use Rattle.sp_tree.specs.declared.meaning.Sort.{Sort}
 use Rattle.sp_tree.specs.declared.syntax.Name.{Name}
-use Rattle.sp_tree.specs.Found.{Found, breaks, breaks_if, lesser}
-use Rattle.sp_tree.specs.Scopes.{Env, look, find, count, most}
+use Rattle.sp_tree.specs.PhaseResults.{FirstRefusal, refusal_at, refusal_if, earlier_refusal}
+use Rattle.sp_tree.specs.Scopes.{Env, look, find, count, declaration_limit}
 
 -- what a name is used as in a declaration or a `case`
 pub data Use : Type 0 where
@@ -32,9 +32,9 @@ pub data Site : Type 0 where
   -- a declaration in the innermost block
   Declares : (x : Name) (s : Sort) → Site
   -- a field of a record, behind others
-  Fields : (x : Name) (others : List (List ℕ)) → Site
+  Fields : (x : Name) (flags_left : List (List ℕ)) → Site
   -- a name in the program's heading, behind others
-  Heads : (x : Name) (others : List (List ℕ)) → Site
+  Heads : (x : Name) (flags_left : List (List ℕ)) → Site
   -- a constant or a type
   Uses : (x : Name) (u : Use) → Site
   -- the same in the definition of the type `own`
@@ -57,15 +57,15 @@ pub data Site : Type 0 where
   Bare : (at : Place) (p : Passing) → Site
 
 -- N1: not declared. N3: declared, and no constant; or no type
-abbrev pub use_rule : Use → Place → Option Meaning → Found
-use_rule u at None = breaks rule.N1 at
+abbrev pub use_rule : Use → Place → Option Meaning → FirstRefusal
+use_rule u at None = refusal_at rule.N1 at
 use_rule AsConstant at (Some (meaning.Constant n)) = None
 use_rule AsKind at (Some (meaning.Kind n)) = None
-use_rule u at (Some m) = breaks rule.N3 at
+use_rule u at (Some m) = refusal_at rule.N3 at
 
 -- N4: the name of a type in its own definition, whatever it means outside
-abbrev pub own_rule : Name → Name → Found → Found
-own_rule own x other = if bytes_eq own.text x.text then breaks rule.N4 x.at else other
+abbrev pub own_rule : Name → Name → FirstRefusal → FirstRefusal
+own_rule own x other = if bytes_eq own.text x.text then refusal_at rule.N4 x.at else other
 
 -- so many arguments fit
 abbrev pub procedure_takes : StandardProcedure → ℕ → Bool
@@ -84,53 +84,53 @@ function_takes fn.Eoln n = nat_eq 0 n
 function_takes f n = nat_eq 1 n
 
 -- N1, N3: no function. N6: with other parameters
-abbrev pub function_rule : Place → ℕ → Option Meaning → Found
-function_rule at n None = breaks rule.N1 at
-function_rule at n (Some (meaning.Function b fs)) = breaks_if rule.N6 at (not (nat_eq (length fs) n))
-function_rule at n (Some (meaning.StandardFunction f)) = breaks_if rule.N6 at (not (function_takes f n))
-function_rule at n (Some m) = breaks rule.N3 at
+abbrev pub function_rule : Place → ℕ → Option Meaning → FirstRefusal
+function_rule at n None = refusal_at rule.N1 at
+function_rule at n (Some (meaning.Function b fs)) = refusal_if rule.N6 at (not (nat_eq (length fs) n))
+function_rule at n (Some (meaning.StandardFunction f)) = refusal_if rule.N6 at (not (function_takes f n))
+function_rule at n (Some m) = refusal_at rule.N3 at
 
 -- N1, N3: no procedure. N6: with other parameters
-abbrev pub procedure_rule : Place → ℕ → Option Meaning → Found
-procedure_rule at n None = breaks rule.N1 at
-procedure_rule at n (Some (meaning.Procedure b fs)) = breaks_if rule.N6 at (not (nat_eq (length fs) n))
-procedure_rule at n (Some (meaning.StandardProcedure p)) = breaks_if rule.N6 at (not (procedure_takes p n))
-procedure_rule at n (Some m) = breaks rule.N3 at
+abbrev pub procedure_rule : Place → ℕ → Option Meaning → FirstRefusal
+procedure_rule at n None = refusal_at rule.N1 at
+procedure_rule at n (Some (meaning.Procedure b fs)) = refusal_if rule.N6 at (not (nat_eq (length fs) n))
+procedure_rule at n (Some (meaning.StandardProcedure p)) = refusal_if rule.N6 at (not (procedure_takes p n))
+procedure_rule at n (Some m) = refusal_at rule.N3 at
 
 -- N1, N3: with selectors no variable
-abbrev pub selects_rule : Place → Option Meaning → Found
-selects_rule at None = breaks rule.N1 at
+abbrev pub selects_rule : Place → Option Meaning → FirstRefusal
+selects_rule at None = refusal_at rule.N1 at
 selects_rule at (Some (meaning.Variable n b r)) = None
-selects_rule at (Some m) = breaks rule.N3 at
+selects_rule at (Some m) = refusal_at rule.N3 at
 
 -- N1, N3: alone no constant, variable or function. N6: a function with parameters
-abbrev pub alone_rule : Place → Option Meaning → Found
+abbrev pub alone_rule : Place → Option Meaning → FirstRefusal
 alone_rule at (Some (meaning.Constant n)) = None
 alone_rule at (Some (meaning.Variable n b r)) = None
 alone_rule at m = function_rule at 0 m
 
 -- what is broken at a name in an expression
-abbrev pub operand_rule : Place → Bool → Option Meaning → Found
+abbrev pub operand_rule : Place → Bool → Option Meaning → FirstRefusal
 operand_rule at true m = alone_rule at m
 operand_rule at false m = selects_rule at m
 
 -- a variable may be a target, the index of a forall may not
-abbrev pub variable_rule : Place → Role → Found
-variable_rule at role.Index = breaks rule.N7 at
+abbrev pub variable_rule : Place → Role → FirstRefusal
+variable_rule at role.Index = refusal_at rule.N7 at
 variable_rule at r = None
 
 -- N1, N3: a type or a procedure. N7: a constant, the index of a forall, or a function
-abbrev pub target_rule : Place → Option Meaning → Found
-target_rule at None = breaks rule.N1 at
+abbrev pub target_rule : Place → Option Meaning → FirstRefusal
+target_rule at None = refusal_at rule.N1 at
 target_rule at (Some (meaning.Variable n b r)) = variable_rule at r
-target_rule at (Some (meaning.Constant n)) = breaks rule.N7 at
-target_rule at (Some (meaning.Function b fs)) = breaks rule.N7 at
-target_rule at (Some (meaning.StandardFunction f)) = breaks rule.N7 at
-target_rule at (Some m) = breaks rule.N3 at
+target_rule at (Some (meaning.Constant n)) = refusal_at rule.N7 at
+target_rule at (Some (meaning.Function b fs)) = refusal_at rule.N7 at
+target_rule at (Some (meaning.StandardFunction f)) = refusal_at rule.N7 at
+target_rule at (Some m) = refusal_at rule.N3 at
 
 -- the same, but in its own statement part a function's name alone may be assigned
-abbrev pub assign_rule : ℕ → Place → Bool → Option Meaning → Found
-assign_rule block at true (Some (meaning.Function b fs)) = breaks_if rule.N7 at (not (nat_eq b block))
+abbrev pub assign_rule : ℕ → Place → Bool → Option Meaning → FirstRefusal
+assign_rule block at true (Some (meaning.Function b fs)) = refusal_if rule.N7 at (not (nat_eq b block))
 assign_rule block at whole m = target_rule at m
 
 -- declared in a `var` part of this block
@@ -139,50 +139,50 @@ is_local block (Some (meaning.Variable n b role.Local)) = nat_eq b block
 is_local block m = false
 
 -- N8: no variable of a `var` part of the innermost program, procedure or function
-abbrev pub loop_rule : ℕ → Place → Option Meaning → Found
-loop_rule block at m = lesser (target_rule at m) (breaks_if rule.N8 at (not (is_local block m)))
+abbrev pub loop_rule : ℕ → Place → Option Meaning → FirstRefusal
+loop_rule block at m = earlier_refusal (target_rule at m) (refusal_if rule.N8 at (not (is_local block m)))
 
 -- N2: declared in this block already. L4: the 4,097th of its sort
-abbrev pub declare_rule : Env → Name → Sort → Found
-declare_rule env x s = lesser (breaks_if rule.N2 x.at (is_some (look env.local.here x.text)))
-    (breaks_if rule.L4 x.at (nat_le most (count s env.local.counts)))
+abbrev pub declare_rule : Env → Name → Sort → FirstRefusal
+declare_rule env x s = earlier_refusal (refusal_if rule.N2 x.at (is_some (look env.local.here x.text)))
+    (refusal_if rule.L4 x.at (nat_le declaration_limit (count s env.local.counts)))
 
 -- one of these names
-abbrev pub among : List ℕ → List (List ℕ) → Bool
-among name names = list_any (bytes_eq name) names
+abbrev pub is_listed_name : List ℕ → List (List ℕ) → Bool
+is_listed_name name names = list_any (bytes_eq name) names
 
 -- N1: neither the input nor the output. N2: twice
-abbrev pub heading_rule : Name → List (List ℕ) → Found
-heading_rule x others =
+abbrev pub heading_rule : Name → List (List ℕ) → FirstRefusal
+heading_rule x flags_left =
     if bytes_eq x.text (codes "input") || bytes_eq x.text (codes "output") then
-    breaks_if rule.N2 x.at (among x.text others)
-    else breaks rule.N1 x.at
+    refusal_if rule.N2 x.at (is_listed_name x.text flags_left)
+    else refusal_at rule.N1 x.at
 
 -- N5: a width where none is taken
-abbrev pub width_rule : Place → Passing → Found
+abbrev pub width_rule : Place → Passing → FirstRefusal
 width_rule at passing.Written = None
-width_rule at p = breaks rule.N5 at
+width_rule at p = refusal_at rule.N5 at
 
 -- N5: no variable where a standard procedure assigns it
-abbrev pub bare_rule : Place → Passing → Found
-bare_rule at passing.Target = breaks rule.N5 at
+abbrev pub bare_rule : Place → Passing → FirstRefusal
+bare_rule at passing.Target = refusal_at rule.N5 at
 bare_rule at p = None
 
 -- the first rule of names that is broken at a site
-abbrev pub broken : Env → Site → Found
-broken env (Declares x s) = declare_rule env x s
-broken env (Fields x others) = breaks_if rule.N2 x.at (among x.text others)
-broken env (Heads x others) = heading_rule x others
-broken env (Uses x u) = use_rule u x.at (find env x.text)
-broken env (UsesIn own x u) = own_rule own x (use_rule u x.at (find env x.text))
-broken env (Operand x whole) = operand_rule x.at whole (find env x.text)
-broken env (Targets x) = target_rule x.at (find env x.text)
-broken env (Assigns x whole) = assign_rule env.local.block x.at whole (find env x.text)
-broken env (Loops x) = loop_rule env.local.block x.at (find env x.text)
-broken env (Computes f n) = function_rule f.at n (find env f.text)
-broken env (Calls f n) = procedure_rule f.at n (find env f.text)
-broken env (Widens at p) = width_rule at p
-broken env (Bare at p) = bare_rule at p
+abbrev pub broken_rule : Env → Site → FirstRefusal
+broken_rule env (Declares x s) = declare_rule env x s
+broken_rule env (Fields x flags_left) = refusal_if rule.N2 x.at (is_listed_name x.text flags_left)
+broken_rule env (Heads x flags_left) = heading_rule x flags_left
+broken_rule env (Uses x u) = use_rule u x.at (find env x.text)
+broken_rule env (UsesIn own x u) = own_rule own x (use_rule u x.at (find env x.text))
+broken_rule env (Operand x whole) = operand_rule x.at whole (find env x.text)
+broken_rule env (Targets x) = target_rule x.at (find env x.text)
+broken_rule env (Assigns x whole) = assign_rule env.local.block x.at whole (find env x.text)
+broken_rule env (Loops x) = loop_rule env.local.block x.at (find env x.text)
+broken_rule env (Computes f n) = function_rule f.at n (find env f.text)
+broken_rule env (Calls f n) = procedure_rule f.at n (find env f.text)
+broken_rule env (Widens at p) = width_rule at p
+broken_rule env (Bare at p) = bare_rule at p
 
 -- how the next argument is passed: by the flags of the parameters, and then as the rest
 abbrev pub next_passing : List Bool → Passing → Passing
@@ -191,9 +191,9 @@ next_passing (true ∷ fs) rest = passing.Reference
 next_passing (false ∷ fs) rest = passing.Value
 
 -- all but the first
-abbrev pub others : List Bool → List Bool
-others [] = []
-others (f ∷ fs) = fs
+abbrev pub flags_left : List Bool → List Bool
+flags_left [] = []
+flags_left (f ∷ fs) = fs
 
 -- the flags of what is called; of `receive` the channel stands before the variables
 abbrev pub references_of : Option Meaning → List Bool
@@ -213,10 +213,10 @@ rest_of (Some (meaning.StandardProcedure procedure.Writeln)) = passing.Written
 rest_of m = passing.Value
 
 -- an argument is passed to something that it has to be a variable for
-abbrev pub aims : Passing → Bool
-aims passing.Reference = true
-aims passing.Target = true
-aims p = false
+abbrev pub needs_variable : Passing → Bool
+needs_variable passing.Reference = true
+needs_variable passing.Target = true
+needs_variable p = false
 
 -- two places are the same
 abbrev pub same_place : Place → Place → Bool

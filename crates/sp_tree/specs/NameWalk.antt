@@ -19,16 +19,19 @@ use Rattle.sp_tree.specs.declared.syntax.SynKind.{SynKind}
 use Rattle.sp_tree.specs.declared.syntax.SynKind.TheVariants as kinds
 use Rattle.sp_tree.specs.declared.syntax.SynFormal.{SynFormal}
 use Rattle.sp_tree.specs.declared.syntax.SynGroup.{SynGroup}
-use Rattle.sp_tree.specs.Scopes.{Scope, Env, Local, inside, find, declared, opened, closed, empty, standard, variable}
+use Rattle.sp_tree.specs.Scopes.{Scope, Env, Local, inner_env, find, with_declaration, local_of_inner, local_of_outer}
+use Rattle.sp_tree.specs.Scopes.{empty_local, standard_scope, variable}
 use Rattle.sp_tree.specs.Scopes.{next_constant, next_kind, next_variable, next_block}
 use Rattle.sp_tree.specs.NameRules.{Site, Declares, Fields, Heads, Uses, UsesIn, Operand, Targets, Assigns, Loops}
-use Rattle.sp_tree.specs.NameRules.{Computes, Calls, Widens, Bare, AsConstant, AsKind, next_passing, others}
-use Rattle.sp_tree.specs.NameRules.{references_of, rest_of, aims, same_place}
-use Rattle.sp_tree.specs.PlainSyntax.{Expression, At, ExpressionForm, Number, Quoted, Read, Apply, Unary, Binary}
+use Rattle.sp_tree.specs.NameRules.{Computes, Calls, Widens, Bare, AsConstant, AsKind, next_passing, flags_left}
+use Rattle.sp_tree.specs.NameRules.{references_of, rest_of, needs_variable, same_place}
+use Rattle.sp_tree.specs.PlainSyntax.{Expression, ExpressionAt, ExpressionForm, Number, Quoted, Read, Apply, Unary}
+use Rattle.sp_tree.specs.PlainSyntax.{Binary}
 use Rattle.sp_tree.specs.PlainSyntax.{Variable, Entire, Selector, Index, Field, Selectors, Whole, Select, Argument}
-use Rattle.sp_tree.specs.PlainSyntax.{Pass, Width, NoWidth, Within, Arguments, NoArgument, AndArgument, Statement, Does}
+use Rattle.sp_tree.specs.PlainSyntax.{Pass, Width, NoWidth, WithWidth, Arguments, NoArgument, AndArgument, Statement}
+use Rattle.sp_tree.specs.PlainSyntax.{Does}
 use Rattle.sp_tree.specs.PlainSyntax.{Form, Empty, Assign, Call, Sequence, If, While, Repeat, Case, For, Parallel}
-use Rattle.sp_tree.specs.PlainSyntax.{Forall, Assume, Other, NoElse, Else, Statements, NoStatement, AndThen, Arm, On}
+use Rattle.sp_tree.specs.PlainSyntax.{Forall, Assume, ElsePart, NoElse, Else, Statements, NoStatement, AndThen, Arm, On}
 use Rattle.sp_tree.specs.PlainSyntax.{Arms, NoArm, Or, Branches, NoBranch, Beside, Part, Const, Kind, Var, Proc, Parts}
 use Rattle.sp_tree.specs.PlainSyntax.{NoPart, Declare, Block, Program}
 
@@ -43,15 +46,15 @@ is_whole (Select s rest) = false
 
 -- where an expression stands
 abbrev pub place : Expression → Place
-place (At at form) = at
+place (ExpressionAt at form) = at
 
 -- the index of a forall
 abbrev pub index_local : Local → Name → Local
-index_local l x = declared l x.text sort.Variable (variable l role.Index)
+index_local l x = with_declaration l x.text sort.Variable (variable l role.Index)
 
 -- the same in a block of its own
-abbrev pub indexed : Local → Name → Local
-indexed l x = index_local (opened l.block l.answer l) x
+abbrev pub local_of_index : Local → Name → Local
+local_of_index l x = index_local (local_of_inner l.block l.answer l) x
 
 -- what was declared behind a statement: the indices of the foralls in it are counted
 abbrev mutual
@@ -69,10 +72,10 @@ abbrev mutual
   form_local l (Case e choices) = arms_local l choices
   form_local l (For x from down to s) = statement_local l s
   form_local l (Parallel bs) = branches_local l bs
-  form_local l (Forall x from to s) = closed l (statement_local (indexed l x) s)
+  form_local l (Forall x from to s) = local_of_outer l (statement_local (local_of_index l x) s)
   form_local l (Assume e) = l
 
-  pub other_local : Local → Other → Local
+  pub other_local : Local → ElsePart → Local
   other_local l NoElse = l
   other_local l (Else s) = statement_local l s
 
@@ -94,7 +97,7 @@ abbrev mutual
 -- the variables that a part declares, all with one role
 abbrev pub names_local : Role → Local → List Name → Local
 names_local r l [] = l
-names_local r l (x ∷ xs) = names_local r (declared l x.text sort.Variable (variable l r)) xs
+names_local r l (x ∷ xs) = names_local r (with_declaration l x.text sort.Variable (variable l r)) xs
 
 abbrev pub role_of : Bool → Role
 role_of true = role.Reference
@@ -116,7 +119,7 @@ block_meaning l fs (Some t) = meaning.Function (next_block l.counts) (references
 
 -- the block around a procedure, with its name
 abbrev pub title_local : Local → Name → List SynFormal → Option Name → Local
-title_local l x fs answer = declared l x.text sort.Block (block_meaning l fs answer)
+title_local l x fs answer = with_declaration l x.text sort.Block (block_meaning l fs answer)
 
 -- the result of a function, a variable without a name
 abbrev pub answer_local : Local → Option Name → Local
@@ -136,26 +139,27 @@ answer_local l (Some t) = record {
 
 -- a procedure's own block with its parameters and result
 abbrev pub heading_local : Local → Name → List SynFormal → Option Name → Local
-heading_local l x fs answer = answer_local (formals_local (opened (next_block l.counts) 0 (title_local l x fs answer))
+heading_local l x fs answer =
+    answer_local (formals_local (local_of_inner (next_block l.counts) 0 (title_local l x fs answer))
     fs) answer
 
 -- the constants of an enumeration
 abbrev pub constants_local : Local → List Name → Local
 constants_local l [] = l
 constants_local l (x ∷ xs) = constants_local
-    (declared l x.text sort.Constant (meaning.Constant (next_constant l.counts))) xs
+    (with_declaration l x.text sort.Constant (meaning.Constant (next_constant l.counts))) xs
 
 abbrev pub kind_local : Local → SynKind → Local
 kind_local l (kinds.Enumeration xs) = constants_local l xs
 kind_local l k = l
 
 abbrev pub type_local : Local → Name → Local
-type_local l x = declared l x.text sort.Kind (meaning.Kind (next_kind l.counts))
+type_local l x = with_declaration l x.text sort.Kind (meaning.Kind (next_kind l.counts))
 
 -- the names of some fields, in front of the names before them
-abbrev pub behind : List (List ℕ) → List Name → List (List ℕ)
-behind before [] = before
-behind before (x ∷ xs) = behind (x.text ∷ before) xs
+abbrev pub names_with_fields : List (List ℕ) → List Name → List (List ℕ)
+names_with_fields before [] = before
+names_with_fields before (x ∷ xs) = names_with_fields (x.text ∷ before) xs
 
 -- what a block has declared behind its parts
 abbrev mutual
@@ -164,25 +168,26 @@ abbrev mutual
   parts_local l (Declare p rest) = parts_local (part_local l p) rest
 
   pub part_local : Local → Part → Local
-  part_local l (Const x c) = declared l x.text sort.Constant (meaning.Constant (next_constant l.counts))
+  part_local l (Const x c) = with_declaration l x.text sort.Constant (meaning.Constant (next_constant l.counts))
   part_local l (Kind x k) = kind_local (type_local l x) k
   part_local l (Var xs t) = names_local role.Local l xs
   part_local l (Proc x fs answer parts body) =
-      closed (title_local l x fs answer) (statement_local (parts_local (heading_local l x fs answer) parts) body)
+      local_of_outer (title_local l x fs answer)
+      (statement_local (parts_local (heading_local l x fs answer) parts) body)
 
 -- the blocks around a block inside
-abbrev pub deeper : List Scope → Local → List Scope
-deeper around l = around ++ (l.here ∷ [])
+abbrev pub blocks_around : List Scope → Local → List Scope
+blocks_around around l = around ++ (l.here ∷ [])
 
 module _ {M : Type 0} (none : M) (join : M → M → M) (site : Env → Site → M) (env : Env) where
   -- a name as an argument: a target where a variable is wanted and it is written as one, in no parentheses
   abbrev pub passed_name_sites : Passing → Place → Name → Bool → M
-  passed_name_sites p at x whole = if aims p && same_place at x.at then site env (Targets x) else
+  passed_name_sites p at x whole = if needs_variable p && same_place at x.at then site env (Targets x) else
       join (site env (Bare at p)) (site env (Operand x whole))
 
   abbrev mutual
     pub expression_sites : Expression → M
-    expression_sites (At at form) = expression_form_sites form
+    expression_sites (ExpressionAt at form) = expression_form_sites form
 
     pub expression_form_sites : ExpressionForm → M
     expression_form_sites (Number n) = none
@@ -209,18 +214,19 @@ module _ {M : Type 0} (none : M) (join : M → M → M) (site : Env → Site →
     pub arguments_sites : List Bool → Passing → Arguments → M
     arguments_sites flags rest NoArgument = none
     arguments_sites flags rest (AndArgument a args) =
-        join (argument_sites (next_passing flags rest) a) (arguments_sites (others flags) rest args)
+        join (argument_sites (next_passing flags rest) a) (arguments_sites (flags_left flags) rest args)
 
     pub argument_sites : Passing → Argument → M
     argument_sites p (Pass e w) = join (width_sites p (place e) w) (passed_sites p e)
 
     pub width_sites : Passing → Place → Width → M
     width_sites p at NoWidth = none
-    width_sites p at (Within w) = join (site env (Widens at p)) (expression_sites w)
+    width_sites p at (WithWidth w) = join (site env (Widens at p)) (expression_sites w)
 
     pub passed_sites : Passing → Expression → M
-    passed_sites p (At at (Read (Entire x ss))) = join (passed_name_sites p at x (is_whole ss)) (selectors_sites ss)
-    passed_sites p (At at form) = join (site env (Bare at p)) (expression_form_sites form)
+    passed_sites p (ExpressionAt at (Read (Entire x ss))) =
+        join (passed_name_sites p at x (is_whole ss)) (selectors_sites ss)
+    passed_sites p (ExpressionAt at form) = join (site env (Bare at p)) (expression_form_sites form)
 
 module _ {M : Type 0} (none : M) (join : M → M → M) (site : Env → Site → M) where
   abbrev pub value_sites : Env → SynValue → M
@@ -234,7 +240,7 @@ module _ {M : Type 0} (none : M) (join : M → M → M) (site : Env → Site →
 
   -- the index of a forall
   abbrev pub index_sites : List Scope → Local → Name → M
-  index_sites around l x = site (inside around l) (Declares x sort.Variable)
+  index_sites around l x = site (inner_env around l) (Declares x sort.Variable)
 
   abbrev pub assigned_sites : Env → Variable → M
   assigned_sites env (Entire x ss) = join (site env (Assigns x (is_whole ss))) (selectors_sites none join site env ss)
@@ -250,34 +256,34 @@ module _ {M : Type 0} (none : M) (join : M → M → M) (site : Env → Site →
 
     pub form_sites : List Scope → Local → Form → M
     form_sites around l Empty = none
-    form_sites around l (Assign v e) = join (assigned_sites (inside around l) v)
-        (expression_sites none join site (inside around l) e)
-    form_sites around l (Call f args) = call_sites (inside around l) f args
+    form_sites around l (Assign v e) = join (assigned_sites (inner_env around l) v)
+        (expression_sites none join site (inner_env around l) e)
+    form_sites around l (Call f args) = call_sites (inner_env around l) f args
     form_sites around l (Sequence ss) = statements_sites around l ss
     form_sites around l (If e s o) =
-        join (expression_sites none join site (inside around l) e)
+        join (expression_sites none join site (inner_env around l) e)
         (join (statement_sites around l s)
         (other_sites around (statement_local l s) o))
-    form_sites around l (While e s) = join (expression_sites none join site (inside around l) e)
+    form_sites around l (While e s) = join (expression_sites none join site (inner_env around l) e)
         (statement_sites around l s)
     form_sites around l (Repeat ss e) = join (statements_sites around l ss)
-        (expression_sites none join site (inside around (statements_local l ss)) e)
-    form_sites around l (Case e choices) = join (expression_sites none join site (inside around l) e)
+        (expression_sites none join site (inner_env around (statements_local l ss)) e)
+    form_sites around l (Case e choices) = join (expression_sites none join site (inner_env around l) e)
         (arms_sites around l choices)
     form_sites around l (For x from down to s) =
-        join (site (inside around l) (Loops x))
-        (join (expression_sites none join site (inside around l) from)
-        (join (expression_sites none join site (inside around l) to)
+        join (site (inner_env around l) (Loops x))
+        (join (expression_sites none join site (inner_env around l) from)
+        (join (expression_sites none join site (inner_env around l) to)
         (statement_sites around l s)))
     form_sites around l (Parallel bs) = branches_sites around l bs
     form_sites around l (Forall x from to s) =
-        join (expression_sites none join site (inside around l) from)
-        (join (expression_sites none join site (inside around l) to)
-        (join (index_sites (deeper around l) (opened l.block l.answer l) x)
-        (statement_sites (deeper around l) (indexed l x) s)))
-    form_sites around l (Assume e) = expression_sites none join site (inside around l) e
+        join (expression_sites none join site (inner_env around l) from)
+        (join (expression_sites none join site (inner_env around l) to)
+        (join (index_sites (blocks_around around l) (local_of_inner l.block l.answer l) x)
+        (statement_sites (blocks_around around l) (local_of_index l x) s)))
+    form_sites around l (Assume e) = expression_sites none join site (inner_env around l) e
 
-    pub other_sites : List Scope → Local → Other → M
+    pub other_sites : List Scope → Local → ElsePart → M
     other_sites around l NoElse = none
     other_sites around l (Else s) = statement_sites around l s
 
@@ -291,7 +297,7 @@ module _ {M : Type 0} (none : M) (join : M → M → M) (site : Env → Site →
     arms_sites around l (Or a rest) = join (arm_sites around l a) (arms_sites around (arm_local l a) rest)
 
     pub arm_sites : List Scope → Local → Arm → M
-    arm_sites around l (On cs s) = join (constants_sites (inside around l) cs) (statement_sites around l s)
+    arm_sites around l (On cs s) = join (constants_sites (inner_env around l) cs) (statement_sites around l s)
 
     pub branches_sites : List Scope → Local → Branches → M
     branches_sites around l NoBranch = none
@@ -302,8 +308,8 @@ module _ {M : Type 0} (none : M) (join : M → M → M) (site : Env → Site →
   abbrev pub names_sites : List Scope → Role → Local → List Name → M
   names_sites around r l [] = none
   names_sites around r l (x ∷ xs) =
-      join (site (inside around l) (Declares x sort.Variable))
-      (names_sites around r (declared l x.text sort.Variable (variable l r)) xs)
+      join (site (inner_env around l) (Declares x sort.Variable))
+      (names_sites around r (with_declaration l x.text sort.Variable (variable l r)) xs)
 
   -- the types of the parameters, which mean what they mean around the heading
   abbrev pub heading_sites : Env → List SynFormal → M
@@ -338,7 +344,7 @@ module _ {M : Type 0} (none : M) (join : M → M → M) (site : Env → Site →
   groups_sites env own before (g ∷ gs) =
       join (fields_sites env before g.names)
       (join (site env (UsesIn own g.kind AsKind))
-      (groups_sites env own (behind before g.names) gs))
+      (groups_sites env own (names_with_fields before g.names) gs))
 
   abbrev pub messages_sites : Env → Name → List Name → M
   messages_sites env own [] = none
@@ -348,8 +354,8 @@ module _ {M : Type 0} (none : M) (join : M → M → M) (site : Env → Site →
   abbrev pub enumerated_sites : List Scope → Local → List Name → M
   enumerated_sites around l [] = none
   enumerated_sites around l (x ∷ xs) =
-      join (site (inside around l) (Declares x sort.Constant))
-      (enumerated_sites around (declared l x.text sort.Constant (meaning.Constant (next_constant l.counts))) xs)
+      join (site (inner_env around l) (Declares x sort.Constant))
+      (enumerated_sites around (with_declaration l x.text sort.Constant (meaning.Constant (next_constant l.counts))) xs)
 
   -- the definition of the type `own`
   abbrev pub kind_sites : Env → Name → SynKind → M
@@ -378,29 +384,32 @@ module _ {M : Type 0} (none : M) (join : M → M → M) (site : Env → Site →
     parts_sites around l (Declare p rest) = join (part_sites around l p) (parts_sites around (part_local l p) rest)
 
     pub part_sites : List Scope → Local → Part → M
-    part_sites around l (Const x c) = join (site (inside around l) (Declares x sort.Constant))
-        (value_sites (inside around l) c.value)
+    part_sites around l (Const x c) = join (site (inner_env around l) (Declares x sort.Constant))
+        (value_sites (inner_env around l) c.value)
     part_sites around l (Kind x k) =
-        join (site (inside around l) (Declares x sort.Kind))
-        (join (kind_sites (inside around l) x k)
+        join (site (inner_env around l) (Declares x sort.Kind))
+        (join (kind_sites (inner_env around l) x k)
         (kind_constants_sites around (type_local l x) k))
-    part_sites around l (Var xs t) = join (site (inside around l) (Uses t AsKind)) (names_sites around role.Local l xs)
+    part_sites around l (Var xs t) =
+        join (site (inner_env around l) (Uses t AsKind)) (names_sites around role.Local l xs)
     part_sites around l (Proc x fs answer parts body) =
-        join (title_sites (inside around l) x fs answer)
-        (join (formals_sites (deeper around (title_local l x fs answer))
-        (opened (next_block l.counts) 0 (title_local l x fs answer)) fs)
-        (join (parts_sites (deeper around (title_local l x fs answer)) (heading_local l x fs answer) parts)
-        (statement_sites (deeper around (title_local l x fs answer)) (parts_local (heading_local l x fs answer) parts)
+        join (title_sites (inner_env around l) x fs answer)
+        (join (formals_sites (blocks_around around (title_local l x fs answer))
+        (local_of_inner (next_block l.counts) 0 (title_local l x fs answer)) fs)
+        (join (parts_sites (blocks_around around (title_local l x fs answer)) (heading_local l x fs answer) parts)
+        (statement_sites (blocks_around around (title_local l x fs answer))
+        (parts_local (heading_local l x fs answer) parts)
         body)))
 
   -- the names in the program's heading
   abbrev pub files_sites : List (List ℕ) → List Name → M
   files_sites before [] = none
-  files_sites before (x ∷ xs) = join (site (inside [] empty) (Heads x before)) (files_sites (x.text ∷ before) xs)
+  files_sites before (x ∷ xs) =
+      join (site (inner_env [] empty_local) (Heads x before)) (files_sites (x.text ∷ before) xs)
 
   abbrev pub block_sites : List Scope → Local → Block → M
   block_sites around l b = join (parts_sites around l b.parts) (statement_sites around (parts_local l b.parts) b.body)
 
   -- the program, with the standard names in a block around it
   abbrev pub program_sites : Program → M
-  program_sites p = join (files_sites [] p.heading) (block_sites (standard ∷ []) empty p.block)
+  program_sites p = join (files_sites [] p.heading) (block_sites (standard_scope ∷ []) empty_local p.block)

@@ -15,11 +15,13 @@ use Rattle.sp_tree.specs.declared.named.NamedArm as named_arm
 use Rattle.sp_tree.specs.declared.named.NamedBranch as named_branch
 use Rattle.sp_tree.specs.declared.named.NamedBlock as named_block
 use Rattle.sp_tree.specs.declared.named.Named as named
-use Rattle.sp_tree.specs.PlainNamed.{Expression, At, ExpressionForm, Number, Quoted, Constant, Read, Apply, Standard}
+use Rattle.sp_tree.specs.PlainNamed.{Expression, ExpressionAt, ExpressionForm, Number, Quoted, Constant, Read, Apply}
+use Rattle.sp_tree.specs.PlainNamed.{Standard}
 use Rattle.sp_tree.specs.PlainNamed.{Unary, Binary, Variable, Entire, Selector, Index, Field, Selectors, Whole, Select}
-use Rattle.sp_tree.specs.PlainNamed.{Argument, Pass, Width, NoWidth, Within, Arguments, NoArgument, AndArgument}
+use Rattle.sp_tree.specs.PlainNamed.{Argument, Pass, Width, NoWidth, WithWidth, Arguments, NoArgument, AndArgument}
 use Rattle.sp_tree.specs.PlainNamed.{Statement, Does, Form, Empty, Assign, Call, Perform, Sequence, If, While, Repeat}
-use Rattle.sp_tree.specs.PlainNamed.{Case, For, Parallel, Forall, Assume, Other, NoElse, Else, Statements, NoStatement}
+use Rattle.sp_tree.specs.PlainNamed.{Case, For, Parallel, Forall, Assume, ElsePart, NoElse, Else, Statements}
+use Rattle.sp_tree.specs.PlainNamed.{NoStatement}
 use Rattle.sp_tree.specs.PlainNamed.{AndThen, Arm, On, Arms, NoArm, Or, Branches, NoBranch, Beside, Block, Program}
 
 -- lists of the plain tree
@@ -33,7 +35,7 @@ arguments (a ∷ rest) = AndArgument a (arguments rest)
 
 abbrev pub width : Option Expression → Width
 width None = NoWidth
-width (Some e) = Within e
+width (Some e) = WithWidth e
 
 -- one level of an expression
 abbrev pub selector_step : e.NamedSelector-F ExpressionForm Selector Argument Expression Variable → Selector
@@ -54,7 +56,7 @@ abbrev pub argument_step : e.NamedArg-F ExpressionForm Selector Argument Express
 argument_step a = Pass a.value (width a.width)
 
 abbrev pub expression_step : e.NamedExpr-F ExpressionForm Selector Argument Expression Variable → Expression
-expression_step x = At x.at x.form
+expression_step x = ExpressionAt x.at x.form
 
 abbrev pub variable_step : e.NamedVar-F ExpressionForm Selector Argument Expression Variable → Variable
 variable_step v = Entire v.variable v.at (selectors v.selectors)
@@ -98,9 +100,9 @@ abbrev pub branches : List Statements → Branches
 branches [] = NoBranch
 branches (a ∷ rest) = Beside a (branches rest)
 
-abbrev pub other : Option Statement → Other
-other None = NoElse
-other (Some b) = Else b
+abbrev pub else_part : Option Statement → ElsePart
+else_part None = NoElse
+else_part (Some b) = Else b
 
 -- one level of a statement
 abbrev pub statement_form_step : s.NamedForm-F Form Arm Statements Statement → Form
@@ -109,7 +111,7 @@ statement_form_step (s.Assign v a) = Assign (variable_of v) (expression_of a)
 statement_form_step (s.Call f args) = Call f (arguments_of args)
 statement_form_step (s.Standard p args) = Perform p (arguments_of args)
 statement_form_step (s.Sequence ss) = Sequence (statements ss)
-statement_form_step (s.If c a b) = If (expression_of c) a (other b)
+statement_form_step (s.If c a b) = If (expression_of c) a (else_part b)
 statement_form_step (s.While c a) = While (expression_of c) a
 statement_form_step (s.Repeat ss c) = Repeat (statements ss) (expression_of c)
 statement_form_step (s.Case c choices) = Case (expression_of c) (arms choices)

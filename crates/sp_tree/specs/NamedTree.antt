@@ -27,14 +27,17 @@ use Rattle.sp_tree.specs.declared.named.NamedKindForm.TheVariants as kind
 use Rattle.sp_tree.specs.declared.named.NamedAnswer.{NamedAnswer}
 use Rattle.sp_tree.specs.PlainNamed as n
 use Rattle.sp_tree.specs.NamedOf as of_
-use Rattle.sp_tree.specs.Scopes.{Scope, Env, Local, inside, find, empty, standard, next_kind, next_variable, next_block}
-use Rattle.sp_tree.specs.NameWalk.{indexed, statement_local, statements_local, arm_local, role_of, title_local}
-use Rattle.sp_tree.specs.NameWalk.{heading_local, part_local, parts_local, deeper}
-use Rattle.sp_tree.specs.PlainSyntax.{Expression, At, ExpressionForm, Number, Quoted, Read, Apply, Unary, Binary}
+use Rattle.sp_tree.specs.Scopes.{Scope, Env, Local, inner_env, find, empty_local, standard_scope, next_kind}
+use Rattle.sp_tree.specs.Scopes.{next_variable, next_block}
+use Rattle.sp_tree.specs.NameWalk.{local_of_index, statement_local, statements_local, arm_local, role_of, title_local}
+use Rattle.sp_tree.specs.NameWalk.{heading_local, part_local, parts_local, blocks_around}
+use Rattle.sp_tree.specs.PlainSyntax.{Expression, ExpressionAt, ExpressionForm, Number, Quoted, Read, Apply, Unary}
+use Rattle.sp_tree.specs.PlainSyntax.{Binary}
 use Rattle.sp_tree.specs.PlainSyntax.{Variable, Entire, Selector, Index, Field, Selectors, Whole, Select, Argument}
-use Rattle.sp_tree.specs.PlainSyntax.{Pass, Width, NoWidth, Within, Arguments, NoArgument, AndArgument, Statement, Does}
+use Rattle.sp_tree.specs.PlainSyntax.{Pass, Width, NoWidth, WithWidth, Arguments, NoArgument, AndArgument, Statement}
+use Rattle.sp_tree.specs.PlainSyntax.{Does}
 use Rattle.sp_tree.specs.PlainSyntax.{Form, Empty, Assign, Call, Sequence, If, While, Repeat, Case, For, Parallel}
-use Rattle.sp_tree.specs.PlainSyntax.{Forall, Assume, Other, NoElse, Else, Statements, NoStatement, AndThen, Arm, On}
+use Rattle.sp_tree.specs.PlainSyntax.{Forall, Assume, ElsePart, NoElse, Else, Statements, NoStatement, AndThen, Arm, On}
 use Rattle.sp_tree.specs.PlainSyntax.{Arms, NoArm, Or, Branches, NoBranch, Beside, Part, Const, Kind, Var, Proc, Parts}
 use Rattle.sp_tree.specs.PlainSyntax.{NoPart, Declare, Program}
 
@@ -84,7 +87,7 @@ procedure_named m args = n.Call 0 args
 module _ (env : Env) where
   abbrev mutual
     pub named_expression : Expression → n.Expression
-    named_expression (At at form) = n.At at (named_form form)
+    named_expression (ExpressionAt at form) = n.ExpressionAt at (named_form form)
 
     pub named_form : ExpressionForm → n.ExpressionForm
     named_form (Number k) = n.Number k
@@ -114,7 +117,7 @@ module _ (env : Env) where
 
     pub named_width : Width → n.Width
     named_width NoWidth = n.NoWidth
-    named_width (Within e) = n.Within (named_expression e)
+    named_width (WithWidth e) = n.WithWidth (named_expression e)
 
   abbrev pub named_target : Variable → n.Variable
   named_target (Entire x ss) = n.Entire (assigned_number env.local.answer (find env x.text)) x.at
@@ -140,30 +143,30 @@ abbrev mutual
   pub named_statement_form : List Scope → Local → Form → n.Form
   named_statement_form around l Empty = n.Empty
   named_statement_form around l (Assign v e) =
-      n.Assign (named_target (inside around l) v) (named_expression (inside around l) e)
+      n.Assign (named_target (inner_env around l) v) (named_expression (inner_env around l) e)
   named_statement_form around l (Call f args) =
-      procedure_named (find (inside around l) f.text) (of_.arguments (named_arguments (inside around l) args))
+      procedure_named (find (inner_env around l) f.text) (of_.arguments (named_arguments (inner_env around l) args))
   named_statement_form around l (Sequence ss) = n.Sequence (of_.statements (named_statements around l ss))
   named_statement_form around l (If e a o) =
-      n.If (named_expression (inside around l) e) (named_statement around l a)
+      n.If (named_expression (inner_env around l) e) (named_statement around l a)
       (named_other around (statement_local l a) o)
   named_statement_form around l (While e a) =
-      n.While (named_expression (inside around l) e) (named_statement around l a)
+      n.While (named_expression (inner_env around l) e) (named_statement around l a)
   named_statement_form around l (Repeat ss e) =
       n.Repeat (of_.statements (named_statements around l ss))
-      (named_expression (inside around (statements_local l ss)) e)
+      (named_expression (inner_env around (statements_local l ss)) e)
   named_statement_form around l (Case e choices) =
-      n.Case (named_expression (inside around l) e) (of_.arms (named_arms around l choices))
+      n.Case (named_expression (inner_env around l) e) (of_.arms (named_arms around l choices))
   named_statement_form around l (For x from down to a) =
-      n.For (variable_number (find (inside around l) x.text)) x.at (named_expression (inside around l) from) down
-      (named_expression (inside around l) to) (named_statement around l a)
+      n.For (variable_number (find (inner_env around l) x.text)) x.at (named_expression (inner_env around l) from) down
+      (named_expression (inner_env around l) to) (named_statement around l a)
   named_statement_form around l (Parallel bs) = n.Parallel (of_.branches (named_branches around l bs))
   named_statement_form around l (Forall x from to a) =
-      n.Forall (next_variable l.counts) (named_expression (inside around l) from)
-      (named_expression (inside around l) to) (named_statement (deeper around l) (indexed l x) a)
-  named_statement_form around l (Assume e) = n.Assume (named_expression (inside around l) e)
+      n.Forall (next_variable l.counts) (named_expression (inner_env around l) from)
+      (named_expression (inner_env around l) to) (named_statement (blocks_around around l) (local_of_index l x) a)
+  named_statement_form around l (Assume e) = n.Assume (named_expression (inner_env around l) e)
 
-  pub named_other : List Scope → Local → Other → n.Other
+  pub named_other : List Scope → Local → ElsePart → n.ElsePart
   named_other around l NoElse = n.NoElse
   named_other around l (Else a) = n.Else (named_statement around l a)
 
@@ -177,7 +180,7 @@ abbrev mutual
   named_arms around l (Or a rest) = named_arm around l a ∷ named_arms around (arm_local l a) rest
 
   pub named_arm : List Scope → Local → Arm → n.Arm
-  named_arm around l (On cs a) = n.On (named_constants (inside around l) cs) (named_statement around l a)
+  named_arm around l (On cs a) = n.On (named_constants (inner_env around l) cs) (named_statement around l a)
 
   pub named_branches : List Scope → Local → Branches → List n.Statements
   named_branches around l NoBranch = []
@@ -202,7 +205,7 @@ module _ (block : ℕ) where
         ∷ indices a
     form_indices f = []
 
-    pub other_indices : Other → List checked.Variable
+    pub other_indices : ElsePart → List checked.Variable
     other_indices NoElse = []
     other_indices (Else a) = indices a
 
@@ -254,9 +257,9 @@ answer_of k None = None
 answer_of k (Some t) = Some (record { variable = k; at = t.at })
 
 -- the constants of an enumeration, from an ordinal on
-abbrev pub enumerated : ℕ → ℕ → List Name → List NamedConstant
-enumerated k i [] = []
-enumerated k i (x ∷ xs) = constant.Enumerated k i ∷ enumerated k (suc i) xs
+abbrev pub enumeration_constants : ℕ → ℕ → List Name → List NamedConstant
+enumeration_constants k i [] = []
+enumeration_constants k i (x ∷ xs) = constant.Enumerated k i ∷ enumeration_constants k (suc i) xs
 
 -- the fields of one type
 abbrev pub fields_named : ℕ → List Name → List (List ℕ × ℕ)
@@ -280,7 +283,7 @@ kind_named env (kinds.Record gs) = kind.Fields (groups_named env gs)
 kind_named env (kinds.Channel ts) = kind.Channel (messages_named env ts)
 
 abbrev pub constants_named : ℕ → SynKind → List NamedConstant
-constants_named k (kinds.Enumeration xs) = enumerated k 0 xs
+constants_named k (kinds.Enumeration xs) = enumeration_constants k 0 xs
 constants_named k f = []
 
 -- nothing is declared
@@ -288,8 +291,8 @@ abbrev pub nothing_named : n.Program
 nothing_named = record { constants = []; kinds = []; variables = []; blocks = [] }
 
 -- the declarations of one part behind those of another
-abbrev pub beside : n.Program → n.Program → n.Program
-beside a b = record {
+abbrev pub appended_tables : n.Program → n.Program → n.Program
+appended_tables a b = record {
   constants = a.constants ++ b.constants;
   kinds = a.kinds ++ b.kinds;
   variables = a.variables
@@ -367,16 +370,17 @@ procedure_part env x fs answer i = record {
 abbrev mutual
   pub parts_named : List Scope → Local → Parts → n.Program
   parts_named around l NoPart = nothing_named
-  parts_named around l (Declare p rest) = beside (part_named around l p) (parts_named around (part_local l p) rest)
+  parts_named around l (Declare p rest) =
+      appended_tables (part_named around l p) (parts_named around (part_local l p) rest)
 
   pub part_named : List Scope → Local → Part → n.Program
-  part_named around l (Const x c) = constant_part (inside around l) c
-  part_named around l (Kind x k) = kind_part (inside around l) x k
-  part_named around l (Var xs t) = variables_part (inside around l) xs t
+  part_named around l (Const x c) = constant_part (inner_env around l) c
+  part_named around l (Kind x k) = kind_part (inner_env around l) x k
+  part_named around l (Var xs t) = variables_part (inner_env around l) xs t
   part_named around l (Proc x fs answer parts body) =
-      procedure_part (inside around l) x fs answer
-      (inside_with (deeper around (title_local l x fs answer)) (heading_local l x fs answer) parts body
-      (parts_named (deeper around (title_local l x fs answer)) (heading_local l x fs answer) parts))
+      procedure_part (inner_env around l) x fs answer
+      (inside_with (blocks_around around (title_local l x fs answer)) (heading_local l x fs answer) parts body
+      (parts_named (blocks_around around (title_local l x fs answer)) (heading_local l x fs answer) parts))
 
 -- what stands in a block with these parts and this statement part
 abbrev pub inside_named : List Scope → Local → Parts → Statement → Inside
@@ -414,4 +418,4 @@ program_tables x i = record {
 
 -- the tree of a program
 abbrev pub program_named : Program → n.Program
-program_named p = program_tables p.name (inside_named (standard ∷ []) empty p.block.parts p.block.body)
+program_named p = program_tables p.name (inside_named (standard_scope ∷ []) empty_local p.block.parts p.block.body)

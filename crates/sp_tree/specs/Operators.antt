@@ -15,32 +15,32 @@ use Rattle.sp_tree.specs.declared.operators.BinaryOp.{BinaryOp}
 use Rattle.sp_tree.specs.declared.operators.BinaryOp.TheVariants as binary
 
 -- what an operator gives: an ordinal, or a fault
-pub data Worked : Type 0 where
-  Yields : (n : ℤ) → Worked
-  Faults : (fault : Fault) → Worked
+pub data OperatorResult : Type 0 where
+  Yields : (n : ℤ) → OperatorResult
+  OperatorFault : (fault : Fault) → OperatorResult
 
 -- integers are -maxint to maxint
 abbrev pub is_integer : ℤ → Bool
 is_integer n = int_le (neg_ℤ MAXINT) n && int_le n MAXINT
 
 -- an integer that stays in their range, or F2
-abbrev pub integer : ℤ → Worked
-integer n = if is_integer n then Yields n else Faults fault.F2
+abbrev pub integer : ℤ → OperatorResult
+integer n = if is_integer n then Yields n else OperatorFault fault.F2
 
 -- false is 0, and true is 1
-abbrev pub truth : Bool → Worked
+abbrev pub truth : Bool → OperatorResult
 truth b = Yields (if b then pos 1 else pos 0)
 
 -- a number in a range, or F1
-abbrev pub ranged : ℤ → ℤ → ℤ → Worked
-ranged low high n = if int_le low n && int_le n high then Yields n else Faults fault.F1
+abbrev pub value_in_range : ℤ → ℤ → ℤ → OperatorResult
+value_in_range low high n = if int_le low n && int_le n high then Yields n else OperatorFault fault.F1
 
 -- the number after one below the greatest, and the number before one above the least, or F1
-abbrev pub successor : ℤ → ℤ → Worked
-successor high n = if int_lt n high then Yields (n +ℤ pos 1) else Faults fault.F1
+abbrev pub successor : ℤ → ℤ → OperatorResult
+successor high n = if int_lt n high then Yields (n +ℤ pos 1) else OperatorFault fault.F1
 
-abbrev pub predecessor : ℤ → ℤ → Worked
-predecessor low n = if int_lt low n then Yields (n -ℤ pos 1) else Faults fault.F1
+abbrev pub predecessor : ℤ → ℤ → OperatorResult
+predecessor low n = if int_lt low n then Yields (n -ℤ pos 1) else OperatorFault fault.F1
 
 -- i mod j is from 0 to j - 1 (ISO 7185)
 abbrev pub modulo : ℤ → ℤ → ℤ
@@ -60,22 +60,22 @@ is_before down n limit = if down then int_lt limit n else int_lt n limit
 abbrev pub next_value : Bool → ℤ → ℤ
 next_value down n = if down then n -ℤ pos 1 else n +ℤ pos 1
 
-abbrev pub absolute : ℤ → Worked
-absolute n = integer (pos (nat_abs n))
+abbrev pub absolute_value : ℤ → OperatorResult
+absolute_value n = integer (pos (nat_abs n))
 
-abbrev pub square : ℤ → Worked
+abbrev pub square : ℤ → OperatorResult
 square n = integer (n *ℤ n)
 
-abbrev pub is_odd : ℤ → Worked
+abbrev pub is_odd : ℤ → OperatorResult
 is_odd n = truth (not (same_ordinal (int_rem n (pos 2)) (pos 0)))
 
-abbrev pub unary_op : UnaryOp → ℤ → Worked
+abbrev pub unary_op : UnaryOp → ℤ → OperatorResult
 unary_op unary.Plus n = Yields n
 unary_op unary.Minus n = integer (neg_ℤ n)
 unary_op unary.Not n = truth (int_le n (pos 0))
 
 -- `div` truncates toward zero and is F3 by 0; `mod` is F3 by what is not above 0
-abbrev pub binary_op : BinaryOp → ℤ → ℤ → Worked
+abbrev pub binary_op : BinaryOp → ℤ → ℤ → OperatorResult
 binary_op binary.Eq m n = truth (same_ordinal m n)
 binary_op binary.Ne m n = truth (not (same_ordinal m n))
 binary_op binary.Lt m n = truth (int_lt m n)
@@ -86,26 +86,26 @@ binary_op binary.Add m n = integer (m +ℤ n)
 binary_op binary.Sub m n = integer (m -ℤ n)
 binary_op binary.Or m n = truth (not (int_le (m +ℤ n) (pos 0)))
 binary_op binary.Mul m n = integer (m *ℤ n)
-binary_op binary.Div m n = if same_ordinal n (pos 0) then Faults fault.F3 else integer (int_div m n)
-binary_op binary.Mod m n = if int_le n (pos 0) then Faults fault.F3 else integer (modulo m n)
+binary_op binary.Div m n = if same_ordinal n (pos 0) then OperatorFault fault.F3 else integer (int_div m n)
+binary_op binary.Mod m n = if int_le n (pos 0) then OperatorFault fault.F3 else integer (modulo m n)
 binary_op binary.And m n = truth (int_le (pos 2) (m +ℤ n))
 
 -- an ordinal type's least and greatest number
-abbrev pub least : KindOf → ℤ
-least kind.Integer = neg_ℤ MAXINT
-least kind.Boolean = pos 0
-least kind.Char = pos 0
-least (kind.Enumeration n) = pos 0
-least (kind.Array low high index element) = pos 0
-least (kind.Fields fs) = pos 0
-least (kind.Channel ks) = pos 0
+abbrev pub least_ordinal : KindOf → ℤ
+least_ordinal kind.Integer = neg_ℤ MAXINT
+least_ordinal kind.Boolean = pos 0
+least_ordinal kind.Char = pos 0
+least_ordinal (kind.Enumeration n) = pos 0
+least_ordinal (kind.Array low high index element) = pos 0
+least_ordinal (kind.Fields fs) = pos 0
+least_ordinal (kind.Channel ks) = pos 0
 
 -- the greatest integer
-abbrev pub greatest : KindOf → ℤ
-greatest kind.Integer = MAXINT
-greatest kind.Boolean = pos 1
-greatest kind.Char = pos 255
-greatest (kind.Enumeration n) = pos n -ℤ pos 1
-greatest (kind.Array low high index element) = pos 0
-greatest (kind.Fields fs) = pos 0
-greatest (kind.Channel ks) = pos 0
+abbrev pub greatest_ordinal : KindOf → ℤ
+greatest_ordinal kind.Integer = MAXINT
+greatest_ordinal kind.Boolean = pos 1
+greatest_ordinal kind.Char = pos 255
+greatest_ordinal (kind.Enumeration n) = pos n -ℤ pos 1
+greatest_ordinal (kind.Array low high index element) = pos 0
+greatest_ordinal (kind.Fields fs) = pos 0
+greatest_ordinal (kind.Channel ks) = pos 0

@@ -16,7 +16,7 @@ use Rattle.sp_tree.specs.declared.named.NamedAnswer.{NamedAnswer}
 mutual
   -- an expression, with the place of its first token
   pub data Expression : Type 0 where
-    At : (at : Place) (form : ExpressionForm) → Expression
+    ExpressionAt : (at : Place) (form : ExpressionForm) → Expression
 
   pub data ExpressionForm : Type 0 where
     Number : (n : ℕ) → ExpressionForm
@@ -46,7 +46,7 @@ mutual
 
   pub data Width : Type 0 where
     NoWidth : Width
-    Within : (e : Expression) → Width
+    WithWidth : (e : Expression) → Width
 
   pub data Arguments : Type 0 where
     NoArgument : Arguments
@@ -63,7 +63,7 @@ mutual
     Call : (f : ℕ) (args : Arguments) → Form
     Perform : (p : StandardProcedure) (args : Arguments) → Form
     Sequence : (ss : Statements) → Form
-    If : (e : Expression) (s : Statement) (other : Other) → Form
+    If : (e : Expression) (s : Statement) (other : ElsePart) → Form
     While : (e : Expression) (s : Statement) → Form
     Repeat : (ss : Statements) (e : Expression) → Form
     Case : (e : Expression) (arms : Arms) → Form
@@ -72,9 +72,9 @@ mutual
     Forall : (index : ℕ) (from to : Expression) (s : Statement) → Form
     Assume : (e : Expression) → Form
 
-  pub data Other : Type 0 where
-    NoElse : Other
-    Else : (s : Statement) → Other
+  pub data ElsePart : Type 0 where
+    NoElse : ElsePart
+    Else : (s : Statement) → ElsePart
 
   pub data Statements : Type 0 where
     NoStatement : Statements

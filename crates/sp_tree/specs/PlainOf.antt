@@ -17,7 +17,7 @@ use Rattle.sp_tree.specs.PlainChecked as p
 use Rattle.sp_tree.specs.CheckedOf as placed
 use Rattle.sp_tree.specs.Bare.{bare_expression, bare_form, bare_variable, bare_selector, bare_selectors, bare_actual}
 use Rattle.sp_tree.specs.Bare.{bare_actuals, bare_width, bare_statement, bare_statement_form, bare_statements, bare_arm}
-use Rattle.sp_tree.specs.Bare.{bare_arms, bare_block, bare}
+use Rattle.sp_tree.specs.Bare.{bare_arms, bare_block, without_places}
 use Rattle.sp_tree.specs.Plain.{Expr, ExprForm, Var, Selector, Selectors, Actual, Actuals, Stmt, Send, Receive, Stmts}
 use Rattle.sp_tree.specs.Plain.{No, And, Arm, Arms, Block, Program}
 
@@ -83,4 +83,4 @@ abbrev pub blocks_of : List ast_b.Block → List Block
 blocks_of bs = map bare_block (map placed.block_of bs)
 
 abbrev pub program_of : ast_c.Checked → Program
-program_of c = bare (placed.program_of c)
+program_of c = without_places (placed.program_of c)

@@ -12,7 +12,7 @@ use Rattle.sp_tree.specs.declared.token.Kind.TheVariants as kind
 use Rattle.sp_tree.specs.Characters.{is_blank, is_digit}
 use Rattle.sp_tree.specs.Places.{start, place_at}
 use Rattle.sp_tree.specs.Spelling.{digits_value}
-use Rattle.sp_tree.specs.Lexemes.{Lexeme, Longest, Comment, TextBody, opens_comment, refused_words, lowered}
+use Rattle.sp_tree.specs.Lexemes.{Lexeme, Longest, Comment, TextBody, opens_comment, refused_words, lower_case_prefix}
 
 -- how many bytes of the text stand in front of these
 abbrev pub offset : List ℕ → List ℕ → ℕ
@@ -67,7 +67,7 @@ pub data OpenText : List ℕ → Type 0 where
 pub record LargeNumber (bs : List ℕ) : Type 0 where
   pub rest : List ℕ
   pub number : Longest kind.Number bs rest
-  pub above : 9223372036854775807 < digits_value 0 (lowered bs rest)
+  pub above : 9223372036854775807 < digits_value 0 (lower_case_prefix bs rest)
 
 -- a name of more than 127 bytes
 pub record LongName (bs : List ℕ) : Type 0 where
@@ -80,7 +80,7 @@ pub record RefusedWord (bs : List ℕ) : Type 0 where
   pub rest : List ℕ
   pub name : Longest kind.Name bs rest
   pub number : ℕ
-  pub refused : slice_get refused_words number ≡ Some (lowered bs rest)
+  pub refused : slice_get refused_words number ≡ Some (lower_case_prefix bs rest)
 
 -- one of two bytes, or one
 pub data Byte (b c : ℕ) : List ℕ → Type 0 where

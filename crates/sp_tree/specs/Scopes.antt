@@ -31,8 +31,8 @@ pub record Env : Type 0 where
   pub around : List Scope
 
 -- what is visible in a block
-abbrev pub inside : List Scope → Local → Env
-inside around l = record { local = l; around = around }
+abbrev pub inner_env : List Scope → Local → Env
+inner_env around l = record { local = l; around = around }
 
 -- what a block declares a name as
 abbrev pub look : Scope → List ℕ → Option Meaning
@@ -64,29 +64,29 @@ count sort.Variable c = c.variables
 count sort.Block c = c.blocks
 
 -- one more of a sort
-abbrev pub more : Sort → Counts → Counts
-more sort.Constant c = record {
+abbrev pub with_one_more : Sort → Counts → Counts
+with_one_more sort.Constant c = record {
   constants = c.constants + 1;
   kinds = c.kinds;
   variables = c.variables;
   results = c.results;
   blocks = c.blocks;
 }
-more sort.Kind c = record {
+with_one_more sort.Kind c = record {
   constants = c.constants;
   kinds = c.kinds + 1;
   variables = c.variables;
   results = c.results;
   blocks = c.blocks;
 }
-more sort.Variable c = record {
+with_one_more sort.Variable c = record {
   constants = c.constants;
   kinds = c.kinds;
   variables = c.variables + 1;
   results = c.results;
   blocks = c.blocks;
 }
-more sort.Block c = record {
+with_one_more sort.Block c = record {
   constants = c.constants;
   kinds = c.kinds;
   variables = c.variables;
@@ -112,26 +112,32 @@ abbrev pub next_block : Counts → ℕ
 next_block c = c.blocks + 1
 
 -- how many of one sort a text may declare
-abbrev pub most : ℕ
-most = 4096
+abbrev pub declaration_limit : ℕ
+declaration_limit = 4096
 
 -- A declaration. Past the limit nothing is entered: the text is refused there or before.
-abbrev pub declared : Local → List ℕ → Sort → Meaning → Local
-declared l name s m =
-    if nat_le most (count s l.counts) then l
-    else record { here = put l.here name m; block = l.block; answer = l.answer; counts = more s l.counts }
+abbrev pub with_declaration : Local → List ℕ → Sort → Meaning → Local
+with_declaration l name s m =
+    if nat_le declaration_limit (count s l.counts) then l
+    else record { here = put l.here name m; block = l.block; answer = l.answer; counts = with_one_more s l.counts }
 
 -- a new block inside, of the procedure with this number, with nothing in it
-abbrev pub opened : ℕ → ℕ → Local → Local
-opened block answer l = record { here = []; block = block; answer = answer; counts = l.counts }
+abbrev pub local_of_inner : ℕ → ℕ → Local → Local
+local_of_inner block answer l = record { here = []; block = block; answer = answer; counts = l.counts }
 
 -- back in the outer block, with what was declared inside
-abbrev pub closed : Local → Local → Local
-closed outer inner = record { here = outer.here; block = outer.block; answer = outer.answer; counts = inner.counts }
+abbrev pub local_of_outer : Local → Local → Local
+local_of_outer outer inner = record {
+  here = outer.here;
+  block = outer.block;
+  answer = outer.answer;
+  counts =
+      inner.counts;
+}
 
 -- the program's block before anything is declared
-abbrev pub empty : Local
-empty = record {
+abbrev pub empty_local : Local
+empty_local = record {
   here = [];
   block = 0;
   answer = 0;
@@ -139,8 +145,8 @@ empty = record {
 }
 
 -- the standard names, which stand in a block around the program
-abbrev pub standard : Scope
-standard =
+abbrev pub standard_scope : Scope
+standard_scope =
     (codes "integer", meaning.Kind 0) ∷
     (codes "boolean", meaning.Kind 1) ∷
     (codes "char", meaning.Kind 2) ∷

@@ -16,19 +16,19 @@ module _ (p : Program) where
   IsFree b x = (i : Variable) → slice_get p.variables x ≡ Some i → (n : ℕ) → IsBelow n i.block b → ⊥
 
   -- a use in block b that those who call it have as well: one of a variable from outside, or a stop
-  abbrev pub Passes : ℕ → Use → Type 0
-  Passes b (Target x) = IsFree b x
-  Passes b (Seen x) = IsFree b x
-  Passes b (CallOf f args) = ⊥
-  Passes b (ParallelOf ss) = ⊥
-  Passes b (ForallOf x s) = ⊥
-  Passes b Stop = Unit
+  abbrev pub IsUseOfCallers : ℕ → Use → Type 0
+  IsUseOfCallers b (Target x) = IsFree b x
+  IsUseOfCallers b (Seen x) = IsFree b x
+  IsUseOfCallers b (CallOf f args) = ⊥
+  IsUseOfCallers b (ParallelOf ss) = ⊥
+  IsUseOfCallers b (ForallOf x s) = ⊥
+  IsUseOfCallers b Stop = Unit
 
   -- by a path of calls from where the uses Here stand, this use
   abbrev pub Reach : (Use → Type 0) → List ℕ → Use → Type 0
   Reach Here [] u = Here u
   Reach Here (b ∷ bs) u = (args : Actuals) × Here (CallOf b args) × (k : Block) × (slice_get p.blocks b ≡ Some k)
-      × Passes b u × Reach (In_stmt k.body) bs u
+      × IsUseOfCallers b u × Reach (In_stmt k.body) bs u
 
   -- target and expression variables
   abbrev pub IsTarget : (Use → Type 0) → ℕ → Type 0

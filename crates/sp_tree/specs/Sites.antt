@@ -3,7 +3,8 @@
 -- may not have. `Interferes.antt` tells the breaches at each site, and `sp_interfere` looks at the same ones.
 use Rattle.std.specs.Prelude.{ℕ, List, [], ◌∷◌, ◌++◌, Option, Some, None}
 use Rattle.sp_base.specs.declared.place.Place.{Place}
-use Rattle.sp_tree.specs.PlainChecked.{Expression, At, ExpressionForm, Number, Read, Unary, Binary, Apply, Standard}
+use Rattle.sp_tree.specs.PlainChecked.{Expression, ExpressionAt, ExpressionForm, Number, Read, Unary, Binary, Apply}
+use Rattle.sp_tree.specs.PlainChecked.{Standard}
 use Rattle.sp_tree.specs.PlainChecked.{Variable, Entire, Selectors, Whole, Select, Index, Field, Actuals, Nothing, Pass}
 use Rattle.sp_tree.specs.PlainChecked.{ByValue, ByReference, NoExpression, AndExpression, Statement, Does, Form, Empty}
 use Rattle.sp_tree.specs.PlainChecked.{Assign, Call, Sequence, If, While, Repeat, For, Case, Parallel, Forall, Assume}
@@ -24,7 +25,7 @@ pub data Site : Type 0 where
 
 abbrev mutual
   pub expression_sites : Expression → List Site
-  expression_sites (At at k form) = form_sites form
+  expression_sites (ExpressionAt at k form) = form_sites form
 
   pub form_sites : ExpressionForm → List Site
   form_sites (Number n) = []

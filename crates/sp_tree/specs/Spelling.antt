@@ -4,7 +4,7 @@
 use Rattle.std.specs.Prelude.{ℕ, ◌+◌, ◌-◌, ◌*◌, ◌==◌, cond, List, [], ◌∷◌, map, take, drop}
 use Rattle.sp_tree.specs.declared.token.Token.{Token}
 use Rattle.sp_tree.specs.declared.syntax.Name.{Name}
-use Rattle.sp_tree.specs.Characters.{lower}
+use Rattle.sp_tree.specs.Characters.{lower_case_letter}
 
 -- the bytes of a token
 abbrev pub spelling : List ℕ → Token → List ℕ
@@ -12,7 +12,7 @@ spelling text t = take (t.to - t.from) (drop t.from text)
 
 -- a name in lower case, with its place
 abbrev pub name_of : List ℕ → Token → Name
-name_of text t = record { text = map lower (spelling text t); at = t.at }
+name_of text t = record { text = map lower_case_letter (spelling text t); at = t.at }
 
 -- the number that digits write, after others that write n
 abbrev pub digits_value : ℕ → List ℕ → ℕ

@@ -17,11 +17,13 @@ use Rattle.sp_tree.specs.declared.syntax.SynBranch as syn_branch
 use Rattle.sp_tree.specs.declared.syntax.SynBlock as syn_block
 use Rattle.sp_tree.specs.declared.syntax.SynPart as syn_part
 use Rattle.sp_tree.specs.declared.syntax.Syntax as syn
-use Rattle.sp_tree.specs.PlainSyntax.{Expression, At, ExpressionForm, Number, Quoted, Read, Apply, Unary, Binary}
+use Rattle.sp_tree.specs.PlainSyntax.{Expression, ExpressionAt, ExpressionForm, Number, Quoted, Read, Apply, Unary}
+use Rattle.sp_tree.specs.PlainSyntax.{Binary}
 use Rattle.sp_tree.specs.PlainSyntax.{Variable, Entire, Selector, Index, Field, Selectors, Whole, Select, Argument}
-use Rattle.sp_tree.specs.PlainSyntax.{Pass, Width, NoWidth, Within, Arguments, NoArgument, AndArgument, Statement, Does}
+use Rattle.sp_tree.specs.PlainSyntax.{Pass, Width, NoWidth, WithWidth, Arguments, NoArgument, AndArgument, Statement}
+use Rattle.sp_tree.specs.PlainSyntax.{Does}
 use Rattle.sp_tree.specs.PlainSyntax.{Form, Empty, Assign, Call, Sequence, If, While, Repeat, Case, For, Parallel}
-use Rattle.sp_tree.specs.PlainSyntax.{Forall, Assume, Other, NoElse, Else, Statements, NoStatement, AndThen, Arm, On}
+use Rattle.sp_tree.specs.PlainSyntax.{Forall, Assume, ElsePart, NoElse, Else, Statements, NoStatement, AndThen, Arm, On}
 use Rattle.sp_tree.specs.PlainSyntax.{Arms, NoArm, Or, Branches, NoBranch, Beside, Part, Const, Kind, Var, Proc, Parts}
 use Rattle.sp_tree.specs.PlainSyntax.{NoPart, Declare, Block, Program}
 
@@ -36,7 +38,7 @@ arguments (a ∷ rest) = AndArgument a (arguments rest)
 
 abbrev pub width : Option Expression → Width
 width None = NoWidth
-width (Some e) = Within e
+width (Some e) = WithWidth e
 
 -- one level of an expression
 abbrev pub selector_step : e.SynSelector-F ExpressionForm Selector Argument Expression Variable → Selector
@@ -55,7 +57,7 @@ abbrev pub argument_step : e.SynArg-F ExpressionForm Selector Argument Expressio
 argument_step a = Pass a.value (width a.width)
 
 abbrev pub expression_step : e.SynExpr-F ExpressionForm Selector Argument Expression Variable → Expression
-expression_step x = At x.at x.form
+expression_step x = ExpressionAt x.at x.form
 
 abbrev pub variable_step : e.SynVar-F ExpressionForm Selector Argument Expression Variable → Variable
 variable_step v = Entire v.name (selectors v.selectors)
@@ -96,9 +98,9 @@ abbrev pub branches : List Statements → Branches
 branches [] = NoBranch
 branches (a ∷ rest) = Beside a (branches rest)
 
-abbrev pub other : Option Statement → Other
-other None = NoElse
-other (Some b) = Else b
+abbrev pub else_part : Option Statement → ElsePart
+else_part None = NoElse
+else_part (Some b) = Else b
 
 -- one level of a statement
 abbrev pub statement_form_step : s.SynForm-F Form Arm Statements Statement → Form
@@ -106,7 +108,7 @@ statement_form_step s.Empty = Empty
 statement_form_step (s.Assign v a) = Assign (variable_of v) (expression_of a)
 statement_form_step (s.Call name args) = Call name (arguments_of args)
 statement_form_step (s.Sequence ss) = Sequence (statements ss)
-statement_form_step (s.If c a b) = If (expression_of c) a (other b)
+statement_form_step (s.If c a b) = If (expression_of c) a (else_part b)
 statement_form_step (s.While c a) = While (expression_of c) a
 statement_form_step (s.Repeat ss c) = Repeat (statements ss) (expression_of c)
 statement_form_step (s.Case c choices) = Case (expression_of c) (arms choices)

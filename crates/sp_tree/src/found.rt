@@ -1,8 +1,8 @@
 //! The order of broken rules, and the first of two, which a phase carries on as it walks.
 
 ghost use Rattle.std.specs.Prelude.{◌≡◌};
-ghost use Rattle.sp_tree.specs.First.{row, before};
-ghost use Rattle.sp_tree.specs.Found.{lesser, breaks, breaks_if};
+ghost use Rattle.sp_tree.specs.First.{row, refusal_before};
+ghost use Rattle.sp_tree.specs.PhaseResults.{earlier_refusal, refusal_at, refusal_if};
 
 use sp_base::{Place, Refusal, Rule};
 use std::cmp::Ordering;
@@ -73,7 +73,7 @@ pub fn row(rule: Rule) -> u32
 
 /// Whether `a` is reported and not `b`: it stands earlier, or at the same place in an earlier row of the rule table.
 pub fn before(a: Refusal, b: Refusal) -> bool
-    ensures { result ≡ before a b }
+    ensures { result ≡ refusal_before a b }
 {
     match a.at.line.cmp(&b.at.line) {
         Ordering::Less => true,
@@ -88,7 +88,7 @@ pub fn before(a: Refusal, b: Refusal) -> bool
 
 /// The first of the two, if there is one.
 pub fn lesser(a: Found, b: Found) -> Found
-    ensures { result ≡ lesser a b }
+    ensures { result ≡ earlier_refusal a b }
 {
     match (a, b) {
         (None, b) => b,
@@ -99,14 +99,14 @@ pub fn lesser(a: Found, b: Found) -> Found
 
 /// The rule is broken at the place.
 pub fn breaks(rule: Rule, at: Place) -> Found
-    ensures { result ≡ breaks rule at }
+    ensures { result ≡ refusal_at rule at }
 {
     Some(Refusal { rule, at })
 }
 
 /// The rule is broken at the place if the test says so.
 pub fn breaks_if(rule: Rule, at: Place, broken: bool) -> Found
-    ensures { result ≡ breaks_if rule at broken }
+    ensures { result ≡ refusal_if rule at broken }
 {
     if broken {
         Some(Refusal { rule, at })

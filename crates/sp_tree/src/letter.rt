@@ -1,7 +1,7 @@
 //! The lower case of a letter.
 
 ghost use Rattle.std.specs.Prelude.{◌≡◌};
-ghost use Rattle.sp_tree.specs.Characters.{lower as lower_case};
+ghost use Rattle.sp_tree.specs.Characters.{lower_case_letter as lower_case};
 
 /// The lower case of a letter, and any other byte itself.
 pub fn lower(byte: u8) -> u8

@@ -12,7 +12,8 @@
 //!   whole. A type with a `drop` of its own is taken apart in its own methods alone.
 //! - `row`, `before`: the row of a rule in the rule table, and which of two refusals is reported: the earlier one, or
 //!   at one place that of the earlier row.
-//! - `Found` (a refusal or none): `lesser` is the first of two, `breaks` and `breaks_if` make one. `Walked`: a part
+//! - `PhaseResults` (a refusal or none): `lesser` is the first of two, `breaks` and `refusal_if` make one. `Walked`: a
+//!   part
 //!   of a tree with the first rule broken up to its end.
 //! - `lower`: the lower case of a letter, any other byte itself.
 //! - `MAX_TEXT`, `MAX_NAME`, `MAX_NESTING`: how many bytes a text and a name may have, how deep parts may lie.
@@ -25,7 +26,7 @@
 //! - Characters and grammar: `specs/Lexemes.antt`, `Scans`, `Grammar`, `Viable`, `Breaches`, `First`.
 //! - Names: `Scopes` (declarations that are visible), `NameRules` (a clause for each row of the rules), `NameWalk`
 //!   (what stands where), `NamedTree` (the tree) and `NameFirst` say which rule of names a program breaks first, or
-//!   its tree. `Found` is the order of broken rules that code carries on.
+//!   its tree. `PhaseResults` is the order of broken rules that code carries on.
 //! - Interference: `Uses`, `Sets`, `Interference` are its rules by what a statement uses; `Sites` and `Interferes`
 //!   the same rules with their places, by clauses on `PlainChecked`. `proofs/NoBreach.antt` leads from the rules with
 //!   places to those without, `Unbroken` is a test that no rule is broken, `BreachRows` has a row for each rule.

@@ -9,7 +9,7 @@ use Rattle.sp_types.specs.CheckedTree.{checked_variables}
 use Rattle.sp_base.specs.declared.place.Place.{Place}
 use Rattle.sp_tree.specs.declared.named.NamedConstant.{NamedConstant}
 use Rattle.sp_tree.specs.declared.named.NamedConstant.TheVariants as constant
-use Rattle.sp_tree.specs.Found.{Found}
+use Rattle.sp_tree.specs.PhaseResults.{FirstRefusal}
 use Rattle.sp_types.specs.declared.tables.Ordinal.{Ordinal}
 use Rattle.sp_types.specs.DeclarationFirsts.{constants_first, cells_first}
 
@@ -17,20 +17,21 @@ use Rattle.sp_types.specs.DeclarationFirsts.{constants_first, cells_first}
 abbrev pub ok : {A : Type 0} → A → Result A Refusal
 ok x = Ok x
 
-pub same : {A : Type 0} (x y : A) → ok x ≡ ok y → y ≡ x
-same x y e = cc
+pub ok_injective : {A : Type 0} (x y : A) → ok x ≡ ok y → y ≡ x
+ok_injective x y e = cc
 
-pub constants_on : (known : List (Option Ordinal)) (c : NamedConstant) (cs : List NamedConstant) (first : Found) →
+pub constants_on : (known : List (Option Ordinal)) (c : NamedConstant) (cs : List NamedConstant)
+    (first : FirstRefusal) →
     constants_first known (c ∷ cs) first ≡ constants_first known cs (constants_first known (c ∷ []) first)
 constants_on known (constant.Value c) cs first = refl
 constants_on known (constant.Enumerated k i) cs first = refl
 
 -- without cells nothing is found
-none_left : (places : List Place) (first : Found) → cells_first places [] first ≡ first
+none_left : (places : List Place) (first : FirstRefusal) → cells_first places [] first ≡ first
 none_left [] first = refl
 none_left (at ∷ places) first = refl
 
-pub cells_on : (at : Place) (places : List Place) (cells : List ℕ) (first : Found) →
+pub cells_on : (at : Place) (places : List Place) (cells : List ℕ) (first : FirstRefusal) →
     cells_first (at ∷ places) cells first ≡ cells_first places (drop 1 cells) (cells_first (at ∷ []) cells first)
 cells_on at places [] first = back_of (none_left places first)
 cells_on at places (n ∷ cells) first = refl
@@ -39,7 +40,7 @@ cells_on at places (n ∷ cells) first = refl
 pub drop_head : {A : Type 0} (xs : List A) (i : ℕ) (d : A) → i < length xs → drop i xs ≡ get_or xs i d ∷ drop (i + 1) xs
 drop_head xs i d lt = rw add-one (drop-cons xs i d lt)
 
-pub cells_step : (places : List Place) (cells : List ℕ) (i : ℕ) (d : Place) (given found all : Found) →
+pub cells_step : (places : List Place) (cells : List ℕ) (i : ℕ) (d : Place) (given found all : FirstRefusal) →
     i < length places → cells_first (drop i places) (drop i cells) given ≡ all
     → found ≡ cells_first (get_or places i d ∷ []) (drop i cells) given →
     cells_first (drop (i + 1) places) (drop (i + 1) cells) found ≡ all
@@ -76,7 +77,7 @@ pub variables_step : (kinds : List (Option ℕ)) (i j : ℕ) (x : checked.Variab
 variables_step kinds i j x xs ys out more all invariant front more_is next_is =
     ap (λ (m : List checked.Variable). m ++ checked_variables (drop j kinds) xs) more_is ∙
     ap (λ (k : ℕ). (out ++ checked_variables (drop i kinds) (x ∷ [])) ++ checked_variables (drop k kinds) xs)
-    (same (i + 1) j next_is) ∙
+    (ok_injective (i + 1) j next_is) ∙
     append_assoc out (checked_variables (drop i kinds) (x ∷ [])) (checked_variables (drop (i + 1) kinds) xs) ∙
     ap (λ (r : List checked.Variable). out ++ r) (back_of (variables_next kinds i x xs)) ∙
     ap (λ (r : List checked.Variable). out ++ checked_variables (drop i kinds) r) (back_of front) ∙

@@ -12,36 +12,38 @@ use Rattle.sp_tree.specs.declared.named.NamedKind.{NamedKind}
 use Rattle.sp_tree.specs.declared.named.NamedKindForm.{NamedKindForm}
 use Rattle.sp_tree.specs.declared.named.NamedKindForm.TheVariants as form
 use Rattle.sp_tree.specs.declared.named.NamedAnswer.{NamedAnswer}
-use Rattle.sp_tree.specs.Found.{Found, taken, listed}
-use Rattle.sp_tree.specs.NameFirst.{none_more, both, together}
-use Rattle.sp_tree.specs.PlainNamed.{Expression, At, ExpressionForm, Number, Quoted, Constant, Read, Apply, Standard}
+use Rattle.sp_tree.specs.PhaseResults.{FirstRefusal, first_of_refusals, refusal_list}
+use Rattle.sp_tree.specs.NameFirst.{none_more, then_rest, both_lists}
+use Rattle.sp_tree.specs.PlainNamed.{Expression, ExpressionAt, ExpressionForm, Number, Quoted, Constant, Read, Apply}
+use Rattle.sp_tree.specs.PlainNamed.{Standard}
 use Rattle.sp_tree.specs.PlainNamed.{Unary, Binary, Variable, Entire, Selector, Index, Field, Selectors, Whole, Select}
-use Rattle.sp_tree.specs.PlainNamed.{Argument, Pass, Width, NoWidth, Within, Arguments, NoArgument, AndArgument}
+use Rattle.sp_tree.specs.PlainNamed.{Argument, Pass, Width, NoWidth, WithWidth, Arguments, NoArgument, AndArgument}
 use Rattle.sp_tree.specs.PlainNamed.{Statement, Does, Form, Empty, Assign, Call, Perform, Sequence, If, While, Repeat}
-use Rattle.sp_tree.specs.PlainNamed.{Case, For, Parallel, Forall, Assume, Other, NoElse, Else, Statements, NoStatement}
+use Rattle.sp_tree.specs.PlainNamed.{Case, For, Parallel, Forall, Assume, ElsePart, NoElse, Else, Statements}
+use Rattle.sp_tree.specs.PlainNamed.{NoStatement}
 use Rattle.sp_tree.specs.PlainNamed.{AndThen, Arm, On, Arms, NoArm, Or, Branches, NoBranch, Beside, Block, Program}
 use Rattle.sp_types.specs.declared.tables.Ordinal.{Ordinal}
-use Rattle.sp_types.specs.Tables.{Env, const_value, counted, indexed, numbers_of, constants_of, env_of}
+use Rattle.sp_types.specs.Tables.{Env, const_value, with_next_number, with_index_type, numbers_of, constants_of, env_of}
 use Rattle.sp_types.specs.Kinds.{expression_kind}
 use Rattle.sp_tree.specs.Cells.{sizes}
 use Rattle.sp_tree.proofs.Gathering.{lesser_none, Leads, no_more, follows}
 use Rattle.sp_types.specs.TypeWalk as w
 use Rattle.sp_types.specs.TypeFirst.{at_node, types_broken, types_first}
 
-at_one : (r : Found) → Leads (listed r) (at_node r)
+at_one : (r : FirstRefusal) → Leads (refusal_list r) (at_node r)
 at_one None given = lesser_none given
 at_one (Some r) given = refl
 
 -- what holds of two ways to gather, at nothing, at a node and of two parts, holds of them at each tree
-module _ {M N : Type 0} (none : M) (join : M → M → M) (site : Found → M) (none2 : N) (join2 : N → N → N)
-    (site2 : Found → N) (R : M → N → Type 0) (nothing : R none none2)
+module _ {M N : Type 0} (none : M) (join : M → M → M) (site : FirstRefusal → M) (none2 : N) (join2 : N → N → N)
+    (site2 : FirstRefusal → N) (R : M → N → Type 0) (nothing : R none none2)
     (and : (a c : M) (b d : N) → R a b → R c d → R (join a c) (join2 b d))
-    (at : (r : Found) → R (site r) (site2 r)) where
+    (at : (r : FirstRefusal) → R (site r) (site2 r)) where
   module _ (env : Env) where
     mutual
       expression_leads : (e : Expression) → R (w.expression_sites none join site env e)
           (w.expression_sites none2 join2 site2 env e)
-      expression_leads (At p form) = form_leads p form
+      expression_leads (ExpressionAt p form) = form_leads p form
 
       form_leads : (p : Place) (e : ExpressionForm)
           → R (w.form_sites none join site env p e) (w.form_sites none2 join2 site2 env p e)
@@ -92,19 +94,22 @@ module _ {M N : Type 0} (none : M) (join : M → M → M) (site : Found → M) (
 
     written_leads : (e : Expression) → R (w.written_sites none join site env e)
         (w.written_sites none2 join2 site2 env e)
-    written_leads (At p (Quoted t)) = nothing
-    written_leads (At p (Number n)) = and _ _ _ _ (expression_leads (At p (Number n))) (at _)
-    written_leads (At p (Constant k)) = and _ _ _ _ (expression_leads (At p (Constant k))) (at _)
-    written_leads (At p (Read v)) = and _ _ _ _ (expression_leads (At p (Read v))) (at _)
-    written_leads (At p (Apply f name args)) = and _ _ _ _ (expression_leads (At p (Apply f name args))) (at _)
-    written_leads (At p (Standard f args)) = and _ _ _ _ (expression_leads (At p (Standard f args))) (at _)
-    written_leads (At p (Unary op a)) = and _ _ _ _ (expression_leads (At p (Unary op a))) (at _)
-    written_leads (At p (Binary op a b)) = and _ _ _ _ (expression_leads (At p (Binary op a b))) (at _)
+    written_leads (ExpressionAt p (Quoted t)) = nothing
+    written_leads (ExpressionAt p (Number n)) = and _ _ _ _ (expression_leads (ExpressionAt p (Number n))) (at _)
+    written_leads (ExpressionAt p (Constant k)) = and _ _ _ _ (expression_leads (ExpressionAt p (Constant k))) (at _)
+    written_leads (ExpressionAt p (Read v)) = and _ _ _ _ (expression_leads (ExpressionAt p (Read v))) (at _)
+    written_leads (ExpressionAt p (Apply f name args)) =
+        and _ _ _ _ (expression_leads (ExpressionAt p (Apply f name args))) (at _)
+    written_leads (ExpressionAt p (Standard f args)) =
+        and _ _ _ _ (expression_leads (ExpressionAt p (Standard f args))) (at _)
+    written_leads (ExpressionAt p (Unary op a)) = and _ _ _ _ (expression_leads (ExpressionAt p (Unary op a))) (at _)
+    written_leads (ExpressionAt p (Binary op a b)) =
+        and _ _ _ _ (expression_leads (ExpressionAt p (Binary op a b))) (at _)
 
     width_leads : (p : Place) (width : Width)
         → R (w.width_sites none join site env p width) (w.width_sites none2 join2 site2 env p width)
     width_leads p NoWidth = nothing
-    width_leads p (Within e) = and _ _ _ _ (expression_leads e) (at _)
+    width_leads p (WithWidth e) = and _ _ _ _ (expression_leads e) (at _)
 
     write_leads : (a : Argument) → R (w.write_sites none join site env a) (w.write_sites none2 join2 site2 env a)
     write_leads (Pass e width) = and _ _ _ _ (width_leads _ width) (written_leads e)
@@ -163,7 +168,7 @@ module _ {M N : Type 0} (none : M) (join : M → M → M) (site : Found → M) (
   mutual
     statement_leads : (env : Env) (s : Statement)
         → R (w.statement_sites none join site env s) (w.statement_sites none2 join2 site2 env s)
-    statement_leads env (Does p form) = statement_form_leads (counted env) form
+    statement_leads env (Does p form) = statement_form_leads (with_next_number env) form
 
     statement_form_leads : (env : Env) (s : Form)
         → R (w.statement_form_sites none join site env s) (w.statement_form_sites none2 join2 site2 env s)
@@ -177,7 +182,8 @@ module _ {M N : Type 0} (none : M) (join : M → M → M) (site : Found → M) (
         (and _ _ _ _ (statement_leads env s) (other_leads (w.statement_after env s) o))
     statement_form_leads env (While e s) = and _ _ _ _ (condition_leads env e) (statement_leads env s)
     statement_form_leads env (Repeat ss e) =
-        and _ _ _ _ (statements_leads (counted env) ss) (condition_leads (w.statements_after (counted env) ss) e)
+        and _ _ _ _ (statements_leads (with_next_number env) ss)
+        (condition_leads (w.statements_after (with_next_number env) ss) e)
     statement_form_leads env (Case e choices) =
         and _ _ _ _ (and _ _ _ _ (expression_leads env e) (at _))
         (and _ _ _ _ (lists_leads env (expression_kind env e) [] (w.constant_lists choices)) (arms_leads env choices))
@@ -187,10 +193,10 @@ module _ {M N : Type 0} (none : M) (join : M → M → M) (site : Found → M) (
     statement_form_leads env (Parallel bs) = branches_leads env bs
     statement_form_leads env (Forall x from to s) =
         and _ _ _ _ (and _ _ _ _ (expression_leads env from) (at _))
-        (and _ _ _ _ (limit_leads env _ to) (statement_leads (indexed env x (expression_kind env from)) s))
+        (and _ _ _ _ (limit_leads env _ to) (statement_leads (with_index_type env x (expression_kind env from)) s))
     statement_form_leads env (Assume e) = condition_leads env e
 
-    other_leads : (env : Env) (o : Other) → R (w.other_sites none join site env o)
+    other_leads : (env : Env) (o : ElsePart) → R (w.other_sites none join site env o)
         (w.other_sites none2 join2 site2 env o)
     other_leads env NoElse = nothing
     other_leads env (Else s) = statement_leads env s
@@ -212,8 +218,8 @@ module _ {M N : Type 0} (none : M) (join : M → M → M) (site : Found → M) (
     branches_leads : (env : Env) (bs : Branches)
         → R (w.branches_sites none join site env bs) (w.branches_sites none2 join2 site2 env bs)
     branches_leads env NoBranch = nothing
-    branches_leads env (Beside ss rest) = and _ _ _ _ (statements_leads (counted env) ss)
-        (branches_leads (w.statements_after (counted env) ss) rest)
+    branches_leads env (Beside ss rest) = and _ _ _ _ (statements_leads (with_next_number env) ss)
+        (branches_leads (w.statements_after (with_next_number env) ss) rest)
 
   constants_leads : (known : List (Option Ordinal)) (cs : List NamedConstant)
       → R (w.constants_sites none join site known cs) (w.constants_sites none2 join2 site2 known cs)
@@ -260,8 +266,8 @@ module _ {M N : Type 0} (none : M) (join : M → M → M) (site : Found → M) (
   blocks_leads numbers cells variables b env starts [] = nothing
   blocks_leads numbers cells variables b env [] (x ∷ xs) = nothing
   blocks_leads numbers cells variables b env (n ∷ starts) (x ∷ xs) =
-      and _ _ _ _ (block_leads numbers cells variables b (w.started env n) x)
-      (blocks_leads numbers cells variables (b + 1) (w.statement_after (w.started env n) x.body) starts xs)
+      and _ _ _ _ (block_leads numbers cells variables b (w.with_first_number env n) x)
+      (blocks_leads numbers cells variables (b + 1) (w.statement_after (w.with_first_number env n) x.body) starts xs)
 
   program_leads : (p : Program) → R (w.program_sites none join site p) (w.program_sites none2 join2 site2 p)
   program_leads p = and _ _ _ _ (constants_leads (constants_of p) p.constants)
@@ -269,5 +275,6 @@ module _ {M N : Type 0} (none : M) (join : M → M → M) (site : Found → M) (
       (and _ _ _ _ (cells_leads (w.places_of p.kinds) (sizes (env_of p).kinds))
       (blocks_leads (numbers_of p) (sizes (env_of p).kinds) p.variables 0 (env_of p) (w.starts_of p.blocks) p.blocks)))
 
-pub first_of_all : (p : Program) → types_first p ≡ taken (types_broken p) None
-first_of_all p = sym (program_leads [] together listed none_more both at_node Leads no_more follows at_one p None)
+pub first_of_all : (p : Program) → types_first p ≡ first_of_refusals (types_broken p) None
+first_of_all p = sym (program_leads [] both_lists refusal_list none_more then_rest at_node Leads no_more follows at_one
+    p None)

@@ -11,7 +11,7 @@ pub mod StatementNumbers
 pub mod Capping
 pub mod Declared
 pub mod KeptKinds
-pub mod Tops
+pub mod ProgramTyped
 pub mod Seeing
 pub mod Noting
-pub mod Singles
+pub mod EachReceived

@@ -10,7 +10,7 @@ use Rattle.std.proofs.lemmas.Map.Text.{is_eq-slice_cmp}
 use Rattle.std.proofs.lemmas.Slice.Eq.{bytes_eq-Decides}
 use Rattle.std.proofs.lemmas.Bool.{true≢false}
 use Rattle.sp_base.proofs.Facts.{tie_is_equal, same_if_bytes_eq}
-use Rattle.sp_types.specs.Entries.{Index, under, Notes, field_from}
+use Rattle.sp_types.specs.FieldTable.{Index, field_under, AddsField, field_from}
 
 by_test : (b : Bool) (x : ℕ × ℕ) (rest : Option (ℕ × ℕ))
     → option_or (if b then Some x else None) rest ≡ (if b then Some x else rest)
@@ -24,30 +24,31 @@ one_field (Some x) n f rest name = refl
 one_field None n f rest name = by_test (bytes_eq name f.0) (n, f.1) (field_from (n + 1) name rest)
 
 -- a field that is noted is no longer ahead
-pub noted : (old new : Index) (n : ℕ) (f : List ℕ × ℕ) (rest : List (List ℕ × ℕ)) → Notes old new n f → (name : List ℕ)
-    → option_or (under new name) (field_from (n + 1) name rest)
-    ≡ option_or (under old name) (field_from n name (f ∷ rest))
+pub noted : (old new : Index) (n : ℕ) (f : List ℕ × ℕ) (rest : List (List ℕ × ℕ)) → AddsField old new n f
+    → (name : List ℕ)
+    → option_or (field_under new name) (field_from (n + 1) name rest)
+    ≡ option_or (field_under old name) (field_from n name (f ∷ rest))
 noted old new n f rest h name = ap (λ u. option_or u (field_from (n + 1) name rest)) (h name)
-    ∙ one_field (under old name) n f rest name
+    ∙ one_field (field_under old name) n f rest name
 
 swapped : (name other : List ℕ) → bytes_eq name other ≡ bytes_eq other name
 swapped name other = search (rules, bytes_eq-Decides)
 
 -- a field whose name is not there is put there
-pub put : (old new : Index) (n : ℕ) (f : List ℕ × ℕ) → is_some (under old f.0) ≡ false
-    → ((q : List ℕ) → under new q ≡ cond (is_eq (slice_cmp nat_cmp f.0 q)) (Some (n, f.1)) (under old q))
-    → Notes old new n f
+pub put : (old new : Index) (n : ℕ) (f : List ℕ × ℕ) → is_some (field_under old f.0) ≡ false
+    → ((q : List ℕ) → field_under new q ≡ cond (is_eq (slice_cmp nat_cmp f.0 q)) (Some (n, f.1)) (field_under old q))
+    → AddsField old new n f
 put old new n f h up name =
-    up name ∙ ap (λ b. cond b (Some (n, f.1)) (under old name)) (is_eq-slice_cmp f.0 name ∙ swapped f.0 name)
-    ∙ by (under old name) (bytes_eq name f.0) refl refl
+    up name ∙ ap (λ b. cond b (Some (n, f.1)) (field_under old name)) (is_eq-slice_cmp f.0 name ∙ swapped f.0 name)
+    ∙ by (field_under old name) (bytes_eq name f.0) refl refl
   where
-    by : (u : Option (ℕ × ℕ)) (b : Bool) → under old name ≡ u → bytes_eq name f.0 ≡ b
+    by : (u : Option (ℕ × ℕ)) (b : Bool) → field_under old name ≡ u → bytes_eq name f.0 ≡ b
         → cond b (Some (n, f.1)) u ≡ option_or u (if b then Some (n, f.1) else None)
     by None true e k = refl
     by None false e k = refl
     by (Some x) false e k = refl
     by (Some x) true e k = absurd (true≢false
-        (sym (ap is_some e) ∙ ap (λ x. is_some (under old x)) (same_if_bytes_eq name f.0 k) ∙ h))
+        (sym (ap is_some e) ∙ ap (λ x. is_some (field_under old x)) (same_if_bytes_eq name f.0 k) ∙ h))
 
 abbrev pub has : List ℕ → ℕ → Bool
 has numbers k = list_any (λ j. is_eq (nat_cmp k j)) numbers

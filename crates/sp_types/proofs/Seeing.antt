@@ -9,7 +9,7 @@ use Rattle.std.proofs.lemmas.Bool.Decides.{nat_tests}
 use Rattle.std.proofs.lemmas.List.Folds.{list_any-append}
 use Rattle.sp_base.proofs.Facts.{tie_is_equal, tie_of_both}
 use Rattle.sp_types.specs.declared.tables.Ordinal.{Ordinal}
-use Rattle.sp_types.specs.TypeRules.{same}
+use Rattle.sp_types.specs.TypeRules.{is_same_ordinal}
 use Rattle.sp_types.specs.Seen.{key_cmp, IsSet}
 
 neither : (a b : ℕ) → is_eq (cond (ltb a b) Less (cond (ltb b a) Greater Equal)) ≡ (leb b a && leb a b)
@@ -22,7 +22,7 @@ int_same (negsuc a) (pos b) = refl
 int_same (negsuc a) (negsuc b) = neither b a
 
 -- two constants have one key exactly where they are the same
-key_same : (a b : Ordinal) → is_eq (key_cmp (a.kind, a.number) (b.kind, b.number)) ≡ same b a
+key_same : (a b : Ordinal) → is_eq (key_cmp (a.kind, a.number) (b.kind, b.number)) ≡ is_same_ordinal b a
 key_same a b =
     tie_of_both (nat_cmp a.kind b.kind) (int_cmp a.number b.number) ∙
     ap (λ (x : Bool). x && is_eq (int_cmp a.number b.number)) (tie_is_equal a.kind b.kind) ∙
@@ -50,12 +50,12 @@ grown constants keys new o key key_is is_set added p =
     added (p.kind, p.number) ∙
     ap (λ (x : ℕ × ℤ). cond (is_eq (key_cmp x (p.kind, p.number))) true (among keys (p.kind, p.number))) key_is ∙
     ap (λ (x : Bool). cond x true (among keys (p.kind, p.number))) (key_same o p) ∙
-    ap (λ (x : Bool). cond (same p o) true x) (is_set p) ∙
-    sym (last_any (same p) constants o)
+    ap (λ (x : Bool). cond (is_same_ordinal p o) true x) (is_set p) ∙
+    sym (last_any (is_same_ordinal p) constants o)
 
 -- a constant is looked up by its key
 pub found_by :
     (constants : List Ordinal) (keys : List (ℕ × ℤ)) (o : Ordinal) (key : ℕ × ℤ) → key ≡ (o.kind, o.number)
     → IsSet constants keys →
-    among keys key ≡ list_any (same o) constants
+    among keys key ≡ list_any (is_same_ordinal o) constants
 found_by constants keys o key key_is is_set = ap (among keys) key_is ∙ is_set o

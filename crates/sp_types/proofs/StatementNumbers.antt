@@ -9,23 +9,26 @@ use Rattle.sp_base.specs.declared.place.Place.{Place}
 use Rattle.sp_base.proofs.Facts.{less_same_or_more}
 use Rattle.sp_tree.specs.declared.meaning.StandardProcedure.{StandardProcedure}
 use Rattle.sp_tree.specs.declared.meaning.StandardProcedure.TheVariants as procedure
-use Rattle.sp_tree.specs.PlainNamed.{Expression, At, Number, Quoted, Constant, Read, Apply, Standard, Unary, Binary}
+use Rattle.sp_tree.specs.PlainNamed.{Expression, ExpressionAt, Number, Quoted, Constant, Read, Apply, Standard, Unary}
+use Rattle.sp_tree.specs.PlainNamed.{Binary}
 use Rattle.sp_tree.specs.PlainNamed.{Pass, Arguments, NoArgument, AndArgument, Statement, Does, Form, Empty, Assign}
 use Rattle.sp_tree.specs.PlainNamed.{Call, Perform, Sequence, If, While, Repeat, Case, For, Parallel, Forall, Assume}
-use Rattle.sp_tree.specs.PlainNamed.{Other, NoElse, Else, Statements, NoStatement, AndThen, On, Arms, NoArm, Or}
+use Rattle.sp_tree.specs.PlainNamed.{ElsePart, NoElse, Else, Statements, NoStatement, AndThen, On, Arms, NoArm, Or}
 use Rattle.sp_tree.specs.PlainNamed.{Branches, NoBranch, Beside, Block, Program}
 use Rattle.sp_tree.specs.PlainChecked as c
 use Rattle.sp_tree.specs.CheckedOf as of_
 use Rattle.sp_tree.proofs.Earlier.{Earlier, earlier_then, not_earlier}
 use Rattle.sp_types.specs.declared.tables.Ordinal.{Ordinal}
-use Rattle.sp_types.specs.Tables.{Env, char_of, counted, indexed, env_of}
+use Rattle.sp_types.specs.Tables.{Env, char_of, with_next_number, with_index_type, env_of}
 use Rattle.sp_types.specs.Kinds.{expression_kind}
 use Rattle.sp_types.specs.TypeWalk.{count, single_count, parts_count, statement_after, form_after, other_after}
 use Rattle.sp_types.specs.TypeWalk.{statements_after, arms_after, branches_after, statement_counted, form_counted}
 use Rattle.sp_types.specs.TypeWalk.{other_counted, statements_counted, arms_counted, branches_counted, statement_place}
-use Rattle.sp_types.specs.TypeWalk.{bodies, earlier, count_before, starts_from, started}
-use Rattle.sp_types.specs.CheckedTree.{written, written_form, written_text, reads, writes, opens, sends, receives}
-use Rattle.sp_types.specs.CheckedTree.{singles, argument_variable, checked_argument, checked_width, expanded, numbered}
+use Rattle.sp_types.specs.TypeWalk.{bodies, is_earlier, count_before, starts_from, with_first_number}
+use Rattle.sp_types.specs.CheckedTree.{write_form, write_value_form, write_text_form, reads, writes, opens, sends}
+use Rattle.sp_types.specs.CheckedTree.{receives}
+use Rattle.sp_types.specs.CheckedTree.{singles, argument_variable, checked_argument, checked_width, expanded_form}
+use Rattle.sp_types.specs.CheckedTree.{numbered_statements}
 use Rattle.sp_types.specs.CheckedTree.{checked_statement, checked_statement_form, checked_other, checked_statements}
 use Rattle.sp_types.specs.CheckedTree.{checked_arms, checked_branches, checked_blocks, program_checked}
 use Rattle.sp_types.specs.StatementNumbers.{statement_numbers, form_numbers, other_numbers, statements_numbers}
@@ -55,19 +58,19 @@ sized [] = 0
 sized (f ∷ fs) = suc (sized fs)
 
 text_single : (at : Place) (t : List ℕ) (o : Option Ordinal) (w : Option c.Expression)
-    → form_numbers (written_text at t o w) ≡ []
+    → form_numbers (write_text_form at t o w) ≡ []
 text_single at t None w = refl
 text_single at t (Some o) w = refl
 
-written_single : (env : Env) (e : Expression) (w : Option c.Expression) → form_numbers (written_form env e w) ≡ []
-written_single env (At at (Quoted t)) w = text_single at t (char_of t) w
-written_single env (At at (Number k)) w = refl
-written_single env (At at (Constant k)) w = refl
-written_single env (At at (Read v)) w = refl
-written_single env (At at (Apply f name args)) w = refl
-written_single env (At at (Standard f args)) w = refl
-written_single env (At at (Unary op a)) w = refl
-written_single env (At at (Binary op a b)) w = refl
+written_single : (env : Env) (e : Expression) (w : Option c.Expression) → form_numbers (write_value_form env e w) ≡ []
+written_single env (ExpressionAt at (Quoted t)) w = text_single at t (char_of t) w
+written_single env (ExpressionAt at (Number k)) w = refl
+written_single env (ExpressionAt at (Constant k)) w = refl
+written_single env (ExpressionAt at (Read v)) w = refl
+written_single env (ExpressionAt at (Apply f name args)) w = refl
+written_single env (ExpressionAt at (Standard f args)) w = refl
+written_single env (ExpressionAt at (Unary op a)) w = refl
+written_single env (ExpressionAt at (Binary op a b)) w = refl
 
 -- so many, all of them single
 abbrev Are : List c.Form → ℕ → Type 0
@@ -83,7 +86,7 @@ reads_are env (AndArgument a rest) = one_more (c.ReadValue (argument_variable en
 writes_are : (env : Env) (xs : Arguments) → Are (writes env xs) (count xs)
 writes_are env NoArgument = (tt, refl)
 writes_are env (AndArgument (Pass e w) rest) =
-    one_more (written env (Pass e w)) _ _ (written_single env e (checked_width env w)) (writes_are env rest)
+    one_more (write_form env (Pass e w)) _ _ (written_single env e (checked_width env w)) (writes_are env rest)
 
 opens_are : (env : Env) (xs : Arguments) → Are (opens env xs) (count xs)
 opens_are env NoArgument = (tt, refl)
@@ -118,20 +121,22 @@ singles_are env procedure.Receive NoArgument = (tt, refl)
 singles_are env procedure.Receive (AndArgument a rest) = receives_are env (checked_argument env a) rest
 
 single_numbers : (n k : ℕ) (at : Place) (fs : List c.Form) → Are fs k
-    → Rise n (statements_numbers (of_.statements (numbered n at fs))) (n + k)
+    → Rise n (statements_numbers (of_.statements (numbered_statements n at fs))) (n + k)
 single_numbers n k at [] h = omega (arith, h.1)
 single_numbers n zero at (f ∷ fs) h = absurd (omega (arith, h.1))
 single_numbers n (suc k) at (f ∷ fs) h =
-    let rest : Rise (n + 1) (statements_numbers (of_.statements (numbered (n + 1) at fs))) (n + 1 + k) =
+    let rest : Rise (n + 1) (statements_numbers (of_.statements (numbered_statements (n + 1) at fs))) (n + 1 + k) =
     single_numbers (n + 1) k at fs (h.0.1, omega (arith, h.1)) in (
       refl,
-      subst (λ m. Rise (n + 1) (m ++ statements_numbers (of_.statements (numbered (n + 1) at fs))) (n + suc k))
-          (sym h.0.0) (subst (Rise (n + 1) (statements_numbers (of_.statements (numbered (n + 1) at fs)))) (omega arith)
+      subst (λ m. Rise (n + 1) (m ++ statements_numbers (of_.statements (numbered_statements (n + 1) at fs)))
+          (n + suc k))
+          (sym h.0.0) (subst (Rise (n + 1) (statements_numbers (of_.statements (numbered_statements (n + 1) at fs))))
+          (omega arith)
           rest),
     )
 
 expanded_numbers : (n k : ℕ) (at : Place) (fs : List c.Form) → Are fs k
-    → Rise n (form_numbers (expanded n at fs)) (n + parts_count k)
+    → Rise n (form_numbers (expanded_form n at fs)) (n + parts_count k)
 expanded_numbers n zero at [] h = omega arith
 expanded_numbers n (suc k) at [] h = absurd (omega (arith, h.1))
 expanded_numbers n zero at (f ∷ fs) h = absurd (omega (arith, h.1))
@@ -145,7 +150,7 @@ expanded_numbers n (suc (suc k)) at (f ∷ g ∷ fs) h = single_numbers n (suc (
 mutual
   statement_rise : (env : Env) (s : Statement)
       → Rise env.next (statement_numbers (checked_statement env s)) (statement_after env s).next
-  statement_rise env (Does at form) = (refl, form_rise (counted env) at form)
+  statement_rise env (Does at form) = (refl, form_rise (with_next_number env) at form)
 
   form_rise : (env : Env) (at : Place) (s : Form)
       → Rise env.next (form_numbers (checked_statement_form env at s)) (form_after env s).next
@@ -157,14 +162,14 @@ mutual
   form_rise env at (Sequence ss) = statements_rise env ss
   form_rise env at (If e s o) = joined _ _ _ _ _ (statement_rise env s) (other_rise (statement_after env s) o)
   form_rise env at (While e s) = statement_rise env s
-  form_rise env at (Repeat ss e) = (refl, statements_rise (counted env) ss)
+  form_rise env at (Repeat ss e) = (refl, statements_rise (with_next_number env) ss)
   form_rise env at (Case e choices) = arms_rise env choices
   form_rise env at (For x name from down to s) = statement_rise env s
   form_rise env at (Parallel bs) = branches_rise env at bs
-  form_rise env at (Forall x from to s) = statement_rise (indexed env x (expression_kind env from)) s
+  form_rise env at (Forall x from to s) = statement_rise (with_index_type env x (expression_kind env from)) s
   form_rise env at (Assume e) = refl
 
-  other_rise : (env : Env) (o : Other) → Rise env.next (other_numbers (checked_other env o)) (other_after env o).next
+  other_rise : (env : Env) (o : ElsePart) → Rise env.next (other_numbers (checked_other env o)) (other_after env o).next
   other_rise env NoElse = refl
   other_rise env (Else s) = statement_rise env s
 
@@ -184,7 +189,8 @@ mutual
   branches_rise env at NoBranch = refl
   branches_rise env at (Beside ss rest) = (
     refl,
-    joined _ _ _ _ _ (statements_rise (counted env) ss) (branches_rise (statements_after (counted env) ss) at rest),
+    joined _ _ _ _ _ (statements_rise (with_next_number env) ss)
+        (branches_rise (statements_after (with_next_number env) ss) at rest),
   )
 
 -- counting goes on from where it begins
@@ -210,7 +216,7 @@ mutual
   form_on k j (Forall x from to s) = statement_on k j s
   form_on k j (Assume e) = refl
 
-  other_on : (k j : ℕ) (o : Other) → other_counted (k + j) o ≡ k + other_counted j o
+  other_on : (k j : ℕ) (o : ElsePart) → other_counted (k + j) o ≡ k + other_counted j o
   other_on k j NoElse = refl
   other_on k j (Else s) = statement_on k j s
 
@@ -233,30 +239,30 @@ mutual
 -- ---- numbers of two parts
 
 -- all of them are at least a and below b
-abbrev Within : ℕ → ℕ → List ℕ → Type 0
-Within a b [] = Unit {0}
-Within a b (x ∷ xs) = (a ≤ x) × (x < b) × Within a b xs
+abbrev AllBetween : ℕ → ℕ → List ℕ → Type 0
+AllBetween a b [] = Unit {0}
+AllBetween a b (x ∷ xs) = (a ≤ x) × (x < b) × AllBetween a b xs
 
 -- none of them is
-abbrev Without : ℕ → ℕ → List ℕ → Type 0
-Without a b [] = Unit {0}
-Without a b (x ∷ xs) = ((x < a) ⊎ (b ≤ x)) × Without a b xs
+abbrev NoneBetween : ℕ → ℕ → List ℕ → Type 0
+NoneBetween a b [] = Unit {0}
+NoneBetween a b (x ∷ xs) = ((x < a) ⊎ (b ≤ x)) × NoneBetween a b xs
 
 no_more : (a b : ℕ) (xs : List ℕ) → Rise a xs b → a ≤ b
 no_more a b [] h = omega (arith, h)
 no_more a b (x ∷ xs) h = let l = no_more (a + 1) b xs h.1 in omega (arith, l)
 
-widened : (a b : ℕ) (xs : List ℕ) → Within (a + 1) b xs → Within a b xs
+widened : (a b : ℕ) (xs : List ℕ) → AllBetween (a + 1) b xs → AllBetween a b xs
 widened a b [] h = tt
 widened a b (x ∷ xs) h = (omega (arith, h.0), h.1, widened a b xs h.2)
 
-within : (a b : ℕ) (xs : List ℕ) → Rise a xs b → Within a b xs
+within : (a b : ℕ) (xs : List ℕ) → Rise a xs b → AllBetween a b xs
 within a b [] h = tt
 within a b (x ∷ xs) h = let l = no_more (a + 1) b xs h.1 in
     (omega (arith, h.0), omega (arith, h.0, l), widened a b xs (within (a + 1) b xs h.1))
 
 -- numbers above one differ from it
-above : (a b x : ℕ) (xs : List ℕ) → x < a → Within a b xs → DiffersFrom x xs
+above : (a b x : ℕ) (xs : List ℕ) → x < a → AllBetween a b xs → DiffersFrom x xs
 above a b x [] l h = tt
 above a b x (y ∷ ys) l h = (λ e. absurd (omega (arith, e, l, h.0)), above a b x ys l h.2)
 
@@ -267,7 +273,7 @@ rising_differ a b (x ∷ xs) h = (
   rising_differ (a + 1) b xs h.1,
 )
 
-outside : (a b x : ℕ) (xs : List ℕ) → a ≤ x → x < b → Without a b xs → DiffersFrom x xs
+outside : (a b x : ℕ) (xs : List ℕ) → a ≤ x → x < b → NoneBetween a b xs → DiffersFrom x xs
 outside a b x [] l g h = tt
 outside a b x (y ∷ ys) l g h = (one h.0, outside a b x ys l g h.1)
   where
@@ -279,7 +285,7 @@ pub differs_both : (x : ℕ) (xs ys : List ℕ) → DiffersFrom x xs → Differs
 differs_both x [] ys h g = g
 differs_both x (z ∷ xs) ys h g = (h.0, differs_both x xs ys h.1 g)
 
-all_differ_both : (a b : ℕ) (xs ys : List ℕ) → Within a b xs → AllDiffer xs → Without a b ys → AllDiffer ys
+all_differ_both : (a b : ℕ) (xs ys : List ℕ) → AllBetween a b xs → AllDiffer xs → NoneBetween a b ys → AllDiffer ys
     → AllDiffer (xs ++ ys)
 all_differ_both a b [] ys w h o g = g
 all_differ_both a b (x ∷ xs) ys w h o g = (
@@ -287,12 +293,12 @@ all_differ_both a b (x ∷ xs) ys w h o g = (
   all_differ_both a b xs ys w.2 h.1 o g,
 )
 
-without_both : (a b : ℕ) (xs ys : List ℕ) → Without a b xs → Without a b ys → Without a b (xs ++ ys)
+without_both : (a b : ℕ) (xs ys : List ℕ) → NoneBetween a b xs → NoneBetween a b ys → NoneBetween a b (xs ++ ys)
 without_both a b [] ys h g = g
 without_both a b (x ∷ xs) ys h g = (h.0, without_both a b xs ys h.1 g)
 
 -- numbers of one part are none of another that lies below or above
-apart : (a b d e : ℕ) (xs : List ℕ) → (e ≤ a) ⊎ (b ≤ d) → Within d e xs → Without a b xs
+apart : (a b d e : ℕ) (xs : List ℕ) → (e ≤ a) ⊎ (b ≤ d) → AllBetween d e xs → NoneBetween a b xs
 apart a b d e [] o h = tt
 apart a b d e (x ∷ xs) o h = (one o, apart a b d e xs o h.2)
   where
@@ -302,7 +308,7 @@ apart a b d e (x ∷ xs) o h = (one o, apart a b d e xs o h.2)
 
 -- ---- the order of places
 
-tells : (p q : Place) → Decides (earlier p q) (Earlier p q)
+tells : (p q : Place) → Decides (is_earlier p q) (Earlier p q)
 tells p q = Decides-or _ _ (Decides-ltb p.line q.line)
     (Decides-and _ _ (Decides-eqb p.line q.line) (Decides-ltb p.column q.column))
 
@@ -324,7 +330,7 @@ ordered p q d = by (less_same_or_more p.line q.line) (less_same_or_more p.column
 
 -- what a part counts before a place
 abbrev share : Place → Place × ℕ → ℕ
-share q b = if earlier b.0 q then b.1 else 0
+share q b = if is_earlier b.0 q then b.1 else 0
 
 abbrev shares : Place → List (Place × ℕ) → ℕ
 shares q [] = 0
@@ -332,16 +338,16 @@ shares q (b ∷ bs) = share q b + shares q bs
 
 counted_shares : (k : ℕ) (q : Place) (bs : List (Place × ℕ)) → count_before k q bs ≡ k + shares q bs
 counted_shares k q [] = omega arith
-counted_shares k q (b ∷ bs) = counted_shares (if earlier b.0 q then k + b.1 else k) q bs ∙ by (earlier b.0 q)
+counted_shares k q (b ∷ bs) = counted_shares (if is_earlier b.0 q then k + b.1 else k) q bs ∙ by (is_earlier b.0 q)
   where
     by : (t : Bool) → (if t then k + b.1 else k) + shares q bs ≡ k + ((if t then b.1 else 0) + shares q bs)
     by true = omega arith
     by false = omega arith
 
 share_grows : (p q : Place) (b : Place × ℕ) → Earlier p q → share p b ≤ share q b
-share_grows p q b l = by (earlier b.0 p) refl
+share_grows p q b l = by (is_earlier b.0 p) refl
   where
-    by : (t : Bool) → earlier b.0 p ≡ t → (if t then b.1 else 0) ≤ share q b
+    by : (t : Bool) → is_earlier b.0 p ≡ t → (if t then b.1 else 0) ≤ share q b
     by true e = subst (λ t. b.1 ≤ (if t then b.1 else 0))
         (sym ((tells b.0 q).1 (earlier_then b.0 p q ((tells b.0 p).0 e) l))) (omega arith)
     by false e = omega arith
@@ -368,9 +374,9 @@ own_parts [] = tt
 own_parts (b ∷ bs) = (inl refl, parts_too bs bs b (own_parts bs))
 
 own_share : (x : Place × ℕ) → share x.0 x ≡ 0
-own_share x = by (earlier x.0 x.0) refl
+own_share x = by (is_earlier x.0 x.0) refl
   where
-    by : (t : Bool) → earlier x.0 x.0 ≡ t → (if t then x.1 else 0) ≡ 0
+    by : (t : Bool) → is_earlier x.0 x.0 ≡ t → (if t then x.1 else 0) ≡ 0
     by true e = absurd (not_earlier x.0 ((tells x.0 x.0).0 e))
     by false e = refl
 
@@ -415,16 +421,16 @@ module _ (all : List (Place × ℕ)) where
   part b = (statement_place b.body, statement_counted 0 b.body)
 
   block_rise : (env : Env) (b : Block) (k : ℕ)
-      → Rise k (statement_numbers (checked_statement (started env k) b.body)) (k + statement_counted 0 b.body)
+      → Rise k (statement_numbers (checked_statement (with_first_number env k) b.body)) (k + statement_counted 0 b.body)
   block_rise env b k =
       let nothing : k ≡ k + 0 = omega arith in
-      subst (Rise k (statement_numbers (checked_statement (started env k) b.body)))
-      (statement_next (started env k) b.body ∙ ap (λ (m : ℕ). statement_counted m b.body) nothing
+      subst (Rise k (statement_numbers (checked_statement (with_first_number env k) b.body)))
+      (statement_next (with_first_number env k) b.body ∙ ap (λ (m : ℕ). statement_counted m b.body) nothing
       ∙ statement_on k 0 b.body)
-      (statement_rise (started env k) b.body)
+      (statement_rise (with_first_number env k) b.body)
 
   others_without : (env : Env) (x : Place × ℕ) (bs : List Block) → IsPart x all → AreParts (bodies bs) all
-      → DiffersFrom x.0 (body_places bs) → Without (first_at x.0) (first_at x.0 + x.1)
+      → DiffersFrom x.0 (body_places bs) → NoneBetween (first_at x.0) (first_at x.0 + x.1)
       (blocks_numbers (checked_blocks env (starts_from all (bodies bs)) bs))
   others_without env x [] h g d = tt
   others_without env x (b ∷ bs) h g d =
@@ -432,7 +438,7 @@ module _ (all : List (Place × ℕ)) where
       without_both _ _ _ _
       (apart _ _ k (k + statement_counted 0 b.body) _ (parts_apart x (part b) h g.0 d.0)
       (within _ _ _ (block_rise env b k)))
-      (others_without (statement_after (started env k) b.body) x bs h g.1 d.1)
+      (others_without (statement_after (with_first_number env k) b.body) x bs h g.1 d.1)
 
   blocks_differ : (env : Env) (bs : List Block) → AreParts (bodies bs) all → AllDiffer (body_places bs)
       → AllDiffer (blocks_numbers (checked_blocks env (starts_from all (bodies bs)) bs))
@@ -441,8 +447,8 @@ module _ (all : List (Place × ℕ)) where
       let k : ℕ = first_at (statement_place b.body) in
       let rise = block_rise env b k in
       all_differ_both k (k + statement_counted 0 b.body) _ _ (within _ _ _ rise) (rising_differ _ _ _ rise)
-      (others_without (statement_after (started env k) b.body) (part b) bs g.0 g.1 d.0)
-      (blocks_differ (statement_after (started env k) b.body) bs g.1 d.1)
+      (others_without (statement_after (with_first_number env k) b.body) (part b) bs g.0 g.1 d.0)
+      (blocks_differ (statement_after (with_first_number env k) b.body) bs g.1 d.1)
 
 pub numbers_differ : (p : Program) → AllDiffer (body_places p.blocks)
     → AllDiffer (blocks_numbers (program_checked p).blocks)

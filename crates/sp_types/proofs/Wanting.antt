@@ -4,7 +4,7 @@ use Rattle.std.proofs.Common.{◌≡◌, refl, ℕ, List, [], ◌∷◌, Option,
 use Rattle.sp_base.specs.declared.place.Place.{Place}
 use Rattle.sp_base.specs.declared.rule.Rule.{Rule}
 use Rattle.sp_base.specs.declared.rule.Rule.TheVariants as rule
-use Rattle.sp_tree.specs.Found.{breaks_if}
+use Rattle.sp_tree.specs.PhaseResults.{refusal_if}
 use Rattle.sp_tree.specs.PlainNamed.{Argument, Arguments, NoArgument, AndArgument}
 use Rattle.sp_types.specs.declared.calls.Part.{Part}
 use Rattle.sp_types.specs.declared.calls.Part.TheVariants as part
@@ -14,7 +14,7 @@ use Rattle.sp_types.specs.Tables.{Env}
 use Rattle.sp_types.specs.TypeRules.{differ, messages, message_in_rule}
 use Rattle.sp_types.specs.Wanted.{wanted_rule, wanted_row, refuses, misfits, part_form, part_forms}
 
-of_none : (r : Rule) (at : Place) (v : Option ℕ) → breaks_if r at (differ v None) ≡ None
+of_none : (r : Rule) (at : Place) (v : Option ℕ) → refusal_if r at (differ v None) ≡ None
 of_none r at None = refl
 of_none r at (Some j) = refl
 
@@ -23,7 +23,7 @@ message_of_none at None = refl
 message_of_none at (Some ks) = refl
 
 message_of : (at : Place) (ks : Option (List ℕ)) (k : ℕ) →
-    message_in_rule at ks (Some k) ≡ breaks_if rule.Y9 at (refuses ks k)
+    message_in_rule at ks (Some k) ≡ refusal_if rule.Y9 at (refuses ks k)
 message_of at None k = refl
 message_of at (Some ks) k = refl
 
@@ -39,7 +39,7 @@ unknown env (wanted.Limit v) at = of_none rule.Y10 at v
 unknown env wanted.Selector at = refl
 
 pub known : (env : Env) (w : Wanted) (at : Place) (k : ℕ) →
-    wanted_rule env w at (Some k) ≡ breaks_if (wanted_row w) at (misfits env w k)
+    wanted_rule env w at (Some k) ≡ refusal_if (wanted_row w) at (misfits env w k)
 known env wanted.Condition at k = refl
 known env (wanted.Assigned v) at k = refl
 known env wanted.Read at k = refl

@@ -7,12 +7,12 @@ use Rattle.sp_tree.specs.Cells.{size_by, table}
 use Rattle.sp_types.specs.TypeRules.{most_cells}
 
 -- a count, or the first one above the limit
-abbrev pub capped : ℕ → ℕ
-capped n = min n (most_cells + 1)
+abbrev pub capped_count : ℕ → ℕ
+capped_count n = min n (most_cells + 1)
 
 -- a type's cells, where those of the types before it are known
 abbrev pub capped_by : List ℕ → KindOf → ℕ
-capped_by known k = capped (size_by known k)
+capped_by known k = capped_count (size_by known k)
 
 -- the cells of each type
 abbrev pub capped_sizes : List KindOf → List ℕ

@@ -10,20 +10,23 @@ use Rattle.sp_tree.specs.declared.meaning.StandardProcedure.{StandardProcedure}
 use Rattle.sp_tree.specs.declared.meaning.StandardProcedure.TheVariants as procedure
 use Rattle.sp_tree.specs.declared.named.NamedConst.{NamedConst}
 use Rattle.sp_tree.specs.PlainNamed as n
-use Rattle.sp_tree.specs.PlainNamed.{Expression, At, ExpressionForm, Number, Quoted, Constant, Read, Apply, Standard}
+use Rattle.sp_tree.specs.PlainNamed.{Expression, ExpressionAt, ExpressionForm, Number, Quoted, Constant, Read, Apply}
+use Rattle.sp_tree.specs.PlainNamed.{Standard}
 use Rattle.sp_tree.specs.PlainNamed.{Unary, Binary, Variable, Entire, Selector, Index, Field, Selectors, Whole, Select}
-use Rattle.sp_tree.specs.PlainNamed.{Argument, Pass, Width, NoWidth, Within, Arguments, NoArgument, AndArgument}
+use Rattle.sp_tree.specs.PlainNamed.{Argument, Pass, Width, NoWidth, WithWidth, Arguments, NoArgument, AndArgument}
 use Rattle.sp_tree.specs.PlainNamed.{Statement, Does, Form, Empty, Assign, Call, Perform, Sequence, If, While, Repeat}
-use Rattle.sp_tree.specs.PlainNamed.{Case, For, Parallel, Forall, Assume, Other, NoElse, Else, Statements, NoStatement}
+use Rattle.sp_tree.specs.PlainNamed.{Case, For, Parallel, Forall, Assume, ElsePart, NoElse, Else, Statements}
+use Rattle.sp_tree.specs.PlainNamed.{NoStatement}
 use Rattle.sp_tree.specs.PlainNamed.{AndThen, Arm, On, Arms, NoArm, Or, Branches, NoBranch, Beside}
 use Rattle.sp_types.specs.declared.tables.Ordinal.{Ordinal}
 use Rattle.sp_tree.specs.PlainChecked as c
 use Rattle.sp_tree.specs.CheckedOf as of_
-use Rattle.sp_types.specs.Tables.{Env, entry, kind_at, const_value, char_of, number_or, variable_kind, formals_of}
-use Rattle.sp_types.specs.Tables.{counted, indexed, env_of, answer_variable}
+use Rattle.sp_types.specs.Tables.{Env, table_entry, kind_at, const_value, char_of, number_or, variable_kind, formals_of}
+use Rattle.sp_types.specs.Tables.{with_next_number, with_index_type, env_of, answer_variable}
 use Rattle.sp_types.specs.TypeRules.{field_in}
 use Rattle.sp_types.specs.Kinds.{form_kind, expression_kind, selection}
-use Rattle.sp_types.specs.TypeWalk.{formal, others, formal_role, statement_after, statements_after, arm_after, started}
+use Rattle.sp_types.specs.TypeWalk.{formal, formals_behind, formal_role, statement_after, statements_after, arm_after}
+use Rattle.sp_types.specs.TypeWalk.{with_first_number}
 use Rattle.sp_types.specs.TypeWalk.{starts_of, blocks_after}
 
 -- a type, 0 where it is missing
@@ -40,43 +43,43 @@ numbered_field env None name = 0
 numbered_field env (Some k) name = field_number (field_in name (kind_at env k))
 
 -- an expression as a variable parameter, which has to be a variable
-abbrev pub referenced : c.Expression → c.Actual
-referenced (c.At at k (c.Read v)) = c.ByReference v
-referenced e = c.ByValue e
+abbrev pub variable_actual : c.Expression → c.Actual
+variable_actual (c.ExpressionAt at k (c.Read v)) = c.ByReference v
+variable_actual e = c.ByValue e
 
 -- an actual parameter, by the role of the formal
-abbrev pub passed : Option Role → c.Expression → c.Actual
-passed (Some role.Reference) e = referenced e
-passed r e = c.ByValue e
+abbrev pub actual_for_role : Option Role → c.Expression → c.Actual
+actual_for_role (Some role.Reference) e = variable_actual e
+actual_for_role r e = c.ByValue e
 
 -- the variable that an argument is; what is none cannot stand there
 abbrev pub target : c.Expression → c.Variable
-target (c.At at k (c.Read v)) = v
-target (c.At at k form) = c.Entire 0 at c.Whole
+target (c.ExpressionAt at k (c.Read v)) = v
+target (c.ExpressionAt at k form) = c.Entire 0 at c.Whole
 
 -- a text of length 1 is a char, and any other is written as it is
-abbrev pub written_text : Place → List ℕ → Option Ordinal → Option c.Expression → c.Form
-written_text at t None w = c.WriteText t w
-written_text at t (Some o) w = c.WriteValue (c.At at o.kind (c.Number o.number)) w
+abbrev pub write_text_form : Place → List ℕ → Option Ordinal → Option c.Expression → c.Form
+write_text_form at t None w = c.WriteText t w
+write_text_form at t (Some o) w = c.WriteValue (c.ExpressionAt at o.kind (c.Number o.number)) w
 
 -- a single statement for each value, all on one channel
-abbrev pub each_sent : c.Expression → List c.Expression → List c.Form
-each_sent channel values = map (λ (e : c.Expression). c.Send channel e) values
+abbrev pub send_forms : c.Expression → List c.Expression → List c.Form
+send_forms channel values = map (λ (e : c.Expression). c.Send channel e) values
 
 -- a single statement for each variable, all on one channel
-abbrev pub each_received : c.Expression → List c.Variable → List c.Form
-each_received channel variables = map (λ (v : c.Variable). c.Receive channel v) variables
+abbrev pub receive_forms : c.Expression → List c.Variable → List c.Form
+receive_forms channel variables = map (λ (v : c.Variable). c.Receive channel v) variables
 
 module _ (env : Env) where
   abbrev mutual
     pub checked_expression : Expression → c.Expression
-    checked_expression (At at form) = c.At at (or_zero (form_kind env form)) (checked_form form)
+    checked_expression (ExpressionAt at form) = c.ExpressionAt at (or_zero (form_kind env form)) (checked_form form)
 
     -- constants and chars are numbers
     pub checked_form : ExpressionForm → c.ExpressionForm
     checked_form (Number k) = c.Number (pos k)
     checked_form (Quoted t) = c.Number (number_or (pos 0) (char_of t))
-    checked_form (Constant k) = c.Number (number_or (pos 0) (entry (slice_get env.constants k)))
+    checked_form (Constant k) = c.Number (number_or (pos 0) (table_entry (slice_get env.constants k)))
     checked_form (Read v) = c.Read (checked_variable v)
     checked_form (Apply f at args) = c.Apply f at (of_.actuals (checked_actuals (formals_of env f) args))
     checked_form (Standard f args) = c.Standard f (of_.expressions (checked_arguments args))
@@ -97,10 +100,10 @@ module _ (env : Env) where
     pub checked_actuals : List ℕ → Arguments → List c.Actual
     checked_actuals xs NoArgument = []
     checked_actuals xs (AndArgument a rest) = checked_actual (formal_role env (formal xs)) a
-        ∷ checked_actuals (others xs) rest
+        ∷ checked_actuals (formals_behind xs) rest
 
     pub checked_actual : Option Role → Argument → c.Actual
-    checked_actual r (Pass e w) = passed r (checked_expression e)
+    checked_actual r (Pass e w) = actual_for_role r (checked_expression e)
 
     pub checked_arguments : Arguments → List c.Expression
     checked_arguments NoArgument = []
@@ -114,14 +117,14 @@ module _ (env : Env) where
 
   abbrev pub checked_width : Width → Option c.Expression
   checked_width NoWidth = None
-  checked_width (Within e) = Some (checked_expression e)
+  checked_width (WithWidth e) = Some (checked_expression e)
 
-  abbrev pub written_form : Expression → Option c.Expression → c.Form
-  written_form (At at (Quoted t)) w = written_text at t (char_of t) w
-  written_form e w = c.WriteValue (checked_expression e) w
+  abbrev pub write_value_form : Expression → Option c.Expression → c.Form
+  write_value_form (ExpressionAt at (Quoted t)) w = write_text_form at t (char_of t) w
+  write_value_form e w = c.WriteValue (checked_expression e) w
 
-  abbrev pub written : Argument → c.Form
-  written (Pass e w) = written_form e (checked_width w)
+  abbrev pub write_form : Argument → c.Form
+  write_form (Pass e w) = write_value_form e (checked_width w)
 
   -- the single statements that a call with several arguments stands for
   abbrev pub reads : Arguments → List c.Form
@@ -130,7 +133,7 @@ module _ (env : Env) where
 
   abbrev pub writes : Arguments → List c.Form
   writes NoArgument = []
-  writes (AndArgument a rest) = written a ∷ writes rest
+  writes (AndArgument a rest) = write_form a ∷ writes rest
 
   abbrev pub opens : Arguments → List c.Form
   opens NoArgument = []
@@ -143,10 +146,10 @@ module _ (env : Env) where
 
   -- the channel is evaluated in each
   abbrev pub sends : c.Expression → Arguments → List c.Form
-  sends channel args = each_sent channel (checked_arguments args)
+  sends channel args = send_forms channel (checked_arguments args)
 
   abbrev pub receives : c.Expression → Arguments → List c.Form
-  receives channel args = each_received channel (argument_variables args)
+  receives channel args = receive_forms channel (argument_variables args)
 
   abbrev pub singles : StandardProcedure → Arguments → List c.Form
   singles procedure.Read args = reads args
@@ -164,14 +167,14 @@ module _ (env : Env) where
   constant_numbers (k ∷ ks) = number_or (pos 0) (const_value env.constants k) ∷ constant_numbers ks
 
 -- statements at one place, numbered from a number on
-abbrev pub numbered : ℕ → Place → List c.Form → List c.Statement
-numbered n at [] = []
-numbered n at (f ∷ fs) = c.Does n at f ∷ numbered (n + 1) at fs
+abbrev pub numbered_statements : ℕ → Place → List c.Form → List c.Statement
+numbered_statements n at [] = []
+numbered_statements n at (f ∷ fs) = c.Does n at f ∷ numbered_statements (n + 1) at fs
 
 -- One statement is the call itself; several stand in a sequence.
-abbrev pub expanded : ℕ → Place → List c.Form → c.Form
-expanded n at (f ∷ []) = f
-expanded n at fs = c.Sequence (of_.statements (numbered n at fs))
+abbrev pub expanded_form : ℕ → Place → List c.Form → c.Form
+expanded_form n at (f ∷ []) = f
+expanded_form n at fs = c.Sequence (of_.statements (numbered_statements n at fs))
 
 -- the place of the first of some statements
 abbrev pub first_place : Place → Statements → Place
@@ -184,20 +187,20 @@ in_sequence n at ss = c.Does n at (c.Sequence (of_.statements ss))
 
 abbrev mutual
   pub checked_statement : Env → Statement → c.Statement
-  checked_statement env (Does at form) = c.Does env.next at (checked_statement_form (counted env) at form)
+  checked_statement env (Does at form) = c.Does env.next at (checked_statement_form (with_next_number env) at form)
 
   pub checked_statement_form : Env → Place → Form → c.Form
   checked_statement_form env at Empty = c.Empty
   checked_statement_form env at (Assign v e) = c.Assign (checked_variable env v) (checked_expression env e)
   checked_statement_form env at (Call f args) = c.Call f (of_.actuals (checked_actuals env (formals_of env f) args))
-  checked_statement_form env at (Perform p args) = expanded env.next at (singles env p args)
+  checked_statement_form env at (Perform p args) = expanded_form env.next at (singles env p args)
   checked_statement_form env at (Sequence ss) = c.Sequence (of_.statements (checked_statements env ss))
   checked_statement_form env at (If e s o) =
       c.If (checked_expression env e) (checked_statement env s) (checked_other (statement_after env s) o)
   checked_statement_form env at (While e s) = c.While (checked_expression env e) (checked_statement env s)
   checked_statement_form env at (Repeat ss e) =
-      c.Repeat (in_sequence env.next (first_place at ss) (checked_statements (counted env) ss))
-      (checked_expression (statements_after (counted env) ss) e)
+      c.Repeat (in_sequence env.next (first_place at ss) (checked_statements (with_next_number env) ss))
+      (checked_expression (statements_after (with_next_number env) ss) e)
   checked_statement_form env at (Case e choices) =
       c.Case (checked_expression env e) (of_.arms (checked_arms env choices))
   checked_statement_form env at (For x name from down to s) =
@@ -205,10 +208,10 @@ abbrev mutual
   checked_statement_form env at (Parallel bs) = c.Parallel (of_.statements (checked_branches env at bs))
   checked_statement_form env at (Forall x from to s) =
       c.Forall x (checked_expression env from) (checked_expression env to)
-      (checked_statement (indexed env x (expression_kind env from)) s)
+      (checked_statement (with_index_type env x (expression_kind env from)) s)
   checked_statement_form env at (Assume e) = c.Assume (checked_expression env e)
 
-  pub checked_other : Env → Other → c.Other
+  pub checked_other : Env → ElsePart → c.ElsePart
   checked_other env NoElse = c.NoElse
   checked_other env (Else s) = c.Else (checked_statement env s)
 
@@ -227,8 +230,8 @@ abbrev mutual
   pub checked_branches : Env → Place → Branches → List c.Statement
   checked_branches env at NoBranch = []
   checked_branches env at (Beside ss rest) =
-      in_sequence env.next (first_place at ss) (checked_statements (counted env) ss)
-      ∷ checked_branches (statements_after (counted env) ss) at rest
+      in_sequence env.next (first_place at ss) (checked_statements (with_next_number env) ss)
+      ∷ checked_branches (statements_after (with_next_number env) ss) at rest
 
 -- a block's tree
 abbrev pub checked_block : Env → n.Block → c.Block
@@ -244,8 +247,8 @@ checked_block env b = record {
 abbrev pub checked_blocks : Env → List ℕ → List n.Block → List c.Block
 checked_blocks env starts [] = []
 checked_blocks env [] (b ∷ bs) = []
-checked_blocks env (k ∷ starts) (b ∷ bs) = checked_block (started env k) b
-    ∷ checked_blocks (statement_after (started env k) b.body) starts bs
+checked_blocks env (k ∷ starts) (b ∷ bs) = checked_block (with_first_number env k) b
+    ∷ checked_blocks (statement_after (with_first_number env k) b.body) starts bs
 
 -- variables with their types
 abbrev pub checked_variables : List (Option ℕ) → List checked.Variable → List checked.Variable

@@ -6,7 +6,8 @@ use Rattle.sp_tree.specs.declared.checked.KindOf.{KindOf}
 use Rattle.sp_tree.specs.declared.checked.KindOf.TheVariants as kind
 use Rattle.sp_tree.specs.declared.operators.StandardFn.{StandardFn}
 use Rattle.sp_tree.specs.declared.operators.StandardFn.TheVariants as fn
-use Rattle.sp_tree.specs.PlainNamed.{Expression, At, ExpressionForm, Number, Quoted, Constant, Read, Apply, Standard}
+use Rattle.sp_tree.specs.PlainNamed.{Expression, ExpressionAt, ExpressionForm, Number, Quoted, Constant, Read, Apply}
+use Rattle.sp_tree.specs.PlainNamed.{Standard}
 use Rattle.sp_tree.specs.PlainNamed.{Unary, Binary, Variable, Entire, Selector, Index, Field, Selectors, Whole, Select}
 use Rattle.sp_tree.specs.PlainNamed.{Argument, Pass, Arguments, NoArgument, AndArgument}
 use Rattle.sp_types.specs.Tables.{Env, kind_at, char_of, ordinal_kind, constant_kind, variable_kind, answer_kind}
@@ -57,7 +58,7 @@ standard_gives env fn.Eoln k = Some boolean
 module _ (env : Env) where
   abbrev mutual
     pub expression_kind : Expression → Option ℕ
-    expression_kind (At at form) = form_kind form
+    expression_kind (ExpressionAt at form) = form_kind form
 
     pub form_kind : ExpressionForm → Option ℕ
     form_kind (Number n) = Some integer

@@ -1,4 +1,4 @@
-pub mod Entries
+pub mod FieldTable
 pub mod Tables
 pub mod TypeRules
 pub mod Kinds
@@ -11,5 +11,5 @@ pub mod Wanted
 pub mod Types
 pub mod Capped
 pub mod DeclarationFirsts
-pub mod Entered
+pub mod AfterTables
 pub mod Seen

@@ -3,9 +3,10 @@
 -- same. A law of this crate promises it, since sets and lengths are kept by these numbers.
 use Rattle.std.specs.Prelude.{ℕ, ℤ, pos, false, codes, List, [], ◌∷◌, ◌++◌, ◌≢◌, Some, None}
 use Rattle.sp_base.specs.declared.place.Place.{Place}
-use Rattle.sp_tree.specs.PlainChecked.{Expression, At, Number, Read, Entire, Whole, Nothing, Statement, Does, Form}
+use Rattle.sp_tree.specs.PlainChecked.{Expression, ExpressionAt, Number, Read, Entire, Whole, Nothing, Statement, Does}
+use Rattle.sp_tree.specs.PlainChecked.{Form}
 use Rattle.sp_tree.specs.PlainChecked.{Empty, Call, Send, Sequence, If, While, Repeat, For, Case, Parallel, Forall}
-use Rattle.sp_tree.specs.PlainChecked.{Other, NoElse, Else, Statements, NoStatement, AndThen, On, Arms, NoArm, Or}
+use Rattle.sp_tree.specs.PlainChecked.{ElsePart, NoElse, Else, Statements, NoStatement, AndThen, On, Arms, NoArm, Or}
 use Rattle.sp_tree.specs.PlainChecked.{Block}
 use Rattle.sp_tree.specs.PlainNamed as n
 use Rattle.sp_types.specs.TypeWalk.{statement_place}
@@ -26,7 +27,7 @@ abbrev mutual
   form_numbers (Forall x from to s) = statement_numbers s
   form_numbers form = []
 
-  pub other_numbers : Other → List ℕ
+  pub other_numbers : ElsePart → List ℕ
   other_numbers NoElse = []
   other_numbers (Else s) = statement_numbers s
 
@@ -63,10 +64,10 @@ abbrev somewhere : Place
 somewhere = record { line = 1; column = 1 }
 
 abbrev number : ℤ → Expression
-number k = At somewhere 0 (Number k)
+number k = ExpressionAt somewhere 0 (Number k)
 
 abbrev channel : Expression
-channel = At somewhere 3 (Read (Entire 3 somewhere Whole))
+channel = ExpressionAt somewhere 3 (Read (Entire 3 somewhere Whole))
 
 abbrev own_body : Statement
 own_body = Does 3 somewhere (Sequence (AndThen

@@ -51,28 +51,28 @@ char_of (c ∷ []) = Some (record { kind = 2; number = pos c })
 char_of t = None
 
 -- an entry of a table, none where the number is none of the table's
-abbrev pub entry : {A : Type 0} → Option (Option A) → Option A
-entry None = None
-entry (Some x) = x
+abbrev pub table_entry : {A : Type 0} → Option (Option A) → Option A
+table_entry None = None
+table_entry (Some x) = x
 
 -- a constant without its sign; none: it is a text that is no char
 abbrev pub value_by : List (Option Ordinal) → NamedValue → Option Ordinal
 value_by known (given.Number n) = Some (record { kind = 0; number = pos n })
 value_by known (given.Quoted t) = char_of t
-value_by known (given.Constant k) = entry (slice_get known k)
+value_by known (given.Constant k) = table_entry (slice_get known k)
 
 -- a sign before an integer; before anything else it is wrong, and changes nothing
-abbrev pub signed : Option Bool → Option Ordinal → Option Ordinal
-signed (Some true) (Some o) = Some (record {
+abbrev pub signed_value : Option Bool → Option Ordinal → Option Ordinal
+signed_value (Some true) (Some o) = Some (record {
   kind = o.kind;
   number = if nat_eq o.kind 0 then neg_ℤ o.number else
       o.number;
 })
-signed sign o = o
+signed_value sign o = o
 
 -- the type and the number of a written constant
 abbrev pub const_value : List (Option Ordinal) → NamedConst → Option Ordinal
-const_value known c = signed c.negative (value_by known c.value)
+const_value known c = signed_value c.negative (value_by known c.value)
 
 abbrev pub constant_by : List ℕ → List (Option Ordinal) → NamedConstant → Option Ordinal
 constant_by numbers known (constant.Value c) = const_value known c
@@ -186,7 +186,7 @@ kind_at env k = slice_get env.kinds k
 
 -- the type of a variable
 abbrev pub variable_kind : Env → ℕ → Option ℕ
-variable_kind env x = entry (slice_get env.variables x)
+variable_kind env x = table_entry (slice_get env.variables x)
 
 abbrev pub ordinal_kind : Option Ordinal → Option ℕ
 ordinal_kind None = None
@@ -194,7 +194,7 @@ ordinal_kind (Some o) = Some o.kind
 
 -- the type of a declared constant
 abbrev pub constant_kind : Env → ℕ → Option ℕ
-constant_kind env k = ordinal_kind (entry (slice_get env.constants k))
+constant_kind env k = ordinal_kind (table_entry (slice_get env.constants k))
 
 abbrev pub formals_in : Option Signature → List ℕ
 formals_in None = []
@@ -218,9 +218,9 @@ abbrev pub answer_kind : Env → ℕ → Option ℕ
 answer_kind env f = answer_in env (slice_get env.blocks f)
 
 -- one statement more has a number
-abbrev pub counted : Env → Env
-counted env = record env { next = env.next + 1 }
+abbrev pub with_next_number : Env → Env
+with_next_number env = record env { next = env.next + 1 }
 
 -- the index of a forall gets its type
-abbrev pub indexed : Env → ℕ → Option ℕ → Env
-indexed env x k = record env { variables = slice_set env.variables x k }
+abbrev pub with_index_type : Env → ℕ → Option ℕ → Env
+with_index_type env x k = record env { variables = slice_set env.variables x k }

@@ -17,16 +17,19 @@ use Rattle.sp_tree.specs.declared.named.NamedKindForm.{NamedKindForm}
 use Rattle.sp_tree.specs.declared.named.NamedKindForm.TheVariants as form
 use Rattle.sp_tree.specs.declared.named.NamedAnswer.{NamedAnswer}
 use Rattle.sp_tree.specs.Cells.{sizes}
-use Rattle.sp_tree.specs.Found.{Found}
+use Rattle.sp_tree.specs.PhaseResults.{FirstRefusal}
 use Rattle.sp_tree.specs.NameRules.{same_place}
-use Rattle.sp_tree.specs.PlainNamed.{Expression, At, ExpressionForm, Number, Quoted, Constant, Read, Apply, Standard}
+use Rattle.sp_tree.specs.PlainNamed.{Expression, ExpressionAt, ExpressionForm, Number, Quoted, Constant, Read, Apply}
+use Rattle.sp_tree.specs.PlainNamed.{Standard}
 use Rattle.sp_tree.specs.PlainNamed.{Unary, Binary, Variable, Entire, Selector, Index, Field, Selectors, Whole, Select}
-use Rattle.sp_tree.specs.PlainNamed.{Argument, Pass, Width, NoWidth, Within, Arguments, NoArgument, AndArgument}
+use Rattle.sp_tree.specs.PlainNamed.{Argument, Pass, Width, NoWidth, WithWidth, Arguments, NoArgument, AndArgument}
 use Rattle.sp_tree.specs.PlainNamed.{Statement, Does, Form, Empty, Assign, Call, Perform, Sequence, If, While, Repeat}
-use Rattle.sp_tree.specs.PlainNamed.{Case, For, Parallel, Forall, Assume, Other, NoElse, Else, Statements, NoStatement}
+use Rattle.sp_tree.specs.PlainNamed.{Case, For, Parallel, Forall, Assume, ElsePart, NoElse, Else, Statements}
+use Rattle.sp_tree.specs.PlainNamed.{NoStatement}
 use Rattle.sp_tree.specs.PlainNamed.{AndThen, Arm, On, Arms, NoArm, Or, Branches, NoBranch, Beside, Block, Program}
 use Rattle.sp_types.specs.declared.tables.Ordinal.{Ordinal}
-use Rattle.sp_types.specs.Tables.{Env, const_value, variable_kind, ordinal_kind, formals_of, counted, indexed}
+use Rattle.sp_types.specs.Tables.{Env, const_value, variable_kind, ordinal_kind, formals_of, with_next_number}
+use Rattle.sp_types.specs.Tables.{with_index_type}
 use Rattle.sp_types.specs.Tables.{numbers_of, constants_of, env_of}
 use Rattle.sp_types.specs.TypeRules.{unary_rule, left_rule, right_rule, index_rule, field_rule, condition_rule}
 use Rattle.sp_types.specs.TypeRules.{assign_rule, actual_rule, standard_rule, read_rule, write_rule, width_rule}
@@ -36,11 +39,11 @@ use Rattle.sp_types.specs.TypeRules.{frame_cells, frame_rule}
 use Rattle.sp_types.specs.Kinds.{expression_kind, selected, selection, argument_kind}
 
 abbrev pub place : Expression → Place
-place (At at form) = at
+place (ExpressionAt at form) = at
 
 -- written as a variable: in no parentheses
 abbrev pub is_variable : Expression → Bool
-is_variable (At at (Read (Entire x name ss))) = same_place at name
+is_variable (ExpressionAt at (Read (Entire x name ss))) = same_place at name
 is_variable e = false
 
 -- the first formal, and the others
@@ -48,9 +51,9 @@ abbrev pub formal : List ℕ → Option ℕ
 formal [] = None
 formal (x ∷ xs) = Some x
 
-abbrev pub others : List ℕ → List ℕ
-others [] = []
-others (x ∷ xs) = xs
+abbrev pub formals_behind : List ℕ → List ℕ
+formals_behind [] = []
+formals_behind (x ∷ xs) = xs
 
 abbrev pub formal_role : Env → Option ℕ → Option Role
 formal_role env None = None
@@ -61,9 +64,9 @@ formal_kind env None = None
 formal_kind env (Some x) = variable_kind env x
 
 -- the arguments behind the first
-abbrev pub behind : Arguments → Arguments
-behind NoArgument = NoArgument
-behind (AndArgument a rest) = rest
+abbrev pub arguments_behind : Arguments → Arguments
+arguments_behind NoArgument = NoArgument
+arguments_behind (AndArgument a rest) = rest
 
 -- how many arguments
 abbrev pub count : Arguments → ℕ
@@ -71,8 +74,8 @@ count NoArgument = 0
 count (AndArgument a rest) = suc (count rest)
 
 -- the numbers of so many statements more
-abbrev pub counted_by : ℕ → Env → Env
-counted_by n env = record env { next = env.next + n }
+abbrev pub with_more_numbers : ℕ → Env → Env
+with_more_numbers n env = record env { next = env.next + n }
 
 -- the single statements that a call of a standard procedure stands for
 abbrev pub single_count : StandardProcedure → Arguments → ℕ
@@ -81,8 +84,8 @@ single_count procedure.Readln args = count args + 1
 single_count procedure.Write args = count args
 single_count procedure.Writeln args = count args + 1
 single_count procedure.Open args = count args
-single_count procedure.Send args = count (behind args)
-single_count procedure.Receive args = count (behind args)
+single_count procedure.Send args = count (arguments_behind args)
+single_count procedure.Receive args = count (arguments_behind args)
 
 -- one is the statement itself, others stand in a sequence
 abbrev pub parts_count : ℕ → ℕ
@@ -92,24 +95,24 @@ parts_count n = n
 -- what is known behind a statement: its statements have their numbers, and the indices of its foralls their types
 abbrev mutual
   pub statement_after : Env → Statement → Env
-  statement_after env (Does at form) = form_after (counted env) form
+  statement_after env (Does at form) = form_after (with_next_number env) form
 
   pub form_after : Env → Form → Env
   form_after env Empty = env
   form_after env (Assign v e) = env
   form_after env (Call f args) = env
-  form_after env (Perform p args) = counted_by (parts_count (single_count p args)) env
+  form_after env (Perform p args) = with_more_numbers (parts_count (single_count p args)) env
   form_after env (Sequence ss) = statements_after env ss
   form_after env (If e s o) = other_after (statement_after env s) o
   form_after env (While e s) = statement_after env s
-  form_after env (Repeat ss e) = statements_after (counted env) ss
+  form_after env (Repeat ss e) = statements_after (with_next_number env) ss
   form_after env (Case e choices) = arms_after env choices
   form_after env (For x at from down to s) = statement_after env s
   form_after env (Parallel bs) = branches_after env bs
-  form_after env (Forall x from to s) = statement_after (indexed env x (expression_kind env from)) s
+  form_after env (Forall x from to s) = statement_after (with_index_type env x (expression_kind env from)) s
   form_after env (Assume e) = env
 
-  pub other_after : Env → Other → Env
+  pub other_after : Env → ElsePart → Env
   other_after env NoElse = env
   other_after env (Else s) = statement_after env s
 
@@ -126,7 +129,7 @@ abbrev mutual
 
   pub branches_after : Env → Branches → Env
   branches_after env NoBranch = env
-  branches_after env (Beside ss rest) = branches_after (statements_after (counted env) ss) rest
+  branches_after env (Beside ss rest) = branches_after (statements_after (with_next_number env) ss) rest
 
 -- the number behind a statement whose own number is given: each statement has one, those inside it the next ones
 abbrev mutual
@@ -148,7 +151,7 @@ abbrev mutual
   form_counted k (Forall x from to s) = statement_counted k s
   form_counted k (Assume e) = k
 
-  pub other_counted : ℕ → Other → ℕ
+  pub other_counted : ℕ → ElsePart → ℕ
   other_counted k NoElse = k
   other_counted k (Else s) = statement_counted k s
 
@@ -176,14 +179,14 @@ bodies [] = []
 bodies (b ∷ bs) = (statement_place b.body, statement_counted 0 b.body) ∷ bodies bs
 
 -- the first of two places comes before the second
-abbrev pub earlier : Place → Place → Bool
-earlier a b = nat_lt a.line b.line || (nat_eq a.line b.line && nat_lt a.column b.column)
+abbrev pub is_earlier : Place → Place → Bool
+is_earlier a b = nat_lt a.line b.line || (nat_eq a.line b.line && nat_lt a.column b.column)
 
 -- The number of the first statement of the part that begins at a place, counted on from k: numbers go by the order of
 -- the text, where the statement part of a block stands behind those of the blocks inside it.
 abbrev pub count_before : ℕ → Place → List (Place × ℕ) → ℕ
 count_before k at [] = k
-count_before k at (b ∷ bs) = count_before (if earlier b.0 at then k + b.1 else k) at bs
+count_before k at (b ∷ bs) = count_before (if is_earlier b.0 at then k + b.1 else k) at bs
 
 -- the number of each block's first statement
 abbrev pub starts_from : List (Place × ℕ) → List (Place × ℕ) → List ℕ
@@ -194,14 +197,14 @@ abbrev pub starts_of : List Block → List ℕ
 starts_of bs = starts_from (bodies bs) (bodies bs)
 
 -- the next statement has this number
-abbrev pub started : Env → ℕ → Env
-started env n = record env { next = n }
+abbrev pub with_first_number : Env → ℕ → Env
+with_first_number env n = record env { next = n }
 
 -- what is known behind blocks, whose bodies have these first numbers
 abbrev pub blocks_after : Env → List ℕ → List Block → Env
 blocks_after env starts [] = env
 blocks_after env [] (b ∷ bs) = env
-blocks_after env (n ∷ starts) (b ∷ bs) = blocks_after (statement_after (started env n) b.body) starts bs
+blocks_after env (n ∷ starts) (b ∷ bs) = blocks_after (statement_after (with_first_number env n) b.body) starts bs
 
 -- the places of the names of new types; another name of a type makes none
 abbrev pub place_by : Place → NamedKindForm → List Place
@@ -229,11 +232,11 @@ abbrev pub constant_lists : Arms → List (List NamedConst)
 constant_lists NoArm = []
 constant_lists (Or a rest) = arm_constants a ∷ constant_lists rest
 
-module _ {M : Type 0} (none : M) (join : M → M → M) (site : Found → M) where
+module _ {M : Type 0} (none : M) (join : M → M → M) (site : FirstRefusal → M) where
   module _ (env : Env) where
     abbrev mutual
       pub expression_sites : Expression → M
-      expression_sites (At at form) = form_sites at form
+      expression_sites (ExpressionAt at form) = form_sites at form
 
       pub form_sites : Place → ExpressionForm → M
       form_sites at (Number n) = none
@@ -265,7 +268,7 @@ module _ {M : Type 0} (none : M) (join : M → M → M) (site : Found → M) whe
       -- the actual parameters of a call, by its formals
       pub actuals_sites : List ℕ → Arguments → M
       actuals_sites xs NoArgument = none
-      actuals_sites xs (AndArgument a rest) = join (actual_sites (formal xs) a) (actuals_sites (others xs) rest)
+      actuals_sites xs (AndArgument a rest) = join (actual_sites (formal xs) a) (actuals_sites (formals_behind xs) rest)
 
       pub actual_sites : Option ℕ → Argument → M
       actual_sites x (Pass e w) = join (expression_sites e)
@@ -286,12 +289,12 @@ module _ {M : Type 0} (none : M) (join : M → M → M) (site : Found → M) whe
 
     -- what is written: a text may have any length
     abbrev pub written_sites : Expression → M
-    written_sites (At at (Quoted t)) = none
+    written_sites (ExpressionAt at (Quoted t)) = none
     written_sites e = join (expression_sites e) (site (write_rule (place e) (expression_kind env e)))
 
     abbrev pub width_sites : Place → Width → M
     width_sites at NoWidth = none
-    width_sites at (Within w) = join (expression_sites w) (site (width_rule at (expression_kind env w)))
+    width_sites at (WithWidth w) = join (expression_sites w) (site (width_rule at (expression_kind env w)))
 
     abbrev pub write_sites : Argument → M
     write_sites (Pass e w) = join (width_sites (place e) w) (written_sites e)
@@ -349,7 +352,7 @@ module _ {M : Type 0} (none : M) (join : M → M → M) (site : Found → M) whe
 
   abbrev mutual
     pub statement_sites : Env → Statement → M
-    statement_sites env (Does at form) = statement_form_sites (counted env) form
+    statement_sites env (Does at form) = statement_form_sites (with_next_number env) form
 
     pub statement_form_sites : Env → Form → M
     statement_form_sites env Empty = none
@@ -362,7 +365,8 @@ module _ {M : Type 0} (none : M) (join : M → M → M) (site : Found → M) whe
         (join (statement_sites env s) (other_sites (statement_after env s) o))
     statement_form_sites env (While e s) = join (condition_sites env e) (statement_sites env s)
     statement_form_sites env (Repeat ss e) =
-        join (statements_sites (counted env) ss) (condition_sites (statements_after (counted env) ss) e)
+        join (statements_sites (with_next_number env) ss)
+        (condition_sites (statements_after (with_next_number env) ss) e)
     statement_form_sites env (Case e choices) =
         join (join (expression_sites env e) (site (selector_rule env (place e) (expression_kind env e))))
         (join (lists_sites env (expression_kind env e) [] (constant_lists choices)) (arms_sites env choices))
@@ -374,10 +378,10 @@ module _ {M : Type 0} (none : M) (join : M → M → M) (site : Found → M) whe
     statement_form_sites env (Forall x from to s) =
         join (join (expression_sites env from) (site (range_rule env (place from) (expression_kind env from))))
         (join (limit_sites env (expression_kind env from) to)
-        (statement_sites (indexed env x (expression_kind env from)) s))
+        (statement_sites (with_index_type env x (expression_kind env from)) s))
     statement_form_sites env (Assume e) = condition_sites env e
 
-    pub other_sites : Env → Other → M
+    pub other_sites : Env → ElsePart → M
     other_sites env NoElse = none
     other_sites env (Else s) = statement_sites env s
 
@@ -394,8 +398,8 @@ module _ {M : Type 0} (none : M) (join : M → M → M) (site : Found → M) whe
 
     pub branches_sites : Env → Branches → M
     branches_sites env NoBranch = none
-    branches_sites env (Beside ss rest) = join (statements_sites (counted env) ss)
-        (branches_sites (statements_after (counted env) ss) rest)
+    branches_sites env (Beside ss rest) = join (statements_sites (with_next_number env) ss)
+        (branches_sites (statements_after (with_next_number env) ss) rest)
 
   -- declared constants
   abbrev pub constants_sites : List (Option Ordinal) → List NamedConstant → M
@@ -434,8 +438,8 @@ module _ {M : Type 0} (none : M) (join : M → M → M) (site : Found → M) whe
   blocks_sites numbers cells variables b env starts [] = none
   blocks_sites numbers cells variables b env [] (x ∷ xs) = none
   blocks_sites numbers cells variables b env (n ∷ starts) (x ∷ xs) =
-      join (block_sites numbers cells variables b (started env n) x)
-      (blocks_sites numbers cells variables (b + 1) (statement_after (started env n) x.body) starts xs)
+      join (block_sites numbers cells variables b (with_first_number env n) x)
+      (blocks_sites numbers cells variables (b + 1) (statement_after (with_first_number env n) x.body) starts xs)
 
   -- a program
   abbrev pub program_sites : Program → M

@@ -3,14 +3,14 @@
 -- contracts of all walks of this crate cite it.
 use Rattle.std.specs.Prelude.{ℕ, Option, Result, Ok}
 use Rattle.sp_base.specs.declared.halt.Halt.{Halt}
-pub use Rattle.sp_tree.specs.Found.{Walks}
-use Rattle.sp_tree.specs.Found.{Found, AnswersAs}
+pub use Rattle.sp_tree.specs.PhaseResults.{WalksTo}
+use Rattle.sp_tree.specs.PhaseResults.{FirstRefusal, AnswersAs}
 use Rattle.sp_types.specs.declared.typed.Typed.{Typed}
 
 -- a part in memory as the plain tree that it stands for, with its type and the first broken rule
-abbrev pub typed_as : {A B : Type 0} → (A → B) → Typed A → B × Option ℕ × Found
+abbrev pub typed_as : {A B : Type 0} → (A → B) → Typed A → B × Option ℕ × FirstRefusal
 typed_as view w = (view w.tree, w.kind, w.first)
 
 -- This tree, this type and this first broken rule up to its end, or memory was refused.
-abbrev pub Types : {A B : Type 0} → (A → B) → Result (Typed A) Halt → B → Option ℕ → Found → Type 0
-Types view result tree kind first = AnswersAs (typed_as view) result (Ok (tree, kind, first))
+abbrev pub ChecksTo : {A B : Type 0} → (A → B) → Result (Typed A) Halt → B → Option ℕ → FirstRefusal → Type 0
+ChecksTo view result tree kind first = AnswersAs (typed_as view) result (Ok (tree, kind, first))

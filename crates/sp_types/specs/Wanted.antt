@@ -6,7 +6,7 @@ use Rattle.std.specs.List.{list_any}
 use Rattle.sp_base.specs.declared.place.Place.{Place}
 use Rattle.sp_base.specs.declared.rule.Rule.{Rule}
 use Rattle.sp_base.specs.declared.rule.Rule.TheVariants as rule
-use Rattle.sp_tree.specs.Found.{Found}
+use Rattle.sp_tree.specs.PhaseResults.{FirstRefusal}
 use Rattle.sp_tree.specs.NameFirst.{Onward}
 use Rattle.sp_tree.specs.PlainNamed.{Argument, Arguments}
 use Rattle.sp_tree.specs.PlainChecked as c
@@ -15,14 +15,15 @@ use Rattle.sp_types.specs.declared.calls.Part.TheVariants as part
 use Rattle.sp_types.specs.declared.rules.Wanted.{Wanted}
 use Rattle.sp_types.specs.declared.rules.Wanted.TheVariants as wanted
 use Rattle.sp_types.specs.Tables.{Env}
-use Rattle.sp_types.specs.TypeRules.{boolean, readable, writable, ordinal, channel, differ, messages, condition_rule}
+use Rattle.sp_types.specs.TypeRules.{boolean, is_readable, is_writable, ordinal, channel, differ, messages}
+use Rattle.sp_types.specs.TypeRules.{condition_rule}
 use Rattle.sp_types.specs.TypeRules.{assign_rule, read_rule, write_rule, channel_rule, message_rule, range_rule}
 use Rattle.sp_types.specs.TypeRules.{limit_rule, selector_rule}
 use Rattle.sp_types.specs.Firsts.{read_first, write_first, channel_first}
-use Rattle.sp_types.specs.CheckedTree.{argument_variable, written, reads, writes, opens}
+use Rattle.sp_types.specs.CheckedTree.{argument_variable, write_form, reads, writes, opens}
 
 -- the rule at an expression, by what its place asks for
-abbrev pub wanted_rule : Env → Wanted → Place → Option ℕ → Found
+abbrev pub wanted_rule : Env → Wanted → Place → Option ℕ → FirstRefusal
 wanted_rule env wanted.Condition at k = condition_rule at k
 wanted_rule env (wanted.Assigned v) at k = assign_rule at v k
 wanted_rule env wanted.Read at k = read_rule at k
@@ -54,8 +55,8 @@ refuses (Some ks) k = not (list_any (nat_eq k) ks)
 abbrev pub misfits : Env → Wanted → ℕ → Bool
 misfits env wanted.Condition k = not (nat_eq boolean k)
 misfits env (wanted.Assigned v) k = differ v (Some k)
-misfits env wanted.Read k = not (readable k)
-misfits env wanted.Written k = not (writable k)
+misfits env wanted.Read k = not (is_readable k)
+misfits env wanted.Written k = not (is_writable k)
 misfits env wanted.Channel k = not (channel env k)
 misfits env (wanted.Message c) k = refuses (messages env c) k
 misfits env wanted.Range k = not (ordinal env k)
@@ -65,7 +66,7 @@ misfits env wanted.Selector k = not (ordinal env k)
 -- what is read, written or opened as one statement, of one argument and of all
 abbrev pub part_form : Env → Part → Argument → c.Form
 part_form env part.Read a = c.ReadValue (argument_variable env a)
-part_form env part.Write a = written env a
+part_form env part.Write a = write_form env a
 part_form env part.Open a = c.Open (argument_variable env a)
 
 abbrev pub part_forms : Env → Part → Arguments → List c.Form

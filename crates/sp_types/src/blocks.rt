@@ -2,13 +2,13 @@
 
 ghost use Rattle.std.specs.Prelude.{◌≡◌, map, Ok, OnOk};
 ghost use Rattle.sp_tree.specs.NamedOf.{block_of};
-ghost use Rattle.sp_types.specs.Types.{Walks};
+ghost use Rattle.sp_types.specs.Types.{WalksTo};
 ghost use Rattle.sp_tree.specs.CheckedOf as checked;
-ghost use Rattle.sp_types.specs.TypeWalk.{started, statement_after, blocks_after};
+ghost use Rattle.sp_types.specs.TypeWalk.{with_first_number, statement_after, blocks_after};
 ghost use Rattle.sp_types.specs.Firsts.{statement_first};
 ghost use Rattle.sp_types.specs.DeclarationFirsts.{answer_first, blocks_first};
 ghost use Rattle.sp_types.specs.CheckedTree.{checked_block, checked_blocks};
-ghost use Rattle.sp_types.specs.Entered.{starts_in};
+ghost use Rattle.sp_types.specs.AfterTables.{starts_in};
 
 use crate::bodies::count_before;
 use crate::counting::sum;
@@ -17,8 +17,9 @@ use crate::rules::answer_rule;
 use crate::statements::type_statement;
 use crate::tables::Tables;
 use crate::tabling::answer_variable;
+use crate::take;
 use crate::typed::Walked;
-use sp_base::{Halt, List, Place, take};
+use sp_base::{Halt, List, Place};
 use sp_tree::{Block, Found, NamedAnswer, NamedBlock, Variable, lesser};
 use std::alloc::Global;
 
@@ -40,9 +41,10 @@ fn type_block(
     start: u32,
     first: Found,
 ) -> Result<Walked<Block>, Halt>
-    ensures tree { Walks checked.block_of result (checked_block (started t.old start) (block_of b))
-        (statement_first (started t.old start) (block_of b).body (answer_first (started t.old start) b.answer first)) }
-    ensures after { OnOk result (t.new ≡ statement_after (started t.old start) (block_of b).body) }
+    ensures tree { WalksTo checked.block_of result (checked_block (with_first_number t.old start) (block_of b))
+        (statement_first (with_first_number t.old start) (block_of b).body
+        (answer_first (with_first_number t.old start) b.answer first)) }
+    ensures after { OnOk result (t.new ≡ statement_after (with_first_number t.old start) (block_of b).body) }
 {
     t.next = start;
     let NamedBlock {
@@ -79,7 +81,7 @@ pub fn type_blocks(
     bodies: &[(Place, u32)],
     first: Found,
 ) -> Result<Walked<List<Block>>, Halt>
-    ensures tree { Walks (map checked.block_of) result
+    ensures tree { WalksTo (map checked.block_of) result
         (checked_blocks t.old (starts_in bodies.now (map block_of blocks)) (map block_of blocks))
         (blocks_first numbers.now cells.now variables.now 0 t.old (starts_in bodies.now (map block_of blocks))
         (map block_of blocks) first) }

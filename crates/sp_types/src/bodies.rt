@@ -1,12 +1,13 @@
 //! The number of each block's first statement: numbers go by the order of the text.
 
 ghost use Rattle.std.specs.Prelude.{◌≡◌, ◌∷◌, [], map, Ok};
-ghost use Rattle.sp_tree.specs.Found.{Answers};
+ghost use Rattle.sp_tree.specs.PhaseResults.{Answers};
 ghost use Rattle.sp_tree.specs.NamedOf.{block_of};
-ghost use Rattle.sp_types.specs.TypeWalk.{bodies, earlier, count_before};
+ghost use Rattle.sp_types.specs.TypeWalk.{bodies, is_earlier, count_before};
 
 use crate::counting::{statement_counted, sum};
-use sp_base::{Halt, List, Place, take};
+use crate::take;
+use sp_base::{Halt, List, Place};
 use sp_tree::NamedBlock;
 use std::alloc::Global;
 
@@ -23,7 +24,7 @@ pub fn bodies(alloc: Global, blocks: &[NamedBlock]) -> Result<List<(Place, u32)>
 }
 
 fn earlier(a: Place, b: Place) -> bool
-    ensures { result ≡ earlier a b }
+    ensures { result ≡ is_earlier a b }
 {
     a.line < b.line || (a.line == b.line && a.column < b.column)
 }

@@ -2,7 +2,7 @@
 
 ghost use Rattle.std.specs.Prelude.{◌≡◌, map, Ok, option_map};
 ghost use Rattle.sp_tree.specs.NamedOf.{expression_of, argument_of, arguments, width};
-ghost use Rattle.sp_types.specs.Types.{Walks};
+ghost use Rattle.sp_types.specs.Types.{WalksTo};
 ghost use Rattle.sp_tree.specs.CheckedOf as checked;
 ghost use Rattle.sp_tree.specs.PlainChecked as c;
 ghost use Rattle.sp_types.specs.Kinds.{expression_kind};
@@ -13,16 +13,17 @@ ghost use Rattle.sp_types.specs.TypeWalk.{place};
 ghost use Rattle.sp_types.specs.Firsts.{expression_first, read_first, written_first, width_first, write_first};
 ghost use Rattle.sp_types.specs.Firsts.{channel_first, each_first};
 ghost use Rattle.sp_types.specs.CheckedTree.{checked_expression, target, argument_variable, checked_width};
-ghost use Rattle.sp_types.specs.CheckedTree.{written_text, written_form, written};
+ghost use Rattle.sp_types.specs.CheckedTree.{write_text_form, write_value_form, write_form};
 ghost use Rattle.sp_types.specs.Wanted.{part_form, part_forms, part_first};
 
 use crate::checks::{type_wanted, type_width};
 use crate::expressions::place_of;
 use crate::rules::Wanted;
 use crate::tables::Tables;
+use crate::take;
 use crate::typed::Walked;
 use crate::values::char_of;
-use sp_base::{Halt, List, Place, Text, take};
+use sp_base::{Halt, List, Place, Text};
 use sp_tree::{Expr, ExprForm, Form, Found, NamedArg, NamedExpr, NamedExprForm, Var};
 use std::alloc::Global;
 
@@ -52,7 +53,7 @@ fn no_variable(alloc: Global, at: Place) -> Var
 }
 
 fn type_read(alloc: Global, t: &Tables, a: NamedArg, first: Found) -> Result<Walked<Form>, Halt>
-    ensures { Walks checked.statement_form_of result (c.ReadValue (argument_variable t.now (argument_of a)))
+    ensures { WalksTo checked.statement_form_of result (c.ReadValue (argument_variable t.now (argument_of a)))
         (read_first t.now (argument_of a) first) }
 {
     let NamedArg { value, width: _ } = a;
@@ -64,7 +65,7 @@ fn type_read(alloc: Global, t: &Tables, a: NamedArg, first: Found) -> Result<Wal
 }
 
 fn type_open(alloc: Global, t: &Tables, a: NamedArg, first: Found) -> Result<Walked<Form>, Halt>
-    ensures { Walks checked.statement_form_of result (c.Open (argument_variable t.now (argument_of a)))
+    ensures { WalksTo checked.statement_form_of result (c.Open (argument_variable t.now (argument_of a)))
         (channel_first t.now (argument_of a) first) }
 {
     let NamedArg { value, width: _ } = a;
@@ -82,7 +83,7 @@ fn type_width_of(
     at: Place,
     first: Found,
 ) -> Result<Walked<Option<Expr>>, Halt>
-    ensures { Walks checked.width_of result (checked_width t.now (width (option_map expression_of w)))
+    ensures { WalksTo checked.width_of result (checked_width t.now (width (option_map expression_of w)))
         (width_first t.now at (width (option_map expression_of w)) first) }
 {
     match w {
@@ -98,7 +99,7 @@ fn type_width_of(
 }
 
 fn written_text(at: Place, text: Text, w: Option<Expr>) -> Form
-    ensures { checked.statement_form_of result ≡ written_text at text (char_of text) (checked.width_of w) }
+    ensures { checked.statement_form_of result ≡ write_text_form at text (char_of text) (checked.width_of w) }
 {
     match char_of(&text) {
         None => Form::WriteText(text, w),
@@ -120,7 +121,7 @@ fn written_value(
     w: Option<Expr>,
     first: Found,
 ) -> Result<Walked<Form>, Halt>
-    ensures { Walks checked.statement_form_of result
+    ensures { WalksTo checked.statement_form_of result
         (c.WriteValue (checked_expression t.now (expression_of e)) (checked.width_of w))
         (at_node (write_rule (place (expression_of e)) (expression_kind t.now (expression_of e)))
         (expression_first t.now (expression_of e) first)) }
@@ -139,7 +140,7 @@ fn type_written(
     w: Option<Expr>,
     first: Found,
 ) -> Result<Walked<Form>, Halt>
-    ensures { Walks checked.statement_form_of result (written_form t.now (expression_of e) (checked.width_of w))
+    ensures { WalksTo checked.statement_form_of result (write_value_form t.now (expression_of e) (checked.width_of w))
         (written_first t.now (expression_of e) first) }
 {
     let (at, form) = e.parts();
@@ -204,7 +205,7 @@ fn type_written(
 }
 
 fn type_write(alloc: Global, t: &Tables, a: NamedArg, first: Found) -> Result<Walked<Form>, Halt>
-    ensures { Walks checked.statement_form_of result (written t.now (argument_of a))
+    ensures { WalksTo checked.statement_form_of result (write_form t.now (argument_of a))
         (write_first t.now (argument_of a) first) }
 {
     let NamedArg { value, width } = a;
@@ -228,7 +229,7 @@ fn type_part(
     a: NamedArg,
     first: Found,
 ) -> Result<Walked<Form>, Halt>
-    ensures { Walks checked.statement_form_of result (part_form t.now part (argument_of a))
+    ensures { WalksTo checked.statement_form_of result (part_form t.now part (argument_of a))
         (part_first t.now part (argument_of a) first) }
 {
     match part {
@@ -246,7 +247,7 @@ pub fn type_parts(
     xs: List<NamedArg>,
     first: Found,
 ) -> Result<Walked<List<Form>>, Halt>
-    ensures { Walks (map checked.statement_form_of) result (part_forms t.now part (arguments (map argument_of xs)))
+    ensures { WalksTo (map checked.statement_form_of) result (part_forms t.now part (arguments (map argument_of xs)))
         (each_first t.now (part_first t.now part) (arguments (map argument_of xs)) first) }
 {
     let mut out = Vec::new(alloc);

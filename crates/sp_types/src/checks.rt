@@ -2,7 +2,7 @@
 
 ghost use Rattle.std.specs.Prelude.{◌≡◌};
 ghost use Rattle.sp_tree.specs.NamedOf.{expression_of};
-ghost use Rattle.sp_types.specs.Types.{Types};
+ghost use Rattle.sp_types.specs.Types.{ChecksTo};
 ghost use Rattle.sp_tree.specs.CheckedOf as checked;
 ghost use Rattle.sp_types.specs.Kinds.{expression_kind};
 ghost use Rattle.sp_types.specs.Firsts.{expression_first};
@@ -15,8 +15,9 @@ ghost use Rattle.sp_types.specs.Wanted.{wanted_rule};
 use crate::expressions::{place_of, type_expression};
 use crate::rules::{Wanted, wanted_rule, width_rule};
 use crate::tables::Tables;
+use crate::take;
 use crate::typed::Typed;
-use sp_base::{Halt, Place, take};
+use sp_base::{Halt, Place};
 use sp_tree::{Expr, Found, NamedExpr, lesser};
 use std::alloc::Global;
 
@@ -28,7 +29,7 @@ pub fn type_wanted(
     wanted: Wanted,
     first: Found,
 ) -> Result<Typed<Expr>, Halt>
-    ensures { Types checked.expression_of result (checked_expression t.now (expression_of e))
+    ensures { ChecksTo checked.expression_of result (checked_expression t.now (expression_of e))
         (expression_kind t.now (expression_of e))
         (at_node (wanted_rule t.now wanted (place (expression_of e)) (expression_kind t.now (expression_of e)))
         (expression_first t.now (expression_of e) first)) }
@@ -50,7 +51,7 @@ pub fn type_width(
     at: Place,
     first: Found,
 ) -> Result<Typed<Expr>, Halt>
-    ensures { Types checked.expression_of result (checked_expression t.now (expression_of e))
+    ensures { ChecksTo checked.expression_of result (checked_expression t.now (expression_of e))
         (expression_kind t.now (expression_of e))
         (at_node (width_rule at (expression_kind t.now (expression_of e)))
         (expression_first t.now (expression_of e) first)) }

@@ -1,7 +1,7 @@
 //! The constants of a `case` statement, and the rules at them.
 
 ghost use Rattle.std.specs.Prelude.{◌≡◌, map, Ok, []};
-ghost use Rattle.sp_tree.specs.Found.{Answers};
+ghost use Rattle.sp_tree.specs.PhaseResults.{Answers};
 ghost use Rattle.sp_tree.specs.NamedOf.{arms, arm_of};
 ghost use Rattle.sp_types.specs.TypeRules.{repeat_rule};
 ghost use Rattle.sp_types.specs.TypeWalk.{with_constant, with_constants, constant_lists};
@@ -11,9 +11,10 @@ ghost use Rattle.sp_types.specs.CheckedTree.{constant_numbers};
 use crate::rules::choice_rule;
 use crate::seen::Seen;
 use crate::tables::{Ordinal, Tables, ordinal_kind};
+use crate::take;
 use crate::values::number_or;
 use crate::written::{const_rule, const_value};
-use sp_base::{Halt, List, Place, Rule, take};
+use sp_base::{Halt, List, Place, Rule};
 use sp_tree::{Found, NamedArm, NamedConst, breaks_if, lesser};
 use std::alloc::Global;
 

@@ -1,13 +1,14 @@
 //! The declared constants, each with its type.
 
 ghost use Rattle.std.specs.Prelude.{◌≡◌, [], Ok};
-ghost use Rattle.sp_tree.specs.Found.{Answers};
+ghost use Rattle.sp_tree.specs.PhaseResults.{Answers};
 ghost use Rattle.sp_types.specs.Tables.{constant_by, constants_from};
 
 use crate::numbers::type_number;
 use crate::tables::Ordinal;
+use crate::take;
 use crate::written::const_value;
-use sp_base::{Halt, List, take};
+use sp_base::{Halt, List};
 use sp_tree::NamedConstant;
 use std::alloc::Global;
 

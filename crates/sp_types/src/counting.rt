@@ -1,13 +1,14 @@
 //! How many numbers a statement takes: the number behind a statement whose own number is given.
 
 ghost use Rattle.std.specs.Prelude.{◌≡◌, ◌+◌, map, option_map, Ok};
-ghost use Rattle.sp_tree.specs.Found.{Answers};
+ghost use Rattle.sp_tree.specs.PhaseResults.{Answers};
 ghost use Rattle.sp_tree.specs.NamedOf.{statement_of, statement_form_of, statements, arms, arm_of, branches, branch_of};
-ghost use Rattle.sp_tree.specs.NamedOf.{other, argument_of, arguments};
+ghost use Rattle.sp_tree.specs.NamedOf.{else_part, argument_of, arguments};
 ghost use Rattle.sp_types.specs.TypeWalk.{statement_counted, form_counted, other_counted, statements_counted};
 ghost use Rattle.sp_types.specs.TypeWalk.{arms_counted, branches_counted, single_count, parts_count};
 
-use sp_base::{Boxed, Halt, List, take};
+use crate::take;
+use sp_base::{Boxed, Halt, List};
 use sp_tree::{NamedArg, NamedArm, NamedBranch, NamedForm, NamedStmt, StandardProcedure};
 
 /// The sum. One that is no `u32` is answered as want of memory.
@@ -99,7 +100,7 @@ fn boxed_counted(s: &Boxed<NamedStmt>, k: u32) -> Result<u32, Halt>
 
 #[cycle(count)]
 fn other_counted(o: &Option<Boxed<NamedStmt>>, k: u32) -> Result<u32, Halt>
-    ensures { Answers result (Ok (other_counted k (other (option_map statement_of o.now)))) }
+    ensures { Answers result (Ok (other_counted k (else_part (option_map statement_of o.now)))) }
 {
     match o {
         None => Ok(k),

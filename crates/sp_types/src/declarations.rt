@@ -1,7 +1,7 @@
 //! The rules of types at declarations: constants, bounds of types, and the cells of types and frames.
 
 ghost use Rattle.std.specs.Prelude.{◌≡◌, ◌∷◌, [], drop, ◌++◌, Ok, OnOk};
-ghost use Rattle.sp_tree.specs.Found.{Answers, lesser};
+ghost use Rattle.sp_tree.specs.PhaseResults.{Answers, earlier_refusal};
 ghost use Rattle.sp_types.specs.TypeRules.{const_rule, bounds_rule, cells_rule, frame_rule, frame_cells};
 ghost use Rattle.sp_types.specs.Tables.{const_value};
 ghost use Rattle.sp_types.specs.TypeWalk.{place_by, places_of};
@@ -10,8 +10,9 @@ ghost use Rattle.sp_types.specs.DeclarationFirsts.{constants_first, bounds_first
 use crate::kinds::are_wrong;
 use crate::sizes::frame_cells;
 use crate::tables::Ordinal;
+use crate::take;
 use crate::written::{const_rule, const_value};
-use sp_base::{Halt, List, Place, Rule, take};
+use sp_base::{Halt, List, Place, Rule};
 use sp_tree::{
     Found, NamedConst, NamedConstant, NamedKind, NamedKindForm, Variable, breaks_if, lesser,
 };
@@ -22,7 +23,7 @@ const MOST_CELLS: u32 = 1_048_576;
 
 /// Y14 at a constant, behind what was found before.
 fn check_written(known: &[Option<Ordinal>], c: &NamedConst, first: Found) -> Result<Found, Halt>
-    ensures { Answers result (Ok (lesser first (const_rule known.now c.now))) }
+    ensures { Answers result (Ok (earlier_refusal first (const_rule known.now c.now))) }
 {
     let broken = take!(const_rule(known, c));
     Ok(lesser(first, broken))
@@ -68,7 +69,7 @@ fn check_array(
     b: &NamedConst,
     first: Found,
 ) -> Result<Found, Halt>
-    ensures { Answers result (Ok (lesser (lesser (lesser first (const_rule known.now a.now))
+    ensures { Answers result (Ok (earlier_refusal (earlier_refusal (earlier_refusal first (const_rule known.now a.now))
         (const_rule known.now b.now))
         (bounds_rule b.now.at (const_value known.now a.now) (const_value known.now b.now)))) }
 {

@@ -2,8 +2,8 @@
 
 ghost use Rattle.std.specs.Prelude.{◌≡◌, nat_eq, Ok, OnOk, IfOk};
 ghost use Rattle.std.specs.List.{list_any};
-ghost use Rattle.sp_tree.specs.Found.{Answers};
-ghost use Rattle.sp_types.specs.Entries.{Notes, IsIndex, IsNumbers, field_from, fields_in, message_types};
+ghost use Rattle.sp_tree.specs.PhaseResults.{Answers};
+ghost use Rattle.sp_types.specs.FieldTable.{AddsField, IsIndex, IsNumbers, field_from, fields_in, message_types};
 
 use sp_base::{Halt, Memory, Text};
 use sp_tree::KindOf;
@@ -22,7 +22,7 @@ pub struct KindEntry {
 
 impl Model for KindEntry {
     ghost use Rattle.sp_tree.specs.declared.checked.KindOf.{KindOf};
-    ghost use Rattle.sp_types.specs.Entries.{IsIndex, IsNumbers, fields_in, message_types};
+    ghost use Rattle.sp_types.specs.FieldTable.{IsIndex, IsNumbers, fields_in, message_types};
 
     ghost Value = { KindOf };
 
@@ -59,7 +59,7 @@ fn note(
     n: usize,
     field: &(Text, u32),
 ) -> Result<(), Memory>
-    ensures { OnOk result (Notes index.old index.new n field.now) }
+    ensures { OnOk result (AddsField index.old index.new n field.now) }
 {
     if !index.contains_key(&field.0) {
         let name = Vec::from_slice(alloc, field.0.bytes())?;

@@ -4,7 +4,7 @@ ghost use Rattle.std.specs.Prelude.{◌≡◌, ℕ, map, pos, None, Some, Ok};
 ghost use Rattle.sp_tree.specs.NamedOf.{expression_of, expression_form_of, variable_of, selector_of, argument_of};
 ghost use Rattle.sp_tree.specs.NamedOf.{arguments, selectors};
 ghost use Rattle.sp_tree.specs.PlainNamed.{Unary, Binary, Quoted, Standard, Apply, Expression};
-ghost use Rattle.sp_types.specs.Types.{Types, Walks};
+ghost use Rattle.sp_types.specs.Types.{ChecksTo, WalksTo};
 ghost use Rattle.sp_tree.specs.CheckedOf as checked;
 ghost use Rattle.sp_tree.specs.PlainChecked as c;
 ghost use Rattle.sp_types.specs.Kinds.{expression_kind, form_kind, selected, selected_kind, selection, parameter_kind};
@@ -15,17 +15,18 @@ ghost use Rattle.sp_types.specs.TypeFirst.{at_node};
 ghost use Rattle.sp_types.specs.TypeRules.{standard_rule, unary_rule, unary_takes, left_rule, right_rule, binary_gives};
 ghost use Rattle.sp_types.specs.CheckedTree.{checked_expression, checked_form, checked_variable, checked_selectors};
 ghost use Rattle.sp_types.specs.CheckedTree.{checked_selector, checked_actuals, checked_actual, checked_arguments};
-ghost use Rattle.sp_types.specs.CheckedTree.{checked_argument, referenced, passed};
-ghost use Rattle.sp_types.specs.TypeWalk.{is_variable, place, formal, others, formal_role};
+ghost use Rattle.sp_types.specs.CheckedTree.{checked_argument, variable_actual, actual_for_role};
+ghost use Rattle.sp_types.specs.TypeWalk.{is_variable, place, formal, formals_behind, formal_role};
 
 use crate::rules::{
     actual_rule, binary_gives, element, index_rule, left_rule, right_rule, standard_gives,
     standard_rule, text_rule, unary_rule, unary_takes,
 };
 use crate::tables::{Tables, ordinal_kind};
+use crate::take;
 use crate::typed::{Typed, Walked};
 use crate::values::{char_of, field, field_rule, integer, number_or, numbered_field, or_zero};
-use sp_base::{Boxed, Halt, List, Place, Text, take};
+use sp_base::{Boxed, Halt, List, Place, Text};
 use sp_tree::{
     Actual, BinaryOp, Expr, ExprForm, Found, NamedArg, NamedExpr, NamedExprForm, NamedSelector,
     NamedVar, Role, Selector, StandardFn, UnaryOp, Var, lesser,
@@ -40,7 +41,7 @@ pub fn type_expression(
     e: NamedExpr,
     first: Found,
 ) -> Result<Typed<Expr>, Halt>
-    ensures { Types checked.expression_of result (checked_expression t.now (expression_of e))
+    ensures { ChecksTo checked.expression_of result (checked_expression t.now (expression_of e))
         (expression_kind t.now (expression_of e)) (expression_first t.now (expression_of e) first) }
 {
     let (at, form) = e.parts();
@@ -63,7 +64,7 @@ fn type_boxed(
     e: Boxed<NamedExpr>,
     first: Found,
 ) -> Result<Typed<Boxed<Expr>>, Halt>
-    ensures { Types checked.expression_of result (checked_expression t.now (expression_of e))
+    ensures { ChecksTo checked.expression_of result (checked_expression t.now (expression_of e))
         (expression_kind t.now (expression_of e)) (expression_first t.now (expression_of e) first) }
 {
     let Typed { tree, kind, first } = take!(type_expression(alloc, t, e.into_inner(), first));
@@ -79,7 +80,7 @@ fn type_form(
     at: Place,
     first: Found,
 ) -> Result<Typed<ExprForm>, Halt>
-    ensures { Types checked.expression_form_of result (checked_form t.now (expression_form_of form))
+    ensures { ChecksTo checked.expression_form_of result (checked_form t.now (expression_form_of form))
         (form_kind t.now (expression_form_of form)) (form_first t.now at (expression_form_of form) first) }
 {
     match form {
@@ -148,7 +149,7 @@ pub fn place_of(e: &NamedExpr) -> Place
 }
 
 fn type_text(t: &Tables, text: &Text, at: Place, first: Found) -> Result<Typed<ExprForm>, Halt>
-    ensures { Types checked.expression_form_of result (checked_form t.now (Quoted text.now))
+    ensures { ChecksTo checked.expression_form_of result (checked_form t.now (Quoted text.now))
         (form_kind t.now (Quoted text.now))
         (form_first t.now at (Quoted text.now) first) }
 {
@@ -168,7 +169,7 @@ fn type_unary(
     op: UnaryOp,
     first: Found,
 ) -> Result<Typed<ExprForm>, Halt>
-    ensures { Types checked.expression_form_of result (c.Unary op (checked_expression t.now (expression_of a)))
+    ensures { ChecksTo checked.expression_form_of result (c.Unary op (checked_expression t.now (expression_of a)))
         (Some (unary_takes op)) (at_node (unary_rule op (place (expression_of a))
         (expression_kind t.now (expression_of a)))
         (expression_first t.now (expression_of a) first)) }
@@ -191,7 +192,7 @@ fn type_left(
     op: BinaryOp,
     first: Found,
 ) -> Result<Typed<Boxed<Expr>>, Halt>
-    ensures { Types checked.expression_of result (checked_expression t.now (expression_of a))
+    ensures { ChecksTo checked.expression_of result (checked_expression t.now (expression_of a))
         (expression_kind t.now (expression_of a))
         (at_node (left_rule t.now op (place (expression_of a)) (expression_kind t.now (expression_of a)))
         (expression_first t.now (expression_of a) first)) }
@@ -216,7 +217,7 @@ fn type_right(
     op: BinaryOp,
     first: Found,
 ) -> Result<Typed<ExprForm>, Halt>
-    ensures { Types checked.expression_form_of result
+    ensures { ChecksTo checked.expression_form_of result
         (c.Binary op (checked.expression_of a) (checked_expression t.now (expression_of b))) (Some (binary_gives op))
         (at_node (right_rule t.now op (place (expression_of b)) left (expression_kind t.now (expression_of b)))
         (expression_first t.now (expression_of b) first)) }
@@ -238,7 +239,8 @@ pub fn type_variable(
     v: NamedVar,
     first: Found,
 ) -> Result<Typed<Var>, Halt>
-    ensures { Types checked.variable_of result (checked_variable t.now (variable_of v)) (selected t.now (variable_of v))
+    ensures { ChecksTo checked.variable_of result (checked_variable t.now (variable_of v))
+        (selected t.now (variable_of v))
         (variable_first t.now (variable_of v) first) }
 {
     let NamedVar {
@@ -268,7 +270,7 @@ fn type_selectors(
     kind: Option<u32>,
     first: Found,
 ) -> Result<Typed<List<Selector>>, Halt>
-    ensures { Types (map checked.selector_of) result (checked_selectors t.now kind (selectors (map selector_of xs)))
+    ensures { ChecksTo (map checked.selector_of) result (checked_selectors t.now kind (selectors (map selector_of xs)))
         (selected_kind t.now kind (selectors (map selector_of xs)))
         (selectors_first t.now at kind (selectors (map selector_of xs)) first) }
 {
@@ -298,7 +300,7 @@ fn type_selector(
     kind: Option<u32>,
     first: Found,
 ) -> Result<Typed<Selector>, Halt>
-    ensures { Types checked.selector_of result (checked_selector t.now kind (selector_of s))
+    ensures { ChecksTo checked.selector_of result (checked_selector t.now kind (selector_of s))
         (selection t.now kind (selector_of s))
         (selector_first t.now at kind (selector_of s) first) }
 {
@@ -330,7 +332,7 @@ fn formal(xs: &[u32]) -> Option<u32>
 }
 
 fn others(xs: &[u32]) -> &[u32]
-    ensures { result.now ≡ others xs.now }
+    ensures { result.now ≡ formals_behind xs.now }
 {
     match xs.split_first() {
         Some((_, rest)) => rest,
@@ -347,7 +349,8 @@ pub fn type_actuals(
     formals: &[u32],
     first: Found,
 ) -> Result<Walked<List<Actual>>, Halt>
-    ensures { Walks (map checked.actual_of) result (checked_actuals t.now formals.now (arguments (map argument_of xs)))
+    ensures { WalksTo (map checked.actual_of) result
+        (checked_actuals t.now formals.now (arguments (map argument_of xs)))
         (actuals_first t.now formals.now (arguments (map argument_of xs)) first) }
 {
     let mut out = Vec::new(alloc);
@@ -382,7 +385,7 @@ fn is_variable(e: &NamedExpr) -> bool
 
 /// An expression as a variable parameter.
 fn referenced(e: Expr) -> Actual
-    ensures { checked.actual_of result ≡ referenced (checked.expression_of e) }
+    ensures { checked.actual_of result ≡ variable_actual (checked.expression_of e) }
 {
     let (at, kind, form) = e.parts();
     match form {
@@ -396,14 +399,14 @@ fn referenced(e: Expr) -> Actual
 }
 
 fn by_value(at: Place, kind: u32, form: ExprForm) -> Actual
-    ensures { checked.actual_of result ≡ c.ByValue (c.At at kind (checked.expression_form_of form)) }
+    ensures { checked.actual_of result ≡ c.ByValue (c.ExpressionAt at kind (checked.expression_form_of form)) }
 {
     Actual::Value(Expr { at, kind, form })
 }
 
 /// An actual parameter, by the role of the formal.
 fn passed(role: Option<Role>, e: Expr) -> Actual
-    ensures { checked.actual_of result ≡ passed role (checked.expression_of e) }
+    ensures { checked.actual_of result ≡ actual_for_role role (checked.expression_of e) }
 {
     match role {
         Some(Role::Reference) => referenced(e),
@@ -419,7 +422,7 @@ fn type_actual(
     x: Option<u32>,
     first: Found,
 ) -> Result<Walked<Actual>, Halt>
-    ensures { Walks checked.actual_of result (checked_actual t.now (formal_role t.now x) (argument_of a))
+    ensures { WalksTo checked.actual_of result (checked_actual t.now (formal_role t.now x) (argument_of a))
         (actual_first t.now x (argument_of a) first) }
 {
     let NamedArg { value, width: _ } = a;
@@ -443,7 +446,7 @@ fn type_standard(
     f: StandardFn,
     first: Found,
 ) -> Result<Typed<List<Expr>>, Halt>
-    ensures { Types (map checked.expression_of) result (checked_arguments t.now (arguments (map argument_of xs)))
+    ensures { ChecksTo (map checked.expression_of) result (checked_arguments t.now (arguments (map argument_of xs)))
         (parameter_kind t.now None (arguments (map argument_of xs)))
         (standard_first t.now f (arguments (map argument_of xs)) first) }
 {
@@ -471,7 +474,7 @@ fn type_parameter(
     f: StandardFn,
     first: Found,
 ) -> Result<Typed<Expr>, Halt>
-    ensures { Types checked.expression_of result (checked_argument t.now (argument_of a))
+    ensures { ChecksTo checked.expression_of result (checked_argument t.now (argument_of a))
         (argument_kind t.now (argument_of a))
         (parameter_first t.now f (argument_of a) first) }
 {
@@ -487,7 +490,7 @@ fn type_operand(
     f: StandardFn,
     first: Found,
 ) -> Result<Typed<Expr>, Halt>
-    ensures { Types checked.expression_of result (checked_expression t.now (expression_of e))
+    ensures { ChecksTo checked.expression_of result (checked_expression t.now (expression_of e))
         (expression_kind t.now (expression_of e))
         (at_node (standard_rule t.now f (place (expression_of e)) (expression_kind t.now (expression_of e)))
         (expression_first t.now (expression_of e) first)) }

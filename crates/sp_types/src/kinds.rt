@@ -1,15 +1,16 @@
 //! The declared types, in order of declaration, from their definitions.
 
 ghost use Rattle.std.specs.Prelude.{◌≡◌, ◌++◌, ◌∷◌, [], map, ℕ, List, Ok, OnOk};
-ghost use Rattle.sp_tree.specs.Found.{Answers};
+ghost use Rattle.sp_tree.specs.PhaseResults.{Answers};
 ghost use Rattle.sp_types.specs.Tables.{are_wrong, are_bounds, fields_by, type_or, array_of, type_number, kinds_by};
 ghost use Rattle.sp_types.specs.Tables.{kinds_from};
 
 use crate::numbers::type_number;
 use crate::tables::Ordinal;
+use crate::take;
 use crate::values::number_or;
 use crate::written::{const_value, has_wrong_sign, is_long, value_by};
-use sp_base::{Halt, List, Text, take};
+use sp_base::{Halt, List, Text};
 use sp_tree::{KindOf, NamedConst, NamedKind, NamedKindForm};
 use std::alloc::Global;
 

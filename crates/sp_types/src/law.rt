@@ -1,7 +1,7 @@
 //! Laws which show that the definitions are the right ones. The functions do nothing: what counts is their contracts.
 
 ghost use Rattle.std.specs.Prelude.{◌≡◌, ◌∷◌, [], None};
-ghost use Rattle.sp_tree.specs.Found.{taken};
+ghost use Rattle.sp_tree.specs.PhaseResults.{first_of_refusals};
 ghost use Rattle.sp_tree.specs.PlainNamed.{Program, Statement};
 ghost use Rattle.sp_types.specs.Tables.{Env};
 ghost use Rattle.sp_types.specs.TypeWalk.{statement_after, statement_counted};
@@ -11,7 +11,7 @@ ghost use Rattle.sp_types.specs.StatementNumbers.{AllDiffer, blocks_numbers, bod
 
 /// The first broken rule of types of a program is the first, by place and then by row, of all that are broken.
 pub fn first_is_least()
-    ensures { (p : Program) → types_first p ≡ taken (types_broken p) None }
+    ensures { (p : Program) → types_first p ≡ first_of_refusals (types_broken p) None }
 {}
 
 /// The number behind a statement is the one that counting its statements gives: the numbers of a statement and of those

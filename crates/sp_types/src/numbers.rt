@@ -1,11 +1,12 @@
 //! The types that declared names stand for.
 
 ghost use Rattle.std.specs.Prelude.{◌≡◌, [], Ok};
-ghost use Rattle.sp_tree.specs.Found.{Answers};
+ghost use Rattle.sp_tree.specs.PhaseResults.{Answers};
 ghost use Rattle.sp_types.specs.Tables.{number_by, next_by, numbers_from, type_number};
 
 use crate::counting::sum;
-use sp_base::{Halt, List, take};
+use crate::take;
+use sp_base::{Halt, List};
 use sp_tree::{NamedKind, NamedKindForm};
 use std::alloc::Global;
 

@@ -4,7 +4,7 @@ ghost use Rattle.std.specs.Prelude.{◌≡◌, ◌++◌, ◌∷◌, [], map, Ok,
 ghost use Rattle.std.specs.Vec.Iter.{into_iter_items};
 ghost use Rattle.sp_tree.specs.NamedOf.{variable_of, expression_of, argument_of, arguments};
 ghost use Rattle.sp_tree.specs.PlainNamed.{Assign, Call, Perform};
-ghost use Rattle.sp_types.specs.Types.{Types, Walks};
+ghost use Rattle.sp_types.specs.Types.{ChecksTo, WalksTo};
 ghost use Rattle.sp_tree.specs.CheckedOf as checked;
 ghost use Rattle.sp_tree.specs.PlainChecked as c;
 ghost use Rattle.sp_types.specs.Firsts.{channel_first, statement_form_first, perform_first, each_first, message_first};
@@ -12,11 +12,11 @@ ghost use Rattle.sp_types.specs.Firsts.{messages_first};
 ghost use Rattle.sp_types.specs.Kinds.{argument_kind};
 ghost use Rattle.sp_types.specs.TypeWalk.{form_after};
 ghost use Rattle.sp_types.specs.CheckedTree.{argument_variable, argument_variables, checked_argument};
-ghost use Rattle.sp_types.specs.CheckedTree.{checked_arguments, checked_statement_form, each_received, each_sent};
-ghost use Rattle.sp_types.specs.CheckedTree.{singles, numbered, expanded};
+ghost use Rattle.sp_types.specs.CheckedTree.{checked_arguments, checked_statement_form, receive_forms, send_forms};
+ghost use Rattle.sp_types.specs.CheckedTree.{singles, numbered_statements, expanded_form};
 ghost use Rattle.sp_types.specs.Wanted.{part_forms, part_first};
 ghost use Rattle.sp_tree.specs.declared.meaning.StandardProcedure.TheVariants as procedure;
-ghost use Rattle.sp_tree.specs.Found.{AnswersAs};
+ghost use Rattle.sp_tree.specs.PhaseResults.{AnswersAs};
 
 use crate::calls::{Part, target, type_parts};
 use crate::checks::type_wanted;
@@ -24,8 +24,9 @@ use crate::counting::{parts_count, sum};
 use crate::expressions::{type_actuals, type_variable};
 use crate::rules::Wanted;
 use crate::tables::Tables;
+use crate::take;
 use crate::typed::{Typed, Walked};
-use sp_base::{Halt, List, Place, take};
+use sp_base::{Halt, List, Place};
 use sp_tree::{Expr, Form, Found, NamedArg, NamedExpr, NamedVar, StandardProcedure, Stmt, Var};
 use std::alloc::Global;
 use std::vec::IntoIter;
@@ -39,7 +40,7 @@ pub fn type_assign(
     at: Place,
     first: Found,
 ) -> Result<Walked<Form>, Halt>
-    ensures { Walks checked.statement_form_of result
+    ensures { WalksTo checked.statement_form_of result
         (checked_statement_form t.now at (Assign (variable_of v) (expression_of e)))
         (statement_form_first t.now (Assign (variable_of v) (expression_of e)) first) }
 {
@@ -60,7 +61,7 @@ pub fn type_call(
     at: Place,
     first: Found,
 ) -> Result<Walked<Form>, Halt>
-    ensures { Walks checked.statement_form_of result
+    ensures { WalksTo checked.statement_form_of result
         (checked_statement_form t.now at (Call f (arguments (map argument_of args))))
         (statement_form_first t.now (Call f (arguments (map argument_of args))) first) }
 {
@@ -79,7 +80,7 @@ fn type_value(
     kind: Option<u32>,
     first: Found,
 ) -> Result<Walked<Expr>, Halt>
-    ensures { Walks checked.expression_of result (checked_argument t.now (argument_of a))
+    ensures { WalksTo checked.expression_of result (checked_argument t.now (argument_of a))
         (message_first t.now kind (argument_of a) first) }
 {
     let NamedArg { value, width: _ } = a;
@@ -98,7 +99,7 @@ fn type_received(
     kind: Option<u32>,
     first: Found,
 ) -> Result<Walked<Var>, Halt>
-    ensures { Walks checked.variable_of result (argument_variable t.now (argument_of a))
+    ensures { WalksTo checked.variable_of result (argument_variable t.now (argument_of a))
         (message_first t.now kind (argument_of a) first) }
 {
     let NamedArg { value, width: _ } = a;
@@ -117,7 +118,7 @@ fn type_values(
     kind: Option<u32>,
     first: Found,
 ) -> Result<Walked<List<Expr>>, Halt>
-    ensures { Walks (map checked.expression_of) result
+    ensures { WalksTo (map checked.expression_of) result
         (checked_arguments t.now (arguments (map argument_of (into_iter_items xs))))
         (each_first t.now (message_first t.now kind) (arguments (map argument_of (into_iter_items xs))) first) }
 {
@@ -142,7 +143,7 @@ fn type_variables(
     kind: Option<u32>,
     first: Found,
 ) -> Result<Walked<List<Var>>, Halt>
-    ensures { Walks (map checked.variable_of) result
+    ensures { WalksTo (map checked.variable_of) result
         (argument_variables t.now (arguments (map argument_of (into_iter_items xs))))
         (each_first t.now (message_first t.now kind) (arguments (map argument_of (into_iter_items xs))) first) }
 {
@@ -161,7 +162,7 @@ fn type_variables(
 
 /// The channel of `send` or `receive`.
 fn type_channel(alloc: Global, t: &Tables, a: NamedArg, first: Found) -> Result<Typed<Expr>, Halt>
-    ensures { Types checked.expression_of result (checked_argument t.now (argument_of a))
+    ensures { ChecksTo checked.expression_of result (checked_argument t.now (argument_of a))
         (argument_kind t.now (argument_of a))
         (channel_first t.now (argument_of a) first) }
 {
@@ -170,10 +171,10 @@ fn type_channel(alloc: Global, t: &Tables, a: NamedArg, first: Found) -> Result<
 }
 
 /// Values sent on one channel: one alone is a single statement, of several the channel stands once in memory.
-#[tactic(auto, using(crate::proofs::Singles::sends_are))]
+#[tactic(auto, using(crate::proofs::EachReceived::sends_are))]
 fn sent(n: u32, at: Place, channel: Expr, values: List<Expr>) -> Result<Form, Halt>
     ensures { AnswersAs checked.statement_form_of result
-        (Ok (expanded n at (each_sent (checked.expression_of channel) (map checked.expression_of values)))) }
+        (Ok (expanded_form n at (send_forms (checked.expression_of channel) (map checked.expression_of values)))) }
 {
     let mut values = values.into_vec();
     match values.pop() {
@@ -200,10 +201,10 @@ fn sent(n: u32, at: Place, channel: Expr, values: List<Expr>) -> Result<Form, Ha
 }
 
 /// Variables received on one channel: one alone is a single statement, of several the channel stands once in memory.
-#[tactic(auto, using(crate::proofs::Singles::receives_are))]
+#[tactic(auto, using(crate::proofs::EachReceived::receives_are))]
 fn received(n: u32, at: Place, channel: Expr, variables: List<Var>) -> Result<Form, Halt>
     ensures { AnswersAs checked.statement_form_of result
-        (Ok (expanded n at (each_received (checked.expression_of channel) (map checked.variable_of variables)))) }
+        (Ok (expanded_form n at (receive_forms (checked.expression_of channel) (map checked.variable_of variables)))) }
 {
     let mut variables = variables.into_vec();
     match variables.pop() {
@@ -237,8 +238,8 @@ fn type_send(
     at: Place,
     first: Found,
 ) -> Result<Walked<Form>, Halt>
-    ensures { Walks checked.statement_form_of result
-        (expanded t.now.next at (singles t.now procedure.Send (arguments (map argument_of args))))
+    ensures { WalksTo checked.statement_form_of result
+        (expanded_form t.now.next at (singles t.now procedure.Send (arguments (map argument_of args))))
         (messages_first t.now (arguments (map argument_of args)) first) }
 {
     let mut xs = args.into_vec().into_iter();
@@ -266,8 +267,8 @@ fn type_receive(
     at: Place,
     first: Found,
 ) -> Result<Walked<Form>, Halt>
-    ensures { Walks checked.statement_form_of result
-        (expanded t.now.next at (singles t.now procedure.Receive (arguments (map argument_of args))))
+    ensures { WalksTo checked.statement_form_of result
+        (expanded_form t.now.next at (singles t.now procedure.Receive (arguments (map argument_of args))))
         (messages_first t.now (arguments (map argument_of args)) first) }
 {
     let mut xs = args.into_vec().into_iter();
@@ -299,7 +300,8 @@ fn behind(forms: List<Form>, last: Form) -> Result<List<Form>, Halt>
 
 /// Statements at one place, numbered from a number on.
 fn numbered(alloc: Global, n: u32, at: Place, forms: List<Form>) -> Result<List<Stmt>, Halt>
-    ensures { AnswersAs (map checked.statement_of) result (Ok (numbered n at (map checked.statement_form_of forms))) }
+    ensures { AnswersAs (map checked.statement_of) result
+        (Ok (numbered_statements n at (map checked.statement_form_of forms))) }
 {
     let mut out = Vec::new(alloc);
     let mut n = n;
@@ -316,7 +318,8 @@ fn numbered(alloc: Global, n: u32, at: Place, forms: List<Form>) -> Result<List<
 
 /// Statements at one place as one: a single one is itself, several stand in a sequence.
 fn expanded(alloc: Global, n: u32, at: Place, forms: List<Form>) -> Result<Form, Halt>
-    ensures { AnswersAs checked.statement_form_of result (Ok (expanded n at (map checked.statement_form_of forms))) }
+    ensures { AnswersAs checked.statement_form_of result
+        (Ok (expanded_form n at (map checked.statement_form_of forms))) }
 {
     let mut forms = forms.into_vec();
     match forms.pop() {
@@ -342,8 +345,8 @@ fn type_each(
     at: Place,
     first: Found,
 ) -> Result<Walked<Form>, Halt>
-    ensures { Walks checked.statement_form_of result
-        (expanded t.now.next at (part_forms t.now part (arguments (map argument_of args))))
+    ensures { WalksTo checked.statement_form_of result
+        (expanded_form t.now.next at (part_forms t.now part (arguments (map argument_of args))))
         (each_first t.now (part_first t.now part) (arguments (map argument_of args)) first) }
 {
     let forms = take!(type_parts(alloc, t, part, args, first));
@@ -361,8 +364,8 @@ fn type_readln(
     at: Place,
     first: Found,
 ) -> Result<Walked<Form>, Halt>
-    ensures { Walks checked.statement_form_of result
-        (expanded t.now.next at (singles t.now procedure.Readln (arguments (map argument_of args))))
+    ensures { WalksTo checked.statement_form_of result
+        (expanded_form t.now.next at (singles t.now procedure.Readln (arguments (map argument_of args))))
         (perform_first t.now procedure.Readln (arguments (map argument_of args)) first) }
 {
     let forms = take!(type_parts(alloc, t, Part::Read, args, first));
@@ -381,8 +384,8 @@ fn type_writeln(
     at: Place,
     first: Found,
 ) -> Result<Walked<Form>, Halt>
-    ensures { Walks checked.statement_form_of result
-        (expanded t.now.next at (singles t.now procedure.Writeln (arguments (map argument_of args))))
+    ensures { WalksTo checked.statement_form_of result
+        (expanded_form t.now.next at (singles t.now procedure.Writeln (arguments (map argument_of args))))
         (perform_first t.now procedure.Writeln (arguments (map argument_of args)) first) }
 {
     let forms = take!(type_parts(alloc, t, Part::Write, args, first));
@@ -402,8 +405,8 @@ fn type_call_of_standard(
     at: Place,
     first: Found,
 ) -> Result<Walked<Form>, Halt>
-    ensures { Walks checked.statement_form_of result
-        (expanded t.now.next at (singles t.now p (arguments (map argument_of args))))
+    ensures { WalksTo checked.statement_form_of result
+        (expanded_form t.now.next at (singles t.now p (arguments (map argument_of args))))
         (perform_first t.now p (arguments (map argument_of args)) first) }
 {
     match p {
@@ -426,7 +429,7 @@ pub fn type_perform(
     at: Place,
     first: Found,
 ) -> Result<Walked<Form>, Halt>
-    ensures tree { Walks checked.statement_form_of result
+    ensures tree { WalksTo checked.statement_form_of result
         (checked_statement_form t.old at (Perform p (arguments (map argument_of args))))
         (statement_form_first t.old (Perform p (arguments (map argument_of args))) first) }
     ensures after { OnOk result (t.new ≡ form_after t.old (Perform p (arguments (map argument_of args)))) }

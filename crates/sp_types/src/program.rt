@@ -2,15 +2,15 @@
 
 ghost use Rattle.std.specs.Prelude.{◌≡◌, ◌++◌, ◌∷◌, [], drop, map, None, Ok, OnOk};
 ghost use Rattle.sp_tree.specs.Cells.{sizes};
-ghost use Rattle.sp_tree.specs.Found.{Answers, AnswersAs};
+ghost use Rattle.sp_tree.specs.PhaseResults.{Answers, AnswersAs};
 ghost use Rattle.sp_tree.specs.NamedOf as plain;
 ghost use Rattle.sp_tree.specs.CheckedOf as checked;
-ghost use Rattle.sp_types.specs.Types.{Walks};
+ghost use Rattle.sp_types.specs.Types.{WalksTo};
 ghost use Rattle.sp_types.specs.TypeWalk.{starts_of, blocks_after};
 ghost use Rattle.sp_types.specs.CheckedTree.{checked_blocks, checked_variables};
 ghost use Rattle.sp_types.specs.DeclarationFirsts.{constants_first, kinds_first, blocks_first};
-ghost use Rattle.sp_types.specs.Entered.{tabled, typed_blocks, typed_kinds};
-ghost use Rattle.sp_types.specs.TypeFirst.{typed};
+ghost use Rattle.sp_types.specs.AfterTables.{tables_by_names, blocks_outcome, kinds_outcome};
+ghost use Rattle.sp_types.specs.TypeFirst.{types_outcome};
 
 use crate::blocks::type_blocks;
 use crate::bodies::bodies;
@@ -22,9 +22,10 @@ use crate::numbers::numbers_of;
 use crate::sizes::sizes_of;
 use crate::tables::{Ordinal, Tables};
 use crate::tabling::{kinds_in, tables_of};
+use crate::take;
 use crate::typed::Walked;
 use crate::values::or_zero;
-use sp_base::{Halt, List, Place, take};
+use sp_base::{Halt, List, Place};
 use sp_tree::{
     Block, Checked, Found, KindOf, Named, NamedBlock, NamedConstant, NamedKind, Variable,
 };
@@ -101,7 +102,7 @@ fn type_bodies(
     blocks: List<NamedBlock>,
     first: Found,
 ) -> Result<Walked<List<Block>>, Halt>
-    ensures tree { Walks (map checked.block_of) result
+    ensures tree { WalksTo (map checked.block_of) result
         (checked_blocks t.old (starts_of (map plain.block_of blocks)) (map plain.block_of blocks))
         (blocks_first numbers.now cells.now variables.now 0 t.old (starts_of (map plain.block_of blocks))
         (map plain.block_of blocks) first) }
@@ -156,7 +157,7 @@ fn type_tabled(
     first: Found,
 ) -> Result<Checked, Halt>
     ensures { AnswersAs checked.program_of result
-        (typed_blocks numbers.now cells.now t variables (map plain.block_of blocks) first) }
+        (blocks_outcome numbers.now cells.now t variables (map plain.block_of blocks) first) }
 {
     let mut t = t;
     let w = take!(type_bodies(
@@ -186,8 +187,8 @@ fn type_kinds(
     first: Found,
 ) -> Result<Checked, Halt>
     ensures { AnswersAs checked.program_of result
-        (typed_kinds numbers.now (sizes kinds) places.now
-        (tabled numbers.now known kinds variables (map plain.block_of blocks))
+        (kinds_outcome numbers.now (sizes kinds) places.now
+        (tables_by_names numbers.now known kinds variables (map plain.block_of blocks))
         variables (map plain.block_of blocks) first) }
 {
     let cells = take!(sizes_of(alloc, kinds.items()));
@@ -206,7 +207,7 @@ fn type_kinds(
 /// The checked tree, or the first rule among Y1 to Y14, L3 and L6 that is broken: of the earliest place, and of several
 /// at one place the one that stands first in the table of rules. The tree with numbers for names is consumed.
 pub fn type_check(alloc: Global, named: Named) -> Result<Checked, Halt>
-    ensures { AnswersAs checked.program_of result (typed (plain.program_of named)) }
+    ensures { AnswersAs checked.program_of result (types_outcome (plain.program_of named)) }
 {
     let Named {
         constants,

@@ -2,8 +2,8 @@
 
 ghost use Rattle.std.specs.Prelude.{◌≡◌, ◌++◌, ◌∷◌, [], Ok};
 ghost use Rattle.std.specs.List.{list_any};
-ghost use Rattle.sp_tree.specs.Found.{Answers};
-ghost use Rattle.sp_types.specs.TypeRules.{same};
+ghost use Rattle.sp_tree.specs.PhaseResults.{Answers};
+ghost use Rattle.sp_types.specs.TypeRules.{is_same_ordinal};
 
 use crate::tables::Ordinal;
 use sp_base::Halt;
@@ -49,7 +49,7 @@ impl Seen {
 
     /// Whether the constant is among them.
     pub fn contains(&self, o: Ordinal) -> bool
-        ensures { result ≡ list_any (same o) self.now }
+        ensures { result ≡ list_any (is_same_ordinal o) self.now }
     {
         let key = key_of(o);
         self.set.contains(&key)

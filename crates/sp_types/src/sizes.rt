@@ -1,11 +1,11 @@
 //! The cells of types and frames, counted up to just above the limit (`specs/Capped.antt`).
 
 ghost use Rattle.std.specs.Prelude.{◌≡◌, ◌+◌, ◌*◌, ◌∷◌, ℕ, List, [], map, sum, slice_get, Ok};
-ghost use Rattle.sp_tree.specs.Found.{Answers};
+ghost use Rattle.sp_tree.specs.PhaseResults.{Answers};
 ghost use Rattle.sp_tree.specs.Cells.{count, fields_size, first_or, cells_by};
 ghost use Rattle.sp_types.specs.Tables.{type_number};
 ghost use Rattle.sp_types.specs.TypeRules.{frame_cells};
-ghost use Rattle.sp_types.specs.Capped.{capped, capped_by, capped_sizes};
+ghost use Rattle.sp_types.specs.Capped.{capped_count, capped_by, capped_sizes};
 
 use crate::numbers::type_number;
 use sp_base::{Halt, List, Text};
@@ -16,7 +16,7 @@ use std::alloc::Global;
 const TOO_MANY: u32 = 1_048_577;
 
 fn capped(n: u64) -> u32
-    ensures { result ≡ capped n }
+    ensures { result ≡ capped_count n }
 {
     if n < TOO_MANY as u64 {
         n as u32
@@ -27,7 +27,7 @@ fn capped(n: u64) -> u32
 
 /// How many elements an array has.
 fn count(low: i64, high: i64) -> u32
-    ensures { result ≡ capped (count low high) }
+    ensures { result ≡ capped_count (count low high) }
 {
     let n = (high as i128 - low as i128 + 1).unsigned_abs();
     if n < TOO_MANY as u128 {
@@ -38,13 +38,13 @@ fn count(low: i64, high: i64) -> u32
 }
 
 fn product(count: u32, cells: u32) -> u32
-    ensures { result ≡ capped (count * cells) }
+    ensures { result ≡ capped_count (count * cells) }
 {
     capped(count as u64 * cells as u64)
 }
 
 fn total(a: u32, b: u32) -> u32
-    ensures { result ≡ capped (a + b) }
+    ensures { result ≡ capped_count (a + b) }
 {
     capped(a as u64 + b as u64)
 }
@@ -61,14 +61,14 @@ fn cells_at(sizes: &[u32], k: u32) -> u32
 
 #[tactic(auto, using(crate::proofs::Capping::counted))]
 fn array_cells(low: i64, high: i64, element: u32) -> u32
-    ensures { result ≡ capped (count low high * element) }
+    ensures { result ≡ capped_count (count low high * element) }
 {
     product(count(low, high), element)
 }
 
 #[tactic(auto, using(crate::proofs::Capping::summed))]
 fn fields_cells(known: &[u32], fields: &[(Text, u32)]) -> u32
-    ensures { result ≡ capped (fields_size known.now fields.now) }
+    ensures { result ≡ capped_count (fields_size known.now fields.now) }
 {
     let mut cells = 0;
     for f in fields {
@@ -133,7 +133,7 @@ fn cells_in(numbers: &[u32], sizes: &[u32], block: u32, x: &Variable) -> u32
 /// The cells of one block's variables.
 #[tactic(auto, using(crate::proofs::Capping::summed))]
 pub fn frame_cells(numbers: &[u32], sizes: &[u32], block: u32, variables: &[Variable]) -> u32
-    ensures { result ≡ capped (frame_cells numbers.now sizes.now block variables.now) }
+    ensures { result ≡ capped_count (frame_cells numbers.now sizes.now block variables.now) }
 {
     let mut cells = 0;
     for x in variables {

@@ -4,10 +4,10 @@ ghost use Rattle.std.specs.Prelude.{◌≡◌, map, Ok, OnOk};
 ghost use Rattle.sp_tree.specs.NamedOf.{expression_of, statement_of, statement_form_of, statements, arms, arm_of};
 ghost use Rattle.sp_tree.specs.NamedOf.{branches, branch_of};
 ghost use Rattle.sp_tree.specs.PlainNamed.{Repeat, Case, For, Forall};
-ghost use Rattle.sp_types.specs.Types.{Walks};
+ghost use Rattle.sp_types.specs.Types.{WalksTo};
 ghost use Rattle.sp_tree.specs.CheckedOf as checked;
 ghost use Rattle.sp_tree.specs.PlainChecked as c;
-ghost use Rattle.sp_types.specs.Tables.{counted, indexed};
+ghost use Rattle.sp_types.specs.Tables.{with_next_number, with_index_type};
 ghost use Rattle.sp_types.specs.Kinds.{expression_kind};
 ghost use Rattle.sp_types.specs.TypeWalk.{statement_after, form_after, statements_after, arms_after, arm_after};
 ghost use Rattle.sp_types.specs.TypeWalk.{branches_after};
@@ -22,8 +22,9 @@ use crate::choices::{check_choices, constant_numbers};
 use crate::performs::{type_assign, type_call, type_perform};
 use crate::rules::{Wanted, wanted_rule};
 use crate::tables::Tables;
+use crate::take;
 use crate::typed::Walked;
-use sp_base::{Boxed, Halt, List, Place, take};
+use sp_base::{Boxed, Halt, List, Place};
 use sp_tree::{
     Arm, Expr, Form, Found, NamedArm, NamedBranch, NamedExpr, NamedForm, NamedStmt, Stmt, lesser,
 };
@@ -38,7 +39,7 @@ pub fn type_statement(
     t: &mut Tables,
     first: Found,
 ) -> Result<Walked<Stmt>, Halt>
-    ensures tree { Walks checked.statement_of result (checked_statement t.old (statement_of s))
+    ensures tree { WalksTo checked.statement_of result (checked_statement t.old (statement_of s))
         (statement_first t.old (statement_of s) first) }
     ensures after { OnOk result (t.new ≡ statement_after t.old (statement_of s)) }
 {
@@ -66,7 +67,7 @@ fn type_boxed(
     t: &mut Tables,
     first: Found,
 ) -> Result<Walked<Boxed<Stmt>>, Halt>
-    ensures tree { Walks checked.statement_of result (checked_statement t.old (statement_of s))
+    ensures tree { WalksTo checked.statement_of result (checked_statement t.old (statement_of s))
         (statement_first t.old (statement_of s) first) }
     ensures after { OnOk result (t.new ≡ statement_after t.old (statement_of s)) }
 {
@@ -83,7 +84,7 @@ fn type_statement_form(
     at: Place,
     first: Found,
 ) -> Result<Walked<Form>, Halt>
-    ensures tree { Walks checked.statement_form_of result (checked_statement_form t.old at (statement_form_of form))
+    ensures tree { WalksTo checked.statement_form_of result (checked_statement_form t.old at (statement_form_of form))
         (statement_form_first t.old (statement_form_of form) first) }
     ensures after { OnOk result (t.new ≡ form_after t.old (statement_form_of form)) }
 {
@@ -164,10 +165,10 @@ fn type_repeat(
     e: NamedExpr,
     first: Found,
 ) -> Result<Walked<Form>, Halt>
-    ensures tree { Walks checked.statement_form_of result
+    ensures tree { WalksTo checked.statement_form_of result
         (checked_statement_form t.old at (Repeat (statements (map statement_of ss)) (expression_of e)))
         (statement_form_first t.old (Repeat (statements (map statement_of ss)) (expression_of e)) first) }
-    ensures after { OnOk result (t.new ≡ statements_after (counted t.old) (statements (map statement_of ss))) }
+    ensures after { OnOk result (t.new ≡ statements_after (with_next_number t.old) (statements (map statement_of ss))) }
 {
     let ss = take!(type_sequence(ss, alloc, t, at, first));
     let s = Boxed::new(alloc, ss.tree)?;
@@ -187,7 +188,7 @@ fn type_choices(
     e: NamedExpr,
     first: Found,
 ) -> Result<Walked<Form>, Halt>
-    ensures tree { Walks checked.statement_form_of result
+    ensures tree { WalksTo checked.statement_form_of result
         (c.Case (checked_expression t.old (expression_of e))
         (checked.arms (checked_arms t.old (arms (map arm_of choices)))))
         (statement_form_first t.old (Case (expression_of e) (arms (map arm_of choices))) first) }
@@ -213,9 +214,10 @@ fn type_forall(
     to: NamedExpr,
     first: Found,
 ) -> Result<Walked<Form>, Halt>
-    ensures tree { Walks checked.statement_form_of result
+    ensures tree { WalksTo checked.statement_form_of result
         (c.Forall index (checked_expression t.old (expression_of from)) (checked_expression t.old (expression_of to))
-        (checked_statement (indexed t.old index (expression_kind t.old (expression_of from))) (statement_of body)))
+        (checked_statement (with_index_type t.old index (expression_kind t.old (expression_of from)))
+        (statement_of body)))
         (statement_form_first t.old (Forall index (expression_of from) (expression_of to) (statement_of body)) first) }
     ensures after { OnOk result (t.new ≡ form_after t.old
         (Forall index (expression_of from) (expression_of to) (statement_of body))) }
@@ -245,7 +247,7 @@ fn type_else(
     s: Boxed<Stmt>,
     first: Found,
 ) -> Result<Walked<Form>, Halt>
-    ensures tree { Walks checked.statement_form_of result
+    ensures tree { WalksTo checked.statement_form_of result
         (c.If (checked.expression_of e) (checked.statement_of s) (c.Else (checked_statement t.old (statement_of o))))
         (statement_first t.old (statement_of o) first) }
     ensures after { OnOk result (t.new ≡ statement_after t.old (statement_of o)) }
@@ -277,7 +279,7 @@ fn type_for(
     to: NamedExpr,
     first: Found,
 ) -> Result<Walked<Form>, Halt>
-    ensures tree { Walks checked.statement_form_of result
+    ensures tree { WalksTo checked.statement_form_of result
         (c.For variable at (checked_expression t.old (expression_of from)) down
         (checked_expression t.old (expression_of to))
         (checked_statement t.old (statement_of body)))
@@ -310,7 +312,8 @@ fn type_statements(
     t: &mut Tables,
     first: Found,
 ) -> Result<Walked<List<Stmt>>, Halt>
-    ensures tree { Walks (map checked.statement_of) result (checked_statements t.old (statements (map statement_of ss)))
+    ensures tree { WalksTo (map checked.statement_of) result
+        (checked_statements t.old (statements (map statement_of ss)))
         (statements_first t.old (statements (map statement_of ss)) first) }
     ensures after { OnOk result (t.new ≡ statements_after t.old (statements (map statement_of ss))) }
 {
@@ -346,11 +349,11 @@ fn type_sequence(
     at: Place,
     first: Found,
 ) -> Result<Walked<Stmt>, Halt>
-    ensures tree { Walks checked.statement_of result
+    ensures tree { WalksTo checked.statement_of result
         (in_sequence t.old.next (first_place at (statements (map statement_of ss)))
-        (checked_statements (counted t.old) (statements (map statement_of ss))))
-        (statements_first (counted t.old) (statements (map statement_of ss)) first) }
-    ensures after { OnOk result (t.new ≡ statements_after (counted t.old) (statements (map statement_of ss))) }
+        (checked_statements (with_next_number t.old) (statements (map statement_of ss))))
+        (statements_first (with_next_number t.old) (statements (map statement_of ss)) first) }
+    ensures after { OnOk result (t.new ≡ statements_after (with_next_number t.old) (statements (map statement_of ss))) }
 {
     let number = t.next;
     let at = first_place(at, ss.items());
@@ -374,7 +377,7 @@ fn type_branches(
     at: Place,
     first: Found,
 ) -> Result<Walked<List<Stmt>>, Halt>
-    ensures tree { Walks (map checked.statement_of) result (checked_branches t.old at (branches (map branch_of bs)))
+    ensures tree { WalksTo (map checked.statement_of) result (checked_branches t.old at (branches (map branch_of bs)))
         (branches_first t.old (branches (map branch_of bs)) first) }
     ensures after { OnOk result (t.new ≡ branches_after t.old (branches (map branch_of bs))) }
 {
@@ -399,7 +402,7 @@ fn type_arms(
     t: &mut Tables,
     first: Found,
 ) -> Result<Walked<List<Arm>>, Halt>
-    ensures tree { Walks (map checked.arm_of) result (checked_arms t.old (arms (map arm_of xs)))
+    ensures tree { WalksTo (map checked.arm_of) result (checked_arms t.old (arms (map arm_of xs)))
         (arms_first t.old (arms (map arm_of xs)) first) }
     ensures after { OnOk result (t.new ≡ arms_after t.old (arms (map arm_of xs))) }
 {
@@ -418,7 +421,7 @@ fn type_arms(
 
 #[cycle(statement)]
 fn type_arm(a: NamedArm, alloc: Global, t: &mut Tables, first: Found) -> Result<Walked<Arm>, Halt>
-    ensures tree { Walks checked.arm_of result (checked_arm t.old (arm_of a)) (arm_first t.old (arm_of a) first) }
+    ensures tree { WalksTo checked.arm_of result (checked_arm t.old (arm_of a)) (arm_first t.old (arm_of a) first) }
     ensures after { OnOk result (t.new ≡ arm_after t.old (arm_of a)) }
 {
     let NamedArm { constants, body } = a;

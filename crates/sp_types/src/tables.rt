@@ -1,13 +1,14 @@
 //! What is known of constants, types, variables and blocks, by their numbers.
 
 ghost use Rattle.std.specs.Prelude.{◌≡◌, nat_eq, slice_get, slice_set, Ok, OnOk};
-ghost use Rattle.sp_tree.specs.Found.{Answers};
+ghost use Rattle.sp_tree.specs.PhaseResults.{Answers};
 ghost use Rattle.std.specs.Option.{option_copied, option_map};
 ghost use Rattle.std.specs.List.{list_any};
 ghost use Rattle.sp_types.specs.TypeRules.{field_in, messages_in};
-ghost use Rattle.sp_types.specs.Tables.{indexed, kind_at, variable_kind, entry, constant_kind, formals_of, answer_kind};
+ghost use Rattle.sp_types.specs.Tables.{with_index_type, kind_at, variable_kind, table_entry, constant_kind};
+ghost use Rattle.sp_types.specs.Tables.{formals_of, answer_kind};
 ghost use Rattle.sp_types.specs.Tables.{ordinal_kind};
-ghost use Rattle.sp_types.specs.TypeWalk.{formal_role, formal_kind, counted_by};
+ghost use Rattle.sp_types.specs.TypeWalk.{formal_role, formal_kind, with_more_numbers};
 
 use crate::entries::KindEntry;
 use sp_base::{Halt, List, Text};
@@ -97,7 +98,7 @@ impl Tables {
 
     /// A declared constant.
     pub fn constant(&self, k: u32) -> Option<Ordinal>
-        ensures { result ≡ entry (slice_get self.now.constants k) }
+        ensures { result ≡ table_entry (slice_get self.now.constants k) }
     {
         match self.constants.get(k as usize) {
             None => None,
@@ -154,7 +155,7 @@ impl Tables {
     /// nothing has changed.
     pub fn count(&mut self, n: u32) -> Result<(), Halt>
         ensures memory { Answers result (Ok tt) }
-        ensures after { OnOk result (self.new ≡ counted_by n self.old) }
+        ensures after { OnOk result (self.new ≡ with_more_numbers n self.old) }
     {
         match self.next.checked_add(n) {
             None => Err(Halt::Memory),
@@ -167,7 +168,7 @@ impl Tables {
 
     /// The index of a forall gets its type.
     pub fn index(&mut self, x: u32, k: Option<u32>)
-        ensures { self.new ≡ indexed self.old x k }
+        ensures { self.new ≡ with_index_type self.old x k }
     {
         let none = List::new(self.variables.alloc());
         let variables = replace(&mut self.variables, none);

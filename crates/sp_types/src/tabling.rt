@@ -1,14 +1,15 @@
 //! The tables of a program, before its statements are read.
 
 ghost use Rattle.std.specs.Prelude.{◌≡◌, ℕ, Option, List, map, Ok};
-ghost use Rattle.sp_tree.specs.Found.{Answers};
+ghost use Rattle.sp_tree.specs.PhaseResults.{Answers};
 ghost use Rattle.sp_tree.specs.NamedOf.{block_of};
 ghost use Rattle.sp_types.specs.Tables.{answer_variable, type_of, types_of, roles_of, signatures};
 
 use crate::entries::KindEntry;
 use crate::numbers::type_number;
 use crate::tables::{Ordinal, Signature, Tables};
-use sp_base::{Halt, List, take};
+use crate::take;
+use sp_base::{Halt, List};
 use sp_tree::{KindOf, NamedAnswer, NamedBlock, Role, Variable};
 use std::alloc::Global;
 

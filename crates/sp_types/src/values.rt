@@ -1,7 +1,7 @@
 //! Single values: chars, numbers, and the fields of a variable that has a type so far.
 
 ghost use Rattle.std.specs.Prelude.{◌≡◌, pos, Ok};
-ghost use Rattle.sp_tree.specs.Found.{Answers};
+ghost use Rattle.sp_tree.specs.PhaseResults.{Answers};
 ghost use Rattle.sp_types.specs.Tables.{char_of, number_or};
 ghost use Rattle.sp_types.specs.TypeRules.{field_rule};
 ghost use Rattle.sp_types.specs.Kinds.{field};

@@ -1,14 +1,15 @@
 //! Constants as they are written: type and number of each, with its sign.
 
 ghost use Rattle.std.specs.Prelude.{◌≡◌, neg_ℤ, true, Some, Ok};
-ghost use Rattle.sp_tree.specs.Found.{Answers};
+ghost use Rattle.sp_tree.specs.PhaseResults.{Answers};
 ghost use Rattle.sp_tree.specs.declared.named.NamedValue.TheVariants as given;
-ghost use Rattle.sp_types.specs.Tables.{value_by, signed, const_value, is_long, has_wrong_sign};
+ghost use Rattle.sp_types.specs.Tables.{value_by, signed_value, const_value, is_long, has_wrong_sign};
 ghost use Rattle.sp_types.specs.TypeRules.{const_rule};
 
 use crate::tables::Ordinal;
+use crate::take;
 use crate::values::{char_of, integer};
-use sp_base::{Halt, Rule, take};
+use sp_base::{Halt, Rule};
 use sp_tree::{Found, NamedConst, NamedValue, breaks_if};
 
 fn entry(known: &[Option<Ordinal>], k: u32) -> Option<Ordinal>
@@ -47,7 +48,7 @@ fn negated(n: i64) -> Result<i64, Halt>
 
 /// A constant behind a `-`.
 fn minus(o: Ordinal) -> Result<Option<Ordinal>, Halt>
-    ensures { Answers result (Ok (signed (Some true) (Some o))) }
+    ensures { Answers result (Ok (signed_value (Some true) (Some o))) }
 {
     if o.kind == 0 {
         let number = take!(negated(o.number));
@@ -62,7 +63,7 @@ fn minus(o: Ordinal) -> Result<Option<Ordinal>, Halt>
 
 /// A constant with its sign. A sign before what is no integer changes nothing.
 fn signed(sign: Option<bool>, o: Option<Ordinal>) -> Result<Option<Ordinal>, Halt>
-    ensures { Answers result (Ok (signed sign o)) }
+    ensures { Answers result (Ok (signed_value sign o)) }
 {
     match sign {
         None => Ok(o),

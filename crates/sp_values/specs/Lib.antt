@@ -1,2 +1,2 @@
-pub mod Taking
-pub mod Worked
+pub mod ReadResults
+pub mod OperatorResults

@@ -1,9 +1,10 @@
 //! What the operators and standard functions give of ordinals, or the fault.
 
 ghost use Rattle.std.specs.Prelude.{◌≡◌, ◌≢◌, int_div, int_rem, pos, ◌+ℤ◌, ◌-ℤ◌, ◌*ℤ◌};
-ghost use Rattle.sp_values.specs.Worked.{worked};
+ghost use Rattle.sp_values.specs.OperatorResults.{operator_result};
 ghost use Rattle.sp_tree.specs.declared.operators.BinaryOp.TheVariants.{Div, Mod};
-ghost use Rattle.sp_tree.specs.Operators.{Yields, truth, integer, ranged, successor, predecessor, absolute, square};
+ghost use Rattle.sp_tree.specs.Operators.{Yields, truth, integer, value_in_range, successor, predecessor};
+ghost use Rattle.sp_tree.specs.Operators.{absolute_value, square};
 ghost use Rattle.sp_tree.specs.Operators.{is_odd, unary_op, binary_op};
 
 use sp_base::{Fault, MAXINT};
@@ -11,7 +12,7 @@ use sp_tree::{BinaryOp, UnaryOp};
 
 /// The number, where it is an integer of the language, or F2.
 pub fn in_range(n: i128) -> Result<i64, Fault>
-    ensures { worked result ≡ integer n }
+    ensures { operator_result result ≡ integer n }
 {
     if n < -(MAXINT as i128) || n > MAXINT as i128 {
         Err(Fault::F2)
@@ -22,7 +23,7 @@ pub fn in_range(n: i128) -> Result<i64, Fault>
 
 /// The number, where it is from `low` to `high`, or F1.
 pub fn within(low: i64, high: i64, n: i64) -> Result<i64, Fault>
-    ensures { worked result ≡ ranged low high n }
+    ensures { operator_result result ≡ value_in_range low high n }
 {
     if low <= n && n <= high {
         Ok(n)
@@ -33,21 +34,21 @@ pub fn within(low: i64, high: i64, n: i64) -> Result<i64, Fault>
 
 /// The next number, where there is one up to `high`, or F1.
 pub fn next_of(high: i64, n: i64) -> Result<i64, Fault>
-    ensures { worked result ≡ successor high n }
+    ensures { operator_result result ≡ successor high n }
 {
     if n < high { Ok(n + 1) } else { Err(Fault::F1) }
 }
 
 /// The number before, where there is one down to `low`, or F1.
 pub fn previous_of(low: i64, n: i64) -> Result<i64, Fault>
-    ensures { worked result ≡ predecessor low n }
+    ensures { operator_result result ≡ predecessor low n }
 {
     if low < n { Ok(n - 1) } else { Err(Fault::F1) }
 }
 
 /// The absolute value, or F2.
 pub fn absolute_of(n: i64) -> Result<i64, Fault>
-    ensures { worked result ≡ absolute n }
+    ensures { operator_result result ≡ absolute_value n }
 {
     let n = n as i128;
     in_range(if n < 0 { -n } else { n })
@@ -55,14 +56,14 @@ pub fn absolute_of(n: i64) -> Result<i64, Fault>
 
 /// The square, or F2.
 pub fn square_of(n: i64) -> Result<i64, Fault>
-    ensures { worked result ≡ square n }
+    ensures { operator_result result ≡ square n }
 {
     in_range(n as i128 * n as i128)
 }
 
 /// Whether the number is odd: 1 for true, 0 for false.
 pub fn odd(n: i64) -> Result<i64, Fault>
-    ensures { worked result ≡ is_odd n }
+    ensures { operator_result result ≡ is_odd n }
 {
     Ok(if n % 2 == 0 { 0 } else { 1 })
 }
@@ -76,7 +77,7 @@ pub fn truth_of(b: bool) -> i64
 
 /// What an operator gives of an ordinal, or F2.
 pub fn unary(op: UnaryOp, n: i64) -> Result<i64, Fault>
-    ensures { worked result ≡ unary_op op n }
+    ensures { operator_result result ≡ unary_op op n }
 {
     match op {
         UnaryOp::Plus => Ok(n),
@@ -87,7 +88,7 @@ pub fn unary(op: UnaryOp, n: i64) -> Result<i64, Fault>
 
 /// The product, or F2.
 pub fn product(m: i64, n: i64) -> Result<i64, Fault>
-    ensures { worked result ≡ integer (m *ℤ n) }
+    ensures { operator_result result ≡ integer (m *ℤ n) }
 {
     in_range(wide_product(m, n))
 }
@@ -114,7 +115,7 @@ fn wide_rest(m: i64, n: i64) -> i128
 
 /// The quotient, truncated toward zero; F3 by 0.
 pub fn quotient(m: i64, n: i64) -> Result<i64, Fault>
-    ensures { worked result ≡ binary_op Div m n }
+    ensures { operator_result result ≡ binary_op Div m n }
 {
     if n == 0 {
         Err(Fault::F3)
@@ -125,7 +126,7 @@ pub fn quotient(m: i64, n: i64) -> Result<i64, Fault>
 
 /// The remainder, from 0 to `n - 1`; F3 where `n` is not above 0 (ISO 7185).
 pub fn modulus(m: i64, n: i64) -> Result<i64, Fault>
-    ensures { worked result ≡ binary_op Mod m n }
+    ensures { operator_result result ≡ binary_op Mod m n }
 {
     if n <= 0 {
         Err(Fault::F3)
@@ -141,7 +142,7 @@ pub fn modulus(m: i64, n: i64) -> Result<i64, Fault>
 
 /// What an operator gives of two ordinals, or F2 or F3.
 pub fn binary(op: BinaryOp, m: i64, n: i64) -> Result<i64, Fault>
-    ensures { worked result ≡ binary_op op m n }
+    ensures { operator_result result ≡ binary_op op m n }
 {
     match op {
         BinaryOp::Eq => Ok(truth_of(m == n)),

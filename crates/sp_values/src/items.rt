@@ -3,9 +3,10 @@
 
 ghost use Rattle.std.specs.Prelude.{◌≡◌, ◌+◌, ◌<◌, ◌≤◌, ◌^◌, MatchOption, length, take, if◌then◌else◌};
 ghost use Rattle.sp_tree.specs.Characters.{is_blank, is_digit};
-ghost use Rattle.sp_tree.specs.Items.{blanks, digits, number_from, signed, number_in, number_after, digits_after};
+ghost use Rattle.sp_tree.specs.Items.{blanks, digits, number_from, signed_integer, number_in, number_after};
+ghost use Rattle.sp_tree.specs.Items.{digits_after};
 ghost use Rattle.sp_tree.specs.Items.{char_in, line_length, at_line_end, truth_text, byte};
-ghost use Rattle.sp_values.specs.Taking.{taken_of};
+ghost use Rattle.sp_values.specs.ReadResults.{read_result_of};
 
 use sp_base::{Fault, MAXINT};
 
@@ -79,7 +80,7 @@ fn number_of(digits: &[u8]) -> Option<u64>
 
 fn signed(minus: bool, n: u64) -> i64
     requires { n < 2 ^ 63 }
-    ensures { result ≡ signed minus n }
+    ensures { result ≡ signed_integer minus n }
 {
     let n = n as i64;
     if minus { -n } else { n }
@@ -88,7 +89,7 @@ fn signed(minus: bool, n: u64) -> i64
 /// The number of the digits that stand first, after so many bytes: F17 without a digit, F2 outside the integers.
 fn digits_after(before: usize, minus: bool, bytes: &[u8]) -> Taken
     requires { before + length bytes.now < 2 ^ 64 }
-    ensures { taken_of result ≡ digits_after before minus bytes.now }
+    ensures { read_result_of result ≡ digits_after before minus bytes.now }
 {
     let count = digits(bytes);
     if count == 0 {
@@ -103,7 +104,7 @@ fn digits_after(before: usize, minus: bool, bytes: &[u8]) -> Taken
 /// A number after so many blanks, F18 where nothing is left.
 fn number_after(before: usize, bytes: &[u8]) -> Taken
     requires { before + length bytes.now < 2 ^ 64 }
-    ensures { taken_of result ≡ number_after before bytes.now }
+    ensures { read_result_of result ≡ number_after before bytes.now }
 {
     let Some((first, _rest)) = bytes.split_first() else {
         return Taken::Fails(Fault::F18);
@@ -115,7 +116,7 @@ fn number_after(before: usize, bytes: &[u8]) -> Taken
 
 /// An integer: blanks, a sign, and as many digits as there are.
 pub fn number_in(bytes: &[u8]) -> Taken
-    ensures { taken_of result ≡ number_in bytes.now }
+    ensures { read_result_of result ≡ number_in bytes.now }
 {
     let before = blanks(bytes);
     number_after(before, &bytes[before..])
@@ -123,7 +124,7 @@ pub fn number_in(bytes: &[u8]) -> Taken
 
 /// A char: the next byte, a space for a line feed.
 pub fn char_in(bytes: &[u8]) -> Taken
-    ensures { taken_of result ≡ char_in bytes.now }
+    ensures { read_result_of result ≡ char_in bytes.now }
 {
     match bytes.split_first() {
         Some((b, _rest)) => Taken::Takes(if *b == 10 { 32 } else { *b as i64 }, 1),

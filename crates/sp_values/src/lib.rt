@@ -23,9 +23,9 @@
 //!
 //! To know:
 //! - Each call of arithmetic gives exactly what its definition in `sp_tree`'s `specs/Operators.antt` gives;
-//!   `specs/Worked.antt` leads from a result in memory to what is defined.
+//!   `specs/OperatorResults.antt` leads from a result in memory to what is defined.
 //! - All calls of items but `cut_to` give exactly what their definitions in `sp_tree`'s `specs/Items.antt` give;
-//!   `specs/Taking.antt` leads from a `Taken` in memory to what is defined.
+//!   `specs/ReadResults.antt` leads from a `Taken` in memory to what is defined.
 //!
 //! To change:
 //! - An operator: `src/arithmetic.rt`, and `sp_tree`'s `specs/Operators.antt`.

@@ -14,7 +14,7 @@ use Rattle.sp_tree.specs.Uses.{Use, Target, Seen, CallOf, ParallelOf, ForallOf, 
 use Rattle.sp_varsets.specs.declared.uses.Uses.{Uses}
 use Rattle.sp_varsets.specs.declared.var_set.VarSet.{VarSet}
 use Rattle.sp_varsets.specs.Members.{has}
-use Rattle.sp_varsets.specs.Adds.{Adds, AreEmpty, AreUnions, IsUnion, IsWithout, In_selector, In_actual}
+use Rattle.sp_varsets.specs.AddedUses.{AddsUses, AreEmpty, AreUnions, IsUnion, IsWithout, In_selector, In_actual}
 
 -- a step from A to B, which adds H, and one from B to C, which adds K
 then : {A B C H K : Type 0} → B ↔ (A ⊎ H) → C ↔ (B ⊎ K) → C ↔ (A ⊎ (H ⊎ K))
@@ -47,7 +47,7 @@ turned f to from = (
   λ s. elim s [ inl a ↦ f.1 (inl a) | inr k ↦ f.1 (inr (from k)) ],
 )
 
-pub adds_then : {a b c : Uses} {H K : Use → Type 0} → Adds a b H → Adds b c K → Adds a c (λ u. H u ⊎ K u)
+pub adds_then : {a b c : Uses} {H K : Use → Type 0} → AddsUses a b H → AddsUses b c K → AddsUses a c (λ u. H u ⊎ K u)
 adds_then f g = record {
   aims = λ x. then (f.aims x) (g.aims x);
   sees = λ x. then (f.sees x) (g.sees x);
@@ -55,7 +55,7 @@ adds_then f g = record {
   stops = then f.stops g.stops;
 }
 
-pub adds_nothing : (a : Uses) (H : Use → Type 0) → ((u : Use) → H u → ⊥) → Adds a a H
+pub adds_nothing : (a : Uses) (H : Use → Type 0) → ((u : Use) → H u → ⊥) → AddsUses a a H
 adds_nothing a H n = record {
   aims = λ x. none_more (n (Target x));
   sees = λ x. none_more (n (Seen x));
@@ -63,8 +63,8 @@ adds_nothing a H n = record {
   stops = none_more (n Stop);
 }
 
-pub adds_as : (a b : Uses) (H K : Use → Type 0) → Adds a b H → ((u : Use) → H u → K u) → ((u : Use) → K u → H u)
-    → Adds a b K
+pub adds_as : (a b : Uses) (H K : Use → Type 0) → AddsUses a b H → ((u : Use) → H u → K u) → ((u : Use) → K u → H u)
+    → AddsUses a b K
 adds_as a b H K f to from = record {
   aims = λ x. turned (f.aims x) (to (Target x)) (from (Target x));
   sees = λ x. turned (f.sees x) (to (Seen x)) (from (Seen x));
@@ -72,8 +72,9 @@ adds_as a b H K f to from = record {
   stops = turned f.stops (to Stop) (from Stop);
 }
 
-pub ok_then : {T E : Type 0} (r : Result T E) (a b c : Uses) (H K : Use → Type 0) → Adds a b H → OnOk r (Adds b c K)
-    → OnOk r (Adds a c (λ u. H u ⊎ K u))
+pub ok_then : {T E : Type 0} (r : Result T E) (a b c : Uses) (H K : Use → Type 0) → AddsUses a b H
+    → OnOk r (AddsUses b c K)
+    → OnOk r (AddsUses a c (λ u. H u ⊎ K u))
 ok_then (Ok v) a b c H K f g = adds_then f g
 ok_then (Err e) a b c H K f g = g
 
@@ -90,7 +91,7 @@ put_in old new v e x = (
 )
 
 pub aimed : (old new : Uses) (v : ℕ) → ((x : ℕ) → has new.aims x ≡ (v == x) || has old.aims x) → new.sees ≡ old.sees
-    → new.runs ≡ old.runs → new.stops ≡ old.stops → Adds old new (λ u. u ≡ Target v)
+    → new.runs ≡ old.runs → new.stops ≡ old.stops → AddsUses old new (λ u. u ≡ Target v)
 aimed old new v e s r t = record {
   aims = λ x. turned (put_in old.aims new.aims v e x) (λ i. ap (λ y. Target y) i) (λ i. cc);
   sees = λ x. subst (λ z. (has z x ≡ true) ↔ ((has old.sees x ≡ true) ⊎ (Seen x ≡ Target v))) (sym s)
@@ -101,7 +102,7 @@ aimed old new v e s r t = record {
 }
 
 pub seen : (old new : Uses) (v : ℕ) → ((x : ℕ) → has new.sees x ≡ (v == x) || has old.sees x) → new.aims ≡ old.aims
-    → new.runs ≡ old.runs → new.stops ≡ old.stops → Adds old new (λ u. u ≡ Seen v)
+    → new.runs ≡ old.runs → new.stops ≡ old.stops → AddsUses old new (λ u. u ≡ Seen v)
 seen old new v e s r t = record {
   aims = λ x. subst (λ z. (has z x ≡ true) ↔ ((has old.aims x ≡ true) ⊎ (Target x ≡ Seen v))) (sym s)
       (none_more (λ i. cc));
@@ -112,7 +113,7 @@ seen old new v e s r t = record {
 }
 
 pub ran : (old new : Uses) (v : ℕ) (args : Actuals) → ((x : ℕ) → has new.runs x ≡ (v == x) || has old.runs x)
-    → new.aims ≡ old.aims → new.sees ≡ old.sees → new.stops ≡ old.stops → Adds old new (λ u. u ≡ CallOf v args)
+    → new.aims ≡ old.aims → new.sees ≡ old.sees → new.stops ≡ old.stops → AddsUses old new (λ u. u ≡ CallOf v args)
 ran old new v args e s r t = record {
   aims = λ x. subst (λ z. (has z x ≡ true) ↔ ((has old.aims x ≡ true) ⊎ (Target x ≡ CallOf v args))) (sym s)
       (none_more (λ i. cc));
@@ -124,7 +125,7 @@ ran old new v args e s r t = record {
 }
 
 pub stopped : (old new : Uses) → ((x : ℕ) → has new.stops x ≡ (0 == x) || has old.stops x) → new.aims ≡ old.aims
-    → new.sees ≡ old.sees → new.runs ≡ old.runs → Adds old new (λ u. u ≡ Stop)
+    → new.sees ≡ old.sees → new.runs ≡ old.runs → AddsUses old new (λ u. u ≡ Stop)
 stopped old new e s r t = record {
   aims = λ x. subst (λ z. (has z x ≡ true) ↔ ((has old.aims x ≡ true) ⊎ (Target x ≡ Stop))) (sym s)
       (none_more (λ i. cc));
@@ -176,14 +177,14 @@ actuals_end [] (suc i) h = refl
 actuals_end (t ∷ ss) zero h = absurd (omega arith)
 actuals_end (t ∷ ss) (suc i) h = actuals_end ss i (omega arith)
 
-pub select_adds : (a b c : Uses) (s : p.Selector) (rest : p.Selectors) → Adds a b (In_selector s)
-    → Adds b c (In_selectors (bare_selectors rest)) → Adds a c (In_selectors (bare_selectors (p.Select s rest)))
+pub select_adds : (a b c : Uses) (s : p.Selector) (rest : p.Selectors) → AddsUses a b (In_selector s)
+    → AddsUses b c (In_selectors (bare_selectors rest)) → AddsUses a c (In_selectors (bare_selectors (p.Select s rest)))
 select_adds a b c (p.Index e) rest f g = adds_then f g
 select_adds a b c (p.Field n) rest f g = adds_as a c _ _ (adds_then f g)
     (λ u s. elim s [ inl h ↦ absurd h | inr h ↦ h ]) (λ u h. inr h)
 
-pub pass_adds : (a b c : Uses) (s : p.Actual) (rest : p.Actuals) → Adds a b (In_actual s)
-    → Adds b c (In_actuals (bare_actuals rest)) → Adds a c (In_actuals (bare_actuals (p.Pass s rest)))
+pub pass_adds : (a b c : Uses) (s : p.Actual) (rest : p.Actuals) → AddsUses a b (In_actual s)
+    → AddsUses b c (In_actuals (bare_actuals rest)) → AddsUses a c (In_actuals (bare_actuals (p.Pass s rest)))
 pass_adds a b c (p.ByValue e) rest f g = adds_then f g
 pass_adds a b c (p.ByReference v) rest f g = adds_then f g
 
@@ -195,13 +196,13 @@ gathered e m x H n f = (
   λ k. f.1 (inr k),
 )
 
-pub record Has (m : Uses) (Here : Use → Type 0) : Type 0 where
+pub record HasUses (m : Uses) (Here : Use → Type 0) : Type 0 where
   pub aims : (x : ℕ) → (has m.aims x ≡ true) ↔ Here (Target x)
   pub sees : (x : ℕ) → (has m.sees x ≡ true) ↔ Here (Seen x)
   pub runs : (f : ℕ) → (has m.runs f ≡ true) ↔ ((args : Actuals) × Here (CallOf f args))
   pub stops : (has m.stops 0 ≡ true) ↔ Here Stop
 
-pub from_empty : {e m : Uses} {H : Use → Type 0} → AreEmpty e → Adds e m H → Has m H
+pub from_empty : {e m : Uses} {H : Use → Type 0} → AreEmpty e → AddsUses e m H → HasUses m H
 from_empty n f = record {
   aims = λ x. gathered _ _ x _ (n.aims x) (f.aims x);
   sees = λ x. gathered _ _ x _ (n.sees x) (f.sees x);
@@ -215,7 +216,7 @@ joins f g = (
   λ s. elim s [ inl a ↦ f.1 (inl a) | inr h ↦ f.1 (inr (g.1 h)) ],
 )
 
-pub merged : {a m b : Uses} {H : Use → Type 0} → Has m H → AreUnions a m b → Adds a b H
+pub merged : {a m b : Uses} {H : Use → Type 0} → HasUses m H → AreUnions a m b → AddsUses a b H
 merged f u = record {
   aims = λ x. joins (u.aims x) (f.aims x);
   sees = λ x. joins (u.sees x) (f.sees x);
@@ -223,8 +224,9 @@ merged f u = record {
   stops = joins (u.stops 0) f.stops;
 }
 
-pub without : {m k : Uses} {H : Use → Type 0} (y : ℕ) → Has m H → IsWithout m.aims k.aims y → IsWithout m.sees k.sees y
-    → k.runs ≡ m.runs → k.stops ≡ m.stops → Has k (λ u. H u × IsOther y u)
+pub without : {m k : Uses} {H : Use → Type 0} (y : ℕ) → HasUses m H → IsWithout m.aims k.aims y
+    → IsWithout m.sees k.sees y
+    → k.runs ≡ m.runs → k.stops ≡ m.stops → HasUses k (λ u. H u × IsOther y u)
 without {m} {k} {H} y f a s r t = record {
   aims = λ x. (λ h. let o = (a x).0 h in ((f.aims x).0 o.0, o.1), λ h. (a x).1 ((f.aims x).1 h.0, h.1));
   sees = λ x. (λ h. let o = (s x).0 h in ((f.sees x).0 o.0, o.1), λ h. (s x).1 ((f.sees x).1 h.0, h.1));
@@ -236,7 +238,7 @@ without {m} {k} {H} y f a s r t = record {
 }
 
 -- a fork is no use of a variable
-pub splits_add : (a : Uses) (ss : Stmts) → Adds a a (λ u. u ≡ ParallelOf ss)
+pub splits_add : (a : Uses) (ss : Stmts) → AddsUses a a (λ u. u ≡ ParallelOf ss)
 splits_add a ss = record {
   aims = λ x. none_more (λ i. cc);
   sees = λ x. none_more (λ i. cc);
@@ -244,7 +246,7 @@ splits_add a ss = record {
   stops = none_more (λ i. cc);
 }
 
-pub spreads_add : (a : Uses) (y : ℕ) (s : Stmt) → Adds a a (λ u. u ≡ ForallOf y s)
+pub spreads_add : (a : Uses) (y : ℕ) (s : Stmt) → AddsUses a a (λ u. u ≡ ForallOf y s)
 spreads_add a y s = record {
   aims = λ x. none_more (λ i. cc);
   sees = λ x. none_more (λ i. cc);

@@ -19,7 +19,7 @@ use Rattle.sp_varsets.specs.declared.var_set.VarSet.{VarSet}
 use Rattle.sp_varsets.specs.Members.{has}
 use Rattle.sp_varsets.specs.Paths.{member}
 use Rattle.sp_varsets.specs.Bodies.{IsInBlocks, BodyAt, AreBodies, Declares, AreDeclared}
-use Rattle.sp_varsets.proofs.Adding.{Has}
+use Rattle.sp_varsets.proofs.Adding.{HasUses}
 
 -- a row put last
 pub member_before : (rows : List VarSet) (s : VarSet) (b x : ℕ) → b < length rows
@@ -54,7 +54,7 @@ pub bodies_more : (blocks : List p.Block) (old new : Bodies) (uses : Uses) (k : 
     → AreBodies blocks old n → slice_get blocks n ≡ Some k
     → new.aims ≡ old.aims ++ uses.aims ∷ [] → new.sees ≡ old.sees ++ uses.sees ∷ []
     → new.runs ≡ old.runs ++ uses.runs ∷ [] → new.stops ≡ old.stops ++ uses.stops ∷ []
-    → Has uses (In_stmt (bare_statement k.body)) → AreBodies blocks new (n + 1)
+    → HasUses uses (In_stmt (bare_statement k.body)) → AreBodies blocks new (n + 1)
 bodies_more blocks old new uses k n a at ea es er et h = record {
   aims = ap length ea ∙ (length_more old.aims uses.aims ∙ ap (λ m. m + 1) a.aims);
   sees = ap length es ∙ (length_more old.sees uses.sees ∙ ap (λ m. m + 1) a.sees);

@@ -1,5 +1,5 @@
 pub mod Items
-pub mod Found
+pub mod SetsFound
 pub mod Gathering
 pub mod Paths
 pub mod Totalling

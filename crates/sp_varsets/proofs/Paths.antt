@@ -6,7 +6,7 @@ use Rattle.std.proofs.lemmas.List.{length-set}
 use Rattle.sp_base.proofs.Facts.{and_not_from, and_not_parts, first_false, or_from_either, second_false}
 use Rattle.sp_varsets.specs.declared.var_set.VarSet.{VarSet}
 use Rattle.sp_varsets.specs.Members.{has}
-use Rattle.sp_varsets.specs.Paths.{row_has, member, Leads, Follows, Carried, Visited, Swept, Closes}
+use Rattle.sp_varsets.specs.Paths.{row_has, member, PathLeads, ExtendsByPaths, Carried, Visited, Swept, Closes}
 use Rattle.sp_varsets.proofs.Words.{below_words}
 
 -- rows of lists
@@ -141,14 +141,14 @@ visited_rest old new b runs hidden n m changed v none = record {
 }
 
 leads_led : (runs hidden old new : List VarSet)
-    → ((b x : ℕ) → member new b x ≡ true → (cs : List ℕ) × Leads old runs hidden cs b x) → (cs : List ℕ) (b x : ℕ)
-    → Leads new runs hidden cs b x → (ds : List ℕ) × Leads old runs hidden ds b x
+    → ((b x : ℕ) → member new b x ≡ true → (cs : List ℕ) × PathLeads old runs hidden cs b x) → (cs : List ℕ) (b x : ℕ)
+    → PathLeads new runs hidden cs b x → (ds : List ℕ) × PathLeads old runs hidden ds b x
 leads_led runs hidden old new f [] b x h = f b x h
 leads_led runs hidden old new f (c ∷ cs) b x (r, h, l) = let d = leads_led runs hidden old new f cs c x l in
     (c ∷ d.0, (r, h, d.1))
 
-pub follows_then : {runs hidden a b c : List VarSet} → Follows runs hidden a b → Follows runs hidden b c
-    → Follows runs hidden a c
+pub follows_then : {runs hidden a b c : List VarSet} → ExtendsByPaths runs hidden a b → ExtendsByPaths runs hidden b c
+    → ExtendsByPaths runs hidden a c
 follows_then {runs} {hidden} {a} {b} {c} f g = record {
   rows = g.rows ∙ f.rows;
   kept = λ d x h. g.kept d x (f.kept d x h);
@@ -157,7 +157,7 @@ follows_then {runs} {hidden} {a} {b} {c} f g = record {
 
 pub follows_visit : (runs hidden old new : List VarSet) (b n : ℕ) (r h : VarSet) (changed : Bool)
     → slice_get runs b ≡ Some r → slice_get hidden b ≡ Some h → Visited old new b r h n changed
-    → Follows runs hidden old new
+    → ExtendsByPaths runs hidden old new
 follows_visit runs hidden old new b n r h changed er eh v = record {
   rows = v.rows;
   kept = v.kept;
@@ -206,13 +206,13 @@ swept_more runs hidden old mid new b r h one two er eh small s v = record {
 pub all_led : (runs hidden rows old : List VarSet) → ((b x : ℕ) → member old b x ≡ true → member rows b x ≡ true)
     → ((b c x : ℕ) → member runs b c ≡ true → member hidden b x ≡ false → member rows c x ≡ true
     → member rows b x ≡ true)
-    → (cs : List ℕ) (b x : ℕ) → Leads old runs hidden cs b x → member rows b x ≡ true
+    → (cs : List ℕ) (b x : ℕ) → PathLeads old runs hidden cs b x → member rows b x ≡ true
 all_led runs hidden rows old kept full [] b x h = kept b x h
 all_led runs hidden rows old kept full (c ∷ cs) b x (r, h, l) =
     full b c x r h (all_led runs hidden rows old kept full cs c x l)
 
 pub closes : (runs hidden old mid new : List VarSet) (changed : Bool) → length runs ≡ length old
-    → Follows runs hidden old mid → Swept runs hidden mid new (length mid) changed → changed ≡ false
+    → ExtendsByPaths runs hidden old mid → Swept runs hidden mid new (length mid) changed → changed ≡ false
     → Closes runs hidden old new
 closes runs hidden old mid new changed len f s e =
     let all = follows_then f s.follows in record {
@@ -313,7 +313,7 @@ below_span [] b x h = absurd (let no : false ≡ true = h in cc)
 below_span (s ∷ rows) zero x h = let l = below_words s.words x h in omega arith
 below_span (s ∷ rows) (suc b) x h = let l = below_span rows b x h in omega arith
 
-pub leads_below : (runs hidden rows : List VarSet) (cs : List ℕ) (b x : ℕ) → Leads rows runs hidden cs b x
+pub leads_below : (runs hidden rows : List VarSet) (cs : List ℕ) (b x : ℕ) → PathLeads rows runs hidden cs b x
     → x < span rows
 leads_below runs hidden rows [] b x h = below_span rows b x h
 leads_below runs hidden rows (c ∷ cs) b x (r, h, l) = leads_below runs hidden rows cs c x l

@@ -5,17 +5,17 @@ use Rattle.std.proofs.lemmas.Option.{slice_get_within}
 use Rattle.std.proofs.lemmas.Bool.{false_from_ne_true}
 use Rattle.sp_base.proofs.Facts.{and_not_from, and_not_parts, get_of_map, item_there}
 use Rattle.sp_tree.specs.PlainChecked as p
-use Rattle.sp_tree.specs.Bare.{bare_statement, bare_block, bare}
+use Rattle.sp_tree.specs.Bare.{bare_statement, bare_block, without_places}
 use Rattle.sp_tree.specs.Plain.{Actuals, Program, Block}
 use Rattle.sp_tree.specs.Uses.{Use, CallOf, In_stmt}
-use Rattle.sp_tree.specs.Sets.{IsFree, Passes}
+use Rattle.sp_tree.specs.Sets.{IsFree, IsUseOfCallers}
 use Rattle.sp_tree.proofs.Closure.{IsReached}
-use Rattle.sp_tree.proofs.Reached.{OfBlock, IsClosed, all_of_block, step_here, step_call, of_part, from_part}
+use Rattle.sp_tree.proofs.Reached.{OfBlock, IsClosedUnderCalls, all_of_block, step_here, step_call, of_part, from_part}
 use Rattle.sp_varsets.specs.declared.bodies.Bodies.{Bodies}
 use Rattle.sp_varsets.specs.declared.var_set.VarSet.{VarSet}
 use Rattle.sp_varsets.specs.Bodies.{AreBodies, AreDeclared}
-use Rattle.sp_varsets.specs.Paths.{member, Leads, Closes}
-use Rattle.sp_varsets.specs.Records.{pooled}
+use Rattle.sp_varsets.specs.Paths.{member, PathLeads, Closes}
+use Rattle.sp_varsets.specs.Records.{pool_has}
 use Rattle.sp_varsets.specs.Totals.{IsInTotal}
 use Rattle.sp_varsets.proofs.Paths.{within_rows}
 
@@ -28,39 +28,43 @@ map_at f (x ∷ xs) (suc i) y e = map_at f xs i y e
 
 module _ (g : Program) (u : Use) (x : ℕ) (rows runs hidden : List VarSet) where
   -- the rows, the calls and what is hidden are those of the blocks
-  pub record Fits : Type 0 where
-    pub rows_of : (b : ℕ) → member rows b x ≡ true → (k : Block) × (slice_get g.blocks b ≡ Some k) × Passes g b u
+  pub record AreRowsOfBlocks : Type 0 where
+    pub rows_of : (b : ℕ) → member rows b x ≡ true → (k : Block) × (slice_get g.blocks b ≡ Some k)
+        × IsUseOfCallers g b u
         × In_stmt k.body u
-    pub rows_in : (b : ℕ) (k : Block) → slice_get g.blocks b ≡ Some k → Passes g b u → In_stmt k.body u
+    pub rows_in : (b : ℕ) (k : Block) → slice_get g.blocks b ≡ Some k → IsUseOfCallers g b u → In_stmt k.body u
         → member rows b x ≡ true
     pub runs_of : (b c : ℕ) → member runs b c ≡ true → (k : Block) × (slice_get g.blocks b ≡ Some k) × (args : Actuals)
         × In_stmt k.body (CallOf c args)
     pub runs_in : (b c : ℕ) (k : Block) (args : Actuals) → slice_get g.blocks b ≡ Some k
         → In_stmt k.body (CallOf c args) → member runs b c ≡ true
-    pub hidden_of : (b : ℕ) (k : Block) → slice_get g.blocks b ≡ Some k → member hidden b x ≡ false → Passes g b u
-    pub hidden_in : (b : ℕ) (k : Block) → slice_get g.blocks b ≡ Some k → Passes g b u → member hidden b x ≡ false
+    pub hidden_of : (b : ℕ) (k : Block) → slice_get g.blocks b ≡ Some k → member hidden b x ≡ false
+        → IsUseOfCallers g b u
+    pub hidden_in : (b : ℕ) (k : Block) → slice_get g.blocks b ≡ Some k → IsUseOfCallers g b u
+        → member hidden b x ≡ false
 
-  leads_to : Fits → (cs : List ℕ) (b : ℕ) → Leads rows runs hidden cs b x → OfBlock g b u
+  leads_to : AreRowsOfBlocks → (cs : List ℕ) (b : ℕ) → PathLeads rows runs hidden cs b x → OfBlock g b u
   leads_to f [] b h = let r = f.rows_of b h in step_here g b r.0 u r.1 r.2 r.3
   leads_to f (c ∷ cs) b (run, hide, l) = let r = f.runs_of b c run in
       step_call g b c r.0 r.2 u r.1 (f.hidden_of b r.0 r.1 hide) r.3 (leads_to f cs c l)
 
   abbrev Claim : ℕ → Use → Type 0
-  Claim b v = v ≡ u → (cs : List ℕ) × Leads rows runs hidden cs b x
+  Claim b v = v ≡ u → (cs : List ℕ) × PathLeads rows runs hidden cs b x
 
-  claims_closed : Fits → IsClosed g Claim
+  claims_closed : AreRowsOfBlocks → IsClosedUnderCalls g Claim
   claims_closed f b k e v passes = (
-    λ h i. ([], f.rows_in b k e (subst (λ w. Passes g b w) i passes) (subst (λ w. In_stmt k.body w) i h)),
+    λ h i. ([], f.rows_in b k e (subst (λ w. IsUseOfCallers g b w) i passes) (subst (λ w. In_stmt k.body w) i h)),
     λ c args h claim i. let l = claim i in (
       c ∷ l.0,
-      (f.runs_in b c k args e h, f.hidden_in b k e (subst (λ w. Passes g b w) i passes), l.1),
+      (f.runs_in b c k args e h, f.hidden_in b k e (subst (λ w. IsUseOfCallers g b w) i passes), l.1),
     ),
   )
 
-  to_leads : Fits → (b : ℕ) → OfBlock g b u → (cs : List ℕ) × Leads rows runs hidden cs b x
+  to_leads : AreRowsOfBlocks → (b : ℕ) → OfBlock g b u → (cs : List ℕ) × PathLeads rows runs hidden cs b x
   to_leads f b o = all_of_block g Claim (claims_closed f) b u o refl
 
-  pub closed_is : Fits → (new : List VarSet) → Closes runs hidden rows new → (b : ℕ) → (member new b x ≡ true)
+  pub closed_is : AreRowsOfBlocks → (new : List VarSet) → Closes runs hidden rows new → (b : ℕ)
+      → (member new b x ≡ true)
       ↔ OfBlock g b u
   closed_is f new c b = (
     λ h. let l = (c.members b x).0 h in leads_to f l.0 b l.1,
@@ -86,9 +90,9 @@ module _ (c : p.Program) (bodies : Bodies) (hidden rows own : List VarSet) (u : 
       → ((b : ℕ) (k : p.Block) → slice_get c.blocks b ≡ Some k → (member own b x ≡ true)
       ↔ In_stmt (bare_statement k.body) u)
       → ((b : ℕ) → member rows b x ≡ member own b x && not (member hidden b x))
-      → ((b : ℕ) → b < length c.blocks → member hidden b x ≡ false → Passes (bare c) b u)
-      → ((b : ℕ) → b < length c.blocks → Passes (bare c) b u → member hidden b x ≡ false)
-      → Fits (bare c) u x rows bodies.runs hidden
+      → ((b : ℕ) → b < length c.blocks → member hidden b x ≡ false → IsUseOfCallers (without_places c) b u)
+      → ((b : ℕ) → b < length c.blocks → IsUseOfCallers (without_places c) b u → member hidden b x ≡ false)
+      → AreRowsOfBlocks (without_places c) u x rows bodies.runs hidden
   fits bs count own_is shown passes hides = record {
     rows_of = λ b h.
         let s = and_not_parts (member own b x) (member hidden b x) (sym (shown b) ∙ h) in
@@ -117,7 +121,7 @@ module _ (c : p.Program) (bodies : Bodies) (hidden rows own : List VarSet) (u : 
 
 -- the set of a part, from what stands in it and the rows of the blocks that it calls
 pub total_is : (g : Program) (Here : Use → Type 0) (u : Use) (pool rows : List VarSet) (own runs x : ℕ)
-    → ((pooled pool own x ≡ true) ↔ Here u) → ((f : ℕ) → (pooled pool runs f ≡ true)
+    → ((pool_has pool own x ≡ true) ↔ Here u) → ((f : ℕ) → (pool_has pool runs f ≡ true)
     ↔ ((args : Actuals) × Here (CallOf f args)))
     → ((f : ℕ) → (member rows f x ≡ true) ↔ OfBlock g f u)
     → IsInTotal pool rows own runs x ↔ IsReached g Here u

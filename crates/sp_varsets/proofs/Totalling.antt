@@ -8,7 +8,7 @@ use Rattle.sp_varsets.specs.declared.var_set.VarSet.{VarSet}
 use Rattle.sp_varsets.specs.declared.walk.Own.{Own}
 use Rattle.sp_varsets.specs.Members.{has}
 use Rattle.sp_varsets.specs.Paths.{row_has, member}
-use Rattle.sp_varsets.specs.Records.{Extends, Stands, slot_at}
+use Rattle.sp_varsets.specs.Records.{Extends, IsSetOfIndex, slot_at}
 use Rattle.sp_varsets.specs.Totals.{IsInTotal, IsWithin, IsEntry, AreEntries, AreRowEntries}
 use Rattle.sp_varsets.proofs.Gathering.{length_more}
 use Rattle.sp_varsets.proofs.Paths.{none_past}
@@ -74,8 +74,9 @@ entries_more old mid new slots targets seen entries n o e a x at within is = rec
 
 pub row_entries_more : (old mid one new : List VarSet) (targets seen : List VarSet) (entries : List Entry) (n i j : ℕ)
     (s t : VarSet) → AreRowEntries old mid targets seen entries n
-    → slice_get targets n ≡ Some s → slice_get seen n ≡ Some t → Extends mid one → Stands one i (λ x. has s x ≡ true)
-    → Extends one new → Stands new j (λ x. has t x ≡ true)
+    → slice_get targets n ≡ Some s → slice_get seen n ≡ Some t → Extends mid one
+    → IsSetOfIndex one i (λ x. has s x ≡ true)
+    → Extends one new → IsSetOfIndex new j (λ x. has t x ≡ true)
     → AreRowEntries old new targets seen (entries ++ record { targets = i; expressions = j } ∷ []) (n + 1)
 row_entries_more old mid one new targets seen entries n i j s t a es et x si y tj = record {
   count = length_more entries (record { targets = i; expressions = j }) ∙ ap (λ k. k + 1) a.count;

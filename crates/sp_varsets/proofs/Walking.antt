@@ -19,11 +19,11 @@ use Rattle.sp_varsets.specs.declared.var_set.VarSet.{VarSet}
 use Rattle.sp_varsets.specs.declared.walk.Own.{Own}
 use Rattle.sp_varsets.specs.declared.walk.Walk.{Walk}
 use Rattle.sp_varsets.specs.Members.{has}
-use Rattle.sp_varsets.specs.Adds.{Adds, AreEmpty, AreUnions, IsWithout}
+use Rattle.sp_varsets.specs.AddedUses.{AddsUses, AreEmpty, AreUnions, IsWithout}
 use Rattle.sp_varsets.specs.Parts.{number_of, IsPart, IsInForm}
-use Rattle.sp_varsets.specs.Records.{Extends, Stands, Records, slot_at, Writes, Keeps}
+use Rattle.sp_varsets.specs.Records.{Extends, IsSetOfIndex, Records, slot_at, RecordsStatements, RecordsSets}
 use Rattle.sp_varsets.specs.Walks.{Walked}
-use Rattle.sp_varsets.proofs.Adding.{Has, adds_then, adds_nothing, from_empty, merged, without}
+use Rattle.sp_varsets.proofs.Adding.{HasUses, adds_then, adds_nothing, from_empty, merged, without}
 
 pub extends_self : (pool : List VarSet) → Extends pool pool
 extends_self pool = record { longer = omega arith; same = λ i x h. refl }
@@ -34,13 +34,14 @@ extends_then {a} {b} {c} f g = record {
   same = λ i x h. let l = f.longer in g.same i x (omega arith) ∙ f.same i x h;
 }
 
-pub stands_more : {a b : List VarSet} {i : ℕ} {F : ℕ → Type 0} → Extends a b → Stands a i F → Stands b i F
+pub stands_more : {a b : List VarSet} {i : ℕ} {F : ℕ → Type 0} → Extends a b → IsSetOfIndex a i F → IsSetOfIndex b i F
 stands_more {a} {b} {i} {F} e s = record {
   within = let l = e.longer in let w = s.within in omega arith;
   members = λ x. (λ h. (s.members x).0 (sym (e.same i x s.within) ∙ h), λ f. e.same i x s.within ∙ (s.members x).1 f);
 }
 
-pub stands_as : {a : List VarSet} {i : ℕ} {F G : ℕ → Type 0} → Stands a i F → ((x : ℕ) → F x ↔ G x) → Stands a i G
+pub stands_as : {a : List VarSet} {i : ℕ} {F G : ℕ → Type 0} → IsSetOfIndex a i F → ((x : ℕ) → F x ↔ G x)
+    → IsSetOfIndex a i G
 stands_as s e = record {
   within = s.within;
   members =
@@ -50,7 +51,7 @@ stands_as s e = record {
 pub records_more : {a b : List VarSet} {own : Own} {H : Use → Type 0} → Extends a b → Records a own H → Records b own H
 records_more e r = record { aims = stands_more e r.aims; sees = stands_more e r.sees; runs = stands_more e r.runs }
 
-pub writes_none : (w : Walk) (S : p.Statement → Type 0) → ((t : p.Statement) → S t → ⊥) → Writes w w S
+pub writes_none : (w : Walk) (S : p.Statement → Type 0) → ((t : p.Statement) → S t → ⊥) → RecordsStatements w w S
 writes_none w S n = record {
   pool = extends_self w.pool;
   all = λ t s. absurd (n t s);
@@ -58,8 +59,8 @@ writes_none w S n = record {
   only = λ n own e. inl e;
 }
 
-pub writes_then : {a b c : Walk} {S R : p.Statement → Type 0} → Writes a b S → Writes b c R
-    → Writes a c (λ t. S t ⊎ R t)
+pub writes_then : {a b c : Walk} {S R : p.Statement → Type 0} → RecordsStatements a b S → RecordsStatements b c R
+    → RecordsStatements a c (λ t. S t ⊎ R t)
 writes_then {a} {b} {c} {S} {R} f g = record {
   pool = extends_then f.pool g.pool;
   all = λ t s. elim s [ inl h ↦ (let o = f.all t h in g.kept (number_of t) o.0 o.1) | inr h ↦ g.all t h ];
@@ -71,8 +72,8 @@ writes_then {a} {b} {c} {S} {R} f g = record {
   ];
 }
 
-pub writes_as : {a b : Walk} {S R : p.Statement → Type 0} → Writes a b S → ((t : p.Statement) → S t → R t)
-    → ((t : p.Statement) → R t → S t) → Writes a b R
+pub writes_as : {a b : Walk} {S R : p.Statement → Type 0} → RecordsStatements a b S → ((t : p.Statement) → S t → R t)
+    → ((t : p.Statement) → R t → S t) → RecordsStatements a b R
 writes_as f to from = record {
   pool = f.pool;
   all = λ t r. f.all t (from t r);
@@ -80,8 +81,8 @@ writes_as f to from = record {
   only = λ n own e. elim (f.only n own e) [ inl before ↦ inl before | inr s ↦ inr (s.0, to s.0 s.1, s.2, s.3) ];
 }
 
-pub kept_writes : {w v : Walk} {uses : Uses} (t : p.Statement) → Has uses (In_stmt (bare_statement t))
-    → Keeps w v (number_of t) uses → Writes w v (λ u. u ≡ t)
+pub kept_writes : {w v : Walk} {uses : Uses} (t : p.Statement) → HasUses uses (In_stmt (bare_statement t))
+    → RecordsSets w v (number_of t) uses → RecordsStatements w v (λ u. u ≡ t)
 kept_writes {w} {v} {uses} t h k = record {
   pool = k.pool;
   all = λ u e. (k.slot.0, ap (λ z. slot_at v.slots (number_of z)) e ∙ k.slot.1);
@@ -105,15 +106,15 @@ kept_writes {w} {v} {uses} t h k = record {
       runs = stands_as k.slot.4 (λ x. h.runs x);
     }
 
-pub walked_none : {w : Walk} {a b : Uses} {H : Use → Type 0} → Adds a b H → Walked w w a b H (λ t. ⊥)
+pub walked_none : {w : Walk} {a b : Uses} {H : Use → Type 0} → AddsUses a b H → Walked w w a b H (λ t. ⊥)
 walked_none {w} f = record { adds = f; writes = writes_none w (λ t. ⊥) (λ t h. h) }
 
-pub walked_first : {w v : Walk} {a b c : Uses} {H K : Use → Type 0} {S : p.Statement → Type 0} → Adds a b H
+pub walked_first : {w v : Walk} {a b c : Uses} {H K : Use → Type 0} {S : p.Statement → Type 0} → AddsUses a b H
     → Walked w v b c K S → Walked w v a c (λ u. H u ⊎ K u) S
 walked_first f g = record { adds = adds_then f g.adds; writes = g.writes }
 
 pub walked_last : {w v : Walk} {a b c : Uses} {H K : Use → Type 0} {S : p.Statement → Type 0} → Walked w v a b H S
-    → Adds b c K → Walked w v a c (λ u. H u ⊎ K u) S
+    → AddsUses b c K → Walked w v a c (λ u. H u ⊎ K u) S
 walked_last f g = record { adds = adds_then f.adds g; writes = f.writes }
 
 pub walked_both : {w v x : Walk} {a b c : Uses} {H K : Use → Type 0} {S R : p.Statement → Type 0} → Walked w v a b H S
@@ -256,7 +257,7 @@ arms_end (c ∷ bs) zero h = absurd (omega arith)
 arms_end (c ∷ bs) (suc i) h = arms_end bs i (omega arith)
 
 pub statement_walked : {w v x : Walk} {a b e m : Uses} (n : ℕ) (at : Place) (f : p.Form) → AreEmpty e
-    → Walked w v e m (In_stmt (bare_statement_form f)) (λ t. IsInForm t f) → AreUnions a m b → Keeps v x n m
+    → Walked w v e m (In_stmt (bare_statement_form f)) (λ t. IsInForm t f) → AreUnions a m b → RecordsSets v x n m
     → Walked w x a b (In_stmt (bare_statement (p.Does n at f))) (λ t. IsPart t (p.Does n at f))
 statement_walked n at f empty walked union kept =
     let h = from_empty empty walked.adds in record {
@@ -277,18 +278,18 @@ element_walked y s empty walked aims sees runs stops union =
     }
 
 pub keeps_is : (old new : Walk) (p1 p2 p3 : List VarSet) (slots : List (Option Own)) (n i j k : ℕ) (uses : Uses)
-    → Extends old.pool p1 → Stands p1 i (λ x. has uses.aims x ≡ true) → Extends p1 p2
-    → Stands p2 j (λ x. has uses.sees x ≡ true) → Extends p2 p3 → Stands p3 k (λ x. has uses.runs x ≡ true)
+    → Extends old.pool p1 → IsSetOfIndex p1 i (λ x. has uses.aims x ≡ true) → Extends p1 p2
+    → IsSetOfIndex p2 j (λ x. has uses.sees x ≡ true) → Extends p2 p3 → IsSetOfIndex p3 k (λ x. has uses.runs x ≡ true)
     → new.pool ≡ p3 → ((m : ℕ) → slot_at slots m ≡ slot_at old.slots m) → n < length slots
-    → new.slots ≡ set slots n (Some (record { aims = i; sees = j; runs = k })) → Keeps old new n uses
+    → new.slots ≡ set slots n (Some (record { aims = i; sees = j; runs = k })) → RecordsSets old new n uses
 keeps_is old new p1 p2 p3 slots n i j k uses e1 s1 e2 s2 e3 s3 pool same room list = record {
   pool = subst (λ q. Extends old.pool q) (sym pool) (extends_then e1 (extends_then e2 e3));
   slot = (
     record { aims = i; sees = j; runs = k },
     ap (λ z. slot_at z n) list ∙ slot_put slots n (record { aims = i; sees = j; runs = k }) room,
-    subst (λ q. Stands q i (λ x. has uses.aims x ≡ true)) (sym pool) (stands_more e3 (stands_more e2 s1)),
-    subst (λ q. Stands q j (λ x. has uses.sees x ≡ true)) (sym pool) (stands_more e3 s2),
-    subst (λ q. Stands q k (λ x. has uses.runs x ≡ true)) (sym pool) s3,
+    subst (λ q. IsSetOfIndex q i (λ x. has uses.aims x ≡ true)) (sym pool) (stands_more e3 (stands_more e2 s1)),
+    subst (λ q. IsSetOfIndex q j (λ x. has uses.sees x ≡ true)) (sym pool) (stands_more e3 s2),
+    subst (λ q. IsSetOfIndex q k (λ x. has uses.runs x ≡ true)) (sym pool) s3,
   );
   others = λ m away. ap (λ z. slot_at z m) list
       ∙ (slot_other slots n m (Some (record { aims = i; sees = j; runs = k })) away ∙ same m);

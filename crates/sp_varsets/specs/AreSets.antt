@@ -4,7 +4,7 @@
 use Rattle.std.specs.Prelude.{◌≡◌, ◌↔◌, ℕ, zero, suc, ◌<◌, Bool, true, false, List, get_or, Option, Some, None}
 use Rattle.std.specs.Prelude.{slice_get}
 use Rattle.sp_tree.specs.PlainChecked as p
-use Rattle.sp_tree.specs.Bare.{bare_statement, bare}
+use Rattle.sp_tree.specs.Bare.{bare_statement, without_places}
 use Rattle.sp_tree.specs.Plain.{Program, Block}
 use Rattle.sp_tree.specs.Uses.{In_stmt}
 use Rattle.sp_tree.specs.Sets.{IsFree, IsTarget, IsSeen, ImplicitTarget, LeadsToStop}
@@ -15,9 +15,9 @@ use Rattle.sp_varsets.specs.Members.{has}
 use Rattle.sp_varsets.specs.Parts.{number_of, IsPart}
 
 -- 0 names the empty set, n + 1 the set of place n in the pool
-abbrev pub chosen : List VarSet → VarSet → ℕ → VarSet
-chosen pool nothing zero = nothing
-chosen pool nothing (suc i) = get_or pool i nothing
+abbrev pub set_of_index : List VarSet → VarSet → ℕ → VarSet
+set_of_index pool nothing zero = nothing
+set_of_index pool nothing (suc i) = get_or pool i nothing
 
 -- where the targets of an entry stand in the pool
 abbrev pub target_index : Option Entry → ℕ
@@ -31,17 +31,17 @@ expression_index (Some e) = e.expressions
 
 -- the targets and the expression variables of a statement, by its number
 unfoldable pub targets_of : Sets → ℕ → VarSet
-targets_of s n = chosen s.pool s.nothing (target_index (slice_get s.statements n))
+targets_of s n = set_of_index s.pool s.nothing (target_index (slice_get s.statements n))
 
 unfoldable pub expressions_of : Sets → ℕ → VarSet
-expressions_of s n = chosen s.pool s.nothing (expression_index (slice_get s.statements n))
+expressions_of s n = set_of_index s.pool s.nothing (expression_index (slice_get s.statements n))
 
 -- the implicit ones of a block
 unfoldable pub implicit_targets_of : Sets → ℕ → VarSet
-implicit_targets_of s b = chosen s.pool s.nothing (target_index (slice_get s.blocks b))
+implicit_targets_of s b = set_of_index s.pool s.nothing (target_index (slice_get s.blocks b))
 
 unfoldable pub implicit_expressions_of : Sets → ℕ → VarSet
-implicit_expressions_of s b = chosen s.pool s.nothing (expression_index (slice_get s.blocks b))
+implicit_expressions_of s b = set_of_index s.pool s.nothing (expression_index (slice_get s.blocks b))
 
 -- a call of the block leads to a statement that a function may not have
 unfoldable pub stops_of : Sets → ℕ → Bool
@@ -65,8 +65,8 @@ pub record OfBlock (g : Program) (s : Sets) (b : ℕ) : Type 0 where
 -- the sets are those of the tree: of every statement in each block's statement part, and of every block
 pub record AreSets (c : p.Program) (s : Sets) : Type 0 where
   pub statements : (b : ℕ) (k : p.Block) → slice_get c.blocks b ≡ Some k → (t : p.Statement) → IsPart t k.body
-      → OfStatement (bare c) s t
-  pub blocks : (b : ℕ) (k : p.Block) → slice_get c.blocks b ≡ Some k → OfBlock (bare c) s b
+      → OfStatement (without_places c) s t
+  pub blocks : (b : ℕ) (k : p.Block) → slice_get c.blocks b ≡ Some k → OfBlock (without_places c) s b
 
 -- two statements with one number are one
 abbrev pub HaveOwnNumbers : p.Program → Type 0

@@ -11,7 +11,7 @@ use Rattle.sp_varsets.specs.declared.bodies.Bodies.{Bodies}
 use Rattle.sp_varsets.specs.declared.uses.Uses.{Uses}
 use Rattle.sp_varsets.specs.declared.var_set.VarSet.{VarSet}
 use Rattle.sp_varsets.specs.declared.walk.Walk.{Walk}
-use Rattle.sp_varsets.specs.Adds.{AreEmpty}
+use Rattle.sp_varsets.specs.AddedUses.{AreEmpty}
 use Rattle.sp_varsets.specs.Parts.{IsPart}
 use Rattle.sp_varsets.specs.Paths.{member}
 use Rattle.sp_varsets.specs.Walks.{WalksStatement}
@@ -38,15 +38,15 @@ pub record AreBodies (blocks : List p.Block) (bodies : Bodies) (n : ℕ) : Type 
       → BodyAt bodies b (In_stmt (bare_statement k.body))
 
 -- these sets are the last rows
-pub record Puts (old new : Bodies) (uses : Uses) : Type 0 where
+pub record AppendsRows (old new : Bodies) (uses : Uses) : Type 0 where
   pub aims : new.aims ≡ old.aims ++ uses.aims ∷ []
   pub sees : new.sees ≡ old.sees ++ uses.sees ∷ []
   pub runs : new.runs ≡ old.runs ++ uses.runs ∷ []
   pub stops : new.stops ≡ old.stops ++ uses.stops ∷ []
 
 -- what stands in this block's statement part is in the last rows, and was recorded
-abbrev pub Enters : (old new : Bodies) → (before after : Walk) → p.Block → Type 0
-Enters old new before after k = (uses : Uses) × Puts old new uses
+abbrev pub AppendsBody : (old new : Bodies) → (before after : Walk) → p.Block → Type 0
+AppendsBody old new before after k = (uses : Uses) × AppendsRows old new uses
     × ((start : Uses) × AreEmpty start × WalksStatement before after start uses k.body)
 
 -- the variable is declared in the block or in one inside it

@@ -1,7 +1,7 @@
 pub mod Members
 pub mod Parts
 pub mod AreSets
-pub mod Adds
+pub mod AddedUses
 pub mod Records
 pub mod Walks
 pub mod Paths

@@ -15,13 +15,13 @@ abbrev pub has : VarSet → ℕ → Bool
 has s x = in_words s.words x
 
 -- y is the least variable of the set from this number on
-abbrev pub IsNext : VarSet → ℕ → ℕ → Type 0
-IsNext s from y = (from ≤ y) × (has s y ≡ true) × ((x : ℕ) → from ≤ x → x < y → has s x ≡ false)
+abbrev pub IsNextMember : VarSet → ℕ → ℕ → Type 0
+IsNextMember s from y = (from ≤ y) × (has s y ≡ true) × ((x : ℕ) → from ≤ x → x < y → has s x ≡ false)
 
 -- the variable lies in the window of a union
 abbrev pub InWindow : ℕ → ℕ → Type 0
 InWindow first x = (64 * first ≤ x) × (x < 64 * first + 8256)
 
 -- the union has the variable, of those in its window
-unfoldable pub joined : VarUnion → ℕ → Bool
-joined u x = in_words u.words (x - 64 * u.first)
+unfoldable pub union_has : VarUnion → ℕ → Bool
+union_has u x = in_words u.words (x - 64 * u.first)

@@ -16,16 +16,16 @@ abbrev pub member : List VarSet → ℕ → ℕ → Bool
 member rows b x = row_has (slice_get rows b) x
 
 -- the row of the last block of a path has the member, and no block before it hides it
-abbrev pub Leads : List VarSet → List VarSet → List VarSet → List ℕ → ℕ → ℕ → Type 0
-Leads rows runs hidden [] b x = member rows b x ≡ true
-Leads rows runs hidden (c ∷ cs) b x = (member runs b c ≡ true) × (member hidden b x ≡ false)
-    × Leads rows runs hidden cs c x
+abbrev pub PathLeads : List VarSet → List VarSet → List VarSet → List ℕ → ℕ → ℕ → Type 0
+PathLeads rows runs hidden [] b x = member rows b x ≡ true
+PathLeads rows runs hidden (c ∷ cs) b x = (member runs b c ≡ true) × (member hidden b x ≡ false)
+    × PathLeads rows runs hidden cs c x
 
 -- the new rows have what the old ones had, and only what paths lead to
-pub record Follows (runs hidden old new : List VarSet) : Type 0 where
+pub record ExtendsByPaths (runs hidden old new : List VarSet) : Type 0 where
   pub rows : length new ≡ length old
   pub kept : (b x : ℕ) → member old b x ≡ true → member new b x ≡ true
-  pub led : (b x : ℕ) → member new b x ≡ true → (cs : List ℕ) × Leads old runs hidden cs b x
+  pub led : (b x : ℕ) → member new b x ≡ true → (cs : List ℕ) × PathLeads old runs hidden cs b x
 
 -- the row of a block that is called was added to that of one that calls it
 pub record Carried (old new : List VarSet) (to from : ℕ) (hidden : VarSet) (changed : Bool) : Type 0 where
@@ -52,7 +52,7 @@ pub record Visited (old new : List VarSet) (b : ℕ) (runs hidden : VarSet) (n :
 
 -- so for all blocks below this number, one after another
 pub record Swept (runs hidden old new : List VarSet) (n : ℕ) (changed : Bool) : Type 0 where
-  pub follows : Follows runs hidden old new
+  pub follows : ExtendsByPaths runs hidden old new
   pub none : changed ≡ false → (b x : ℕ) → member new b x ≡ member old b x
   pub full : changed ≡ false → (b c x : ℕ) → b < n → member runs b c ≡ true → member hidden b x ≡ false
       → member new c x ≡ true → member new b x ≡ true
@@ -61,4 +61,4 @@ pub record Swept (runs hidden old new : List VarSet) (n : ℕ) (changed : Bool) 
 -- the new rows have exactly what paths lead to
 pub record Closes (runs hidden old new : List VarSet) : Type 0 where
   pub rows : length new ≡ length old
-  pub members : (b x : ℕ) → (member new b x ≡ true) ↔ ((cs : List ℕ) × Leads old runs hidden cs b x)
+  pub members : (b x : ℕ) → (member new b x ≡ true) ↔ ((cs : List ℕ) × PathLeads old runs hidden cs b x)

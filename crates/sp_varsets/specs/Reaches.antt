@@ -2,7 +2,7 @@
 -- What paths of calls lead to from all blocks, and the sets that are made of it. The contracts of `find` promise it.
 use Rattle.std.specs.Prelude.{◌≡◌, ℕ, false, not, ◌&&◌, List, length, get_or}
 use Rattle.sp_tree.specs.PlainChecked as p
-use Rattle.sp_tree.specs.Bare.{bare}
+use Rattle.sp_tree.specs.Bare.{without_places}
 use Rattle.sp_varsets.specs.declared.bodies.Bodies.{Bodies}
 use Rattle.sp_varsets.specs.declared.find.Reach.{Reach}
 use Rattle.sp_varsets.specs.declared.sets.Sets.{Sets}
@@ -18,16 +18,17 @@ abbrev pub AreShown : (own hidden rows : List VarSet) → Type 0
 AreShown own hidden rows = (b x : ℕ) → member rows b x ≡ member own b x && not (member hidden b x)
 
 -- the new rows are the closure of what is shown of a block's own
-pub record IsClosed (runs hidden own new : List VarSet) : Type 0 where
+pub record IsClosureOfShown (runs hidden own new : List VarSet) : Type 0 where
   pub rows : length new ≡ length own
   pub closes : (first : List VarSet) × AreShown own hidden first × Closes runs hidden first new
 
 -- so for all three kinds; statements that stop are hidden nowhere
 pub record Reaches (c : p.Program) (bodies : Bodies) (reach : Reach) : Type 0 where
-  pub declared : (hidden : List VarSet) × AreDeclared (bare c) hidden (length (bare c).variables)
-      × IsClosed bodies.runs hidden bodies.aims reach.targets × IsClosed bodies.runs hidden bodies.sees reach.seen
+  pub declared : (hidden : List VarSet) × AreDeclared (without_places c) hidden (length (without_places c).variables)
+      × IsClosureOfShown bodies.runs hidden bodies.aims reach.targets
+      × IsClosureOfShown bodies.runs hidden bodies.sees reach.seen
   pub free : (free : List VarSet) × ((b x : ℕ) → member free b x ≡ false)
-      × IsClosed bodies.runs free bodies.stops reach.stops
+      × IsClosureOfShown bodies.runs free bodies.stops reach.stops
 
 -- the entries name sets of the pool that have what was recorded and what the rows have; the middle pool is the one
 -- before the blocks' sets

@@ -16,36 +16,36 @@ use Rattle.sp_varsets.specs.Parts.{number_of}
 use Rattle.sp_varsets.specs.Paths.{row_has}
 
 -- the members of a set in the pool; 0 names the empty set, n + 1 the set of place n
-abbrev pub pooled : List VarSet → ℕ → ℕ → Bool
-pooled pool zero x = false
-pooled pool (suc i) x = row_has (slice_get pool i) x
+abbrev pub pool_has : List VarSet → ℕ → ℕ → Bool
+pool_has pool zero x = false
+pool_has pool (suc i) x = row_has (slice_get pool i) x
 
 -- the pool has what it had
 pub record Extends (old new : List VarSet) : Type 0 where
   pub longer : length old ≤ length new
-  pub same : (i x : ℕ) → i ≤ length old → pooled new i x ≡ pooled old i x
+  pub same : (i x : ℕ) → i ≤ length old → pool_has new i x ≡ pool_has old i x
 
 -- the set of this index has exactly these members
-pub record Stands (pool : List VarSet) (i : ℕ) (F : ℕ → Type 0) : Type 0 where
+pub record IsSetOfIndex (pool : List VarSet) (i : ℕ) (F : ℕ → Type 0) : Type 0 where
   pub within : i ≤ length pool
-  pub members : (x : ℕ) → (pooled pool i x ≡ true) ↔ F x
+  pub members : (x : ℕ) → (pool_has pool i x ≡ true) ↔ F x
 
 -- what is recorded of a statement is what stands in it
 pub record Records (pool : List VarSet) (own : Own) (Here : Use → Type 0) : Type 0 where
-  pub aims : Stands pool own.aims (λ x. Here (Target x))
-  pub sees : Stands pool own.sees (λ x. Here (Seen x))
-  pub runs : Stands pool own.runs (λ f. (args : Actuals) × Here (CallOf f args))
+  pub aims : IsSetOfIndex pool own.aims (λ x. Here (Target x))
+  pub sees : IsSetOfIndex pool own.sees (λ x. Here (Seen x))
+  pub runs : IsSetOfIndex pool own.runs (λ f. (args : Actuals) × Here (CallOf f args))
 
-abbrev pub known : Option (Option Own) → Option Own
-known None = None
-known (Some o) = o
+abbrev pub recorded_sets : Option (Option Own) → Option Own
+recorded_sets None = None
+recorded_sets (Some o) = o
 
 -- what is recorded under a number
 abbrev pub slot_at : List (Option Own) → ℕ → Option Own
-slot_at slots n = known (slice_get slots n)
+slot_at slots n = recorded_sets (slice_get slots n)
 
 -- these statements were recorded under their numbers, and nothing else changed
-pub record Writes (old new : Walk) (S : p.Statement → Type 0) : Type 0 where
+pub record RecordsStatements (old new : Walk) (S : p.Statement → Type 0) : Type 0 where
   pub pool : Extends old.pool new.pool
   pub all : (t : p.Statement) → S t → (own : Own) × (slot_at new.slots (number_of t) ≡ Some own)
   pub kept : (n : ℕ) (own : Own) → slot_at old.slots n ≡ Some own → (o : Own) × (slot_at new.slots n ≡ Some o)
@@ -54,8 +54,10 @@ pub record Writes (old new : Walk) (S : p.Statement → Type 0) : Type 0 where
       × Records new.pool own (In_stmt (bare_statement t)))
 
 -- the sets were recorded under this number, and nothing else changed
-pub record Keeps (old new : Walk) (n : ℕ) (uses : Uses) : Type 0 where
+pub record RecordsSets (old new : Walk) (n : ℕ) (uses : Uses) : Type 0 where
   pub pool : Extends old.pool new.pool
-  pub slot : (own : Own) × (slot_at new.slots n ≡ Some own) × Stands new.pool own.aims (λ x. has uses.aims x ≡ true)
-      × Stands new.pool own.sees (λ x. has uses.sees x ≡ true) × Stands new.pool own.runs (λ x. has uses.runs x ≡ true)
+  pub slot : (own : Own) × (slot_at new.slots n ≡ Some own) × IsSetOfIndex new.pool own.aims
+      (λ x. has uses.aims x ≡ true)
+      × IsSetOfIndex new.pool own.sees (λ x. has uses.sees x ≡ true) × IsSetOfIndex new.pool own.runs
+      (λ x. has uses.runs x ≡ true)
   pub others : (m : ℕ) → m ≢ n → slot_at new.slots m ≡ slot_at old.slots m

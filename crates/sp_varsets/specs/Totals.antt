@@ -7,7 +7,7 @@ use Rattle.sp_varsets.specs.declared.var_set.VarSet.{VarSet}
 use Rattle.sp_varsets.specs.declared.walk.Own.{Own}
 use Rattle.sp_varsets.specs.declared.walk.Walk.{Walk}
 use Rattle.sp_varsets.specs.Paths.{member}
-use Rattle.sp_varsets.specs.Records.{pooled, Extends, Stands, slot_at}
+use Rattle.sp_varsets.specs.Records.{pool_has, Extends, IsSetOfIndex, slot_at}
 
 -- the indexes name sets of the pool
 pub record IsWithin (pool : List VarSet) (own : Own) : Type 0 where
@@ -21,13 +21,13 @@ AreWithin w = (n : ℕ) (own : Own) → slot_at w.slots n ≡ Some own → IsWit
 
 -- a member of the statement's own set, or of the row of a block that is called in it
 abbrev pub IsInTotal : List VarSet → List VarSet → ℕ → ℕ → ℕ → Type 0
-IsInTotal pool rows own runs x = (pooled pool own x ≡ true)
-    ⊎ ((f : ℕ) × (pooled pool runs f ≡ true) × (member rows f x ≡ true))
+IsInTotal pool rows own runs x = (pool_has pool own x ≡ true)
+    ⊎ ((f : ℕ) × (pool_has pool runs f ≡ true) × (member rows f x ≡ true))
 
 -- the entry names the statement's sets; old is the pool before
 pub record IsEntry (old pool : List VarSet) (own : Own) (targets seen : List VarSet) (e : Entry) : Type 0 where
-  pub aims : Stands pool e.targets (λ x. IsInTotal old targets own.aims own.runs x)
-  pub sees : Stands pool e.expressions (λ x. IsInTotal old seen own.sees own.runs x)
+  pub aims : IsSetOfIndex pool e.targets (λ x. IsInTotal old targets own.aims own.runs x)
+  pub sees : IsSetOfIndex pool e.expressions (λ x. IsInTotal old seen own.sees own.runs x)
 
 -- each recorded statement below a number has an entry with its sets
 pub record AreEntries (old pool : List VarSet) (slots : List (Option Own)) (targets seen : List VarSet)
@@ -43,4 +43,5 @@ pub record AreRowEntries (old pool : List VarSet) (targets seen : List VarSet) (
   pub count : length entries ≡ n
   pub extends : Extends old pool
   pub each : (b : ℕ) → b < n → (e : Entry) × (slice_get entries b ≡ Some e)
-      × Stands pool e.targets (λ x. member targets b x ≡ true) × Stands pool e.expressions (λ x. member seen b x ≡ true)
+      × IsSetOfIndex pool e.targets (λ x. member targets b x ≡ true) × IsSetOfIndex pool e.expressions
+      (λ x. member seen b x ≡ true)

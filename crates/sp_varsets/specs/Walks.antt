@@ -7,14 +7,14 @@ use Rattle.sp_tree.specs.Bare.{bare_statement, bare_statement_form, bare_stateme
 use Rattle.sp_tree.specs.Uses.{Use, IsOther, In_stmt, In_stmts, In_arms}
 use Rattle.sp_varsets.specs.declared.uses.Uses.{Uses}
 use Rattle.sp_varsets.specs.declared.walk.Walk.{Walk}
-use Rattle.sp_varsets.specs.Adds.{Adds}
-use Rattle.sp_varsets.specs.Parts.{IsPart, IsInForm, IsAmong, IsInArms}
-use Rattle.sp_varsets.specs.Records.{Writes}
+use Rattle.sp_varsets.specs.AddedUses.{AddsUses}
+use Rattle.sp_varsets.specs.Parts.{IsPart, IsInForm, IsInStatements, IsInArms}
+use Rattle.sp_varsets.specs.Records.{RecordsStatements}
 
 -- the uses that stand here were added, and these statements recorded
 pub record Walked (old new : Walk) (before after : Uses) (Here : Use → Type 0) (S : p.Statement → Type 0) : Type 0 where
-  pub adds : Adds before after Here
-  pub writes : Writes old new S
+  pub adds : AddsUses before after Here
+  pub writes : RecordsStatements old new S
 
 abbrev pub WalksStatement : Walk → Walk → Uses → Uses → p.Statement → Type 0
 WalksStatement old new a b s = Walked old new a b (In_stmt (bare_statement s)) (λ t. IsPart t s)
@@ -23,7 +23,7 @@ abbrev pub WalksForm : Walk → Walk → Uses → Uses → p.Form → Type 0
 WalksForm old new a b f = Walked old new a b (In_stmt (bare_statement_form f)) (λ t. IsInForm t f)
 
 abbrev pub WalksStatements : Walk → Walk → Uses → Uses → p.Statements → Type 0
-WalksStatements old new a b ss = Walked old new a b (In_stmts (bare_statements ss)) (λ t. IsAmong t ss)
+WalksStatements old new a b ss = Walked old new a b (In_stmts (bare_statements ss)) (λ t. IsInStatements t ss)
 
 abbrev pub WalksArms : Walk → Walk → Uses → Uses → p.Arms → Type 0
 WalksArms old new a b choices = Walked old new a b (In_arms (bare_arms choices)) (λ t. IsInArms t choices)

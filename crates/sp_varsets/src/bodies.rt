@@ -2,18 +2,19 @@
 
 ghost use Rattle.std.specs.Prelude.{◌≡◌, ℕ, ◌<◌, ◌≤◌, ◌^◌, false, ◌||◌, ◌&&◌, ◌==◌, not, [], ◌∷◌, ◌++◌, OnOk, IfOk};
 ghost use Rattle.std.specs.Prelude.{map, length};
-ghost use Rattle.sp_tree.specs.Bare.{bare};
+ghost use Rattle.sp_tree.specs.Bare.{without_places};
 ghost use Rattle.sp_tree.specs.CheckedOf.{block_of, program_of};
-ghost use Rattle.sp_varsets.specs.Adds.{AreEmpty};
+ghost use Rattle.sp_varsets.specs.AddedUses.{AreEmpty};
 ghost use Rattle.sp_varsets.specs.AreSets.{HaveEarlierParents};
-ghost use Rattle.sp_varsets.specs.Bodies.{IsInBlocks, AreBodies, Puts, Enters, Declares, AreDeclared};
+ghost use Rattle.sp_varsets.specs.Bodies.{IsInBlocks, AreBodies, AppendsRows, AppendsBody, Declares, AreDeclared};
 ghost use Rattle.sp_varsets.specs.Paths.{member};
-ghost use Rattle.sp_varsets.specs.Records.{Writes};
+ghost use Rattle.sp_varsets.specs.Records.{RecordsStatements};
 
+use crate::take;
 use crate::uses::Uses;
 use crate::var_set::VarSet;
 use crate::walk::Walk;
-use sp_base::{List, Memory, take};
+use sp_base::{List, Memory};
 use sp_tree::{Block, Checked};
 use std::alloc::Global;
 
@@ -28,7 +29,7 @@ pub(crate) struct Bodies {
 
 /// Walks through the statement parts of all blocks.
 pub(crate) fn gather(walk: &mut Walk, blocks: &[Block]) -> Result<Bodies, Memory>
-    ensures walk { OnOk result (Writes walk.old walk.new (λ t. IsInBlocks (map block_of blocks.now) t)) }
+    ensures walk { OnOk result (RecordsStatements walk.old walk.new (λ t. IsInBlocks (map block_of blocks.now) t)) }
     ensures bodies { IfOk result (λ bodies. AreBodies (map block_of blocks.now) bodies (length blocks.now)) }
 {
     let alloc = walk.alloc;
@@ -47,7 +48,7 @@ pub(crate) fn gather(walk: &mut Walk, blocks: &[Block]) -> Result<Bodies, Memory
 impl Bodies {
     // Walks through the statement part of the next block.
     fn walk_in(&mut self, walk: &mut Walk, block: &Block) -> Result<(), Memory>
-        ensures { OnOk result (Enters self.old self.new walk.old walk.new (block_of block.now)) }
+        ensures { OnOk result (AppendsBody self.old self.new walk.old walk.new (block_of block.now)) }
     {
         let mut uses = Uses::new(walk.alloc);
         self.fill(walk, &mut uses, block)
@@ -55,7 +56,8 @@ impl Bodies {
 
     // The same, with sets of the block's own, which are empty.
     fn fill(&mut self, walk: &mut Walk, uses: &mut Uses, block: &Block) -> Result<(), Memory>
-        ensures { AreEmpty uses.old → OnOk result (Enters self.old self.new walk.old walk.new (block_of block.now)) }
+        ensures { AreEmpty uses.old
+            → OnOk result (AppendsBody self.old self.new walk.old walk.new (block_of block.now)) }
     {
         take!(walk.statement(uses, &block.body));
         self.put(uses)
@@ -63,7 +65,7 @@ impl Bodies {
 
     // Puts the sets of the next block last, out of those given.
     fn put(&mut self, uses: &mut Uses) -> Result<(), Memory>
-        ensures { OnOk result (Puts self.old self.new uses.old) }
+        ensures { OnOk result (AppendsRows self.old self.new uses.old) }
     {
         self.aims.push(uses.aims.take())?;
         self.sees.push(uses.sees.take())?;
@@ -107,7 +109,7 @@ fn declare(
 ) -> Result<(), Memory>
     requires parents { HaveEarlierParents (program_of checked.now) }
     requires rows { length rows.old ≡ length checked.now.blocks }
-    ensures { OnOk result (Declares (bare (program_of checked.now)) rows.old rows.new variable block) }
+    ensures { OnOk result (Declares (without_places (program_of checked.now)) rows.old rows.new variable block) }
 {
     let k = match checked.blocks.get(block as usize) {
         Some(k) => k,
@@ -129,7 +131,8 @@ fn declare(
 pub(crate) fn declared(checked: &Checked, alloc: Global) -> Result<List<VarSet>, Memory>
     requires parents { HaveEarlierParents (program_of checked.now) }
     requires small { length checked.now.variables ≤ 2 ^ 32 }
-    ensures { IfOk result (λ rows. AreDeclared (bare (program_of checked.now)) rows (length checked.now.variables)) }
+    ensures { IfOk result
+        (λ rows. AreDeclared (without_places (program_of checked.now)) rows (length checked.now.variables)) }
 {
     let mut rows = take!(empty_rows(alloc, checked.blocks.len()));
     let variables = checked.variables.items();

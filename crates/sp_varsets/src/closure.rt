@@ -2,10 +2,11 @@
 
 ghost use Rattle.std.specs.Prelude.{◌≡◌, ℕ, ◌^◌, ◌<◌, ◌≤◌, true, false, not, ◌||◌, ◌&&◌, OnOk, IfOk, length};
 ghost use Rattle.sp_varsets.specs.Members.{has};
-ghost use Rattle.sp_varsets.specs.Paths.{member, Follows, Carried, Visited, Swept, Closes};
+ghost use Rattle.sp_varsets.specs.Paths.{member, ExtendsByPaths, Carried, Visited, Swept, Closes};
 
+use crate::take;
 use crate::var_set::VarSet;
-use sp_base::{List, Memory, take};
+use sp_base::{List, Memory};
 
 // Adds to a row that of another block.
 pub(crate) fn add_row(
@@ -85,7 +86,7 @@ fn visit_one(
 ) -> Result<(), Memory>
     requires runs { length runs.now ≡ length rows.old }
     requires hidden { length hidden.now ≡ length rows.old }
-    ensures { OnOk result (Follows runs.now hidden.now rows.old rows.new) }
+    ensures { OnOk result (ExtendsByPaths runs.now hidden.now rows.old rows.new) }
 {
     if b >= rows.len() {
         return Ok(());
@@ -103,7 +104,7 @@ fn hurry(
 ) -> Result<(), Memory>
     requires runs { length runs.now ≡ length rows.old }
     requires hidden { length hidden.now ≡ length rows.old }
-    ensures { OnOk result (Follows runs.now hidden.now rows.old rows.new) }
+    ensures { OnOk result (ExtendsByPaths runs.now hidden.now rows.old rows.new) }
 {
     'steps: for block in order {
         take!(visit_one(rows, *block as usize, runs, hidden));

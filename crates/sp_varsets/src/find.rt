@@ -4,17 +4,18 @@ ghost use Rattle.std.specs.Prelude.{◌≡◌, ◌^◌, ◌≤◌, IfOk, length,
 ghost use Rattle.sp_tree.specs.CheckedOf.{program_of, block_of};
 ghost use Rattle.sp_varsets.specs.AreSets.{AreSets, HaveOwnNumbers, HaveEarlierParents};
 ghost use Rattle.sp_varsets.specs.Bodies.{AreBodies};
-ghost use Rattle.sp_varsets.specs.Reaches.{Reaches, IsClosed, ArePooled};
+ghost use Rattle.sp_varsets.specs.Reaches.{Reaches, IsClosureOfShown, ArePooled};
 ghost use Rattle.sp_varsets.specs.Totals.{AreWithin};
 
 use crate::bodies::{Bodies, declared, empty_rows, gather, shown};
 use crate::closure::close;
 use crate::order::inner_first;
 use crate::sets::Sets;
+use crate::take;
 use crate::totals::{flags, row_entries, statement_entries};
 use crate::var_set::VarSet;
 use crate::walk::Walk;
-use sp_base::{List, Memory, take};
+use sp_base::{List, Memory};
 use sp_tree::Checked;
 use std::alloc::Global;
 
@@ -38,7 +39,7 @@ fn closed(
     requires runs { length runs.now ≡ length own.now }
     requires hidden { length hidden.now ≡ length own.now }
     requires small { length own.now ≤ 2 ^ 32 }
-    ensures { IfOk result (λ rows. IsClosed runs.now hidden.now own.now rows) }
+    ensures { IfOk result (λ rows. IsClosureOfShown runs.now hidden.now own.now rows) }
 {
     let mut rows = take!(shown(alloc, own, hidden));
     take!(close(&mut rows, order, runs, hidden));

@@ -1,7 +1,7 @@
 //! The sets of a tree, by the numbers of its statements and blocks (`Sets`).
 
 ghost use Rattle.std.specs.Prelude.{◌≡◌};
-ghost use Rattle.sp_varsets.specs.AreSets.{chosen, targets_of, expressions_of, implicit_targets_of};
+ghost use Rattle.sp_varsets.specs.AreSets.{set_of_index, targets_of, expressions_of, implicit_targets_of};
 ghost use Rattle.sp_varsets.specs.AreSets.{implicit_expressions_of, stops_of};
 
 use crate::var_set::VarSet;
@@ -28,7 +28,7 @@ impl Sets {
     // The set of this index: 0 names the empty set, n + 1 the set of place n in the pool.
     #[tactic(auto, using(crate::proofs::Items::chosen_none, crate::proofs::Items::chosen_first, crate::proofs::Items::chosen_past))]
     fn pooled(&self, at: u32) -> &VarSet
-        ensures { result.now ≡ chosen self.now.pool self.now.nothing at }
+        ensures { result.now ≡ set_of_index self.now.pool self.now.nothing at }
     {
         if at == 0 {
             return &self.nothing;

@@ -8,15 +8,16 @@ ghost use Rattle.sp_tree.specs.Plain.{Receive};
 ghost use Rattle.sp_tree.specs.Plain.{Expr as AnExpr};
 ghost use Rattle.sp_tree.specs.Uses.{In_expr, In_stmt};
 ghost use Rattle.sp_varsets.specs.declared.uses.Uses.{Uses as AUses};
-ghost use Rattle.sp_varsets.specs.Adds.{Adds, AreEmpty};
+ghost use Rattle.sp_varsets.specs.AddedUses.{AddsUses, AreEmpty};
 
+use crate::take;
 use crate::uses::Uses;
-use sp_base::{Memory, take};
+use sp_base::Memory;
 use sp_tree::{Actual, Expr, Var};
 
 impl Uses {
     pub(crate) fn assign(&mut self, v: &Var, e: &Expr) -> Result<(), Memory>
-        ensures { OnOk result (Adds self.old self.new
+        ensures { OnOk result (AddsUses self.old self.new
             (In_stmt (Assign (bare_variable (variable_of v.now)) (bare_expression (expression_of e.now))))) }
     {
         take!(self.target(v));
@@ -24,7 +25,7 @@ impl Uses {
     }
 
     pub(crate) fn call(&mut self, block: u32, args: &[Actual]) -> Result<(), Memory>
-        ensures { OnOk result (Adds self.old self.new
+        ensures { OnOk result (AddsUses self.old self.new
             (In_stmt (Call block (bare_actuals (actuals (map actual_of args.now)))))) }
     {
         take!(self.run(block));
@@ -32,7 +33,7 @@ impl Uses {
     }
 
     pub(crate) fn read_value(&mut self, v: &Var) -> Result<(), Memory>
-        ensures { OnOk result (Adds self.old self.new (In_stmt (ReadValue (bare_variable (variable_of v.now))))) }
+        ensures { OnOk result (AddsUses self.old self.new (In_stmt (ReadValue (bare_variable (variable_of v.now))))) }
     {
         take!(self.aim(0));
         take!(self.target(v));
@@ -40,14 +41,14 @@ impl Uses {
     }
 
     pub(crate) fn read_line(&mut self) -> Result<(), Memory>
-        ensures { OnOk result (Adds self.old self.new (In_stmt ReadLine)) }
+        ensures { OnOk result (AddsUses self.old self.new (In_stmt ReadLine)) }
     {
         take!(self.aim(0));
         self.stop()
     }
 
     pub(crate) fn write_value(&mut self, e: &Expr, w: &Option<Expr>) -> Result<(), Memory>
-        ensures { OnOk result (Adds self.old self.new
+        ensures { OnOk result (AddsUses self.old self.new
             (In_stmt (WriteValue (bare_expression (expression_of e.now)) (bare_width (width_of w.now))))) }
     {
         take!(self.aim(1));
@@ -58,7 +59,7 @@ impl Uses {
 
     pub(crate) fn write_text(&mut self, w: &Option<Expr>) -> Result<(), Memory>
         ensures { OnOk result ((text : List ℕ)
-            → Adds self.old self.new (In_stmt (WriteText text (bare_width (width_of w.now))))) }
+            → AddsUses self.old self.new (In_stmt (WriteText text (bare_width (width_of w.now))))) }
     {
         take!(self.aim(1));
         take!(self.width(w));
@@ -66,21 +67,21 @@ impl Uses {
     }
 
     pub(crate) fn write_line(&mut self) -> Result<(), Memory>
-        ensures { OnOk result (Adds self.old self.new (In_stmt WriteLine)) }
+        ensures { OnOk result (AddsUses self.old self.new (In_stmt WriteLine)) }
     {
         take!(self.aim(1));
         self.stop()
     }
 
     pub(crate) fn open(&mut self, v: &Var) -> Result<(), Memory>
-        ensures { OnOk result (Adds self.old self.new (In_stmt (Open (bare_variable (variable_of v.now))))) }
+        ensures { OnOk result (AddsUses self.old self.new (In_stmt (Open (bare_variable (variable_of v.now))))) }
     {
         take!(self.target(v));
         self.stop()
     }
 
     pub(crate) fn send(&mut self, c: &Expr, e: &Expr) -> Result<(), Memory>
-        ensures { OnOk result (Adds self.old self.new
+        ensures { OnOk result (AddsUses self.old self.new
             (In_stmt (Send (bare_expression (expression_of c.now)) (bare_expression (expression_of e.now))))) }
     {
         take!(self.expression(c));
@@ -89,7 +90,7 @@ impl Uses {
     }
 
     pub(crate) fn receive(&mut self, c: &Expr, variable: &Var) -> Result<(), Memory>
-        ensures { OnOk result (Adds self.old self.new
+        ensures { OnOk result (AddsUses self.old self.new
             (In_stmt (Receive (bare_expression (expression_of c.now)) (bare_variable (variable_of variable.now))))) }
     {
         take!(self.expression(c));
@@ -99,8 +100,8 @@ impl Uses {
 
     // A send on a channel whose uses are known.
     pub(crate) fn send_through(&mut self, through: &Uses, e: &Expr) -> Result<(), Memory>
-        ensures { OnOk result ((c : AnExpr) (start : AUses) → AreEmpty start → Adds start through.now (In_expr c)
-            → Adds self.old self.new (In_stmt (Send c (bare_expression (expression_of e.now))))) }
+        ensures { OnOk result ((c : AnExpr) (start : AUses) → AreEmpty start → AddsUses start through.now (In_expr c)
+            → AddsUses self.old self.new (In_stmt (Send c (bare_expression (expression_of e.now))))) }
     {
         take!(self.merge(through));
         take!(self.expression(e));
@@ -109,8 +110,8 @@ impl Uses {
 
     // A receive from a channel whose uses are known.
     pub(crate) fn receive_through(&mut self, through: &Uses, v: &Var) -> Result<(), Memory>
-        ensures { OnOk result ((c : AnExpr) (start : AUses) → AreEmpty start → Adds start through.now (In_expr c)
-            → Adds self.old self.new (In_stmt (Receive c (bare_variable (variable_of v.now))))) }
+        ensures { OnOk result ((c : AnExpr) (start : AUses) → AreEmpty start → AddsUses start through.now (In_expr c)
+            → AddsUses self.old self.new (In_stmt (Receive c (bare_variable (variable_of v.now))))) }
     {
         take!(self.merge(through));
         take!(self.target(v));

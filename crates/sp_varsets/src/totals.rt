@@ -3,15 +3,16 @@
 ghost use Rattle.std.specs.Prelude.{◌≡◌, ◌↔◌, ◌⊎◌, ℕ, ◌^◌, ◌<◌, ◌≤◌, true, false, Some, OnOk, IfOk, length, get_or};
 ghost use Rattle.sp_varsets.specs.Members.{has};
 ghost use Rattle.sp_varsets.specs.Paths.{member};
-ghost use Rattle.sp_varsets.specs.Records.{pooled, Extends, Stands, slot_at};
+ghost use Rattle.sp_varsets.specs.Records.{pool_has, Extends, IsSetOfIndex, slot_at};
 ghost use Rattle.sp_varsets.specs.declared.walk.Own.{Own};
 ghost use Rattle.sp_varsets.specs.Totals.{IsInTotal, IsWithin, AreWithin, IsEntry, AreEntries, AreRowEntries};
 
 use crate::closure::add_row;
 use crate::sets::Entry;
+use crate::take;
 use crate::var_set::VarSet;
 use crate::walk::{Own, Walk};
-use sp_base::{List, Memory, take};
+use sp_base::{List, Memory};
 use std::alloc::Global;
 
 // Adds the rows of all blocks of a set.
@@ -53,7 +54,7 @@ impl Walk {
     fn add_pooled(&self, all: &mut VarSet, index: u32, nothing: &VarSet) -> Result<(), Memory>
         requires nothing { (x : ℕ) → has nothing.now x ≡ false }
         ensures { OnOk result ((x : ℕ) → (has all.new x ≡ true)
-            ↔ ((has all.old x ≡ true) ⊎ (pooled self.now.pool index x ≡ true))) }
+            ↔ ((has all.old x ≡ true) ⊎ (pool_has self.now.pool index x ≡ true))) }
     {
         if index == 0 {
             return Ok(());
@@ -73,7 +74,7 @@ impl Walk {
         requires nothing { (x : ℕ) → has nothing.now x ≡ false }
         requires small { length rows.now ≤ 2 ^ 32 }
         ensures { OnOk result ((x : ℕ) → (has all.new x ≡ true)
-            ↔ ((has all.old x ≡ true) ⊎ ((f : ℕ) × (pooled self.now.pool runs f ≡ true)
+            ↔ ((has all.old x ≡ true) ⊎ ((f : ℕ) × (pool_has self.now.pool runs f ≡ true)
             × (member rows.now f x ≡ true)))) }
     {
         if runs == 0 {
@@ -101,7 +102,8 @@ impl Walk {
         requires within { own ≤ length self.old.pool }
         ensures slots { self.new.slots ≡ self.old.slots }
         ensures pool { OnOk result (Extends self.old.pool self.new.pool) }
-        ensures set { IfOk result (λ i. Stands self.new.pool i (λ x. IsInTotal self.old.pool rows.now own runs x)) }
+        ensures set { IfOk result
+            (λ i. IsSetOfIndex self.new.pool i (λ x. IsInTotal self.old.pool rows.now own runs x)) }
     {
         if runs == 0 {
             return Ok(own);
@@ -119,7 +121,7 @@ fn put_row(walk: &mut Walk, row: &VarSet, nothing: &VarSet) -> Result<u32, Memor
     requires nothing { (x : ℕ) → has nothing.now x ≡ false }
     ensures slots { walk.new.slots ≡ walk.old.slots }
     ensures pool { OnOk result (Extends walk.old.pool walk.new.pool) }
-    ensures set { IfOk result (λ i. Stands walk.new.pool i (λ x. has row.now x ≡ true)) }
+    ensures set { IfOk result (λ i. IsSetOfIndex walk.new.pool i (λ x. has row.now x ≡ true)) }
 {
     let mut copy = VarSet::new(walk.alloc);
     let _grew = take!(copy.add(row, nothing));

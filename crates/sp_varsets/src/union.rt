@@ -1,7 +1,7 @@
 //! Unions of sets without memory (`VarUnion`).
 
 ghost use Rattle.std.specs.Prelude.{◌≡◌, ◌↔◌, ℕ, true, false, ◌||◌, IsTrue, length};
-ghost use Rattle.sp_varsets.specs.Members.{has, InWindow, joined};
+ghost use Rattle.sp_varsets.specs.Members.{has, InWindow, union_has};
 
 use crate::var_set::VarSet;
 
@@ -16,7 +16,7 @@ impl VarUnion {
     /// The empty union, of the variables from number `64 * first` on.
     pub fn new(first: u32) -> VarUnion
         ensures first { result.first ≡ first }
-        ensures empty { (x : ℕ) → joined result x ≡ false }
+        ensures empty { (x : ℕ) → union_has result x ≡ false }
     {
         VarUnion {
             first,
@@ -27,7 +27,8 @@ impl VarUnion {
     /// Adds the variables of the set.
     pub fn add(&mut self, set: &VarSet)
         ensures first { self.new.first ≡ self.old.first }
-        ensures added { (x : ℕ) → InWindow self.old.first x → joined self.new x ≡ joined self.old x || has set.now x }
+        ensures added { (x : ℕ) → InWindow self.old.first x → union_has self.new x ≡ union_has self.old x || has
+            set.now x }
     {
         let first = self.first as usize;
         let others = set.words.items();
@@ -39,7 +40,7 @@ impl VarUnion {
 
     /// Whether the union and the set have a variable in common, of those in the union's window.
     pub fn meets(&self, set: &VarSet) -> bool
-        ensures { IsTrue result ↔ ((x : ℕ) × InWindow self.now.first x × (joined self.now x ≡ true)
+        ensures { IsTrue result ↔ ((x : ℕ) × InWindow self.now.first x × (union_has self.now x ≡ true)
             × (has set.now x ≡ true)) }
     {
         let first = self.first as usize;

@@ -8,13 +8,25 @@ ghost use Rattle.sp_tree.specs.CheckedOf.{actual_of, actuals, width_of};
 ghost use Rattle.sp_tree.specs.Plain.{Actuals};
 ghost use Rattle.sp_tree.specs.Uses.{Target, Seen, CallOf, Stop, In_expr, In_form, In_read, In_target, In_selectors};
 ghost use Rattle.sp_tree.specs.Uses.{In_actuals, In_width};
-ghost use Rattle.sp_varsets.specs.Adds.{Adds, AreEmpty, AreUnions, IsWithout, In_selector, In_actual};
+ghost use Rattle.sp_varsets.specs.AddedUses.{AddsUses, AreEmpty, AreUnions, IsWithout, In_selector, In_actual};
 ghost use Rattle.sp_varsets.specs.Members.{has};
 
 use crate::var_set::VarSet;
 use sp_base::Memory;
 use sp_tree::{Actual, Expr, ExprForm, Selector, Var};
 use std::alloc::Global;
+
+/// The value; where there is none, the function around ends so: one match, where `?` is two generic calls. Each crate
+/// that uses it has its own, since proofs name the steps of another crate's macro otherwise.
+#[macro_export]
+macro_rules! take {
+    ($result:expr) => {
+        match $result {
+            Ok(value) => value,
+            Err(memory) => return Err(memory),
+        }
+    };
+}
 
 /// What stands in a part of a tree: the variables of target positions and of expression positions, and the blocks
 /// that are called. `stops` has 0 where a statement stands there that a function may not have.
@@ -40,27 +52,27 @@ impl Uses {
 
     #[tactic(auto, using(crate::proofs::Adding::aimed))]
     pub(crate) fn aim(&mut self, variable: u32) -> Result<(), Memory>
-        ensures { OnOk result (Adds self.old self.new (λ u. u ≡ Target variable)) }
+        ensures { OnOk result (AddsUses self.old self.new (λ u. u ≡ Target variable)) }
     {
         self.aims.insert(variable)
     }
 
     #[tactic(auto, using(crate::proofs::Adding::seen))]
     pub(crate) fn see(&mut self, variable: u32) -> Result<(), Memory>
-        ensures { OnOk result (Adds self.old self.new (λ u. u ≡ Seen variable)) }
+        ensures { OnOk result (AddsUses self.old self.new (λ u. u ≡ Seen variable)) }
     {
         self.sees.insert(variable)
     }
 
     pub(crate) fn run(&mut self, block: u32) -> Result<(), Memory>
-        ensures { OnOk result ((args : Actuals) → Adds self.old self.new (λ u. u ≡ CallOf block args)) }
+        ensures { OnOk result ((args : Actuals) → AddsUses self.old self.new (λ u. u ≡ CallOf block args)) }
     {
         self.runs.insert(block)
     }
 
     #[tactic(auto, using(crate::proofs::Adding::stopped))]
     pub(crate) fn stop(&mut self) -> Result<(), Memory>
-        ensures { OnOk result (Adds self.old self.new (λ u. u ≡ Stop)) }
+        ensures { OnOk result (AddsUses self.old self.new (λ u. u ≡ Stop)) }
     {
         self.stops.insert(0)
     }
@@ -88,14 +100,14 @@ impl Uses {
 
     #[cycle(uses)]
     pub(crate) fn expression(&mut self, e: &Expr) -> Result<(), Memory>
-        ensures { OnOk result (Adds self.old self.new (In_expr (bare_expression (expression_of e.now)))) }
+        ensures { OnOk result (AddsUses self.old self.new (In_expr (bare_expression (expression_of e.now)))) }
     {
         self.form(&e.form)
     }
 
     #[cycle(uses)]
     fn form(&mut self, form: &ExprForm) -> Result<(), Memory>
-        ensures { OnOk result (Adds self.old self.new (In_form (bare_form (expression_form_of form.now)))) }
+        ensures { OnOk result (AddsUses self.old self.new (In_form (bare_form (expression_form_of form.now)))) }
     {
         match form {
             ExprForm::Number(_) => Ok(()),
@@ -118,7 +130,7 @@ impl Uses {
 
     #[cycle(uses)]
     fn read(&mut self, v: &Var) -> Result<(), Memory>
-        ensures { OnOk result (Adds self.old self.new (In_read (bare_variable (variable_of v.now)))) }
+        ensures { OnOk result (AddsUses self.old self.new (In_read (bare_variable (variable_of v.now)))) }
     {
         self.see(v.variable)?;
         self.selectors(v.selectors.items())
@@ -126,7 +138,7 @@ impl Uses {
 
     #[cycle(uses)]
     pub(crate) fn target(&mut self, v: &Var) -> Result<(), Memory>
-        ensures { OnOk result (Adds self.old self.new (In_target (bare_variable (variable_of v.now)))) }
+        ensures { OnOk result (AddsUses self.old self.new (In_target (bare_variable (variable_of v.now)))) }
     {
         self.aim(v.variable)?;
         self.selectors(v.selectors.items())
@@ -134,7 +146,7 @@ impl Uses {
 
     #[cycle(uses)]
     fn selectors(&mut self, ss: &[Selector]) -> Result<(), Memory>
-        ensures { OnOk result (Adds self.old self.new
+        ensures { OnOk result (AddsUses self.old self.new
             (In_selectors (bare_selectors (selectors (map selector_of ss.now))))) }
     {
         for s in ss {
@@ -145,7 +157,7 @@ impl Uses {
 
     #[cycle(uses)]
     fn selector(&mut self, s: &Selector) -> Result<(), Memory>
-        ensures { OnOk result (Adds self.old self.new (In_selector (selector_of s.now))) }
+        ensures { OnOk result (AddsUses self.old self.new (In_selector (selector_of s.now))) }
     {
         match s {
             Selector::Index(e) => self.expression(e),
@@ -155,7 +167,8 @@ impl Uses {
 
     #[cycle(uses)]
     pub(crate) fn actuals(&mut self, args: &[Actual]) -> Result<(), Memory>
-        ensures { OnOk result (Adds self.old self.new (In_actuals (bare_actuals (actuals (map actual_of args.now))))) }
+        ensures { OnOk result
+            (AddsUses self.old self.new (In_actuals (bare_actuals (actuals (map actual_of args.now))))) }
     {
         for a in args {
             self.actual(a)?;
@@ -165,7 +178,7 @@ impl Uses {
 
     #[cycle(uses)]
     fn actual(&mut self, a: &Actual) -> Result<(), Memory>
-        ensures { OnOk result (Adds self.old self.new (In_actual (actual_of a.now))) }
+        ensures { OnOk result (AddsUses self.old self.new (In_actual (actual_of a.now))) }
     {
         match a {
             Actual::Value(e) => self.expression(e),
@@ -174,7 +187,7 @@ impl Uses {
     }
 
     pub(crate) fn width(&mut self, w: &Option<Expr>) -> Result<(), Memory>
-        ensures { OnOk result (Adds self.old self.new (In_width (bare_width (width_of w.now)))) }
+        ensures { OnOk result (AddsUses self.old self.new (In_width (bare_width (width_of w.now)))) }
     {
         match w {
             Some(e) => self.expression(e),

@@ -2,7 +2,7 @@
 
 ghost use Rattle.std.specs.Prelude.{◌≡◌, ◌↔◌, ℕ, ◌+◌, ◌*◌, ◌^◌, ◌<◌, ◌≤◌, true, false, not, ◌||◌, ◌&&◌, ◌==◌, IsTrue};
 ghost use Rattle.std.specs.Prelude.{IfOk, OnOk, MatchOption, length, get_or};
-ghost use Rattle.sp_varsets.specs.Members.{has, IsNext};
+ghost use Rattle.sp_varsets.specs.Members.{has, IsNextMember};
 
 use sp_base::{List, Memory};
 use std::alloc::Global;
@@ -75,7 +75,7 @@ impl VarSet {
     /// The least variable of the set that is `from` or above.
     pub fn next(&self, from: u32) -> Option<u32>
         ensures { MatchOption result ((x : ℕ) → from ≤ x → x < 2 ^ 32 → has self.now x ≡ false)
-            (λ y. IsNext self.now from y) }
+            (λ y. IsNextMember self.now from y) }
     {
         let at = (from / 64) as usize;
         if let Some(word) = self.words.get(at) {
@@ -90,7 +90,7 @@ impl VarSet {
     // The least variable that stands in a word after this one.
     fn next_after(&self, at: u32) -> Option<u32>
         ensures { MatchOption result ((x : ℕ) → 64 * at + 64 ≤ x → x < 2 ^ 32 → has self.now x ≡ false)
-            (λ y. IsNext self.now (64 * at + 64) y) }
+            (λ y. IsNextMember self.now (64 * at + 64) y) }
     {
         let words = self.words.items();
         'words: for k in at as usize + 1..words.len() {

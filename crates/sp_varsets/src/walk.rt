@@ -8,14 +8,15 @@ ghost use Rattle.sp_tree.specs.CheckedOf.{arm_of, arms, sends, receives};
 ghost use Rattle.sp_tree.specs.Bare.{bare_expression};
 ghost use Rattle.sp_tree.specs.Uses.{In_expr};
 ghost use Rattle.sp_varsets.specs.declared.uses.Uses.{Uses as AUses};
-ghost use Rattle.sp_varsets.specs.Adds.{Adds, AreEmpty};
+ghost use Rattle.sp_varsets.specs.AddedUses.{AddsUses, AreEmpty};
 ghost use Rattle.sp_varsets.specs.Members.{has};
-ghost use Rattle.sp_varsets.specs.Records.{Extends, Stands, Keeps, slot_at};
+ghost use Rattle.sp_varsets.specs.Records.{Extends, IsSetOfIndex, RecordsSets, slot_at};
 ghost use Rattle.sp_varsets.specs.Walks.{WalksStatement, WalksForm, WalksStatements, WalksArms, WalksElement};
 
+use crate::take;
 use crate::uses::Uses;
 use crate::var_set::VarSet;
-use sp_base::{List, Memory, Place, take};
+use sp_base::{List, Memory, Place};
 use sp_tree::{Arm, Expr, Form, Stmt, Var};
 use std::alloc::Global;
 
@@ -69,7 +70,7 @@ impl Walk {
     pub(crate) fn put(&mut self, set: VarSet) -> Result<u32, Memory>
         ensures slots { self.new.slots ≡ self.old.slots }
         ensures pool { OnOk result (Extends self.old.pool self.new.pool) }
-        ensures set { IfOk result (λ i. Stands self.new.pool i (λ x. has set x ≡ true)) }
+        ensures set { IfOk result (λ i. IsSetOfIndex self.new.pool i (λ x. has set x ≡ true)) }
     {
         if set.is_empty() {
             return Ok(0);
@@ -92,7 +93,7 @@ impl Walk {
 
     // Puts the sets into the pool, and records them under this number.
     fn keep(&mut self, number: usize, uses: &mut Uses) -> Result<(), Memory>
-        ensures { OnOk result (Keeps self.old self.new number uses.old) }
+        ensures { OnOk result (RecordsSets self.old self.new number uses.old) }
     {
         let aims = take!(self.put(uses.aims.take()));
         let sees = take!(self.put(uses.sees.take()));
@@ -296,7 +297,7 @@ impl Walk {
         value: &Expr,
     ) -> Result<(), Memory>
         ensures { OnOk result ((at : APlace) (channel : c.Expression) (start : AUses) → AreEmpty start
-            → Adds start through.now (In_expr (bare_expression channel))
+            → AddsUses start through.now (In_expr (bare_expression channel))
             → WalksStatement self.old self.new into.old into.new
             (c.Does number at (c.Send channel (expression_of value.now)))) }
     {
@@ -315,7 +316,7 @@ impl Walk {
     ) -> Result<(), Memory>
         ensures { AreEmpty mine.old → OnOk result
             ((at : APlace) (channel : c.Expression) (start : AUses) → AreEmpty start
-            → Adds start through.now (In_expr (bare_expression channel))
+            → AddsUses start through.now (In_expr (bare_expression channel))
             → WalksStatement self.old self.new into.old into.new
             (c.Does number at (c.Send channel (expression_of value.now)))) }
     {
@@ -369,7 +370,7 @@ impl Walk {
         variable: &Var,
     ) -> Result<(), Memory>
         ensures { OnOk result ((at : APlace) (channel : c.Expression) (start : AUses) → AreEmpty start
-            → Adds start through.now (In_expr (bare_expression channel))
+            → AddsUses start through.now (In_expr (bare_expression channel))
             → WalksStatement self.old self.new into.old into.new
             (c.Does number at (c.Receive channel (variable_of variable.now)))) }
     {
@@ -388,7 +389,7 @@ impl Walk {
     ) -> Result<(), Memory>
         ensures { AreEmpty mine.old → OnOk result
             ((at : APlace) (channel : c.Expression) (start : AUses) → AreEmpty start
-            → Adds start through.now (In_expr (bare_expression channel))
+            → AddsUses start through.now (In_expr (bare_expression channel))
             → WalksStatement self.old self.new into.old into.new
             (c.Does number at (c.Receive channel (variable_of variable.now)))) }
     {

@@ -3,24 +3,26 @@ use Rattle.std.proofs.Common.{◌≡◌, ⊎_elim, ℕ, zero, suc, ◌+◌, Bool
 use Rattle.std.proofs.Common.{◌++◌, Option, Some, None, refl, sym, ap, ◌∙◌, subst}
 use Rattle.std.proofs.lemmas.Option.{same_Some}
 use Rattle.sp_meaning.specs.Model.{Name, same_name, Language}
-use Rattle.sp_meaning.specs.Steps.{Advances, acts, unless}
-use Rattle.sp_meaning.specs.Own.{Setting, Process}
+use Rattle.sp_meaning.specs.Steps.{Advances, act_outcome, fault_or}
+use Rattle.sp_meaning.specs.LocalWork.{RunInput, Process}
 use Rattle.sp_meaning.specs.SuperPascal.{superpascal}
 use Rattle.sp_meaning.specs.Entries.{Happening, Opened, Forked, Offered, Faulted, Laid, Paused, Occurrence}
 use Rattle.sp_journal.specs.Names as happenings
-use Rattle.sp_meaning.specs.Runs.{StateOf, running, next, said_of, says}
-use Rattle.sp_meaning.specs.Along.{Either, ticks_of, due, Turn, Enters, Course, noted, after_entry, Entered, Along}
+use Rattle.sp_meaning.specs.Runs.{StateOf, running_process, next_state, happening_of, happening_at}
+use Rattle.sp_meaning.specs.Along.{Either, ticks_of, is_due_after, Turn, MakesEntry, Course, with_ticks, course_after}
+use Rattle.sp_meaning.specs.Along.{EntryStep, Along}
 use Rattle.sp_race.specs.Notes.{Event}
 use Rattle.sp_race.specs.Noting.{WithNotes}
 use Rattle.sp_race.proofs.GoodSteps.{steps}
 use Rattle.sp_witness.proofs.Moving.{Head, Tag, Block, Does, Runs, BlockRuns}
 use Rattle.sp_witness.proofs.Ticks.{ticks_by, ticks_after, said_same}
-use Rattle.sp_witness.proofs.Blocks.{IsMove, IsQuiet, AllQuiet, Says, IsLast, Valid, since_after, since_all, AllValid}
+use Rattle.sp_witness.proofs.Blocks.{IsMove, IsLocalNotDue, AllQuiet, IsStepOfEntry, IsLast, Valid, since_after}
+use Rattle.sp_witness.proofs.Blocks.{since_all, AllValid}
 
 abbrev pub entry_of : Head → Occurrence
 entry_of h = record { who = h.who; what = h.what }
 
-module _ (g : Setting) where
+module _ (g : RunInput) where
   abbrev L : Language
   L = superpascal g
 
@@ -33,16 +35,16 @@ module _ (g : Setting) where
       own_is : does.good.makes.own ≡ x.own
       own_is = same_Some _ _ (sym does.good.makes.works ∙ does.fits.works)
 
-      says_is : says g s.state h.who x.own ≡ said_of {L = L} x.act (Advances [])
+      says_is : happening_at g s.state h.who x.own ≡ happening_of {L = L} x.act (Advances [])
       says_is =
           let a = L.next does.good.makes.own s.state.store in
-          ap (says g s.state h.who) (sym own_is)
-          ∙ ap (said_of {L = L} a) (ap (λ f. unless f (acts s.state h.who a)) does.good.makes.within
+          ap (happening_at g s.state h.who) (sym own_is)
+          ∙ ap (happening_of {L = L} a) (ap (λ f. fault_or f (act_outcome s.state h.who a)) does.good.makes.within
           ∙ does.good.makes.does)
           ∙ said_same {L = L} a does.good.cs []
-          ∙ ap (λ z. said_of {L = L} z (Advances [])) (ap (λ o. L.next o s.state.store) own_is ∙ does.fits.act_is)
+          ∙ ap (λ z. happening_of {L = L} z (Advances [])) (ap (λ o. L.next o s.state.store) own_is ∙ does.fits.act_is)
 
-      next_is : next g s.state h.who ≡ Some m.state
+      next_is : next_state g s.state h.who ≡ Some m.state
       next_is = steps s.state h.who does.good.cs does.good.makes ∙ ap (λ (z : StateOf g). Some z) (sym does.good.to)
 
       ticks_are : ticks_of g m.state h.who ≡ ticks_by g x.act
@@ -51,17 +53,17 @@ module _ (g : Setting) where
           ∙ ap (ticks_by g) (ap (λ o. L.next o s.state.store) own_is ∙ does.fits.act_is)
 
       due_is : (since : ℕ) (b : Bool) (ticks : ℕ) → IsMove g turn since x b ticks
-          → due g turn since s.state x.own h.who m.state ≡ b
+          → is_due_after g turn since s.state x.own h.who m.state ≡ b
       due_is since b ticks v =
           (λ i. does.fits.beat_is i && nat_le (since + turn) ((ticks_are ∙ ap (ticks_by g) v.is) i)) ∙ v.due_is
 
       local_says : (since : ℕ) (b : Bool) (ticks : ℕ) → IsMove g turn since x b ticks
-          → says g s.state h.who x.own ≡ None
-      local_says since b ticks v = says_is ∙ ap (λ z. said_of {L = L} z (Advances [])) v.is
+          → happening_at g s.state h.who x.own ≡ None
+      local_says since b ticks v = says_is ∙ ap (λ z. happening_of {L = L} z (Advances [])) v.is
 
     -- one local step that is not due, in front
     more_turn : (since : ℕ) (s m : WithNotes L) (h : Head) (x : Tag g) (k : ℕ) (t : StateOf g) (paused : Bool)
-        → Does g label s h x m → IsQuiet g turn since x → Turn g turn since h.who k m.state t paused
+        → Does g label s h x m → IsLocalNotDue g turn since x → Turn g turn since h.who k m.state t paused
         → Turn g turn since h.who (suc k) s.state t paused
     more_turn since s m h x k t paused does quiet go =
         let b = due_is s h x m does since false quiet.0 quiet.1 in (
@@ -76,8 +78,8 @@ module _ (g : Setting) where
 
     -- local steps up to a kernel step
     pub turn_quiet : (since : ℕ) (s m : WithNotes L) (h : Head) (xs : List (Tag g)) → AllQuiet g turn since xs
-        → Runs g label s h xs m → (own : Process) → running g m.state h.who ≡ Some own → (what : Happening)
-        → says g m.state h.who own ≡ Some what
+        → Runs g label s h xs m → (own : Process) → running_process g m.state h.who ≡ Some own → (what : Happening)
+        → happening_at g m.state h.who own ≡ Some what
         → (k : ℕ) × Turn g turn since h.who k s.state m.state false
     turn_quiet since s m h [] quiet r own w what is =
         let e : m.state ≡ s.state = ap (λ (z : WithNotes L). z.state) r in (
@@ -86,9 +88,9 @@ module _ (g : Setting) where
             e,
             refl,
             own,
-            subst (λ (z : StateOf g). running g z h.who ≡ Some own) e w,
+            subst (λ (z : StateOf g). running_process g z h.who ≡ Some own) e w,
             what,
-            subst (λ (z : StateOf g). says g z h.who own ≡ Some what) e is,
+            subst (λ (z : StateOf g). happening_at g z h.who own ≡ Some what) e is,
           ),
         )
     turn_quiet since s m h (x ∷ xs) quiet r own w what is =
@@ -97,10 +99,10 @@ module _ (g : Setting) where
 
     abbrev EndsBy : StateOf g → StateOf g → Bool → Name → Happening → Type 0
     EndsBy mid u paused q Paused = (paused ≡ true) × (mid ≡ u)
-    EndsBy mid u paused q (Forked n) = (paused ≡ false) × Enters g mid q (Forked n) u
-    EndsBy mid u paused q Opened = (paused ≡ false) × Enters g mid q Opened u
-    EndsBy mid u paused q (Offered w c) = (paused ≡ false) × Enters g mid q (Offered w c) u
-    EndsBy mid u paused q happenings.Ended = (paused ≡ false) × Enters g mid q happenings.Ended u
+    EndsBy mid u paused q (Forked n) = (paused ≡ false) × MakesEntry g mid q (Forked n) u
+    EndsBy mid u paused q Opened = (paused ≡ false) × MakesEntry g mid q Opened u
+    EndsBy mid u paused q (Offered w c) = (paused ≡ false) × MakesEntry g mid q (Offered w c) u
+    EndsBy mid u paused q happenings.Ended = (paused ≡ false) × MakesEntry g mid q happenings.Ended u
     EndsBy mid u paused q (Faulted f) = ⊥
     EndsBy mid u paused q Laid = ⊥
 
@@ -116,7 +118,7 @@ module _ (g : Setting) where
         → Valid g turn since what xs ticks → Runs g label s h xs u → Back since s.state u.state h.who what ticks
     back since s u h [] what ticks v r = absurd v
     back since s u h (x ∷ xs) what ticks v r = ⊎_elim
-        (λ (y : IsQuiet g turn since x × Valid g turn since what xs ticks).
+        (λ (y : IsLocalNotDue g turn since x × Valid g turn since what xs ticks).
         let b = back since r.0 u h xs what ticks y.1 r.2 in
         record {
           count = suc b.count;
@@ -132,11 +134,12 @@ module _ (g : Setting) where
         subst (λ (z : WithNotes L). Back since s.state z.state h.who what ticks) (sym e) (last what r.0 r.1 y.1))
         v
       where
-        kernel : (w : Happening) (m : WithNotes L) → Does g label s h x m → Says g turn x w ticks
-            → ((mid : StateOf g) → (false ≡ false) × Enters g mid h.who w m.state → EndsBy mid m.state false h.who w)
+        kernel : (w : Happening) (m : WithNotes L) → Does g label s h x m → IsStepOfEntry g turn x w ticks
+            → ((mid : StateOf g) → (false ≡ false) × MakesEntry g mid h.who w m.state
+            → EndsBy mid m.state false h.who w)
             → Back since s.state m.state h.who w ticks
         kernel w m does y ends =
-            let is : says g s.state h.who x.own ≡ Some w = says_is s h x m does ∙ y.0 in
+            let is : happening_at g s.state h.who x.own ≡ Some w = says_is s h x m does ∙ y.0 in
             record {
               count = zero;
               mid = s.state;
@@ -180,22 +183,30 @@ module _ (g : Setting) where
     entered : (left : Course → StateOf g → ℕ → Type 0) (c : Course) (mid u : StateOf g) (paused : Bool) (q : Name)
         (what : Happening) (ticks : ℕ) → IsFair c → EndsBy mid u paused q what → ticks_of g u q ≡ ticks
         → ((c1 : Course) → c1.since ≡ (λ z. cond (same_name q z) ticks (c.since z)) → IsFair c1 → (r : ℕ) × left c1 u r)
-        → (n : ℕ) × Entered g left c mid paused q what n
+        → (n : ℕ) × EntryStep g left c mid paused q what n
     entered left c mid u paused q Paused ticks fair ends t go =
-        let x = go (noted q (ticks_of g u q) c) (λ i z. cond (same_name q z) (t i) (c.since z)) fair in
-        (x.0, (fair.0, ends.0, subst (λ (z : StateOf g). left (noted q (ticks_of g z q) c) z x.0) (sym ends.1) x.1))
+        let x = go (with_ticks q (ticks_of g u q) c) (λ i z. cond (same_name q z) (t i) (c.since z)) fair in (
+          x.0,
+          (
+            fair.0,
+            ends.0,
+            subst (λ (z : StateOf g). left (with_ticks q (ticks_of g z q) c) z x.0)
+                (sym ends.1) x.1,
+          ),
+        )
     entered left c mid u paused q (Forked n) ticks fair ends t go =
-        let x = go (after_entry q (Forked n) (ticks_of g u q) c) (λ i z. cond (same_name q z) (t i) (c.since z)) fair in
+        let x = go (course_after q (Forked n) (ticks_of g u q) c) (λ i z. cond (same_name q z) (t i) (c.since z))
+        fair in
         (suc x.0, (fair.0, ends.0, u, x.0, refl, ends.1, x.1))
     entered left c mid u paused q Opened ticks fair ends t go =
-        let x = go (after_entry q Opened (ticks_of g u q) c) (λ i z. cond (same_name q z) (t i) (c.since z)) fair in
+        let x = go (course_after q Opened (ticks_of g u q) c) (λ i z. cond (same_name q z) (t i) (c.since z)) fair in
         (suc x.0, (fair.0, ends.0, u, x.0, refl, ends.1, x.1))
     entered left c mid u paused q (Offered w d) ticks fair ends t go =
-        let x = go (after_entry q (Offered w d) (ticks_of g u q) c) (λ i z. cond (same_name q z) (t i) (c.since z))
+        let x = go (course_after q (Offered w d) (ticks_of g u q) c) (λ i z. cond (same_name q z) (t i) (c.since z))
         fair in
         (suc x.0, (fair.0, ends.0, u, x.0, refl, ends.1, x.1))
     entered left c mid u paused q happenings.Ended ticks fair ends t go =
-        let x = go (after_entry q happenings.Ended (ticks_of g u q) c) (λ i z. cond (same_name q z) (t i) (c.since z))
+        let x = go (course_after q happenings.Ended (ticks_of g u q) c) (λ i z. cond (same_name q z) (t i) (c.since z))
         fair in
         (suc x.0, (fair.0, ends.0, u, x.0, refl, ends.1, x.1))
     entered left c mid u paused q (Faulted f) ticks fair ends t go = absurd ends

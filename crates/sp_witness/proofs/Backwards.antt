@@ -11,9 +11,10 @@ use Rattle.sp_journal.specs.declared.entry.Entry.{Entry}
 use Rattle.sp_journal.specs.declared.entry.Event.{Event}
 use Rattle.sp_journal.specs.declared.entry.Event.TheVariants as event
 use Rattle.sp_journal.specs.Maps.{at_key}
-use Rattle.sp_journal.specs.Births.{Births, at_start, births, births_from, after_entry, after_event, CanFollow}
+use Rattle.sp_journal.specs.Births.{Births, first_births, births, births_from, births_after_entry, births_after_event}
+use Rattle.sp_journal.specs.Births.{CanFollow}
 use Rattle.sp_journal.specs.Births.{GivesNumbers, NameableFrom}
-use Rattle.sp_journal.proofs.Facts.{here, same}
+use Rattle.sp_journal.proofs.Facts.{here, equal_of_test}
 use Rattle.sp_journal.proofs.BirthLaws.{Lawful, lawful, processes_grow}
 use Rattle.sp_journal.proofs.Walk.{left_is, more_births, can_follow, births_parts, birth_stays, any_entry}
 use Rattle.sp_witness.specs.Flags.{any_flag, parent_flag, flags_to_meet, flags_before, flags, marks, lines_after}
@@ -74,7 +75,7 @@ own_is s lines p event.Laid f = refl
 own_is s lines p event.Pause f = refl
 
 same_value : (p q : ℕ) (f : ℕ → Bool) → p == q ≡ true → f q ≡ f p
-same_value p q f e = ap f (sym (same p q e))
+same_value p q f e = ap f (sym (equal_of_test p q e))
 
 raised : (p q : ℕ) (w : Bool) (f : ℕ → Bool) → at_key ◌==◌ p (f p || w) f q ≡ with_flag (f p || w) p f q
 raised p q w f = by (p == q) (f p) w (f q) (same_value p q f)
@@ -168,7 +169,7 @@ module _ (earlier last : ℕ) (es : List Entry) (at : ℕ) (inside : at < length
   next_index : suc at ≡ at + 1
   next_index = omega arith
 
-  after_is : flags earlier last (after_entry (births (take at es)) this)
+  after_is : flags earlier last (births_after_entry (births (take at es)) this)
       (lines_after (lines_of (take at es)) this.process this.event) (suc at) (drop (at + 1) es) ≡ flags_after
   after_is = λ j. flags earlier last (sym (more_births es at any_entry inside) j)
       (sym (more_lines es at any_entry inside) j) (next_index j) (drop (at + 1) es)
@@ -233,7 +234,8 @@ module _ (earlier last : ℕ) (es : List Entry) (at : ℕ) (inside : at < length
 -- one step back
 module _ (earlier last : ℕ) (es : List Entry) (i j : ℕ) (is : i ≡ j + 1) (inside : j < length es) where
   pub first_back : (first children : ℕ) → first ≡ (births (take i es)).processes
-      → ((s : Births) (p : ℕ) → (after_event s p (get_or es j any_entry).event).processes ≡ s.processes + children)
+      → ((s : Births) (p : ℕ) → (births_after_event s p (get_or es j any_entry).event).processes
+      ≡ s.processes + children)
       → first ≡ (births (take j es)).processes + children
   first_back first children h k =
       h ∙ ap (λ n. (births (take n es)).processes) is
@@ -251,25 +253,25 @@ module _ (earlier last : ℕ) (es : List Entry) (i j : ℕ) (is : i ≡ j + 1) (
 
 nameable_rest : (s : Births) (xs ys : List Entry) → NameableFrom s (xs ++ ys) → NameableFrom (births_from s xs) ys
 nameable_rest s [] ys h = h
-nameable_rest s (x ∷ xs) ys h = nameable_rest (after_entry s x) xs ys h.1
+nameable_rest s (x ∷ xs) ys h = nameable_rest (births_after_entry s x) xs ys h.1
 
 pub nameable_front : (s : Births) (xs ys : List Entry) → NameableFrom s (xs ++ ys) → NameableFrom s xs
 nameable_front s [] ys h = tt
-nameable_front s (x ∷ xs) ys h = (h.0, nameable_front (after_entry s x) xs ys h.1)
+nameable_front s (x ∷ xs) ys h = (h.0, nameable_front (births_after_entry s x) xs ys h.1)
 
-module _ (es : List Entry) (nameable : NameableFrom at_start es) (at : ℕ) (inside : at < length es) where
+module _ (es : List Entry) (nameable : NameableFrom first_births es) (at : ℕ) (inside : at < length es) where
   pub follows : CanFollow (births (take at es)) (get_or es at any_entry)
   follows =
       can_follow es at any_entry inside
-      (nameable_rest at_start (take at es) (drop at es)
-      (subst (NameableFrom at_start) (sym (take-append-drop at es)) nameable))
+      (nameable_rest first_births (take at es) (drop at es)
+      (subst (NameableFrom first_births) (sym (take-append-drop at es)) nameable))
 
   module _ (all : List Entry) (front : IsFront es all) where
     all_is : births all ≡ births_from (births (take at es)) (drop at es ++ front.0)
     all_is =
         ap births (front.1 ∙ ap (λ xs. xs ++ front.0) (sym (take-append-drop at es))
         ∙ append_assoc (take at es) (drop at es) front.0)
-        ∙ births_parts at_start (take at es) (drop at es ++ front.0)
+        ∙ births_parts first_births (take at es) (drop at es ++ front.0)
 
     pub there : (get_or es at any_entry).process < (births all).processes
     there =
@@ -288,8 +290,8 @@ module _ (es : List Entry) (nameable : NameableFrom at_start es) (at : ℕ) (ins
   pub few_numbers : Lawful (births (take at es))
   few_numbers =
       lawful (take at es)
-      (nameable_front at_start (take at es) (drop at es)
-      (subst (NameableFrom at_start) (sym (take-append-drop at es)) nameable))
+      (nameable_front first_births (take at es) (drop at es)
+      (subst (NameableFrom first_births) (sym (take-append-drop at es)) nameable))
 
   pub children_fit : (n : ℕ) → (get_or es at any_entry).event ≡ event.Fork n
       → (births (take at es)).processes + n ≤ 2 ^ 32

@@ -3,15 +3,15 @@
 use Rattle.std.proofs.Common.{◌≡◌, ◌⊎◌, ℕ, ◌+◌, Bool, true, false, cond, ◌&&◌, nat_le, List, [], ◌∷◌, Some}
 use Rattle.sp_meaning.specs.Model.{Name, same_name, Language, Moves}
 use Rattle.sp_meaning.specs.Steps.{Advances}
-use Rattle.sp_meaning.specs.Own.{Setting, Process}
+use Rattle.sp_meaning.specs.LocalWork.{RunInput, Process}
 use Rattle.sp_meaning.specs.SuperPascal.{superpascal}
 use Rattle.sp_meaning.specs.Entries.{Happening, Opened, Forked, Offered, Faulted, Laid, Paused}
 use Rattle.sp_journal.specs.Names as happenings
-use Rattle.sp_meaning.specs.Runs.{said_of}
+use Rattle.sp_meaning.specs.Runs.{happening_of}
 use Rattle.sp_witness.proofs.Moving.{Tag, Block}
 use Rattle.sp_witness.proofs.Ticks.{ticks_by}
 
-module _ (g : Setting) (turn : ℕ) where
+module _ (g : RunInput) (turn : ℕ) where
   abbrev L : Language
   L = superpascal g
 
@@ -24,24 +24,24 @@ module _ (g : Setting) (turn : ℕ) where
     pub ticks_are : ticks ≡ to.own.ticks
 
   -- a local step that is not due
-  abbrev pub IsQuiet : ℕ → Tag g → Type 0
-  IsQuiet since x = (n : ℕ) × IsMove since x false n
+  abbrev pub IsLocalNotDue : ℕ → Tag g → Type 0
+  IsLocalNotDue since x = (n : ℕ) × IsMove since x false n
 
   abbrev pub AllQuiet : ℕ → List (Tag g) → Type 0
   AllQuiet since [] = Unit {0}
-  AllQuiet since (x ∷ xs) = IsQuiet since x × AllQuiet since xs
+  AllQuiet since (x ∷ xs) = IsLocalNotDue since x × AllQuiet since xs
 
   -- the step of an entry
-  abbrev pub Says : Tag g → Happening → ℕ → Type 0
-  Says x what ticks = (said_of {L = L} x.act (Advances []) ≡ Some what) × (ticks ≡ ticks_by g x.act)
+  abbrev pub IsStepOfEntry : Tag g → Happening → ℕ → Type 0
+  IsStepOfEntry x what ticks = (happening_of {L = L} x.act (Advances []) ≡ Some what) × (ticks ≡ ticks_by g x.act)
 
   -- the last step of an entry
   abbrev pub IsLast : ℕ → Happening → Tag g → ℕ → Type 0
   IsLast since Paused x ticks = IsMove since x true ticks
-  IsLast since (Forked n) x ticks = Says x (Forked n) ticks
-  IsLast since Opened x ticks = Says x Opened ticks
-  IsLast since (Offered w c) x ticks = Says x (Offered w c) ticks
-  IsLast since happenings.Ended x ticks = Says x happenings.Ended ticks
+  IsLast since (Forked n) x ticks = IsStepOfEntry x (Forked n) ticks
+  IsLast since Opened x ticks = IsStepOfEntry x Opened ticks
+  IsLast since (Offered w c) x ticks = IsStepOfEntry x (Offered w c) ticks
+  IsLast since happenings.Ended x ticks = IsStepOfEntry x happenings.Ended ticks
   IsLast since (Faulted f) x ticks = ⊥
   IsLast since Laid x ticks = ⊥
 
@@ -49,7 +49,7 @@ module _ (g : Setting) (turn : ℕ) where
   abbrev pub Valid : ℕ → Happening → List (Tag g) → ℕ → Type 0
   Valid since what [] ticks = ⊥
   Valid since what (x ∷ xs) ticks =
-      (IsQuiet since x × Valid since what xs ticks) ⊎ ((xs ≡ []) × IsLast since what x ticks)
+      (IsLocalNotDue since x × Valid since what xs ticks) ⊎ ((xs ≡ []) × IsLast since what x ticks)
 
   -- the ticks of each process at its last entry, after one more
   abbrev pub since_after : (Name → ℕ) → Block g → Name → ℕ

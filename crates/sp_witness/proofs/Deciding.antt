@@ -7,12 +7,13 @@ use Rattle.sp_base.specs.declared.fault.Fault.TheVariants as fault
 use Rattle.sp_journal.specs.Names as happenings
 use Rattle.sp_meaning.specs.Model.{Name, Channel}
 use Rattle.sp_meaning.specs.Entries.{Happening, Opened, Forked, Offered, Faulted, Laid, Paused, Occurrence}
-use Rattle.sp_meaning.specs.Own.{Setting}
-use Rattle.sp_meaning.specs.Runs.{StateOf, start, next, Lawful}
-use Rattle.sp_meaning.specs.Along.{Either, due, Turn, Course, no_course, Entered, Along, IsAlong, IsCleanly, IsClean}
+use Rattle.sp_meaning.specs.LocalWork.{RunInput}
+use Rattle.sp_meaning.specs.Runs.{StateOf, start, next_state, Lawful}
+use Rattle.sp_meaning.specs.Along.{Either, is_due_after, Turn, Course, no_course, EntryStep, Along, IsAlong, IsCleanly}
+use Rattle.sp_meaning.specs.Along.{IsClean}
 use Rattle.sp_meaning.specs.Laws.{IsReached}
-use Rattle.sp_meaning.proofs.Journeys.{quiet_step}
-use Rattle.sp_witness.specs.Witness.{who_at, alone, first_part, witness}
+use Rattle.sp_meaning.proofs.JournalSchedules.{quiet_step}
+use Rattle.sp_witness.specs.Witness.{who_at, entry_list, first_part, witness}
 use Rattle.sp_witness.specs.Contention.{Shows, NeverContends}
 use Rattle.sp_witness.proofs.Cleanness.{front_clean}
 use Rattle.sp_journal.specs.declared.entry.Way.{Way}
@@ -22,12 +23,12 @@ use Rattle.sp_journal.specs.declared.outcome.Verdict.TheVariants as verdict
 use Rattle.sp_judge.specs.Races.{IsLeastRace, IsFault, IsVerdict}
 use Rattle.sp_judge.specs.Runs.{AllEndAlike, IsRunVerdict}
 
-module _ (g : Setting) where
+module _ (g : RunInput) where
   -- a lawful schedule from s to t
   abbrev Way_on : StateOf g → StateOf g → Type 0
   Way_on s t = (names : List Name) × Lawful g s names t
 
-  step_on : (s : StateOf g) (q : Name) (m t : StateOf g) → s.fault ≡ None → next g s q ≡ Some m → Way_on m t
+  step_on : (s : StateOf g) (q : Name) (m t : StateOf g) → s.fault ≡ None → next_state g s q ≡ Some m → Way_on m t
       → Way_on s t
   step_on s q m t quiet st way = (q ∷ way.0, (m, quiet, st, way.1))
 
@@ -39,7 +40,7 @@ module _ (g : Setting) where
   turn_on turn since q (suc k) s m paused t h quiet go =
       let still = quiet_step g s q h.0 h.3 None h.1 h.2 tt h.4 quiet in
       step_on s q h.3 t quiet h.4
-      (rest (due g turn since s h.0 q h.3) h.5 still (λ x. turn_on turn since q k h.3 m paused t x still go))
+      (rest (is_due_after g turn since s h.0 q h.3) h.5 still (λ x. turn_on turn since q k h.3 m paused t x still go))
     where
       rest : (b : Bool) → Either b ((k ≡ 0) × (m ≡ h.3) × (paused ≡ true)) (Turn g turn since q k h.3 m paused)
           → h.3.fault ≡ None → (Turn g turn since q k h.3 m paused → Way_on h.3 t) → Way_on h.3 t
@@ -49,7 +50,7 @@ module _ (g : Setting) where
   -- an entry without a fault
   module _ (left : Course → StateOf g → ℕ → Type 0) (c : Course) (m : StateOf g) (paused : Bool) (q : Name)
       (t : StateOf g) where
-    entered_on : (w : Happening) (n : ℕ) → IsCleanly w → Entered g left c m paused q w n
+    entered_on : (w : Happening) (n : ℕ) → IsCleanly w → EntryStep g left c m paused q w n
         → ((c1 : Course) (u : StateOf g) (d : ℕ) → left c1 u d → u.fault ≡ None → Way_on u t) → m.fault ≡ None
         → Way_on m t
     entered_on Opened n ok h go f =
@@ -82,11 +83,12 @@ module _ (g : Setting) where
       e.what a.2 clean.0 a.7 (λ c1 u d b still. along_on turn xs q x c1 u d t clean.1 b still) f)
 
 -- what shows a race is a schedule that meets contention
-module _ (g : Setting) (turn : ℕ) (es : List Occurrence) (w : Way) (c : Channel) (earlier later : ℕ) where
+module _ (g : RunInput) (turn : ℕ) (es : List Occurrence) (w : Way) (c : Channel) (earlier later : ℕ) where
   -- the run along the witness is one of a lawful schedule
   pub reached : IsClean es → (n : ℕ) (s : StateOf g) → IsAlong g turn (witness es earlier later) n s → IsReached g s
   reached clean n s along =
-      along_on g turn (first_part es earlier later ++ alone (slice_get es earlier)) (who_at es later) fault.F6 no_course
+      along_on g turn (first_part es earlier later ++ entry_list (slice_get es earlier)) (who_at es later) fault.F6
+      no_course
       (start g) n s (front_clean es earlier later clean) along refl
 
   pub contends : IsClean es → Shows g turn es w c earlier later → NeverContends g → ⊥
@@ -95,10 +97,10 @@ module _ (g : Setting) (turn : ℕ) (es : List Occurrence) (w : Way) (c : Channe
       never way.0 shows.state way.1 w c (who_at es earlier) (who_at es later) shows.contention
 
 -- where no schedule meets a fault, none contends
-pub alike_never : (g : Setting) (n : ℕ) (t : StateOf g) → AllEndAlike g n t → NeverContends g
+pub alike_never : (g : RunInput) (n : ℕ) (t : StateOf g) → AllEndAlike g n t → NeverContends g
 alike_never g n t alike qs u lawful w c first second h = none-some _ (sym (alike qs u lawful).quiet ∙ h.fault)
 
-module _ (g : Setting) (turn : ℕ) (es : List Occurrence) (n : ℕ) (t : StateOf g) (e : End) (sure : IsFault e → ⊥)
+module _ (g : RunInput) (turn : ℕ) (es : List Occurrence) (n : ℕ) (t : StateOf g) (e : End) (sure : IsFault e → ⊥)
     (clean : IsClean es)
     (real : (w : Way) (c : Channel) (earlier later : ℕ) → IsLeastRace es w c earlier later
     → Shows g turn es w c earlier later) where

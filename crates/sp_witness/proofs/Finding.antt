@@ -8,15 +8,16 @@ use Rattle.sp_journal.specs.declared.entry.Event.{Event}
 use Rattle.sp_journal.specs.declared.entry.Event.TheVariants as event
 use Rattle.sp_journal.specs.declared.entry.Entry.{Entry}
 use Rattle.sp_journal.specs.Names.{same_name, same_channel}
-use Rattle.sp_journal.specs.Births.{Births, at_start, after_entry, births, channel, CanFollow, GivesNumbers}
+use Rattle.sp_journal.specs.Births.{Births, first_births, births_after_entry, births, channel, CanFollow, GivesNumbers}
 use Rattle.sp_journal.specs.Births.{NameableFrom, happening, occurrence, occurrences_from}
 use Rattle.sp_journal.proofs.BirthLaws.{Lawful, lawful_start, lawful_after}
 use Rattle.sp_meaning.specs.Along.{IsClean}
-use Rattle.sp_judge.specs.Prefixes.{IsQuiet}
+use Rattle.sp_judge.specs.Prefixes.{WaitersAreSilent}
 use Rattle.sp_judge.proofs.Numbers.{same_process, same_chan, all_named}
 use Rattle.sp_witness.specs.Witness.{first_part}
-use Rattle.sp_witness.specs.Numbered.{process_number, channel_number, event_of, numbered_entry, numbered_from, numbered}
-use Rattle.sp_witness.specs.Flags.{picks}
+use Rattle.sp_witness.specs.Numbered.{process_number, channel_number, event_of, numbered_entry, entries_by_numbers_from}
+use Rattle.sp_witness.specs.Numbered.{entries_by_numbers}
+use Rattle.sp_witness.specs.Flags.{picked_first_part}
 use Rattle.sp_witness.proofs.PassLaw.{whole_pass}
 use Rattle.sp_witness.proofs.Flagging.{picks_taken}
 
@@ -66,25 +67,27 @@ module _ (s : Births) (law : Lawful s) where
       by event.Pause given = refl
 
 found_from : (s : Births) (es : List Entry) → Lawful s → NameableFrom s es
-    → numbered_from s (occurrences_from s es) ≡ es
+    → entries_by_numbers_from s (occurrences_from s es) ≡ es
 found_from s [] law f = refl
 found_from s (e ∷ es) law f =
     let one = entry_found s law e f.0 in
-    let rest = found_from (after_entry s e) es (lawful_after s e law f.0) f.1 in
-    (λ i. one i ∷ numbered_from (after_entry s (one i)) (occurrences_from (after_entry s e) es)) ∙ ap (λ z. e ∷ z) rest
+    let rest = found_from (births_after_entry s e) es (lawful_after s e law f.0) f.1 in
+    (λ i. one i ∷ entries_by_numbers_from (births_after_entry s (one i)) (occurrences_from (births_after_entry s e) es))
+    ∙ ap (λ z. e ∷ z) rest
 
-pub found : (es : List Entry) → NameableFrom at_start es → numbered (occurrences_from at_start es) ≡ es
-found es f = found_from at_start es lawful_start f
+pub found : (es : List Entry) → NameableFrom first_births es
+    → entries_by_numbers (occurrences_from first_births es) ≡ es
+found es f = found_from first_births es lawful_start f
 
 -- the picks by numbers are the first part by names
-pub picked_part : (es : List Entry) → NameableFrom at_start es → IsQuiet (occurrences_from at_start es)
-    → IsClean (occurrences_from at_start es) → (earlier later : ℕ) → earlier < later → (two : Entry)
+pub picked_part : (es : List Entry) → NameableFrom first_births es → WaitersAreSilent (occurrences_from first_births es)
+    → IsClean (occurrences_from first_births es) → (earlier later : ℕ) → earlier < later → (two : Entry)
     → slice_get es later ≡ Some two
-    → map (occurrence (births es)) (picks earlier two.process (take later es))
-    ≡ first_part (occurrences_from at_start es) earlier later
+    → map (occurrence (births es)) (picked_first_part earlier two.process (take later es))
+    ≡ first_part (occurrences_from first_births es) earlier later
 picked_part es f quiet clean earlier later lt two got =
-    let size : length (occurrences_from at_start es) ≡ length es = ap length (all_named es f)
+    let size : length (occurrences_from first_births es) ≡ length es = ap length (all_named es f)
     ∙ length_of_map (occurrence (births es)) es in
     let l = slice_get_within es later two got in
     picks_taken es f earlier later two got
-    ∙ whole_pass (occurrences_from at_start es) earlier later quiet clean lt (omega (arith, size, l))
+    ∙ whole_pass (occurrences_from first_births es) earlier later quiet clean lt (omega (arith, size, l))

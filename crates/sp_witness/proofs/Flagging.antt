@@ -10,17 +10,19 @@ use Rattle.sp_journal.specs.declared.entry.Entry.{Entry}
 use Rattle.sp_journal.specs.declared.entry.Birth.{Birth}
 use Rattle.sp_journal.specs.Maps.{at_key}
 use Rattle.sp_journal.specs.Names.{Name, same_name, Occurrence}
-use Rattle.sp_journal.specs.Births.{Births, at_start, after_event, after_entry, births_from, births, channel, CanFollow}
+use Rattle.sp_journal.specs.Births.{Births, first_births, births_after_event, births_after_entry, births_from, births}
+use Rattle.sp_journal.specs.Births.{channel, CanFollow}
 use Rattle.sp_journal.specs.Births.{GivesNumbers, NameableFrom, happening, occurrence, occurrences_from}
-use Rattle.sp_journal.specs.Past.{Judged, judged_by, met_now, nothing_judged}
+use Rattle.sp_journal.specs.Past.{Knowledge, knowledge_after, knowledge_after_offer, no_knowledge}
 use Rattle.sp_journal.proofs.BirthLaws.{Lawful, lawful, parent_older, name_by_birth, name_of_root}
 use Rattle.sp_journal.proofs.Walk.{birth_stays}
-use Rattle.sp_judge.proofs.Numbers.{Stays, stays, same_process, same_chan, children_named, all_named}
+use Rattle.sp_judge.proofs.Numbers.{ExtendsBirths, stays, same_process, same_chan, children_named, all_named}
 use Rattle.sp_judge.proofs.Fronts.{forks_by}
 use Rattle.sp_witness.specs.Witness.{who_of, who_at}
-use Rattle.sp_witness.specs.Needed.{any_child, parent_is, needed_to_meet, needed_before, needed, taken, needed_marks}
+use Rattle.sp_witness.specs.Needed.{any_child, parent_is, needed_to_meet, needed_before, needed_processes}
+use Rattle.sp_witness.specs.Needed.{needed_entries, needed_marks}
 use Rattle.sp_witness.specs.Flags.{any_flag, parent_flag, flags_to_meet, flags_before, line_by, lines_after, flags}
-use Rattle.sp_witness.specs.Flags.{picked, picks, marks}
+use Rattle.sp_witness.specs.Flags.{picked_entries, picked_first_part, marks}
 
 -- who waits, by number and by name
 abbrev Matches : Births → Option ℕ → Option (Name × ℕ) → Type 0
@@ -30,16 +32,16 @@ Matches t (Some z) None = ⊥
 Matches t (Some z) (Some o) = (z < t.processes) × (t.name z ≡ o.0)
 
 module _ (t : Births) (law : Lawful t) where
-  abbrev Same : (ℕ → Bool) → (Name → Bool) → Type 0
-  Same F H = (q : ℕ) → q < t.processes → F q ≡ H (t.name q)
+  abbrev SameFlags : (ℕ → Bool) → (Name → Bool) → Type 0
+  SameFlags F H = (q : ℕ) → q < t.processes → F q ≡ H (t.name q)
 
-  key_same : (F : ℕ → Bool) (H : Name → Bool) (p : ℕ) (b c : Bool) → p < t.processes → Same F H → b ≡ c
-      → Same (at_key ◌==◌ p b F) (at_key same_name (t.name p) c H)
+  key_same : (F : ℕ → Bool) (H : Name → Bool) (p : ℕ) (b c : Bool) → p < t.processes → SameFlags F H → b ≡ c
+      → SameFlags (at_key ◌==◌ p b F) (at_key same_name (t.name p) c H)
   key_same F H p b c there same e q l = let k = same_process t law p q there l in let h = same q l in
       λ i. cond (k i) (e i) (h i)
 
   meet_same : (F : ℕ → Bool) (H : Name → Bool) (p : ℕ) (x : Option ℕ) (y : Option (Name × ℕ)) → p < t.processes
-      → Same F H → Matches t x y → Same (flags_to_meet p x F) (needed_to_meet (t.name p) y H)
+      → SameFlags F H → Matches t x y → SameFlags (flags_to_meet p x F) (needed_to_meet (t.name p) y H)
   meet_same F H p None None there same m = same
   meet_same F H p None (Some o) there same m = absurd m
   meet_same F H p (Some z) None there same m = absurd m
@@ -48,10 +50,10 @@ module _ (t : Births) (law : Lawful t) where
       ∙ ap (λ x. H (t.name p) || H x) m.1 in
       key_same (at_key ◌==◌ z (F p || F z) F) (at_key same_name o.0 (H (t.name p) || H o.0) H) p (F p || F z)
       (H (t.name p) || H o.0) there
-      (subst (λ x. Same (at_key ◌==◌ z (F p || F z) F) (at_key same_name x (H (t.name p) || H o.0) H)) m.1
+      (subst (λ x. SameFlags (at_key ◌==◌ z (F p || F z) F) (at_key same_name x (H (t.name p) || H o.0) H)) m.1
       (key_same F H z (F p || F z) (H (t.name p) || H o.0) m.0 same both)) both
 
-  any_same : (F : ℕ → Bool) (H : Name → Bool) (p first fork n m : ℕ) → m ≤ n → first + n ≤ t.processes → Same F H
+  any_same : (F : ℕ → Bool) (H : Name → Bool) (p first fork n m : ℕ) → m ≤ n → first + n ≤ t.processes → SameFlags F H
       → ((i : ℕ) → i < n → t.name (first + i) ≡ (fork, i) ∷ t.name p)
       → any_flag F first m ≡ any_child H (t.name p) fork m
   any_same F H p first fork n zero le fits same child = refl
@@ -60,7 +62,7 @@ module _ (t : Births) (law : Lawful t) where
       let r = any_same F H p first fork n m (omega (arith, le)) fits same child in
       λ i. one i || r i
 
-  parent_same : (F : ℕ → Bool) (H : Name → Bool) (p : ℕ) → p < t.processes → Same F H → (b : Option Birth)
+  parent_same : (F : ℕ → Bool) (H : Name → Bool) (p : ℕ) → p < t.processes → SameFlags F H → (b : Option Birth)
       → t.birth p ≡ b → parent_flag F b ≡ parent_is H (t.name p)
   parent_same F H p there same None e = sym (ap (parent_is H) (name_of_root t law p there (sym e)))
   parent_same F H p there same (Some b) e =
@@ -69,14 +71,14 @@ module _ (t : Births) (law : Lawful t) where
 
   -- one entry
   module _ (s : Births) (e : Entry) (es : List Entry) (whole : births_from s (e ∷ es) ≡ t) (f : CanFollow s e)
-      (lines : ℕ → Option ℕ) (j : Judged)
+      (lines : ℕ → Option ℕ) (j : Knowledge)
       (forks : (p : ℕ) → p < t.processes → j.forks (t.name p) ≡ s.forks p) (waits : (c : ℕ) → c < t.channels
       → Matches t (lines c) (j.pending (channel t c))) where
-    stay : Stays s t
-    stay = subst (Stays s) whole (stays s (e ∷ es))
+    stay : ExtendsBirths s t
+    stay = subst (ExtendsBirths s) whole (stays s (e ∷ es))
 
-    stay_after : Stays (after_entry s e) t
-    stay_after = subst (Stays (after_entry s e)) whole (stays (after_entry s e) es)
+    stay_after : ExtendsBirths (births_after_entry s e) t
+    stay_after = subst (ExtendsBirths (births_after_entry s e)) whole (stays (births_after_entry s e) es)
 
     there : e.process < t.processes
     there = let a = f.0 in let b = stay.processes in omega (arith, a, b)
@@ -84,12 +86,13 @@ module _ (t : Births) (law : Lawful t) where
     inside : (c : ℕ) → c < s.channels → c < t.channels
     inside c l = let b = stay.channels in omega (arith, l, b)
 
-    before_same : (F : ℕ → Bool) (H : Name → Bool) → Same F H
-        → Same (flags_before s lines e.process e.event F) (needed_before j (t.name e.process) (happening t e.event) H)
+    before_same : (F : ℕ → Bool) (H : Name → Bool) → SameFlags F H
+        → SameFlags (flags_before s lines e.process e.event F)
+        (needed_before j (t.name e.process) (happening t e.event) H)
     before_same F H same = by e.event f.1 stay_after
       where
-        by : (v : Event) → GivesNumbers s e.process v → Stays (after_event s e.process v) t
-            → Same (flags_before s lines e.process v F) (needed_before j (t.name e.process) (happening t v) H)
+        by : (v : Event) → GivesNumbers s e.process v → ExtendsBirths (births_after_event s e.process v) t
+            → SameFlags (flags_before s lines e.process v F) (needed_before j (t.name e.process) (happening t v) H)
         by (event.Fork m) given after =
             let room = after.processes in
             let any : any_flag F s.processes m ≡ any_child H (t.name e.process) (j.forks (t.name e.process)) m =
@@ -116,17 +119,18 @@ module _ (t : Births) (law : Lawful t) where
         by event.Pause given after = same
 
     forks_after : (n p : ℕ) → p < t.processes
-        → (judged_by j n (t.name e.process) (happening t e.event)).forks (t.name p) ≡ (after_entry s e).forks p
+        → (knowledge_after j n (t.name e.process) (happening t e.event)).forks (t.name p)
+        ≡ (births_after_entry s e).forks p
     forks_after n p k = forks_by t law j n s e there forks p k
 
     waits_after : (n d : ℕ) → d < t.channels
         → Matches t (lines_after lines e.process e.event d)
-        ((judged_by j n (t.name e.process) (happening t e.event)).pending (channel t d))
+        ((knowledge_after j n (t.name e.process) (happening t e.event)).pending (channel t d))
     waits_after n d k = by e.event f.1
       where
         at : (c : ℕ) → c < t.channels → (x : Option ℕ) (y : Option (Name × ℕ)) → Matches t x y
             → Matches t (line_by lines e.process c x d)
-            ((met_now j (t.name e.process) n (channel t c) y).pending (channel t d))
+            ((knowledge_after_offer j (t.name e.process) n (channel t c) y).pending (channel t d))
         at c l None None m =
             subst (λ b. Matches t (at_key ◌==◌ c (Some e.process) lines d)
             (cond b (Some (t.name e.process, n)) (j.pending (channel t d)))) (same_chan t law c d l k)
@@ -149,7 +153,7 @@ module _ (t : Births) (law : Lawful t) where
 
         by : (v : Event) → GivesNumbers s e.process v
             → Matches t (lines_after lines e.process v d)
-            ((judged_by j n (t.name e.process) (happening t v)).pending (channel t d))
+            ((knowledge_after j n (t.name e.process) (happening t v)).pending (channel t d))
         by (event.Fork m) given = waits d k
         by event.Open given = waits d k
         by (event.Send c) given = at c (inside c given) (lines c) (j.pending (channel t c)) (waits c (inside c given))
@@ -163,29 +167,29 @@ module _ (t : Births) (law : Lawful t) where
   -- the whole pass
   module _ (os : List Occurrence) (earlier later last : ℕ) (inside : last < t.processes)
       (last_is : t.name last ≡ who_at os later) where
-    record Agree (s : Births) (lines : ℕ → Option ℕ) (j : Judged) (n : ℕ) (es : List Entry) : Type 0 where
-      same : Same (flags earlier last s lines n es) (needed os earlier later j n (map (occurrence t) es))
-      picks_same : map (occurrence t) (picked earlier last s lines n es)
-          ≡ taken os earlier later j n (map (occurrence t) es)
+    record SamePasses (s : Births) (lines : ℕ → Option ℕ) (j : Knowledge) (n : ℕ) (es : List Entry) : Type 0 where
+      same : SameFlags (flags earlier last s lines n es) (needed_processes os earlier later j n (map (occurrence t) es))
+      picks_same : map (occurrence t) (picked_entries earlier last s lines n es)
+          ≡ needed_entries os earlier later j n (map (occurrence t) es)
       marks_same : marks earlier last s lines n es ≡ needed_marks os earlier later j n (map (occurrence t) es)
 
-    agree : (s : Births) (lines : ℕ → Option ℕ) (j : Judged) (n : ℕ) (es rest : List Entry)
+    agree : (s : Births) (lines : ℕ → Option ℕ) (j : Knowledge) (n : ℕ) (es rest : List Entry)
         → births_from s (es ++ rest) ≡ t → NameableFrom s (es ++ rest)
         → ((p : ℕ) → p < t.processes → j.forks (t.name p) ≡ s.forks p)
-        → ((c : ℕ) → c < t.channels → Matches t (lines c) (j.pending (channel t c))) → Agree s lines j n es
+        → ((c : ℕ) → c < t.channels → Matches t (lines c) (j.pending (channel t c))) → SamePasses s lines j n es
     agree s lines j n [] rest whole f forks waits = record {
       same = λ q l. same_process t law q last l inside ∙ ap (same_name (t.name q)) last_is;
       picks_same = refl;
       marks_same = refl;
     }
     agree s lines j n (e ∷ es) rest whole f forks waits =
-        let j' = judged_by j n (t.name e.process) (happening t e.event) in
+        let j' = knowledge_after j n (t.name e.process) (happening t e.event) in
         let lines' = lines_after lines e.process e.event in
-        let r = agree (after_entry s e) lines' j' (suc n) es rest whole f.1
+        let r = agree (births_after_entry s e) lines' j' (suc n) es rest whole f.1
         (forks_after s e (es ++ rest) whole f.0 lines j forks waits n)
         (waits_after s e (es ++ rest) whole f.0 lines j forks waits n) in
-        let F = flags earlier last (after_entry s e) lines' (suc n) es in
-        let H = needed os earlier later j' (suc n) (map (occurrence t) es) in
+        let F = flags earlier last (births_after_entry s e) lines' (suc n) es in
+        let H = needed_processes os earlier later j' (suc n) (map (occurrence t) es) in
         let b = before_same s e (es ++ rest) whole f.0 lines j forks waits F H r.same in
         let room = there s e (es ++ rest) whole f.0 lines j forks waits in
         let own = b e.process room in
@@ -193,7 +197,7 @@ module _ (t : Births) (law : Lawful t) where
           same = λ q l. let x = b q l in let y = same_process t law q e.process l room in
               λ i. x i || ((n == earlier) && y i);
           picks_same = by (flags_before s lines e.process e.event F e.process)
-              (picked earlier last (after_entry s e) lines' (suc n) es)
+              (picked_entries earlier last (births_after_entry s e) lines' (suc n) es)
               ∙ (λ i. cond (own i) (occurrence t e ∷ r.picks_same i) (r.picks_same i));
           marks_same = λ i. own i ∷ r.marks_same i;
         }
@@ -210,62 +214,23 @@ take_map f (suc n) [] = refl
 take_map f (suc n) (x ∷ xs) = ap (λ z. f x ∷ z) (take_map f n xs)
 
 -- a nameable journal's picks are what the pass by names takes
-pub picks_taken : (es : List Entry) → NameableFrom at_start es → (earlier later : ℕ) (two : Entry)
+pub picks_taken : (es : List Entry) → NameableFrom first_births es → (earlier later : ℕ) (two : Entry)
     → slice_get es later ≡ Some two
-    → map (occurrence (births es)) (picks earlier two.process (take later es))
-    ≡ taken (occurrences_from at_start es) earlier later nothing_judged 0
-    (take later (occurrences_from at_start es))
+    → map (occurrence (births es)) (picked_first_part earlier two.process (take later es))
+    ≡ needed_entries (occurrences_from first_births es) earlier later no_knowledge 0
+    (take later (occurrences_from first_births es))
 picks_taken es f earlier later two got =
     let t = births es in
-    let os = occurrences_from at_start es in
+    let os = occurrences_from first_births es in
     let named : os ≡ map (occurrence t) es = all_named es f in
     let who : who_at os later ≡ t.name two.process = ap (λ xs. who_of (slice_get xs later)) named
     ∙ ap who_of (get_of_map (occurrence t) es later two got) in
     let split : take later es ++ drop later es ≡ es = take-append-drop later es in
     let room : two.process < t.processes = process_there es later two got f in
-    (agree t (lawful es f) os earlier later two.process room (sym who) at_start (λ c. None) nothing_judged 0
-    (take later es) (drop later es) (ap births split) (subst (NameableFrom at_start) (sym split) f) (λ p l. refl)
+    (agree t (lawful es f) os earlier later two.process room (sym who) first_births (λ c. None) no_knowledge 0
+    (take later es) (drop later es) (ap births split) (subst (NameableFrom first_births) (sym split) f) (λ p l. refl)
     (λ c l. tt)).picks_same
-    ∙ ap (taken os earlier later nothing_judged 0) (sym (ap (take later) named ∙ take_map (occurrence t) later es))
-  where
-    in_from : (s : Births) (xs : List Entry) (i : ℕ) (e : Entry) → slice_get xs i ≡ Some e → NameableFrom s xs
-        → e.process < (births_from s xs).processes
-    in_from s [] i e h g = absurd (none_some h)
-      where
-        none_some : ◌≡◌ {A = Option Entry} None (Some e) → ⊥
-        none_some z = cc
-    in_from s (x ∷ xs) zero e h g =
-        let is : x ≡ e = same_entry h in
-        let a = (stays s (x ∷ xs)).processes in
-        let b = g.0.0 in
-        subst (λ z. z.process < (births_from s (x ∷ xs)).processes) is (omega (arith, a, b))
-      where
-        same_entry : ◌≡◌ {A = Option Entry} (Some x) (Some e) → x ≡ e
-        same_entry z = cc
-    in_from s (x ∷ xs) (suc i) e h g = in_from (after_entry s x) xs i e h g.1
-
-    process_there : (xs : List Entry) (i : ℕ) (e : Entry) → slice_get xs i ≡ Some e → NameableFrom at_start xs
-        → e.process < (births xs).processes
-    process_there xs i e h g = in_from at_start xs i e h g
-
--- and the marks are those of the pass by names
-pub marks_taken : (es : List Entry) → NameableFrom at_start es → (earlier later : ℕ) (two : Entry)
-    → slice_get es later ≡ Some two
-    → marks earlier two.process at_start (λ c. None) 0 (take later es)
-    ≡ needed_marks (occurrences_from at_start es) earlier later nothing_judged 0
-    (take later (occurrences_from at_start es))
-marks_taken es f earlier later two got =
-    let t = births es in
-    let os = occurrences_from at_start es in
-    let named : os ≡ map (occurrence t) es = all_named es f in
-    let who : who_at os later ≡ t.name two.process = ap (λ xs. who_of (slice_get xs later)) named
-    ∙ ap who_of (get_of_map (occurrence t) es later two got) in
-    let split : take later es ++ drop later es ≡ es = take-append-drop later es in
-    let room : two.process < t.processes = process_there es later two got f in
-    (agree t (lawful es f) os earlier later two.process room (sym who) at_start (λ c. None) nothing_judged 0
-    (take later es) (drop later es) (ap births split) (subst (NameableFrom at_start) (sym split) f) (λ p l. refl)
-    (λ c l. tt)).marks_same
-    ∙ ap (needed_marks os earlier later nothing_judged 0)
+    ∙ ap (needed_entries os earlier later no_knowledge 0)
     (sym (ap (take later) named ∙ take_map (occurrence t) later es))
   where
     in_from : (s : Births) (xs : List Entry) (i : ℕ) (e : Entry) → slice_get xs i ≡ Some e → NameableFrom s xs
@@ -282,8 +247,48 @@ marks_taken es f earlier later two got =
       where
         same_entry : ◌≡◌ {A = Option Entry} (Some x) (Some e) → x ≡ e
         same_entry z = cc
-    in_from s (x ∷ xs) (suc i) e h g = in_from (after_entry s x) xs i e h g.1
+    in_from s (x ∷ xs) (suc i) e h g = in_from (births_after_entry s x) xs i e h g.1
 
-    process_there : (xs : List Entry) (i : ℕ) (e : Entry) → slice_get xs i ≡ Some e → NameableFrom at_start xs
+    process_there : (xs : List Entry) (i : ℕ) (e : Entry) → slice_get xs i ≡ Some e → NameableFrom first_births xs
         → e.process < (births xs).processes
-    process_there xs i e h g = in_from at_start xs i e h g
+    process_there xs i e h g = in_from first_births xs i e h g
+
+-- and the marks are those of the pass by names
+pub marks_taken : (es : List Entry) → NameableFrom first_births es → (earlier later : ℕ) (two : Entry)
+    → slice_get es later ≡ Some two
+    → marks earlier two.process first_births (λ c. None) 0 (take later es)
+    ≡ needed_marks (occurrences_from first_births es) earlier later no_knowledge 0
+    (take later (occurrences_from first_births es))
+marks_taken es f earlier later two got =
+    let t = births es in
+    let os = occurrences_from first_births es in
+    let named : os ≡ map (occurrence t) es = all_named es f in
+    let who : who_at os later ≡ t.name two.process = ap (λ xs. who_of (slice_get xs later)) named
+    ∙ ap who_of (get_of_map (occurrence t) es later two got) in
+    let split : take later es ++ drop later es ≡ es = take-append-drop later es in
+    let room : two.process < t.processes = process_there es later two got f in
+    (agree t (lawful es f) os earlier later two.process room (sym who) first_births (λ c. None) no_knowledge 0
+    (take later es) (drop later es) (ap births split) (subst (NameableFrom first_births) (sym split) f) (λ p l. refl)
+    (λ c l. tt)).marks_same
+    ∙ ap (needed_marks os earlier later no_knowledge 0)
+    (sym (ap (take later) named ∙ take_map (occurrence t) later es))
+  where
+    in_from : (s : Births) (xs : List Entry) (i : ℕ) (e : Entry) → slice_get xs i ≡ Some e → NameableFrom s xs
+        → e.process < (births_from s xs).processes
+    in_from s [] i e h g = absurd (none_some h)
+      where
+        none_some : ◌≡◌ {A = Option Entry} None (Some e) → ⊥
+        none_some z = cc
+    in_from s (x ∷ xs) zero e h g =
+        let is : x ≡ e = same_entry h in
+        let a = (stays s (x ∷ xs)).processes in
+        let b = g.0.0 in
+        subst (λ z. z.process < (births_from s (x ∷ xs)).processes) is (omega (arith, a, b))
+      where
+        same_entry : ◌≡◌ {A = Option Entry} (Some x) (Some e) → x ≡ e
+        same_entry z = cc
+    in_from s (x ∷ xs) (suc i) e h g = in_from (births_after_entry s x) xs i e h g.1
+
+    process_there : (xs : List Entry) (i : ℕ) (e : Entry) → slice_get xs i ≡ Some e → NameableFrom first_births xs
+        → e.process < (births xs).processes
+    process_there xs i e h g = in_from first_births xs i e h g

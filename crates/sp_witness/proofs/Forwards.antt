@@ -8,10 +8,10 @@ use Rattle.std.proofs.Math.Seq.{drop-cons}
 use Rattle.sp_journal.specs.declared.entry.Entry.{Entry}
 use Rattle.sp_journal.specs.declared.entry.Event.{Event}
 use Rattle.sp_journal.specs.declared.entry.Event.TheVariants as event
-use Rattle.sp_journal.specs.Births.{Births, births, after_entry, after_event, CanFollow, GivesNumbers}
+use Rattle.sp_journal.specs.Births.{Births, births, births_after_entry, births_after_event, CanFollow, GivesNumbers}
 use Rattle.sp_journal.proofs.Facts.{here, between}
 use Rattle.sp_journal.proofs.Walk.{left_is, more_births, any_entry}
-use Rattle.sp_witness.specs.Moved.{Table, table_after, moved_entry, moved, table_of}
+use Rattle.sp_witness.specs.Moved.{Table, table_after, renumbered_entry, renumbered_entries, table_of}
 use Rattle.sp_witness.specs.Passes.{CanAdd}
 
 pub put_in : (b : Bool) (v d : ℕ) (o : Option ℕ) → unwrap_or (cond b (Some v) o) d ≡ cond b v (unwrap_or o d)
@@ -41,13 +41,14 @@ one_number first child next q old x e = ⊎_elim
 
 -- one entry more
 moved_step : (s : Births) (m : Table) (e : Entry) (es : List Entry) (b : Bool) (bs : List Bool)
-    → moved s m (e ∷ es) (b ∷ bs)
-    ≡ cond b (moved_entry m e ∷ []) [] ++ moved (after_entry s e) (cond b (table_after s m e.event) m) es bs
+    → renumbered_entries s m (e ∷ es) (b ∷ bs)
+    ≡ cond b (renumbered_entry m e ∷ []) [] ++ renumbered_entries (births_after_entry s e)
+    (cond b (table_after s m e.event) m) es bs
 moved_step s m e es true bs = refl
 moved_step s m e es false bs = refl
 
 table_step : (s : Births) (m : Table) (e : Entry) (es : List Entry) (b : Bool) (bs : List Bool)
-    → table_of s m (e ∷ es) (b ∷ bs) ≡ table_of (after_entry s e) (cond b (table_after s m e.event) m) es bs
+    → table_of s m (e ∷ es) (b ∷ bs) ≡ table_of (births_after_entry s e) (cond b (table_after s m e.event) m) es bs
 table_step s m e es true bs = refl
 table_step s m e es false bs = refl
 
@@ -57,18 +58,19 @@ left_marks bs i l = rw add-one (drop-cons bs i false l)
 module _ (es : List Entry) (bs : List Bool) (at : ℕ) (inside : at < length es) (marked : at < length bs) (m m' : Table)
     (is : m' ≡ cond (get_or bs at false) (table_after (births (take at es)) m (get_or es at any_entry).event) m) where
   pub entries_on : (old new whole : List Entry)
-      → new ≡ old ++ cond (get_or bs at false) (moved_entry m (get_or es at any_entry) ∷ []) []
-      → old ++ moved (births (take at es)) m (drop at es) (drop at bs) ≡ whole
-      → new ++ moved (births (take (at + 1) es)) m' (drop (at + 1) es) (drop (at + 1) bs) ≡ whole
+      → new ≡ old ++ cond (get_or bs at false) (renumbered_entry m (get_or es at any_entry) ∷ []) []
+      → old ++ renumbered_entries (births (take at es)) m (drop at es) (drop at bs) ≡ whole
+      → new ++ renumbered_entries (births (take (at + 1) es)) m' (drop (at + 1) es) (drop (at + 1) bs) ≡ whole
   entries_on old new whole n h =
-      let chunk = cond (get_or bs at false) (moved_entry m (get_or es at any_entry) ∷ []) [] in
-      let rest = moved (births (take (at + 1) es)) m' (drop (at + 1) es) (drop (at + 1) bs) in
+      let chunk = cond (get_or bs at false) (renumbered_entry m (get_or es at any_entry) ∷ []) [] in
+      let rest = renumbered_entries (births (take (at + 1) es)) m' (drop (at + 1) es) (drop (at + 1) bs) in
       ap (λ xs. xs ++ rest) n ∙ append_assoc old chunk rest
       ∙ ap (λ xs. old ++ xs)
-      ((λ j. chunk ++ moved (more_births es at any_entry inside j) (is j) (drop (at + 1) es) (drop (at + 1) bs))
+      ((λ j. chunk ++ renumbered_entries (more_births es at any_entry inside j) (is j) (drop (at + 1) es)
+      (drop (at + 1) bs))
       ∙ sym (moved_step (births (take at es)) m (get_or es at any_entry) (drop (at + 1) es) (get_or bs at false)
       (drop (at + 1) bs))
-      ∙ (λ j. moved (births (take at es)) m (sym (left_is es at any_entry inside) j)
+      ∙ (λ j. renumbered_entries (births (take at es)) m (sym (left_is es at any_entry inside) j)
       (sym (left_marks bs at marked) j)))
       ∙ h
 
@@ -84,8 +86,8 @@ module _ (es : List Entry) (bs : List Bool) (at : ℕ) (inside : at < length es)
 
 -- there are no more numbers in the witness than in the run
 next_on : (b : Bool) (s : Births) (m : Table) (p : ℕ) (e : Event) → m.processes ≤ s.processes → m.channels ≤ s.channels
-    → ((cond b (table_after s m e) m).processes ≤ (after_event s p e).processes)
-    × ((cond b (table_after s m e) m).channels ≤ (after_event s p e).channels)
+    → ((cond b (table_after s m e) m).processes ≤ (births_after_event s p e).processes)
+    × ((cond b (table_after s m e) m).channels ≤ (births_after_event s p e).channels)
 next_on true s m p (event.Fork n) h k = (omega arith, k)
 next_on true s m p event.Open h k = (h, omega arith)
 next_on true s m p (event.Send c) h k = (h, k)
@@ -105,8 +107,8 @@ next_on false s m p event.Pause h k = (h, k)
 
 pub next_fits : (b : Bool) (s : Births) (m m' : Table) (p : ℕ) (e : Event) (process channel children channels : ℕ)
     → process ≡ s.processes → channel ≡ s.channels
-    → ((s : Births) (p : ℕ) → (after_event s p e).processes ≡ s.processes + children)
-    → ((s : Births) (p : ℕ) → (after_event s p e).channels ≡ s.channels + channels)
+    → ((s : Births) (p : ℕ) → (births_after_event s p e).processes ≡ s.processes + children)
+    → ((s : Births) (p : ℕ) → (births_after_event s p e).channels ≡ s.channels + channels)
     → m.processes ≤ process → m.channels ≤ channel → m' ≡ cond b (table_after s m e) m
     → (m'.processes ≤ process + children) × (m'.channels ≤ channel + channels)
 next_fits b s m m' p e process channel children channels pi ci np nc h k is =
@@ -138,7 +140,8 @@ can_add s e process channel next_process next_channel f pi ci h k = by e.event f
 -- the counts after the next entry
 module _ (es : List Entry) (at : ℕ) (inside : at < length es) where
   pub more_processes : (process children : ℕ) → process ≡ (births (take at es)).processes
-      → ((s : Births) (p : ℕ) → (after_event s p (get_or es at any_entry).event).processes ≡ s.processes + children)
+      → ((s : Births) (p : ℕ) → (births_after_event s p (get_or es at any_entry).event).processes
+      ≡ s.processes + children)
       → process + children ≡ (births (take (at + 1) es)).processes
   more_processes process children h k =
       ap (λ n. n + children) h
@@ -146,7 +149,8 @@ module _ (es : List Entry) (at : ℕ) (inside : at < length es) where
       ∙ k (births (take at es)) (get_or es at any_entry).process)
 
   pub more_channels : (channel channels : ℕ) → channel ≡ (births (take at es)).channels
-      → ((s : Births) (p : ℕ) → (after_event s p (get_or es at any_entry).event).channels ≡ s.channels + channels)
+      → ((s : Births) (p : ℕ) → (births_after_event s p (get_or es at any_entry).event).channels
+      ≡ s.channels + channels)
       → channel + channels ≡ (births (take (at + 1) es)).channels
   more_channels channel channels h k =
       ap (λ n. n + channels) h

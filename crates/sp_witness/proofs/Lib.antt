@@ -24,7 +24,7 @@ pub mod OwnFronts
 pub mod Pass
 pub mod Backwards
 pub mod Forwards
-pub mod Whole
+pub mod WitnessOfCode
 pub mod Cleanness
 pub mod Deciding
 pub mod Offers

@@ -9,12 +9,14 @@ use Rattle.sp_journal.specs.declared.entry.Entry.{Entry}
 use Rattle.sp_journal.specs.declared.entry.Way.TheVariants as way
 use Rattle.sp_journal.specs.Maps.{at_key}
 use Rattle.sp_journal.specs.Names.{Channel, Forked, Offered, Faulted, Occurrence}
-use Rattle.sp_journal.specs.Births.{Births, after_event, after_entry, births_from, channel, CanFollow, GivesNumbers}
+use Rattle.sp_journal.specs.Births.{Births, births_after_event, births_after_entry, births_from, channel, CanFollow}
+use Rattle.sp_journal.specs.Births.{GivesNumbers}
 use Rattle.sp_journal.specs.Births.{NameableFrom, happening, occurrence, occurrences_from}
 use Rattle.sp_journal.proofs.Facts.{below, between}
 use Rattle.sp_journal.proofs.BirthLaws.{Lawful, lawful_after}
-use Rattle.sp_judge.proofs.Numbers.{Stays, stays, one_channel, channel_stays, children_named}
-use Rattle.sp_witness.specs.Moved.{IsPlain, Table, moved_event, moved_entry, table_after, selected, moved, table_of}
+use Rattle.sp_judge.proofs.Numbers.{ExtendsBirths, stays, one_channel, channel_stays, children_named}
+use Rattle.sp_witness.specs.Moved.{IsPlain, Table, renumbered_event, renumbered_entry, table_after, marked_entries}
+use Rattle.sp_witness.specs.Moved.{renumbered_entries, table_of}
 use Rattle.sp_witness.specs.Moved.{IsOwnFront}
 
 -- who is not there yet has made nothing
@@ -35,7 +37,7 @@ pub record Source (t s' : Births) (m : Table) (s : Births) (d : ℕ) : Type 0 wh
   pub name : channel t old ≡ channel s' d
 
 -- s is what the run has given so far, s' what the new entries have given, t what the whole run gives
-pub record Follows (t s s' : Births) (m : Table) (dirty : ℕ → Bool) : Type 0 where
+pub record TableFollows (t s s' : Births) (m : Table) (dirty : ℕ → Bool) : Type 0 where
   pub lawful : Lawful s
   pub lawful_new : Lawful s'
   pub blank : IsBlank s
@@ -60,7 +62,8 @@ ArePlain s (e ∷ es) = CanFollow s e × IsPlain e.event × ArePlain s es
 
 module _ (t : Births) (law : Lawful t) where
   -- a new entry with the name of an old one has its moved numbers
-  module _ (s s' : Births) (m : Table) (dirty : ℕ → Bool) (f : Follows t s s' m dirty) (stay : Stays s t) (e e' : Entry)
+  module _ (s s' : Births) (m : Table) (dirty : ℕ → Bool) (f : TableFollows t s s' m dirty) (stay : ExtendsBirths s t)
+      (e e' : Entry)
       (can : CanFollow s e) (can' : CanFollow s' e') (same : occurrence s' e' ≡ occurrence t e) where
     there : e.process < t.processes
     there = let a = can.0 in let b = stay.processes in omega (arith, a, b)
@@ -84,11 +87,11 @@ module _ (t : Births) (law : Lawful t) where
         let is : o.old ≡ c = one_channel t law o.old c (omega (arith, a, b)) (omega (arith, l, b)) (o.name ∙ h) in
         ap m.channel (sym is) ∙ o.is
 
-    event_is : moved_event m e.event ≡ e'.event
+    event_is : renumbered_event m e.event ≡ e'.event
     event_is = by e.event e'.event can.1 can'.1 (ap (λ (o : Occurrence). o.what) same)
       where
         by : (v v' : Event) → GivesNumbers s e.process v → GivesNumbers s' e'.process v'
-            → happening s' v' ≡ happening t v → moved_event m v ≡ v'
+            → happening s' v' ≡ happening t v → renumbered_event m v ≡ v'
         by (event.Send c) (event.Send d) l k h = ap (λ x. event.Send x) (channel_is c d l k (offered h))
           where
             offered : {a b : Channel} → Offered way.Send a ≡ Offered way.Send b → a ≡ b
@@ -111,18 +114,18 @@ module _ (t : Births) (law : Lawful t) where
         by event.Pause event.Pause l k h = refl
         by v v' l k h = absurd (cc h)
 
-    pub moved_is : moved_entry m e ≡ e'
+    pub moved_is : renumbered_entry m e ≡ e'
     moved_is = λ i. record { process = process_is i; event = event_is i }
 
   -- what stays where the run has given more, and the witness not
   module _ (s : Births) (blank : IsBlank s) (e : Entry) (can : CanFollow s e) where
-    blank_after : IsBlank (after_entry s e)
+    blank_after : IsBlank (births_after_entry s e)
     blank_after q le = by e.event
       where
         more : q ≢ e.process
         more is = let a = can.0 in let b = grown in omega (arith, is, a, b, le)
           where
-            grown : s.processes ≤ (after_entry s e).processes
+            grown : s.processes ≤ (births_after_entry s e).processes
             grown = (stays s (e ∷ [])).processes
 
         room : s.processes ≤ q
@@ -138,7 +141,8 @@ module _ (t : Births) (law : Lawful t) where
         base : (s.forks q ≡ 0) × (s.opens q ≡ 0)
         base = blank q room
 
-        by : (v : Event) → ((after_event s e.process v).forks q ≡ 0) × ((after_event s e.process v).opens q ≡ 0)
+        by : (v : Event) → ((births_after_event s e.process v).forks q ≡ 0)
+            × ((births_after_event s e.process v).opens q ≡ 0)
         by (event.Fork n) = (
           ap (λ z. cond (e.process == q) (s.forks e.process + 1) z) base.0
               ∙ other (s.forks e.process + 1),
@@ -158,7 +162,7 @@ module _ (t : Births) (law : Lawful t) where
 
     -- another process has made as much as before
     others_made : (q : ℕ) → q ≢ e.process
-        → ((after_entry s e).forks q ≡ s.forks q) × ((after_entry s e).opens q ≡ s.opens q)
+        → ((births_after_entry s e).forks q ≡ s.forks q) × ((births_after_entry s e).opens q ≡ s.opens q)
     others_made q apart = by e.event
       where
         other : (x y : ℕ) → cond (e.process == q) x y ≡ y
@@ -168,8 +172,8 @@ module _ (t : Births) (law : Lawful t) where
             by_test true h = absurd (apart (sym (eqb-true e.process q h)))
             by_test false h = refl
 
-        by : (v : Event) → ((after_event s e.process v).forks q ≡ s.forks q)
-            × ((after_event s e.process v).opens q ≡ s.opens q)
+        by : (v : Event) → ((births_after_event s e.process v).forks q ≡ s.forks q)
+            × ((births_after_event s e.process v).opens q ≡ s.opens q)
         by (event.Fork n) = (other (s.forks e.process + 1) (s.forks q), refl)
         by event.Open = (refl, other (s.opens e.process + 1) (s.opens q))
         by (event.Send c) = (refl, refl)
@@ -180,12 +184,13 @@ module _ (t : Births) (law : Lawful t) where
         by event.Pause = (refl, refl)
 
   -- an entry that is not picked
-  module _ (s s' : Births) (m : Table) (dirty : ℕ → Bool) (f : Follows t s s' m dirty) (e : Entry) (can : CanFollow s e)
-      (after : Stays (after_entry s e) t) where
-    more : Stays s (after_entry s e)
+  module _ (s s' : Births) (m : Table) (dirty : ℕ → Bool) (f : TableFollows t s s' m dirty) (e : Entry)
+      (can : CanFollow s e)
+      (after : ExtendsBirths (births_after_entry s e) t) where
+    more : ExtendsBirths s (births_after_entry s e)
     more = stays s (e ∷ [])
 
-    pub passed_by : Follows t (after_entry s e) s' m (at_key ◌==◌ e.process true dirty)
+    pub passed_by : TableFollows t (births_after_entry s e) s' m (at_key ◌==◌ e.process true dirty)
     passed_by = record {
       lawful = lawful_after s e f.lawful can;
       lawful_new = f.lawful_new;
@@ -218,28 +223,30 @@ module _ (t : Births) (law : Lawful t) where
             by false i h = (λ g. absurd (true≢false (sym (eq-eqb e.process q (sym g)) ∙ i)), h)
 
   -- an entry that is picked
-  module _ (s s' : Births) (m : Table) (dirty : ℕ → Bool) (f : Follows t s s' m dirty) (stay : Stays s t) (e : Entry)
-      (can : CanFollow s e) (after : Stays (after_entry s e) t) (can' : CanFollow s' (moved_entry m e))
+  module _ (s s' : Births) (m : Table) (dirty : ℕ → Bool) (f : TableFollows t s s' m dirty) (stay : ExtendsBirths s t)
+      (e : Entry)
+      (can : CanFollow s e) (after : ExtendsBirths (births_after_entry s e) t)
+      (can' : CanFollow s' (renumbered_entry m e))
       (name_same : t.name e.process ≡ s'.name (m.process e.process)) (clean : dirty e.process ≡ false) where
     abbrev e' : Entry
-    e' = moved_entry m e
+    e' = renumbered_entry m e
 
     abbrev s1 : Births
-    s1 = after_entry s e
+    s1 = births_after_entry s e
 
     abbrev s1' : Births
-    s1' = after_entry s' e'
+    s1' = births_after_entry s' e'
 
     abbrev m1 : Table
     m1 = table_after s m e.event
 
-    grown : Stays s s1
+    grown : ExtendsBirths s s1
     grown = stays s (e ∷ [])
 
-    grown' : Stays s' s1'
+    grown' : ExtendsBirths s' s1'
     grown' = stays s' (e' ∷ [])
 
-    itself : Stays s1' s1'
+    itself : ExtendsBirths s1' s1'
     itself = stays s1' []
 
     counts : (s'.forks e'.process ≡ s.forks e.process) × (s'.opens e'.process ≡ s.opens e.process)
@@ -248,7 +255,8 @@ module _ (t : Births) (law : Lawful t) where
     processes_after : m1.processes ≡ s1'.processes
     processes_after = by e.event
       where
-        by : (v : Event) → (table_after s m v).processes ≡ (after_event s' e'.process (moved_event m v)).processes
+        by : (v : Event) → (table_after s m v).processes
+            ≡ (births_after_event s' e'.process (renumbered_event m v)).processes
         by (event.Fork n) = ap (λ z. z + n) f.processes
         by event.Open = f.processes
         by (event.Send c) = f.processes
@@ -261,7 +269,8 @@ module _ (t : Births) (law : Lawful t) where
     channels_after : m1.channels ≡ s1'.channels
     channels_after = by e.event
       where
-        by : (v : Event) → (table_after s m v).channels ≡ (after_event s' e'.process (moved_event m v)).channels
+        by : (v : Event) → (table_after s m v).channels
+            ≡ (births_after_event s' e'.process (renumbered_event m v)).channels
         by (event.Fork n) = f.channels
         by event.Open = ap (λ z. z + 1) f.channels
         by (event.Send c) = f.channels
@@ -297,10 +306,12 @@ module _ (t : Births) (law : Lawful t) where
     new_origin : (r : ℕ) → s'.processes ≤ r → r < s1'.processes → NewOrigin r
     new_origin r le lt = by e.event refl can.1 can'.1 after grown' itself lt
       where
-        by : (v : Event) → e.event ≡ v → GivesNumbers s e.process v → GivesNumbers s' e'.process (moved_event m v)
-            → Stays (after_event s e.process v) t → Stays s' (after_event s' e'.process (moved_event m v))
-            → Stays (after_event s' e'.process (moved_event m v)) (after_event s' e'.process (moved_event m v))
-            → r < (after_event s' e'.process (moved_event m v)).processes → NewOrigin r
+        by : (v : Event) → e.event ≡ v → GivesNumbers s e.process v → GivesNumbers s' e'.process (renumbered_event m v)
+            → ExtendsBirths (births_after_event s e.process v) t
+            → ExtendsBirths s' (births_after_event s' e'.process (renumbered_event m v))
+            → ExtendsBirths (births_after_event s' e'.process (renumbered_event m v))
+            (births_after_event s' e'.process (renumbered_event m v))
+            → r < (births_after_event s' e'.process (renumbered_event m v)).processes → NewOrigin r
         by (event.Fork n) is given given' st gr it l =
             let i : ℕ = r - s'.processes in
             let small : i < n = omega (arith, le, l) in
@@ -311,19 +322,21 @@ module _ (t : Births) (law : Lawful t) where
             (between s.processes (s.processes + i) (s.processes + n) (omega arith) (omega (arith, small)))
             ∙ (λ x. f.processes x + k x) ∙ r_is in
             let one = children_named s t e.process n can.0 stay st i small in
-            let two = children_named s' (after_event s' e'.process (event.Fork n)) e'.process n can'.0 gr it i small in
-            let p' : (after_event s' e'.process (event.Fork n)).name e'.process ≡ s'.name e'.process =
+            let two = children_named s' (births_after_event s' e'.process (event.Fork n)) e'.process n can'.0 gr it i
+            small in
+            let p' : (births_after_event s' e'.process (event.Fork n)).name e'.process ≡ s'.name e'.process =
             gr.names e'.process can'.0 in
-            let named : t.name (s.processes + i) ≡ (after_event s' e'.process (event.Fork n)).name r =
+            let named : t.name (s.processes + i) ≡ (births_after_event s' e'.process (event.Fork n)).name r =
             one ∙ (λ x. (sym counts.0 x, i) ∷ (name_same ∙ sym p') x) ∙ sym two
-            ∙ ap (after_event s' e'.process (event.Fork n)).name r_is in
+            ∙ ap (births_after_event s' e'.process (event.Fork n)).name r_is in
             record {
               old = s.processes + i;
               fresh = omega arith;
-              there = subst (λ v. s.processes + i < (after_event s e.process v).processes) (sym is)
+              there = subst (λ v. s.processes + i < (births_after_event s e.process v).processes) (sym is)
                   (omega (arith, small));
               is = subst (λ v. (table_after s m v).process (s.processes + i) ≡ r) (sym is) moved_to;
-              name = subst (λ v. t.name (s.processes + i) ≡ (after_event s' e'.process (moved_event m v)).name r)
+              name = subst (λ v. t.name (s.processes + i)
+                  ≡ (births_after_event s' e'.process (renumbered_event m v)).name r)
                   (sym is) named;
             }
         by event.Open is given given' st gr it l = absurd (omega (arith, le, l))
@@ -370,8 +383,8 @@ module _ (t : Births) (law : Lawful t) where
                   ∙ channel_kept d l;
             }
 
-        by : (v : Event) → e.event ≡ v → GivesNumbers s e.process v → GivesNumbers s' e'.process (moved_event m v)
-            → d < (after_event s' e'.process (moved_event m v)).channels → Source t s1' m1 s1 d
+        by : (v : Event) → e.event ≡ v → GivesNumbers s e.process v → GivesNumbers s' e'.process (renumbered_event m v)
+            → d < (births_after_event s' e'.process (renumbered_event m v)).channels → Source t s1' m1 s1 d
         by event.Open is given given' l = ⊎_elim
             (λ (k : d < s'.channels). old_source k
             (λ c b. subst (λ v. (table_after s m v).channel c ≡ m.channel c) (sym is) (at_old c b)))
@@ -379,11 +392,11 @@ module _ (t : Births) (law : Lawful t) where
             let d_is : s'.channels ≡ d = omega (arith, k, l) in
             let here : s.channels == s.channels ≡ true = eq-eqb s.channels s.channels refl in
             let here' : s'.channels == s'.channels ≡ true = eq-eqb s'.channels s'.channels refl in
-            let law1 : Lawful (after_event s e.process event.Open) =
-            subst (λ v. Lawful (after_event s e.process v)) is (lawful_after s e f.lawful can) in
-            let st : Stays (after_event s e.process event.Open) t =
-            subst (λ v. Stays (after_event s e.process v) t) is after in
-            let one : channel (after_event s e.process event.Open) s.channels
+            let law1 : Lawful (births_after_event s e.process event.Open) =
+            subst (λ v. Lawful (births_after_event s e.process v)) is (lawful_after s e f.lawful can) in
+            let st : ExtendsBirths (births_after_event s e.process event.Open) t =
+            subst (λ v. ExtendsBirths (births_after_event s e.process v) t) is after in
+            let one : channel (births_after_event s e.process event.Open) s.channels
             ≡ record { owner = s.name e.process; nth = s.opens e.process } =
             (λ i. record {
               owner =
@@ -392,7 +405,7 @@ module _ (t : Births) (law : Lawful t) where
               nth =
                   (cond (here i) (record { owner = e.process; nth = s.opens e.process }) (s.opening s.channels)).nth;
             }) in
-            let two : channel (after_event s' e'.process event.Open) s'.channels
+            let two : channel (births_after_event s' e'.process event.Open) s'.channels
             ≡ record { owner = s'.name e'.process; nth = s'.opens e'.process } =
             (λ i. record {
               owner =
@@ -402,17 +415,18 @@ module _ (t : Births) (law : Lawful t) where
                   (cond (here' i) (record { owner = e'.process; nth = s'.opens e'.process })
                   (s'.opening s'.channels)).nth;
             }) in
-            let same : channel t s.channels ≡ channel (after_event s' e'.process event.Open) s'.channels =
-            sym (channel_stays (after_event s e.process event.Open) t law1 st s.channels (omega arith)) ∙ one
+            let same : channel t s.channels ≡ channel (births_after_event s' e'.process event.Open) s'.channels =
+            sym (channel_stays (births_after_event s e.process event.Open) t law1 st s.channels (omega arith)) ∙ one
             ∙ (λ i. record { owner = (sym (stay.names e.process can.0) ∙ name_same) i; nth = sym counts.1 i })
             ∙ sym two in
             record {
               old = s.channels;
-              there = subst (λ v. s.channels < (after_event s e.process v).channels) (sym is) (omega arith);
+              there = subst (λ v. s.channels < (births_after_event s e.process v).channels) (sym is) (omega arith);
               is = subst (λ v. (table_after s m v).channel s.channels ≡ d) (sym is)
                   (ap (λ b. cond b m.channels (m.channel s.channels)) here ∙ f.channels ∙ d_is);
-              name = subst (λ v. channel t s.channels ≡ channel (after_event s' e'.process (moved_event m v)) d)
-                  (sym is) (same ∙ ap (channel (after_event s' e'.process event.Open)) d_is);
+              name = subst (λ v. channel t s.channels
+                  ≡ channel (births_after_event s' e'.process (renumbered_event m v)) d)
+                  (sym is) (same ∙ ap (channel (births_after_event s' e'.process event.Open)) d_is);
             })
             (cases_lt d s'.channels)
           where
@@ -453,10 +467,10 @@ module _ (t : Births) (law : Lawful t) where
         here' : e'.process == e'.process ≡ true
         here' = eq-eqb e'.process e'.process refl
 
-        by : (v : Event) → ((after_event s' e'.process (moved_event m v)).forks e'.process
-            ≡ (after_event s e.process v).forks e.process)
-            × ((after_event s' e'.process (moved_event m v)).opens e'.process
-            ≡ (after_event s e.process v).opens e.process)
+        by : (v : Event) → ((births_after_event s' e'.process (renumbered_event m v)).forks e'.process
+            ≡ (births_after_event s e.process v).forks e.process)
+            × ((births_after_event s' e'.process (renumbered_event m v)).opens e'.process
+            ≡ (births_after_event s e.process v).opens e.process)
         by (event.Fork n) = (
           ap (λ b. cond b (s'.forks e'.process + 1) (s'.forks e'.process)) here' ∙ ap (λ z. z + 1) counts.0
               ∙ sym (ap (λ b. cond b (s.forks e.process + 1) (s.forks e.process)) here),
@@ -526,7 +540,7 @@ module _ (t : Births) (law : Lawful t) where
             )
         by_own false h = others (eqb-false q e.process h)
 
-    pub picked_by : Follows t s1 s1' m1 dirty
+    pub picked_by : TableFollows t s1 s1' m1 dirty
     picked_by = record {
       lawful = lawful_after s e f.lawful can;
       lawful_new = law_new;
@@ -540,21 +554,21 @@ module _ (t : Births) (law : Lawful t) where
     }
 
   -- what is left of the new entries after the marked ones
-  pub record Ends (s s' : Births) (m : Table) (es : List Entry) (marks : List Bool) (new : List Entry)
+  pub record RestOfEntries (s s' : Births) (m : Table) (es : List Entry) (marks : List Bool) (new : List Entry)
       (extra : List Occurrence) : Type 0 where
     pub left : List Entry
-    pub whole : new ≡ moved s m es marks ++ left
+    pub whole : new ≡ renumbered_entries s m es marks ++ left
     pub births_new : Births
     pub dirty : ℕ → Bool
-    pub follows : Follows t (births_from s es) births_new (table_of s m es marks) dirty
+    pub follows : TableFollows t (births_from s es) births_new (table_of s m es marks) dirty
     pub nameable : NameableFrom births_new left
     pub names : occurrences_from births_new left ≡ extra
 
   pub numbers_move : (es rest : List Entry) (marks : List Bool) (s s' : Births) (m : Table) (dirty : ℕ → Bool)
       (new : List Entry) (extra : List Occurrence) → AreMarks es marks → births_from s (es ++ rest) ≡ t
-      → NameableFrom s (es ++ rest) → Follows t s s' m dirty → IsOwnFront dirty es marks
-      → NameableFrom s' new → occurrences_from s' new ≡ map (occurrence t) (selected es marks) ++ extra
-      → Ends s s' m es marks new extra
+      → NameableFrom s (es ++ rest) → TableFollows t s s' m dirty → IsOwnFront dirty es marks
+      → NameableFrom s' new → occurrences_from s' new ≡ map (occurrence t) (marked_entries es marks) ++ extra
+      → RestOfEntries s s' m es marks new extra
   numbers_move [] rest [] s s' m dirty new extra ok whole named f own named' names =
       record { left = new; whole = refl; births_new = s'; dirty = dirty; follows = f; nameable = named'; names = names }
   numbers_move [] rest (b ∷ marks) s s' m dirty new extra ok whole named f own named' names = absurd ok
@@ -562,19 +576,21 @@ module _ (t : Births) (law : Lawful t) where
   numbers_move (e ∷ es) rest (true ∷ marks) s s' m dirty [] extra ok whole named f own named' names =
       absurd (nil_is_not_cons names)
   numbers_move (e ∷ es) rest (true ∷ marks) s s' m dirty (x ∷ new) extra ok whole named f own named' names =
-      let stay : Stays s t = subst (Stays s) whole (stays s (e ∷ (es ++ rest))) in
-      let after : Stays (after_entry s e) t =
-      subst (Stays (after_entry s e)) whole (stays (after_entry s e) (es ++ rest)) in
+      let stay : ExtendsBirths s t = subst (ExtendsBirths s) whole (stays s (e ∷ (es ++ rest))) in
+      let after : ExtendsBirths (births_after_entry s e) t =
+      subst (ExtendsBirths (births_after_entry s e)) whole (stays (births_after_entry s e) (es ++ rest)) in
       let same : occurrence s' x ≡ occurrence t e = same_head names in
-      let is : moved_entry m e ≡ x = moved_is s s' m dirty f stay e x named.0 named'.0 same in
-      let can' : CanFollow s' (moved_entry m e) = subst (CanFollow s') (sym is) named'.0 in
+      let is : renumbered_entry m e ≡ x = moved_is s s' m dirty f stay e x named.0 named'.0 same in
+      let can' : CanFollow s' (renumbered_entry m e) = subst (CanFollow s') (sym is) named'.0 in
       let name_same : t.name e.process ≡ s'.name (m.process e.process) = ap (λ (o : Occurrence). o.who) (sym same)
       ∙ ap (λ (z : Entry). s'.name z.process) (sym is) in
       let g = picked_by s s' m dirty f stay e named.0 after can' name_same own.0 in
-      let r = numbers_move es rest marks (after_entry s e) (after_entry s' (moved_entry m e)) (table_after s m e.event)
+      let r = numbers_move es rest marks (births_after_entry s e) (births_after_entry s' (renumbered_entry m e))
+      (table_after s m e.event)
       dirty new extra ok whole named.1 g own.1
-      (subst (λ z. NameableFrom (after_entry s' z) new) (sym is) named'.1)
-      (subst (λ z. occurrences_from (after_entry s' z) new ≡ map (occurrence t) (selected es marks) ++ extra)
+      (subst (λ z. NameableFrom (births_after_entry s' z) new) (sym is) named'.1)
+      (subst (λ z. occurrences_from (births_after_entry s' z) new ≡ map (occurrence t) (marked_entries es marks)
+      ++ extra)
       (sym is) (same_tail names)) in
       record {
         left = r.left;
@@ -587,9 +603,10 @@ module _ (t : Births) (law : Lawful t) where
         names = r.names;
       }
   numbers_move (e ∷ es) rest (false ∷ marks) s s' m dirty new extra ok whole named f own named' names =
-      let after : Stays (after_entry s e) t =
-      subst (Stays (after_entry s e)) whole (stays (after_entry s e) (es ++ rest)) in
-      let r = numbers_move es rest marks (after_entry s e) s' m (at_key ◌==◌ e.process true dirty) new extra ok whole
+      let after : ExtendsBirths (births_after_entry s e) t =
+      subst (ExtendsBirths (births_after_entry s e)) whole (stays (births_after_entry s e) (es ++ rest)) in
+      let r = numbers_move es rest marks (births_after_entry s e) s' m (at_key ◌==◌ e.process true dirty) new extra
+      ok whole
       named.1 (passed_by s s' m dirty f e named.0 after) own named' names in
       record {
         left = r.left;
@@ -602,20 +619,20 @@ module _ (t : Births) (law : Lawful t) where
       }
 
   -- such entries are moved by the last table
-  pub plain_move : (es new : List Entry) (s s' : Births) (m : Table) (dirty : ℕ → Bool) → Follows t s s' m dirty
-      → Stays s t → ArePlain s es → NameableFrom s' new → occurrences_from s' new ≡ map (occurrence t) es
-      → new ≡ map (moved_entry m) es
+  pub plain_move : (es new : List Entry) (s s' : Births) (m : Table) (dirty : ℕ → Bool) → TableFollows t s s' m dirty
+      → ExtendsBirths s t → ArePlain s es → NameableFrom s' new → occurrences_from s' new ≡ map (occurrence t) es
+      → new ≡ map (renumbered_entry m) es
   plain_move [] [] s s' m dirty f stay plain named names = refl
   plain_move [] (x ∷ new) s s' m dirty f stay plain named names = absurd (cons_is_not_nil names)
   plain_move (e ∷ es) [] s s' m dirty f stay plain named names = absurd (nil_is_not_cons names)
   plain_move (e ∷ es) (x ∷ new) s s' m dirty f stay plain named names =
-      let is : moved_entry m e ≡ x = moved_is s s' m dirty f stay e x plain.0 named.0 (same_head names) in
-      let none : after_entry s' x ≡ s' = ap (after_entry s') (sym is) ∙ gives_nothing e.event plain.1 in
+      let is : renumbered_entry m e ≡ x = moved_is s s' m dirty f stay e x plain.0 named.0 (same_head names) in
+      let none : births_after_entry s' x ≡ s' = ap (births_after_entry s') (sym is) ∙ gives_nothing e.event plain.1 in
       let r = plain_move es new s s' m dirty f stay plain.2 (subst (λ z. NameableFrom z new) none named.1)
       (subst (λ z. occurrences_from z new ≡ map (occurrence t) es) none (same_tail names)) in
       λ i. sym is i ∷ r i
     where
-      gives_nothing : (v : Event) → IsPlain v → after_event s' (m.process e.process) (moved_event m v) ≡ s'
+      gives_nothing : (v : Event) → IsPlain v → births_after_event s' (m.process e.process) (renumbered_event m v) ≡ s'
       gives_nothing (event.Fork n) h = absurd h
       gives_nothing event.Open h = absurd h
       gives_nothing (event.Send c) h = refl

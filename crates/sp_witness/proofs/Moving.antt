@@ -5,14 +5,14 @@ use Rattle.std.proofs.Common.{◌∷◌, Option, Some, refl, sym, ap, ◌∙◌,
 use Rattle.std.proofs.lemmas.Bool.{true≢false}
 use Rattle.std.proofs.lemmas.Option.{same_Some}
 use Rattle.sp_meaning.specs.Model.{Name, Language}
-use Rattle.sp_meaning.specs.Steps.{ActOf, outcome, result_of, working}
-use Rattle.sp_meaning.specs.Own.{Setting, Process}
-use Rattle.sp_meaning.specs.SuperPascal.{superpascal, beats}
+use Rattle.sp_meaning.specs.Steps.{ActOf, step_outcome, result_of, own_part}
+use Rattle.sp_meaning.specs.LocalWork.{RunInput, Process}
+use Rattle.sp_meaning.specs.SuperPascal.{superpascal, pauses_next}
 use Rattle.sp_meaning.specs.Entries.{Happening}
-use Rattle.sp_meaning.specs.Runs.{StateOf, start, most, IsDisjointRun}
+use Rattle.sp_meaning.specs.Runs.{StateOf, start, total_limits, IsDisjointRun}
 use Rattle.sp_meaning.proofs.Instance.{superpascal_keeps}
-use Rattle.sp_race.specs.Notes.{Event, Notes, mine}
-use Rattle.sp_race.specs.Noting.{WithNotes, notes_after, noted_with}
+use Rattle.sp_race.specs.Notes.{Event, JudgeNotes, next_event_of}
+use Rattle.sp_race.specs.Noting.{WithNotes, notes_after, noted_step_of}
 use Rattle.sp_race.proofs.GoodSteps.{GoodStep, good_exchange}
 use Rattle.sp_witness.proofs.Independent.{IsLocal, enabled, unmoved}
 
@@ -37,7 +37,7 @@ abbrev pub Cuts : (ℕ → Bool) → List Head → Type 0
 Cuts mark [] = Unit {0}
 Cuts mark (b ∷ bs) = (mark b.at ≡ false → MarkedFree mark b bs) × Cuts mark bs
 
-module _ (g : Setting) where
+module _ (g : RunInput) where
   abbrev L : Language
   L = superpascal g
 
@@ -68,23 +68,23 @@ module _ (g : Setting) where
 
   module _ (label : ℕ → Option Event) where
     -- the step can be made in this state
-    pub record Fits (s : WithNotes L) (h : Head) (x : Tag) : Type 0 where
-      pub works : working s.state h.who ≡ Some x.own
+    pub record CanBeMade (s : WithNotes L) (h : Head) (x : Tag) : Type 0 where
+      pub works : own_part s.state h.who ≡ Some x.own
       pub act_is : L.next x.own s.state.store ≡ x.act
-      pub beat_is : beats g x.own s.state.store ≡ x.beat
+      pub beat_is : pauses_next g x.own s.state.store ≡ x.beat
       pub past : (k : ℕ) (e : Event) → k < h.at → label k ≡ Some e → s.notes.past h.who e ≡ h.knows k
-      pub named : IsLocal x.act ⊎ (label h.at ≡ Some (mine s.notes h.who))
+      pub named : IsLocal x.act ⊎ (label h.at ≡ Some (next_event_of s.notes h.who))
 
     -- the step is what its process does next
-    pub record Ready (s : WithNotes L) (h : Head) (x : Tag) : Type 0 where
-      pub works : working s.state h.who ≡ Some x.own
+    pub record IsNextOfProcess (s : WithNotes L) (h : Head) (x : Tag) : Type 0 where
+      pub works : own_part s.state h.who ≡ Some x.own
       pub act_is : L.next x.own s.state.store ≡ x.act
-      pub beat_is : beats g x.own s.state.store ≡ x.beat
+      pub beat_is : pauses_next g x.own s.state.store ≡ x.beat
       pub past : (k : ℕ) (e : Event) → k < h.at → label k ≡ Some e → s.notes.past h.who e ≡ h.knows k
 
     pub record Does (s : WithNotes L) (h : Head) (x : Tag) (m : WithNotes L) : Type 0 where
-      pub fits : Fits s h x
-      pub good : GoodStep (most g) (start g) s h.who m
+      pub fits : CanBeMade s h x
+      pub good : GoodStep (total_limits g) (start g) s h.who m
 
     -- these steps of one entry
     abbrev pub Runs : WithNotes L → Head → List Tag → WithNotes L → Type 0
@@ -108,12 +108,12 @@ module _ (g : Setting) where
 
     module _ (disjoint : IsDisjointRun g) where
       -- what is next after a step that is free of it was next before that step
-      pub ready_back : (s s1 : WithNotes L) (a b : Head) (x y : Tag) → Free a b → Does s a x s1 → Ready s1 b y
-          → Ready s b y
+      pub ready_back : (s s1 : WithNotes L) (a b : Head) (x y : Tag) → Free a b → Does s a x s1 → IsNextOfProcess s1 b y
+          → IsNextOfProcess s b y
       ready_back s s1 a b x y free h k =
           ⊎_elim first (λ learned. absurd (never learned))
           (enabled s.state s.notes a.who h.good.cs h.good.sound h.good.makes b.who y.own back
-          (subst (λ (z : StateOf g). working z b.who ≡ Some y.own) h.good.to k.works))
+          (subst (λ (z : StateOf g). own_part z b.who ≡ Some y.own) h.good.to k.works))
         where
           back : b.who ≢ a.who
           back e = free.0 (sym e)
@@ -123,19 +123,19 @@ module _ (g : Setting) where
 
           never : (IsLocal (L.next h.good.makes.own s.state.store) → ⊥)
               × ((notes_after s.state s.notes a.who (L.next h.good.makes.own s.state.store)).past b.who
-              (mine s.notes a.who) ≡ true) → ⊥
+              (next_event_of s.notes a.who) ≡ true) → ⊥
           never l = ⊎_elim
               (λ (loc : IsLocal x.act). l.0
               (subst IsLocal (sym h.fits.act_is ∙ ap (λ o. L.next o s.state.store) (sym own_is)) loc))
-              (λ (is : label a.at ≡ Some (mine s.notes a.who)).
-              let seen : s1.notes.past b.who (mine s.notes a.who) ≡ b.knows a.at =
-              k.past a.at (mine s.notes a.who) free.1 is in
-              let learned : s1.notes.past b.who (mine s.notes a.who) ≡ true =
-              ap (λ (v : Notes). v.past b.who (mine s.notes a.who)) h.good.noted ∙ l.1 in
+              (λ (is : label a.at ≡ Some (next_event_of s.notes a.who)).
+              let seen : s1.notes.past b.who (next_event_of s.notes a.who) ≡ b.knows a.at =
+              k.past a.at (next_event_of s.notes a.who) free.1 is in
+              let learned : s1.notes.past b.who (next_event_of s.notes a.who) ≡ true =
+              ap (λ (v : JudgeNotes). v.past b.who (next_event_of s.notes a.who)) h.good.noted ∙ l.1 in
               true≢false (sym learned ∙ seen ∙ free.2))
               h.fits.named
 
-          first : working s.state b.who ≡ Some y.own → Ready s b y
+          first : own_part s.state b.who ≡ Some y.own → IsNextOfProcess s b y
           first w =
               let u = unmoved g disjoint s a.who s1 h.good b.who y.own back w in
               record {
@@ -145,7 +145,7 @@ module _ (g : Setting) where
                 past = λ i e lt is. ap (λ f. f e) (sym u.past) ∙ k.past i e lt is;
               }
 
-      pub ready_of : (s : WithNotes L) (h : Head) (x : Tag) → Fits s h x → Ready s h x
+      pub ready_of : (s : WithNotes L) (h : Head) (x : Tag) → CanBeMade s h x → IsNextOfProcess s h x
       ready_of s h x f = record { works = f.works; act_is = f.act_is; beat_is = f.beat_is; past = f.past }
 
       swap : (s s1 s2 : WithNotes L) (a b : Head) (x y : Tag) → Free a b → Does s a x s1 → Does s1 b y s2
@@ -155,11 +155,12 @@ module _ (g : Setting) where
           let r = ready_back s s1 a b x y free h (ready_of s1 b y k.fits) in
           let m : WithNotes L =
           record {
-            state = result_of s.state b.who (outcome (most g) s.state b.who (L.next y.own s.state.store));
+            state = result_of s.state b.who (step_outcome (total_limits g) s.state b.who (L.next y.own s.state.store));
             notes = notes_after s.state s.notes b.who (L.next y.own s.state.store);
           } in
-          let ex = good_exchange (most g) (superpascal_keeps g) (start g) disjoint s a.who b.who s1 s2 m free.0 h.good
-          k.good (ap (noted_with (most g) s b.who) r.works) in
+          let ex = good_exchange (total_limits g) (superpascal_keeps g) (start g) disjoint s a.who b.who s1 s2 m
+          free.0 h.good
+          k.good (ap (noted_step_of (total_limits g) s b.who) r.works) in
           let u = unmoved g disjoint s a.who s1 h.good b.who y.own back r.works in
           let v = unmoved g disjoint s b.who m ex.0 a.who x.own free.0 h.fits.works in (
             m,
@@ -170,7 +171,7 @@ module _ (g : Setting) where
                 beat_is = r.beat_is;
                 past = r.past;
                 named = ⊎_elim (λ (l : IsLocal y.act). inl l)
-                    (λ (is : label b.at ≡ Some (mine s1.notes b.who)). inr (is
+                    (λ (is : label b.at ≡ Some (next_event_of s1.notes b.who)). inr (is
                     ∙ (λ i. Some (record { who = b.who; nth = u.events i })))) k.fits.named;
               };
               good = ex.0;
@@ -182,7 +183,7 @@ module _ (g : Setting) where
                 beat_is = v.beat ∙ h.fits.beat_is;
                 past = λ i e lt is. ap (λ f. f e) v.past ∙ h.fits.past i e lt is;
                 named = ⊎_elim (λ (l : IsLocal x.act). inl l)
-                    (λ (is : label a.at ≡ Some (mine s.notes a.who)). inr (is
+                    (λ (is : label a.at ≡ Some (next_event_of s.notes a.who)). inr (is
                     ∙ (λ i. Some (record { who = a.who; nth = sym v.events i })))) h.fits.named;
               };
               good = ex.1;
@@ -250,13 +251,13 @@ module _ (g : Setting) where
           (q.0, q.1, (p.0, q.2, p.2))
 
       pub readies_back : (s s1 : WithNotes L) (a b : Head) (xs : List Tag) (y : Tag) → Free a b → Runs s a xs s1
-          → Ready s1 b y → Ready s b y
-      readies_back s s1 a b [] y free r k = subst (λ z. Ready z b y) r k
+          → IsNextOfProcess s1 b y → IsNextOfProcess s b y
+      readies_back s s1 a b [] y free r k = subst (λ z. IsNextOfProcess z b y) r k
       readies_back s s1 a b (x ∷ xs) y free r k =
           ready_back s r.0 a b x y free r.1 (readies_back r.0 s1 a b xs y free r.2 k)
 
       pub ready_before : (s s1 : WithNotes L) (bs : List Block) (b : Head) (y : Tag) → EachFree bs b → BlockRuns s bs s1
-          → Ready s1 b y → Ready s b y
-      ready_before s s1 [] b y free r k = subst (λ z. Ready z b y) r k
+          → IsNextOfProcess s1 b y → IsNextOfProcess s b y
+      ready_before s s1 [] b y free r k = subst (λ z. IsNextOfProcess z b y) r k
       ready_before s s1 (a ∷ bs) b y free r k =
           readies_back s r.0 a.head b a.tags y free.0 r.1 (ready_before r.0 s1 bs b y free.1 r.2 k)

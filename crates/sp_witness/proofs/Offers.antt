@@ -8,24 +8,24 @@ use Rattle.sp_journal.specs.declared.entry.Event.TheVariants as event
 use Rattle.sp_journal.specs.declared.entry.Journal.{Journal}
 use Rattle.sp_journal.specs.declared.entry.Way.{Way}
 use Rattle.sp_journal.specs.Names.{Channel, Happening, Offered, Occurrence}
-use Rattle.sp_journal.specs.Births.{Births, at_start, after_entry, happening, occurrences, occurrences_from}
+use Rattle.sp_journal.specs.Births.{Births, first_births, births_after_entry, happening, occurrences, occurrences_from}
 use Rattle.sp_judge.specs.Races.{Race}
 use Rattle.sp_witness.specs.Moved.{IsPlain}
 
 -- the entry of an occurrence
-record At (es : List Entry) (i : ℕ) (what : Happening) : Type 0 where
+record OccurrenceEntry (es : List Entry) (i : ℕ) (what : Happening) : Type 0 where
   entry : Entry
   births : Births
   got : slice_get es i ≡ Some entry
   says : happening births entry.event ≡ what
 
 entry_at : (s : Births) (es : List Entry) (i : ℕ) (o : Occurrence) → slice_get (occurrences_from s es) i ≡ Some o
-    → At es i o.what
+    → OccurrenceEntry es i o.what
 entry_at s [] i o h = absurd (none-some _ h)
 entry_at s (e ∷ es) zero o h =
     record { entry = e; births = s; got = refl; says = ap (λ (z : Occurrence). z.what) (same_Some _ _ h) }
 entry_at s (e ∷ es) (suc i) o h =
-    let r = entry_at (after_entry s e) es i o h in
+    let r = entry_at (births_after_entry s e) es i o h in
     record { entry = r.entry; births = r.births; got = r.got; says = r.says }
 
 plain_offer : (s : Births) (v : Event) (w : Way) (c : Channel) → happening s v ≡ Offered w c → IsPlain v
@@ -42,9 +42,10 @@ pub offers_there : (j : Journal) (w : Way) (c : Channel) (earlier later : ℕ) �
     → (earlier < later) × (later < length j.entries)
     × IfSome (slice_get j.entries earlier) (λ e. IsPlain e.event)
 offers_there j w c earlier later race =
-    let a = entry_at at_start j.entries earlier (record { who = race.first; what = Offered w c }) race.offered_first in
+    let a = entry_at first_births j.entries earlier (record { who = race.first; what = Offered w c })
+    race.offered_first in
     let b =
-    entry_at at_start j.entries later (record { who = race.second; what = Offered w c }) race.offered_second in (
+    entry_at first_births j.entries later (record { who = race.second; what = Offered w c }) race.offered_second in (
       race.before,
       slice_get_within j.entries later b.entry b.got,
       subst (λ o. IfSome o (λ (e : Entry). IsPlain e.event)) (sym a.got)

@@ -6,7 +6,8 @@ use Rattle.std.proofs.lemmas.Option.{none-some, same_Some, slice_get_within}
 use Rattle.sp_journal.specs.declared.entry.Way.{Way}
 use Rattle.sp_journal.specs.Names.{Name, Channel, Happening, Opened, Forked, Offered, Ended, Faulted, Laid, Paused}
 use Rattle.sp_journal.specs.Names.{Occurrence}
-use Rattle.sp_journal.specs.Past.{Judged, judged_by, judged, nothing_judged, KnowsCompletions, CompletedFrom}
+use Rattle.sp_journal.specs.Past.{Knowledge, knowledge_after, knowledge_of, no_knowledge, KnowsCompletions}
+use Rattle.sp_journal.specs.Past.{CompletedFrom}
 use Rattle.sp_race.specs.Known.{AreKnown}
 use Rattle.sp_race.proofs.Completion.{ordered_known}
 use Rattle.sp_judge.specs.Races.{KnowsCompletion, IsLeastRace}
@@ -20,18 +21,18 @@ get_front (x ∷ xs) ys (suc i) e h = get_front xs ys i e h
 
 module _ (es : List Occurrence) (w : Way) (c : Channel) (earlier later : ℕ)
     (least : IsLeastRace es w c earlier later) where
-  ordered_from : (done mid tail : List Occurrence) (j : Judged) (n : ℕ) → Stage es done (mid ++ tail) j n
+  ordered_from : (done mid tail : List Occurrence) (j : Knowledge) (n : ℕ) → Stage es done (mid ++ tail) j n
       → n + length mid ≤ later → CompletedFrom j done mid
   ordered_from done [] tail j n st le = tt
   ordered_from done (e ∷ mid) tail j n st le = (
     knows e.what refl,
-    subst (λ z. CompletedFrom (judged_by j z e.who e.what) (done ++ e ∷ []) mid) (sym st.size)
-        (ordered_from (done ++ e ∷ []) mid tail (judged_by j n e.who e.what) (suc n)
+    subst (λ z. CompletedFrom (knowledge_after j z e.who e.what) (done ++ e ∷ []) mid) (sym st.size)
+        (ordered_from (done ++ e ∷ []) mid tail (knowledge_after j n e.who e.what) (suc n)
         (next_stage es done e (mid ++ tail) j n st) (omega (arith, le))),
   )
     where
-      front_is : judged (take n es) ≡ j
-      front_is = ap judged (ap (take n) st.whole ∙ take_at done (e ∷ (mid ++ tail)) n st.size) ∙ sym st.is
+      front_is : knowledge_of (take n es) ≡ j
+      front_is = ap knowledge_of (ap (take n) st.whole ∙ take_at done (e ∷ (mid ++ tail)) n st.size) ∙ sym st.is
 
       -- else these two were a race, and a smaller one
       never : (v : Way) (d : Channel) → e.what ≡ Offered v d → (i : ℕ) (z : Name)
@@ -47,7 +48,7 @@ module _ (es : List Occurrence) (w : Way) (c : Channel) (earlier later : ℕ)
             second = e.who;
             offered_second = ap (λ xs. slice_get xs n) st.whole ∙ get_at done e (mid ++ tail) n st.size
                 ∙ (λ i. Some (record { who = e.who; what = is i }));
-            unknown = λ k. no_one (subst (λ (x : Judged). KnowsCompletion x e.who i) front_is k);
+            unknown = λ k. no_one (subst (λ (x : Knowledge). KnowsCompletion x e.who i) front_is k);
           }))
 
       knows_offer : (v : Way) (d : Channel) → e.what ≡ Offered v d → (i : ℕ) (z : Name)
@@ -76,5 +77,5 @@ module _ (es : List Occurrence) (w : Way) (c : Channel) (earlier later : ℕ)
 
   pub known_front : (front tail : List Occurrence) → es ≡ front ++ tail → length front ≤ later → AreKnown front
   known_front front tail whole le =
-      ordered_known front (ordered_from [] front tail nothing_judged 0
+      ordered_known front (ordered_from [] front tail no_knowledge 0
       (record { whole = whole; is = refl; size = refl }) (omega (arith, le)))

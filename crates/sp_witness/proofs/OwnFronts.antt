@@ -10,18 +10,20 @@ use Rattle.sp_journal.specs.declared.entry.Entry.{Entry}
 use Rattle.sp_journal.specs.declared.entry.Journal.{Journal}
 use Rattle.sp_journal.specs.Maps.{at_key}
 use Rattle.sp_journal.specs.Names.{Name, Occurrence}
-use Rattle.sp_journal.specs.Births.{Births, at_start, after_entry, births, IsNameable, occurrence, occurrences}
-use Rattle.sp_journal.specs.Past.{Judged, judged_by, nothing_judged}
+use Rattle.sp_journal.specs.Births.{Births, first_births, births_after_entry, births, IsNameable, occurrence}
+use Rattle.sp_journal.specs.Births.{occurrences}
+use Rattle.sp_journal.specs.Past.{Knowledge, knowledge_after, no_knowledge}
 use Rattle.sp_meaning.specs.Along.{IsClean}
-use Rattle.sp_judge.specs.Prefixes.{QuietFrom, IsQuiet}
+use Rattle.sp_judge.specs.Prefixes.{WaitersSilentFrom, WaitersAreSilent}
 use Rattle.sp_judge.proofs.Prefixing.{nothing_kept}
 use Rattle.sp_judge.proofs.Numbers.{all_named}
 use Rattle.sp_judge.proofs.Fronts.{quiet_front}
 use Rattle.sp_witness.specs.Witness.{witness, is_member, is_among}
 use Rattle.sp_witness.specs.Numbered.{witness_journal}
 use Rattle.sp_witness.specs.Needed.{needed_marks}
-use Rattle.sp_witness.specs.Flags.{flags_before, flags, lines_after, picked, marks}
-use Rattle.sp_witness.specs.Moved.{IsPlain, first_table, moved_entry, selected, moved, table_of, IsOwnFront}
+use Rattle.sp_witness.specs.Flags.{flags_before, flags, lines_after, picked_entries, marks}
+use Rattle.sp_witness.specs.Moved.{IsPlain, first_table, renumbered_entry, marked_entries, renumbered_entries, table_of}
+use Rattle.sp_witness.specs.Moved.{IsOwnFront}
 use Rattle.sp_witness.proofs.Moving.{Head, MarkedFree, Cuts}
 use Rattle.sp_witness.proofs.Pasts.{heads_from, MarksAre, cuts_from}
 use Rattle.sp_witness.proofs.Parts.{mark_in}
@@ -42,15 +44,16 @@ module _ (earlier last : ℕ) where
   each_marked : (s : Births) (lines : ℕ → Option ℕ) (n : ℕ) (es : List Entry)
       → AreMarks es (marks earlier last s lines n es)
   each_marked s lines n [] = tt
-  each_marked s lines n (e ∷ es) = each_marked (after_entry s e) (lines_after lines e.process e.event) (suc n) es
+  each_marked s lines n (e ∷ es) = each_marked (births_after_entry s e) (lines_after lines e.process e.event) (suc n) es
 
   selects : (s : Births) (lines : ℕ → Option ℕ) (n : ℕ) (es : List Entry)
-      → selected es (marks earlier last s lines n es) ≡ picked earlier last s lines n es
+      → marked_entries es (marks earlier last s lines n es) ≡ picked_entries earlier last s lines n es
   selects s lines n [] = refl
   selects s lines n (e ∷ es) =
-      let r = selects (after_entry s e) (lines_after lines e.process e.event) (suc n) es in
+      let r = selects (births_after_entry s e) (lines_after lines e.process e.event) (suc n) es in
       ap (λ z. cond (flags_before s lines e.process e.event
-      (flags earlier last (after_entry s e) (lines_after lines e.process e.event) (suc n) es) e.process) (e ∷ z) z)
+      (flags earlier last (births_after_entry s e) (lines_after lines e.process e.event) (suc n) es) e.process)
+      (e ∷ z) z)
       r
 
 -- no marked entry of this process
@@ -63,7 +66,7 @@ none_of mark a [] m = tt
 none_of mark a (b ∷ bs) m = (λ h. (m.0 h).0, none_of mark a bs m.1)
 
 module _ (t : Births) (os : List Occurrence) (earlier later : ℕ) (mark : ℕ → Bool) where
-  own_fronts : (es : List Entry) (j : Judged) (n : ℕ) (dirty : ℕ → Bool)
+  own_fronts : (es : List Entry) (j : Knowledge) (n : ℕ) (dirty : ℕ → Bool)
       → MarksAre os earlier later mark n (map (occurrence t) es) → Cuts mark (heads_from j n (map (occurrence t) es))
       → ((q : ℕ) → dirty q ≡ true → NoneOf mark (t.name q) (heads_from j n (map (occurrence t) es)))
       → IsOwnFront dirty es (member_marks os earlier later n (map (occurrence t) es))
@@ -71,13 +74,13 @@ module _ (t : Births) (os : List Occurrence) (earlier later : ℕ) (mark : ℕ �
   own_fronts (e ∷ es) j n dirty m cuts none =
       by (is_member os earlier later n (occurrence t e)
       (is_among os earlier later (t.name e.process) (suc n) (map (occurrence t) es))) refl
-      (λ d k. own_fronts es (judged_by j n (t.name e.process) (occurrence t e).what) (suc n) d m.1 cuts.1 k)
+      (λ d k. own_fronts es (knowledge_after j n (t.name e.process) (occurrence t e).what) (suc n) d m.1 cuts.1 k)
     where
       by : (b : Bool) → is_member os earlier later n (occurrence t e)
           (is_among os earlier later (t.name e.process) (suc n) (map (occurrence t) es)) ≡ b
           → ((d : ℕ → Bool) → ((q : ℕ) → d q ≡ true
           → NoneOf mark (t.name q)
-          (heads_from (judged_by j n (t.name e.process) (occurrence t e).what) (suc n) (map (occurrence t) es)))
+          (heads_from (knowledge_after j n (t.name e.process) (occurrence t e).what) (suc n) (map (occurrence t) es)))
           → IsOwnFront d es (member_marks os earlier later (suc n) (map (occurrence t) es)))
           → IsOwnFront dirty (e ∷ es) (b ∷ member_marks os earlier later (suc n) (map (occurrence t) es))
       by true is go = (
@@ -88,10 +91,12 @@ module _ (t : Births) (os : List Occurrence) (earlier later : ℕ) (mark : ℕ �
         where
           at : (x : Bool) (q : ℕ) → e.process == q ≡ x → cond x true (dirty q) ≡ true
               → NoneOf mark (t.name q)
-              (heads_from (judged_by j n (t.name e.process) (occurrence t e).what) (suc n) (map (occurrence t) es))
+              (heads_from (knowledge_after j n (t.name e.process) (occurrence t e).what) (suc n)
+              (map (occurrence t) es))
           at true q s h = subst
               (λ z. NoneOf mark (t.name z)
-              (heads_from (judged_by j n (t.name e.process) (occurrence t e).what) (suc n) (map (occurrence t) es)))
+              (heads_from (knowledge_after j n (t.name e.process) (occurrence t e).what) (suc n)
+              (map (occurrence t) es)))
               (eqb-true e.process q s)
               (none_of mark (record {
                 who = t.name e.process;
@@ -100,20 +105,21 @@ module _ (t : Births) (os : List Occurrence) (earlier later : ℕ) (mark : ℕ �
                 knows =
                     j.past (t.name e.process);
               })
-              (heads_from (judged_by j n (t.name e.process) (occurrence t e).what) (suc n) (map (occurrence t) es))
+              (heads_from (knowledge_after j n (t.name e.process) (occurrence t e).what) (suc n)
+              (map (occurrence t) es))
               (cuts.0 (m.0 ∙ is)))
           at false q s h = (none q h).1
 
-pub numbers_by_tables : (j : Journal) → IsNameable j → IsQuiet (occurrences j) → IsClean (occurrences j)
+pub numbers_by_tables : (j : Journal) → IsNameable j → WaitersAreSilent (occurrences j) → IsClean (occurrences j)
     → (earlier later : ℕ) → earlier < later → (one two : Entry) → slice_get j.entries earlier ≡ Some one
     → slice_get j.entries later ≡ Some two → IsPlain one.event
     → IsNameable (witness_journal j earlier later)
     → occurrences (witness_journal j earlier later) ≡ witness (occurrences j) earlier later
     → (witness_journal j earlier later).entries
-    ≡ moved at_start first_table (take later j.entries)
-    (marks earlier two.process at_start (λ c. None) 0 (take later j.entries))
-    ++ map (moved_entry (table_of at_start first_table (take later j.entries)
-    (marks earlier two.process at_start (λ c. None) 0 (take later j.entries))))
+    ≡ renumbered_entries first_births first_table (take later j.entries)
+    (marks earlier two.process first_births (λ c. None) 0 (take later j.entries))
+    ++ map (renumbered_entry (table_of first_births first_table (take later j.entries)
+    (marks earlier two.process first_births (λ c. None) 0 (take later j.entries))))
     (one ∷ record { process = two.process; event = event.Fault fault.F6 } ∷ [])
 numbers_by_tables j named quiet clean earlier later lt one two got_one got_two plain named' names =
     let es = j.entries in
@@ -131,25 +137,25 @@ numbers_by_tables j named quiet clean earlier later lt one two got_one got_two p
     let whole : os ≡ map (occurrence t) front ++ occurrence t two ∷ b.after = b.whole
     ∙ ap (λ z. z ++ occurrence t two ∷ b.after) front_is in
     let size_is : length (map (occurrence t) front) ≡ later = ap length (sym front_is) ∙ b.size in
-    let q = subst (QuietFrom nothing_judged 0) whole quiet in
+    let q = subst (WaitersSilentFrom no_knowledge 0) whole quiet in
     let ok = clean_front (map (occurrence t) front) (occurrence t two ∷ b.after) (subst IsClean whole clean) in
     let mark = mark_in os earlier later 0 (map (occurrence t) front) in
     let say = parts.marks_are os earlier later (map (occurrence t) front) in
-    let cuts = cuts_from os earlier later mark [] (map (occurrence t) front) (occurrence t two ∷ b.after) nothing_judged
+    let cuts = cuts_from os earlier later mark [] (map (occurrence t) front) (occurrence t two ∷ b.after) no_knowledge
     0 (record { whole = whole; is = refl; size = refl }) nothing_kept
-    (quiet_front nothing_judged 0 (map (occurrence t) front) (occurrence t two ∷ b.after) q).0 ok say in
-    let same : marks earlier two.process at_start (λ c. None) 0 front
+    (quiet_front no_knowledge 0 (map (occurrence t) front) (occurrence t two ∷ b.after) q).0 ok say in
+    let same : marks earlier two.process first_births (λ c. None) 0 front
     ≡ member_marks os earlier later 0 (map (occurrence t) front) =
     marks_taken es named earlier later two got_two
-    ∙ ap (needed_marks os earlier later nothing_judged 0) (ap (take later) all ∙ take_map (occurrence t) later es)
+    ∙ ap (needed_marks os earlier later no_knowledge 0) (ap (take later) all ∙ take_map (occurrence t) later es)
     ∙ pass.marks_are os earlier later lt (below_at os quiet earlier) (occurrence t two) b.after []
-    (map (occurrence t) front) nothing_judged 0 (record { whole = whole; is = refl; size = refl }) nothing_stands q
+    (map (occurrence t) front) no_knowledge 0 (record { whole = whole; is = refl; size = refl }) nothing_stands q
     ok (omega (arith, size_is)) in
     let own = subst (IsOwnFront (λ x. false) front) (sym same)
-    (own_fronts t os earlier later mark front nothing_judged 0 (λ x. false) say cuts
+    (own_fronts t os earlier later mark front no_knowledge 0 (λ x. false) say cuts
     (λ x h. absurd (false≢true h))) in
     tables_number j named earlier later lt one two got_one got_two plain
-    (marks earlier two.process at_start (λ c. None) 0 front)
-    (each_marked earlier two.process at_start (λ c. None) 0 front) own
-    (ap (map (occurrence t)) (selects earlier two.process at_start (λ c. None) 0 front)
+    (marks earlier two.process first_births (λ c. None) 0 front)
+    (each_marked earlier two.process first_births (λ c. None) 0 front) own
+    (ap (map (occurrence t)) (selects earlier two.process first_births (λ c. None) 0 front)
     ∙ picked_part es named quiet clean earlier later lt two got_two) named' names

@@ -7,13 +7,13 @@ use Rattle.std.proofs.lemmas.Bool.{lt-ltb, ne_eqb, or_parts}
 use Rattle.sp_base.proofs.Facts.{cons_is_not_nil, nil_is_not_cons, same_head, same_tail, true_is_not_false}
 use Rattle.sp_journal.specs.Names.{Name, Channel, same_name, Happening, Opened, Forked, Offered, Ended, Faulted, Laid}
 use Rattle.sp_journal.specs.Names.{Paused, Occurrence}
-use Rattle.sp_journal.specs.Past.{Judged, judged_by, judged_from}
-use Rattle.sp_meaning.specs.Own.{Setting}
+use Rattle.sp_journal.specs.Past.{Knowledge, knowledge_after, knowledge_from}
+use Rattle.sp_meaning.specs.LocalWork.{RunInput}
 use Rattle.sp_meaning.specs.Along.{IsCleanly, IsClean}
 use Rattle.sp_meaning.proofs.Maps.{differs}
 use Rattle.sp_meaning.proofs.Keys.{name_test}
 use Rattle.sp_judge.specs.Prefixes.{is_counted, WaitsForNone}
-use Rattle.sp_judge.proofs.Prefixing.{Kept}
+use Rattle.sp_judge.proofs.Prefixing.{PrefixesAreKnown}
 use Rattle.sp_race.specs.Notes.{Event}
 use Rattle.sp_race.proofs.Linking.{grown_size}
 use Rattle.sp_witness.specs.Witness.{who_at, past_before, is_pause, is_known, offers_after, is_member, is_among}
@@ -65,7 +65,8 @@ module _ (es : List Occurrence) (earlier later : ℕ) where
       subst (λ z. MarksAre es earlier later mark z ys) e (marks_after mark (suc n) xs ys h.1)
 
   -- the marked entries are those in the first part
-  pub members_are : (g : Setting) (mark : ℕ → Bool) (j : Judged) (n : ℕ) (mid : List Occurrence) (bs : List (Block g))
+  pub members_are : (g : RunInput) (mark : ℕ → Bool) (j : Knowledge) (n : ℕ) (mid : List Occurrence)
+      (bs : List (Block g))
       → heads g bs ≡ heads_from j n mid → MarksAre es earlier later mark n mid
       → entries g (kept g mark bs) ≡ members es earlier later n mid
   members_are g mark j n [] [] e m = refl
@@ -74,7 +75,7 @@ module _ (es : List Occurrence) (earlier later : ℕ) where
   members_are g mark j n (x ∷ mid) (b ∷ bs) e m =
       let h : b.head ≡ record { who = x.who; what = x.what; at = n; knows = j.past x.who } = same_head e in
       let r : entries g (kept g mark bs) ≡ members es earlier later (suc n) mid =
-      members_are g mark (judged_by j n x.who x.what) (suc n) mid bs (same_tail e) m.1 in
+      members_are g mark (knowledge_after j n x.who x.what) (suc n) mid bs (same_tail e) m.1 in
       let t : mark b.head.at ≡ member n x (among x.who (suc n) mid) = ap (λ (z : Head). mark z.at) h ∙ m.0 in
       by (mark b.head.at) ∙ (λ i. cond (t i) (entry_of (h i) ∷ r i) (r i))
     where
@@ -87,8 +88,8 @@ module _ (es : List Occurrence) (earlier later : ℕ) where
   module _ (i : ℕ) (unknown : (k : ℕ) → known k ≡ false → past_before es i k ≡ false)
       (offers : (q : Name) (k : ℕ) → offers_after es earlier later q k ≡ false
       → same_name q (who_at es i) && nat_lt k i ≡ false)
-      (before : List Occurrence) (target : Occurrence) (rest : List Occurrence) (ji : Judged)
-      (stage : Stage es before (target ∷ rest) ji i) (kept_i : Kept ji before)
+      (before : List Occurrence) (target : Occurrence) (rest : List Occurrence) (ji : Knowledge)
+      (stage : Stage es before (target ∷ rest) ji i) (kept_i : PrefixesAreKnown ji before)
       (quiet_i : WaitsForNone ji target.who) (who_is : who_at es i ≡ target.who) where
     free_at : (n : ℕ) (x : Occurrence) (f : ℕ → Bool) → n < i → slice_get before n ≡ Some x → IsCleanly x.what
         → (b : Bool) → member n x b ≡ false
@@ -131,7 +132,7 @@ module _ (es : List Occurrence) (earlier later : ℕ) where
             by Paused is ok = pauses (ap is_pause is)
 
     -- it depends on none of those before it that are not in the first part
-    pub free_before : (mark : ℕ → Bool) (done mid extra : List Occurrence) (j : Judged) (n : ℕ) → length done ≡ n
+    pub free_before : (mark : ℕ → Bool) (done mid extra : List Occurrence) (j : Knowledge) (n : ℕ) → length done ≡ n
         → before ≡ done ++ mid → IsClean mid → MarksAre es earlier later mark n (mid ++ extra) → n + length mid ≤ i
         → UnmarkedFree mark (heads_from j n mid)
         (record { who = target.who; what = target.what; at = i; knows = ji.past target.who })
@@ -139,7 +140,8 @@ module _ (es : List Occurrence) (earlier later : ℕ) where
     free_before mark done (e ∷ mid) extra j n size all clean marks le = (
       λ out. free_at n e (j.past e.who) (omega (arith, le)) (ap (λ xs. slice_get xs n) all ∙ got done n size) clean.0
           (among e.who (suc n) (mid ++ extra)) (sym marks.0 ∙ out),
-      free_before mark (done ++ e ∷ []) mid extra (judged_by j n e.who e.what) (suc n) (grown_size done n e size) (all
+      free_before mark (done ++ e ∷ []) mid extra (knowledge_after j n e.who e.what) (suc n)
+          (grown_size done n e size) (all
           ∙ sym (append_assoc done (e ∷ []) mid)) clean.1 marks.1 (omega (arith, le)),
     )
       where
@@ -147,7 +149,7 @@ module _ (es : List Occurrence) (earlier later : ℕ) where
         got [] n h = subst (λ z. slice_get (e ∷ mid) z ≡ Some e) h refl
         got (d ∷ done) n h = subst (λ z. slice_get (d ∷ (done ++ e ∷ mid)) z ≡ Some e) h (got done (length done) refl)
 
-module _ (g : Setting) (mark : ℕ → Bool) where
+module _ (g : RunInput) (mark : ℕ → Bool) where
   -- the entries that are left are free of it
   pub each_left : (label : ℕ → Option Event) (bs : List (Block g)) (h : Head) → UnmarkedFree mark (heads g bs) h
       → EachFree g label (left g mark bs) h
@@ -243,13 +245,13 @@ module _ (g : Setting) (mark : ℕ → Bool) where
     valid_second c (a ∷ xs) bs v = valid_second (since_after g turn c a) xs bs v.1
 
 -- the marked ones after an entry that is not marked are free of it
-pub cuts_second : (g : Setting) (mark : ℕ → Bool) (xs : List (Block g)) (b : Block g) (ys : List (Block g))
+pub cuts_second : (g : RunInput) (mark : ℕ → Bool) (xs : List (Block g)) (b : Block g) (ys : List (Block g))
     → Cuts mark (heads g (xs ++ b ∷ ys)) → mark b.head.at ≡ false → MarkedFree mark b.head (heads g ys)
 cuts_second g mark [] b ys h out = h.0 out
 cuts_second g mark (x ∷ xs) b ys h out = cuts_second g mark xs b ys h.1 out
 
 -- entries cut where their heads are
-pub record Split (g : Setting) (xs : List Head) (y : Head) (ys : List Head) (bs : List (Block g)) : Type 0 where
+pub record Split (g : RunInput) (xs : List Head) (y : Head) (ys : List Head) (bs : List (Block g)) : Type 0 where
   pub front : List (Block g)
   pub block : Block g
   pub back : List (Block g)
@@ -258,7 +260,8 @@ pub record Split (g : Setting) (xs : List Head) (y : Head) (ys : List Head) (bs 
   pub block_is : block.head ≡ y
   pub back_is : heads g back ≡ ys
 
-pub split : (g : Setting) (xs : List Head) (y : Head) (ys : List Head) (bs : List (Block g)) → heads g bs ≡ xs ++ y ∷ ys
+pub split : (g : RunInput) (xs : List Head) (y : Head) (ys : List Head) (bs : List (Block g))
+    → heads g bs ≡ xs ++ y ∷ ys
     → Split g xs y ys bs
 split g [] y ys [] e = absurd (nil_is_not_cons e)
 split g [] y ys (b ∷ bs) e =
@@ -286,12 +289,12 @@ split g (x ∷ xs) y ys (b ∷ bs) e =
       back_is = r.back_is;
     }
 
-pub heads_append : (j : Judged) (n : ℕ) (xs ys : List Occurrence)
-    → heads_from j n (xs ++ ys) ≡ heads_from j n xs ++ heads_from (judged_from j n xs) (n + length xs) ys
+pub heads_append : (j : Knowledge) (n : ℕ) (xs ys : List Occurrence)
+    → heads_from j n (xs ++ ys) ≡ heads_from j n xs ++ heads_from (knowledge_from j n xs) (n + length xs) ys
 heads_append j n [] ys = let e : n ≡ n + 0 = omega arith in ap (λ z. heads_from j z ys) e
 heads_append j n (x ∷ xs) ys =
     let e : suc n + length xs ≡ n + suc (length xs) = omega arith in
     ap (λ z. record { who = x.who; what = x.what; at = n; knows = j.past x.who } ∷ z)
-    (heads_append (judged_by j n x.who x.what) (suc n) xs ys
-    ∙ ap (λ z. heads_from (judged_by j n x.who x.what) (suc n) xs
-    ++ heads_from (judged_from (judged_by j n x.who x.what) (suc n) xs) z ys) e)
+    (heads_append (knowledge_after j n x.who x.what) (suc n) xs ys
+    ∙ ap (λ z. heads_from (knowledge_after j n x.who x.what) (suc n) xs
+    ++ heads_from (knowledge_from (knowledge_after j n x.who x.what) (suc n) xs) z ys) e)

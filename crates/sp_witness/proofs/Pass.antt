@@ -7,23 +7,23 @@ use Rattle.std.proofs.lemmas.Option.{slice_get_within}
 use Rattle.sp_base.proofs.Facts.{first_true, same_if_both_follow, second_true, true_is_not_false}
 use Rattle.sp_journal.specs.Names.{Name, Channel, same_name, Happening, Opened, Forked, Offered, Ended, Faulted, Laid}
 use Rattle.sp_journal.specs.Names.{Paused, Occurrence}
-use Rattle.sp_journal.specs.Past.{Judged, judged_by}
-use Rattle.sp_journal.proofs.NameLaws.{name_itself, name_is}
+use Rattle.sp_journal.specs.Past.{Knowledge, knowledge_after}
+use Rattle.sp_meaning.proofs.Keys.{name_itself, name_is}
 use Rattle.sp_meaning.specs.Along.{IsCleanly, IsClean}
-use Rattle.sp_judge.specs.Prefixes.{WaitsForNone, QuietFrom}
+use Rattle.sp_judge.specs.Prefixes.{WaitsForNone, WaitersSilentFrom}
 use Rattle.sp_witness.specs.Witness.{who_of, who_at, past_before, is_pause, is_known, offers_after, is_member, is_among}
 use Rattle.sp_witness.specs.Witness.{members}
-use Rattle.sp_witness.specs.Needed.{needed_before, needed, taken, needed_marks}
+use Rattle.sp_witness.specs.Needed.{needed_before, needed_processes, needed_entries, needed_marks}
 use Rattle.sp_witness.proofs.Pasts.{Stage, next_stage, past_here, get_at}
-use Rattle.sp_witness.proofs.Standing.{Stands, stands_next}
-use Rattle.sp_witness.proofs.Passing.{Has, Someone, IsCounted, more, passed, newly, pends_after, none_yet}
+use Rattle.sp_witness.proofs.Standing.{KnowledgeFacts, stands_next}
+use Rattle.sp_witness.proofs.Passing.{HasEntry, Someone, IsCounted, more, passed, newly, pends_after, none_yet}
 
 module _ (es : List Occurrence) (earlier later : ℕ) where
   abbrev among : Name → ℕ → List Occurrence → Bool
   among = is_among es earlier later
 
-  abbrev F_of : Judged → ℕ → List Occurrence → Name → Bool
-  F_of = needed es earlier later
+  abbrev F_of : Knowledge → ℕ → List Occurrence → Name → Bool
+  F_of = needed_processes es earlier later
 
   -- known to the process of an offer at index n or after it
   abbrev KnownAt : ℕ → ℕ → Type 0
@@ -33,7 +33,7 @@ module _ (es : List Occurrence) (earlier later : ℕ) where
   abbrev Offers : Name → ℕ → Type 0
   Offers q n = ((who_at es earlier ≡ q) × (n ≤ earlier)) ⊎ (who_at es later ≡ q)
 
-  abbrev Waits : Judged → Name → Type 0
+  abbrev Waits : Knowledge → Name → Type 0
   Waits j q = (c : Channel) × (o : ℕ) × (j.pending c ≡ Some (q, o))
 
   -- whether each of these entries is in the first part
@@ -41,23 +41,23 @@ module _ (es : List Occurrence) (earlier later : ℕ) where
   member_marks n [] = []
   member_marks n (e ∷ mid) = is_member es earlier later n e (among e.who (suc n) mid) ∷ member_marks (suc n) mid
 
-  record Inv (j : Judged) (n : ℕ) (mid : List Occurrence) : Type 0 where
+  record Inv (j : Knowledge) (n : ℕ) (mid : List Occurrence) : Type 0 where
     has : (m : ℕ) → m < n → KnownAt n m → Someone (F_of j n mid) j m
     is : (m : ℕ) → m < n → Someone (F_of j n mid) j m → KnownAt n m
     why : (q : Name) → F_of j n mid q ≡ true → Offers q n ⊎ ((among q n mid ≡ true) ⊎ Waits j q)
     offers : (q : Name) → Offers q n → F_of j n mid q ≡ true
     members_too : (q : Name) → among q n mid ≡ true → F_of j n mid q ≡ true
-    same : taken es earlier later j n mid ≡ members es earlier later n mid
+    same : needed_entries es earlier later j n mid ≡ members es earlier later n mid
     marks_same : needed_marks es earlier later j n mid ≡ member_marks n mid
 
-  who_here : (done : List Occurrence) (e : Occurrence) (rest : List Occurrence) (j : Judged) (n : ℕ)
+  who_here : (done : List Occurrence) (e : Occurrence) (rest : List Occurrence) (j : Knowledge) (n : ℕ)
       → Stage es done (e ∷ rest) j n → who_at es n ≡ e.who
   who_here done e rest j n st = ap who_of (ap (λ xs. slice_get xs n) st.whole ∙ get_at done e rest n st.size)
 
   module _ (in_order : earlier < later) (below_first : (k : ℕ) → past_before es earlier k ≡ true → k < earlier)
       (two : Occurrence) (after : List Occurrence) where
     -- before the later offer
-    at_end : (done : List Occurrence) (j : Judged) (n : ℕ) → Stage es done (two ∷ after) j n → n ≡ later
+    at_end : (done : List Occurrence) (j : Knowledge) (n : ℕ) → Stage es done (two ∷ after) j n → n ≡ later
         → WaitsForNone j two.who → Inv j n []
     at_end done j n st end quiet = record {
       has = λ m lt k. ⊎_elim
@@ -94,12 +94,13 @@ module _ (es : List Occurrence) (earlier later : ℕ) where
         who = subst (λ z. who_at es z ≡ two.who) end (who_here done two after j n st)
 
     -- one entry
-    module _ (done : List Occurrence) (e : Occurrence) (mid : List Occurrence) (j : Judged) (n : ℕ)
-        (st : Stage es done (e ∷ (mid ++ two ∷ after)) j n) (stands : Stands j done n) (quiet : WaitsForNone j e.who)
+    module _ (done : List Occurrence) (e : Occurrence) (mid : List Occurrence) (j : Knowledge) (n : ℕ)
+        (st : Stage es done (e ∷ (mid ++ two ∷ after)) j n) (stands : KnowledgeFacts j done n)
+        (quiet : WaitsForNone j e.who)
         (clean : IsCleanly e.what) (less : n < later)
-        (inv : Inv (judged_by j n e.who e.what) (suc n) mid) where
-      abbrev j' : Judged
-      j' = judged_by j n e.who e.what
+        (inv : Inv (knowledge_after j n e.who e.what) (suc n) mid) where
+      abbrev j' : Knowledge
+      j' = knowledge_after j n e.who e.what
 
       abbrev F' : Name → Bool
       F' = F_of j' (suc n) mid
@@ -180,7 +181,7 @@ module _ (es : List Occurrence) (earlier later : ℕ) where
       pause_member is =
           let g_is : G e.who ≡ F' e.who = ap (λ h. needed_before j e.who h F' e.who) is in
           let p_is : is_pause e.what ≡ true = ap is_pause is in
-          let j_is : j' ≡ j = ap (judged_by j n e.who) is in
+          let j_is : j' ≡ j = ap (knowledge_after j n e.who) is in
           same_if_both_follow (G e.who) M
           (λ x. or_right (is_known es earlier later n)
           (is_pause e.what && (offers_after es earlier later e.who n || among e.who (suc n) mid))
@@ -191,7 +192,7 @@ module _ (es : List Occurrence) (earlier later : ℕ) where
           (λ (o : (among e.who (suc n) mid ≡ true) ⊎ Waits j' e.who). ⊎_elim
           (λ (a : among e.who (suc n) mid ≡ true). or_right (offers_after es earlier later e.who n)
           (among e.who (suc n) mid) a)
-          (λ (a : Waits j' e.who). absurd (quiet a.0 a.1 (ap (λ (z : Judged). z.pending a.0) (sym j_is) ∙ a.2)))
+          (λ (a : Waits j' e.who). absurd (quiet a.0 a.1 (ap (λ (z : Knowledge). z.pending a.0) (sym j_is) ∙ a.2)))
           o)
           (inv.why e.who (sym g_is ∙ x)))))
           (λ x. g_is ∙ ⊎_elim
@@ -235,7 +236,7 @@ module _ (es : List Occurrence) (earlier later : ℕ) where
           by Paused is ok = (
             s.0,
             more j n e.who below bound stands.kept.single quiet F' e.what s.0 s.1,
-            subst (λ (z : Judged). Has z s.0 m) (ap (judged_by j n e.who) is) s.2,
+            subst (λ (z : Knowledge). HasEntry z s.0 m) (ap (knowledge_after j n e.who) is) s.2,
           )
 
       forth : (m : ℕ) → Someone G j m → Someone F' j' m
@@ -254,7 +255,7 @@ module _ (es : List Occurrence) (earlier later : ℕ) where
           by Paused is ok = (
             s.0,
             sym (ap (λ h. needed_before j e.who h F' s.0) is) ∙ s.1,
-            subst (λ (z : Judged). Has z s.0 m) (sym (ap (judged_by j n e.who) is)) s.2,
+            subst (λ (z : Knowledge). HasEntry z s.0 m) (sym (ap (knowledge_after j n e.who) is)) s.2,
           )
 
       from_F : (q : Name) → F q ≡ true → (G q ≡ true) ⊎ ((n ≡ earlier) × (q ≡ e.who))
@@ -362,21 +363,22 @@ module _ (es : List Occurrence) (earlier later : ℕ) where
           its : (q : Name) → q ≡ e.who → G q ≡ true → among q n (e ∷ mid) ≡ true
           its q i x = subst (λ z. among z n (e ∷ mid) ≡ true) (sym i) (member_among (subst (λ z. G z ≡ true) i x))
 
-    passes : (done mid : List Occurrence) (j : Judged) (n : ℕ) → Stage es done (mid ++ two ∷ after) j n
-        → Stands j done n → QuietFrom j n (mid ++ two ∷ after) → IsClean mid → n + length mid ≡ later → Inv j n mid
+    passes : (done mid : List Occurrence) (j : Knowledge) (n : ℕ) → Stage es done (mid ++ two ∷ after) j n
+        → KnowledgeFacts j done n → WaitersSilentFrom j n (mid ++ two ∷ after) → IsClean mid → n + length mid ≡ later
+        → Inv j n mid
     passes done [] j n st stands quiet clean size = at_end done j n st (omega (arith, size)) quiet.0
     passes done (e ∷ mid) j n st stands quiet clean size =
         one_more done e mid j n st stands quiet.0 clean.0 (omega (arith, size))
-        (passes (done ++ e ∷ []) mid (judged_by j n e.who e.what) (suc n)
+        (passes (done ++ e ∷ []) mid (knowledge_after j n e.who e.what) (suc n)
         (next_stage es done e (mid ++ two ∷ after) j n st) (stands_next j done n e st.size stands quiet.0) quiet.1
         clean.1 (omega (arith, size)))
 
-    pub taken_is : (done mid : List Occurrence) (j : Judged) (n : ℕ) → Stage es done (mid ++ two ∷ after) j n
-        → Stands j done n → QuietFrom j n (mid ++ two ∷ after) → IsClean mid → n + length mid ≡ later
-        → taken es earlier later j n mid ≡ members es earlier later n mid
+    pub taken_is : (done mid : List Occurrence) (j : Knowledge) (n : ℕ) → Stage es done (mid ++ two ∷ after) j n
+        → KnowledgeFacts j done n → WaitersSilentFrom j n (mid ++ two ∷ after) → IsClean mid → n + length mid ≡ later
+        → needed_entries es earlier later j n mid ≡ members es earlier later n mid
     taken_is done mid j n st stands quiet clean size = (passes done mid j n st stands quiet clean size).same
 
-    pub marks_are : (done mid : List Occurrence) (j : Judged) (n : ℕ) → Stage es done (mid ++ two ∷ after) j n
-        → Stands j done n → QuietFrom j n (mid ++ two ∷ after) → IsClean mid → n + length mid ≡ later
+    pub marks_are : (done mid : List Occurrence) (j : Knowledge) (n : ℕ) → Stage es done (mid ++ two ∷ after) j n
+        → KnowledgeFacts j done n → WaitersSilentFrom j n (mid ++ two ∷ after) → IsClean mid → n + length mid ≡ later
         → needed_marks es earlier later j n mid ≡ member_marks n mid
     marks_are done mid j n st stands quiet clean size = (passes done mid j n st stands quiet clean size).marks_same

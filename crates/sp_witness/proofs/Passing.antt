@@ -8,7 +8,7 @@ use Rattle.sp_base.proofs.Facts.{false_is_not_true}
 use Rattle.sp_journal.specs.Maps.{at_key}
 use Rattle.sp_journal.specs.Names.{Name, Channel, same_name, same_channel, Happening, Opened, Forked, Offered, Ended}
 use Rattle.sp_journal.specs.Names.{Faulted, Laid, Paused}
-use Rattle.sp_journal.specs.Past.{Judged, learn, teach, report, now, met_now, judged_by}
+use Rattle.sp_journal.specs.Past.{Knowledge, learn, teach, report, known_with, knowledge_after_offer, knowledge_after}
 use Rattle.sp_judge.specs.Prefixes.{WaitsForNone}
 use Rattle.sp_judge.proofs.Keys.{channel_is, channel_itself}
 use Rattle.sp_judge.proofs.Prefixing.{learn_more, teach_more, report_more, learn_here}
@@ -17,12 +17,12 @@ use Rattle.sp_witness.proofs.Learning.{IsChildAt, any_here, any_is, key_here, ke
 use Rattle.sp_witness.proofs.Learning.{report_is, teach_here, teach_is}
 
 -- q knows the entry of index m, or it is its own offer that is pending
-abbrev pub Has : Judged → Name → ℕ → Type 0
-Has j q m = (j.past q m ≡ true) ⊎ ((c : Channel) × (j.pending c ≡ Some (q, m)))
+abbrev pub HasEntry : Knowledge → Name → ℕ → Type 0
+HasEntry j q m = (j.past q m ≡ true) ⊎ ((c : Channel) × (j.pending c ≡ Some (q, m)))
 
 -- somebody who is needed has it
-abbrev pub Someone : (Name → Bool) → Judged → ℕ → Type 0
-Someone F j m = (q : Name) × (F q ≡ true) × Has j q m
+abbrev pub Someone : (Name → Bool) → Knowledge → ℕ → Type 0
+Someone F j m = (q : Name) × (F q ≡ true) × HasEntry j q m
 
 abbrev pub IsCounted : Happening → Type 0
 IsCounted Opened = Unit {0}
@@ -33,7 +33,7 @@ IsCounted (Faulted f) = ⊥
 IsCounted Laid = ⊥
 IsCounted Paused = ⊥
 
-module _ (j : Judged) (n : ℕ) (p : Name) (below : (q : Name) (i : ℕ) → j.past q i ≡ true → i < n)
+module _ (j : Knowledge) (n : ℕ) (p : Name) (below : (q : Name) (i : ℕ) → j.past q i ≡ true → i < n)
     (bound : (c : Channel) (z : Name) (o : ℕ) → j.pending c ≡ Some (z, o) → o < n)
     (single : (c d : Channel) (z : Name) (k l : ℕ) → j.pending c ≡ Some (z, k) → j.pending d ≡ Some (z, l) → c ≡ d)
     (quiet : WaitsForNone j p) (F : Name → Bool) where
@@ -44,11 +44,11 @@ module _ (j : Judged) (n : ℕ) (p : Name) (below : (q : Name) (i : ℕ) → j.p
   not_last m lt e = let k = eqb-true n m e in omega (arith, lt, k)
 
   -- p's own index, or one that it knew
-  now_is : (m : ℕ) → m < n → now j p n m ≡ true → j.past p m ≡ true
+  now_is : (m : ℕ) → m < n → known_with j p n m ≡ true → j.past p m ≡ true
   now_is m lt h = ⊎_elim (λ (x : j.past p m ≡ true). x) (λ (x : n == m ≡ true). absurd (not_last m lt x))
       (or_cases (j.past p m) (n == m) h)
 
-  no_old : (q : Name) → Has j q n → ⊥
+  no_old : (q : Name) → HasEntry j q n → ⊥
   no_old q h = ⊎_elim (λ (x : j.past q n ≡ true). lt_irrefl n (below q n x))
       (λ (x : (c : Channel) × (j.pending c ≡ Some (q, n))). lt_irrefl n (bound x.0 q n x.1)) h
 
@@ -78,10 +78,10 @@ module _ (j : Judged) (n : ℕ) (p : Name) (below : (q : Name) (i : ℕ) → j.p
     either = F p || F o.0
 
     abbrev both : ℕ → Bool
-    both i = now j p n i || now j o.0 o.1 i
+    both i = known_with j p n i || known_with j o.0 o.1 i
 
-    abbrev then : Judged
-    then = met_now j p n c (Some o)
+    abbrev then : Knowledge
+    then = knowledge_after_offer j p n c (Some o)
 
     abbrev meets : Name → Bool
     meets = needed_to_meet p (Some o) F
@@ -127,12 +127,12 @@ module _ (j : Judged) (n : ℕ) (p : Name) (below : (q : Name) (i : ℕ) → j.p
 
     both_has : (m : ℕ) → m < n → both m ≡ true → either ≡ true → Someone meets j m
     both_has m lt h e = ⊎_elim
-        (λ (x : now j p n m ≡ true). (p, meets_p e, inl (now_is m lt x)))
-        (λ (x : now j o.0 o.1 m ≡ true). ⊎_elim
+        (λ (x : known_with j p n m ≡ true). (p, meets_p e, inl (now_is m lt x)))
+        (λ (x : known_with j o.0 o.1 m ≡ true). ⊎_elim
         (λ (y : j.past o.0 m ≡ true). (o.0, meets_o e, inl y))
         (λ (y : o.1 == m ≡ true). (o.0, meets_o e, inr (c, pe ∙ (λ i. Some (o.0, eqb-true o.1 m y i)))))
         (or_cases (j.past o.0 m) (o.1 == m) x))
-        (or_cases (now j p n m) (now j o.0 o.1 m) h)
+        (or_cases (known_with j p n m) (known_with j o.0 o.1 m) h)
 
     meet_back : (m : ℕ) → m < n → Someone F then m → Someone meets j m
     meet_back m lt s = ⊎_elim
@@ -155,12 +155,12 @@ module _ (j : Judged) (n : ℕ) (p : Name) (below : (q : Name) (i : ℕ) → j.p
             (key_more o.0 either F q (or_right (F p) (F o.0)) f)
 
     -- what q had, p and whom it met know
-    had : (q : Name) (m : ℕ) → ((p ≡ q) ⊎ (o.0 ≡ q)) → Has j q m → both m ≡ true
+    had : (q : Name) (m : ℕ) → ((p ≡ q) ⊎ (o.0 ≡ q)) → HasEntry j q m → both m ≡ true
     had q m w h = ⊎_elim
         (λ (x : j.past q m ≡ true). ⊎_elim
-        (λ (e : p ≡ q). or_left (now j p n m) (now j o.0 o.1 m)
+        (λ (e : p ≡ q). or_left (known_with j p n m) (known_with j o.0 o.1 m)
         (or_left (j.past p m) (n == m) (subst (λ z. j.past z m ≡ true) (sym e) x)))
-        (λ (e : o.0 ≡ q). or_right (now j p n m) (now j o.0 o.1 m)
+        (λ (e : o.0 ≡ q). or_right (known_with j p n m) (known_with j o.0 o.1 m)
         (or_left (j.past o.0 m) (o.1 == m) (subst (λ z. j.past z m ≡ true) (sym e) x)))
         w)
         (λ (x : (d : Channel) × (j.pending d ≡ Some (q, m))). ⊎_elim
@@ -169,19 +169,19 @@ module _ (j : Judged) (n : ℕ) (p : Name) (below : (q : Name) (i : ℕ) → j.p
         let f : j.pending x.0 ≡ Some (o.0, m) = x.1 ∙ (λ i. Some (sym e i, m)) in
         let same : c ≡ x.0 = single c x.0 o.0 o.1 m pe f in
         let is : o ≡ (o.0, m) = same_Some _ _ (sym pe ∙ ap j.pending same ∙ f) in
-        or_right (now j p n m) (now j o.0 o.1 m)
+        or_right (known_with j p n m) (known_with j o.0 o.1 m)
         (or_right (j.past o.0 m) (o.1 == m) (eq-eqb o.1 m (ap (λ (z : Name × ℕ). z.1) is))))
         w)
         h
 
-    stays : (q : Name) (m : ℕ) → Has j q m → Has then q m
+    stays : (q : Name) (m : ℕ) → HasEntry j q m → HasEntry then q m
     stays q m h = ⊎_elim
         (λ (x : j.past q m ≡ true). inl
         (learn_more o.0 both (learn p both j.past) q m (learn_more p both j.past q m x)))
         (λ (x : (d : Channel) × (j.pending d ≡ Some (q, m))). pends x.0 x.1 (same_channel c x.0) refl)
         h
       where
-        pends : (d : Channel) → j.pending d ≡ Some (q, m) → (b : Bool) → same_channel c d ≡ b → Has then q m
+        pends : (d : Channel) → j.pending d ≡ Some (q, m) → (b : Bool) → same_channel c d ≡ b → HasEntry then q m
         pends d e true s =
             let is : o ≡ (q, m) = same_Some _ _ (sym pe ∙ ap j.pending (channel_is c d s) ∙ e) in
             let q_is : o.0 ≡ q = ap (λ (z : Name × ℕ). z.0) is in
@@ -211,21 +211,21 @@ module _ (j : Judged) (n : ℕ) (p : Name) (below : (q : Name) (i : ℕ) → j.p
     meet_known h = ⊎_elim
         (λ (x : (either ≡ true) × ((p ≡ p) ⊎ (o.0 ≡ p))).
         let b : both n ≡ true =
-        or_left (now j p n n) (now j o.0 o.1 n) (or_right (j.past p n) (n == n) (eq-eqb n n refl)) in
+        or_left (known_with j p n n) (known_with j o.0 o.1 n) (or_right (j.past p n) (n == n) (eq-eqb n n refl)) in
         ⊎_elim (λ (f : F p ≡ true). (p, f, inl (then_p n b))) (λ (f : F o.0 ≡ true). (o.0, f, inl (then_o n b)))
         (or_cases (F p) (F o.0) x.0))
         (λ (f : F p ≡ true). (
           p,
           f,
-          inl (then_p n (or_left (now j p n n) (now j o.0 o.1 n)
+          inl (then_p n (or_left (known_with j p n n) (known_with j o.0 o.1 n)
               (or_right (j.past p n) (n == n) (eq-eqb n n refl)))),
         ))
         (meets_is p h)
 
   -- an offer that waits
   module _ (c : Channel) (pe : j.pending c ≡ None) where
-    abbrev waiting : Judged
-    waiting = met_now j p n c None
+    abbrev waiting : Knowledge
+    waiting = knowledge_after_offer j p n c None
 
     wait_pending : (d : Channel) (x : Name × ℕ) → waiting.pending d ≡ Some x → ((p, n) ≡ x) ⊎ (j.pending d ≡ Some x)
     wait_pending d x h = by (same_channel c d) h
@@ -234,7 +234,7 @@ module _ (j : Judged) (n : ℕ) (p : Name) (below : (q : Name) (i : ℕ) → j.p
         by true h = inl (same_Some _ _ h)
         by false h = inr h
 
-    wait_stays : (q : Name) (m : ℕ) → Has j q m → Has waiting q m
+    wait_stays : (q : Name) (m : ℕ) → HasEntry j q m → HasEntry waiting q m
     wait_stays q m h = ⊎_elim (λ (x : j.past q m ≡ true). inl x)
         (λ (x : (d : Channel) × (j.pending d ≡ Some (q, m))). inr (x.0, pends x.0 x.1 (same_channel c x.0) refl)) h
       where
@@ -269,18 +269,18 @@ module _ (j : Judged) (n : ℕ) (p : Name) (below : (q : Name) (i : ℕ) → j.p
     wait_known f = (p, f, inr (c, ap (λ b. cond b (Some (p, n)) (j.pending c)) (channel_itself c)))
 
   -- an entry that leaves the offers alone: who learns of it, and of what
-  module _ (j' : Judged) (same : j'.pending ≡ j.pending) (H : Name → Bool)
+  module _ (j' : Knowledge) (same : j'.pending ≡ j.pending) (H : Name → Bool)
       (grows : (q : Name) → F q ≡ true → H q ≡ true)
       (learns : (q : Name) (m : ℕ) → j'.past q m ≡ true
-      → (j.past q m ≡ true) ⊎ ((F q ≡ true → H p ≡ true) × (now j p n m ≡ true)))
+      → (j.past q m ≡ true) ⊎ ((F q ≡ true → H p ≡ true) × (known_with j p n m ≡ true)))
       (keeps : (q : Name) (m : ℕ) → j.past q m ≡ true → j'.past q m ≡ true)
       (needs : (q : Name) → H q ≡ true → (F q ≡ true) ⊎ (q ≡ p)) (passes : H p ≡ true
-      → (r : Name) × (F r ≡ true) × ((m : ℕ) → now j p n m ≡ true → j'.past r m ≡ true)) where
+      → (r : Name) × (F r ≡ true) × ((m : ℕ) → known_with j p n m ≡ true → j'.past r m ≡ true)) where
     spread_back : (m : ℕ) → m < n → Someone F j' m → Someone H j m
     spread_back m lt s = ⊎_elim
         (λ (x : j'.past s.0 m ≡ true). ⊎_elim
         (λ (y : j.past s.0 m ≡ true). (s.0, grows s.0 s.1, inl y))
-        (λ (y : (F s.0 ≡ true → H p ≡ true) × (now j p n m ≡ true)). (p, y.0 s.1, inl (now_is m lt y.1)))
+        (λ (y : (F s.0 ≡ true → H p ≡ true) × (known_with j p n m ≡ true)). (p, y.0 s.1, inl (now_is m lt y.1)))
         (learns s.0 m x))
         (λ (x : (d : Channel) × (j'.pending d ≡ Some (s.0, m))). (
           s.0,
@@ -313,7 +313,7 @@ module _ (j : Judged) (n : ℕ) (p : Name) (below : (q : Name) (i : ℕ) → j.p
     spread_new s = ⊎_elim
         (λ (x : j'.past s.0 n ≡ true). ⊎_elim
         (λ (y : j.past s.0 n ≡ true). absurd (no_old s.0 (inl y)))
-        (λ (y : (F s.0 ≡ true → H p ≡ true) × (now j p n n ≡ true)). y.0 s.1)
+        (λ (y : (F s.0 ≡ true → H p ≡ true) × (known_with j p n n ≡ true)). y.0 s.1)
         (learns s.0 n x))
         (λ (x : (d : Channel) × (j'.pending d ≡ Some (s.0, n))). absurd
         (no_old s.0 (inr (x.0, sym (ap (λ f. f x.0) same) ∙ x.1))))
@@ -322,42 +322,43 @@ module _ (j : Judged) (n : ℕ) (p : Name) (below : (q : Name) (i : ℕ) → j.p
     spread_known : H p ≡ true → Someone F j' n
     spread_known h = let r = passes h in (r.0, r.1, inl (r.2 n (or_right (j.past p n) (n == n) (eq-eqb n n refl))))
 
-  own_now : (m : ℕ) → n == m ≡ true → now j p n m ≡ true
+  own_now : (m : ℕ) → n == m ≡ true → known_with j p n m ≡ true
   own_now m e = or_right (j.past p m) (n == m) e
 
   abbrev first : Name → ℕ → Bool
   first = learn p (λ i. n == i) j.past
 
-  first_is : (q : Name) (m : ℕ) → first q m ≡ true → (j.past q m ≡ true) ⊎ ((p ≡ q) × (now j p n m ≡ true))
+  first_is : (q : Name) (m : ℕ) → first q m ≡ true → (j.past q m ≡ true) ⊎ ((p ≡ q) × (known_with j p n m ≡ true))
   first_is q m h = ⊎_elim (λ (x : j.past q m ≡ true). inl x)
       (λ (x : (p ≡ q) × (n == m ≡ true)). inr (x.0, own_now m x.1)) (learn_is p (λ i. n == i) j.past q m h)
 
-  first_here : (m : ℕ) → now j p n m ≡ true → first p m ≡ true
+  first_here : (m : ℕ) → known_with j p n m ≡ true → first p m ≡ true
   first_here m h = ⊎_elim (λ (x : j.past p m ≡ true). learn_more p (λ i. n == i) j.past p m x)
       (λ (x : n == m ≡ true). learn_here p (λ i. n == i) j.past m x) (or_cases (j.past p m) (n == m) h)
 
   -- the facts of one entry of the pass: what is judged after it, and who is needed before it
-  pub record PassedAt (then : Judged) (H : Name → Bool) : Type 0 where
+  pub record PassedAt (then : Knowledge) (H : Name → Bool) : Type 0 where
     pub back : (m : ℕ) → m < n → Someone F then m → Someone H j m
     pub forth : (m : ℕ) → Someone H j m → Someone F then m
     pub new : Someone F then n → H p ≡ true
     pub known : H p ≡ true → Someone F then n
 
-  abbrev pub Passed : Happening → Type 0
-  Passed h = PassedAt (judged_by j n p h) (needed_before j p h F)
+  abbrev pub PassesBack : Happening → Type 0
+  PassesBack h = PassedAt (knowledge_after j n p h) (needed_before j p h F)
 
-  pub passed : (h : Happening) → IsCounted h → Passed h
+  pub passed : (h : Happening) → IsCounted h → PassesBack h
   passed Opened ok = record {
-    back = spread_back (judged_by j n p Opened) refl F (λ q f. f) learns keeps needs passes;
-    forth = spread_forth (judged_by j n p Opened) refl F (λ q f. f) learns keeps needs passes;
-    new = spread_new (judged_by j n p Opened) refl F (λ q f. f) learns keeps needs passes;
-    known = spread_known (judged_by j n p Opened) refl F (λ q f. f) learns keeps needs passes;
+    back = spread_back (knowledge_after j n p Opened) refl F (λ q f. f) learns keeps needs passes;
+    forth = spread_forth (knowledge_after j n p Opened) refl F (λ q f. f) learns keeps needs passes;
+    new = spread_new (knowledge_after j n p Opened) refl F (λ q f. f) learns keeps needs passes;
+    known = spread_known (knowledge_after j n p Opened) refl F (λ q f. f) learns keeps needs passes;
   }
     where
       learns : (q : Name) (m : ℕ) → first q m ≡ true
-          → (j.past q m ≡ true) ⊎ ((F q ≡ true → F p ≡ true) × (now j p n m ≡ true))
+          → (j.past q m ≡ true) ⊎ ((F q ≡ true → F p ≡ true) × (known_with j p n m ≡ true))
       learns q m h = ⊎_elim (λ (x : j.past q m ≡ true). inl x)
-          (λ (x : (p ≡ q) × (now j p n m ≡ true)). inr (λ f. subst (λ z. F z ≡ true) (sym x.0) f, x.1)) (first_is q m h)
+          (λ (x : (p ≡ q) × (known_with j p n m ≡ true)). inr (λ f. subst (λ z. F z ≡ true) (sym x.0) f, x.1))
+          (first_is q m h)
 
       keeps : (q : Name) (m : ℕ) → j.past q m ≡ true → first q m ≡ true
       keeps q m h = learn_more p (λ i. n == i) j.past q m h
@@ -365,26 +366,29 @@ module _ (j : Judged) (n : ℕ) (p : Name) (below : (q : Name) (i : ℕ) → j.p
       needs : (q : Name) → F q ≡ true → (F q ≡ true) ⊎ (q ≡ p)
       needs q f = inl f
 
-      passes : F p ≡ true → (r : Name) × (F r ≡ true) × ((m : ℕ) → now j p n m ≡ true → first r m ≡ true)
+      passes : F p ≡ true → (r : Name) × (F r ≡ true) × ((m : ℕ) → known_with j p n m ≡ true → first r m ≡ true)
       passes f = (p, f, first_here)
   passed (Forked k) ok = record {
-    back = spread_back (judged_by j n p (Forked k)) refl (G (Forked k)) (more (Forked k)) learns keeps needs passes;
-    forth = spread_forth (judged_by j n p (Forked k)) refl (G (Forked k)) (more (Forked k)) learns keeps needs passes;
-    new = spread_new (judged_by j n p (Forked k)) refl (G (Forked k)) (more (Forked k)) learns keeps needs passes;
-    known = spread_known (judged_by j n p (Forked k)) refl (G (Forked k)) (more (Forked k)) learns keeps needs passes;
+    back = spread_back (knowledge_after j n p (Forked k)) refl (G (Forked k)) (more (Forked k)) learns keeps needs
+        passes;
+    forth = spread_forth (knowledge_after j n p (Forked k)) refl (G (Forked k)) (more (Forked k)) learns keeps needs
+        passes;
+    new = spread_new (knowledge_after j n p (Forked k)) refl (G (Forked k)) (more (Forked k)) learns keeps needs passes;
+    known = spread_known (knowledge_after j n p (Forked k)) refl (G (Forked k)) (more (Forked k)) learns keeps needs
+        passes;
   }
     where
-      learns : (q : Name) (m : ℕ) → teach p (j.forks p) (now j p n) 0 k first q m ≡ true
-          → (j.past q m ≡ true) ⊎ ((F q ≡ true → needed_before j p (Forked k) F p ≡ true) × (now j p n m ≡ true))
+      learns : (q : Name) (m : ℕ) → teach p (j.forks p) (known_with j p n) 0 k first q m ≡ true
+          → (j.past q m ≡ true) ⊎ ((F q ≡ true → needed_before j p (Forked k) F p ≡ true) × (known_with j p n m ≡ true))
       learns q m h = ⊎_elim
           (λ (x : first q m ≡ true). ⊎_elim (λ (y : j.past q m ≡ true). inl y)
-          (λ (y : (p ≡ q) × (now j p n m ≡ true)). inr (
+          (λ (y : (p ≡ q) × (known_with j p n m ≡ true)). inr (
             λ f. key_here p (F p || any_child F p (j.forks p) k) F
                 (or_left (F p) (any_child F p (j.forks p) k) (subst (λ z. F z ≡ true) (sym y.0) f)),
             y.1,
           ))
           (first_is q m x))
-          (λ (x : IsChildAt p (j.forks p) 0 k q × (now j p n m ≡ true)).
+          (λ (x : IsChildAt p (j.forks p) 0 k q × (known_with j p n m ≡ true)).
           let l = x.0.2 in
           inr (
             λ f. key_here p (F p || any_child F p (j.forks p) k) F
@@ -392,10 +396,10 @@ module _ (j : Judged) (n : ℕ) (p : Name) (below : (q : Name) (i : ℕ) → j.p
                 (any_here F p (j.forks p) k x.0.0 (omega (arith, l)) (subst (λ z. F z ≡ true) x.0.3 f))),
             x.1,
           ))
-          (teach_is p (j.forks p) (now j p n) 0 k first q m h)
+          (teach_is p (j.forks p) (known_with j p n) 0 k first q m h)
 
-      keeps : (q : Name) (m : ℕ) → j.past q m ≡ true → teach p (j.forks p) (now j p n) 0 k first q m ≡ true
-      keeps q m h = teach_more p (j.forks p) (now j p n) 0 k first q m (learn_more p (λ i. n == i) j.past q m h)
+      keeps : (q : Name) (m : ℕ) → j.past q m ≡ true → teach p (j.forks p) (known_with j p n) 0 k first q m ≡ true
+      keeps q m h = teach_more p (j.forks p) (known_with j p n) 0 k first q m (learn_more p (λ i. n == i) j.past q m h)
 
       needs : (q : Name) → needed_before j p (Forked k) F q ≡ true → (F q ≡ true) ⊎ (q ≡ p)
       needs q h = ⊎_elim (λ (x : (p ≡ q) × (F p || any_child F p (j.forks p) k ≡ true)). inr (sym x.0))
@@ -403,25 +407,30 @@ module _ (j : Judged) (n : ℕ) (p : Name) (below : (q : Name) (i : ℕ) → j.p
 
       passes : needed_before j p (Forked k) F p ≡ true
           → (r : Name) × (F r ≡ true)
-          × ((m : ℕ) → now j p n m ≡ true → teach p (j.forks p) (now j p n) 0 k first r m ≡ true)
+          × ((m : ℕ) → known_with j p n m ≡ true → teach p (j.forks p) (known_with j p n) 0 k first r m ≡ true)
       passes h = ⊎_elim
-          (λ (f : F p ≡ true). (p, f, λ m x. teach_more p (j.forks p) (now j p n) 0 k first p m (first_here m x)))
+          (λ (f : F p ≡ true). (
+            p,
+            f,
+            λ m x. teach_more p (j.forks p) (known_with j p n) 0 k first p m
+                (first_here m x),
+          ))
           (λ (a : any_child F p (j.forks p) k ≡ true).
           let c = any_is F p (j.forks p) k a in
           let lt = c.1 in (
             (j.forks p, c.0) ∷ p,
             c.2,
-            λ m x. teach_here p (j.forks p) (now j p n) 0 k first c.0 m (omega arith) (omega (arith, lt)) x,
+            λ m x. teach_here p (j.forks p) (known_with j p n) 0 k first c.0 m (omega arith) (omega (arith, lt)) x,
           ))
           (or_cases (F p) (any_child F p (j.forks p) k)
           (⊎_elim (λ (x : (p ≡ p) × (F p || any_child F p (j.forks p) k ≡ true)). x.1)
           (λ (x : F p ≡ true). or_left (F p) (any_child F p (j.forks p) k) x)
           (key_is p (F p || any_child F p (j.forks p) k) F p h)))
   passed Ended ok = record {
-    back = spread_back (judged_by j n p Ended) refl (G Ended) (more Ended) learns keeps needs passes;
-    forth = spread_forth (judged_by j n p Ended) refl (G Ended) (more Ended) learns keeps needs passes;
-    new = spread_new (judged_by j n p Ended) refl (G Ended) (more Ended) learns keeps needs passes;
-    known = spread_known (judged_by j n p Ended) refl (G Ended) (more Ended) learns keeps needs passes;
+    back = spread_back (knowledge_after j n p Ended) refl (G Ended) (more Ended) learns keeps needs passes;
+    forth = spread_forth (knowledge_after j n p Ended) refl (G Ended) (more Ended) learns keeps needs passes;
+    new = spread_new (knowledge_after j n p Ended) refl (G Ended) (more Ended) learns keeps needs passes;
+    known = spread_known (knowledge_after j n p Ended) refl (G Ended) (more Ended) learns keeps needs passes;
   }
     where
       parent_here : (r : Name) (a : ℕ × ℕ) (q : Name) → r ≡ a ∷ q → F q ≡ true → parent_is F r ≡ true
@@ -431,41 +440,42 @@ module _ (j : Judged) (n : ℕ) (p : Name) (below : (q : Name) (i : ℕ) → j.p
       parent_of [] h = false_is_not_true h
       parent_of (a ∷ q) h = (a, q, refl, h)
 
-      learns : (q : Name) (m : ℕ) → report p (now j p n) first q m ≡ true
-          → (j.past q m ≡ true) ⊎ ((F q ≡ true → needed_before j p Ended F p ≡ true) × (now j p n m ≡ true))
+      learns : (q : Name) (m : ℕ) → report p (known_with j p n) first q m ≡ true
+          → (j.past q m ≡ true) ⊎ ((F q ≡ true → needed_before j p Ended F p ≡ true) × (known_with j p n m ≡ true))
       learns q m h = ⊎_elim
           (λ (x : first q m ≡ true). ⊎_elim (λ (y : j.past q m ≡ true). inl y)
-          (λ (y : (p ≡ q) × (now j p n m ≡ true)). inr (
+          (λ (y : (p ≡ q) × (known_with j p n m ≡ true)). inr (
             λ f. key_here p (F p || parent_is F p) F
                 (or_left (F p) (parent_is F p) (subst (λ z. F z ≡ true) (sym y.0) f)),
             y.1,
           ))
           (first_is q m x))
-          (λ (x : (a : ℕ × ℕ) × (p ≡ a ∷ q) × (now j p n m ≡ true)). inr (
+          (λ (x : (a : ℕ × ℕ) × (p ≡ a ∷ q) × (known_with j p n m ≡ true)). inr (
             λ f. key_here p (F p || parent_is F p) F (or_right (F p) (parent_is F p) (parent_here p x.0 q x.1 f)),
             x.2,
           ))
-          (report_is p (now j p n) first q m h)
+          (report_is p (known_with j p n) first q m h)
 
-      keeps : (q : Name) (m : ℕ) → j.past q m ≡ true → report p (now j p n) first q m ≡ true
-      keeps q m h = report_more p (now j p n) first q m (learn_more p (λ i. n == i) j.past q m h)
+      keeps : (q : Name) (m : ℕ) → j.past q m ≡ true → report p (known_with j p n) first q m ≡ true
+      keeps q m h = report_more p (known_with j p n) first q m (learn_more p (λ i. n == i) j.past q m h)
 
       needs : (q : Name) → needed_before j p Ended F q ≡ true → (F q ≡ true) ⊎ (q ≡ p)
       needs q h = ⊎_elim (λ (x : (p ≡ q) × (F p || parent_is F p ≡ true)). inr (sym x.0)) (λ (x : F q ≡ true). inl x)
           (key_is p (F p || parent_is F p) F q h)
 
       passes : needed_before j p Ended F p ≡ true
-          → (r : Name) × (F r ≡ true) × ((m : ℕ) → now j p n m ≡ true → report p (now j p n) first r m ≡ true)
+          → (r : Name) × (F r ≡ true)
+          × ((m : ℕ) → known_with j p n m ≡ true → report p (known_with j p n) first r m ≡ true)
       passes h = ⊎_elim
-          (λ (f : F p ≡ true). (p, f, λ m x. report_more p (now j p n) first p m (first_here m x)))
+          (λ (f : F p ≡ true). (p, f, λ m x. report_more p (known_with j p n) first p m (first_here m x)))
           (λ (a : parent_is F p ≡ true). let c = parent_of p a in
-          (c.1, c.3, λ m x. report_here p (now j p n) first c.0 c.1 m c.2 x))
+          (c.1, c.3, λ m x. report_here p (known_with j p n) first c.0 c.1 m c.2 x))
           (or_cases (F p) (parent_is F p)
           (⊎_elim (λ (x : (p ≡ p) × (F p || parent_is F p ≡ true)). x.1)
           (λ (x : F p ≡ true). or_left (F p) (parent_is F p) x) (key_is p (F p || parent_is F p) F p h)))
   passed (Offered w c) ok = by (j.pending c) refl
     where
-      by : (o : Option (Name × ℕ)) → j.pending c ≡ o → PassedAt (met_now j p n c o) (needed_to_meet p o F)
+      by : (o : Option (Name × ℕ)) → j.pending c ≡ o → PassedAt (knowledge_after_offer j p n c o) (needed_to_meet p o F)
       by None e = record {
         back = wait_back c e;
         forth = λ m s. (s.0, s.1, wait_stays c e s.0 m s.2);
@@ -508,14 +518,14 @@ module _ (j : Judged) (n : ℕ) (p : Name) (below : (q : Name) (i : ℕ) → j.p
   newly Paused q h = inl h
 
   -- an offer that is pending after it was pending before it, or is p's
-  pub pends_after : (h : Happening) (d : Channel) (q : Name) (o : ℕ) → (judged_by j n p h).pending d ≡ Some (q, o)
+  pub pends_after : (h : Happening) (d : Channel) (q : Name) (o : ℕ) → (knowledge_after j n p h).pending d ≡ Some (q, o)
       → (j.pending d ≡ Some (q, o)) ⊎ (q ≡ p)
   pends_after Opened d q o h = inl h
   pends_after (Forked k) d q o h = inl h
   pends_after Ended d q o h = inl h
   pends_after (Offered w c) d q o h = by (j.pending c) refl h
     where
-      by : (x : Option (Name × ℕ)) → j.pending c ≡ x → (met_now j p n c x).pending d ≡ Some (q, o)
+      by : (x : Option (Name × ℕ)) → j.pending c ≡ x → (knowledge_after_offer j p n c x).pending d ≡ Some (q, o)
           → (j.pending d ≡ Some (q, o)) ⊎ (q ≡ p)
       by None e h = ⊎_elim (λ (y : (p, n) ≡ (q, o)). inr (ap (λ (z : Name × ℕ). z.0) (sym y)))
           (λ (y : j.pending d ≡ Some (q, o)). inl y) (wait_pending c e d (q, o) h)

@@ -4,11 +4,11 @@ use Rattle.std.proofs.Common.{slice_get, refl, sym, ap, ◌∙◌, subst, arith}
 use Rattle.std.proofs.lemmas.Option.{none-some, same_Some}
 use Rattle.sp_journal.specs.declared.entry.Way.{Way}
 use Rattle.sp_journal.specs.Names.{Channel, Offered, Occurrence}
-use Rattle.sp_journal.specs.Past.{Judged, judged}
-use Rattle.sp_meaning.specs.Own.{Setting}
+use Rattle.sp_journal.specs.Past.{Knowledge, knowledge_of}
+use Rattle.sp_meaning.specs.LocalWork.{RunInput}
 use Rattle.sp_meaning.specs.Runs.{StateOf, IsDisjointRun}
 use Rattle.sp_meaning.specs.Along.{IsAlong, IsClean}
-use Rattle.sp_judge.specs.Prefixes.{IsQuiet}
+use Rattle.sp_judge.specs.Prefixes.{WaitersAreSilent}
 use Rattle.sp_judge.specs.Races.{KnowsCompletion, IsLeastRace}
 use Rattle.sp_witness.specs.Contention.{Shows}
 use Rattle.sp_witness.proofs.Order.{known_front}
@@ -33,8 +33,8 @@ get_low [] ys i e lt h = absurd (omega (arith, lt))
 get_low (x ∷ xs) ys zero e lt h = h
 get_low (x ∷ xs) ys (suc i) e lt h = get_low xs ys i e (omega (arith, lt)) h
 
-pub real : (g : Setting) → IsDisjointRun g → (turn : ℕ) (es : List Occurrence) (n : ℕ) (t : StateOf g)
-    → IsAlong g turn es n t → IsClean es → IsQuiet es → (w : Way) (c : Channel) (earlier later : ℕ)
+pub real : (g : RunInput) → IsDisjointRun g → (turn : ℕ) (es : List Occurrence) (n : ℕ) (t : StateOf g)
+    → IsAlong g turn es n t → IsClean es → WaitersAreSilent es → (w : Way) (c : Channel) (earlier later : ℕ)
     → IsLeastRace es w c earlier later → Shows g turn es w c earlier later
 real g disjoint turn es n t along clean quiet w c earlier later least =
     let race = least.0 in
@@ -52,6 +52,6 @@ real g disjoint turn es n t along clean quiet w c earlier later least =
     whole a.size size_second
     (known_front es w c earlier later least (a.before ++ one ∷ a.after) (two ∷ b.after) whole
     (subst (λ z. z ≤ later) (sym size_second) (le_refl later)))
-    (λ k. race.unknown (subst (λ (x : Judged). KnowsCompletion x race.second earlier)
-    (sym (ap judged (ap (take later) whole
+    (λ k. race.unknown (subst (λ (x : Knowledge). KnowsCompletion x race.second earlier)
+    (sym (ap knowledge_of (ap (take later) whole
     ∙ take_at (a.before ++ one ∷ a.after) (two ∷ b.after) later size_second))) k))

@@ -7,30 +7,32 @@ use Rattle.std.proofs.lemmas.Option.{none-some}
 use Rattle.sp_base.specs.declared.fault.Fault.TheVariants as fault
 use Rattle.sp_base.proofs.Facts.{cons_is_not_nil, first_true, same_head, same_tail, true_is_not_false}
 use Rattle.sp_journal.specs.declared.entry.Way.{Way}
-use Rattle.sp_journal.specs.Past.{Judged, judged_by, judged, nothing_judged}
-use Rattle.sp_meaning.specs.Model.{Name, Channel, same_name, Language, Waits, Faults, changed}
-use Rattle.sp_meaning.specs.Steps.{Advances, an_entry, cost, passed}
-use Rattle.sp_meaning.specs.Own.{Setting, Process}
+use Rattle.sp_journal.specs.Past.{Knowledge, knowledge_after, knowledge_of, no_knowledge}
+use Rattle.sp_meaning.specs.Model.{Name, Channel, same_name, Language, Waits, Faults, with_change}
+use Rattle.sp_meaning.specs.Steps.{Advances, entry_cost, cost, limit_fault}
+use Rattle.sp_meaning.specs.LocalWork.{RunInput, Process}
 use Rattle.sp_meaning.specs.SuperPascal.{superpascal, root, first_store}
 use Rattle.sp_meaning.specs.Entries.{Happening, Offered, Faulted, Paused, Occurrence}
-use Rattle.sp_meaning.specs.Runs.{StateOf, start, most, running, next, said_of, says, IsDisjointRun}
+use Rattle.sp_meaning.specs.Runs.{StateOf, start, total_limits, running_process, next_state, happening_of, happening_at}
+use Rattle.sp_meaning.specs.Runs.{IsDisjointRun}
 use Rattle.sp_meaning.specs.Along.{ticks_of, no_course, Along, IsAlong, IsClean}
 use Rattle.sp_meaning.proofs.Maps.{differs}
 use Rattle.sp_meaning.proofs.Keys.{name_test}
-use Rattle.sp_meaning.proofs.Journeys.{quiet_step}
-use Rattle.sp_judge.specs.Prefixes.{QuietFrom, IsQuiet}
+use Rattle.sp_meaning.proofs.JournalSchedules.{quiet_step}
+use Rattle.sp_judge.specs.Prefixes.{WaitersSilentFrom, WaitersAreSilent}
 use Rattle.sp_judge.proofs.Prefixing.{nothing_kept}
-use Rattle.sp_race.specs.Notes.{Event, no_notes, mine}
+use Rattle.sp_race.specs.Notes.{Event, no_notes, next_event_of}
 use Rattle.sp_race.specs.Noting.{WithNotes}
 use Rattle.sp_race.specs.Known.{AreKnown}
 use Rattle.sp_race.proofs.GoodSteps.{sound_opening, knows_nothing}
-use Rattle.sp_race.proofs.Verdict.{At, stepped, said, linked_start}
+use Rattle.sp_race.proofs.Verdict.{KnownAfterEntries, stepped, said, linked_start}
 use Rattle.sp_judge.specs.Races.{KnowsCompletion}
 use Rattle.sp_judge.proofs.Fronts.{quiet_front}
-use Rattle.sp_witness.specs.Witness.{who_of, who_at, alone, past_before, is_pause, is_known, offers_after, is_member}
+use Rattle.sp_witness.specs.Witness.{who_of, who_at, entry_list, past_before, is_pause, is_known, offers_after}
+use Rattle.sp_witness.specs.Witness.{is_member}
 use Rattle.sp_witness.specs.Witness.{is_among, members, first_part, witness}
 use Rattle.sp_witness.specs.Contention.{IsContention, Shows}
-use Rattle.sp_witness.proofs.Moving.{Head, Free, MarkedFree, Cuts, Tag, Block, heads, kept, left, Ready, Runs}
+use Rattle.sp_witness.proofs.Moving.{Head, Free, MarkedFree, Cuts, Tag, Block, heads, kept, left, IsNextOfProcess, Runs}
 use Rattle.sp_witness.proofs.Moving.{BlockRuns, EachFree, parted, in_front, ready_of, ready_back, ready_before}
 use Rattle.sp_witness.proofs.Pasts.{heads_from, Stage, past_here, MarksAre, cuts_from, get_at}
 use Rattle.sp_witness.proofs.Ticks.{said_same}
@@ -41,21 +43,22 @@ use Rattle.sp_witness.proofs.Parts.{UnmarkedFree, mark_in, marks_are, marks_afte
 use Rattle.sp_witness.proofs.Parts.{left_append, kept_append, kept_valid, since_kept, since_stays, since_append}
 use Rattle.sp_witness.proofs.Parts.{valid_second, cuts_second, Split, split, heads_append}
 use Rattle.sp_witness.proofs.Contending.{Offers, offers_of, waits_here, blocks_fit, contends}
-use Rattle.sp_witness.proofs.Standing.{Stands, nothing_stands, stands_from}
+use Rattle.sp_witness.proofs.Standing.{KnowledgeFacts, nothing_stands, stands_from}
 use Rattle.sp_witness.proofs.Witnessing.{clean_front, runs_split, runs_join, entries_join, valid_join}
 use Rattle.sp_witness.proofs.Witnessing.{LastStep, last_step, quiet_pending, quiet_condition, Pends, quiet_pends}
-use Rattle.sp_witness.proofs.Witnessing.{AllFit, blocks_pend}
+use Rattle.sp_witness.proofs.Witnessing.{HeadsFit, blocks_pend}
 
 -- a race, with the journal cut at its two offers
-module _ (g : Setting) (disjoint : IsDisjointRun g) (turn : ℕ) (es : List Occurrence) (n : ℕ) (t : StateOf g)
-    (along : IsAlong g turn es n t) (clean : IsClean es) (quiet : IsQuiet es)
+module _ (g : RunInput) (disjoint : IsDisjointRun g) (turn : ℕ) (es : List Occurrence) (n : ℕ) (t : StateOf g)
+    (along : IsAlong g turn es n t) (clean : IsClean es) (quiet : WaitersAreSilent es)
     (w : Way) (c : Channel) (earlier later : ℕ) (before mid after : List Occurrence) (first second : Name)
     (whole : es ≡ (before ++ record { who = first; what = Offered w c } ∷ mid)
     ++ record { who = second; what = Offered w c } ∷ after)
     (size_first : length before ≡ earlier)
     (size_second : length (before ++ record { who = first; what = Offered w c } ∷ mid) ≡ later)
     (known_before : AreKnown (before ++ record { who = first; what = Offered w c } ∷ mid))
-    (unknown : KnowsCompletion (judged (before ++ record { who = first; what = Offered w c } ∷ mid)) second earlier
+    (unknown : KnowsCompletion (knowledge_of (before ++ record { who = first; what = Offered w c } ∷ mid)) second
+    earlier
     → ⊥) where
   abbrev L : Language
   L = superpascal g
@@ -78,25 +81,27 @@ module _ (g : Setting) (disjoint : IsDisjointRun g) (turn : ℕ) (es : List Occu
   zero_second : 0 + length front ≡ later
   zero_second = omega (arith, size_second)
 
-  stage_first : Stage es before (one ∷ (mid ++ two ∷ after)) (judged before) earlier
+  stage_first : Stage es before (one ∷ (mid ++ two ∷ after)) (knowledge_of before) earlier
   stage_first = record { whole = whole ∙ append_assoc before (one ∷ mid) (two ∷ after); is = refl; size = size_first }
 
-  stage_second : Stage es front (two ∷ after) (judged front) later
+  stage_second : Stage es front (two ∷ after) (knowledge_of front) later
   stage_second = record { whole = whole; is = refl; size = size_second }
 
-  quiet_second : QuietFrom nothing_judged 0 front × QuietFrom (judged front) (0 + length front) (two ∷ after)
-  quiet_second = quiet_front nothing_judged 0 front (two ∷ after) (subst (QuietFrom nothing_judged 0) whole quiet)
+  quiet_second : WaitersSilentFrom no_knowledge 0 front × WaitersSilentFrom (knowledge_of front) (0 + length front)
+      (two ∷ after)
+  quiet_second = quiet_front no_knowledge 0 front (two ∷ after) (subst (WaitersSilentFrom no_knowledge 0) whole quiet)
 
-  quiet_first : QuietFrom nothing_judged 0 before × QuietFrom (judged before) (0 + length before) (one ∷ mid)
-  quiet_first = quiet_front nothing_judged 0 before (one ∷ mid) quiet_second.0
+  quiet_first : WaitersSilentFrom no_knowledge 0 before × WaitersSilentFrom (knowledge_of before) (0 + length before)
+      (one ∷ mid)
+  quiet_first = quiet_front no_knowledge 0 before (one ∷ mid) quiet_second.0
 
-  stands_first : Stands (judged before) before earlier
-  stands_first = subst (λ z. Stands (judged before) before z) zero_first
-      (stands_from nothing_judged [] 0 before refl nothing_stands quiet_first.0)
+  stands_first : KnowledgeFacts (knowledge_of before) before earlier
+  stands_first = subst (λ z. KnowledgeFacts (knowledge_of before) before z) zero_first
+      (stands_from no_knowledge [] 0 before refl nothing_stands quiet_first.0)
 
-  stands_second : Stands (judged front) front later
-  stands_second = subst (λ z. Stands (judged front) front z) zero_second
-      (stands_from nothing_judged [] 0 front refl nothing_stands quiet_second.0)
+  stands_second : KnowledgeFacts (knowledge_of front) front later
+  stands_second = subst (λ z. KnowledgeFacts (knowledge_of front) front z) zero_second
+      (stands_from no_knowledge [] 0 front refl nothing_stands quiet_second.0)
 
   got_first : slice_get es earlier ≡ Some one
   got_first = ap (λ xs. slice_get xs earlier) stage_first.whole
@@ -111,19 +116,19 @@ module _ (g : Setting) (disjoint : IsDisjointRun g) (turn : ℕ) (es : List Occu
   who_second : who_at es later ≡ second
   who_second = ap who_of got_second
 
-  past_first : (k : ℕ) → past_before es earlier k ≡ (judged before).past first k
-  past_first = past_here es before one (mid ++ two ∷ after) (judged before) earlier stage_first
+  past_first : (k : ℕ) → past_before es earlier k ≡ (knowledge_of before).past first k
+  past_first = past_here es before one (mid ++ two ∷ after) (knowledge_of before) earlier stage_first
 
-  past_second : (k : ℕ) → past_before es later k ≡ (judged front).past second k
-  past_second = past_here es front two after (judged front) later stage_second
+  past_second : (k : ℕ) → past_before es later k ≡ (knowledge_of front).past second k
+  past_second = past_here es front two after (knowledge_of front) later stage_second
 
   -- neither offer's process knew the earlier offer
   first_unknown : known earlier ≡ false
   first_unknown = or_from (past_before es earlier earlier) (past_before es later earlier)
-      (past_first earlier ∙ false_from_ne_true ((judged before).past first earlier)
+      (past_first earlier ∙ false_from_ne_true ((knowledge_of before).past first earlier)
       (λ e. lt_irrefl earlier (stands_first.paired.below first earlier e)))
       (past_second earlier
-      ∙ false_from_ne_true ((judged front).past second earlier)
+      ∙ false_from_ne_true ((knowledge_of front).past second earlier)
       (λ e. unknown (stands_second.rounded.complete second earlier first w c
       (get_at before one mid earlier size_first) e)))
 
@@ -140,35 +145,36 @@ module _ (g : Setting) (disjoint : IsDisjointRun g) (turn : ℕ) (es : List Occu
       ∙ or_from (known earlier) false first_unknown refl
 
   abbrev head_first : Head
-  head_first = record { who = first; what = Offered w c; at = earlier; knows = (judged before).past first }
+  head_first = record { who = first; what = Offered w c; at = earlier; knows = (knowledge_of before).past first }
 
   abbrev head_second : Head
-  head_second = record { who = second; what = Offered w c; at = later; knows = (judged front).past second }
+  head_second = record { who = second; what = Offered w c; at = later; knows = (knowledge_of front).past second }
 
   clean_all : IsClean front
   clean_all = clean_front front (two ∷ after) (subst IsClean whole clean)
 
-  free_first : UnmarkedFree mark (heads_from nothing_judged 0 before) head_first
+  free_first : UnmarkedFree mark (heads_from no_knowledge 0 before) head_first
   free_first = free_before es earlier later earlier
       (λ k e. (or_parts (past_before es earlier k) (past_before es later k) e).0)
       (λ q k e. (or_parts (same_name q (who_at es earlier) && nat_lt k earlier)
       (same_name q (who_at es later) && nat_lt k later) e).0)
-      before one (mid ++ two ∷ after) (judged before) stage_first stands_first.kept quiet_first.1.0 who_first mark []
-      before (one ∷ mid) nothing_judged 0 refl refl (clean_front before (one ∷ mid) clean_all) marks
+      before one (mid ++ two ∷ after) (knowledge_of before) stage_first stands_first.kept quiet_first.1.0 who_first
+      mark []
+      before (one ∷ mid) no_knowledge 0 refl refl (clean_front before (one ∷ mid) clean_all) marks
       (omega (arith, zero_first))
 
-  free_second : UnmarkedFree mark (heads_from nothing_judged 0 front) head_second
+  free_second : UnmarkedFree mark (heads_from no_knowledge 0 front) head_second
   free_second = free_before es earlier later later
       (λ k e. (or_parts (past_before es earlier k) (past_before es later k) e).1)
       (λ q k e. (or_parts (same_name q (who_at es earlier) && nat_lt k earlier)
       (same_name q (who_at es later) && nat_lt k later) e).1)
-      front two after (judged front) stage_second stands_second.kept quiet_second.1.0 who_second mark [] front []
-      nothing_judged 0 refl refl clean_all (subst (MarksAre es earlier later mark 0) (sym (append-nil front)) marks)
+      front two after (knowledge_of front) stage_second stands_second.kept quiet_second.1.0 who_second mark [] front []
+      no_knowledge 0 refl refl clean_all (subst (MarksAre es earlier later mark 0) (sym (append-nil front)) marks)
       (omega (arith, zero_second))
 
   -- the run up to the later offer
-  walk : Walked g turn (two ∷ after) t front no_course (start g) no_notes nothing_judged [] 0 (λ i. None)
-  walk = walked g turn (two ∷ after) t front no_course (start g) n no_notes nothing_judged [] 0 (λ i. None)
+  walk : Walked g turn (two ∷ after) t front no_course (start g) no_notes no_knowledge [] 0 (λ i. None)
+  walk = walked g turn (two ∷ after) t front no_course (start g) n no_notes no_knowledge [] 0 (λ i. None)
       (subst (λ z. Along g turn no_course (start g) z n t) whole along) clean_all
       (record {
         linked = linked_start g;
@@ -180,8 +186,9 @@ module _ (g : Setting) (disjoint : IsDisjointRun g) (turn : ℕ) (es : List Occu
   abbrev label : ℕ → Option Event
   label = walk.label_after
 
-  at_second : At g walk.state walk.notes (judged front) front later label
-  at_second = subst (λ z. At g walk.state walk.notes (judged front) front z label) zero_second walk.at
+  at_second : KnownAfterEntries g walk.state walk.notes (knowledge_of front) front later label
+  at_second = subst (λ z. KnownAfterEntries g walk.state walk.notes (knowledge_of front) front z label) zero_second
+      walk.at
 
   abbrev start_notes : WithNotes L
   start_notes = beside g (start g) no_notes
@@ -197,16 +204,16 @@ module _ (g : Setting) (disjoint : IsDisjointRun g) (turn : ℕ) (es : List Occu
 
   cuts : Cuts mark (heads g blocks)
   cuts = subst (Cuts mark) (sym walk.heads_are)
-      (cuts_from es earlier later mark [] front (two ∷ after) nothing_judged 0
+      (cuts_from es earlier later mark [] front (two ∷ after) no_knowledge 0
       (record { whole = whole; is = refl; size = refl }) nothing_kept quiet_second.0 clean_all marks)
 
   -- the entries with their steps, cut at the earlier offer
-  cut : Split g (heads_from nothing_judged 0 before) head_first
-      (heads_from (judged_by (judged before) earlier first (Offered w c)) (suc earlier) mid) blocks
-  cut = split g (heads_from nothing_judged 0 before) head_first
-      (heads_from (judged_by (judged before) earlier first (Offered w c)) (suc earlier) mid) blocks
-      (walk.heads_are ∙ heads_append nothing_judged 0 before (one ∷ mid)
-      ∙ ap (λ z. heads_from nothing_judged 0 before ++ heads_from (judged before) z (one ∷ mid)) zero_first)
+  cut : Split g (heads_from no_knowledge 0 before) head_first
+      (heads_from (knowledge_after (knowledge_of before) earlier first (Offered w c)) (suc earlier) mid) blocks
+  cut = split g (heads_from no_knowledge 0 before) head_first
+      (heads_from (knowledge_after (knowledge_of before) earlier first (Offered w c)) (suc earlier) mid) blocks
+      (walk.heads_are ∙ heads_append no_knowledge 0 before (one ∷ mid)
+      ∙ ap (λ z. heads_from no_knowledge 0 before ++ heads_from (knowledge_of before) z (one ∷ mid)) zero_first)
 
   abbrev block : Block g
   block = cut.block
@@ -240,9 +247,11 @@ module _ (g : Setting) (disjoint : IsDisjointRun g) (turn : ℕ) (es : List Occu
   rest : Along g turn walk.course walk.state (two ∷ after) walk.steps_left t
   rest = walk.goes_on
 
-  local_steps : Turned g turn (walk.course.since second) second walk.state rest.3 walk.notes (judged front) front later
+  local_steps : Turned g turn (walk.course.since second) second walk.state rest.3 walk.notes (knowledge_of front)
+      front later
       label head_second rest.4
-  local_steps = turned g turn (walk.course.since second) second rest.1 walk.state rest.3 walk.notes (judged front) front
+  local_steps = turned g turn (walk.course.since second) second rest.1 walk.state rest.3 walk.notes
+      (knowledge_of front) front
       later label head_second rest.4 refl refl refl rest.6 at_second walk.way
 
   abbrev tags : List (Tag g)
@@ -254,7 +263,8 @@ module _ (g : Setting) (disjoint : IsDisjointRun g) (turn : ℕ) (es : List Occu
   tags_quiet : AllQuiet g turn (walk.course.since second) tags
   tags_quiet = ⊎_elim
       (λ (z : (rest.4 ≡ false) × AllQuiet g turn (walk.course.since second) tags × (own : Process)
-      × (running g rest.3 second ≡ Some own) × (what : Happening) × (says g rest.3 second own ≡ Some what)). z.1)
+      × (running_process g rest.3 second ≡ Some own) × (what : Happening)
+      × (happening_at g rest.3 second own ≡ Some what)). z.1)
       (λ (z : (rest.4 ≡ true) × Valid g turn (walk.course.since second) Paused tags (ticks_of g rest.3 second)).
       true_is_not_false (sym z.0 ∙ rest.7.1))
       local_steps.kind
@@ -262,27 +272,30 @@ module _ (g : Setting) (disjoint : IsDisjointRun g) (turn : ℕ) (es : List Occu
   abbrev own : Process
   own = rest.7.5.0
 
-  its_offer : Offers L (L.next own rest.3.store) w c × (passed (most g) rest.3.totals (Some an_entry) ≡ None)
+  its_offer : Offers L (L.next own rest.3.store) w c
+      × (limit_fault (total_limits g) rest.3.totals (Some entry_cost) ≡ None)
   its_offer =
       let h = rest.7.5 in
       let x = stepped g rest.3 second own rest.7.2 h.1 h.3
       (quiet_step g rest.3 second own rest.7.2 (Some (Offered w c)) h.1 h.2 tt h.3 local_steps.at.quiet) in
-      let is : said_of {L = L} (L.next own rest.3.store) (Advances []) ≡ Some (Offered w c) =
+      let is : happening_of {L = L} (L.next own rest.3.store) (Advances []) ≡ Some (Offered w c) =
       said_same {L = L} (L.next own rest.3.store) [] x.cs
-      ∙ ap (λ z. said_of {L = L} (L.next z rest.3.store) (Advances x.cs)) (sym x.same)
+      ∙ ap (λ z. happening_of {L = L} (L.next z rest.3.store) (Advances x.cs)) (sym x.same)
       ∙ sym (said g rest.3 second own rest.7.2 x) ∙ h.2 in
       let o = offers_of L (L.next own rest.3.store) w c is in (
         o,
-        subst (λ a. passed (most g) rest.3.totals (cost a) ≡ None) o.is
-            (subst (λ z. passed (most g) rest.3.totals (cost (L.next z rest.3.store)) ≡ None) x.same x.one.within),
+        subst (λ a. limit_fault (total_limits g) rest.3.totals (cost a) ≡ None) o.is
+            (subst (λ z. limit_fault (total_limits g) rest.3.totals (cost (L.next z rest.3.store)) ≡ None) x.same
+            x.one.within),
       )
 
-  ready_end : Ready g label end_notes head_second (tag_of g rest.3 own)
+  ready_end : IsNextOfProcess g label end_notes head_second (tag_of g rest.3 own)
   ready_end = record {
     works = rest.7.5.1;
     act_is = refl;
     beat_is = refl;
-    past = λ k e lt is. knows_so g rest.3 local_steps.notes (judged front) front later label label second local_steps.at
+    past = λ k e lt is. knows_so g rest.3 local_steps.notes (knowledge_of front) front later label label second
+        local_steps.at
         (λ i l. refl) k e lt is;
   }
 
@@ -332,17 +345,21 @@ module _ (g : Setting) (disjoint : IsDisjointRun g) (turn : ℕ) (es : List Occu
   abbrev at_end : WithNotes L
   at_end = second_first.0
 
-  ready_at_end : Ready g label at_end head_second (tag_of g rest.3 own)
+  ready_at_end : IsNextOfProcess g label at_end head_second (tag_of g rest.3 own)
   ready_at_end = ready_before g label disjoint at_end end_notes remaining head_second (tag_of g rest.3 own) free_cut.0
       second_first.2 ready_end
 
   -- what the later offer's process does next after the earlier offer
-  ready_after_first : (x : Tag g) × Ready g label after_first head_second x
+  ready_after_first : (x : Tag g) × IsNextOfProcess g label after_first head_second x
   ready_after_first = by tags second_first.1
     where
       by : (xs : List (Tag g)) → Runs g label after_first head_second xs at_end
-          → (x : Tag g) × Ready g label after_first head_second x
-      by [] r = (tag_of g rest.3 own, subst (λ z. Ready g label z head_second (tag_of g rest.3 own)) r ready_at_end)
+          → (x : Tag g) × IsNextOfProcess g label after_first head_second x
+      by [] r = (
+        tag_of g rest.3 own,
+        subst (λ z. IsNextOfProcess g label z head_second (tag_of g rest.3 own)) r
+            ready_at_end,
+      )
       by (x ∷ xs) r = (x, ready_of g label disjoint after_first head_second x r.1.fits)
 
   abbrev no_since : Name → ℕ
@@ -365,15 +382,15 @@ module _ (g : Setting) (disjoint : IsDisjointRun g) (turn : ℕ) (es : List Occu
       block.head block.tags block.ticks valid_block block_first.1
 
   -- each entry of the first part is a pause, or is known
-  all_fit : (j : Judged) (n : ℕ) (xs : List Occurrence) (bs : List (Block g)) → heads g bs ≡ heads_from j n xs
-      → MarksAre es earlier later mark n xs → AllFit g label turn known (kept g mark bs)
+  all_fit : (j : Knowledge) (n : ℕ) (xs : List Occurrence) (bs : List (Block g)) → heads g bs ≡ heads_from j n xs
+      → MarksAre es earlier later mark n xs → HeadsFit g label turn known (kept g mark bs)
   all_fit j n xs [] e m = tt
   all_fit j n [] (b ∷ bs) e m = absurd (cons_is_not_nil e)
   all_fit j n (x ∷ xs) (b ∷ bs) e m =
       let h : b.head ≡ record { who = x.who; what = x.what; at = n; knows = j.past x.who } = same_head e in
-      let r = all_fit (judged_by j n x.who x.what) (suc n) xs bs (same_tail e) m.1 in
+      let r = all_fit (knowledge_after j n x.who x.what) (suc n) xs bs (same_tail e) m.1 in
       elim (mark b.head.at) as (λ z. mark b.head.at ≡ z
-      → AllFit g label turn known (cond z (b ∷ kept g mark bs) (kept g mark bs))) [
+      → HeadsFit g label turn known (cond z (b ∷ kept g mark bs) (kept g mark bs))) [
         | true ↦ λ is.
             let k : is_member es earlier later n x (is_among es earlier later x.who (suc n) xs) ≡ true = sym m.0
             ∙ ap (λ (z : Head). mark z.at) (sym h) ∙ is in (
@@ -395,9 +412,9 @@ module _ (g : Setting) (disjoint : IsDisjointRun g) (turn : ℕ) (es : List Occu
   pends_last = quiet_pends g label turn known (since_all g turn no_since cut.front block.head.who) after_part
       last.before block.head last.locals last.quiet last.runs
       (blocks_pend g label turn known no_since start_notes after_part (kept g mark blocks)
-      (all_fit nothing_judged 0 front blocks walk.heads_are marks) valid_kept parts.1 (λ d z e. absurd (none-some _ e)))
+      (all_fit no_knowledge 0 front blocks walk.heads_are marks) valid_kept parts.1 (λ d z e. absurd (none-some _ e)))
 
-  ready_last : Ready g label last.before head_second ready_after_first.0
+  ready_last : IsNextOfProcess g label last.before head_second ready_after_first.0
   ready_last = ready_back g label disjoint last.before after_first block.head head_second last.tag ready_after_first.0
       free_cut.1 last.does ready_after_first.1
 
@@ -405,17 +422,17 @@ module _ (g : Setting) (disjoint : IsDisjointRun g) (turn : ℕ) (es : List Occu
   not_pending : (z : Name) → last.before.state.pending c ≡ Some z → ⊥
   not_pending z e =
       let k = pends_last c z e in
-      let m : Event = mine last.before.notes z in
+      let m : Event = next_event_of last.before.notes z in
       ⊎_elim
       (λ (x : past_before es earlier k.0 ≡ true).
-      let p : (judged before).past first k.0 ≡ true = sym (past_first k.0) ∙ x in
+      let p : (knowledge_of before).past first k.0 ≡ true = sym (past_first k.0) ∙ x in
       let lt : k.0 < block.head.at =
       subst (λ (h : Head). k.0 < h.at) (sym cut.block_is) (stands_first.paired.below first k.0 p) in
       let q : last.before.notes.past block.head.who m ≡ true = last.does.fits.past k.0 m lt k.1
       ∙ ap (λ (h : Head). h.knows k.0) cut.block_is ∙ p in
       lt_irrefl m.nth (last.does.good.known block.head.who m q))
       (λ (x : past_before es later k.0 ≡ true).
-      let p : (judged front).past second k.0 ≡ true = sym (past_second k.0) ∙ x in
+      let p : (knowledge_of front).past second k.0 ≡ true = sym (past_second k.0) ∙ x in
       let q : last.before.notes.past second m ≡ true =
       ready_last.past k.0 m (stands_second.paired.below second k.0 p) k.1 ∙ p in
       lt_irrefl m.nth (last.does.good.known second m q))
@@ -450,14 +467,14 @@ module _ (g : Setting) (disjoint : IsDisjointRun g) (turn : ℕ) (es : List Occu
   offers_end : Offers L (L.next own at_end.state.store) w c
   offers_end = subst (λ a. Offers L a w c) (sym ready_at_end.act_is) its_offer.0
 
-  faulty : (says g at_end.state second own ≡ Some (Faulted fault.F6))
-      × (next g at_end.state second ≡ Some (changed (Faults second fault.F6) at_end.state))
+  faulty : (happening_at g at_end.state second own ≡ Some (Faulted fault.F6))
+      × (next_state g at_end.state second ≡ Some (with_change (Faults second fault.F6) at_end.state))
   faulty = contends g label at_end.state first second own w c ready_at_end.works offers_end last.offers.offer pends_end
       waits_end last.offers.way_is
-      (blocks_fit g label (Some an_entry) at_end end_notes remaining second_first.2 its_offer.1)
+      (blocks_fit g label (Some entry_cost) at_end end_notes remaining second_first.2 its_offer.1)
 
   abbrev end_state : StateOf g
-  end_state = changed (Faults second fault.F6) at_end.state
+  end_state = with_change (Faults second fault.F6) at_end.state
 
   since_block : since_all g turn no_since (kept g mark blocks) block.head.who
       ≡ since_all g turn no_since cut.front block.head.who
@@ -511,12 +528,16 @@ module _ (g : Setting) (disjoint : IsDisjointRun g) (turn : ℕ) (es : List Occu
   entries_are : entries g (kept g mark blocks ++ block ∷ []) ++ tail ≡ witness es earlier later
   entries_are =
       let part : entries g (kept g mark blocks) ≡ first_part es earlier later =
-      members_are es earlier later g mark nothing_judged 0 front blocks walk.heads_are marks
+      members_are es earlier later g mark no_knowledge 0 front blocks walk.heads_are marks
       ∙ ap (members es earlier later 0)
       (sym (ap (take later) whole ∙ take_at front (two ∷ after) later size_second)) in
       ap (λ z. z ++ tail) (entries_join g label (kept g mark blocks) (block ∷ []))
       ∙ ap (λ z. (entries g (kept g mark blocks) ++ entry_of z ∷ []) ++ tail) cut.block_is
-      ∙ (λ i. (part i ++ alone (sym got_first i)) ++ record { who = sym who_second i; what = Faulted fault.F6 } ∷ [])
+      ∙ (λ i. (part i ++ entry_list (sym got_first i)) ++ record {
+        who = sym who_second i;
+        what =
+            Faulted fault.F6;
+      } ∷ [])
 
   pub shown : Shows g turn es w c earlier later
   shown = record {

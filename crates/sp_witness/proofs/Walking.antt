@@ -4,26 +4,28 @@ use Rattle.std.proofs.Common.{nat_le, List, [], ◌∷◌, ◌++◌, length, app
 use Rattle.std.proofs.Common.{refl, sym, ap, ◌∙◌, subst, arith}
 use Rattle.std.proofs.lemmas.Bool.{false≢true, ne_eqb}
 use Rattle.std.proofs.lemmas.Option.{none-some, same_Some}
-use Rattle.sp_journal.specs.Past.{Judged, judged_by, judged_from}
-use Rattle.sp_meaning.specs.Model.{Name, same_name, Language, Moves, Opens, Forks, Offering, Ends, Fails, after}
-use Rattle.sp_meaning.specs.Steps.{ActOf, Advances, way_of, working}
-use Rattle.sp_meaning.specs.Own.{Setting, Process}
-use Rattle.sp_meaning.specs.SuperPascal.{superpascal, beats}
+use Rattle.sp_journal.specs.Past.{Knowledge, knowledge_after, knowledge_from}
+use Rattle.sp_meaning.specs.Model.{Name, same_name, Language, Moves, Opens, Forks, Offering, EndsProcess, MeetsFault}
+use Rattle.sp_meaning.specs.Model.{with_changes}
+use Rattle.sp_meaning.specs.Steps.{ActOf, Advances, way_of, own_part}
+use Rattle.sp_meaning.specs.LocalWork.{RunInput, Process}
+use Rattle.sp_meaning.specs.SuperPascal.{superpascal, pauses_next}
 use Rattle.sp_meaning.specs.Entries.{Happening, Opened, Forked, Offered, Faulted, Laid, Paused, Occurrence}
 use Rattle.sp_journal.specs.Names as happenings
-use Rattle.sp_meaning.specs.Runs.{StateOf, start, most, running, Lawful, said_of, says}
-use Rattle.sp_meaning.specs.Along.{Either, ticks_of, due, Turn, Course, noted, after_entry, Kernel, Entered, Along}
+use Rattle.sp_meaning.specs.Runs.{StateOf, start, total_limits, running_process, Lawful, happening_of, happening_at}
+use Rattle.sp_meaning.specs.Along.{Either, ticks_of, is_due_after, Turn, Course, with_ticks, course_after, KernelStep}
+use Rattle.sp_meaning.specs.Along.{EntryStep, Along}
 use Rattle.sp_meaning.specs.Along.{IsCleanly, IsClean}
-use Rattle.sp_meaning.proofs.Journeys.{quiet_step}
-use Rattle.sp_race.specs.Notes.{Event, Notes, mine, KnowsBefore}
+use Rattle.sp_meaning.proofs.JournalSchedules.{quiet_step}
+use Rattle.sp_race.specs.Notes.{Event, JudgeNotes, next_event_of, KnowsBefore}
 use Rattle.sp_race.specs.Noting.{WithNotes, notes_after}
 use Rattle.sp_race.specs.Known.{KnowsOffers, KnownFrom}
-use Rattle.sp_race.specs.Linked.{known_label, Linked}
+use Rattle.sp_race.specs.Linked.{known_label, NotesMatch}
 use Rattle.sp_race.proofs.GoodSteps.{GoodStep, leads_on, steps}
 use Rattle.sp_race.proofs.Linking.{known_linked}
 use Rattle.sp_race.proofs.LinkedSteps.{opens_linked, forks_linked, ends_linked, moves_linked, offers_linked}
 use Rattle.sp_race.proofs.LinkedSteps.{pause_linked}
-use Rattle.sp_race.proofs.Verdict.{At, Stepped, stepped, said, next_at, local_moves, moves_know}
+use Rattle.sp_race.proofs.Verdict.{KnownAfterEntries, Stepped, stepped, said, next_at, local_moves, moves_know}
 use Rattle.sp_witness.proofs.Independent.{IsLocal}
 use Rattle.sp_witness.proofs.Moving.{Head, Tag, Block, heads, Does, Runs, BlockRuns}
 use Rattle.sp_witness.proofs.Pasts.{heads_from}
@@ -31,11 +33,11 @@ use Rattle.sp_witness.proofs.Ticks.{ticks_by, ticks_after, said_same}
 use Rattle.sp_witness.proofs.Blocks.{AllQuiet, IsLast, Valid, since_all, AllValid}
 use Rattle.sp_witness.proofs.Blocks as blocks
 
-module _ (g : Setting) where
+module _ (g : RunInput) where
   abbrev L : Language
   L = superpascal g
 
-  abbrev pub beside : StateOf g → Notes → WithNotes L
+  abbrev pub beside : StateOf g → JudgeNotes → WithNotes L
   beside s v = record { state = s; notes = v }
 
   -- a lawful schedule leads from the start to this state
@@ -43,17 +45,17 @@ module _ (g : Setting) where
   Before s = (qs : List Name) × Lawful g (start g) qs s
 
   -- what names indices below n is kept
-  abbrev pub Agrees : (ℕ → Option Event) → (ℕ → Option Event) → ℕ → Type 0
-  Agrees lf label n = (k : ℕ) → k < n → lf k ≡ label k
+  abbrev pub LabelsAgree : (ℕ → Option Event) → (ℕ → Option Event) → ℕ → Type 0
+  LabelsAgree lf label n = (k : ℕ) → k < n → lf k ≡ label k
 
   abbrev pub tag_of : StateOf g → Process → Tag g
-  tag_of s own = record { own = own; act = L.next own s.store; beat = beats g own s.store }
+  tag_of s own = record { own = own; act = L.next own s.store; beat = pauses_next g own s.store }
 
   before_step : (s : StateOf g) (q : Name) (own : Process) (m : StateOf g) → Before s → s.fault ≡ None
       → Stepped g s q own m → Before m
   before_step s q own m way quiet x = (
     way.0 ++ q ∷ [],
-    leads_on (most g) way.0 (q ∷ []) (start g) s m way.1 (
+    leads_on (total_limits g) way.0 (q ∷ []) (start g) s m way.1 (
       m,
       quiet,
       steps s q x.cs x.one
@@ -63,10 +65,12 @@ module _ (g : Setting) where
   )
 
   -- a step that knows what it must is a good one
-  good_step : (s : StateOf g) (v : Notes) (j : Judged) (done : List Occurrence) (n : ℕ) (label : ℕ → Option Event)
-      (q : Name) (own : Process) (m : StateOf g) → Before s → At g s v j done n label → Stepped g s q own m
+  good_step : (s : StateOf g) (v : JudgeNotes) (j : Knowledge) (done : List Occurrence) (n : ℕ) (label : ℕ
+      → Option Event)
+      (q : Name) (own : Process) (m : StateOf g) → Before s → KnownAfterEntries g s v j done n label
+      → Stepped g s q own m
       → KnowsBefore L v q (L.next own s.store)
-      → GoodStep (most g) (start g) (beside s v) q (beside m (notes_after s v q (L.next own s.store)))
+      → GoodStep (total_limits g) (start g) (beside s v) q (beside m (notes_after s v q (L.next own s.store)))
   good_step s v j done n label q own m way at x knows = record {
     way = way.0;
     leads = way.1;
@@ -81,31 +85,35 @@ module _ (g : Setting) where
   }
 
   -- what the process knows, by the indices and by the notes
-  pub knows_so : (s : StateOf g) (v : Notes) (j : Judged) (done : List Occurrence) (n : ℕ) (label lf : ℕ → Option Event)
-      (q : Name) → At g s v j done n label → Agrees lf label n → (k : ℕ) (e : Event) → k < n → lf k ≡ Some e
+  pub knows_so : (s : StateOf g) (v : JudgeNotes) (j : Knowledge) (done : List Occurrence) (n : ℕ) (label lf : ℕ
+      → Option Event)
+      (q : Name) → KnownAfterEntries g s v j done n label → LabelsAgree lf label n → (k : ℕ) (e : Event) → k < n
+      → lf k ≡ Some e
       → v.past q e ≡ j.past q k
   knows_so s v j done n label lf q at agree k e lt is =
       sym (at.linked.past q k lt ∙ ap (known_label (v.past q)) (sym (agree k lt) ∙ is))
 
   -- the local steps of an entry
-  pub record Turned (turn since : ℕ) (q : Name) (s m : StateOf g) (v : Notes) (j : Judged) (done : List Occurrence)
+  pub record Turned (turn since : ℕ) (q : Name) (s m : StateOf g) (v : JudgeNotes) (j : Knowledge)
+      (done : List Occurrence)
       (n : ℕ) (label : ℕ → Option Event) (h : Head) (paused : Bool) : Type 0 where
-    pub notes : Notes
-    pub at : At g m notes j done n label
+    pub notes : JudgeNotes
+    pub at : KnownAfterEntries g m notes j done n label
     pub way : Before m
     pub tags : List (Tag g)
-    pub runs : (lf : ℕ → Option Event) → Agrees lf label n → Runs g lf (beside s v) h tags (beside m notes)
-    pub kind : ((paused ≡ false) × AllQuiet g turn since tags × (own : Process) × (running g m q ≡ Some own)
-        × (what : Happening) × (says g m q own ≡ Some what))
+    pub runs : (lf : ℕ → Option Event) → LabelsAgree lf label n → Runs g lf (beside s v) h tags (beside m notes)
+    pub kind : ((paused ≡ false) × AllQuiet g turn since tags × (own : Process) × (running_process g m q ≡ Some own)
+        × (what : Happening) × (happening_at g m q own ≡ Some what))
         ⊎ ((paused ≡ true) × Valid g turn since Paused tags (ticks_of g m q))
 
-  pub turned : (turn since : ℕ) (q : Name) (k : ℕ) (s m : StateOf g) (v : Notes) (j : Judged) (done : List Occurrence)
+  pub turned : (turn since : ℕ) (q : Name) (k : ℕ) (s m : StateOf g) (v : JudgeNotes) (j : Knowledge)
+      (done : List Occurrence)
       (n : ℕ) (label : ℕ → Option Event) (h : Head) (paused : Bool) → h.who ≡ q → h.at ≡ n → h.knows ≡ j.past q
-      → Turn g turn since q k s m paused → At g s v j done n label → Before s
+      → Turn g turn since q k s m paused → KnownAfterEntries g s v j done n label → Before s
       → Turned turn since q s m v j done n label h paused
   turned turn since q zero s m v j done n label h paused hw ha hk t at way = record {
     notes = v;
-    at = subst (λ z. At g z v j done n label) (sym t.0) at;
+    at = subst (λ z. KnownAfterEntries g z v j done n label) (sym t.0) at;
     way = subst Before (sym t.0) way;
     tags = [];
     runs = λ lf agree. λ i. beside (t.0 i) v;
@@ -113,9 +121,9 @@ module _ (g : Setting) where
       t.1,
       tt,
       t.2,
-      subst (λ (z : StateOf g). running g z q ≡ Some t.2) (sym t.0) t.3,
+      subst (λ (z : StateOf g). running_process g z q ≡ Some t.2) (sym t.0) t.3,
       t.4,
-      subst (λ (z : StateOf g). says g z q t.2 ≡ Some t.4) (sym t.0) t.5,
+      subst (λ (z : StateOf g). happening_at g z q t.2 ≡ Some t.4) (sym t.0) t.5,
     );
   }
   turned turn since q (suc k) s m v j done n label h paused hw ha hk t at way =
@@ -127,23 +135,24 @@ module _ (g : Setting) where
       (moves_linked s v q x.cs at.sound at.known x.one j done n label at.linked mv.next_own mv.writes mv.is) in
       let knows = subst (λ z. KnowsBefore L v q (L.next z s.store)) x.same (moves_know g s x.one.own v q mv) in
       let act_is : L.next own s.store ≡ Moves mv.next_own mv.writes = ap (λ z. L.next z s.store) (sym x.same) ∙ mv.is in
-      let w : Notes = notes_after s v q (L.next own s.store) in
+      let w : JudgeNotes = notes_after s v q (L.next own s.store) in
       let good = good_step s v j done n label q own u way at x knows in
       let ticks : ticks_of g u q ≡ mv.next_own.own.ticks = ap (λ z. ticks_of g z q) x.to
       ∙ ticks_after g s q x.cs at.sound x.one ∙ ap (ticks_by g) mv.is in
-      let does : (lf : ℕ → Option Event) → Agrees lf label n → Does g lf (beside s v) h (tag_of s own) (beside u w) =
+      let does : (lf : ℕ → Option Event) → LabelsAgree lf label n
+      → Does g lf (beside s v) h (tag_of s own) (beside u w) =
       λ lf agree. record {
         fits = record {
-          works = subst (λ z. working s z ≡ Some own) (sym hw) t.1;
+          works = subst (λ z. own_part s z ≡ Some own) (sym hw) t.1;
           act_is = refl;
           beat_is = refl;
           past = λ i e lt is. ap (λ z. v.past z e) hw
               ∙ knows_so s v j done n label lf q at agree i e (subst (λ z. i < z) ha lt) is ∙ ap (λ f. f i) (sym hk);
           named = inl (subst IsLocal (sym act_is) tt);
         };
-        good = subst (λ z. GoodStep (most g) (start g) (beside s v) z (beside u w)) (sym hw) good;
+        good = subst (λ z. GoodStep (total_limits g) (start g) (beside s v) z (beside u w)) (sym hw) good;
       } in
-      rest own u w at1 (before_step s q own u way at.quiet x) does (due g turn since s own q u) refl t.5
+      rest own u w at1 (before_step s q own u way at.quiet x) does (is_due_after g turn since s own q u) refl t.5
       (λ y. turned turn since q k u m w j done n label h paused hw ha hk y at1
       (before_step s q own u way at.quiet x))
       (λ b e. record {
@@ -151,21 +160,21 @@ module _ (g : Setting) where
         writes = mv.writes;
         is = act_is;
         due_is =
-            ap (λ z. beats g own s.store && nat_le (since + turn) z) (sym ticks) ∙ e;
+            ap (λ z. pauses_next g own s.store && nat_le (since + turn) z) (sym ticks) ∙ e;
         ticks_are = ticks;
       })
     where
-      rest : (own : Process) (u : StateOf g) (w : Notes) → At g u w j done n label → Before u
-          → ((lf : ℕ → Option Event) → Agrees lf label n → Does g lf (beside s v) h (tag_of s own) (beside u w))
-          → (b : Bool) → due g turn since s own q u ≡ b
+      rest : (own : Process) (u : StateOf g) (w : JudgeNotes) → KnownAfterEntries g u w j done n label → Before u
+          → ((lf : ℕ → Option Event) → LabelsAgree lf label n → Does g lf (beside s v) h (tag_of s own) (beside u w))
+          → (b : Bool) → is_due_after g turn since s own q u ≡ b
           → Either b ((k ≡ 0) × (m ≡ u) × (paused ≡ true)) (Turn g turn since q k u m paused)
           → (Turn g turn since q k u m paused → Turned turn since q u m w j done n label h paused)
-          → ((b : Bool) → due g turn since s own q u ≡ b
+          → ((b : Bool) → is_due_after g turn since s own q u ≡ b
           → blocks.IsMove g turn since (tag_of s own) b (ticks_of g u q))
           → Turned turn since q s m v j done n label h paused
       rest own u w at1 way1 does true e y again move = record {
         notes = w;
-        at = subst (λ z. At g z w j done n label) (sym y.1) at1;
+        at = subst (λ z. KnownAfterEntries g z w j done n label) (sym y.1) at1;
         way = subst Before (sym y.1) way1;
         tags = tag_of s own ∷ [];
         runs = λ lf agree. (beside u w, does lf agree, λ i. beside (y.1 i) w);
@@ -187,8 +196,9 @@ module _ (g : Setting) where
             tags = tag_of s own ∷ r.tags;
             runs = λ lf agree. (beside u w, does lf agree, r.runs lf agree);
             kind = ⊎_elim
-                (λ (z : (paused ≡ false) × AllQuiet g turn since r.tags × (own : Process) × (running g m q ≡ Some own)
-                × (what : Happening) × (says g m q own ≡ Some what)). inl
+                (λ (z : (paused ≡ false) × AllQuiet g turn since r.tags × (own : Process)
+                × (running_process g m q ≡ Some own)
+                × (what : Happening) × (happening_at g m q own ≡ Some what)). inl
                 (z.0, ((ticks_of g u q, move false e), z.1), z.2, z.3, z.4, z.5))
                 (λ (z : (paused ≡ true) × Valid g turn since Paused r.tags (ticks_of g m q)). inr (
                   z.0,
@@ -201,34 +211,39 @@ module _ (g : Setting) where
   abbrev pub With : List Occurrence → Name → Happening → List Occurrence
   With done q w = done ++ record { who = q; what = w } ∷ []
 
-  abbrev pub grown : ℕ → Notes → Name → (ℕ → Option Event) → ℕ → Option Event
-  grown n v q label i = cond (n == i) (Some (mine v q)) (label i)
+  abbrev pub grown : ℕ → JudgeNotes → Name → (ℕ → Option Event) → ℕ → Option Event
+  grown n v q label i = cond (n == i) (Some (next_event_of v q)) (label i)
 
-  record EntersAt (s : StateOf g) (v : Notes) (q : Name) (own : Process) (m : StateOf g) (j : Judged)
+  record EntersAt (s : StateOf g) (v : JudgeNotes) (q : Name) (own : Process) (m : StateOf g) (j : Knowledge)
       (done : List Occurrence) (n : ℕ) (label : ℕ → Option Event) (w : Happening) : Type 0 where
-    at : At g m (notes_after s v q (L.next own s.store)) (judged_by j n q w) (With done q w) (suc n) (grown n v q label)
+    at : KnownAfterEntries g m (notes_after s v q (L.next own s.store)) (knowledge_after j n q w) (With done q w)
+        (suc n) (grown n v q label)
     knows : KnowsBefore L v q (L.next own s.store)
 
-  enters : (s : StateOf g) (v : Notes) (q : Name) (own : Process) (m : StateOf g) (j : Judged) (done : List Occurrence)
-      (n : ℕ) (label : ℕ → Option Event) (w : Happening) → At g s v j done n label → (x : Stepped g s q own m)
-      → says g s q own ≡ Some w → KnowsOffers j done q w → EntersAt s v q own m j done n label w
+  enters : (s : StateOf g) (v : JudgeNotes) (q : Name) (own : Process) (m : StateOf g) (j : Knowledge)
+      (done : List Occurrence)
+      (n : ℕ) (label : ℕ → Option Event) (w : Happening) → KnownAfterEntries g s v j done n label
+      → (x : Stepped g s q own m)
+      → happening_at g s q own ≡ Some w → KnowsOffers j done q w → EntersAt s v q own m j done n label w
   enters s v q own m j done n label w at x is knows =
       by (L.next x.one.own s.store) refl w (sym (said g s q own m x) ∙ is) knows
     where
       put : (w : Happening)
-          → Linked (after x.cs s) (notes_after s v q (L.next x.one.own s.store)) (judged_by j n q w) (With done q w)
+          → NotesMatch (with_changes x.cs s) (notes_after s v q (L.next x.one.own s.store)) (knowledge_after j n q w)
+          (With done q w)
           (suc n) (grown n v q label) → KnowsBefore L v q (L.next x.one.own s.store)
           → EntersAt s v q own m j done n label w
       put w l k = record {
-        at = next_at g s v j done n label q own m at x (judged_by j n q w) (With done q w) (suc n) (grown n v q label)
+        at = next_at g s v j done n label q own m at x (knowledge_after j n q w) (With done q w) (suc n)
+            (grown n v q label)
             l;
         knows = subst (λ z. KnowsBefore L v q (L.next z s.store)) x.same k;
       }
 
-      by : (a : ActOf L) → L.next x.one.own s.store ≡ a → (w : Happening) → said_of a (Advances x.cs) ≡ Some w
+      by : (a : ActOf L) → L.next x.one.own s.store ≡ a → (w : Happening) → happening_of a (Advances x.cs) ≡ Some w
           → KnowsOffers j done q w → EntersAt s v q own m j done n label w
       by (Moves o ws) e w h k = absurd (none-some _ h)
-      by (Fails f) e w h k = absurd (none-some _ h)
+      by (MeetsFault f) e w h k = absurd (none-some _ h)
       by (Opens o ws) e w h k =
           subst (EntersAt s v q own m j done n label) (same_Some _ _ h)
           (put Opened (opens_linked s v q x.cs at.sound at.known x.one j done n label at.linked o ws e)
@@ -244,60 +259,63 @@ module _ (g : Setting) where
           (put (Offered (way_of o.cargo) o.channel)
           (offers_linked s v q x.cs at.sound at.known x.one j done n label at.linked o e)
           (subst (λ a. KnowsBefore L v q a) (sym e) (known_linked s v j done n label q o at.linked k')))
-      by Ends e w h k = subst (EntersAt s v q own m j done n label) (same_Some _ _ h)
+      by EndsProcess e w h k = subst (EntersAt s v q own m j done n label) (same_Some _ _ h)
           (put happenings.Ended (ends_linked s v q x.cs at.sound at.known x.one j done n label at.linked e)
           (subst (λ a. KnowsBefore L v q a) (sym e) tt))
 
   -- an entry with its steps
-  record Entry (turn : ℕ) (left : Course → StateOf g → ℕ → Type 0) (c : Course) (s : StateOf g) (v : Notes) (j : Judged)
+  record Entry (turn : ℕ) (left : Course → StateOf g → ℕ → Type 0) (c : Course) (s : StateOf g) (v : JudgeNotes)
+      (j : Knowledge)
       (done : List Occurrence) (n : ℕ) (label : ℕ → Option Event) (q : Name) (what : Happening) : Type 0 where
     course : Course
     state : StateOf g
     steps_left : ℕ
     goes_on : left course state steps_left
-    notes : Notes
+    notes : JudgeNotes
     label_after : ℕ → Option Event
-    at : At g state notes (judged_by j n q what) (With done q what) (suc n) label_after
+    at : KnownAfterEntries g state notes (knowledge_after j n q what) (With done q what) (suc n) label_after
     way : Before state
     tags : List (Tag g)
-    runs : (lf : ℕ → Option Event) → Agrees lf label_after (suc n)
+    runs : (lf : ℕ → Option Event) → LabelsAgree lf label_after (suc n)
         → Runs g lf (beside s v) (record { who = q; what = what; at = n; knows = j.past q }) tags (beside state notes)
-    agree : Agrees label_after label n
+    agree : LabelsAgree label_after label n
     valid : Valid g turn (c.since q) what tags (ticks_of g state q)
     since : course.since ≡ (λ r. cond (same_name q r) (ticks_of g state q) (c.since r))
 
-  abbrev HeadOf : Judged → ℕ → Name → Happening → Head
+  abbrev HeadOf : Knowledge → ℕ → Name → Happening → Head
   HeadOf j n q what = record { who = q; what = what; at = n; knows = j.past q }
 
   kernel_entry : (turn : ℕ) (left : Course → StateOf g → ℕ → Type 0) (c : Course) (s m : StateOf g) (paused : Bool)
-      (v : Notes) (j : Judged) (done : List Occurrence) (n : ℕ) (label : ℕ → Option Event) (q : Name) (what : Happening)
+      (v : JudgeNotes) (j : Knowledge) (done : List Occurrence) (n : ℕ) (label : ℕ → Option Event) (q : Name)
+      (what : Happening)
       (r : ℕ) → IsCleanly what
-      → ((x : Tag g) (ticks : ℕ) → blocks.Says g turn x what ticks → IsLast g turn (c.since q) what x ticks)
-      → ((ticks : ℕ) → (after_entry q what ticks c).since ≡ (λ r. cond (same_name q r) ticks (c.since r)))
-      → Kernel g left c m paused q what r → Turned turn (c.since q) q s m v j done n label (HeadOf j n q what) paused
+      → ((x : Tag g) (ticks : ℕ) → blocks.IsStepOfEntry g turn x what ticks → IsLast g turn (c.since q) what x ticks)
+      → ((ticks : ℕ) → (course_after q what ticks c).since ≡ (λ r. cond (same_name q r) ticks (c.since r)))
+      → KernelStep g left c m paused q what r
+      → Turned turn (c.since q) q s m v j done n label (HeadOf j n q what) paused
       → KnowsOffers j done q what → Entry turn left c s v j done n label q what
   kernel_entry turn left c s m paused v j done n label q what r ok last since_is h t knows =
       let own = h.5.0 in
       let u = h.2 in
       let x = stepped g m q own u h.5.1 h.5.3 (quiet_step g m q own u (Some what) h.5.1 h.5.2 ok h.5.3 t.at.quiet) in
       let y = enters m t.notes q own u j done n label what t.at x h.5.2 knows in
-      let w : Notes = notes_after m t.notes q (L.next own m.store) in
+      let w : JudgeNotes = notes_after m t.notes q (L.next own m.store) in
       let lab = grown n t.notes q label in
-      let agree : Agrees lab label n = λ k lt. rw (ne_eqb n k (λ e. omega (arith, e, lt))) in
+      let agree : LabelsAgree lab label n = λ k lt. rw (ne_eqb n k (λ e. omega (arith, e, lt))) in
       let good = good_step m t.notes j done n label q own u t.way t.at x y.knows in
       let ticks : ticks_of g u q ≡ ticks_by g (L.next own m.store) = ap (λ z. ticks_of g z q) x.to
       ∙ ticks_after g m q x.cs t.at.sound x.one ∙ ap (λ z. ticks_by g (L.next z m.store)) x.same in
-      let says_it : said_of {L = L} (L.next own m.store) (Advances []) ≡ Some what =
+      let says_it : happening_of {L = L} (L.next own m.store) (Advances []) ≡ Some what =
       said_same {L = L} (L.next own m.store) [] x.cs
-      ∙ ap (λ z. said_of {L = L} (L.next z m.store) (Advances x.cs)) (sym x.same) ∙ sym (said g m q own u x)
+      ∙ ap (λ z. happening_of {L = L} (L.next z m.store) (Advances x.cs)) (sym x.same) ∙ sym (said g m q own u x)
       ∙ h.5.2 in
       let quiet : AllQuiet g turn (c.since q) t.tags =
       ⊎_elim (λ (z : (paused ≡ false) × AllQuiet g turn (c.since q) t.tags × (own : Process)
-      × (running g m q ≡ Some own) × (what : Happening) × (says g m q own ≡ Some what)). z.1)
+      × (running_process g m q ≡ Some own) × (what : Happening) × (happening_at g m q own ≡ Some what)). z.1)
       (λ (z : (paused ≡ true) × Valid g turn (c.since q) Paused t.tags (ticks_of g m q)). absurd
       (false≢true (sym h.1 ∙ z.0))) t.kind in
       record {
-        course = after_entry q what (ticks_of g u q) c;
+        course = course_after q what (ticks_of g u q) c;
         state = u;
         steps_left = h.3;
         goes_on = h.6;
@@ -334,10 +352,11 @@ module _ (g : Setting) where
       valid_on since [] x ticks quiet l = inr (refl, l)
       valid_on since (z ∷ xs) x ticks quiet l = inl (quiet.0, valid_on since xs x ticks quiet.1 l)
 
-  entry : (turn : ℕ) (left : Course → StateOf g → ℕ → Type 0) (c : Course) (s m : StateOf g) (paused : Bool) (v : Notes)
-      (j : Judged) (done : List Occurrence) (n : ℕ) (label : ℕ → Option Event) (q : Name) (what : Happening) (r : ℕ)
+  entry : (turn : ℕ) (left : Course → StateOf g → ℕ → Type 0) (c : Course) (s m : StateOf g) (paused : Bool)
+      (v : JudgeNotes)
+      (j : Knowledge) (done : List Occurrence) (n : ℕ) (label : ℕ → Option Event) (q : Name) (what : Happening) (r : ℕ)
       → IsCleanly what
-      → Entered g left c m paused q what r → Turned turn (c.since q) q s m v j done n label (HeadOf j n q what) paused
+      → EntryStep g left c m paused q what r → Turned turn (c.since q) q s m v j done n label (HeadOf j n q what) paused
       → KnowsOffers j done q what → Entry turn left c s v j done n label q what
   entry turn left c s m paused v j done n label q Opened r ok h t k =
       kernel_entry turn left c s m paused v j done n label q Opened r ok (λ x i y. y) (λ i. refl) h t k
@@ -350,7 +369,7 @@ module _ (g : Setting) where
   entry turn left c s m paused v j done n label q (Faulted f) r ok h t k = absurd ok
   entry turn left c s m paused v j done n label q Laid r ok h t k = absurd ok
   entry turn left c s m paused v j done n label q Paused r ok h t k = record {
-    course = noted q (ticks_of g m q) c;
+    course = with_ticks q (ticks_of g m q) c;
     state = m;
     steps_left = r;
     goes_on = h.2;
@@ -367,7 +386,7 @@ module _ (g : Setting) where
     runs = λ lf ag. t.runs lf (λ k lt. ag k (omega (arith, lt)) ∙ rw (ne_eqb n k (λ e. omega (arith, e, lt))));
     agree = λ k lt. rw (ne_eqb n k (λ e. omega (arith, e, lt)));
     valid = ⊎_elim (λ (z : (paused ≡ false) × AllQuiet g turn (c.since q) t.tags × (own : Process)
-        × (running g m q ≡ Some own) × (what : Happening) × (says g m q own ≡ Some what)). absurd
+        × (running_process g m q ≡ Some own) × (what : Happening) × (happening_at g m q own ≡ Some what)). absurd
         (false≢true (sym z.0 ∙ h.1))) (λ (z : (paused ≡ true)
         × Valid g turn (c.since q) Paused t.tags (ticks_of g m q)). z.1) t.kind;
     since = refl;
@@ -375,26 +394,28 @@ module _ (g : Setting) where
 
   -- the entries of the front of a journal, with their steps, and the rest of the journal
   pub record Walked (turn : ℕ) (tail : List Occurrence) (t : StateOf g) (pre : List Occurrence) (c : Course)
-      (s : StateOf g) (v : Notes) (j : Judged) (done : List Occurrence) (n : ℕ) (label : ℕ → Option Event) : Type
+      (s : StateOf g) (v : JudgeNotes) (j : Knowledge) (done : List Occurrence) (n : ℕ) (label : ℕ
+      → Option Event) : Type
       0 where
     pub course : Course
     pub state : StateOf g
     pub steps_left : ℕ
     pub goes_on : Along g turn course state tail steps_left t
-    pub notes : Notes
+    pub notes : JudgeNotes
     pub label_after : ℕ → Option Event
-    pub at : At g state notes (judged_from j n pre) (done ++ pre) (n + length pre) label_after
+    pub at : KnownAfterEntries g state notes (knowledge_from j n pre) (done ++ pre) (n + length pre) label_after
     pub way : Before state
     pub blocks_of : List (Block g)
     pub heads_are : heads g blocks_of ≡ heads_from j n pre
     pub runs : BlockRuns g label_after (beside s v) blocks_of (beside state notes)
-    pub agree : Agrees label_after label n
+    pub agree : LabelsAgree label_after label n
     pub valid : AllValid g turn c.since blocks_of
     pub since : course.since ≡ since_all g turn c.since blocks_of
 
   pub walked : (turn : ℕ) (tail : List Occurrence) (t : StateOf g) (pre : List Occurrence) (c : Course) (s : StateOf g)
-      (r : ℕ) (v : Notes) (j : Judged) (done : List Occurrence) (n : ℕ) (label : ℕ → Option Event)
-      → Along g turn c s (pre ++ tail) r t → IsClean pre → At g s v j done n label → Before s → KnownFrom j done pre
+      (r : ℕ) (v : JudgeNotes) (j : Knowledge) (done : List Occurrence) (n : ℕ) (label : ℕ → Option Event)
+      → Along g turn c s (pre ++ tail) r t → IsClean pre → KnownAfterEntries g s v j done n label → Before s
+      → KnownFrom j done pre
       → Walked turn tail t pre c s v j done n label
   walked turn tail t [] c s r v j done n label a clean at way known =
       let size : n ≡ n + 0 = omega arith in
@@ -405,8 +426,8 @@ module _ (g : Setting) where
         goes_on = a;
         notes = v;
         label_after = label;
-        at = subst (λ z. At g s v j z (n + 0) label) (sym (append-nil done))
-            (subst (λ z. At g s v j done z label) size at);
+        at = subst (λ z. KnownAfterEntries g s v j z (n + 0) label) (sym (append-nil done))
+            (subst (λ z. KnownAfterEntries g s v j done z label) size at);
         way = way;
         blocks_of = [];
         heads_are = refl;
@@ -420,9 +441,9 @@ module _ (g : Setting) where
       a.6 at way in
       let en = entry turn (λ c1 u d. Along g turn c1 u (pre ++ tail) d t) c s a.3 a.4 v j done n label e.who e.what a.2
       clean.0 a.7 tu known.0 in
-      let k : KnownFrom (judged_by j n e.who e.what) (With done e.who e.what) pre =
-      subst (λ z. KnownFrom (judged_by j z e.who e.what) (With done e.who e.what) pre) at.linked.size known.1 in
-      let w = walked turn tail t pre en.course en.state en.steps_left en.notes (judged_by j n e.who e.what)
+      let k : KnownFrom (knowledge_after j n e.who e.what) (With done e.who e.what) pre =
+      subst (λ z. KnownFrom (knowledge_after j z e.who e.what) (With done e.who e.what) pre) at.linked.size known.1 in
+      let w = walked turn tail t pre en.course en.state en.steps_left en.notes (knowledge_after j n e.who e.what)
       (With done e.who e.what) (suc n) en.label_after en.goes_on clean.1 en.at en.way k in
       let b : Block g = record { head = HeadOf j n e.who e.what; tags = en.tags; ticks = ticks_of g en.state e.who } in
       let size : suc n + length pre ≡ n + suc (length pre) = omega arith in
@@ -433,9 +454,11 @@ module _ (g : Setting) where
         goes_on = w.goes_on;
         notes = w.notes;
         label_after = w.label_after;
-        at = subst (λ z. At g w.state w.notes (judged_from (judged_by j n e.who e.what) (suc n) pre) (done ++ e ∷ pre) z
+        at = subst (λ z. KnownAfterEntries g w.state w.notes
+            (knowledge_from (knowledge_after j n e.who e.what) (suc n) pre) (done ++ e ∷ pre) z
             w.label_after) size
-            (subst (λ z. At g w.state w.notes (judged_from (judged_by j n e.who e.what) (suc n) pre) z
+            (subst (λ z. KnownAfterEntries g w.state w.notes
+            (knowledge_from (knowledge_after j n e.who e.what) (suc n) pre) z
             (suc n + length pre) w.label_after) (append_assoc done (e ∷ []) pre) w.at);
         way = w.way;
         blocks_of = b ∷ w.blocks_of;

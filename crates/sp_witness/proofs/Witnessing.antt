@@ -4,17 +4,17 @@ use Rattle.std.proofs.Common.{◌++◌, Option, Some, refl, sym, ap, ◌∙◌, 
 use Rattle.sp_base.proofs.Facts.{true_is_not_false}
 use Rattle.sp_journal.specs.declared.entry.Way.{Way}
 use Rattle.sp_meaning.specs.Model.{Name, Channel, Language}
-use Rattle.sp_meaning.specs.Own.{Setting}
+use Rattle.sp_meaning.specs.LocalWork.{RunInput}
 use Rattle.sp_meaning.specs.SuperPascal.{superpascal}
 use Rattle.sp_meaning.specs.Entries.{Happening, Opened, Forked, Offered, Faulted, Laid, Paused, Occurrence}
 use Rattle.sp_journal.specs.Names as happenings
 use Rattle.sp_meaning.specs.Along.{IsClean}
-use Rattle.sp_race.specs.Notes.{Event, mine}
+use Rattle.sp_race.specs.Notes.{Event, next_event_of}
 use Rattle.sp_race.specs.Noting.{WithNotes}
 use Rattle.sp_witness.specs.Witness.{is_pause}
 use Rattle.sp_witness.proofs.Independent.{IsLocal}
 use Rattle.sp_witness.proofs.Moving.{Head, Tag, Block, Does, Runs, BlockRuns}
-use Rattle.sp_witness.proofs.Blocks.{IsMove, IsQuiet, AllQuiet, IsLast, Valid, since_after, since_all, AllValid}
+use Rattle.sp_witness.proofs.Blocks.{IsMove, IsLocalNotDue, AllQuiet, IsLast, Valid, since_after, since_all, AllValid}
 use Rattle.sp_witness.proofs.Back.{entry_of, entries}
 use Rattle.sp_witness.proofs.Contending.{Offers, offers_of, local_pending, local_condition, pends_next}
 
@@ -22,7 +22,7 @@ pub clean_front : (xs ys : List Occurrence) → IsClean (xs ++ ys) → IsClean x
 clean_front [] ys c = tt
 clean_front (x ∷ xs) ys c = (c.0, clean_front xs ys c.1)
 
-module _ (g : Setting) (label : ℕ → Option Event) where
+module _ (g : RunInput) (label : ℕ → Option Event) where
   abbrev L : Language
   L = superpascal g
 
@@ -60,7 +60,7 @@ module _ (g : Setting) (label : ℕ → Option Event) where
         → Valid g turn since (Offered w c) xs ticks → Runs g label s h xs t → LastStep w c since s t h
     last_step w c since s t h [] ticks v r = absurd v
     last_step w c since s t h (x ∷ xs) ticks v r = ⊎_elim
-        (λ (y : IsQuiet g turn since x × Valid g turn since (Offered w c) xs ticks).
+        (λ (y : IsLocalNotDue g turn since x × Valid g turn since (Offered w c) xs ticks).
         let k = last_step w c since r.0 t h xs ticks y.1 r.2 in
         record {
           before = k.before;
@@ -105,7 +105,7 @@ module _ (g : Setting) (label : ℕ → Option Event) where
     module _ (known : ℕ → Bool) where
       abbrev pub Pends : WithNotes L → Type 0
       Pends u = (c : Channel) (z : Name) → u.state.pending c ≡ Some z
-          → (k : ℕ) × (label k ≡ Some (mine u.notes z)) × (known k ≡ true)
+          → (k : ℕ) × (label k ≡ Some (next_event_of u.notes z)) × (known k ≡ true)
 
       pub quiet_pends : (since : ℕ) (s t : WithNotes L) (h : Head) (xs : List (Tag g)) → AllQuiet g turn since xs
           → Runs g label s h xs t → Pends s → Pends t
@@ -132,7 +132,8 @@ module _ (g : Setting) (label : ℕ → Option Event) where
           → Valid g turn since h.what xs ticks → Runs g label s h xs t → Pends s → Pends t
       block_pends since s t h [] ticks fit v r p = absurd v
       block_pends since s t h (x ∷ xs) ticks fit v r p = ⊎_elim
-          (λ (y : IsQuiet g turn since x × Valid g turn since h.what xs ticks). block_pends since r.0 t h xs ticks fit
+          (λ (y : IsLocalNotDue g turn since x × Valid g turn since h.what xs ticks). block_pends since r.0 t h xs
+          ticks fit
           y.1 r.2 (pends_next g label s h x r.0 r.1 known (inl (local_is since x false y.0.0 y.0.1)) p))
           (λ (y : (xs ≡ []) × IsLast g turn since h.what x ticks).
           let e : t ≡ r.0 = subst (λ z. Runs g label r.0 h z t) y.0 r.2 in
@@ -141,11 +142,11 @@ module _ (g : Setting) (label : ℕ → Option Event) where
           (λ (z : known h.at ≡ true). inr z) fit) p))
           v
 
-      abbrev pub AllFit : List (Block g) → Type 0
-      AllFit [] = Unit {0}
-      AllFit (b ∷ bs) = IsFit b.head × AllFit bs
+      abbrev pub HeadsFit : List (Block g) → Type 0
+      HeadsFit [] = Unit {0}
+      HeadsFit (b ∷ bs) = IsFit b.head × HeadsFit bs
 
-      pub blocks_pend : (c : Name → ℕ) (s t : WithNotes L) (bs : List (Block g)) → AllFit bs → AllValid g turn c bs
+      pub blocks_pend : (c : Name → ℕ) (s t : WithNotes L) (bs : List (Block g)) → HeadsFit bs → AllValid g turn c bs
           → BlockRuns g label s bs t → Pends s → Pends t
       blocks_pend c s t [] fit v r p = subst Pends (sym r) p
       blocks_pend c s t (b ∷ bs) fit v r p =

@@ -7,18 +7,18 @@ use Rattle.sp_journal.specs.declared.entry.Way.{Way}
 use Rattle.sp_journal.specs.Names.{Name, Channel, Occurrence}
 use Rattle.sp_meaning.specs.Model.{Offering, Waits}
 use Rattle.sp_meaning.specs.Steps.{OfferOf, way_of}
-use Rattle.sp_meaning.specs.Own.{Setting, Process}
+use Rattle.sp_meaning.specs.LocalWork.{RunInput, Process}
 use Rattle.sp_meaning.specs.SuperPascal.{superpascal}
-use Rattle.sp_meaning.specs.Runs.{StateOf, start, running, Lawful}
+use Rattle.sp_meaning.specs.Runs.{StateOf, start, running_process, Lawful}
 use Rattle.sp_meaning.specs.Along.{IsAlong}
 use Rattle.sp_meaning.specs.Ends.{HasFault}
 use Rattle.sp_witness.specs.Witness.{who_at, witness}
 
 -- in this state the second process, which offers so, met the pending offer of the first one, of the same way
-pub record IsContention (g : Setting) (u : StateOf g) (w : Way) (c : Channel) (first second : Name) : Type 0 where
+pub record IsContention (g : RunInput) (u : StateOf g) (w : Way) (c : Channel) (first second : Name) : Type 0 where
   pub fault : HasFault g u second fault.F6
   pub own : Process
-  pub runs : running g u second ≡ Some own
+  pub runs : running_process g u second ≡ Some own
   pub offer : OfferOf (superpascal g)
   pub offers : (superpascal g).next own u.store ≡ Offering offer
   pub way_is : way_of offer.cargo ≡ w
@@ -29,7 +29,7 @@ pub record IsContention (g : Setting) (u : StateOf g) (w : Way) (c : Channel) (f
   pub same_way : way_of waiting.cargo ≡ w
 
 -- the journal of the witness is one of a run, which ends in the contention of the two offers
-pub record Shows (g : Setting) (turn : ℕ) (es : List Occurrence) (w : Way) (c : Channel) (earlier later : ℕ) : Type
+pub record Shows (g : RunInput) (turn : ℕ) (es : List Occurrence) (w : Way) (c : Channel) (earlier later : ℕ) : Type
     0 where
   pub size : ℕ
   pub state : StateOf g
@@ -37,7 +37,7 @@ pub record Shows (g : Setting) (turn : ℕ) (es : List Occurrence) (w : Way) (c 
   pub contention : IsContention g state w c (who_at es earlier) (who_at es later)
 
 -- no lawful schedule of the program, on its input and with its limits, leads to contention
-abbrev pub NeverContends : Setting → Type 0
+abbrev pub NeverContends : RunInput → Type 0
 NeverContends g =
     (qs : List Name) (u : StateOf g) → Lawful g (start g) qs u
     → (w : Way) (c : Channel) (first second : Name) → IsContention g u w c first second → ⊥

@@ -8,7 +8,7 @@ use Rattle.sp_journal.specs.declared.entry.Event.TheVariants as event
 use Rattle.sp_journal.specs.declared.entry.Entry.{Entry}
 use Rattle.sp_journal.specs.declared.entry.Birth.{Birth}
 use Rattle.sp_journal.specs.Maps.{at_key}
-use Rattle.sp_journal.specs.Births.{Births, at_start, after_entry}
+use Rattle.sp_journal.specs.Births.{Births, first_births, births_after_entry}
 
 -- one of m processes from number first on is flagged
 abbrev pub any_flag : (ℕ → Bool) → ℕ → ℕ → Bool
@@ -71,27 +71,28 @@ module _ (earlier last : ℕ) where
   abbrev pub flags : Births → (ℕ → Option ℕ) → ℕ → List Entry → ℕ → Bool
   flags s lines n [] q = q == last
   flags s lines n (e ∷ es) q =
-      flags_before s lines e.process e.event (flags (after_entry s e) (lines_after lines e.process e.event) (suc n) es)
+      flags_before s lines e.process e.event (flags (births_after_entry s e) (lines_after lines e.process e.event)
+      (suc n) es)
       q
       || ((n == earlier) && (q == e.process))
 
   -- the entries whose process is flagged before them
-  abbrev pub picked : Births → (ℕ → Option ℕ) → ℕ → List Entry → List Entry
-  picked s lines n [] = []
-  picked s lines n (e ∷ es) =
+  abbrev pub picked_entries : Births → (ℕ → Option ℕ) → ℕ → List Entry → List Entry
+  picked_entries s lines n [] = []
+  picked_entries s lines n (e ∷ es) =
       if flags_before s lines e.process e.event
-      (flags (after_entry s e) (lines_after lines e.process e.event) (suc n) es) e.process
-      then e ∷ picked (after_entry s e) (lines_after lines e.process e.event) (suc n) es
-      else picked (after_entry s e) (lines_after lines e.process e.event) (suc n) es
+      (flags (births_after_entry s e) (lines_after lines e.process e.event) (suc n) es) e.process
+      then e ∷ picked_entries (births_after_entry s e) (lines_after lines e.process e.event) (suc n) es
+      else picked_entries (births_after_entry s e) (lines_after lines e.process e.event) (suc n) es
 
   -- whether each of these entries is picked: what the code keeps of the pass
   abbrev pub marks : Births → (ℕ → Option ℕ) → ℕ → List Entry → List Bool
   marks s lines n [] = []
   marks s lines n (e ∷ es) =
       flags_before s lines e.process e.event
-      (flags (after_entry s e) (lines_after lines e.process e.event) (suc n) es) e.process
-      ∷ marks (after_entry s e) (lines_after lines e.process e.event) (suc n) es
+      (flags (births_after_entry s e) (lines_after lines e.process e.event) (suc n) es) e.process
+      ∷ marks (births_after_entry s e) (lines_after lines e.process e.event) (suc n) es
 
   -- of all entries before the later offer
-  abbrev pub picks : List Entry → List Entry
-  picks es = picked at_start (λ c. None) 0 es
+  abbrev pub picked_first_part : List Entry → List Entry
+  picked_first_part es = picked_entries first_births (λ c. None) 0 es

@@ -6,7 +6,7 @@ use Rattle.sp_journal.specs.declared.entry.Event.{Event}
 use Rattle.sp_journal.specs.declared.entry.Event.TheVariants as event
 use Rattle.sp_journal.specs.declared.entry.Entry.{Entry}
 use Rattle.sp_journal.specs.Maps.{at_key}
-use Rattle.sp_journal.specs.Births.{Births, after_entry, is_next}
+use Rattle.sp_journal.specs.Births.{Births, births_after_entry, is_next}
 
 -- the new numbers of processes and channels, and how many have been given
 pub record Table : Type 0 where
@@ -20,19 +20,19 @@ abbrev pub first_table : Table
 first_table = record { process = λ q. 0; channel = λ c. 0; processes = 1; channels = 0 }
 
 -- an event by the new numbers
-abbrev pub moved_event : Table → Event → Event
-moved_event m (event.Fork n) = event.Fork n
-moved_event m event.Open = event.Open
-moved_event m (event.Send c) = event.Send (m.channel c)
-moved_event m (event.Receive c) = event.Receive (m.channel c)
-moved_event m event.End = event.End
-moved_event m (event.Fault f) = event.Fault f
-moved_event m event.Laid = event.Laid
-moved_event m event.Pause = event.Pause
+abbrev pub renumbered_event : Table → Event → Event
+renumbered_event m (event.Fork n) = event.Fork n
+renumbered_event m event.Open = event.Open
+renumbered_event m (event.Send c) = event.Send (m.channel c)
+renumbered_event m (event.Receive c) = event.Receive (m.channel c)
+renumbered_event m event.End = event.End
+renumbered_event m (event.Fault f) = event.Fault f
+renumbered_event m event.Laid = event.Laid
+renumbered_event m event.Pause = event.Pause
 
 -- an entry by its new numbers
-abbrev pub moved_entry : Table → Entry → Entry
-moved_entry m e = record { process = m.process e.process; event = moved_event m e.event }
+abbrev pub renumbered_entry : Table → Entry → Entry
+renumbered_entry m e = record { process = m.process e.process; event = renumbered_event m e.event }
 
 -- what a picked event gives to the children of a fork or to a channel; s is what the run had given before it
 abbrev pub table_after : Births → Table → Event → Table
@@ -52,24 +52,25 @@ table_after s m event.Laid = m
 table_after s m event.Pause = m
 
 -- the marked entries
-abbrev pub selected : List Entry → List Bool → List Entry
-selected [] marks = []
-selected (e ∷ es) [] = []
-selected (e ∷ es) (b ∷ marks) = if b then e ∷ selected es marks else selected es marks
+abbrev pub marked_entries : List Entry → List Bool → List Entry
+marked_entries [] marks = []
+marked_entries (e ∷ es) [] = []
+marked_entries (e ∷ es) (b ∷ marks) = if b then e ∷ marked_entries es marks else marked_entries es marks
 
 -- the marked entries by new numbers
-abbrev pub moved : Births → Table → List Entry → List Bool → List Entry
-moved s m [] marks = []
-moved s m (e ∷ es) [] = []
-moved s m (e ∷ es) (b ∷ marks) =
-    if b then moved_entry m e ∷ moved (after_entry s e) (table_after s m e.event) es marks
-    else moved (after_entry s e) m es marks
+abbrev pub renumbered_entries : Births → Table → List Entry → List Bool → List Entry
+renumbered_entries s m [] marks = []
+renumbered_entries s m (e ∷ es) [] = []
+renumbered_entries s m (e ∷ es) (b ∷ marks) =
+    if b then renumbered_entry m e ∷ renumbered_entries (births_after_entry s e) (table_after s m e.event) es marks
+    else renumbered_entries (births_after_entry s e) m es marks
 
 -- the table after them
 abbrev pub table_of : Births → Table → List Entry → List Bool → Table
 table_of s m [] marks = m
 table_of s m (e ∷ es) [] = m
-table_of s m (e ∷ es) (b ∷ marks) = table_of (after_entry s e) (if b then table_after s m e.event else m) es marks
+table_of s m (e ∷ es) (b ∷ marks) = table_of (births_after_entry s e) (if b then table_after s m e.event else m)
+    es marks
 
 -- of each marked entry all earlier ones of its process are marked; of the processes that dirty names one was not
 abbrev pub IsOwnFront : (ℕ → Bool) → List Entry → List Bool → Type 0

@@ -6,60 +6,63 @@ use Rattle.std.specs.Prelude.{Some, None}
 use Rattle.sp_journal.specs.Maps.{at_key}
 use Rattle.sp_journal.specs.Names.{Name, same_name, Happening, Opened, Forked, Offered, Ended, Faulted, Laid, Paused}
 use Rattle.sp_journal.specs.Names.{Occurrence}
-use Rattle.sp_journal.specs.Past.{Judged, judged_by, nothing_judged}
+use Rattle.sp_journal.specs.Past.{Knowledge, knowledge_after, no_knowledge}
 use Rattle.sp_witness.specs.Witness.{who_at}
 
 -- one of the first m children of fork k of p is needed
 abbrev pub any_child : (Name → Bool) → Name → ℕ → ℕ → Bool
-any_child needed p k zero = false
-any_child needed p k (suc m) = needed ((k, m) ∷ p) || any_child needed p k m
+any_child needed_processes p k zero = false
+any_child needed_processes p k (suc m) = needed_processes ((k, m) ∷ p) || any_child needed_processes p k m
 
 -- the parent of a process is needed
 abbrev pub parent_is : (Name → Bool) → Name → Bool
-parent_is needed [] = false
-parent_is needed (a ∷ p) = needed p
+parent_is needed_processes [] = false
+parent_is needed_processes (a ∷ p) = needed_processes p
 
 -- of two that meet both are needed where either is
 abbrev pub needed_to_meet : Name → Option (Name × ℕ) → (Name → Bool) → Name → Bool
-needed_to_meet p None needed = needed
-needed_to_meet p (Some o) needed =
-    at_key same_name p (needed p || needed o.0) (at_key same_name o.0 (needed p || needed o.0) needed)
+needed_to_meet p None needed_processes = needed_processes
+needed_to_meet p (Some o) needed_processes =
+    at_key same_name p (needed_processes p || needed_processes o.0)
+    (at_key same_name o.0 (needed_processes p || needed_processes o.0) needed_processes)
 
 -- Who is needed before an entry of p, of those needed after it: a parent that forks where a child is, both that meet
 -- where one of them is, a child that ends where its parent is
-abbrev pub needed_before : Judged → Name → Happening → (Name → Bool) → Name → Bool
-needed_before j p Opened needed = needed
-needed_before j p (Forked m) needed = at_key same_name p (needed p || any_child needed p (j.forks p) m) needed
-needed_before j p (Offered w c) needed = needed_to_meet p (j.pending c) needed
-needed_before j p Ended needed = at_key same_name p (needed p || parent_is needed p) needed
-needed_before j p (Faulted f) needed = needed
-needed_before j p Laid needed = needed
-needed_before j p Paused needed = needed
+abbrev pub needed_before : Knowledge → Name → Happening → (Name → Bool) → Name → Bool
+needed_before j p Opened needed_processes = needed_processes
+needed_before j p (Forked m) needed_processes =
+    at_key same_name p (needed_processes p || any_child needed_processes p (j.forks p) m) needed_processes
+needed_before j p (Offered w c) needed_processes = needed_to_meet p (j.pending c) needed_processes
+needed_before j p Ended needed_processes = at_key same_name p (needed_processes p || parent_is needed_processes p)
+    needed_processes
+needed_before j p (Faulted f) needed_processes = needed_processes
+needed_before j p Laid needed_processes = needed_processes
+needed_before j p Paused needed_processes = needed_processes
 
 module _ (es : List Occurrence) (earlier later : ℕ) where
   -- who is needed before these entries, which end before the later offer: the process of that offer, and before the
   -- earlier offer the process of that one too
-  abbrev pub needed : Judged → ℕ → List Occurrence → Name → Bool
-  needed j n [] q = same_name q (who_at es later)
-  needed j n (e ∷ rest) q =
-      needed_before j e.who e.what (needed (judged_by j n e.who e.what) (suc n) rest) q
+  abbrev pub needed_processes : Knowledge → ℕ → List Occurrence → Name → Bool
+  needed_processes j n [] q = same_name q (who_at es later)
+  needed_processes j n (e ∷ rest) q =
+      needed_before j e.who e.what (needed_processes (knowledge_after j n e.who e.what) (suc n) rest) q
       || ((n == earlier) && same_name q e.who)
 
   -- the entries whose process is needed
-  abbrev pub taken : Judged → ℕ → List Occurrence → List Occurrence
-  taken j n [] = []
-  taken j n (e ∷ rest) =
-      if needed_before j e.who e.what (needed (judged_by j n e.who e.what) (suc n) rest) e.who
-      then e ∷ taken (judged_by j n e.who e.what) (suc n) rest
-      else taken (judged_by j n e.who e.what) (suc n) rest
+  abbrev pub needed_entries : Knowledge → ℕ → List Occurrence → List Occurrence
+  needed_entries j n [] = []
+  needed_entries j n (e ∷ rest) =
+      if needed_before j e.who e.what (needed_processes (knowledge_after j n e.who e.what) (suc n) rest) e.who
+      then e ∷ needed_entries (knowledge_after j n e.who e.what) (suc n) rest
+      else needed_entries (knowledge_after j n e.who e.what) (suc n) rest
 
   -- whether each of these entries is taken
-  abbrev pub needed_marks : Judged → ℕ → List Occurrence → List Bool
+  abbrev pub needed_marks : Knowledge → ℕ → List Occurrence → List Bool
   needed_marks j n [] = []
   needed_marks j n (e ∷ rest) =
-      needed_before j e.who e.what (needed (judged_by j n e.who e.what) (suc n) rest) e.who
-      ∷ needed_marks (judged_by j n e.who e.what) (suc n) rest
+      needed_before j e.who e.what (needed_processes (knowledge_after j n e.who e.what) (suc n) rest) e.who
+      ∷ needed_marks (knowledge_after j n e.who e.what) (suc n) rest
 
   -- the pass over all entries before the later offer
-  abbrev pub pass : List Occurrence
-  pass = taken nothing_judged 0 (take later es)
+  abbrev pub backward_pass : List Occurrence
+  backward_pass = needed_entries no_knowledge 0 (take later es)

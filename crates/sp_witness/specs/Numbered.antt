@@ -9,7 +9,7 @@ use Rattle.sp_journal.specs.declared.entry.Entry.{Entry}
 use Rattle.sp_journal.specs.declared.entry.Journal.{Journal}
 use Rattle.sp_journal.specs.Names.{Name, Channel, same_name, same_channel, Happening, Opened, Forked, Offered, Ended}
 use Rattle.sp_journal.specs.Names.{Faulted, Laid, Paused, Occurrence}
-use Rattle.sp_journal.specs.Births.{Births, at_start, after_entry, channel, occurrences}
+use Rattle.sp_journal.specs.Births.{Births, first_births, births_after_entry, channel, occurrences}
 use Rattle.sp_witness.specs.Witness.{witness}
 
 -- the number below n of the process with this name
@@ -38,14 +38,15 @@ abbrev pub numbered_entry : Births → Occurrence → Entry
 numbered_entry s o = record { process = process_number s.name s.processes o.who; event = event_of s o.what }
 
 -- the entries of further occurrences
-abbrev pub numbered_from : Births → List Occurrence → List Entry
-numbered_from s [] = []
-numbered_from s (o ∷ os) = numbered_entry s o ∷ numbered_from (after_entry s (numbered_entry s o)) os
+abbrev pub entries_by_numbers_from : Births → List Occurrence → List Entry
+entries_by_numbers_from s [] = []
+entries_by_numbers_from s (o ∷ os) =
+    numbered_entry s o ∷ entries_by_numbers_from (births_after_entry s (numbered_entry s o)) os
 
 -- the entries of these occurrences
-abbrev pub numbered : List Occurrence → List Entry
-numbered os = numbered_from at_start os
+abbrev pub entries_by_numbers : List Occurrence → List Entry
+entries_by_numbers os = entries_by_numbers_from first_births os
 
 -- the witness of a journal's two offers, as a journal
 abbrev pub witness_journal : Journal → ℕ → ℕ → Journal
-witness_journal j earlier later = record { entries = numbered (witness (occurrences j) earlier later) }
+witness_journal j earlier later = record { entries = entries_by_numbers (witness (occurrences j) earlier later) }

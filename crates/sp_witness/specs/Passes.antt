@@ -41,8 +41,8 @@ abbrev pub ArePartners : List Entry → List (Option ℕ) → Type 0
 ArePartners es partners = AreFirstPartners (length es) es partners
 
 -- the flags of processes, of a set of those that have one
-abbrev pub flagged : {S : Type 0} → HashSet ℕ S → ℕ → Bool
-flagged s q = bag.contains nat_eq s q
+abbrev pub flags_of_set : {S : Type 0} → HashSet ℕ S → ℕ → Bool
+flags_of_set s q = bag.contains nat_eq s q
 
 -- of a partner, if there is one
 abbrev pub partner_flag : (ℕ → Bool) → Option ℕ → Bool
@@ -73,7 +73,7 @@ own_flag flags p event.Pause first partner birth = flags p
 -- the set has the flags before the entry of this index
 abbrev pub HasFlags : {S : Type 0} → ℕ → ℕ → List Entry → ℕ → HashSet ℕ S → Type 0
 HasFlags earlier last es at s = (q : ℕ)
-    → flagged s q ≡ flags earlier last (births (take at es)) (lines_of (take at es)) at (drop at es) q
+    → flags_of_set s q ≡ flags earlier last (births (take at es)) (lines_of (take at es)) at (drop at es) q
 
 -- these are some first entries of those
 abbrev pub IsFront : List Entry → List Entry → Type 0

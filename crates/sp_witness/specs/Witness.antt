@@ -7,7 +7,7 @@ use Rattle.std.specs.Prelude.{Option, Some, None, slice_get}
 use Rattle.sp_base.specs.declared.fault.Fault.TheVariants as fault
 use Rattle.sp_journal.specs.Names.{Name, same_name, Happening, Opened, Forked, Offered, Ended, Faulted, Laid, Paused}
 use Rattle.sp_journal.specs.Names.{Occurrence}
-use Rattle.sp_journal.specs.Past.{judged}
+use Rattle.sp_journal.specs.Past.{knowledge_of}
 
 -- whose entry this is
 abbrev pub who_of : Option Occurrence → Name
@@ -19,13 +19,13 @@ abbrev pub who_at : List Occurrence → ℕ → Name
 who_at es i = who_of (slice_get es i)
 
 -- the entry of this index alone
-abbrev pub alone : Option Occurrence → List Occurrence
-alone None = []
-alone (Some e) = e ∷ []
+abbrev pub entry_list : Option Occurrence → List Occurrence
+entry_list None = []
+entry_list (Some e) = e ∷ []
 
 -- what the process of entry i knew just before it, as indices
 abbrev pub past_before : List Occurrence → ℕ → ℕ → Bool
-past_before es i k = (judged (take i es)).past (who_at es i) k
+past_before es i k = (knowledge_of (take i es)).past (who_at es i) k
 
 -- a process pauses
 abbrev pub is_pause : Happening → Bool
@@ -72,4 +72,8 @@ module _ (es : List Occurrence) (earlier later : ℕ) where
 
   -- the first part, the earlier offer, and the fault of the later offer's process
   abbrev pub witness : List Occurrence
-  witness = first_part ++ alone (slice_get es earlier) ++ record { who = who_at es later; what = Faulted fault.F6 } ∷ []
+  witness = first_part ++ entry_list (slice_get es earlier) ++ record {
+    who = who_at es later;
+    what =
+        Faulted fault.F6;
+  } ∷ []

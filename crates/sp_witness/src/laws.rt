@@ -13,19 +13,19 @@ ghost use Rattle.sp_journal.specs.declared.outcome.End.{End};
 ghost use Rattle.sp_journal.specs.declared.outcome.Verdict.{Verdict};
 ghost use Rattle.sp_journal.specs.declared.outcome.Verdict.TheVariants as verdict;
 ghost use Rattle.sp_journal.specs.Names.{Channel, Occurrence};
-ghost use Rattle.sp_journal.specs.Births.{at_start, births, occurrence, occurrences, IsNameable};
-ghost use Rattle.sp_meaning.specs.Own.{Setting};
+ghost use Rattle.sp_journal.specs.Births.{first_births, births, occurrence, occurrences, IsNameable};
+ghost use Rattle.sp_meaning.specs.LocalWork.{RunInput};
 ghost use Rattle.sp_meaning.specs.Runs.{StateOf};
 ghost use Rattle.sp_meaning.specs.Along.{IsAlong, IsClean};
 ghost use Rattle.sp_meaning.specs.Ends.{EndIs};
-ghost use Rattle.sp_judge.specs.Prefixes.{IsQuiet};
+ghost use Rattle.sp_judge.specs.Prefixes.{WaitersAreSilent};
 ghost use Rattle.sp_judge.specs.Races.{IsFault, IsLeastRace, IsVerdict, Race};
 ghost use Rattle.sp_witness.specs.Witness.{first_part, witness};
 ghost use Rattle.sp_witness.specs.Contention.{NeverContends, Shows};
-ghost use Rattle.sp_witness.specs.Needed.{pass};
-ghost use Rattle.sp_witness.specs.Flags.{picks, marks};
-ghost use Rattle.sp_witness.specs.Numbered.{numbered, witness_journal};
-ghost use Rattle.sp_witness.specs.Moved.{first_table, moved_entry, moved, table_of, IsPlain};
+ghost use Rattle.sp_witness.specs.Needed.{backward_pass};
+ghost use Rattle.sp_witness.specs.Flags.{picked_first_part, marks};
+ghost use Rattle.sp_witness.specs.Numbered.{entries_by_numbers, witness_journal};
+ghost use Rattle.sp_witness.specs.Moved.{first_table, renumbered_entry, renumbered_entries, table_of, IsPlain};
 
 use sp_judge::{runs_are_quiet, runs_without_a_fault_are_clean, verdicts_hold_of_runs};
 
@@ -34,7 +34,7 @@ use sp_judge::{runs_are_quiet, runs_without_a_fault_are_clean, verdicts_hold_of_
 /// input and limits, and that run ends as the later offer's process meets the pending earlier offer, which has the same
 /// way and channel: with the fault F6.
 pub fn races_are_real()
-    ensures { (g : Setting) (turn : ℕ) (es : List Occurrence) (n : ℕ) (t : StateOf g)
+    ensures { (g : RunInput) (turn : ℕ) (es : List Occurrence) (n : ℕ) (t : StateOf g)
         → IsFreeOfInterference g.program → IsAlong g turn es n t → IsClean es
         → (w : Way) (c : Channel) (earlier later : ℕ)
         → IsLeastRace es w c earlier later → Shows g turn es w c earlier later }
@@ -46,7 +46,7 @@ pub fn races_are_real()
 /// it along a journal has an end that is no fault. Then the verdict on the run is ordered exactly where no lawful
 /// schedule of the program, on this input and with these limits, meets contention.
 pub fn ordered_runs_never_contend()
-    ensures { (g : Setting) (turn : ℕ) (es : List Occurrence) (n : ℕ) (t : StateOf g) (e : End) (v : Verdict)
+    ensures { (g : RunInput) (turn : ℕ) (es : List Occurrence) (n : ℕ) (t : StateOf g) (e : End) (v : Verdict)
         → IsFreeOfInterference g.program → IsAlong g turn es n t → EndIs g t e → (IsFault e → ⊥) → IsVerdict es e v
         → (v ≡ verdict.Ordered) ↔ NeverContends g }
 {
@@ -58,7 +58,7 @@ pub fn ordered_runs_never_contend()
 /// So two runs of one program on one input with the same limits, each with an end that is no fault, are both ordered,
 /// or neither is.
 pub fn runs_are_ordered_alike()
-    ensures { (g : Setting) (turn : ℕ) (es : List Occurrence) (n : ℕ) (t : StateOf g) (e : End) (v : Verdict)
+    ensures { (g : RunInput) (turn : ℕ) (es : List Occurrence) (n : ℕ) (t : StateOf g) (e : End) (v : Verdict)
         (turn2 : ℕ) (es2 : List Occurrence) (n2 : ℕ) (t2 : StateOf g) (e2 : End) (v2 : Verdict)
         → IsFreeOfInterference g.program
         → IsAlong g turn es n t → EndIs g t e → (IsFault e → ⊥) → IsVerdict es e v
@@ -71,16 +71,16 @@ pub fn runs_are_ordered_alike()
 /// One pass backwards over the entries before the later offer, with a flag for each process, takes exactly the first
 /// part of the witness: the entries that the processes of the two offers knew, and the pauses on the way to them.
 pub fn one_pass_takes_the_first_part()
-    ensures { (es : List Occurrence) (earlier later : ℕ) → IsQuiet es → IsClean es
-        → earlier < later → later < length es → pass es earlier later ≡ first_part es earlier later }
+    ensures { (es : List Occurrence) (earlier later : ℕ) → WaitersAreSilent es → IsClean es
+        → earlier < later → later < length es → backward_pass es earlier later ≡ first_part es earlier later }
 {}
 
 /// The same pass by the numbers of a nameable journal, with a flag for each process number and who waits on each
 /// channel number, picks the entries of the first part.
 pub fn flags_pick_the_first_part()
-    ensures { (j : Journal) → IsNameable j → IsQuiet (occurrences j) → IsClean (occurrences j)
+    ensures { (j : Journal) → IsNameable j → WaitersAreSilent (occurrences j) → IsClean (occurrences j)
         → (earlier later : ℕ) → earlier < later → (two : Entry) → slice_get j.entries later ≡ Some two
-        → map (occurrence (births j.entries)) (picks earlier two.process (take later j.entries))
+        → map (occurrence (births j.entries)) (picked_first_part earlier two.process (take later j.entries))
         ≡ first_part (occurrences j) earlier later }
 {}
 
@@ -95,21 +95,21 @@ pub fn races_have_offers()
 /// The entries of a nameable journal are found again by its names: so a list of occurrences is that of one nameable
 /// journal at most.
 pub fn numbers_are_found()
-    ensures { (j : Journal) → IsNameable j → numbered (occurrences j) ≡ j.entries }
+    ensures { (j : Journal) → IsNameable j → entries_by_numbers (occurrences j) ≡ j.entries }
 {}
 
 /// Tables of new numbers, filled forwards over the marked entries, give the entries of the witness: these, then the
 /// earlier offer, and then the fault of the later one's process.
 pub fn tables_number_the_witness()
-    ensures { (j : Journal) → IsNameable j → IsQuiet (occurrences j) → IsClean (occurrences j)
+    ensures { (j : Journal) → IsNameable j → WaitersAreSilent (occurrences j) → IsClean (occurrences j)
         → (earlier later : ℕ) → earlier < later → (one two : Entry)
         → slice_get j.entries earlier ≡ Some one → slice_get j.entries later ≡ Some two → IsPlain one.event
         → IsNameable (witness_journal j earlier later)
         → occurrences (witness_journal j earlier later) ≡ witness (occurrences j) earlier later
         → (witness_journal j earlier later).entries
-        ≡ moved at_start first_table (take later j.entries)
-        (marks earlier two.process at_start (λ c. None) 0 (take later j.entries))
-        ++ map (moved_entry (table_of at_start first_table (take later j.entries)
-        (marks earlier two.process at_start (λ c. None) 0 (take later j.entries))))
+        ≡ renumbered_entries first_births first_table (take later j.entries)
+        (marks earlier two.process first_births (λ c. None) 0 (take later j.entries))
+        ++ map (renumbered_entry (table_of first_births first_table (take later j.entries)
+        (marks earlier two.process first_births (λ c. None) 0 (take later j.entries))))
         (one ∷ record { process = two.process; event = event.Fault fault.F6 } ∷ []) }
 {}

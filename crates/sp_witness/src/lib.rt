@@ -36,7 +36,7 @@
 //!   parted), `Real.antt`.
 //! - That the code's passes give the witness: `proofs/Passing.antt`, `Pass.antt` and `Flagging.antt` backwards;
 //!   `Moved.antt`, `Tables.antt` and `OwnFronts.antt` for the numbers; `Backwards.antt`, `Forwards.antt` and
-//!   `Whole.antt` for the code.
+//!   `WitnessOfCode.antt` for the code.
 //!
 //! To change:
 //! - Which entries stand in a witness: `specs/Witness.antt`, `specs/Needed.antt`, `specs/Flags.antt` and

@@ -1,10 +1,10 @@
 //! The second pass, backwards: which entries of a run are in the first part of a witness.
 
 ghost use Rattle.std.specs.Prelude.{◌≡◌, ◌+◌, ◌<◌, ◌≤◌, ◌^◌, IfOk, OnOk, ℕ, None, length, take};
-ghost use Rattle.sp_journal.specs.Births.{at_start, births, NameableFrom};
+ghost use Rattle.sp_journal.specs.Births.{first_births, births, NameableFrom};
 ghost use Rattle.sp_journal.specs.Ledger.{IsLedger};
 ghost use Rattle.sp_witness.specs.Flags.{any_flag, marks};
-ghost use Rattle.sp_witness.specs.Passes.{flagged, partner_flag, own_flag, with_flag, with_partner, ArePartners};
+ghost use Rattle.sp_witness.specs.Passes.{flags_of_set, partner_flag, own_flag, with_flag, with_partner, ArePartners};
 ghost use Rattle.sp_witness.specs.Passes.{HasFlags, IsFront, IsMark};
 
 use crate::ties::{Ties, children};
@@ -26,10 +26,10 @@ pub(crate) fn marks_of(
 ) -> Result<Vec<bool>, Memory>
     requires ledger { IsLedger ledger.now }
     requires its_front { IsFront front.now ledger.now.journal.entries }
-    requires nameable { NameableFrom at_start front.now }
+    requires nameable { NameableFrom first_births front.now }
     requires partners { ArePartners front.now ties.now.partners.items }
     requires processes { ties.now.processes ≡ (births front.now).processes }
-    ensures { IfOk result (λ them. them.items ≡ marks earlier last at_start (λ c. None) 0 front.now) }
+    ensures { IfOk result (λ them. them.items ≡ marks earlier last first_births (λ c. None) 0 front.now) }
 {
     let mut needed = HashSet::new(alloc);
     needed.insert(last)?;
@@ -59,7 +59,7 @@ fn pass(
 ) -> Result<bool, Memory>
     requires ledger { IsLedger ledger.now }
     requires its_front { IsFront front.now ledger.now.journal.entries }
-    requires nameable { NameableFrom at_start front.now }
+    requires nameable { NameableFrom first_births front.now }
     requires partners { ArePartners front.now ties.now.partners.items }
     requires inside { at < length front.now }
     requires first { first ≡ (births (take at front.now)).processes }
@@ -83,8 +83,8 @@ fn flag_partner(
     is_needed: bool,
     partner: Option<u32>,
 ) -> Result<(), Memory>
-    ensures { (q : ℕ) → OnOk result (flagged needed.new q
-        ≡ with_partner is_needed partner (flagged needed.old) q) }
+    ensures { (q : ℕ) → OnOk result (flags_of_set needed.new q
+        ≡ with_partner is_needed partner (flags_of_set needed.old) q) }
 {
     match partner {
         Some(other) => flag(needed, is_needed, other),
@@ -94,7 +94,8 @@ fn flag_partner(
 
 /// Adds the process to those that are needed, where it is.
 fn flag(needed: &mut HashSet<u32>, is_needed: bool, process: u32) -> Result<(), Memory>
-    ensures { (q : ℕ) → OnOk result (flagged needed.new q ≡ with_flag is_needed process (flagged needed.old) q) }
+    ensures { (q : ℕ) → OnOk result
+        (flags_of_set needed.new q ≡ with_flag is_needed process (flags_of_set needed.old) q) }
 {
     if is_needed {
         needed.insert(process)?;
@@ -114,7 +115,7 @@ fn is_needed(
     requires ledger { IsLedger ledger.now }
     requires there { entry.process < (births ledger.now.journal.entries).processes }
     requires few { (count : ℕ) → entry.event ≡ Event.Fork count → first + count ≤ 2 ^ 32 }
-    ensures { result ≡ own_flag (flagged needed.now) entry.process entry.event first partner
+    ensures { result ≡ own_flag (flags_of_set needed.now) entry.process entry.event first partner
         ((births ledger.now.journal.entries).birth entry.process) }
 {
     let own = needed.contains(&entry.process);
@@ -131,7 +132,7 @@ fn is_needed(
 }
 
 fn is_partner_needed(needed: &HashSet<u32>, partner: Option<u32>) -> bool
-    ensures { result ≡ partner_flag (flagged needed.now) partner }
+    ensures { result ≡ partner_flag (flags_of_set needed.now) partner }
 {
     match partner {
         Some(other) => needed.contains(&other),
@@ -142,7 +143,7 @@ fn is_partner_needed(needed: &HashSet<u32>, partner: Option<u32>) -> bool
 /// Whether one of the `count` processes from number `first` on is needed.
 fn is_any_needed(needed: &HashSet<u32>, first: u64, count: u32) -> bool
     requires { first + count ≤ 2 ^ 32 }
-    ensures { result ≡ any_flag (flagged needed.now) first count }
+    ensures { result ≡ any_flag (flags_of_set needed.now) first count }
 {
     let mut any = false;
     for child in 0..count {

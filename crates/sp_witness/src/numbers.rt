@@ -2,8 +2,8 @@
 
 ghost use Rattle.std.specs.Prelude.{◌≡◌, ◌+◌, ◌<◌, ◌≤◌, ◌^◌, ◌++◌, ◌∷◌, [], IfOk, OnOk, ℕ, cond, length, map};
 ghost use Rattle.sp_base.specs.declared.fault.Fault.TheVariants as fault;
-ghost use Rattle.sp_journal.specs.Births.{Births, at_start, after_event, NameableFrom};
-ghost use Rattle.sp_witness.specs.Moved.{first_table, table_after, moved_entry, moved, table_of};
+ghost use Rattle.sp_journal.specs.Births.{Births, first_births, births_after_event, NameableFrom};
+ghost use Rattle.sp_witness.specs.Moved.{first_table, table_after, renumbered_entry, renumbered_entries, table_of};
 ghost use Rattle.sp_witness.specs.Passes.{table_in, CanAdd};
 
 use crate::ties::children;
@@ -30,10 +30,10 @@ pub(crate) fn renumbered(
     offer: Entry,
     last: u32,
 ) -> Result<Journal, Memory>
-    requires nameable { NameableFrom at_start front.now }
+    requires nameable { NameableFrom first_births front.now }
     requires marks { length marks.now ≡ length front.now }
-    ensures { IfOk result (λ it. it.entries ≡ moved at_start first_table front.now marks.now
-        ++ map (moved_entry (table_of at_start first_table front.now marks.now))
+    ensures { IfOk result (λ it. it.entries ≡ renumbered_entries first_births first_table front.now marks.now
+        ++ map (renumbered_entry (table_of first_births first_table front.now marks.now))
         (offer ∷ record { process = last; event = Event.Fault fault.F6 } ∷ [])) }
 {
     let mut numbers = Numbers::new(alloc);
@@ -56,7 +56,7 @@ pub(crate) fn renumbered(
 
 /// How many channels an event opens.
 fn channels(event: Event) -> u64
-    ensures value { (s : Births) (p : ℕ) → (after_event s p event).channels ≡ s.channels + result }
+    ensures value { (s : Births) (p : ℕ) → (births_after_event s p event).channels ≡ s.channels + result }
     ensures few { result ≤ 1 }
 {
     match event {
@@ -100,7 +100,7 @@ impl Numbers {
 
     /// The entry by the new numbers.
     fn entry(&self, entry: Entry) -> Entry
-        ensures { result ≡ moved_entry (table_in self.now) entry }
+        ensures { result ≡ renumbered_entry (table_in self.now) entry }
     {
         let process = self.process(entry.process);
         let event = match entry.event {
@@ -123,7 +123,7 @@ impl Numbers {
     ) -> Result<(), Memory>
         requires { CanAdd entry.event process channel self.old.next_process self.old.next_channel }
         ensures entries { OnOk result (entries.new
-            ≡ entries.old ++ cond is_marked (moved_entry (table_in self.old) entry ∷ []) []) }
+            ≡ entries.old ++ cond is_marked (renumbered_entry (table_in self.old) entry ∷ []) []) }
         ensures table { (s : Births) → s.processes ≡ process → s.channels ≡ channel
             → OnOk result (table_in self.new
             ≡ cond is_marked (table_after s (table_in self.old) entry.event) (table_in self.old)) }

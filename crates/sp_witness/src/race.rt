@@ -2,7 +2,7 @@
 
 ghost use Rattle.std.specs.Prelude.{◌≡◌, ◌<◌, IfOk, IfSome, length, slice_get};
 ghost use Rattle.sp_journal.specs.Births.{occurrences, IsNameable};
-ghost use Rattle.sp_judge.specs.Prefixes.{IsQuiet};
+ghost use Rattle.sp_judge.specs.Prefixes.{WaitersAreSilent};
 ghost use Rattle.sp_meaning.specs.Along.{IsClean};
 ghost use Rattle.sp_witness.specs.Witness.{witness as shown};
 ghost use Rattle.sp_witness.specs.Numbered.{witness_journal};
@@ -28,7 +28,7 @@ pub fn witness(
     later: u64,
 ) -> Result<Journal, Memory>
     requires nameable { IsNameable journal.now }
-    requires quiet { IsQuiet (occurrences journal.now) }
+    requires quiet { WaitersAreSilent (occurrences journal.now) }
     requires clean { IsClean (occurrences journal.now) }
     requires order { earlier < later }
     requires inside { later < length journal.now.entries }

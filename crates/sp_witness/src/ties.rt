@@ -1,7 +1,7 @@
 //! The first pass, forwards: whom the offers of a run meet.
 
 ghost use Rattle.std.specs.Prelude.{◌≡◌, ◌+◌, ◌<◌, ◌^◌, IfOk, OnOk, ℕ};
-ghost use Rattle.sp_journal.specs.Births.{Births, at_start, after_event, births, NameableFrom};
+ghost use Rattle.sp_journal.specs.Births.{Births, first_births, births_after_event, births, NameableFrom};
 ghost use Rattle.sp_witness.specs.Flags.{line_by, lines_after, partner_of};
 ghost use Rattle.sp_witness.specs.Passes.{waiters, ArePartners};
 
@@ -19,7 +19,7 @@ pub(crate) struct Ties {
 
 /// One pass forwards over the first entries of a run.
 pub(crate) fn ties_of(alloc: Global, front: &[Entry]) -> Result<Ties, Memory>
-    requires { NameableFrom at_start front.now }
+    requires { NameableFrom first_births front.now }
     ensures partners { IfOk result (λ ties. ArePartners front.now ties.partners.items) }
     ensures processes { IfOk result (λ ties. ties.processes ≡ (births front.now).processes) }
 {
@@ -39,7 +39,7 @@ pub(crate) fn ties_of(alloc: Global, front: &[Entry]) -> Result<Ties, Memory>
 
 /// How many processes an event starts.
 pub(crate) fn children(event: Event) -> u64
-    ensures value { (s : Births) (p : ℕ) → (after_event s p event).processes ≡ s.processes + result }
+    ensures value { (s : Births) (p : ℕ) → (births_after_event s p event).processes ≡ s.processes + result }
     ensures few { result < 2 ^ 32 }
 {
     match event {

@@ -31,7 +31,7 @@ use Rattle.clap.specs.declared.error.kind.ErrorKind.{ErrorKind}
 use Rattle.clap.specs.declared.error.kind.ErrorKind.TheVariants.{OutOfMemory}
 use Rattle.clap.specs.declared.builder.value_parser.ValueParser.{ValueParser}
 use Rattle.clap.specs.declared.builder.value_parser.ValueParser.TheVariants as vp
-use Rattle.sp_words.specs.Dashes.{Item, Text, items}
+use Rattle.sp_words.specs.Dashes.{WordItem, Text, items}
 use Rattle.sp_words.specs.Options.{Choice, is_number_in, is_numeral, limit_options, option_names, options_of}
 use Rattle.sp_words.specs.Options.{show_named}
 use Rattle.sp_words.specs.Parsers.{IsShowParser, app_with, gen_parsers, limit_parsers, run_parsers, worker_parsers}
@@ -41,10 +41,10 @@ use Rattle.sp_words.specs.declared.command.Command.{Command}
 use Rattle.sp_words.specs.declared.command.CommandName.{CommandName}
 use Rattle.sp_words.specs.declared.command.CommandName.TheVariants.{Check, Run, Code, Sets, Format, Gen, Replay}
 use Rattle.sp_words.specs.declared.command.CommandName.TheVariants.{Witness, Build, Exec}
-use Rattle.sp_words.proofs.Readings.{Each}
+use Rattle.sp_words.proofs.Readings.{HoldsOfEach}
 use Rattle.sp_words.proofs.Rules.{Options, Parsers, clear, file_id, journal_id, level, rules}
 use Rattle.sp_words.proofs.Levels.{IsFree, good, names, or_else-nil}
-use Rattle.sp_words.proofs.LevelEnds.{Agree, good_agrees, is_complete, level_reads, names_agree}
+use Rattle.sp_words.proofs.LevelEnds.{ParsersMatch, good_agrees, is_complete, level_reads, names_agree}
 
 -- ---- the first word
 
@@ -68,7 +68,8 @@ found_step x word command found true is d rest f = sym ((bytes_eq-Decides x.0 wo
     ∙ ap word_for (same_Some _ _ f)
 found_step x word command found false is d rest f = rest f
 
-word_found : (xs : List (Text × CommandName)) (word : Text) (command : CommandName) → Each (λ p. p.0 ≡ word_for p.1) xs
+word_found : (xs : List (Text × CommandName)) (word : Text) (command : CommandName)
+    → HoldsOfEach (λ p. p.0 ≡ word_for p.1) xs
     → option_map (λ p. p.1) (find (λ p. bytes_eq p.0 word) xs) ≡ Some command → word ≡ word_for command
 word_found [] word command each e = absurd (none-some command e)
 word_found (x ∷ xs) word command each e = found_step x word command (find (λ p. bytes_eq p.0 word) xs)
@@ -108,7 +109,7 @@ abbrev pub app : List Shape → App
 app subs = record { top = top_shape; subs = subs }
 
 -- what is left of the parse where the first word names the shape s
-pub record Enters (subs : List Shape) (word : Text) (s : Shape) (words : List Text) : Type 0 where
+pub record EntersLevel (subs : List Shape) (word : Text) (s : Shape) (words : List Text) : Type 0 where
   pub fault : built_fault (app subs) nothing_held (word ∷ words) ≡ level_fault s [] nothing_held words false []
   pub rows : entered (app subs) (stop_after [] (names_of (app subs)) (word ∷ words)) ≡ Some (rows_at s words)
 
@@ -153,7 +154,7 @@ unfolding defaults_fault
 end_fault subs word s words sub = rw sub (or_else-nil (level_fault s [] nothing_held words false []))
 
 enters : (subs : List Shape) (word : Text) (s : Shape) (words : List Text) → IsMet subs word
-    → find (λ x. answers_to word (label_of x)) subs ≡ Some s → Enters subs word s words
+    → find (λ x. answers_to word (label_of x)) subs ≡ Some s → EntersLevel subs word s words
 enters subs word s words met sub = record {
   fault = ap₂ (λ k w. fault_at subs k w) (walk_clear subs word words met) (end_walk subs word words met)
       ∙ end_fault subs word s words sub;
@@ -192,7 +193,7 @@ simple : (q : ValueParser) → is_simple (app_with q) ≡ true
 simple q = refl
 
 enters_command : (q : ValueParser) (command : CommandName) (words : List Text)
-    → Enters (shapes q) (word_for command) (level_for q command) words
+    → EntersLevel (shapes q) (word_for command) (level_for q command) words
 enters_command q Check words = enters (shapes q) (word_for Check) (level_for q Check) words refl refl
 enters_command q Run words = enters (shapes q) (word_for Run) (level_for q Run) words refl refl
 enters_command q Code words = enters (shapes q) (word_for Code) (level_for q Code) words refl refl
@@ -219,7 +220,8 @@ takes_number least most text =
     (λ n. nat_le least n && nat_le n most)
 
 -- the options of the limits, and more
-limits_agree : (os : Options) (cs : List Choice) → Agree os cs → Agree (limit_parsers ++ os) (limit_options ++ cs)
+limits_agree : (os : Options) (cs : List Choice) → ParsersMatch os cs
+    → ParsersMatch (limit_parsers ++ os) (limit_options ++ cs)
 limits_agree os cs more = (
   refl,
   takes_number 1 1000000000,
@@ -243,7 +245,7 @@ limits_agree os cs more = (
 )
 
 agrees : (q : ValueParser) (command : CommandName) → IsShowParser q
-    → Agree (option_parsers q command) (options_of command)
+    → ParsersMatch (option_parsers q command) (options_of command)
 agrees q Check show = tt
 agrees q Run show = (
   refl,
@@ -285,7 +287,7 @@ pub record ReadsLine (q : ValueParser) (word : Text) (words : List Text) (comman
   pub found : clear (line q word words) ≡ true
       → command_with command (λ id. first_of id rows) ≡ command_of (word ∷ words)
 
-reads_as : (word : Text) (words : List Text) (command : CommandName) (is : List Item)
+reads_as : (word : Text) (words : List Text) (command : CommandName) (is : List WordItem)
     → command_named word ≡ Some command → items (option_names command) None words ≡ Some is
     → command_of (word ∷ words) ≡ command_of_items command is
 reads_as word words command is e i = ap (option_and_then (command_read words)) e
@@ -304,7 +306,7 @@ without_journal : (found : Option Text) (f : Text → Command) → is_some found
 without_journal None f e = refl
 without_journal (Some text) f e = absurd (true≢false e)
 
-incomplete : (command : CommandName) (is : List Item) → is_complete (has_journal command) is ≡ false
+incomplete : (command : CommandName) (is : List WordItem) → is_complete (has_journal command) is ≡ false
     → command_with command (lookup is) ≡ None
 incomplete command is e = without_file command (lookup is) (lookup is file_id) _ e (without command)
   where
@@ -322,7 +324,7 @@ incomplete command is e = without_file command (lookup is) (lookup is file_id) _
     without Exec word d = absurd (true≢false d)
 
 -- items that the parse refuses are no command
-left_out : (g : Bool) (command : CommandName) (is : List Item) → (g && is_complete (has_journal command) is) ≡ false
+left_out : (g : Bool) (command : CommandName) (is : List WordItem) → (g && is_complete (has_journal command) is) ≡ false
     → cond g (command_with command (lookup is)) None ≡ None
 left_out false command is e = refl
 left_out true command is e = incomplete command is e
@@ -331,7 +333,7 @@ taken : (g b : Bool) (found : Option Command) → (g && b) ≡ true → found �
 taken false b found e = absurd (true≢false (sym e))
 taken true b found e = refl
 
-pub line_reads : (q : ValueParser) (word : Text) (words : List Text) (command : CommandName) (is : List Item)
+pub line_reads : (q : ValueParser) (word : Text) (words : List Text) (command : CommandName) (is : List WordItem)
     → IsShowParser q
     → command_named word ≡ Some command → items (option_names command) None words ≡ Some is
     → ReadsLine q word words command

@@ -6,7 +6,7 @@ use Rattle.std.specs.Borrow.{Bor}
 use Rattle.std.specs.List.{list_any, slice_index_or}
 use Rattle.std.specs.Str.{bytes_eq}
 use Rattle.clap.proofs.WalkLemmas.{list_any-map}
-use Rattle.sp_words.specs.Dashes.{Item, Text, after_dash, by_form, contains, first_item, form_by_value, form_of}
+use Rattle.sp_words.specs.Dashes.{WordItem, Text, after_dash, by_form, contains, first_item, form_by_value, form_of}
 use Rattle.sp_words.specs.Dashes.{form_of_option, form_of_text, items, name_and_value, name_of, with_value}
 use Rattle.sp_words.specs.declared.form.Form.{Form}
 use Rattle.sp_words.specs.declared.form.Form.TheVariants.{Plain, End, Whole, Open, Stray}
@@ -36,16 +36,17 @@ passes options true [] = false
 passes options true (word ∷ words) = pass_value (after_dash word) (passes options false words)
 passes options false (word ∷ words) = pass_by (form_of options word) (λ waits. passes options waits words)
 
-some_first : (item : Item) (rest : Option (List Item)) → is_some (first_item item rest) ≡ is_some rest
+some_first : (item : WordItem) (rest : Option (List WordItem)) → is_some (first_item item rest) ≡ is_some rest
 some_first item None = refl
 some_first item (Some is) = refl
 
-value_pass : (name word : Text) (r : Option Text) (rest : Option (List Item)) (passed : Bool) → is_some rest ≡ passed
+value_pass : (name word : Text) (r : Option Text) (rest : Option (List WordItem)) (passed : Bool)
+    → is_some rest ≡ passed
     → is_some (with_value name word r rest) ≡ pass_value r passed
 value_pass name word (Some tail) rest passed e = refl
 value_pass name word None rest passed e = some_first _ rest ∙ e
 
-form_pass : (f : Form) (word : Text) (words : List Text) (rest : Option Text → Option (List Item)) (passed : Bool
+form_pass : (f : Form) (word : Text) (words : List Text) (rest : Option Text → Option (List WordItem)) (passed : Bool
     → Bool)
     → ((w : Option Text) → is_some (rest w) ≡ passed (is_some w))
     → is_some (by_form f word words rest) ≡ pass_by f passed

@@ -15,7 +15,7 @@ use Rattle.clap.specs.Faults.{check_fault, default_fault, defaults_fault, level_
 use Rattle.clap.specs.ValueTests.{accepts}
 use Rattle.clap.proofs.WalkLemmas.{find-map}
 use Rattle.clap.specs.declared.builder.value_parser.ValueParser.{ValueParser}
-use Rattle.sp_words.specs.Dashes.{Item, Text, contains, file, given, items, journal}
+use Rattle.sp_words.specs.Dashes.{WordItem, Text, contains, file, given, items, journal}
 use Rattle.sp_words.specs.Options.{Choice}
 use Rattle.sp_words.specs.Words.{each_once, is_accepted, lookup, subject, text_of, with_journal}
 use Rattle.sp_words.proofs.Rules.{Options, Parsers, behind_file, built_file, built_journal, built_option, clear}
@@ -99,31 +99,32 @@ check_is name (false, os) rows = rw (none_required os rows) (go (is_given file_i
 
 -- ---- the rows at the end
 
-rows_after_is : (os : Parsers) (is : List Item) (rows : List Row) → rows_after os rows is ≡ rows ++ map (row_for os) is
+rows_after_is : (os : Parsers) (is : List WordItem) (rows : List Row) → rows_after os rows is ≡ rows
+    ++ map (row_for os) is
 rows_after_is os [] rows = sym (append-nil rows)
 rows_after_is os (i ∷ is) rows = rows_after_is os is (rows ++ row_for os i ∷ [])
     ∙ append_assoc rows (row_for os i ∷ []) (map (row_for os) is)
 
-found_row : (os : Parsers) (is : List Item) (id : Text)
+found_row : (os : Parsers) (is : List WordItem) (id : Text)
     → find (λ r. bytes_eq r.id id) (rows_after os [] is) ≡ option_map (row_for os)
     (find (λ i. bytes_eq (subject i) id) is)
 found_row os is id = ap (find (λ r. bytes_eq r.id id)) (rows_after_is os is [])
     ∙ sym (find-map (λ r. bytes_eq r.id id) (row_for os) is)
 
-first_is : (os : Parsers) (is : List Item) (id : Text) → first_of id (rows_after os [] is) ≡ lookup is id
+first_is : (os : Parsers) (is : List WordItem) (id : Text) → first_of id (rows_after os [] is) ≡ lookup is id
 first_is os is id = ap (option_and_then (λ (r : Row). slice_get r.values 0)) (found_row os is id)
     ∙ go (find (λ i. bytes_eq (subject i) id) is)
   where
-    go : (o : Option Item)
+    go : (o : Option WordItem)
         → option_and_then (λ (r : Row). slice_get r.values 0) (option_map (row_for os) o) ≡ option_map text_of o
     go None = refl
     go (Some i) = refl
 
-given_is : (os : Parsers) (is : List Item) (id : Text) → is_given id (rows_after os [] is) ≡ is_some (lookup is id)
+given_is : (os : Parsers) (is : List WordItem) (id : Text) → is_given id (rows_after os [] is) ≡ is_some (lookup is id)
 given_is os is id = ap (λ (o : Option Row). option_map_or (λ r. explicit_source r.source) o false) (found_row os is id)
     ∙ go (find (λ i. bytes_eq (subject i) id) is)
   where
-    go : (o : Option Item)
+    go : (o : Option WordItem)
         → option_map_or (λ (r : Row). explicit_source r.source) (option_map (row_for os) o) false ≡ is_some
         (option_map text_of o)
     go None = refl
@@ -138,11 +139,11 @@ assoc_clear [] (k ∷ ks) d c = refl
 assoc_clear (k ∷ ks) s d c = refl
 
 -- a FILE is among the items, and a JOURNAL where there is one
-abbrev pub is_complete : Bool → List Item → Bool
+abbrev pub is_complete : Bool → List WordItem → Bool
 is_complete there is = is_some (lookup is file_id) && cond there (is_some (lookup is journal_id)) true
 
 -- the words of one command have no fault exactly where their items are good and complete, and then each value is found
-pub record ReadsLevel (name : Text) (os : Parsers) (words : List Text) (is : List Item) : Type 0 where
+pub record ReadsLevel (name : Text) (os : Parsers) (words : List Text) (is : List WordItem) : Type 0 where
   pub fault : clear (level_fault (level name os) [] nothing_held words false []) ≡ (good os [] is
       && is_complete os.0 is)
   pub found : good os [] is ≡ true → (id : Text) → first_of id (matched_rows (rules os) [] words) ≡ lookup is id
@@ -156,7 +157,7 @@ check_end : (name : Text) (os : Parsers) (words : List Text)
 check_end name os words = check_is name os (finished (rules os) (walk (rules os) [] nothing_held words).held)
     ∙ ap (all_given os.0) (finished_is os (end_rows os words))
 
-parts_of : (name : Text) (os : Parsers) (words : List Text) (is : List Item)
+parts_of : (name : Text) (os : Parsers) (words : List Text) (is : List WordItem)
     → Level name os (walk_from nothing_held) words (good os [] is) (rows_after os [] is)
     → clear (level_fault (level name os) [] nothing_held words false []) ≡ (good os [] is
     && all_given os.0 (end_rows os words))
@@ -168,7 +169,7 @@ parts_of name os words is l =
     ∙ ap₂ (λ x y. x && y) l.fault (ap₂ (λ x y. x
     && y) (no_default_fault os (end_rows os words)) (check_end name os words))
 
-total_of : (name : Text) (os : Parsers) (words : List Text) (is : List Item) (g : Bool) → good os [] is ≡ g
+total_of : (name : Text) (os : Parsers) (words : List Text) (is : List WordItem) (g : Bool) → good os [] is ≡ g
     → Level name os (walk_from nothing_held) words (good os [] is) (rows_after os [] is)
     → (good os [] is && all_given os.0 (end_rows os words)) ≡ (good os [] is && is_complete os.0 is)
 total_of name os words is true e l = ap (λ b. good os [] is && b) (ap (all_given os.0) (l.rows_are e)
@@ -176,13 +177,13 @@ total_of name os words is true e l = ap (λ b. good os [] is && b) (ap (all_give
 total_of name os words is false e l = ap (λ b. b && all_given os.0 (end_rows os words)) e
     ∙ sym (ap (λ b. b && is_complete os.0 is) e)
 
-pub level_reads : (name : Text) (os : Parsers) (words : List Text) (is : List Item) → IsFree os
+pub level_reads : (name : Text) (os : Parsers) (words : List Text) (is : List WordItem) → IsFree os
     → items (names os) None words ≡ Some is
     → ReadsLevel name os words (with_journal os.0 is)
 level_reads name os words is free e = reads (with_journal os.0 is)
     (words_ahead name os free words (rests None) [] nothing is tt refl e)
   where
-    reads : (js : List Item) → Level name os (walk_from nothing_held) words (good os [] js) (rows_after os [] js)
+    reads : (js : List WordItem) → Level name os (walk_from nothing_held) words (good os [] js) (rows_after os [] js)
         → ReadsLevel name os words js
     reads js l = record {
       fault = parts_of name os words js l ∙ total_of name os words js (good os [] js) refl l;
@@ -192,19 +193,19 @@ level_reads name os words is free e = reads (with_journal os.0 is)
 -- ---- parsers and values
 
 -- the parsers take the values that the options may have
-abbrev pub Agree : Options → List Choice → Type 0
-Agree [] [] = Unit {0}
-Agree [] (c ∷ cs) = ⊥
-Agree (o ∷ os) [] = ⊥
-Agree (o ∷ os) (c ∷ cs) = (o.0 ≡ c.0) × ((text : Text) → accepts false o.1 text ≡ c.1 text) × Agree os cs
+abbrev pub ParsersMatch : Options → List Choice → Type 0
+ParsersMatch [] [] = Unit {0}
+ParsersMatch [] (c ∷ cs) = ⊥
+ParsersMatch (o ∷ os) [] = ⊥
+ParsersMatch (o ∷ os) (c ∷ cs) = (o.0 ≡ c.0) × ((text : Text) → accepts false o.1 text ≡ c.1 text) × ParsersMatch os cs
 
-pub names_agree : (os : Options) (cs : List Choice) → Agree os cs → map (λ o. o.0) os ≡ map (λ c. c.0) cs
+pub names_agree : (os : Options) (cs : List Choice) → ParsersMatch os cs → map (λ o. o.0) os ≡ map (λ c. c.0) cs
 names_agree [] [] a = refl
 names_agree [] (c ∷ cs) a = absurd a
 names_agree (o ∷ os) [] a = absurd a
 names_agree (o ∷ os) (c ∷ cs) a = ap₂ (λ x xs. x ∷ xs) a.0 (names_agree os cs a.2)
 
-takes_agree : (os : Options) (cs : List Choice) (n v : Text) → Agree os cs
+takes_agree : (os : Options) (cs : List Choice) (n v : Text) → ParsersMatch os cs
     → takes os (given n v) ≡ is_accepted cs (given n v)
 takes_agree [] [] n v a = refl
 takes_agree [] (c ∷ cs) n v a = absurd a
@@ -219,7 +220,7 @@ takes_agree (o ∷ os) (c ∷ cs) n v a = ap (λ (m : Text). takes ((m, o.1) ∷
     go true ih = a.1 v
     go false ih = ih
 
-item_agrees : (os : Options) (cs : List Choice) (i : Item) → Agree os cs → takes os i ≡ is_accepted cs i
+item_agrees : (os : Options) (cs : List Choice) (i : WordItem) → ParsersMatch os cs → takes os i ≡ is_accepted cs i
 item_agrees os cs (file word) a = refl
 item_agrees os cs (journal word) a = refl
 item_agrees os cs (given n v) a = takes_agree os cs n v a
@@ -235,8 +236,8 @@ exchange true true c d = refl
 exchange true false c d = sym (and_with_false c)
 
 -- what the walk takes is what the definition takes
-pub good_agrees : (os : Parsers) (cs : List Choice) (is : List Item) (rows : List Row) (seen : List Text)
-    → Agree os.1 cs → ((n : Text) → has_row n rows ≡ contains seen n)
+pub good_agrees : (os : Parsers) (cs : List Choice) (is : List WordItem) (rows : List Row) (seen : List Text)
+    → ParsersMatch os.1 cs → ((n : Text) → has_row n rows ≡ contains seen n)
     → good os rows is ≡ (each_once seen is && list_all (is_accepted cs) is)
 good_agrees os cs [] rows seen a same = refl
 good_agrees os cs (i ∷ is) rows seen a same =

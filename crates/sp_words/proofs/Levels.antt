@@ -15,7 +15,8 @@ use Rattle.clap.specs.Faults.{settle_fault, turn_fault, use_fault, walk_fault, w
 use Rattle.clap.specs.declared.builder.value_parser.Reading.{Reading}
 use Rattle.clap.specs.declared.builder.value_parser.Reading.TheVariants as reading
 use Rattle.clap.specs.declared.builder.value_parser.ValueParser.TheVariants as vp
-use Rattle.sp_words.specs.Dashes.{Item, Text, after_dash, by_form, contains, file, first_item, form_of, given, items}
+use Rattle.sp_words.specs.Dashes.{WordItem, Text, after_dash, by_form, contains, file, first_item, form_of, given}
+use Rattle.sp_words.specs.Dashes.{items}
 use Rattle.sp_words.specs.Dashes.{journal, name_of, value_of, with_value}
 use Rattle.sp_words.specs.Words.{journal_first, subject, text_of, with_journal}
 use Rattle.sp_words.specs.declared.form.Form.{Form}
@@ -32,52 +33,52 @@ or_else-nil (k ∷ ks) = refl
 -- ---- items as uses
 
 -- the parser of an option takes its value
-abbrev pub takes : Options → Item → Bool
+abbrev pub takes : Options → WordItem → Bool
 takes os (file word) = true
 takes os (journal word) = true
 takes os (given name v) = option_map_or (λ p. accepts false p v) (option_map (λ o. o.1) (find (named name) os)) false
 
-abbrev pub reading_for : Options → Item → Reading
+abbrev pub reading_for : Options → WordItem → Reading
 reading_for os (file word) = reading.AsWritten
 reading_for os (journal word) = reading.AsWritten
 reading_for os (given name v) = option_map_or reading_of
     (option_map (λ o. o.1) (find (named name) os)) reading.AsWritten
 
-abbrev pub row_for : Parsers → Item → Row
+abbrev pub row_for : Parsers → WordItem → Row
 row_for os i = new_row (subject i) (reading_for os.1 i) (text_of i)
 
 -- the item is new, and has a value that it may have
-abbrev pub ok : Parsers → List Row → Item → Bool
+abbrev pub ok : Parsers → List Row → WordItem → Bool
 ok os rows i = not (has_row (subject i) rows) && takes os.1 i
 
-abbrev pub good : Parsers → List Row → List Item → Bool
+abbrev pub good : Parsers → List Row → List WordItem → Bool
 good os rows [] = true
 good os rows (i ∷ is) = ok os rows i && good os (rows ++ row_for os i ∷ []) is
 
-abbrev pub rows_after : Parsers → List Row → List Item → List Row
+abbrev pub rows_after : Parsers → List Row → List WordItem → List Row
 rows_after os rows [] = rows
 rows_after os rows (i ∷ is) = rows_after os (rows ++ row_for os i ∷ []) is
 
 -- the item that a walk has not yet used
-abbrev pub pend : Option Item → Option (Text × List Text)
+abbrev pub pend : Option WordItem → Option (Text × List Text)
 pend p = option_map (λ i. (subject i, text_of i ∷ [])) p
 
-abbrev pub ok_pending : Parsers → List Row → Option Item → Bool
+abbrev pub ok_pending : Parsers → List Row → Option WordItem → Bool
 ok_pending os rows None = true
 ok_pending os rows (Some i) = ok os rows i
 
-abbrev pub plus : Parsers → List Row → Option Item → List Row
+abbrev pub plus : Parsers → List Row → Option WordItem → List Row
 plus os rows None = rows
 plus os rows (Some i) = rows ++ row_for os i ∷ []
 
-abbrev pub IsKnown : Parsers → Item → Type 0
-IsKnown os (file word) = Unit {0}
-IsKnown os (journal word) = os.0 ≡ true
-IsKnown os (given name v) = IsOption os name
+abbrev pub IsKnownItem : Parsers → WordItem → Type 0
+IsKnownItem os (file word) = Unit {0}
+IsKnownItem os (journal word) = os.0 ≡ true
+IsKnownItem os (given name v) = IsOption os name
 
-abbrev pub IsKnownPending : Parsers → Option Item → Type 0
+abbrev pub IsKnownPending : Parsers → Option WordItem → Type 0
 IsKnownPending os None = Unit {0}
-IsKnownPending os (Some i) = IsKnown os i
+IsKnownPending os (Some i) = IsKnownItem os i
 
 -- ---- states of the walk
 
@@ -101,13 +102,13 @@ has_file one = true
 has_file both = true
 
 -- the items from there on, where a JOURNAL is told from a FILE
-abbrev pub arranged : Bool → Met → List Item → List Item
+abbrev pub arranged : Bool → Met → List WordItem → List WordItem
 arranged there nothing is = with_journal there is
 arranged there one is = cond there (journal_first is) is
 arranged there both is = is
 
-abbrev pub at : List Row → Option Item → Met → Bool → Walk
-at rows p met trailing = record {
+abbrev pub level_walk : List Row → Option WordItem → Met → Bool → Walk
+level_walk rows p met trailing = record {
   held = held_with rows (pend p);
   waiting = idle;
   position = place met;
@@ -149,7 +150,7 @@ fresh false b e = refl
 
 -- ---- using what is pending
 
-pub settle_is : (os : Parsers) (rows : List Row) (p : Option Item) → IsKnownPending os p
+pub settle_is : (os : Parsers) (rows : List Row) (p : Option WordItem) → IsKnownPending os p
     → clear (settle_fault (rules os) false (held_with rows (pend p))) ≡ ok_pending os rows p
 settle_is os rows None known = refl
 settle_is os rows (Some (file word)) known = fault_of_use file_id None (Some 1) vp.String true word rows
@@ -158,7 +159,8 @@ settle_is os rows (Some (journal word)) known = rw known
 settle_is os rows (Some (given name v)) known =
     rw (known.by_id, known.found) (fault_of_use name (Some name) None known.parser false v rows)
 
-pub settled_is : (os : Parsers) (rows : List Row) (p : Option Item) → IsKnownPending os p → ok_pending os rows p ≡ true
+pub settled_is : (os : Parsers) (rows : List Row) (p : Option WordItem) → IsKnownPending os p
+    → ok_pending os rows p ≡ true
     → settled_rows (rules os) (pend p) rows ≡ plus os rows p
 settled_is os rows None known e = refl
 settled_is os rows (Some (file word)) known e = rows_of_use file_id None (Some 1) vp.String true word rows (fresh _ _ e)
@@ -206,47 +208,51 @@ refused_here name os w word words rows turn = record {
   rows_are = λ e. absurd (true≢false (sym e));
 }
 
-abbrev held_at : List Row → Option Item → Held
+abbrev held_at : List Row → Option WordItem → Held
 held_at rows p = held_with rows (pend p)
 
 -- a word that goes to FILE
-file_turn : (name : Text) (os : Parsers) (rows : List Row) (p : Option Item) (trailing : Bool) (word : Text)
+file_turn : (name : Text) (os : Parsers) (rows : List Row) (p : Option WordItem) (trailing : Bool) (word : Text)
     → word_fault (level name os) [] trailing idle word (held_at rows p) ≡ []
     → word_met (rules os) [] trailing idle 1 word (held_at rows p) ≡ (held_at rows p, value)
-    → turn_fault (level name os) [] (at rows p nothing trailing) word ≡ settle_fault (rules os) false (held_at rows p)
+    → turn_fault (level name os) [] (level_walk rows p nothing trailing) word ≡ settle_fault (rules os) false
+    (held_at rows p)
 file_turn name os rows p trailing word e m = rw (e, m) (rw (and_with_false (is_pending built_file (pend p))) refl)
 
-file_walk : (os : Parsers) (rows : List Row) (p : Option Item) (trailing : Bool) (word : Text)
+file_walk : (os : Parsers) (rows : List Row) (p : Option WordItem) (trailing : Bool) (word : Text)
     → word_met (rules os) [] trailing idle 1 word (held_at rows p) ≡ (held_at rows p, value)
-    → walked (rules os) [] (at rows p nothing trailing) word ≡ at (settled_rows (rules os) (pend p) rows)
+    → walked (rules os) [] (level_walk rows p nothing trailing) word
+    ≡ level_walk (settled_rows (rules os) (pend p) rows)
     (Some (file word)) one trailing
 unfolding walked
 file_walk os rows p trailing word m = rw m (rw (and_with_false (is_pending built_file (pend p)), or_with_false trailing)
     refl)
 
 -- a word that goes to JOURNAL
-journal_turn : (name : Text) (os : Options) (rows : List Row) (p : Option Item) (trailing : Bool) (word : Text)
+journal_turn : (name : Text) (os : Options) (rows : List Row) (p : Option WordItem) (trailing : Bool) (word : Text)
     → word_fault (level name (true, os)) [] trailing idle word (held_at rows p) ≡ []
     → word_met (rules (true, os)) [] trailing idle 2 word (held_at rows p) ≡ (held_at rows p, value)
-    → turn_fault (level name (true, os)) [] (at rows p one trailing) word ≡ settle_fault (rules (true, os)) false
+    → turn_fault (level name (true, os)) [] (level_walk rows p one trailing) word
+    ≡ settle_fault (rules (true, os)) false
     (held_at rows p)
 journal_turn name os rows p trailing word e m = rw (e, m) (rw (and_with_false (is_pending built_journal (pend p))) refl)
 
-journal_walk : (os : Options) (rows : List Row) (p : Option Item) (trailing : Bool) (word : Text)
+journal_walk : (os : Options) (rows : List Row) (p : Option WordItem) (trailing : Bool) (word : Text)
     → word_met (rules (true, os)) [] trailing idle 2 word (held_at rows p) ≡ (held_at rows p, value)
-    → walked (rules (true, os)) [] (at rows p one trailing) word ≡ at (settled_rows (rules (true, os)) (pend p) rows)
+    → walked (rules (true, os)) [] (level_walk rows p one trailing) word
+    ≡ level_walk (settled_rows (rules (true, os)) (pend p) rows)
     (Some (journal word)) both trailing
 unfolding walked
 journal_walk os rows p trailing word m = rw m
     (rw (and_with_false (is_pending built_journal (pend p)), or_with_false trailing) refl)
 
 -- a word where no place is left
-stray_turn : (name : Text) (os : Parsers) (rows : List Row) (p : Option Item) (met : Met) (trailing : Bool)
+stray_turn : (name : Text) (os : Parsers) (rows : List Row) (p : Option WordItem) (met : Met) (trailing : Bool)
     (word : Text)
     → word_fault (level name os) [] trailing idle word (held_at rows p) ≡ []
     → word_met (rules os) [] trailing idle (place met) word (held_at rows p) ≡ (held_at rows p, value)
     → arg_by_index (rules os) (place met) ≡ None
-    → clear (turn_fault (level name os) [] (at rows p met trailing) word) ≡ false
+    → clear (turn_fault (level name os) [] (level_walk rows p met trailing) word) ≡ false
 stray_turn name os rows p met trailing word e m none = rw (e, m, none) refl
 
 plain_fault : (name : Text) (os : Parsers) (h : Held) (word : Text) → IsPlainWord word
@@ -257,39 +263,42 @@ plain_met : (os : Parsers) (k : ℕ) (h : Held) (word : Text) → IsPlainWord wo
     → word_met (rules os) [] false idle k word h ≡ (h, value)
 plain_met os k h word plain = rw (plain.not_end, plain.no_long, plain.no_short) refl
 
-end_turn : (name : Text) (os : Parsers) (rows : List Row) (p : Option Item) (met : Met) (word : Text) → word ≡ dashes
-    → turn_fault (level name os) [] (at rows p met false) word ≡ []
+end_turn : (name : Text) (os : Parsers) (rows : List Row) (p : Option WordItem) (met : Met) (word : Text)
+    → word ≡ dashes
+    → turn_fault (level name os) [] (level_walk rows p met false) word ≡ []
 end_turn name os rows p met word e = rw e refl
 
-end_walk : (os : Parsers) (rows : List Row) (p : Option Item) (met : Met) (word : Text) → word ≡ dashes
-    → walked (rules os) [] (at rows p met false) word ≡ at rows p met true
+end_walk : (os : Parsers) (rows : List Row) (p : Option WordItem) (met : Met) (word : Text) → word ≡ dashes
+    → walked (rules os) [] (level_walk rows p met false) word ≡ level_walk rows p met true
 unfolding walked
 end_walk os rows p met word e = rw e refl
 
 -- `--name=value`
-whole_turn : (name : Text) (os : Parsers) (ns : List Text) (rows : List Row) (p : Option Item) (met : Met)
+whole_turn : (name : Text) (os : Parsers) (ns : List Text) (rows : List Row) (p : Option WordItem) (met : Met)
     (word v : Text) (long : IsLongWord ns word (Some v)) (o : IsOption os (name_of word))
-    → turn_fault (level name os) [] (at rows p met false) word
+    → turn_fault (level name os) [] (level_walk rows p met false) word
     ≡ or_else (settle_fault (rules os) false (held_at rows p))
     (use_fault false (built_option (name_of word) o.parser) (v ∷ []) (settled_rows (rules os) (pend p) rows))
 whole_turn name os ns rows p met word v long o = rw (long.not_end, long.long, o.by_long) (or_else-nil _)
 
-whole_walk : (os : Parsers) (ns : List Text) (rows : List Row) (p : Option Item) (met : Met) (word v : Text)
+whole_walk : (os : Parsers) (ns : List Text) (rows : List Row) (p : Option WordItem) (met : Met) (word v : Text)
     (long : IsLongWord ns word (Some v)) (o : IsOption os (name_of word))
-    → walked (rules os) [] (at rows p met false) word ≡ at
+    → walked (rules os) [] (level_walk rows p met false) word ≡ level_walk
     (used (built_option (name_of word) o.parser) (v ∷ []) (settled_rows (rules os) (pend p) rows)) None met false
 unfolding walked
 whole_walk os ns rows p met word v long o = rw (long.not_end, long.long, o.by_long) refl
 
 -- `--name`
-open_turn : (name : Text) (os : Parsers) (ns : List Text) (rows : List Row) (p : Option Item) (met : Met) (word : Text)
+open_turn : (name : Text) (os : Parsers) (ns : List Text) (rows : List Row) (p : Option WordItem) (met : Met)
+    (word : Text)
     (long : IsLongWord ns word None) (o : IsOption os (name_of word))
-    → turn_fault (level name os) [] (at rows p met false) word ≡ settle_fault (rules os) false (held_at rows p)
+    → turn_fault (level name os) [] (level_walk rows p met false) word ≡ settle_fault (rules os) false (held_at rows p)
 open_turn name os ns rows p met word long o = rw (long.not_end, long.long, o.by_long) (or_else-nil _)
 
-open_walk : (os : Parsers) (ns : List Text) (rows : List Row) (p : Option Item) (met : Met) (word : Text)
+open_walk : (os : Parsers) (ns : List Text) (rows : List Row) (p : Option WordItem) (met : Met) (word : Text)
     (long : IsLongWord ns word None) (o : IsOption os (name_of word))
-    → walked (rules os) [] (at rows p met false) word ≡ wants (settled_rows (rules os) (pend p) rows) (name_of word) met
+    → walked (rules os) [] (level_walk rows p met false) word ≡ wants (settled_rows (rules os) (pend p) rows)
+    (name_of word) met
 unfolding walked
 open_walk os ns rows p met word long o = rw (long.not_end, long.long, o.by_long) refl
 
@@ -299,34 +308,34 @@ wanted_turn : (name : Text) (os : Parsers) (rows : List Row) (n : Text) (met : M
 wanted_turn name os rows n met word plain = rw (plain.not_end, plain.no_long, plain.no_short) refl
 
 wanted_walk : (os : Parsers) (rows : List Row) (n : Text) (met : Met) (word : Text) → IsPlainWord word → IsOption os n
-    → walked (rules os) [] (wants rows n met) word ≡ at rows (Some (given n word)) met false
+    → walked (rules os) [] (wants rows n met) word ≡ level_walk rows (Some (given n word)) met false
 unfolding walked
 wanted_walk os rows n met word plain o = rw (plain.not_end, plain.no_long, plain.no_short, o.by_id) (rw o.itself refl)
 
 -- ---- all the words
 
 -- where the walk stands between two words: something may be pending, or an option waits for its value
-pub data Stand : Type 0 where
-  rests : Option Item → Stand
-  waits : Text → Stand
+pub data WalkStand : Type 0 where
+  rests : Option WordItem → WalkStand
+  waits : Text → WalkStand
 
-abbrev pub walk_at : List Row → Stand → Met → Walk
-walk_at rows (rests p) met = at rows p met false
+abbrev pub walk_at : List Row → WalkStand → Met → Walk
+walk_at rows (rests p) met = level_walk rows p met false
 walk_at rows (waits n) met = wants rows n met
 
-abbrev pub waiting_at : Stand → Option Text
+abbrev pub waiting_at : WalkStand → Option Text
 waiting_at (rests p) = None
 waiting_at (waits n) = Some n
 
-abbrev pub ok_at : Parsers → List Row → Stand → Bool
+abbrev pub ok_at : Parsers → List Row → WalkStand → Bool
 ok_at os rows (rests p) = ok_pending os rows p
 ok_at os rows (waits n) = true
 
-abbrev pub rows_at : Parsers → List Row → Stand → List Row
+abbrev pub rows_at : Parsers → List Row → WalkStand → List Row
 rows_at os rows (rests p) = plus os rows p
 rows_at os rows (waits n) = rows
 
-abbrev pub IsKnownStand : Parsers → Stand → Type 0
+abbrev pub IsKnownStand : Parsers → WalkStand → Type 0
 IsKnownStand os (rests p) = IsKnownPending os p
 IsKnownStand os (waits n) = IsOption os n
 
@@ -334,7 +343,7 @@ abbrev pub names : Parsers → List Text
 names os = map (λ o. o.0) os.1
 
 -- the words from a state on are as the items that they hold
-abbrev pub Goal : Text → Parsers → List Row → Walk → Bool → List Row → List Text → List Item → Type 0
+abbrev pub Goal : Text → Parsers → List Row → Walk → Bool → List Row → List Text → List WordItem → Type 0
 Goal name os rows w first now words is = Level name os w words (first && good os now is) (rows_after os now is)
 
 pub has_row-more : (id : Text) (rows : List Row) (r : Row)
@@ -353,57 +362,61 @@ file_kept : (rows : List Row) (r : Row) (met : Bool) → bytes_eq r.id file_id �
 file_kept rows r met e m = m
     ∙ sym (has_row-more file_id rows r ∙ ap (λ b. has_row file_id rows || b) e ∙ or_with_false (has_row file_id rows))
 
-first_inv : (i : Item) (r : Option (List Item)) (is : List Item) → first_item i r ≡ Some is → (rest : List Item)
+first_inv : (i : WordItem) (r : Option (List WordItem)) (is : List WordItem) → first_item i r ≡ Some is
+    → (rest : List WordItem)
     × (r ≡ Some rest) × (i ∷ rest ≡ is)
 first_inv i None is e = absurd (none-some is e)
 first_inv i (Some rest) is e = (rest, refl, same_Some _ _ e)
 
 -- a word that gives the item i, with the words after it
-word_first : (name : Text) (os : Parsers) (rows : List Row) (p : Option Item) (met next : Met) (trailing : Bool)
-    (word : Text) (words : List Text) (i : Item) (is : List Item)
+word_first : (name : Text) (os : Parsers) (rows : List Row) (p : Option WordItem) (met next : Met) (trailing : Bool)
+    (word : Text) (words : List Text) (i : WordItem) (is : List WordItem)
     → IsKnownPending os p
-    → turn_fault (level name os) [] (at rows p met trailing) word ≡ settle_fault (rules os) false (held_at rows p)
-    → walked (rules os) [] (at rows p met trailing) word ≡ at (settled_rows (rules os) (pend p) rows)
+    → turn_fault (level name os) [] (level_walk rows p met trailing) word ≡ settle_fault (rules os) false
+    (held_at rows p)
+    → walked (rules os) [] (level_walk rows p met trailing) word ≡ level_walk (settled_rows (rules os) (pend p) rows)
     (Some i) next trailing
-    → Goal name os rows (at (plus os rows p) (Some i) next trailing) (ok os (plus os rows p) i) (plus os rows p
+    → Goal name os rows (level_walk (plus os rows p) (Some i) next trailing) (ok os (plus os rows p) i) (plus os rows p
     ++ row_for os i ∷ []) words is
-    → Goal name os rows (at rows p met trailing) (ok_pending os rows p) (plus os rows p) (word ∷ words) (i ∷ is)
+    → Goal name os rows (level_walk rows p met trailing) (ok_pending os rows p) (plus os rows p) (word ∷ words) (i ∷ is)
 word_first name os rows p met next trailing word words i is known turn walk rest =
-    advance name os (at rows p met trailing) (at (plus os rows p) (Some i) next trailing) word words
+    advance name os (level_walk rows p met trailing) (level_walk (plus os rows p) (Some i) next trailing) word words
     (ok_pending os rows p) _ _
     (ap clear turn ∙ settle_is os rows p known)
-    (λ t. walk ∙ ap (λ (r : List Row). at r (Some i) next trailing) (settled_is os rows p known t))
+    (λ t. walk ∙ ap (λ (r : List Row). level_walk r (Some i) next trailing) (settled_is os rows p known t))
     rest
 
 -- a word too many, which is a second FILE
-word_again : (name : Text) (os : Parsers) (rows : List Row) (p : Option Item) (met : Met) (trailing : Bool)
-    (word : Text) (words : List Text) (is : List Item)
+word_again : (name : Text) (os : Parsers) (rows : List Row) (p : Option WordItem) (met : Met) (trailing : Bool)
+    (word : Text) (words : List Text) (is : List WordItem)
     → true ≡ has_row file_id (plus os rows p)
-    → clear (turn_fault (level name os) [] (at rows p met trailing) word) ≡ false
-    → Goal name os rows (at rows p met trailing) (ok_pending os rows p) (plus os rows p) (word ∷ words) (file word ∷ is)
+    → clear (turn_fault (level name os) [] (level_walk rows p met trailing) word) ≡ false
+    → Goal name os rows (level_walk rows p met trailing) (ok_pending os rows p) (plus os rows p) (word ∷ words)
+    (file word ∷ is)
 word_again name os rows p met trailing word words is there turn =
-    subst (λ (b : Bool). Level name os (at rows p met trailing) (word ∷ words) b
+    subst (λ (b : Bool). Level name os (level_walk rows p met trailing) (word ∷ words) b
     (rows_after os (plus os rows p) (file word ∷ is)))
     (sym (ap (λ (h : Bool). ok_pending os rows p
     && ((not h && true) && good os (plus os rows p ++ row_for os (file word) ∷ []) is)) (sym there)
     ∙ and_with_false (ok_pending os rows p)))
-    (refused_here name os (at rows p met trailing) word words _ turn)
+    (refused_here name os (level_walk rows p met trailing) word words _ turn)
 
 -- the walk goes on from each item that a word may give
-abbrev Next : Text → Parsers → List Row → Option Item → Bool → List Text → List Item → Type 0
-Next name os rows p trailing words is = (i : Item) (next : Met) → IsKnown os i
+abbrev WalkGoesOn : Text → Parsers → List Row → Option WordItem → Bool → List Text → List WordItem → Type 0
+WalkGoesOn name os rows p trailing words is = (i : WordItem) (next : Met) → IsKnownItem os i
     → has_file next ≡ has_row file_id (plus os rows p ++ row_for os i ∷ [])
-    → Goal name os rows (at (plus os rows p) (Some i) next trailing) (ok os (plus os rows p) i) (plus os rows p
+    → Goal name os rows (level_walk (plus os rows p) (Some i) next trailing) (ok os (plus os rows p) i) (plus os rows p
     ++ row_for os i ∷ []) words (arranged os.0 next is)
 
 -- a word that is no option
-word_step : (name : Text) (os : Parsers) (rows : List Row) (p : Option Item) (met : Met) (trailing : Bool) (word : Text)
-    (words : List Text) (is : List Item)
+word_step : (name : Text) (os : Parsers) (rows : List Row) (p : Option WordItem) (met : Met) (trailing : Bool)
+    (word : Text)
+    (words : List Text) (is : List WordItem)
     → IsKnownPending os p → has_file met ≡ has_row file_id (plus os rows p)
     → word_fault (level name os) [] trailing idle word (held_at rows p) ≡ []
     → ((k : ℕ) → word_met (rules os) [] trailing idle k word (held_at rows p) ≡ (held_at rows p, value))
-    → Next name os rows p trailing words is
-    → Goal name os rows (at rows p met trailing) (ok_pending os rows p) (plus os rows p) (word ∷ words)
+    → WalkGoesOn name os rows p trailing words is
+    → Goal name os rows (level_walk rows p met trailing) (ok_pending os rows p) (plus os rows p) (word ∷ words)
     (arranged os.0 met (file word ∷ is))
 word_step name (true, os) rows p nothing trailing word words is known m e w next =
     word_first name (true, os) rows p nothing one trailing word words (file word) (journal_first is) known
@@ -435,7 +448,7 @@ none_arranged false nothing = refl
 none_arranged false one = refl
 none_arranged false both = refl
 
-given_arranged : (there : Bool) (met : Met) (n v : Text) (is : List Item)
+given_arranged : (there : Bool) (met : Met) (n v : Text) (is : List WordItem)
     → given n v ∷ arranged there met is ≡ arranged there met (given n v ∷ is)
 given_arranged true nothing n v is = refl
 given_arranged true one n v is = refl
@@ -444,24 +457,25 @@ given_arranged false nothing n v is = refl
 given_arranged false one n v is = refl
 given_arranged false both n v is = refl
 
-no_words : (name : Text) (os : Parsers) (rows : List Row) (p : Option Item) (met : Met) (trailing : Bool)
+no_words : (name : Text) (os : Parsers) (rows : List Row) (p : Option WordItem) (met : Met) (trailing : Bool)
     → IsKnownPending os p
-    → Goal name os rows (at rows p met trailing) (ok_pending os rows p) (plus os rows p) [] (arranged os.0 met [])
+    → Goal name os rows (level_walk rows p met trailing) (ok_pending os rows p) (plus os rows p) []
+    (arranged os.0 met [])
 unfolding walk_fault
 no_words name os rows p met trailing known = subst
-    (Goal name os rows (at rows p met trailing) (ok_pending os rows p) (plus os rows p) [])
+    (Goal name os rows (level_walk rows p met trailing) (ok_pending os rows p) (plus os rows p) [])
     (sym (none_arranged os.0 met)) ends
   where
-    ends : Goal name os rows (at rows p met trailing) (ok_pending os rows p) (plus os rows p) [] []
+    ends : Goal name os rows (level_walk rows p met trailing) (ok_pending os rows p) (plus os rows p) [] []
     ends = record {
       fault = settle_is os rows p known ∙ sym (and_with_true (ok_pending os rows p));
       rows_are = λ e. settled_is os rows p known (first_true _ _ e);
     }
 
 -- after `--` no word is an option
-trailing_words : (name : Text) (os : Parsers) (words : List Text) (rows : List Row) (p : Option Item) (met : Met)
+trailing_words : (name : Text) (os : Parsers) (words : List Text) (rows : List Row) (p : Option WordItem) (met : Met)
     → IsKnownPending os p → has_file met ≡ has_row file_id (plus os rows p)
-    → Goal name os rows (at rows p met true) (ok_pending os rows p) (plus os rows p) words
+    → Goal name os rows (level_walk rows p met true) (ok_pending os rows p) (plus os rows p) words
     (arranged os.0 met (map file words))
 trailing_words name os [] rows p met known m = no_words name os rows p met true known
 trailing_words name os (word ∷ words) rows p met known m =
@@ -469,20 +483,20 @@ trailing_words name os (word ∷ words) rows p met known m =
     (λ i next known_next there. trailing_words name os words (plus os rows p) (Some i) next known_next there)
 
 -- the state after `--name=value`
-whole_word : (name : Text) (os : Parsers) (ns : List Text) (rows : List Row) (p : Option Item) (met : Met)
-    (word v : Text) (words : List Text) (is : List Item)
+whole_word : (name : Text) (os : Parsers) (ns : List Text) (rows : List Row) (p : Option WordItem) (met : Met)
+    (word v : Text) (words : List Text) (is : List WordItem)
     → IsKnownPending os p → IsLongWord ns word (Some v) → (o : IsOption os (name_of word))
     → Goal name os (plus os rows p ++ row_for os (given (name_of word) v) ∷ [])
-    (at (plus os rows p ++ row_for os (given (name_of word) v) ∷ []) None met false)
+    (level_walk (plus os rows p ++ row_for os (given (name_of word) v) ∷ []) None met false)
     true (plus os rows p ++ row_for os (given (name_of word) v) ∷ []) words is
-    → Goal name os rows (at rows p met false) (ok_pending os rows p) (plus os rows p) (word ∷ words)
+    → Goal name os rows (level_walk rows p met false) (ok_pending os rows p) (plus os rows p) (word ∷ words)
     (given (name_of word) v ∷ is)
 whole_word name os ns rows p met word v words is known long o rest =
-    subst (λ (b : Bool). Level name os (at rows p met false) (word ∷ words) b
+    subst (λ (b : Bool). Level name os (level_walk rows p met false) (word ∷ words) b
     (rows_after os (plus os rows p) (given (name_of word) v ∷ is)))
     (and-assoc (ok_pending os rows p) (ok os (plus os rows p) (given (name_of word) v)) (good os (plus os rows p
     ++ row_for os (given (name_of word) v) ∷ []) is))
-    (advance name os (at rows p met false) (at (plus os rows p
+    (advance name os (level_walk rows p met false) (level_walk (plus os rows p
     ++ row_for os (given (name_of word) v) ∷ []) None met false) word words
     (ok_pending os rows p && ok os (plus os rows p) (given (name_of word) v)) _ _
     (turn (ok_pending os rows p) refl) steps rest)
@@ -492,7 +506,7 @@ whole_word name os ns rows p met word v words is known long o rest =
     use_is r = rw o.found (fault_of_use (name_of word) (Some (name_of word)) None o.parser false v r)
 
     turn : (t : Bool) → ok_pending os rows p ≡ t
-        → clear (turn_fault (level name os) [] (at rows p met false) word) ≡ (ok_pending os rows p
+        → clear (turn_fault (level name os) [] (level_walk rows p met false) word) ≡ (ok_pending os rows p
         && ok os (plus os rows p) (given (name_of word) v))
     turn true e =
         ap clear (whole_turn name os ns rows p met word v long o)
@@ -512,73 +526,73 @@ whole_word name os ns rows p met word v words is known long o rest =
     use_rows r e = rw o.found (rows_of_use (name_of word) (Some (name_of word)) None o.parser false v r e)
 
     steps : (ok_pending os rows p && ok os (plus os rows p) (given (name_of word) v)) ≡ true
-        → walked (rules os) [] (at rows p met false) word ≡ at (plus os rows p
+        → walked (rules os) [] (level_walk rows p met false) word ≡ level_walk (plus os rows p
         ++ row_for os (given (name_of word) v) ∷ []) None met false
     steps t =
         whole_walk os ns rows p met word v long o
-        ∙ ap (λ (r : List Row). at (used (built_option (name_of word) o.parser) (v ∷ []) r) None met false)
+        ∙ ap (λ (r : List Row). level_walk (used (built_option (name_of word) o.parser) (v ∷ []) r) None met false)
         (settled_is os rows p known (first_true (ok_pending os rows p)
         (ok os (plus os rows p) (given (name_of word) v)) t))
-        ∙ ap (λ (r : List Row). at r None met false)
+        ∙ ap (λ (r : List Row). level_walk r None met false)
         (use_rows (plus os rows p) (fresh (has_row (name_of word) (plus os rows p))
         (takes os.1 (given (name_of word) v))
         (second_true (ok_pending os rows p) (ok os (plus os rows p) (given (name_of word) v)) t)))
 
 -- what the words after a state come to, at each state
 abbrev pub Ahead : Text → Parsers → List Text → Type 0
-Ahead name os words = (st : Stand) (rows : List Row) (met : Met) (is : List Item) → IsKnownStand os st
+Ahead name os words = (st : WalkStand) (rows : List Row) (met : Met) (is : List WordItem) → IsKnownStand os st
     → has_file met ≡ has_row file_id (rows_at os rows st)
     → items (names os) (waiting_at st) words ≡ Some is
     → Goal name os rows (walk_at rows st met) (ok_at os rows st) (rows_at os rows st) words (arranged os.0 met is)
 
 -- a FILE or a JOURNAL before `--`
-plain_step : (name : Text) (os : Parsers) (rows : List Row) (p : Option Item) (met : Met) (word : Text)
-    (words : List Text) (is : List Item)
+plain_step : (name : Text) (os : Parsers) (rows : List Row) (p : Option WordItem) (met : Met) (word : Text)
+    (words : List Text) (is : List WordItem)
     → IsKnownPending os p → has_file met ≡ has_row file_id (plus os rows p) → IsPlainWord word
     → items (names os) None words ≡ Some is → Ahead name os words
-    → Goal name os rows (at rows p met false) (ok_pending os rows p) (plus os rows p) (word ∷ words)
+    → Goal name os rows (level_walk rows p met false) (ok_pending os rows p) (plus os rows p) (word ∷ words)
     (arranged os.0 met (file word ∷ is))
 plain_step name os rows p met word words is known m plain e ahead =
     word_step name os rows p met false word words is known m (plain_fault name os (held_at rows p) word plain)
     (λ k. plain_met os k (held_at rows p) word plain)
     (λ i next known_next there. ahead (rests (Some i)) (plus os rows p) next is known_next there e)
 
-whole_step : (name : Text) (os : Parsers) (rows : List Row) (p : Option Item) (met : Met) (word : Text)
-    (words : List Text) (is : List Item)
+whole_step : (name : Text) (os : Parsers) (rows : List Row) (p : Option WordItem) (met : Met) (word : Text)
+    (words : List Text) (is : List WordItem)
     → IsKnownPending os p → has_file met ≡ has_row file_id (plus os rows p)
     → IsLongWord (names os) word (Some (value_of word)) → IsOption os (name_of word)
     → items (names os) None words ≡ Some is → Ahead name os words
-    → Goal name os rows (at rows p met false) (ok_pending os rows p) (plus os rows p) (word ∷ words)
+    → Goal name os rows (level_walk rows p met false) (ok_pending os rows p) (plus os rows p) (word ∷ words)
     (arranged os.0 met (given (name_of word) (value_of word) ∷ is))
 whole_step name os rows p met word words is known m long o e ahead =
-    subst (Goal name os rows (at rows p met false) (ok_pending os rows p) (plus os rows p) (word ∷ words))
+    subst (Goal name os rows (level_walk rows p met false) (ok_pending os rows p) (plus os rows p) (word ∷ words))
     (given_arranged os.0 met (name_of word) (value_of word) is)
     (whole_word name os (names os) rows p met word (value_of word) words (arranged os.0 met is) known long o
     (ahead (rests None) (plus os rows p ++ row_for os (given (name_of word) (value_of word)) ∷ []) met is tt
     (file_kept (plus os rows p) (row_for os (given (name_of word) (value_of word))) (has_file met) o.no_file m) e))
 
-open_step : (name : Text) (os : Parsers) (rows : List Row) (p : Option Item) (met : Met) (word : Text)
-    (words : List Text) (is : List Item)
+open_step : (name : Text) (os : Parsers) (rows : List Row) (p : Option WordItem) (met : Met) (word : Text)
+    (words : List Text) (is : List WordItem)
     → IsKnownPending os p → has_file met ≡ has_row file_id (plus os rows p) → IsLongWord (names os) word None
     → IsOption os (name_of word)
     → items (names os) (Some (name_of word)) words ≡ Some is → Ahead name os words
-    → Goal name os rows (at rows p met false) (ok_pending os rows p) (plus os rows p) (word ∷ words)
+    → Goal name os rows (level_walk rows p met false) (ok_pending os rows p) (plus os rows p) (word ∷ words)
     (arranged os.0 met is)
 open_step name os rows p met word words is known m long o e ahead =
-    advance name os (at rows p met false) (wants (plus os rows p) (name_of word) met) word words
+    advance name os (level_walk rows p met false) (wants (plus os rows p) (name_of word) met) word words
     (ok_pending os rows p) _ _
     (ap clear (open_turn name os (names os) rows p met word long o) ∙ settle_is os rows p known)
     (λ t. open_walk os (names os) rows p met word long o
     ∙ ap (λ (r : List Row). wants r (name_of word) met) (settled_is os rows p known t))
     (ahead (waits (name_of word)) (plus os rows p) met is o m e)
 
-end_step : (name : Text) (os : Parsers) (rows : List Row) (p : Option Item) (met : Met) (word : Text)
+end_step : (name : Text) (os : Parsers) (rows : List Row) (p : Option WordItem) (met : Met) (word : Text)
     (words : List Text)
     → IsKnownPending os p → has_file met ≡ has_row file_id (plus os rows p) → word ≡ dashes
-    → Goal name os rows (at rows p met false) (ok_pending os rows p) (plus os rows p) (word ∷ words)
+    → Goal name os rows (level_walk rows p met false) (ok_pending os rows p) (plus os rows p) (word ∷ words)
     (arranged os.0 met (map file words))
 end_step name os rows p met word words known m e =
-    advance name os (at rows p met false) (at rows p met true) word words true _ _
+    advance name os (level_walk rows p met false) (level_walk rows p met true) word words true _ _
     (ap clear (end_turn name os rows p met word e)) (λ t. end_walk os rows p met word e)
     (trailing_words name os words rows p met known m)
 
@@ -587,24 +601,27 @@ abbrev pub IsFree : Parsers → Type 0
 IsFree os = (contains (names os) file_id ≡ false) × (contains (names os) journal_id ≡ false)
 
 -- one word where no option waits
-rest_step : (name : Text) (os : Parsers) (free : IsFree os) (rows : List Row) (p : Option Item) (met : Met)
-    (word : Text) (words : List Text) (is : List Item) (f : Form)
+rest_step : (name : Text) (os : Parsers) (free : IsFree os) (rows : List Row) (p : Option WordItem) (met : Met)
+    (word : Text) (words : List Text) (is : List WordItem) (f : Form)
     → IsKnownPending os p → has_file met ≡ has_row file_id (plus os rows p) → ReadsWord (names os) word f
     → by_form f word words (λ waiting. items (names os) waiting words) ≡ Some is → Ahead name os words
-    → Goal name os rows (at rows p met false) (ok_pending os rows p) (plus os rows p) (word ∷ words)
+    → Goal name os rows (level_walk rows p met false) (ok_pending os rows p) (plus os rows p) (word ∷ words)
     (arranged os.0 met is)
 rest_step name os free rows p met word words is Plain known m plain e ahead =
     let inv = first_inv (file word) (items (names os) None words) is e in
-    subst (λ (js : List Item). Goal name os rows (at rows p met false) (ok_pending os rows p) (plus os rows p)
+    subst (λ (js : List WordItem). Goal name os rows (level_walk rows p met false) (ok_pending os rows p)
+    (plus os rows p)
     (word ∷ words) (arranged os.0 met js)) inv.2
     (plain_step name os rows p met word words inv.0 known m plain inv.1 ahead)
 rest_step name os free rows p met word words is End known m same e ahead =
-    subst (λ (js : List Item). Goal name os rows (at rows p met false) (ok_pending os rows p) (plus os rows p)
+    subst (λ (js : List WordItem). Goal name os rows (level_walk rows p met false) (ok_pending os rows p)
+    (plus os rows p)
     (word ∷ words) (arranged os.0 met js)) (same_Some _ _ e)
     (end_step name os rows p met word words known m same)
 rest_step name os free rows p met word words is Whole known m long e ahead =
     let inv = first_inv (given (name_of word) (value_of word)) (items (names os) None words) is e in
-    subst (λ (js : List Item). Goal name os rows (at rows p met false) (ok_pending os rows p) (plus os rows p)
+    subst (λ (js : List WordItem). Goal name os rows (level_walk rows p met false) (ok_pending os rows p)
+    (plus os rows p)
     (word ∷ words) (arranged os.0 met js)) inv.2
     (whole_step name os rows p met word words inv.0 known m long
     (option_of os (name_of word) free.0 free.1 long.known) inv.1 ahead)
@@ -615,7 +632,7 @@ rest_step name os free rows p met word words is Stray known m u e ahead = absurd
 
 -- the word after `--name`
 wait_step : (name : Text) (os : Parsers) (rows : List Row) (n : Text) (met : Met) (word : Text) (words : List Text)
-    (is : List Item) (dash : Option Text)
+    (is : List WordItem) (dash : Option Text)
     → IsOption os n → has_file met ≡ has_row file_id rows → after_dash word ≡ dash
     → with_value n word dash (items (names os) None words) ≡ Some is → Ahead name os words
     → Goal name os rows (wants rows n met) true rows (word ∷ words) (arranged os.0 met is)
@@ -623,16 +640,17 @@ wait_step name os rows n met word words is (Some tail) o m d e ahead = absurd (n
 wait_step name os rows n met word words is None o m d e ahead =
     let inv = first_inv (given n word) (items (names os) None words) is e in
     let plain = plain_word_of word d in
-    subst (λ (js : List Item). Goal name os rows (wants rows n met) true rows (word ∷ words) js)
+    subst (λ (js : List WordItem). Goal name os rows (wants rows n met) true rows (word ∷ words) js)
     (given_arranged os.0 met n word inv.0 ∙ ap (arranged os.0 met) inv.2)
-    (advance name os (wants rows n met) (at rows (Some (given n word)) met false) word words true _ _
+    (advance name os (wants rows n met) (level_walk rows (Some (given n word)) met false) word words true _ _
     (ap clear (wanted_turn name os rows n met word plain)) (λ t. wanted_walk os rows n met word plain o)
     (ahead (rests (Some (given n word))) rows met inv.0 o
     (file_kept rows (row_for os (given n word)) (has_file met) o.no_file m) inv.1))
 
 pub words_ahead : (name : Text) (os : Parsers) (free : IsFree os) (words : List Text) → Ahead name os words
 words_ahead name os free [] (rests p) rows met is known m e =
-    subst (λ (js : List Item). Goal name os rows (at rows p met false) (ok_pending os rows p) (plus os rows p) []
+    subst (λ (js : List WordItem). Goal name os rows (level_walk rows p met false) (ok_pending os rows p)
+    (plus os rows p) []
     (arranged os.0 met js)) (same_Some _ _ e)
     (no_words name os rows p met false known)
 words_ahead name os free [] (waits n) rows met is known m e = absurd (none-some is e)

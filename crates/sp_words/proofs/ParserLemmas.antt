@@ -13,7 +13,7 @@ use Rattle.clap.specs.declared.builder.command.Command.{Command}
 use Rattle.clap.specs.declared.builder.value_parser.ValueParser.{ValueParser}
 use Rattle.sp_words.specs.Dashes.{Text}
 use Rattle.sp_words.specs.Options.{show_named, shows}
-use Rattle.sp_words.specs.Parsers.{Adds, AddsCommand, IsLocal, IsShowParser, option_rule}
+use Rattle.sp_words.specs.Parsers.{ChangesApp, AddsCommand, IsLocal, IsShowParser, option_rule}
 use Rattle.sp_base.specs.declared.limits.Show.{Show}
 
 found_step : (b : Bool) (s : Text × Show) (rest : Bool) (found : Option (Text × Show))
@@ -37,14 +37,15 @@ show_listed names text e = list_any-map (λ t. bytes_eq t text) (λ n. n.now) na
 -- ---- the steps, one after the other
 
 -- what was known of the command that was given
-pub added : {E : Type 0} (f : App → App) (a : App) (r s : Result Command E) → Adds f r s → IfOk r (λ c. app_of c ≡ a)
+pub added : {E : Type 0} (f : App → App) (a : App) (r s : Result Command E) → ChangesApp f r s
+    → IfOk r (λ c. app_of c ≡ a)
     → IfOk s (λ c. app_of c ≡ f a)
 added f a r (Err e) p h = tt {0}
 added f a (Err e) (Ok c) p h = absurd p
 added f a (Ok b) (Ok c) p h = p ∙ ap f h
 
 -- the same, where the parser of `--show` is among it
-pub added_with : {E : Type 0} (f : App → App) (a : ValueParser → App) (r s : Result Command E) → Adds f r s
+pub added_with : {E : Type 0} (f : App → App) (a : ValueParser → App) (r s : Result Command E) → ChangesApp f r s
     → IfOk r (λ c. (q : ValueParser) × (app_of c ≡ a q) × IsShowParser q)
     → IfOk s (λ c. (q : ValueParser) × (app_of c ≡ f (a q)) × IsShowParser q)
 added_with f a r (Err e) p h = tt {0}
@@ -52,8 +53,8 @@ added_with f a (Err e) (Ok c) p h = absurd p
 added_with f a (Ok b) (Ok c) p h = (h.0, p ∙ ap f h.1, h.2)
 
 -- two steps are one
-pub in_turn : {E : Type 0} (g f : App → App) (r s t : Result Command E) → Adds g s t → Adds f r s
-    → Adds (λ a. g (f a)) r t
+pub in_turn : {E : Type 0} (g f : App → App) (r s t : Result Command E) → ChangesApp g s t → ChangesApp f r s
+    → ChangesApp (λ a. g (f a)) r t
 in_turn g f r s (Err e) q p = tt {0}
 in_turn g f r (Err e) (Ok d) q p = absurd q
 in_turn g f (Err e) (Ok c) (Ok d) q p = absurd p
@@ -69,7 +70,7 @@ adds_command l sub line command made e f h =
 -- a command of a known shape
 pub shaped : {E : Type 0} (sub : Shape) (line command made : Result Command E) → AddsCommand line command made
     → IfOk command IsLocal → IfOk command (λ c. shape_of c ≡ sub)
-    → Adds (λ a. with_subcommand a sub) line made
+    → ChangesApp (λ a. with_subcommand a sub) line made
 shaped sub line command (Err e) p l h = tt {0}
 shaped sub line (Err e) (Ok c) p l h = absurd p
 shaped sub (Err e) (Ok b) (Ok c) p l h = absurd p
@@ -91,12 +92,12 @@ shaped_with a sub (Ok x) (Ok b) (Ok c) p l h k = (
 )
 
 -- an argument whose rule is known
-pub ruled : {E : Type 0} (x : Rule) (a : App) (y : Rule) (r s : Result Command E) → Adds (λ b. with_rule b y) r s
+pub ruled : {E : Type 0} (x : Rule) (a : App) (y : Rule) (r s : Result Command E) → ChangesApp (λ b. with_rule b y) r s
     → y ≡ x → IfOk r (λ c. app_of c ≡ a) → IfOk s (λ c. app_of c ≡ with_rule a x)
 ruled x a y r s p e h = subst (λ z. IfOk s (λ c. app_of c ≡ with_rule a z)) e (added (λ b. with_rule b y) a r s p h)
 
 -- the option `--show`
-pub shown : {E : Type 0} (a : App) (y : Rule) (r s : Result Command E) → Adds (λ b. with_rule b y) r s
+pub shown : {E : Type 0} (a : App) (y : Rule) (r s : Result Command E) → ChangesApp (λ b. with_rule b y) r s
     → (q : ValueParser) × (y ≡ option_rule (codes "show", q)) × IsShowParser q
     → IfOk r (λ c. app_of c ≡ a)
     → IfOk s (λ c. (q : ValueParser) × (app_of c ≡ with_rule a (option_rule (codes "show", q))) × IsShowParser q)

@@ -9,7 +9,7 @@ use Rattle.std.specs.Prelude.{codes, nat_le, nat_lt, option_and_then, unwrap_or}
 use Rattle.std.specs.Str.{bytes_eq}
 use Rattle.std.specs.Str.Parse.{digits_value, without_leading_plus}
 use Rattle.std.proofs.lemmas.Option.{none-some, same_Some}
-use Rattle.sp_words.specs.Dashes.{Item, Text, file, given, items, journal}
+use Rattle.sp_words.specs.Dashes.{WordItem, Text, file, given, items, journal}
 use Rattle.sp_words.specs.Options.{Choice, gen_options, is_number_in, is_numeral, limit_options, number_below}
 use Rattle.sp_words.specs.Options.{number_or, option_names, options_of, run_options, show_or_end, size_named}
 use Rattle.sp_words.specs.Options.{worker_options}
@@ -21,7 +21,7 @@ use Rattle.sp_words.specs.declared.command.Command.{Command}
 use Rattle.sp_words.specs.declared.command.Command.TheVariants as command
 use Rattle.sp_words.specs.declared.command.CommandName.{CommandName}
 use Rattle.sp_words.specs.declared.command.CommandName.TheVariants as name
-use Rattle.sp_words.proofs.Readings.{Each}
+use Rattle.sp_words.proofs.Readings.{HoldsOfEach}
 
 -- ---- a number that was given is in its range, and else the default stands
 
@@ -36,12 +36,12 @@ number_fits greatest default n true false c d e = absurd (true≢false (sym e))
 number_fits greatest default n false b c d e = d
 
 -- what an option was given is among its values
-abbrev pub Fits : (Text → Bool) → Option Text → Type 0
-Fits test None = Unit {0}
-Fits test (Some text) = test text ≡ true
+abbrev pub ValueFits : (Text → Bool) → Option Text → Type 0
+ValueFits test None = Unit {0}
+ValueFits test (Some text) = test text ≡ true
 
 pub number_in_range : (bound greatest default : ℕ) (value : Option Text) → IsUpTo greatest default
-    → Fits (is_number_in 1 greatest) value
+    → ValueFits (is_number_in 1 greatest) value
     → IsUpTo greatest (number_or bound default value)
 number_in_range bound greatest default None d fits = d
 number_in_range bound greatest default (Some text) d fits =
@@ -58,7 +58,7 @@ of_choice value found = option_map_or (λ o. o.1 value) found false
 abbrev IsApart : Text → Type 0
 IsApart name = (bytes_eq (codes "FILE") name ≡ false) × (bytes_eq (codes "JOURNAL") name ≡ false)
 
-item_fits : (options : List Choice) (name : Text) (choice : Choice) (i : Item) → IsApart name
+item_fits : (options : List Choice) (name : Text) (choice : Choice) (i : WordItem) → IsApart name
     → find (λ o. bytes_eq o.0 name) options ≡ Some choice
     → is_accepted options i ≡ true → bytes_eq (subject i) name ≡ true → choice.1 (text_of i) ≡ true
 item_fits options name choice (file word) apart found e same = absurd (true≢false (sym same ∙ apart.0))
@@ -68,16 +68,16 @@ item_fits options name choice (given n value) apart found e same =
     sym (ap (of_choice value) found)
     ∙ ap (λ (m : Text). of_choice value (find (λ o. bytes_eq o.0 m) options)) (sym here) ∙ e
 
-found_fits : (options : List Choice) (name : Text) (choice : Choice) (is : List Item) → IsApart name
+found_fits : (options : List Choice) (name : Text) (choice : Choice) (is : List WordItem) → IsApart name
     → find (λ o. bytes_eq o.0 name) options ≡ Some choice
-    → list_all (is_accepted options) is ≡ true → Fits choice.1 (lookup is name)
+    → list_all (is_accepted options) is ≡ true → ValueFits choice.1 (lookup is name)
 found_fits options name choice [] apart found e = tt
 found_fits options name choice (i ∷ is) apart found e =
     let parts = and_parts (is_accepted options i) (list_all (is_accepted options) is) e in
     go (bytes_eq (subject i) name) refl parts.0 (found_fits options name choice is apart found parts.1)
   where
-    go : (b : Bool) → bytes_eq (subject i) name ≡ b → is_accepted options i ≡ true → Fits choice.1 (lookup is name)
-        → Fits choice.1 (option_map text_of (cond b (Some i) (find (λ j. bytes_eq (subject j) name) is)))
+    go : (b : Bool) → bytes_eq (subject i) name ≡ b → is_accepted options i ≡ true → ValueFits choice.1 (lookup is name)
+        → ValueFits choice.1 (option_map text_of (cond b (Some i) (find (λ j. bytes_eq (subject j) name) is)))
     go true same accepted rest = item_fits options name choice i apart found accepted same
     go false same accepted rest = rest
 
@@ -87,15 +87,15 @@ found_fits options name choice (i ∷ is) apart found e =
 abbrev IsFoundIn : List Choice → Choice → Type 0
 IsFoundIn options choice = IsApart choice.0 × (find (λ o. bytes_eq o.0 choice.0) options ≡ Some choice)
 
-limit_in_range : (options : List Choice) (is : List Item) (name : Text) (bound greatest default : ℕ)
+limit_in_range : (options : List Choice) (is : List WordItem) (name : Text) (bound greatest default : ℕ)
     → list_all (is_accepted options) is ≡ true
     → IsFoundIn options (name, is_number_in 1 greatest) → IsUpTo greatest default
     → IsUpTo greatest (number_or bound default (lookup is name))
 limit_in_range options is name bound greatest default e f d = number_in_range bound greatest default (lookup is name) d
     (found_fits options name (name, is_number_in 1 greatest) is f.0 f.1 e)
 
-limits_in_range : (options : List Choice) (is : List Item) (workers : ℕ) → list_all (is_accepted options) is ≡ true
-    → Each (IsFoundIn options) limit_options → IsUpTo 64 workers
+limits_in_range : (options : List Choice) (is : List WordItem) (workers : ℕ) → list_all (is_accepted options) is ≡ true
+    → HoldsOfEach (IsFoundIn options) limit_options → IsUpTo 64 workers
     → IsInRange workers (limits_from (lookup is))
 limits_in_range options is workers e f w = record {
   workers = w;
@@ -112,7 +112,7 @@ limits_in_range options is workers e f w = record {
       (omega arith, omega arith);
 }
 
-limits_of_run : Each (IsFoundIn run_options) limit_options
+limits_of_run : HoldsOfEach (IsFoundIn run_options) limit_options
 limits_of_run = (
   ((refl, refl), refl),
   (
@@ -124,7 +124,7 @@ limits_of_run = (
   ),
 )
 
-limits_of_replay : Each (IsFoundIn limit_options) limit_options
+limits_of_replay : HoldsOfEach (IsFoundIn limit_options) limit_options
 limits_of_replay = (
   ((refl, refl), refl),
   (
@@ -136,7 +136,7 @@ limits_of_replay = (
   ),
 )
 
-limits_of_workers : Each (IsFoundIn worker_options) limit_options
+limits_of_workers : HoldsOfEach (IsFoundIn worker_options) limit_options
 limits_of_workers = (
   ((refl, refl), refl),
   (
@@ -148,7 +148,7 @@ limits_of_workers = (
   ),
 )
 
-workers_in_range : (options : List Choice) (is : List Item) → list_all (is_accepted options) is ≡ true
+workers_in_range : (options : List Choice) (is : List WordItem) → list_all (is_accepted options) is ≡ true
     → IsFoundIn options (codes "workers", is_number_in 1 64)
     → IsUpTo 64 (workers_from (lookup is))
 workers_in_range options is e f = limit_in_range options is (codes "workers") (2 ^ 32) 64 4 e f
@@ -156,7 +156,7 @@ workers_in_range options is e f = limit_in_range options is (codes "workers") (2
 
 -- ---- the options of `witness` and `exec`
 
-worker_in_range : (is : List Item) → list_all (is_accepted worker_options) is ≡ true
+worker_in_range : (is : List WordItem) → list_all (is_accepted worker_options) is ≡ true
     → IsInRange (workers_from (lookup is)) (limits_from (lookup is))
 worker_in_range is accepted =
     limits_in_range worker_options is (workers_from (lookup is)) accepted limits_of_workers
@@ -180,7 +180,7 @@ size_in_range word n e = size_read (number_below (2 ^ 64) word) n e
 
 -- ---- the options of `gen`
 
-gen_in_range : (is : List Item) (word : Text) (named : Option ℕ) (c : Command)
+gen_in_range : (is : List WordItem) (word : Text) (named : Option ℕ) (c : Command)
     → list_all (is_accepted gen_options) is ≡ true → size_named word ≡ named
     → option_map (λ size. command.Gen size (workers_from (lookup is))) named ≡ Some c → AreInRange c
 gen_in_range is word None c accepted d e = absurd (none-some c e)
@@ -190,7 +190,7 @@ gen_in_range is word (Some size) c accepted d e =
 
 -- ---- the JOURNAL of `replay`
 
-journal_in_range : (is : List Item) (word : Text) (found : Option Text) (c : Command)
+journal_in_range : (is : List WordItem) (word : Text) (found : Option Text) (c : Command)
     → list_all (is_accepted limit_options) is ≡ true
     → option_map (λ text. command.Replay word text (limits_from (lookup is))) found ≡ Some c → AreInRange c
 journal_in_range is word None c accepted e = absurd (none-some c e)
@@ -200,7 +200,7 @@ journal_in_range is word (Some text) c accepted e =
 
 -- ---- the words
 
-word_in_range : (called : CommandName) (is : List Item) (word : Text) (c : Command)
+word_in_range : (called : CommandName) (is : List WordItem) (word : Text) (c : Command)
     → list_all (is_accepted (options_of called)) is ≡ true
     → command_from called (lookup is) word ≡ Some c → AreInRange c
 word_in_range name.Check is word c accepted e = rw (sym (same_Some (command.Check word) c e)) tt
@@ -222,20 +222,20 @@ word_in_range name.Exec is word c accepted e =
     rw (sym (same_Some (command.Exec word (workers_from (lookup is)) (limits_from (lookup is))) c e))
     (worker_in_range is accepted)
 
-found_in_range : (called : CommandName) (is : List Item) (found : Option Text) (c : Command)
+found_in_range : (called : CommandName) (is : List WordItem) (found : Option Text) (c : Command)
     → list_all (is_accepted (options_of called)) is ≡ true
     → option_and_then (command_from called (lookup is)) found ≡ Some c → AreInRange c
 found_in_range called is None c accepted e = absurd (none-some c e)
 found_in_range called is (Some word) c accepted e = word_in_range called is word c accepted e
 
-items_in_range : (called : CommandName) (is : List Item) (g : Bool) (c : Command)
+items_in_range : (called : CommandName) (is : List WordItem) (g : Bool) (c : Command)
     → (each_once [] is && list_all (is_accepted (options_of called)) is) ≡ g
     → cond g (command_with called (lookup is)) None ≡ Some c → AreInRange c
 items_in_range called is true c d e = found_in_range called is (lookup is (codes "FILE")) c
     (and_parts (each_once [] is) (list_all (is_accepted (options_of called)) is) d).1 e
 items_in_range called is false c d e = absurd (none-some c e)
 
-read_in_range : (called : CommandName) (read : Option (List Item)) (c : Command)
+read_in_range : (called : CommandName) (read : Option (List WordItem)) (c : Command)
     → option_and_then (command_of_items called) read ≡ Some c → AreInRange c
 read_in_range called None c e = absurd (none-some c e)
 read_in_range called (Some is) c e = items_in_range called (with_journal (has_journal called) is) _ c refl e

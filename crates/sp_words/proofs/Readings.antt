@@ -68,9 +68,9 @@ number_parsed k text (Err e) h =
 
 -- ---- names
 
-abbrev pub Each : {A : Type 0} → (A → Type 0) → List A → Type 0
-Each P [] = Unit {0}
-Each P (x ∷ xs) = P x × Each P xs
+abbrev pub HoldsOfEach : {A : Type 0} → (A → Type 0) → List A → Type 0
+HoldsOfEach P [] = Unit {0}
+HoldsOfEach P (x ∷ xs) = P x × HoldsOfEach P xs
 
 differs : (a b : Text) → (b ≡ a → ⊥) → bytes_eq a b ≡ false
 differs a b never = go (bytes_eq a b) refl
@@ -80,7 +80,7 @@ differs a b never = go (bytes_eq a b) refl
     go true e = absurd (never (sym ((bytes_eq-Decides a b).0 e)))
 
 -- a text that is none of the names finds nothing
-pub none_named : {A : Type 0} (xs : List (Text × A)) (text : Text) → Each (λ p. text ≡ p.0 → ⊥) xs
+pub none_named : {A : Type 0} (xs : List (Text × A)) (text : Text) → HoldsOfEach (λ p. text ≡ p.0 → ⊥) xs
     → None ≡ option_map (λ p. p.1) (find (λ p. bytes_eq p.0 text) xs)
 none_named [] text h = refl
 none_named (x ∷ xs) text h = rw (differs x.0 text h.0) (none_named xs text h.1)

@@ -146,7 +146,7 @@ pub record IsOption (os : Parsers) (n : Text) : Type 0 where
   pub no_file : bytes_eq n file_id ≡ false
   pub itself : bytes_eq n n ≡ true
 
-record IsAmong (os : Options) (n : Text) : Type 0 where
+record IsListedOption (os : Options) (n : Text) : Type 0 where
   parser : ValueParser
   found : option_map (λ o. o.1) (find (named n) os) ≡ Some parser
   by_id : arg_by_id (options os) n ≡ Some (built_option n parser)
@@ -158,12 +158,12 @@ same_name a b = (bytes_eq-Decides a b).0
 itself_of : (a : Text) → bytes_eq a a ≡ true
 itself_of a = (bytes_eq-Decides a a).1 refl
 
-among : (os : Options) (n : Text) → contains (map (λ o. o.0) os) n ≡ true → IsAmong os n
+among : (os : Options) (n : Text) → contains (map (λ o. o.0) os) n ≡ true → IsListedOption os n
 among [] n e = absurd (true≢false (sym e))
 among (o ∷ os) n e = go (bytes_eq o.0 n) refl e (among os n)
   where
     go : (b : Bool) → bytes_eq o.0 n ≡ b → (b || contains (map (λ o. o.0) os) n) ≡ true
-        → (contains (map (λ o. o.0) os) n ≡ true → IsAmong os n) → IsAmong (o ∷ os) n
+        → (contains (map (λ o. o.0) os) n ≡ true → IsListedOption os n) → IsListedOption (o ∷ os) n
     go true d k ih =
         let is : o.0 ≡ n = same_name o.0 n d in
         record {

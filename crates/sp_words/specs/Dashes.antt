@@ -74,22 +74,22 @@ abbrev pub value_of : Text → Text
 value_of word = after_first (λ b. b == 61) (drop 2 word)
 
 -- what the words give: a FILE, a JOURNAL, or an option by its name with its value
-pub data Item : Type 0 where
-  file : Text → Item
-  journal : Text → Item
-  given : Text → Text → Item
+pub data WordItem : Type 0 where
+  file : Text → WordItem
+  journal : Text → WordItem
+  given : Text → Text → WordItem
 
 -- the item first, where the words after it can be read
-abbrev pub first_item : Item → Option (List Item) → Option (List Item)
+abbrev pub first_item : WordItem → Option (List WordItem) → Option (List WordItem)
 first_item item rest = option_map (λ items. item ∷ items) rest
 
 -- the value of an option does not begin with a dash
-abbrev pub with_value : Text → Text → Option Text → Option (List Item) → Option (List Item)
+abbrev pub with_value : Text → Text → Option Text → Option (List WordItem) → Option (List WordItem)
 with_value name word (Some tail) rest = None
 with_value name word None rest = first_item (given name word) rest
 
 -- what a word gives by its form; `rest` reads the words after it, with the option that waits for its value
-abbrev pub by_form : Form → Text → List Text → (Option Text → Option (List Item)) → Option (List Item)
+abbrev pub by_form : Form → Text → List Text → (Option Text → Option (List WordItem)) → Option (List WordItem)
 by_form Plain word words rest = first_item (file word) (rest None)
 by_form End word words rest = Some (map file words)
 by_form Whole word words rest = first_item (given (name_of word) (value_of word)) (rest None)
@@ -97,7 +97,7 @@ by_form Open word words rest = rest (Some (name_of word))
 by_form Stray word words rest = None
 
 -- the items of the words, where they keep the dash rule; an option may wait for its value
-abbrev pub items : List Text → Option Text → List Text → Option (List Item)
+abbrev pub items : List Text → Option Text → List Text → Option (List WordItem)
 items options None [] = Some []
 items options (Some name) [] = None
 items options (Some name) (word ∷ words) = with_value name word (after_dash word) (items options None words)

@@ -97,8 +97,8 @@ abbrev pub IsLocal : Command → Type 0
 IsLocal c = (out-Command c).has_globals ≡ false
 
 -- where a command is made, one was given, and what was made is `f` of it
-abbrev pub Adds : {E : Type 0} → (App → App) → Result Command E → Result Command E → Type 0
-Adds f given made = IfOk made (λ c. IsOkAnd given (λ b. app_of c ≡ f (app_of b)))
+abbrev pub ChangesApp : {E : Type 0} → (App → App) → Result Command E → Result Command E → Type 0
+ChangesApp f given made = IfOk made (λ c. IsOkAnd given (λ b. app_of c ≡ f (app_of b)))
 
 -- where a line is made, a line and a command were given, and the line made has the command as well
 abbrev pub AddsCommand : {E : Type 0} → Result Command E → Result Command E → Result Command E → Type 0

@@ -10,7 +10,7 @@ use Rattle.std.specs.Str.{bytes_eq}
 use Rattle.clap.specs.Words.{first_value, found_of}
 use Rattle.clap.specs.declared.parser.matches.ArgMatches.{ArgMatches}
 use Rattle.sp_base.specs.declared.limits.Limits.{Limits}
-use Rattle.sp_words.specs.Dashes.{Item, Text, contains, file, given, items, journal}
+use Rattle.sp_words.specs.Dashes.{WordItem, Text, contains, file, given, items, journal}
 use Rattle.sp_words.specs.Options.{Choice, number_or, option_names, options_of, show_or_end, size_named}
 use Rattle.sp_words.specs.Ranges.{default_limits, default_workers}
 use Rattle.sp_words.specs.declared.command.Command.{Command}
@@ -19,30 +19,30 @@ use Rattle.sp_words.specs.declared.command.CommandName.{CommandName}
 use Rattle.sp_words.specs.declared.command.CommandName.TheVariants as name
 
 -- what an item is about: FILE, which is the N of `gen`, JOURNAL, or an option
-abbrev pub subject : Item → Text
+abbrev pub subject : WordItem → Text
 subject (file word) = codes "FILE"
 subject (journal word) = codes "JOURNAL"
 subject (given name value) = name
 
 -- the word of a FILE or a JOURNAL, or the value of an option
-abbrev pub text_of : Item → Text
+abbrev pub text_of : WordItem → Text
 text_of (file word) = word
 text_of (journal word) = word
 text_of (given name value) = value
 
 -- no subject comes twice, nor one that was seen before
-abbrev pub each_once : List Text → List Item → Bool
+abbrev pub each_once : List Text → List WordItem → Bool
 each_once seen [] = true
 each_once seen (i ∷ is) = not (contains seen (subject i)) && each_once (seen ++ subject i ∷ []) is
 
 -- the option may have this value, and any word is a FILE or a JOURNAL
-abbrev pub is_accepted : List Choice → Item → Bool
+abbrev pub is_accepted : List Choice → WordItem → Bool
 is_accepted options (file word) = true
 is_accepted options (journal word) = true
 is_accepted options (given name value) = option_map_or (λ o. o.1 value) (find (λ o. bytes_eq o.0 name) options) false
 
 -- the text of a subject
-abbrev pub lookup : List Item → Text → Option Text
+abbrev pub lookup : List WordItem → Text → Option Text
 lookup is name = option_map text_of (find (λ i. bytes_eq (subject i) name) is)
 
 -- the text of a subject among what the parser found
@@ -89,14 +89,14 @@ abbrev pub command_with : CommandName → (Text → Option Text) → Option Comm
 command_with command value = option_and_then (command_from command value) (value (codes "FILE"))
 
 -- the first FILE of these is a JOURNAL
-abbrev pub journal_first : List Item → List Item
+abbrev pub journal_first : List WordItem → List WordItem
 journal_first [] = []
 journal_first (file word ∷ is) = journal word ∷ is
 journal_first (journal word ∷ is) = journal word ∷ journal_first is
 journal_first (given name value ∷ is) = given name value ∷ journal_first is
 
 -- the second FILE of these is a JOURNAL
-abbrev pub journal_second : List Item → List Item
+abbrev pub journal_second : List WordItem → List WordItem
 journal_second [] = []
 journal_second (file word ∷ is) = file word ∷ journal_first is
 journal_second (journal word ∷ is) = journal word ∷ journal_second is
@@ -116,18 +116,18 @@ has_journal name.Build = false
 has_journal name.Exec = false
 
 -- where there is a JOURNAL, it is the second of the words that are no options
-abbrev pub with_journal : Bool → List Item → List Item
+abbrev pub with_journal : Bool → List WordItem → List WordItem
 with_journal there is = if there then journal_second is else is
 
 -- the items are a FILE, or the N of `gen`, perhaps a JOURNAL, and options with values that they may have, each at most
 -- once
-abbrev pub command_of_parts : CommandName → List Item → Option Command
+abbrev pub command_of_parts : CommandName → List WordItem → Option Command
 command_of_parts command is =
     if each_once [] is && list_all (is_accepted (options_of command)) is then command_with command (lookup is)
     else None
 
 -- the same of items where a JOURNAL is not yet told from a FILE
-abbrev pub command_of_items : CommandName → List Item → Option Command
+abbrev pub command_of_items : CommandName → List WordItem → Option Command
 command_of_items command is = command_of_parts command (with_journal (has_journal command) is)
 
 -- the commands by their names

@@ -5,7 +5,8 @@ ghost use Rattle.std.specs.Prelude.{◌≡◌, ◌∷◌, ◌++◌, [], IfOk, co
 ghost use Rattle.clap.specs.Words.{app_of, rule_of, shape_of, with_rule, with_subcommand};
 ghost use Rattle.clap.specs.declared.builder.value_parser.ValueParser.{ValueParser as Parser};
 ghost use Rattle.clap.specs.declared.builder.value_parser.ValueParser.TheVariants.{Unsigned};
-ghost use Rattle.sp_words.specs.Parsers.{Adds, AddsCommand, IsLocal, IsShowParser, app_with, app_with_file, bare_line};
+ghost use Rattle.sp_words.specs.Parsers.{ChangesApp, AddsCommand, IsLocal, IsShowParser, app_with, app_with_file};
+ghost use Rattle.sp_words.specs.Parsers.{bare_line};
 ghost use Rattle.sp_words.specs.Parsers.{gen_parsers};
 ghost use Rattle.sp_words.specs.Parsers.{limit_parsers, option_rule, replay_shape, run_parsers, shape_with, word_rule};
 ghost use Rattle.sp_words.specs.Parsers.{worker_parsers};
@@ -55,7 +56,7 @@ fn with_arg<'a>(
     command: Result<Command<'a>, AllocError>,
     arg: Arg<'a>,
 ) -> Result<Command<'a>, AllocError>
-    ensures rule { arg.entry.global ≡ false → Adds (λ a. with_rule a (rule_of arg.entry)) command.entry result }
+    ensures rule { arg.entry.global ≡ false → ChangesApp (λ a. with_rule a (rule_of arg.entry)) command.entry result }
     ensures local { arg.entry.global ≡ false → IfOk command.entry IsLocal → IfOk result IsLocal }
 {
     command?.arg(arg)
@@ -75,7 +76,8 @@ fn with_number<'a>(
     least: u64,
     most: u64,
 ) -> Result<Command<'a>, AllocError>
-    ensures rule { Adds (λ a. with_rule a (option_rule (name.entry.now, Unsigned least most))) command.entry result }
+    ensures rule { ChangesApp (λ a. with_rule a (option_rule (name.entry.now, Unsigned least most))) command.entry
+        result }
     ensures local { IfOk command.entry IsLocal → IfOk result IsLocal }
 {
     with_arg(command, number_arg(alloc, name, least, most))
@@ -86,7 +88,7 @@ fn with_limits<'a>(
     command: Result<Command<'a>, AllocError>,
     alloc: Global,
 ) -> Result<Command<'a>, AllocError>
-    ensures rules { Adds (λ a. fold with_rule a (map option_rule limit_parsers)) command.entry result }
+    ensures rules { ChangesApp (λ a. fold with_rule a (map option_rule limit_parsers)) command.entry result }
     ensures local { IfOk command.entry IsLocal → IfOk result IsLocal }
 {
     let command = with_number(command, alloc, "ticks", 1, 1_000_000_000);
@@ -171,7 +173,7 @@ fn with_plain<'a>(
     alloc: Global,
     name: &'a str,
 ) -> Result<Command<'a>, AllocError>
-    ensures { Adds (λ a. with_subcommand a (shape_with name.entry.now [])) line.entry result }
+    ensures { ChangesApp (λ a. with_subcommand a (shape_with name.entry.now [])) line.entry result }
 {
     with_command(line, plain_command(alloc, name))
 }

@@ -7,7 +7,7 @@ use Rattle.sp_cell.specs.declared.cell.Cell.TheVariants.{Undefined}
 use Rattle.sp_cell.specs.declared.spot.Spot.{Spot}
 use Rattle.sp_cell.specs.declared.spot.Handing.{Handing}
 use Rattle.sp_cell.specs.Fork.{moved_of, shared_of, HasIndex}
-use Rattle.sp_cell.specs.Frame.{next_frame, root_map, without}
+use Rattle.sp_cell.specs.Frame.{next_frame, root_map, without_spots_of}
 use Rattle.sp_cell.proofs.FrameLaws.{above_known, known_pieces, without_here, without_other}
 use Rattle.sp_cell.proofs.Laws.{get_here, get_other, same_or, pieces_not_away}
 use Rattle.sp_cell.specs.Map.{Map, Content, Own, Output, Away, Plain, spot_cmp}
@@ -58,7 +58,7 @@ none_here o e f = let z = sym e ∙ f in absurd (false≢true (ap is_some_of z))
     is_some_of (Some x) = true
 
 pub none_without : (m : Map) (n : ℕ) → ((q : Spot) → map.get m q ≢ Some Away) → (q : Spot)
-    → map.get (without m n) q ≢ Some Away
+    → map.get (without_spots_of m n) q ≢ Some Away
 none_without m n f q = elim (cases_eq q.frame n)
     [ inl e ↦ none_here _ (without_here m n q e) | inr d ↦ rw (without_other m n q d) (f q) ]
 

@@ -12,14 +12,14 @@ use Rattle.sum_room.specs.declared.sum.Note.{Note}
 use Rattle.sp_room.specs.History.{LeadsTo}
 
 -- one is added, and the worker's note has the sum
-abbrev pub Adds : Total → ℕ → Total → Got → Option Note → Type 0
-Adds x w y g n = (y.value ≡ x.value + 1) × (g ≡ Sum y.value) × (n ≡ Some (record { worker = w; sum = y.value }))
+abbrev pub AddsOne : Total → ℕ → Total → Got → Option Note → Type 0
+AddsOne x w y g n = (y.value ≡ x.value + 1) × (g ≡ Sum y.value) × (n ≡ Some (record { worker = w; sum = y.value }))
 
 -- the state, the worker, the ask, the state after, the answer and the note
-abbrev pub Steps : Total → ℕ → Ask → Total → Got → Option Note → Type 0
-Steps x w Add y g n = Adds x w y g n
-Steps x w Leave y g n = Adds x w y g n
-Steps x w Look y g n = (y ≡ x) × (g ≡ Sum x.value) × (n ≡ None)
+abbrev pub SumSteps : Total → ℕ → Ask → Total → Got → Option Note → Type 0
+SumSteps x w Add y g n = AddsOne x w y g n
+SumSteps x w Leave y g n = AddsOne x w y g n
+SumSteps x w Look y g n = (y ≡ x) × (g ≡ Sum x.value) × (n ≡ None)
 
 abbrev pub is_leave : Ask → Bool
 is_leave Leave = true
@@ -30,30 +30,31 @@ is_leave Look = false
 abbrev pub Returns : Ask → Got → Type 0
 Returns a g = g ≡ Refused a
 
-pub leave_notes : (x : Total) (w : ℕ) (a : Ask) (y : Total) (g : Got) → is_leave a ≡ true → Steps x w a y g None → ⊥
+pub leave_notes : (x : Total) (w : ℕ) (a : Ask) (y : Total) (g : Got) → is_leave a ≡ true → SumSteps x w a y g None → ⊥
 leave_notes x w Leave y g is m = cc (m.2)
 leave_notes x w Add y g is m = cc (m.2)
 leave_notes x w Look y g is m = cc is
 
-pub none_same : (x : Total) (w : ℕ) (a : Ask) (y : Total) (g : Got) → Steps x w a y g None → y ≡ x
+pub none_same : (x : Total) (w : ℕ) (a : Ask) (y : Total) (g : Got) → SumSteps x w a y g None → y ≡ x
 none_same x w Add y g m = absurd (cc (m.2))
 none_same x w Leave y g m = absurd (cc (m.2))
 none_same x w Look y g m = m.0
 
-one_more : (x : Total) (w : ℕ) (a : Ask) (y : Total) (g : Got) (n : Note) → Steps x w a y g (Some n)
+one_more : (x : Total) (w : ℕ) (a : Ask) (y : Total) (g : Got) (n : Note) → SumSteps x w a y g (Some n)
     → y.value ≡ x.value + 1
 one_more x w Add y g n m = m.0
 one_more x w Leave y g n m = m.0
 one_more x w Look y g n m = absurd (cc (m.2))
 
-pub note_changes : (x : Total) (w : ℕ) (a : Ask) (y : Total) (g : Got) (n : Note) → Steps x w a y g (Some n) → y ≡ x → ⊥
+pub note_changes : (x : Total) (w : ℕ) (a : Ask) (y : Total) (g : Got) (n : Note) → SumSteps x w a y g (Some n)
+    → y ≡ x → ⊥
 note_changes x w a y g n m same = let more : y.value ≡ x.value + 1 = one_more x w a y g n m in
     let e : y.value ≡ x.value = (λ i. (same i).value) in omega (arith, more, e)
 
 some_worker : (n k : Note) → Some n ≡ Some k → n.worker ≡ k.worker
 some_worker n k e = let same : n ≡ k = cc e in λ i. (same i).worker
 
-pub note_names : (x : Total) (w : ℕ) (a : Ask) (y : Total) (g : Got) (n : Note) → Steps x w a y g (Some n)
+pub note_names : (x : Total) (w : ℕ) (a : Ask) (y : Total) (g : Got) (n : Note) → SumSteps x w a y g (Some n)
     → n.worker ≡ w
 note_names x w Add y g n m = some_worker n _ m.2
 note_names x w Leave y g n m = some_worker n _ m.2
@@ -62,10 +63,10 @@ note_names x w Look y g n m = absurd (cc (m.2))
 pub ask_returns : (a b : Ask) (g : Got) → is_leave a ≡ false → is_leave b ≡ false → Returns a g → Returns b g → a ≡ b
 ask_returns a b g one two p q = cc (p, q)
 
-pub sum_is : (x : Total) (log : List Note) (y : Total) → LeadsTo Steps x log y → y.value ≡ x.value + length log
+pub sum_is : (x : Total) (log : List Note) (y : Total) → LeadsTo SumSteps x log y → y.value ≡ x.value + length log
 sum_is x [] y r = let e : x.value ≡ y.value = λ i. (r i).value in omega (arith, e)
 sum_is x (n ∷ ns) y r = let e = sum_is r.0 ns y r.5 in let f = one_more x r.1 r.2 r.0 r.3 n r.4 in omega (arith, e, f)
 
-pub never_full : (x : Total) (log : List Note) (y : Total) → x.value ≡ 0 → LeadsTo Steps x log y
+pub never_full : (x : Total) (log : List Note) (y : Total) → x.value ≡ 0 → LeadsTo SumSteps x log y
     → length log < 18446744073709551615 → y.value + 1 < 18446744073709551616
 never_full x log y zero r short = omega (arith, sum_is x log y r, zero, short)

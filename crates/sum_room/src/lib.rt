@@ -32,7 +32,8 @@ mod tests;
 pub use sum::{Ask, Got, Note, Sum};
 
 impl Kept for Sum {
-    ghost use Rattle.sum_room.specs.Adding.{Steps, is_leave, Returns, leave_notes, none_same, note_changes, note_names};
+    ghost use Rattle.sum_room.specs.Adding.{SumSteps, is_leave, Returns, leave_notes, none_same, note_changes};
+    ghost use Rattle.sum_room.specs.Adding.{note_names};
     ghost use Rattle.sum_room.specs.Adding.{ask_returns, never_full};
 
     type Ask = Ask;
@@ -43,7 +44,7 @@ impl Kept for Sum {
 
     ghost opens = { λ x. x.value ≡ 0 };
 
-    ghost steps = { Steps };
+    ghost steps = { SumSteps };
 
     ghost can_serve = { λ x w a. x.value + 1 < 18446744073709551616 };
 

@@ -12,89 +12,93 @@ use Rattle.superpascal.specs.declared.asked.Executed.{Executed}
 use Rattle.superpascal.specs.declared.asked.Followed.{Followed}
 use Rattle.superpascal.specs.declared.telling.Telling.{Telling}
 use Rattle.superpascal.specs.declared.telling.Telling.TheVariants as told
-use Rattle.superpascal.specs.Texts.{Breaks, BreaksOne, CanRead, IsAbout, Keeps, KeepsAll}
-use Rattle.superpascal.specs.Texts.{Makes, asked, asks, asks_build, asks_for, asks_text, executes, follows, text_of}
+use Rattle.superpascal.specs.Texts.{FirstBrokenFor, FirstBroken, CanRead, IsAbout, AcceptedFor, IsAcceptedText}
+use Rattle.superpascal.specs.Texts.{Makes, asked_run, command_of_run, asks_build, command_for_run, asks_text}
+use Rattle.superpascal.specs.Texts.{command_of_execution, command_of_replay, text_of}
 
 -- what holds of `run` and of `witness` holds of the command
 pub either_command : (P : Command → Type 0) (b : Asked)
     → ((show : Show) → P (command.Run b.file b.workers b.limits show)) → P (command.Witness b.file b.workers b.limits)
-    → P (asks b)
+    → P (command_of_run b)
 either_command P b run witness = go b.telling
   where
-    go : (t : Telling) → P (asks_for t b.file b.workers b.limits)
+    go : (t : Telling) → P (command_for_run t b.file b.workers b.limits)
     go (told.Reports show) = run show
     go told.Witness = witness
 
-pub asked_text : (held : List ℕ → Option (List ℕ)) (b : Asked) → text_of held (asks b) ≡ held b.file
+pub asked_text : (held : List ℕ → Option (List ℕ)) (b : Asked) → text_of held (command_of_run b) ≡ held b.file
 asked_text held b = either_command (λ d. text_of held d ≡ held b.file) b (λ show. refl) refl
 
-pub asked_about : (b : Asked) → IsAbout (asks b) b.file
+pub asked_about : (b : Asked) → IsAbout (command_of_run b) b.file
 asked_about b = either_command (λ d. IsAbout d b.file) b (λ show. refl) refl
 
-pub asked_reads : (held : List ℕ → Option (List ℕ)) (b : Asked) → IfSome (held b.file) KeepsAll → CanRead held (asks b)
+pub asked_reads : (held : List ℕ → Option (List ℕ)) (b : Asked) → IfSome (held b.file) IsAcceptedText
+    → CanRead held (command_of_run b)
 asked_reads held b h = either_command (λ d. CanRead held d) b (λ show. h) h
 
-pub asked_breaks : (b : Asked) (text : List ℕ) (r : Refusal) → BreaksOne text r → Breaks (asks b) text r
-asked_breaks b text r h = either_command (λ d. Breaks d text r) b (λ show. h) h
+pub asked_breaks : (b : Asked) (text : List ℕ) (r : Refusal) → FirstBroken text r
+    → FirstBrokenFor (command_of_run b) text r
+asked_breaks b text r h = either_command (λ d. FirstBrokenFor d text r) b (λ show. h) h
 
-pub breaks_asked : (b : Asked) (text : List ℕ) (r : Refusal) → Breaks (asks b) text r → BreaksOne text r
-breaks_asked b text r = either_command (λ d. Breaks d text r → BreaksOne text r) b (λ show h. h) (λ h. h)
+pub breaks_asked : (b : Asked) (text : List ℕ) (r : Refusal) → FirstBrokenFor (command_of_run b) text r
+    → FirstBroken text r
+breaks_asked b text r = either_command (λ d. FirstBrokenFor d text r → FirstBroken text r) b (λ show h. h) (λ h. h)
 
-pub asked_keeps : (b : Asked) (text : List ℕ) → KeepsAll text → Keeps (asks b) text
-asked_keeps b text h = either_command (λ d. Keeps d text) b (λ show. h) h
+pub asked_keeps : (b : Asked) (text : List ℕ) → IsAcceptedText text → AcceptedFor (command_of_run b) text
+asked_keeps b text h = either_command (λ d. AcceptedFor d text) b (λ show. h) h
 
-pub keeps_asked : (b : Asked) (text : List ℕ) → Keeps (asks b) text → KeepsAll text
-keeps_asked b text = either_command (λ d. Keeps d text → KeepsAll text) b (λ show h. h) (λ h. h)
+pub keeps_asked : (b : Asked) (text : List ℕ) → AcceptedFor (command_of_run b) text → IsAcceptedText text
+keeps_asked b text = either_command (λ d. AcceptedFor d text → IsAcceptedText text) b (λ show h. h) (λ h. h)
 
-pub asked_makes : (b : Asked) (text out line : List ℕ) → Makes (asks b) text out line → ⊥
+pub asked_makes : (b : Asked) (text out line : List ℕ) → Makes (command_of_run b) text out line → ⊥
 asked_makes b text out line = either_command (λ d. Makes d text out line → ⊥) b (λ show h. h) (λ h. h)
 
-pub asked_no_text : (b : Asked) → asks_text (asks b) → ⊥
+pub asked_no_text : (b : Asked) → asks_text (command_of_run b) → ⊥
 asked_no_text b = either_command (λ d. asks_text d → ⊥) b (λ show h. h) (λ h. h)
 
-pub asked_no_build : (b : Asked) → asks_build (asks b) → ⊥
+pub asked_no_build : (b : Asked) → asks_build (command_of_run b) → ⊥
 asked_no_build b = either_command (λ d. asks_build d → ⊥) b (λ show h. h) (λ h. h)
 
 -- ---- one command asks for one run
 
 not_generated : (size workers file : _) (n : ℕ) (limits : Limits) (t : Telling)
-    → asks_for t file n limits ≡ command.Gen size workers → ⊥
+    → command_for_run t file n limits ≡ command.Gen size workers → ⊥
 not_generated size workers file n limits (told.Reports show) h = cc
 not_generated size workers file n limits told.Witness h = cc
 
-pub not_gen : (a : Asked) (size workers : ℕ) → asks a ≡ command.Gen size workers → ⊥
+pub not_gen : (a : Asked) (size workers : ℕ) → command_of_run a ≡ command.Gen size workers → ⊥
 not_gen a size workers h = not_generated size workers a.file a.workers a.limits a.telling h
 
 not_replayed : (b : Followed) (file : List ℕ) (n : ℕ) (limits : Limits) (t : Telling)
-    → follows b ≡ asks_for t file n limits → ⊥
+    → command_of_replay b ≡ command_for_run t file n limits → ⊥
 not_replayed b file n limits (told.Reports show) h = cc
 not_replayed b file n limits told.Witness h = cc
 
-pub not_run : (b : Followed) (a : Asked) → follows b ≡ asks a → ⊥
+pub not_run : (b : Followed) (a : Asked) → command_of_replay b ≡ command_of_run a → ⊥
 not_run b a h = not_replayed b a.file a.workers a.limits a.telling h
 
 not_executed : (file : List ℕ) (n : ℕ) (limits : Limits) (t : Telling) (b : Executed)
-    → asks_for t file n limits ≡ executes b → ⊥
+    → command_for_run t file n limits ≡ command_of_execution b → ⊥
 not_executed file n limits (told.Reports show) b h = cc
 not_executed file n limits told.Witness b h = cc
 
-pub not_exec : (a : Asked) (b : Executed) → asks a ≡ executes b → ⊥
+pub not_exec : (a : Asked) (b : Executed) → command_of_run a ≡ command_of_execution b → ⊥
 not_exec a b h = not_executed a.file a.workers a.limits a.telling b h
 
 one_for : (t u : Telling) (file name : List ℕ) (n m : ℕ) (limits other : Limits)
-    → asks_for u name m other ≡ asks_for t file n limits
-    → asked name m other u ≡ asked file n limits t
+    → command_for_run u name m other ≡ command_for_run t file n limits
+    → asked_run name m other u ≡ asked_run file n limits t
 one_for (told.Reports a) (told.Reports b) file name n m limits other h =
     let file_is : name ≡ file = cc in
     let workers_is : m ≡ n = cc in
     let limits_is : other ≡ limits = cc in
     let show_is : b ≡ a = cc in
-    λ i. asked (file_is i) (workers_is i) (limits_is i) (told.Reports (show_is i))
+    λ i. asked_run (file_is i) (workers_is i) (limits_is i) (told.Reports (show_is i))
 one_for told.Witness told.Witness file name n m limits other h =
     let file_is : name ≡ file = cc in
     let workers_is : m ≡ n = cc in
     let limits_is : other ≡ limits = cc in
-    λ i. asked (file_is i) (workers_is i) (limits_is i) told.Witness
+    λ i. asked_run (file_is i) (workers_is i) (limits_is i) told.Witness
 one_for (told.Reports a) told.Witness file name n m limits other h = absurd (apart h)
   where
     apart : command.Witness name m other ≡ command.Run file n limits a → ⊥
@@ -104,5 +108,5 @@ one_for told.Witness (told.Reports b) file name n m limits other h = absurd (apa
     apart : command.Run name m other b ≡ command.Witness file n limits → ⊥
     apart h = cc
 
-pub one_asked : (a b : Asked) → asks b ≡ asks a → b ≡ a
+pub one_asked : (a b : Asked) → command_of_run b ≡ command_of_run a → b ≡ a
 one_asked a b h = one_for a.telling b.telling a.file b.file a.workers b.workers a.limits b.limits h

@@ -18,9 +18,9 @@ use Rattle.sp_journal.specs.declared.outcome.End.TheVariants as ends
 use Rattle.sp_journal.specs.Reading.{IsText}
 use Rattle.sp_journal.specs.Texts.{IsFirstBad}
 use Rattle.sp_outside.specs.Counts.{Rose}
-use Rattle.sp_print.specs.Lines.{HasLines, refusal_text}
+use Rattle.sp_print.specs.OutcomeLines.{HasLines, refusal_text}
 use Rattle.sp_replay.specs.declared.replayer.Replayed.{Replayed}
-use Rattle.sp_tree.specs.Bare.{bare}
+use Rattle.sp_tree.specs.Bare.{without_places}
 use Rattle.sp_tree.specs.Plain.{Program}
 use Rattle.sp_words.specs.Ranges.{default_limits}
 use Rattle.sp_words.specs.Words.{command_of}
@@ -36,22 +36,26 @@ use Rattle.superpascal.specs.declared.telling.Telling.{Telling}
 use Rattle.superpascal.specs.declared.telling.Telling.TheVariants as told
 use Rattle.superpascal.specs.Answering.{HasEndLines}
 use Rattle.superpascal.specs.Answers.{has_output, line_of, notes_by, notes_of, output_of, status_of}
-use Rattle.superpascal.specs.Calls.{All, Call, Exactly, Failed, IsAnswered, IsFinal, IsOutside, IsUnwritten, OfText}
-use Rattle.superpascal.specs.Calls.{Part, Says}
+use Rattle.superpascal.specs.Calls.{WroteAll, Call, Exactly, Failed, IsAnswered, IsFinal, IsOutside, IsUnwritten}
+use Rattle.superpascal.specs.Calls.{OfText}
+use Rattle.superpascal.specs.Calls.{WrotePart, SaysEnding}
 use Rattle.superpascal.specs.Causes.{Cause, by_words, before_words, by_command, Files, HasGenerated, HasMade, HasRead}
 use Rattle.superpascal.specs.Causes.{HasReplayed, HasRun, IsBadCode, IsBadJournal, IsLongCode, IsLongFile}
 use Rattle.superpascal.specs.Causes.{IsLongJournal, IsNotLoaded, IsNotRead, IsRefusedFor, IsRejectedCode, IsTold}
-use Rattle.superpascal.specs.Causes.{IsTooLong, IsTooMuch, IsUnfit, IsUntouched, ReadsAfterRules, Stream, refused}
-use Rattle.superpascal.specs.Causes.{silent}
+use Rattle.superpascal.specs.Causes.{IsTooLong, IsTooMuch, IsUnfit, IsUntouched, ReadsAfterRules, Stream}
+use Rattle.superpascal.specs.Causes.{refusal_answer}
+use Rattle.superpascal.specs.Causes.{silent_answer}
 use Rattle.superpascal.specs.Following.{Following, IsMeantAlong, IsNoJournal, PrintsReplay}
 use Rattle.superpascal.specs.Headline.{Headline, IsMeant, Prints}
 use Rattle.superpascal.specs.Replays.{IsJournalOf, IsUnfitFor, ending_of_replay, replay_notes}
 use Rattle.superpascal.specs.Runs.{IsRunOf, Reports, ending_of, generated_answer, generated_output, run_answer}
 use Rattle.superpascal.specs.Runs.{told_notes, told_output}
-use Rattle.superpascal.specs.Statuses.{InputIsTooLong, IsQuiet, IsRunOfWords, IsWell, ReadsFail, Statuses}
-use Rattle.superpascal.specs.Texts.{Breaks, CanRead, HasLongCode, IsDisjointText}
-use Rattle.superpascal.specs.Texts.{IsJournalText, IsSoundFile, Keeps, KeepsAll, Loads, Makes, asks, asks_build}
-use Rattle.superpascal.specs.Texts.{asks_execution, asks_replay, asks_run, asks_text, executes, follows, text_of}
+use Rattle.superpascal.specs.Statuses.{InputIsTooLong, OutsideWorks, IsRunOfWords, IsWell, ReadsFail, Statuses}
+use Rattle.superpascal.specs.Texts.{FirstBrokenFor, CanRead, HasLongCode, IsDisjointText}
+use Rattle.superpascal.specs.Texts.{IsJournalText, IsSoundFile, AcceptedFor, IsAcceptedText, Loads, Makes}
+use Rattle.superpascal.specs.Texts.{command_of_run, asks_build}
+use Rattle.superpascal.specs.Texts.{asks_execution, asks_replay, asks_run, asks_text, command_of_execution}
+use Rattle.superpascal.specs.Texts.{command_of_replay, text_of}
 use Rattle.superpascal.specs.Witnessing.{IsShown}
 use Rattle.superpascal.specs.Writing.{AreWritten, Writing, WritesLine}
 use Rattle.superpascal.proofs.Laws.{Laws, code_text_keeps, disjoint_text, keeps_all, keeps_or, kept_or, made_asks}
@@ -125,7 +129,7 @@ build_text (command.Build file) q = tt
 build_text (command.Exec file workers limits) q = q
 
 -- what it refuses, and of what it makes something
-build_keeps : (d : Command) (text : List ℕ) → asks_build d → KeepsAll text → Keeps d text
+build_keeps : (d : Command) (text : List ℕ) → asks_build d → IsAcceptedText text → AcceptedFor d text
 build_keeps (command.Check file) text q k = k
 build_keeps (command.Run file workers limits show) text q k = k
 build_keeps (command.Code file) text q k = k
@@ -206,7 +210,7 @@ module _ (f : Files) (s : Stream) (reports : Reports) (w : Option Command) (a : 
   input_long e.TooLong k h = k
   input_long _ k h = absurd (omega arith)
 
-  no_memory : (x : Ending) → Why x → status_of x ≡ 8 → a ≡ silent e.OutOfMemory
+  no_memory : (x : Ending) → Why x → status_of x ≡ 8 → a ≡ silent_answer e.OutOfMemory
   no_memory e.OutOfMemory k h = k
   no_memory _ k h = absurd (omega arith)
 
@@ -221,52 +225,54 @@ module _ (f : Files) (s : Stream) (reports : Reports) (w : Option Command) (a : 
         (subst (λ (x : Command). IfSome (text_of f.held x) P) (one_command w d c v u) h)
 
     run_keeps : (all input : List ℕ) (workers : ℕ) (r : Ran) (limits : Limits) → IsRunOf all input workers limits r
-        → KeepsAll all
+        → IsAcceptedText all
     run_keeps all input workers r limits h = (h.tree, h.has.accepted, h.has.short)
 
-    told_keeps : (o : Option (List ℕ)) (all : List ℕ) → IsTold o all → KeepsAll all → IfSome o KeepsAll
-    told_keeps o all h k = when_told KeepsAll o all h k
+    told_keeps : (o : Option (List ℕ)) (all : List ℕ) → IsTold o all → IsAcceptedText all → IfSome o IsAcceptedText
+    told_keeps o all h k = when_told IsAcceptedText o all h k
 
-    ran_keeps : HasRanFor f s reports w a → Keeps d text
+    ran_keeps : HasRanFor f s reports w a → AcceptedFor d text
     ran_keeps (c, u, inl (asked, p, h)) =
-        let same : asks asked ≡ d = sym p ∙ one_command w d c v u in
-        let told = subst (λ (o : Option (List ℕ)). IfSome o KeepsAll) (sym (asked_text f.held asked))
+        let same : command_of_run asked ≡ d = sym p ∙ one_command w d c v u in
+        let told = subst (λ (o : Option (List ℕ)). IfSome o IsAcceptedText) (sym (asked_text f.held asked))
         (told_keeps (f.held asked.file) h.text h.loaded
         (run_keeps h.text h.input asked.workers h.ran asked.limits h.is_run)) in
-        let all : KeepsAll text = of_text KeepsAll (asks asked) (u ∙ ap Some p) told in
-        subst (λ (x : Command). Keeps x text) same (asked_keeps asked text all)
+        let all : IsAcceptedText text = of_text IsAcceptedText (command_of_run asked) (u ∙ ap Some p) told in
+        subst (λ (x : Command). AcceptedFor x text) same (asked_keeps asked text all)
     ran_keeps (c, u, inr (size, workers, p, h)) =
         let same : command.Gen size workers ≡ d = sym p ∙ one_command w d c v u in
-        let all : KeepsAll text = of_text KeepsAll (command.Gen size workers) (u
+        let all : IsAcceptedText text = of_text IsAcceptedText (command.Gen size workers) (u
         ∙ ap Some p) (run_keeps (generated_text size) [] workers h.ran default_limits h.is_run) in
-        subst (λ (x : Command). Keeps x text) same all
+        subst (λ (x : Command). AcceptedFor x text) same all
 
     -- a text of which a journal was loaded is kept
-    followed_keeps : (b : Followed) → w ≡ Some (follows b) → IfSome (f.held b.file) KeepsAll → Keeps d text
-    followed_keeps b u h = subst (λ (x : Command). Keeps x text) (one_command w d (follows b) v u)
-        (of_text KeepsAll (follows b) u h)
+    followed_keeps : (b : Followed) → w ≡ Some (command_of_replay b) → IfSome (f.held b.file) IsAcceptedText
+        → AcceptedFor d text
+    followed_keeps b u h = subst (λ (x : Command). AcceptedFor x text) (one_command w d (command_of_replay b) v u)
+        (of_text IsAcceptedText (command_of_replay b) u h)
 
-    replay_keeps : HasReplayedFor f s reports w a → Keeps d text
+    replay_keeps : HasReplayedFor f s reports w a → AcceptedFor d text
     replay_keeps (b, u, h) =
         followed_keeps b u (told_keeps (f.held b.file) h.has_read.text h.has_read.loaded
         (tree_keeps h.has_read.text h.is_replay.tree h.is_replay.has))
 
-    unfit_keeps : (b : Followed) (n : ℕ) → w ≡ Some (follows b) → IsUnfit f s b n a → Keeps d text
+    unfit_keeps : (b : Followed) (n : ℕ) → w ≡ Some (command_of_replay b) → IsUnfit f s b n a → AcceptedFor d text
     unfit_keeps b n u h =
         followed_keeps b u (told_keeps (f.held b.file) h.has_read.text h.has_read.loaded
         (tree_keeps h.has_read.text h.is_unfit.tree h.is_unfit.has))
 
     -- a code file that has run is kept, and one that is at fault breaks no rule of texts
-    executed_keeps : HasExecutedFor f s reports w a → Keeps d text
+    executed_keeps : HasExecutedFor f s reports w a → AcceptedFor d text
     executed_keeps (b, u, h) =
-        subst (λ (x : Command). Keeps x text) (one_command w d (executes b) v u)
-        (of_text IsSoundFile (executes b) u
+        subst (λ (x : Command). AcceptedFor x text) (one_command w d (command_of_execution b) v u)
+        (of_text IsSoundFile (command_of_execution b) u
         (when_told IsSoundFile (f.held b.file) h.bytes h.loaded (h.is_execution.code, h.is_execution.file)))
 
-    executed_breaks : (b : Executed) → w ≡ Some (executes b) → (r : Refusal) → Breaks d text r → ⊥
-    executed_breaks b u r h = subst (λ (x : Command). Breaks x text r) (sym (one_command w d (executes b) v u)) h
+    executed_breaks : (b : Executed) → w ≡ Some (command_of_execution b) → (r : Refusal) → FirstBrokenFor d text r → ⊥
+    executed_breaks b u r h =
+        subst (λ (x : Command). FirstBrokenFor x text r) (sym (one_command w d (command_of_execution b) v u)) h
 
-    ended_keeps : HasEnded f s reports w a → Keeps d text
+    ended_keeps : HasEnded f s reports w a → AcceptedFor d text
     ended_keeps (inl k) = ran_keeps k
     ended_keeps (inr (inl k)) = replay_keeps k
     ended_keeps (inr (inr k)) = executed_keeps k
@@ -283,14 +289,14 @@ module _ (f : Files) (s : Stream) (reports : Reports) (w : Option Command) (a : 
       subst HasLongCode (of_text (λ x. h.text ≡ x) c u h.loaded) h.long,
     )
 
-    long_keeps : (c : Command) → w ≡ Some c → IsLongCode f c a → Keeps d text
+    long_keeps : (c : Command) → w ≡ Some c → IsLongCode f c a → AcceptedFor d text
     long_keeps c u h = let k = long_code c u h in build_keeps d text k.0 (code_text_keeps text k.1.0 k.1.1)
 
-    breaks : (c : Command) → w ≡ Some c → (h : IsRefusedFor f c a) → Breaks d text h.refusal
-    breaks c u h = subst (λ (x : Command). Breaks x text h.refusal) (one_command w d c v u)
-        (of_text (λ x. Breaks c x h.refusal) c u h.breaks)
+    breaks : (c : Command) → w ≡ Some c → (h : IsRefusedFor f c a) → FirstBrokenFor d text h.refusal
+    breaks c u h = subst (λ (x : Command). FirstBrokenFor x text h.refusal) (one_command w d c v u)
+        (of_text (λ x. FirstBrokenFor c x h.refusal) c u h.breaks)
 
-    refusal_due : Laws → (r : Refusal) → Breaks d text r → (x : Ending) → x ≡ a.ending → Why x
+    refusal_due : Laws → (r : Refusal) → FirstBrokenFor d text r → (x : Ending) → x ≡ a.ending → Why x
         → Due_line x (e.Refused r)
     refusal_due l r b e.Done i k = absurd (keeps_or l text d r (ended_keeps k) b)
     refusal_due l r b e.Deadlock i k = absurd (keeps_or l text d r (ended_keeps k) b)
@@ -315,12 +321,12 @@ module _ (f : Files) (s : Stream) (reports : Reports) (w : Option Command) (a : 
     refusal_due l r b e.TooLong i k = inr (omega arith, omega arith)
     refusal_due l r b e.OutOfMemory i k = inr (omega arith, omega arith)
 
-    refused_only : (x : Ending) → Why x → status_of x ≡ 1 → (r : Refusal) × Breaks d text r
+    refused_only : (x : Ending) → Why x → status_of x ≡ 1 → (r : Refusal) × FirstBrokenFor d text r
     refused_only (e.Refused q) (c, u, h) i = (h.refusal, breaks c u h)
     refused_only _ k i = absurd (omega arith)
 
     -- where a program has run, or the text is accepted, no rule is broken
-    kept_by : (x : Ending) → Why x → IsFinal (status_of x) → Keeps d text
+    kept_by : (x : Ending) → Why x → IsFinal (status_of x) → AcceptedFor d text
     kept_by e.Done k i = ended_keeps k
     kept_by e.Deadlock k i = ended_keeps k
     kept_by e.Fault k i = ended_keeps k
@@ -334,11 +340,11 @@ module _ (f : Files) (s : Stream) (reports : Reports) (w : Option Command) (a : 
     not_ran q (c, u, inl (asked, p, h)) = asked_no_text asked (subst asks_text (sym (one_command w d c v u) ∙ p) q)
     not_ran q (c, u, inr (size, workers, p, h)) = subst asks_text (sym (one_command w d c v u) ∙ p) q
 
-    not_followed_by : asks_text d → (b : Followed) → w ≡ Some (follows b) → ⊥
-    not_followed_by q b u = subst asks_text (sym (one_command w d (follows b) v u)) q
+    not_followed_by : asks_text d → (b : Followed) → w ≡ Some (command_of_replay b) → ⊥
+    not_followed_by q b u = subst asks_text (sym (one_command w d (command_of_replay b) v u)) q
 
-    not_executed_by : asks_text d → (b : Executed) → w ≡ Some (executes b) → ⊥
-    not_executed_by q b u = subst asks_text (sym (one_command w d (executes b) v u)) q
+    not_executed_by : asks_text d → (b : Executed) → w ≡ Some (command_of_execution b) → ⊥
+    not_executed_by q b u = subst asks_text (sym (one_command w d (command_of_execution b) v u)) q
 
     not_ended : asks_text d → HasEnded f s reports w a → ⊥
     not_ended q (inl k) = not_ran q k
@@ -403,12 +409,12 @@ module _ (f : Files) (s : Stream) (reports : Reports) (w : Option Command) (a : 
     made_due q l m e.OutOfMemory k = inr (omega arith, omega arith)
 
     -- what comes of a text that is kept where nothing fails outside
-    module _ (l : Laws) (kept : Keeps d text)
+    module _ (l : Laws) (kept : AcceptedFor d text)
         (library : (name : List ℕ) → Loads f.held d name → Rose (f.before name) (f.after name)
         → ⊥) (source : Rose s.before s.after → ⊥)
         (fits : CanRead f.held d → (input : List ℕ) × (s.left ≡ Some input) × (length input ≤ 16777216)) where
-      replay_asked : (b : Followed) → w ≡ Some (follows b) → asks_replay d
-      replay_asked b u = subst asks_replay (one_command w d (follows b) v u) tt
+      replay_asked : (b : Followed) → w ≡ Some (command_of_replay b) → asks_replay d
+      replay_asked b u = subst asks_replay (one_command w d (command_of_replay b) v u) tt
 
       read_well : (c : Command) → w ≡ Some c → IsNotLoaded f c a ⊎ IsNotRead f s c a → ⊥
       read_well c u (inl h) = library h.name
@@ -422,19 +428,24 @@ module _ (f : Files) (s : Stream) (reports : Reports) (w : Option Command) (a : 
           not_too_long i.0 i.0 refl i.2 k
 
       -- a code file of which a sound code comes is not at fault
-      file_kept : (b : Executed) → w ≡ Some (executes b) → IsSoundFile text
-      file_kept b u = subst (λ (x : Command). Keeps x text) (sym (one_command w d (executes b) v u)) kept
+      file_kept : (b : Executed) → w ≡ Some (command_of_execution b) → IsSoundFile text
+      file_kept b u = subst (λ (x : Command). AcceptedFor x text)
+          (sym (one_command w d (command_of_execution b) v u)) kept
 
-      long_file : (b : Executed) → w ≡ Some (executes b) → IsLongFile f b a → ⊥
-      long_file b u h = not_long text (file_kept b u) (of_text (λ x. 67108864 < length x) (executes b) u h.long)
+      long_file : (b : Executed) → w ≡ Some (command_of_execution b) → IsLongFile f b a → ⊥
+      long_file b u h = not_long text (file_kept b u) (of_text (λ x. 67108864 < length x) (command_of_execution b) u
+          h.long)
 
-      bad_file : (b : Executed) → w ≡ Some (executes b) → (n : ℕ) → IsBadCode f b n a → ⊥
+      bad_file : (b : Executed) → w ≡ Some (command_of_execution b) → (n : ℕ) → IsBadCode f b n a → ⊥
       bad_file b u n h = not_bad h.bytes n
-          (subst IsSoundFile (sym (of_text (λ x. h.bytes ≡ x) (executes b) u h.loaded)) (file_kept b u)) h.bad
+          (subst IsSoundFile (sym (of_text (λ x. h.bytes ≡ x) (command_of_execution b) u h.loaded))
+          (file_kept b u)) h.bad
 
-      rejected_file : (b : Executed) → w ≡ Some (executes b) → (r : VRule) (n : ℕ) → IsRejectedCode f b r n a → ⊥
+      rejected_file : (b : Executed) → w ≡ Some (command_of_execution b) → (r : VRule) (n : ℕ)
+          → IsRejectedCode f b r n a → ⊥
       rejected_file b u r n h =
-          not_rejected l h.code h.bytes (subst IsSoundFile (sym (of_text (λ x. h.bytes ≡ x) (executes b) u h.loaded))
+          not_rejected l h.code h.bytes
+          (subst IsSoundFile (sym (of_text (λ x. h.bytes ≡ x) (command_of_execution b) u h.loaded))
           (file_kept b u)) h.text (rule_of r) n h.rejected
 
       ends_well : (x : Ending) → Why x → IsWell d (status_of x)
@@ -458,10 +469,10 @@ module _ (f : Files) (s : Stream) (reports : Reports) (w : Option Command) (a : 
 
   -- a command with a run, where the status is that of one
   followed_or_run : (d : Command) → w ≡ Some d → asks_run d → HasReplayedFor f s reports w a → ⊥
-  followed_or_run d v n (b, u, h) = subst asks_run (sym (one_command w d (follows b) v u)) n
+  followed_or_run d v n (b, u, h) = subst asks_run (sym (one_command w d (command_of_replay b) v u)) n
 
   executed_or_run : (d : Command) → w ≡ Some d → asks_run d → HasExecutedFor f s reports w a → ⊥
-  executed_or_run d v n (b, u, h) = subst asks_run (sym (one_command w d (executes b) v u)) n
+  executed_or_run d v n (b, u, h) = subst asks_run (sym (one_command w d (command_of_execution b) v u)) n
 
   ended_there : (d : Command) → w ≡ Some d → asks_run d → HasEnded f s reports w a → (r : Ran) × (a.ran ≡ Some r)
   ended_there d v n (inl (c, u, h)) = ran_there c h
@@ -481,23 +492,23 @@ module _ (f : Files) (s : Stream) (reports : Reports) (w : Option Command) (a : 
   run_there d v n _ k (inr (inr i)) = absurd (omega arith)
 
   -- too long an input for a text that is kept
-  module _ (b : Asked) (text : List ℕ) (v : w ≡ Some (asks b)) (t : f.held b.file ≡ Some text) (l : Laws)
-      (kept : KeepsAll text)
+  module _ (b : Asked) (text : List ℕ) (v : w ≡ Some (command_of_run b)) (t : f.held b.file ≡ Some text) (l : Laws)
+      (kept : IsAcceptedText text)
       (input : List ℕ) (left : s.left ≡ Some input) (long : IsTooLong input) where
-    text_is : text_of f.held (asks b) ≡ Some text
+    text_is : text_of f.held (command_of_run b) ≡ Some text
     text_is = asked_text f.held b ∙ t
 
     fits_not : (d : Command) → w ≡ Some d → IsRanBy f s reports w a d → ⊥
     fits_not d u (inl (asked, p, h)) =
         let same : h.input ≡ input = told_of s.left h.input input left h.read in
         not_too_long h.input input same h.fits long
-    fits_not d u (inr (size, workers, p, h)) = not_gen b size workers (one_command w d (asks b) u v ∙ p)
+    fits_not d u (inr (size, workers, p, h)) = not_gen b size workers (one_command w d (command_of_run b) u v ∙ p)
 
-    followed_not : (x : Followed) → w ≡ Some (follows x) → ⊥
-    followed_not x u = not_run x b (one_command w (asks b) (follows x) v u)
+    followed_not : (x : Followed) → w ≡ Some (command_of_replay x) → ⊥
+    followed_not x u = not_run x b (one_command w (command_of_run b) (command_of_replay x) v u)
 
-    executed_not : (x : Executed) → w ≡ Some (executes x) → ⊥
-    executed_not x u = not_exec b x (one_command w (executes x) (asks b) u v)
+    executed_not : (x : Executed) → w ≡ Some (command_of_execution x) → ⊥
+    executed_not x u = not_exec b x (one_command w (command_of_execution x) (command_of_run b) u v)
 
     ended_not : HasEnded f s reports w a → ⊥
     ended_not (inl (c, u, h)) = fits_not c u h
@@ -515,39 +526,41 @@ module _ (f : Files) (s : Stream) (reports : Reports) (w : Option Command) (a : 
     long_due e.LongFile k = absurd (executed_not k.0 k.1)
     long_due (e.BadCode n) k = absurd (executed_not k.0 k.1)
     long_due (e.Rejected r n) k = absurd (executed_not k.0 k.1)
-    long_due e.LongCode (c, u, h) = absurd (asked_no_build b (long_code (asks b) text v text_is c u h).0)
-    long_due e.Accepted (c, u, h) = absurd (asked_makes b text h.output h.line (makes (asks b) text v text_is c u h))
+    long_due e.LongCode (c, u, h) = absurd (asked_no_build b (long_code (command_of_run b) text v text_is c u h).0)
+    long_due e.Accepted (c, u, h) =
+        absurd (asked_makes b text h.output h.line (makes (command_of_run b) text v text_is c u h))
     long_due (e.Refused r) (c, u, h) = absurd
-        (kept_or l text h.refusal kept (breaks_asked b text h.refusal (breaks (asks b) text v text_is c u h)))
+        (kept_or l text h.refusal kept (breaks_asked b text h.refusal (breaks (command_of_run b) text v text_is c u h)))
     long_due e.BadWords k = absurd (no_command _ _ v k)
     long_due e.ReadFault k = (omega arith, omega arith)
     long_due e.TooLong k = (omega arith, omega arith)
     long_due e.OutOfMemory k = (omega arith, omega arith)
 
   -- what comes of a journal and a text that is kept
-  data Came (b : Followed) (x : Ending) : Type 0 where
-    came_followed : HasReplayed f s b a → Came b x
-    came_unfit : (n : ℕ) → IsUnfit f s b n a → Came b x
-    came_bad : (n : ℕ) → IsBadJournal f b n a → Came b x
-    came_long : IsLongJournal f b a → Came b x
-    came_outside : IsOutside (status_of x) → Came b x
+  data ReplayCause (b : Followed) (x : Ending) : Type 0 where
+    came_followed : HasReplayed f s b a → ReplayCause b x
+    came_unfit : (n : ℕ) → IsUnfit f s b n a → ReplayCause b x
+    came_bad : (n : ℕ) → IsBadJournal f b n a → ReplayCause b x
+    came_long : IsLongJournal f b a → ReplayCause b x
+    came_outside : IsOutside (status_of x) → ReplayCause b x
 
-  module _ (b : Followed) (text : List ℕ) (v : w ≡ Some (follows b)) (t : f.held b.file ≡ Some text) where
-    this : (P : Followed → Type 0) (x : Followed) → w ≡ Some (follows x) → P x → P b
-    this P x u h = subst P (one_followed b x (one_command w (follows b) (follows x) v u)) h
+  module _ (b : Followed) (text : List ℕ) (v : w ≡ Some (command_of_replay b)) (t : f.held b.file ≡ Some text) where
+    this : (P : Followed → Type 0) (x : Followed) → w ≡ Some (command_of_replay x) → P x → P b
+    this P x u h = subst P (one_followed b x (one_command w (command_of_replay b) (command_of_replay x) v u)) h
 
     replayed_by : HasReplayedFor f s reports w a → HasReplayed f s b a
     replayed_by (x, u, h) = this (λ y. HasReplayed f s y a) x u h
 
     not_ran_here : HasRanFor f s reports w a → ⊥
-    not_ran_here (c, u, inl (asked, p, h)) = not_run b asked (sym (one_command w (follows b) c v u) ∙ p)
-    not_ran_here (c, u, inr (size, workers, p, h)) = not_generated b size workers (sym (one_command w (follows b) c v u)
+    not_ran_here (c, u, inl (asked, p, h)) = not_run b asked (sym (one_command w (command_of_replay b) c v u) ∙ p)
+    not_ran_here (c, u, inr (size, workers, p, h)) =
+        not_generated b size workers (sym (one_command w (command_of_replay b) c v u)
         ∙ p)
 
-    not_executed_here : (x : Executed) → w ≡ Some (executes x) → ⊥
-    not_executed_here x u = apart (one_command w (executes x) (follows b) u v)
+    not_executed_here : (x : Executed) → w ≡ Some (command_of_execution x) → ⊥
+    not_executed_here x u = apart (one_command w (command_of_execution x) (command_of_replay b) u v)
       where
-        apart : follows b ≡ executes x → ⊥
+        apart : command_of_replay b ≡ command_of_execution x → ⊥
         apart h = cc
 
     ended_here : HasEnded f s reports w a → HasReplayed f s b a
@@ -555,13 +568,14 @@ module _ (f : Files) (s : Stream) (reports : Reports) (w : Option Command) (a : 
     ended_here (inr (inl k)) = replayed_by k
     ended_here (inr (inr k)) = absurd (not_executed_here k.0 k.1)
 
-    came : Laws → KeepsAll text → (x : Ending) → Why x → Came b x
+    came : Laws → IsAcceptedText text → (x : Ending) → Why x → ReplayCause b x
     came l kept e.Done k = came_followed (ended_here k)
     came l kept e.Deadlock k = came_followed (ended_here k)
     came l kept e.Fault k = came_followed (ended_here k)
     came l kept e.NoEnd k = came_followed (replayed_by k)
-    came l kept e.Accepted (c, u, h) = absurd (makes (follows b) text v t c u h)
-    came l kept (e.Refused r) (c, u, h) = absurd (kept_or l text h.refusal kept (breaks (follows b) text v t c u h))
+    came l kept e.Accepted (c, u, h) = absurd (makes (command_of_replay b) text v t c u h)
+    came l kept (e.Refused r) (c, u, h) =
+        absurd (kept_or l text h.refusal kept (breaks (command_of_replay b) text v t c u h))
     came l kept e.BadWords k = absurd (no_command _ _ v k)
     came l kept e.ReadFault k = came_outside (omega arith, omega arith)
     came l kept e.TooLong k = came_outside (omega arith, omega arith)
@@ -569,7 +583,7 @@ module _ (f : Files) (s : Stream) (reports : Reports) (w : Option Command) (a : 
     came l kept e.LongJournal (x, u, h) = came_long (this (λ y. IsLongJournal f y a) x u h)
     came l kept (e.BadJournal n) (x, u, h) = came_bad n (this (λ y. IsBadJournal f y n a) x u h)
     came l kept (e.Unfit n) (x, u, h) = came_unfit n (this (λ y. IsUnfit f s y n a) x u h)
-    came l kept e.LongCode (c, u, h) = absurd (long_code (follows b) text v t c u h).0
+    came l kept e.LongCode (c, u, h) = absurd (long_code (command_of_replay b) text v t c u h).0
     came l kept e.LongFile k = absurd (not_executed_here k.0 k.1)
     came l kept (e.BadCode n) k = absurd (not_executed_here k.0 k.1)
     came l kept (e.Rejected r n) k = absurd (not_executed_here k.0 k.1)
@@ -580,7 +594,7 @@ module _ (f : Files) (s : Stream) (reports : Reports) (w : Option Command) (a : 
     followed_only e.Deadlock k i = ended_here k
     followed_only e.Fault k i = ended_here k
     followed_only e.NoEnd k i = replayed_by k
-    followed_only e.Accepted (c, u, h) i = absurd (makes (follows b) text v t c u h)
+    followed_only e.Accepted (c, u, h) i = absurd (makes (command_of_replay b) text v t c u h)
     followed_only _ k (inl i) = absurd (omega arith)
     followed_only _ k (inr (inl i)) = absurd (omega arith)
     followed_only _ k (inr (inr i)) = absurd (omega arith)
@@ -593,14 +607,14 @@ module _ (f : Files) (s : Stream) (reports : Reports) (w : Option Command) (a : 
   long_said : (x : Ending) → Why x → status_of x ≡ 10 → Code_refused
   long_said e.LongCode (d, v, h) i =
       (d, v, inl (h.builds, when_told HasLongCode (text_of f.held d) h.text h.loaded h.long))
-  long_said e.LongFile (b, v, h) i = (executes b, v, inr tt)
-  long_said (e.BadCode n) (b, v, h) i = (executes b, v, inr tt)
-  long_said (e.Rejected r n) (b, v, h) i = (executes b, v, inr tt)
+  long_said e.LongFile (b, v, h) i = (command_of_execution b, v, inr tt)
+  long_said (e.BadCode n) (b, v, h) i = (command_of_execution b, v, inr tt)
+  long_said (e.Rejected r n) (b, v, h) i = (command_of_execution b, v, inr tt)
   long_said _ k i = absurd (omega arith)
 
   -- why a journal is refused
   abbrev Refused_journal : Type 0
-  Refused_journal = (b : Followed) × (w ≡ Some (follows b)) × IfSome (f.held b.file) KeepsAll
+  Refused_journal = (b : Followed) × (w ≡ Some (command_of_replay b)) × IfSome (f.held b.file) IsAcceptedText
       × (IfSome (f.held b.journal) IsNoJournal
       ⊎ ((h : HasRead f s b) × (n : ℕ) × IsUnfitFor h.text h.input b.limits h.journal n))
 
@@ -612,7 +626,7 @@ module _ (f : Files) (s : Stream) (reports : Reports) (w : Option Command) (a : 
   journal_refused (e.Unfit n) (b, u, h) i = (
     b,
     u,
-    when_told KeepsAll (f.held b.file) h.has_read.text h.has_read.loaded
+    when_told IsAcceptedText (f.held b.file) h.has_read.text h.has_read.loaded
         (tree_keeps h.has_read.text h.is_unfit.tree h.is_unfit.has),
     inr (h.has_read, n, h.is_unfit),
   )
@@ -666,24 +680,24 @@ module _ (c : Call) (k : IsAnswered c) (l : Laws) where
   never_six _ h = absurd (omega arith)
 
   pub says_due : (x : Ending) → ((status_of ending ≡ status_of x) × (notes_of k.answer ≡ line_of x))
-      ⊎ IsOutside (status_of ending) → Says c x
+      ⊎ IsOutside (status_of ending) → SaysEnding c x
   says_due x d = go k.written.status_is d
     where
       go : (status ≡ status_of ending) ⊎ (status ≡ 6)
           → ((status_of ending ≡ status_of x) × (notes_of k.answer ≡ line_of x)) ⊎ IsOutside (status_of ending)
-          → Says c x
+          → SaysEnding c x
       go (inr i) h = inr (omega arith, omega arith)
       go (inl i) (inl h) = inl (
         i ∙ h.0,
-        subst (All c.notes) h.1 (k.written.all_written (not_six (status_of x) (never_six x) (i ∙ h.0))).1,
+        subst (WroteAll c.notes) h.1 (k.written.all_written (not_six (status_of x) (never_six x) (i ∙ h.0))).1,
       )
       go (inl i) (inr h) = inr (subst IsOutside (sym i) h)
 
   -- the line of an answer that is its ending's
-  pub says : (x : Ending) → notes_of k.answer ≡ line_of x → ending ≡ x → Says c x
+  pub says : (x : Ending) → notes_of k.answer ≡ line_of x → ending ≡ x → SaysEnding c x
   says x line i = says_due x (inl (ap status_of i, line))
 
-  pub outside_says : (x : Ending) → IsOutside (status_of ending) → Says c x
+  pub outside_says : (x : Ending) → IsOutside (status_of ending) → SaysEnding c x
   outside_says x o = says_due x (inr o)
 
   pub final_or : IsFinal (status_of ending) → IsFinal status ⊎ IsOutside status
@@ -759,22 +773,23 @@ module _ (c : Call) (k : IsAnswered c) (l : Laws) where
         → AreWritten c output notes
     written output notes i j = record {
       whole = λ n. (
-        subst (All c.output) i (k.written.all_written n).0,
-        subst (All c.notes) j
+        subst (WroteAll c.output) i (k.written.all_written n).0,
+        subst (WroteAll c.notes) j
             (k.written.all_written n).1,
       );
-      part_of_output = subst (Part c.output) i k.written.part_of_output;
-      part_of_notes = subst (Part c.notes) j k.written.part_of_notes;
+      part_of_output = subst (WrotePart c.output) i k.written.part_of_output;
+      part_of_notes = subst (WrotePart c.notes) j k.written.part_of_notes;
     }
 
     -- of a run that the words ask for
-    module _ (b : Asked) (v : command_of c.words ≡ Some (asks b)) where
+    module _ (b : Asked) (v : command_of c.words ≡ Some (command_of_run b)) where
       of_run : (P : Asked → Type 0) → ((x : Asked) → HasRun c.files c.source c.reports x k.answer → P x) → P b
       of_run P q = go has_ran
         where
           go : HasRanFor c.files c.source c.reports (command_of c.words) k.answer → P b
-          go (d, u, inl (x, p, m)) = subst P (one_asked b x (sym p ∙ one_command _ (asks b) d v u)) (q x m)
-          go (d, u, inr (size, workers, p, m)) = absurd (not_gen b size workers (sym (one_command _ (asks b) d v u)
+          go (d, u, inl (x, p, m)) = subst P (one_asked b x (sym p ∙ one_command _ (command_of_run b) d v u)) (q x m)
+          go (d, u, inr (size, workers, p, m)) =
+              absurd (not_gen b size workers (sym (one_command _ (command_of_run b) d v u)
               ∙ p))
 
       run_written : AreWritten c (told_output b.telling r) (told_notes c.reports b.telling r)
@@ -809,12 +824,12 @@ module _ (c : Call) (k : IsAnswered c) (l : Laws) where
             where
               meant : (x : Asked) (text input : List ℕ) (r : Ran) → IsRunOf text input x.workers x.limits r
                   → IsMeant x text input r
-              meant x text input r h = (bare h.tree, (h.tree, h.has.accepted.0, refl), h.meant)
+              meant x text input r h = (without_places h.tree, (h.tree, h.has.accepted.0, refl), h.meant)
 
       run_disjoint : (text : List ℕ) → c.files.held b.file ≡ Some text → IsDisjointText text
       run_disjoint text t =
           disjoint_text l text (keeps_asked b text
-          (ran_keeps c.files c.source c.reports (command_of c.words) k.answer (asks b) text v
+          (ran_keeps c.files c.source c.reports (command_of c.words) k.answer (command_of_run b) text v
           (asked_text c.files.held b ∙ t) has_ran))
 
       -- the witness of its race
@@ -835,7 +850,7 @@ module _ (c : Call) (k : IsAnswered c) (l : Laws) where
             where
               shown : (x : Asked) (text input : List ℕ) (r : Ran) → IsRunOf text input x.workers x.limits r
                   → IsShown x text input r
-              shown x text input r h = (bare h.tree, (h.tree, h.has.accepted.0, refl), h.shown)
+              shown x text input r h = (without_places h.tree, (h.tree, h.has.accepted.0, refl), h.shown)
 
     generated_written : (size workers : ℕ) → command_of c.words ≡ Some (command.Gen size workers)
         → AreWritten c (generated_output size r) []
@@ -857,11 +872,11 @@ module _ (c : Call) (k : IsAnswered c) (l : Laws) where
 
   -- ---- the clauses
 
-  refuses : OfText c (λ d text. (r : Refusal) → Breaks d text r → Says c (e.Refused r))
+  refuses : OfText c (λ d text. (r : Refusal) → FirstBrokenFor d text r → SaysEnding c (e.Refused r))
   refuses d text v t r b = says_due (e.Refused r)
       (refusal_due c.files c.source c.reports (command_of c.words) k.answer d text v t l r b ending refl due_why)
 
-  refuses_only : OfText c (λ d text. status ≡ 1 → (r : Refusal) × Breaks d text r)
+  refuses_only : OfText c (λ d text. status ≡ 1 → (r : Refusal) × FirstBrokenFor d text r)
   refuses_only d text v t h = refused_only c.files c.source c.reports
       (command_of c.words) k.answer d text v t ending due_why (undisplaced 1 (λ p. absurd (omega arith)) h)
 
@@ -880,15 +895,15 @@ module _ (c : Call) (k : IsAnswered c) (l : Laws) where
         (command_of c.words) k.answer d text v t q l m ending due_why),
   )
 
-  made_written : OfText c (λ d text. (out line : List ℕ) → Makes d text out line → status ≡ 0 → All c.output out
-      × All c.notes line)
+  made_written : OfText c (λ d text. (out line : List ℕ) → Makes d text out line → status ≡ 0 → WroteAll c.output out
+      × WroteAll c.notes line)
   made_written d text v t out line m h =
       let n = made_only c.files c.source c.reports (command_of c.words) k.answer d text v t
       (made_asks d text out line m) ending due_why (undisplaced 0 (λ p. absurd (omega arith)) h) in
       let once = made_once l text d n.0.output out n.0.line line n.1 m in
       let all = k.written.all_written (not_six 0 (λ p. absurd (omega arith)) h) in (
-        subst (All c.output) (ap output_of n.0.answer ∙ once.0) all.0,
-        subst (All c.notes) (ap notes_of n.0.answer
+        subst (WroteAll c.output) (ap output_of n.0.answer ∙ once.0) all.0,
+        subst (WroteAll c.notes) (ap notes_of n.0.answer
             ∙ once.1) all.1,
       )
 
@@ -907,11 +922,11 @@ module _ (c : Call) (k : IsAnswered c) (l : Laws) where
 
   no_run_of_memory : status ≡ 8 → IsUnwritten c.output × (c.outcome.ran ≡ None)
   no_run_of_memory h =
-      let m : k.answer ≡ silent e.OutOfMemory = no_memory c.files c.source c.reports
+      let m : k.answer ≡ silent_answer e.OutOfMemory = no_memory c.files c.source c.reports
       (command_of c.words) k.answer ending due_why (undisplaced 8 (λ p. absurd (omega arith)) h) in
       (k.written.untouched (ap (λ (z : Answer). has_output z.ending) m), k.ran ∙ ap (λ (z : Answer). z.ran) m)
 
-  complete_is : OfText c (λ d text. Keeps d text → IsQuiet c d → IsWell d status)
+  complete_is : OfText c (λ d text. AcceptedFor d text → OutsideWorks c d → IsWell d status)
   complete_is d text v t kept q =
       subst (IsWell d) (sym (same_status not_displaced))
       (ends_well c.files c.source c.reports
@@ -940,12 +955,12 @@ module _ (c : Call) (k : IsAnswered c) (l : Laws) where
 
   -- ---- of a replay
 
-  module _ (b : Followed) (text bytes : List ℕ) (v : command_of c.words ≡ Some (follows b))
+  module _ (b : Followed) (text bytes : List ℕ) (v : command_of c.words ≡ Some (command_of_replay b))
       (t : c.files.held b.file ≡ Some text) (u : c.files.held b.journal ≡ Some bytes) where
     abbrev Came_here : Type 0
-    Came_here = Came c.files c.source c.reports (command_of c.words) k.answer b ending
+    Came_here = ReplayCause c.files c.source c.reports (command_of c.words) k.answer b ending
 
-    came_here : KeepsAll text → Came_here
+    came_here : IsAcceptedText text → Came_here
     came_here kept = came c.files c.source c.reports (command_of c.words) k.answer b text v t l kept ending due_why
 
     -- a journal that is read is the text of one
@@ -963,7 +978,7 @@ module _ (c : Call) (k : IsAnswered c) (l : Laws) where
     input_fits input left h long =
         not_too_long h.input input (told_of c.source.left h.input input left h.read) h.fits long
 
-    followed_long : KeepsAll text → IsJournalText bytes → (input : List ℕ) → c.source.left ≡ Some input
+    followed_long : IsAcceptedText text → IsJournalText bytes → (input : List ℕ) → c.source.left ≡ Some input
         → IsTooLong input → IsOutside (status_of ending)
     followed_long kept is input left long = go (came_here kept)
       where
@@ -974,10 +989,10 @@ module _ (c : Call) (k : IsAnswered c) (l : Laws) where
         go (came_long h) = absurd (too_short is.1 (if_told _ (c.files.held b.journal) bytes u h.long))
         go (came_outside o) = o
 
-    says_long : KeepsAll text → 67108864 < length bytes → Says c e.LongJournal
+    says_long : IsAcceptedText text → 67108864 < length bytes → SaysEnding c e.LongJournal
     says_long kept long = go (came_here kept)
       where
-        go : Came_here → Says c e.LongJournal
+        go : Came_here → SaysEnding c e.LongJournal
         go (came_followed h) = absurd (too_short (is_short h.has_read) long)
         go (came_unfit n h) = absurd (too_short (is_short h.has_read) long)
         go (came_bad n h) = absurd (too_short (if_told _ (c.files.held b.journal) bytes u h.short) long)
@@ -985,11 +1000,11 @@ module _ (c : Call) (k : IsAnswered c) (l : Laws) where
             (ap (λ (z : Answer). z.ending) h.answer)
         go (came_outside o) = outside_says e.LongJournal o
 
-    says_bad : KeepsAll text → length bytes ≤ 67108864 → (IsText bytes → ⊥)
-        → ((n : ℕ) × IsFirstBad n bytes × Says c (e.BadJournal n)) ⊎ IsOutside status
+    says_bad : IsAcceptedText text → length bytes ≤ 67108864 → (IsText bytes → ⊥)
+        → ((n : ℕ) × IsFirstBad n bytes × SaysEnding c (e.BadJournal n)) ⊎ IsOutside status
     says_bad kept short none = go (came_here kept)
       where
-        go : Came_here → ((n : ℕ) × IsFirstBad n bytes × Says c (e.BadJournal n)) ⊎ IsOutside status
+        go : Came_here → ((n : ℕ) × IsFirstBad n bytes × SaysEnding c (e.BadJournal n)) ⊎ IsOutside status
         go (came_followed h) = let j = read_is h.has_read in absurd (none (j.version, h.has_read.journal, j.text))
         go (came_unfit n h) = let j = read_is h.has_read in absurd (none (j.version, h.has_read.journal, j.text))
         go (came_bad n h) = inl (
@@ -1021,14 +1036,14 @@ module _ (c : Call) (k : IsAnswered c) (l : Laws) where
               let all = k.written.all_written (apart f) in
               record {
                 status = same_status (apart f) ∙ ap (λ (z : Answer). status_of z.ending) h.answer;
-                output = subst (All c.output) (ap output_of h.answer) all.0;
-                notes = subst (All c.notes) (ap notes_of h.answer
+                output = subst (WroteAll c.output) (ap output_of h.answer) all.0;
+                notes = subst (WroteAll c.notes) (ap notes_of h.answer
                     ∙ replay_notes_stand h.replayed.end (replay_notes h.replayed)
                     (replay_ends _ _ _ _ h.replayed h.is_replay)) all.1;
                 at_end = h.has_read.at_end;
               }
 
-      module _ (kept : KeepsAll text) (fits : length input ≤ 16777216) (p : Program) (is : IsProgramOf text p)
+      module _ (kept : IsAcceptedText text) (fits : length input ≤ 16777216) (p : Program) (is : IsProgramOf text p)
           (j : Journal) (of : IsJournalOf bytes j) where
         is_accepted : IsDefined (setting p input b.limits) j.entries → IsFinal status ⊎ IsOutside status
         is_accepted d = go (came_here kept)
@@ -1047,14 +1062,14 @@ module _ (c : Call) (k : IsAnswered c) (l : Laws) where
             go (came_long h) = absurd (too_short of.short (if_told _ (c.files.held b.journal) bytes u h.long))
             go (came_outside o) = inr (outside o)
 
-        is_unfit : (n : ℕ) → IsUnfitAt (setting p input b.limits) j.entries n → Says c (e.Unfit n)
+        is_unfit : (n : ℕ) → IsUnfitAt (setting p input b.limits) j.entries n → SaysEnding c (e.Unfit n)
         is_unfit n d = go (came_here kept)
           where
-            go : Came_here → Says c (e.Unfit n)
+            go : Came_here → SaysEnding c (e.Unfit n)
             go (came_followed h) = absurd (not_followed c.files c.source b l h.has_read text bytes input t u left p is j
                 of n h.replayed h.is_replay d)
             go (came_unfit m h) =
-                subst (λ x. Says c (e.Unfit x))
+                subst (λ x. SaysEnding c (e.Unfit x))
                 (same_entry c.files c.source b l h.has_read text bytes input t u left p is j of m n h.is_unfit d)
                 (says (e.Unfit m) (ap notes_of h.answer) (ap (λ (z : Answer). z.ending) h.answer))
             go (came_bad m h) = absurd (if_told _ (c.files.held b.journal) bytes u h.no_text (of.version, j, of.text))
@@ -1109,22 +1124,23 @@ module _ (c : Call) (k : IsAnswered c) (l : Laws) where
 
   pub headline : Headline c
   headline = record {
-    refused = λ b text v t r h. refuses (asks b) text v (asked_text c.files.held b ∙ t) r (asked_breaks b text r h);
+    refused = λ b text v t r h. refuses (command_of_run b) text v (asked_text c.files.held b ∙ t) r
+        (asked_breaks b text r h);
     no_other_refused = λ b text v t n.
-        let h = refuses_only (asks b) text v (asked_text c.files.held b ∙ t) n in
+        let h = refuses_only (command_of_run b) text v (asked_text c.files.held b ∙ t) n in
         (h.0, breaks_asked b text h.0 h.1);
     disjoint = λ b text v t r h. run_disjoint r h b v text t;
     meant = λ b text v t input left r h. (run_meant r h b v text input t left, prints r h b v);
   }
     where
-      prints : (r : Ran) → c.outcome.ran ≡ Some r → (b : Asked) → command_of c.words ≡ Some (asks b)
+      prints : (r : Ran) → c.outcome.ran ≡ Some r → (b : Asked) → command_of c.words ≡ Some (command_of_run b)
           → Prints c b.telling r
       prints r h b v = let m = run_written r h b v in
           record { status = run_status r h; whole = λ n. (m.whole n).0; part = m.part_of_output }
 
   -- the notes where there is no output
   line_is : (x : Ending) → why c.files c.source c.reports (command_of c.words) k.answer x → has_output x ≡ false
-      → (notes_by x k.answer.notes ≡ line_of x) ⊎ ((r : Refusal) × (k.answer ≡ refused r))
+      → (notes_by x k.answer.notes ≡ line_of x) ⊎ ((r : Refusal) × (k.answer ≡ refusal_answer r))
   line_is e.LongJournal m h = inl refl
   line_is e.LongCode m h = inl refl
   line_is e.LongFile m h = inl refl
@@ -1173,17 +1189,17 @@ module _ (c : Call) (k : IsAnswered c) (l : Laws) where
         (writes_line i n (k.written.all_written g).1, k.written.untouched n);
   }
     where
-      writes_line : status ≡ status_of ending → has_output ending ≡ false → All c.notes (notes_of k.answer)
+      writes_line : status ≡ status_of ending → has_output ending ≡ false → WroteAll c.notes (notes_of k.answer)
           → WritesLine c
       writes_line i n m = go (line_is ending due_why n)
         where
-          go : (notes_by ending k.answer.notes ≡ line_of ending) ⊎ ((r : Refusal) × (k.answer ≡ refused r))
+          go : (notes_by ending k.answer.notes ≡ line_of ending) ⊎ ((r : Refusal) × (k.answer ≡ refusal_answer r))
               → WritesLine c
-          go (inl h) = (ending, i, n, subst (All c.notes) h m)
+          go (inl h) = (ending, i, n, subst (WroteAll c.notes) h m)
           go (inr (r, h)) = (
             e.Refused r,
             i
                 ∙ ap (λ (z : Answer). status_of z.ending) h,
             refl,
-            subst (All c.notes) (ap notes_of h) m,
+            subst (WroteAll c.notes) (ap notes_of h) m,
           )

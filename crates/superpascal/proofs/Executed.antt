@@ -7,14 +7,15 @@ use Rattle.superpascal.specs.declared.asked.Executed.{Executed}
 use Rattle.superpascal.specs.declared.ending.Answer.{Answer}
 use Rattle.superpascal.specs.declared.ending.Ending.{Ending}
 use Rattle.superpascal.specs.declared.ending.Ending.TheVariants as e
-use Rattle.superpascal.specs.Answering.{ended}
+use Rattle.superpascal.specs.Answering.{ending_answer}
 use Rattle.superpascal.specs.Causes.{by_code_line, by_execution, by_length, by_library, by_long_file, by_memory}
 use Rattle.superpascal.specs.Causes.{by_rejection, by_source, Files, IsTold, IsUntouched, Stream}
 use Rattle.superpascal.specs.Executions.{IsExecutionOf}
 use Rattle.superpascal.specs.Runs.{Reports}
-use Rattle.superpascal.specs.Steps.{Answers, CommandCause, DecodesTo, GivesFile, GivesInput, HasInput, TellsExecution}
+use Rattle.superpascal.specs.Steps.{AnswersCommand, CommandCause, DecodesTo, GivesFile, GivesInput, HasInput}
+use Rattle.superpascal.specs.Steps.{TellsExecution}
 use Rattle.superpascal.specs.Steps.{VerifiesTo}
-use Rattle.superpascal.specs.Texts.{CanRead, IsFileOf, IsSoundFile, executes}
+use Rattle.superpascal.specs.Texts.{CanRead, IsFileOf, IsSoundFile, command_of_execution}
 use Rattle.superpascal.proofs.Parts.{when_told}
 
 -- ---- the code of a file
@@ -40,18 +41,19 @@ module _ (f : Files) (name bytes : List ℕ) (t : IsTold (f.held name) bytes) (s
 
 module _ (f : Files) (s : Stream) (reports : Reports) (b : Executed) where
   abbrev Due_execution : Answer → Type 0
-  Due_execution a = CommandCause f s reports (executes b) a
+  Due_execution a = CommandCause f s reports (command_of_execution b) a
 
   -- no code comes of the file
-  pub execution_unready : IsUntouched s → (x : Ending) → GivesFile f b.file (Err x) → Due_execution (ended x)
-  execution_unready u x (inl (inl h)) = (by_long_file b refl (record { long = h.1; answer = ap ended h.0 }), inl u)
+  pub execution_unready : IsUntouched s → (x : Ending) → GivesFile f b.file (Err x) → Due_execution (ending_answer x)
+  execution_unready u x (inl (inl h)) =
+      (by_long_file b refl (record { long = h.1; answer = ap ending_answer h.0 }), inl u)
   execution_unready u x (inl (inr (inl h))) = (
-    by_library (record { name = b.file; loads = inr (inr refl); rose = h.1; answer = ap ended h.0 }),
+    by_library (record { name = b.file; loads = inr (inr refl); rose = h.1; answer = ap ending_answer h.0 }),
     inl u,
   )
-  execution_unready u x (inl (inr (inr h))) = (by_memory (ap ended h), inl u)
+  execution_unready u x (inl (inr (inr h))) = (by_memory (ap ending_answer h), inl u)
   execution_unready u x (inr (bytes, t, short, inl (n, h, bad))) = (
-    by_code_line b n refl (record { bytes = bytes; loaded = t; short = short; bad = bad; answer = ap ended h }),
+    by_code_line b n refl (record { bytes = bytes; loaded = t; short = short; bad = bad; answer = ap ending_answer h }),
     inl u,
   )
   execution_unready u x (inr (bytes, t, short, inr (code, v, i, h, text, rejected))) = (
@@ -62,30 +64,30 @@ module _ (f : Files) (s : Stream) (reports : Reports) (b : Executed) where
       short = short;
       text = text;
       rejected = rejected;
-      answer = ap ended h;
+      answer = ap ending_answer h;
     }),
     inl u,
   )
 
   module _ (bytes : List ℕ) (t : IsTold (f.held b.file) bytes) (code : Parts) (file : IsFileOf code bytes) where
-    may_read : CanRead f.held (executes b)
+    may_read : CanRead f.held (command_of_execution b)
     may_read = when_told IsSoundFile (f.held b.file) bytes t (code, file)
 
     -- memory was wanting for the run, or for what is told of it
-    pub execution_wanting : (x : Ending) → x ≡ e.OutOfMemory → Due_execution (ended x)
-    execution_wanting x h = (by_memory (ap ended h), inr may_read)
+    pub execution_wanting : (x : Ending) → x ≡ e.OutOfMemory → Due_execution (ending_answer x)
+    execution_wanting x h = (by_memory (ap ending_answer h), inr may_read)
 
     -- the input is not read
-    pub execution_unread : (x : Ending) → GivesInput s (Err x) → Due_execution (ended x)
+    pub execution_unread : (x : Ending) → GivesInput s (Err x) → Due_execution (ending_answer x)
     execution_unread x (inl h) =
-        (by_source (record { reads = may_read; rose = h.1; answer = ap ended h.0 }), inr may_read)
+        (by_source (record { reads = may_read; rose = h.1; answer = ap ending_answer h.0 }), inr may_read)
     execution_unread x (inr (inl h)) =
-        (by_length (record { reads = may_read; long = h.1; answer = ap ended h.0 }), inr may_read)
+        (by_length (record { reads = may_read; long = h.1; answer = ap ending_answer h.0 }), inr may_read)
     execution_unread x (inr (inr h)) = execution_wanting x h
 
     pub execution_told : (input : List ℕ) → HasInput s input → (run : Closed)
         → IsExecutionOf bytes input b.workers b.limits run → (r : Result Answer Ending) → TellsExecution run r
-        → Answers f s reports (executes b) r
+        → AnswersCommand f s reports (command_of_execution b) r
     execution_told input i run is (Ok a) k = (
       by_execution b refl (record {
         bytes = bytes;

@@ -7,9 +7,9 @@ use Rattle.sp_codefile.specs.CodeText.{IsFirstBad, IsText, IsTextOf}
 use Rattle.sp_codefile.specs.Verifying.{rule_of}
 use Rattle.sp_codefile.specs.declared.verifier.VRule.{VRule}
 use Rattle.sp_kernel.specs.declared.closed.Closed.{Closed}
-use Rattle.sp_print.specs.Lines.{HasLines, end_text}
+use Rattle.sp_print.specs.OutcomeLines.{HasLines, end_text}
 use Rattle.sp_rules.specs.Verdict.{IsRejected, number}
-use Rattle.sp_tree.specs.Bare.{bare}
+use Rattle.sp_tree.specs.Bare.{without_places}
 use Rattle.sp_words.specs.Words.{command_of}
 use Rattle.sp_words.specs.declared.command.Command.{Command}
 use Rattle.sp_words.specs.declared.command.Command.TheVariants as command
@@ -19,13 +19,13 @@ use Rattle.superpascal.specs.declared.ending.Ending.{Ending}
 use Rattle.superpascal.specs.declared.ending.Ending.TheVariants as e
 use Rattle.superpascal.specs.declared.ending.Answer.{Answer}
 use Rattle.superpascal.specs.Answers.{line_of, notes_of, output_of, status_of}
-use Rattle.superpascal.specs.Calls.{All, Call, IsAnswered, IsFinal, IsOutside, Part, Says}
+use Rattle.superpascal.specs.Calls.{WroteAll, Call, IsAnswered, IsFinal, IsOutside, WrotePart, SaysEnding}
 use Rattle.superpascal.specs.Causes.{Files, HasExecuted, IsBadCode, IsLongFile, IsRefusedFor, IsRejectedCode, IsTold}
 use Rattle.superpascal.specs.Causes.{IsTooLong, Stream}
 use Rattle.superpascal.specs.Executing.{Executing, IsExecutionOfWords, IsFaultyFile, IsMeantHere}
 use Rattle.superpascal.specs.Executions.{IsExecutionOf, execution_answer}
 use Rattle.superpascal.specs.Runs.{Reports, ending_of}
-use Rattle.superpascal.specs.Texts.{IsCodeFile, IsSoundFile, Makes, asks_build, executes, follows}
+use Rattle.superpascal.specs.Texts.{IsCodeFile, IsSoundFile, Makes, asks_build, command_of_execution, command_of_replay}
 use Rattle.superpascal.specs.Writing.{AreWritten}
 use Rattle.superpascal.proofs.Asking.{not_exec}
 use Rattle.superpascal.proofs.Calling.{due_why, ending, final, final_or, no_command, not_too_long, one_command}
@@ -39,53 +39,54 @@ use Rattle.superpascal.proofs.Why.{HasEnded, HasExecutedFor, HasRanFor, HasRepla
 
 -- ---- words
 
-one_name : (a b : Executed) → executes b ≡ executes a → b.file ≡ a.file
+one_name : (a b : Executed) → command_of_execution b ≡ command_of_execution a → b.file ≡ a.file
 one_name a b h = cc
 
-one_count : (a b : Executed) → executes b ≡ executes a → b.workers ≡ a.workers
+one_count : (a b : Executed) → command_of_execution b ≡ command_of_execution a → b.workers ≡ a.workers
 one_count a b h = cc
 
-one_limit : (a b : Executed) → executes b ≡ executes a → b.limits ≡ a.limits
+one_limit : (a b : Executed) → command_of_execution b ≡ command_of_execution a → b.limits ≡ a.limits
 one_limit a b h = cc
 
-one_executed : (a b : Executed) → executes b ≡ executes a → b ≡ a
+one_executed : (a b : Executed) → command_of_execution b ≡ command_of_execution a → b ≡ a
 one_executed a b h = λ i. record { file = one_name a b h i; workers = one_count a b h i; limits = one_limit a b h i }
 
-not_generated : (b : Executed) (size workers : ℕ) → executes b ≡ command.Gen size workers → ⊥
+not_generated : (b : Executed) (size workers : ℕ) → command_of_execution b ≡ command.Gen size workers → ⊥
 not_generated b size workers h = cc
 
-not_followed : (b : Executed) (x : Followed) → executes b ≡ follows x → ⊥
+not_followed : (b : Executed) (x : Followed) → command_of_execution b ≡ command_of_replay x → ⊥
 not_followed b x h = cc
 
 -- ---- from the ending
 
 -- what comes of a code file
-data Came (f : Files) (s : Stream) (b : Executed) (a : Answer) (x : Ending) : Type 0 where
-  came_run : HasExecuted f s b a → Came f s b a x
-  came_long : IsLongFile f b a → Came f s b a x
-  came_bad : (n : ℕ) → IsBadCode f b n a → Came f s b a x
-  came_rejected : (v : VRule) (i : ℕ) → IsRejectedCode f b v i a → Came f s b a x
-  came_refused : status_of x ≡ 1 → IsRefusedFor f (executes b) a → Came f s b a x
-  came_outside : IsOutside (status_of x) → Came f s b a x
+data ExecutionCause (f : Files) (s : Stream) (b : Executed) (a : Answer) (x : Ending) : Type 0 where
+  came_run : HasExecuted f s b a → ExecutionCause f s b a x
+  came_long : IsLongFile f b a → ExecutionCause f s b a x
+  came_bad : (n : ℕ) → IsBadCode f b n a → ExecutionCause f s b a x
+  came_rejected : (v : VRule) (i : ℕ) → IsRejectedCode f b v i a → ExecutionCause f s b a x
+  came_refused : status_of x ≡ 1 → IsRefusedFor f (command_of_execution b) a → ExecutionCause f s b a x
+  came_outside : IsOutside (status_of x) → ExecutionCause f s b a x
 
 module _ (f : Files) (s : Stream) (reports : Reports) (w : Option Command) (a : Answer) (b : Executed)
-    (v : w ≡ Some (executes b)) where
+    (v : w ≡ Some (command_of_execution b)) where
   abbrev Why : Ending → Type 0
   Why = why f s reports w a
 
   -- what holds of the execution that the words ask for holds of this one
-  this : (P : Executed → Type 0) (x : Executed) → w ≡ Some (executes x) → P x → P b
-  this P x u h = subst P (one_executed b x (one_command w (executes b) (executes x) v u)) h
+  this : (P : Executed → Type 0) (x : Executed) → w ≡ Some (command_of_execution x) → P x → P b
+  this P x u h = subst P (one_executed b x (one_command w (command_of_execution b) (command_of_execution x) v u)) h
 
   not_ran : HasRanFor f s reports w a → ⊥
-  not_ran (c, u, inl (asked, p, h)) = not_exec asked b (sym p ∙ one_command w (executes b) c v u)
-  not_ran (c, u, inr (size, workers, p, h)) = not_generated b size workers (sym (one_command w (executes b) c v u) ∙ p)
+  not_ran (c, u, inl (asked, p, h)) = not_exec asked b (sym p ∙ one_command w (command_of_execution b) c v u)
+  not_ran (c, u, inr (size, workers, p, h)) =
+      not_generated b size workers (sym (one_command w (command_of_execution b) c v u) ∙ p)
 
   not_replayed : HasReplayedFor f s reports w a → ⊥
-  not_replayed (x, u, h) = not_followed b x (sym (one_command w (executes b) (follows x) v u))
+  not_replayed (x, u, h) = not_followed b x (sym (one_command w (command_of_execution b) (command_of_replay x) v u))
 
-  follows_not : (x : Followed) → w ≡ Some (follows x) → ⊥
-  follows_not x u = not_followed b x (sym (one_command w (executes b) (follows x) v u))
+  follows_not : (x : Followed) → w ≡ Some (command_of_replay x) → ⊥
+  follows_not x u = not_followed b x (sym (one_command w (command_of_execution b) (command_of_replay x) v u))
 
   ran_here : HasExecutedFor f s reports w a → HasExecuted f s b a
   ran_here (x, u, h) = this (λ y. HasExecuted f s y a) x u h
@@ -95,23 +96,24 @@ module _ (f : Files) (s : Stream) (reports : Reports) (w : Option Command) (a : 
   ended_here (inr (inl k)) = absurd (not_replayed k)
   ended_here (inr (inr k)) = ran_here k
 
-  came : (x : Ending) → Why x → Came f s b a x
+  came : (x : Ending) → Why x → ExecutionCause f s b a x
   came e.Done k = came_run (ended_here k)
   came e.Deadlock k = came_run (ended_here k)
   came e.Fault k = came_run (ended_here k)
   came e.NoEnd k = absurd (follows_not k.0 k.1)
   came e.Accepted (c, u, h) = absurd
-      (subst (λ (y : Command). Makes y h.text h.output h.line) (one_command w (executes b) c v u) h.makes)
+      (subst (λ (y : Command). Makes y h.text h.output h.line) (one_command w (command_of_execution b) c v u) h.makes)
   came (e.Refused r) (c, u, h) = came_refused refl
-      (subst (λ (y : Command). IsRefusedFor f y a) (one_command w (executes b) c v u) h)
-  came e.BadWords k = absurd (no_command w (executes b) v k)
+      (subst (λ (y : Command). IsRefusedFor f y a) (one_command w (command_of_execution b) c v u) h)
+  came e.BadWords k = absurd (no_command w (command_of_execution b) v k)
   came e.ReadFault k = came_outside (omega arith, omega arith)
   came e.TooLong k = came_outside (omega arith, omega arith)
   came e.OutOfMemory k = came_outside (omega arith, omega arith)
   came e.LongJournal k = absurd (follows_not k.0 k.1)
   came (e.BadJournal n) k = absurd (follows_not k.0 k.1)
   came (e.Unfit n) k = absurd (follows_not k.0 k.1)
-  came e.LongCode (c, u, h) = absurd (subst (λ (y : Command). asks_build y) (one_command w (executes b) c v u) h.builds)
+  came e.LongCode (c, u, h) =
+      absurd (subst (λ (y : Command). asks_build y) (one_command w (command_of_execution b) c v u) h.builds)
   came e.LongFile (x, u, h) = came_long (this (λ y. IsLongFile f y a) x u h)
   came (e.BadCode n) (x, u, h) = came_bad n (this (λ y. IsBadCode f y n a) x u h)
   came (e.Rejected r n) (x, u, h) = came_rejected r n (this (λ y. IsRejectedCode f y r n a) x u h)
@@ -123,7 +125,7 @@ module _ (f : Files) (s : Stream) (reports : Reports) (w : Option Command) (a : 
   ran_only e.Fault k i = ended_here k
   ran_only e.NoEnd k i = absurd (follows_not k.0 k.1)
   ran_only e.Accepted (c, u, h) i = absurd
-      (subst (λ (y : Command). Makes y h.text h.output h.line) (one_command w (executes b) c v u) h.makes)
+      (subst (λ (y : Command). Makes y h.text h.output h.line) (one_command w (command_of_execution b) c v u) h.makes)
   ran_only _ k (inl i) = absurd (omega arith)
   ran_only _ k (inr (inl i)) = absurd (omega arith)
   ran_only _ k (inr (inr i)) = absurd (omega arith)
@@ -142,7 +144,7 @@ module _ (f : Files) (s : Stream) (reports : Reports) (w : Option Command) (a : 
       let m = this (λ y. IsRejectedCode f y r n a) x u h in
       when_told IsFaultyFile (f.held b.file) m.bytes m.loaded (inr (inr (m.code, r, n, m.text, m.rejected)))
   faulty e.LongCode (c, u, h) i = absurd
-      (subst (λ (y : Command). asks_build y) (one_command w (executes b) c v u) h.builds)
+      (subst (λ (y : Command). asks_build y) (one_command w (command_of_execution b) c v u) h.builds)
   faulty _ k i = absurd (omega arith)
 
 -- ---- of a call
@@ -204,16 +206,16 @@ module _ (c : Call) (k : IsAnswered c) (l : Laws) where
         ∙ run_notes_stand r.end (end_text r.end) has_lines in
         record {
           whole = λ n. (
-            subst (All c.output) out (k.written.all_written n).0,
-            subst (All c.notes) notes
+            subst (WroteAll c.output) out (k.written.all_written n).0,
+            subst (WroteAll c.notes) notes
                 (k.written.all_written n).1,
           );
-          part_of_output = subst (Part c.output) out k.written.part_of_output;
-          part_of_notes = subst (Part c.notes) notes k.written.part_of_notes;
+          part_of_output = subst (WrotePart c.output) out k.written.part_of_output;
+          part_of_notes = subst (WrotePart c.notes) notes k.written.part_of_notes;
         }
 
     -- of the file and the input that are told
-    module _ (b : Executed) (bytes input : List ℕ) (v : command_of c.words ≡ Some (executes b))
+    module _ (b : Executed) (bytes input : List ℕ) (v : command_of c.words ≡ Some (command_of_execution b))
         (t : c.files.held b.file ≡ Some bytes) (left : c.source.left ≡ Some input) where
       run_machine : IsExecutionOf bytes input b.workers b.limits r
       run_machine =
@@ -226,10 +228,11 @@ module _ (c : Call) (k : IsAnswered c) (l : Laws) where
           (subst (λ (y : List ℕ). IsExecutionOf y m.input b.workers b.limits m.run) this_file m.is_execution))
 
       run_meant : (text : List ℕ) → IsCodeFile text bytes → IsMeantHere b text input r
-      run_meant text h = let m = run_machine.meant text h in (bare m.tree, (m.tree, m.has.accepted.0, refl), m.about)
+      run_meant text h = let m = run_machine.meant text h in
+          (without_places m.tree, (m.tree, m.has.accepted.0, refl), m.about)
 
   -- the answer that was due, whatever displaced its status
-  due_run : (b : Executed) → command_of c.words ≡ Some (executes b) → (a : IsAnswered c)
+  due_run : (b : Executed) → command_of c.words ≡ Some (command_of_execution b) → (a : IsAnswered c)
       → IsFinal (status_of a.answer.ending) → (r : Closed) × (c.outcome.executed ≡ Some r)
   due_run b v a i =
       let m = ran_only c.files c.source c.reports (command_of c.words) a.answer b v a.answer.ending (due_why c a l) i in
@@ -237,15 +240,15 @@ module _ (c : Call) (k : IsAnswered c) (l : Laws) where
 
   -- ---- what is said of a file
 
-  module _ (b : Executed) (bytes : List ℕ) (v : command_of c.words ≡ Some (executes b))
+  module _ (b : Executed) (bytes : List ℕ) (v : command_of c.words ≡ Some (command_of_execution b))
       (t : c.files.held b.file ≡ Some bytes) where
     abbrev Came_here : Type 0
-    Came_here = Came c.files c.source b k.answer (ending c k l)
+    Came_here = ExecutionCause c.files c.source b k.answer (ending c k l)
 
     came_here : Came_here
     came_here = came c.files c.source c.reports (command_of c.words) k.answer b v (ending c k l) (due_why c k l)
 
-    not_refused : IsRefusedFor c.files (executes b) k.answer → ⊥
+    not_refused : IsRefusedFor c.files (command_of_execution b) k.answer → ⊥
     not_refused h = if_told (λ x. ⊥) (c.files.held b.file) bytes t h.breaks
 
     this_file : (x : List ℕ) → IsTold (c.files.held b.file) x → x ≡ bytes
@@ -266,10 +269,10 @@ module _ (c : Call) (k : IsAnswered c) (l : Laws) where
     is_sound : HasExecuted c.files c.source b k.answer → IsSoundFile bytes
     is_sound h = subst IsSoundFile (this_file h.bytes h.loaded) (h.is_execution.code, h.is_execution.file)
 
-    says_long : 67108864 < length bytes → Says c e.LongFile
+    says_long : 67108864 < length bytes → SaysEnding c e.LongFile
     says_long long = go came_here
       where
-        go : Came_here → Says c e.LongFile
+        go : Came_here → SaysEnding c e.LongFile
         go (came_run h) = absurd (not_long bytes (is_sound h) long)
         go (came_long h) = says c k l e.LongFile (ap notes_of h.answer) (ap (λ (z : Answer). z.ending) h.answer)
         go (came_bad n h) = absurd (too_short
@@ -279,11 +282,12 @@ module _ (c : Call) (k : IsAnswered c) (l : Laws) where
         go (came_refused i h) = absurd (not_refused h)
         go (came_outside o) = outside_says c k l e.LongFile o
 
-    says_bad : length bytes ≤ 67108864 → (IsText bytes → ⊥) → ((n : ℕ) × IsFirstBad n bytes × Says c (e.BadCode n))
+    says_bad : length bytes ≤ 67108864 → (IsText bytes → ⊥)
+        → ((n : ℕ) × IsFirstBad n bytes × SaysEnding c (e.BadCode n))
         ⊎ IsOutside is_status
     says_bad short none = go came_here
       where
-        go : Came_here → ((n : ℕ) × IsFirstBad n bytes × Says c (e.BadCode n)) ⊎ IsOutside is_status
+        go : Came_here → ((n : ℕ) × IsFirstBad n bytes × SaysEnding c (e.BadCode n)) ⊎ IsOutside is_status
         go (came_run h) = let x = is_sound h in absurd (none (x.0, x.1.text))
         go (came_long h) = absurd (too_short short (is_long h))
         go (came_bad n h) = inl (
@@ -297,7 +301,7 @@ module _ (c : Call) (k : IsAnswered c) (l : Laws) where
         go (came_outside o) = inr (outside c k l o)
 
     says_rejected : length bytes ≤ 67108864 → (code : Parts) → IsTextOf code bytes → (r : VRule) (i : ℕ)
-        → IsRejected code (rule_of r) i → Says c (e.Rejected r i)
+        → IsRejected code (rule_of r) i → SaysEnding c (e.Rejected r i)
     says_rejected short code text r i rejected = go came_here
       where
         same_line : (x : VRule) (j : ℕ) (h : IsRejectedCode c.files b x j k.answer)
@@ -315,12 +319,12 @@ module _ (c : Call) (k : IsAnswered c) (l : Laws) where
                 → line_of (e.Rejected x j) ≡ line_of (e.Rejected y i)
             lines x y j i h m = ap (λ (n : ℕ). line n j) h ∙ ap (line (number (rule_of y))) m
 
-        said : (x : VRule) (j : ℕ) → IsRejectedCode c.files b x j k.answer → Says c (e.Rejected x j)
-            → Says c (e.Rejected r i)
-        said x j h (inl m) = inl (m.0, subst (All c.notes) (same_line x j h) m.1)
+        said : (x : VRule) (j : ℕ) → IsRejectedCode c.files b x j k.answer → SaysEnding c (e.Rejected x j)
+            → SaysEnding c (e.Rejected r i)
+        said x j h (inl m) = inl (m.0, subst (WroteAll c.notes) (same_line x j h) m.1)
         said x j h (inr m) = inr m
 
-        go : Came_here → Says c (e.Rejected r i)
+        go : Came_here → SaysEnding c (e.Rejected r i)
         go (came_run h) = absurd (not_rejected l code bytes (is_sound h) text (rule_of r) i rejected)
         go (came_long h) = absurd (too_short short (is_long h))
         go (came_bad n h) = absurd ((is_bad n h).whole (code, text))

@@ -8,35 +8,36 @@ use Rattle.sp_codefile.specs.CodeText.{IsTextOf as IsTextOfCode}
 use Rattle.sp_front.specs.Codes.{BreaksLength, HasListing}
 use Rattle.sp_execute.specs.Follows.{IsMeant, IsUnfitAt}
 use Rattle.sp_format.specs.Formats.{HasLayout, HasNoLayout}
-use Rattle.sp_front.specs.Checks.{BreaksFirst, IsChecked}
-use Rattle.sp_front.specs.Compiles.{BreaksAnyFirst, IsAccepted}
+use Rattle.sp_front.specs.Checks.{FirstBrokenUpToTypes, IsChecked}
+use Rattle.sp_front.specs.Compiles.{FirstBrokenOfPhases, IsAccepted}
 use Rattle.sp_journal.specs.declared.entry.Entry.{Entry}
 use Rattle.sp_journal.specs.declared.entry.Journal.{Journal}
 use Rattle.sp_journal.specs.declared.version.Version.{Version}
 use Rattle.sp_journal.specs.Texts.{IsTextOf}
-use Rattle.sp_meaning.specs.Own.{Setting}
+use Rattle.sp_meaning.specs.LocalWork.{RunInput}
 use Rattle.sp_meaning.specs.Runs.{IsDisjointRun}
 use Rattle.sp_scan.proofs.Scanning.{too_long}
 use Rattle.sp_sets.specs.SetsText.{IsSetsText}
-use Rattle.sp_tree.specs.Bare.{bare}
+use Rattle.sp_tree.specs.Bare.{without_places}
 use Rattle.sp_tree.specs.Places.{start}
 use Rattle.sp_tree.specs.PlainChecked as c
 use Rattle.sp_varsets.specs.AreSets.{AreSets}
 use Rattle.sp_varsets.specs.declared.sets.Sets.{Sets}
 use Rattle.sp_words.specs.declared.command.Command.{Command}
 use Rattle.sp_words.specs.declared.command.Command.TheVariants as command
-use Rattle.superpascal.specs.Texts.{Breaks, BreaksOne, HasCodeText, HasSets, IsAbout, IsDisjointText, Keeps, KeepsAll}
+use Rattle.superpascal.specs.Texts.{FirstBrokenFor, FirstBroken, HasCodeText, HasSets, IsAbout, IsDisjointText}
+use Rattle.superpascal.specs.Texts.{AcceptedFor, IsAcceptedText}
 use Rattle.superpascal.specs.Texts.{Makes, asks_all, asks_text}
 
 pub record Laws : Type 0 where
   -- by characters, grammar, names and types
   pub tree : (text : List ℕ) (p q : c.Program) → IsChecked text p → IsChecked text q → p ≡ q
-  pub first : (text : List ℕ) (a b : Refusal) → BreaksFirst text a → BreaksFirst text b → a ≡ b
-  pub not_both : (text : List ℕ) (p : c.Program) (r : Refusal) → IsChecked text p → BreaksFirst text r → ⊥
+  pub first : (text : List ℕ) (a b : Refusal) → FirstBrokenUpToTypes text a → FirstBrokenUpToTypes text b → a ≡ b
+  pub not_both : (text : List ℕ) (p : c.Program) (r : Refusal) → IsChecked text p → FirstBrokenUpToTypes text r → ⊥
   -- by all phases
-  pub any_first : (text : List ℕ) (a b : Refusal) → BreaksAnyFirst text a → BreaksAnyFirst text b → a ≡ b
-  pub accepted_or : (text : List ℕ) (p : c.Program) (r : Refusal) → IsAccepted text p → BreaksAnyFirst text r → ⊥
-  pub disjoint : (text : List ℕ) (p : c.Program) → IsAccepted text p → (g : Setting) → g.program ≡ bare p
+  pub any_first : (text : List ℕ) (a b : Refusal) → FirstBrokenOfPhases text a → FirstBrokenOfPhases text b → a ≡ b
+  pub accepted_or : (text : List ℕ) (p : c.Program) (r : Refusal) → IsAccepted text p → FirstBrokenOfPhases text r → ⊥
+  pub disjoint : (text : List ℕ) (p : c.Program) → IsAccepted text p → (g : RunInput) → g.program ≡ without_places p
       → IsDisjointRun g
   -- by `format`
   pub layout : (text a b : List ℕ) → HasLayout text a → HasLayout text b → a ≡ b
@@ -53,30 +54,30 @@ pub record Laws : Type 0 where
   pub code : (p q : Parts) (bytes : List ℕ) → IsTextOfCode p bytes → IsTextOfCode q bytes → p ≡ q
   -- by `replay`
   pub journal : (v w : Version) (j k : Journal) (bytes : List ℕ) → IsTextOf v j bytes → IsTextOf w k bytes → j ≡ k
-  pub unfit : (g : Setting) (es : List Entry) (m n : ℕ) → IsUnfitAt g es m → IsUnfitAt g es n → m ≡ n
-  pub unfit_or : (g : Setting) (es : List Entry) (n : ℕ) → IsMeant g es → IsUnfitAt g es n → ⊥
+  pub unfit : (g : RunInput) (es : List Entry) (m n : ℕ) → IsUnfitAt g es m → IsUnfitAt g es n → m ≡ n
+  pub unfit_or : (g : RunInput) (es : List Entry) (n : ℕ) → IsMeant g es → IsUnfitAt g es n → ⊥
 
 module _ (l : Laws) (text : List ℕ) where
   one_length : (a b : Refusal) → BreaksLength text a → BreaksLength text b → a ≡ b
   one_length a b x y = x.3 ∙ sym y.3
 
   -- a text breaks one rule first
-  pub one_rule : (a b : Refusal) → BreaksOne text a → BreaksOne text b → a ≡ b
+  pub one_rule : (a b : Refusal) → FirstBroken text a → FirstBroken text b → a ≡ b
   one_rule a b (inl x) (inl y) = l.any_first text a b x y
   one_rule a b (inl x) (inr y) = absurd (l.accepted_or text y.0 a y.1 x)
   one_rule a b (inr x) (inl y) = absurd (l.accepted_or text x.0 b x.1 y)
   one_rule a b (inr x) (inr y) = one_length a b x y
 
   -- and none where it is kept
-  pub kept_or : (r : Refusal) → KeepsAll text → BreaksOne text r → ⊥
+  pub kept_or : (r : Refusal) → IsAcceptedText text → FirstBroken text r → ⊥
   kept_or r k (inl x) = l.accepted_or text k.0 r k.1 x
-  kept_or r k (inr x) = too_many (tree_length (bare k.0)) (tree_length (bare x.0))
-      (ap (λ (p : c.Program). tree_length (bare p)) (l.tree text k.0 x.0 k.1.0 x.1.0)) k.2 x.2
+  kept_or r k (inr x) = too_many (tree_length (without_places k.0)) (tree_length (without_places x.0))
+      (ap (λ (p : c.Program). tree_length (without_places p)) (l.tree text k.0 x.0 k.1.0 x.1.0)) k.2 x.2
     where
       too_many : (m n : ℕ) → m ≡ n → m ≤ 1048576 → 1048576 < n → ⊥
       too_many m n e h k = omega arith
 
-  pub one_break : (d : Command) (a b : Refusal) → Breaks d text a → Breaks d text b → a ≡ b
+  pub one_break : (d : Command) (a b : Refusal) → FirstBrokenFor d text a → FirstBrokenFor d text b → a ≡ b
   one_break (command.Check file) a b x y = one_rule a b x y
   one_break (command.Run file workers limits show) a b x y = one_rule a b x y
   one_break (command.Code file) a b x y = one_rule a b x y
@@ -89,7 +90,7 @@ module _ (l : Laws) (text : List ℕ) where
   one_break (command.Exec file workers limits) a b x y = absurd x
 
   -- a command that refuses the text for no rule refuses it for none
-  pub keeps_or : (d : Command) (r : Refusal) → Keeps d text → Breaks d text r → ⊥
+  pub keeps_or : (d : Command) (r : Refusal) → AcceptedFor d text → FirstBrokenFor d text r → ⊥
   keeps_or (command.Check file) r k x = kept_or r k x
   keeps_or (command.Run file workers limits show) r k x = kept_or r k x
   keeps_or (command.Code file) r k x = kept_or r k x
@@ -120,16 +121,16 @@ module _ (l : Laws) (text : List ℕ) where
   made_once (command.Exec file workers limits) a b n m x y = absurd x
 
   -- a text that is kept is disjoint
-  pub disjoint_text : KeepsAll text → IsDisjointText text
+  pub disjoint_text : IsAcceptedText text → IsDisjointText text
   disjoint_text k p (tree, is, same) g e = l.disjoint text k.0 k.1 g (e
-      ∙ (sym same ∙ ap bare (l.tree text tree k.0 is k.1.0)))
+      ∙ (sym same ∙ ap without_places (l.tree text tree k.0 is k.1.0)))
 
 -- a text with a code breaks no rule
-pub code_text_keeps : (text out : List ℕ) → HasCodeText text out → KeepsAll text
+pub code_text_keeps : (text out : List ℕ) → HasCodeText text out → IsAcceptedText text
 code_text_keeps text out h = (h.0, h.1, h.2)
 
 -- of a text of which the command makes something it refuses none
-pub made_keeps : (d : Command) (text out line : List ℕ) → Makes d text out line → Keeps d text
+pub made_keeps : (d : Command) (text out line : List ℕ) → Makes d text out line → AcceptedFor d text
 made_keeps (command.Check file) text out line m = m.0
 made_keeps (command.Run file workers limits show) text out line m = absurd m
 made_keeps (command.Code file) text out line m = (m.0.0, m.0.1, m.0.2)
@@ -153,7 +154,7 @@ made_asks (command.Replay file journal limits) text out line m = m
 made_asks (command.Build file) text out line m = tt
 made_asks (command.Exec file workers limits) text out line m = m
 
-pub keeps_all : (d : Command) (text : List ℕ) → asks_all d → Keeps d text → KeepsAll text
+pub keeps_all : (d : Command) (text : List ℕ) → asks_all d → AcceptedFor d text → IsAcceptedText text
 keeps_all (command.Check file) text q k = k
 keeps_all (command.Run file workers limits show) text q k = k
 keeps_all (command.Code file) text q k = k
@@ -167,7 +168,7 @@ keeps_all (command.Exec file workers limits) text q k = absurd q
 
 -- every command that is about a text refuses one that is longer than a text may be
 pub long_breaks : (d : Command) (name all : List ℕ) → IsAbout d name → 1048576 < length all
-    → Breaks d all (record { rule = rule.L1; at = start })
+    → FirstBrokenFor d all (record { rule = rule.L1; at = start })
 long_breaks (command.Check file) name all about h = inl (inl (inl (inl (too_long all start refl h))))
 long_breaks (command.Run file workers limits show) name all about h = inl (inl (inl (inl (too_long all start refl h))))
 long_breaks (command.Code file) name all about h = inl (inl (inl (inl (too_long all start refl h))))
@@ -180,11 +181,12 @@ long_breaks (command.Build file) name all about h = inl (inl (inl (inl (too_long
 long_breaks (command.Exec file workers limits) name all about h = absurd about
 
 pub laws : ((text : List ℕ) (p q : c.Program) → IsChecked text p → IsChecked text q → p ≡ q)
-    → ((text : List ℕ) (a b : Refusal) → BreaksFirst text a → BreaksFirst text b → a ≡ b)
-    → ((text : List ℕ) (p : c.Program) (r : Refusal) → IsChecked text p → BreaksFirst text r → ⊥)
-    → ((text : List ℕ) (a b : Refusal) → BreaksAnyFirst text a → BreaksAnyFirst text b → a ≡ b)
-    → ((text : List ℕ) (p : c.Program) (r : Refusal) → IsAccepted text p → BreaksAnyFirst text r → ⊥)
-    → ((text : List ℕ) (p : c.Program) → IsAccepted text p → (g : Setting) → g.program ≡ bare p → IsDisjointRun g)
+    → ((text : List ℕ) (a b : Refusal) → FirstBrokenUpToTypes text a → FirstBrokenUpToTypes text b → a ≡ b)
+    → ((text : List ℕ) (p : c.Program) (r : Refusal) → IsChecked text p → FirstBrokenUpToTypes text r → ⊥)
+    → ((text : List ℕ) (a b : Refusal) → FirstBrokenOfPhases text a → FirstBrokenOfPhases text b → a ≡ b)
+    → ((text : List ℕ) (p : c.Program) (r : Refusal) → IsAccepted text p → FirstBrokenOfPhases text r → ⊥)
+    → ((text : List ℕ) (p : c.Program) → IsAccepted text p → (g : RunInput) → g.program ≡ without_places p
+    → IsDisjointRun g)
     → ((text a b : List ℕ) → HasLayout text a → HasLayout text b → a ≡ b)
     → ((text : List ℕ) (a b : Refusal) → HasNoLayout text a → HasNoLayout text b → a ≡ b)
     → ((text out : List ℕ) (r : Refusal) → HasLayout text out → HasNoLayout text r → ⊥)
@@ -194,8 +196,8 @@ pub laws : ((text : List ℕ) (p q : c.Program) → IsChecked text p → IsCheck
     → ((text a b : List ℕ) → HasCodeText text a → HasCodeText text b → a ≡ b)
     → ((p q : Parts) (bytes : List ℕ) → IsTextOfCode p bytes → IsTextOfCode q bytes → p ≡ q)
     → ((v w : Version) (j k : Journal) (bytes : List ℕ) → IsTextOf v j bytes → IsTextOf w k bytes → j ≡ k)
-    → ((g : Setting) (es : List Entry) (m n : ℕ) → IsUnfitAt g es m → IsUnfitAt g es n → m ≡ n)
-    → ((g : Setting) (es : List Entry) (n : ℕ) → IsMeant g es → IsUnfitAt g es n → ⊥)
+    → ((g : RunInput) (es : List Entry) (m n : ℕ) → IsUnfitAt g es m → IsUnfitAt g es n → m ≡ n)
+    → ((g : RunInput) (es : List Entry) (n : ℕ) → IsMeant g es → IsUnfitAt g es n → ⊥)
     → Laws
 laws s t u v w d x y z o q f c j m n = record {
   tree = s;

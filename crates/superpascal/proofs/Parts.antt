@@ -25,15 +25,17 @@ use Rattle.superpascal.specs.declared.ending.Answer.{Answer}
 use Rattle.superpascal.specs.declared.ending.Ending.{Ending}
 use Rattle.superpascal.specs.declared.ending.Ending.TheVariants as e
 use Rattle.superpascal.specs.declared.telling.Telling.{Telling}
-use Rattle.superpascal.specs.Answering.{AnswersEnding, HasCode, ended, ending_of_halt}
+use Rattle.superpascal.specs.Answering.{AnswersEnding, HasCode, ending_answer, ending_of_halt}
 use Rattle.superpascal.specs.Causes.{Cause, by_words, before_words, by_command, Due, by_run, by_generated, by_text}
 use Rattle.superpascal.specs.Causes.{by_code, by_rule, by_library, by_source, by_length, by_memory, Files, IsTold}
-use Rattle.superpascal.specs.Causes.{IsUntouched, ReadsAfterRules, Stream, accepted, silent}
+use Rattle.superpascal.specs.Causes.{IsUntouched, ReadsAfterRules, Stream, accepted_answer, silent_answer}
 use Rattle.superpascal.specs.Runs.{IsRunOf, Reports}
-use Rattle.superpascal.specs.Steps.{Answers, AnswersText, AnswersWords, CommandCause, CompilesTo, GivesCode, GivesInput}
+use Rattle.superpascal.specs.Steps.{AnswersCommand, AnswersText, AnswersWords, CommandCause, CompilesTo, GivesCode}
+use Rattle.superpascal.specs.Steps.{GivesInput}
 use Rattle.superpascal.specs.Steps.{HasInput, IsKeptBack, IsSaidOf, IsUnready, ReadsCommand, TellsGenerated, TellsRun}
-use Rattle.superpascal.specs.Steps.{TellsSets, TextCause, too_long}
-use Rattle.superpascal.specs.Texts.{Breaks, BreaksOne, CanRead, HasCodeText, IsAbout, KeepsAll, Makes, asks, text_of}
+use Rattle.superpascal.specs.Steps.{TellsSets, TextCause, length_refusal}
+use Rattle.superpascal.specs.Texts.{FirstBrokenFor, FirstBroken, CanRead, HasCodeText, IsAbout, IsAcceptedText, Makes}
+use Rattle.superpascal.specs.Texts.{command_of_run, text_of}
 use Rattle.superpascal.proofs.Asking.{asked_about, asked_breaks, asked_reads}
 use Rattle.superpascal.proofs.Laws.{long_breaks}
 
@@ -55,8 +57,9 @@ is_longer None limit P Q h p = tt
 is_longer (Some all) limit P Q h p = (h.0 p).0
 
 long_broken : (d : Command) (name : List ℕ) (o : Option (List ℕ)) → IsAbout d name
-    → IfSome o (λ all. 1048576 < length all) → IfSome o (λ text. Breaks d text too_long)
-long_broken d name o about h = if_mapped _ (λ text. Breaks d text too_long) o (λ all. long_breaks d name all about) h
+    → IfSome o (λ all. 1048576 < length all) → IfSome o (λ text. FirstBrokenFor d text length_refusal)
+long_broken d name o about h = if_mapped _ (λ text. FirstBrokenFor d text length_refusal) o
+    (λ all. long_breaks d name all about) h
 
 -- at the exit of a step that has ended the command
 pub at_exit : {T : Type 0} (F : Result T Ending → Type 0) (r : Result T Ending) (x : Ending)
@@ -67,7 +70,7 @@ at_exit F r x (y, h, k) m = subst F (sym (h ∙ ap Err k)) m
 pub said : (P Q : Answer → Type 0) → ((a : Answer) → P a → Q a) → (r : Result Answer Ending) → IsSaidOf P r
     → IsSaidOf Q r
 said P Q g (Ok a) h = g a h
-said P Q g (Err x) h = g (ended x) h
+said P Q g (Err x) h = g (ending_answer x) h
 
 -- ---- the code of a text
 
@@ -83,19 +86,19 @@ compiled_code text r code i k = (
   subst (λ (x : Parts). HasCode text (program_of r.accepted.checked) x) (sym i) (has_code text r k),
 )
 
-pub unready : (f : Files) (name : List ℕ) (x : Ending) → IsKeptBack f name 1048576 (e.Refused too_long) x
+pub unready : (f : Files) (name : List ℕ) (x : Ending) → IsKeptBack f name 1048576 (e.Refused length_refusal) x
     → IsUnready f name x
-unready f name x (inl h) = inl (too_long, h.0, long_broken (command.Check name) name (f.held name) refl h.1)
+unready f name x (inl h) = inl (length_refusal, h.0, long_broken (command.Check name) name (f.held name) refl h.1)
 unready f name x (inr h) = inr h
 
 pub given_code : (f : Files) (name text : List ℕ) → IsTold (f.held name) text → (r : Result Parts Ending)
     → CompilesTo text r → GivesCode f name r
 given_code f name text t (Ok code) (tree, h) = (text, t, tree, h)
 given_code f name text t (Err x) (inl (r, h, b)) = inl
-    (r, h, when_told (λ y. BreaksOne y r) (f.held name) text t b)
+    (r, h, when_told (λ y. FirstBroken y r) (f.held name) text t b)
 given_code f name text t (Err x) (inr h) = inr (inr h)
 
-pub keeps_code : (text : List ℕ) (tree : c.Program) (code : Parts) → HasCode text tree code → KeepsAll text
+pub keeps_code : (text : List ℕ) (tree : c.Program) (code : Parts) → HasCode text tree code → IsAcceptedText text
 keeps_code text tree code h = (tree, h.has.accepted, h.has.short)
 
 -- ---- commands that answer from the text alone
@@ -117,39 +120,40 @@ module _ (f : Files) (d : Command) (name : List ℕ) (about : IsAbout d name) wh
   to_text : (P : Option (List ℕ) → Type 0) → P (f.held name) → P (text_of f.held d)
   to_text P h = subst P (sym (held_of f d name about)) h
 
-  refuses : (r : Refusal) (x : Ending) → x ≡ e.Refused r → IfSome (f.held name) (λ text. Breaks d text r)
-      → TextCause f d (ended x)
+  refuses : (r : Refusal) (x : Ending) → x ≡ e.Refused r → IfSome (f.held name) (λ text. FirstBrokenFor d text r)
+      → TextCause f d (ending_answer x)
   refuses r x h b = inr (inr (inl (record {
     refusal = r;
-    breaks = to_text (λ o. IfSome o (λ y. Breaks d y r)) b;
-    answer = ap ended h;
+    breaks = to_text (λ o. IfSome o (λ y. FirstBrokenFor d y r)) b;
+    answer = ap ending_answer h;
   })))
 
-  fails : (x : Ending) → x ≡ e.ReadFault → Rose (f.before name) (f.after name) → TextCause f d (ended x)
-  fails x h r = inr (inr (inr (inl (record { name = name; loads = inl about; rose = r; answer = ap ended h }))))
+  fails : (x : Ending) → x ≡ e.ReadFault → Rose (f.before name) (f.after name) → TextCause f d (ending_answer x)
+  fails x h r = inr (inr (inr (inl (record { name = name; loads = inl about; rose = r; answer = ap ending_answer h }))))
 
   -- a text that is not loaded
-  pub text_kept_back : (x : Ending) → IsKeptBack f name 1048576 (e.Refused too_long) x → TextCause f d (ended x)
-  text_kept_back x (inl h) = refuses too_long x h.0 (long_broken d name (f.held name) about h.1)
+  pub text_kept_back : (x : Ending) → IsKeptBack f name 1048576 (e.Refused length_refusal) x
+      → TextCause f d (ending_answer x)
+  text_kept_back x (inl h) = refuses length_refusal x h.0 (long_broken d name (f.held name) about h.1)
   text_kept_back x (inr (inl h)) = fails x h.0 h.1
-  text_kept_back x (inr (inr h)) = inr (inr (inr (inr (ap ended h))))
+  text_kept_back x (inr (inr h)) = inr (inr (inr (inr (ap ending_answer h))))
 
   -- a text of which no code comes, of a command that goes through all rules
-  pub text_unready : ((text : List ℕ) (r : Refusal) → BreaksOne text r → Breaks d text r) → (x : Ending)
-      → IsUnready f name x → TextCause f d (ended x)
+  pub text_unready : ((text : List ℕ) (r : Refusal) → FirstBroken text r → FirstBrokenFor d text r) → (x : Ending)
+      → IsUnready f name x → TextCause f d (ending_answer x)
   text_unready all x (inl (r, h, b)) = refuses r x h
-      (if_mapped (λ y. BreaksOne y r) (λ y. Breaks d y r) (f.held name) (λ y. all y r) b)
+      (if_mapped (λ y. FirstBroken y r) (λ y. FirstBrokenFor d y r) (f.held name) (λ y. all y r) b)
   text_unready all x (inr (inl h)) = fails x h.0 h.1
-  text_unready all x (inr (inr h)) = inr (inr (inr (inr (ap ended h))))
+  text_unready all x (inr (inr h)) = inr (inr (inr (inr (ap ending_answer h))))
 
   -- one that breaks a rule of the command
-  pub text_refused : (text : List ℕ) → IsTold (f.held name) text → (r : Refusal) → Breaks d text r
-      → TextCause f d (ended (e.Refused r))
-  text_refused text t r b = refuses r (e.Refused r) refl (when_told (λ y. Breaks d y r) (f.held name) text t b)
+  pub text_refused : (text : List ℕ) → IsTold (f.held name) text → (r : Refusal) → FirstBrokenFor d text r
+      → TextCause f d (ending_answer (e.Refused r))
+  text_refused text t r b = refuses r (e.Refused r) refl (when_told (λ y. FirstBrokenFor d y r) (f.held name) text t b)
 
   -- what is made of it
   pub text_made : (text : List ℕ) → IsTold (f.held name) text → (out line : List ℕ) → Makes d text out line
-      → (a : Answer) → a ≡ accepted out line → TextCause f d a
+      → (a : Answer) → a ≡ accepted_answer out line → TextCause f d a
   text_made text t out line m a h = inl (record {
     text = text;
     loaded = to_text (λ o. IsTold o text) t;
@@ -161,12 +165,12 @@ module _ (f : Files) (d : Command) (name : List ℕ) (about : IsAbout d name) wh
 
 -- a text of which no sets, or no layout, are made
 pub sets_halted : (f : Files) (file text : List ℕ) → IsTold (f.held file) text → (h : Halt) → TellsSets text (Err h)
-    → TextCause f (command.Sets file) (ended (ending_of_halt h))
+    → TextCause f (command.Sets file) (ending_answer (ending_of_halt h))
 sets_halted f file text t (halt.Refused r) b = text_refused f (command.Sets file) file refl text t r b
 sets_halted f file text t halt.Memory b = inr (inr (inr (inr refl)))
 
 pub layout_halted : (f : Files) (file text : List ℕ) → IsTold (f.held file) text → (h : Halt) → Formats text (Err h)
-    → TextCause f (command.Format file) (ended (ending_of_halt h))
+    → TextCause f (command.Format file) (ending_answer (ending_of_halt h))
 layout_halted f file text t (halt.Refused r) b = text_refused f (command.Format file) file refl text t r b
 layout_halted f file text t halt.Memory b = inr (inr (inr (inr refl)))
 
@@ -177,7 +181,7 @@ has_code_text text tree code out h o = (tree, h.has.accepted, h.has.short, code,
 
 -- the code of the text is too long for a file
 pub code_long : (f : Files) (file text : List ℕ) → IsTold (f.held file) text → (out : List ℕ) → HasCodeText text out
-    → 67108864 < length out → TextCause f (command.Build file) (ended e.LongCode)
+    → 67108864 < length out → TextCause f (command.Build file) (ending_answer e.LongCode)
 code_long f file text t out h long = inr
     (inl (record { builds = tt; text = text; loaded = t; long = (out, h, long); answer = refl }))
 
@@ -195,11 +199,11 @@ cause_of_text f s reports d u a h = (due_of_text f s reports d a h, inl u)
 
 -- of a command that is known
 pub command_by : (f : Files) (s : Stream) (reports : Reports) (d x : Command) (r : Result Answer Ending) → d ≡ x
-    → Answers f s reports x r → Answers f s reports d r
-command_by f s reports d x r h k = subst (λ (y : Command). Answers f s reports y r) (sym h) k
+    → AnswersCommand f s reports x r → AnswersCommand f s reports d r
+command_by f s reports d x r h k = subst (λ (y : Command). AnswersCommand f s reports y r) (sym h) k
 
 pub text_command_by : (f : Files) (s : Stream) (reports : Reports) (d x : Command) (r : Result Answer Ending) → d ≡ x
-    → IsUntouched s → AnswersText f x r → Answers f s reports d r
+    → IsUntouched s → AnswersText f x r → AnswersCommand f s reports d r
 text_command_by f s reports d x r h u k = command_by f s reports d x r h
     (said (TextCause f x) (CommandCause f s reports x) (cause_of_text f s reports x u) r k)
 
@@ -207,33 +211,35 @@ text_command_by f s reports d x r h u k = command_by f s reports d x r h
 
 module _ (f : Files) (s : Stream) (reports : Reports) (b : Asked) where
   abbrev Due_run : Answer → Type 0
-  Due_run a = CommandCause f s reports (asks b) a
+  Due_run a = CommandCause f s reports (command_of_run b) a
 
   -- no code comes of the text
-  pub run_unready : IsUntouched s → (x : Ending) → IsUnready f b.file x → Due_run (ended x)
-  run_unready u x h = cause_of_text f s reports (asks b) u (ended x)
-      (text_unready f (asks b) b.file (asked_about b) (asked_breaks b) x h)
+  pub run_unready : IsUntouched s → (x : Ending) → IsUnready f b.file x → Due_run (ending_answer x)
+  run_unready u x h = cause_of_text f s reports (command_of_run b) u (ending_answer x)
+      (text_unready f (command_of_run b) b.file (asked_about b) (asked_breaks b) x h)
 
   module _ (text : List ℕ) (t : IsTold (f.held b.file) text) (tree : c.Program) (code : Parts)
       (has : HasCode text tree code) where
-    can_read : CanRead f.held (asks b)
-    can_read = asked_reads f.held b (when_told KeepsAll (f.held b.file) text t (keeps_code text tree code has))
+    can_read : CanRead f.held (command_of_run b)
+    can_read = asked_reads f.held b (when_told IsAcceptedText (f.held b.file) text t (keeps_code text tree code has))
 
-    reads : ReadsAfterRules f s (asks b)
+    reads : ReadsAfterRules f s (command_of_run b)
     reads = inr can_read
 
     -- memory was wanting for the run, or for what is told of it
-    pub run_wanting : (x : Ending) → x ≡ e.OutOfMemory → Due_run (ended x)
-    run_wanting x h = (by_memory (ap ended h), reads)
+    pub run_wanting : (x : Ending) → x ≡ e.OutOfMemory → Due_run (ending_answer x)
+    run_wanting x h = (by_memory (ap ending_answer h), reads)
 
     -- the input is not read
-    pub run_unread : (x : Ending) → GivesInput s (Err x) → Due_run (ended x)
-    run_unread x (inl h) = (by_source (record { reads = can_read; rose = h.1; answer = ap ended h.0 }), reads)
-    run_unread x (inr (inl h)) = (by_length (record { reads = can_read; long = h.1; answer = ap ended h.0 }), reads)
+    pub run_unread : (x : Ending) → GivesInput s (Err x) → Due_run (ending_answer x)
+    run_unread x (inl h) = (by_source (record { reads = can_read; rose = h.1; answer = ap ending_answer h.0 }), reads)
+    run_unread x (inr (inl h)) =
+        (by_length (record { reads = can_read; long = h.1; answer = ap ending_answer h.0 }), reads)
     run_unread x (inr (inr h)) = run_wanting x h
 
     pub run_told : (input : List ℕ) → HasInput s input → (ran : Ran) → IsRunOf text input b.workers b.limits ran
-        → (r : Result Answer Ending) → TellsRun reports b.telling ran r → Answers f s reports (asks b) r
+        → (r : Result Answer Ending) → TellsRun reports b.telling ran r
+        → AnswersCommand f s reports (command_of_run b) r
     run_told input i ran is (Ok a) k = (
       by_run b refl (record {
         text = text;
@@ -261,14 +267,14 @@ module _ (f : Files) (s : Stream) (reports : Reports) (size workers : ℕ) (u : 
   abbrev Due_generated : Answer → Type 0
   Due_generated a = CommandCause f s reports (command.Gen size workers) a
 
-  pub generated_wanting : (x : Ending) → x ≡ e.OutOfMemory → Due_generated (ended x)
-  generated_wanting x h = (by_memory (ap ended h), inl u)
+  pub generated_wanting : (x : Ending) → x ≡ e.OutOfMemory → Due_generated (ending_answer x)
+  generated_wanting x h = (by_memory (ap ending_answer h), inl u)
 
   -- no code comes of the text
   pub generated_unready : (text : List ℕ) → text ≡ generated_text size → (x : Ending) → CompilesTo text (Err x)
-      → Due_generated (ended x)
+      → Due_generated (ending_answer x)
   generated_unready text i x (inl (r, h, b)) = (
-    by_rule (record { refusal = r; breaks = subst (λ y. BreaksOne y r) i b; answer = ap ended h }),
+    by_rule (record { refusal = r; breaks = subst (λ y. FirstBroken y r) i b; answer = ap ending_answer h }),
     inl u,
   )
   generated_unready text i x (inr h) = generated_wanting x h
@@ -276,7 +282,7 @@ module _ (f : Files) (s : Stream) (reports : Reports) (size workers : ℕ) (u : 
   -- a run on an input that is empty, with the limits where no option is given
   pub generated_told : (text input : List ℕ) (lim : Limits) (ran : Ran) → text ≡ generated_text size → input ≡ []
       → lim ≡ default_limits → IsRunOf text input workers lim ran → (r : Result Answer Ending)
-      → TellsGenerated size ran r → Answers f s reports (command.Gen size workers) r
+      → TellsGenerated size ran r → AnswersCommand f s reports (command.Gen size workers) r
   generated_told text input lim ran t h i is (Ok a) k = (
     by_generated size workers refl (record {
       ran = ran;
@@ -292,21 +298,21 @@ module _ (f : Files) (s : Stream) (reports : Reports) (size workers : ℕ) (u : 
 
 module _ (f : Files) (s : Stream) (reports : Reports) (w : Option Command) where
   -- they ask for no command, or memory was wanting
-  pub no_command_read : IsUntouched s → (x : Ending) → ReadsCommand w (Err x) → Cause f s reports w (ended x)
-  no_command_read u x (inl h) = by_words h.1 (ap ended h.0) u
-  no_command_read u x (inr h) = before_words (ap ended h) u
+  pub no_command_read : IsUntouched s → (x : Ending) → ReadsCommand w (Err x) → Cause f s reports w (ending_answer x)
+  no_command_read u x (inl h) = by_words h.1 (ap ending_answer h.0) u
+  no_command_read u x (inr h) = before_words (ap ending_answer h) u
 
-  pub words_answered : (d : Command) → w ≡ Some d → (r : Result Answer Ending) → Answers f s reports d r
+  pub words_answered : (d : Command) → w ≡ Some d → (r : Result Answer Ending) → AnswersCommand f s reports d r
       → AnswersWords f s reports w r
   words_answered d v r h = said (CommandCause f s reports d) (Cause f s reports w) (λ a k. by_command d v k.0 k.1) r h
 
   -- memory was wanting for the line of an ending
-  wanting : (a : Answer) → Cause f s reports w a → Cause f s reports w (silent e.OutOfMemory)
+  wanting : (a : Answer) → Cause f s reports w a → Cause f s reports w (silent_answer e.OutOfMemory)
   wanting a (by_words n h u) = before_words refl u
   wanting a (before_words h u) = before_words refl u
   wanting a (by_command d v due reads) = by_command d v (by_memory refl) reads
 
-  pub ending_answered : (x : Ending) → Cause f s reports w (ended x) → (a : Answer) → AnswersEnding x a
+  pub ending_answered : (x : Ending) → Cause f s reports w (ending_answer x) → (a : Answer) → AnswersEnding x a
       → Cause f s reports w a
   ending_answered x h a (inl k) = subst (Cause f s reports w) (sym k) h
-  ending_answered x h a (inr k) = subst (Cause f s reports w) (sym k) (wanting (ended x) h)
+  ending_answered x h a (inr k) = subst (Cause f s reports w) (sym k) (wanting (ending_answer x) h)

@@ -15,7 +15,7 @@ use Rattle.sp_journal.specs.Reading.{IsText}
 use Rattle.sp_journal.specs.Texts.{IsFirstBad}
 use Rattle.sp_outside.specs.Counts.{Rose}
 use Rattle.sp_replay.specs.declared.replayer.Replayed.{Replayed}
-use Rattle.sp_tree.specs.Bare.{bare}
+use Rattle.sp_tree.specs.Bare.{without_places}
 use Rattle.sp_tree.specs.Plain.{Program}
 use Rattle.sp_tree.specs.PlainChecked as c
 use Rattle.sp_words.specs.declared.command.Command.TheVariants as command
@@ -23,34 +23,35 @@ use Rattle.superpascal.specs.declared.asked.Followed.{Followed}
 use Rattle.superpascal.specs.declared.ending.Ending.{Ending}
 use Rattle.superpascal.specs.declared.ending.Ending.TheVariants as e
 use Rattle.superpascal.specs.declared.ending.Answer.{Answer}
-use Rattle.superpascal.specs.Answering.{HasCode, HasEndLines, ended}
+use Rattle.superpascal.specs.Answering.{HasCode, HasEndLines, ending_answer}
 use Rattle.superpascal.specs.Answers.{notes_by}
 use Rattle.superpascal.specs.Causes.{by_library, by_source, by_length, by_memory, by_replay, by_entry, by_line, by_size}
 use Rattle.superpascal.specs.Causes.{Files, HasRead, IsTold, IsUntouched, Stream}
 use Rattle.superpascal.specs.Following.{IsMeantAlong}
 use Rattle.superpascal.specs.Replays.{IsJournalOf, IsReplayOf, IsUnfitFor, ending_of_replay}
 use Rattle.superpascal.specs.Runs.{HasTree, Reports}
-use Rattle.superpascal.specs.Steps.{Answers, CommandCause, Follows, GivesInput, GivesJournal, HasInput, IsUnready}
+use Rattle.superpascal.specs.Steps.{AnswersCommand, CommandCause, ReplaysTo, GivesInput, GivesJournal, HasInput}
+use Rattle.superpascal.specs.Steps.{IsUnready}
 use Rattle.superpascal.specs.Steps.{ReadsJournal, TellsReplay}
-use Rattle.superpascal.specs.Texts.{CanRead, IsJournalText, KeepsAll, follows}
+use Rattle.superpascal.specs.Texts.{CanRead, IsJournalText, IsAcceptedText, command_of_replay}
 use Rattle.superpascal.proofs.Laws.{Laws}
 use Rattle.superpascal.proofs.Parts.{cause_of_text, keeps_code, text_unready, when_told}
 
 -- ---- words
 
-one_file : (a b : Followed) → follows b ≡ follows a → b.file ≡ a.file
+one_file : (a b : Followed) → command_of_replay b ≡ command_of_replay a → b.file ≡ a.file
 one_file a b h = cc
 
-one_journal : (a b : Followed) → follows b ≡ follows a → b.journal ≡ a.journal
+one_journal : (a b : Followed) → command_of_replay b ≡ command_of_replay a → b.journal ≡ a.journal
 one_journal a b h = cc
 
-one_limits : (a b : Followed) → follows b ≡ follows a → b.limits ≡ a.limits
+one_limits : (a b : Followed) → command_of_replay b ≡ command_of_replay a → b.limits ≡ a.limits
 one_limits a b h = cc
 
-pub one_followed : (a b : Followed) → follows b ≡ follows a → b ≡ a
+pub one_followed : (a b : Followed) → command_of_replay b ≡ command_of_replay a → b ≡ a
 one_followed a b h = λ i. record { file = one_file a b h i; journal = one_journal a b h i; limits = one_limits a b h i }
 
-pub not_generated : (b : Followed) (size workers : ℕ) → follows b ≡ command.Gen size workers → ⊥
+pub not_generated : (b : Followed) (size workers : ℕ) → command_of_replay b ≡ command.Gen size workers → ⊥
 not_generated b size workers h = cc
 
 -- ---- from the parts of the call
@@ -60,7 +61,7 @@ pub rose_before : (before middle after : ℕ) → before ≤ middle → Rose mid
 rose_before before middle after l (inl r) = inl (omega (arith, l, r))
 rose_before before middle after l (inr r) = inr r
 
-pub tree_keeps : (text : List ℕ) (tree : c.Program) → HasTree text tree → KeepsAll text
+pub tree_keeps : (text : List ℕ) (tree : c.Program) → HasTree text tree → IsAcceptedText text
 tree_keeps text tree h = (tree, h.accepted, h.short)
 
 -- the journal of the bytes under a name
@@ -85,55 +86,55 @@ journal_under f g name held l i (Err x) (inr (bytes, n, t, short, h, bad)) = inr
 
 module _ (f : Files) (s : Stream) (reports : Reports) (b : Followed) where
   abbrev Due_replay : Answer → Type 0
-  Due_replay a = CommandCause f s reports (follows b) a
+  Due_replay a = CommandCause f s reports (command_of_replay b) a
 
   -- no code comes of the text
-  pub replay_unready : IsUntouched s → (x : Ending) → IsUnready f b.file x → Due_replay (ended x)
-  replay_unready u x h = cause_of_text f s reports (follows b) u (ended x)
-      (text_unready f (follows b) b.file refl (λ text r k. k) x h)
+  pub replay_unready : IsUntouched s → (x : Ending) → IsUnready f b.file x → Due_replay (ending_answer x)
+  replay_unready u x h = cause_of_text f s reports (command_of_replay b) u (ending_answer x)
+      (text_unready f (command_of_replay b) b.file refl (λ text r k. k) x h)
 
   module _ (text : List ℕ) (t : IsTold (f.held b.file) text) (tree : c.Program) (code : Parts)
       (has : HasCode text tree code) where
-    kept_is : IfSome (f.held b.file) KeepsAll
-    kept_is = when_told KeepsAll (f.held b.file) text t (keeps_code text tree code has)
+    kept_is : IfSome (f.held b.file) IsAcceptedText
+    kept_is = when_told IsAcceptedText (f.held b.file) text t (keeps_code text tree code has)
 
     -- no journal is read
-    pub replay_unread : IsUntouched s → (x : Ending) → GivesJournal f b.journal (Err x) → Due_replay (ended x)
+    pub replay_unread : IsUntouched s → (x : Ending) → GivesJournal f b.journal (Err x) → Due_replay (ending_answer x)
     replay_unread u x (inl (inl h)) = (
-      by_size b refl (record { kept = kept_is; long = h.1; answer = ap ended h.0 }),
+      by_size b refl (record { kept = kept_is; long = h.1; answer = ap ending_answer h.0 }),
       inl u,
     )
     replay_unread u x (inl (inr (inl h))) = (
       by_library
-          (record { name = b.journal; loads = inr (inl (refl, kept_is)); rose = h.1; answer = ap ended h.0 }),
+          (record { name = b.journal; loads = inr (inl (refl, kept_is)); rose = h.1; answer = ap ending_answer h.0 }),
       inl u,
     )
-    replay_unread u x (inl (inr (inr h))) = (by_memory (ap ended h), inl u)
+    replay_unread u x (inl (inr (inr h))) = (by_memory (ap ending_answer h), inl u)
     replay_unread u x (inr (bytes, n, told, short, h, bad)) = (
       by_line b n refl (record {
         kept = kept_is;
         short = when_told (λ y. length y ≤ 67108864) (f.held b.journal) bytes told short;
         bad = when_told (IsFirstBad n) (f.held b.journal) bytes told bad.0;
         no_text = when_told (λ y. IsText y → ⊥) (f.held b.journal) bytes told bad.1;
-        answer = ap ended h;
+        answer = ap ending_answer h;
       }),
       inl u,
     )
 
     module _ (bytes : List ℕ) (told : IsTold (f.held b.journal) bytes) (j : Journal) (is : IsJournalOf bytes j) where
-      may_read : CanRead f.held (follows b)
+      may_read : CanRead f.held (command_of_replay b)
       may_read = (kept_is, when_told IsJournalText (f.held b.journal) bytes told ((is.version, j, is.text), is.short))
 
       -- memory was wanting for the run, or for what is told of it
-      pub replay_wanting : (x : Ending) → x ≡ e.OutOfMemory → Due_replay (ended x)
-      replay_wanting x h = (by_memory (ap ended h), inr may_read)
+      pub replay_wanting : (x : Ending) → x ≡ e.OutOfMemory → Due_replay (ending_answer x)
+      replay_wanting x h = (by_memory (ap ending_answer h), inr may_read)
 
       -- the input is not read
-      pub replay_no_input : (x : Ending) → GivesInput s (Err x) → Due_replay (ended x)
+      pub replay_no_input : (x : Ending) → GivesInput s (Err x) → Due_replay (ending_answer x)
       replay_no_input x (inl h) =
-          (by_source (record { reads = may_read; rose = h.1; answer = ap ended h.0 }), inr may_read)
+          (by_source (record { reads = may_read; rose = h.1; answer = ap ending_answer h.0 }), inr may_read)
       replay_no_input x (inr (inl h)) =
-          (by_length (record { reads = may_read; long = h.1; answer = ap ended h.0 }), inr may_read)
+          (by_length (record { reads = may_read; long = h.1; answer = ap ending_answer h.0 }), inr may_read)
       replay_no_input x (inr (inr h)) = replay_wanting x h
 
       module _ (input : List ℕ) (i : HasInput s input) where
@@ -152,13 +153,16 @@ module _ (f : Files) (s : Stream) (reports : Reports) (b : Followed) where
         }
 
         -- an entry does not fit
-        pub replay_unfit : (x : Ending) → Follows text input b.limits j (Err x) → Due_replay (ended x)
-        replay_unfit x (inl (n, h, m)) =
-            (by_entry b n refl (record { has_read = has_read; is_unfit = m; answer = ap ended h }), inr may_read)
+        pub replay_unfit : (x : Ending) → ReplaysTo text input b.limits j (Err x) → Due_replay (ending_answer x)
+        replay_unfit x (inl (n, h, m)) = (
+          by_entry b n refl (record { has_read = has_read; is_unfit = m; answer = ap ending_answer h }),
+          inr
+              may_read,
+        )
         replay_unfit x (inr h) = replay_wanting x h
 
         pub replay_told : (replayed : Replayed) → IsReplayOf text input b.limits j replayed
-            → (r : Result Answer Ending) → TellsReplay replayed r → Answers f s reports (follows b) r
+            → (r : Result Answer Ending) → TellsReplay replayed r → AnswersCommand f s reports (command_of_replay b) r
         replay_told replayed m (Ok a) k = (
           by_replay b refl (record { has_read = has_read; replayed = replayed; is_replay = m; answer = k }),
           inr may_read,
@@ -183,8 +187,8 @@ replay_notes_stand (Some ends.Memory) notes h = absurd h
 
 module _ (l : Laws) (text input : List ℕ) (limits : Limits) (j : Journal) where
   -- the program of a text is that of its code
-  same_program : (p : Program) → IsProgramOf text p → (tree : c.Program) → HasTree text tree → bare tree ≡ p
-  same_program p (q, is, e) tree has = ap bare (l.tree text tree q has.accepted.0 is) ∙ e
+  same_program : (p : Program) → IsProgramOf text p → (tree : c.Program) → HasTree text tree → without_places tree ≡ p
+  same_program p (q, is, e) tree has = ap without_places (l.tree text tree q has.accepted.0 is) ∙ e
 
   pub meant_defined : (p : Program) → IsProgramOf text p → (r : Replayed) → IsReplayOf text input limits j r
       → IsDefined (setting p input limits) j.entries
@@ -227,7 +231,7 @@ module _ (f : Files) (s : Stream) (b : Followed) (l : Laws) (h : HasRead f s b) 
       record {
         journal = h.journal;
         is_journal = journal_is;
-        program = bare n.tree;
+        program = without_places n.tree;
         is_program =
             (n.tree, n.has.accepted.0, refl);
         followed = n.meant;

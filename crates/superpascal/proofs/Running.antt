@@ -8,17 +8,17 @@ use Rattle.sp_code.specs.declared.code.Parts.{Parts}
 use Rattle.sp_code.specs.Shares.{SetsAre}
 use Rattle.sp_code.specs.Sound.{AreLimits}
 use Rattle.sp_execute.specs.declared.execution.Ran.{Ran}
-use Rattle.sp_execute.specs.Follows.{Follows as FollowsProgram}
+use Rattle.sp_execute.specs.Follows.{FollowsTo as FollowsProgram}
 use Rattle.sp_execute.specs.Runs.{Executes, IsCodeOf as IsReadyCode, setting}
 use Rattle.sp_execute.specs.Witnesses.{IsReadyRun, ShowsRace}
-use Rattle.sp_facts.specs.Gives.{IsAccepted}
+use Rattle.sp_facts.specs.AcceptedTree.{IsAccepted}
 use Rattle.sp_journal.specs.declared.entry.Journal.{Journal}
 use Rattle.sp_link.specs.Premises.{IsReady}
-use Rattle.sp_meaning.specs.Own.{Setting}
+use Rattle.sp_meaning.specs.LocalWork.{RunInput}
 use Rattle.sp_replay.specs.declared.replayer.Replayed.{Replayed}
 use Rattle.sp_replay.specs.declared.replayer.ReplayError.{ReplayError}
 use Rattle.sp_replay.specs.declared.replayer.ReplayError.TheVariants as error
-use Rattle.sp_tree.specs.Bare.{bare}
+use Rattle.sp_tree.specs.Bare.{without_places}
 use Rattle.sp_tree.specs.Plain.{Program, Stmt}
 use Rattle.sp_tree.specs.PlainChecked as c
 use Rattle.sp_words.specs.Ranges.{IsInRange}
@@ -26,7 +26,7 @@ use Rattle.superpascal.specs.declared.ending.Ending.{Ending}
 use Rattle.superpascal.specs.declared.ending.Ending.TheVariants as ending
 use Rattle.superpascal.specs.Answering.{HasCode}
 use Rattle.superpascal.specs.Runs.{IsRunOf}
-use Rattle.superpascal.specs.Steps.{Follows}
+use Rattle.superpascal.specs.Steps.{ReplaysTo}
 
 -- options in their ranges are within their types
 below : (m n k : ℕ) → m ≤ n → n ≤ k → m ≤ k
@@ -45,13 +45,13 @@ limits_are workers lim r = record {
 -- the law of ready programs
 abbrev pub ReadyLaw : Type 0
 ReadyLaw = (text : List ℕ) (t : c.Program) → IsAccepted text t → (moves shares : Stmt → List ℕ)
-    → SetsAre (bare t) moves shares
+    → SetsAre (without_places t) moves shares
     → (input : List ℕ) (lim : Limits) → AreLimits lim
-    → IsReady (record { program = bare t; input = input; limits = lim }) moves shares
+    → IsReady (record { program = without_places t; input = input; limits = lim }) moves shares
 
 -- the law of races
 abbrev pub RaceLaw : Type 0
-RaceLaw = (g : Setting) (moves shares : Stmt → List ℕ) (workers : ℕ) (r : Ran) → IsReady g moves shares
+RaceLaw = (g : RunInput) (moves shares : Stmt → List ℕ) (workers : ℕ) (r : Ran) → IsReady g moves shares
     → Executes g workers r → ShowsRace g r
 
 -- how following a journal ends a replay
@@ -63,7 +63,7 @@ ending_at (Err error.Memory) = Err ending.OutOfMemory
 module _ (law : ReadyLaw) (code : Parts) (input : List ℕ) (workers : ℕ) (lim : Limits)
     (range : IsInRange workers lim) where
   pub ready_code : (text : List ℕ) (t : c.Program) (has : HasCode text t code)
-      → IsReadyCode (setting (bare t) input lim) has.code.0.moves has.code.0.shares code
+      → IsReadyCode (setting (without_places t) input lim) has.code.0.moves has.code.0.shares code
   ready_code text t has = record {
     ready = law text t has.has.accepted has.code.0.moves has.code.0.shares has.code.0.are input lim
         (limits_are workers lim range);
@@ -75,10 +75,11 @@ module _ (law : ReadyLaw) (code : Parts) (input : List ℕ) (workers : ℕ) (lim
     pub ready_held : ((text : List ℕ) × (t : c.Program) × HasCode text t code) → (p : Program) × (moves : Stmt → List ℕ)
         × (shares : Stmt → List ℕ) × IsReadyCode (setting p read lim) moves shares held
     ready_held (text, t, has) = (
-      bare t,
+      without_places t,
       has.code.0.moves,
       has.code.0.shares,
-      subst (λ (z : List ℕ × Parts). IsReadyCode (setting (bare t) z.0 lim) has.code.0.moves has.code.0.shares z.1)
+      subst (λ (z : List ℕ × Parts). IsReadyCode (setting (without_places t) z.0 lim) has.code.0.moves
+          has.code.0.shares z.1)
           (λ k. (sym i k, sym h k)) (ready_code text t has),
     )
 
@@ -99,30 +100,32 @@ module _ (law : ReadyLaw) (code : Parts) (input : List ℕ) (workers : ℕ) (lim
     is_run_if races (Ok e) meant = λ text t has.
         let ready = ready_code text t has in
         let executes = subst (λ (z : List ℕ × Parts). Meant z.0 z.1 e) (λ k. (i k, h k)) meant
-        (bare t) has.code.0.moves has.code.0.shares ready in
+        (without_places t) has.code.0.moves has.code.0.shares ready in
         record {
           tree = t;
           has = has.has;
           meant = executes;
-          shown = races (setting (bare t) input lim) has.code.0.moves has.code.0.shares workers e ready.ready executes;
+          shown = races (setting (without_places t) input lim) has.code.0.moves has.code.0.shares workers e ready.ready
+              executes;
         }
     is_run_if races (Err x) meant = tt
 
     module _ (j : Journal) (r : Result Replayed ReplayError) (says : (p : Program) (moves shares : Stmt → List ℕ)
         → IsReadyCode (setting p read lim) moves shares held → FollowsProgram (setting p read lim) j r) where
-      said : (text : List ℕ) (t : c.Program) → HasCode text t code → FollowsProgram (setting (bare t) input lim) j r
+      said : (text : List ℕ) (t : c.Program) → HasCode text t code
+          → FollowsProgram (setting (without_places t) input lim) j r
       said text t has =
           subst (λ (z : List ℕ × Parts). (p : Program) (moves shares : Stmt → List ℕ)
           → IsReadyCode (setting p z.0 lim) moves shares z.1
           → FollowsProgram (setting p z.0 lim) j r) (λ k. (i k, h k)) says
-          (bare t) has.code.0.moves has.code.0.shares (ready_code text t has)
+          (without_places t) has.code.0.moves has.code.0.shares (ready_code text t has)
 
       pub follows_text : (text : List ℕ) (t : c.Program) → HasCode text t code
-          → Follows text input lim j (ending_at r)
+          → ReplaysTo text input lim j (ending_at r)
       follows_text text t has = go r (said text t has)
         where
-          go : (x : Result Replayed ReplayError) → FollowsProgram (setting (bare t) input lim) j x
-              → Follows text input lim j (ending_at x)
+          go : (x : Result Replayed ReplayError) → FollowsProgram (setting (without_places t) input lim) j x
+              → ReplaysTo text input lim j (ending_at x)
           go (Ok y) m = record { tree = t; has = has.has; meant = m }
           go (Err (error.Unfit n)) m = inl (n, refl, record { tree = t; has = has.has; unfit = m })
           go (Err error.Memory) m = inr refl

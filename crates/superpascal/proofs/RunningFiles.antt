@@ -12,7 +12,7 @@ use Rattle.sp_execute.specs.Machines.{RunsCode}
 use Rattle.sp_generate.specs.Generated.{IsCodeOf}
 use Rattle.sp_kernel.specs.declared.closed.Closed.{Closed}
 use Rattle.sp_rules.specs.Verdict.{IsVerified}
-use Rattle.sp_tree.specs.Bare.{bare}
+use Rattle.sp_tree.specs.Bare.{without_places}
 use Rattle.sp_words.specs.Ranges.{IsInRange}
 use Rattle.superpascal.specs.Answering.{HasCode}
 use Rattle.superpascal.specs.Executions.{IsExecutionOf, IsMeantBy}
@@ -37,10 +37,10 @@ module _ (ready : ReadyLaw) (one : TextLaw) (code : Parts) (input : List ℕ) (w
       let has : HasCode text p code = record {
         has = record { accepted = accepted; short = short };
         code = subst
-            (IsCodeOf (bare p)) same is;
+            (IsCodeOf (without_places p)) same is;
       } in
       let fit = ready_code ready code input workers lim range text p has in
-      record { tree = p; has = has.has; about = runs.program (bare p) has.code.0.moves has.code.0.shares fit }
+      record { tree = p; has = has.has; about = runs.program (without_places p) has.code.0.moves has.code.0.shares fit }
 
   -- of the code and the input as the run holds them
   module _ (held : Parts) (read : List ℕ) (h : held ≡ code) (i : read ≡ input) where

@@ -11,36 +11,36 @@ use Rattle.sp_journal.specs.declared.outcome.End.{End}
 use Rattle.sp_journal.specs.declared.outcome.End.TheVariants as ends
 use Rattle.sp_kernel.specs.declared.closed.Closed.{Closed}
 use Rattle.sp_meaning.specs.Ends.{EndIs, EndsSo}
-use Rattle.sp_meaning.specs.Own.{Setting}
+use Rattle.sp_meaning.specs.LocalWork.{RunInput}
 use Rattle.sp_meaning.specs.Runs.{StateOf}
-use Rattle.sp_print.specs.Lines.{HasLines}
+use Rattle.sp_print.specs.OutcomeLines.{HasLines}
 use Rattle.sp_replay.specs.declared.replayer.Replayed.{Replayed}
 use Rattle.sp_runner.specs.Ends.{EndsAt}
-use Rattle.sp_tree.specs.Bare.{bare}
+use Rattle.sp_tree.specs.Bare.{without_places}
 use Rattle.superpascal.specs.Answering.{HasEndLines, IsTellable}
 use Rattle.superpascal.specs.Executions.{IsExecutionOf}
 use Rattle.superpascal.specs.Replays.{IsReplayOf}
 use Rattle.superpascal.specs.Runs.{IsRunOf}
 
-abbrev pub Ends : End → Type 0
-Ends x = HasLines x
+abbrev pub EndHasLines : End → Type 0
+EndHasLines x = HasLines x
 
 -- no run ends by want of memory
-ends_at : (g : Setting) (s : StateOf g) (x : End) → EndIs g s x → HasLines x
+ends_at : (g : RunInput) (s : StateOf g) (x : End) → EndIs g s x → HasLines x
 ends_at g s ends.Done h = tt
 ends_at g s (ends.Deadlock ws) h = tt
 ends_at g s (ends.Fault n y) h = tt
 ends_at g s ends.Memory h = absurd h
 
-executed : (g : Setting) (workers : ℕ) (r : Ran) → Executes g workers r → IsTellable r
+executed : (g : RunInput) (workers : ℕ) (r : Ran) → Executes g workers r → IsTellable r
 executed g workers r h = (h.about.names, ends_at g h.about.state r.closed.end h.about.end)
 
 pub ends_of : (text input : List ℕ) (workers : ℕ) (limits : Limits) (r : Ran) → IsRunOf text input workers limits r
     → HasLines r.closed.end
-ends_of text input workers limits r h = (executed (setting (bare h.tree) input limits) workers r h.meant).1
+ends_of text input workers limits r h = (executed (setting (without_places h.tree) input limits) workers r h.meant).1
 
 -- no replay does
-meant_ends : (g : Setting) (s : StateOf g) (o : Option End) → EndsSo g s o → HasEndLines o
+meant_ends : (g : RunInput) (s : StateOf g) (o : Option End) → EndsSo g s o → HasEndLines o
 meant_ends g s None h = tt
 meant_ends g s (Some ends.Done) h = tt
 meant_ends g s (Some (ends.Deadlock ws)) h = tt

@@ -19,17 +19,17 @@ use Rattle.superpascal.specs.Causes.{by_code, by_rule, by_library, by_source, by
 use Rattle.superpascal.specs.Causes.{by_line, by_size, by_execution, by_long_file, by_code_line, by_rejection, Files}
 use Rattle.superpascal.specs.Causes.{HasExecuted, HasGenerated, HasMade, HasReplayed, HasRun, IsBadCode, IsBadJournal}
 use Rattle.superpascal.specs.Causes.{IsLongCode, IsLongFile, IsLongJournal, IsNotLoaded, IsNotRead, IsRefusedFor}
-use Rattle.superpascal.specs.Causes.{IsRejectedCode, IsTooMuch, IsUnfit, Stream, silent}
+use Rattle.superpascal.specs.Causes.{IsRejectedCode, IsTooMuch, IsUnfit, Stream, silent_answer}
 use Rattle.superpascal.specs.Executions.{execution_answer}
 use Rattle.superpascal.specs.Replays.{ending_of_replay, replay_answer}
 use Rattle.superpascal.specs.Runs.{Reports, ending_of, generated_answer, run_answer}
-use Rattle.superpascal.specs.Texts.{asks, executes, follows}
-use Rattle.superpascal.proofs.Tellable.{Ends, ends_of, execution_ends, replay_ends}
+use Rattle.superpascal.specs.Texts.{command_of_run, command_of_execution, command_of_replay}
+use Rattle.superpascal.proofs.Tellable.{EndHasLines, ends_of, execution_ends, replay_ends}
 
 module _ (f : Files) (s : Stream) (reports : Reports) (w : Option Command) (a : Answer) where
   -- a program has run for this command
   abbrev pub IsRanBy : Command → Type 0
-  IsRanBy d = ((asked : Asked) × (d ≡ asks asked) × HasRun f s reports asked a)
+  IsRanBy d = ((asked : Asked) × (d ≡ command_of_run asked) × HasRun f s reports asked a)
       ⊎ ((size workers : ℕ) × (d ≡ command.Gen size workers) × HasGenerated size workers a)
 
   abbrev pub HasRanFor : Type 0
@@ -37,11 +37,11 @@ module _ (f : Files) (s : Stream) (reports : Reports) (w : Option Command) (a : 
 
   -- a journal was followed for this command
   abbrev pub HasReplayedFor : Type 0
-  HasReplayedFor = (asked : Followed) × (w ≡ Some (follows asked)) × HasReplayed f s asked a
+  HasReplayedFor = (asked : Followed) × (w ≡ Some (command_of_replay asked)) × HasReplayed f s asked a
 
   -- a code file has run for this command
   abbrev pub HasExecutedFor : Type 0
-  HasExecutedFor = (asked : Executed) × (w ≡ Some (executes asked)) × HasExecuted f s asked a
+  HasExecutedFor = (asked : Executed) × (w ≡ Some (command_of_execution asked)) × HasExecuted f s asked a
 
   -- a program or a code file came to its end, in a run or along a journal
   abbrev pub HasEnded : Type 0
@@ -57,16 +57,16 @@ module _ (f : Files) (s : Stream) (reports : Reports) (w : Option Command) (a : 
   why e.BadWords = w ≡ None
   why e.ReadFault = (d : Command) × (w ≡ Some d) × (IsNotLoaded f d a ⊎ IsNotRead f s d a)
   why e.TooLong = (d : Command) × (w ≡ Some d) × IsTooMuch f s d a
-  why e.OutOfMemory = a ≡ silent e.OutOfMemory
-  why e.LongJournal = (asked : Followed) × (w ≡ Some (follows asked)) × IsLongJournal f asked a
-  why (e.BadJournal n) = (asked : Followed) × (w ≡ Some (follows asked)) × IsBadJournal f asked n a
-  why (e.Unfit n) = (asked : Followed) × (w ≡ Some (follows asked)) × IsUnfit f s asked n a
+  why e.OutOfMemory = a ≡ silent_answer e.OutOfMemory
+  why e.LongJournal = (asked : Followed) × (w ≡ Some (command_of_replay asked)) × IsLongJournal f asked a
+  why (e.BadJournal n) = (asked : Followed) × (w ≡ Some (command_of_replay asked)) × IsBadJournal f asked n a
+  why (e.Unfit n) = (asked : Followed) × (w ≡ Some (command_of_replay asked)) × IsUnfit f s asked n a
   why e.LongCode = (d : Command) × (w ≡ Some d) × IsLongCode f d a
-  why e.LongFile = (asked : Executed) × (w ≡ Some (executes asked)) × IsLongFile f asked a
-  why (e.BadCode n) = (asked : Executed) × (w ≡ Some (executes asked)) × IsBadCode f asked n a
-  why (e.Rejected v i) = (asked : Executed) × (w ≡ Some (executes asked)) × IsRejectedCode f asked v i a
+  why e.LongFile = (asked : Executed) × (w ≡ Some (command_of_execution asked)) × IsLongFile f asked a
+  why (e.BadCode n) = (asked : Executed) × (w ≡ Some (command_of_execution asked)) × IsBadCode f asked n a
+  why (e.Rejected v i) = (asked : Executed) × (w ≡ Some (command_of_execution asked)) × IsRejectedCode f asked v i a
 
-  by_end : (x : End) → Ends x → HasEnded → why (ending_of x)
+  by_end : (x : End) → EndHasLines x → HasEnded → why (ending_of x)
   by_end ends.Done p h = h
   by_end (ends.Deadlock ws) p h = h
   by_end (ends.Fault n y) p h = h
@@ -142,7 +142,7 @@ module _ (f : Files) (s : Stream) (reports : Reports) (w : Option Command) (a : 
   no_file b r h n k = none-some r (sym n ∙ sym (ap (λ (z : Answer). z.executed) h) ∙ k)
 
   executed_due : (d : Command) (r : Closed) → Due f s reports d a → a.executed ≡ Some r → (asked : Executed)
-      × (d ≡ executes asked) × HasExecuted f s asked a
+      × (d ≡ command_of_execution asked) × HasExecuted f s asked a
   executed_due d r (by_run asked p h) k = absurd (no_file _ r h.answer refl k)
   executed_due d r (by_generated size workers p h) k = absurd (no_file _ r h.answer refl k)
   executed_due d r (by_text h) k = absurd (no_file _ r h.answer refl k)

@@ -8,14 +8,14 @@ use Rattle.sp_execute.specs.declared.execution.Ran.{Ran}
 use Rattle.sp_generate.specs.Generated.{IsCodeOf}
 use Rattle.sp_journal.specs.declared.outcome.End.{End}
 use Rattle.sp_journal.specs.Births.{IsNameable}
-use Rattle.sp_print.specs.Lines.{HasLines}
-use Rattle.sp_tree.specs.Bare.{bare}
+use Rattle.sp_print.specs.OutcomeLines.{HasLines}
+use Rattle.sp_tree.specs.Bare.{without_places}
 use Rattle.sp_tree.specs.PlainChecked as c
 use Rattle.superpascal.specs.declared.ending.Ending.{Ending}
 use Rattle.superpascal.specs.declared.ending.Ending.TheVariants as e
 use Rattle.superpascal.specs.declared.ending.Answer.{Answer}
 use Rattle.superpascal.specs.Answers.{line_of}
-use Rattle.superpascal.specs.Causes.{silent}
+use Rattle.superpascal.specs.Causes.{silent_answer}
 use Rattle.superpascal.specs.Runs.{HasTree}
 
 -- the line of an ending, where it is not the same for every text; else nothing
@@ -39,8 +39,8 @@ own_line (e.BadCode n) = line_of (e.BadCode n)
 own_line (e.Rejected v i) = line_of (e.Rejected v i)
 
 -- the answer to what ends so without an output
-abbrev pub ended : Ending → Answer
-ended x = record { ending = x; ran = None; executed = None; output = None; notes = own_line x }
+abbrev pub ending_answer : Ending → Answer
+ending_answer x = record { ending = x; ran = None; executed = None; output = None; notes = own_line x }
 
 -- how a text of which nothing is made ends its command
 abbrev pub ending_of_halt : Halt → Ending
@@ -49,12 +49,12 @@ ending_of_halt halt.Memory = e.OutOfMemory
 
 -- this answer, or want of memory
 abbrev pub AnswersEnding : Ending → Answer → Type 0
-AnswersEnding x a = (a ≡ ended x) ⊎ (a ≡ silent e.OutOfMemory)
+AnswersEnding x a = (a ≡ ending_answer x) ⊎ (a ≡ silent_answer e.OutOfMemory)
 
 -- the text has this tree, which breaks no rule, and this is its code
 pub record HasCode (text : List ℕ) (tree : c.Program) (parts : Parts) : Type 0 where
   pub has : HasTree text tree
-  pub code : IsCodeOf (bare tree) parts
+  pub code : IsCodeOf (without_places tree) parts
 
 -- the run can be told: its journal gives names, and it did not end by want of memory
 abbrev pub IsTellable : Ran → Type 0

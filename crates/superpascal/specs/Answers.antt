@@ -5,7 +5,7 @@ use Rattle.std.specs.Prelude.{ℕ, List, [], ◌++◌, Option, Some, None, Bool,
 use Rattle.sp_codefile.specs.Verifying.{rule_of}
 use Rattle.sp_execute.specs.declared.execution.Ran.{Ran}
 use Rattle.sp_kernel.specs.declared.closed.Closed.{Closed}
-use Rattle.sp_print.specs.Lines.{refusal_text}
+use Rattle.sp_print.specs.OutcomeLines.{refusal_text}
 use Rattle.sp_rules.specs.Verdict.{number}
 use Rattle.superpascal.specs.declared.ending.Ending.{Ending}
 use Rattle.superpascal.specs.declared.ending.Ending.TheVariants as e

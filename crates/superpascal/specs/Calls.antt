@@ -3,7 +3,7 @@
 -- contract of the top call speaks of this record, so that its clauses need no name of a stream or a library.
 use Rattle.std.specs.Prelude.{◌≡◌, ◌≢◌, ◌⊎◌, ℕ, ◌<◌, ◌≤◌, List, true, false, length, take, Option, Some}
 use Rattle.sp_outside.specs.Counts.{Rose}
-use Rattle.sp_outside.specs.Told.{Grows}
+use Rattle.sp_outside.specs.Visible.{Grows}
 use Rattle.sp_words.specs.Words.{command_of}
 use Rattle.sp_words.specs.declared.command.Command.{Command}
 use Rattle.superpascal.specs.declared.asked.Asked.{Asked}
@@ -15,7 +15,7 @@ use Rattle.superpascal.specs.declared.outcome.Outcome.{Outcome}
 use Rattle.superpascal.specs.Answers.{has_output, line_of, notes_of, output_of, status_of}
 use Rattle.superpascal.specs.Causes.{Cause, Files, Stream}
 use Rattle.superpascal.specs.Runs.{Reports}
-use Rattle.superpascal.specs.Texts.{asks, executes, follows, text_of}
+use Rattle.superpascal.specs.Texts.{command_of_run, command_of_execution, command_of_replay, text_of}
 
 -- what a sink has got, where it tells it, before and after the call, and its counts of faults
 pub record Sink : Type 0 where
@@ -34,12 +34,12 @@ abbrev pub IsUnwritten : Sink → Type 0
 IsUnwritten s = (s.written' ≡ s.written) × (s.after ≡ s.before)
 
 -- all of these bytes were written
-abbrev pub All : Sink → List ℕ → Type 0
-All s bytes = Grows s.written s.written' bytes
+abbrev pub WroteAll : Sink → List ℕ → Type 0
+WroteAll s bytes = Grows s.written s.written' bytes
 
 -- a first part of these bytes was written, maybe none or all
-abbrev pub Part : Sink → List ℕ → Type 0
-Part s bytes = (n : ℕ) × (n ≤ length bytes) × Grows s.written s.written' (take n bytes)
+abbrev pub WrotePart : Sink → List ℕ → Type 0
+WrotePart s bytes = (n : ℕ) × (n ≤ length bytes) × Grows s.written s.written' (take n bytes)
 
 -- the sink's count of faults rose
 abbrev pub Failed : Sink → Type 0
@@ -69,7 +69,7 @@ call words files source reports output notes outcome =
 
 -- of the run that the words ask for, and its text, where the library tells it
 abbrev pub OfRun : Call → (Asked → List ℕ → Type 0) → Type 0
-OfRun c P = (a : Asked) (text : List ℕ) → command_of c.words ≡ Some (asks a) → c.files.held a.file ≡ Some text
+OfRun c P = (a : Asked) (text : List ℕ) → command_of c.words ≡ Some (command_of_run a) → c.files.held a.file ≡ Some text
     → P a text
 
 -- the same with the input, where the source tells it
@@ -78,7 +78,7 @@ OfInput c P = OfRun c (λ a text. (input : List ℕ) → c.source.left ≡ Some 
 
 -- of the replay that the words ask for, its text and the bytes of its journal, where the library tells both
 abbrev pub OfReplay : Call → (Followed → List ℕ → List ℕ → Type 0) → Type 0
-OfReplay c P = (b : Followed) (text bytes : List ℕ) → command_of c.words ≡ Some (follows b)
+OfReplay c P = (b : Followed) (text bytes : List ℕ) → command_of c.words ≡ Some (command_of_replay b)
     → c.files.held b.file ≡ Some text → c.files.held b.journal ≡ Some bytes → P b text bytes
 
 -- the same with the input, where the source tells it
@@ -87,7 +87,7 @@ OfReplayInput c P = OfReplay c (λ b text bytes. (input : List ℕ) → c.source
 
 -- of the execution that the words ask for, and the bytes of its code file, where the library tells them
 abbrev pub OfExecution : Call → (Executed → List ℕ → Type 0) → Type 0
-OfExecution c P = (b : Executed) (bytes : List ℕ) → command_of c.words ≡ Some (executes b)
+OfExecution c P = (b : Executed) (bytes : List ℕ) → command_of c.words ≡ Some (command_of_execution b)
     → c.files.held b.file ≡ Some bytes → P b bytes
 
 -- the same with the input, where the source tells it
@@ -103,8 +103,8 @@ abbrev pub IsOutside : ℕ → Type 0
 IsOutside status = (5 ≤ status) × (status ≤ 8)
 
 -- the status and the line of this ending, unless the outside came in their place
-abbrev pub Says : Call → Ending → Type 0
-Says c x = ((c.outcome.status ≡ status_of x) × All c.notes (line_of x)) ⊎ IsOutside c.outcome.status
+abbrev pub SaysEnding : Call → Ending → Type 0
+SaysEnding c x = ((c.outcome.status ≡ status_of x) × WroteAll c.notes (line_of x)) ⊎ IsOutside c.outcome.status
 
 -- the status of an end, or that of a text from which something is made
 abbrev pub IsFinal : ℕ → Type 0
@@ -116,16 +116,16 @@ abbrev pub Exactly : ℕ → ℕ → Type 0 → Type 0
 Exactly status s P = (status ≡ s → P) × (P → (status ≡ s) ⊎ IsOutside status)
 
 -- How an answer is written. Its status is displaced by 6 where a write fails.
-pub record Writes (a : Answer) (output notes : Sink) (status : ℕ) : Type 0 where
+pub record WritesAnswer (a : Answer) (output notes : Sink) (status : ℕ) : Type 0 where
   pub status_is : (status ≡ status_of a.ending) ⊎ (status ≡ 6)
-  pub all_written : status ≢ 6 → All output (output_of a) × All notes (notes_of a)
+  pub all_written : status ≢ 6 → WroteAll output (output_of a) × WroteAll notes (notes_of a)
   pub displaced : status ≡ 6 → Failed output ⊎ Failed notes
-  pub part_of_output : Part output (output_of a)
-  pub part_of_notes : Part notes (notes_of a)
+  pub part_of_output : WrotePart output (output_of a)
+  pub part_of_notes : WrotePart notes (notes_of a)
   -- the output was written whole, unless its count rose
-  pub whole_output : (Failed output → ⊥) → All output (output_of a)
+  pub whole_output : (Failed output → ⊥) → WroteAll output (output_of a)
   -- the notes come after the whole output
-  pub output_first : IsUnwritten notes ⊎ All output (output_of a)
+  pub output_first : IsUnwritten notes ⊎ WroteAll output (output_of a)
   -- the count of the output rises only where there is one, whose status is 0, 3 or 4
   pub with_output : output.before < output.after → has_output a.ending ≡ true
   -- nothing is written to the output where there is none
@@ -135,6 +135,6 @@ pub record Writes (a : Answer) (output notes : Sink) (status : ℕ) : Type 0 whe
 pub record IsAnswered (c : Call) : Type 0 where
   pub answer : Answer
   pub cause : Cause c.files c.source c.reports (command_of c.words) answer
-  pub written : Writes answer c.output c.notes c.outcome.status
+  pub written : WritesAnswer answer c.output c.notes c.outcome.status
   pub ran : c.outcome.ran ≡ answer.ran
   pub executed : c.outcome.executed ≡ answer.executed

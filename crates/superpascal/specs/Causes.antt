@@ -14,8 +14,8 @@ use Rattle.sp_journal.specs.Reading.{IsText}
 use Rattle.sp_journal.specs.Texts.{IsFirstBad}
 use Rattle.sp_kernel.specs.declared.closed.Closed.{Closed}
 use Rattle.sp_outside.specs.Counts.{Rose}
-use Rattle.sp_outside.specs.Told.{IsAtEnd}
-use Rattle.sp_print.specs.Lines.{refusal_text}
+use Rattle.sp_outside.specs.Visible.{IsAtEnd}
+use Rattle.sp_print.specs.OutcomeLines.{refusal_text}
 use Rattle.sp_replay.specs.declared.replayer.Replayed.{Replayed}
 use Rattle.sp_rules.specs.Verdict.{IsRejected}
 use Rattle.sp_words.specs.Ranges.{default_limits}
@@ -28,10 +28,10 @@ use Rattle.superpascal.specs.declared.ending.Ending.{Ending}
 use Rattle.superpascal.specs.declared.ending.Ending.TheVariants as e
 use Rattle.superpascal.specs.declared.ending.Answer.{Answer}
 use Rattle.superpascal.specs.Executions.{IsExecutionOf, execution_answer}
-use Rattle.superpascal.specs.Replays.{IsJournalOf, IsReplayOf, IsUnfitFor, numbered, replay_answer}
+use Rattle.superpascal.specs.Replays.{IsJournalOf, IsReplayOf, IsUnfitFor, numbered_answer, replay_answer}
 use Rattle.superpascal.specs.Runs.{IsRunOf, Reports, generated_answer, run_answer}
-use Rattle.superpascal.specs.Texts.{Breaks, CanRead, HasLongCode, KeepsAll, Loads, Makes}
-use Rattle.superpascal.specs.Texts.{asks, asks_build, executes, follows, text_of}
+use Rattle.superpascal.specs.Texts.{FirstBrokenFor, CanRead, HasLongCode, IsAcceptedText, Loads, Makes}
+use Rattle.superpascal.specs.Texts.{command_of_run, asks_build, command_of_execution, command_of_replay, text_of}
 
 -- ---- the outside
 
@@ -73,16 +73,16 @@ IsTooLong input = 16777216 < length input
 -- ---- answers
 
 -- an answer without an output
-abbrev pub silent : Ending → Answer
-silent ending = record { ending = ending; ran = None; executed = None; output = None; notes = [] }
+abbrev pub silent_answer : Ending → Answer
+silent_answer ending = record { ending = ending; ran = None; executed = None; output = None; notes = [] }
 
 -- the answer of a command that answers from the text alone
-abbrev pub accepted : List ℕ → List ℕ → Answer
-accepted out line = record { ending = e.Accepted; ran = None; executed = None; output = Some out; notes = line }
+abbrev pub accepted_answer : List ℕ → List ℕ → Answer
+accepted_answer out line = record { ending = e.Accepted; ran = None; executed = None; output = Some out; notes = line }
 
 -- the answer to a text that breaks this rule first
-abbrev pub refused : Refusal → Answer
-refused r = record { ending = e.Refused r; ran = None; executed = None; output = None; notes = refusal_text r }
+abbrev pub refusal_answer : Refusal → Answer
+refusal_answer r = record { ending = e.Refused r; ran = None; executed = None; output = None; notes = refusal_text r }
 
 -- ---- causes
 
@@ -111,7 +111,7 @@ pub record HasMade (f : Files) (c : Command) (a : Answer) : Type 0 where
   pub output : List ℕ
   pub line : List ℕ
   pub makes : Makes c text output line
-  pub answer : a ≡ accepted output line
+  pub answer : a ≡ accepted_answer output line
 
 -- the code of the text is longer than a code file may be
 pub record IsLongCode (f : Files) (c : Command) (a : Answer) : Type 0 where
@@ -119,32 +119,32 @@ pub record IsLongCode (f : Files) (c : Command) (a : Answer) : Type 0 where
   pub text : List ℕ
   pub loaded : IsTold (text_of f.held c) text
   pub long : HasLongCode text
-  pub answer : a ≡ silent e.LongCode
+  pub answer : a ≡ silent_answer e.LongCode
 
 -- the text of the command breaks a rule first
 pub record IsRefusedFor (f : Files) (c : Command) (a : Answer) : Type 0 where
   pub refusal : Refusal
-  pub breaks : IfSome (text_of f.held c) (λ text. Breaks c text refusal)
-  pub answer : a ≡ refused refusal
+  pub breaks : IfSome (text_of f.held c) (λ text. FirstBrokenFor c text refusal)
+  pub answer : a ≡ refusal_answer refusal
 
 -- the library failed under a name that the command loads
 pub record IsNotLoaded (f : Files) (c : Command) (a : Answer) : Type 0 where
   pub name : List ℕ
   pub loads : Loads f.held c name
   pub rose : Rose (f.before name) (f.after name)
-  pub answer : a ≡ silent e.ReadFault
+  pub answer : a ≡ silent_answer e.ReadFault
 
 -- the source failed, where the command reads it
 pub record IsNotRead (f : Files) (s : Stream) (c : Command) (a : Answer) : Type 0 where
   pub reads : CanRead f.held c
   pub rose : Rose s.before s.after
-  pub answer : a ≡ silent e.ReadFault
+  pub answer : a ≡ silent_answer e.ReadFault
 
 -- the source gave too much, where the command reads it
 pub record IsTooMuch (f : Files) (s : Stream) (c : Command) (a : Answer) : Type 0 where
   pub reads : CanRead f.held c
   pub long : IfSome s.left IsTooLong
-  pub answer : a ≡ silent e.TooLong
+  pub answer : a ≡ silent_answer e.TooLong
 
 -- what a replay reads: its text, its journal and the whole input, as far as they are told
 pub record HasRead (f : Files) (s : Stream) (asked : Followed) : Type 0 where
@@ -170,21 +170,21 @@ pub record HasReplayed (f : Files) (s : Stream) (asked : Followed) (a : Answer) 
 pub record IsUnfit (f : Files) (s : Stream) (asked : Followed) (n : ℕ) (a : Answer) : Type 0 where
   pub has_read : HasRead f s asked
   pub is_unfit : IsUnfitFor has_read.text has_read.input asked.limits has_read.journal n
-  pub answer : a ≡ numbered (e.Unfit n)
+  pub answer : a ≡ numbered_answer (e.Unfit n)
 
 -- for a text that breaks no rule, line n of the journal is the first that is no text of a next entry
 pub record IsBadJournal (f : Files) (asked : Followed) (n : ℕ) (a : Answer) : Type 0 where
-  pub kept : IfSome (f.held asked.file) KeepsAll
+  pub kept : IfSome (f.held asked.file) IsAcceptedText
   pub short : IfSome (f.held asked.journal) (λ bytes. length bytes ≤ 67108864)
   pub bad : IfSome (f.held asked.journal) (IsFirstBad n)
   pub no_text : IfSome (f.held asked.journal) (λ bytes. IsText bytes → ⊥)
-  pub answer : a ≡ numbered (e.BadJournal n)
+  pub answer : a ≡ numbered_answer (e.BadJournal n)
 
 -- for a text that breaks no rule, the journal is longer than the limit
 pub record IsLongJournal (f : Files) (asked : Followed) (a : Answer) : Type 0 where
-  pub kept : IfSome (f.held asked.file) KeepsAll
+  pub kept : IfSome (f.held asked.file) IsAcceptedText
   pub long : IfSome (f.held asked.journal) (λ bytes. 67108864 < length bytes)
-  pub answer : a ≡ silent e.LongJournal
+  pub answer : a ≡ silent_answer e.LongJournal
 
 -- the code file has run on the whole input, and this is the answer
 pub record HasExecuted (f : Files) (s : Stream) (asked : Executed) (a : Answer) : Type 0 where
@@ -201,7 +201,7 @@ pub record HasExecuted (f : Files) (s : Stream) (asked : Executed) (a : Answer) 
 -- the code file is longer than the limit
 pub record IsLongFile (f : Files) (asked : Executed) (a : Answer) : Type 0 where
   pub long : IfSome (f.held asked.file) (λ bytes. 67108864 < length bytes)
-  pub answer : a ≡ silent e.LongFile
+  pub answer : a ≡ silent_answer e.LongFile
 
 -- line n of the code file is the first with which its lines begin no code's text
 pub record IsBadCode (f : Files) (asked : Executed) (n : ℕ) (a : Answer) : Type 0 where
@@ -209,7 +209,7 @@ pub record IsBadCode (f : Files) (asked : Executed) (n : ℕ) (a : Answer) : Typ
   pub loaded : IsTold (f.held asked.file) bytes
   pub short : length bytes ≤ 67108864
   pub bad : IsFirstBadOfCode n bytes
-  pub answer : a ≡ numbered (e.BadCode n)
+  pub answer : a ≡ numbered_answer (e.BadCode n)
 
 -- the code of the file breaks rule v first, and instruction i is the least at which it does
 pub record IsRejectedCode (f : Files) (asked : Executed) (v : VRule) (i : ℕ) (a : Answer) : Type 0 where
@@ -219,11 +219,11 @@ pub record IsRejectedCode (f : Files) (asked : Executed) (v : VRule) (i : ℕ) (
   pub short : length bytes ≤ 67108864
   pub text : IsTextOfCode code bytes
   pub rejected : IsRejected code (rule_of v) i
-  pub answer : a ≡ numbered (e.Rejected v i)
+  pub answer : a ≡ numbered_answer (e.Rejected v i)
 
 -- Why an answer to a command is due.
 pub data Due (f : Files) (s : Stream) (reports : Reports) (c : Command) (a : Answer) : Type 0 where
-  by_run : (asked : Asked) → c ≡ asks asked → HasRun f s reports asked a → Due f s reports c a
+  by_run : (asked : Asked) → c ≡ command_of_run asked → HasRun f s reports asked a → Due f s reports c a
   by_generated : (size workers : ℕ) → c ≡ command.Gen size workers → HasGenerated size workers a → Due f s reports c a
   by_text : HasMade f c a → Due f s reports c a
   by_code : IsLongCode f c a → Due f s reports c a
@@ -231,16 +231,17 @@ pub data Due (f : Files) (s : Stream) (reports : Reports) (c : Command) (a : Ans
   by_library : IsNotLoaded f c a → Due f s reports c a
   by_source : IsNotRead f s c a → Due f s reports c a
   by_length : IsTooMuch f s c a → Due f s reports c a
-  by_replay : (asked : Followed) → c ≡ follows asked → HasReplayed f s asked a → Due f s reports c a
-  by_entry : (asked : Followed) (n : ℕ) → c ≡ follows asked → IsUnfit f s asked n a → Due f s reports c a
-  by_line : (asked : Followed) (n : ℕ) → c ≡ follows asked → IsBadJournal f asked n a → Due f s reports c a
-  by_size : (asked : Followed) → c ≡ follows asked → IsLongJournal f asked a → Due f s reports c a
-  by_execution : (asked : Executed) → c ≡ executes asked → HasExecuted f s asked a → Due f s reports c a
-  by_long_file : (asked : Executed) → c ≡ executes asked → IsLongFile f asked a → Due f s reports c a
-  by_code_line : (asked : Executed) (n : ℕ) → c ≡ executes asked → IsBadCode f asked n a → Due f s reports c a
-  by_rejection : (asked : Executed) (v : VRule) (i : ℕ) → c ≡ executes asked → IsRejectedCode f asked v i a
+  by_replay : (asked : Followed) → c ≡ command_of_replay asked → HasReplayed f s asked a → Due f s reports c a
+  by_entry : (asked : Followed) (n : ℕ) → c ≡ command_of_replay asked → IsUnfit f s asked n a → Due f s reports c a
+  by_line : (asked : Followed) (n : ℕ) → c ≡ command_of_replay asked → IsBadJournal f asked n a → Due f s reports c a
+  by_size : (asked : Followed) → c ≡ command_of_replay asked → IsLongJournal f asked a → Due f s reports c a
+  by_execution : (asked : Executed) → c ≡ command_of_execution asked → HasExecuted f s asked a → Due f s reports c a
+  by_long_file : (asked : Executed) → c ≡ command_of_execution asked → IsLongFile f asked a → Due f s reports c a
+  by_code_line : (asked : Executed) (n : ℕ) → c ≡ command_of_execution asked → IsBadCode f asked n a
       → Due f s reports c a
-  by_memory : a ≡ silent e.OutOfMemory → Due f s reports c a
+  by_rejection : (asked : Executed) (v : VRule) (i : ℕ) → c ≡ command_of_execution asked → IsRejectedCode f asked v i a
+      → Due f s reports c a
+  by_memory : a ≡ silent_answer e.OutOfMemory → Due f s reports c a
 
 -- the source is touched only where the command reads it, and what it loads before is right
 abbrev pub ReadsAfterRules : Files → Stream → Command → Type 0
@@ -248,6 +249,6 @@ ReadsAfterRules f s c = IsUntouched s ⊎ CanRead f.held c
 
 -- Why an answer to words is due: they are refused, or memory was wanting for them, or they ask for a command.
 pub data Cause (f : Files) (s : Stream) (reports : Reports) (words : Option Command) (a : Answer) : Type 0 where
-  by_words : words ≡ None → a ≡ silent e.BadWords → IsUntouched s → Cause f s reports words a
-  before_words : a ≡ silent e.OutOfMemory → IsUntouched s → Cause f s reports words a
+  by_words : words ≡ None → a ≡ silent_answer e.BadWords → IsUntouched s → Cause f s reports words a
+  before_words : a ≡ silent_answer e.OutOfMemory → IsUntouched s → Cause f s reports words a
   by_command : (c : Command) → words ≡ Some c → Due f s reports c a → ReadsAfterRules f s c → Cause f s reports words a

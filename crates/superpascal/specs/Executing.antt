@@ -11,19 +11,19 @@ use Rattle.sp_codefile.specs.declared.verifier.VRule.{VRule}
 use Rattle.sp_execute.specs.Runs.{IsAbout, setting}
 use Rattle.sp_front.specs.Checks.{IsProgramOf}
 use Rattle.sp_kernel.specs.declared.closed.Closed.{Closed}
-use Rattle.sp_outside.specs.Told.{IsAtEnd}
-use Rattle.sp_print.specs.Lines.{end_text}
+use Rattle.sp_outside.specs.Visible.{IsAtEnd}
+use Rattle.sp_print.specs.OutcomeLines.{end_text}
 use Rattle.sp_rules.specs.Verdict.{IsRejected}
 use Rattle.sp_tree.specs.Plain.{Program}
 use Rattle.sp_words.specs.Words.{command_of}
 use Rattle.superpascal.specs.declared.asked.Executed.{Executed}
 use Rattle.superpascal.specs.declared.ending.Ending.TheVariants as e
 use Rattle.superpascal.specs.Answers.{status_of}
-use Rattle.superpascal.specs.Calls.{Call, IsAnswered, IsFinal, IsOutside, OfExecution, OfExecutionInput, Says}
+use Rattle.superpascal.specs.Calls.{Call, IsAnswered, IsFinal, IsOutside, OfExecution, OfExecutionInput, SaysEnding}
 use Rattle.superpascal.specs.Causes.{IsTold, IsTooLong}
 use Rattle.superpascal.specs.Executions.{IsExecutionOf}
 use Rattle.superpascal.specs.Runs.{ending_of}
-use Rattle.superpascal.specs.Texts.{IsCodeFile, IsSoundFile, executes}
+use Rattle.superpascal.specs.Texts.{IsCodeFile, IsSoundFile, command_of_execution}
 use Rattle.superpascal.specs.Writing.{AreWritten}
 
 -- the bytes are more than are loaded, or the text of no code, or that of code which breaks a rule
@@ -36,7 +36,7 @@ IsFaultyFile bytes =
 -- the run that is given back is one of the code file and the input that the words ask for, of which nothing is left
 abbrev pub IsExecutionOfWords : Call → Closed → Type 0
 IsExecutionOfWords c r =
-    (b : Executed) × (command_of c.words ≡ Some (executes b)) × IsAtEnd c.source.left'
+    (b : Executed) × (command_of c.words ≡ Some (command_of_execution b)) × IsAtEnd c.source.left'
     × (bytes input : List ℕ) × IsTold (c.files.held b.file) bytes × IsTold c.source.left input
     × IsExecutionOf bytes input b.workers b.limits r
 
@@ -47,7 +47,7 @@ IsMeantHere b text input r = (p : Program) × IsProgramOf text p × IsAbout (set
 pub record Executing (c : Call) : Type 0 where
   -- a run is given back of `exec` alone, and wherever the status that was due, also one that a failed write displaced,
   -- is 0, 3 or 4
-  pub given : (b : Executed) → command_of c.words ≡ Some (executes b) → (a : IsAnswered c)
+  pub given : (b : Executed) → command_of c.words ≡ Some (command_of_execution b) → (a : IsAnswered c)
       → IsFinal (status_of a.answer.ending) → (r : Closed) × (c.outcome.executed ≡ Some r)
   pub runs : (r : Closed) → c.outcome.executed ≡ Some r → IsExecutionOfWords c r
   -- that status is the one of its end
@@ -68,14 +68,14 @@ pub record Executing (c : Call) : Type 0 where
       → IsFinal c.outcome.status ⊎ IsOutside c.outcome.status)
   -- of one whose code breaks a rule, the first broken rule is named, and the least instruction at which it is broken
   pub rejected : OfExecution c (λ b bytes. length bytes ≤ 67108864 → (code : Parts) → IsTextOf code bytes
-      → (v : VRule) (i : ℕ) → IsRejected code (rule_of v) i → Says c (e.Rejected v i))
+      → (v : VRule) (i : ℕ) → IsRejected code (rule_of v) i → SaysEnding c (e.Rejected v i))
   -- of bytes that are the text of no code, the first line is named with which the lines begin no code's text
   pub bad : OfExecution c (λ b bytes. length bytes ≤ 67108864 → (IsText bytes → ⊥)
-      → ((n : ℕ) × IsFirstBad n bytes × Says c (e.BadCode n)) ⊎ IsOutside c.outcome.status)
+      → ((n : ℕ) × IsFirstBad n bytes × SaysEnding c (e.BadCode n)) ⊎ IsOutside c.outcome.status)
   -- a file that is too long is not read
-  pub long : OfExecution c (λ b bytes. 67108864 < length bytes → Says c e.LongFile)
+  pub long : OfExecution c (λ b bytes. 67108864 < length bytes → SaysEnding c e.LongFile)
   -- 10: the file is at fault
-  pub only : (b : Executed) → command_of c.words ≡ Some (executes b) → c.outcome.status ≡ 10
+  pub only : (b : Executed) → command_of c.words ≡ Some (command_of_execution b) → c.outcome.status ≡ 10
       → IfSome (c.files.held b.file) IsFaultyFile
   -- 1: no rule of texts is broken; 7: the input of a file that is run is too long; 8: no run is given back
   pub no_refusal : OfExecution c (λ b bytes. c.outcome.status ≡ 1 → ⊥)

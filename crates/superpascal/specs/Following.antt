@@ -9,23 +9,23 @@ use Rattle.sp_front.specs.Checks.{IsProgramOf}
 use Rattle.sp_journal.specs.declared.entry.Journal.{Journal}
 use Rattle.sp_journal.specs.Reading.{IsText}
 use Rattle.sp_journal.specs.Texts.{IsFirstBad}
-use Rattle.sp_outside.specs.Told.{IsAtEnd}
+use Rattle.sp_outside.specs.Visible.{IsAtEnd}
 use Rattle.sp_replay.specs.declared.replayer.Replayed.{Replayed}
 use Rattle.sp_tree.specs.Plain.{Program}
 use Rattle.sp_words.specs.Words.{command_of}
 use Rattle.superpascal.specs.declared.asked.Followed.{Followed}
 use Rattle.superpascal.specs.declared.ending.Ending.TheVariants as e
 use Rattle.superpascal.specs.Answers.{status_of}
-use Rattle.superpascal.specs.Calls.{All, Call, IsFinal, IsOutside, OfReplay, OfReplayInput, Says}
+use Rattle.superpascal.specs.Calls.{WroteAll, Call, IsFinal, IsOutside, OfReplay, OfReplayInput, SaysEnding}
 use Rattle.superpascal.specs.Causes.{HasRead}
 use Rattle.superpascal.specs.Replays.{IsJournalOf, IsUnfitFor, ending_of_replay, replay_notes}
-use Rattle.superpascal.specs.Texts.{KeepsAll, follows}
+use Rattle.superpascal.specs.Texts.{IsAcceptedText, command_of_replay}
 
 -- the status tells the end, the output and the notes of the replay were written, and nothing is left of the input
 pub record PrintsReplay (c : Call) (r : Replayed) : Type 0 where
   pub status : c.outcome.status ≡ status_of (ending_of_replay r.end)
-  pub output : All c.output r.output
-  pub notes : All c.notes (replay_notes r)
+  pub output : WroteAll c.output r.output
+  pub notes : WroteAll c.notes (replay_notes r)
   pub at_end : IsAtEnd c.source.left'
 
 -- the bytes are those of a journal along which the meaning of the text's program on the input is defined, with this
@@ -46,21 +46,21 @@ pub record Following (c : Call) : Type 0 where
   pub followed : OfReplayInput c (λ b text bytes input. IsFinal c.outcome.status → (r : Replayed)
       × IsMeantAlong b text bytes input r × PrintsReplay c r)
   -- a journal is followed wherever the meaning is defined along it
-  pub accepted : OfReplayInput c (λ b text bytes input. KeepsAll text → length input ≤ 16777216 → (p : Program)
+  pub accepted : OfReplayInput c (λ b text bytes input. IsAcceptedText text → length input ≤ 16777216 → (p : Program)
       → IsProgramOf text p → (j : Journal) → IsJournalOf bytes j → IsMeant (setting p input b.limits) j.entries
       → IsFinal c.outcome.status ⊎ IsOutside c.outcome.status)
   -- else the first entry is named with which it is not defined
-  pub unfit : OfReplayInput c (λ b text bytes input. KeepsAll text → length input ≤ 16777216 → (p : Program)
+  pub unfit : OfReplayInput c (λ b text bytes input. IsAcceptedText text → length input ≤ 16777216 → (p : Program)
       → IsProgramOf text p → (j : Journal) → IsJournalOf bytes j → (n : ℕ)
       → IsUnfitAt (setting p input b.limits) j.entries n
-      → Says c (e.Unfit n))
+      → SaysEnding c (e.Unfit n))
   -- of bytes that are the text of no journal, the first line is named that is not the text of a next entry
-  pub bad : OfReplay c (λ b text bytes. KeepsAll text → length bytes ≤ 67108864 → (IsText bytes → ⊥)
-      → ((n : ℕ) × IsFirstBad n bytes × Says c (e.BadJournal n)) ⊎ IsOutside c.outcome.status)
+  pub bad : OfReplay c (λ b text bytes. IsAcceptedText text → length bytes ≤ 67108864 → (IsText bytes → ⊥)
+      → ((n : ℕ) × IsFirstBad n bytes × SaysEnding c (e.BadJournal n)) ⊎ IsOutside c.outcome.status)
   -- a journal that is too long is not read
-  pub long : OfReplay c (λ b text bytes. KeepsAll text → 67108864 < length bytes → Says c e.LongJournal)
+  pub long : OfReplay c (λ b text bytes. IsAcceptedText text → 67108864 < length bytes → SaysEnding c e.LongJournal)
   -- 9: the text breaks no rule, and no journal is read, or all was read and an entry does not fit
-  pub only : c.outcome.status ≡ 9 → (b : Followed) × (command_of c.words ≡ Some (follows b))
-      × IfSome (c.files.held b.file) KeepsAll
+  pub only : c.outcome.status ≡ 9 → (b : Followed) × (command_of c.words ≡ Some (command_of_replay b))
+      × IfSome (c.files.held b.file) IsAcceptedText
       × (IfSome (c.files.held b.journal) IsNoJournal
       ⊎ ((h : HasRead c.files c.source b) × (n : ℕ) × IsUnfitFor h.text h.input b.limits h.journal n))

@@ -17,16 +17,16 @@ use Rattle.sp_tree.specs.Plain.{Program}
 use Rattle.superpascal.specs.declared.asked.Asked.{Asked}
 use Rattle.superpascal.specs.declared.ending.Ending.TheVariants as e
 use Rattle.superpascal.specs.Answers.{status_of}
-use Rattle.superpascal.specs.Calls.{All, Call, OfInput, OfRun, Part, Says}
+use Rattle.superpascal.specs.Calls.{WroteAll, Call, OfInput, OfRun, WrotePart, SaysEnding}
 use Rattle.superpascal.specs.Runs.{ending_of, told_output}
-use Rattle.superpascal.specs.Texts.{BreaksOne, IsDisjointText}
+use Rattle.superpascal.specs.Texts.{FirstBroken, IsDisjointText}
 use Rattle.superpascal.specs.declared.telling.Telling.{Telling}
 
 -- the status tells the end of the run, and its output, or its witness, was written; with status 6 a first part of it
 pub record Prints (c : Call) (telling : Telling) (r : Ran) : Type 0 where
   pub status : (c.outcome.status ≡ status_of (ending_of r.closed.end)) ⊎ (c.outcome.status ≡ 6)
-  pub whole : c.outcome.status ≢ 6 → All c.output (told_output telling r)
-  pub part : Part c.output (told_output telling r)
+  pub whole : c.outcome.status ≢ 6 → WroteAll c.output (told_output telling r)
+  pub part : WrotePart c.output (told_output telling r)
 
 -- the run is one of the program of the text: along its journal the meaning of the program on the input with the limits
 -- is defined, with its output and its end; its verdict is the exact one; where that is `ordered`, every lawful schedule
@@ -36,8 +36,8 @@ IsMeant a text input r = (p : Program) × IsProgramOf text p × Executes (settin
 
 pub record Headline (c : Call) : Type 0 where
   -- the text is refused exactly where a written rule is broken
-  pub refused : OfRun c (λ a text. (r : Refusal) → BreaksOne text r → Says c (e.Refused r))
-  pub no_other_refused : OfRun c (λ a text. c.outcome.status ≡ 1 → (r : Refusal) × BreaksOne text r)
+  pub refused : OfRun c (λ a text. (r : Refusal) → FirstBroken text r → SaysEnding c (e.Refused r))
+  pub no_other_refused : OfRun c (λ a text. c.outcome.status ≡ 1 → (r : Refusal) × FirstBroken text r)
   -- in no schedule does a process write what a parallel one uses
   pub disjoint : OfRun c (λ a text. (r : Ran) → c.outcome.ran ≡ Some r → IsDisjointText text)
   -- what a run prints and how it ends is what the meaning gives along its journal; and what `ordered` promises

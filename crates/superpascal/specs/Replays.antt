@@ -9,9 +9,9 @@ use Rattle.sp_journal.specs.declared.entry.Journal.{Journal}
 use Rattle.sp_journal.specs.declared.outcome.End.{End}
 use Rattle.sp_journal.specs.declared.version.Version.{Version}
 use Rattle.sp_journal.specs.Texts.{IsTextOf}
-use Rattle.sp_print.specs.Lines.{end_text}
+use Rattle.sp_print.specs.OutcomeLines.{end_text}
 use Rattle.sp_replay.specs.declared.replayer.Replayed.{Replayed}
-use Rattle.sp_tree.specs.Bare.{bare}
+use Rattle.sp_tree.specs.Bare.{without_places}
 use Rattle.sp_tree.specs.PlainChecked as c
 use Rattle.superpascal.specs.declared.ending.Ending.{Ending}
 use Rattle.superpascal.specs.declared.ending.Ending.TheVariants as e
@@ -29,13 +29,13 @@ pub record IsJournalOf (bytes : List ℕ) (j : Journal) : Type 0 where
 pub record IsReplayOf (text input : List ℕ) (limits : Limits) (j : Journal) (r : Replayed) : Type 0 where
   pub tree : c.Program
   pub has : HasTree text tree
-  pub meant : IsFollowed (setting (bare tree) input limits) j r
+  pub meant : IsFollowed (setting (without_places tree) input limits) j r
 
 -- it can be followed along the first n entries, and not with the next one
 pub record IsUnfitFor (text input : List ℕ) (limits : Limits) (j : Journal) (n : ℕ) : Type 0 where
   pub tree : c.Program
   pub has : HasTree text tree
-  pub unfit : IsUnfitAt (setting (bare tree) input limits) j.entries n
+  pub unfit : IsUnfitAt (setting (without_places tree) input limits) j.entries n
 
 -- what a replay comes to is told by this ending of the call
 abbrev pub ending_of_replay : Option End → Ending
@@ -65,5 +65,5 @@ replay_answer r = record {
 }
 
 -- the answer that names a number of the journal, or of the code
-abbrev pub numbered : Ending → Answer
-numbered ending = record { ending = ending; ran = None; executed = None; output = None; notes = line_of ending }
+abbrev pub numbered_answer : Ending → Answer
+numbered_answer ending = record { ending = ending; ran = None; executed = None; output = None; notes = line_of ending }

@@ -17,8 +17,8 @@ use Rattle.sp_journal.specs.declared.outcome.End.{End}
 use Rattle.sp_journal.specs.declared.outcome.End.TheVariants as ends
 use Rattle.sp_journal.specs.declared.version.Version.TheVariants as version
 use Rattle.sp_journal.specs.Texts.{journal_text}
-use Rattle.sp_print.specs.Lines.{end_text, verdict_text}
-use Rattle.sp_tree.specs.Bare.{bare}
+use Rattle.sp_print.specs.OutcomeLines.{end_text, verdict_text}
+use Rattle.sp_tree.specs.Bare.{without_places}
 use Rattle.sp_tree.specs.PlainChecked as c
 use Rattle.superpascal.specs.declared.ending.Ending.{Ending}
 use Rattle.superpascal.specs.declared.ending.Ending.TheVariants as e
@@ -29,7 +29,7 @@ use Rattle.superpascal.specs.declared.telling.Telling.TheVariants as told
 -- the text has this tree, which breaks no rule, and its code is no longer than code may be
 pub record HasTree (text : List ℕ) (tree : c.Program) : Type 0 where
   pub accepted : IsAccepted text tree
-  pub short : tree_length (bare tree) ≤ 1048576
+  pub short : tree_length (without_places tree) ≤ 1048576
 
 -- A run of the text's program on the input with the limits, by so many workers: along the journal the meaning of the
 -- program is defined, with that output and that end; the verdict is the exact one, with what that promises; and the
@@ -37,8 +37,8 @@ pub record HasTree (text : List ℕ) (tree : c.Program) : Type 0 where
 pub record IsRunOf (text input : List ℕ) (workers : ℕ) (limits : Limits) (r : Ran) : Type 0 where
   pub tree : c.Program
   pub has : HasTree text tree
-  pub meant : Executes (setting (bare tree) input limits) workers r
-  pub shown : ShowsRace (setting (bare tree) input limits) r
+  pub meant : Executes (setting (without_places tree) input limits) workers r
+  pub shown : ShowsRace (setting (without_places tree) input limits) r
 
 -- the end of a run is told by this ending of the call
 abbrev pub ending_of : End → Ending

@@ -6,7 +6,7 @@ use Rattle.sp_base.specs.declared.halt.Refusal.{Refusal}
 use Rattle.sp_execute.specs.declared.execution.Ran.{Ran}
 use Rattle.sp_gen.specs.Generated.{generated_text}
 use Rattle.sp_outside.specs.Counts.{Rose}
-use Rattle.sp_outside.specs.Told.{IsAtEnd}
+use Rattle.sp_outside.specs.Visible.{IsAtEnd}
 use Rattle.sp_words.specs.Ranges.{default_limits}
 use Rattle.sp_words.specs.Words.{command_of}
 use Rattle.sp_words.specs.declared.command.Command.{Command}
@@ -15,11 +15,13 @@ use Rattle.superpascal.specs.declared.asked.Asked.{Asked}
 use Rattle.superpascal.specs.declared.ending.Ending.TheVariants as e
 use Rattle.superpascal.specs.Answers.{status_of}
 use Rattle.superpascal.specs.Calls.{Call, Exactly, Failed, IsFinal, IsOutside, IsUnwritten, OfReplay, OfRun, OfText}
-use Rattle.superpascal.specs.Calls.{Says}
+use Rattle.superpascal.specs.Calls.{SaysEnding}
 use Rattle.superpascal.specs.Causes.{IsTold, IsTooLong, IsUntouched}
 use Rattle.superpascal.specs.Runs.{IsRunOf, ending_of}
-use Rattle.superpascal.specs.Texts.{Breaks, CanRead, HasLongCode, IsDisjointText, IsJournalText, Keeps, KeepsAll}
-use Rattle.superpascal.specs.Texts.{Loads, Makes, asks, asks_all, asks_build, asks_execution, asks_replay, asks_run}
+use Rattle.superpascal.specs.Texts.{FirstBrokenFor, CanRead, HasLongCode, IsDisjointText, IsJournalText, AcceptedFor}
+use Rattle.superpascal.specs.Texts.{IsAcceptedText}
+use Rattle.superpascal.specs.Texts.{Loads, Makes, command_of_run, asks_all, asks_build, asks_execution, asks_replay}
+use Rattle.superpascal.specs.Texts.{asks_run}
 use Rattle.superpascal.specs.Texts.{asks_text, text_of}
 
 -- the library failed under a name that the command loads, or the source failed where the command reads it
@@ -37,14 +39,14 @@ InputIsTooLong c = (d : Command) × (command_of c.words ≡ Some d) × CanRead c
 -- generated text
 abbrev pub IsRunOfWords : Call → Ran → Type 0
 IsRunOfWords c r =
-    ((a : Asked) × (command_of c.words ≡ Some (asks a)) × IsAtEnd c.source.left'
+    ((a : Asked) × (command_of c.words ≡ Some (command_of_run a)) × IsAtEnd c.source.left'
     × (text input : List ℕ) × IsTold (c.files.held a.file) text × IsTold c.source.left input
     × IsRunOf text input a.workers a.limits r)
     ⊎ ((size workers : ℕ) × (command_of c.words ≡ Some (command.Gen size workers))
     × IsRunOf (generated_text size) [] workers default_limits r)
 
 -- nothing outside fails in the call, and the input, where the command reads it, is told and no longer than is read
-pub record IsQuiet (c : Call) (d : Command) : Type 0 where
+pub record OutsideWorks (c : Call) (d : Command) : Type 0 where
   pub library : (name : List ℕ) → Loads c.files.held d name → Rose (c.files.before name) (c.files.after name) → ⊥
   pub source : Rose c.source.before c.source.after → ⊥
   pub input : CanRead c.files.held d → (input : List ℕ) × (c.source.left ≡ Some input) × (length input ≤ 16777216)
@@ -59,8 +61,8 @@ pub record Statuses (c : Call) : Type 0 where
   -- 2: the words are refused
   pub bad_words : Exactly c.outcome.status 2 (command_of c.words ≡ None)
   -- 1: the text breaks a rule of the command
-  pub refused : OfText c (λ d text. (r : Refusal) → Breaks d text r → Says c (e.Refused r))
-  pub no_other_refused : OfText c (λ d text. c.outcome.status ≡ 1 → (r : Refusal) × Breaks d text r)
+  pub refused : OfText c (λ d text. (r : Refusal) → FirstBrokenFor d text r → SaysEnding c (e.Refused r))
+  pub no_other_refused : OfText c (λ d text. c.outcome.status ≡ 1 → (r : Refusal) × FirstBrokenFor d text r)
   -- 0 of a command that answers from the text alone: something is made of it
   pub made : OfText c (λ d text. asks_text d → Exactly c.outcome.status 0 ((out line : List ℕ) × Makes d text out line))
   -- 0, 3, 4 of a run: by its end
@@ -74,9 +76,10 @@ pub record Statuses (c : Call) : Type 0 where
   pub write_fault : c.outcome.status ≡ 6 → Failed c.output ⊎ Failed c.notes
   -- 7: the input is too long, where what is loaded before it is right
   pub too_long : c.outcome.status ≡ 7 → InputIsTooLong c
-  pub long_refused : OfRun c (λ a text. KeepsAll text → (input : List ℕ) → c.source.left ≡ Some input → IsTooLong input
+  pub long_refused : OfRun c (λ a text. IsAcceptedText text → (input : List ℕ) → c.source.left ≡ Some input
+      → IsTooLong input
       → IsOutside c.outcome.status)
-  pub long_unfollowed : OfReplay c (λ b text bytes. KeepsAll text → IsJournalText bytes → (input : List ℕ)
+  pub long_unfollowed : OfReplay c (λ b text bytes. IsAcceptedText text → IsJournalText bytes → (input : List ℕ)
       → c.source.left ≡ Some input → IsTooLong input → IsOutside c.outcome.status)
   -- 8: nothing is put to the output, and no run is given back
   pub memory : c.outcome.status ≡ 8 → IsUnwritten c.output × (c.outcome.ran ≡ None)
@@ -86,7 +89,7 @@ pub record Statuses (c : Call) : Type 0 where
       × ((asks_build d × IfSome (text_of c.files.held d) HasLongCode) ⊎ asks_execution d)
   -- nothing else: where the words ask for a command that refuses the text, or the code file, for no rule, and nothing
   -- outside fails
-  pub complete : OfText c (λ d text. Keeps d text → IsQuiet c d → IsWell d c.outcome.status)
+  pub complete : OfText c (λ d text. AcceptedFor d text → OutsideWorks c d → IsWell d c.outcome.status)
   -- the source is read by `run`, `witness`, `replay` and `exec` alone, and only where what they load before is right
   pub source : IsUntouched c.source ⊎ ((d : Command) × (command_of c.words ≡ Some d) × CanRead c.files.held d)
   -- the program of a text that `check`, `code`, `build`, `run`, `witness`, `replay` or `gen` goes through is disjoint

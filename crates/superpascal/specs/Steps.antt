@@ -14,14 +14,14 @@ use Rattle.sp_codefile.specs.CodeText.{IsFirstBad as IsFirstBadOfCode, IsTextOf 
 use Rattle.sp_codefile.specs.Verifying.{rule_of}
 use Rattle.sp_codefile.specs.declared.verifier.VRule.{VRule}
 use Rattle.sp_execute.specs.declared.execution.Ran.{Ran}
-use Rattle.sp_front.specs.Checks.{BreaksFirst}
+use Rattle.sp_front.specs.Checks.{FirstBrokenUpToTypes}
 use Rattle.sp_journal.specs.declared.entry.Journal.{Journal}
 use Rattle.sp_journal.specs.declared.version.Version.{Version}
 use Rattle.sp_journal.specs.Reading.{IsText}
 use Rattle.sp_journal.specs.Texts.{IsFirstBad, IsTextOf}
 use Rattle.sp_kernel.specs.declared.closed.Closed.{Closed}
 use Rattle.sp_outside.specs.Counts.{Rose}
-use Rattle.sp_outside.specs.Told.{IsAtEnd}
+use Rattle.sp_outside.specs.Visible.{IsAtEnd}
 use Rattle.sp_replay.specs.declared.replayer.Replayed.{Replayed}
 use Rattle.sp_rules.specs.Verdict.{IsRejected, IsVerified}
 use Rattle.sp_tree.specs.Places.{start}
@@ -31,19 +31,19 @@ use Rattle.superpascal.specs.declared.ending.Ending.{Ending}
 use Rattle.superpascal.specs.declared.ending.Ending.TheVariants as e
 use Rattle.superpascal.specs.declared.ending.Answer.{Answer}
 use Rattle.superpascal.specs.declared.telling.Telling.{Telling}
-use Rattle.superpascal.specs.Answering.{HasCode, ended}
+use Rattle.superpascal.specs.Answering.{HasCode, ending_answer}
 use Rattle.superpascal.specs.Causes.{Cause, Due, Files, HasMade, IsLongCode, IsNotLoaded, IsRefusedFor, IsTold}
-use Rattle.superpascal.specs.Causes.{IsTooLong, ReadsAfterRules, Stream, silent}
+use Rattle.superpascal.specs.Causes.{IsTooLong, ReadsAfterRules, Stream, silent_answer}
 use Rattle.superpascal.specs.Executions.{execution_answer}
 use Rattle.superpascal.specs.Replays.{IsJournalOf, IsReplayOf, IsUnfitFor, replay_answer}
 use Rattle.superpascal.specs.Runs.{Reports, generated_answer, run_answer}
-use Rattle.superpascal.specs.Texts.{BreaksOne, HasSets, IsFileOf}
+use Rattle.superpascal.specs.Texts.{FirstBroken, HasSets, IsFileOf}
 
 -- ---- what is loaded
 
 -- what a text breaks that is longer than a text may be
-abbrev pub too_long : Refusal
-too_long = record { rule = rule.L1; at = start }
+abbrev pub length_refusal : Refusal
+length_refusal = record { rule = rule.L1; at = start }
 
 -- why nothing is loaded: more is held than the limit, and `long` is the ending for that; the library failed; or memory
 -- was wanting
@@ -59,19 +59,19 @@ GivesBytes f name limit long (Err x) = IsKeptBack f name limit long x
 
 -- the text under a name
 abbrev pub GivesText : Files → List ℕ → Result (Vec ℕ Global) Ending → Type 0
-GivesText f name r = GivesBytes f name 1048576 (e.Refused too_long) r
+GivesText f name r = GivesBytes f name 1048576 (e.Refused length_refusal) r
 
 -- ---- the code of a text
 
 -- the code of a text, or the first rule that it breaks
 abbrev pub CompilesTo : List ℕ → Result Parts Ending → Type 0
 CompilesTo text (Ok code) = (tree : c.Program) × HasCode text tree code
-CompilesTo text (Err x) = ((r : Refusal) × (x ≡ e.Refused r) × BreaksOne text r) ⊎ (x ≡ e.OutOfMemory)
+CompilesTo text (Err x) = ((r : Refusal) × (x ≡ e.Refused r) × FirstBroken text r) ⊎ (x ≡ e.OutOfMemory)
 
 -- why no code comes of the text under a name
 abbrev pub IsUnready : Files → List ℕ → Ending → Type 0
 IsUnready f name x =
-    ((r : Refusal) × (x ≡ e.Refused r) × IfSome (f.held name) (λ text. BreaksOne text r))
+    ((r : Refusal) × (x ≡ e.Refused r) × IfSome (f.held name) (λ text. FirstBroken text r))
     ⊎ (((x ≡ e.ReadFault) × Rose (f.before name) (f.after name)) ⊎ (x ≡ e.OutOfMemory))
 
 -- the code of the text under a name
@@ -82,7 +82,7 @@ GivesCode f name (Err x) = IsUnready f name x
 -- the sets of a text, as a text
 abbrev pub TellsSets : List ℕ → Result (Vec ℕ Global) Halt → Type 0
 TellsSets text (Ok out) = HasSets text out.items
-TellsSets text (Err (halt.Refused r)) = BreaksFirst text r
+TellsSets text (Err (halt.Refused r)) = FirstBrokenUpToTypes text r
 TellsSets text (Err halt.Memory) = Unit {0}
 
 -- ---- a journal
@@ -169,9 +169,9 @@ TellsExecution r (Ok a) = a ≡ execution_answer r
 TellsExecution r (Err x) = x ≡ e.OutOfMemory
 
 -- following the journal with the program of the text
-abbrev pub Follows : List ℕ → List ℕ → Limits → Journal → Result Replayed Ending → Type 0
-Follows text input limits j (Ok r) = IsReplayOf text input limits j r
-Follows text input limits j (Err x) =
+abbrev pub ReplaysTo : List ℕ → List ℕ → Limits → Journal → Result Replayed Ending → Type 0
+ReplaysTo text input limits j (Ok r) = IsReplayOf text input limits j r
+ReplaysTo text input limits j (Err x) =
     ((n : ℕ) × (x ≡ e.Unfit n) × IsUnfitFor text input limits j n) ⊎ (x ≡ e.OutOfMemory)
 
 -- ---- what a command answers
@@ -179,12 +179,12 @@ Follows text input limits j (Err x) =
 -- this is said of the answer, or of that by which what was asked ends
 abbrev pub IsSaidOf : (Answer → Type 0) → Result Answer Ending → Type 0
 IsSaidOf P (Ok a) = P a
-IsSaidOf P (Err x) = P (ended x)
+IsSaidOf P (Err x) = P (ending_answer x)
 
 -- the answer of a command that answers from the text alone
 abbrev pub TextCause : Files → Command → Answer → Type 0
 TextCause f c a = HasMade f c a
-    ⊎ (IsLongCode f c a ⊎ (IsRefusedFor f c a ⊎ (IsNotLoaded f c a ⊎ (a ≡ silent e.OutOfMemory))))
+    ⊎ (IsLongCode f c a ⊎ (IsRefusedFor f c a ⊎ (IsNotLoaded f c a ⊎ (a ≡ silent_answer e.OutOfMemory))))
 
 abbrev pub AnswersText : Files → Command → Result Answer Ending → Type 0
 AnswersText f c r = IsSaidOf (TextCause f c) r
@@ -193,8 +193,8 @@ AnswersText f c r = IsSaidOf (TextCause f c) r
 abbrev pub CommandCause : Files → Stream → Reports → Command → Answer → Type 0
 CommandCause f s reports c a = Due f s reports c a × ReadsAfterRules f s c
 
-abbrev pub Answers : Files → Stream → Reports → Command → Result Answer Ending → Type 0
-Answers f s reports c r = IsSaidOf (CommandCause f s reports c) r
+abbrev pub AnswersCommand : Files → Stream → Reports → Command → Result Answer Ending → Type 0
+AnswersCommand f s reports c r = IsSaidOf (CommandCause f s reports c) r
 
 -- the command that the words ask for, or that they ask for none
 abbrev pub ReadsCommand : Option Command → Result Command Ending → Type 0

@@ -1,5 +1,6 @@
 -- Some of this belongs to what the program promises (docs/promise.txt).
--- What each command finds in a text: the first rule for which it refuses the text (`Breaks`), or none (`Keeps`), or
+-- What each command finds in a text: the first rule for which it refuses the text (`FirstBrokenFor`), or none
+-- (`AcceptedFor`), or
 -- what it makes of it (`Makes`). The contracts of `texts` promise it, and the causes, the headline and the writing cite
 -- it.
 use Rattle.std.specs.Prelude.{◌≡◌, ◌⊎◌, ℕ, ◌<◌, ◌≤◌, List, [], Option, Some, IfSome, codes, length}
@@ -10,16 +11,16 @@ use Rattle.sp_code.specs.declared.code.Parts.{Parts}
 use Rattle.sp_codefile.specs.CodeText.{IsTextOf}
 use Rattle.sp_front.specs.Codes.{BreaksLength, HasListing}
 use Rattle.sp_format.specs.Formats.{HasLayout, HasNoLayout}
-use Rattle.sp_front.specs.Checks.{BreaksFirst, IsChecked, IsProgramOf}
-use Rattle.sp_front.specs.Compiles.{BreaksAnyFirst, IsAccepted}
+use Rattle.sp_front.specs.Checks.{FirstBrokenUpToTypes, IsChecked, IsProgramOf}
+use Rattle.sp_front.specs.Compiles.{FirstBrokenOfPhases, IsAccepted}
 use Rattle.sp_gen.specs.Generated.{generated_text}
 use Rattle.sp_generate.specs.Generated.{IsCodeOf}
 use Rattle.sp_journal.specs.Reading.{IsText}
-use Rattle.sp_meaning.specs.Own.{Setting}
+use Rattle.sp_meaning.specs.LocalWork.{RunInput}
 use Rattle.sp_meaning.specs.Runs.{IsDisjointRun}
 use Rattle.sp_rules.specs.Verdict.{IsVerified}
 use Rattle.sp_sets.specs.SetsText.{IsSetsText}
-use Rattle.sp_tree.specs.Bare.{bare}
+use Rattle.sp_tree.specs.Bare.{without_places}
 use Rattle.sp_tree.specs.Plain as m
 use Rattle.sp_tree.specs.PlainChecked as c
 use Rattle.sp_varsets.specs.AreSets.{AreSets}
@@ -33,12 +34,12 @@ use Rattle.superpascal.specs.declared.telling.Telling.{Telling}
 use Rattle.superpascal.specs.declared.telling.Telling.TheVariants as told
 
 -- the text has a tree that breaks no rule of the phases, and its code is no longer than code may be
-abbrev pub KeepsAll : List ℕ → Type 0
-KeepsAll text = (p : c.Program) × IsAccepted text p × (tree_length (bare p) ≤ 1048576)
+abbrev pub IsAcceptedText : List ℕ → Type 0
+IsAcceptedText text = (p : c.Program) × IsAccepted text p × (tree_length (without_places p) ≤ 1048576)
 
 -- the first of all rules that the text breaks: of the phases, or that of the length of its code
-abbrev pub BreaksOne : List ℕ → Refusal → Type 0
-BreaksOne text r = BreaksAnyFirst text r ⊎ BreaksLength text r
+abbrev pub FirstBroken : List ℕ → Refusal → Type 0
+FirstBroken text r = FirstBrokenOfPhases text r ⊎ BreaksLength text r
 
 -- the text has a tree by the rules of characters, grammar, names and types
 abbrev pub IsAnalysed : List ℕ → Type 0
@@ -51,7 +52,8 @@ HasSets text out = (p : c.Program) × IsChecked text p × (s : Sets) × AreSets 
 -- the text breaks no rule, and this is the text of its code
 abbrev pub HasCodeText : List ℕ → List ℕ → Type 0
 HasCodeText text out =
-    (p : c.Program) × IsAccepted text p × (tree_length (bare p) ≤ 1048576) × (code : Parts) × IsCodeOf (bare p) code
+    (p : c.Program) × IsAccepted text p × (tree_length (without_places p) ≤ 1048576) × (code : Parts)
+    × IsCodeOf (without_places p) code
     × IsTextOf code out
 
 -- the text of the code is no longer than is loaded
@@ -75,34 +77,26 @@ IsSoundFile bytes = (code : Parts) × IsFileOf code bytes
 -- on no input, with no limits and in no lawful schedule does a process of the text's program write what a parallel one
 -- reads or writes
 abbrev pub IsDisjointText : List ℕ → Type 0
-IsDisjointText text = (p : m.Program) → IsProgramOf text p → (g : Setting) → g.program ≡ p → IsDisjointRun g
+IsDisjointText text = (p : m.Program) → IsProgramOf text p → (g : RunInput) → g.program ≡ p → IsDisjointRun g
 
 -- the run that words ask for, and how it is told, by its parts
-abbrev pub asked : List ℕ → ℕ → Limits → Telling → Asked
-asked file workers limits telling =
+abbrev pub asked_run : List ℕ → ℕ → Limits → Telling → Asked
+asked_run file workers limits telling =
     record { file = file; workers = workers; limits = limits; telling = telling }
 
 -- the command for a run that is told so
-abbrev pub asks_for : Telling → List ℕ → ℕ → Limits → Command
-asks_for (told.Reports show) file workers limits = command.Run file workers limits show
-asks_for told.Witness file workers limits = command.Witness file workers limits
+abbrev pub command_for_run : Telling → List ℕ → ℕ → Limits → Command
+command_for_run (told.Reports show) file workers limits = command.Run file workers limits show
+command_for_run told.Witness file workers limits = command.Witness file workers limits
 
-abbrev pub asks : Asked → Command
-asks a = asks_for a.telling a.file a.workers a.limits
+abbrev pub command_of_run : Asked → Command
+command_of_run a = command_for_run a.telling a.file a.workers a.limits
 
--- the replay that words ask for, by its parts
-abbrev pub followed : List ℕ → List ℕ → Limits → Followed
-followed file journal limits = record { file = file; journal = journal; limits = limits }
+abbrev pub command_of_replay : Followed → Command
+command_of_replay b = command.Replay b.file b.journal b.limits
 
-abbrev pub follows : Followed → Command
-follows b = command.Replay b.file b.journal b.limits
-
--- the execution of a code file that words ask for, by its parts
-abbrev pub executed : List ℕ → ℕ → Limits → Executed
-executed file workers limits = record { file = file; workers = workers; limits = limits }
-
-abbrev pub executes : Executed → Command
-executes b = command.Exec b.file b.workers b.limits
+abbrev pub command_of_execution : Executed → Command
+command_of_execution b = command.Exec b.file b.workers b.limits
 
 -- the text that a command is about, or its code file, where the library tells it, or the text that it makes itself
 abbrev pub text_of : (List ℕ → Option (List ℕ)) → Command → Option (List ℕ)
@@ -159,34 +153,35 @@ ExecutesUnder (command.Exec file workers limits) name = file ≡ name
 -- the command loads what is held under this name: its text, or the journal, where its text breaks no rule, or its code
 -- file
 abbrev pub Loads : (List ℕ → Option (List ℕ)) → Command → List ℕ → Type 0
-Loads held c name = IsAbout c name ⊎ ((FollowsUnder c name × IfSome (text_of held c) KeepsAll) ⊎ ExecutesUnder c name)
+Loads held c name = IsAbout c name ⊎ ((FollowsUnder c name × IfSome (text_of held c) IsAcceptedText)
+    ⊎ ExecutesUnder c name)
 
 -- the first rule for which the command refuses the text: of all rules, for `sets` of those of characters, grammar,
 -- names and types, for `format` of those that it goes through; a code file has no text that could break one
-abbrev pub Breaks : Command → List ℕ → Refusal → Type 0
-Breaks (command.Check file) text r = BreaksOne text r
-Breaks (command.Run file workers limits show) text r = BreaksOne text r
-Breaks (command.Code file) text r = BreaksOne text r
-Breaks (command.Sets file) text r = BreaksFirst text r
-Breaks (command.Format file) text r = HasNoLayout text r
-Breaks (command.Witness file workers limits) text r = BreaksOne text r
-Breaks (command.Gen size workers) text r = BreaksOne text r
-Breaks (command.Replay file journal limits) text r = BreaksOne text r
-Breaks (command.Build file) text r = BreaksOne text r
-Breaks (command.Exec file workers limits) text r = ⊥
+abbrev pub FirstBrokenFor : Command → List ℕ → Refusal → Type 0
+FirstBrokenFor (command.Check file) text r = FirstBroken text r
+FirstBrokenFor (command.Run file workers limits show) text r = FirstBroken text r
+FirstBrokenFor (command.Code file) text r = FirstBroken text r
+FirstBrokenFor (command.Sets file) text r = FirstBrokenUpToTypes text r
+FirstBrokenFor (command.Format file) text r = HasNoLayout text r
+FirstBrokenFor (command.Witness file workers limits) text r = FirstBroken text r
+FirstBrokenFor (command.Gen size workers) text r = FirstBroken text r
+FirstBrokenFor (command.Replay file journal limits) text r = FirstBroken text r
+FirstBrokenFor (command.Build file) text r = FirstBroken text r
+FirstBrokenFor (command.Exec file workers limits) text r = ⊥
 
 -- the command refuses the text for no rule, and a code file neither
-abbrev pub Keeps : Command → List ℕ → Type 0
-Keeps (command.Check file) text = KeepsAll text
-Keeps (command.Run file workers limits show) text = KeepsAll text
-Keeps (command.Code file) text = KeepsAll text
-Keeps (command.Sets file) text = IsAnalysed text
-Keeps (command.Format file) text = (out : List ℕ) × HasLayout text out
-Keeps (command.Witness file workers limits) text = KeepsAll text
-Keeps (command.Gen size workers) text = KeepsAll text
-Keeps (command.Replay file journal limits) text = KeepsAll text
-Keeps (command.Build file) text = KeepsAll text
-Keeps (command.Exec file workers limits) text = IsSoundFile text
+abbrev pub AcceptedFor : Command → List ℕ → Type 0
+AcceptedFor (command.Check file) text = IsAcceptedText text
+AcceptedFor (command.Run file workers limits show) text = IsAcceptedText text
+AcceptedFor (command.Code file) text = IsAcceptedText text
+AcceptedFor (command.Sets file) text = IsAnalysed text
+AcceptedFor (command.Format file) text = (out : List ℕ) × HasLayout text out
+AcceptedFor (command.Witness file workers limits) text = IsAcceptedText text
+AcceptedFor (command.Gen size workers) text = IsAcceptedText text
+AcceptedFor (command.Replay file journal limits) text = IsAcceptedText text
+AcceptedFor (command.Build file) text = IsAcceptedText text
+AcceptedFor (command.Exec file workers limits) text = IsSoundFile text
 
 -- the commands that answer from the text alone
 abbrev pub asks_text : Command → Type 0
@@ -260,19 +255,20 @@ IsJournalText bytes = IsText bytes × (length bytes ≤ 67108864)
 -- the command reads the input, where what it loads before is right
 abbrev pub CanRead : (List ℕ → Option (List ℕ)) → Command → Type 0
 CanRead held (command.Check file) = ⊥
-CanRead held (command.Run file workers limits show) = IfSome (held file) KeepsAll
+CanRead held (command.Run file workers limits show) = IfSome (held file) IsAcceptedText
 CanRead held (command.Code file) = ⊥
 CanRead held (command.Sets file) = ⊥
 CanRead held (command.Format file) = ⊥
-CanRead held (command.Witness file workers limits) = IfSome (held file) KeepsAll
+CanRead held (command.Witness file workers limits) = IfSome (held file) IsAcceptedText
 CanRead held (command.Gen size workers) = ⊥
-CanRead held (command.Replay file journal limits) = IfSome (held file) KeepsAll × IfSome (held journal) IsJournalText
+CanRead held (command.Replay file journal limits) = IfSome (held file) IsAcceptedText
+    × IfSome (held journal) IsJournalText
 CanRead held (command.Build file) = ⊥
 CanRead held (command.Exec file workers limits) = IfSome (held file) IsSoundFile
 
 -- what the command makes of the text alone, for the output and for the notes
 abbrev pub Makes : Command → List ℕ → List ℕ → List ℕ → Type 0
-Makes (command.Check file) text out line = KeepsAll text × (out ≡ []) × (line ≡ codes "accepted\n")
+Makes (command.Check file) text out line = IsAcceptedText text × (out ≡ []) × (line ≡ codes "accepted\n")
 Makes (command.Run file workers limits show) text out line = ⊥
 Makes (command.Code file) text out line = HasListing text out × (line ≡ [])
 Makes (command.Sets file) text out line = HasSets text out × (line ≡ [])

@@ -8,27 +8,28 @@ use Rattle.sp_words.specs.declared.command.Command.TheVariants as command
 use Rattle.superpascal.specs.declared.asked.Asked.{Asked}
 use Rattle.superpascal.specs.declared.ending.Ending.{Ending}
 use Rattle.superpascal.specs.Answers.{has_output, line_of, status_of}
-use Rattle.superpascal.specs.Calls.{All, Call, IsUnwritten, OfText, Part}
+use Rattle.superpascal.specs.Calls.{WroteAll, Call, IsUnwritten, OfText, WrotePart}
 use Rattle.superpascal.specs.Runs.{generated_output, told_notes, told_output}
-use Rattle.superpascal.specs.Texts.{Makes, asks}
+use Rattle.superpascal.specs.Texts.{Makes, command_of_run}
 
 -- the output and the notes were written whole; with status 6 a first part of each
 pub record AreWritten (c : Call) (output notes : List ℕ) : Type 0 where
-  pub whole : c.outcome.status ≢ 6 → All c.output output × All c.notes notes
-  pub part_of_output : Part c.output output
-  pub part_of_notes : Part c.notes notes
+  pub whole : c.outcome.status ≢ 6 → WroteAll c.output output × WroteAll c.notes notes
+  pub part_of_output : WrotePart c.output output
+  pub part_of_notes : WrotePart c.notes notes
 
 -- otherwise the line of the status
 abbrev pub WritesLine : Call → Type 0
 WritesLine c = (ending : Ending) × (c.outcome.status ≡ status_of ending) × (has_output ending ≡ false)
-    × All c.notes (line_of ending)
+    × WroteAll c.notes (line_of ending)
 
 pub record Writing (c : Call) : Type 0 where
   -- what a command makes of the text alone
-  pub made : OfText c (λ d text. (out line : List ℕ) → Makes d text out line → c.outcome.status ≡ 0 → All c.output out
-      × All c.notes line)
+  pub made : OfText c (λ d text. (out line : List ℕ) → Makes d text out line → c.outcome.status ≡ 0
+      → WroteAll c.output out
+      × WroteAll c.notes line)
   -- the output of a run, or the witness of its race; and its end, verdict and reports, or its journal
-  pub ran : (a : Asked) → command_of c.words ≡ Some (asks a) → (r : Ran) → c.outcome.ran ≡ Some r
+  pub ran : (a : Asked) → command_of c.words ≡ Some (command_of_run a) → (r : Ran) → c.outcome.ran ≡ Some r
       → AreWritten c (told_output a.telling r) (told_notes c.reports a.telling r)
   -- those of `gen`
   pub generated : (size workers : ℕ) → command_of c.words ≡ Some (command.Gen size workers) → (r : Ran)

@@ -5,7 +5,7 @@ ghost use Rattle.sp_codefile.specs.Verifying.{rule_of};
 ghost use Rattle.sp_rules.specs.Verdict.{number};
 ghost use Rattle.superpascal.specs.Answering.{AnswersEnding, own_line};
 ghost use Rattle.superpascal.specs.Answers.{line_of};
-ghost use Rattle.superpascal.specs.Causes.{accepted, silent};
+ghost use Rattle.superpascal.specs.Causes.{accepted_answer, silent_answer};
 ghost use Rattle.superpascal.specs.declared.ending.Ending.TheVariants as variants;
 
 use crate::ending::{Answer, Ending};
@@ -16,7 +16,7 @@ use std::alloc::Global;
 
 // An answer without an output.
 fn silent(alloc: Global, ending: Ending) -> Answer
-    ensures { result ≡ silent ending }
+    ensures { result ≡ silent_answer ending }
 {
     Answer {
         ending,
@@ -29,7 +29,7 @@ fn silent(alloc: Global, ending: Ending) -> Answer
 
 /// The answer of a command that answers from the text alone: with this output and these notes.
 pub(crate) fn accepted(output: Vec<u8>, notes: Vec<u8>) -> Answer
-    ensures { result ≡ accepted output.items notes.items }
+    ensures { result ≡ accepted_answer output.items notes.items }
 {
     Answer {
         ending: Ending::Accepted,

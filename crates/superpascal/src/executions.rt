@@ -1,13 +1,13 @@
 //! The command that runs a code file: `exec`.
 
 ghost use Rattle.std.specs.Prelude.{List, ℕ, IfOk};
-ghost use Rattle.sp_print.specs.Lines.{HasLines};
+ghost use Rattle.sp_print.specs.OutcomeLines.{HasLines};
 ghost use Rattle.sp_words.specs.Ranges.{IsInRange};
 ghost use Rattle.superpascal.specs.Causes.{files_of, stream_of};
 ghost use Rattle.superpascal.specs.Executions.{IsExecutionOf};
 ghost use Rattle.superpascal.specs.Runs.{Reports};
-ghost use Rattle.superpascal.specs.Steps.{Answers, TellsExecution};
-ghost use Rattle.superpascal.specs.Texts.{IsFileOf, executes};
+ghost use Rattle.superpascal.specs.Steps.{AnswersCommand, TellsExecution};
+ghost use Rattle.superpascal.specs.Texts.{IsFileOf, command_of_execution};
 
 use crate::asked::Executed;
 use crate::ending::{Answer, Ending};
@@ -73,9 +73,9 @@ pub(crate) fn execute<R: Threads + Wait + Sync, L: Library, I: Source, G: Gate>(
 ) -> Result<Answer, Ending>
     requires range { IsInRange asked.now.workers asked.now.limits }
     ensures { (reports : Reports)
-        → Answers (files_of L.held L.faults library.old library.new)
+        → AnswersCommand (files_of L.held L.faults library.old library.new)
         (stream_of I.left I.faults input.old input.new) reports
-        (executes asked.now) result }
+        (command_of_execution asked.now) result }
 {
     let code = prepare_file(host.alloc, library, &asked.file)?;
     let input = read_input(host.alloc, input)?;

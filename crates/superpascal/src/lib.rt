@@ -53,7 +53,8 @@
 //!   `src/answers.rt`, its cause in `Due` of `specs/Causes.antt`, the step that it ends in `specs/Steps.antt`, its
 //!   clause in `specs/Statuses.antt`, `proofs/Why.antt` and `proofs/Calling.antt`.
 //! - A command: its variant in `sp_words`; what it asks for in `src/asked.rt`; `text_of`, `IsAbout`, `FollowsUnder`,
-//!   `ExecutesUnder`, `Breaks`, `Keeps`, `asks_text`, `asks_run`, `asks_replay`, `asks_build`, `asks_execution`,
+//!   `ExecutesUnder`, `FirstBrokenFor`, `AcceptedFor`, `asks_text`, `asks_run`, `asks_replay`, `asks_build`,
+//!   `asks_execution`,
 //!   `CanRead`, `Makes` and `asks_all` of `specs/Texts.antt`; its function in `src/texts.rt`, `src/runs.rt`,
 //!   `src/replays.rt` or `src/executions.rt`, its arm in `src/top.rt`.
 //! - What is told of a run: `run_notes` of `specs/Runs.antt`, `src/notes.rt`.

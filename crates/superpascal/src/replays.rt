@@ -7,8 +7,8 @@ ghost use Rattle.sp_words.specs.Ranges.{IsInRange};
 ghost use Rattle.superpascal.specs.Answering.{HasCode, HasEndLines};
 ghost use Rattle.superpascal.specs.Causes.{files_of, stream_of};
 ghost use Rattle.superpascal.specs.Runs.{Reports};
-ghost use Rattle.superpascal.specs.Steps.{Answers, Follows, TellsReplay};
-ghost use Rattle.superpascal.specs.Texts.{follows};
+ghost use Rattle.superpascal.specs.Steps.{AnswersCommand, ReplaysTo, TellsReplay};
+ghost use Rattle.superpascal.specs.Texts.{command_of_replay};
 
 use crate::asked::Followed;
 use crate::ending::{Answer, Ending};
@@ -35,7 +35,7 @@ fn follow_code(
     requires code { (program : List ℕ) × (tree : Checked) × HasCode program tree code }
     requires nameable { IsNameable journal.now }
     ensures { (program : List ℕ) (tree : Checked) → HasCode program tree code
-        → Follows program input limits.now journal.now result }
+        → ReplaysTo program input limits.now journal.now result }
 {
     accepted_programs_are_ready();
     let code = Arc::new(alloc, code)?;
@@ -74,9 +74,9 @@ pub(crate) fn replay<L: Library, I: Source>(
 ) -> Result<Answer, Ending>
     requires range { IsInRange 1 asked.now.limits }
     ensures { (reports : Reports)
-        → Answers (files_of L.held L.faults library.old library.new)
+        → AnswersCommand (files_of L.held L.faults library.old library.new)
         (stream_of I.left I.faults input.old input.new) reports
-        (follows asked.now) result }
+        (command_of_replay asked.now) result }
 {
     let code = prepare(rt, alloc, library, &asked.file)?;
     let journal = prepare_journal(alloc, library, &asked.journal)?;

@@ -9,7 +9,7 @@ ghost use Rattle.sp_words.specs.declared.command.Command.TheVariants.{Gen};
 ghost use Rattle.superpascal.specs.Answering.{HasCode};
 ghost use Rattle.superpascal.specs.Causes.{Files, IsUntouched, Stream};
 ghost use Rattle.superpascal.specs.Runs.{IsRunOf, Reports as AReports};
-ghost use Rattle.superpascal.specs.Steps.{Answers, TellsGenerated, TellsRun};
+ghost use Rattle.superpascal.specs.Steps.{AnswersCommand, TellsGenerated, TellsRun};
 ghost use Rattle.superpascal.specs.declared.telling.Telling.TheVariants.{Reports, Witness};
 
 use crate::ending::{Answer, Ending};
@@ -134,7 +134,8 @@ pub(crate) fn run_generated<R: Threads + Wait + Sync, G: Gate>(
 ) -> Result<Answer, Ending>
     requires size { (1 ≤ size) × (size ≤ 2000) }
     requires workers { (1 ≤ workers) × (workers ≤ 64) }
-    ensures { (f : Files) (s : Stream) (made : AReports) → IsUntouched s → Answers f s made (Gen size workers) result }
+    ensures { (f : Files) (s : Stream) (made : AReports) → IsUntouched s
+        → AnswersCommand f s made (Gen size workers) result }
 {
     accepted_options_are_in_range();
     let text = generated(host.alloc, size)?;

@@ -8,8 +8,8 @@ ghost use Rattle.sp_words.specs.Words.{command_of};
 ghost use Rattle.superpascal.specs.Calls.{call, sink_of};
 ghost use Rattle.superpascal.specs.Causes.{Cause, files_of, stream_of};
 ghost use Rattle.superpascal.specs.Promise.{Promise};
-ghost use Rattle.superpascal.specs.Steps.{Answers, AnswersWords, ReadsCommand};
-ghost use Rattle.superpascal.specs.Texts.{asks};
+ghost use Rattle.superpascal.specs.Steps.{AnswersCommand, AnswersWords, ReadsCommand};
+ghost use Rattle.superpascal.specs.Texts.{command_of_run};
 
 use crate::answers::ended;
 use crate::asked::{Asked, Executed, Followed};
@@ -57,9 +57,9 @@ fn run<R: Threads + Wait + Sync, L: Library, I: Source, G: Gate>(
 ) -> Result<Answer, Ending>
     requires fresh { AreFresh told watchers.items }
     requires range { IsInRange asked.now.workers asked.now.limits }
-    ensures { Answers (files_of L.held L.faults library.old library.new)
+    ensures { AnswersCommand (files_of L.held L.faults library.old library.new)
         (stream_of I.left I.faults input.old input.new)
-        (reports text title watchers.items) (asks asked.now) result }
+        (reports text title watchers.items) (command_of_run asked.now) result }
 {
     let code = prepare(host.rt, host.alloc, library, &asked.file)?;
     let input = read_input(host.alloc, input)?;
@@ -77,7 +77,7 @@ fn obey<R: Threads + Wait + Sync, L: Library, I: Source, G: Gate>(
 ) -> Result<Answer, Ending>
     requires fresh { AreFresh told watchers.items }
     requires asked { (words : List (List ℕ)) × (command_of words ≡ Some command) }
-    ensures { Answers (files_of L.held L.faults library.old library.new)
+    ensures { AnswersCommand (files_of L.held L.faults library.old library.new)
         (stream_of I.left I.faults input.old input.new)
         (reports text title watchers.items) command result }
 {

@@ -2,9 +2,9 @@
 
 ghost use Rattle.std.specs.Prelude.{◌≡◌, ◌≢◌, ◌⊎◌, ℕ, ◌≤◌, [], false, length, take};
 ghost use Rattle.sp_outside.specs.Counts.{Rose};
-ghost use Rattle.sp_outside.specs.Told.{Grows};
+ghost use Rattle.sp_outside.specs.Visible.{Grows};
 ghost use Rattle.superpascal.specs.Answers.{has_output, notes_of, output_of, status_of};
-ghost use Rattle.superpascal.specs.Calls.{Writes, sink_of};
+ghost use Rattle.superpascal.specs.Calls.{WritesAnswer, sink_of};
 
 use crate::ending::{Answer, notes_by};
 use crate::outcome::Outcome;
@@ -13,7 +13,7 @@ use sp_outside::{Failed, Sink, put_all};
 /// Writes the answer, and gives the status and the run.
 pub(crate) fn write<O: Sink, N: Sink>(answer: Answer, output: &mut O, notes: &mut N) -> Outcome
     requires { has_output answer.ending ≡ false → output_of answer ≡ [] }
-    ensures written { Writes answer (sink_of O.written O.faults output.old output.new)
+    ensures written { WritesAnswer answer (sink_of O.written O.faults output.old output.new)
         (sink_of N.written N.faults notes.old notes.new) result.status }
     ensures ran { result.ran ≡ answer.ran }
     ensures executed { result.executed ≡ answer.executed }
@@ -30,7 +30,7 @@ pub(crate) fn write<O: Sink, N: Sink>(answer: Answer, output: &mut O, notes: &mu
 // Writes the output and then the notes, and gives the status.
 fn write_texts<O: Sink, N: Sink>(answer: &Answer, output: &mut O, notes: &mut N) -> u8
     requires { has_output answer.now.ending ≡ false → output_of answer.now ≡ [] }
-    ensures { Writes answer.now (sink_of O.written O.faults output.old output.new)
+    ensures { WritesAnswer answer.now (sink_of O.written O.faults output.old output.new)
         (sink_of N.written N.faults notes.old notes.new) result }
 {
     if answer.ending.has_output() {

@@ -2,7 +2,7 @@
 
 ghost use Rattle.std.specs.Prelude.{◌≡◌, ◌<◌, IfSome, length, slice_get};
 ghost use Rattle.sp_journal.specs.Births.{occurrences, IsNameable};
-ghost use Rattle.sp_judge.specs.Prefixes.{IsQuiet};
+ghost use Rattle.sp_judge.specs.Prefixes.{WaitersAreSilent};
 ghost use Rattle.sp_meaning.specs.Along.{IsClean};
 ghost use Rattle.sp_witness.specs.Witness.{witness as shown};
 ghost use Rattle.sp_witness.specs.Numbered.{witness_journal};
@@ -45,7 +45,7 @@ fn is_witness(
     wanted: Vec<Entry>,
 ) -> Result<bool, Memory>
     requires nameable { IsNameable run }
-    requires quiet { IsQuiet (occurrences run) }
+    requires quiet { WaitersAreSilent (occurrences run) }
     requires clean { IsClean (occurrences run) }
     requires order { earlier < later }
     requires inside { later < length run.entries }

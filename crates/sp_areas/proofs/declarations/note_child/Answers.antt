@@ -1,6 +1,6 @@
 use Rattle.std.proofs.Common.{◌+◌, None, Some}
 use Rattle.sp_rules.specs.Named.{OfChild}
-use Rattle.sp_areas.specs.Twice.{Knows, Notes}
+use Rattle.sp_areas.specs.Twice.{SeenBefore, NotesVariable}
 use Rattle.sp_areas.proofs.Declaring.{if_ok, noted, passes, next_child, index_of}
 use Rattle.sp_areas.proofs.declarations.note_child.Goals as goal
 
@@ -21,7 +21,8 @@ returns-in-Some c =
     let x = c.in-Some.x in
     let old = c.args.seen.now in
     let new = c.note.new.seen in
-    if_ok (λ now. Notes old new c.args.before now x ch.entry) (λ now. Knows code (OfChild t (k + 1)) new now)
+    if_ok (λ now. NotesVariable old new c.args.before now x ch.entry)
+    (λ now. SeenBefore code (OfChild t (k + 1)) new now)
     c.note.result
     (λ now h. noted code (OfChild t k) (OfChild t (k + 1)) (next_child code t k) old new c.args.before now x ch.entry
     (index_of code t k ch (Some x) c.requires.there c.in-Some.is) c.requires.known h)

@@ -1,5 +1,5 @@
 use Rattle.sp_areas.specs.Homeless.{HomelessAt}
-use Rattle.sp_areas.specs.Least.{IsLeast, Upto}
+use Rattle.sp_areas.specs.LeastPlaces.{IsLeast, Upto}
 use Rattle.sp_areas.proofs.homeless.first_lacking.Given as goal
 
 -- of the layouts so far

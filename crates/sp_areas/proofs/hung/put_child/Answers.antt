@@ -3,7 +3,7 @@ use Rattle.std.specs.Prelude.{OnOk}
 use Rattle.sp_base.proofs.Facts.{on_map}
 use Rattle.sp_areas.specs.declared.tree.Frame.TheVariants as frame
 use Rattle.sp_areas.specs.Around.{PutsChild}
-use Rattle.sp_areas.specs.Grown.{Puts}
+use Rattle.sp_areas.specs.Grown.{PutsNode}
 use Rattle.sp_areas.proofs.Hanging.{puts_index}
 use Rattle.sp_areas.proofs.hung.put_child.Goals as goal
 
@@ -13,5 +13,6 @@ returns-in-Some c =
     let new = c.put.new.tree in
     let x = c.in-Some.x in
     subst (λ (o : Option ℕ). OnOk c.put.result (PutsChild old new c.args.around o)) (sym c.in-Some.is)
-    (on_map c.put.result (Puts old new (frame.Index x) (Some c.args.around)) (PutsChild old new c.args.around (Some x))
+    (on_map c.put.result (PutsNode old new (frame.Index x) (Some c.args.around))
+    (PutsChild old new c.args.around (Some x))
     (puts_index old new c.args.around x) c.put.ensures)

@@ -1,5 +1,5 @@
 use Rattle.sp_areas.specs.Around.{AreHung}
-use Rattle.sp_areas.specs.Grown.{left}
+use Rattle.sp_areas.specs.Grown.{none_count}
 use Rattle.sp_areas.proofs.hung.search.Given as goal
 
 -- nodes stand for what is around, and a sweep that finds something leaves less to be found
@@ -7,4 +7,4 @@ abbrev pub invariant-sweeps : goal.invariant-sweeps
 invariant-sweeps l = AreHung l.code l.of_blocks l.grown
 
 abbrev pub decreases-sweeps : goal.decreases-sweeps
-decreases-sweeps l = left l.grown.of
+decreases-sweeps l = none_count l.grown.of

@@ -1,5 +1,5 @@
 use Rattle.sp_areas.specs.Alone.{LayoutFails, layout_fails}
-use Rattle.sp_areas.specs.Least.{IsLeast, Upto}
+use Rattle.sp_areas.specs.LeastPlaces.{IsLeast, Upto}
 use Rattle.sp_areas.proofs.layouts.first_layout.Given as goal
 
 -- of the layouts so far

@@ -5,7 +5,7 @@ use Rattle.sp_code.specs.declared.code.ChildTable.{ChildTable}
 use Rattle.sp_code.specs.declared.code.ForkTable.{ForkTable}
 use Rattle.sp_code.specs.declared.code.Parts.{Parts}
 use Rattle.sp_areas.specs.Alone.{ChildFails}
-use Rattle.sp_areas.specs.Least.{IsLeast, Upto}
+use Rattle.sp_areas.specs.LeastPlaces.{IsLeast, Upto}
 use Rattle.sp_areas.specs.Namers.{LostAt}
 use Rattle.sp_areas.proofs.Leasts.{more}
 use Rattle.sp_areas.proofs.Lost.{one_table, all_tables}

@@ -1,4 +1,4 @@
-use Rattle.sp_areas.specs.Least.{IsLeast, Upto}
+use Rattle.sp_areas.specs.LeastPlaces.{IsLeast, Upto}
 use Rattle.sp_areas.specs.Namers.{LostAt}
 use Rattle.sp_areas.proofs.naming.first_lost.Given as goal
 

@@ -2,7 +2,7 @@ use Rattle.std.proofs.Common.{ap, sym, ◌∙◌, subst, List, true}
 use Rattle.std.specs.Prelude.{slice_set}
 use Rattle.std.proofs.lemmas.Option.{slice_get_within}
 use Rattle.sp_areas.specs.declared.owners.Owner.{Owner}
-use Rattle.sp_areas.specs.Owners.{Gives, is_same}
+use Rattle.sp_areas.specs.Owners.{HandsOwner, is_same}
 use Rattle.sp_areas.proofs.Handing.{gives_old, gives_new}
 use Rattle.sp_areas.proofs.owners.give.Goals as goal
 
@@ -18,7 +18,7 @@ replace-old-requires c = slice_get_within c.args.owners.now c.args.x c.in-Some.w
 pub returns : goal.returns
 returns c =
     let w = c.in-Some.w.now in
-    subst (λ (os : List Owner). Gives c.args.owners.now os c.args.x c.args.o true) (sym (c.replace-old.ensures.list
+    subst (λ (os : List Owner). HandsOwner c.args.owners.now os c.args.x c.args.o true) (sym (c.replace-old.ensures.list
     ∙ ap (slice_set c.args.owners.now c.args.x) c.join-both.ensures))
     (gives_new c.args.owners.now c.args.x c.args.o w (sym c.in-Some.ensures) (ap (is_same w) (sym c.join-both.ensures)
     ∙ sym c.is_same.ensures ∙ c.if-is_same.false))

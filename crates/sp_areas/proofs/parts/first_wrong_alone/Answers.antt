@@ -2,7 +2,7 @@ use Rattle.std.proofs.Common.{◌≡◌, List, sym, subst}
 use Rattle.sp_code.specs.declared.code.Layout.{Layout}
 use Rattle.sp_areas.specs.Alone.{BreaksAlone}
 use Rattle.sp_areas.specs.Blocks.{IsNumbered}
-use Rattle.sp_areas.specs.Least.{IsLeast, least}
+use Rattle.sp_areas.specs.LeastPlaces.{IsLeast, earlier_of}
 use Rattle.sp_areas.proofs.Alone.{passed}
 use Rattle.sp_areas.proofs.parts.first_wrong_alone.Goals as goal
 
@@ -16,7 +16,7 @@ returns c =
     let first = c.args.blocks.now.first in
     let same : c.items-layouts.result.now ≡ code.layouts = cc in
     let numbered = subst (λ (ls : List Layout). IsNumbered first ls) (sym same) c.requires in
-    let whole : c.least-3.result ≡ least (least a b) (least d e) = cc in
+    let whole : c.least-3.result ≡ earlier_of (earlier_of a b) (earlier_of d e) = cc in
     subst (IsLeast (BreaksAlone code)) (sym whole)
     (passed code first c.in_ok-forked.forked c.in_ok-foralled.foralled a b d e
     c.items-instrs.result.now c.items-layouts.result.now c.items-tables.result.now c.has.result

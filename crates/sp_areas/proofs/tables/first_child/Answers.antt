@@ -1,7 +1,7 @@
 use Rattle.std.proofs.Common.{◌≡◌, ◌+◌, length, refl, sym, subst, arith}
 use Rattle.std.proofs.lemmas.Option.{slice_get_read}
 use Rattle.sp_areas.specs.Alone.{ChildFails, child_fails}
-use Rattle.sp_areas.specs.Least.{IsLeast, Upto}
+use Rattle.sp_areas.specs.LeastPlaces.{IsLeast, Upto}
 use Rattle.sp_areas.proofs.Leasts.{more}
 use Rattle.sp_areas.proofs.Failing.{one_child}
 use Rattle.sp_areas.proofs.tables.first_child.Goals as goal

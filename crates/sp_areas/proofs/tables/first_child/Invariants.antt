@@ -1,5 +1,5 @@
 use Rattle.sp_areas.specs.Alone.{ChildFails, child_fails}
-use Rattle.sp_areas.specs.Least.{IsLeast, Upto}
+use Rattle.sp_areas.specs.LeastPlaces.{IsLeast, Upto}
 use Rattle.sp_areas.proofs.tables.first_child.Given as goal
 
 -- of the children so far

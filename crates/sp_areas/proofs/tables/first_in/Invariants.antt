@@ -1,5 +1,5 @@
 use Rattle.sp_areas.specs.Alone.{TableFails}
-use Rattle.sp_areas.specs.Least.{IsLeast, Upto}
+use Rattle.sp_areas.specs.LeastPlaces.{IsLeast, Upto}
 use Rattle.sp_areas.proofs.tables.first_in.Given as goal
 
 -- of the tables so far

@@ -1,6 +1,6 @@
 use Rattle.std.proofs.Common.{length, sym, subst}
 use Rattle.sp_areas.specs.Alone.{ChildFails, ChildrenFail, child_fails, first_fails}
-use Rattle.sp_areas.specs.Least.{IsLeast, Upto}
+use Rattle.sp_areas.specs.LeastPlaces.{IsLeast, Upto}
 use Rattle.sp_areas.proofs.Leasts.{both}
 use Rattle.sp_areas.proofs.tables.first_of_table.Goals as goal
 

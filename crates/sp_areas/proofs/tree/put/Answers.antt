@@ -1,7 +1,7 @@
 use Rattle.std.proofs.Common.{List, [], ◌∷◌, sym, subst}
 use Rattle.std.proofs.lemmas.List.{length-append}
 use Rattle.sp_areas.specs.declared.tree.Node.{Node}
-use Rattle.sp_areas.specs.Grown.{Puts}
+use Rattle.sp_areas.specs.Grown.{PutsNode}
 use Rattle.sp_areas.specs.Tree.{around_list, home_of}
 use Rattle.sp_areas.proofs.Growing.{put_lists}
 use Rattle.sp_areas.proofs.tree.put.Goals as goal
@@ -10,7 +10,7 @@ pub returns : goal.returns
 returns c =
     let old = c.args.tree.now in
     let n = c.node_inside-node.result in
-    subst (λ (ns : List Node). Puts old ns c.args.frame c.args.around) (sym c.in_ok-push.ensures.ok)
+    subst (λ (ns : List Node). PutsNode old ns c.args.frame c.args.around) (sym c.in_ok-push.ensures.ok)
     (record {
       more = length-append old (n ∷ []);
       lists = λ ls lists are f i. put_lists ls lists old n

@@ -1,7 +1,7 @@
 use Rattle.std.proofs.Common.{◌≡◌, ◌⊎◌, length, refl, subst, arith}
 use Rattle.std.proofs.lemmas.Option.{slice_get_read}
 use Rattle.sp_rules.specs.Areas.{homes}
-use Rattle.sp_areas.specs.Least.{IsLeast, Upto}
+use Rattle.sp_areas.specs.LeastPlaces.{IsLeast, Upto}
 use Rattle.sp_areas.specs.Unknown.{ChildUnknown, UnknownBy}
 use Rattle.sp_areas.proofs.Knowing.{children_more, children_none}
 use Rattle.sp_areas.proofs.unknown.after_children.Goals as goal

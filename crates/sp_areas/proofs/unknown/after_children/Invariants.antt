@@ -1,6 +1,6 @@
 use Rattle.std.proofs.Common.{◌⊎◌}
 use Rattle.sp_rules.specs.Areas.{Area, homes}
-use Rattle.sp_areas.specs.Least.{IsLeast, Upto}
+use Rattle.sp_areas.specs.LeastPlaces.{IsLeast, Upto}
 use Rattle.sp_areas.specs.Only.{LiesOnlyIn}
 use Rattle.sp_areas.specs.Unknown.{ChildUnknown, UnknownBy}
 use Rattle.sp_areas.proofs.unknown.after_children.Given as goal

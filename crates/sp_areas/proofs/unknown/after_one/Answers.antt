@@ -3,7 +3,7 @@ use Rattle.std.specs.Prelude.{slice_get}
 use Rattle.sp_code.specs.declared.code.ChildTable.{ChildTable}
 use Rattle.sp_code.specs.declared.code.Parts.{Parts}
 use Rattle.sp_rules.specs.Areas.{homes, instr_at, table_named}
-use Rattle.sp_areas.specs.Least.{IsLeast, Upto}
+use Rattle.sp_areas.specs.LeastPlaces.{IsLeast, Upto}
 use Rattle.sp_areas.specs.Unknown.{ChildUnknown, UnknownBy}
 use Rattle.sp_areas.proofs.Knowing.{after_none, after_table, never_named, never_there}
 use Rattle.sp_areas.proofs.unknown.after_one.Goals as goal

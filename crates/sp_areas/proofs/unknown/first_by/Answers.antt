@@ -1,6 +1,6 @@
 use Rattle.std.proofs.Common.{◌≡◌, length, ap, ◌∙◌, subst, arith}
 use Rattle.sp_code.specs.declared.code.Parts.{Parts}
-use Rattle.sp_areas.specs.Least.{IsLeast, Upto}
+use Rattle.sp_areas.specs.LeastPlaces.{IsLeast, Upto}
 use Rattle.sp_areas.specs.Unknown.{UnknownBy}
 use Rattle.sp_areas.proofs.Knowing.{all_unknown}
 use Rattle.sp_areas.proofs.unknown.first_by.Goals as goal

@@ -1,4 +1,4 @@
-use Rattle.sp_areas.specs.Least.{IsLeast, Upto}
+use Rattle.sp_areas.specs.LeastPlaces.{IsLeast, Upto}
 use Rattle.sp_areas.specs.Unknown.{UnknownBy}
 use Rattle.sp_areas.proofs.unknown.first_by.Given as goal
 

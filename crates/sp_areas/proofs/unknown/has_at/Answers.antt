@@ -2,7 +2,7 @@ use Rattle.std.proofs.Common.{◌≡◌, Option, Some, true, false, ap, sym, ◌
 use Rattle.std.specs.Prelude.{slice_get}
 use Rattle.sp_code.specs.declared.code.Layout.{Layout}
 use Rattle.sp_code.specs.Machine.{layout_of}
-use Rattle.sp_rules.specs.Areas.{given}
+use Rattle.sp_rules.specs.Areas.{on_option}
 use Rattle.sp_rules.specs.Named.{has_variable, is_in}
 use Rattle.sp_areas.specs.declared.tree.Frame.{Frame}
 use Rattle.sp_areas.specs.Tree.{IsFrame, home_of}
@@ -20,4 +20,4 @@ returns-in-Some-get c = λ f t.
     let here : is_in c.args.x l.variables ≡ true = in_at c.args.x c.in-Some-get.y.now l.variables c.args.place
     (sym c.in-Some-get.ensures) t in
     subst (λ (z : Frame). has_variable ls c.args.x (home_of z) ≡ true) (sym c.in-Block.is)
-    (ap (λ (o : Option Layout). given false o (λ l. is_in c.args.x l.variables)) there ∙ here)
+    (ap (λ (o : Option Layout). on_option false o (λ l. is_in c.args.x l.variables)) there ∙ here)

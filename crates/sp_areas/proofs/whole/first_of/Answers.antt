@@ -1,6 +1,6 @@
 use Rattle.std.proofs.Common.{◌≡◌, sym, subst}
 use Rattle.sp_rules.specs.Named.{BreaksV1}
-use Rattle.sp_areas.specs.Least.{IsLeast, least}
+use Rattle.sp_areas.specs.LeastPlaces.{IsLeast, earlier_of}
 use Rattle.sp_areas.proofs.Summing.{least_of_all}
 use Rattle.sp_areas.proofs.whole.first_of.Goals as goal
 
@@ -8,8 +8,9 @@ pub returns : goal.returns
 returns c =
     let f = c.args.f in
     let r = c.requires in
-    let whole : c.least-5.result ≡ least (least (least f.alone f.homeless) (least f.twice f.unnamed))
-    (least (least f.unknown f.range) f.misplaced) = cc in
+    let whole : c.least-5.result
+    ≡ earlier_of (earlier_of (earlier_of f.alone f.homeless) (earlier_of f.twice f.unnamed))
+    (earlier_of (earlier_of f.unknown f.range) f.misplaced) = cc in
     subst (IsLeast (BreaksV1 c.args.code.now)) (sym whole)
     (least_of_all c.args.code.now c.args.owners.now r.owners f.alone f.homeless f.twice f.unnamed f.unknown f.range
     f.misplaced r.alone r.homeless r.twice r.unnamed r.unknown r.range r.misplaced)

@@ -1,6 +1,6 @@
 use Rattle.std.proofs.Common.{◌≡◌, ◌++◌, take}
-use Rattle.sp_code.specs.Listing.{numbered, instr_line}
+use Rattle.sp_code.specs.Listing.{numbered_texts, instr_line}
 use Rattle.sp_code.proofs.lines.put_instrs.Given as goal
 
 abbrev pub invariant-loop-number : goal.invariant-loop-number
-invariant-loop-number l = l.out.items ≡ l.fn.out.items ++ numbered instr_line 0 (take l.number l.instrs)
+invariant-loop-number l = l.out.items ≡ l.fn.out.items ++ numbered_texts instr_line 0 (take l.number l.instrs)

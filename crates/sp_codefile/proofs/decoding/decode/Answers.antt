@@ -1,8 +1,8 @@
 use Rattle.std.proofs.Common.{◌≡◌, ℕ, suc, ◌∙◌, List, Some, None, refl, sym, ap, subst, arith, codes, rules}
-use Rattle.sp_journal.proofs.TextLaws.{parts_first, none_parts}
+use Rattle.sp_codefile.proofs.ReadLaws.{parts_first, none_parts}
 use Rattle.sp_code.specs.declared.code.Parts.{Parts}
 use Rattle.sp_codefile.specs.CodeText.{IsTextOf}
-use Rattle.sp_codefile.specs.Items.{item_text, IsNext}
+use Rattle.sp_codefile.specs.Items.{item_text, IsNextItem}
 use Rattle.sp_codefile.proofs.WordLaws.{not_empty, empty}
 use Rattle.sp_codefile.proofs.ReadLaws.{Begun, head, begun_first, bad_first, begun_next}
 use Rattle.sp_codefile.proofs.ReadLaws.{bad_line, read_whole, shorter}
@@ -48,8 +48,8 @@ pub returns-in_default-2 : goal.returns-in_default-2
 returns-in_default-2 c =
     let rest = c.loop-rest.rest.now in
     let i = c.loop-rest.invariant in
-    let none : IsNext c.loop-rest.parts c.in-Some-split_line.text.now None = subst
-    (IsNext c.loop-rest.parts c.in-Some-split_line.text.now) c.in_default-2.is c.in_ok-item.ensures in
+    let none : IsNextItem c.loop-rest.parts c.in-Some-split_line.text.now None = subst
+    (IsNextItem c.loop-rest.parts c.in-Some-split_line.text.now) c.in_default-2.is c.in_ok-item.ensures in
     bad_line c.args.bytes.now i.0 c.loop-rest.line c.loop-rest.parts rest i.1 i.2
     (not_empty rest c.is_empty.result c.is_empty.ensures c.loop-rest-test.true)
     (λ x more h f. none x h (parts_first _ _ _ _ (c.in-Some-split_line.ensures ∙ f)))
@@ -66,7 +66,8 @@ loop-rest-preserved c =
     let text = c.in-Some-split_line.text.now in
     let behind = c.in-Some-split_line.behind.now in
     let i = c.loop-rest.invariant in
-    let next : IsNext p text (Some c.in-Some-2.item) = subst (IsNext p text) c.in-Some-2.is c.in_ok-item.ensures in
+    let next : IsNextItem p text (Some c.in-Some-2.item) =
+    subst (IsNextItem p text) c.in-Some-2.is c.in_ok-item.ensures in
     let short = shorter rest text behind c.in-Some-split_line.ensures in
     let line = i.1 in
     let fits = i.3 in (

@@ -1,13 +1,13 @@
 use Rattle.std.proofs.Common.{List, sym, subst}
 use Rattle.sp_code.specs.declared.code.Formal.{Formal}
 use Rattle.sp_codefile.specs.CodeText.{formal_text, FormalFits}
-use Rattle.sp_codefile.proofs.LeftLaws.{Left, left_start, left_next, left_end}
+use Rattle.sp_codefile.proofs.LeftLaws.{LeavesRest, left_start, left_next, left_end}
 use Rattle.sp_codefile.proofs.WordLaws.{not_empty, empty, some_length}
 use Rattle.sp_codefile.proofs.LayoutLaws.{formal_read, no_formal, shorter_twice}
 use Rattle.sp_codefile.proofs.reading.formals.Goals as goal
 
 pub loop-rest-init : goal.loop-rest-init
-loop-rest-init c = subst (λ (fs : List Formal). Left formal_text FormalFits c.args.text.now fs c.args.text.now)
+loop-rest-init c = subst (λ (fs : List Formal). LeavesRest formal_text FormalFits c.args.text.now fs c.args.text.now)
     (sym c.new-formals.ensures) (left_start formal_text FormalFits c.args.text.now)
 
 pub loop-rest-smaller : goal.loop-rest-smaller
@@ -21,7 +21,8 @@ pub loop-rest-preserved : goal.loop-rest-preserved
 loop-rest-preserved c =
     let rest = c.loop-rest.rest.now in
     let behind = c.next_word-in-loop-rest.result.1.now in
-    subst (λ (fs : List Formal). Left formal_text FormalFits c.args.text.now fs behind) (sym c.in_ok-push.ensures.ok)
+    subst (λ (fs : List Formal). LeavesRest formal_text FormalFits c.args.text.now fs behind)
+    (sym c.in_ok-push.ensures.ok)
     (left_next formal_text FormalFits c.args.text.now c.loop-rest.formals rest c.formal.result behind
     (not_empty rest c.is_empty.result c.is_empty.ensures c.loop-rest-test.true)
     (λ f fs g gs e. formal_read f fs g rest _ _ _ behind c.number.result c.formal.result e c.next_word.ensures.before

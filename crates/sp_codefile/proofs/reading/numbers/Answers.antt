@@ -2,7 +2,7 @@ use Rattle.std.proofs.Common.{◌≡◌, ◌<◌, List, ℕ, [], ◌++◌, sym, 
 use Rattle.sp_code.specs.Listing.{number_text}
 use Rattle.sp_codefile.specs.CodeText.{IsNumber}
 use Rattle.sp_codefile.specs.Cuts.{word_of}
-use Rattle.sp_codefile.proofs.LeftLaws.{Left, left_start, left_next, left_end}
+use Rattle.sp_codefile.proofs.LeftLaws.{LeavesRest, left_start, left_next, left_end}
 use Rattle.sp_codefile.proofs.WordLaws.{number_cut, follow, not_empty, empty, some_length, word_shorter}
 use Rattle.sp_codefile.proofs.reading.numbers.Goals as goal
 
@@ -10,7 +10,7 @@ no_number : (n : ℕ) (more : List ℕ) → number_text n ++ more ≡ [] → ⊥
 no_number n more e = cc
 
 pub loop-rest-init : goal.loop-rest-init
-loop-rest-init c = subst (λ (ns : List ℕ). Left number_text IsNumber c.args.text.now ns c.args.text.now)
+loop-rest-init c = subst (λ (ns : List ℕ). LeavesRest number_text IsNumber c.args.text.now ns c.args.text.now)
     (sym c.new-numbers.ensures) (left_start number_text IsNumber c.args.text.now)
 
 pub loop-rest-smaller : goal.loop-rest-smaller
@@ -23,7 +23,7 @@ pub loop-rest-preserved : goal.loop-rest-preserved
 loop-rest-preserved c =
     let rest = c.loop-rest.rest.now in
     let behind = c.next_word.result.1.now in
-    subst (λ (ns : List ℕ). Left number_text IsNumber c.args.text.now ns behind) (sym c.in_ok-push.ensures.ok)
+    subst (λ (ns : List ℕ). LeavesRest number_text IsNumber c.args.text.now ns behind) (sym c.in_ok-push.ensures.ok)
     (left_next number_text IsNumber c.args.text.now c.loop-rest.numbers rest c.number.result behind
     (not_empty rest c.is_empty.result c.is_empty.ensures c.loop-rest-test.true)
     (λ n ns f fs e.

@@ -1,6 +1,6 @@
 use Rattle.std.proofs.Common.{List, ◌++◌, ◌<◌, ◌^◌, length, All, arith, ap, subst, ◌∙◌}
 use Rattle.sp_code.specs.declared.code.ChildTable.{ChildTable}
-use Rattle.sp_code.specs.Listing.{numbered}
+use Rattle.sp_code.specs.Listing.{numbered_texts}
 use Rattle.sp_code.proofs.Numbered.{numbered_step}
 use Rattle.std.proofs.lemmas.Grind.{common_steps}
 use Rattle.sp_codefile.specs.CodeText.{child_of, table_text, ChildFits, TableFits}
@@ -14,7 +14,7 @@ loop-number-preserved c =
       text = numbered_step table_text c.args.forks.now n x c.args.out.now.items _ _
           (omega arith) c.index-forks-number.is c.loop-number.invariant.text
           (c.in_ok-put_table.ensures.text
-          ∙ ap (λ (xs : List ChildTable). c.loop-number.out.items ++ numbered (child_of n) 0 xs) c.items.ensures);
+          ∙ ap (λ (xs : List ChildTable). c.loop-number.out.items ++ numbered_texts (child_of n) 0 xs) c.items.ensures);
       fits = fits_more TableFits c.args.forks.now n x (omega arith) c.index-forks-number.is c.loop-number.invariant.fits
           (record {
             count = subst (λ (xs : List ChildTable). length xs < 2 ^ 64) c.items.ensures

@@ -1,4 +1,4 @@
-use Rattle.sp_codegen.proofs.LifeLaws.{operations_keep}
+use Rattle.sp_codegen.proofs.ProcessInfoLaws.{operations_keep}
 use Rattle.sp_codegen.proofs.laws.operations_keep_standing.Goals as goal
 
 pub returns : goal.returns

@@ -1,4 +1,4 @@
-use Rattle.sp_codegen.proofs.LifeLaws.{turn_alike, turn_over, turn_safe}
+use Rattle.sp_codegen.proofs.ProcessInfoLaws.{turn_alike, turn_over, turn_safe}
 use Rattle.sp_codegen.proofs.laws.turns_end_alike.Goals as goal
 
 pub returns-clause-turn : goal.returns-clause-turn

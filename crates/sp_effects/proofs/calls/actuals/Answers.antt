@@ -1,6 +1,6 @@
 use Rattle.std.proofs.Common.{sym, ◌∙◌, ◌++◌, ap, length, List, ℕ, Option}
 use Rattle.sp_shapes.specs.Stacks.{list_of, shape_of}
-use Rattle.sp_effects.specs.Calls.{actuals, listed}
+use Rattle.sp_effects.specs.Calls.{actuals, list_of_option}
 use Rattle.sp_effects.proofs.Actuals.{all_listed, one_listed}
 use Rattle.sp_effects.proofs.calls.actuals.Goals as goal
 
@@ -23,6 +23,6 @@ loop-i-preserved c =
       there = h.1;
       left = sym r.1;
       so_far = c.in_ok-put-in-Some.ensures
-          ∙ ap (λ (ys : List ℕ). ys ++ listed c.actual_of.result) c.loop-i.invariant.so_far
-          ∙ ap (λ (o : Option ℕ). actuals fs ss i ++ listed o) c.actual_of.ensures ∙ r.0;
+          ∙ ap (λ (ys : List ℕ). ys ++ list_of_option c.actual_of.result) c.loop-i.invariant.so_far
+          ∙ ap (λ (o : Option ℕ). actuals fs ss i ++ list_of_option o) c.actual_of.ensures ∙ r.0;
     }

@@ -1,5 +1,5 @@
 use Rattle.std.proofs.Common.{sym, subst}
-use Rattle.sp_areas.specs.Least.{IsLeast}
+use Rattle.sp_areas.specs.LeastPlaces.{IsLeast}
 use Rattle.sp_rules.specs.Verdict.{BreaksV7}
 use Rattle.sp_effects.proofs.Turning.{keeps_all, v7_least}
 use Rattle.sp_effects.proofs.clash.first_clash.Goals as goal

@@ -1,4 +1,4 @@
-use Rattle.sp_areas.specs.Least.{IsLeast, Upto}
+use Rattle.sp_areas.specs.LeastPlaces.{IsLeast, Upto}
 use Rattle.sp_effects.specs.Turns.{LayoutTurns}
 use Rattle.sp_effects.proofs.clash.first_turn.Given as goal
 

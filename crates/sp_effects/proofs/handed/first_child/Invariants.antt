@@ -1,4 +1,4 @@
-use Rattle.sp_areas.specs.Least.{IsLeast, Upto}
+use Rattle.sp_areas.specs.LeastPlaces.{IsLeast, Upto}
 use Rattle.sp_effects.specs.Befores.{IsBefore}
 use Rattle.sp_effects.specs.Handed.{ChildFails}
 use Rattle.sp_effects.proofs.handed.first_child.Given as goal

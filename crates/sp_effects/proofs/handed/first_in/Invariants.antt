@@ -1,4 +1,4 @@
-use Rattle.sp_areas.specs.Least.{IsLeast, Upto}
+use Rattle.sp_areas.specs.LeastPlaces.{IsLeast, Upto}
 use Rattle.sp_effects.specs.Handed.{TableFails}
 use Rattle.sp_effects.proofs.handed.first_in.Given as goal
 

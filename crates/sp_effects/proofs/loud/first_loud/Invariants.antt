@@ -1,4 +1,4 @@
-use Rattle.sp_areas.specs.Least.{IsLeast, Upto}
+use Rattle.sp_areas.specs.LeastPlaces.{IsLeast, Upto}
 use Rattle.sp_effects.specs.Loud.{LayoutLoud}
 use Rattle.sp_effects.proofs.loud.first_loud.Given as goal
 

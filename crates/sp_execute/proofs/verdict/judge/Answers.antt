@@ -3,8 +3,8 @@ use Rattle.sp_base.specs.declared.limits.TheConstants.{TURN_TICKS}
 use Rattle.sp_journal.specs.declared.entry.Journal.{Journal}
 use Rattle.sp_journal.specs.declared.outcome.End.{End}
 use Rattle.sp_journal.specs.Births.{occurrences}
-use Rattle.sp_meaning.specs.Own.{Setting}
-use Rattle.sp_judge.specs.Prefixes.{IsQuiet}
+use Rattle.sp_meaning.specs.LocalWork.{RunInput}
+use Rattle.sp_judge.specs.Prefixes.{WaitersAreSilent}
 use Rattle.sp_tree.specs.Interference.{IsFreeOfInterference}
 use Rattle.sp_judge.specs.Races.{IsVerdict}
 use Rattle.sp_execute.specs.Runs.{IsAbout, Promises}
@@ -14,7 +14,7 @@ use Rattle.sp_execute.proofs.verdict.judge.Goals as goal
 pub verdict_of-requires-clause-quiet : goal.verdict_of-requires-clause-quiet
 verdict_of-requires-clause-quiet c =
     let a = c.requires.about in
-    subst (λ (j : Journal). IsQuiet (occurrences j)) (sym c.journal.ensures)
+    subst (λ (j : Journal). WaitersAreSilent (occurrences j)) (sym c.journal.ensures)
     (c.runs_are_quiet.ensures a.0 TURN_TICKS
     (occurrences c.args.concluded.now.closed.journal) a.1.steps a.1.state a.1.along)
 
@@ -28,7 +28,7 @@ returns-clause-exact c =
 pub returns-clause-promise : goal.returns-clause-promise
 returns-clause-promise c =
     let d = c.args.concluded.now.closed in
-    if_judged (λ v. IsVerdict (occurrences d.journal) d.end v) (λ v. (g : Setting) → IsFreeOfInterference g.program
+    if_judged (λ v. IsVerdict (occurrences d.journal) d.end v) (λ v. (g : RunInput) → IsFreeOfInterference g.program
     → IsAbout g d → Promises g d v)
     (λ v x g free a. (
       a,

@@ -2,14 +2,14 @@ use Rattle.std.proofs.Common.{rules, ◌≡◌, ◌+◌, [], ◌∷◌, ◌++◌
 use Rattle.sp_tree.specs.declared.checked.Expr.{out-Expr, fold_out-Expr}
 use Rattle.sp_tree.specs.declared.checked.ExprForm as ast_f
 use Rattle.sp_tree.specs.declared.checked.Var.{out-Var, fold_out-Var}
-use Rattle.sp_tree.specs.PlainChecked.{At, Read, Unary, Binary, Standard, Entire}
+use Rattle.sp_tree.specs.PlainChecked.{ExpressionAt, Read, Unary, Binary, Standard, Entire}
 use Rattle.sp_tree.specs.CheckedOf.{expression_of, expression_form_of, variable_of, selectors, selector_of, actuals}
 use Rattle.sp_tree.specs.CheckedOf.{actual_of, expressions}
 use Rattle.sp_tree.specs.Bare.{bare_expression, bare_variable, bare_selectors, bare_actuals}
 use Rattle.sp_code.specs.declared.instr.Instr.{Instr}
 use Rattle.sp_code.specs.Scopes.{selected_type}
 use Rattle.sp_code.specs.Emitted.{value_code, var_code, selectors_code, actuals_code}
-use Rattle.sp_generate.specs.Views.{whole, scopes}
+use Rattle.sp_generate.specs.Views.{plain_program, scopes}
 use Rattle.sp_varsets.proofs.Adding.{selectors_on, selectors_end, actuals_on, actuals_end}
 use Rattle.sp_generate.proofs.Emitting.{added, both, select_code, select_type, pass_code}
 use Rattle.sp_generate.proofs.expressions.+value.Goals as goal
@@ -17,7 +17,8 @@ use Rattle.sp_generate.proofs.expressions.+value.Goals as goal
 pub put_value-returns : goal.put_value-returns
 put_value-returns t c =
     let e = out-Expr c.args.e.now in
-    let i : expression_of c.args.e.now ≡ At e.at e.kind (expression_form_of e.form) = search (rules, fold_out-Expr) in
+    let i : expression_of c.args.e.now ≡ ExpressionAt e.at e.kind (expression_form_of e.form) =
+    search (rules, fold_out-Expr) in
     rw i c.put_form.ensures
 
 pub put_boxed-returns : goal.put_boxed-returns
@@ -25,7 +26,7 @@ put_boxed-returns t c = rw c.get.ensures at c.put_value.ensures
 
 pub put_form-returns-in_ok-put_var-in-Read : goal.put_form-returns-in_ok-put_var-in-Read
 put_form-returns-in_ok-put_var-in-Read t c =
-    let p = whole c.args.g.now in
+    let p = plain_program c.args.g.now in
     let sc = scopes c.args.sc.now in
     let i : expression_form_of c.args.form.now ≡ Read (variable_of c.in-Read.v) = search (rules, ast_f.the_lemmas) in
     let va = var_code p sc (bare_variable (variable_of c.in-Read.v)) in
@@ -42,7 +43,7 @@ put_form-returns-in_ok-put_boxed-in-Unary t c =
 
 pub put_form-returns-in_ok-put_boxed-in-Binary-2 : goal.put_form-returns-in_ok-put_boxed-in-Binary-2
 put_form-returns-in_ok-put_boxed-in-Binary-2 t c =
-    let p = whole c.args.g.now in
+    let p = plain_program c.args.g.now in
     let sc = scopes c.args.sc.now in
     let i : expression_form_of c.args.form.now
     ≡ Binary c.in-Binary.op (expression_of c.in-Binary.a) (expression_of c.in-Binary.b) =
@@ -57,7 +58,7 @@ put_form-returns-in_ok-put_boxed-in-Binary-2 t c =
 
 pub put_call-returns : goal.put_call-returns
 put_call-returns t c =
-    let p = whole c.args.g.now in
+    let p = plain_program c.args.g.now in
     let sc = scopes c.args.sc.now in
     let passed = actuals_code p sc (bare_actuals (actuals (map actual_of c.args.args.now))) in
     added c.put.result c.args.code.now c.put_actuals.new.code c.put.new.code _ _ _ c.in_ok-put_actuals.ensures
@@ -65,7 +66,7 @@ put_call-returns t c =
 
 pub put_actuals-loop-a-preserved : goal.put_actuals-loop-a-preserved
 put_actuals-loop-a-preserved t c =
-    let p = whole c.args.g.now in
+    let p = plain_program c.args.g.now in
     let sc = scopes c.args.sc.now in
     let rest = actuals (map actual_of (drop (c.loop-a.a-index + 1) c.args.args.now)) in
     let on = rw c.items-a-items.ensures at (actuals_on c.items-a-items.result.now c.loop-a.a-index c.a-item.result
@@ -77,7 +78,7 @@ put_actuals-loop-a-preserved t c =
 
 pub put_actuals-returns : goal.put_actuals-returns
 put_actuals-returns t c =
-    let p = whole c.args.g.now in
+    let p = plain_program c.args.g.now in
     let sc = scopes c.args.sc.now in
     let end = rw c.items-a-items.ensures at (actuals_end c.items-a-items.result.now c.loop-a.a-index
     c.loop-a-test.false) in
@@ -86,7 +87,7 @@ put_actuals-returns t c =
 
 pub put_selectors-loop-s-preserved : goal.put_selectors-loop-s-preserved
 put_selectors-loop-s-preserved t c =
-    let p = whole c.args.g.now in
+    let p = plain_program c.args.g.now in
     let sc = scopes c.args.sc.now in
     let one = selector_of c.s-item.result in
     let rest = selectors (map selector_of (drop (c.loop-s.s-index + 1) c.args.ss.now)) in
@@ -104,7 +105,7 @@ put_selectors-loop-s-preserved t c =
 
 pub put_selectors-returns-clause-code : goal.put_selectors-returns-clause-code
 put_selectors-returns-clause-code t c =
-    let p = whole c.args.g.now in
+    let p = plain_program c.args.g.now in
     let sc = scopes c.args.sc.now in
     let end = rw c.items-s-items.ensures at (selectors_end c.items-s-items.result.now c.loop-s.s-index
     c.loop-s-test.false) in
@@ -113,7 +114,7 @@ put_selectors-returns-clause-code t c =
 
 pub put_selectors-returns-clause-kind : goal.put_selectors-returns-clause-kind
 put_selectors-returns-clause-kind t c =
-    let p = whole c.args.g.now in
+    let p = plain_program c.args.g.now in
     let sc = scopes c.args.sc.now in
     let end = rw c.items-s-items.ensures at (selectors_end c.items-s-items.result.now c.loop-s.s-index
     c.loop-s-test.false) in
@@ -122,7 +123,7 @@ put_selectors-returns-clause-kind t c =
 pub put_var-returns-clause-code : goal.put_var-returns-clause-code
 put_var-returns-clause-code t c =
     let v = out-Var c.args.v.now in
-    let p = whole c.args.g.now in
+    let p = plain_program c.args.g.now in
     let sc = scopes c.args.sc.now in
     let i : variable_of c.args.v.now ≡ Entire v.variable v.at (selectors (map selector_of v.selectors)) =
     search (rules, fold_out-Var) in

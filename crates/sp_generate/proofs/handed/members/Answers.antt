@@ -1,7 +1,7 @@
 use Rattle.std.proofs.Common.{◌-◌, ◌*◌, ◌++◌, length, sym, ◌∙◌}
 use Rattle.sp_varsets.specs.Members.{has}
 use Rattle.sp_varsets.proofs.Words.{below_words}
-use Rattle.sp_generate.specs.Handings.{fitting}
+use Rattle.sp_generate.specs.Handings.{fitting_numbers}
 use Rattle.sp_generate.proofs.Handing.{next_fits, none_fits, none_from}
 use Rattle.sp_generate.proofs.handed.members.Goals as goal
 
@@ -9,7 +9,7 @@ pub loop-x-preserved : goal.loop-x-preserved
 loop-x-preserved c =
     let set = c.args.set.now in
     let next = c.in-Some.ensures in
-    (λ i. c.in_ok-push.ensures.items i ++ fitting (has set) (c.in_ok-from.ensures i)
+    (λ i. c.in_ok-push.ensures.items i ++ fitting_numbers (has set) (c.in_ok-from.ensures i)
     (64 * length set.words - c.in_ok-from.ensures i))
     ∙ next_fits (has set) c.loop-x.out.items (64 * length set.words) c.loop-x.from c.in-Some.x next.0 next.1 next.2
     (below_words set.words c.in-Some.x next.1)

@@ -4,14 +4,14 @@ use Rattle.sp_tree.specs.CheckedOf.{block_of}
 use Rattle.sp_tree.specs.Bare.{bare_block}
 use Rattle.sp_code.specs.Emitted.{layouts_from}
 use Rattle.sp_generate.specs.Handings.{moved_of, shared_of}
-use Rattle.sp_generate.specs.Views.{whole}
+use Rattle.sp_generate.specs.Views.{plain_program}
 use Rattle.sp_generate.specs.Written.{written_blocks}
-use Rattle.sp_generate.proofs.Whole.{blocks_none, blocks_on, blocks_end, block_next, layout_next}
+use Rattle.sp_generate.proofs.WrittenProgram.{blocks_none, blocks_on, blocks_end, block_next, layout_next}
 use Rattle.sp_generate.proofs.program.put_blocks.Goals as goal
 
 pub loop-b-preserved : goal.loop-b-preserved
 loop-b-preserved c =
-    let p = whole c.args.g.now in
+    let p = plain_program c.args.g.now in
     let mv = moved_of c.args.sets.now in
     let sh = shared_of c.args.sets.now in
     let xs = c.args.g.now.checked.now.blocks in
@@ -34,7 +34,7 @@ loop-b-preserved c =
 
 pub returns-clause-code : goal.returns-clause-code
 returns-clause-code c =
-    let p = whole c.args.g.now in
+    let p = plain_program c.args.g.now in
     let mv = moved_of c.args.sets.now in
     let sh = shared_of c.args.sets.now in
     let xs = c.args.g.now.checked.now.blocks in

@@ -1,21 +1,22 @@
 use Rattle.std.proofs.Common.{rules, ◌≡◌, [], ◌∷◌, ◌++◌, ◌∙◌, ap, append_assoc}
 use Rattle.sp_tree.specs.declared.checked.Expr.{out-Expr, fold_out-Expr}
-use Rattle.sp_tree.specs.PlainChecked.{At}
+use Rattle.sp_tree.specs.PlainChecked.{ExpressionAt}
 use Rattle.sp_tree.specs.Bare.{bare_form, bare_variable}
 use Rattle.sp_tree.specs.CheckedOf.{expression_of, expression_form_of, variable_of}
 use Rattle.sp_code.specs.declared.instr.Instr.{Instr}
 use Rattle.sp_code.specs.Scopes.{sort}
 use Rattle.sp_code.specs.Emitted.{var_code, right_code}
-use Rattle.sp_generate.specs.Views.{whole, scopes}
+use Rattle.sp_generate.specs.Views.{plain_program, scopes}
 use Rattle.sp_generate.proofs.Emitting.{added, both}
 use Rattle.sp_generate.proofs.simple.put_assign.Goals as goal
 
 pub returns : goal.returns
 returns c =
-    let p = whole c.args.g.now in
+    let p = plain_program c.args.g.now in
     let sc = scopes c.args.sc.now in
     let e = out-Expr c.args.e.now in
-    let i : expression_of c.args.e.now ≡ At e.at e.kind (expression_form_of e.form) = search (rules, fold_out-Expr) in
+    let i : expression_of c.args.e.now ≡ ExpressionAt e.at e.kind (expression_form_of e.form) =
+    search (rules, fold_out-Expr) in
     let va = var_code p sc (bare_variable (variable_of c.args.v.now)) in
     let ra = right_code p sc e.kind (sort p e.kind) (bare_form (expression_form_of e.form)) in
     rw i (added c.put.result c.args.code.now c.put_right.new.code c.put.new.code (va ++ ra) _ _

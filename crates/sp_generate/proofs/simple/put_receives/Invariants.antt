@@ -1,11 +1,13 @@
 use Rattle.std.proofs.Common.{◌≡◌, ◌++◌, map, drop}
 use Rattle.sp_tree.specs.CheckedOf.{expression_of, variable_of}
 use Rattle.sp_tree.specs.Bare.{bare_expression}
-use Rattle.sp_generate.specs.Views.{whole, scopes}
+use Rattle.sp_generate.specs.Views.{plain_program, scopes}
 use Rattle.sp_generate.specs.Written.{receives_code}
 use Rattle.sp_generate.proofs.simple.put_receives.Given as goal
 
 abbrev pub invariant-loop-v : goal.invariant-loop-v
-invariant-loop-v l = l.code ++ receives_code (whole l.g) (scopes l.sc) (bare_expression (expression_of l.channel))
+invariant-loop-v l = l.code ++ receives_code (plain_program l.g) (scopes l.sc)
+    (bare_expression (expression_of l.channel))
     (map variable_of (drop l.v-index l.variables)) ≡ l.fn.code
-    ++ receives_code (whole l.g) (scopes l.sc) (bare_expression (expression_of l.channel)) (map variable_of l.variables)
+    ++ receives_code (plain_program l.g) (scopes l.sc) (bare_expression (expression_of l.channel))
+    (map variable_of l.variables)

@@ -5,13 +5,13 @@ use Rattle.sp_tree.specs.CheckedOf.{expression_of}
 use Rattle.sp_code.specs.declared.instr.Instr.TheVariants as i
 use Rattle.sp_code.specs.Scopes.{kind_of}
 use Rattle.sp_code.specs.Emitted.{value_code}
-use Rattle.sp_generate.specs.Views.{whole, scopes}
+use Rattle.sp_generate.specs.Views.{plain_program, scopes}
 use Rattle.sp_generate.proofs.Emitting.{added, both}
 use Rattle.sp_generate.proofs.simple.put_send.Goals as goal
 
 pub returns : goal.returns
 returns c =
-    let p = whole c.args.g.now in
+    let p = plain_program c.args.g.now in
     let sc = scopes c.args.sc.now in
     let ch = value_code p sc (bare_expression (expression_of c.args.channel.now)) in
     let va = value_code p sc (bare_expression (expression_of c.args.e.now)) in

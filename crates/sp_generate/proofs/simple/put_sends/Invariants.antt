@@ -1,11 +1,12 @@
 use Rattle.std.proofs.Common.{◌≡◌, ◌++◌, map, drop}
 use Rattle.sp_tree.specs.CheckedOf.{expression_of}
 use Rattle.sp_tree.specs.Bare.{bare_expression}
-use Rattle.sp_generate.specs.Views.{whole, scopes}
+use Rattle.sp_generate.specs.Views.{plain_program, scopes}
 use Rattle.sp_generate.specs.Written.{sends_code}
 use Rattle.sp_generate.proofs.simple.put_sends.Given as goal
 
 abbrev pub invariant-loop-e : goal.invariant-loop-e
-invariant-loop-e l = l.code ++ sends_code (whole l.g) (scopes l.sc) (bare_expression (expression_of l.channel))
+invariant-loop-e l = l.code ++ sends_code (plain_program l.g) (scopes l.sc) (bare_expression (expression_of l.channel))
     (map expression_of (drop l.e-index l.values)) ≡ l.fn.code
-    ++ sends_code (whole l.g) (scopes l.sc) (bare_expression (expression_of l.channel)) (map expression_of l.values)
+    ++ sends_code (plain_program l.g) (scopes l.sc) (bare_expression (expression_of l.channel))
+    (map expression_of l.values)

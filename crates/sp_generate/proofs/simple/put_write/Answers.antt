@@ -5,13 +5,13 @@ use Rattle.sp_tree.specs.Bare.{bare_expression, bare_width}
 use Rattle.sp_tree.specs.CheckedOf.{expression_of, width_of}
 use Rattle.sp_code.specs.Scopes.{kind_at, kind_of, is_given}
 use Rattle.sp_code.specs.Emitted.{value_code, width_code, write_instr}
-use Rattle.sp_generate.specs.Views.{whole, scopes}
+use Rattle.sp_generate.specs.Views.{plain_program, scopes}
 use Rattle.sp_generate.proofs.Emitting.{added, both}
 use Rattle.sp_generate.proofs.simple.put_write.Goals as goal
 
 pub returns : goal.returns
 returns c =
-    let p = whole c.args.g.now in
+    let p = plain_program c.args.g.now in
     let sc = scopes c.args.sc.now in
     let va = value_code p sc (bare_expression (expression_of c.args.e.now)) in
     let wa = width_code p sc (bare_width (width_of c.args.w.now)) in

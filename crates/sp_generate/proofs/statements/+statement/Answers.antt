@@ -12,13 +12,15 @@ use Rattle.sp_code.specs.Emitted.{value_code}
 use Rattle.sp_generate.specs.Handings.{moved_of, shared_of}
 use Rattle.sp_generate.specs.Steps.{for_instr, next_instr}
 use Rattle.sp_tree.specs.Bare.{bare_expression, bare_arms, bare_statement}
-use Rattle.sp_code.specs.Places.{after}
+use Rattle.sp_code.specs.Places.{after_statement}
 use Rattle.sp_generate.specs.Tables.{child, children}
 use Rattle.sp_generate.specs.declared.levels.Scope.{Scope}
-use Rattle.sp_generate.specs.Written.{drafted, with_code, written, written_form, written_all, written_children}
-use Rattle.sp_generate.specs.Written.{written_arms, starts_of, ends_of}
-use Rattle.sp_generate.specs.Written.{branched, looped, spread, chosen, filled_ends, filled_tests}
-use Rattle.sp_generate.specs.Views.{whole, scopes}
+use Rattle.sp_generate.specs.Written.{buffer_of, with_code, buffer_after, buffer_after_form, buffer_after_all}
+use Rattle.sp_generate.specs.Written.{buffer_after_children}
+use Rattle.sp_generate.specs.Written.{buffer_after_arms, starts_of, ends_of}
+use Rattle.sp_generate.specs.Written.{buffer_after_branch, buffer_after_loop, buffer_after_forall, buffer_after_case}
+use Rattle.sp_generate.specs.Written.{filled_ends, filled_tests}
+use Rattle.sp_generate.specs.Views.{plain_program, scopes}
 use Rattle.sp_varsets.proofs.Walking.{statements_on, statements_end, arms_on, arms_end}
 use Rattle.sp_generate.proofs.Forms.{wrote, went, statement_is, all_step, sequence_done, else_is, child_next, ended_by}
 use Rattle.sp_generate.proofs.Forms.{if_is, while_is, repeat_is, for_is, forall_is, case_is, assign_is, call_is}
@@ -29,82 +31,82 @@ use Rattle.sp_generate.proofs.statements.+statement.Goals as goal
 
 pub put_branch-returns : goal.put_branch-returns
 put_branch-returns t c =
-    let p = whole c.args.g.now in
+    let p = plain_program c.args.g.now in
     branch_is p (moved_of c.args.sets.now) (shared_of c.args.sets.now) (scopes c.args.sc.now) c.args.d.now
-    c.put_statement.new.d (statement_of c.args.s.now) c.put.new.code c.mend.new.code
+    c.put_statement.new.d (statement_of c.args.s.now) c.put.new.code c.patch.new.code
     c.len-at.result c.in_ok-end.end c.in_ok-to.to c.args.beyond c.len-at.ensures c.in_ok-put.ensures
-    c.in_ok-put_statement.ensures (c.in_ok-end.ensures ∙ c.len.ensures) c.in_ok-to.ensures c.mend.ensures
+    c.in_ok-put_statement.ensures (c.in_ok-end.ensures ∙ c.len.ensures) c.in_ok-to.ensures c.patch.ensures
 
 pub put_passed-returns : goal.put_passed-returns
 put_passed-returns t c =
-    let p = whole c.args.g.now in
+    let p = plain_program c.args.g.now in
     passed_is p (moved_of c.args.sets.now) (shared_of c.args.sets.now) (scopes c.args.sc.now) c.args.d.now
-    c.put_statement.new.d (statement_of c.args.s.now) c.put.new.code c.mend.new.code
+    c.put_statement.new.d (statement_of c.args.s.now) c.put.new.code c.patch.new.code
     c.len-at.result c.in_ok-end.end c.len-at.ensures c.in_ok-put.ensures c.in_ok-put_statement.ensures
-    (c.in_ok-end.ensures ∙ c.len.ensures) c.mend.ensures
+    (c.in_ok-end.ensures ∙ c.len.ensures) c.patch.ensures
 
 pub put_while_body-returns : goal.put_while_body-returns
 put_while_body-returns t c =
-    let p = whole c.args.g.now in
+    let p = plain_program c.args.g.now in
     loop_is p (moved_of c.args.sets.now) (shared_of c.args.sets.now) (scopes c.args.sc.now) c.args.d.now
     c.put_statement.new.d (statement_of c.args.s.now) c.put.new.code c.put-2.new.code c.put-3.new.code
-    c.mend.new.code
+    c.patch.new.code
     i.Jumpf (i.Jump c.args.start) c.len-at.result c.in_ok-end.end c.len-at.ensures c.in_ok-put.ensures
     c.in_ok-put-2.ensures c.in_ok-put_statement.ensures c.in_ok-put-3.ensures (c.in_ok-end.ensures ∙ c.len.ensures)
-    c.mend.ensures
+    c.patch.ensures
 
 pub put_for_body-returns : goal.put_for_body-returns
 put_for_body-returns t c =
-    let p = whole c.args.g.now in
+    let p = plain_program c.args.g.now in
     let tick = c.in_ok-tick.ensures ∙ c.len.ensures
     ∙ one_more p (moved_of c.args.sets.now) (shared_of c.args.sets.now) (scopes c.args.sc.now) c.args.d.now.instrs
     c.put.new.code _ c.in_ok-put.ensures in
     loop_is p (moved_of c.args.sets.now) (shared_of c.args.sets.now) (scopes c.args.sc.now) c.args.d.now
     c.put_statement.new.d (statement_of c.args.s.now) c.put.new.code c.put-2.new.code c.put-3.new.code
-    c.mend.new.code
+    c.patch.new.code
     (for_instr c.args.down c.args.var) (next_instr c.args.down c.args.var (length c.args.d.now.instrs + 1))
     c.len-at.result c.in_ok-end.end c.len-at.ensures
     (c.in_ok-put.ensures ∙ ap (λ (x : Instr). c.args.d.now.instrs ++ x ∷ []) c.for_instr.ensures) c.in_ok-put-2.ensures
     c.in_ok-put_statement.ensures
     (c.in_ok-put-3.ensures ∙ ap (λ (x : Instr). c.put_statement.new.d.instrs ++ x ∷ [])
     (c.next_instr.ensures ∙ ap (next_instr c.args.down c.args.var) tick)) (c.in_ok-end.ensures ∙ c.len-2.ensures)
-    (λ a b x e m. c.mend.ensures a b x e m ∙ ap (λ (y : Instr). a ++ y ∷ b) c.for_instr-2.ensures)
+    (λ a b x e m. c.patch.ensures a b x e m ∙ ap (λ (y : Instr). a ++ y ∷ b) c.for_instr-2.ensures)
 
 pub put_parallel-returns : goal.put_parallel-returns
 put_parallel-returns t c =
-    let p = whole c.args.g.now in
+    let p = plain_program c.args.g.now in
     parallel_is p (moved_of c.args.sets.now) (shared_of c.args.sets.now) (scopes c.args.sc.now) c.args.d.now
-    c.put_children.new.d (statements (map statement_of c.args.ss.now)) c.push.new.self c.mend_table.new.forks
-    c.put.new.code c.put-2.new.code c.mend.new.code
+    c.put_children.new.d (statements (map statement_of c.args.ss.now)) c.push.new.self c.patch_table.new.forks
+    c.put.new.code c.put-2.new.code c.patch.new.code
     _ c.in_ok-children.children c.len-table.result c.in_ok-number.number c.len-at.result c.in_ok-end.end
     c.len-table.ensures c.in_ok-number.ensures c.in_ok-push.ensures.ok c.in_ok-put.ensures c.len-at.ensures
     c.in_ok-put-2.ensures
     (sym (children_none p (moved_of c.args.sets.now) (shared_of c.args.sets.now) (scopes c.args.sc.now)
     c.put_children.new.d) ∙ c.in_ok-children.ensures.code) c.in_ok-children.ensures.lines
-    (c.in_ok-end.ensures ∙ c.len.ensures) c.mend.ensures c.mend_table.ensures
+    (c.in_ok-end.ensures ∙ c.len.ensures) c.patch.ensures c.patch_table.ensures
 
 pub put_spread-returns : goal.put_spread-returns
 put_spread-returns t c =
-    let p = whole c.args.g.now in
+    let p = plain_program c.args.g.now in
     spread_is p (moved_of c.args.sets.now) (shared_of c.args.sets.now) (scopes c.args.sc.now) c.args.d.now
     c.put_statement.new.d c.args.x (statement_of c.args.s.now) c.push.new.self c.put.new.code c.put-2.new.code
-    c.put-3.new.code c.mend.new.code
+    c.put-3.new.code c.patch.new.code
     c.in_ok-table.table c.in_ok-number.number c.in_ok-entry.entry c.len-at.result c.in_ok-end.end
     (c.in_ok-number.ensures ∙ c.len.ensures)
     (c.in_ok-entry.ensures ∙ ap (λ (m : ℕ). m + 2) (c.in_ok-first.ensures ∙ c.len-2.ensures)) c.in_ok-table.ensures
     c.in_ok-push.ensures.ok c.in_ok-put.ensures c.len-at.ensures c.in_ok-put-2.ensures
-    (c.in_ok-put_statement.ensures ∙ ap (λ (ys : List Scope). written p (moved_of c.args.sets.now)
+    (c.in_ok-put_statement.ensures ∙ ap (λ (ys : List Scope). buffer_after p (moved_of c.args.sets.now)
     (shared_of c.args.sets.now) (record {
       instrs = c.put-2.new.code;
       forks = c.push.new.self;
       texts = c.args.d.now.texts;
     }) (scopes ys) (statement_of c.args.s.now))
     (c.as_slice.ensures.value ∙ c.in_ok-inner.ensures))
-    c.in_ok-put-3.ensures (c.in_ok-end.ensures ∙ c.len-3.ensures) c.mend.ensures
+    c.in_ok-put-3.ensures (c.in_ok-end.ensures ∙ c.len-3.ensures) c.patch.ensures
 
 pub put_choices-returns : goal.put_choices-returns
 put_choices-returns t c =
-    let p = whole c.args.g.now in
+    let p = plain_program c.args.g.now in
     choices_are p (moved_of c.args.sets.now) (shared_of c.args.sets.now) (scopes c.args.sc.now) c.args.d.now
     c.put_arms.new.d (arms (map arm_of c.args.xs.now)) c.put_blanks.new.code c.put.new.code c.fill_ends.new.code
     c.fill_tests.new.code
@@ -122,7 +124,8 @@ put_statement_form-returns-in-Assign t c =
     let i : statement_form_of c.args.form.now ≡ tree.Assign (variable_of c.in-Assign.v) (expression_of c.in-Assign.e) =
     search (rules, folds.the_lemmas) in
     rw i (wrote c.put_assign.result c.args.d.now _ c.put_assign.new.code _ c.put_assign.ensures
-    (assign_is (whole c.args.g.now) (moved_of c.args.sets.now) (shared_of c.args.sets.now) (scopes c.args.sc.now)
+    (assign_is (plain_program c.args.g.now) (moved_of c.args.sets.now) (shared_of c.args.sets.now)
+    (scopes c.args.sc.now)
     c.args.d.now (variable_of c.in-Assign.v) (expression_of c.in-Assign.e)))
 
 pub put_statement_form-returns-in-Call : goal.put_statement_form-returns-in-Call
@@ -130,7 +133,7 @@ put_statement_form-returns-in-Call t c =
     let i : statement_form_of c.args.form.now ≡ tree.Call c.in-Call.f (actuals (map actual_of c.in-Call.args)) =
     search (rules, folds.the_lemmas) in
     rw i (wrote c.put_call.result c.args.d.now _ c.put_call.new.code _ c.put_call.ensures
-    (call_is (whole c.args.g.now) (moved_of c.args.sets.now) (shared_of c.args.sets.now) (scopes c.args.sc.now)
+    (call_is (plain_program c.args.g.now) (moved_of c.args.sets.now) (shared_of c.args.sets.now) (scopes c.args.sc.now)
     c.args.d.now c.in-Call.f (actuals (map actual_of c.in-Call.args))))
 
 pub put_statement_form-returns-in-Sequence : goal.put_statement_form-returns-in-Sequence
@@ -189,7 +192,8 @@ put_statement_form-returns-in-Assume t c =
     let i : statement_form_of c.args.form.now ≡ tree.Assume (expression_of c.in-Assume.e) =
     search (rules, folds.the_lemmas) in
     rw i (wrote c.put_assume.result c.args.d.now _ c.put_assume.new.code _ c.put_assume.ensures
-    (assume_is (whole c.args.g.now) (moved_of c.args.sets.now) (shared_of c.args.sets.now) (scopes c.args.sc.now)
+    (assume_is (plain_program c.args.g.now) (moved_of c.args.sets.now) (shared_of c.args.sets.now)
+    (scopes c.args.sc.now)
     c.args.d.now (expression_of c.in-Assume.e)))
 
 pub put_statement_form-returns-in-ReadValue : goal.put_statement_form-returns-in-ReadValue
@@ -197,14 +201,15 @@ put_statement_form-returns-in-ReadValue t c =
     let i : statement_form_of c.args.form.now ≡ tree.ReadValue (variable_of c.in-ReadValue.v) =
     search (rules, folds.the_lemmas) in
     rw i (wrote c.put_read.result c.args.d.now _ c.put_read.new.code _ c.put_read.ensures
-    (read_is (whole c.args.g.now) (moved_of c.args.sets.now) (shared_of c.args.sets.now) (scopes c.args.sc.now)
+    (read_is (plain_program c.args.g.now) (moved_of c.args.sets.now) (shared_of c.args.sets.now) (scopes c.args.sc.now)
     c.args.d.now (variable_of c.in-ReadValue.v)))
 
 pub put_statement_form-returns-in-ReadLine : goal.put_statement_form-returns-in-ReadLine
 put_statement_form-returns-in-ReadLine t c =
     let i : statement_form_of c.args.form.now ≡ tree.ReadLine = search (rules, folds.the_lemmas) in
     rw i (wrote c.put.result c.args.d.now _ c.put.new.code _ c.put.ensures
-    (readln_is (whole c.args.g.now) (moved_of c.args.sets.now) (shared_of c.args.sets.now) (scopes c.args.sc.now)
+    (readln_is (plain_program c.args.g.now) (moved_of c.args.sets.now) (shared_of c.args.sets.now)
+    (scopes c.args.sc.now)
     c.args.d.now))
 
 pub put_statement_form-returns-in-WriteValue : goal.put_statement_form-returns-in-WriteValue
@@ -213,7 +218,7 @@ put_statement_form-returns-in-WriteValue t c =
     ≡ tree.WriteValue (expression_of c.in-WriteValue.e) (width_of c.in-WriteValue.w) =
     search (rules, folds.the_lemmas) in
     rw i (wrote c.put_write.result c.args.d.now _ c.put_write.new.code _ c.put_write.ensures
-    (write_is (whole c.args.g.now) (moved_of c.args.sets.now) (shared_of c.args.sets.now) (scopes c.args.sc.now)
+    (write_is (plain_program c.args.g.now) (moved_of c.args.sets.now) (shared_of c.args.sets.now) (scopes c.args.sc.now)
     c.args.d.now (expression_of c.in-WriteValue.e) (width_of c.in-WriteValue.w)))
 
 pub put_statement_form-returns-in-WriteText : goal.put_statement_form-returns-in-WriteText
@@ -226,7 +231,8 @@ pub put_statement_form-returns-in-WriteLine : goal.put_statement_form-returns-in
 put_statement_form-returns-in-WriteLine t c =
     let i : statement_form_of c.args.form.now ≡ tree.WriteLine = search (rules, folds.the_lemmas) in
     rw i (wrote c.put-in-WriteLine.result c.args.d.now _ c.put-in-WriteLine.new.code _ c.put-in-WriteLine.ensures
-    (writeln_is (whole c.args.g.now) (moved_of c.args.sets.now) (shared_of c.args.sets.now) (scopes c.args.sc.now)
+    (writeln_is (plain_program c.args.g.now) (moved_of c.args.sets.now) (shared_of c.args.sets.now)
+    (scopes c.args.sc.now)
     c.args.d.now))
 
 pub put_statement_form-returns-in-Open : goal.put_statement_form-returns-in-Open
@@ -234,7 +240,7 @@ put_statement_form-returns-in-Open t c =
     let i : statement_form_of c.args.form.now ≡ tree.Open (variable_of c.in-Open.v) =
     search (rules, folds.the_lemmas) in
     rw i (wrote c.put_open.result c.args.d.now _ c.put_open.new.code _ c.put_open.ensures
-    (open_is (whole c.args.g.now) (moved_of c.args.sets.now) (shared_of c.args.sets.now) (scopes c.args.sc.now)
+    (open_is (plain_program c.args.g.now) (moved_of c.args.sets.now) (shared_of c.args.sets.now) (scopes c.args.sc.now)
     c.args.d.now (variable_of c.in-Open.v)))
 
 pub put_statement_form-returns-in-Send : goal.put_statement_form-returns-in-Send
@@ -242,7 +248,7 @@ put_statement_form-returns-in-Send t c =
     let i : statement_form_of c.args.form.now
     ≡ tree.Send (expression_of c.in-Send.channel) (expression_of c.in-Send.e) = search (rules, folds.the_lemmas) in
     rw i (wrote c.put_send.result c.args.d.now _ c.put_send.new.code _ c.put_send.ensures
-    (send_is (whole c.args.g.now) (moved_of c.args.sets.now) (shared_of c.args.sets.now) (scopes c.args.sc.now)
+    (send_is (plain_program c.args.g.now) (moved_of c.args.sets.now) (shared_of c.args.sets.now) (scopes c.args.sc.now)
     c.args.d.now (expression_of c.in-Send.channel) (expression_of c.in-Send.e)))
 
 pub put_statement_form-returns-in-Receive : goal.put_statement_form-returns-in-Receive
@@ -251,7 +257,8 @@ put_statement_form-returns-in-Receive t c =
     ≡ tree.Receive (expression_of c.in-Receive.channel) (variable_of c.in-Receive.v) =
     search (rules, folds.the_lemmas) in
     rw i (wrote c.put_receive.result c.args.d.now _ c.put_receive.new.code _ c.put_receive.ensures
-    (receive_is (whole c.args.g.now) (moved_of c.args.sets.now) (shared_of c.args.sets.now) (scopes c.args.sc.now)
+    (receive_is (plain_program c.args.g.now) (moved_of c.args.sets.now) (shared_of c.args.sets.now)
+    (scopes c.args.sc.now)
     c.args.d.now (expression_of c.in-Receive.channel) (variable_of c.in-Receive.v)))
 
 pub put_statement_form-returns-in-SendEach : goal.put_statement_form-returns-in-SendEach
@@ -271,7 +278,7 @@ put_statement_form-returns-in-ReceiveEach t c =
 pub put_statement_form-returns-in_ok-put_branch-in-If-default-default-Some :
     goal.put_statement_form-returns-in_ok-put_branch-in-If-default-default-Some
 put_statement_form-returns-in_ok-put_branch-in-If-default-default-Some t c =
-    let p = whole c.args.g.now in
+    let p = plain_program c.args.g.now in
     let mv = moved_of c.args.sets.now in
     let sh = shared_of c.args.sets.now in
     let sc = scopes c.args.sc.now in
@@ -287,17 +294,18 @@ put_statement_form-returns-in_ok-put_branch-in-If-default-default-Some t c =
     let same : c.get-in-If-default-default-Some.result.now ≡ c.get-in-If-default-default-Some-3.result.now = g1
     ∙ sym g3 in
     let before = c.in_ok-put_branch-in-If-default-default-Some.ensures
-    ∙ (λ j. branched p mv sh (drafted (c.in_ok-put_value-in-If-default-default-Some.ensures j) (d.forks) (d.texts)) sc
+    ∙ (λ j. buffer_after_branch p mv sh (buffer_of (c.in_ok-put_value-in-If-default-default-Some.ensures j) (d.forks)
+    (d.texts)) sc
     (statement_of c.get-in-If-default-default-Some.result.now) 1)
-    ∙ (λ j. branched p mv sh (with_code d va) sc (statement_of (same j)) 1) in
+    ∙ (λ j. buffer_after_branch p mv sh (with_code d va) sc (statement_of (same j)) 1) in
     rw i (went c.put_else.result c.put_else.new.d
-    (written_form p mv sh d sc (tree.If e (statement_of c.get-in-If-default-default-Some-3.result.now)
+    (buffer_after_form p mv sh d sc (tree.If e (statement_of c.get-in-If-default-default-Some-3.result.now)
     (tree.Else (statement_of c.get-in-If-default-default-Some-2.result.now)))) _ (c.put_else.ensures d before)
-    (λ j. written_form p mv sh d sc (tree.If e (statement_of (g3 j)) (tree.Else (statement_of (g2 j))))))
+    (λ j. buffer_after_form p mv sh d sc (tree.If e (statement_of (g3 j)) (tree.Else (statement_of (g2 j))))))
 
 pub put_if-returns : goal.put_if-returns
 put_if-returns t c =
-    let p = whole c.args.g.now in
+    let p = plain_program c.args.g.now in
     let mv = moved_of c.args.sets.now in
     let sh = shared_of c.args.sets.now in
     let sc = scopes c.args.sc.now in
@@ -305,12 +313,13 @@ put_if-returns t c =
     let e = expression_of c.args.e.now in
     let a = statement_of c.args.a.now in
     went c.put_branch.result c.put_branch.new.d _ _ c.put_branch.ensures
-    (ap (λ (ys : List Instr). branched p mv sh (drafted ys (d.forks) (d.texts)) sc a 0) c.in_ok-put_value.ensures
+    (ap (λ (ys : List Instr). buffer_after_branch p mv sh (buffer_of ys (d.forks) (d.texts)) sc a 0)
+    c.in_ok-put_value.ensures
     ∙ if_is p mv sh sc d e a)
 
 pub put_while-returns : goal.put_while-returns
 put_while-returns t c =
-    let p = whole c.args.g.now in
+    let p = plain_program c.args.g.now in
     let mv = moved_of c.args.sets.now in
     let sh = shared_of c.args.sets.now in
     let sc = scopes c.args.sc.now in
@@ -319,12 +328,13 @@ put_while-returns t c =
     let s = statement_of c.args.s.now in
     let start = c.in_ok-start.ensures ∙ c.len.ensures in
     went c.put_while_body.result c.put_while_body.new.d _ _ c.put_while_body.ensures
-    ((λ k. looped p mv sh (drafted (c.in_ok-put_value.ensures k) (d.forks) (d.texts)) sc s i.Jumpf (i.Jump (start k)))
+    ((λ k. buffer_after_loop p mv sh (buffer_of (c.in_ok-put_value.ensures k) (d.forks) (d.texts)) sc s i.Jumpf
+    (i.Jump (start k)))
     ∙ while_is p mv sh sc d e s)
 
 pub put_repeat-returns : goal.put_repeat-returns
 put_repeat-returns t c =
-    let p = whole c.args.g.now in
+    let p = plain_program c.args.g.now in
     let mv = moved_of c.args.sets.now in
     let sh = shared_of c.args.sets.now in
     let sc = scopes c.args.sc.now in
@@ -334,16 +344,16 @@ put_repeat-returns t c =
     let va = value_code p sc (bare_expression e) in
     let d2 = c.put_statement.new.d in
     let start = c.in_ok-start.ensures ∙ c.len.ensures in
-    wrote c.put-2.result (drafted c.put_value.new.code (d2.forks) (d2.texts)) _ c.put-2.new.code _ c.put-2.ensures
-    ((λ k. with_code (drafted (c.in_ok-put_value.ensures k) (d2.forks) (d2.texts)) (i.Jumpf (start k) ∷ []))
+    wrote c.put-2.result (buffer_of c.put_value.new.code (d2.forks) (d2.texts)) _ c.put-2.new.code _ c.put-2.ensures
+    ((λ k. with_code (buffer_of (c.in_ok-put_value.ensures k) (d2.forks) (d2.texts)) (i.Jumpf (start k) ∷ []))
     ∙ (λ k. with_code (with_code (c.in_ok-put_statement.ensures k) va) (i.Jumpf (length d.instrs) ∷ []))
-    ∙ (λ k. with_code (with_code (written p mv sh (drafted (c.in_ok-put.ensures k) (d.forks) (d.texts)) sc s) va)
+    ∙ (λ k. with_code (with_code (buffer_after p mv sh (buffer_of (c.in_ok-put.ensures k) (d.forks) (d.texts)) sc s) va)
     (i.Jumpf (length d.instrs) ∷ []))
     ∙ repeat_is p mv sh sc d s e)
 
 pub put_for-returns : goal.put_for-returns
 put_for-returns t c =
-    let p = whole c.args.g.now in
+    let p = plain_program c.args.g.now in
     let mv = moved_of c.args.sets.now in
     let sh = shared_of c.args.sets.now in
     let sc = scopes c.args.sc.now in
@@ -354,13 +364,14 @@ put_for-returns t c =
     let vb = value_code p sc (bare_expression to) in
     let both = c.in_ok-put_value-2.ensures ∙ ap (λ (ys : List Instr). ys ++ vb) c.in_ok-put_value.ensures in
     went c.put_for_body.result c.put_for_body.new.d _ _ c.put_for_body.ensures
-    ((λ k. looped p mv sh (drafted (both k) (d.forks) (d.texts)) sc s (for_instr c.args.down (c.slot.ensures k))
+    ((λ k. buffer_after_loop p mv sh (buffer_of (both k) (d.forks) (d.texts)) sc s
+    (for_instr c.args.down (c.slot.ensures k))
     (next_instr c.args.down (c.slot.ensures k) (length (both k) + 1)))
     ∙ for_is p mv sh sc d c.args.x c.args.at from c.args.down to s)
 
 pub put_forall-returns : goal.put_forall-returns
 put_forall-returns t c =
-    let p = whole c.args.g.now in
+    let p = plain_program c.args.g.now in
     let mv = moved_of c.args.sets.now in
     let sh = shared_of c.args.sets.now in
     let sc = scopes c.args.sc.now in
@@ -371,12 +382,12 @@ put_forall-returns t c =
     let vb = value_code p sc (bare_expression to) in
     let both = c.in_ok-put_value-2.ensures ∙ ap (λ (ys : List Instr). ys ++ vb) c.in_ok-put_value.ensures in
     went c.put_spread.result c.put_spread.new.d _ _ c.put_spread.ensures
-    (ap (λ (ys : List Instr). spread p mv sh (drafted ys (d.forks) (d.texts)) sc c.args.x s) both
+    (ap (λ (ys : List Instr). buffer_after_forall p mv sh (buffer_of ys (d.forks) (d.texts)) sc c.args.x s) both
     ∙ forall_is p mv sh sc d c.args.x from to s)
 
 pub put_case-returns : goal.put_case-returns
 put_case-returns t c =
-    let p = whole c.args.g.now in
+    let p = plain_program c.args.g.now in
     let mv = moved_of c.args.sets.now in
     let sh = shared_of c.args.sets.now in
     let sc = scopes c.args.sc.now in
@@ -384,12 +395,13 @@ put_case-returns t c =
     let e = expression_of c.args.e.now in
     let xs = arms (map arm_of c.args.xs.now) in
     went c.put_choices.result c.put_choices.new.d _ _ c.put_choices.ensures
-    (ap (λ (ys : List Instr). chosen p mv sh (drafted ys (d.forks) (d.texts)) sc xs) c.in_ok-put_value.ensures
+    (ap (λ (ys : List Instr). buffer_after_case p mv sh (buffer_of ys (d.forks) (d.texts)) sc xs)
+    c.in_ok-put_value.ensures
     ∙ case_is p mv sh sc d e xs)
 
 pub put_statement-returns : goal.put_statement-returns
 put_statement-returns t c =
-    let p = whole c.args.g.now in
+    let p = plain_program c.args.g.now in
     let mv = moved_of c.args.sets.now in
     let sh = shared_of c.args.sets.now in
     let sc = scopes c.args.sc.now in
@@ -398,22 +410,22 @@ put_statement-returns t c =
     let i : statement_of c.args.s.now ≡ tree.Does s.number s.at (statement_form_of s.form) =
     search (rules, fold_out-Stmt) in
     rw i (went c.put_statement_form.result c.put_statement_form.new.d
-    (written_form p mv sh d sc (statement_form_of s.form)) _ c.put_statement_form.ensures
+    (buffer_after_form p mv sh d sc (statement_form_of s.form)) _ c.put_statement_form.ensures
     (statement_is p mv sh sc d s.number s.at (statement_form_of s.form)))
 
 pub put_next-returns : goal.put_next-returns
 put_next-returns t c rest =
-    let p = whole c.args.g.now in
+    let p = plain_program c.args.g.now in
     let mv = moved_of c.args.sets.now in
     let sh = shared_of c.args.sets.now in
     let sc = scopes c.args.sc.now in
     let d = c.args.d.now in
-    (λ j. written_all p mv sh (c.in_ok-put_statement.ensures j) sc rest)
+    (λ j. buffer_after_all p mv sh (c.in_ok-put_statement.ensures j) sc rest)
     ∙ all_step p mv sh sc d (statement_of c.args.s.now) rest
 
 pub put_sequence-returns : goal.put_sequence-returns
 put_sequence-returns t c =
-    let p = whole c.args.g.now in
+    let p = plain_program c.args.g.now in
     let mv = moved_of c.args.sets.now in
     let sh = shared_of c.args.sets.now in
     let sc = scopes c.args.sc.now in
@@ -422,7 +434,7 @@ put_sequence-returns t c =
 
 pub put_all-loop-s-preserved : goal.put_all-loop-s-preserved
 put_all-loop-s-preserved t c =
-    let p = whole c.args.g.now in
+    let p = plain_program c.args.g.now in
     let mv = moved_of c.args.sets.now in
     let sh = shared_of c.args.sets.now in
     let sc = scopes c.args.sc.now in
@@ -430,22 +442,22 @@ put_all-loop-s-preserved t c =
     let on = rw c.items-s-items.ensures at (statements_on c.items-s-items.result.now c.loop-s.s-index c.s-item.result
     c.loop-s-test.true c.s-item.is) in
     c.in_ok-put_next.ensures (statements (map statement_of (drop (c.loop-s.s-index + 1) c.args.ss.now)))
-    ∙ (λ j. written_all p mv sh c.loop-s.d sc (sym on j)) ∙ c.loop-s.invariant
+    ∙ (λ j. buffer_after_all p mv sh c.loop-s.d sc (sym on j)) ∙ c.loop-s.invariant
 
 pub put_all-returns : goal.put_all-returns
 put_all-returns t c =
-    let p = whole c.args.g.now in
+    let p = plain_program c.args.g.now in
     let mv = moved_of c.args.sets.now in
     let sh = shared_of c.args.sets.now in
     let sc = scopes c.args.sc.now in
     let d = c.args.d.now in
     let end = rw c.items-s-items.ensures at (statements_end c.items-s-items.result.now c.loop-s.s-index
     c.loop-s-test.false) in
-    (λ j. written_all p mv sh c.loop-s.d sc (sym end j)) ∙ c.loop-s.invariant
+    (λ j. buffer_after_all p mv sh c.loop-s.d sc (sym end j)) ∙ c.loop-s.invariant
 
 pub put_else-returns : goal.put_else-returns
 put_else-returns t c start e =
-    let p = whole c.args.g.now in
+    let p = plain_program c.args.g.now in
     let mv = moved_of c.args.sets.now in
     let sh = shared_of c.args.sets.now in
     let sc = scopes c.args.sc.now in
@@ -455,19 +467,19 @@ put_else-returns t c start e =
 
 pub put_child-returns-clause-code : goal.put_child-returns-clause-code
 put_child-returns-clause-code t c rest =
-    let p = whole c.args.g.now in
+    let p = plain_program c.args.g.now in
     let mv = moved_of c.args.sets.now in
     let sh = shared_of c.args.sets.now in
     let sc = scopes c.args.sc.now in
     let d = c.args.d.now in
     let d2 = c.put_statement.new.d in
-    (λ j. written_children p mv sh (drafted (c.in_ok-put.ensures j) (d2.forks) (d2.texts)) sc rest)
-    ∙ (λ j. written_children p mv sh (with_code (c.in_ok-put_statement.ensures j) (i.End ∷ [])) sc rest)
+    (λ j. buffer_after_children p mv sh (buffer_of (c.in_ok-put.ensures j) (d2.forks) (d2.texts)) sc rest)
+    ∙ (λ j. buffer_after_children p mv sh (with_code (c.in_ok-put_statement.ensures j) (i.End ∷ [])) sc rest)
     ∙ child_next p mv sh sc d (statement_of c.args.s.now) rest
 
 pub put_child-returns-clause-place : goal.put_child-returns-clause-place
 put_child-returns-clause-place t c =
-    let p = whole c.args.g.now in
+    let p = plain_program c.args.g.now in
     let mv = moved_of c.args.sets.now in
     let sh = shared_of c.args.sets.now in
     let sc = scopes c.args.sc.now in
@@ -477,7 +489,7 @@ put_child-returns-clause-place t c =
 
 pub put_children-loop-s-preserved : goal.put_children-loop-s-preserved
 put_children-loop-s-preserved t c =
-    let p = whole c.args.g.now in
+    let p = plain_program c.args.g.now in
     let mv = moved_of c.args.sets.now in
     let sh = shared_of c.args.sets.now in
     let sc = scopes c.args.sc.now in
@@ -487,10 +499,10 @@ put_children-loop-s-preserved t c =
     let rest = statements (map statement_of (drop (c.loop-s.s-index + 1) c.args.ss.now)) in
     let on = rw c.items-s-items.ensures at (statements_on c.items-s-items.result.now c.loop-s.s-index c.s-item.result
     c.loop-s-test.true c.s-item.is) in
-    let behind = children p mv sh (after p (length d.instrs) (bare_statement s) + 1) rest in
+    let behind = children p mv sh (after_statement p (length d.instrs) (bare_statement s) + 1) rest in
     let line = c.in_ok-line.ensures
     ∙ ap (λ (q : ℕ). child p mv sh q None s) (c.in_ok-entry.ensures ∙ c.len.ensures) in (
-      c.in_ok-put_child.ensures.code rest ∙ (λ j. written_children p mv sh d sc (sym on j)) ∙ c.loop-s.invariant.0,
+      c.in_ok-put_child.ensures.code rest ∙ (λ j. buffer_after_children p mv sh d sc (sym on j)) ∙ c.loop-s.invariant.0,
       (λ j. (c.in_ok-push.ensures.items j) ++ children p mv sh (c.in_ok-put_child.ensures.place j) rest)
           ∙ append_assoc out (c.in_ok-line.line ∷ []) behind
           ∙ (λ j. out ++ ((line j) ∷ behind))
@@ -502,7 +514,8 @@ pub put_children-returns-clause-code : goal.put_children-returns-clause-code
 put_children-returns-clause-code t c =
     let end = rw c.items-s-items.ensures at (statements_end c.items-s-items.result.now c.loop-s.s-index
     c.loop-s-test.false) in
-    (λ j. written_children (whole c.args.g.now) (moved_of c.args.sets.now) (shared_of c.args.sets.now) c.loop-s.d
+    (λ j. buffer_after_children (plain_program c.args.g.now) (moved_of c.args.sets.now) (shared_of c.args.sets.now)
+    c.loop-s.d
     (scopes c.args.sc.now) (sym end j)) ∙ c.loop-s.invariant.0
 
 pub put_children-returns-clause-lines : goal.put_children-returns-clause-lines
@@ -510,36 +523,37 @@ put_children-returns-clause-lines t c =
     let end = rw c.items-s-items.ensures at (statements_end c.items-s-items.result.now c.loop-s.s-index
     c.loop-s-test.false) in
     c.of.ensures ∙ sym (append-nil c.loop-s.out.items)
-    ∙ (λ j. c.loop-s.out.items ++ children (whole c.args.g.now) (moved_of c.args.sets.now) (shared_of c.args.sets.now)
+    ∙ (λ j. c.loop-s.out.items ++ children (plain_program c.args.g.now) (moved_of c.args.sets.now)
+    (shared_of c.args.sets.now)
     (length c.loop-s.d.instrs) (sym end j)) ∙ c.loop-s.invariant.1
 
 pub put_arm-returns-clause-code : goal.put_arm-returns-clause-code
 put_arm-returns-clause-code t c rest =
-    let p = whole c.args.g.now in
+    let p = plain_program c.args.g.now in
     let mv = moved_of c.args.sets.now in
     let sh = shared_of c.args.sets.now in
     let sc = scopes c.args.sc.now in
     let d2 = c.put_statement.new.d in
-    (λ j. written_arms p mv sh (drafted (c.in_ok-put.ensures j) (d2.forks) (d2.texts)) sc rest 0)
-    ∙ (λ j. written_arms p mv sh (with_code (c.in_ok-put_statement.ensures j) (i.Jump 0 ∷ [])) sc rest 0)
+    (λ j. buffer_after_arms p mv sh (buffer_of (c.in_ok-put.ensures j) (d2.forks) (d2.texts)) sc rest 0)
+    ∙ (λ j. buffer_after_arms p mv sh (with_code (c.in_ok-put_statement.ensures j) (i.Jump 0 ∷ [])) sc rest 0)
     ∙ arm_next p mv sh sc c.args.d.now _ _ rest
 
 pub put_arm-returns-clause-place : goal.put_arm-returns-clause-place
 put_arm-returns-clause-place t c =
-    let p = whole c.args.g.now in
+    let p = plain_program c.args.g.now in
     (λ j. length (c.in_ok-put.ensures j))
     ∙ (λ j. length ((c.in_ok-put_statement.ensures j).instrs ++ i.Jump 0 ∷ []))
     ∙ ended_by p (moved_of c.args.sets.now) (shared_of c.args.sets.now) (scopes c.args.sc.now) c.args.d.now _ (i.Jump 0)
 
 pub put_arm-returns-clause-end : goal.put_arm-returns-clause-end
 put_arm-returns-clause-end t c =
-    let p = whole c.args.g.now in
+    let p = plain_program c.args.g.now in
     c.in_ok-end.ensures ∙ c.len.ensures ∙ (λ j. length (c.in_ok-put_statement.ensures j).instrs)
     ∙ written_place p (moved_of c.args.sets.now) (shared_of c.args.sets.now) (scopes c.args.sc.now) c.args.d.now _
 
 pub put_arms-loop-a-preserved : goal.put_arms-loop-a-preserved
 put_arms-loop-a-preserved t c =
-    let p = whole c.args.g.now in
+    let p = plain_program c.args.g.now in
     let mv = moved_of c.args.sets.now in
     let sh = shared_of c.args.sets.now in
     let sc = scopes c.args.sc.now in
@@ -551,8 +565,8 @@ put_arms-loop-a-preserved t c =
     let on = rw c.items-a-items.ensures at (arms_on c.items-a-items.result.now c.loop-a.a-index c.a-item.result
     c.loop-a-test.true c.a-item.is) in
     let q = length d.instrs in
-    let behind = after p q s + 1 in (
-      c.in_ok-end.ensures.code rest ∙ (λ j. written_arms p mv sh d sc (sym on j) 0) ∙ c.loop-a.invariant.0,
+    let behind = after_statement p q s + 1 in (
+      c.in_ok-end.ensures.code rest ∙ (λ j. buffer_after_arms p mv sh d sc (sym on j) 0) ∙ c.loop-a.invariant.0,
       (λ j. (c.in_ok-push.ensures.items j) ++ starts_of p (c.in_ok-end.ensures.place j) (bare_arms rest))
           ∙ append_assoc starts (c.in_ok-start.start ∷ []) (starts_of p behind (bare_arms rest))
           ∙ (λ j. starts ++ (((c.in_ok-start.ensures ∙ c.len.ensures) j) ∷ starts_of p behind (bare_arms rest)))
@@ -569,7 +583,8 @@ pub put_arms-returns-clause-code : goal.put_arms-returns-clause-code
 put_arms-returns-clause-code t c =
     let end = rw c.items-a-items.ensures at (arms_end c.items-a-items.result.now c.loop-a.a-index
     c.loop-a-test.false) in
-    (λ j. written_arms (whole c.args.g.now) (moved_of c.args.sets.now) (shared_of c.args.sets.now) c.loop-a.d
+    (λ j. buffer_after_arms (plain_program c.args.g.now) (moved_of c.args.sets.now) (shared_of c.args.sets.now)
+    c.loop-a.d
     (scopes c.args.sc.now) (sym end j) 0) ∙ c.loop-a.invariant.0
 
 pub put_arms-returns-clause-starts : goal.put_arms-returns-clause-starts
@@ -577,7 +592,8 @@ put_arms-returns-clause-starts t c =
     let end = rw c.items-a-items.ensures at (arms_end c.items-a-items.result.now c.loop-a.a-index
     c.loop-a-test.false) in
     sym (append-nil c.loop-a.starts.items)
-    ∙ (λ j. c.loop-a.starts.items ++ starts_of (whole c.args.g.now) (length c.loop-a.d.instrs) (bare_arms (sym end j)))
+    ∙ (λ j. c.loop-a.starts.items ++ starts_of (plain_program c.args.g.now) (length c.loop-a.d.instrs)
+    (bare_arms (sym end j)))
     ∙ c.loop-a.invariant.1
 
 pub put_arms-returns-clause-ends : goal.put_arms-returns-clause-ends
@@ -585,5 +601,6 @@ put_arms-returns-clause-ends t c =
     let end = rw c.items-a-items.ensures at (arms_end c.items-a-items.result.now c.loop-a.a-index
     c.loop-a-test.false) in
     sym (append-nil c.loop-a.ends.items)
-    ∙ (λ j. c.loop-a.ends.items ++ ends_of (whole c.args.g.now) (length c.loop-a.d.instrs) (bare_arms (sym end j)))
+    ∙ (λ j. c.loop-a.ends.items ++ ends_of (plain_program c.args.g.now) (length c.loop-a.d.instrs)
+    (bare_arms (sym end j)))
     ∙ c.loop-a.invariant.2

@@ -1,7 +1,7 @@
 use Rattle.std.proofs.Common.{◌≡◌, ◌++◌, length, map, drop}
 use Rattle.sp_tree.specs.CheckedOf.{statements, statement_of, arms, arm_of}
 use Rattle.sp_tree.specs.Bare.{bare_arms}
-use Rattle.sp_generate.specs.Views.{whole}
+use Rattle.sp_generate.specs.Views.{plain_program}
 use Rattle.sp_generate.specs.Written.{starts_of, ends_of}
 use Rattle.sp_generate.specs.Puts.{with_all, with_children, with_arms, children_of}
 use Rattle.sp_generate.proofs.statements.+statement.Given as goal
@@ -21,7 +21,9 @@ abbrev pub invariant-put_arms-loop-a : goal.invariant-put_arms-loop-a
 invariant-put_arms-loop-a l =
     (with_arms l.g l.sets l.sc l.d (arms (map arm_of (drop l.a-index l.xs))) 0
     ≡ with_arms l.g l.sets l.sc l.fn.d (arms (map arm_of l.xs)) 0) ×
-    (l.starts.items ++ starts_of (whole l.g) (length l.d.instrs) (bare_arms (arms (map arm_of (drop l.a-index l.xs))))
-    ≡ starts_of (whole l.g) (length l.fn.d.instrs) (bare_arms (arms (map arm_of l.xs)))) ×
-    (l.ends.items ++ ends_of (whole l.g) (length l.d.instrs) (bare_arms (arms (map arm_of (drop l.a-index l.xs))))
-    ≡ ends_of (whole l.g) (length l.fn.d.instrs) (bare_arms (arms (map arm_of l.xs))))
+    (l.starts.items ++ starts_of (plain_program l.g) (length l.d.instrs)
+    (bare_arms (arms (map arm_of (drop l.a-index l.xs))))
+    ≡ starts_of (plain_program l.g) (length l.fn.d.instrs) (bare_arms (arms (map arm_of l.xs)))) ×
+    (l.ends.items ++ ends_of (plain_program l.g) (length l.d.instrs)
+    (bare_arms (arms (map arm_of (drop l.a-index l.xs))))
+    ≡ ends_of (plain_program l.g) (length l.fn.d.instrs) (bare_arms (arms (map arm_of l.xs))))

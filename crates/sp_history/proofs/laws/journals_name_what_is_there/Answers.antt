@@ -1,5 +1,5 @@
 use Rattle.sp_code.specs.PlainStore.{plain}
-use Rattle.sp_code.specs.System.{opening}
+use Rattle.sp_code.specs.System.{opening_system}
 use Rattle.sp_history.proofs.Speaking.{system_spoken, offer_there}
 use Rattle.sp_history.proofs.Naming.{system_nameable}
 use Rattle.sp_history.proofs.OneFault.{one_fault}
@@ -15,4 +15,4 @@ pub returns-clause-nameable : goal.returns-clause-nameable
 returns-clause-nameable k = λ g es s lim l. system_nameable g lim es s l
 
 pub returns-clause-fault : goal.returns-clause-fault
-returns-clause-fault k = λ g es s i j d e l x y f h. one_fault plain g (opening plain g) s es l i j d e x y f h
+returns-clause-fault k = λ g es s i j d e l x y f h. one_fault plain g (opening_system plain g) s es l i j d e x y f h

@@ -1,4 +1,4 @@
-use Rattle.sp_interfere.proofs.Some.{declared_is}
+use Rattle.sp_interfere.proofs.SetTests.{declared_is}
 use Rattle.sp_interfere.proofs.asked.is_declared.Goals as goal
 
 pub returns : goal.returns

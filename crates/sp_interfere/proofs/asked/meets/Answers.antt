@@ -1,4 +1,4 @@
-use Rattle.sp_interfere.proofs.Some.{meets_is}
+use Rattle.sp_interfere.proofs.SetTests.{meets_is}
 use Rattle.sp_interfere.proofs.asked.meets.Goals as goal
 
 pub returns : goal.returns

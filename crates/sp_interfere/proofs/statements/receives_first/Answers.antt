@@ -2,7 +2,7 @@ use Rattle.std.proofs.Common.{◌≡◌, length, map, sym, ap, ◌∙◌, arith}
 use Rattle.sp_tree.specs.CheckedOf.{expression_of, variable_of, program_of}
 use Rattle.sp_interfere.specs.Rules.{site_first}
 use Rattle.sp_interfere.specs.Walk.{each_first, expression_first, variable_first}
-use Rattle.sp_interfere.proofs.Each.{receives_some}
+use Rattle.sp_interfere.proofs.ChannelOfItems.{receives_some}
 use Rattle.sp_interfere.proofs.statements.receives_first.Goals as goal
 
 pub returns : goal.returns

@@ -2,7 +2,7 @@ use Rattle.std.proofs.Common.{◌≡◌, length, map, sym, ap, ◌∙◌, arith}
 use Rattle.sp_tree.specs.CheckedOf.{expression_of, program_of}
 use Rattle.sp_interfere.specs.Rules.{site_first}
 use Rattle.sp_interfere.specs.Walk.{each_first, expression_first}
-use Rattle.sp_interfere.proofs.Each.{sends_some}
+use Rattle.sp_interfere.proofs.ChannelOfItems.{sends_some}
 use Rattle.sp_interfere.proofs.statements.sends_first.Goals as goal
 
 pub returns : goal.returns

@@ -1,16 +1,16 @@
 use Rattle.std.proofs.Common.{◌≡◌, ◌≢◌, ◌+◌, ℕ, sym, ap, ◌∙◌, arith, take, cond}
 use Rattle.std.proofs.lemmas.Bool.{ne_eqb}
 use Rattle.sp_journal.specs.declared.entry.Event.TheVariants as event
-use Rattle.sp_journal.specs.Births.{Births, births, after_event}
+use Rattle.sp_journal.specs.Births.{Births, births, births_after_event}
 use Rattle.sp_journal.proofs.Facts.{here}
 use Rattle.sp_journal.proofs.Walk.{any_entry, more_births, this, after_fork, no_fork}
 use Rattle.sp_journal.proofs.journal.forks_of.Goals as goal
 use Rattle.sp_journal.proofs.journal.forks_of.Goals.{in-Fork+then-entry-process, in-Fork+else-entry-process, in_default}
 
-fork_here : (s : Births) (p n q : ℕ) → p ≡ q → (after_event s p (event.Fork n)).forks q ≡ s.forks q + 1
+fork_here : (s : Births) (p n q : ℕ) → p ≡ q → (births_after_event s p (event.Fork n)).forks q ≡ s.forks q + 1
 fork_here s p n q e = ap (λ b. cond b (s.forks p + 1) (s.forks q)) (here p q e) ∙ ap (λ x. s.forks x + 1) e
 
-fork_apart : (s : Births) (p n q : ℕ) → p ≢ q → (after_event s p (event.Fork n)).forks q ≡ s.forks q
+fork_apart : (s : Births) (p n q : ℕ) → p ≢ q → (births_after_event s p (event.Fork n)).forks q ≡ s.forks q
 fork_apart s p n q e = ap (λ b. cond b (s.forks p + 1) (s.forks q)) (ne_eqb p q e)
 
 pub loop-entry-preserved : goal.loop-entry-preserved

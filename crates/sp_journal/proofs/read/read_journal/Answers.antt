@@ -7,9 +7,9 @@ use Rattle.sp_journal.specs.Reading.{first_line}
 use Rattle.sp_journal.specs.Splits.{first_split}
 use Rattle.sp_journal.specs.Texts.{entry_text}
 use Rattle.sp_journal.specs.Births.{Births}
-use Rattle.sp_journal.specs.Reader.{known, CanCome, IsNext}
+use Rattle.sp_journal.specs.Reader.{births_read, CanCome, IsEntryOfLine}
 use Rattle.sp_journal.specs.Begun.{Begun}
-use Rattle.sp_journal.proofs.Facts.{same}
+use Rattle.sp_journal.proofs.Facts.{equal_of_test}
 use Rattle.sp_journal.proofs.TextLaws.{parts_first}
 use Rattle.sp_journal.proofs.BegunLaws.{first_joins, read_alone, bad_here, none_here, begun_on, begun_first, bad_first}
 use Rattle.sp_journal.proofs.BegunLaws.{none_first, some_line}
@@ -29,7 +29,7 @@ not_empty xs b e f z = true_false (sym (ap (λ (ys : List ℕ). length ys == 0) 
     true_false g = cc
 
 empty : (xs : List ℕ) (b : Bool) → b ≡ (length xs == 0) → b ≡ true → xs ≡ []
-empty xs b e f = by xs (same (length xs) 0 (sym e ∙ f))
+empty xs b e f = by xs (equal_of_test (length xs) 0 (sym e ∙ f))
   where
     by : (xs : List ℕ) → length xs ≡ 0 → xs ≡ []
     by [] h = refl
@@ -45,9 +45,9 @@ no_line : (v : Version) (s : Births) (rest : List ℕ) → None ≡ first_split 
 no_line v s rest n e more h f = none-some _ (n ∙ f)
 
 no_next : (v : Version) (s : Births) (rest text after : List ℕ) (o : Option Entry)
-    → Some (text, after) ≡ first_split 10 rest → IsNext v s text o → o ≡ None → (e : Entry) (more : List ℕ)
+    → Some (text, after) ≡ first_split 10 rest → IsEntryOfLine v s text o → o ≡ None → (e : Entry) (more : List ℕ)
     → CanCome v s e → first_split 10 rest ≡ Some (entry_text s e, more) → ⊥
-no_next v s rest text after o g n z e more h f = (subst (IsNext v s text) z n) e h (parts_first _ _ _ _ (g ∙ f))
+no_next v s rest text after o g n z e more h f = (subst (IsEntryOfLine v s text) z n) e h (parts_first _ _ _ _ (g ∙ f))
 
 pub returns-in_default-version_of-clause-reads : goal.returns-in_default-version_of-clause-reads
 returns-in_default-version_of-clause-reads c =
@@ -85,7 +85,7 @@ returns-in_default-split_first-clause-reads c =
     bad_here c.args.bytes.now r.version r.ledger.journal.entries rest c.loop-rest.invariant.1 c.loop-rest.line
     c.loop-rest.invariant.2
     (not_empty rest c.is_empty.result c.is_empty.ensures c.loop-rest-test.true)
-    (no_line r.version (known r) rest c.in_default-split_first.ensures)
+    (no_line r.version (births_read r) rest c.in_default-split_first.ensures)
 
 pub returns-in_default-split_first-clause-alone : goal.returns-in_default-split_first-clause-alone
 returns-in_default-split_first-clause-alone c =
@@ -93,7 +93,7 @@ returns-in_default-split_first-clause-alone c =
     let rest = c.loop-rest.rest.now in
     none_here c.args.bytes.now r.version r.ledger.journal.entries rest c.loop-rest.invariant.1
     (not_empty rest c.is_empty.result c.is_empty.ensures c.loop-rest-test.true)
-    (no_line r.version (known r) rest c.in_default-split_first.ensures)
+    (no_line r.version (births_read r) rest c.in_default-split_first.ensures)
 
 pub returns-in_default-2-clause-reads : goal.returns-in_default-2-clause-reads
 returns-in_default-2-clause-reads c =
@@ -102,7 +102,7 @@ returns-in_default-2-clause-reads c =
     bad_here c.args.bytes.now r.version r.ledger.journal.entries rest c.loop-rest.invariant.1 c.loop-rest.line
     c.loop-rest.invariant.2
     (not_empty rest c.is_empty.result c.is_empty.ensures c.loop-rest-test.true)
-    (no_next r.version (known r) rest c.in-Some-split_first.text.now c.in-Some-split_first.after.now
+    (no_next r.version (births_read r) rest c.in-Some-split_first.text.now c.in-Some-split_first.after.now
     c.in_ok-entry.field-0 c.in-Some-split_first.ensures c.in_ok-entry.ensures c.in_default-2.is)
 
 pub returns-in_default-2-clause-alone : goal.returns-in_default-2-clause-alone
@@ -111,7 +111,7 @@ returns-in_default-2-clause-alone c =
     let rest = c.loop-rest.rest.now in
     none_here c.args.bytes.now r.version r.ledger.journal.entries rest c.loop-rest.invariant.1
     (not_empty rest c.is_empty.result c.is_empty.ensures c.loop-rest-test.true)
-    (no_next r.version (known r) rest c.in-Some-split_first.text.now c.in-Some-split_first.after.now
+    (no_next r.version (births_read r) rest c.in-Some-split_first.text.now c.in-Some-split_first.after.now
     c.in_ok-entry.field-0 c.in-Some-split_first.ensures c.in_ok-entry.ensures c.in_default-2.is)
 
 pub loop-rest-smaller : goal.loop-rest-smaller
@@ -127,8 +127,8 @@ loop-rest-preserved c =
     let after = c.in-Some-split_first.after.now in
     let e = c.in-Some-2.entry in
     let h = c.loop-rest.invariant in
-    let next : IsNext r.version (known r) text (Some e) =
-    subst (IsNext r.version (known r) text) c.in-Some-2.is c.in_ok-entry.ensures in
+    let next : IsEntryOfLine r.version (births_read r) text (Some e) =
+    subst (IsEntryOfLine r.version (births_read r) text) c.in-Some-2.is c.in_ok-entry.ensures in
     let short = shorter rest text after c.in-Some-split_first.ensures in
     let more : length c.add.new.self.ledger.journal.entries ≡ length (r.ledger.journal.entries ++ e ∷ []) =
     ap length c.in_ok-add.ensures.added in

@@ -1,7 +1,7 @@
 use Rattle.std.proofs.Common.{◌≡◌, ◌<◌, ◌+◌, ◌≤◌, take, length, sym, ap, ◌∙◌, subst, arith}
 use Rattle.sp_journal.specs.Births.{births}
 use Rattle.sp_judge.specs.Clocks.{number_at}
-use Rattle.sp_judge.specs.Bench.{IsBlank, Holds}
+use Rattle.sp_judge.specs.JudgeTables.{IsBlank, TablesHold}
 use Rattle.sp_judge.proofs.Judging.{blank_holds}
 use Rattle.sp_judge.proofs.Halves.{clock_says}
 use Rattle.sp_judge.proofs.knowing.knows_entry.Goals as goal
@@ -22,8 +22,8 @@ returns c =
     let es = c.args.entries.now in
     let i = c.loop-i.i in
     let end : i ≡ c.args.at = (let f = c.loop-i-test.false in let a = c.loop-i.auto.i-end in omega (arith, f, a)) in
-    let holds : Holds (births es) c.in_ok-until.until.items (take c.args.at es) c.loop-i.bench =
-    subst (λ n. Holds (births es) c.in_ok-until.until.items (take n es) c.loop-i.bench) end c.loop-i.invariant in
+    let holds : TablesHold (births es) c.in_ok-until.until.items (take c.args.at es) c.loop-i.bench =
+    subst (λ n. TablesHold (births es) c.in_ok-until.until.items (take n es) c.loop-i.bench) end c.loop-i.invariant in
     let asked : c.args.at < number_at c.in_ok-until.until.items c.args.offer.process =
     (let u : number_at c.in_ok-until.until.items c.args.offer.process ≡ c.args.at + 1 = c.in_ok-until.ensures in
     omega (arith, u)) in

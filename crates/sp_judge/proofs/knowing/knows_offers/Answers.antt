@@ -3,7 +3,7 @@ use Rattle.std.proofs.lemmas.Result.{IfOk-weaker}
 use Rattle.std.proofs.lemmas.Bool.Decides.{nat_tests}
 use Rattle.sp_base.proofs.Facts.{item_is}
 use Rattle.sp_journal.specs.declared.entry.Entry.{Entry}
-use Rattle.sp_judge.specs.Bench.{offer_event}
+use Rattle.sp_judge.specs.JudgeTables.{offer_event}
 use Rattle.sp_judge.proofs.Steps.{channel_inside, clocks_inside, last_there, knows_none, knows_own, knows_counted}
 use Rattle.sp_judge.proofs.Steps.{knows_last}
 use Rattle.sp_judge.proofs.Halves.{inside, there}

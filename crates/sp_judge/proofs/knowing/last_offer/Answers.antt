@@ -1,6 +1,6 @@
 use Rattle.std.proofs.Common.{◌≡◌, ◌⊎◌, ⊎_elim, ◌<◌, ◌≤◌, ◌-◌, ℕ, length, sym, ◌∙◌, subst, arith}
 use Rattle.std.proofs.lemmas.Bool.{true≢false}
-use Rattle.sp_judge.specs.Bench.{IsOfferAt}
+use Rattle.sp_judge.specs.JudgeTables.{IsOfferAt}
 use Rattle.sp_judge.proofs.Halves.{offer_here, offer_there}
 use Rattle.sp_judge.proofs.knowing.last_offer.Goals as goal
 

@@ -1,5 +1,5 @@
 use Rattle.std.proofs.Common.{ℕ, ◌<◌, ◌≤◌}
-use Rattle.sp_judge.specs.Bench.{IsOfferAt}
+use Rattle.sp_judge.specs.JudgeTables.{IsOfferAt}
 use Rattle.sp_judge.proofs.knowing.last_offer.Given as goal
 
 abbrev pub invariant-loop-i : goal.invariant-loop-i

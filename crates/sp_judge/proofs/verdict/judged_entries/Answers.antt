@@ -5,10 +5,10 @@ use Rattle.sp_journal.specs.declared.entry.Journal.{Journal}
 use Rattle.sp_journal.specs.Births.{births, occurrences}
 use Rattle.sp_journal.proofs.Walk.{any_entry}
 use Rattle.sp_race.specs.Known.{AreKnown}
-use Rattle.sp_judge.specs.Bench.{named, IsTame, IsBlank, Holds}
+use Rattle.sp_judge.specs.JudgeTables.{entries_by_names, IsNameableAndSilent, IsBlank, TablesHold}
 use Rattle.sp_judge.specs.Races.{IsJudged}
 use Rattle.sp_judge.proofs.Numbers.{all_named}
-use Rattle.sp_judge.proofs.Judging.{tame_of, blank_holds, known_next, all_ordered, none_racing}
+use Rattle.sp_judge.proofs.Judging.{nameable_and_silent_of, blank_holds, known_next, all_ordered, none_racing}
 use Rattle.sp_judge.proofs.verdict.judged_entries.Goals as goal
 
 pub loop-at-init : goal.loop-at-init
@@ -28,21 +28,22 @@ loop-at-init c =
     )
 
 pub racing-requires-clause-tame : goal.racing-requires-clause-tame
-racing-requires-clause-tame c = subst IsTame (sym c.items-entries.ensures)
-    (tame_of c.args.journal.now c.requires.nameable c.requires.quiet)
+racing-requires-clause-tame c = subst IsNameableAndSilent (sym c.items-entries.ensures)
+    (nameable_and_silent_of c.args.journal.now c.requires.nameable c.requires.quiet)
 
 pub race-requires-clause-tame : goal.race-requires-clause-tame
-race-requires-clause-tame c = subst IsTame (sym c.items-entries.ensures)
-    (tame_of c.args.journal.now c.requires.nameable c.requires.quiet)
+race-requires-clause-tame c = subst IsNameableAndSilent (sym c.items-entries.ensures)
+    (nameable_and_silent_of c.args.journal.now c.requires.nameable c.requires.quiet)
 
 pub see-requires-clause-tame : goal.see-requires-clause-tame
-see-requires-clause-tame c = subst IsTame (sym c.items-entries.ensures)
-    (tame_of c.args.journal.now c.requires.nameable c.requires.quiet)
+see-requires-clause-tame c = subst IsNameableAndSilent (sym c.items-entries.ensures)
+    (nameable_and_silent_of c.args.journal.now c.requires.nameable c.requires.quiet)
 
 pub returns-in-Some : goal.returns-in-Some
 returns-in-Some c =
-    let is : named (births c.items-entries.result.now) c.items-entries.result.now ≡ occurrences c.args.journal.now =
-    ap (λ xs. named (births xs) xs) c.items-entries.ensures
+    let is : entries_by_names (births c.items-entries.result.now) c.items-entries.result.now
+    ≡ occurrences c.args.journal.now =
+    ap (λ xs. entries_by_names (births xs) xs) c.items-entries.ensures
     ∙ sym (all_named c.args.journal.now.entries c.requires.nameable) in
     subst (λ os. IfOk c.race.result (λ v. IsJudged os v)) is c.race.ensures
 
@@ -52,9 +53,9 @@ loop-at-preserved c =
     let at = c.loop-at.at in
     let e = get_or es at any_entry in
     let inside : slice_get es at ≡ Some e = slice_get-get_or es at any_entry c.loop-at-test.true in
-    let tame = subst IsTame (sym c.items-entries.ensures)
-    (tame_of c.args.journal.now c.requires.nameable c.requires.quiet) in (
-      subst (λ u. Holds (births es) u (take (at + 1) es) c.see.new.self) c.deref-in-loop-at.ensures.value
+    let tame = subst IsNameableAndSilent (sym c.items-entries.ensures)
+    (nameable_and_silent_of c.args.journal.now c.requires.nameable c.requires.quiet) in (
+      subst (λ u. TablesHold (births es) u (take (at + 1) es) c.see.new.self) c.deref-in-loop-at.ensures.value
           c.in_ok-see.ensures,
       known_next es tame at e inside c.loop-at.invariant.1
           (none_racing es at c.in_ok-found.found c.in_ok-found.ensures c.in_default.not-Some e inside),
@@ -67,4 +68,4 @@ returns c =
     let f = c.loop-at-test.false in
     let l = ap length is in
     all_ordered c.args.journal.now c.requires.nameable c.loop-at.at (omega (arith, f, l))
-    (subst (λ xs. AreKnown (named (births xs) (take c.loop-at.at xs))) is c.loop-at.invariant.1)
+    (subst (λ xs. AreKnown (entries_by_names (births xs) (take c.loop-at.at xs))) is c.loop-at.invariant.1)

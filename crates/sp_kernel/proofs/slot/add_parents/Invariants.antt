@@ -1,5 +1,5 @@
 use Rattle.std.proofs.Common.{◌≡◌, ◌≤◌, ◌-◌, ◌++◌, length, Some}
-use Rattle.sp_kernel.specs.Lines.{repeat}
+use Rattle.sp_kernel.specs.ListEnds.{repeat}
 use Rattle.sp_kernel.proofs.slot.add_parents.Given as goal
 
 abbrev pub invariant-loop-added : goal.invariant-loop-added

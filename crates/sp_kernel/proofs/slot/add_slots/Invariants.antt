@@ -1,5 +1,5 @@
 use Rattle.std.proofs.Common.{◌≡◌, ◌≤◌, ◌-◌, ◌++◌, length}
-use Rattle.sp_kernel.specs.Lines.{repeat}
+use Rattle.sp_kernel.specs.ListEnds.{repeat}
 use Rattle.sp_kernel.specs.declared.slot.Slot.TheVariants as slot
 use Rattle.sp_kernel.proofs.slot.add_slots.Given as goal
 

@@ -1,4 +1,4 @@
-use Rattle.sp_kernel.proofs.Lines.{popped}
+use Rattle.sp_kernel.proofs.ListEnds.{popped}
 use Rattle.sp_kernel.proofs.slot.drop_last.Goals as goal
 
 pub returns : goal.returns

@@ -1,15 +1,15 @@
 use Rattle.std.proofs.Common.{◌≡◌, ◌+◌, ◌≤◌, drop}
 use Rattle.sp_tree.specs.PlainOf.{actuals_of, selectors_of}
 use Rattle.sp_code.specs.Lengths.{selectors_length, actuals_length}
-use Rattle.sp_length.specs.Told.{told}
+use Rattle.sp_length.specs.CappedLength.{capped_length}
 use Rattle.sp_length.proofs.expressions.+length.Given as goal
 
 abbrev pub invariant-actuals_length-loop-a : goal.invariant-actuals_length-loop-a
 invariant-actuals_length-loop-a l = (l.q ≤ 4294967295)
-    × (told (l.q + actuals_length (actuals_of (drop l.a-index l.args)))
-    ≡ told (l.fn.q + actuals_length (actuals_of l.args)))
+    × (capped_length (l.q + actuals_length (actuals_of (drop l.a-index l.args)))
+    ≡ capped_length (l.fn.q + actuals_length (actuals_of l.args)))
 
 abbrev pub invariant-selectors_length-loop-s : goal.invariant-selectors_length-loop-s
 invariant-selectors_length-loop-s l = (l.q ≤ 4294967295)
-    × (told (l.q + selectors_length (selectors_of (drop l.s-index l.ss)))
-    ≡ told (l.fn.q + selectors_length (selectors_of l.ss)))
+    × (capped_length (l.q + selectors_length (selectors_of (drop l.s-index l.ss)))
+    ≡ capped_length (l.fn.q + selectors_length (selectors_of l.ss)))

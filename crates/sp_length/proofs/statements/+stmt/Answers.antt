@@ -4,7 +4,7 @@ use Rattle.sp_tree.specs.Plain.{Sequence}
 use Rattle.sp_tree.specs.PlainOf.{sends, receives, stmt_form_of}
 use Rattle.sp_tree.specs.CheckedOf as placed
 use Rattle.sp_tree.specs.Bare.{bare_statements}
-use Rattle.sp_tree.proofs.Singles.{sends_bare, receives_bare}
+use Rattle.sp_tree.proofs.SingleStatements.{sends_bare, receives_bare}
 use Rattle.sp_length.proofs.statements.+stmt.Goals as goal
 
 pub stmt_form_length-returns-in-SendEach : goal.stmt_form_length-returns-in-SendEach

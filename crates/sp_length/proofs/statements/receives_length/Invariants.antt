@@ -1,10 +1,11 @@
 use Rattle.std.proofs.Common.{◌≡◌, ◌+◌, ◌≤◌, map, drop}
 use Rattle.sp_tree.specs.PlainOf.{expr_of, var_of, receives, program_of}
 use Rattle.sp_code.specs.Lengths.{all_length}
-use Rattle.sp_length.specs.Told.{told}
+use Rattle.sp_length.specs.CappedLength.{capped_length}
 use Rattle.sp_length.proofs.statements.receives_length.Given as goal
 
 abbrev pub invariant-loop-v : goal.invariant-loop-v
-invariant-loop-v l = (l.q ≤ 4294967295) × (told
+invariant-loop-v l = (l.q ≤ 4294967295) × (capped_length
     (l.q + all_length (program_of l.program) (receives (expr_of l.channel) (map var_of (drop l.v-index l.variables))))
-    ≡ told (l.fn.q + all_length (program_of l.program) (receives (expr_of l.channel) (map var_of l.variables))))
+    ≡ capped_length (l.fn.q + all_length (program_of l.program)
+    (receives (expr_of l.channel) (map var_of l.variables))))

@@ -1,6 +1,6 @@
 use Rattle.std.proofs.Common.{◌≡◌, ◌++◌, drop}
 use Rattle.sp_code.specs.Memory.{references}
-use Rattle.sp_machine.specs.Entries.{entries_of}
+use Rattle.sp_machine.specs.StackEntries.{entries_of}
 use Rattle.sp_machine.proofs.calls.references.Given as goal
 
 abbrev pub invariant-loop-argument : goal.invariant-loop-argument

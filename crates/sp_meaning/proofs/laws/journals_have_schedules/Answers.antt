@@ -1,7 +1,7 @@
 use Rattle.std.proofs.Common.{refl}
 use Rattle.sp_meaning.specs.Runs.{start}
 use Rattle.sp_meaning.specs.Along.{no_course}
-use Rattle.sp_meaning.proofs.Journeys.{along_goes}
+use Rattle.sp_meaning.proofs.JournalSchedules.{along_goes}
 use Rattle.sp_meaning.proofs.laws.journals_have_schedules.Goals as goal
 
 pub returns : goal.returns

@@ -1,5 +1,5 @@
 use Rattle.std.proofs.Common.{ℕ, List, arith, subst, sym, length-take}
-use Rattle.sp_outside.specs.Told.{Shrinks, shrinks_none, shrinks_more}
+use Rattle.sp_outside.specs.Visible.{Shrinks, shrinks_none, shrinks_more}
 use Rattle.sp_outside.proofs.read.read_all.Goals as goal
 
 pub loop-piece-init : goal.loop-piece-init

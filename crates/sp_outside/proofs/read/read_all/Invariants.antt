@@ -1,5 +1,5 @@
 use Rattle.std.proofs.Common.{◌+◌, ◌-◌, ◌≤◌, vec_len}
-use Rattle.sp_outside.specs.Told.{Shrinks}
+use Rattle.sp_outside.specs.Visible.{Shrinks}
 use Rattle.sp_outside.proofs.read.read_all.Given as goal
 
 abbrev pub invariant-loop-piece : goal.invariant-loop-piece

@@ -1,6 +1,6 @@
 use Rattle.std.proofs.Common.{◌≡◌, ◌∙◌, ℕ, ◌+◌, ◌++◌, List, Option, take, drop, arith, ap, subst, sym}
 use Rattle.std.proofs.Math.Seq.{take-add}
-use Rattle.sp_outside.specs.Told.{Grows, grows_none, grows_more}
+use Rattle.sp_outside.specs.Visible.{Grows, grows_none, grows_more}
 use Rattle.sp_outside.proofs.sink.put_all.Goals as goal
 
 -- n bytes more of what is left

@@ -1,5 +1,5 @@
 use Rattle.std.proofs.Common.{length, take, ◌-◌, ◌≤◌}
-use Rattle.sp_outside.specs.Told.{Grows}
+use Rattle.sp_outside.specs.Visible.{Grows}
 use Rattle.sp_outside.proofs.sink.put_all.Given as goal
 
 abbrev pub invariant-loop-done : goal.invariant-loop-done

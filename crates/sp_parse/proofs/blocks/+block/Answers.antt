@@ -1,6 +1,6 @@
 use Rattle.std.proofs.Common.{arith, refl, ap, add-one, ◌∙◌, [], ◌∷◌, None}
 use Rattle.sp_tree.specs.PlainSyntax as tree
-use Rattle.sp_tree.specs.Grammar.{declared}
+use Rattle.sp_tree.specs.Grammar.{with_part_first}
 use Rattle.sp_tree.specs.SyntaxOf.{block_of}
 use Rattle.sp_tree.specs.Words as w
 use Rattle.sp_grammar.specs.Symbols as sym
@@ -9,7 +9,7 @@ use Rattle.sp_grammar.specs.Derives.{none, and}
 use Rattle.sp_parse.specs.Declares.{and_parts}
 use Rattle.sp_parse.proofs.Behind.{halts_after, halts_behind}
 use Rattle.sp_parse.proofs.Declares.{halts_longer}
-use Rattle.sp_parse.proofs.Steps.{has_read, one, expected, fails}
+use Rattle.sp_parse.proofs.Steps.{has_read, first_derived, expected, fails}
 use Rattle.sp_parse.proofs.SoFar.{halts_pending}
 use Rattle.sp_parse.proofs.Rows.{row_halts, with_at, other_at, join_all}
 use Rattle.sp_parse.proofs.ReadBlocks.{block_result, other_first, no_part, parts_start, parts_more, parts_end}
@@ -54,19 +54,21 @@ parts-more-preserved t c = parts_more c.args.depth c.more.all c.in-Ok-declaratio
 
 pub declarations-returns-then-is : goal.declarations-returns-then-is
 declarations-returns-then-is t c = section_result c.args.depth c.args.all
-    (λ vs. and_parts c.args.all (declared (tree.Const vs.0 vs.1.1.0) vs.1.1.1.1.0)) (row.parts row.parts_const) refl
+    (λ vs. and_parts c.args.all (with_part_first (tree.Const vs.0 vs.1.1.0) vs.1.1.1.1.0))
+    (row.parts row.parts_const) refl
     c.requires.ready (with_at w.Const c.in-Ok.ensures c.is.ensures c.if-is.true) (λ vs. refl) c.constants.result
     (c.constants.ensures c.args.depth)
 
 pub declarations-returns-then-is-2 : goal.declarations-returns-then-is-2
 declarations-returns-then-is-2 t c = section_result c.args.depth c.args.all
-    (λ vs. and_parts c.args.all (declared (tree.Kind vs.0 vs.1.1.0) vs.1.1.1.1.0)) (row.parts row.parts_type) refl
+    (λ vs. and_parts c.args.all (with_part_first (tree.Kind vs.0 vs.1.1.0) vs.1.1.1.1.0))
+    (row.parts row.parts_type) refl
     c.requires.ready (with_at w.Type' c.in-Ok.ensures c.is-2.ensures c.if-is-2.true) (λ vs. refl) c.types.result
     (c.types.ensures c.args.depth)
 
 pub declarations-returns-then-is-3 : goal.declarations-returns-then-is-3
 declarations-returns-then-is-3 t c = section_result c.args.depth c.args.all
-    (λ vs. and_parts c.args.all (declared (tree.Var (vs.0 ∷ vs.1.0) vs.1.1.1.0) vs.1.1.1.1.1.0))
+    (λ vs. and_parts c.args.all (with_part_first (tree.Var (vs.0 ∷ vs.1.0) vs.1.1.1.0) vs.1.1.1.1.1.0))
     (row.parts row.parts_var) refl c.requires.ready (with_at w.Var c.in-Ok.ensures c.is-3.ensures c.if-is-3.true)
     (λ vs. refl) c.variables.result (c.variables.ensures c.args.depth)
 
@@ -117,7 +119,7 @@ procedure-returns-in-Err-body t c = halts_after (sym.Formals ∷ sym.AToken w.Se
 
 pub procedure-returns : goal.procedure-returns
 procedure-returns t c = has_read c.in-Ok-body.ensures.ready
-    (and (one c.in-Ok.ensures) (and (one c.in-Ok-formals.ensures) c.in-Ok-body.ensures.derives))
+    (and (first_derived c.in-Ok.ensures) (and (first_derived c.in-Ok-formals.ensures) c.in-Ok-body.ensures.derives))
     (c.procedure_declaration-made.ensures ∙ procedure_same None c.in-Ok.ensures.same c.in-Ok-formals.ensures.same
     c.in-Ok-body.ensures.same)
 
@@ -136,7 +138,8 @@ body-returns-in-Err-expect t c = halts_behind (sym.ABlock c.args.depth ∷ sym.A
 
 pub body-returns : goal.body-returns
 body-returns t c = has_read c.in-Ok-expect.ensures.first.ready
-    (and (expected c.in-Ok.ensures) (and (one c.in-Ok-block.ensures) (and (expected c.in-Ok-expect.ensures) none)))
+    (and (expected c.in-Ok.ensures)
+    (and (first_derived c.in-Ok-block.ensures) (and (expected c.in-Ok-expect.ensures) none)))
     (ap block_of c.in_ok-boxed.ensures ∙ c.in-Ok-block.ensures.same)
 
 pub function-returns-in-Err : goal.function-returns-in-Err
@@ -166,7 +169,7 @@ function-returns-in-Err-body t c = halts_after (sym.Formals ∷ sym.AToken w.Col
 
 pub function-returns : goal.function-returns
 function-returns t c = has_read c.in-Ok-body.ensures.ready
-    (and (one c.in-Ok.ensures) (and (one c.in-Ok-formals.ensures)
+    (and (first_derived c.in-Ok.ensures) (and (first_derived c.in-Ok-formals.ensures)
     (join_all (sym.AToken w.Colon ∷ sym.AName ∷ [])
     (sym.AToken w.Semicolon ∷ sym.ABlock c.args.depth ∷ sym.AToken w.Semicolon ∷ []) c.in-Ok-type_name.ensures.derives
     c.in-Ok-body.ensures.derives))) (c.procedure_declaration-made.ensures

@@ -2,13 +2,14 @@ use Rattle.std.proofs.Common.{[], ◌∷◌}
 use Rattle.sp_tree.specs.Words as w
 use Rattle.sp_grammar.specs.Symbols.{AToken, ABlock}
 use Rattle.sp_grammar.specs.Derives.{none, and}
-use Rattle.sp_parse.proofs.Steps.{has_read, one, expected}
+use Rattle.sp_parse.proofs.Steps.{has_read, first_derived, expected}
 use Rattle.sp_parse.proofs.Behind.{halts_behind, halts_after}
 use Rattle.sp_parse.proofs.blocks.outer_block.Goals as goal
 
 pub returns-in-Ok-expect : goal.returns-in-Ok-expect
 returns-in-Ok-expect c = has_read c.in-Ok-expect.ensures.first.ready
-    (and (expected c.in-Ok.ensures) (and (one c.in-Ok-block.ensures) (and (expected c.in-Ok-expect.ensures) none)))
+    (and (expected c.in-Ok.ensures)
+    (and (first_derived c.in-Ok-block.ensures) (and (expected c.in-Ok-expect.ensures) none)))
     c.in-Ok-block.ensures.same
 
 pub returns-in-Err-expect : goal.returns-in-Err-expect

@@ -4,7 +4,7 @@ use Rattle.sp_grammar.specs.Derives.{and}
 use Rattle.sp_tree.specs.Words as w
 use Rattle.sp_parse.proofs.Behind.{halts_after}
 use Rattle.sp_parse.proofs.Declares.{halts_longer}
-use Rattle.sp_parse.proofs.Steps.{has_read, one}
+use Rattle.sp_parse.proofs.Steps.{has_read, first_derived}
 use Rattle.sp_parse.proofs.ReadBlocks.{program_same}
 use Rattle.sp_parse.proofs.blocks.titled.Goals as goal
 
@@ -24,5 +24,6 @@ returns-in-Err-outer_block c = halts_after (AHeading ∷ AToken w.Semicolon ∷ 
 
 pub returns : goal.returns
 returns c = has_read c.in-Ok-outer_block.ensures.ready
-    (and (one c.in-Ok.ensures) (and (one c.in-Ok-heading.ensures) c.in-Ok-outer_block.ensures.derives))
+    (and (first_derived c.in-Ok.ensures)
+    (and (first_derived c.in-Ok-heading.ensures) c.in-Ok-outer_block.ensures.derives))
     (program_same c.in-Ok.ensures.same c.in-Ok-heading.ensures.same c.in-Ok-outer_block.ensures.same)

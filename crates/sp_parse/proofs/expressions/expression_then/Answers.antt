@@ -1,7 +1,7 @@
 use Rattle.std.proofs.Common.{[], ◌∷◌}
 use Rattle.sp_grammar.specs.Symbols.{AToken, AnExpression}
 use Rattle.sp_grammar.specs.Derives.{none, and}
-use Rattle.sp_parse.proofs.Steps.{has_read, one, expected}
+use Rattle.sp_parse.proofs.Steps.{has_read, first_derived, expected}
 use Rattle.sp_parse.proofs.Behind.{halts_after}
 use Rattle.sp_parse.proofs.Declares.{halts_longer}
 use Rattle.sp_parse.proofs.expressions.expression_then.Goals as goal
@@ -15,4 +15,4 @@ returns-in-Err-expect c = halts_after (AToken c.args.kind ∷ []) c.in-Ok.ensure
 
 pub returns : goal.returns
 returns c = has_read c.in-Ok-expect.ensures.first.ready
-    (and (one c.in-Ok.ensures) (and (expected c.in-Ok-expect.ensures) none)) c.in-Ok.ensures.same
+    (and (first_derived c.in-Ok.ensures) (and (expected c.in-Ok-expect.ensures) none)) c.in-Ok.ensures.same

@@ -1,5 +1,5 @@
 use Rattle.std.proofs.Common.{◌≡◌, ◌++◌, map, length}
-use Rattle.sp_tree.specs.Characters.{lower as lower_of}
+use Rattle.sp_tree.specs.Characters.{lower_case_letter as lower_of}
 use Rattle.sp_parse.proofs.spelled.lowered.Given as goal
 
 abbrev pub invariant-more : goal.invariant-more

@@ -7,7 +7,7 @@ use Rattle.sp_grammar.specs.Symbols as sym
 use Rattle.sp_grammar.specs.Table as row
 use Rattle.sp_grammar.specs.Table.{rows}
 use Rattle.sp_grammar.specs.Derives.{and}
-use Rattle.sp_parse.proofs.Steps.{has_read, one, passed, not_passed, pass_halts}
+use Rattle.sp_parse.proofs.Steps.{has_read, first_derived, passed, not_passed, pass_halts}
 use Rattle.sp_parse.proofs.SoFar.{halts_pending}
 use Rattle.sp_parse.proofs.Rounds.{no_item}
 use Rattle.sp_parse.proofs.Rows.{with_at, other_at, none_at, join_all}
@@ -179,7 +179,7 @@ pub choice-returns : goal.choice-returns
 choice-returns t c = has_read c.in-Ok-otherwise.ensures.ready
     (join_all (sym.AnExpression c.args.depth ∷ sym.AToken w.Then ∷ [])
     (sym.AStatement c.args.depth ∷ sym.AnElse c.args.depth ∷ []) c.in-Ok.ensures.derives
-    (and (one c.in-Ok-boxed_statement.ensures) c.in-Ok-otherwise.ensures.derives))
+    (and (first_derived c.in-Ok-boxed_statement.ensures) c.in-Ok-otherwise.ensures.derives))
     (c.if_statement.ensures ∙ (λ i. tree.Does c.args.at
     (tree.If (c.in-Ok.ensures.same i) (c.in-Ok-boxed_statement.ensures.same i) (c.in-Ok-otherwise.ensures.same i))))
 

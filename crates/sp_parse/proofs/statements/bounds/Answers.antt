@@ -4,7 +4,7 @@ use Rattle.sp_grammar.specs.Derives.{and}
 use Rattle.sp_tree.specs.Words as w
 use Rattle.sp_parse.proofs.Behind.{halts_after}
 use Rattle.sp_parse.proofs.Declares.{halts_longer}
-use Rattle.sp_parse.proofs.Steps.{has_read, one}
+use Rattle.sp_parse.proofs.Steps.{has_read, first_derived}
 use Rattle.sp_parse.proofs.statements.bounds.Goals as goal
 
 pub returns-in-Err : goal.returns-in-Err
@@ -23,5 +23,6 @@ returns-in-Err-expression_then c = halts_after (ADirection ∷ AnExpression c.ar
 
 pub returns : goal.returns
 returns c = has_read c.in-Ok-expression_then.ensures.ready
-    (and (one c.in-Ok.ensures) (and (one c.in-Ok-direction.ensures) c.in-Ok-expression_then.ensures.derives))
+    (and (first_derived c.in-Ok.ensures)
+    (and (first_derived c.in-Ok-direction.ensures) c.in-Ok-expression_then.ensures.derives))
     (λ i. (c.in-Ok.ensures.same i, c.in-Ok-direction.ensures.same i, c.in-Ok-expression_then.ensures.same i))

@@ -1,10 +1,10 @@
 use Rattle.std.proofs.Common.{ap, sym, subst, ◌∙◌, List, take}
 use Rattle.std.proofs.lemmas.List.{take_all, drop_all}
 use Rattle.sp_journal.specs.declared.entry.Entry.{Entry}
-use Rattle.sp_journal.specs.Births.{CanFollow, NameableFrom, at_start, births}
+use Rattle.sp_journal.specs.Births.{CanFollow, NameableFrom, first_births, births}
 use Rattle.sp_journal.proofs.Walk.{any_entry, can_follow, kept_whole, still_nameable, this}
-use Rattle.sp_report.specs.Conditions.{Conditions, after_all, conditions}
-use Rattle.sp_report.specs.Fits.{AllFit, seen}
+use Rattle.sp_report.specs.Conditions.{Conditions, conditions_after_all, conditions}
+use Rattle.sp_report.specs.Fits.{ConditionsFit, table_conditions}
 use Rattle.sp_report.proofs.FitLaws.{first_fit, one_fits, one_told}
 use Rattle.sp_report.proofs.waiting.after_all.Goals as goal
 
@@ -13,9 +13,9 @@ loop-entry-init c =
     let es = c.items-entry-items.result.now in (
       c.new-ledger.ensures.ledger,
       c.new-ledger.ensures.empty,
-      subst (NameableFrom at_start) (sym c.items-entry-items.ensures) c.requires,
-      ap (λ (t : Conditions). after_all at_start t es) c.in_ok-table.ensures,
-      subst (AllFit at_start) (sym c.in_ok-table.ensures) first_fit,
+      subst (NameableFrom first_births) (sym c.items-entry-items.ensures) c.requires,
+      ap (λ (t : Conditions). conditions_after_all first_births t es) c.in_ok-table.ensures,
+      subst (ConditionsFit first_births) (sym c.in_ok-table.ensures) first_fit,
     )
 
 pub tell-requires-clause-next : goal.tell-requires-clause-next
@@ -57,8 +57,8 @@ returns-clause-journal c = c.loop-entry.invariant.1
 pub returns-clause-table : goal.returns-clause-table
 returns-clause-table c =
     let es = c.items-entry-items.result.now in
-    let t = seen c.loop-entry.table in
-    sym (ap (after_all (births (take c.loop-entry.entry-index es)) t)
+    let t = table_conditions c.loop-entry.table in
+    sym (ap (conditions_after_all (births (take c.loop-entry.entry-index es)) t)
     (drop_all c.loop-entry.entry-index es c.loop-entry-test.false))
     ∙ c.loop-entry.invariant.3 ∙ ap conditions c.items-entry-items.ensures
 
@@ -66,8 +66,10 @@ pub returns-clause-fit : goal.returns-clause-fit
 returns-clause-fit c =
     let es = c.items-entry-items.result.now in
     let whole = take_all c.loop-entry.entry-index es c.loop-entry-test.false ∙ c.items-entry-items.ensures in
-    let told = sym (ap (after_all (births (take c.loop-entry.entry-index es)) (seen c.loop-entry.table))
+    let told = sym (ap (conditions_after_all (births (take c.loop-entry.entry-index es))
+    (table_conditions c.loop-entry.table))
     (drop_all c.loop-entry.entry-index es c.loop-entry-test.false)) ∙ c.loop-entry.invariant.3
     ∙ ap conditions c.items-entry-items.ensures in
-    subst (AllFit (births c.args.journal.now.entries)) told
-    (subst (λ (xs : List Entry). AllFit (births xs) (seen c.loop-entry.table)) whole c.loop-entry.invariant.4)
+    subst (ConditionsFit (births c.args.journal.now.entries)) told
+    (subst (λ (xs : List Entry). ConditionsFit (births xs) (table_conditions c.loop-entry.table)) whole
+    c.loop-entry.invariant.4)

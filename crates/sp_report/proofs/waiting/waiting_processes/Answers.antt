@@ -1,6 +1,6 @@
 use Rattle.std.proofs.Common.{◌≡◌, ◌∙◌, sym, ap}
 use Rattle.sp_journal.specs.Births.{births}
-use Rattle.sp_report.specs.Fits.{seen}
+use Rattle.sp_report.specs.Fits.{table_conditions}
 use Rattle.sp_report.specs.Waiting.{is_waiting}
 use Rattle.sp_report.proofs.Orders.{one_fails, one_passes}
 use Rattle.sp_report.proofs.waiting.waiting_processes.Goals as goal
@@ -10,12 +10,15 @@ pub loop-process-preserved : goal.loop-process-preserved
 loop-process-preserved c =
     let s = births c.args.ledger.now.journal.entries in
     let p = c.loop-process.process in
-    let is : is_waiting ((seen c.args.table.now).of p) ≡ c.is_waiting.result = ap is_waiting (sym c.of.ensures)
+    let is : is_waiting ((table_conditions c.args.table.now).of p) ≡ c.is_waiting.result =
+    ap is_waiting (sym c.of.ensures)
     ∙ sym c.is_waiting.ensures in
     elim c.if-is_waiting.branch [
-      | then-is_waiting+in_ok-name+in_ok-insert w ↦ one_passes (λ q. is_waiting ((seen c.args.table.now).of q)) p s _ _
+      | then-is_waiting+in_ok-name+in_ok-insert w ↦ one_passes
+          (λ q. is_waiting ((table_conditions c.args.table.now).of q)) p s _ _
           _ c.loop-process.invariant (is ∙ w.if-is_waiting.true) w.in_ok-name.ensures
           ((λ i. (w.names-is i).entries) ∙ w.in_ok-insert.ensures.entries)
-      | else-is_waiting w ↦ one_fails (λ q. is_waiting ((seen c.args.table.now).of q)) p s _ _ c.loop-process.invariant
+      | else-is_waiting w ↦ one_fails (λ q. is_waiting ((table_conditions c.args.table.now).of q)) p s _ _
+          c.loop-process.invariant
           (is ∙ w.if-is_waiting.false) (λ i. (w.names-is i).entries)
     ]

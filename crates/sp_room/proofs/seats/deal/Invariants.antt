@@ -1,6 +1,6 @@
 use Rattle.std.proofs.Common.{◌≡◌, ◌+◌, ◌-◌, ◌<◌, [], Some, ℕ, slice_get, vec_len}
 use Rattle.std.specs.Vec.{vec_capacity}
-use Rattle.sp_room.specs.Roomed.{newborn}
+use Rattle.sp_room.specs.RoomRule.{newborn}
 use Rattle.sp_room.proofs.seats.deal.Given as goal
 
 abbrev pub invariant-loop-number : goal.invariant-loop-number

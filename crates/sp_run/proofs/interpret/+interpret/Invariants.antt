@@ -1,15 +1,16 @@
 use Rattle.std.proofs.Common.{◌≡◌, ◌+◌, ◌*◌}
 use Rattle.sp_run.specs.Items.{items_of}
-use Rattle.sp_run.specs.Machines.{setting_of, plain_who, plain_own, store_of}
-use Rattle.sp_run.specs.DirectDeeds.{all}
+use Rattle.sp_run.specs.Machines.{run_input_of, plain_identity, plain_local_state, store_of}
+use Rattle.sp_run.specs.DirectActions.{run_items}
 use Rattle.sp_run.proofs.interpret.+interpret.Given as goal
 
 abbrev pub invariant-all-loop-left : goal.invariant-all-loop-left
 invariant-all-loop-left l =
-    all (setting_of l.run) l.left (items_of l.todo.items) (plain_who l.who) (plain_own l.machine.own)
+    run_items (run_input_of l.run) l.left (items_of l.todo.items) (plain_identity l.who)
+    (plain_local_state l.machine.own)
     (store_of l.run l.machine.log) ≡
-    all (setting_of l.run) l.initial.left (items_of l.initial.todo.items) (plain_who l.who)
-    (plain_own l.initial.machine.own) (store_of l.run l.initial.machine.log)
+    run_items (run_input_of l.run) l.initial.left (items_of l.initial.todo.items) (plain_identity l.who)
+    (plain_local_state l.initial.machine.own) (store_of l.run l.initial.machine.log)
 
 abbrev pub decreases-all-loop-left : goal.decreases-all-loop-left
 decreases-all-loop-left l = l.left

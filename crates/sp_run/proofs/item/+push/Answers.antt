@@ -4,7 +4,7 @@ use Rattle.sp_tree.specs.Plain.{Sequence}
 use Rattle.sp_tree.specs.PlainOf.{stmt_of}
 use Rattle.sp_tree.specs.CheckedOf as placed
 use Rattle.sp_tree.specs.Bare.{bare_statements}
-use Rattle.sp_tree.proofs.Singles.{sends_bare, receives_bare}
+use Rattle.sp_tree.proofs.SingleStatements.{sends_bare, receives_bare}
 use Rattle.sp_run.specs.Items.{items_of}
 use Rattle.sp_run.proofs.Pushing.{stmts_back}
 use Rattle.sp_run.proofs.item.+push.Goals as goal

@@ -1,6 +1,6 @@
 use Rattle.std.proofs.Common.{◌≡◌, ◌≤◌, take, length}
 use Rattle.sp_tree.specs.PlainOf.{stmts_of}
-use Rattle.sp_meaning.specs.Deeds.{push_all}
+use Rattle.sp_meaning.specs.Actions.{push_all}
 use Rattle.sp_run.specs.Items.{items_of}
 use Rattle.sp_run.proofs.item.+push.Given as goal
 

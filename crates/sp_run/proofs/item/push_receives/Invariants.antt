@@ -2,7 +2,7 @@ use Rattle.std.proofs.Common.{◌≡◌, ◌≤◌, map, take, length}
 use Rattle.sp_tree.specs.declared.checked.Var.{Var}
 use Rattle.sp_tree.specs.Plain.{Receive}
 use Rattle.sp_tree.specs.PlainOf.{stmts, receives, expr_of, var_of}
-use Rattle.sp_meaning.specs.Deeds.{push_all}
+use Rattle.sp_meaning.specs.Actions.{push_all}
 use Rattle.sp_run.specs.Items.{items_of}
 use Rattle.sp_run.proofs.item.push_receives.Given as goal
 

@@ -2,7 +2,7 @@ use Rattle.std.proofs.Common.{◌≡◌, ◌≤◌, map, take, length}
 use Rattle.sp_tree.specs.declared.checked.Expr.{Expr}
 use Rattle.sp_tree.specs.Plain.{Send}
 use Rattle.sp_tree.specs.PlainOf.{stmts, sends, expr_of}
-use Rattle.sp_meaning.specs.Deeds.{push_all}
+use Rattle.sp_meaning.specs.Actions.{push_all}
 use Rattle.sp_run.specs.Items.{items_of}
 use Rattle.sp_run.proofs.item.push_sends.Given as goal
 

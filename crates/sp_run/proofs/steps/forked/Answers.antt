@@ -1,5 +1,5 @@
 use Rattle.std.proofs.Common.{◌≡◌, ◌+◌, ap}
-use Rattle.sp_meaning.specs.Own as o
+use Rattle.sp_meaning.specs.LocalWork as o
 use Rattle.sp_meaning.specs.SuperPascal.{with_todo}
 use Rattle.sp_run.specs.States.{plain_process}
 use Rattle.sp_run.proofs.steps.forked.Goals as goal

@@ -1,27 +1,27 @@
 use Rattle.std.proofs.Common.{◌≡◌, ◌+◌, [], ◌∷◌, length, ap, ◌∙◌}
-use Rattle.sp_meaning.specs.Own as o
+use Rattle.sp_meaning.specs.LocalWork as o
 use Rattle.sp_meaning.specs.Model.{Becomes, Joins}
 use Rattle.sp_meaning.specs.SuperPascal.{with_todo}
-use Rattle.sp_meaning.specs.Deeds.{newborns}
-use Rattle.sp_run.specs.Machines.{plain_own, plain_who}
+use Rattle.sp_meaning.specs.Actions.{new_processes}
+use Rattle.sp_run.specs.Machines.{plain_local_state, plain_identity}
 use Rattle.sp_run.specs.Items.{items_of}
-use Rattle.sp_run.specs.Doings.{births_of}
+use Rattle.sp_run.specs.ActionViews.{births_of}
 use Rattle.sp_run.specs.States.{plain_process, forks_of, Changes}
 use Rattle.sp_run.proofs.Changing.{ok_then, made_children}
 use Rattle.sp_run.proofs.steps.makes_children.Goals as goal
 
 pub returns : goal.returns
 returns c =
-    let os = newborns (plain_who c.args.parent.now.who) (plain_own c.args.parent.now.own) 0
+    let os = new_processes (plain_identity c.args.parent.now.who) (plain_local_state c.args.parent.now.own) 0
     (births_of c.args.children) in
     let k : c.count_of-count.result ≡ length os =
-    c.count_of-count.ensures (plain_who c.args.parent.now.who) (plain_own c.args.parent.now.own) in
+    c.count_of-count.ensures (plain_identity c.args.parent.now.who) (plain_local_state c.args.parent.now.own) in
     let next : o.Process = with_todo (items_of c.args.parent.now.todo.items)
     (record {
       name = c.args.parent.now.who.name;
       forks = c.args.parent.now.who.forks + 1;
       opens = c.args.parent.now.who.opens;
-    }) (plain_own c.args.parent.now.own) in
+    }) (plain_local_state c.args.parent.now.own) in
     let f : c.forks_made-fork.result ≡ forks_of c.args.s.now.forks c.args.p.now = c.forks_made-fork.ensures
     ∙ ap (λ x. forks_of x c.args.p.now) c.items.ensures in
     let q : plain_process c.in_ok-next.next ≡ next = c.in_ok-next.ensures in

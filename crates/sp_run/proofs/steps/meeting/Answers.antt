@@ -1,6 +1,6 @@
 use Rattle.sp_run.specs.Views.{plain_channel, plain_address, plain_value}
 use Rattle.sp_run.specs.States.{plain_process}
-use Rattle.sp_meaning.specs.Own.{Tree}
+use Rattle.sp_meaning.specs.LocalWork.{Tree}
 use Rattle.sp_run.proofs.Changing.{ok_then, meeting_is}
 use Rattle.sp_run.proofs.steps.meeting.Goals as goal
 

@@ -3,8 +3,8 @@ use Rattle.sp_run.proofs.steps.stops.Goals as goal
 pub returns-in-Fault : goal.returns-in-Fault
 returns-in-Fault c = λ w. rw c.in-Fault.is c.fails.ensures
 
-pub returns-in-Lost : goal.returns-in-Lost
-returns-in-Lost c = λ w. rw c.in-Lost.is c.fails-in-Lost.ensures
+pub returns-in-IllFormed : goal.returns-in-IllFormed
+returns-in-IllFormed c = λ w. rw c.in-IllFormed.is c.fails-in-IllFormed.ensures
 
-pub returns-in-Long : goal.returns-in-Long
-returns-in-Long c = λ w. rw c.in-Long.is c.fails-in-Long.ensures
+pub returns-in-OutOfFuel : goal.returns-in-OutOfFuel
+returns-in-OutOfFuel c = λ w. rw c.in-OutOfFuel.is c.fails-in-OutOfFuel.ensures

@@ -1,7 +1,7 @@
 use Rattle.std.proofs.Common.{◌≡◌, ◌∙◌, ap, subst, ℕ}
 use Rattle.sp_code.specs.declared.code.Parts.{Parts}
 use Rattle.sp_code.specs.Control.{entries_of}
-use Rattle.sp_code.specs.Memory.{Setting}
+use Rattle.sp_code.specs.Memory.{CodeRun}
 use Rattle.sp_code.specs.Sound.{run_of}
 use Rattle.sp_history.specs.Holding.{IsOutputOf}
 use Rattle.sp_room.specs.Ends.{object_of, notes_of}
@@ -25,7 +25,7 @@ returns g c =
     if_closed (λ z. EndIs y z.end) (λ z. z.journal.entries ≡ entries_of log) (λ z. y.abandons ≡ 0 → (q : ℕ)
     × IsOutputOf (system_of y) q z.output)
     (λ z. IsRun (run_of c.args.code.value c.args.input.value c.args.limits.now) c.args.workers z)
-    (λ z e j o. subst (λ (s : Setting). IsRun s c.args.workers z) same
+    (λ z e j o. subst (λ (s : CodeRun). IsRun s c.args.workers z) same
     (closed_run c.args.workers x c.in_ok-kernel.ensures.opening log y c.requires.workers.0 c.in_ok-settled.ensures z
     e j o c.close.ensures.idle))
     c.close.result c.close.ensures.end c.close.ensures.journal c.close.ensures.output

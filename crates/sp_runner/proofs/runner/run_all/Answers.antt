@@ -8,10 +8,10 @@ use Rattle.std.proofs.Common.{◌≡◌, ◌∙◌, sym, ap, subst, Some, None, 
 use Rattle.std.proofs.lemmas.Option.{slice_get_read, slice_get_within, get_or_from_slice_get}
 use Rattle.sp_room.specs.Seats.{IsSeatAt, SamePlace, seen_by, own_of}
 use Rattle.sp_room.proofs.Places.{stays_of, stays_at}
-use Rattle.sp_history.specs.Lines.{OneByOne}
+use Rattle.sp_history.specs.WorkerHistory.{OneByOne}
 use Rattle.sp_runner.proofs.Seating.{new_seat}
-use Rattle.sp_runner.specs.Works.{IsRunOf, Left}
-use Rattle.sp_kernel.specs.Asks.{Steps}
+use Rattle.sp_runner.specs.Works.{IsRunOf, LeftAfter}
+use Rattle.sp_kernel.specs.Asks.{KernelSteps}
 use Rattle.sp_kernel.specs.declared.kernel.Kernel.{Kernel}
 use Rattle.sp_room.specs.declared.seat.RoomSeat.{RoomSeat}
 use Rattle.sp_room.specs.History.{LeadsTo}
@@ -90,13 +90,13 @@ returns g c =
     ∙ c.in-Ok.ensures.count in
     let f = first_of c.in-Ok-done.seats.items (omega (arith, long, count, c.requires.workers.0)) in
     let e = (c.in-Ok-done.ensures.each 0 f.0 (omega (arith, count, c.requires.workers.0))).1 in
-    let left : Left (seen_by f.0) = subst (λ (t : RoomSeat _ _ _ _ _). Left (seen_by t))
+    let left : LeftAfter (seen_by f.0) = subst (λ (t : RoomSeat _ _ _ _ _). LeftAfter (seen_by t))
     (get_or_from_slice_get c.in-Ok-done.seats.items 0 f.0 f.0 f.1) e.call.met.1 in
     let up : y.abandons ≡ 0 = ap (λ (z : Kernel). z.abandons) (sym c.object.ensures)
     ∙ none_if_not_above c.object.result.now.abandons (sym c.gave_up.ensures ∙ c.if-gave_up.false) in
     record {
       ran = ran_to x c.requires.run.opening log y
-          (subst (λ (z : Kernel). LeadsTo Steps z log y) c.in-Ok.ensures.opening c.close-settled.ensures.legal)
+          (subst (λ (z : Kernel). LeadsTo KernelSteps z log y) c.in-Ok.ensures.opening c.close-settled.ensures.legal)
           (seen_by f.0) (c.close-settled.ensures.seen 0 f.0 (ap (λ l. slice_get l 0) c.of.ensures ∙ f.1)) left up;
       kept = up;
       calls = λ w l.

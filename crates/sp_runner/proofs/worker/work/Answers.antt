@@ -3,16 +3,17 @@ use Rattle.sp_code.specs.declared.code.Parts.{Parts}
 use Rattle.sp_code.specs.Sound.{HasDistinctBlocks}
 use Rattle.sp_code.specs.Formals.{HaveFormals}
 use Rattle.sp_room.specs.Seats.{seat_view, own_of, opening_of}
-use Rattle.sp_room.specs.Roomed.{Called, Declined}
+use Rattle.sp_room.specs.RoomRule.{Called, Declined}
 use Rattle.sp_room.proofs.Places.{same_again, stays_of}
 use Rattle.sp_kernel.specs.declared.kernel.Kernel.{Kernel}
 use Rattle.sp_kernel.specs.declared.ask.Ask.TheVariants as ask
 use Rattle.sp_kernel.specs.declared.ask.Got.{Got}
 use Rattle.sp_kernel.specs.declared.ask.Got.TheVariants as got
-use Rattle.sp_kernel.specs.Asks.{Steps, refusal, is_abandon, MayAsk}
-use Rattle.sp_runner.specs.Works.{IsNext}
+use Rattle.sp_kernel.specs.Asks.{KernelSteps, refusal, is_abandon, MayAsk}
+use Rattle.sp_runner.specs.Works.{IsNextAsk}
 use Rattle.sp_runner.proofs.Handing.{IsAfter, after, gives_up_next, starts_next}
-use Rattle.sp_runner.proofs.Working.{Has, got_work_so, is_ranked, may_hand_in, may_turn, may_lose, may_give_up}
+use Rattle.sp_runner.proofs.Working.{HasProcessOut, got_work_so, is_ranked, may_hand_in, may_turn, may_lose}
+use Rattle.sp_runner.proofs.Working.{may_give_up}
 use Rattle.sp_runner.proofs.Ending.{finished, gave_up}
 use Rattle.sp_runner.proofs.worker.work.Goals as goal
 
@@ -49,10 +50,11 @@ pub turn-requires-clause-ranked : goal.turn-requires-clause-ranked
 turn-requires-clause-ranked g c =
     let x : Kernel = opening_of c.args.room.now in let v = seat_view c.loop.seat in
     let w = seat_view c.serve.new.self in
-    let has : Has x w.seen w.number c.in-Work.proc = got_work_so x c.requires.run.opening v w c.loop.ask c.in-Work.proc
-    c.serve.ensures.place.number (subst (λ (r : Got). Called Steps x v c.loop.ask r w
+    let has : HasProcessOut x w.seen w.number c.in-Work.proc =
+    got_work_so x c.requires.run.opening v w c.loop.ask c.in-Work.proc
+    c.serve.ensures.place.number (subst (λ (r : Got). Called KernelSteps x v c.loop.ask r w
     ⊎ ((is_abandon c.loop.ask ≡ false)
-    × Declined Steps refusal x v c.loop.ask r w)) c.in-Work.is c.serve.ensures.call) in
+    × Declined KernelSteps refusal x v c.loop.ask r w)) c.in-Work.is c.serve.ensures.call) in
     is_ranked x c.args.code.now c.args.limits.now c.requires.run w.seen w.number c.in-Work.proc has
 
 pub turn-requires-clause-blocks : goal.turn-requires-clause-blocks
@@ -67,10 +69,11 @@ pub turn-requires-clause-safe : goal.turn-requires-clause-safe
 turn-requires-clause-safe g c =
     let x : Kernel = opening_of c.args.room.now in let v = seat_view c.loop.seat in
     let w = seat_view c.serve.new.self in
-    let has : Has x w.seen w.number c.in-Work.proc = got_work_so x c.requires.run.opening v w c.loop.ask c.in-Work.proc
-    c.serve.ensures.place.number (subst (λ (r : Got). Called Steps x v c.loop.ask r w
+    let has : HasProcessOut x w.seen w.number c.in-Work.proc =
+    got_work_so x c.requires.run.opening v w c.loop.ask c.in-Work.proc
+    c.serve.ensures.place.number (subst (λ (r : Got). Called KernelSteps x v c.loop.ask r w
     ⊎ ((is_abandon c.loop.ask ≡ false)
-    × Declined Steps refusal x v c.loop.ask r w)) c.in-Work.is c.serve.ensures.call) in
+    × Declined KernelSteps refusal x v c.loop.ask r w)) c.in-Work.is c.serve.ensures.call) in
     may_turn x c.args.code.now c.args.limits.now c.requires.run w.seen w.number c.in-Work.proc has
 
 pub serve-requires-in-Memory-clause-seat : goal.serve-requires-in-Memory-clause-seat
@@ -85,10 +88,11 @@ pub serve-requires-in-Memory-clause-asks : goal.serve-requires-in-Memory-clause-
 serve-requires-in-Memory-clause-asks g c =
     let x : Kernel = opening_of c.args.room.now in let v = seat_view c.loop.seat in
     let w = seat_view c.serve.new.self in
-    let has : Has x w.seen w.number c.in-Work.proc = got_work_so x c.requires.run.opening v w c.loop.ask c.in-Work.proc
-    c.serve.ensures.place.number (subst (λ (r : Got). Called Steps x v c.loop.ask r w
+    let has : HasProcessOut x w.seen w.number c.in-Work.proc =
+    got_work_so x c.requires.run.opening v w c.loop.ask c.in-Work.proc
+    c.serve.ensures.place.number (subst (λ (r : Got). Called KernelSteps x v c.loop.ask r w
     ⊎ ((is_abandon c.loop.ask ≡ false)
-    × Declined Steps refusal x v c.loop.ask r w)) c.in-Work.is c.serve.ensures.call) in
+    × Declined KernelSteps refusal x v c.loop.ask r w)) c.in-Work.is c.serve.ensures.call) in
     may_lose x c.args.code.now c.args.limits.now c.requires.run w.seen w.number c.in-Work.proc has w.own c.turn.new.self
     c.serve.ensures.own c.turn.ensures.same
 
@@ -107,9 +111,9 @@ returns-in-Memory-clause-calls g c =
     let x : Kernel = opening_of c.args.room.now in let v = seat_view c.loop.seat in
     let w = seat_view c.serve.new.self in
     let held : IsAfter w.own (got.Work c.in-Work.proc) = after x v w c.loop.ask
-    (got.Work c.in-Work.proc) c.loop.invariant.may.next (subst (λ (r : Got). Called Steps x v c.loop.ask r w
+    (got.Work c.in-Work.proc) c.loop.invariant.may.next (subst (λ (r : Got). Called KernelSteps x v c.loop.ask r w
     ⊎ ((is_abandon c.loop.ask ≡ false)
-    × Declined Steps refusal x v c.loop.ask r w)) c.in-Work.is c.serve.ensures.call) in
+    × Declined KernelSteps refusal x v c.loop.ask r w)) c.in-Work.is c.serve.ensures.call) in
     (after x w (seat_view c.serve-in-Memory.new.self) (ask.Abandon (Some c.turn.new.self)) c.serve-in-Memory.result
     (held.0, held.1 ∙ ap (λ n. Some n) (sym c.turn.ensures.same.0)) c.serve-in-Memory.ensures.call).0
 
@@ -117,10 +121,11 @@ pub loop-preserved-in_default : goal.loop-preserved-in_default
 loop-preserved-in_default g c =
     let x : Kernel = opening_of c.args.room.now in let v = seat_view c.loop.seat in
     let w = seat_view c.serve.new.self in
-    let call = subst (λ (r : Got). Called Steps x v c.loop.ask r w
+    let call = subst (λ (r : Got). Called KernelSteps x v c.loop.ask r w
     ⊎ ((is_abandon c.loop.ask ≡ false)
-    × Declined Steps refusal x v c.loop.ask r w)) c.in-Work.is c.serve.ensures.call in
-    let has : Has x w.seen w.number c.in-Work.proc = got_work_so x c.requires.run.opening v w c.loop.ask c.in-Work.proc
+    × Declined KernelSteps refusal x v c.loop.ask r w)) c.in-Work.is c.serve.ensures.call in
+    let has : HasProcessOut x w.seen w.number c.in-Work.proc =
+    got_work_so x c.requires.run.opening v w c.loop.ask c.in-Work.proc
     c.serve.ensures.place.number call in
     let held : IsAfter w.own (got.Work c.in-Work.proc) = after x v w c.loop.ask
     (got.Work c.in-Work.proc) c.loop.invariant.may.next call in
@@ -153,9 +158,9 @@ loop-preserved g c =
         asks = (c.serve.ensures.own, tt {0});
         more = refl;
         next = after x v w c.loop.ask got.Nothing c.loop.invariant.may.next
-            (subst (λ (r : Got). Called Steps x v c.loop.ask r w
+            (subst (λ (r : Got). Called KernelSteps x v c.loop.ask r w
             ⊎ ((is_abandon c.loop.ask ≡ false)
-            × Declined Steps refusal x v c.loop.ask r w)) c.in-Nothing.is c.serve.ensures.call);
+            × Declined KernelSteps refusal x v c.loop.ask r w)) c.in-Nothing.is c.serve.ensures.call);
       };
     }
 
@@ -167,9 +172,9 @@ pub returns-in-Finished-clause-left : goal.returns-in-Finished-clause-left
 returns-in-Finished-clause-left g c =
     let x : Kernel = opening_of c.args.room.now in let v = seat_view c.loop.seat in
     let w = seat_view c.serve.new.self in
-    finished x c.requires.run.opening v w c.loop.ask (subst (λ (r : Got). Called Steps x v c.loop.ask r w
+    finished x c.requires.run.opening v w c.loop.ask (subst (λ (r : Got). Called KernelSteps x v c.loop.ask r w
     ⊎ ((is_abandon c.loop.ask ≡ false)
-    × Declined Steps refusal x v c.loop.ask r w)) c.in-Finished.is c.serve.ensures.call)
+    × Declined KernelSteps refusal x v c.loop.ask r w)) c.in-Finished.is c.serve.ensures.call)
 
 pub returns-in-Finished-clause-calls : goal.returns-in-Finished-clause-calls
 returns-in-Finished-clause-calls g c =
@@ -191,9 +196,10 @@ serve-requires-in-Refused-clause-asks g c =
     subst (λ o. MayAsk (opening_of c.args.room.now) w.number w.seen w.own (ask.Abandon o)) (sym c.held.ensures)
     (may_give_up (opening_of c.args.room.now) c.requires.run.opening v w c.loop.ask c.in-Refused.handed
     c.serve.ensures.place.number c.serve.ensures.seen c.serve.ensures.own c.loop.invariant.may.asks
-    (subst (λ (r : Got). Called Steps (opening_of c.args.room.now) v c.loop.ask r w
+    (subst (λ (r : Got). Called KernelSteps (opening_of c.args.room.now) v c.loop.ask r w
     ⊎ ((is_abandon c.loop.ask ≡ false)
-    × Declined Steps refusal (opening_of c.args.room.now) v c.loop.ask r w)) c.in-Refused.is c.serve.ensures.call))
+    × Declined KernelSteps refusal (opening_of c.args.room.now) v c.loop.ask r w)) c.in-Refused.is
+    c.serve.ensures.call))
 
 pub returns-in-Refused-clause-place : goal.returns-in-Refused-clause-place
 returns-in-Refused-clause-place g c = same_again c.args.seat c.loop.seat c.serve-in-Refused.new.self
@@ -210,9 +216,10 @@ returns-in-Refused-clause-calls g c =
     let x : Kernel = opening_of c.args.room.now in let v = seat_view c.loop.seat in
     let w = seat_view c.serve.new.self in
     let held : IsAfter w.own (got.Refused c.in-Refused.handed) = after x v w c.loop.ask
-    (got.Refused c.in-Refused.handed) c.loop.invariant.may.next (subst (λ (r : Got). Called Steps x v c.loop.ask r w
+    (got.Refused c.in-Refused.handed) c.loop.invariant.may.next
+    (subst (λ (r : Got). Called KernelSteps x v c.loop.ask r w
     ⊎ ((is_abandon c.loop.ask ≡ false)
-    × Declined Steps refusal x v c.loop.ask r w)) c.in-Refused.is c.serve.ensures.call) in
+    × Declined KernelSteps refusal x v c.loop.ask r w)) c.in-Refused.is c.serve.ensures.call) in
     (after x w (seat_view c.serve-in-Refused.new.self) (ask.Abandon c.held.result) c.serve-in-Refused.result
-    (subst (λ o. IsNext w.own (ask.Abandon o)) (sym c.held.ensures)
+    (subst (λ o. IsNextAsk w.own (ask.Abandon o)) (sym c.held.ensures)
     (gives_up_next w.own c.in-Refused.handed held)) c.serve-in-Refused.ensures.call).0

@@ -5,7 +5,7 @@ use Rattle.sp_tree.specs.SyntaxOf.{block_of}
 use Rattle.sp_tree.specs.declared.syntax.SynPart.TheFolds.{the_lemmas}
 use Rattle.sp_tree.specs.SyntaxOf.{part_of}
 use Rattle.sp_tree.specs.PlainSyntax as p
-use Rattle.sp_tree.specs.Scopes.{inside}
+use Rattle.sp_tree.specs.Scopes.{inner_env}
 use Rattle.sp_tree.specs.NameWalk.{title_local}
 use Rattle.sp_scope.specs.Walks.{seen_block}
 use Rattle.sp_scope.proofs.Tables.{beside_beside, beside_nothing}
@@ -29,7 +29,7 @@ pub name_titled-returns-clause-found : goal.name_titled-returns-clause-found
 name_titled-returns-clause-found t c =
     block_found c.args.h c.args.x.now c.args.fs.now c.args.answer.now (block_of c.args.b).parts (block_of c.args.b).body
     c.args.first
-    _ (inside c.args.scopes.now.around (title_local c.args.scopes.now.local c.args.x.now c.args.fs.now
+    _ (inner_env c.args.scopes.now.around (title_local c.args.scopes.now.local c.args.x.now c.args.fs.now
     c.args.answer.now))
     (seen_block c.in_ok-inner.inner.tree) c.in_ok-inner.inner.first (named.program_of c.in_ok-tree.tree)
     c.in_ok-declare_title.ensures.after c.in_ok-inner.ensures.found c.in_ok-tree.ensures

@@ -1,5 +1,5 @@
 use Rattle.std.proofs.Common.{◌≡◌, drop}
-use Rattle.sp_tree.specs.Scopes.{inside}
+use Rattle.sp_tree.specs.Scopes.{inner_env}
 use Rattle.sp_tree.specs.NameWalk.{constants_local}
 use Rattle.sp_scope.specs.Firsts.{enumerated_first}
 use Rattle.sp_scope.proofs.parts.declare_constants.Given as goal
@@ -8,5 +8,5 @@ abbrev pub invariant-loop-x : goal.invariant-loop-x
 invariant-loop-x l =
     (enumerated_first l.scopes.around l.scopes.local (drop l.x-index l.xs) l.first
     ≡ enumerated_first l.fn.scopes.around l.fn.scopes.local l.xs l.fn.first) ×
-    (inside l.scopes.around (constants_local l.scopes.local (drop l.x-index l.xs))
-    ≡ inside l.fn.scopes.around (constants_local l.fn.scopes.local l.xs))
+    (inner_env l.scopes.around (constants_local l.scopes.local (drop l.x-index l.xs))
+    ≡ inner_env l.fn.scopes.around (constants_local l.fn.scopes.local l.xs))

@@ -1,6 +1,6 @@
 use Rattle.std.proofs.Common.{◌≡◌, ◌++◌, map}
 use Rattle.std.specs.Vec.Iter.{into_iter_items}
-use Rattle.sp_tree.specs.Scopes.{inside}
+use Rattle.sp_tree.specs.Scopes.{inner_env}
 use Rattle.sp_tree.specs.NameWalk.{statements_local, arms_local, branches_local}
 use Rattle.sp_tree.specs.NamedTree.{named_statements, named_arms, named_branches}
 use Rattle.sp_tree.specs.NamedOf as named
@@ -18,9 +18,9 @@ invariant-name_statements-loop-s l =
     (statements_first l.scopes.around l.scopes.local (statements (map statement_of (into_iter_items l.s-iterator)))
     l.first ≡ statements_first l.fn.scopes.around l.fn.scopes.local (statements (map statement_of l.fn.ss))
     l.fn.first) ×
-    (inside l.scopes.around (statements_local l.scopes.local
+    (inner_env l.scopes.around (statements_local l.scopes.local
     (statements (map statement_of (into_iter_items l.s-iterator))))
-    ≡ inside l.fn.scopes.around (statements_local l.fn.scopes.local (statements (map statement_of l.fn.ss))))
+    ≡ inner_env l.fn.scopes.around (statements_local l.fn.scopes.local (statements (map statement_of l.fn.ss))))
 
 abbrev pub invariant-name_arms-loop-a : goal.invariant-name_arms-loop-a
 invariant-name_arms-loop-a l =
@@ -31,8 +31,8 @@ invariant-name_arms-loop-a l =
     ≡ named_arms l.fn.scopes.around l.fn.scopes.local (arms (map arm_of l.fn.choices))) ×
     (arms_first l.scopes.around l.scopes.local (arms (map arm_of (into_iter_items l.a-iterator))) l.first
     ≡ arms_first l.fn.scopes.around l.fn.scopes.local (arms (map arm_of l.fn.choices)) l.fn.first) ×
-    (inside l.scopes.around (arms_local l.scopes.local (arms (map arm_of (into_iter_items l.a-iterator))))
-    ≡ inside l.fn.scopes.around (arms_local l.fn.scopes.local (arms (map arm_of l.fn.choices))))
+    (inner_env l.scopes.around (arms_local l.scopes.local (arms (map arm_of (into_iter_items l.a-iterator))))
+    ≡ inner_env l.fn.scopes.around (arms_local l.fn.scopes.local (arms (map arm_of l.fn.choices))))
 
 abbrev pub invariant-name_branches-loop-b : goal.invariant-name_branches-loop-b
 invariant-name_branches-loop-b l =
@@ -43,5 +43,5 @@ invariant-name_branches-loop-b l =
     ≡ named_branches l.fn.scopes.around l.fn.scopes.local (branches (map branch_of l.fn.bs))) ×
     (branches_first l.scopes.around l.scopes.local (branches (map branch_of (into_iter_items l.b-iterator))) l.first
     ≡ branches_first l.fn.scopes.around l.fn.scopes.local (branches (map branch_of l.fn.bs)) l.fn.first) ×
-    (inside l.scopes.around (branches_local l.scopes.local (branches (map branch_of (into_iter_items l.b-iterator))))
-    ≡ inside l.fn.scopes.around (branches_local l.fn.scopes.local (branches (map branch_of l.fn.bs))))
+    (inner_env l.scopes.around (branches_local l.scopes.local (branches (map branch_of (into_iter_items l.b-iterator))))
+    ≡ inner_env l.fn.scopes.around (branches_local l.fn.scopes.local (branches (map branch_of l.fn.bs))))

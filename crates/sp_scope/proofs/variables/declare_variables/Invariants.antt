@@ -1,5 +1,5 @@
 use Rattle.std.proofs.Common.{◌≡◌, drop}
-use Rattle.sp_tree.specs.Scopes.{inside}
+use Rattle.sp_tree.specs.Scopes.{inner_env}
 use Rattle.sp_tree.specs.NameWalk.{names_local}
 use Rattle.sp_scope.specs.Firsts.{names_first}
 use Rattle.sp_scope.proofs.variables.declare_variables.Given as goal
@@ -8,5 +8,5 @@ abbrev pub invariant-loop-x : goal.invariant-loop-x
 invariant-loop-x l =
     (names_first l.scopes.around l.role l.scopes.local (drop l.x-index l.xs) l.first
     ≡ names_first l.fn.scopes.around l.role l.fn.scopes.local l.xs l.fn.first) ×
-    (inside l.scopes.around (names_local l.role l.scopes.local (drop l.x-index l.xs))
-    ≡ inside l.fn.scopes.around (names_local l.role l.fn.scopes.local l.xs))
+    (inner_env l.scopes.around (names_local l.role l.scopes.local (drop l.x-index l.xs))
+    ≡ inner_env l.fn.scopes.around (names_local l.role l.fn.scopes.local l.xs))

@@ -2,7 +2,7 @@ use Rattle.std.proofs.Common.{◌≡◌, sym, subst, length, List, Some}
 use Rattle.std.specs.Prelude.{slice_get}
 use Rattle.sp_base.proofs.Facts.{on_map}
 use Rattle.sp_code.specs.declared.code.ChildTable.{ChildTable}
-use Rattle.sp_shapes.specs.Starts.{Adds, IsMadeAt, IsOfChildren}
+use Rattle.sp_shapes.specs.Starts.{AddsStarts, IsMadeAt, IsOfChildren}
 use Rattle.sp_shapes.proofs.Starting.{of_child, made_is, adds_as}
 use Rattle.sp_shapes.proofs.begin.begin_at.Goals as goal
 
@@ -20,7 +20,8 @@ returns-in-Some-table c =
     let xs = c.args.arrivals.now in
     let ys = c.begin_children.new.arrivals in
     let ts = c.items.result.now in
-    on_map c.begin_children.result (Adds code (IsOfChildren ts (length ts)) xs ys) (Adds code (IsMadeAt code p) xs ys)
+    on_map c.begin_children.result (AddsStarts code (IsOfChildren ts (length ts)) xs ys)
+    (AddsStarts code (IsMadeAt code p) xs ys)
     (λ h. adds_as code (IsOfChildren ts (length ts)) (IsMadeAt code p) xs ys
     (λ q m. subst (λ (z : List ChildTable). IsOfChildren z (length z) q) (sym c.items.ensures)
     (made_is code p c.in-Some.t tb (sym c.in-Some.ensures) (sym c.in-Some-table.ensures) q m)) h)

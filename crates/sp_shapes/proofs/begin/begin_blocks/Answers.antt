@@ -5,7 +5,7 @@ use Rattle.sp_code.specs.declared.code.Layout.{Layout}
 use Rattle.sp_code.specs.declared.code.Parts.{Parts}
 use Rattle.sp_code.specs.Machine.{layout_of}
 use Rattle.sp_shapes.specs.declared.steps.Arrival.{Arrival}
-use Rattle.sp_shapes.specs.Starts.{Adds, IsOfLayouts}
+use Rattle.sp_shapes.specs.Starts.{AddsStarts, IsOfLayouts}
 use Rattle.sp_shapes.proofs.Starting.{adds_then, adds_as, one_less, one_more, of_block}
 use Rattle.sp_shapes.proofs.begin.begin_blocks.Goals as goal
 use Rattle.sp_shapes.proofs.begin.begin_blocks.Goals.{in-None, in-Some+in_ok-start-in-Some}
@@ -28,11 +28,11 @@ loop-l-preserved c =
     let find : layout_of c.parts.result.now.layouts l.block
     ≡ layout_of code.layouts l.block = ap (λ (z : Parts). layout_of z.layouts l.block) c.parts.ensures.same in
     elim c.match-find.branch [
-      | in-None w ↦ subst (λ (zs : List Arrival). Adds code (IsOfLayouts code (n + 1)) xs zs) (sym w.arrivals-is)
+      | in-None w ↦ subst (λ (zs : List Arrival). AddsStarts code (IsOfLayouts code (n + 1)) xs zs) (sym w.arrivals-is)
           (adds_as code (IsOfLayouts code n) (IsOfLayouts code (n + 1)) xs c.loop-l.arrivals
           (λ q h. one_less code n q l None g (w.in-None.ensures ∙ find) h (λ m e f. absurd (none-some m e)))
           c.loop-l.invariant)
-      | in-Some+in_ok-start-in-Some w ↦ subst (λ (zs : List Arrival). Adds code (IsOfLayouts code (n + 1)) xs zs)
+      | in-Some+in_ok-start-in-Some w ↦ subst (λ (zs : List Arrival). AddsStarts code (IsOfLayouts code (n + 1)) xs zs)
           (sym w.arrivals-is)
           (adds_then code (IsOfLayouts code n) (λ q. q ≡ w.in-Some.m.now.entry) (IsOfLayouts code (n + 1)) xs
           c.loop-l.arrivals w.start.new.arrivals

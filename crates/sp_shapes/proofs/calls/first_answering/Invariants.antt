@@ -1,5 +1,5 @@
 use Rattle.sp_areas.specs.Alone.{LayoutFails}
-use Rattle.sp_areas.specs.Least.{IsLeast, Upto}
+use Rattle.sp_areas.specs.LeastPlaces.{IsLeast, Upto}
 use Rattle.sp_shapes.specs.Reached.{answers_by_reference}
 use Rattle.sp_shapes.proofs.calls.first_answering.Given as goal
 

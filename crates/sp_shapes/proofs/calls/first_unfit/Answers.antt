@@ -2,7 +2,7 @@ use Rattle.std.proofs.Common.{◌∙◌, subst, sym, ap, length, List}
 use Rattle.sp_code.specs.declared.code.Layout.{Layout}
 use Rattle.sp_code.specs.declared.code.Parts.{Parts}
 use Rattle.sp_areas.specs.Alone.{LayoutFails}
-use Rattle.sp_areas.specs.Least.{IsLeast, Upto}
+use Rattle.sp_areas.specs.LeastPlaces.{IsLeast, Upto}
 use Rattle.sp_rules.specs.Rules.{BreaksV5}
 use Rattle.sp_shapes.specs.Reached.{answers_by_reference}
 use Rattle.sp_shapes.proofs.Reaching.{least_unfit}

@@ -1,5 +1,5 @@
 use Rattle.std.proofs.Common.{sym, subst}
-use Rattle.sp_areas.specs.Least.{IsLeast}
+use Rattle.sp_areas.specs.LeastPlaces.{IsLeast}
 use Rattle.sp_rules.specs.Rules.{BreaksV4}
 use Rattle.sp_shapes.proofs.Measuring.{least_length}
 use Rattle.sp_shapes.proofs.messages.first_length.Goals as goal

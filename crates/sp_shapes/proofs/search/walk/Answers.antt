@@ -1,7 +1,7 @@
 use Rattle.std.proofs.Common.{◌≡◌, sym, ap, Some}
 use Rattle.sp_base.proofs.Facts.{on_map}
-use Rattle.sp_shapes.specs.Search.{Walks, waiting}
-use Rattle.sp_shapes.proofs.Walks.{fails, goes_far}
+use Rattle.sp_shapes.specs.Search.{WalkOutcome, with_arrival}
+use Rattle.sp_shapes.proofs.SearchSteps.{fails, goes_far}
 use Rattle.sp_shapes.proofs.search.walk.Goals as goal
 
 pub returns-in-Wrong : goal.returns-in-Wrong
@@ -13,8 +13,8 @@ returns-in-Wrong c =
 
 pub returns-in_ok-wait-in-To : goal.returns-in_ok-wait-in-To
 returns-in_ok-wait-in-To c =
-    on_map c.wait-in-To.result (c.wait-in-To.new.arrivals ≡ waiting c.in-To.second c.wait.new.arrivals)
-    (Walks c.args.code.now c.args.search.now
+    on_map c.wait-in-To.result (c.wait-in-To.new.arrivals ≡ with_arrival c.in-To.second c.wait.new.arrivals)
+    (WalkOutcome c.args.code.now c.args.search.now
     (record c.args.search.now { stacks = c.step_from.new.stacks; arrivals = c.wait-in-To.new.arrivals }) c.args.p)
     (λ d. goes_far c.args.code.now c.args.search.now c.args.p c.in-Some-Some.k c.step_from.new.stacks
     (Some c.in-Some-Some.field-0) c.in-Some-Some.ensures (ap Some c.in-Some-Some.field-0-is)

@@ -1,6 +1,6 @@
 use Rattle.std.proofs.Common.{◌≡◌, ◌≤◌, length, ap, ◌∙◌, subst}
 use Rattle.sp_code.specs.declared.code.Parts.{Parts}
-use Rattle.sp_shapes.proofs.Walks.{walked_one, past_one, sane}
+use Rattle.sp_shapes.proofs.SearchSteps.{walked_one, past_one, sane}
 use Rattle.sp_shapes.proofs.search.walk_one.Goals as goal
 
 pub walk-requires-clause-sane : goal.walk-requires-clause-sane

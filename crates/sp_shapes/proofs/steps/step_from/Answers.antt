@@ -1,6 +1,6 @@
 use Rattle.std.proofs.Common.{sym}
 use Rattle.sp_rules.specs.Areas.{Area, instr_at}
-use Rattle.sp_rules.specs.Shapes.{shaped}
+use Rattle.sp_rules.specs.Shapes.{instr_shapes}
 use Rattle.sp_areas.specs.Only.{LiesOnlyIn}
 use Rattle.sp_areas.proofs.Handing.{ok_map}
 use Rattle.sp_shapes.specs.Plans.{by_plan}
@@ -21,6 +21,6 @@ returns-in-Some-planned-clause-goes c =
     let ss = list_of c.args.stacks.now c.args.s in
     let st = c.carry_out.new.stacks in
     ok_map c.carry_out.result (λ s. IsStep st s (by_plan c.in-Some-planned.plan p ss))
-    (λ s. (a : Area) → LiesOnlyIn code p a → IsStep st s (shaped code a (instr_at code p) p ss))
+    (λ s. (a : Area) → LiesOnlyIn code p a → IsStep st s (instr_shapes code a (instr_at code p) p ss))
     (λ s h a l. right_form code a p ss c.in-Some.instr st s c.in-Some-planned.plan (sym c.in-Some.ensures)
     (c.in-Some-planned.ensures a l) h) c.carry_out.ensures.goes

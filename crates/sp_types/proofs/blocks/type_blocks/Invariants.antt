@@ -5,7 +5,7 @@ use Rattle.sp_tree.specs.CheckedOf as checked
 use Rattle.sp_types.specs.TypeWalk.{blocks_after}
 use Rattle.sp_types.specs.CheckedTree.{checked_blocks}
 use Rattle.sp_types.specs.DeclarationFirsts.{blocks_first}
-use Rattle.sp_types.specs.Entered.{starts_in}
+use Rattle.sp_types.specs.AfterTables.{starts_in}
 use Rattle.sp_types.proofs.blocks.type_blocks.Given as goal
 
 abbrev pub invariant-loop-b : goal.invariant-loop-b

@@ -6,7 +6,7 @@ use Rattle.sp_tree.specs.declared.named.NamedBlock.{NamedBlock}
 use Rattle.sp_tree.specs.declared.named.NamedStmt as stmt
 use Rattle.sp_tree.specs.NamedOf.{block_of, statement_of}
 use Rattle.sp_types.specs.TypeWalk.{bodies, statement_counted, statement_place}
-use Rattle.sp_types.proofs.Declared.{ok, same, drop_head}
+use Rattle.sp_types.proofs.Declared.{ok, ok_injective, drop_head}
 use Rattle.sp_types.proofs.bodies.bodies.Goals as goal
 
 place_is : (s : stmt.NamedStmt) → statement_place (statement_of s) ≡ s.at
@@ -24,7 +24,7 @@ bodies_step blocks i b out more all n b_is lt invariant n_is more_is =
     append_assoc out ((b.body.at, n) ∷ []) rest ∙
     ap (λ (at : Place). out ++ (at, n) ∷ rest) (sym (place_is b.body)) ∙
     ap (λ (k : ℕ). out ++ (statement_place (statement_of b.body), k) ∷ rest)
-    (same (statement_counted 0 (statement_of b.body)) n n_is) ∙
+    (ok_injective (statement_counted 0 (statement_of b.body)) n n_is) ∙
     ap (λ (x : NamedBlock). out ++ bodies (map block_of (x ∷ drop (i + 1) blocks))) b_is ∙
     ap (λ (xs : List NamedBlock). out ++ bodies (map block_of xs)) (sym (drop_head blocks i b lt)) ∙
     invariant

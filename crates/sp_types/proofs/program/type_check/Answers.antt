@@ -5,17 +5,17 @@ use Rattle.sp_tree.specs.declared.named.NamedKind.{NamedKind}
 use Rattle.sp_tree.specs.declared.named.NamedConstant.{NamedConstant}
 use Rattle.sp_base.specs.declared.place.Place.{Place}
 use Rattle.sp_tree.specs.Cells.{sizes}
-use Rattle.sp_tree.specs.Found.{AnswersAs}
+use Rattle.sp_tree.specs.PhaseResults.{AnswersAs}
 use Rattle.sp_tree.specs.NamedOf as plain
 use Rattle.sp_types.specs.declared.tables.Ordinal.{Ordinal}
 use Rattle.sp_tree.specs.CheckedOf as checked
 use Rattle.sp_types.specs.DeclarationFirsts.{constants_first, kinds_first}
-use Rattle.sp_types.specs.Entered.{tabled, typed_kinds}
+use Rattle.sp_types.specs.AfterTables.{tables_by_names, kinds_outcome}
 use Rattle.sp_tree.specs.PlainChecked as k
 use Rattle.sp_types.specs.Tables.{numbers_from, constants_from, kinds_from}
 use Rattle.sp_types.specs.TypeWalk.{places_of}
 use Rattle.sp_types.proofs.Declared.{ok}
-use Rattle.sp_types.proofs.Tops.{program_typed}
+use Rattle.sp_types.proofs.ProgramTyped.{program_typed}
 use Rattle.sp_types.proofs.program.type_check.Goals as goal
 
 pub returns : goal.returns
@@ -51,13 +51,13 @@ returns c =
     (subst (λ (m : List (Option Ordinal)). ok (kinds_from c.items-8.result.now m ks) ≡ ok kinds) c.items-9.ensures
     c.in-Ok-kinds_of.ensures) in
     let typed_is : AnswersAs checked.program_of c.type_kinds.result
-    (typed_kinds numbers (sizes kinds) places (tabled numbers known kinds xs bs) xs bs
+    (kinds_outcome numbers (sizes kinds) places (tables_by_names numbers known kinds xs bs) xs bs
     found) =
     subst (λ (m : List ℕ). AnswersAs checked.program_of c.type_kinds.result
-    (typed_kinds m (sizes kinds) places (tabled m known kinds xs bs) xs bs found))
+    (kinds_outcome m (sizes kinds) places (tables_by_names m known kinds xs bs) xs bs found))
     c.items-10.ensures
     (subst (λ (m : List Place). AnswersAs checked.program_of c.type_kinds.result
-    (typed_kinds c.items-10.result.now (sizes kinds) m (tabled c.items-10.result.now known kinds xs bs) xs bs
+    (kinds_outcome c.items-10.result.now (sizes kinds) m (tables_by_names c.items-10.result.now known kinds xs bs) xs bs
     found)) c.items-11.ensures c.type_kinds.ensures) in
     subst (λ (d : Result k.Program Refusal). AnswersAs checked.program_of c.type_kinds.result d)
     (program_typed (plain.program_of c.args.named) numbers known found places kinds

@@ -4,15 +4,15 @@ use Rattle.sp_base.specs.declared.halt.Refusal.{Refusal}
 use Rattle.sp_tree.specs.declared.checked.KindOf.{KindOf}
 use Rattle.sp_tree.specs.declared.checked.Variable as variable
 use Rattle.sp_tree.specs.declared.named.NamedBlock.{NamedBlock}
-use Rattle.sp_tree.specs.Found.{AnswersAs}
+use Rattle.sp_tree.specs.PhaseResults.{AnswersAs}
 use Rattle.sp_tree.specs.NamedOf as plain
 use Rattle.sp_types.specs.Capped.{capped_sizes}
 use Rattle.sp_tree.specs.CheckedOf as checked
 use Rattle.sp_types.specs.DeclarationFirsts.{cells_first}
-use Rattle.sp_types.specs.Entered.{tabled, typed_blocks}
+use Rattle.sp_types.specs.AfterTables.{tables_by_names, blocks_outcome}
 use Rattle.sp_tree.specs.PlainChecked as k
 use Rattle.sp_types.proofs.Declared.{ok}
-use Rattle.sp_types.proofs.Tops.{kinds_typed}
+use Rattle.sp_types.proofs.ProgramTyped.{kinds_typed}
 use Rattle.sp_types.proofs.program.type_kinds.Goals as goal
 
 pub returns : goal.returns
@@ -26,18 +26,19 @@ returns c =
     let found_is : c.check_cells-first.result ≡ cells_first c.args.places.now cells c.args.first =
     subst (λ (cs : List ℕ). c.check_cells-first.result ≡ cells_first c.args.places.now cs c.args.first)
     c.items-2.ensures c.check_cells-first.ensures in
-    let tables_are : ok (tabled numbers c.args.known c.args.kinds c.args.variables bs) ≡ ok tables =
-    subst (λ (xs : List variable.Variable). ok (tabled numbers c.args.known c.args.kinds xs bs) ≡ ok tables)
+    let tables_are : ok (tables_by_names numbers c.args.known c.args.kinds c.args.variables bs) ≡ ok tables =
+    subst (λ (xs : List variable.Variable). ok (tables_by_names numbers c.args.known c.args.kinds xs bs) ≡ ok tables)
     c.items-3.ensures
-    (subst (λ (xs : List NamedBlock). ok (tabled numbers c.args.known c.args.kinds c.items-3.result.now
+    (subst (λ (xs : List NamedBlock). ok (tables_by_names numbers c.args.known c.args.kinds c.items-3.result.now
     (map plain.block_of xs)) ≡ ok tables) c.items-4.ensures c.in-Ok-tables_of.ensures) in
     let typed_is : AnswersAs checked.program_of c.type_tabled.result
-    (typed_blocks numbers cells tables c.args.variables bs c.check_cells-first.result) =
+    (blocks_outcome numbers cells tables c.args.variables bs c.check_cells-first.result) =
     subst (λ (cs : List ℕ). AnswersAs checked.program_of c.type_tabled.result
-    (typed_blocks numbers cs tables c.args.variables bs c.check_cells-first.result)) c.items-5.ensures
+    (blocks_outcome numbers cs tables c.args.variables bs c.check_cells-first.result)) c.items-5.ensures
     c.type_tabled.ensures in
     subst (λ (d : Result k.Program Refusal). AnswersAs checked.program_of c.type_tabled.result d)
-    (kinds_typed numbers c.args.kinds c.args.places.now (tabled numbers c.args.known c.args.kinds c.args.variables bs)
+    (kinds_typed numbers c.args.kinds c.args.places.now
+    (tables_by_names numbers c.args.known c.args.kinds c.args.variables bs)
     tables c.args.variables bs c.args.first c.check_cells-first.result cells cells_are found_is
     tables_are)
     typed_is

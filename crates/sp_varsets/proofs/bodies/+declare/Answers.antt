@@ -1,6 +1,6 @@
 use Rattle.std.proofs.Common.{rules, ◌≡◌, ◌∙◌, length, map, arith, slice_get, Some, None, sym}
 use Rattle.sp_base.proofs.Facts.{get_of_map, length_of_map, no_get_of_map}
-use Rattle.sp_tree.specs.Bare.{bare, bare_block}
+use Rattle.sp_tree.specs.Bare.{without_places, bare_block}
 use Rattle.sp_tree.specs.CheckedOf.{block_of, program_of}
 use Rattle.sp_varsets.proofs.Gathering.{in_put, declares_none, declares_top, declares_more}
 use Rattle.sp_varsets.proofs.bodies.+declare.Goals as goal
@@ -14,7 +14,8 @@ returns t c =
     let l : length c.args.rows.now ≡ length (map bare_block (map block_of c.args.checked.now.blocks)) = c.requires.rows
     ∙ (sym (length_of_map block_of c.args.checked.now.blocks)
     ∙ sym (length_of_map bare_block (map block_of c.args.checked.now.blocks))) in
-    declares_more (bare (program_of c.args.checked.now)) c.args.rows.now c.put_into.new.rows c.declare.new.rows
+    declares_more (without_places (program_of c.args.checked.now)) c.args.rows.now c.put_into.new.rows
+    c.declare.new.rows
     c.args.variable c.args.block c.in-Some-parent.q (bare_block (block_of c.in-Some.k.now)) l
     c.in-Ok.ensures.rows at up
     (in_put c.args.rows.now c.put_into.new.rows c.args.block c.args.variable c.in-Ok.ensures.put)
@@ -26,7 +27,7 @@ returns-in-None t c =
     let l : length c.args.rows.now ≡ length (map bare_block (map block_of c.args.checked.now.blocks)) = c.requires.rows
     ∙ (sym (length_of_map block_of c.args.checked.now.blocks)
     ∙ sym (length_of_map bare_block (map block_of c.args.checked.now.blocks))) in
-    declares_none (bare (program_of c.args.checked.now)) c.args.rows.now c.args.variable c.args.block l
+    declares_none (without_places (program_of c.args.checked.now)) c.args.rows.now c.args.variable c.args.block l
     (no_get_of_map bare_block (map block_of c.args.checked.now.blocks) c.args.block
     (no_get_of_map block_of c.args.checked.now.blocks c.args.block g))
 
@@ -39,7 +40,8 @@ returns-in-None-parent t c =
     let l : length c.args.rows.now ≡ length (map bare_block (map block_of c.args.checked.now.blocks)) = c.requires.rows
     ∙ (sym (length_of_map block_of c.args.checked.now.blocks)
     ∙ sym (length_of_map bare_block (map block_of c.args.checked.now.blocks))) in
-    declares_top (bare (program_of c.args.checked.now)) c.args.rows.now c.put_into.new.rows c.args.variable c.args.block
+    declares_top (without_places (program_of c.args.checked.now)) c.args.rows.now c.put_into.new.rows c.args.variable
+    c.args.block
     (bare_block (block_of c.in-Some.k.now)) l c.in-Ok.ensures.rows at top
     (in_put c.args.rows.now c.put_into.new.rows c.args.block c.args.variable c.in-Ok.ensures.put)
 

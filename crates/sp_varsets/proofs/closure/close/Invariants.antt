@@ -1,9 +1,9 @@
-use Rattle.sp_varsets.specs.Paths.{Follows}
+use Rattle.sp_varsets.specs.Paths.{ExtendsByPaths}
 use Rattle.sp_varsets.proofs.Paths.{gaps, span}
 use Rattle.sp_varsets.proofs.closure.close.Given as goal
 
 abbrev pub invariant-sweeps : goal.invariant-sweeps
-invariant-sweeps l = Follows l.runs l.hidden l.fn.rows l.rows
+invariant-sweeps l = ExtendsByPaths l.runs l.hidden l.fn.rows l.rows
 
 abbrev pub decreases-sweeps : goal.decreases-sweeps
 decreases-sweeps l = gaps l.rows (span l.fn.rows)

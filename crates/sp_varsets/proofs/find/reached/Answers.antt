@@ -1,6 +1,6 @@
 use Rattle.std.proofs.Common.{ap, arith, length, map, sym, subst}
 use Rattle.sp_base.proofs.Facts.{length_of_map}
-use Rattle.sp_tree.specs.Bare.{bare, bare_block, variable_of}
+use Rattle.sp_tree.specs.Bare.{without_places, bare_block, variable_of}
 use Rattle.sp_tree.specs.CheckedOf.{block_of, program_of}
 use Rattle.sp_varsets.specs.Bodies.{AreDeclared}
 use Rattle.sp_varsets.proofs.find.reached.Goals as goal
@@ -13,7 +13,7 @@ returns c =
     record {
       declared = (
         c.in-Ok-declared.value,
-        subst (λ n. AreDeclared (bare (program_of c.args.checked.now)) c.in-Ok-declared.value n)
+        subst (λ n. AreDeclared (without_places (program_of c.args.checked.now)) c.in-Ok-declared.value n)
             (sym (length_of_map variable_of c.args.checked.now.variables)) c.in-Ok-declared.ensures,
         aims,
         sees,

@@ -2,15 +2,16 @@ use Rattle.std.proofs.Common.{length, map, sym, subst}
 use Rattle.sp_base.proofs.Facts.{length_of_map}
 use Rattle.sp_tree.specs.CheckedOf.{block_of, program_of}
 use Rattle.sp_varsets.specs.Bodies.{AreBodies, IsInBlocks}
-use Rattle.sp_varsets.specs.Records.{Writes}
-use Rattle.sp_varsets.proofs.Found.{if_found, within_written}
+use Rattle.sp_varsets.specs.Records.{RecordsStatements}
+use Rattle.sp_varsets.proofs.SetsFound.{if_found, within_written}
 use Rattle.sp_varsets.proofs.find.sets_of.Goals as goal
 
 pub returns : goal.returns
 returns c = if_found (program_of c.args.checked.now) c.new-walk.result c.gather.new.walk c.in-Ok.value
     c.in-Ok-reached.value c.requires.numbers
     c.new-walk.ensures.slots
-    (subst (λ bs. Writes c.new-walk.result c.gather.new.walk (λ t. IsInBlocks (map block_of bs) t)) c.items.ensures
+    (subst (λ bs. RecordsStatements c.new-walk.result c.gather.new.walk (λ t. IsInBlocks (map block_of bs) t))
+    c.items.ensures
     c.in-Ok.ensures.walk)
     (subst (λ n. AreBodies (map block_of c.args.checked.now.blocks) c.in-Ok.value n)
     (sym (length_of_map block_of c.args.checked.now.blocks))

@@ -1,6 +1,6 @@
 use Rattle.std.proofs.Common.{◌≡◌, ◌+◌, ◌<◌, ◌≤◌, ◌^◌, Some, slice_get, sym, ap, ◌∙◌, subst}
 use Rattle.std.proofs.lemmas.Option.{slice_get-get_or}
-use Rattle.sp_witness.specs.Passes.{flagged}
+use Rattle.sp_witness.specs.Passes.{flags_of_set}
 use Rattle.sp_witness.proofs.Backwards.{mark_is, marked_is, flags_back, there, same_birth, children_fit}
 use Rattle.sp_journal.proofs.Walk.{any_entry}
 use Rattle.sp_witness.proofs.marks.pass.Goals as goal
@@ -26,7 +26,7 @@ returns-clause-mark c = λ last has.
     (slice_get-get_or c.args.front.now c.args.at any_entry c.requires.inside) at_its in
     marked_is c.args.earlier last c.args.front.now c.args.at c.requires.inside c.is_needed-mark.result
     (c.is_needed-mark.ensures
-    ∙ mark_is c.args.earlier last c.args.front.now c.args.at c.requires.inside (flagged c.args.needed.now)
+    ∙ mark_is c.args.earlier last c.args.front.now c.args.at c.requires.inside (flags_of_set c.args.needed.now)
     has c.args.first c.requires.first o met _
     (same_birth c.args.front.now c.requires.nameable c.args.at c.requires.inside c.args.ledger.now.journal.entries
     c.requires.its_front))
@@ -42,10 +42,10 @@ returns-clause-flags c = λ last has q.
     (slice_get-get_or c.args.front.now c.args.at any_entry c.requires.inside) at_its in
     flags_back c.args.earlier last c.args.front.now c.args.at c.requires.inside c.is_needed-mark.result
     (c.is_needed-mark.ensures
-    ∙ mark_is c.args.earlier last c.args.front.now c.args.at c.requires.inside (flagged c.args.needed.now)
+    ∙ mark_is c.args.earlier last c.args.front.now c.args.at c.requires.inside (flags_of_set c.args.needed.now)
     has c.args.first c.requires.first o met _
     (same_birth c.args.front.now c.requires.nameable c.args.at c.requires.inside c.args.ledger.now.journal.entries
     c.requires.its_front))
-    o met (flagged c.args.needed.now) (flagged c.flag.new.needed) (flagged c.flag_partner.new.needed)
-    (flagged c.flag-2.new.needed)
+    o met (flags_of_set c.args.needed.now) (flags_of_set c.flag.new.needed) (flags_of_set c.flag_partner.new.needed)
+    (flags_of_set c.flag-2.new.needed)
     has c.in_ok-flag.ensures c.in_ok-flag_partner.ensures c.in_ok-flag-2.ensures q

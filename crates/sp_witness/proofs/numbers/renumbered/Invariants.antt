@@ -1,6 +1,6 @@
 use Rattle.std.proofs.Common.{◌≡◌, ◌≤◌, ◌++◌, take, drop}
-use Rattle.sp_journal.specs.Births.{at_start, births, NameableFrom}
-use Rattle.sp_witness.specs.Moved.{first_table, moved, table_of}
+use Rattle.sp_journal.specs.Births.{first_births, births, NameableFrom}
+use Rattle.sp_witness.specs.Moved.{first_table, renumbered_entries, table_of}
 use Rattle.sp_witness.specs.Passes.{table_in}
 use Rattle.sp_witness.proofs.numbers.renumbered.Given as goal
 
@@ -11,8 +11,9 @@ invariant-loop-at l = record {
   channel : l.channel ≡ (births (take l.at l.front)).channels;
   next_process : l.numbers.next_process ≤ l.process;
   next_channel : l.numbers.next_channel ≤ l.channel;
-  entries : l.entries ++ moved (births (take l.at l.front)) (table_in l.numbers) (drop l.at l.front) (drop l.at l.marks)
-      ≡ moved at_start first_table l.front l.marks;
+  entries : l.entries ++ renumbered_entries (births (take l.at l.front)) (table_in l.numbers) (drop l.at l.front)
+      (drop l.at l.marks)
+      ≡ renumbered_entries first_births first_table l.front l.marks;
   table : table_of (births (take l.at l.front)) (table_in l.numbers) (drop l.at l.front) (drop l.at l.marks)
-      ≡ table_of at_start first_table l.front l.marks;
+      ≡ table_of first_births first_table l.front l.marks;
 }

@@ -4,17 +4,17 @@ use Rattle.std.proofs.lemmas.Option.{slice_get-get_or}
 use Rattle.std.proofs.lemmas.Result.{IfOk-weaker}
 use Rattle.sp_journal.specs.declared.entry.Entry.{Entry}
 use Rattle.sp_journal.specs.declared.entry.Journal.{Journal}
-use Rattle.sp_journal.specs.Births.{at_start, IsNameable, NameableFrom}
+use Rattle.sp_journal.specs.Births.{first_births, IsNameable, NameableFrom}
 use Rattle.sp_journal.proofs.Walk.{any_entry}
 use Rattle.sp_witness.specs.Moved.{IsPlain}
 use Rattle.sp_witness.specs.Numbered.{witness_journal}
-use Rattle.sp_witness.proofs.Whole.{length-marks, front_nameable, front_of, plain_at, whole}
+use Rattle.sp_witness.proofs.WitnessOfCode.{length-marks, front_nameable, front_of, plain_at, whole}
 use Rattle.sp_witness.proofs.race.witness.Goals as goal
 
 pub ties_of-requires : goal.ties_of-requires
 ties_of-requires c =
     front_nameable c.items-entries.result.now c.args.later
-    (subst (NameableFrom at_start) (sym c.items-entries.ensures) c.requires.nameable)
+    (subst (NameableFrom first_births) (sym c.items-entries.ensures) c.requires.nameable)
 
 pub marks_of-requires-clause-its_front : goal.marks_of-requires-clause-its_front
 marks_of-requires-clause-its_front c =
@@ -24,17 +24,17 @@ marks_of-requires-clause-its_front c =
 pub marks_of-requires-clause-nameable : goal.marks_of-requires-clause-nameable
 marks_of-requires-clause-nameable c =
     front_nameable c.items-entries.result.now c.args.later
-    (subst (NameableFrom at_start) (sym c.items-entries.ensures) c.requires.nameable)
+    (subst (NameableFrom first_births) (sym c.items-entries.ensures) c.requires.nameable)
 
 pub renumbered-requires-clause-nameable : goal.renumbered-requires-clause-nameable
 renumbered-requires-clause-nameable c =
     front_nameable c.items-entries.result.now c.args.later
-    (subst (NameableFrom at_start) (sym c.items-entries.ensures) c.requires.nameable)
+    (subst (NameableFrom first_births) (sym c.items-entries.ensures) c.requires.nameable)
 
 pub renumbered-requires-clause-marks : goal.renumbered-requires-clause-marks
 renumbered-requires-clause-marks c =
     ap length (c.deref.ensures.value ∙ c.in_ok-marks.ensures)
-    ∙ length-marks c.args.earlier (get_or c.items-entries.result.now c.args.later any_entry).process at_start
+    ∙ length-marks c.args.earlier (get_or c.items-entries.result.now c.args.later any_entry).process first_births
     (λ d. None) 0
     (take c.args.later c.items-entries.result.now)
 

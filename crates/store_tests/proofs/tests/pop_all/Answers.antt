@@ -2,7 +2,7 @@ use Rattle.std.proofs.Common.{◌≡◌, ◌≢◌, ◌+◌, ◌-◌, length, So
 use Rattle.std.proofs.lemmas.List.{length-take-le}
 use Rattle.std.specs.FinMap as map
 use Rattle.sp_cell.specs.declared.spot.Spot.{Spot}
-use Rattle.sp_cell.specs.Frame.{newest}
+use Rattle.sp_cell.specs.Frame.{last_own_frame}
 use Rattle.sp_cell.specs.Map.{Plain, Away}
 use Rattle.store_tests.proofs.Rooted.{none_without}
 use Rattle.store_tests.proofs.tests.pop_all.Goals as goal
@@ -15,5 +15,5 @@ loop-preserved c =
       frames = subst (λ (x : Plain). length x.own + (c.loop.counter + 1) ≡ length c.args.store.now.own)
           (sym c.pop_frame.ensures) (omega (arith, len, c.loop.invariant.frames, c.loop-test.true, c.requires.frames));
       here = subst (λ (x : Plain). (q : Spot) → map.get x.map q ≢ Some Away) (sym c.pop_frame.ensures)
-          (none_without p.map (newest p.own) c.loop.invariant.here);
+          (none_without p.map (last_own_frame p.own) c.loop.invariant.here);
     }

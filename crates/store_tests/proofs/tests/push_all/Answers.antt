@@ -2,7 +2,7 @@ use Rattle.std.proofs.Common.{◌≡◌, ◌≢◌, ◌+◌, ◌≤◌, [], ◌�
 use Rattle.std.proofs.Math.ListN.{length-append}
 use Rattle.std.specs.FinMap as map
 use Rattle.sp_cell.specs.declared.spot.Spot.{Spot}
-use Rattle.sp_cell.specs.Frame.{next_frame, pushed}
+use Rattle.sp_cell.specs.Frame.{next_frame, with_new_frame}
 use Rattle.sp_cell.proofs.FrameLaws.{next_pushed}
 use Rattle.sp_cell.specs.Map.{Plain, Away}
 use Rattle.sp_cell.proofs.Laws.{pieces_not_away}
@@ -11,7 +11,7 @@ use Rattle.store_tests.proofs.tests.push_all.Goals as goal
 pub loop-preserved : goal.loop-preserved
 loop-preserved c =
     let p = c.loop.store in
-    let is : c.push_frame.new.self ≡ pushed p (1 ∷ []) = c.in_ok-push_frame.ensures.pushed in
+    let is : c.push_frame.new.self ≡ with_new_frame p (1 ∷ []) = c.in_ok-push_frame.ensures.pushed in
     let number = next_pushed p (1 ∷ []) in
     let len = length-append p.own (next_frame p ∷ []) in
     record {

@@ -1,6 +1,6 @@
 use Rattle.std.proofs.Common.{inr, Ok, Err, refl, subst}
 use Rattle.std.proofs.lemmas.Result.{err_from_is_err_and}
-use Rattle.superpascal.specs.Steps.{Follows}
+use Rattle.superpascal.specs.Steps.{ReplaysTo}
 use Rattle.superpascal.proofs.Parts.{at_exit}
 use Rattle.superpascal.proofs.Running.{ending_at, follows_text, ready_held}
 use Rattle.superpascal.proofs.replays.follow_code.Goals as goal
@@ -12,13 +12,13 @@ follow-requires-clause-program c =
 
 pub returns-in_err-code : goal.returns-in_err-code
 returns-in_err-code c = λ program tree has.
-    at_exit (λ r. Follows program c.args.input c.args.limits.now c.args.journal.now r) c.from_residual.result _
+    at_exit (λ r. ReplaysTo program c.args.input c.args.limits.now c.args.journal.now r) c.from_residual.result _
     (err_from_is_err_and c.from_residual.result c.from_residual.ensures.1) (inr refl)
 
 pub returns-in_err-input : goal.returns-in_err-input
 returns-in_err-input c = λ program tree has.
     let r = c.from_residual-in_err-input.result in
-    at_exit (λ r. Follows program c.args.input c.args.limits.now c.args.journal.now r) r _
+    at_exit (λ r. ReplaysTo program c.args.input c.args.limits.now c.args.journal.now r) r _
     (err_from_is_err_and r c.from_residual-in_err-input.ensures.1) (inr refl)
 
 pub returns-in-Ok : goal.returns-in-Ok
@@ -30,7 +30,7 @@ returns-in-Ok c =
 pub returns-in-Err-Unfit : goal.returns-in-Err-Unfit
 returns-in-Err-Unfit c = λ program tree has.
     let h = c.in-Err-Unfit in
-    subst (λ x. Follows program c.args.input c.args.limits.now c.args.journal.now (ending_at (Err x))) h.field-0-is
+    subst (λ x. ReplaysTo program c.args.input c.args.limits.now c.args.journal.now (ending_at (Err x))) h.field-0-is
     (follows_text c.accepted_programs_are_ready.ensures c.args.code c.args.input 1 c.args.limits.now c.requires.range
     c.in_ok-code.code.value c.in_ok-input.input.value c.in_ok-code.ensures.ok c.in_ok-input.ensures.ok
     c.args.journal.now (Err h.field-0) h.ensures program tree has)

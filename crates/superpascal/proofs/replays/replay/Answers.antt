@@ -1,8 +1,8 @@
 use Rattle.std.proofs.Common.{Ok, Err, refl}
 use Rattle.std.proofs.lemmas.Result.{err_from_is_err_and}
 use Rattle.superpascal.specs.Causes.{Files, files_of}
-use Rattle.superpascal.specs.Steps.{Answers}
-use Rattle.superpascal.specs.Texts.{follows}
+use Rattle.superpascal.specs.Steps.{AnswersCommand}
+use Rattle.superpascal.specs.Texts.{command_of_replay}
 use Rattle.superpascal.proofs.Parts.{at_exit}
 use Rattle.superpascal.proofs.Replaying.{journal_under, replay_no_input, replay_told, replay_unfit, replay_unread}
 use Rattle.superpascal.proofs.Replaying.{replay_unready}
@@ -22,7 +22,7 @@ tell_replay-requires g c =
 
 pub returns-in_err-code : goal.returns-in_err-code
 returns-in_err-code g c = λ reports.
-    at_exit (Answers _ _ reports (follows c.args.asked.now)) c.from_residual.result _
+    at_exit (AnswersCommand _ _ reports (command_of_replay c.args.asked.now)) c.from_residual.result _
     (err_from_is_err_and c.from_residual.result c.from_residual.ensures.1)
     (replay_unready _ _ reports c.args.asked.now (refl, refl) _ c.in_err-code.ensures.prepared)
 
@@ -34,7 +34,7 @@ returns-in_err-journal g c = λ reports.
     let after : Files = files_of g.L.Library.held g.L.Library.faults c.prepare.new.library
     c.prepare_journal.new.library in
     let r = c.from_residual-in_err-journal.result in
-    at_exit (Answers _ _ reports (follows c.args.asked.now)) r _
+    at_exit (AnswersCommand _ _ reports (command_of_replay c.args.asked.now)) r _
     (err_from_is_err_and r c.from_residual-in_err-journal.ensures.1)
     (replay_unread _ _ reports c.args.asked.now h.0 h.1 h.2 c.in_ok-code.code h.3 (refl, refl) _
     (journal_under f after name (c.in_ok-code.ensures.unchanged name) (c.in_ok-code.ensures.counted name) refl (Err _)
@@ -50,7 +50,7 @@ returns-in_err-input g c = λ reports.
     let j = journal_under f after name (c.in_ok-code.ensures.unchanged name) (c.in_ok-code.ensures.counted name) refl
     (Ok c.in_ok-journal.journal) c.in_ok-journal.ensures in
     let r = c.from_residual-in_err-input.result in
-    at_exit (Answers _ _ reports (follows c.args.asked.now)) r _
+    at_exit (AnswersCommand _ _ reports (command_of_replay c.args.asked.now)) r _
     (err_from_is_err_and r c.from_residual-in_err-input.ensures.1)
     (replay_no_input _ _ reports c.args.asked.now h.0 h.1 h.2 c.in_ok-code.code h.3 j.0 j.1 c.in_ok-journal.journal j.2
     _ c.in_err-input.ensures)
@@ -65,7 +65,7 @@ returns-in_err-replayed g c = λ reports.
     let j = journal_under f after name (c.in_ok-code.ensures.unchanged name) (c.in_ok-code.ensures.counted name) refl
     (Ok c.in_ok-journal.journal) c.in_ok-journal.ensures in
     let r = c.from_residual-in_err-replayed.result in
-    at_exit (Answers _ _ reports (follows c.args.asked.now)) r _
+    at_exit (AnswersCommand _ _ reports (command_of_replay c.args.asked.now)) r _
     (err_from_is_err_and r c.from_residual-in_err-replayed.ensures.1)
     (replay_unfit _ _ reports c.args.asked.now h.0 h.1 h.2 c.in_ok-code.code h.3 j.0 j.1 c.in_ok-journal.journal j.2
     c.in_ok-input.input c.in_ok-input.ensures _ (c.in_err-replayed.ensures h.0 h.2 h.3))

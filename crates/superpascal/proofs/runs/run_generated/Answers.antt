@@ -1,7 +1,7 @@
 use Rattle.std.proofs.Common.{◌∙◌, refl}
 use Rattle.std.proofs.lemmas.Result.{err_from_is_err_and}
 use Rattle.sp_words.specs.declared.command.Command.TheVariants.{Gen}
-use Rattle.superpascal.specs.Steps.{Answers}
+use Rattle.superpascal.specs.Steps.{AnswersCommand}
 use Rattle.superpascal.proofs.Parts.{at_exit, generated_told, generated_unready, generated_wanting}
 use Rattle.superpascal.proofs.runs.run_generated.Goals as goal
 
@@ -11,14 +11,14 @@ run_code-requires-clause-code g c κs within =
 
 pub returns-in_err-text : goal.returns-in_err-text
 returns-in_err-text g c = λ f s made u.
-    at_exit (Answers f s made (Gen c.args.size c.args.workers)) c.from_residual.result _
+    at_exit (AnswersCommand f s made (Gen c.args.size c.args.workers)) c.from_residual.result _
     (err_from_is_err_and c.from_residual.result c.from_residual.ensures.1)
     (generated_wanting f s made c.args.size c.args.workers u _ refl)
 
 pub returns-in_err-code : goal.returns-in_err-code
 returns-in_err-code g c = λ f s made u.
     let r = c.from_residual-in_err-code.result in
-    at_exit (Answers f s made (Gen c.args.size c.args.workers)) r _
+    at_exit (AnswersCommand f s made (Gen c.args.size c.args.workers)) r _
     (err_from_is_err_and r c.from_residual-in_err-code.ensures.1)
     (generated_unready f s made c.args.size c.args.workers u c.as_slice.result.now
     (c.as_slice.ensures.value ∙ c.in_ok-text.ensures) _ c.in_err-code.ensures)
@@ -26,7 +26,7 @@ returns-in_err-code g c = λ f s made u.
 pub returns-in_err-ran : goal.returns-in_err-ran
 returns-in_err-ran g c = λ f s made u.
     let r = c.from_residual-in_err-ran.result in
-    at_exit (Answers f s made (Gen c.args.size c.args.workers)) r _
+    at_exit (AnswersCommand f s made (Gen c.args.size c.args.workers)) r _
     (err_from_is_err_and r c.from_residual-in_err-ran.ensures.1)
     (generated_wanting f s made c.args.size c.args.workers u _ refl)
 

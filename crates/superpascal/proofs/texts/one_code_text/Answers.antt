@@ -1,12 +1,12 @@
 use Rattle.std.proofs.Common.{sym, ap, ◌∙◌, subst}
 use Rattle.sp_codefile.specs.CodeText.{code_text}
 use Rattle.sp_generate.specs.Generated.{IsCodeOf}
-use Rattle.sp_tree.specs.Bare.{bare}
+use Rattle.sp_tree.specs.Bare.{without_places}
 use Rattle.sp_tree.specs.PlainChecked as placed
 use Rattle.superpascal.proofs.texts.one_code_text.Goals as goal
 
 pub returns : goal.returns
 returns c = λ text a b h k.
     let trees = c.one_answer.ensures.tree text h.0 k.0 h.1.0 k.1.0 in
-    let code = subst (λ (p : placed.Program). IsCodeOf (bare p) h.3) trees h.4 in
-    h.5.text ∙ ap code_text (c.one_code.ensures (bare k.0) h.3 k.3 code k.4) ∙ sym k.5.text
+    let code = subst (λ (p : placed.Program). IsCodeOf (without_places p) h.3) trees h.4 in
+    h.5.text ∙ ap code_text (c.one_code.ensures (without_places k.0) h.3 k.3 code k.4) ∙ sym k.5.text

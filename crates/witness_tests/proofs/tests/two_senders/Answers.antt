@@ -2,7 +2,7 @@ use Rattle.std.proofs.Common.{◌≡◌, List, [], ◌∷◌, rules, sym, ◌∙
 use Rattle.sp_base.specs.declared.fault.Fault.TheVariants as fault
 use Rattle.sp_journal.specs.declared.entry.Entry.{Entry}
 use Rattle.sp_journal.specs.declared.entry.Event.TheVariants as event
-use Rattle.sp_journal.specs.Births.{at_start, IsNameable, NameableFrom}
+use Rattle.sp_journal.specs.Births.{first_births, IsNameable, NameableFrom}
 use Rattle.sp_witness.specs.Numbered.{witness_journal}
 use Rattle.witness_tests.proofs.tests.two_senders.Goals as goal
 
@@ -21,5 +21,5 @@ pub is_witness-requires-clause-a_journal : goal.is_witness-requires-clause-a_jou
 is_witness-requires-clause-a_journal g c =
     let e : c.of.result ≡ ran = c.of.ensures ∙ c.in_ok-run.ensures.items
     ∙ (λ i. c.entry.ensures i ∷ c.entry-2.ensures i ∷ c.entry-3.ensures i ∷ c.entry-4.ensures i ∷ []) in
-    let n : NameableFrom at_start shown = search rules in
+    let n : NameableFrom first_births shown = search rules in
     subst (λ es. IsNameable (witness_journal (record { entries = es }) 2 3)) (sym e) n

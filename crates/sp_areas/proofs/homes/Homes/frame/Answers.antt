@@ -2,7 +2,7 @@ use Rattle.std.proofs.Common.{◌≡◌, ◌<◌, List, length, Some, ap, sym, �
 use Rattle.std.specs.Prelude.{slice_get}
 use Rattle.std.proofs.lemmas.Option.{same_Some}
 use Rattle.sp_code.specs.Memory.{Home}
-use Rattle.sp_areas.specs.Tree.{IsFound}
+use Rattle.sp_areas.specs.Tree.{IsFrameOfHome}
 use Rattle.sp_areas.proofs.homes.Homes.frame.Goals as goal
 
 pub returns-in-Some-at : goal.returns-in-Some-at
@@ -13,5 +13,6 @@ returns-in-Some-at c = λ p a are there lies.
     ∙ sym c.in-Some.ensures ∙ ap Some c.in-Some-at.is)) in
     let found = c.outward.ensures p.layouts are.lists are.tree
     (subst (λ n. n < length c.args.self.now.nodes) same h.within) in
-    subst (λ (hs : List Home). IsFound p.layouts (slice_get hs c.args.up) c.outward.result) (ap are.lists (sym same)
+    subst (λ (hs : List Home). IsFrameOfHome p.layouts (slice_get hs c.args.up) c.outward.result)
+    (ap are.lists (sym same)
     ∙ h.stands) found

@@ -5,13 +5,13 @@ use Rattle.sp_base.specs.declared.name.ProcName.{ProcName}
 use Rattle.sp_journal.specs.declared.entry.Journal.{Journal}
 use Rattle.sp_journal.specs.declared.entry.Entry.{Entry}
 use Rattle.sp_journal.specs.Names.{proc_name}
-use Rattle.sp_journal.specs.Births.{births, NameableFrom, at_start}
+use Rattle.sp_journal.specs.Births.{births, NameableFrom, first_births}
 use Rattle.sp_journal.proofs.BirthLaws.{lawful}
 use Rattle.sp_journal.proofs.NameLaws.{names_differ}
 use Rattle.sp_journal.proofs.entry.Journal.name.Goals as goal
 
 -- no other process has this name
-alone : (es : List Entry) → NameableFrom at_start es → (q : ℕ) → q < (births es).processes
+alone : (es : List Entry) → NameableFrom first_births es → (q : ℕ) → q < (births es).processes
     → (r : Result ProcName Memory)
     → IfOk r (λ name. name ≡ proc_name ((births es).name q))
     → IfOk r (λ name. (other : ℕ) → other < (births es).processes → proc_name ((births es).name other) ≡ name

@@ -7,15 +7,15 @@ use Rattle.sp_journal.specs.Births.{CanFollow}
 use Rattle.sp_journal.specs.Texts.{entry_text, event_text}
 use Rattle.sp_journal.specs.Splits.{first_split}
 use Rattle.sp_journal.specs.declared.reader.Reader.{Reader}
-use Rattle.sp_journal.specs.Reader.{IsReader, known}
+use Rattle.sp_journal.specs.Reader.{IsReader, births_read}
 use Rattle.sp_journal.proofs.TextLaws.{parts_first, parts_second}
 use Rattle.sp_journal.proofs.ReaderLaws.{entry_split}
 use Rattle.sp_journal.proofs.reader.Reader.entry.Goals as goal
 
 -- the two parts of an entry's text
-both_parts : (r : Reader) → IsReader r → (line x y : List ℕ) (e : Entry) → CanFollow (known r) e
-    → line ≡ entry_text (known r) e → ◌≡◌ {A = Option (List ℕ × List ℕ)} (Some (x, y)) (first_split 32 line)
-    → (x ≡ name_text (proc_name ((known r).name e.process))) × (y ≡ event_text (known r) e.event)
+both_parts : (r : Reader) → IsReader r → (line x y : List ℕ) (e : Entry) → CanFollow (births_read r) e
+    → line ≡ entry_text (births_read r) e → ◌≡◌ {A = Option (List ℕ × List ℕ)} (Some (x, y)) (first_split 32 line)
+    → (x ≡ name_text (proc_name ((births_read r).name e.process))) × (y ≡ event_text (births_read r) e.event)
 both_parts r i line x y e f h s =
     let g = s ∙ ap (first_split 32) h ∙ entry_split r i e f in
     (parts_first _ _ _ _ g, parts_second _ _ _ _ g)

@@ -8,10 +8,10 @@ use Rattle.sp_journal.specs.declared.entry.Event.TheVariants as event
 use Rattle.sp_journal.specs.Names.{chan_name}
 use Rattle.sp_journal.specs.Births.{Births, channel, GivesNumbers}
 use Rattle.sp_journal.specs.Splits.{first_split}
-use Rattle.sp_journal.specs.Reader.{known}
+use Rattle.sp_journal.specs.Reader.{births_read}
 use Rattle.sp_journal.proofs.TextLaws.{parts_first, parts_second}
 use Rattle.sp_journal.proofs.BirthLaws.{Lawful}
-use Rattle.sp_journal.proofs.ReaderLaws.{Told, told, laws}
+use Rattle.sp_journal.proofs.ReaderLaws.{EventTextParts, told, laws}
 use Rattle.sp_journal.proofs.reader.Reader.event.Goals as goal
 
 -- what `told` ensures
@@ -23,7 +23,7 @@ module _ (s : Births) (lawful : Lawful s) (word of : List ℕ) (o : Option Event
     → o ≡ Some (event.Receive c))
     (fault : (f : Fault) → word ≡ codes "fault" → of ≡ fault_name f → o ≡ Some (event.Fault f))
   where
-    tells : (p : ℕ) (e : Event) → GivesNumbers s p e → Told s e (Some (word, of)) → o ≡ Some e
+    tells : (p : ℕ) (e : Event) → GivesNumbers s p e → EventTextParts s e (Some (word, of)) → o ≡ Some e
     tells p (event.Fork n) g h = fork n (let a = g.0 in let b = lawful.some in omega arith) (parts_first _ _ _ _ h)
         (parts_second _ _ _ _ h)
     tells p event.Open g h = absurd (none-some (word, of) (sym h))
@@ -36,7 +36,7 @@ module _ (s : Births) (lawful : Lawful s) (word of : List ℕ) (o : Option Event
 
 pub returns-in-Some : goal.returns-in-Some
 returns-in-Some c = λ p e g h.
-    let s = known c.args.self.now in
+    let s = births_read c.args.self.now in
     tells s (laws c.args.self.now c.requires) c.in-Some.word.now c.in-Some.of.now c.told.result c.told.ensures.fork
     c.told.ensures.send c.told.ensures.receive c.told.ensures.fault p e g
-    (subst (Told s e) (sym (c.in-Some.ensures ∙ ap (first_split 32) h)) (told s e))
+    (subst (EventTextParts s e) (sym (c.in-Some.ensures ∙ ap (first_split 32) h)) (told s e))

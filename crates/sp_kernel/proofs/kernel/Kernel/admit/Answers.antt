@@ -2,8 +2,8 @@ use Rattle.std.proofs.Common.{rules, ◌≡◌, ◌-◌, ◌++◌, ℕ, List, le
 use Rattle.sp_journal.specs.Queue.{numbers}
 use Rattle.sp_kernel.specs.declared.slot.Slot.TheVariants as slot
 use Rattle.sp_kernel.specs.declared.kernel.Kernel.{Kernel}
-use Rattle.sp_kernel.specs.Lines.{repeat}
-use Rattle.sp_kernel.proofs.Lines.{numbers_gone, front_only}
+use Rattle.sp_kernel.specs.ListEnds.{repeat}
+use Rattle.sp_kernel.proofs.ListEnds.{numbers_gone, front_only}
 use Rattle.sp_kernel.proofs.kernel.Kernel.admit.Goals as goal
 
 -- a queue that was made longer and shorter again

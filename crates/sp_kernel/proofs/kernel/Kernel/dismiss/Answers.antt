@@ -1,7 +1,7 @@
 use Rattle.std.proofs.Common.{◌≡◌, ◌-◌, length, take, Some, sym, ◌∙◌}
 use Rattle.sp_kernel.specs.declared.slot.Slot.TheVariants as slot
-use Rattle.sp_kernel.specs.Lines.{repeat, without_last}
-use Rattle.sp_kernel.proofs.Lines.{numbers_gone, front_only, last_gone}
+use Rattle.sp_kernel.specs.ListEnds.{repeat, without_last}
+use Rattle.sp_kernel.proofs.ListEnds.{numbers_gone, front_only, last_gone}
 use Rattle.sp_kernel.proofs.kernel.Kernel.dismiss.Goals as goal
 
 pub returns : goal.returns

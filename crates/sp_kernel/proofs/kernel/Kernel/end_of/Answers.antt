@@ -7,8 +7,8 @@ use Rattle.sp_journal.specs.declared.entry.Event.TheVariants as event
 use Rattle.sp_journal.specs.Births.{births}
 use Rattle.sp_kernel.specs.declared.handed.Handed.{Handed}
 use Rattle.sp_kernel.specs.declared.kernel.Kernel.{Kernel}
-use Rattle.sp_kernel.specs.Kernels.{parent_in, Gave, IsKernel, back}
-use Rattle.sp_kernel.specs.Fits.{Fits}
+use Rattle.sp_kernel.specs.Kernels.{parent_in, Gave, IsKernel, kernel_after_give}
+use Rattle.sp_kernel.specs.Fits.{FitsHanded}
 use Rattle.sp_kernel.proofs.Giving.{there}
 use Rattle.sp_kernel.proofs.Joining.{IsChild, is_child, child_joins, child_apart, child_there, gave_end, gave_root}
 use Rattle.sp_kernel.proofs.Joining.{no_birth}
@@ -17,7 +17,7 @@ use Rattle.sp_kernel.proofs.kernel.Kernel.end_of.Goals as goal
 abbrev at_end : Proc → Handed
 at_end p = record { proc = p; stop = stop.End }
 
-child : (x : Kernel) (k : IsKernel x) (w : ℕ) (p : Proc) → Fits x w (at_end p) → (n z : ℕ) (o : _) → n ≡ p.number
+child : (x : Kernel) (k : IsKernel x) (w : ℕ) (p : Proc) → FitsHanded x w (at_end p) → (n z : ℕ) (o : _) → n ≡ p.number
     → o ≡ parent_in (Rattle.std.specs.Prelude.slice_get x.parents n) → o ≡ Some z → IsChild x p.number z
 child x k w p fits n z o e f g = is_child x k w (at_end p) fits z
     (ap (λ i. parent_in (Rattle.std.specs.Prelude.slice_get x.parents i)) (sym e) ∙ sym f ∙ g)
@@ -51,7 +51,8 @@ returns-in-Ok-clause-ok c =
     ∙ ap (λ i. parent_in (Rattle.std.specs.Prelude.slice_get x.parents i)) (sym c.number.ensures)
     ∙ sym c.parent.ensures ∙ c.in-None.is) in
     subst (Gave x c.args.proc.number (at_end c.args.proc)) (sym done.2)
-    (subst (λ n. Gave x c.args.proc.number (at_end c.args.proc) (back n event.End (slot.Here done.0 st.Over) x))
+    (subst (λ n. Gave x c.args.proc.number (at_end c.args.proc)
+    (kernel_after_give n event.End (slot.Here done.0 st.Over) x))
     done.1.1 (gave_root x c.requires.whole c.args.proc.number c.args._worker c.requires.fits.out
     (at_end c.args.proc) refl c.requires.quiet (refl, c.requires.fits.input) done.0 done.1 none))
 

@@ -1,6 +1,6 @@
 use Rattle.std.proofs.Common.{rules, ◌≡◌, ◌<◌, Some, sym, ap, subst, ◌∙◌}
 use Rattle.sp_journal.specs.declared.entry.Journal.{Journal}
-use Rattle.sp_journal.specs.Births.{births, at_start}
+use Rattle.sp_journal.specs.Births.{births, first_births}
 use Rattle.sp_kernel.specs.Faults.{fault_in}
 use Rattle.sp_kernel.proofs.Ending.{fault_there}
 use Rattle.sp_kernel.proofs.kernel.Kernel.fault_end.Goals as goal
@@ -11,5 +11,5 @@ name-requires-clause-there c =
     let f : c.fault_in.result ≡ Some (c.in-Some.process, c.in-Some.fault) = search rules in
     ap fault_in (sym c.entries.ensures) ∙ sym c.fault_in.ensures ∙ f in
     subst (λ (j : Journal). c.in-Some.process < (births j.entries).processes) (sym c.in_ok-ledger-in-Some.ensures.1)
-    (fault_there at_start c.args.self.now.journal.entries c.in-Some.process c.in-Some.fault
+    (fault_there first_births c.args.self.now.journal.entries c.in-Some.process c.in-Some.fault
     c.requires.named.nameable found)

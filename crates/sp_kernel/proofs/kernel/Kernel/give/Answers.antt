@@ -2,7 +2,7 @@ use Rattle.std.proofs.Common.{Result, Ok, Err, OnOk, sym, ap, subst, refl}
 use Rattle.sp_code.specs.System.{fault_of}
 use Rattle.sp_kernel.specs.Kernels.{system_of, Gave}
 use Rattle.sp_kernel.specs.Procs.{turn_by}
-use Rattle.sp_kernel.specs.Fits.{Fits}
+use Rattle.sp_kernel.specs.Fits.{FitsHanded}
 use Rattle.sp_kernel.proofs.Giving.{gave_fault, gave_laid}
 use Rattle.sp_kernel.proofs.kernel.Kernel.give.Goals as goal
 
@@ -17,27 +17,27 @@ returns-then-self-clause-ok c =
     c.args.handed (refl, c.requires.fits.input) c.if-self.true)) c.lay.ensures.ok
 
 pub fork-requires-clause-fits : goal.fork-requires-clause-fits
-fork-requires-clause-fits c = subst (λ s. Fits c.args.self.now c.args.worker
+fork-requires-clause-fits c = subst (λ s. FitsHanded c.args.self.now c.args.worker
     (record { proc = c.args.handed.proc; stop = s })) c.in-Fork.is c.requires.fits
 
 pub open-requires-clause-fits : goal.open-requires-clause-fits
-open-requires-clause-fits c = subst (λ s. Fits c.args.self.now c.args.worker
+open-requires-clause-fits c = subst (λ s. FitsHanded c.args.self.now c.args.worker
     (record { proc = c.args.handed.proc; stop = s })) c.in-Open.is c.requires.fits
 
 pub send-requires-clause-fits : goal.send-requires-clause-fits
-send-requires-clause-fits c = subst (λ s. Fits c.args.self.now c.args.worker
+send-requires-clause-fits c = subst (λ s. FitsHanded c.args.self.now c.args.worker
     (record { proc = c.args.handed.proc; stop = s })) c.in-Send.is c.requires.fits
 
 pub receive-requires-clause-fits : goal.receive-requires-clause-fits
-receive-requires-clause-fits c = subst (λ s. Fits c.args.self.now c.args.worker
+receive-requires-clause-fits c = subst (λ s. FitsHanded c.args.self.now c.args.worker
     (record { proc = c.args.handed.proc; stop = s })) c.in-Receive.is c.requires.fits
 
 pub end_of-requires-clause-fits : goal.end_of-requires-clause-fits
-end_of-requires-clause-fits c = subst (λ s. Fits c.args.self.now c.args.worker
+end_of-requires-clause-fits c = subst (λ s. FitsHanded c.args.self.now c.args.worker
     (record { proc = c.args.handed.proc; stop = s })) c.in-End.is c.requires.fits
 
 pub pause-requires-clause-fits : goal.pause-requires-clause-fits
-pause-requires-clause-fits c = subst (λ s. Fits c.args.self.now c.args.worker
+pause-requires-clause-fits c = subst (λ s. FitsHanded c.args.self.now c.args.worker
     (record { proc = c.args.handed.proc; stop = s })) c.in-Pause.is c.requires.fits
 
 pub returns-in-Fault-clause-ok : goal.returns-in-Fault-clause-ok

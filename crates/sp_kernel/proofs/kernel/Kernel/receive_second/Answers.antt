@@ -1,6 +1,6 @@
 use Rattle.std.proofs.Common.{rules, ◌≡◌, ◌∙◌, ap, subst}
 use Rattle.sp_machine.specs.declared.state.State.{State as Proc}
-use Rattle.sp_machine.specs.Answers.{resumed}
+use Rattle.sp_machine.specs.Answers.{state_after_answer}
 use Rattle.sp_machine.specs.declared.proc.Answer.TheVariants as answer
 use Rattle.std.proofs.Common.{List, slice_get}
 use Rattle.sp_kernel.specs.declared.slot.Slot.{Slot}
@@ -18,7 +18,7 @@ returns-clause-ok c =
           c.fetch-cells.result) e c.fetch-cells.ensures.given.1,
       (
         ap config_of c.resume.ensures ∙ (λ i. config_of
-            (resumed (answer.Received c.fetch-cells.result) (c.enter.ensures.state i))),
+            (state_after_answer (answer.Received c.fetch-cells.result) (c.enter.ensures.state i))),
         ap (λ (p : Proc). p.number) c.resume.ensures ∙ ap (λ (p : Proc). p.number) c.enter.ensures.state,
         ap (λ (p : Proc). p.input.value) c.resume.ensures ∙ ap (λ (p : Proc). p.input.value) c.enter.ensures.state,
       ),

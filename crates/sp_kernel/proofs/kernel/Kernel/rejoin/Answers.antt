@@ -3,16 +3,16 @@ use Rattle.sp_machine.specs.declared.state.State.{State as Proc}
 use Rattle.sp_kernel.specs.declared.slot.Slot.{Slot}
 use Rattle.sp_kernel.specs.declared.slot.Slot.TheVariants as slot
 use Rattle.sp_kernel.specs.Procs.{config_of}
-use Rattle.sp_kernel.specs.Ends.{Joins}
+use Rattle.sp_kernel.specs.Ends.{JoinedSlot}
 use Rattle.sp_kernel.proofs.Tables.{set_twice}
 use Rattle.sp_kernel.proofs.kernel.Kernel.rejoin.Goals as goal
 
 pub returns : goal.returns
 returns c = (
   slot.Here c.join.new.self c.one_fewer.result,
-  subst (λ (o : Option Slot). Joins o c.args.child (slot.Here c.join.new.self c.one_fewer.result))
+  subst (λ (o : Option Slot). JoinedSlot o c.args.child (slot.Here c.join.new.self c.one_fewer.result))
       (sym c.swap.ensures.before)
-      (subst (λ (s : Slot). Joins (Some s) c.args.child (slot.Here c.join.new.self c.one_fewer.result))
+      (subst (λ (s : Slot). JoinedSlot (Some s) c.args.child (slot.Here c.join.new.self c.one_fewer.result))
       (sym (c.in-Here.is ∙ ap (slot.Here c.in-Here.process) c.in-Joining.is)) (
         c.join.new.self,
         ap (slot.Here c.join.new.self) c.one_fewer.ensures,

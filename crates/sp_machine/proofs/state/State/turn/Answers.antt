@@ -1,5 +1,5 @@
 use Rattle.std.proofs.Common.{suc, inl, inr, subst, sym, ◌∙◌}
-use Rattle.sp_machine.specs.Procs.{Came, next_of, IsTurnOf, Proceeded}
+use Rattle.sp_machine.specs.Procs.{StepMatches, next_of, IsTurnOf, Proceeded}
 use Rattle.sp_machine.proofs.Going.{safe_next, safe_both, on_it, on_both, smaller, smaller_both, ends_it, came_some}
 use Rattle.sp_machine.proofs.Going.{turned_with}
 use Rattle.sp_machine.proofs.state.State.turn.Goals as goal
@@ -23,7 +23,7 @@ returns-in-Ok-Some-clause-turn c =
     (ends_it c.args.self.now c.args.code.now c.args.limits.now c.loop-interrupt.self c.loop-interrupt.invariant.same.1
     c.proceed.new.self c.loop-interrupt.invariant.came.0 c.requires.safe c.loop-interrupt.invariant.begun
     c.loop-interrupt.invariant.came.1 c.stop_by.result
-    (subst (λ s. Came (next_of c.loop-interrupt.self c.args.code.now c.args.limits.now) c.loop-interrupt.self
+    (subst (λ s. StepMatches (next_of c.loop-interrupt.self c.args.code.now c.args.limits.now) c.loop-interrupt.self
     c.proceed.new.self s)
     c.stop_by.ensures.stop
     (came_some c.loop-interrupt.self c.args.code.now c.args.limits.now c.proceed.new.self _

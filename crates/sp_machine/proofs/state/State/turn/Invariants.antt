@@ -1,17 +1,17 @@
 use Rattle.std.proofs.Common.{◌≡◌, ℕ}
-use Rattle.sp_code.specs.Turns.{ComesIn, begins}
+use Rattle.sp_code.specs.Turns.{RunsIn, frames_fit}
 use Rattle.sp_code.specs.Memory.{memory}
 use Rattle.sp_code.specs.PlainStore.{plain}
 use Rattle.sp_code.specs.Budgets.{left_by, ticks_left}
-use Rattle.sp_machine.specs.Procs.{config_of, setting_of, Stays}
+use Rattle.sp_machine.specs.Procs.{config_of, setting_of, KeepsNumberAndInput}
 use Rattle.sp_machine.proofs.state.State.turn.Given as goal
 
 abbrev pub invariant-loop-interrupt : goal.invariant-loop-interrupt
 invariant-loop-interrupt l = record {
-  same : Stays l.fn.self l.self;
-  begun : begins (memory plain (setting_of l.fn.self l.code l.limits)) l.code (config_of l.fn.self)
+  same : KeepsNumberAndInput l.fn.self l.self;
+  begun : frames_fit (memory plain (setting_of l.fn.self l.code l.limits)) l.code (config_of l.fn.self)
       ≡ Rattle.std.proofs.Common.true;
-  came : (n : ℕ) × ComesIn (memory plain (setting_of l.fn.self l.code l.limits)) l.code n (config_of l.fn.self)
+  came : (n : ℕ) × RunsIn (memory plain (setting_of l.fn.self l.code l.limits)) l.code n (config_of l.fn.self)
       (config_of l.self);
 }
 

@@ -1,6 +1,6 @@
 use Rattle.std.proofs.Common.{◌≡◌, ◌∙◌, sym, refl, subst}
 use Rattle.sp_replay.specs.Held.{held_at}
-use Rattle.sp_replay.specs.Following.{Made}
+use Rattle.sp_replay.specs.Following.{EventMade}
 use Rattle.sp_replay.proofs.Coming.{can_turn, ranked, picked_out, in_hand, none_of}
 use Rattle.sp_replay.proofs.Entries.{not_held, compared}
 use Rattle.sp_replay.proofs.followed.Followed.follow.Goals as goal
@@ -41,7 +41,7 @@ returns c =
     let number : c.in_ok-handed.handed.proc.number ≡ c.args.entry.process = c.in_ok-handed.ensures.same.0
     ∙ (c.requires.stands.follows.held.each c.args.entry.process c.in-Some.proc
     (sym c.pick.ensures.proc ∙ c.in-Some.is)).number in
-    let made : Made x c.args.entry.process e c.hand_in.new.self.kernel =
-    subst (λ n. Made x n e c.hand_in.new.self.kernel) number c.in_ok-hand_in.ensures.1.1 in
+    let made : EventMade x c.args.entry.process e c.hand_in.new.self.kernel =
+    subst (λ n. EventMade x n e c.hand_in.new.self.kernel) number c.in_ok-hand_in.ensures.1.1 in
     let newest : c.newest.result ≡ e = c.newest.ensures _ _ c.in_ok-hand_in.ensures.1.1.entries in
     compared c.is_same.result c.newest.result x c.hand_in.new.self c.args.entry e s made newest c.is_same.ensures

@@ -1,5 +1,5 @@
 use Rattle.std.proofs.Common.{subst}
-use Rattle.sp_code.specs.Memory.{Setting}
+use Rattle.sp_code.specs.Memory.{CodeRun}
 use Rattle.sp_code.specs.PlainStore.{plain}
 use Rattle.sp_code.specs.System.{IsSystem}
 use Rattle.sp_kernel.specs.Kernels.{setting_of, system_of}
@@ -12,7 +12,7 @@ pub returns-then-not-branch-clause-err : goal.returns-then-not-branch-clause-err
 returns-then-not-branch-clause-err c =
     let x = c.loop-index.self.kernel in
     let i = c.loop-index.invariant in
-    subst (λ (g : Setting). IsUnfitAt g c.args.entries.now c.loop-index.index) i.setting
+    subst (λ (g : CodeRun). IsUnfitAt g c.args.entries.now c.loop-index.index) i.setting
     (unfit (setting_of x) c.args.entries.now c.loop-index.index _ (system_of x)
     (at_or c.args.entries.now c.loop-index.index _ c.loop-index-test.true)
     (subst (λ (es : _). IsSystem plain (setting_of x) es (system_of x)) i.entries (is_system x i.stands.follows.come))

@@ -1,11 +1,11 @@
 use Rattle.std.proofs.Common.{length}
 use Rattle.sp_replay.specs.Held.{held_at}
-use Rattle.sp_replay.specs.Following.{Follows, SameRun}
+use Rattle.sp_replay.specs.Following.{IsReplayKernel, SameRun}
 use Rattle.sp_replay.proofs.followed.Followed.take_ready.Given as goal
 
 abbrev pub invariant-loop-proc : goal.invariant-loop-proc
 invariant-loop-proc l = record {
-  follows : Follows l.self.kernel (held_at l.self.held);
+  follows : IsReplayKernel l.self.kernel (held_at l.self.held);
   same : SameRun l.initial.self.kernel l.self.kernel;
 }
 

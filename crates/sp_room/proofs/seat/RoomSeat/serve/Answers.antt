@@ -1,5 +1,5 @@
 use Rattle.std.proofs.Common.{rules, arith, inl, inr, refl, subst, sym, ap, ◌∙◌, ◌-◌, ◌++◌, ◌∷◌, [], Some}
-use Rattle.sp_room.specs.History.{noted}
+use Rattle.sp_room.specs.History.{note_list}
 use Rattle.sp_room.proofs.Serving.{noted_desk, seen_on, called, seen_last, called_last, declined}
 use Rattle.sp_room.proofs.seat.RoomSeat.serve.Goals as goal
 
@@ -65,7 +65,7 @@ give_on-self-requires-clause-desk g c = let d = c.take_turn-desk.result in let n
     let n = noted_desk g.K.Kept.opens g.K.Kept.steps g.K.Kept.author c.args.room.now.table.shared.key.value
     c.args.self.now.seat.me _ _ d _ _ _ _ _ note c.put.new.desk.notes.items c.take_turn-desk.ensures.won.0
     c.take_turn-desk.ensures.won.1 c.requires.seat.1 step c.in-Some.is
-    (told.1 ∙ (ap (λ o. c.deref_mut-2.result.now.notes.items ++ noted o) c.in-Some.is
+    (told.1 ∙ (ap (λ o. c.deref_mut-2.result.now.notes.items ++ note_list o) c.in-Some.is
     ∙ ap (λ z. z.notes.items ++ note ∷ []) c.deref_mut-2.ensures.value)) in (
       n.0,
       n.1,

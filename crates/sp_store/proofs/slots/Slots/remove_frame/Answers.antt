@@ -1,7 +1,7 @@
 use Rattle.std.proofs.Common.{◌≡◌, ◌<◌, ◌≤◌, ◌≢◌, ◌-◌, ℕ, List, length, get_or, ap, subst, ◌∙◌, sym}
 use Rattle.sp_cell.specs.declared.spot.Spot.{Spot}
 use Rattle.sp_cell.specs.Map.{Map}
-use Rattle.sp_cell.specs.Frame.{without}
+use Rattle.sp_cell.specs.Frame.{without_spots_of}
 use Rattle.sp_store.proofs.Places.{taken_out, sorted_out, length-out}
 use Rattle.sp_store.proofs.slots.Slots.remove_frame.Goals as goal
 
@@ -41,4 +41,4 @@ returns c =
     rw (c.take_out.ensures, c.take_out-2.ensures)
     (taken_out ss es c.self.invariant.1 c.self.invariant.0 c.args.frame a b c.start_of-start.ensures.bound bound
     after inside most other)
-    ∙ ap (λ (m : Map). without m c.args.frame) c.self.view_is
+    ∙ ap (λ (m : Map). without_spots_of m c.args.frame) c.self.view_is

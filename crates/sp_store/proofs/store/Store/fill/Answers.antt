@@ -3,10 +3,10 @@ use Rattle.std.specs.FinMap as map
 use Rattle.sp_cell.specs.declared.spot.Spot.{Spot}
 use Rattle.sp_cell.specs.declared.spot.Handing.{Handing}
 use Rattle.sp_cell.specs.Map.{Plain}
-use Rattle.sp_cell.specs.Fork.{away, moved_of, prepared_map}
+use Rattle.sp_cell.specs.Fork.{with_away, moved_of, prepared_map}
 use Rattle.sp_cell.specs.Spots.{DistinctByIndex}
 use Rattle.sp_cell.proofs.Plan.{distinct_at, known_at, room_at, is_prepared, filled, away_plan_step, mixed_all}
-use Rattle.sp_cell.specs.Fork.{mixed}
+use Rattle.sp_cell.specs.Fork.{children_so_far}
 use Rattle.sp_cell.proofs.Plan.{length-mixed}
 use Rattle.sp_store.proofs.store.Store.fill.Goals as goal
 
@@ -24,7 +24,7 @@ hand-requires-clause-distinct c = rw c.items.ensures
 pub hand-requires-clause-known : goal.hand-requires-clause-known
 hand-requires-clause-known c = rw (c.items.ensures, c.loop-i.invariant.parent)
     (subst (λ (y : Handing). (n : ℕ) (e : Spot) → n < length y.moved
-    → IsSome (map.get (away c.args.parent.now (moved_of (take c.loop-i.i c.args.plan.now))) (get_or y.moved n e)))
+    → IsSome (map.get (with_away c.args.parent.now (moved_of (take c.loop-i.i c.args.plan.now))) (get_or y.moved n e)))
     (sym c.index-plan-i.is) (known_at c.args.parent.now c.args.plan.now c.requires.distinct c.requires.known c.loop-i.i
     c.index-plan-i.result c.loop-i-test.true))
 
@@ -53,8 +53,8 @@ loop-i-preserved c =
     c.loop-i-test.true in
     record {
       parent = rw (c.hand.ensures.from, c.items.ensures, c.loop-i.invariant.parent)
-          (subst (λ (y : Handing). away (away m (moved_of (take c.loop-i.i c.args.plan.now))) y.moved
-          ≡ away m (moved_of (take (c.loop-i.i + 1) c.args.plan.now))) (sym c.index-plan-i.is)
+          (subst (λ (y : Handing). with_away (with_away m (moved_of (take c.loop-i.i c.args.plan.now))) y.moved
+          ≡ with_away m (moved_of (take (c.loop-i.i + 1) c.args.plan.now))) (sym c.index-plan-i.is)
           (sym (away_plan_step m c.args.plan.now c.loop-i.i c.index-plan-i.result c.loop-i-test.true)));
       children = rw (c.hand.ensures.to, c.items.ensures, c.loop-i.invariant.parent)
           (filled m c.args.plan.now c.requires.distinct c.requires.known c.loop-i.i c.loop-i-test.true
@@ -64,5 +64,5 @@ loop-i-preserved c =
 pub returns-clause-children : goal.returns-clause-children
 returns-clause-children c =
     let end : c.loop-i.i ≡ length c.args.plan.now = omega (arith, c.loop-i-test.false, c.loop-i.auto.i-end) in
-    c.loop-i.invariant.children ∙ ap (mixed c.args.parent.now c.args.plan.now) end
+    c.loop-i.invariant.children ∙ ap (children_so_far c.args.parent.now c.args.plan.now) end
     ∙ mixed_all c.args.parent.now c.args.plan.now

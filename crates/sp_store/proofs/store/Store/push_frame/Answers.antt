@@ -1,6 +1,6 @@
 use Rattle.std.proofs.Common.{◌≡◌, ◌≤◌, ap, arith, sym, ◌∙◌}
 use Rattle.sp_cell.specs.Map.{Plain}
-use Rattle.sp_cell.specs.Frame.{above, next_frame, without}
+use Rattle.sp_cell.specs.Frame.{least_above, next_frame, without_spots_of}
 use Rattle.sp_cell.proofs.FrameLaws.{without_next, rising_push}
 use Rattle.sp_store.proofs.store.Store.push_frame.Goals as goal
 
@@ -10,7 +10,7 @@ returns-in-Err-clause-err c =
     let number : c.next_frame-number.result ≡ next_frame p = c.next_frame-number.ensures
     ∙ sym (ap next_frame c.self.view_is) in
     let slots : c.remove_frame.new.self ≡ c.self.inside.slots = c.remove_frame.ensures ∙ c.in-Err.ensures.err
-    ∙ ap (λ n. without c.self.inside.slots n) number ∙ without_next p in
+    ∙ ap (λ n. without_spots_of c.self.inside.slots n) number ∙ without_next p in
     rw (slots, c.reserve.ensures.items) c.self.view_is
 
 pub invariant_of-self-2 : goal.invariant_of-self-2
@@ -18,7 +18,7 @@ invariant_of-self-2 c =
     let p : Plain = record { map = c.self.inside.slots; own = c.self.inside.own.items; moved = c.self.inside.moved } in
     let number : c.next_frame-number.result ≡ next_frame p = c.next_frame-number.ensures
     ∙ sym (ap next_frame c.self.view_is) in
-    let most : above c.self.inside.own.items ≤ c.next_frame-number.result = omega (arith, number) in (
+    let most : least_above c.self.inside.own.items ≤ c.next_frame-number.result = omega (arith, number) in (
       c.self.invariant.0,
       rw (c.in-Ok-push.ensures.items, c.reserve.ensures.items)
           (rising_push c.self.inside.own.items c.next_frame-number.result c.self.invariant.1 most),

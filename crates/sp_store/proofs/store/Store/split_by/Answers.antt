@@ -3,7 +3,7 @@ use Rattle.std.specs.FinMap as map
 use Rattle.sp_cell.specs.declared.spot.Spot.{Spot}
 use Rattle.sp_cell.specs.declared.spot.Handing.{Handing}
 use Rattle.sp_cell.specs.Map.{Map, Plain, IsPiece, spot_cmp, with_map}
-use Rattle.sp_cell.specs.Fork.{lent, taken, handed, moved_of, shared_of}
+use Rattle.sp_cell.specs.Fork.{with_shared, with_contents, map_after_fork, moved_of, shared_of}
 use Rattle.sp_cell.proofs.Plan.{each_shared, each_moved, distinct_in, ready_step, children_step, known_ready, take_all}
 use Rattle.sp_cell.proofs.Plan.{merged, at_each, in_of_at, index_at}
 use Rattle.sp_cell.specs.Spots.{In}
@@ -46,7 +46,7 @@ prepare-requires-clause-frames c index =
 
 pub loop-handing-preserved : goal.loop-handing-preserved
 loop-handing-preserved c = record {
-  ready = c.in_ok-child.ensures.ready ∙ ap (lent c.self.inside.slots c.handing-item.result.shared)
+  ready = c.in_ok-child.ensures.ready ∙ ap (with_shared c.self.inside.slots c.handing-item.result.shared)
       c.loop-handing.invariant.ready ∙ ready_step c.self.inside.slots c.args.plan.now c.loop-handing.handing-index
       c.handing-item.result c.loop-handing-test.true c.handing-item.is;
   lent = c.in_ok-child.ensures.lent;
@@ -59,8 +59,9 @@ pub hand-requires-clause-room : goal.hand-requires-clause-room
 hand-requires-clause-room c k d b =
     let m = c.self.inside.slots in
     let slots = ap (λ (p : Plain). p.map) c.self.view_is in
-    let ready : c.loop-handing.ready ≡ lent m (shared_of c.args.plan.now) map.empty = c.loop-handing.invariant.ready
-    ∙ ap (λ (hs : List Handing). lent m (shared_of hs) map.empty)
+    let ready : c.loop-handing.ready ≡ with_shared m (shared_of c.args.plan.now) map.empty =
+    c.loop-handing.invariant.ready
+    ∙ ap (λ (hs : List Handing). with_shared m (shared_of hs) map.empty)
     (take_all c.args.plan.now c.loop-handing.handing-index c.loop-handing-test.false) in
     let list : c.deref.result.now ≡ c.spots.result.now = c.deref.ensures.value ∙ c.in_ok-shared.ensures.items in
     let known : IsSome (map.get c.loop-handing.ready (get_or c.deref.result.now k d)) =
@@ -74,25 +75,26 @@ hand-requires-clause-room c k d b =
 pub returns-clause-parent : goal.returns-clause-parent
 returns-clause-parent c =
     let m = c.self.inside.slots in
-    let ready : c.loop-handing.ready ≡ lent m (shared_of c.args.plan.now) map.empty = c.loop-handing.invariant.ready
-    ∙ ap (λ (hs : List Handing). lent m (shared_of hs) map.empty)
+    let ready : c.loop-handing.ready ≡ with_shared m (shared_of c.args.plan.now) map.empty =
+    c.loop-handing.invariant.ready
+    ∙ ap (λ (hs : List Handing). with_shared m (shared_of hs) map.empty)
     (take_all c.args.plan.now c.loop-handing.handing-index c.loop-handing-test.false) in
     let list : c.deref.result.now ≡ c.spots.result.now = c.deref.ensures.value ∙ c.in_ok-shared.ensures.items in
     let there : (q : Spot) → In q c.deref.result.now
-    → IsSome (map.get (lent m (shared_of c.args.plan.now) map.empty) q) =
-    at_each (λ q. IsSome (map.get (lent m (shared_of c.args.plan.now) map.empty) q)) c.deref.result.now
+    → IsSome (map.get (with_shared m (shared_of c.args.plan.now) map.empty) q) =
+    at_each (λ q. IsSome (map.get (with_shared m (shared_of c.args.plan.now) map.empty) q)) c.deref.result.now
     (subst (λ (ss : List Spot). (k : ℕ) (d : Spot) → k < length ss
-    → IsSome (map.get (lent m (shared_of c.args.plan.now) map.empty) (get_or ss k d))) (sym list)
+    → IsSome (map.get (with_shared m (shared_of c.args.plan.now) map.empty) (get_or ss k d))) (sym list)
     (subst (λ (r : Map). (k : ℕ) (d : Spot) → k < length c.spots.result.now
     → IsSome (map.get r (get_or c.spots.result.now k d))) ready c.spots.ensures.known)) in
-    let back : (q : Spot) → IsSome (map.get (lent m (shared_of c.args.plan.now) map.empty) q)
+    let back : (q : Spot) → IsSome (map.get (with_shared m (shared_of c.args.plan.now) map.empty) q)
     → In q c.deref.result.now =
     λ q k. subst (In q) (sym list) (in_of_at q c.spots.result.now
     (c.spots.ensures.all q (subst (λ (r : Map). IsSome (map.get r q)) (sym ready) k))) in
-    let to : c.hand.new.to ≡ handed m c.args.plan.now =
-    c.hand.ensures.to ∙ ap (λ (r : Map). taken r c.deref.result.now c.fill.new.parent) ready
+    let to : c.hand.new.to ≡ map_after_fork m c.args.plan.now =
+    c.hand.ensures.to ∙ ap (λ (r : Map). with_contents r c.deref.result.now c.fill.new.parent) ready
     ∙ merged m c.args.plan.now c.deref.result.now there back c.fill.new.parent
-    ∙ ap (lent m (shared_of c.args.plan.now)) c.fill.ensures.parent in
+    ∙ ap (with_shared m (shared_of c.args.plan.now)) c.fill.ensures.parent in
     subst (λ (p : Plain). record { map = c.hand.new.to; own = c.self.inside.own.items; moved = c.self.inside.moved }
-    ≡ with_map p (handed p.map c.args.plan.now)) c.self.view_is
+    ≡ with_map p (map_after_fork p.map c.args.plan.now)) c.self.view_is
     (ap (λ (z : Map). record { map = z; own = c.self.inside.own.items; moved = c.self.inside.moved }) to)

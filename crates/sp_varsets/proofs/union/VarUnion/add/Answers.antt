@@ -1,7 +1,7 @@
 use Rattle.std.proofs.Common.{◌≡◌, ℕ, ◌+◌, ◌*◌, ◌/◌, ◌<◌, ◌≤◌, ◌-◌, ◌⊎◌, ◌||◌, length, get_or, arith, inl, inr, bit_or}
 use Rattle.std.proofs.Common.{ap, ◌∙◌, subst}
 use Rattle.std.proofs.lemmas.Bool.{cases_lt}
-use Rattle.sp_varsets.specs.Members.{joined, in_words}
+use Rattle.sp_varsets.specs.Members.{union_has, in_words}
 use Rattle.sp_varsets.proofs.Words.{joined_words}
 use Rattle.sp_varsets.proofs.union.VarUnion.add.Goals as goal
 
@@ -9,7 +9,7 @@ pub returns-clause-first : goal.returns-clause-first
 returns-clause-first c = c.words.invariant.0
 
 pub returns-clause-added : goal.returns-clause-added
-unfolding joined
+unfolding union_has
 returns-clause-added c x w =
     let first : ℕ = c.args.self.now.first in
     let n : ℕ = c.min-count.result in

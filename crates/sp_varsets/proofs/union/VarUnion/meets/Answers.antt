@@ -1,11 +1,11 @@
 use Rattle.std.proofs.Common.{◌≡◌, false, true, ◌+◌, ◌*◌, ◌<◌, ◌≤◌, length, get_or, arith, rules, bit_and, ap, ◌∙◌}
 use Rattle.std.proofs.Common.{subst, refl, ◌^◌, ◌≢◌, sym}
-use Rattle.sp_varsets.specs.Members.{joined}
+use Rattle.sp_varsets.specs.Members.{union_has}
 use Rattle.sp_varsets.proofs.Words.{met_at, not_met, below_words}
 use Rattle.sp_varsets.proofs.union.VarUnion.meets.Goals as goal
 
 pub returns-then-self-k-ne0 : goal.returns-then-self-k-ne0
-unfolding joined
+unfolding union_has
 returns-then-self-k-ne0 c =
     let words : get_or c.args.self.now.words c.words.k 0 < 2 ^ 64 = search rules in
     let some : bit_and (get_or c.args.self.now.words c.words.k 0)
@@ -17,7 +17,7 @@ returns-then-self-k-ne0 c =
     (λ h. (m.0, (omega arith, omega arith), m.3, m.4), λ h. refl)
 
 pub returns : goal.returns
-unfolding joined
+unfolding union_has
 returns c = (
   λ h. absurd (let no : false ≡ true = h in cc),
   λ (x, w, p, q).

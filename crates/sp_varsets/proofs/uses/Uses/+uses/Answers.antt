@@ -3,7 +3,8 @@ use Rattle.std.proofs.lemmas.List.{nil_from_length}
 use Rattle.sp_tree.specs.declared.checked.Expr.{out-Expr, fold_out-Expr}
 use Rattle.sp_tree.specs.declared.checked.ExprForm as ast_f
 use Rattle.sp_tree.specs.declared.checked.Var.{out-Var, fold_out-Var}
-use Rattle.sp_tree.specs.PlainChecked.{At, Number, Read, Unary, Binary, Apply, Standard, Entire, Index, Field, ByValue}
+use Rattle.sp_tree.specs.PlainChecked.{ExpressionAt, Number, Read, Unary, Binary, Apply, Standard, Entire, Index, Field}
+use Rattle.sp_tree.specs.PlainChecked.{ByValue}
 use Rattle.sp_tree.specs.PlainChecked.{ByReference}
 use Rattle.sp_tree.specs.Bare.{bare_expression, bare_selectors, bare_actuals}
 use Rattle.sp_tree.specs.CheckedOf.{expression_of, expression_form_of, variable_of, selector_of, selectors, actual_of}
@@ -87,7 +88,8 @@ selectors-returns t c = c.loop-s.invariant c.loop-s.self
 pub expression-returns : goal.expression-returns
 expression-returns t c =
     let e = out-Expr c.args.e.now in
-    let i : expression_of c.args.e.now ≡ At e.at e.kind (expression_form_of e.form) = search (rules, fold_out-Expr) in
+    let i : expression_of c.args.e.now ≡ ExpressionAt e.at e.kind (expression_form_of e.form) =
+    search (rules, fold_out-Expr) in
     rw i c.form.ensures
 
 pub form-returns-in-Read : goal.form-returns-in-Read

@@ -2,14 +2,14 @@ use Rattle.std.proofs.Common.{◌≡◌, ◌||◌, ◌==◌, ℕ, Result, Ok, Er
 use Rattle.sp_tree.specs.Plain.{Actuals}
 use Rattle.sp_tree.specs.Uses.{CallOf}
 use Rattle.sp_varsets.specs.declared.uses.Uses.{Uses}
-use Rattle.sp_varsets.specs.Adds.{Adds}
+use Rattle.sp_varsets.specs.AddedUses.{AddsUses}
 use Rattle.sp_varsets.specs.Members.{has}
 use Rattle.sp_varsets.proofs.Adding.{ran}
 use Rattle.sp_varsets.proofs.uses.Uses.run.Goals as goal
 
 ok_ran : {T E : Type 0} (r : Result T E) (old new : Uses) (v : ℕ)
     → OnOk r ((x : ℕ) → has new.runs x ≡ (v == x) || has old.runs x) → new.aims ≡ old.aims → new.sees ≡ old.sees
-    → new.stops ≡ old.stops → OnOk r ((args : Actuals) → Adds old new (λ u. u ≡ CallOf v args))
+    → new.stops ≡ old.stops → OnOk r ((args : Actuals) → AddsUses old new (λ u. u ≡ CallOf v args))
 ok_ran (Ok t) old new v h s r q = λ args. ran old new v args h s r q
 ok_ran (Err e) old new v h s r q = h
 

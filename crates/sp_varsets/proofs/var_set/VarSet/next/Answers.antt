@@ -2,7 +2,7 @@ use Rattle.std.proofs.Common.{◌≡◌, false, ℕ, ◌+◌, ◌*◌, ◌/◌, 
 use Rattle.std.proofs.Common.{Some, None, MatchOption}
 use Rattle.std.proofs.lemmas.Bool.{cases_lt}
 use Rattle.sp_varsets.specs.declared.var_set.VarSet.{VarSet}
-use Rattle.sp_varsets.specs.Members.{has, in_words, IsNext}
+use Rattle.sp_varsets.specs.Members.{has, in_words, IsNextMember}
 use Rattle.sp_varsets.proofs.Words.{next_here, none_here, none_past}
 use Rattle.sp_varsets.proofs.var_set.VarSet.next.Goals as goal
 use Rattle.sp_varsets.proofs.var_set.VarSet.next.Goals.{in-Some+else-rest-ne0, in_default}
@@ -27,8 +27,8 @@ returns-then-rest-ne0 c =
 later : (s : VarSet) (from : ℕ) (o : Option ℕ)
     → ((x : ℕ) → from ≤ x → x < 64 * (from / 64) + 64 → in_words s.words x ≡ false)
     → MatchOption o ((x : ℕ) → 64 * (from / 64) + 64 ≤ x → x < 2 ^ 32 → has s x ≡ false)
-    (λ y. IsNext s (64 * (from / 64) + 64) y)
-    → MatchOption o ((x : ℕ) → from ≤ x → x < 2 ^ 32 → has s x ≡ false) (λ y. IsNext s from y)
+    (λ y. IsNextMember s (64 * (from / 64) + 64) y)
+    → MatchOption o ((x : ℕ) → from ≤ x → x < 2 ^ 32 → has s x ≡ false) (λ y. IsNextMember s from y)
 later s from None first rest = λ x low high. elim (cases_lt x (64 * (from / 64) + 64))
     [ inl h ↦ first x low h | inr h ↦ rest x h high ]
 later s from (Some y) first rest = let r = rest.0 in (

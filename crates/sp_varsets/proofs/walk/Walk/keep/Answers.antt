@@ -1,16 +1,17 @@
 use Rattle.std.proofs.Common.{◌≡◌, ◌∙◌, true, ap, subst}
 use Rattle.sp_varsets.specs.Members.{has}
-use Rattle.sp_varsets.specs.Records.{Stands, slot_at}
+use Rattle.sp_varsets.specs.Records.{IsSetOfIndex, slot_at}
 use Rattle.sp_varsets.proofs.Walking.{keeps_is}
 use Rattle.sp_varsets.proofs.walk.Walk.keep.Goals as goal
 
 pub returns : goal.returns
 returns c =
-    let aims = subst (λ s. Stands c.put.new.self.pool c.in-Ok.value (λ x. has s x ≡ true)) c.take.ensures
+    let aims = subst (λ s. IsSetOfIndex c.put.new.self.pool c.in-Ok.value (λ x. has s x ≡ true)) c.take.ensures
     c.in-Ok.ensures.set in
-    let sees = subst (λ s. Stands c.put-2.new.self.pool c.in-Ok-put.value (λ x. has s x ≡ true)) c.take-2.ensures
+    let sees = subst (λ s. IsSetOfIndex c.put-2.new.self.pool c.in-Ok-put.value (λ x. has s x ≡ true)) c.take-2.ensures
     c.in-Ok-put.ensures.set in
-    let runs = subst (λ s. Stands c.put-3.new.self.pool c.in-Ok-put-2.value (λ x. has s x ≡ true)) c.take-3.ensures
+    let runs = subst (λ s. IsSetOfIndex c.put-3.new.self.pool c.in-Ok-put-2.value (λ x. has s x ≡ true))
+    c.take-3.ensures
     c.in-Ok-put-2.ensures.set in
     keeps_is c.args.self.now (record {
       alloc = c.grow.new.self.alloc;

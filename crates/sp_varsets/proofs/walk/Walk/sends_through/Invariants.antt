@@ -4,13 +4,13 @@ use Rattle.sp_tree.specs.CheckedOf.{expression_of, sends}
 use Rattle.sp_tree.specs.Uses.{In_expr}
 use Rattle.sp_varsets.specs.declared.uses.Uses.{Uses}
 use Rattle.sp_varsets.specs.declared.walk.Walk.{Walk}
-use Rattle.sp_varsets.specs.Adds.{Adds, AreEmpty}
+use Rattle.sp_varsets.specs.AddedUses.{AddsUses, AreEmpty}
 use Rattle.sp_varsets.specs.Walks.{WalksStatements}
 use Rattle.sp_varsets.proofs.walk.Walk.sends_through.Given as goal
 
 abbrev pub invariant-loop-i : goal.invariant-loop-i
 invariant-loop-i l = (v : Walk) (z : Uses) (start : Uses) → AreEmpty start
-    → Adds start l.through (In_expr (bare_expression (expression_of l.fn.channel)))
+    → AddsUses start l.through (In_expr (bare_expression (expression_of l.fn.channel)))
     → WalksStatements l.self v l.into z (sends (l.number + l.i) l.fn.at (expression_of l.fn.channel)
     (map expression_of (drop l.i l.values)))
     → WalksStatements l.fn.self v l.fn.into z (sends l.number l.fn.at (expression_of l.fn.channel)

@@ -1,0 +1,16 @@
+-- None of this belongs to what the program promises: it is for contracts between crates.
+-- What the passes may take for granted: the code keeps V1, and what was found of it is right.
+use Rattle.std.specs.Prelude.{ℕ}
+use Rattle.sp_rules.specs.Named.{BreaksV1}
+use Rattle.sp_areas.specs.Blocks.{IsNumbered}
+use Rattle.sp_areas.specs.Homes.{AreHomes}
+use Rattle.sp_areas.specs.Owners.{AreOwners}
+use Rattle.sp_shapes.specs.Shapes.{AreShapes}
+use Rattle.sp_effects.specs.declared.ground.Ground.{Ground}
+
+pub record IsPassContext (g : Ground) : Type 0 where
+  pub kept : (p : ℕ) → BreaksV1 g.code.now p → ⊥
+  pub blocks : IsNumbered g.blocks.now.first g.code.now.layouts
+  pub owners : AreOwners g.code.now g.owners.now
+  pub homes : AreHomes g.code.now g.homes.now
+  pub shapes : AreShapes g.code.now g.shapes.now

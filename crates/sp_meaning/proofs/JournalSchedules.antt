@@ -1,0 +1,123 @@
+-- Along a journal without a fault goes a lawful schedule of that length.
+use Rattle.std.proofs.Common.{◌≡◌, ℕ, zero, suc, ◌+◌, Bool, true, false, List, [], ◌∷◌, length, Option, Some, None}
+use Rattle.std.proofs.Common.{refl, sym, ap, ◌∙◌, subst, arith}
+use Rattle.std.proofs.lemmas.Option.{same_Some}
+use Rattle.sp_base.specs.declared.fault.Fault.{Fault}
+use Rattle.sp_meaning.specs.Model.{Name}
+use Rattle.sp_meaning.specs.Steps.{ActOf, ActOutcome, Advances, Faulty, act_outcome, limit_fault, cost, fault_or}
+use Rattle.sp_meaning.specs.Steps.{step_outcome, result_of}
+use Rattle.sp_meaning.specs.Steps.{step_with}
+use Rattle.sp_meaning.specs.LocalWork.{RunInput, Process}
+use Rattle.sp_meaning.specs.SuperPascal.{superpascal}
+use Rattle.sp_meaning.specs.Entries.{Happening, Opened, Forked, Offered, Ended, Faulted, Laid, Paused, Occurrence}
+use Rattle.sp_meaning.specs.Runs.{StateOf, total_limits, running_process, next_state, Lawful, happening_of}
+use Rattle.sp_meaning.specs.Runs.{happening_at}
+use Rattle.sp_meaning.specs.Along.{Either, is_due_after, Turn, Course, KernelStep, EntryStep, Along, IsCleanly, IsClean}
+use Rattle.sp_meaning.proofs.Frames.{all_in, fault_frame}
+
+abbrev IsFine : Option Happening → Type 0
+IsFine None = Unit {0}
+IsFine (Some w) = IsCleanly w
+
+module _ (g : RunInput) where
+  fine : (s : StateOf g) (q : Name) (a : ActOf (superpascal g)) (x : Option Fault) (out : ActOutcome (superpascal g))
+      → act_outcome s q a ≡ out → IsFine (happening_of a (fault_or x out)) → s.fault ≡ None
+      → (result_of s q (fault_or x out)).fault ≡ None
+  fine s q a None (Advances cs) e f h = fault_frame s q a cs s (all_in s q a cs e) ∙ h
+  fine s q a None (Faulty i) e f h = absurd f
+  fine s q a (Some i) out e f h = absurd f
+
+  -- a step without a fault entry sets no fault
+  pub quiet_step : (s : StateOf g) (q : Name) (own : Process) (m : StateOf g) (w : Option Happening)
+      → running_process g s q ≡ Some own → happening_at g s q own ≡ w → IsFine w → next_state g s q ≡ Some m
+      → s.fault ≡ None → m.fault ≡ None
+  quiet_step s q own m w run e f st h =
+      let a = (superpascal g).next own s.store in
+      let ok : (result_of s q (step_outcome (total_limits g) s q a)).fault ≡ None =
+      fine s q a (limit_fault (total_limits g) s.totals (cost a)) (act_outcome s q a) refl (subst IsFine (sym e) f) h in
+      let same : result_of s q (step_outcome (total_limits g) s q a) ≡ m =
+      same_Some (result_of s q (step_outcome (total_limits g) s q a)) m (sym (ap (step_with (total_limits g) s q) run)
+      ∙ st) in
+      subst (λ (z : StateOf g). z.fault ≡ None) same ok
+
+  -- a lawful schedule of n names from s to t, without a fault at its end
+  pub record FaultFreeSchedule (s : StateOf g) (n : ℕ) (t : StateOf g) : Type 0 where
+    pub names : List Name
+    pub size : length names ≡ n
+    pub leads : Lawful g s names t
+    pub still : t.fault ≡ None
+
+  -- one step in front
+  first : (s : StateOf g) (q : Name) (m : StateOf g) (n : ℕ) (t : StateOf g) → s.fault ≡ None
+      → next_state g s q ≡ Some m
+      → FaultFreeSchedule m n t → FaultFreeSchedule s (suc n) t
+  first s q m n t quiet st go = record {
+    names = q ∷ go.names;
+    size = ap suc go.size;
+    leads = (m, quiet, st, go.leads);
+    still = go.still;
+  }
+
+  -- k local steps in front
+  turned : (turn since : ℕ) (q : Name) (k : ℕ) (s m : StateOf g) (paused : Bool) (n : ℕ) (t : StateOf g)
+      → Turn g turn since q k s m paused → s.fault ≡ None → (m.fault ≡ None → FaultFreeSchedule m n t)
+      → FaultFreeSchedule s (k + n) t
+  turned turn since q zero s m paused n t h f go =
+      subst (λ z. FaultFreeSchedule s z t) zero_add (subst (λ z. FaultFreeSchedule z n t) h.0
+      (go (ap (λ (z : StateOf g). z.fault) (sym (sym h.0)) ∙ f)))
+    where
+      zero_add : n ≡ 0 + n
+      zero_add = omega arith
+  turned turn since q (suc k) s m paused n t h f go =
+      let still = quiet_step s q h.0 h.3 None h.1 h.2 tt h.4 f in
+      subst (λ z. FaultFreeSchedule s z t) suc_add (first s q h.3 (k + n) t f h.4
+      (rest (is_due_after g turn since s h.0 q h.3) h.5 still (λ x. turned turn since q k h.3 m paused n t x still go)))
+    where
+      suc_add : suc (k + n) ≡ suc k + n
+      suc_add = omega arith
+
+      rest : (b : Bool) → Either b ((k ≡ 0) × (m ≡ h.3) × (paused ≡ true)) (Turn g turn since q k h.3 m paused)
+          → h.3.fault ≡ None → (Turn g turn since q k h.3 m paused → FaultFreeSchedule h.3 (k + n) t)
+          → FaultFreeSchedule h.3 (k + n) t
+      rest true x still later = subst (λ z. FaultFreeSchedule h.3 (z + n) t) (sym x.0)
+          (subst (λ z. FaultFreeSchedule h.3 z t) zero_add
+          (subst (λ z. FaultFreeSchedule z n t) x.1 (go (ap (λ (z : StateOf g). z.fault) x.1 ∙ still))))
+        where
+          zero_add : n ≡ 0 + n
+          zero_add = omega arith
+      rest false x still later = later x
+
+  kernel_goes : (left : Course → StateOf g → ℕ → Type 0) (c : Course) (m : StateOf g) (paused : Bool) (q : Name)
+      (w : Happening) (n : ℕ) (t : StateOf g) → IsCleanly w → KernelStep g left c m paused q w n
+      → ((c1 : Course) (u : StateOf g) (r : ℕ) → left c1 u r → u.fault ≡ None → FaultFreeSchedule u r t)
+      → m.fault ≡ None
+      → FaultFreeSchedule m n t
+  kernel_goes left c m paused q w n t ok h next_goes f =
+      let still = quiet_step m q h.5.0 h.2 (Some w) h.5.1 h.5.2 ok h.5.3 f in
+      subst (λ z. FaultFreeSchedule m z t) (sym h.4) (first m q h.2 h.3 t f h.5.3 (next_goes _ h.2 h.3 h.6 still))
+
+  entered_goes : (left : Course → StateOf g → ℕ → Type 0) (c : Course) (m : StateOf g) (paused : Bool) (q : Name)
+      (w : Happening) (n : ℕ) (t : StateOf g) → IsCleanly w → EntryStep g left c m paused q w n
+      → ((c1 : Course) (u : StateOf g) (r : ℕ) → left c1 u r → u.fault ≡ None → FaultFreeSchedule u r t)
+      → m.fault ≡ None
+      → FaultFreeSchedule m n t
+  entered_goes left c m paused q Opened n t ok h k f = kernel_goes left c m paused q Opened n t ok h k f
+  entered_goes left c m paused q (Forked i) n t ok h k f = kernel_goes left c m paused q (Forked i) n t ok h k f
+  entered_goes left c m paused q (Offered w ch) n t ok h k f = kernel_goes left c m paused q (Offered w ch) n t ok h k f
+  entered_goes left c m paused q Ended n t ok h k f = kernel_goes left c m paused q Ended n t ok h k f
+  entered_goes left c m paused q (Faulted i) n t ok h k f = absurd ok
+  entered_goes left c m paused q Laid n t ok h k f = absurd ok
+  entered_goes left c m paused q Paused n t ok h k f = k _ m n h.2 f
+
+  pub along_goes : (turn : ℕ) (es : List Occurrence) (c : Course) (s : StateOf g) (n : ℕ) (t : StateOf g)
+      → Along g turn c s es n t → IsClean es → s.fault ≡ None → FaultFreeSchedule s n t
+  along_goes turn [] c s n t a clean f = record {
+    names = [];
+    size = sym a.0;
+    leads = a.1;
+    still = ap (λ (z : StateOf g). z.fault) a.1 ∙ f;
+  }
+  along_goes turn (e ∷ es) c s n t a clean f =
+      subst (λ z. FaultFreeSchedule s z t) (sym a.5) (turned turn (c.since e.who) e.who a.1 s a.3 a.4 a.2 t a.6 f
+      (entered_goes _ c a.3 a.4 e.who e.what a.2 t clean.0 a.7
+      (λ c1 u r b still. along_goes turn es c1 u r t b clean.1 still)))

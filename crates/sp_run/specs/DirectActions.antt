@@ -1,0 +1,211 @@
+-- None of this belongs to what the program promises: it is for contracts between crates.
+-- Statements in steps, with the store passed along: the meaning's Deeds, line by line, over the work of
+-- `Direct.antt`. The interpreter promises it.
+use Rattle.std.specs.Prelude.{ℕ, zero, suc, ◌+◌, ℤ, pos, ◌+ℤ◌, ◌-ℤ◌, nat_abs, int_lt, int_le, List, [], ◌∷◌, ◌++◌}
+use Rattle.std.specs.Prelude.{Option, Some, None, Bool, true, if◌then◌else◌, nat_lt, length, take, slice_get}
+use Rattle.sp_base.specs.declared.fault.Fault.TheVariants as fault
+use Rattle.sp_tree.specs.Plain.{Expr, Typed, Variable, Block, Stmt, Empty, Assign, Call, Sequence, If, IfElse, While}
+use Rattle.sp_tree.specs.Plain.{Repeat, For, Case, Parallel, Forall, Assume, ReadValue, ReadLine, WriteValue, WriteText}
+use Rattle.sp_tree.specs.Plain.{WriteLine, Open, Send, Receive}
+use Rattle.sp_meaning.specs.Model.{Message, Takes}
+use Rattle.sp_tree.specs.Cells.{variables_of}
+use Rattle.sp_meaning.specs.Values.{Value, Ordinal, Chan, initials}
+use Rattle.sp_meaning.specs.LocalWork.{RunInput, Cell, Input, Output, Tree, Position, Written, Address}
+use Rattle.sp_meaning.specs.LocalWork.{Item, Do, First, Again, Test, Leave, Break}
+use Rattle.sp_meaning.specs.LocalWork.{position_in, bytes_in, is_block}
+use Rattle.sp_run.specs.Direct.{Work, bind, give, fail, ill_formed, out_of_fuel, local_state, who, set_local_state}
+use Rattle.sp_run.specs.Direct.{read_location, write_location, fetch, assign}
+use Rattle.sp_run.specs.Direct.{or_ill_formed, link_to, tick, deepen, widen}
+use Rattle.sp_meaning.specs.Actions.{Birth, Action, Stepped, Ticked, Opened, Forked, Offered, Ended, push, push_all}
+use Rattle.sp_meaning.specs.Actions.{arm_for, if_true, is_range, next_value, goes_on, first_value_by, references}
+use Rattle.sp_meaning.specs.Actions.{ordinal_text, reading_by}
+use Rattle.sp_meaning.specs.Actions.{children, indexed_children, pushed_frame, without_frame, size_of_frame}
+use Rattle.sp_meaning.specs.Texts.{ReadResult, ReadItem as Took, ReadFault as Stops, line_length, right_justified}
+use Rattle.sp_meaning.specs.Eval.{ArgumentValue, ValueOf, PlaceOf}
+use Rattle.sp_run.specs.DirectEval.{Calls, kind_at, read_at, address_of, place_of, input_left, value, actuals, address}
+use Rattle.sp_run.specs.DirectEval.{ordinal_of, ordinal, channel}
+
+-- the text of an item with its width: the bytes, or F1
+abbrev pub in_width : Bool → List ℕ → Option ℤ → Work (List ℕ)
+in_width cut t None = give t
+in_width cut t (Some m) = if int_le m (pos 0) then fail fault.F1 else
+    give (right_justified (nat_abs m) (if cut then take (nat_abs m) t else t))
+
+module _ (g : RunInput) where
+  abbrev pub lay_one : ℕ → ℕ × Variable → Option Value → Work (Unit {0})
+  lay_one n x None = give tt
+  lay_one n x (Some v) = bind who (λ w. write_location (Cell w.name n x.0) (Tree v))
+
+  -- the variables of a new frame are undefined
+  abbrev pub lay : ℕ → List (ℕ × Variable) → Work (Unit {0})
+  lay n [] = give tt
+  lay n (x ∷ xs) = bind (lay_one n x (first_value_by (initials g.program.kinds) x.1.role x.1.kind)) (λ u. lay n xs)
+
+  -- the value parameters are copied
+  abbrev pub copy_in : ℕ → List ℕ → List ArgumentValue → Work (Unit {0})
+  copy_in n [] gs = give tt
+  copy_in n (x ∷ xs) [] = give tt
+  copy_in n (x ∷ xs) (ValueOf v ∷ gs) =
+      bind who (λ w. bind (write_location (Cell w.name n x) (Tree v)) (λ u. copy_in n xs gs))
+  copy_in n (x ∷ xs) (PlaceOf a ∷ gs) = copy_in n xs gs
+
+  abbrev pub enclosing_link : Option ℕ → Work ℕ
+  enclosing_link None = ill_formed
+  enclosing_link (Some q) = link_to (is_block q)
+
+  -- a call, after its arguments: tick, depth, cells, the new frame
+  abbrev pub enter : ℕ → List ArgumentValue → Work Block
+  enter f gs =
+      bind (or_ill_formed (slice_get g.program.blocks f))
+      (λ b. bind (tick g.limits) (λ u. bind (deepen g.limits) (λ u. bind (widen g.limits (size_of_frame g f)) (λ u.
+      bind (enclosing_link b.parent) (λ link. bind local_state
+      (λ o. bind who (λ w. bind (set_local_state (pushed_frame g f link (references b.formals gs) w o)) (λ u.
+      bind (lay (length o.frames) (variables_of f 0 g.program.variables))
+      (λ u. bind (copy_in (length o.frames) b.formals gs) (λ u. give b))))))))))
+
+  -- the newest frame goes
+  abbrev pub leave : Work (Unit {0})
+  leave = bind local_state (λ o. set_local_state (without_frame g o.frames o))
+
+  -- the output gets a text, or F16
+  abbrev pub write : List ℕ → Work (Unit {0})
+  write t = bind (read_location Output)
+      (λ h. if nat_lt g.limits.output (length (bytes_in h) + length t) then fail fault.F16 else
+      write_location Output (Written (bytes_in h ++ t)))
+
+  -- so many bytes of the input are taken
+  abbrev pub advance : ℕ → Work (Unit {0})
+  advance n = bind (read_location Input) (λ h. write_location Input (Position (position_in h + n)))
+
+  abbrev pub take_in : Address → ReadResult → Work (Unit {0})
+  take_in a (Took n bytes) = bind (advance bytes) (λ u. assign a (Ordinal n))
+  take_in a (Stops f) = fail f
+
+  abbrev pub width : Calls → Option Expr → Work (Option ℤ)
+  width call None = give None
+  width call (Some e) = bind (ordinal_of g call e) (λ m. give (Some m))
+
+  -- the value of the for variable, whatever it is
+  abbrev pub peek : ℕ → Work Value
+  peek x = bind (place_of g x) (λ q. bind (address_of g q) fetch)
+
+  -- the for variable gets a value, and then there is a tick
+  abbrev pub turn_of : ℕ → ℤ → ℤ → Bool → Stmt → List Item → Work Action
+  turn_of x n limit down s todo =
+      bind (place_of g x) (λ q. bind (address_of g q)
+      (λ a. bind (assign a (Ordinal n)) (λ u. bind (tick g.limits)
+      (λ u. give (Ticked (push s (Again x limit down s ∷ todo)))))))
+
+  -- the children are made, if one level more is allowed
+  abbrev pub fork : List Birth → List Item → Work Action
+  fork bs todo = bind local_state (λ o. if nat_lt o.depth g.limits.depth then give (Forked bs todo) else fail fault.F11)
+
+  -- the chosen arm's statement, or F9
+  abbrev pub arm_action : Option Stmt → List Item → Work Action
+  arm_action None todo = fail fault.F9
+  arm_action (Some s) todo = give (Stepped (push s todo))
+
+  -- the step of a statement that is first
+  abbrev pub statement_action : Calls → Stmt → List Item → Work Action
+  statement_action call Empty todo = give (Stepped todo)
+  statement_action call (Assign v e) todo = bind (address g call v)
+      (λ a. bind (value g call e) (λ w. bind (assign a w) (λ u. give (Stepped todo))))
+  statement_action call (Call f args) todo = bind (actuals g call args)
+      (λ gs. bind (enter f gs) (λ b. give (Ticked (push b.body (Leave ∷ todo)))))
+  statement_action call (Sequence ss) todo = give (Stepped (push_all ss todo))
+  statement_action call (If e a) todo = bind (ordinal_of g call e) (λ n. give (Stepped (if_true n (push a todo) todo)))
+  statement_action call (IfElse e a b) todo = bind (ordinal_of g call e)
+      (λ n. give (Stepped (if_true n (push a todo) (push b todo))))
+  statement_action call (While e s) todo = bind (ordinal_of g call e)
+      (λ n. if_true n (bind (tick g.limits) (λ u. give (Ticked (push s (Do (While e s) ∷ todo)))))
+      (give (Stepped todo)))
+  statement_action call (Repeat s e) todo = bind (tick g.limits) (λ u. give (Ticked (push s (Test s e ∷ todo))))
+  statement_action call (For x from down to s) todo =
+      bind (ordinal_of g call from) (λ m. bind (ordinal_of g call to)
+      (λ n. give (Stepped (if is_range down m n then First x m n down s ∷ todo else todo))))
+  statement_action call (Case e arms) todo = bind (ordinal_of g call e) (λ n. arm_action (arm_for n arms) todo)
+  statement_action call (Parallel ss) todo = fork (children ss) todo
+  statement_action call (Forall x from to s) todo =
+      bind (ordinal_of g call from) (λ m. bind (ordinal_of g call to) (λ n.
+      if int_lt n m then give (Stepped todo) else fork (indexed_children x s m (nat_abs ((n -ℤ m) +ℤ pos 1))) todo))
+  statement_action call (Assume e) todo =
+      bind (ordinal_of g call e) (λ n. if_true n (give (Stepped todo)) (fail fault.F8))
+  statement_action call (ReadValue v) todo =
+      bind (address g call v) (λ a. bind (kind_at g a.kind)
+      (λ k. bind (input_left g) (λ bs. bind (or_ill_formed (reading_by k bs))
+      (λ t. bind (take_in a t) (λ u. give (Stepped todo))))))
+  statement_action call ReadLine todo =
+      bind (input_left g) (λ bs. bind (advance (line_length bs)) (λ u. give (Stepped todo)))
+  statement_action call (WriteValue (Typed k form) w) todo =
+      bind (ordinal_of g call (Typed k form)) (λ n. bind (width call w) (λ m. bind (kind_at g k) (λ t.
+      bind (in_width (ordinal_text t n).0 (ordinal_text t n).1 m) (λ bs. bind (write bs) (λ u. give (Stepped todo))))))
+  statement_action call (WriteText t w) todo = bind (width call w)
+      (λ m. bind (in_width true t m) (λ bs. bind (write bs) (λ u. give (Stepped todo))))
+  statement_action call WriteLine todo = bind (write (10 ∷ [])) (λ u. give (Stepped todo))
+  statement_action call (Open v) todo =
+      bind (address g call v) (λ a. bind who
+      (λ w. bind (assign a (Chan (record { owner = w.name; nth = w.opens }))) (λ u. give (Opened todo))))
+  statement_action call (Send c (Typed k form)) todo =
+      bind (value g call c) (λ v. bind (channel v)
+      (λ to. bind (value g call (Typed k form)) (λ w. give (Offered to k (Message (Tree w)) todo))))
+  statement_action call (Receive c x) todo =
+      bind (value g call c) (λ v. bind (channel v)
+      (λ from. bind (address g call x) (λ a. give (Offered from a.kind (Takes a) todo))))
+
+  -- the step of what is first
+  abbrev pub item_action : Calls → Item → List Item → Work Action
+  item_action call (Do s) todo = statement_action call s todo
+  item_action call (First x m n down s) todo = turn_of x m n down s todo
+  item_action call (Again x n down s) todo = bind (place_of g x)
+      (λ q. bind (read_at g q) (λ v. bind (ordinal v) (λ m. turn_of x (next_value down m) n down s todo)))
+  item_action call (Test s e) todo =
+      bind (ordinal_of g call e) (λ n. give (Stepped (if_true n todo (Do (Repeat s e) ∷ todo))))
+  item_action call Leave todo = bind leave (λ u. give (Stepped todo))
+  item_action call (Break f) todo = fail f
+
+  -- leaving a loop is no step, but its variable is read
+  abbrev pub settle : List Item → Work (List Item)
+  settle [] = give []
+  settle (Do s ∷ todo) = give (Do s ∷ todo)
+  settle (First x m n down s ∷ todo) = give (First x m n down s ∷ todo)
+  settle (Again x n down s ∷ todo) = bind (peek x)
+      (λ v. if goes_on down n v then give (Again x n down s ∷ todo) else settle todo)
+  settle (Test s e ∷ todo) = give (Test s e ∷ todo)
+  settle (Leave ∷ todo) = give (Leave ∷ todo)
+  settle (Break f ∷ todo) = give (Break f ∷ todo)
+
+  -- what is left to do after a local step. A function's body has no other (rule I9)
+  abbrev pub items_after : Action → Work (List Item)
+  items_after (Stepped todo) = give todo
+  items_after (Ticked todo) = give todo
+  items_after (Opened todo) = ill_formed
+  items_after (Forked os todo) = ill_formed
+  items_after (Offered c k cargo todo) = ill_formed
+  items_after Ended = ill_formed
+
+  -- a function's result, or F4
+  abbrev pub function_result : Option ℕ → Work Value
+  function_result None = ill_formed
+  function_result (Some x) = bind (place_of g x) (read_at g)
+
+  -- a call of a function, where go does all that is left
+  abbrev pub call_by : (List Item → Work (List Item)) → Calls
+  call_by go f gs = bind (enter f gs) (λ b. bind (go (push b.body []))
+      (λ rest. bind (function_result b.answer) (λ v. bind leave (λ u. give v))))
+
+  abbrev pub rest_by : (List Item → Work (List Item)) → List Item → Work (List Item)
+  rest_by go [] = give []
+  rest_by go (i ∷ todo) = bind (item_action (call_by go) i todo) (λ d. bind (items_after d) go)
+
+  -- all that is left, where no more than n steps and calls stand inside one another
+  abbrev pub run_items : ℕ → List Item → Work (List Item)
+  run_items zero todo = out_of_fuel
+  run_items (suc n) todo = bind (settle todo) (rest_by (run_items n))
+
+  abbrev pub action_by : (List Item → Work (List Item)) → List Item → Work Action
+  action_by go [] = give Ended
+  action_by go (i ∷ todo) = item_action (call_by go) i todo
+
+  -- one step of a process
+  abbrev pub next_action : ℕ → List Item → Work Action
+  next_action n todo = bind (settle todo) (action_by (run_items n))

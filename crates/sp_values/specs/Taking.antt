@@ -1,9 +1,0 @@
--- None of this belongs to what the program promises: it is for contracts between crates.
--- What reading gives, as it is kept in memory. The contracts of sp_values and of the machine's input cite it.
-use Rattle.sp_values.specs.declared.items.Taken.{Taken}
-use Rattle.sp_values.specs.declared.items.Taken.TheVariants as taken
-use Rattle.sp_tree.specs.Items as i
-
-abbrev pub taken_of : Taken → i.Taken
-taken_of (taken.Takes n bytes) = i.Takes n bytes
-taken_of (taken.Fails f) = i.Fails f

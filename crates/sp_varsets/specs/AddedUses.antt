@@ -1,0 +1,49 @@
+-- None of this belongs to what the program promises: it is for contracts between crates.
+-- What a pass over a part of a tree adds to the sets that it gathers. The contracts of `uses` and `simple` promise it:
+-- exactly what stands in the part, beside what was there.
+use Rattle.std.specs.Prelude.{◌≡◌, ◌↔◌, ◌⊎◌, ℕ, true, false}
+use Rattle.sp_tree.specs.PlainChecked as p
+use Rattle.sp_tree.specs.Bare.{bare_expression, bare_variable}
+use Rattle.sp_tree.specs.Plain.{Actuals}
+use Rattle.sp_tree.specs.Uses.{Use, Target, Seen, CallOf, Stop, In_expr, In_target}
+use Rattle.sp_varsets.specs.declared.uses.Uses.{Uses}
+use Rattle.sp_varsets.specs.declared.var_set.VarSet.{VarSet}
+use Rattle.sp_varsets.specs.Members.{has}
+
+-- the new sets have what the old ones had, and what stands here: target positions, expression positions, calls,
+-- statements that stop
+pub record AddsUses (old new : Uses) (Here : Use → Type 0) : Type 0 where
+  pub aims : (x : ℕ) → (has new.aims x ≡ true) ↔ ((has old.aims x ≡ true) ⊎ Here (Target x))
+  pub sees : (x : ℕ) → (has new.sees x ≡ true) ↔ ((has old.sees x ≡ true) ⊎ Here (Seen x))
+  pub runs : (f : ℕ) → (has new.runs f ≡ true) ↔ ((has old.runs f ≡ true) ⊎ ((args : Actuals) × Here (CallOf f args)))
+  pub stops : (has new.stops 0 ≡ true) ↔ ((has old.stops 0 ≡ true) ⊎ Here Stop)
+
+-- the sets are empty
+pub record AreEmpty (uses : Uses) : Type 0 where
+  pub aims : (x : ℕ) → has uses.aims x ≡ false
+  pub sees : (x : ℕ) → has uses.sees x ≡ false
+  pub runs : (x : ℕ) → has uses.runs x ≡ false
+  pub stops : (x : ℕ) → has uses.stops x ≡ false
+
+-- each set has what one of both had
+abbrev pub IsUnion : VarSet → VarSet → VarSet → Type 0
+IsUnion a b both = (x : ℕ) → (has both x ≡ true) ↔ ((has a x ≡ true) ⊎ (has b x ≡ true))
+
+pub record AreUnions (a b both : Uses) : Type 0 where
+  pub aims : IsUnion a.aims b.aims both.aims
+  pub sees : IsUnion a.sees b.sees both.sees
+  pub runs : IsUnion a.runs b.runs both.runs
+  pub stops : IsUnion a.stops b.stops both.stops
+
+-- the set but for one member
+abbrev pub IsWithout : VarSet → VarSet → ℕ → Type 0
+IsWithout old new y = (x : ℕ) → (has new x ≡ true) ↔ ((has old x ≡ true) × (y ≡ x → ⊥))
+
+-- one selector, or one actual parameter
+abbrev pub In_selector : p.Selector → Use → Type 0
+In_selector (p.Index e) u = In_expr (bare_expression e) u
+In_selector (p.Field f) u = ⊥
+
+abbrev pub In_actual : p.Actual → Use → Type 0
+In_actual (p.ByValue e) u = In_expr (bare_expression e) u
+In_actual (p.ByReference v) u = In_target (bare_variable v) u
