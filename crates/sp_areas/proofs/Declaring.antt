@@ -174,7 +174,7 @@ module _ (c : Parts) where
     noted = record {
       has = has;
       just = just;
-      lowest = subst (IsLeast (IsLateBefore c n)) (sym note.is)
+      lowest = subst (IsLeast (IsLateBefore c n)) (sym note.now_is)
           (least_of_same (λ q. IsLateBefore c d q ⊎ ((p ≡ q) × (is_late s x ≡ true))) (IsLateBefore c n)
           (earlier_of o note.here) up
           down

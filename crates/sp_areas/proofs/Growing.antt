@@ -109,21 +109,26 @@ put_lists ls lists ns n hs are i k m e =
 
 module _ (Just : Grown → Type 0) where
   pub steps_none : (g : Grown) (P : Grown → Type 0) → Just g → P g → GrowthStep Just g g P false
-  steps_none g P j p = record { just = j; less = λ e. absurd (cc e); same = λ e. (refl, p) }
+  steps_none g P j p = record { just = j; less = λ e. absurd (cc e); unchanged = λ e. (refl, p) }
 
   pub steps_as : (a b : Grown) (P Q : Grown → Type 0) (s : Bool) → (b ≡ a → P b → Q b) → GrowthStep Just a b P s
       → GrowthStep Just a b Q s
-  steps_as a b P Q s f h = record { just = h.just; less = h.less; same = λ e. let z = h.same e in (z.0, f z.0 z.1) }
+  steps_as a b P Q s f h = record {
+    just = h.just;
+    less = h.less;
+    unchanged = λ e. let z = h.unchanged e in
+        (z.0, f z.0 z.1);
+  }
 
   steps_room : (a b : Grown) (P : Grown → Type 0) (s : Bool) → GrowthStep Just a b P s
       → none_count b.of ≤ none_count a.of
   steps_room a b P true h = let l = h.less refl in omega (arith, l)
-  steps_room a b P false h = let e = ap (λ (g : Grown). none_count g.of) (h.same refl).0 in omega (arith, e)
+  steps_room a b P false h = let e = ap (λ (g : Grown). none_count g.of) (h.unchanged refl).0 in omega (arith, e)
 
   pub steps_then : (a b d : Grown) (P Q : Grown → Type 0) (s t : Bool) → GrowthStep Just a b P s
       → GrowthStep Just b d Q t
       → GrowthStep Just a d (λ g. P g × Q g) (s || t)
-  steps_then a b d P Q s t h k = record { just = k.just; less = less s t h k; same = same s t h k }
+  steps_then a b d P Q s t h k = record { just = k.just; less = less s t h k; unchanged = same s t h k }
     where
       less : (s t : Bool) → GrowthStep Just a b P s → GrowthStep Just b d Q t → (s || t) ≡ true
           → none_count d.of < none_count a.of
@@ -135,7 +140,7 @@ module _ (Just : Grown → Type 0) where
       same true t h k e = absurd (cc e)
       same false true h k e = absurd (cc e)
       same false false h k e =
-          let x = h.same refl in let y = k.same refl in
+          let x = h.unchanged refl in let y = k.unchanged refl in
           (y.0 ∙ x.0, (subst P (sym y.0) x.1, y.1))
 
   pub items_more : (P : ℕ → Grown → Type 0) (a b d : Grown) (k : ℕ) (s t : Bool) → GrowthStep Just a b (EachItem P k) s

@@ -56,7 +56,7 @@ falls owner.Several o e = absurd (cc e)
 
 pub gives_old : (os : List Owner) (x : ℕ) (o w : Owner) → slice_get os x ≡ Some w → is_same w (common_owner w o) ≡ true
     → HandsOwner os os x o false
-gives_old os x o w e h = record { now = now; less = λ z. absurd (cc z); same = λ z. refl }
+gives_old os x o w e h = record { now = now; less = λ z. absurd (cc z); unchanged = λ z. refl }
   where
     now : os ≡ on_option os (slice_get os x) (λ v. slice_set os x (common_owner v o))
     now = sym (ap (λ (u : Option Owner). on_option os u (λ v. slice_set os x (common_owner v o))) e
@@ -67,7 +67,7 @@ pub gives_new : (os : List Owner) (x : ℕ) (o w : Owner) → slice_get os x ≡
 gives_new os x o w e h = record {
   now = sym (ap (λ (u : Option Owner). on_option os u (λ v. slice_set os x (common_owner v o))) e);
   less = λ z. less;
-  same = λ z. absurd (cc z);
+  unchanged = λ z. absurd (cc z);
 }
   where
     less : room (slice_set os x (common_owner w o)) < room os
@@ -296,4 +296,4 @@ room_falls c a b d P Q s t h e k = let x = h.less e in let y = spreads_room c b 
 -- one that found nothing leaves nothing
 pub closed_now : (c : Parts) (a b : List Owner) (P : List Owner → Type 0) (s : Bool) → Spreads c a b P s → s ≡ false
     → AreTrue c b × P b
-closed_now c a b P s h e = (h.just, (h.same e).1)
+closed_now c a b P s h e = (h.just, (h.unchanged e).1)

@@ -38,7 +38,7 @@ module _ (around : ℕ) (ts : List ChildTable) where
   puts_none old = record {
     more = omega arith;
     lists = λ ls lists are l.
-        record { after = lists; tree = are; same = λ k h. refl; each = λ k ch h. absurd (omega (arith, h)) };
+        record { after = lists; tree = are; unchanged = λ k h. refl; each = λ k ch h. absurd (omega (arith, h)) };
   }
 
   pub puts_more : (old mid new : List Node) (n : ℕ) (ch : ChildTable) → slice_get ts n ≡ Some ch
@@ -56,7 +56,12 @@ module _ (around : ℕ) (ts : List ChildTable) where
 
       stand : (ls : List Layout) (lists : ℕ → List Home) → AreLists ls old lists → around < length old
           → IsExtended ls lists (length old) new around ts (n + 1)
-      stand ls lists are l = record { after = after; tree = p.lists ls i.after i.tree inside; same = same; each = each }
+      stand ls lists are l = record {
+        after = after;
+        tree = p.lists ls i.after i.tree inside;
+        unchanged = same;
+        each = each;
+      }
         where
           i : IsExtended ls lists (length old) mid around ts n
           i = h.lists ls lists are l
@@ -71,7 +76,7 @@ module _ (around : ℕ) (ts : List ChildTable) where
           after = with_list i.after (length mid) new_list
 
           same : (k : ℕ) → k < length old → after k ≡ lists k
-          same k b = before_last i.after (length mid) new_list k (omega (arith, b, at)) ∙ i.same k b
+          same k b = before_last i.after (length mid) new_list k (omega (arith, b, at)) ∙ i.unchanged k b
 
           each : (k : ℕ) (x : ChildTable) → k < n + 1 → slice_get ts k ≡ Some x
               → after (length old + k) ≡ with_home x.index (lists around)
@@ -86,5 +91,5 @@ module _ (around : ℕ) (ts : List ChildTable) where
                   let w : length old + k ≡ length mid = omega (arith, q, at) in
                   let same_child : ch ≡ x = same_Some ch x (sym e ∙ ap (slice_get ts) (sym q) ∙ s) in
                   ap after w ∙ at_last i.after (length mid) new_list
-                  ∙ ap (λ (hs : List Home). with_home ch.index hs) (i.same around l)
+                  ∙ ap (λ (hs : List Home). with_home ch.index hs) (i.unchanged around l)
                   ∙ ap (λ (y : ChildTable). with_home y.index (lists around)) same_child

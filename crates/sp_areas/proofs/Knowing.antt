@@ -94,13 +94,13 @@ some_at ls x (g ∷ hs) (suc k) h e t = or_right (has_variable ls x g) (some_has
 pub near_has : (ls : List Layout) (x : ℕ) (hs : List Home) (k : ℕ) (f : Frame)
     → IsFrameOfHome ls (slice_get hs k) (Some f)
     → (IsFrame ls f → has_variable ls x (home_of f) ≡ true) → some_has ls x hs ≡ true
-near_has ls x hs k f i t = some_at ls x hs k (home_of f) (sym i.is) (t (i.frame f refl))
+near_has ls x hs k f i t = some_at ls x hs k (home_of f) (sym i.home_is) (t (i.frame f refl))
 
 pub around_next : (ls : List Layout) (x : ℕ) (hs : List Home) (k : ℕ) (f : Frame)
     → IsFrameOfHome ls (slice_get hs k) (Some f)
     → some_has ls x hs ≡ some_has ls x (drop k hs) → (IsFrame ls f → false ≡ has_variable ls x (home_of f))
     → some_has ls x hs ≡ some_has ls x (drop (k + 1) hs)
-around_next ls x hs k f i h t = h ∙ ap (some_has ls x) (drop_split hs k (home_of f) (sym i.is))
+around_next ls x hs k f i h t = h ∙ ap (some_has ls x) (drop_split hs k (home_of f) (sym i.home_is))
     ∙ ap (λ (b : Bool). b || some_has ls x (drop (k + 1) hs)) (sym (t (i.frame f refl)))
 
 pub around_here : (ls : List Layout) (x : ℕ) (hs : List Home) (k : ℕ) (f : Frame)

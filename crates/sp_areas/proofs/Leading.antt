@@ -271,7 +271,7 @@ module _ (ls : List Layout) where
     just = led_more old new j place l o are e n p i g;
     less = λ z. (let f = left_falls old.of j (length old.nodes) long n in let s = ap none_count g.of in
         omega (arith, f, s));
-    same = λ z. absurd (cc z);
+    unchanged = λ z. absurd (cc z);
   }
     where
       long : j < length old.of

@@ -113,7 +113,7 @@ module _ (c : Parts) where
     none_here owner.Nobody p h none = refl
     none_here (owner.Block b) p h none = absurd (none h.area h.lies)
     none_here (owner.Child q k) p h none = absurd (none h.area h.lies)
-    none_here owner.Several p h none = absurd (none h.one h.lies)
+    none_here owner.Several p h none = absurd (none h.first h.lies)
 
     is_so_lost : (t : ℕ) (w : Namer) → NamedBy c (length c.instrs) t w → IsLost c t → is_lost os w ≡ true
     is_so_lost t namer.Nothing h z = refl

@@ -54,7 +54,7 @@ module _ (ls : List Layout) (lists : ℕ → List Home) (size : ℕ) where
   pub found_here : (hs xs : List Home) (up left : ℕ) (n : Node) → IsNode ls lists size hs n → drop up xs ≡ drop left hs
       → left ≡ 0 → IsFrameOfHome ls (slice_get xs up) (Some n.frame)
   found_here hs xs up left n i e z = record {
-    is = sym at;
+    home_is = sym at;
     frame = λ f s. subst (IsFrame ls)
         (same_Some n.frame f s) i.frame;
   }
@@ -66,7 +66,7 @@ module _ (ls : List Layout) (lists : ℕ → List Home) (size : ℕ) where
   -- with levels left and nothing around, there is none
   pub found_none : (hs xs : List Home) (up left : ℕ) (n : Node) → IsNode ls lists size hs n → drop up xs ≡ drop left hs
       → 0 < left → n.around ≡ None → IsFrameOfHome ls (slice_get xs up) None
-  found_none hs xs up left n i e l s = record { is = sym at; frame = λ f t. absurd (none-some f t) }
+  found_none hs xs up left n i e l s = record { home_is = sym at; frame = λ f t. absurd (none-some f t) }
     where
       nothing : (k : ℕ) (h : Home) → 0 < k → drop k (h ∷ []) ≡ []
       nothing zero h l = absurd (omega (arith, l))

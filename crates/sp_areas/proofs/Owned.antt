@@ -81,7 +81,7 @@ module _ (c : Parts) (os : List Owner) (are : AreTrue c os) (closed : IsAllSprea
   higher : (x y : ℕ) (o : Owner) (k : KnowsOwner os x o) → KnowsOwner os y k.found → KnowsOwner os y o
   higher x y o k h = record {
     found = h.found;
-    is = h.is;
+    found_is = h.found_is;
     above = ⊎_elim (λ e. inl e) (λ e. ⊎_elim (λ s. inl (e
         ∙ s)) (λ s. inr (e ∙ s)) k.above) h.above;
   }
@@ -93,7 +93,8 @@ module _ (c : Parts) (os : List Owner) (are : AreTrue c os) (closed : IsAllSprea
       → KnowsOwner os q o
   on_way zero p q o some l g k = subst (λ z. KnowsOwner os z o) g k
   on_way (suc n) p q o some l g k = on_way n g.0 q o some l g.2
-      (higher p g.0 o k ((closed.spread p (step_within c p g.0 g.1) k.found k.is (found_some p o some k)).0 g.0 g.1
+      (higher p g.0 o k ((closed.spread p (step_within c p g.0 g.1) k.found k.found_is (found_some p o some k)).0 g.0
+      g.1
       (inside n g.0 q l g.2)))
     where
       inside : (n p q : ℕ) → q < length c.instrs → LeadsInSteps c n p q → p < length c.instrs
@@ -110,7 +111,7 @@ module _ (c : Parts) (os : List Owner) (are : AreTrue c os) (closed : IsAllSprea
       → KnowsOwner os y (f k.found) → KnowsOwner os y (f o)
   raised f s x y o k h = record {
     found = h.found;
-    is = h.is;
+    found_is = h.found_is;
     above = ⊎_elim (λ e. inl e) (λ e. ⊎_elim (λ z. inl (e
         ∙ z)) (λ z. inr (e ∙ z)) (lift f s k.found o k.above)) h.above;
   }
@@ -122,9 +123,9 @@ module _ (c : Parts) (os : List Owner) (are : AreTrue c os) (closed : IsAllSprea
       let i : IsChild c n.0 k ch = sym (ap (λ (z : Option ℕ). child_of (table_at c.forks z) k) n.1) ∙ e in
       let inside = table_of n.0 k c.forks ch i in
       let t = raised (as_child p) refl p (length c.instrs + n.0) o h
-      ((closed.spread p (named_within c n.0 p n.1) h.found h.is (found_some p o some h)).1 n.0 n.1 inside) in
+      ((closed.spread p (named_within c n.0 p n.1) h.found h.found_is (found_some p o some h)).1 n.0 n.1 inside) in
       raised (of_child k) refl (length c.instrs + n.0) ch.entry (as_child p o) t
-      (closed.tables n.0 inside t.found t.is
+      (closed.tables n.0 inside t.found t.found_is
       (found_some (length c.instrs + n.0) (as_child p o) (some_child p o some) t) k ch i l)
 
   last_step : (a : Area) (p k : ℕ) → of_child k (as_child p (owner_of a)) ≡ owner.Child p k
@@ -161,16 +162,16 @@ module _ (c : Parts) (os : List Owner) (are : AreTrue c os) (closed : IsAllSprea
   -- it lies in one alone, unless it knows of several
   not_two : (p : ℕ) (o : Owner) → (slice_get os p ≡ Some owner.Several → ⊥) → (k : KnowsOwner os p o)
       → slice_get os p ≡ Some o
-  not_two p o never k = ⊎_elim (λ e. absurd (never (k.is ∙ ap Some e))) (λ e. k.is ∙ ap Some e) k.above
+  not_two p o never k = ⊎_elim (λ e. absurd (never (k.found_is ∙ ap Some e))) (λ e. k.found_is ∙ ap Some e) k.above
 
   -- several at a fork are several in the code of its children
   several_down : (p k q : ℕ) (ch : ChildTable) → child_at c p k ≡ Some ch → q < length c.instrs → (n : ℕ)
       → LeadsInSteps c n ch.entry q → slice_get os p ≡ Some owner.Several → slice_get os q ≡ Some owner.Several
   several_down p k q ch e l n g s =
       let d = handed_on p k ch owner.Several (λ z. cc (z)) e (begins n ch.entry q l g)
-      (record { found = owner.Several; is = s; above = inl refl }) in
+      (record { found = owner.Several; found_is = s; above = inl refl }) in
       let r = on_way n ch.entry q owner.Several (λ z. cc (z)) l g d in
-      ⊎_elim (λ z. r.is ∙ ap Some z) (λ z. r.is ∙ ap Some z) r.above
+      ⊎_elim (λ z. r.found_is ∙ ap Some z) (λ z. r.found_is ∙ ap Some z) r.above
 
   -- of two areas, each has the same owner there
   alike : (a b : Area) (p : ℕ) → p < length c.instrs → LiesIn c p a → LiesIn c p b
@@ -211,7 +212,7 @@ module _ (c : Parts) (os : List Owner) (are : AreTrue c os) (closed : IsAllSprea
   only p o l e d h = record {
     area = h.area;
     lies = lies;
-    is = h.is;
+    owner_is = h.owner_is;
     only = λ b k. one_area b h.area p l k lies
         (λ s. d (same_Some o owner.Several (sym e ∙ s)));
   }
@@ -222,7 +223,7 @@ module _ (c : Parts) (os : List Owner) (are : AreTrue c os) (closed : IsAllSprea
   nobody : (p : ℕ) → p < length c.instrs → slice_get os p ≡ Some owner.Nobody → (a : Area) → LiesIn c p a → ⊥
   nobody p l e a h =
       let k = known a p h l in
-      let s = same_Some owner.Nobody k.found (sym e ∙ k.is) in
+      let s = same_Some owner.Nobody k.found (sym e ∙ k.found_is) in
       found_some p (owner_of a) (an_owner a) k (sym s)
 
   owns : (p : ℕ) (o : Owner) → p < length c.instrs → slice_get os p ≡ Some o → IsTrueOf c p o → Owns c p o
@@ -230,10 +231,10 @@ module _ (c : Parts) (os : List Owner) (are : AreTrue c os) (closed : IsAllSprea
   owns p (owner.Block b) l e t = only p (owner.Block b) l e (λ z. cc (z)) t
   owns p (owner.Child q k) l e t = only p (owner.Child q k) l e (λ z. cc (z)) t
   owns p owner.Several l e t = record {
-    one = t.one;
-    other = t.other;
-    lies = lies_in c p t.one l t.has;
-    too = lies_in c p t.other l t.too;
+    first = t.first;
+    second = t.second;
+    lies = lies_in c p t.first l t.has;
+    too = lies_in c p t.second l t.too;
     apart = t.apart;
   }
 

@@ -59,12 +59,12 @@ join_above owner.Several o = inl refl
 module _ (c : Parts) where
   two : (x : ℕ) (w o : Owner) → HasOne c x w → HasOne c x o → is_same w o ≡ false → HasTwo c x
   two x w o h k e = record {
-    one = h.area;
-    other = k.area;
+    first = h.area;
+    second = k.area;
     has = h.has;
     too = k.has;
     apart = λ s. not_true_and_false (is_same w o)
-        (ap (is_same w) (sym (sym h.is ∙ ap owner_of s ∙ k.is)) ∙ same_self w) e;
+        (ap (is_same w) (sym (sym h.owner_is ∙ ap owner_of s ∙ k.owner_is)) ∙ same_self w) e;
   }
 
   by_join : (x : ℕ) (w o : Owner) → HasOne c x w → IsTrueOf c x w → IsOwner o → IsTrueOf c x o
@@ -117,7 +117,7 @@ module _ (c : Parts) where
             let s = g.now ∙ ap (λ (u : Option Owner). on_option old u (λ v. slice_set old x (common_owner v o))) e in
             record {
               found = common_owner w o;
-              is = ap (λ (os : List Owner). slice_get os x) s
+              found_is = ap (λ (os : List Owner). slice_get os x) s
                   ∙ get_where_set old x (common_owner w o) l;
               above = join_above w o;
             }
@@ -126,23 +126,28 @@ module _ (c : Parts) where
     gives_spreads l = record {
       just = gives_true;
       less = g.less;
-      same = λ e.
-          (g.same e, gives_knows (subst (λ n. x < n) (sym are.size) l));
+      unchanged = λ e.
+          (g.unchanged e, gives_knows (subst (λ n. x < n) (sym are.size) l));
     }
 
   -- ---- steps one after the other
 
   pub spreads_as : (a b : List Owner) (P Q : List Owner → Type 0) (s : Bool) → (b ≡ a → P b → Q b) → Spreads c a b P s
       → Spreads c a b Q s
-  spreads_as a b P Q s f h = record { just = h.just; less = h.less; same = λ e. let z = h.same e in (z.0, f z.0 z.1) }
+  spreads_as a b P Q s f h = record {
+    just = h.just;
+    less = h.less;
+    unchanged = λ e. let z = h.unchanged e in
+        (z.0, f z.0 z.1);
+  }
 
   pub spreads_room : (a b : List Owner) (P : List Owner → Type 0) (s : Bool) → Spreads c a b P s → room b ≤ room a
   spreads_room a b P true h = let l = h.less refl in omega (arith, l)
-  spreads_room a b P false h = let e = ap room (h.same refl).0 in omega (arith, e)
+  spreads_room a b P false h = let e = ap room (h.unchanged refl).0 in omega (arith, e)
 
   pub spreads_then : (a b d : List Owner) (P Q : List Owner → Type 0) (s t : Bool) → Spreads c a b P s
       → Spreads c b d Q t → Spreads c a d (λ os. P os × Q os) (s || t)
-  spreads_then a b d P Q s t h k = record { just = k.just; less = less s t h k; same = same s t h k }
+  spreads_then a b d P Q s t h k = record { just = k.just; less = less s t h k; unchanged = same s t h k }
     where
       less : (s t : Bool) → Spreads c a b P s → Spreads c b d Q t → (s || t) ≡ true → room d < room a
       less true t h k e = let l = h.less refl in let m = spreads_room b d Q t k in omega (arith, l, m)
@@ -153,7 +158,7 @@ module _ (c : Parts) where
       same true t h k e = absurd (cc e)
       same false true h k e = absurd (cc e)
       same false false h k e =
-          let x = h.same refl in let y = k.same refl in
+          let x = h.unchanged refl in let y = k.unchanged refl in
           (y.0 ∙ x.0, (subst P (sym y.0) x.1, y.1))
 
   -- ---- what is handed on is true
@@ -174,7 +179,7 @@ module _ (c : Parts) where
   one_along p q o l m i h = record {
     area = h.area;
     has = inl (m, along p q h.area (lies_in p h.area l h.has) i);
-    is = h.is;
+    owner_is = h.owner_is;
   }
 
   pub true_along : (p q : ℕ) (o : Owner) → p < length c.instrs → q < length c.instrs → IsIn q (nexts p (instr_at c p))
@@ -184,11 +189,11 @@ module _ (c : Parts) where
   true_along p q (owner.Child r k) l m i t = one_along p q (owner.Child r k) l m i t
   true_along p q owner.Several l m i t =
       record {
-        one = t.one;
-        other = t.other;
-        has = inl (m, along p q t.one (lies_in p t.one l t.has) i);
+        first = t.first;
+        second = t.second;
+        has = inl (m, along p q t.first (lies_in p t.first l t.has) i);
         too = inl
-            (m, along p q t.other (lies_in p t.other l t.too) i);
+            (m, along p q t.second (lies_in p t.second l t.too) i);
         apart = t.apart;
       }
 
@@ -202,19 +207,19 @@ module _ (c : Parts) where
   true_table p t (owner.Block b) l n h = record {
     area = Child h.area p 0;
     has = to_table p t h.area l n h.has;
-    is = refl;
+    owner_is = refl;
   }
   true_table p t (owner.Child q k) l n h = record {
     area = Child h.area p 0;
     has = to_table p t h.area l n h.has;
-    is = refl;
+    owner_is = refl;
   }
   true_table p t owner.Several l n h =
       record {
-        one = Child h.one p 0;
-        other = Child h.other p 0;
-        has = to_table p t h.one l n h.has;
-        too = to_table p t h.other l n h.too;
+        first = Child h.first p 0;
+        second = Child h.second p 0;
+        has = to_table p t h.first l n h.has;
+        too = to_table p t h.second l n h.too;
         apart = λ e. h.apart (cc e);
       }
 
@@ -246,17 +251,17 @@ module _ (c : Parts) where
       → IsTrueOf c (length c.instrs + t) o → IsTrueOf c ch.entry (of_child k o)
   true_child t k ch owner.Nobody i l h = tt
   true_child t k ch (owner.Block b) i l h = let d = kid t k ch h.area i l h.has in absurd
-      (let e = sym (ap owner_of d.is) ∙ h.is in cc (e))
+      (let e = sym (ap owner_of d.is) ∙ h.owner_is in cc (e))
   true_child t k ch (owner.Child q j) i l h =
       let d = kid t k ch h.area i l h.has in
-      let e : owner.Child d.at 0 ≡ owner.Child q j = sym (ap owner_of d.is) ∙ h.is in
+      let e : owner.Child d.at 0 ≡ owner.Child q j = sym (ap owner_of d.is) ∙ h.owner_is in
       let s : d.at ≡ q = cc (e) in
-      record { area = Child d.from d.at k; has = d.has; is = ap (λ z. owner.Child z k) s }
+      record { area = Child d.from d.at k; has = d.has; owner_is = ap (λ z. owner.Child z k) s }
   true_child t k ch owner.Several i l h =
-      let d = kid t k ch h.one i l h.has in let e = kid t k ch h.other i l h.too in
+      let d = kid t k ch h.first i l h.has in let e = kid t k ch h.second i l h.too in
       record {
-        one = Child d.from d.at k;
-        other = Child e.from e.at k;
+        first = Child d.from d.at k;
+        second = Child e.from e.at k;
         has = d.has;
         too = e.has;
         apart = λ s. h.apart
@@ -272,5 +277,5 @@ module _ (c : Parts) where
     area = Body b;
     has = inl
         (l, ((m, e), record { steps = 0; way = ap entry_of_layout e }));
-    is = refl;
+    owner_is = refl;
   }

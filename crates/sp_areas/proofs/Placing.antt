@@ -51,7 +51,7 @@ module _ (c : Parts) (p : ℕ) where
         h.area,
         h.lies,
         sym (ends_by c h.area (instr_at c p))
-            ∙ ap (λ (z : Owner). ends_as z (instr_at c p)) h.is ∙ not-true (ends_as w (instr_at c p)) f,
+            ∙ ap (λ (z : Owner). ends_as z (instr_at c p)) h.owner_is ∙ not-true (ends_as w (instr_at c p)) f,
       )
 
   fails_only : (w : Owner) → IsOnly c p w → Shared c p ⊎ Misplaced c (ends_well c) p
@@ -64,7 +64,7 @@ module _ (c : Parts) (p : ℕ) where
   fails_only w h (inr (a, lies, f)) =
       let s : a ≡ h.area = h.only a lies in
       or_right (runs_past (length c.instrs) p (instr_at c p)) (not (ends_as w (instr_at c p)))
-      (not_from_false (ends_as w (instr_at c p)) (ap (λ (z : Owner). ends_as z (instr_at c p)) (sym h.is
+      (not_from_false (ends_as w (instr_at c p)) (ap (λ (z : Owner). ends_as z (instr_at c p)) (sym h.owner_is
       ∙ ap owner_of (sym s)) ∙ ends_by c a (instr_at c p) ∙ f))
 
   pub is_misplaced : (w : Owner) → Owns c p w → fails_placed (length c.instrs) p (instr_at c p) w ≡ true → Shared c p
@@ -72,7 +72,7 @@ module _ (c : Parts) (p : ℕ) where
   is_misplaced owner.Nobody h e = absurd (cc e)
   is_misplaced (owner.Block b) h e = only_fails (owner.Block b) h e
   is_misplaced (owner.Child q k) h e = only_fails (owner.Child q k) h e
-  is_misplaced owner.Several h e = inl (h.one, h.lies, inl (h.other, h.too, h.apart))
+  is_misplaced owner.Several h e = inl (h.first, h.lies, inl (h.second, h.too, h.apart))
 
   pub misplaced_is : (w : Owner) → Owns c p w → Shared c p ⊎ Misplaced c (ends_well c) p
       → fails_placed (length c.instrs) p (instr_at c p) w ≡ true

@@ -36,7 +36,7 @@ module _ (c : Parts) (os : List Owner) (are : AreOwners c os) (p : ℕ) where
       by owner.Nobody h e = absurd (cc e)
       by (owner.Block b) h e = (h.area, h.lies)
       by (owner.Child q k) h e = (h.area, h.lies)
-      by owner.Several h e = (h.one, h.lies)
+      by owner.Several h e = (h.first, h.lies)
 
       go : (w : Option Owner) → slice_get os p ≡ w → on_option false w (λ o. not (is_same o owner.Nobody)) ≡ true
           → (a : Area) × LiesIn c p a

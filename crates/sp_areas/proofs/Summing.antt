@@ -178,7 +178,7 @@ module _ (c : Parts) where
         (slice_get_cases os p).1
 
     two : (p : ℕ) → IsShared c p → Shared c p
-    two p h = (h.one, h.lies, inl (h.other, h.too, h.apart))
+    two p h = (h.first, h.lies, inl (h.second, h.too, h.apart))
 
     misplaced : (well : Area → Option Instr → Bool) → ((q : ℕ) → MisplacedOnly c well q → SomePassFinds c q) → (p : ℕ)
         → Misplaced c well p → FoundBy p
@@ -190,12 +190,12 @@ module _ (c : Parts) where
     -- the children of an instruction of two areas begin in two
     children : (q k p : ℕ) (ch : ChildTable) → child_at c q k ≡ Some ch → ch.entry ≡ p → IsShared c q → Shared c p
     children q k p ch e at h = (
-      Child h.one q k,
-      lies h.one h.lies,
+      Child h.first q k,
+      lies h.first h.lies,
       inl (
-        Child h.other q k,
-        lies h.other h.too,
-        λ (s : Child h.one q k ≡ Child h.other q k). h.apart (cc s),
+        Child h.second q k,
+        lies h.second h.too,
+        λ (s : Child h.first q k ≡ Child h.second q k). h.apart (cc s),
       ),
     )
       where

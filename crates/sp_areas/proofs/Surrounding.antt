@@ -69,9 +69,9 @@ module _ (c : Parts) where
 
   pub owner_is : (p : ℕ) (o : Owner) (a : Area) → Owns c p o → LiesOnlyIn c p a → o ≡ owner_of a
   owner_is p owner.Nobody a h l = absurd (h a l.0)
-  owner_is p (owner.Block b) a h l = sym h.is ∙ ap owner_of (l.1 h.area h.lies)
-  owner_is p (owner.Child q k) a h l = sym h.is ∙ ap owner_of (l.1 h.area h.lies)
-  owner_is p owner.Several a h l = absurd (h.apart (l.1 h.one h.lies ∙ sym (l.1 h.other h.too)))
+  owner_is p (owner.Block b) a h l = sym h.owner_is ∙ ap owner_of (l.1 h.area h.lies)
+  owner_is p (owner.Child q k) a h l = sym h.owner_is ∙ ap owner_of (l.1 h.area h.lies)
+  owner_is p owner.Several a h l = absurd (h.apart (l.1 h.first h.lies ∙ sym (l.1 h.second h.too)))
 
   pub owner_there : (os : List Owner) (p : ℕ) → AreOwners c os → p < length c.instrs → Owns c p (owner_in os p)
   owner_there os p are l =
@@ -82,8 +82,8 @@ module _ (c : Parts) where
   one_area : (size : ℕ) (blocks tables : List (Option ℕ)) (p n : ℕ) (o : Owner) → Owns c p o
       → node_of c size blocks tables o ≡ Some n → (a : Area) × LiesOnlyIn c p a × (owner_of a ≡ o)
   one_area size blocks tables p n owner.Nobody h e = absurd (none-some n e)
-  one_area size blocks tables p n (owner.Block b) h e = (h.area, (h.lies, h.only), h.is)
-  one_area size blocks tables p n (owner.Child q k) h e = (h.area, (h.lies, h.only), h.is)
+  one_area size blocks tables p n (owner.Block b) h e = (h.area, (h.lies, h.only), h.owner_is)
+  one_area size blocks tables p n (owner.Child q k) h e = (h.area, (h.lies, h.only), h.owner_is)
   one_area size blocks tables p n owner.Several h e = absurd (none-some n e)
 
   -- ---- nodes
@@ -175,7 +175,7 @@ module _ (c : Parts) where
       in_other u base k ch e i =
           let was = are.child u base k ch e i in
           let a = was.0 in
-          (omega (arith, a, more), λ r a n only. extended.same (base + k) was.0 ∙ was.1 r a n only)
+          (omega (arith, a, more), λ r a n only. extended.unchanged (base + k) was.0 ∙ was.1 r a n only)
 
       child : (u base k : ℕ) (ch : ChildTable) → node_at new.of u ≡ Some base → IsChild c u k ch → IsRight u base k ch
       child u base k ch e i = ⊎_elim same other (cases_eq t u)
@@ -199,7 +199,7 @@ module _ (c : Parts) where
         tree = extended.tree;
         long = ap length g.of ∙ length-set old.of t (Some (length old.nodes)) ∙ are.long;
         block = λ b k n s e. (let was = are.block b k n s e in let l = was.0 in
-            (omega (arith, l, more), extended.same n l ∙ was.1));
+            (omega (arith, l, more), extended.unchanged n l ∙ was.1));
         child = child;
       }
 
@@ -208,7 +208,7 @@ module _ (c : Parts) where
         just = hung_more;
         less = λ z. (let f = left_falls old.of t (length old.nodes) long none in let s = ap none_count g.of in omega
             (arith, f, s));
-        same = λ z. absurd (cc z);
+        unchanged = λ z. absurd (cc z);
       }
 
     -- ---- the beginning and the end
@@ -296,7 +296,7 @@ module _ (c : Parts) where
             let o = owner_is p (owner_in os p) a (owner_there os p owners l) only in
             record {
               node = n.0;
-              at = nodes.each p (let s = owners.0 in omega (arith, s, l))
+              node_is = nodes.each p (let s = owners.0 in omega (arith, s, l))
                   ∙ ap Some (ap (node_of c (length g.nodes) blocks g.of) o ∙ n.1);
               within = subst (λ (ns : List Node). n.0 < length ns) (sym en) right.0;
               stands = right.1;

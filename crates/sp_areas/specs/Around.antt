@@ -46,7 +46,7 @@ pub record IsExtended (ls : List Layout) (lists : ℕ
     → List Home) (size : ℕ) (new : List Node) (around : ℕ) (ts : List ChildTable) (n : ℕ) : Type 0 where
   pub after : ℕ → List Home
   pub tree : AreLists ls new after
-  pub same : (k : ℕ) → k < size → after k ≡ lists k
+  pub unchanged : (k : ℕ) → k < size → after k ≡ lists k
   pub each : (k : ℕ) (ch : ChildTable) → k < n → slice_get ts k ≡ Some ch
       → after (size + k) ≡ with_home ch.index (lists around)
 

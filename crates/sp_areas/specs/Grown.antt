@@ -41,7 +41,7 @@ pub record GrowthStep (Just : Grown → Type 0) (old new : Grown) (Closed : Grow
     0 where
   pub just : Just new
   pub less : changed ≡ true → none_count new.of < none_count old.of
-  pub same : changed ≡ false → (new ≡ old) × Closed new
+  pub unchanged : changed ≡ false → (new ≡ old) × Closed new
 
 -- what holds of the first items
 abbrev pub EachItem : (ℕ → Grown → Type 0) → ℕ → Grown → Type 0

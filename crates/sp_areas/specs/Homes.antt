@@ -25,7 +25,7 @@ found_of (Some f) = Some (record { number = f.number; cells = f.cells; naming = 
 -- a node stands for what is around the code of an area
 pub record IsHome (c : Parts) (h : Homes) (lists : ℕ → List Home) (p : ℕ) (a : Area) : Type 0 where
   pub node : ℕ
-  pub at : slice_get h.at p ≡ Some (Some node)
+  pub node_is : slice_get h.at p ≡ Some (Some node)
   pub within : node < length h.nodes
   pub stands : lists node ≡ homes c a
 

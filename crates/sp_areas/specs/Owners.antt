@@ -22,16 +22,16 @@ owner_of (Child a p k) = owner.Child p k
 pub record IsOnly (c : Parts) (p : ℕ) (o : Owner) : Type 0 where
   pub area : Area
   pub lies : LiesIn c p area
-  pub is : owner_of area ≡ o
+  pub owner_is : owner_of area ≡ o
   pub only : (b : Area) → LiesIn c p b → b ≡ area
 
 -- it lies in two
 pub record IsShared (c : Parts) (p : ℕ) : Type 0 where
-  pub one : Area
-  pub other : Area
-  pub lies : LiesIn c p one
-  pub too : LiesIn c p other
-  pub apart : one ≢ other
+  pub first : Area
+  pub second : Area
+  pub lies : LiesIn c p first
+  pub too : LiesIn c p second
+  pub apart : first ≢ second
 
 -- this is whose it is
 abbrev pub Owns : Parts → ℕ → Owner → Type 0
@@ -54,14 +54,14 @@ AreaHas c x a = ((x < length c.instrs) × LiesIn c x a)
 pub record HasOne (c : Parts) (x : ℕ) (o : Owner) : Type 0 where
   pub area : Area
   pub has : AreaHas c x area
-  pub is : owner_of area ≡ o
+  pub owner_is : owner_of area ≡ o
 
 pub record HasTwo (c : Parts) (x : ℕ) : Type 0 where
-  pub one : Area
-  pub other : Area
-  pub has : AreaHas c x one
-  pub too : AreaHas c x other
-  pub apart : one ≢ other
+  pub first : Area
+  pub second : Area
+  pub has : AreaHas c x first
+  pub too : AreaHas c x second
+  pub apart : first ≢ second
 
 -- what an owner says is true, so far as it goes
 abbrev pub IsTrueOf : Parts → ℕ → Owner → Type 0
@@ -118,20 +118,20 @@ of_child k owner.Several = owner.Several
 -- it is known there that this is an owner
 pub record KnowsOwner (os : List Owner) (x : ℕ) (o : Owner) : Type 0 where
   pub found : Owner
-  pub is : slice_get os x ≡ Some found
+  pub found_is : slice_get os x ≡ Some found
   pub above : (found ≡ owner.Several) ⊎ (found ≡ o)
 
 -- an owner is handed there; changed says whether that was new
 pub record HandsOwner (old new : List Owner) (x : ℕ) (o : Owner) (changed : Bool) : Type 0 where
   pub now : new ≡ on_option old (slice_get old x) (λ w. slice_set old x (common_owner w o))
   pub less : changed ≡ true → room new < room old
-  pub same : changed ≡ false → new ≡ old
+  pub unchanged : changed ≡ false → new ≡ old
 
 -- one step of the search, by which all stays true; where it changed nothing, this is closed
 pub record Spreads (c : Parts) (old new : List Owner) (Closed : List Owner → Type 0) (changed : Bool) : Type 0 where
   pub just : AreTrue c new
   pub less : changed ≡ true → room new < room old
-  pub same : changed ≡ false → (new ≡ old) × Closed new
+  pub unchanged : changed ≡ false → (new ≡ old) × Closed new
 
 -- somewhere, if there is an instruction, an owner is known
 abbrev pub KnowsAt : Parts → Option ℕ → Owner → List Owner → Type 0

@@ -57,5 +57,5 @@ with_list lists size hs k = if k == size then hs else lists k
 
 -- this is the frame of a home, if there is one
 pub record IsFrameOfHome (ls : List Layout) (h : Option Home) (o : Option Frame) : Type 0 where
-  pub is : home_at o ≡ h
+  pub home_is : home_at o ≡ h
   pub frame : (f : Frame) → o ≡ Some f → IsFrame ls f

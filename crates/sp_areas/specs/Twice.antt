@@ -35,5 +35,5 @@ is_late seen x = nat_lt x 2 || contains nat_cmp seen x
 pub record NotesVariable (old new : BTreeSet ℕ) (before now : Option ℕ) (x entry : ℕ) : Type 0 where
   pub added : (y : ℕ) → contains nat_cmp new y ≡ cond (is_eq (nat_cmp x y)) true (contains nat_cmp old y)
   pub here : Option ℕ
-  pub is : now ≡ earlier_of before here
+  pub now_is : now ≡ earlier_of before here
   pub late : IsLeast (λ p. (entry ≡ p) × (is_late old x ≡ true)) here

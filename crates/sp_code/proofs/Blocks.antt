@@ -71,28 +71,29 @@ module _ (p : Program) (moves shares : Stmt → List ℕ) where
   pub program_count : length (program_code p moves shares).instrs ≡ tree_length p
   program_count = blocks_count p 0 0 0 0 p.blocks
 
-  module _ (all : Parts) (hush : ℕ → Type 0) where
+  module _ (all : Parts) (callable : ℕ → Type 0) where
     -- the block that stands first
     first_stands : (b t n q : ℕ) (k : Block) (more : List Instr) (tables_more : List ForkTable)
-        (texts_more : List (List ℕ)) → IsFine p moves shares hush b q k
+        (texts_more : List (List ℕ)) → IsFine p moves shares callable b q k
         → slice_get all.layouts b ≡ Some (layout_of p b q k)
         → HasAt all.instrs q (block_code p b t n q k ++ more)
         → HasAt all.forks t (tables p moves shares q k.body ++ tables_more)
-        → HasAt all.texts n (texts_of k.body ++ texts_more) → BlockAt p moves shares all hush b k
+        → HasAt all.texts n (texts_of k.body ++ texts_more) → BlockAt p moves shares all callable b k
     first_stands b t n q k more tables_more texts_more f l h a w =
         let body = has_front all.instrs q (block_code p b t n q k) more h in
         record {
           layout = layout_of p b q k;
-          at = l;
-          is = refl;
+          layout_at = l;
+          layout_is = refl;
           stands = record {
-            body = λ free hushed. stands p moves shares all hush free (scopes_of p b) t n q k.body (f.body free hushed)
+            body = λ free is_callable. stands p moves shares all callable free (scopes_of p b) t n q k.body
+                (f.body free is_callable)
                 (has_front all.instrs q (code p (scopes_of p b) t n q k.body) _ body)
                 (has_front all.forks t (tables p moves shares q k.body) tables_more a)
                 (has_front all.texts n (texts_of k.body) texts_more w);
             end = (has_back all.instrs q (after_statement p q k.body) (code p (scopes_of p b) t n q k.body) _
-                (code_stop p moves shares all hush (scopes_of p b) t n q k.body) body).0;
-            hushed = f.hushed;
+                (code_stop p moves shares all callable (scopes_of p b) t n q k.body) body).0;
+            callable_function = f.callable_function;
             answer = f.answer;
           };
         }
@@ -107,36 +108,38 @@ module _ (p : Program) (moves shares : Stmt → List ℕ) where
         )
 
     blocks_stand_from : (b t n q : ℕ) (ks : List Block)
-        → ((f r : ℕ) (k : Block) → slice_get ks f ≡ Some k → IsFine p moves shares hush (b + f) r k)
+        → ((f r : ℕ) (k : Block) → slice_get ks f ≡ Some k → IsFine p moves shares callable (b + f) r k)
         → HasAt all.layouts b (layouts_from p b q ks) → HasAt all.instrs q (blocks_code p b t n q ks)
         → HasAt all.forks t (blocks_tables p moves shares q ks) → HasAt all.texts n (blocks_texts ks)
-        → (f : ℕ) (k : Block) → slice_get ks f ≡ Some k → BlockAt p moves shares all hush (b + f) k
+        → (f : ℕ) (k : Block) → slice_get ks f ≡ Some k → BlockAt p moves shares all callable (b + f) k
     blocks_stand_from b t n q [] fine l h a w f k e = absurd cc
     blocks_stand_from b t n q (j ∷ ks) fine l h a w zero k e =
         let z : b + 0 ≡ b = omega arith in
         let same : j ≡ k = cc in
-        subst (λ (x : ℕ). BlockAt p moves shares all hush x k) (sym z)
-        (subst (λ (x : Block). BlockAt p moves shares all hush b x) same
-        (first_stands b t n q j _ _ _ (subst (λ (x : ℕ). IsFine p moves shares hush x q j) z (fine 0 q j refl)) l.0 h a
+        subst (λ (x : ℕ). BlockAt p moves shares all callable x k) (sym z)
+        (subst (λ (x : Block). BlockAt p moves shares all callable b x) same
+        (first_stands b t n q j _ _ _
+        (subst (λ (x : ℕ). IsFine p moves shares callable x q j) z (fine 0 q j refl)) l.0 h a
         w))
     blocks_stand_from b t n q (j ∷ ks) fine l h a w (suc f) k e =
         let z : suc b + f ≡ b + suc f = omega arith in
         let y : b + 1 ≡ suc b = omega arith in
-        subst (λ (x : ℕ). BlockAt p moves shares all hush x k) z
+        subst (λ (x : ℕ). BlockAt p moves shares all callable x k) z
         (blocks_stand_from (suc b) (t + tables_in j.body) (n + texts_in j.body) (after_block p q j) ks
-        (λ g r i d. subst (λ (x : ℕ). IsFine p moves shares hush x r i) (next_goes_left b g) (fine (suc g) r i d))
+        (λ g r i d. subst (λ (x : ℕ). IsFine p moves shares callable x r i) (next_goes_left b g) (fine (suc g) r i d))
         (subst (λ (x : ℕ). HasAt all.layouts x (layouts_from p (suc b) (after_block p q j) ks)) y l.1)
         (has_back all.instrs q (after_block p q j) (block_code p b t n q j) _ (block_stop b t n q j) h)
-        (has_back all.forks t _ (tables p moves shares q j.body) _ (tables_stop p moves shares all hush t q j.body) a)
-        (has_back all.texts n _ (texts_of j.body) _ (texts_stop p moves shares all hush n j.body) w) f k e)
+        (has_back all.forks t _ (tables p moves shares q j.body) _
+        (tables_stop p moves shares all callable t q j.body) a)
+        (has_back all.texts n _ (texts_of j.body) _ (texts_stop p moves shares all callable n j.body) w) f k e)
 
   -- in its own code
-  pub blocks_stand : (hush : ℕ → Type 0) → ((f q : ℕ) (b : Block) → slice_get p.blocks f ≡ Some b
-      → IsFine p moves shares hush f q b) → BlocksAt p moves shares (program_code p moves shares) hush
-  blocks_stand hush fine f b e =
+  pub blocks_stand : (callable : ℕ → Type 0) → ((f q : ℕ) (b : Block) → slice_get p.blocks f ≡ Some b
+      → IsFine p moves shares callable f q b) → BlocksAt p moves shares (program_code p moves shares) callable
+  blocks_stand callable fine f b e =
       let all = program_code p moves shares in
       let none : 0 + f ≡ f = omega arith in
-      subst (λ (x : ℕ). BlockAt p moves shares all hush x b) none
-      (blocks_stand_from all hush 0 0 0 0 p.blocks
-      (λ g r k d. subst (λ (x : ℕ). IsFine p moves shares hush x r k) (sym (zero-add g)) (fine g r k d))
+      subst (λ (x : ℕ). BlockAt p moves shares all callable x b) none
+      (blocks_stand_from all callable 0 0 0 0 p.blocks
+      (λ g r k d. subst (λ (x : ℕ). IsFine p moves shares callable x r k) (sym (zero-add g)) (fine g r k d))
       (has_self all.layouts) (has_self all.instrs) (has_self all.forks) (has_self all.texts) f b e)

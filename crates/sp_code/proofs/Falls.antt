@@ -380,7 +380,7 @@ module _ {M : Type 0} (ops : Ops M) (code : Parts) (budget : M → ℕ) (law : H
   instruction_down (Some i.Nocase) pc st n p h = tt
   instruction_down (Some i.Tick) pc st n p h =
       falls_then left _ r (ops.tick n) _ (λ m k. paced_down pc st n (pc + 1) st m
-      (ticks_down pc (pc + 1) st st n m (law.beat n m k) (omega arith)))
+      (ticks_down pc (pc + 1) st st n m (law.tick n m k) (omega arith)))
   instruction_down (Some i.Assume) pc st n p h =
       falls_number left _ r st _ (λ v st1 e. falls_if left _ r (not (int_le v (pos 0))) _ _
       (on_to pc st n (pc + 1) st1 n h.0 e (same_budget pc st n)) tt)
@@ -449,8 +449,8 @@ module _ {M : Type 0} (ops : Ops M) (code : Parts) (budget : M → ℕ) (law : H
       go : ((d : Config M) → IsRankedAlong ops code d → left d < n → IsOver (run_within ops code n d))
           → (o : StepResult M)
           → next_step ops code c ≡ o → IsOver (run_after_step ops code (run_within ops code n) c o)
-      go on (Goes d) e = on d (λ b w. ranked b (record { steps = suc w.steps; by = (d, e, w.by) }))
-          (omega (arith, falls c d (ranked c (record { steps = 0; by = refl })) e))
+      go on (Goes d) e = on d (λ b w. ranked b (record { steps = suc w.steps; proof = (d, e, w.proof) }))
+          (omega (arith, falls c d (ranked c (record { steps = 0; proof = refl })) e))
       go on (Stops s d) e = tt
       go on (Fails f) e = tt
       go on Stuck e = tt

@@ -17,7 +17,7 @@ use Rattle.sp_code.specs.Memory.{CodeRun, Stores, Memory, memory, first_process,
 use Rattle.sp_code.specs.PlainStore.{piece_of}
 
 pub record Small : Type 0 where
-  pub at : Spot → Option Content
+  pub content_at : Spot → Option Content
   pub known : List ℕ
   pub own : List ℕ
   pub moved : List Spot
@@ -61,25 +61,25 @@ without n (k ∷ ks) = if k == n then without n ks else k ∷ without n ks
 
 abbrev pub small : Stores Small
 small = record {
-  piece = λ s p. piece_of (s.at p);
-  owned = λ s p cs. record s { at = with_content p (Some (Own cs)) s.at };
-  output = λ s. output_by (s.at output_spot);
+  piece = λ s p. piece_of (s.content_at p);
+  owned = λ s p cs. record s { content_at = with_content p (Some (Own cs)) s.content_at };
+  output = λ s. output_by (s.content_at output_spot);
   appended = λ s bs. record s {
-    at = with_content output_spot
-        (Some (Output (bytes_in (output_by (s.at output_spot)) ++ bs))) s.at;
+    content_at = with_content output_spot
+        (Some (Output (bytes_in (output_by (s.content_at output_spot)) ++ bs))) s.content_at;
   };
   next_frame = λ s. max (least_above s.known) (least_above s.own);
   pushed = λ s sizes. let n = max (least_above s.known) (least_above s.own) in
-      record s { at = pieces_from n 0 sizes s.at; known = n ∷ s.known; own = s.own ++ n ∷ [] };
+      record s { content_at = pieces_from n 0 sizes s.content_at; known = n ∷ s.known; own = s.own ++ n ∷ [] };
   may_pop = λ s n. is_there s.own && (last_own_frame s.own == n);
   popped = λ s. let n = last_own_frame s.own in record s {
-    at = λ p. if p.frame == n then None else
-        s.at p;
+    content_at = λ p. if p.frame == n then None else
+        s.content_at p;
     known = without n s.known;
     own = take (length s.own - 1) s.own;
   };
   root = λ sizes. record {
-    at = pieces_from 0 2 sizes
+    content_at = pieces_from 0 2 sizes
         (with_content (record { frame = 0; variable = 0 }) (Some (Own (cell.Ordinal (pos 0) ∷ [])))
         (with_content output_spot (Some (Output [])) (λ p. None)));
     known = 0 ∷ [];
@@ -87,17 +87,17 @@ small = record {
     moved = [];
   };
   child = λ s h. record {
-    at = each s.at h.moved
-        (with_index (index_frame h) h.index (each (λ p. shared_by (s.at p)) h.shared (λ p. None)));
+    content_at = each s.content_at h.moved
+        (with_index (index_frame h) h.index (each (λ p. shared_by (s.content_at p)) h.shared (λ p. None)));
     known = index_frame h ∷ frames h.moved ++ frames h.shared;
     own = [];
     moved = h.moved;
   };
   handed = λ s hs. record s {
-    at = each (λ p. shared_by (s.at p)) (shared_of hs)
-        (each (λ p. Some Away) (moved_of hs) s.at);
+    content_at = each (λ p. shared_by (s.content_at p)) (shared_of hs)
+        (each (λ p. Some Away) (moved_of hs) s.content_at);
   };
-  joined = λ s c. record s { at = each c.at c.moved s.at };
+  joined = λ s c. record s { content_at = each c.content_at c.moved s.content_at };
 }
 
 -- limits that nothing here meets
@@ -121,7 +121,7 @@ abbrev pub Seen : Type 0
 Seen = Option Stop × Option Fault × List ℕ
 
 abbrev pub written : Config (Memory Small) → List ℕ
-written (At pc st n) = bytes_in (output_by (n.store.at output_spot))
+written (At pc st n) = bytes_in (output_by (n.store.content_at output_spot))
 
 abbrev pub seen_turn : Turn (Memory Small) → Seen
 seen_turn (Stopped s c) = (Some s, None, written c)

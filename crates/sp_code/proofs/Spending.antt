@@ -18,8 +18,8 @@ module _ {S : Type 0} (stores : Stores S) (g : CodeRun) where
       → ticks_left g m + 1 ≤ ticks_left g n
   spent n m e k = let lt = ltb-true n.ticks g.limits.ticks e in omega (arith, lt, k)
 
-  beat_spends : (n m : Memory S) → (memory stores g).tick n ≡ Done m → ticks_left g m + 1 ≤ ticks_left g n
-  beat_spends n m = go (nat_lt n.ticks g.limits.ticks) refl
+  tick_spends : (n m : Memory S) → (memory stores g).tick n ≡ Done m → ticks_left g m + 1 ≤ ticks_left g n
+  tick_spends n m = go (nat_lt n.ticks g.limits.ticks) refl
     where
       go : (t : Bool) → nat_lt n.ticks g.limits.ticks ≡ t
           → (if t then Done (record n { ticks = n.ticks + 1 }) else Failed fault.F10) ≡ Done m
@@ -58,7 +58,7 @@ module _ {S : Type 0} (stores : Stores S) (g : CodeRun) where
 
   pub spends : HasBudget (memory stores g) (ticks_left g)
   spends = record {
-    beat = beat_spends;
+    tick = tick_spends;
     open_frame = open_spends;
     put = λ a c n. omega arith;
     copy = λ to from k n. omega arith;

@@ -53,7 +53,7 @@ test_stop : (q : ℕ) (ms : List ℤ) (b : ℕ) → q + length (test_code ms b) 
 test_stop q [] b = omega arith
 test_stop q (m ∷ ms) b = omega (arith, test_stop (q + 1) ms b)
 
-module _ (p : Program) (moves shares : Stmt → List ℕ) (all : Parts) (hush : ℕ → Type 0) where
+module _ (p : Program) (moves shares : Stmt → List ℕ) (all : Parts) (callable : ℕ → Type 0) where
   abbrev Here : ℕ → List Instr → Type 0
   Here q xs = HasAt all.instrs q xs
 
@@ -65,16 +65,16 @@ module _ (p : Program) (moves shares : Stmt → List ℕ) (all : Parts) (hush : 
 
   -- what the rules give, and what stands
   abbrev FV : List Scope → ℕ → Expr → Type 0
-  FV sc q e = ValueAt p moves shares AnyInstr AnyTable AnyText hush sc q e
+  FV sc q e = ValueAt p moves shares AnyInstr AnyTable AnyText callable sc q e
 
   abbrev SV : List Scope → ℕ → Expr → Type 0
-  SV sc q e = ValueAt p moves shares (CodeAt all) (HasFork all) (HasWords all) hush sc q e
+  SV sc q e = ValueAt p moves shares (CodeAt all) (HasFork all) (HasWords all) callable sc q e
 
   abbrev F : Bool → List Scope → ℕ → Stmt → Type 0
-  F free sc q s = StandsAt p moves shares AnyInstr AnyTable AnyText hush free sc q s
+  F free sc q s = StandsAt p moves shares AnyInstr AnyTable AnyText callable free sc q s
 
   abbrev S : Bool → List Scope → ℕ → Stmt → Type 0
-  S free sc q s = StandsAt p moves shares (CodeAt all) (HasFork all) (HasWords all) hush free sc q s
+  S free sc q s = StandsAt p moves shares (CodeAt all) (HasFork all) (HasWords all) callable free sc q s
 
   -- the place behind a part's code
   pub value_stop : (sc : List Scope) (q : ℕ) (e : Expr) → q + length (value_code p sc e) ≡ after_value q e
@@ -108,9 +108,9 @@ module _ (p : Program) (moves shares : Stmt → List ℕ) (all : Parts) (hush : 
   -- ---- variables and operators
 
   role_stands : (sc : List Scope) (q x : ℕ) (v : Variable) (r : Role)
-      → VarRole p moves shares AnyInstr AnyTable AnyText hush sc q x v r
+      → VarRole p moves shares AnyInstr AnyTable AnyText callable sc q x v r
       → slice_get all.instrs q ≡ Some (addr_by sc x (slot p x) v r)
-      → VarRole p moves shares (CodeAt all) (HasFork all) (HasWords all) hush sc q x v r
+      → VarRole p moves shares (CodeAt all) (HasFork all) (HasWords all) callable sc q x v r
   role_stands sc q x v role.Console f h = absurd f
   role_stands sc q x v role.Local f h = (f.0, f.1, h ∙ ap (λ (o : Option ℕ). Some (i.Addr (or_none o) (slot p x))) f.1)
   role_stands sc q x v role.Value f h = (f.0, f.1, h ∙ ap (λ (o : Option ℕ). Some (i.Addr (or_none o) (slot p x))) f.1)
@@ -123,9 +123,9 @@ module _ (p : Program) (moves shares : Stmt → List ℕ) (all : Parts) (hush : 
   role_stands sc q x v role.Index f h = (f.0, f.1, h ∙ ap (λ (o : Option ℕ). Some (i.Addr (or_none o) 0)) f.1, f.3)
   role_stands sc q x v role.Answer f h = (f.0, f.1, h ∙ ap (λ (o : Option ℕ). Some (i.Addr (or_none o) (slot p x))) f.1)
 
-  addr_stands : (sc : List Scope) (q x k : ℕ) → VarAt p moves shares AnyInstr AnyTable AnyText hush sc q x k
+  addr_stands : (sc : List Scope) (q x k : ℕ) → VarAt p moves shares AnyInstr AnyTable AnyText callable sc q x k
       → slice_get all.instrs q ≡ Some (addr_code p sc x)
-      → VarAt p moves shares (CodeAt all) (HasFork all) (HasWords all) hush sc q x k
+      → VarAt p moves shares (CodeAt all) (HasFork all) (HasWords all) callable sc q x k
   addr_stands sc q x k f h = (
     f.0,
     f.1,
@@ -133,23 +133,23 @@ module _ (p : Program) (moves shares : Stmt → List ℕ) (all : Parts) (hush : 
     role_stands sc q x f.0 f.0.role f.3 (h ∙ ap (λ (o : Option Variable). Some (addr_of sc x (slot p x) o)) f.1),
   )
 
-  read_stands : (q k : ℕ) (z : Sort) → ReadAt p moves shares AnyInstr AnyTable AnyText hush q k z
+  read_stands : (q k : ℕ) (z : Sort) → ReadAt p moves shares AnyInstr AnyTable AnyText callable q k z
       → slice_get all.instrs q ≡ Some (read_instr z (size p k))
-      → ReadAt p moves shares (CodeAt all) (HasFork all) (HasWords all) hush q k z
+      → ReadAt p moves shares (CodeAt all) (HasFork all) (HasWords all) callable q k z
   read_stands q k Ordinals f h = h
   read_stands q k Channels f h = h
   read_stands q k Many f h = h
   read_stands q k NoSort f h = absurd f
 
   unary_stands : (q : ℕ) (op : UnaryOp) → Here q (unary_code op)
-      → UnaryAt p moves shares (CodeAt all) (HasFork all) (HasWords all) hush q op
+      → UnaryAt p moves shares (CodeAt all) (HasFork all) (HasWords all) callable q op
   unary_stands q unary.Plus h = tt
   unary_stands q unary.Minus h = h.0
   unary_stands q unary.Not h = h.0
 
   standard_stands : (q : ℕ) (f : StandardFn) (t : KindOf)
-      → StandardAt p moves shares AnyInstr AnyTable AnyText hush q f t → Here q (standard_code f (Some t))
-      → StandardAt p moves shares (CodeAt all) (HasFork all) (HasWords all) hush q f t
+      → StandardAt p moves shares AnyInstr AnyTable AnyText callable q f t → Here q (standard_code f (Some t))
+      → StandardAt p moves shares (CodeAt all) (HasFork all) (HasWords all) callable q f t
   standard_stands q standard.Abs t f h = h.0
   standard_stands q standard.Sqr t f h = h.0
   standard_stands q standard.Odd t f h = h.0
@@ -160,9 +160,9 @@ module _ (p : Program) (moves shares : Stmt → List ℕ) (all : Parts) (hush : 
   standard_stands q standard.Eof t f h = absurd f
   standard_stands q standard.Eoln t f h = absurd f
 
-  input_stands : (q : ℕ) (f : StandardFn) → InputAt p moves shares AnyInstr AnyTable AnyText hush q f
+  input_stands : (q : ℕ) (f : StandardFn) → InputAt p moves shares AnyInstr AnyTable AnyText callable q f
       → slice_get all.instrs q ≡ Some (input_instr f)
-      → InputAt p moves shares (CodeAt all) (HasFork all) (HasWords all) hush q f
+      → InputAt p moves shares (CodeAt all) (HasFork all) (HasWords all) callable q f
   input_stands q standard.Abs f h = absurd f
   input_stands q standard.Sqr f h = absurd f
   input_stands q standard.Odd f h = absurd f
@@ -174,13 +174,14 @@ module _ (p : Program) (moves shares : Stmt → List ℕ) (all : Parts) (hush : 
   input_stands q standard.Eoln f h = h
 
   up_is : (sc : List Scope) (f : ℕ) (o : Option ℕ) (up : ℕ)
-      → Around p moves shares AnyInstr AnyTable AnyText hush sc f o up → call_up sc o ≡ up
+      → Around p moves shares AnyInstr AnyTable AnyText callable sc f o up → call_up sc o ≡ up
   up_is sc f None up h = absurd h
   up_is sc f (Some b) up h = ap or_none h.0
 
-  call_stands : (sc : List Scope) (q f : ℕ) (b : Block) → CallAt p moves shares AnyInstr AnyTable AnyText hush sc q f b
+  call_stands : (sc : List Scope) (q f : ℕ) (b : Block)
+      → CallAt p moves shares AnyInstr AnyTable AnyText callable sc q f b
       → slice_get all.instrs q ≡ Some (call_instr sc f (slice_get p.blocks f))
-      → CallAt p moves shares (CodeAt all) (HasFork all) (HasWords all) hush sc q f b
+      → CallAt p moves shares (CodeAt all) (HasFork all) (HasWords all) callable sc q f b
   call_stands sc q f b h k = (
     h.0,
     h.1,
@@ -196,8 +197,8 @@ module _ (p : Program) (moves shares : Stmt → List ℕ) (all : Parts) (hush : 
     value_stands sc q (Typed k form) f h = form_stands sc q k form f h
 
     pub form_stands : (sc : List Scope) (q k : ℕ) (form : ExprForm)
-        → FormAt p moves shares AnyInstr AnyTable AnyText hush sc q k form → Here q (form_code p sc k form)
-        → FormAt p moves shares (CodeAt all) (HasFork all) (HasWords all) hush sc q k form
+        → FormAt p moves shares AnyInstr AnyTable AnyText callable sc q k form → Here q (form_code p sc k form)
+        → FormAt p moves shares (CodeAt all) (HasFork all) (HasWords all) callable sc q k form
     form_stands sc q k (Number n) f h = (h.0, f.1)
     form_stands sc q k (Read v) f h = (
       place_stands sc q v k f.0 (has_front all.instrs q (var_code p sc v) _ h),
@@ -239,8 +240,8 @@ module _ (p : Program) (moves shares : Stmt → List ℕ) (all : Parts) (hush : 
     form_stands sc q k (AtInput g) f h = (input_stands q g f.0 h.0, f.1)
 
     pub place_stands : (sc : List Scope) (q : ℕ) (v : Var) (k : ℕ)
-        → PlaceAt p moves shares AnyInstr AnyTable AnyText hush sc q v k → Here q (var_code p sc v)
-        → PlaceAt p moves shares (CodeAt all) (HasFork all) (HasWords all) hush sc q v k
+        → PlaceAt p moves shares AnyInstr AnyTable AnyText callable sc q v k → Here q (var_code p sc v)
+        → PlaceAt p moves shares (CodeAt all) (HasFork all) (HasWords all) callable sc q v k
     place_stands sc q (Entire x ss) k f h =
         let e : type_by (slice_get p.variables x) ≡ f.0 = ap type_by f.1.1 ∙ f.1.2 in (
           f.0,
@@ -249,8 +250,8 @@ module _ (p : Program) (moves shares : Stmt → List ℕ) (all : Parts) (hush : 
         )
 
     pub selected_stands : (sc : List Scope) (q : ℕ) (ss : Selectors) (k k2 : ℕ)
-        → SelectedAt p moves shares AnyInstr AnyTable AnyText hush sc q ss k k2 → Here q (selectors_code p sc k ss)
-        → SelectedAt p moves shares (CodeAt all) (HasFork all) (HasWords all) hush sc q ss k k2
+        → SelectedAt p moves shares AnyInstr AnyTable AnyText callable sc q ss k k2 → Here q (selectors_code p sc k ss)
+        → SelectedAt p moves shares (CodeAt all) (HasFork all) (HasWords all) callable sc q ss k k2
     selected_stands sc q Whole k k2 f h = f
     selected_stands sc q (Select (Index e) rest) k k2 f h =
         let g = has_back all.instrs q (after_value q e) (value_code p sc e) _ (value_stop sc q e) h in
@@ -280,8 +281,8 @@ module _ (p : Program) (moves shares : Stmt → List ℕ) (all : Parts) (hush : 
         )
 
     pub actuals_stands : (sc : List Scope) (q : ℕ) (args : Actuals) (xs : List ℕ)
-        → ActualsAt p moves shares AnyInstr AnyTable AnyText hush sc q args xs → Here q (actuals_code p sc args)
-        → ActualsAt p moves shares (CodeAt all) (HasFork all) (HasWords all) hush sc q args xs
+        → ActualsAt p moves shares AnyInstr AnyTable AnyText callable sc q args xs → Here q (actuals_code p sc args)
+        → ActualsAt p moves shares (CodeAt all) (HasFork all) (HasWords all) callable sc q args xs
     actuals_stands sc q Nothing [] f h = tt
     actuals_stands sc q Nothing (x ∷ xs) f h = absurd f
     actuals_stands sc q (Pass (ByValue e) rest) [] f h = absurd f
@@ -301,19 +302,20 @@ module _ (p : Program) (moves shares : Stmt → List ℕ) (all : Parts) (hush : 
           (has_back all.instrs q _ (var_code p sc v) _ (var_stop sc q v) h),
     )
 
-  ordinal_stands : (sc : List Scope) (q : ℕ) (e : Expr) → OrdinalAt p moves shares AnyInstr AnyTable AnyText hush sc q e
-      → Here q (value_code p sc e) → OrdinalAt p moves shares (CodeAt all) (HasFork all) (HasWords all) hush sc q e
+  ordinal_stands : (sc : List Scope) (q : ℕ) (e : Expr)
+      → OrdinalAt p moves shares AnyInstr AnyTable AnyText callable sc q e
+      → Here q (value_code p sc e) → OrdinalAt p moves shares (CodeAt all) (HasFork all) (HasWords all) callable sc q e
   ordinal_stands sc q e f h = (value_stands sc q e f.0 h, f.1)
 
   width_stands : (sc : List Scope) (q : ℕ) (w : Option Expr)
-      → WidthAt p moves shares AnyInstr AnyTable AnyText hush sc q w → Here q (width_code p sc w)
-      → WidthAt p moves shares (CodeAt all) (HasFork all) (HasWords all) hush sc q w
+      → WidthAt p moves shares AnyInstr AnyTable AnyText callable sc q w → Here q (width_code p sc w)
+      → WidthAt p moves shares (CodeAt all) (HasFork all) (HasWords all) callable sc q w
   width_stands sc q None f h = tt
   width_stands sc q (Some e) f h = ordinal_stands sc q e f h
 
   -- the type behind selectors is the one that is walked to
   selected_is : (sc : List Scope) (q : ℕ) (ss : Selectors) (k k2 : ℕ)
-      → SelectedAt p moves shares AnyInstr AnyTable AnyText hush sc q ss k k2 → selected_type p k ss ≡ k2
+      → SelectedAt p moves shares AnyInstr AnyTable AnyText callable sc q ss k k2 → selected_type p k ss ≡ k2
   selected_is sc q Whole k k2 f = f
   selected_is sc q (Select (Index e) rest) k k2 f =
       ap (λ (o : Option KindOf). selected_type p (element_type k o) rest) f.4
@@ -322,7 +324,8 @@ module _ (p : Program) (moves shares : Stmt → List ℕ) (all : Parts) (hush : 
       ap (λ (o : Option KindOf). selected_type p (field_type k o g) rest) f.3
       ∙ ap (λ (n : ℕ). selected_type p n rest) (ap (second_or k) f.4) ∙ selected_is sc (q + 1) rest f.2 k2 f.6
 
-  type_is : (sc : List Scope) (q : ℕ) (v : Var) (k : ℕ) → PlaceAt p moves shares AnyInstr AnyTable AnyText hush sc q v k
+  type_is : (sc : List Scope) (q : ℕ) (v : Var) (k : ℕ)
+      → PlaceAt p moves shares AnyInstr AnyTable AnyText callable sc q v k
       → type_of p v ≡ k
   type_is sc q (Entire x ss) k f = ap (λ (n : ℕ). selected_type p n ss) (ap type_by f.1.1 ∙ f.1.2)
       ∙ selected_is sc (q + 1) ss f.0 k f.2
@@ -330,9 +333,9 @@ module _ (p : Program) (moves shares : Stmt → List ℕ) (all : Parts) (hush : 
   -- ---- statements
 
   right_stands : (sc : List Scope) (q k : ℕ) (z : Sort) (form : ExprForm)
-      → RightAt p moves shares AnyInstr AnyTable AnyText hush sc q k z form
+      → RightAt p moves shares AnyInstr AnyTable AnyText callable sc q k z form
       → Here q (right_code p sc k z form ++ assign_instr z (size p k) ∷ [])
-      → RightAt p moves shares (CodeAt all) (HasFork all) (HasWords all) hush sc q k z form
+      → RightAt p moves shares (CodeAt all) (HasFork all) (HasWords all) callable sc q k z form
   right_stands sc q k Ordinals form f h = (
     form_stands sc q k form f.0
         (has_front all.instrs q (form_code p sc k form) _ h),
@@ -355,9 +358,9 @@ module _ (p : Program) (moves shares : Stmt → List ℕ) (all : Parts) (hush : 
   right_stands sc q k Many (AtInput g) f h = absurd f
   right_stands sc q k NoSort form f h = absurd f
 
-  reads_stands : (q : ℕ) (t : KindOf) → ReadsAt p moves shares AnyInstr AnyTable AnyText hush q t
+  reads_stands : (q : ℕ) (t : KindOf) → ReadsAt p moves shares AnyInstr AnyTable AnyText callable q t
       → slice_get all.instrs q ≡ Some (reading_instr (Some t))
-      → ReadsAt p moves shares (CodeAt all) (HasFork all) (HasWords all) hush q t
+      → ReadsAt p moves shares (CodeAt all) (HasFork all) (HasWords all) callable q t
   reads_stands q kind.Integer f h = h
   reads_stands q kind.Boolean f h = absurd f
   reads_stands q kind.Char f h = h
@@ -367,12 +370,12 @@ module _ (p : Program) (moves shares : Stmt → List ℕ) (all : Parts) (hush : 
   reads_stands q (kind.Channel ks) f h = absurd f
 
   test_stands : (q : ℕ) (ms : List ℤ) (b : ℕ) → Here q (test_code ms b)
-      → TestAt p moves shares (CodeAt all) (HasFork all) (HasWords all) hush q ms b
+      → TestAt p moves shares (CodeAt all) (HasFork all) (HasWords all) callable q ms b
   test_stands q [] b h = tt
   test_stands q (m ∷ ms) b h = (h.0, test_stands (q + 1) ms b h.1)
 
   tests_stand : (q : ℕ) (arms : Arms) (b : ℕ) → Here q (tests_code p arms b)
-      → TestsAt p moves shares (CodeAt all) (HasFork all) (HasWords all) hush q arms b
+      → TestsAt p moves shares (CodeAt all) (HasFork all) (HasWords all) callable q arms b
   tests_stand q NoArm b h = tt
   tests_stand q (Or (On ms s) rest) b h = (
     test_stands q ms b (has_front all.instrs q (test_code ms b) _ h),
@@ -552,9 +555,9 @@ module _ (p : Program) (moves shares : Stmt → List ℕ) (all : Parts) (hush : 
         )
 
     pub all_stand : (free : Bool) (sc : List Scope) (t n q : ℕ) (ss : Stmts)
-        → AllAt p moves shares AnyInstr AnyTable AnyText hush free sc q ss → Here q (code_all p sc t n q ss)
+        → AllAt p moves shares AnyInstr AnyTable AnyText callable free sc q ss → Here q (code_all p sc t n q ss)
         → Tables t (tables_all p moves shares q ss) → Texts n (texts_of_all ss)
-        → AllAt p moves shares (CodeAt all) (HasFork all) (HasWords all) hush free sc q ss
+        → AllAt p moves shares (CodeAt all) (HasFork all) (HasWords all) callable free sc q ss
     all_stand free sc t n q No f h a w = tt
     all_stand free sc t n q (And s rest) f h a w = (
       stands free sc t n q s f.0 (has_front all.instrs q (code p sc t n q s) _ h)
@@ -566,9 +569,10 @@ module _ (p : Program) (moves shares : Stmt → List ℕ) (all : Parts) (hush : 
     )
 
     pub children_stand : (free : Bool) (sc : List Scope) (t n q : ℕ) (ss : Stmts)
-        → ChildrenAt p moves shares AnyInstr AnyTable AnyText hush free sc q ss → Here q (code_children p sc t n q ss)
+        → ChildrenAt p moves shares AnyInstr AnyTable AnyText callable free sc q ss
+        → Here q (code_children p sc t n q ss)
         → Tables t (tables_children p moves shares q ss) → Texts n (texts_of_all ss)
-        → ChildrenAt p moves shares (CodeAt all) (HasFork all) (HasWords all) hush free sc q ss
+        → ChildrenAt p moves shares (CodeAt all) (HasFork all) (HasWords all) callable free sc q ss
     children_stand free sc t n q No f h a w = tt
     children_stand free sc t n q (And s rest) f h a w =
         let g = has_back all.instrs q (after_statement p q s) (code p sc t n q s) _ (code_stop sc t n q s) h in (
@@ -581,9 +585,10 @@ module _ (p : Program) (moves shares : Stmt → List ℕ) (all : Parts) (hush : 
         )
 
     pub arms_stand : (free : Bool) (sc : List Scope) (t n q : ℕ) (arms : Arms) (end : ℕ)
-        → ArmsAt p moves shares AnyInstr AnyTable AnyText hush free sc q arms end
+        → ArmsAt p moves shares AnyInstr AnyTable AnyText callable free sc q arms end
         → Here q (code_arms p sc t n q arms end) → Tables t (tables_arms p moves shares q arms)
-        → Texts n (texts_of_arms arms) → ArmsAt p moves shares (CodeAt all) (HasFork all) (HasWords all) hush free sc q
+        → Texts n (texts_of_arms arms)
+        → ArmsAt p moves shares (CodeAt all) (HasFork all) (HasWords all) callable free sc q
         arms end
     arms_stand free sc t n q NoArm end f h a w = tt
     arms_stand free sc t n q (Or (On ms s) rest) end f h a w =

@@ -38,7 +38,7 @@ module _ {M : Type 0} (ops : Ops M) (code : Parts) where
   turn_same c t u = go (frames_fit ops code c)
     where
       go : (b : Bool) → BeginsOrFaults b c t (Runs ops code c t) → BeginsOrFaults b c u (Runs ops code c u) → t ≡ u
-      go true h k = same_end h.1.steps k.1.steps c h.0 k.0 t u h.1.by h.2 k.1.by k.2
+      go true h k = same_end h.1.steps k.1.steps c h.0 k.0 t u h.1.proof h.2 k.1.proof k.2
       go false h k = h ∙ sym k
 
   -- what is computed
@@ -47,7 +47,7 @@ module _ {M : Type 0} (ops : Ops M) (code : Parts) where
   ended_is t u e = cc
 
   further : (c d e : Config M) → next_step ops code c ≡ Goes d → RunsTo ops code d e → RunsTo ops code c e
-  further c d e h k = record { steps = suc k.steps; by = (d, h, k.by) }
+  further c d e h k = record { steps = suc k.steps; proof = (d, h, k.proof) }
 
   pub ran_ended : (n : ℕ) (c : Config M) (t : Turn M) → run_within ops code n c ≡ Ended t → Runs ops code c t
   ran_ended zero c t e = absurd cc
@@ -59,12 +59,12 @@ module _ {M : Type 0} (ops : Ops M) (code : Parts) where
       go on (Goes d) h k = let r : Runs ops code d t = on d k in (r.0, further c d r.0 h r.1, r.2)
       go on (Stops s d) h k = (
         c,
-        record { steps = 0; by = refl },
+        record { steps = 0; proof = refl },
         subst (EndsSo ops code c) (ended_is (Stopped s d) t k) h,
       )
       go on (Fails f) h k = (
         c,
-        record { steps = 0; by = refl },
+        record { steps = 0; proof = refl },
         subst (EndsSo ops code c) (ended_is (Faulted f c) t k) (h, refl),
       )
       go on Stuck h k = absurd cc
@@ -83,7 +83,7 @@ module _ {M : Type 0} (ops : Ops M) (code : Parts) where
           (further c b d h r.0, r.1)
       go on (Stops s b) h k = absurd cc
       go on (Fails f) h k = absurd cc
-      go on Stuck h k = let w : c ≡ d = cc in (record { steps = 0; by = w }, ap (next_step ops code) (sym w) ∙ h)
+      go on Stuck h k = let w : c ≡ d = cc in (record { steps = 0; proof = w }, ap (next_step ops code) (sym w) ∙ h)
 
   pub within_ended : (n : ℕ) (c : Config M) (t : Turn M) → turn_within ops code n c ≡ Ended t → IsTurn ops code c t
   within_ended n c t = go (frames_fit ops code c)

@@ -13,7 +13,7 @@ use Rattle.sp_code.specs.Ranks.{rank}
 
 -- a memory has only so many ticks left: a tick and a call take one, and nothing gives one back
 pub record HasBudget {M : Type 0} (ops : Ops M) (budget : M → ℕ) : Type 0 where
-  pub beat : (n m : M) → ops.tick n ≡ Done m → budget m + 1 ≤ budget n
+  pub tick : (n m : M) → ops.tick n ≡ Done m → budget m + 1 ≤ budget n
   pub open_frame : (l : Layout) (up : ℕ) (es : List Entry) (n m : M) → ops.open_frame l up es n ≡ Done m
       → budget m + 1 ≤ budget n
   pub put : (a : Address) (c : Cell) (n : M) → budget (ops.put a c n) ≤ budget n

@@ -80,13 +80,15 @@ IsWritten (kind.Channel ks) = ⊥
 
 -- what may be called while a function is being called: blocks that lead to no kernel statement
 abbrev pub IsCallable : (ℕ → Type 0) → Bool → ℕ → Type 0
-IsCallable hush true f = Unit {0}
-IsCallable hush false f = hush f
+IsCallable callable true f = Unit {0}
+IsCallable callable false f = callable f
+    -- p: the program; moves, shares: what a process statement may change and only reads; Is: this instruction stands
+        at a
+    -- place; HasTable, HasText: this fork table, this text has a number; callable: a block that leads to no kernel
+    statement
 
--- p: the program; moves, shares: what a process statement may change and only reads; Is: this instruction stands at a
--- place; HasTable, HasText: this fork table, this text has a number; hush: a block that leads to no kernel statement
 module _ (p : Program) (moves shares : Stmt → List ℕ) (Is : ℕ → Instr → Type 0) (HasTable : ℕ → ForkTable → Type 0)
-    (HasText : ℕ → List ℕ → Type 0) (hush : ℕ → Type 0) where
+    (HasText : ℕ → List ℕ → Type 0) (callable : ℕ → Type 0) where
   -- an entire variable with this role
   abbrev pub VarRole : List Scope → ℕ → ℕ → Variable → Role → Type 0
   VarRole sc q x v role.Console = ⊥
@@ -255,7 +257,7 @@ module _ (p : Program) (moves shares : Stmt → List ℕ) (Is : ℕ → Instr �
         × RightAt sc (after_var q v) k (sort p k) form
     StandsAt free sc q (Call f args) =
         (b : Block) × ActualsAt sc q args b.formals × CallAt sc (after_actuals q args) f b × (b.answer ≡ None)
-        × IsCallable hush free f
+        × IsCallable callable free f
     StandsAt free sc q (Sequence ss) = AllAt free sc q ss
     StandsAt free sc q (If e a) =
         let t = after_value q e in
@@ -327,10 +329,10 @@ module _ (p : Program) (moves shares : Stmt → List ℕ) (Is : ℕ → Instr �
 
   -- the code of block f stands at q
   pub record BlockStands (f q : ℕ) (b : Block) : Type 0 where
-    pub body : (free : Bool) → IsCallable hush free f → StandsAt free (scopes_of p f) q b.body
+    pub body : (free : Bool) → IsCallable callable free f → StandsAt free (scopes_of p f) q b.body
     pub end : Is (after_statement p q b.body) (end_instr f)
     -- a function leads to no kernel statement, and its result is an ordinal of its own frame
-    pub hushed : (x : ℕ) → b.answer ≡ Some x → hush f
+    pub callable_function : (x : ℕ) → b.answer ≡ Some x → callable f
     pub answer : (x : ℕ) → b.answer ≡ Some x → (v : Variable) × (slice_get p.variables x ≡ Some v)
         × (v.role ≡ role.Answer) × (v.block ≡ f) × (sort p v.kind ≡ Ordinals)
 
@@ -348,17 +350,18 @@ abbrev pub HasWords : Parts → ℕ → List ℕ → Type 0
 HasWords code n text = slice_get code.texts n ≡ Some text
 
 -- a block's layout is the one that it has in the tree, and its code stands at the entry
-pub record BlockAt (p : Program) (moves shares : Stmt → List ℕ) (code : Parts) (hush : ℕ → Type 0) (f : ℕ) (b : Block) :
+pub record BlockAt (p : Program) (moves shares : Stmt → List ℕ) (code : Parts) (callable : ℕ → Type 0) (f : ℕ)
+    (b : Block) :
     Type 0 where
   pub layout : Layout
-  pub at : slice_get code.layouts f ≡ Some layout
-  pub is : layout ≡ layout_of p f layout.entry b
-  pub stands : BlockStands p moves shares (CodeAt code) (HasFork code) (HasWords code) hush f layout.entry b
+  pub layout_at : slice_get code.layouts f ≡ Some layout
+  pub layout_is : layout ≡ layout_of p f layout.entry b
+  pub stands : BlockStands p moves shares (CodeAt code) (HasFork code) (HasWords code) callable f layout.entry b
 
 -- the code of all blocks of the program stands
-abbrev pub BlocksAt : (p : Program) (moves shares : Stmt → List ℕ) (code : Parts) (hush : ℕ → Type 0) → Type 0
-BlocksAt p moves shares code hush = (f : ℕ) (b : Block) → slice_get p.blocks f ≡ Some b
-    → BlockAt p moves shares code hush f b
+abbrev pub BlocksAt : (p : Program) (moves shares : Stmt → List ℕ) (code : Parts) (callable : ℕ → Type 0) → Type 0
+BlocksAt p moves shares code callable = (f : ℕ) (b : Block) → slice_get p.blocks f ≡ Some b
+    → BlockAt p moves shares code callable f b
 
 -- nothing is said of the code: what the rules of names, types and variables give alone
 abbrev pub AnyInstr : ℕ → Instr → Type 0
@@ -373,8 +376,8 @@ abbrev pub AnyText : ℕ → List ℕ → Type 0
 AnyText n text = Unit {0}
 
 -- a tree that keeps the rules, at its block f
-abbrev pub IsFine : (p : Program) (moves shares : Stmt → List ℕ) (hush : ℕ → Type 0) → (f q : ℕ) → Block → Type 0
-IsFine p moves shares hush f q b = BlockStands p moves shares AnyInstr AnyTable AnyText hush f q b
+abbrev pub IsFine : (p : Program) (moves shares : Stmt → List ℕ) (callable : ℕ → Type 0) → (f q : ℕ) → Block → Type 0
+IsFine p moves shares callable f q b = BlockStands p moves shares AnyInstr AnyTable AnyText callable f q b
 
 -- these items stand in a list from place q on
 abbrev pub HasAt : {X : Type 0} → List X → ℕ → List X → Type 0

@@ -99,9 +99,9 @@ pub record CanPut (p : Plain) (a : Address) (cells : List Cell) : Type 0 where
 module _ (g : CodeRun) where
   -- the turn of process q stops so, with no fault of a total, an offer or another process
   pub record StopsAt (s : System Plain) (q : ℕ) (stop : Stop) (d : Config (Memory Plain)) : Type 0 where
-    pub at : Config (Memory Plain)
-    pub runs : s.condition q ≡ Working at
-    pub turn : IsTurn (memory plain g) g.code at (Stopped stop d)
+    pub configuration : Config (Memory Plain)
+    pub runs : s.condition q ≡ Working configuration
+    pub turn : IsTurn (memory plain g) g.code configuration (Stopped stop d)
     pub quiet : s.faulted ≡ false
     pub fine : fault_of g.limits s (Stopped stop d) ≡ None
 

@@ -33,7 +33,7 @@ module _ {M : Type 0} (ops : Ops M) (code : Parts) where
   -- some instructions lead from c to d
   pub record RunsTo (c d : Config M) : Type 0 where
     pub steps : ℕ
-    pub by : RunsIn steps c d
+    pub proof : RunsIn steps c d
 
   -- the instruction of c ends a turn so
   abbrev pub EndsSo : Config M → Turn M → Type 0

@@ -81,7 +81,7 @@ lines_more (suc n) xs text a w = (
 -- a text that begins with n lines and with one more
 pub record OneMore (xs ys a b : List ℕ) : Type 0 where
   pub text : List ℕ
-  pub one : IsOneLine text
+  pub is_line : IsOneLine text
   pub lines : ys ≡ xs ++ line text
   pub rest : a ≡ text ++ 10 ∷ b
 
@@ -89,7 +89,7 @@ pub one_more : (n : ℕ) (xs ys a b : List ℕ) → AreLines n xs → AreLines (
     → OneMore xs ys a b
 one_more zero xs ys a b f g e = record {
   text = g.0;
-  one = g.2;
+  is_line = g.2;
   lines = g.3 ∙ ap (λ (z : List ℕ). g.0 ++ 10 ∷ z) g.4 ∙ ap (λ (z : List ℕ). z ++ line g.0) (sym f);
   rest = ap (λ (z : List ℕ). z ++ a) (sym f) ∙ e
       ∙ ap (λ (z : List ℕ). z ++ b) (g.3 ∙ ap (λ (z : List ℕ). g.0 ++ 10 ∷ z) g.4) ∙ append_assoc g.0 (10 ∷ []) b;
@@ -101,7 +101,7 @@ one_more (suc n) xs ys a b f g e =
     ∙ line_at g.0 (g.1 ++ b) g.2 in
     let h = one_more n f.1 g.1 a b f.4 g.4 (parts_second _ _ _ _ k) in record {
       text = h.text;
-      one = h.one;
+      is_line = h.is_line;
       lines = g.3 ∙ (λ i. parts_first _ _ _ _ (sym k) i ++ 10 ∷ h.lines i)
           ∙ sym (append_assoc f.0 (10 ∷ f.1) (line h.text)) ∙ ap (λ (z : List ℕ). z ++ line h.text) (sym f.3);
       rest = h.rest;
@@ -338,8 +338,8 @@ module _ (bytes : List ℕ) (n : ℕ) (p : Parts) (rest : List ℕ) (b : Begun b
         let whole : code_text q ≡ code_text p ++ (line h.text ++ s.more) = sym s.begins.1.text
         ∙ ap (λ (z : List ℕ). z ++ s.more) h.lines ∙ append_assoc (code_text p) (line h.text) s.more in
         let f = first_left p q (line h.text ++ s.more) b.code b.goes_on s.begins.1.code whole (no_line h.text s.more) in
-        let k = sym (first_line h.text s.more h.one) ∙ f.line in
-        bad f.item s.rest f.follows (ap (first_split 10) h.rest ∙ line_at h.text s.rest h.one
+        let k = sym (first_line h.text s.more h.is_line) ∙ f.line in
+        bad f.item s.rest f.follows (ap (first_split 10) h.rest ∙ line_at h.text s.rest h.is_line
         ∙ ap (λ (z : List ℕ). Some (z, s.rest)) (parts_first _ _ _ _ k));
     whole = λ t.
         let f = first_left p t.0 rest b.code b.goes_on t.1.code (sym t.1.text ∙ b.joined) some in

@@ -37,7 +37,7 @@ module _ {M : Type 0} (ex : Execution M) where
     code,
     moves,
     shares,
-    IsCallableInFunctions as hush,
+    IsCallableInFunctions as callable,
     who as w,
     IsReadable as R,
     operations as ops,
@@ -70,7 +70,7 @@ module _ {M : Type 0} (ex : Execution M) where
       → next_step ops code c ≡ Goes (m.At q stack (ops.put t (cell_of e) n))
       → G ex fs c o s q (λ (u : Unit {0}) (z : Unit {0}). stack) (λ u z. Unit {0}) (assign a v)
   assign_gives {n = n} q a t v e stack st pt r oc sd ge =
-      record { by = (tt, ops.put t (cell_of e) n, goes ops rel w code ge, law.store st a t pt r oc v e sd, tt) }
+      record { proof = (tt, ops.put t (cell_of e) n, goes ops rel w code ge, law.store st a t pt r oc v e sd, tt) }
 
   -- an array's or a record's type
   many_kind : (y : Option KindOf) → sort_by y ≡ Many → (ty : KindOf) × (y ≡ Some ty)
@@ -81,8 +81,8 @@ module _ {M : Type 0} (ex : Execution M) where
   many_kind (Some kind.Char) e = absurd (subst IsMany (sym e) tt)
   many_kind (Some (kind.Enumeration n)) e = absurd (subst IsMany (sym e) tt)
   many_kind (Some (kind.Array low high index element)) e =
-      (kind.Array low high index element, refl, λ v o s. record { by = refl })
-  many_kind (Some (kind.Fields fs)) e = (kind.Fields fs, refl, λ v o s. record { by = refl })
+      (kind.Array low high index element, refl, λ v o s. record { proof = refl })
+  many_kind (Some (kind.Fields fs)) e = (kind.Fields fs, refl, λ v o s. record { proof = refl })
   many_kind (Some (kind.Channel ks)) e = absurd (subst IsMany (sym e) tt)
 
   -- assignment
@@ -92,7 +92,7 @@ module _ {M : Type 0} (ex : Execution M) where
       (fs : List FramePair) (o : LocalState) (s : Store) (n : M) → rel.Stand fs o s n → Pl ex sc fs (In_form form)
       → sort p k ≡ z
       → a.kind ≡ k → rel.Points fs a u → R a.spot
-      → RightAt p moves shares (CodeAt code) (HasFork code) (HasWords code) hush sc q k z form
+      → RightAt p moves shares (CodeAt code) (HasFork code) (HasWords code) callable sc q k z form
       → After ex end base below todo fs (after_right q z form + 1) stack
       → K ex (m.At q (m.Pointer u ∷ stack) n) o s (After ex end base below)
       (bind (form_value g call k form) (λ v. bind (assign a v) (λ x. give (Stepped todo))))
@@ -135,7 +135,7 @@ module _ {M : Type 0} (ex : Execution M) where
           (kind_known ex c.kind k ty.0 x.0 ty.1)
           (known_bind ops rel w code (checked_value ty.0) val val (fetch_known ex c) (ty.2 val o1 s1)))
           (record {
-            by = (
+            proof = (
               after_var q v + 1,
               stack,
               ops.copy u b (size p k) n1,

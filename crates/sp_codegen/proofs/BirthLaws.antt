@@ -89,7 +89,8 @@ module _ (g : RunInput) (moves shares : Stmt → List ℕ) (pause : ℕ) (tree :
       end = after_statement g.program layout.layout.entry b.body
 
       entry_is : entry_of plain (code_run g code pause) (layout_of code.layouts 0) ≡ layout.layout.entry
-      entry_is = ap (λ z. entry_of plain (code_run g code pause) z) (layout_found g.program 0 layout.layout layout.at)
+      entry_is = ap (λ z. entry_of plain (code_run g code pause) z)
+          (layout_found g.program 0 layout.layout layout.layout_at)
 
       go : (h : Laws g moves shares pause (first_info channels processes)) → (end : ℕ)
           × IsAt g moves shares pause (first_info channels processes) h end [] js js (push b.body [])

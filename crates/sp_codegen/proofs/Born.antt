@@ -48,13 +48,13 @@ use Rattle.sp_codegen.proofs.Follows.{slides, CodeFollows, push_follows}
 
 -- ---- the code of each child
 
-module _ (p : Program) (moves shares : Stmt → List ℕ) (code : Code) (hush : ℕ → Type 0) (free : Bool)
+module _ (p : Program) (moves shares : Stmt → List ℕ) (code : Code) (callable : ℕ → Type 0) (free : Bool)
     (sc : List Scope) where
   abbrev Is : Stmts → ℕ → ℕ → Birth → Type 0
-  Is ss q k b = ChildIs p moves shares code hush free sc ss q k b
+  Is ss q k b = ChildIs p moves shares code callable free sc ss q k b
 
   pub child_is : (ss : Stmts) (q k : ℕ) (b : Birth) → slice_get (children ss) k ≡ Some b
-      → ChildrenAt p moves shares (CodeAt code) (HasFork code) (HasWords code) hush free sc q ss → Is ss q k b
+      → ChildrenAt p moves shares (CodeAt code) (HasFork code) (HasWords code) callable free sc q ss → Is ss q k b
   child_is No q k b e h = absurd (cc e)
   child_is (And st rest) q zero b e h = record {
     statement = st;
@@ -170,7 +170,7 @@ module _ {M : Type 0} (ex : Execution M) where
     code,
     moves,
     shares,
-    IsCallableInFunctions as hush,
+    IsCallableInFunctions as callable,
     Writes as W,
     IsReadable as R,
     Indexes as J,
@@ -179,7 +179,7 @@ module _ {M : Type 0} (ex : Execution M) where
   -- a child's code is that of its statement, and then comes its end
   pub child_follows : (st : Stmt) (sc : List Scope) (entry : ℕ) (moved shared : List ℕ) (index : Option ℕ)
       (js : List FramePair) → Placed g W R J sc js (In_stmt st)
-      → StandsAt g.program moves shares (CodeAt code) (HasFork code) (HasWords code) hush true sc entry st
+      → StandsAt g.program moves shares (CodeAt code) (HasFork code) (HasWords code) callable true sc entry st
       → CodeFollows ex (after_statement g.program entry st) [] js entry [] js (push st [])
   child_follows st sc entry moved shared index js pl h =
       push_follows ex st (after_statement g.program entry st) [] js sc entry [] js [] pl h (slides ex _ _, refl, refl)

@@ -67,7 +67,7 @@ module _ {M : Type 0} (ex : Execution M) where
     code,
     moves,
     shares,
-    IsCallableInFunctions as hush,
+    IsCallableInFunctions as callable,
     who as w,
     Writes as W,
     IsReadable as R,
@@ -85,10 +85,10 @@ module _ {M : Type 0} (ex : Execution M) where
   p = g.program
 
   abbrev pub BlockIs : ℕ → Block → Type 0
-  BlockIs f b = BlockAt p moves shares code hush f b
+  BlockIs f b = BlockAt p moves shares code callable f b
 
   abbrev pub Blocks : Type 0
-  Blocks = BlocksAt p moves shares code hush
+  Blocks = BlocksAt p moves shares code callable
 
   -- what the machine does at a call
   abbrev pub calls_to : Layout → ℕ → List Entry → MemoryResult M → StepResult M
@@ -136,21 +136,23 @@ module _ {M : Type 0} (ex : Execution M) where
 
   pub call_finds : {fs : List FramePair} {o : LocalState} {s : Store} {n : M} (f : ℕ) (args : Actuals) (b : Block)
       (sc : List Scope) (q : ℕ) (stack : List Entry) (gs : List ArgumentValue) (es : List Entry) → rel.Stand fs o s n
-      → Pl ex sc fs (In_call f args) → CallAt p moves shares (CodeAt code) (HasFork code) (HasWords code) hush sc q f b
+      → Pl ex sc fs (In_call f args)
+      → CallAt p moves shares (CodeAt code) (HasFork code) (HasWords code) callable sc q f b
       → (z : BlockIs f b) → GivensAre rel p fs b.formals gs es → Gave p (sources fs) args gs
       → CallFinds fs f b q stack gs es o s n z.layout
   call_finds {fs} {o} {s} {n} f args b sc q stack gs es t pl h z gv ga = by_parent b.parent refl h.2
     where
       by_parent : (y : Option ℕ) → b.parent ≡ y
-          → Around p moves shares (CodeAt code) (HasFork code) (HasWords code) hush sc f y h.0
+          → Around p moves shares (CodeAt code) (HasFork code) (HasWords code) callable sc f y h.0
           → CallFinds fs f b q stack gs es o s n z.layout
       by_parent None e x = absurd x
       by_parent (Some c) e x =
           let r = found (is_block c) (places.is_block c) (block_agrees c) sc fs h.0 pl.chain x.0 in
           let seek_is : seek (is_block c) (length (sources fs)) (sources fs) ≡ sources (r.frame ∷ r.rest) =
           seek_all (is_block c) fs ∙ r.sought in
-          let op = law.open_frame t f b z.layout h.1 z.is c h.0 r.frame r.rest e r.at seek_is gs es gv in
-          let formals_are : length z.layout.formals ≡ length b.formals = ap (λ (y : Layout). length y.formals) z.is
+          let op = law.open_frame t f b z.layout h.1 z.layout_is c h.0 r.frame r.rest e r.frame_at seek_is gs es gv in
+          let formals_are : length z.layout.formals ≡ length b.formals = ap
+          (λ (y : Layout). length y.formals) z.layout_is
           ∙ length_of_map _ b.formals in
           let fresh_is : fresh p w.name W R 0 (λ m x h. mine_written m x) reads free (sources fs) f b args gs c
           r.frame.source ≡ frame_for rel w f b fs (r.frame ∷ r.rest) gs =
@@ -173,7 +175,7 @@ module _ {M : Type 0} (ex : Execution M) where
             entered = op.2;
             goes = at_one ex q (pushed es stack) n h.3
                 ∙ ap (λ y. on_some y (λ l. m.call_step ops code l h.0 (q + 1) (pushed es stack) n))
-                (finds f z.layout z.at)
+                (finds f z.layout z.layout_at)
                 ∙ pop_pushed es (length z.layout.formals) 0 stack []
                 (λ es st. when (fit_formals z.layout.formals es)
                 (when (ops.can_push h.0 n)
@@ -186,7 +188,8 @@ module _ {M : Type 0} (ex : Execution M) where
                 ∙ holds_when (fit_formals z.layout.formals es) _ op.0 ∙ holds_when (ops.can_push h.0 n) _ op.1;
             parent = (c, e);
             placed = λ j ej. record {
-              chain = chain_of fs (r.frame ∷ r.rest) f (drop h.0 sc) j b gs ej (up_from h.0 fs r.frame r.rest r.at) x.1
+              chain = chain_of fs (r.frame ∷ r.rest) f (drop h.0 sc) j b gs ej
+                  (up_from h.0 fs r.frame r.rest r.frame_at) x.1
                   r.chain;
               linked = subst (λ y. Linked (y ∷ sources fs)) (fresh_is ∙ sym ej)
                   (fresh_linked p w.name W R 0 (λ m x h. mine_written m x) reads free (sources fs) f b args gs c
@@ -211,14 +214,15 @@ module _ {M : Type 0} (ex : Execution M) where
   pub call_makes : Blocks → (end : ℕ) (base : List Entry) (below : List FramePair) (f : ℕ) (args : Actuals) (b : Block)
       (sc : List Scope) (q : ℕ) (stack : List Entry) (gs : List ArgumentValue) (es : List Entry) (todo : List Item)
       (fs : List FramePair) (o : LocalState) (s : Store) (n : M) → rel.Stand fs o s n → Pl ex sc fs (In_call f args)
-      → CallAt p moves shares (CodeAt code) (HasFork code) (HasWords code) hush sc q f b → b.answer ≡ None
-      → IsCallable hush (is_in_no_function stack) f → GivensAre rel p fs b.formals gs es → Gave p (sources fs) args gs
+      → CallAt p moves shares (CodeAt code) (HasFork code) (HasWords code) callable sc q f b → b.answer ≡ None
+      → IsCallable callable (is_in_no_function stack) f → GivensAre rel p fs b.formals gs es
+      → Gave p (sources fs) args gs
       → After ex end base below todo fs (q + 1) stack
       → K ex (m.At q (pushed es stack) n) o s (After ex end base below)
       (bind (enter g f gs) (λ y. give (Ticked (push y.body (Leave ∷ todo)))))
   call_makes blocks end base below f args b sc q stack gs es todo fs o s n t pl h ha hu gv ga fo =
       record {
-        by = subst (Made ex c (After ex end base below)) (sym (run_bind (enter g f gs) next w o s))
+        proof = subst (Made ex c (After ex end base below)) (sym (run_bind (enter g f gs) next w o s))
             (go (run (enter g f gs) w o s) r.did r.entered r.goes);
       }
     where
@@ -238,7 +242,7 @@ module _ {M : Type 0} (ex : Execution M) where
       next y = give (Ticked (push y.body (Leave ∷ todo)))
 
       no_answer : l.answer ≡ false
-      no_answer = ap (λ (y : Layout). y.answer) z.is ∙ ap is_given ha
+      no_answer = ap (λ (y : Layout). y.answer) z.layout_is ∙ ap is_given ha
 
       go : (x : WorkOutcome Block × Store) (d : MemoryResult M) → CallMatches rel w fs s f b r.around gs x d
           → next_step ops code c ≡ calls_to l (q + 1) stack d → Made ex c (After ex end base below) (then_run next w x)

@@ -36,22 +36,23 @@ use Rattle.sp_codegen.proofs.Follows.{push_follows, slides}
 use Rattle.sp_codegen.proofs.Turn.{Turned, turn_meets}
 use Rattle.sp_codegen.proofs.Root.{NoChannel, IsFirst, NoIndexes, W, who, j0, root_stands, root_placed}
 
-pub laid_of : (p : Program) (code : Code) (moves shares : Stmt → List ℕ) (hush : ℕ → Type 0)
-    → BlocksAt p moves shares code hush → ((f : ℕ) (l : Layout) → slice_get code.layouts f ≡ Some l
+pub laid_of : (p : Program) (code : Code) (moves shares : Stmt → List ℕ) (callable : ℕ → Type 0)
+    → BlocksAt p moves shares code callable → ((f : ℕ) (l : Layout) → slice_get code.layouts f ≡ Some l
     → layout_of code.layouts f ≡ Some l) → Laid p code.layouts
-laid_of p code moves shares hush blocks finds f b e = let z = blocks f b e in (z.layout, finds f z.layout z.at, z.is)
+laid_of p code moves shares callable blocks finds f b e = let z = blocks f b e in
+    (z.layout, finds f z.layout z.layout_at, z.layout_is)
 
 module _ (g : RunInput) (code : Code) (formed : IsFormed g.program) (types : HasSmallTypes g.program) (b : Block)
-    (eb : slice_get g.program.blocks 0 ≡ Some b) (pause : ℕ) (moves shares : Stmt → List ℕ) (hush : ℕ → Type 0)
+    (eb : slice_get g.program.blocks 0 ≡ Some b) (pause : ℕ) (moves shares : Stmt → List ℕ) (callable : ℕ → Type 0)
     (free : IsFreeOfInterference g.program)
     (finds : (f : ℕ) (l : Layout) → slice_get code.layouts f ≡ Some l → layout_of code.layouts f ≡ Some l)
-    (blocks : BlocksAt g.program moves shares code hush) (small : g.limits.depth ≤ 4294967295)
+    (blocks : BlocksAt g.program moves shares code callable) (small : g.limits.depth ≤ 4294967295)
     (fits : size_of_frame g 0 ≤ g.limits.cells) where
   abbrev p : Program
   p = g.program
 
   pub laid : Laid p code.layouts
-  laid = laid_of p code moves shares hush blocks finds
+  laid = laid_of p code moves shares callable blocks finds
 
   abbrev w : Identity
   w = who g code formed laid b eb pause NoChannel IsFirst (refl, refl)
@@ -70,7 +71,7 @@ module _ (g : RunInput) (code : Code) (formed : IsFormed g.program) (types : Has
     code = code;
     moves = moves;
     shares = shares;
-    IsCallableInFunctions = hush;
+    IsCallableInFunctions = callable;
     who = w;
     due = due_after 0 pause;
     Writes = V;
@@ -86,7 +87,7 @@ module _ (g : RunInput) (code : Code) (formed : IsFormed g.program) (types : Has
     layouts_found = finds;
   }
 
-  layout : BlockAt p moves shares code hush 0 b
+  layout : BlockAt p moves shares code callable 0 b
   layout = blocks 0 b eb
 
   abbrev js : List FramePair
@@ -99,7 +100,7 @@ module _ (g : RunInput) (code : Code) (formed : IsFormed g.program) (types : Has
   turn_by c t e r = subst (λ z. BeginsOrFaults z c t (Runs (memory plain (code_run g code pause)) code c t)) (sym e) r
 
   entry_is : entry_of plain (code_run g code pause) (layout_of code.layouts 0) ≡ layout.layout.entry
-  entry_is = ap (λ z. entry_of plain (code_run g code pause) z) (finds 0 layout.layout layout.at)
+  entry_is = ap (λ z. entry_of plain (code_run g code pause) z) (finds 0 layout.layout layout.layout_at)
 
   abbrev n0 : Memory Plain
   n0 = first_memory plain (code_run g code pause) (layout_of code.layouts 0)
@@ -153,9 +154,9 @@ module _ (g : RunInput) (code : Code) (formed : IsFormed g.program) (types : Has
         (At q.0 q.1 q.2, q.4, q.5),
   )
   by_outcome (EndsInFault f, s) q = (
-    q.at,
-    turn_by (At layout.layout.entry [] n0) (Faulted f q.at) fits_first
-        (q.at, q.comes, (q.fails, refl)),
+    q.known,
+    turn_by (At layout.layout.entry [] n0) (Faulted f q.known) fits_first
+        (q.known, q.comes, (q.fails, refl)),
   )
   by_outcome (IllFormed, s) q = q
   by_outcome (OutOfFuel, s) q = tt

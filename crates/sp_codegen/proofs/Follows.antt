@@ -36,7 +36,7 @@ module _ {M : Type 0} (ex : Execution M) where
     code,
     moves,
     shares,
-    IsCallableInFunctions as hush,
+    IsCallableInFunctions as callable,
     who as w,
     IsReadable as R,
     operations as ops,
@@ -54,13 +54,13 @@ module _ {M : Type 0} (ex : Execution M) where
   Slides pc q stack = following.Slides ex pc q stack
 
   pub slides : (pc : ℕ) (stack : List Entry) → Slides pc pc stack
-  slides pc stack = record { by = λ n. stays ops rel w code (At pc stack n) }
+  slides pc stack = record { proof = λ n. stays ops rel w code (At pc stack n) }
 
   pub slides_on : {a b c : ℕ} {stack : List Entry} → Slides a b stack → Slides b c stack → Slides a c stack
-  slides_on h k = record { by = λ n. comes_on ops rel w code (h.by n) (k.by n) }
+  slides_on h k = record { proof = λ n. comes_on ops rel w code (h.proof n) (k.proof n) }
 
   pub jumps : (q to : ℕ) (stack : List Entry) → slice_get code.instrs q ≡ Some (i.Jump to) → Slides q to stack
-  jumps q to stack h = record { by = λ n. goes ops rel w code (ap (λ o. instruction ops code o q stack n) h) }
+  jumps q to stack h = record { proof = λ n. goes ops rel w code (ap (λ o. instruction ops code o q stack n) h) }
 
   abbrev pub Turns : Bool → List Scope → ℕ → ℕ → Bool → Stmt → Type 0
   Turns free sc q x down s = following.Turns ex free sc q x down s
@@ -85,7 +85,7 @@ module _ {M : Type 0} (ex : Execution M) where
   mutual
     pub push_follows : (s : Stmt) (end : ℕ) (base : List Entry) (below : List FramePair) (sc : List Scope) (q : ℕ)
         (stack : List Entry) (fs : List FramePair) (todo : List Item) → Pl sc fs (In_stmt s)
-        → StandsAt p moves shares (CodeAt code) (HasFork code) (HasWords code) hush (is_in_no_function stack) sc q s
+        → StandsAt p moves shares (CodeAt code) (HasFork code) (HasWords code) callable (is_in_no_function stack) sc q s
         → CodeFollows end base below (after_statement p q s) stack fs todo
         → CodeFollows end base below q stack fs (push s todo)
     push_follows Empty end base below sc q stack fs todo ch h k = k
@@ -113,7 +113,7 @@ module _ {M : Type 0} (ex : Execution M) where
 
     pub push_all_follows : (ss : Stmts) (end : ℕ) (base : List Entry) (below : List FramePair) (sc : List Scope) (q : ℕ)
         (stack : List Entry) (fs : List FramePair) (todo : List Item) → Pl sc fs (In_stmts ss)
-        → AllAt p moves shares (CodeAt code) (HasFork code) (HasWords code) hush (is_in_no_function stack) sc q ss
+        → AllAt p moves shares (CodeAt code) (HasFork code) (HasWords code) callable (is_in_no_function stack) sc q ss
         → CodeFollows end base below (after_all p q ss) stack fs todo
         → CodeFollows end base below q stack fs (push_all ss todo)
     push_all_follows No end base below sc q stack fs todo ch h k = k
@@ -157,7 +157,7 @@ module _ {M : Type 0} (ex : Execution M) where
   pub record Makes (c : Config M) (o : LocalState) (s : Store) (Q : List Item → List FramePair → ℕ → List Entry
       → Type 0)
       (h : Work Action) : Type 0 where
-    pub by : Made c Q (run h w o s)
+    pub proof : Made c Q (run h w o s)
 
   pub made_after : (c d : Config M) (Q : List Item → List FramePair → ℕ → List Entry → Type 0) (r : WorkOutcome Action
       × Store)
@@ -196,7 +196,7 @@ module _ {M : Type 0} (ex : Execution M) where
   pub makes_after : {c d : Config M} {o : LocalState} {s : Store} {Q : List Item → List FramePair → ℕ → List Entry
       → Type 0}
       {h : Work Action} → RunsTo ops code c d → Makes d o s Q h → Makes c o s Q h
-  makes_after {c} {d} {o} {s} {Q} {h} e k = record { by = made_after c d Q (run h w o s) e k.by }
+  makes_after {c} {d} {o} {s} {Q} {h} e k = record { proof = made_after c d Q (run h w o s) e k.proof }
 
   pub makes_bind : {A E : Type 0} {fs : List FramePair} {c : Config M} {o : LocalState} {s : Store} {pc : ℕ}
       {st : A → E → List Entry} {F : A → E → Type 0} {Q : List Item → List FramePair → ℕ → List Entry → Type 0}
@@ -206,11 +206,11 @@ module _ {M : Type 0} (ex : Execution M) where
       → ((a : A) (e : E) (o1 : LocalState) (s1 : Store) (n1 : M) → rel.Stand fs o1 s1 n1 → F a e
       → Makes (At pc (st a e) n1) o1 s1 Q (gg a)) → Makes c o s Q (bind h gg)
   makes_bind {A} {E} {fs} {c} {o} {s} {pc} {st} {F} {Q} {h} gg k next =
-      record { by = subst (Made c Q) (sym (run_bind h gg w o s)) (go (run h w o s) k.by) }
+      record { proof = subst (Made c Q) (sym (run_bind h gg w o s)) (go (run h w o s) k.proof) }
     where
       go : (r : WorkOutcome A × Store) → RealizesResult ops rel w code fs c pc st F r → Made c Q (then_run gg w r)
       go (Computed a o1, s1) q = made_after c (At pc (st a q.0) q.1) Q (run (gg a) w o1 s1) q.2
-          (next a q.0 o1 s1 q.1 q.3 q.4).by
+          (next a q.0 o1 s1 q.1 q.3 q.4).proof
       go (EndsInFault f, s1) q = q
       go (IllFormed, s1) q = q
       go (OutOfFuel, s1) q = q
@@ -219,7 +219,7 @@ module _ {M : Type 0} (ex : Execution M) where
       {Q : List Item → List FramePair → ℕ → List Entry → Type 0} {h : Work A} (gg : A → Work Action) (a : A)
       → HasKnownValue ops rel w code o s h a → Makes c o s Q (gg a) → Makes c o s Q (bind h gg)
   makes_known {A} {c} {o} {s} {Q} {h} gg a k next =
-      record { by = subst (Made c Q) (sym (run_bind h gg w o s ∙ ap (then_run gg w) k.by)) next.by }
+      record { proof = subst (Made c Q) (sym (run_bind h gg w o s ∙ ap (then_run gg w) k.proof)) next.proof }
 
   pub makes_by : {c : Config M} {o : LocalState} {s : Store} {Q : List Item → List FramePair → ℕ → List Entry → Type 0}
       {h k : Work Action} → h ≡ k → Makes c o s Q k → Makes c o s Q h
@@ -229,12 +229,12 @@ module _ {M : Type 0} (ex : Execution M) where
       → Type 0}
       (todo : List Item) (fs : List FramePair) (pc : ℕ) (st : List Entry) (n : M) → RunsTo ops code c (At pc st n)
       → rel.Stand fs o s n → Q todo fs pc st → Makes c o s Q (give (Stepped todo))
-  makes_went todo fs pc st n e t q = record { by = (pc, st, n, fs, e, t, q) }
+  makes_went todo fs pc st n e t q = record { proof = (pc, st, n, fs, e, t, q) }
 
   pub makes_fail : {c : Config M} {o : LocalState} {s : Store} {Q : List Item → List FramePair → ℕ → List Entry
       → Type 0}
       (f : Fault) → StandsFor rel c s → next_step ops code c ≡ Fails f → Makes c o s Q (fail f)
-  makes_fail {c} {s = s} f t e = record { by = breaks ops rel w code c f s t e }
+  makes_fail {c} {s = s} f t e = record { proof = breaks ops rel w code c f s t e }
 
   -- a tick of the process, where a Tick stands
   pub makes_tick : {c : Config M} {o : LocalState} {s : Store} {Q : List Item → List FramePair → ℕ → List Entry
@@ -245,7 +245,7 @@ module _ {M : Type 0} (ex : Execution M) where
       → Q todo fs pc st → Makes c o s Q (bind (tick g.limits) (λ u. give (Ticked todo)))
   makes_tick {c} {o} {s} {Q} todo fs pc st d t al e q =
       record {
-        by = subst (Made c Q) (sym (run_bind (tick g.limits) (λ u. give (Ticked todo)) w o s))
+        proof = subst (Made c Q) (sym (run_bind (tick g.limits) (λ u. give (Ticked todo)) w o s))
             (go (run (tick g.limits) w o s) d al e);
       }
     where

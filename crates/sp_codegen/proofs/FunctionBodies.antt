@@ -56,7 +56,7 @@ module _ {M : Type 0} (ex : Execution M) where
     code,
     moves,
     shares,
-    IsCallableInFunctions as hush,
+    IsCallableInFunctions as callable,
     who as w,
     due,
     Writes as W,
@@ -79,7 +79,7 @@ module _ {M : Type 0} (ex : Execution M) where
 
   -- all that is left in a function's body comes to its end
   pub record AllMeets (go : List Item → Work (List Item)) : Type 0 where
-    pub by : (end : ℕ) (base : List Entry) (below : List FramePair) → is_in_no_function base ≡ false
+    pub proof : (end : ℕ) (base : List Entry) (below : List FramePair) → is_in_no_function base ≡ false
         → (todo : List Item) (pc : ℕ) (stack : List Entry) (fs : List FramePair) (o : LocalState) (s : Store) (n : M)
         → rel.Stand fs o s n → F ex end base below pc stack fs todo
         → G ex below (m.At pc stack n) o s end (BaseTop base) No_more (go todo)
@@ -92,8 +92,8 @@ module _ {M : Type 0} (ex : Execution M) where
       → G ex below c o s end (BaseTop base) No_more (bind h (λ d. bind (items_after g d) go))
   inside_gives end base below ob go ih c o s h k =
       record {
-        by = subst (RealizesResult ops rel w code below c end (BaseTop base) No_more)
-            (sym (run_bind h (λ d. bind (items_after g d) go) w o s)) (by_deed (run h w o s) k.by);
+        proof = subst (RealizesResult ops rel w code below c end (BaseTop base) No_more)
+            (sym (run_bind h (λ d. bind (items_after g d) go) w o s)) (by_deed (run h w o s) k.proof);
       }
     where
       no : (st : List Entry) (pc : ℕ) (fs : List FramePair) (todo : List Item) → F ex end base below pc st fs todo
@@ -105,14 +105,14 @@ module _ {M : Type 0} (ex : Execution M) where
           (then_run (λ d. bind (items_after g d) go) w r)
       by_deed (Computed (Stepped todo) o1, s1) q =
           ends_after ops rel w code below c (m.At q.0 q.1 q.2) end (BaseTop base) No_more (run (go todo) w o1 s1) q.4
-          (ih.by end base below ob todo q.0 q.1 q.3 o1 s1 q.2 q.5 q.6).by
+          (ih.proof end base below ob todo q.0 q.1 q.3 o1 s1 q.2 q.5 q.6).proof
       by_deed (Computed (Ticked todo) o1, s1) q =
           ends_after ops rel w code below c (m.At q.0 q.1 q.2) end (BaseTop base) No_more (run (go todo) w o1 s1)
           (comes_on ops rel w code q.5 (goes ops rel w code
           (q.6 ∙ ap (λ b. if b then (if ops.due q.2 then Stops m.Pauses (m.At q.0 q.1 q.2) else
           Goes (m.At q.0 q.1 q.2)) else Goes (m.At q.0 q.1 q.2))
           (outside_follows ex end base below q.0 q.1 q.3 todo q.8 ∙ ob))))
-          (ih.by end base below ob todo q.0 q.1 q.3 o1 s1 q.2 q.7 q.8).by
+          (ih.proof end base below ob todo q.0 q.1 q.3 o1 s1 q.2 q.7 q.8).proof
       by_deed (Computed (Opened todo) o1, s1) q = absurd (no q.1 q.0 q.3 todo q.14 q.15)
       by_deed (Computed (Forked bs todo) o1, s1) q = absurd (no q.1 q.0 q.3 todo q.9 q.10)
       by_deed (Computed (Offered ch x cg todo) o1, s1) q = absurd (no q.1 q.0 q.3 todo q.10 q.11)
@@ -126,9 +126,9 @@ module _ {M : Type 0} (ex : Execution M) where
       → G ex fs c o s pc st T (bind h (λ a. bind (gg a) k)) → G ex fs c o s pc st T (bind (bind h gg) k)
   gives_assoc {A} {B} {D} {E} {fs} {c} {o} {s} {pc} {st} {T} h gg k x =
       record {
-        by = subst (RealizesResult ops rel w code fs c pc st T)
+        proof = subst (RealizesResult ops rel w code fs c pc st T)
             (run_bind h (λ a. bind (gg a) k) w o s ∙ run_assoc gg k w (run h w o s)
-            ∙ ap (then_run k w) (sym (run_bind h gg w o s)) ∙ sym (run_bind (bind h gg) k w o s)) x.by;
+            ∙ ap (then_run k w) (sym (run_bind h gg w o s)) ∙ sym (run_bind (bind h gg) k w o s)) x.proof;
       }
 
   abbrev StK : ℕ → Value → Entry → Type 0
@@ -142,19 +142,19 @@ module _ {M : Type 0} (ex : Execution M) where
       → next_step ops code c ≡ ordinal_in u (λ a. Goes (m.At r (m.Number a ∷ stack) (ops.close_frame n)))
       → G ex fs c o s r (Top ex stack) (StK k) (bind (ordinal_read v) (λ y. bind (leave g) (λ z. give y)))
   answer_gives r k stack fs fr c o s n f t e Undefined cell.Undefined oi ge =
-      record { by = breaks ops rel w code c fault.F4 s f ge }
+      record { proof = breaks ops rel w code c fault.F4 s f ge }
   answer_gives r k stack fs fr c o s n f t e Undefined (cell.Ordinal a) oi ge = absurd oi
   answer_gives r k stack fs fr c o s n f t e Undefined (cell.Channel a) oi ge = absurd oi
   answer_gives r k stack fs fr c o s n f t e (Chan y) cell.Undefined oi ge = absurd oi
   answer_gives r k stack fs fr c o s n f t e (Chan y) (cell.Ordinal a) oi ge = absurd oi
   answer_gives r k stack fs fr c o s n f t e (Chan y) (cell.Channel a) oi ge =
-      record { by = breaks ops rel w code c fault.F4 s f ge }
+      record { proof = breaks ops rel w code c fault.F4 s f ge }
   answer_gives r k stack fs fr c o s n f t e (Parts y) u oi ge = absurd oi
   answer_gives r k stack fs fr c o s n f t e (Ordinal a) cell.Undefined oi ge = absurd oi
   answer_gives r k stack fs fr c o s n f t e (Ordinal a) (cell.Channel b) oi ge = absurd oi
   answer_gives r k stack fs fr c o s n f t e (Ordinal a) (cell.Ordinal b) oi ge =
       record {
-        by = (
+        proof = (
           m.Number b,
           ops.close_frame n,
           goes ops rel w code ge,
@@ -169,7 +169,7 @@ module _ {M : Type 0} (ex : Execution M) where
       → rel.Stand fs o s n → F ex end base below pc stack fs todo → LoopMayGoOn ex fs o s n todo
       → G ex below (m.At pc stack n) o s end (BaseTop base) No_more (rest_by g go todo)
   rest_gives bl go ih ok end base below ob [] pc stack fs o s n t h r =
-      gives_give ops rel w code [] tt (subst (λ y. C ex (m.At pc stack n) (m.At end y n)) h.1 (h.0.by n))
+      gives_give ops rel w code [] tt (subst (λ y. C ex (m.At pc stack n) (m.At end y n)) h.1 (h.0.proof n))
       (subst (λ y. rel.Stand y o s n) h.2 t) tt
   rest_gives bl go ih ok end base below ob (item ∷ todo) pc stack fs o s n t h r =
       inside_gives end base below ob go ih (m.At pc stack n) o s (item_action g (call_by g go) item todo)
@@ -177,9 +177,9 @@ module _ {M : Type 0} (ex : Execution M) where
 
   pub all_meets : Blocks ex → ((go : List Item → Work (List Item)) → AllMeets go → Oks ex (call_by g go)) → (k : ℕ)
       → AllMeets (run_items g k)
-  all_meets bl calls zero = record { by = λ end base below ob todo pc stack fs o s n t h. record { by = tt } }
+  all_meets bl calls zero = record { proof = λ end base below ob todo pc stack fs o s n t h. record { proof = tt } }
   all_meets bl calls (suc k) = record {
-    by = λ end base below ob todo pc stack fs o s n t h.
+    proof = λ end base below ob todo pc stack fs o s n t h.
         let z = settle_follows ex end base below fs o s n t pc stack todo h in
         gives_known ops rel w code (rest_by g (run_items g k)) z.left z.known
         (gives_after ops rel w code z.comes
@@ -204,24 +204,24 @@ module _ {M : Type 0} (ex : Execution M) where
       (let z : (v.block == f) ≡ true = Prim.grind (arith, nat_tests, eb) in z) in
       let r = found (is_block v.block) (places.is_block v.block) (block_agrees v.block) (places.OfBlock f ∷ sc)
       (fr ∷ fs) 0 ch lv in
-      let top : r.frame ≡ fr = ap (same_head fr) (sym r.at) in
+      let top : r.frame ≡ fr = ap (same_head fr) (sym r.frame_at) in
       known_bind ops rel w code (λ i. place_by g x i i.role) v (AtAddress (in_frame g x v fr.source))
       (or_known ex (slice_get p.variables x) v ev)
       (subst (λ y. HasKnownValue ops rel w code o s (place_by g x v y) (AtAddress (in_frame g x v fr.source))) (sym er)
       (known_bind ops rel w code (λ y. give (AtAddress (in_frame g x v y))) r.frame.source
       (AtAddress (in_frame g x v fr.source))
       (visible_known ex t (is_block v.block) r.frame r.rest (seek_all (is_block v.block) (fr ∷ fs) ∙ r.sought))
-      (record { by = ap (λ (y : FramePair). run (give (AtAddress (in_frame g x v y.source))) w o s) top })))
+      (record { proof = ap (λ (y : FramePair). run (give (AtAddress (in_frame g x v y.source))) w o s) top })))
 
   pub call_meets : Blocks ex → (go : List Item → Work (List Item)) → AllMeets go → Oks ex (call_by g go)
   call_meets bl go ih = record {
-    by = λ f args b sc q k stack fs o s n t pl ca ans ek gs es gv ga. function_gives f args
+    proof = λ f args b sc q k stack fs o s n t pl ca ans ek gs es gv ga. function_gives f args
         b sc q k stack fs o s n t pl ca ans ek gs es gv ga (bl f b ca.1);
   }
     where
       function_gives : (f : ℕ) (args : Actuals) (b : Block) (sc : List Scope) (q k : ℕ) (stack : List Entry)
           (fs : List FramePair) (o : LocalState) (s : Store) (n : M) → rel.Stand fs o s n → Pl ex sc fs (In_call f args)
-          → CallAt p moves shares (CodeAt code) (HasFork code) (HasWords code) hush sc q f b
+          → CallAt p moves shares (CodeAt code) (HasFork code) (HasWords code) callable sc q f b
           → ((x : ℕ) × (b.answer ≡ Some x)) → sort p k ≡ Ordinals
           → (gs : List ArgumentValue) (es : List Entry) → GivensAre rel p fs b.formals gs es
           → Gave p (sources fs) args gs
@@ -229,7 +229,7 @@ module _ {M : Type 0} (ex : Execution M) where
           (call_by g go f gs)
       function_gives f args b sc q k stack fs o s n t pl ca ans ek gs es gv ga z =
           record {
-            by = subst (RealizesResult ops rel w code fs c (q + 1) (Top ex stack) (StK k))
+            proof = subst (RealizesResult ops rel w code fs c (q + 1) (Top ex stack) (StK k))
                 (sym (run_bind (enter g f gs) body w o s)) (by_enter (run (enter g f gs) w o s) r.did r.entered r.goes);
           }
         where
@@ -253,7 +253,7 @@ module _ {M : Type 0} (ex : Execution M) where
           st = m.Reply (q + 1) ∷ stack
 
           answers : l.answer ≡ true
-          answers = ap (λ (y : Layout). y.answer) z.is ∙ ap is_given ans.1
+          answers = ap (λ (y : Layout). y.answer) z.layout_is ∙ ap is_given ans.1
 
           ends : slice_get code.instrs end ≡ Some i.Return
           ends = z.stands.end ∙ ap Some (return_at ex f r.parent.0 b ca.1 r.parent.1)
@@ -295,9 +295,10 @@ module _ {M : Type 0} (ex : Execution M) where
               let a = z.stands.answer ans.0 ans.1 in
               let hh : fr.source.home ≡ OfBlock f = ap (λ (y : Frame). y.home) ej in
               let ow : fr.source.owner ≡ w.name = ap (λ (y : Frame). y.owner) ej in
-              gives_bind ops rel w code (ih.by end st (fr ∷ fs) refl (push b.body []) l.entry st (fr ∷ fs) o1 s1 n1 t1
+              gives_bind ops rel w code
+              (ih.proof end st (fr ∷ fs) refl (push b.body []) l.entry st (fr ∷ fs) o1 s1 n1 t1
               (push_follows ex b.body end st (fr ∷ fs) (scopes_of p f) l.entry st (fr ∷ fs) [] pl1
-              (z.stands.body false (z.stands.hushed ans.0 ans.1)) (slides ex _ _, refl, refl)))
+              (z.stands.body false (z.stands.callable_function ans.0 ans.1)) (slides ex _ _, refl, refl)))
               (λ rest u o2 s2 n2 t2 x.
               let re = law.result t2 b f ans.0 a.0 hh ca.1 ans.1 a.1 a.2 a.3 in
               gives_by ops rel w code (ap (λ y. bind (function_result g y) (λ v. bind (leave g) (λ u. give v))) ans.1)
@@ -309,7 +310,7 @@ module _ {M : Type 0} (ex : Execution M) where
               (at_answer fr a.0 re.0 a.4 o2 s2 n2 t2 mi ow re.1 re.2))))
             where
               around_at : (y : Option ℕ) → b.parent ≡ y
-                  → Around p moves shares (CodeAt code) (HasFork code) (HasWords code) hush sc f y ca.0
+                  → Around p moves shares (CodeAt code) (HasFork code) (HasWords code) callable sc f y ca.0
                   → scopes_of p f ≡ places.OfBlock f ∷ drop ca.0 sc
               around_at None e x = absurd x
               around_at (Some c1) e x = x.1
@@ -325,7 +326,7 @@ module _ {M : Type 0} (ex : Execution M) where
               (goes ops rel w code (e ∙ ap (λ y. if y then Goes (m.At l.entry st n1) else
               pause_step ops code l.entry (m.Link (q + 1) ∷ stack) n1) answers))
               (subst (λ (y : Block). G ex fs (m.At l.entry st n1) o1 s1 (q + 1) (Top ex stack) (StK k) (body y))
-              (sym al.0) (inner al.1.0 o1 s1 n1 al.1.1 al.1.2 al.1.3)).by
+              (sym al.0) (inner al.1.0 o1 s1 n1 al.1.1 al.1.2 al.1.3)).proof
           by_enter (Computed b1 o1, s1) (Failed x) al e = absurd al
           by_enter (EndsInFault x, s1) (Done n1) al e = absurd al
           by_enter (EndsInFault x, s1) (Failed y) al e =

@@ -37,7 +37,7 @@ module _ {M : Type 0} (ex : Execution M) where
     code,
     moves,
     shares,
-    IsCallableInFunctions as hush,
+    IsCallableInFunctions as callable,
     who as w,
     IsReadable as R,
     operations as ops,
@@ -54,7 +54,7 @@ module _ {M : Type 0} (ex : Execution M) where
     pub address : Address
     pub cell : Ptr
     pub known : HasKnownValue ops rel w code o s (place_of g x) (AtAddress address)
-    pub at : ops.addr 0 (slot p x) n ≡ Some cell
+    pub cell_at : ops.addr 0 (slot p x) n ≡ Some cell
     pub points : rel.Points fs address cell
     pub may : R address.spot
     pub sorted : sort p address.kind ≡ Ordinals
@@ -62,11 +62,11 @@ module _ {M : Type 0} (ex : Execution M) where
   pub for_place : {Here : Use → Type 0} {fs : List FramePair} {o : LocalState} {s : Store} {n : M} (sc : List Scope)
       (x : ℕ)
       → rel.Stand fs o s n → Pl ex sc fs Here → Here (Target x)
-      → ForVar p moves shares (CodeAt code) (HasFork code) (HasWords code) hush sc x → ForPlace fs x n o s
+      → ForVar p moves shares (CodeAt code) (HasFork code) (HasWords code) callable sc x → ForPlace fs x n o s
   for_place {fs = fs} {o = o} {s = s} {n = n} sc x t pl ai h =
       let v = h.0 in
       let r = found (is_block v.block) (places.is_block v.block) (block_agrees v.block) sc fs 0 pl.chain h.3 in
-      let a = law.addr t 0 x r.frame r.rest r.at v h.1 (home_is v.block r.frame.source.home r.fit)
+      let a = law.addr t 0 x r.frame r.rest r.frame_at v h.1 (home_is v.block r.frame.source.home r.fit)
       (subst Owns (sym h.2) tt) in
       let at : location_of p (sources fs) x ≡ Some (in_frame g x v r.frame.source).spot =
       ap (location_at (sources fs) x) h.1
@@ -82,8 +82,8 @@ module _ {M : Type 0} (ex : Execution M) where
             (known_bind ops rel w code (λ f. give (AtAddress (in_frame g x v f))) r.frame.source
             (AtAddress (in_frame g x v r.frame.source))
             (visible_known ex t (is_block v.block) r.frame r.rest (seek_all (is_block v.block) fs ∙ r.sought))
-            (record { by = refl })));
-        at = a.1;
+            (record { proof = refl })));
+        cell_at = a.1;
         points = a.2;
         may = reads (in_frame g x v r.frame.source).spot
             (pl.sound.allowed [] (Target x) ai x (in_frame g x v r.frame.source).spot (refl, at));
@@ -95,7 +95,7 @@ module _ {M : Type 0} (ex : Execution M) where
       (sc : List Scope) (q : ℕ) (st : List Entry) (todo : List Item) (fs : List FramePair) (c : Config M)
       (o : LocalState)
       (s : Store) (n : M) → rel.Stand fs o s n → Pl ex sc fs (In_loop x d)
-      → TurnsAt p moves shares (CodeAt code) (HasFork code) (HasWords code) hush sc q x down
+      → TurnsAt p moves shares (CodeAt code) (HasFork code) (HasWords code) callable sc q x down
       (after_statement p (q + 1 + 1) d)
       (S ex (is_in_no_function st) sc (q + 1 + 1) d)
       → After ex end base below todo fs (after_statement p (q + 1 + 1) d + 1) st → (z : ForPlace fs x n o s)
@@ -112,7 +112,7 @@ module _ {M : Type 0} (ex : Execution M) where
       (subst (λ y. Stood rel p y z.address.kind (Ordinal v) (m.Number v)) (sym z.sorted) (v, refl, refl)) ge)
       (λ x1 x2 o2 s2 n2 t2 x3.
       makes_tick ex (push d (Again x limit down d ∷ todo)) fs (q + 1 + 1) (m.Number limit ∷ st) (ops.tick n2) (_, _, t2)
-      (law.beat t2) (at_one ex (q + 1) (m.Number limit ∷ st) n2 h.2)
+      (law.tick t2) (at_one ex (q + 1) (m.Number limit ∷ st) n2 h.2)
       (push_follows ex d end base below sc (q + 1 + 1) (m.Number limit ∷ st) fs (Again x limit down d ∷ todo)
       (within (λ u. inr) pl) h.3 (q, sc, st, slides ex _ _, refl, pl, h, fo)))))
 
@@ -137,7 +137,7 @@ module _ {M : Type 0} (ex : Execution M) where
       (q : ℕ) (stack : List Entry) (todo : List Item) (fs : List FramePair) (lo hi : ℤ) (o : LocalState) (s : Store)
       (n : M)
       → rel.Stand fs o s n → Pl ex sc fs (In_loop x d)
-      → TurnsAt p moves shares (CodeAt code) (HasFork code) (HasWords code) hush sc q x down
+      → TurnsAt p moves shares (CodeAt code) (HasFork code) (HasWords code) callable sc q x down
       (after_statement p (q + 1 + 1) d)
       (S ex (is_in_no_function stack) sc (q + 1 + 1) d)
       → After ex end base below todo fs (after_statement p (q + 1 + 1) d + 1) stack
@@ -152,7 +152,7 @@ module _ {M : Type 0} (ex : Execution M) where
           ≡ (if is_range down lo hi then Goes
           (m.At (q + 1) (m.Number hi ∷ stack) (ops.put z.cell (cell.Ordinal lo) n)) else
           Goes (m.At (after_statement p (q + 1 + 1) d + 1) stack n))
-      step = first_one down q (after_statement p (q + 1 + 1) d + 1) x stack n lo hi h.1 z.cell z.at
+      step = first_one down q (after_statement p (q + 1 + 1) d + 1) x stack n lo hi h.1 z.cell z.cell_at
           (law.has_one t z.address z.cell z.points z.may)
 
       go : (b : Bool) → is_range down lo hi ≡ b

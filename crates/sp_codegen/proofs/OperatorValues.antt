@@ -38,7 +38,7 @@ module _ {M : Type 0} (ex : Execution M) where
     code,
     moves,
     shares,
-    IsCallableInFunctions as hush,
+    IsCallableInFunctions as callable,
     who as w,
     IsReadable as R,
     operations as ops,
@@ -92,7 +92,7 @@ module _ {M : Type 0} (ex : Execution M) where
       (v : ℤ)
       (n : M)
       → rel.Stand js o s n → sort p k ≡ Ordinals
-      → UnaryAt p moves shares (CodeAt code) (HasFork code) (HasWords code) hush q op
+      → UnaryAt p moves shares (CodeAt code) (HasFork code) (HasWords code) callable q op
       → G ex js (m.At q (m.Number v ∷ stack) n) o s (after_unary op q) (Top ex stack) (St ex k)
       (work_of (unary_op op v))
   unary_gives unary.Plus q k stack v n t e h =
@@ -181,7 +181,7 @@ module _ {M : Type 0} (ex : Execution M) where
   pub standard_gives : {js : List FramePair} {o : LocalState} {s : Store} (f : StandardFn) (q k : ℕ) (ty : KindOf)
       (stack : List Entry)
       (v : ℤ) (n : M) → rel.Stand js o s n → sort p k ≡ Ordinals
-      → StandardAt p moves shares (CodeAt code) (HasFork code) (HasWords code) hush q f ty
+      → StandardAt p moves shares (CodeAt code) (HasFork code) (HasWords code) callable q f ty
       → G ex js (m.At q (m.Number v ∷ stack) n) o s (after_standard f q) (Top ex stack) (St ex k) (standard_op f ty v)
   standard_gives standard.Abs q k ty stack v n t e h =
       worked_gives (m.At q (m.Number v ∷ stack) n) (q + 1) k stack n t (_, _, t) e (absolute_value v)
@@ -210,7 +210,7 @@ module _ {M : Type 0} (ex : Execution M) where
   pub input_gives : {js : List FramePair} {o : LocalState} {s : Store} (f : StandardFn) (q k : ℕ) (stack : List Entry)
       (n : M)
       → rel.Stand js o s n → R Input → sort p k ≡ Ordinals
-      → InputAt p moves shares (CodeAt code) (HasFork code) (HasWords code) hush q f
+      → InputAt p moves shares (CodeAt code) (HasFork code) (HasWords code) callable q f
       → G ex js (m.At q stack n) o s (q + 1) (Top ex stack) (St ex k) (input_op f (rest_of ex s))
   input_gives standard.Abs q k stack n t r e h = absurd h
   input_gives standard.Sqr q k stack n t r e h = absurd h

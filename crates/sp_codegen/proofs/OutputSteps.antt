@@ -36,7 +36,7 @@ module _ {M : Type 0} (ex : Execution M) where
     code,
     moves,
     shares,
-    IsCallableInFunctions as hush,
+    IsCallableInFunctions as callable,
     who as w,
     IsReadable as R,
     operations as ops,
@@ -70,7 +70,7 @@ module _ {M : Type 0} (ex : Execution M) where
       go : (b : Bool) → next_step ops code c ≡ (if b then Fails fault.F1 else m.prints ops code text q stack n)
           → K ex c o s Q (bind (if b then fail fault.F1 else give text)
           (λ bs. bind (write g bs) (λ u. give (Stepped todo))))
-      go true ge = record { by = breaks ops rel w code c fault.F1 s f ge }
+      go true ge = record { proof = breaks ops rel w code c fault.F1 s f ge }
       go false ge = makes_bind ex _ (print_gives q text stack st f ro ge)
           (λ x1 x2 o2 s2 n2 t2 x3. makes_went ex todo fs q stack n2 (stays ops rel w code _) t2 k)
 
@@ -89,7 +89,7 @@ module _ {M : Type 0} (ex : Execution M) where
       (x : Option Expr) (sc : List Scope) (q : ℕ) (stack : List Entry) (todo : List Item) (fs : List FramePair)
       (o : LocalState)
       (s : Store) (n : M) → rel.Stand fs o s n → Pl ex sc fs (In_width x) → R Output → slice_get code.texts j ≡ Some t
-      → WidthAt p moves shares (CodeAt code) (HasFork code) (HasWords code) hush sc q x
+      → WidthAt p moves shares (CodeAt code) (HasFork code) (HasWords code) callable sc q x
       → slice_get code.instrs (after_width q x) ≡ Some (if is_given x then i.WritewText j else i.WriteText j)
       → After ex end base below todo fs (after_width q x + 1) stack
       → K ex (m.At q stack n) o s (After ex end base below)
@@ -152,7 +152,8 @@ module _ {M : Type 0} (ex : Execution M) where
       → (end : ℕ) (base : List Entry) (below : List FramePair) (ty : KindOf) (k : ℕ)
       (v : ℤ) (x : Option Expr) (sc : List Scope) (q : ℕ) (stack : List Entry) (todo : List Item) (fs : List FramePair)
       (o : LocalState) (s : Store) (n : M) → rel.Stand fs o s n → Pl ex sc fs (In_width x) → R Output
-      → slice_get p.kinds k ≡ Some ty → WidthAt p moves shares (CodeAt code) (HasFork code) (HasWords code) hush sc q x
+      → slice_get p.kinds k ≡ Some ty
+      → WidthAt p moves shares (CodeAt code) (HasFork code) (HasWords code) callable sc q x
       → slice_get code.instrs (after_width q x) ≡ Some (write_instr (Some ty) (is_given x)) → IsWritten ty
       → After ex end base below todo fs (after_width q x + 1) stack
       → K ex (m.At q (m.Number v ∷ stack) n) o s (After ex end base below)

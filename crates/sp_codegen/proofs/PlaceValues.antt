@@ -45,7 +45,7 @@ module _ {M : Type 0} (ex : Execution M) where
     code,
     moves,
     shares,
-    IsCallableInFunctions as hush,
+    IsCallableInFunctions as callable,
     who as w,
     operations as ops,
     relation as rel,
@@ -67,7 +67,7 @@ module _ {M : Type 0} (ex : Execution M) where
       (bind (visible_frame (is_block v.block)) (λ f. give (AtAddress (in_frame g x v f))))
   own_gives {js} {o} {s} sc q x k stack n t ch may v e ek ow by up lv h =
       let r = found (is_block v.block) (places.is_block v.block) (block_agrees v.block) sc js up ch lv in
-      let a = law.addr t up x r.frame r.rest r.at v e (home_is v.block r.frame.source.home r.fit) ow in
+      let a = law.addr t up x r.frame r.rest r.frame_at v e (home_is v.block r.frame.source.home r.fit) ow in
       let at : location_of p (sources js) x ≡ Some (in_frame g x v r.frame.source).spot =
       ap (location_at (sources js) x) e
       ∙ by None ∙ ap (cell_of x) (find_in (is_block v.block) js r.frame r.rest r.sought) in
@@ -86,7 +86,7 @@ module _ {M : Type 0} (ex : Execution M) where
   pub var_gives : {js : List FramePair} {o : LocalState} {s : Store} (sc : List Scope) (q x k : ℕ) (stack : List Entry)
       (n : M)
       → rel.Stand js o s n → Chain sc js → MayRead ex sc js x
-      → VarAt p moves shares (CodeAt code) (HasFork code) (HasWords code) hush sc q x k
+      → VarAt p moves shares (CodeAt code) (HasFork code) (HasWords code) callable sc q x k
       → G ex js (m.At q stack n) o s (q + 1) (PlaceTop ex stack) (PlaceIs ex js x k) (place_of g x)
   var_gives {js} {o} {s} sc q x k stack n t ch may h =
       gives_known ops rel w code (λ i. place_by g x i i.role) h.0 (or_known ex (slice_get p.variables x) h.0 h.1)
@@ -98,7 +98,8 @@ module _ {M : Type 0} (ex : Execution M) where
       Goal : Role → Type 0
       Goal r = G ex js (m.At q stack n) o s (q + 1) (PlaceTop ex stack) (PlaceIs ex js x k) (place_by g x v r)
 
-      by_role : (r : Role) → v.role ≡ r → VarRole p moves shares (CodeAt code) (HasFork code) (HasWords code) hush sc q
+      by_role : (r : Role) → v.role ≡ r
+          → VarRole p moves shares (CodeAt code) (HasFork code) (HasWords code) callable sc q
           x v r → Goal r
       by_role role.Console er z = absurd z
       by_role role.Local er z = own_gives sc q x k stack n t ch may v h.1 h.2 (subst Owns (sym er) tt)
@@ -109,7 +110,7 @@ module _ {M : Type 0} (ex : Execution M) where
           (λ f. ap (location_by (sources js) x v) er) z.0 z.1 z.2
       by_role role.Reference er z =
           let r = found (is_block v.block) (places.is_block v.block) (block_agrees v.block) sc js z.0 ch z.1 in
-          let a = law.deref t z.0 x r.frame r.rest r.at v h.1 (home_is v.block r.frame.source.home r.fit) er in
+          let a = law.deref t z.0 x r.frame r.rest r.frame_at v h.1 (home_is v.block r.frame.source.home r.fit) er in
           let at : location_of p (sources js) x ≡ Some a.0.spot = ap (location_at (sources js) x) h.1
           ∙ ap (location_by (sources js) x v) er
           ∙ ap (reference_of x) (find_in (is_block v.block) js r.frame r.rest r.sought) ∙ ap spot_of a.1 in
@@ -125,7 +126,8 @@ module _ {M : Type 0} (ex : Execution M) where
       by_role role.Index er z =
           let r = found (is_index x) (places.is_index x) (index_agrees x) sc js z.0 ch z.1 in
           let b = index_home x r.frame.source.home r.fit in
-          let a = law.index t z.0 x b.0 r.frame r.rest r.at b.1 (may.index v h.1 er z.0 z.1 r.frame r.rest r.at) in
+          let a = law.index t z.0 x b.0 r.frame r.rest r.frame_at b.1
+          (may.index v h.1 er z.0 z.1 r.frame r.rest r.frame_at) in
           gives_known ops rel w code (λ f. index_in g f.home) r.frame.source
           (visible_known ex t (is_index x) r.frame r.rest (seek_all (is_index x) js ∙ r.sought))
           (gives_by ops rel w code (ap (index_in g) b.1)
@@ -264,13 +266,13 @@ module _ {M : Type 0} (ex : Execution M) where
   pub read_gives : {js : List FramePair} {o : LocalState} {s : Store} (q x k : ℕ) (stack : List Entry) (pl : Place)
       (a : Ptr)
       (n : M) → rel.Stand js o s n → PlaceIs ex js x k pl a
-      → ReadAt p moves shares (CodeAt code) (HasFork code) (HasWords code) hush q k (sort p k)
+      → ReadAt p moves shares (CodeAt code) (HasFork code) (HasWords code) callable q k (sort p k)
       → G ex js (m.At q (m.Pointer a ∷ stack) n) o s (q + 1) (Top ex stack) (St ex k) (read_at g pl)
   read_gives {js} {o} {s} q x k stack (Fixed z) a n t pi h =
       let l = law.load_index t z a pi.1 in
       gives_give ops rel w code (Ordinal z) (m.Number z)
       (goes ops rel w code (at_one ex q (m.Pointer a ∷ stack) n
-      (subst (ReadAt p moves shares (CodeAt code) (HasFork code) (HasWords code) hush q k) pi.0 h)
+      (subst (ReadAt p moves shares (CodeAt code) (HasFork code) (HasWords code) callable q k) pi.0 h)
       ∙ holds_when (ops.has a 1 n) _ l.0 ∙ ap (λ y. ordinal_in y (λ u. Goes (m.At (q + 1) (m.Number u ∷ stack) n)))
       l.1))
       t (subst (λ y. Stood rel p y k (Ordinal z) (m.Number z)) (sym pi.0) (z, refl, refl))
@@ -297,7 +299,8 @@ module _ {M : Type 0} (ex : Execution M) where
       one_cell : (z : Sort) → sort p k ≡ z → OneCell z → OneCell (sort p b.kind)
       one_cell z e h = subst OneCell (sym (same_sort ∙ e)) h
 
-      by_sort : (z : Sort) → sort p k ≡ z → ReadAt p moves shares (CodeAt code) (HasFork code) (HasWords code) hush q k
+      by_sort : (z : Sort) → sort p k ≡ z
+          → ReadAt p moves shares (CodeAt code) (HasFork code) (HasWords code) callable q k
           z → G ex js c o s (q + 1) (Top ex stack) (St ex k) (read_at g (AtAddress b))
       by_sort Ordinals e h = from_kind Ordinals e tt
           (ordinal_cell (q + 1) k stack c n t (js, o, t) e v (ops.read a n)

@@ -26,14 +26,14 @@ use Rattle.sp_codegen.specs.Executions.{Execution}
 use Rattle.sp_codegen.specs.Following.{CodeFollows}
 
 module _ (p : Program) (values : DoFunctionsTakeValues p) (moves shares : Stmt → List ℕ) (Is : ℕ → Instr → Type 0)
-    (HasTable : ℕ → ForkTable → Type 0) (HasText : ℕ → List ℕ → Type 0) (hush : ℕ → Type 0) where
+    (HasTable : ℕ → ForkTable → Type 0) (HasText : ℕ → List ℕ → Type 0) (callable : ℕ → Type 0) where
   mutual
-    expr_pure : (e : Expr) (sc : List Scope) (q : ℕ) → ValueAt p moves shares Is HasTable HasText hush sc q e
+    expr_pure : (e : Expr) (sc : List Scope) (q : ℕ) → ValueAt p moves shares Is HasTable HasText callable sc q e
         → PureExpr p e
     expr_pure (Typed k form) sc q h = form_pure form k sc q h
 
     form_pure : (form : ExprForm) (k : ℕ) (sc : List Scope) (q : ℕ)
-        → FormAt p moves shares Is HasTable HasText hush sc q k form → PureForm p form
+        → FormAt p moves shares Is HasTable HasText callable sc q k form → PureForm p form
     form_pure (Number n) k sc q h = tt
     form_pure (Read v) k sc q h = var_pure v k sc q h.0
     form_pure (Unary op a) k sc q h = expr_pure a sc q h.0
@@ -44,12 +44,13 @@ module _ (p : Program) (values : DoFunctionsTakeValues p) (moves shares : Stmt �
     form_pure (Standard f a) k sc q h = expr_pure a sc q h.2
     form_pure (AtInput f) k sc q h = tt
 
-    var_pure : (v : Var) (k : ℕ) (sc : List Scope) (q : ℕ) → PlaceAt p moves shares Is HasTable HasText hush sc q v k
+    var_pure : (v : Var) (k : ℕ) (sc : List Scope) (q : ℕ)
+        → PlaceAt p moves shares Is HasTable HasText callable sc q v k
         → PureVar p v
     var_pure (Entire x ss) k sc q h = selectors_pure ss h.0 k sc (q + 1) h.2
 
     selectors_pure : (ss : Selectors) (k k2 : ℕ) (sc : List Scope) (q : ℕ)
-        → SelectedAt p moves shares Is HasTable HasText hush sc q ss k k2 → PureSelectors p ss
+        → SelectedAt p moves shares Is HasTable HasText callable sc q ss k k2 → PureSelectors p ss
     selectors_pure Whole k k2 sc q h = tt
     selectors_pure (Select (Index e) rest) k k2 sc q h =
         (expr_pure e sc q h.5, selectors_pure rest h.3 k2 sc (after_value q e + 1) h.8)
@@ -58,7 +59,7 @@ module _ (p : Program) (values : DoFunctionsTakeValues p) (moves shares : Stmt �
     -- the arguments of a function, none of whose parameters is a variable parameter
     values_pure : (args : Actuals) (xs : List ℕ) (sc : List Scope) (q : ℕ)
         → ((x : ℕ) → IsMember x xs → (v : Variable) → slice_get p.variables x ≡ Some v → v.role ≡ role.Reference → ⊥)
-        → ActualsAt p moves shares Is HasTable HasText hush sc q args xs → PureValues p args
+        → ActualsAt p moves shares Is HasTable HasText callable sc q args xs → PureValues p args
     values_pure Nothing xs sc q never h = tt
     values_pure (Pass a rest) [] sc q never h = absurd h
     values_pure (Pass (ByValue e) rest) (x ∷ xs) sc q never h =
@@ -66,7 +67,7 @@ module _ (p : Program) (values : DoFunctionsTakeValues p) (moves shares : Stmt �
     values_pure (Pass (ByReference v) rest) (x ∷ xs) sc q never h = never x (inl refl) h.3.0 h.3.1 h.3.3
 
   actuals_pure : (args : Actuals) (xs : List ℕ) (sc : List Scope) (q : ℕ)
-      → ActualsAt p moves shares Is HasTable HasText hush sc q args xs → PureActuals p args
+      → ActualsAt p moves shares Is HasTable HasText callable sc q args xs → PureActuals p args
   actuals_pure Nothing xs sc q h = tt
   actuals_pure (Pass a rest) [] sc q h = absurd h
   actuals_pure (Pass (ByValue e) rest) (x ∷ xs) sc q h =
@@ -74,13 +75,13 @@ module _ (p : Program) (values : DoFunctionsTakeValues p) (moves shares : Stmt �
   actuals_pure (Pass (ByReference v) rest) (x ∷ xs) sc q h =
       (var_pure v h.0 sc q h.1, actuals_pure rest xs sc (after_var q v) h.4)
 
-  width_pure : (w : Option Expr) (sc : List Scope) (q : ℕ) → WidthAt p moves shares Is HasTable HasText hush sc q w
+  width_pure : (w : Option Expr) (sc : List Scope) (q : ℕ) → WidthAt p moves shares Is HasTable HasText callable sc q w
       → PureWidth p w
   width_pure None sc q h = tt
   width_pure (Some e) sc q h = expr_pure e sc q h.0
 
   right_pure : (z : Sort) (form : ExprForm) (k : ℕ) (sc : List Scope) (q : ℕ)
-      → RightAt p moves shares Is HasTable HasText hush sc q k z form → PureForm p form
+      → RightAt p moves shares Is HasTable HasText callable sc q k z form → PureForm p form
   right_pure Ordinals form k sc q h = form_pure form k sc q h.0
   right_pure Channels form k sc q h = form_pure form k sc q h.0
   right_pure Many (Number n) k sc q h = absurd h
@@ -92,12 +93,12 @@ module _ (p : Program) (values : DoFunctionsTakeValues p) (moves shares : Stmt �
   right_pure Many (AtInput f) k sc q h = absurd h
   right_pure NoSort form k sc q h = absurd h
 
-  for_local : (sc : List Scope) (x : ℕ) → ForVar p moves shares Is HasTable HasText hush sc x → IsLocal p x
+  for_local : (sc : List Scope) (x : ℕ) → ForVar p moves shares Is HasTable HasText callable sc x → IsLocal p x
   for_local sc x h = (h.0, h.1, h.2)
 
   mutual
     pub stmt_pure : (s : Stmt) (free : Bool) (sc : List Scope) (q : ℕ)
-        → StandsAt p moves shares Is HasTable HasText hush free sc q s → PureStmt p s
+        → StandsAt p moves shares Is HasTable HasText callable free sc q s → PureStmt p s
     stmt_pure Empty free sc q h = tt
     stmt_pure (Assign v (Typed k form)) free sc q h =
         (var_pure v k sc q h.0, right_pure (sort p k) form k sc (after_var q v) h.2)
@@ -139,48 +140,48 @@ module _ (p : Program) (values : DoFunctionsTakeValues p) (moves shares : Stmt �
     stmt_pure (Receive c v) free sc q h = (expr_pure c sc q h.1, var_pure v h.0 sc (after_value q c) h.3)
 
     all_pure : (ss : Stmts) (free : Bool) (sc : List Scope) (q : ℕ)
-        → AllAt p moves shares Is HasTable HasText hush free sc q ss → PureStmts p ss
+        → AllAt p moves shares Is HasTable HasText callable free sc q ss → PureStmts p ss
     all_pure No free sc q h = tt
     all_pure (And s rest) free sc q h = (stmt_pure s free sc q h.0, all_pure rest free sc (after_statement p q s) h.1)
 
     children_pure : (ss : Stmts) (free : Bool) (sc : List Scope) (q : ℕ)
-        → ChildrenAt p moves shares Is HasTable HasText hush free sc q ss → PureStmts p ss
+        → ChildrenAt p moves shares Is HasTable HasText callable free sc q ss → PureStmts p ss
     children_pure No free sc q h = tt
     children_pure (And s rest) free sc q h =
         (stmt_pure s free sc q h.0, children_pure rest free sc (after_statement p q s + 1) h.2)
 
     arms_pure : (arms : Arms) (free : Bool) (sc : List Scope) (q end : ℕ)
-        → ArmsAt p moves shares Is HasTable HasText hush free sc q arms end → PureArms p arms
+        → ArmsAt p moves shares Is HasTable HasText callable free sc q arms end → PureArms p arms
     arms_pure NoArm free sc q end h = tt
     arms_pure (Or (On ms s) rest) free sc q end h =
         (stmt_pure s free sc q h.0, arms_pure rest free sc (after_statement p q s + 1) end h.2)
 
 -- the program's blocks
 pub blocks_pure : (p : Program) → DoFunctionsTakeValues p
-    → (moves shares : Stmt → List ℕ) (code : Parts) (hush : ℕ → Type 0) → BlocksAt p moves shares code hush
+    → (moves shares : Stmt → List ℕ) (code : Parts) (callable : ℕ → Type 0) → BlocksAt p moves shares code callable
     → AreBlocksPure p
-blocks_pure p values moves shares code hush blocks f b e = let z = blocks f b e in
-    stmt_pure p values moves shares (CodeAt code) (HasFork code) (HasWords code) hush b.body true (scopes_of p f)
+blocks_pure p values moves shares code callable blocks f b e = let z = blocks f b e in
+    stmt_pure p values moves shares (CodeAt code) (HasFork code) (HasWords code) callable b.body true (scopes_of p f)
     z.layout.entry (z.stands.body true tt)
 
 -- what a process has left to do where it stands in its code
 module _ {M : Type 0} (ex : Execution M) (values : DoFunctionsTakeValues ex.setting.program) where
-  open ex use {setting as g, code, moves, shares, IsCallableInFunctions as hush}
+  open ex use {setting as g, code, moves, shares, IsCallableInFunctions as callable}
 
   pub follows_pure : (end : ℕ) (base : List Entry) (below : List FramePair) (pc : ℕ) (stack : List Entry)
       (fs : List FramePair)
       (todo : List Item) → CodeFollows ex end base below pc stack fs todo → PureItems g.program todo
   follows_pure end base below pc stack fs [] h = tt
   follows_pure end base below pc stack fs (Do s ∷ todo) h = (
-    stmt_pure g.program values moves shares (CodeAt code) (HasFork code) (HasWords code) hush s
+    stmt_pure g.program values moves shares (CodeAt code) (HasFork code) (HasWords code) callable s
         (is_in_no_function stack) h.1
         h.0 h.4,
     follows_pure end base below (after_statement g.program h.0 s) stack fs todo h.5,
   )
   follows_pure end base below pc stack fs (First x lo hi d s ∷ todo) h = (
     (
-      for_local g.program values moves shares (CodeAt code) (HasFork code) (HasWords code) hush h.1 x h.6.0,
-      stmt_pure g.program values moves shares (CodeAt code) (HasFork code) (HasWords code) hush s
+      for_local g.program values moves shares (CodeAt code) (HasFork code) (HasWords code) callable h.1 x h.6.0,
+      stmt_pure g.program values moves shares (CodeAt code) (HasFork code) (HasWords code) callable s
           (is_in_no_function h.2) h.1
           (h.0 + 1 + 1) h.6.3,
     ),
@@ -188,15 +189,15 @@ module _ {M : Type 0} (ex : Execution M) (values : DoFunctionsTakeValues ex.sett
   )
   follows_pure end base below pc stack fs (Again x hi d s ∷ todo) h = (
     (
-      for_local g.program values moves shares (CodeAt code) (HasFork code) (HasWords code) hush h.1 x h.6.0,
-      stmt_pure g.program values moves shares (CodeAt code) (HasFork code) (HasWords code) hush s
+      for_local g.program values moves shares (CodeAt code) (HasFork code) (HasWords code) callable h.1 x h.6.0,
+      stmt_pure g.program values moves shares (CodeAt code) (HasFork code) (HasWords code) callable s
           (is_in_no_function h.2) h.1
           (h.0 + 1 + 1) h.6.3,
     ),
     follows_pure end base below (after_statement g.program (h.0 + 1 + 1) s + 1) h.2 fs todo h.7,
   )
   follows_pure end base below pc stack fs (Test s e ∷ todo) h = (
-    stmt_pure g.program values moves shares (CodeAt code) (HasFork code) (HasWords code) hush (Repeat s e)
+    stmt_pure g.program values moves shares (CodeAt code) (HasFork code) (HasWords code) callable (Repeat s e)
         (is_in_no_function stack) h.1 h.0 h.4,
     follows_pure end base below (after_statement g.program h.0 (Repeat s e)) stack fs todo h.5,
   )

@@ -41,7 +41,7 @@ module _ {M : Type 0} (ops : Ops M) (code : Code) where
   Finishes c = (e : Config M) × RunsTo ops code c e × IsLast (next_step ops code e)
 
   pub finishes_safe : (c : Config M) → Finishes c → IsSafe ops code c
-  finishes_safe c f b d k x = safe_in f.1.steps k.steps c f.0 d f.1.by f.2 k.by x
+  finishes_safe c f b d k x = safe_in f.1.steps k.steps c f.0 d f.1.proof f.2 k.proof x
 
 module _ {M : Type 0} (ex : Execution M) where
   open ex use {code, operations as ops}
@@ -62,6 +62,6 @@ module _ {M : Type 0} (ex : Execution M) where
       (q.4, q.6, last_by _ _ q.7 tt)
   turn_finishes c end base below (Computed (source.Stops Ended) o, s) q h =
       (At q.0 q.1 q.2, q.4, last_by (At q.0 q.1 q.2) _ q.5 tt)
-  turn_finishes c end base below (EndsInFault f, s) q h = (q.at, q.comes, last_by _ _ q.fails tt)
+  turn_finishes c end base below (EndsInFault f, s) q h = (q.known, q.comes, last_by _ _ q.fails tt)
   turn_finishes c end base below (IllFormed, s) q h = absurd h
   turn_finishes c end base below (OutOfFuel, s) q h = absurd h

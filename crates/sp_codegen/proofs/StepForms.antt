@@ -28,7 +28,7 @@ module _ {M : Type 0} (ex : Execution M) where
     code,
     moves,
     shares,
-    IsCallableInFunctions as hush,
+    IsCallableInFunctions as callable,
     who as w,
     operations as ops,
     relation as rel,
@@ -54,7 +54,7 @@ module _ {M : Type 0} (ex : Execution M) where
   After end base below todo fs pc st = CodeFollows ex end base below pc st fs todo
 
   abbrev pub S : Bool → List Scope → ℕ → Stmt → Type 0
-  S free sc q d = StandsAt p moves shares (CodeAt code) (HasFork code) (HasWords code) hush free sc q d
+  S free sc q d = StandsAt p moves shares (CodeAt code) (HasFork code) (HasWords code) callable free sc q d
 
   abbrev pub Pl : List Scope → List FramePair → (Use → Type 0) → Type 0
   Pl sc js Here = P ex sc js Here
@@ -88,13 +88,13 @@ module _ {M : Type 0} (ex : Execution M) where
       → K c o s Q (bind h (λ a. bind (gg a) k)) → K c o s Q (bind (bind h gg) k)
   makes_assoc {A} {B} {c} {o} {s} {Q} h gg k x =
       record {
-        by = subst (Made ex c Q) (run_bind h (λ a. bind (gg a) k) w o s ∙ run_assoc gg k w (run h w o s)
-            ∙ ap (then_run k w) (sym (run_bind h gg w o s)) ∙ sym (run_bind (bind h gg) k w o s)) x.by;
+        proof = subst (Made ex c Q) (run_bind h (λ a. bind (gg a) k) w o s ∙ run_assoc gg k w (run h w o s)
+            ∙ ap (then_run k w) (sym (run_bind h gg w o s)) ∙ sym (run_bind (bind h gg) k w o s)) x.proof;
       }
 
   pub address_known : {o : LocalState} {s : Store} (a : Address)
       → HasKnownValue ops rel w code o s (address_of g (AtAddress a)) a
-  address_known a = record { by = refl }
+  address_known a = record { proof = refl }
 
   pub mine_known : {o : LocalState} {s : Store} → HasKnownValue ops rel w code o s local_state o
-  mine_known = record { by = refl }
+  mine_known = record { proof = refl }

@@ -60,7 +60,7 @@ module _ {M : Type 0} (ex : Execution M) where
     code,
     moves,
     shares,
-    IsCallableInFunctions as hush,
+    IsCallableInFunctions as callable,
     who as w,
     IsReadable as R,
     operations as ops,
@@ -79,7 +79,7 @@ module _ {M : Type 0} (ex : Execution M) where
       (C ex (m.At q (m.Number v ∷ stack) n) (m.At past (m.Number v ∷ stack) n))
 
   test_comes : (v : ℤ) (ms : List ℤ) (q to : ℕ) (stack : List Entry) (n : M)
-      → TestAt p moves shares (CodeAt code) (HasFork code) (HasWords code) hush q ms to
+      → TestAt p moves shares (CodeAt code) (HasFork code) (HasWords code) callable q ms to
       → Tested (has_constant v ms) v q to (after_test q ms) stack n
   test_comes v [] q to stack n h = stays ops rel w code _
   test_comes v (x ∷ ms) q to stack n h =
@@ -98,9 +98,11 @@ module _ {M : Type 0} (ex : Execution M) where
       (q b past : ℕ)
       (stack : List Entry) (todo : List Item) (fs : List FramePair) (o : LocalState) (s : Store) (n : M)
       → rel.Stand fs o s n
-      → Pl ex sc fs (In_arms arms) → TestsAt p moves shares (CodeAt code) (HasFork code) (HasWords code) hush q arms b
+      → Pl ex sc fs (In_arms arms)
+      → TestsAt p moves shares (CodeAt code) (HasFork code) (HasWords code) callable q arms b
       → slice_get code.instrs (after_tests q arms) ≡ Some i.Nocase
-      → ArmsAt p moves shares (CodeAt code) (HasFork code) (HasWords code) hush (is_in_no_function stack) sc b arms past
+      → ArmsAt p moves shares (CodeAt code) (HasFork code) (HasWords code) callable
+      (is_in_no_function stack) sc b arms past
       → After ex end base below todo fs past stack
       → K ex (m.At q (m.Number v ∷ stack) n) o s (After ex end base below) (arm_action g (arm_for v arms) todo)
   case_makes end base below v NoArm sc q b past stack todo fs o s n t pl h hn ha fo =
@@ -141,7 +143,7 @@ module _ {M : Type 0} (ex : Execution M) where
           → next_step ops code c ≡ (if b then Stops (Forks table first count) (m.At q stack n) else Fails fault.F11)
           → K ex c o s Q (if b then give (Forked bs todo) else fail fault.F11)
       go true room e = record {
-        by = (
+        proof = (
           q,
           stack,
           n,
@@ -167,7 +169,7 @@ module _ {M : Type 0} (ex : Execution M) where
       → G ex fs c o s q (λ (u : Unit {0}) (z : Unit {0}). stack) (λ u z. Unit {0}) (take_in g a x)
   took_gives {n = n} q (Took v bytes) a u stack st f ri pt ra so ge =
       record {
-        by = (
+        proof = (
           tt,
           ops.put u (cell.Ordinal v) (ops.advance bytes n),
           goes ops rel w code ge,
@@ -216,7 +218,7 @@ module _ {M : Type 0} (ex : Execution M) where
       (a : Address) (u : Ptr) (stack : List Entry) (todo : List Item) (o : LocalState) (s : Store) (n : M)
       → rel.Stand fs o s n
       → R Input → rel.Points fs a u → R a.spot → slice_get p.kinds a.kind ≡ Some ty
-      → ReadsAt p moves shares (CodeAt code) (HasFork code) (HasWords code) hush q ty → Q todo fs (q + 1) stack
+      → ReadsAt p moves shares (CodeAt code) (HasFork code) (HasWords code) callable q ty → Q todo fs (q + 1) stack
       → K ex (m.At q (m.Pointer u ∷ stack) n) o s Q
       (bind (or_ill_formed (reading_by ty (rest_of ex s))) (λ x. bind (take_in g a x) (λ y. give (Stepped todo))))
   reads_makes Q fs kind.Integer q a u stack todo o s n t ri pt ra ek h k =
@@ -250,7 +252,7 @@ module _ {M : Type 0} (ex : Execution M) where
   with_channel Q k v e gg q stack o s n es x next =
       let y = subst (λ z. Stood rel p z k v e) es x in
       subst (λ z. K ex (m.At q (z ∷ stack) n) o s Q (bind (channel v) gg)) (sym y.3)
-      (makes_known ex gg y.0 (record { by = ap (λ z. run (channel z) w o s) y.2 }) (next y.0 y.1 y.4))
+      (makes_known ex gg y.0 (record { proof = ap (λ z. run (channel z) w o s) y.2 }) (next y.0 y.1 y.4))
 
   send_one : (q k : ℕ) (z : Sort) (v : Value) (e : Entry) (j : ℕ) (stack : List Entry) (n : M) → Stood rel p z k v e
       → slice_get code.instrs q ≡ Some (i.Send k)
@@ -333,11 +335,11 @@ module _ {M : Type 0} (ex : Execution M) where
       (after_statement p (after_value q e + 1 + 1) d + 1) stack o1 s1 n1 _ _ h.1
       (makes_went ex todo fs _ stack n1 (stays ops rel w code _) t1 k)
       (makes_tick ex (push d (Do (While e d) ∷ todo)) fs (after_value q e + 1 + 1) stack (ops.tick n1) (_, _, t1)
-      (law.beat t1) (at_one ex (after_value q e + 1) stack n1 h.2)
+      (law.tick t1) (at_one ex (after_value q e + 1) stack n1 h.2)
       (push_follows ex d end base below sc _ stack fs (Do (While e d) ∷ todo) (within (λ u. inr) pl) h.3
       (q, sc, jumps ex _ q stack h.4, pl, h, k))))
   start_makes call ok bl end base below (Repeat d e) sc q stack todo fs o s n t pl h k =
-      makes_tick ex (push d (Test d e ∷ todo)) fs (q + 1) stack (ops.tick n) (_, _, t) (law.beat t)
+      makes_tick ex (push d (Test d e ∷ todo)) fs (q + 1) stack (ops.tick n) (_, _, t) (law.tick t)
       (at_one ex q stack n h.0)
       (push_follows ex d end base below sc (q + 1) stack fs (Test d e ∷ todo) (within (λ u. inr) pl) h.1
       (q, sc, slides ex _ _, pl, h, k))
@@ -411,7 +413,7 @@ module _ {M : Type 0} (ex : Execution M) where
       let bs = rest_of ex s in
       makes_known ex (λ bs. bind (advance g (line_length bs)) (λ u. give (Stepped todo))) bs (left_known ex)
       (record {
-        by = (
+        proof = (
           q + 1,
           stack,
           ops.advance (line_length bs) n,
@@ -442,7 +444,7 @@ module _ {M : Type 0} (ex : Execution M) where
       (λ u. give (Opened todo)))) (address_gives ex call ok v h.0 sc q stack fs o s n t (within (λ u. inl) pl) h.1
       h.2) (λ a u o1 s1 n1 t1 x1.
       record {
-        by = (
+        proof = (
           after_var q v + 1,
           stack,
           ops.make_own u n1,
@@ -454,7 +456,7 @@ module _ {M : Type 0} (ex : Execution M) where
           stays ops rel w code _,
           at_one ex (after_var q v) _ n1 h.4
               ∙ holds_when (ops.has u 1 n1) _ (law.has_one t1 a u x1.1 x1.2),
-          law.own t1 a u x1.1 x1.2,
+          law.make_own t1 a u x1.1 x1.2,
           x1.1,
           x1.2,
           refl,
@@ -472,7 +474,7 @@ module _ {M : Type 0} (ex : Execution M) where
       (form_gives ex call ok x form sc (after_value q c) (m.Chan j ∷ stack) fs o1 s1 n1 t1
       (within (λ u i. inr (inl i)) pl) h.2) (λ v2 e2 o2 s2 n2 t2 x2.
       record {
-        by = (
+        proof = (
           after_form (after_value q c) form + 1,
           stack,
           n2,
@@ -498,7 +500,7 @@ module _ {M : Type 0} (ex : Execution M) where
       (address_gives ex call ok v h.0 sc (after_value q c) (m.Chan j ∷ stack) fs o1 s1 n1 t1
       (within (λ u i. inr (inl i)) pl) h.3 h.4) (λ a u o2 s2 n2 t2 x2.
       record {
-        by = (
+        proof = (
           after_var (after_value q c) v + 1,
           stack,
           ops.make_own u n2,
@@ -508,7 +510,7 @@ module _ {M : Type 0} (ex : Execution M) where
           stays ops rel w code _,
           at_one ex (after_var (after_value q c) v) _ n2 h.5
               ∙ holds_when (ops.has u 0 n2) _ (law.has_none t2 a u x2.1 x2.2),
-          law.own t2 a u x2.1 x2.2,
+          law.make_own t2 a u x2.1 x2.2,
           receive_is fs ch1 h.0 a u j x2.0 nm x2.1 x2.2,
           k,
           h.6,

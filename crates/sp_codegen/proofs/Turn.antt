@@ -60,7 +60,7 @@ module _ {M : Type 0} (ex : Execution M) where
       (sym (run_bind (source.turn_step g due todo) (source.rest_of_turn g due (source.turn g due k)) w o s))
       (go (run (source.turn_step g due todo) w o s)
       (step_makes ex (fuel_of g o) (calls_meet ex bl (fuel_of g o)) bl end base below e ob todo pc stack fs o s n
-      t h).by
+      t h).proof
       (λ todo1 pc1 st1 fs1 o1 s1 n1 t1 h1. turn_meets bl end base below e ob k todo1 pc1 st1 fs1 o1 s1 n1 t1 h1))
     where
       c : Config M

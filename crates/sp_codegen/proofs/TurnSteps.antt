@@ -60,7 +60,7 @@ module _ {M : Type 0} (ex : Execution M) where
     code,
     moves,
     shares,
-    IsCallableInFunctions as hush,
+    IsCallableInFunctions as callable,
     who as w,
     operations as ops,
     relation as rel,
@@ -136,7 +136,7 @@ module _ {M : Type 0} (ex : Execution M) where
   settled end base below fs o s n pc stack todo e h r =
       record {
         left = todo;
-        known = record { by = ap (λ z. run z w o s) e };
+        known = record { proof = ap (λ z. run z w o s) e };
         place = pc;
         st = stack;
         comes = stays ops rel w code _;
@@ -176,7 +176,7 @@ module _ {M : Type 0} (ex : Execution M) where
           ≡ ordinal_in (ops.read z.cell n) (λ v. if is_before down v hi then
           Goes (m.At (q + 1) (m.Number hi ∷ h.2) (ops.put z.cell (cell.Ordinal (next_value down v)) n)) else
           Goes (m.At (j + 1) h.2 n))
-      at_end = next_one down j (q + 1) x h.2 n hi h.6.4 z.cell z.at (law.has_one t z.address z.cell z.points z.may)
+      at_end = next_one down j (q + 1) x h.2 n hi h.6.4 z.cell z.cell_at (law.has_one t z.address z.cell z.points z.may)
 
       peeked : HasKnownValue ops rel w code o s (peek g x) (held z)
       peeked = known_bind ops rel w code (λ y. bind (address_of g y) fetch) (AtAddress z.address) (held z) z.known
@@ -187,7 +187,7 @@ module _ {M : Type 0} (ex : Execution M) where
         left = Again x hi down d ∷ todo;
         known = known_bind ops rel w code (λ v. if goes_on down hi v then give (Again x hi down d ∷ todo) else
             settle g todo) (held z) (Again x hi down d ∷ todo) peeked
-            (record { by = ap (λ b. run (if b then give (Again x hi down d ∷ todo) else settle g todo) w o s) e });
+            (record { proof = ap (λ b. run (if b then give (Again x hi down d ∷ todo) else settle g todo) w o s) e });
         place = pc;
         st = stack;
         comes = stays ops rel w code _;
@@ -204,12 +204,12 @@ module _ {M : Type 0} (ex : Execution M) where
         known = known_bind ops rel w code (λ v. if goes_on down hi v then give (Again x hi down d ∷ todo) else
             settle g todo) (held z) k.left peeked
             (record {
-              by = ap (λ b. run (if b then give (Again x hi down d ∷ todo) else settle g todo) w o s) e
-                  ∙ k.known.by;
+              proof = ap (λ b. run (if b then give (Again x hi down d ∷ todo) else settle g todo) w o s) e
+                  ∙ k.known.proof;
             });
         place = k.place;
         st = k.st;
-        comes = comes_on ops rel w code (h.3.by n)
+        comes = comes_on ops rel w code (h.3.proof n)
             (comes_on ops rel w code (goes ops rel w code (ap (λ y. next_step ops code (m.At j y n)) h.4 ∙ ge))
             k.comes);
         follows = k.follows;
@@ -247,7 +247,7 @@ module _ {M : Type 0} (ex : Execution M) where
       (sc : List Scope) (q : ℕ) (st : List Entry) (todo : List Item) (fs : List FramePair) (o : LocalState) (s : Store)
       (n : M)
       → rel.Stand fs o s n → Pl ex sc fs (In_loop x d)
-      → TurnsAt p moves shares (CodeAt code) (HasFork code) (HasWords code) hush sc q x down
+      → TurnsAt p moves shares (CodeAt code) (HasFork code) (HasWords code) callable sc q x down
       (after_statement p (q + 1 + 1) d)
       (S ex (is_in_no_function st) sc (q + 1 + 1) d)
       → F end base below (after_statement p (q + 1 + 1) d + 1) st fs todo → (z : FP fs x n o s)
@@ -266,7 +266,7 @@ module _ {M : Type 0} (ex : Execution M) where
       (makes_by ex (ap (λ (y : Work Value). bind y rest)
       (checked_as ex ty.0 (held z) ∙ ap (λ y. read_as ex y (held z)) (sym (ap sort_by ty.1) ∙ z.sorted)))
       (go (held z) gz (ops.read z.cell n) (law.load t z.address z.cell z.points z.may (subst OneCell (sym z.sorted) tt))
-      (next_one down (after_statement p (q + 1 + 1) d) (q + 1) x st n hi h.4 z.cell z.at
+      (next_one down (after_statement p (q + 1 + 1) d) (q + 1) x st n hi h.4 z.cell z.cell_at
       (law.has_one t z.address z.cell z.points z.may))))))))
     where
       rest : Value → Work Action
@@ -278,7 +278,7 @@ module _ {M : Type 0} (ex : Execution M) where
       fails : (v : Value) → ordinal_read v ≡ fail fault.F4 → next_step ops code c ≡ Fails fault.F4
           → Ka end base below c o s (bind (ordinal_read v) rest)
       fails v e ge = makes_by ex (ap (λ (y : Work Value). bind y rest) e)
-          (record { by = breaks ops rel w code c fault.F4 s (fs, o, t) ge })
+          (record { proof = breaks ops rel w code c fault.F4 s (fs, o, t) ge })
 
       go : (v : Value) → goes_on down hi v ≡ true → (u : Cell) → CellIs rel.Named v u
           → next_step ops code c ≡ ordinal_in u (λ a. if is_before down a hi then
@@ -308,23 +308,24 @@ module _ {M : Type 0} (ex : Execution M) where
       → F end base below pc stack fs (item ∷ todo) → LoopMayGoOn fs o s n (item ∷ todo)
       → Ka end base below (m.At pc stack n) o s (item_action g call item todo)
   act_makes call ok bl end base below (Do d) pc stack todo fs o s n t h r =
-      makes_after ex (h.2.by n) (start_makes ex call ok bl end base below d h.1 h.0 stack todo fs o s n t h.3 h.4 h.5)
+      makes_after ex (h.2.proof n)
+      (start_makes ex call ok bl end base below d h.1 h.0 stack todo fs o s n t h.3 h.4 h.5)
   act_makes call ok bl end base below (First x lo hi down d) pc stack todo fs o s n t h r =
       let z = for_place ex h.1 x t h.5 (inl refl) h.6.0 in
-      makes_after ex (h.3.by n) (subst (λ y. Ka end base below (m.At h.0 y n) o s (turn_of g x lo hi down d todo))
+      makes_after ex (h.3.proof n) (subst (λ y. Ka end base below (m.At h.0 y n) o s (turn_of g x lo hi down d todo))
       (sym h.4)
       (turn_makes ex end base below x lo hi down d h.1 h.0 h.2 todo fs (m.At h.0 (m.Number hi ∷ m.Number lo ∷ h.2) n) o
       s n t h.5 h.6 h.7 z
-      (first_one ex down h.0 (after_statement p (h.0 + 1 + 1) d + 1) x h.2 n lo hi h.6.1 z.cell z.at
+      (first_one ex down h.0 (after_statement p (h.0 + 1 + 1) d + 1) x h.2 n lo hi h.6.1 z.cell z.cell_at
       (law.has_one t z.address z.cell z.points z.may)
       ∙ ap (λ b. if b then Goes (m.At (h.0 + 1) (m.Number hi ∷ h.2) (ops.put z.cell (cell.Ordinal lo) n)) else
       Goes (m.At (after_statement p (h.0 + 1 + 1) d + 1) h.2 n)) h.8)))
   act_makes call ok bl end base below (Again x hi down d) pc stack todo fs o s n t h r =
-      makes_after ex (h.3.by n) (subst (λ y. Ka end base below (m.At (after_statement p (h.0 + 1 + 1) d) y n) o s
+      makes_after ex (h.3.proof n) (subst (λ y. Ka end base below (m.At (after_statement p (h.0 + 1 + 1) d) y n) o s
       (item_action g call (Again x hi down d) todo)) (sym h.4)
       (again_makes end base below x hi down d h.1 h.0 h.2 todo fs o s n t h.5 h.6 h.7 r.0 r.1))
   act_makes call ok bl end base below (Test d e) pc stack todo fs o s n t h r =
-      makes_after ex (h.2.by n)
+      makes_after ex (h.2.proof n)
       (makes_bind ex _ (ordinal_gives ex call ok e h.1 (after_statement p (h.0 + 1) d) stack fs o s n t
       (within (λ u. inl) h.3)
       h.4.2) (λ v u o1 s1 n1 t1 x1.
@@ -337,12 +338,12 @@ module _ {M : Type 0} (ex : Execution M) where
   act_makes call ok bl end base below Leave pc stack todo fs o s n t h r =
       let c = law.close_frame (subst (λ y. rel.Stand y o s n) h.8 t) h.10 in
       record {
-        by = (
+        proof = (
           h.1,
           h.2,
           ops.close_frame n,
           h.4,
-          comes_on ops rel w code (h.5.by n)
+          comes_on ops rel w code (h.5.proof n)
               (goes ops rel w code (at_one ex h.0 stack n h.7 ∙ ap (λ y. m.return_step ops code y n) h.6
               ∙ holds_when (ops.may_close n) _ c.0)),
           c.1,
@@ -359,12 +360,12 @@ module _ {M : Type 0} (ex : Execution M) where
       → Ka end base below (m.At pc stack n) o s (action_by g go todo)
   deed_makes go ok bl end base below e ob [] pc stack fs o s n t h r =
       record {
-        by = (
+        proof = (
           end,
           stack,
           n,
           fs,
-          h.0.by n,
+          h.0.proof n,
           at_one ex end stack n e,
           t,
           (slides ex end stack, h.1, h.2),

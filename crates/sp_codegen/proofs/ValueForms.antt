@@ -72,7 +72,7 @@ module _ {M : Type 0} (ex : Execution M) where
     code,
     moves,
     shares,
-    IsCallableInFunctions as hush,
+    IsCallableInFunctions as callable,
     who as w,
     Writes as W,
     IsReadable as R,
@@ -116,17 +116,17 @@ module _ {M : Type 0} (ex : Execution M) where
   Nothing_more v u = Unit {0}
 
   pub ordinal_known : {o : LocalState} {s : Store} (z : ℤ) → HasKnownValue ops rel w code o s (ordinal (Ordinal z)) z
-  ordinal_known z = record { by = refl }
+  ordinal_known z = record { proof = refl }
 
   pub channel_known : {o : LocalState} {s : Store} (z : Channel) → HasKnownValue ops rel w code o s (channel (Chan z)) z
-  channel_known z = record { by = refl }
+  channel_known z = record { proof = refl }
 
   -- what is left of the input
   abbrev pub rest_of : Store → List ℕ
   rest_of s = drop (position_in (s Input)) g.input
 
   pub left_known : {o : LocalState} {s : Store} → HasKnownValue ops rel w code o s (input_left g) (rest_of s)
-  left_known = record { by = refl }
+  left_known = record { proof = refl }
 
   abbrev pub PlaceTop : List Entry → Place → Ptr → List Entry
   PlaceTop stack pl t = m.Pointer t ∷ stack
@@ -152,7 +152,7 @@ module _ {M : Type 0} (ex : Execution M) where
   }
 
   pub may_aim : {Here : Use → Type 0} (sc : List Scope) (js : List FramePair) (x : ℕ) (ss : Selectors) → P sc js Here
-      → Here (Target x) → IsTarget p moves shares (CodeAt code) (HasFork code) (HasWords code) hush (Entire x ss)
+      → Here (Target x) → IsTarget p moves shares (CodeAt code) (HasFork code) (HasWords code) callable (Entire x ss)
       → MayRead sc js x
   may_aim sc js x ss pl h ta = record {
     location = λ l e. reads l (pl.sound.allowed [] (Target x) h x l (refl, e));
@@ -166,13 +166,13 @@ module _ {M : Type 0} (ex : Execution M) where
       → HasKnownValue ops rel w code o s (visible_frame test) j.source
   visible_known {js} {o} {s} {n} t test j rest e =
       record {
-        by = ap (λ fr. run (or_ill_formed (top_frame (seek test (length fr) fr))) w o s) (law.frames t)
+        proof = ap (λ fr. run (or_ill_formed (top_frame (seek test (length fr) fr))) w o s) (law.frames t)
             ∙ ap (λ z. run (or_ill_formed (top_frame z)) w o s) e;
       }
 
   pub or_known : {A : Type 0} {o : LocalState} {s : Store} (z : Option A) (a : A) → z ≡ Some a
       → HasKnownValue ops rel w code o s (or_ill_formed z) a
-  or_known {A} {o} {s} z a e = record { by = ap (λ y. run (or_ill_formed y) w o s) e }
+  or_known {A} {o} {s} z a e = record { proof = ap (λ y. run (or_ill_formed y) w o s) e }
 
   pub kind_known : {o : LocalState} {s : Store} (k j : ℕ) (ty : KindOf) → k ≡ j → slice_get p.kinds j ≡ Some ty
       → HasKnownValue ops rel w code o s (kind_at g k) ty
@@ -180,4 +180,4 @@ module _ {M : Type 0} (ex : Execution M) where
 
   pub fetch_known : {o : LocalState} {s : Store} (a : Address)
       → HasKnownValue ops rel w code o s (fetch a) (get_at a.path (value_in (s a.spot)))
-  fetch_known a = record { by = refl }
+  fetch_known a = record { proof = refl }

@@ -39,7 +39,7 @@ module _ {M : Type 0} (ex : Execution M) where
     code,
     moves,
     shares,
-    IsCallableInFunctions as hush,
+    IsCallableInFunctions as callable,
     who as w,
     IsReadable as R,
     operations as ops,
@@ -52,9 +52,10 @@ module _ {M : Type 0} (ex : Execution M) where
 
   -- the machine calls a function as the meaning does
   pub record CallsMeet (call : Calls) : Type 0 where
-    pub by : (f : ℕ) (args : Actuals) (b : Block) (sc : List Scope) (q k : ℕ) (stack : List Entry) (js : List FramePair)
+    pub proof : (f : ℕ) (args : Actuals) (b : Block) (sc : List Scope) (q k : ℕ) (stack : List Entry)
+        (js : List FramePair)
         (o : LocalState) (s : Store) (n : M) → rel.Stand js o s n → P ex sc js (In_call f args)
-        → CallAt p moves shares (CodeAt code) (HasFork code) (HasWords code) hush sc q f b
+        → CallAt p moves shares (CodeAt code) (HasFork code) (HasWords code) callable sc q f b
         → ((x : ℕ) × (b.answer ≡ Some x)) → sort p k ≡ Ordinals
         → (gs : List ArgumentValue) (es : List Entry) → GivensAre rel p js b.formals gs es → Gave p (sources js) args gs
         → G ex js (m.At q (pushed es stack) n) o s (q + 1) (Top ex stack) (St ex k) (call f gs)
@@ -64,7 +65,7 @@ module _ {M : Type 0} (ex : Execution M) where
       (stack : List Entry)
       (x : ℕ) (ss : Selectors) (pl : Place) (a : Ptr) → RunsTo ops code c (m.At q (m.Pointer a ∷ stack) n)
       → rel.Stand js o s n → PlaceIs ex js x k pl a
-      → IsTarget p moves shares (CodeAt code) (HasFork code) (HasWords code) hush (Entire x ss)
+      → IsTarget p moves shares (CodeAt code) (HasFork code) (HasWords code) callable (Entire x ss)
       → G ex js c o s q (λ (b : Address) (u : Ptr). m.Pointer u ∷ stack)
       (λ b u. (b.kind ≡ k) × rel.Points js b u × R b.spot × (location_of p (sources js) x ≡ Some b.spot))
       (address_of g pl)
@@ -86,7 +87,7 @@ module _ {M : Type 0} (ex : Execution M) where
         → (e : Expr) (sc : List Scope) (q : ℕ) (stack : List Entry) (js : List FramePair) (o : LocalState) (s : Store)
         (n : M)
         → rel.Stand js o s n → P ex sc js (In_expr e)
-        → ValueAt p moves shares (CodeAt code) (HasFork code) (HasWords code) hush sc q e
+        → ValueAt p moves shares (CodeAt code) (HasFork code) (HasWords code) callable sc q e
         → G ex js (m.At q stack n) o s (after_value q e) (Top ex stack) (St ex (kind_of e)) (value g call e)
     value_gives call ok (Typed k form) sc q stack js o s n t pl h = form_gives call ok k form sc q stack js o s n t pl h
 
@@ -94,7 +95,7 @@ module _ {M : Type 0} (ex : Execution M) where
         → (k : ℕ) (form : ExprForm) (sc : List Scope) (q : ℕ) (stack : List Entry) (js : List FramePair)
         (o : LocalState)
         (s : Store) (n : M) → rel.Stand js o s n → P ex sc js (In_form form)
-        → FormAt p moves shares (CodeAt code) (HasFork code) (HasWords code) hush sc q k form
+        → FormAt p moves shares (CodeAt code) (HasFork code) (HasWords code) callable sc q k form
         → G ex js (m.At q stack n) o s (after_form q form) (Top ex stack) (St ex k) (form_value g call k form)
     form_gives call ok k (Number v) sc q stack js o s n t pl h =
         worked_gives ex (m.At q stack n) (q + 1) k stack n t (_, _, t) h.1 (Yields v) (at_one ex q stack n h.0)
@@ -115,7 +116,7 @@ module _ {M : Type 0} (ex : Execution M) where
     form_gives call ok k (Apply f args) sc q stack js o s n t pl h =
         gives_bind ops rel w code (actuals_gives call ok args h.0.formals sc q stack js o s n t (within (λ u. inr) pl)
         h.1) (λ gs es o1 s1 n1 t1 x1.
-        ok.by f args h.0 sc (after_actuals q args) k stack js o1 s1 n1 t1 pl h.2 h.3 h.4 gs es x1.0 x1.1)
+        ok.proof f args h.0 sc (after_actuals q args) k stack js o1 s1 n1 t1 pl h.2 h.3 h.4 gs es x1.0 x1.1)
     form_gives call ok k (Standard f a) sc q stack js o s n t pl h =
         with_ordinal ex (kind_of a) stack _ _ h.3 (value_gives call ok a sc q stack js o s n t pl h.2) (λ v o1 s1 n1 t1.
         gives_known ops rel w code (λ ty. standard_op f ty v) h.0 (kind_known ex k k h.0 refl h.1)
@@ -128,7 +129,7 @@ module _ {M : Type 0} (ex : Execution M) where
         → (v : Var) (k : ℕ) (sc : List Scope) (q : ℕ) (stack : List Entry) (js : List FramePair) (o : LocalState)
         (s : Store)
         (n : M) → rel.Stand js o s n → P ex sc js (In_selectors (selectors_of v)) → MayRead ex sc js (variable_of v)
-        → PlaceAt p moves shares (CodeAt code) (HasFork code) (HasWords code) hush sc q v k
+        → PlaceAt p moves shares (CodeAt code) (HasFork code) (HasWords code) callable sc q v k
         → G ex js (m.At q stack n) o s (after_var q v) (PlaceTop ex stack)
         (PlaceIs ex js (variable_of v) k) (place g call v)
     place_gives call ok (Entire x ss) k sc q stack js o s n t pl may h =
@@ -139,7 +140,7 @@ module _ {M : Type 0} (ex : Execution M) where
         → (ss : Selectors) (x k k2 : ℕ) (sc : List Scope) (q : ℕ) (stack : List Entry) (z : Place) (a : Ptr)
         (js : List FramePair) (o : LocalState) (s : Store) (n : M) → rel.Stand js o s n → P ex sc js (In_selectors ss)
         → PlaceIs ex js x k z a
-        → SelectedAt p moves shares (CodeAt code) (HasFork code) (HasWords code) hush sc q ss k k2
+        → SelectedAt p moves shares (CodeAt code) (HasFork code) (HasWords code) callable sc q ss k k2
         → G ex js (m.At q (m.Pointer a ∷ stack) n) o s (after_selectors q ss) (PlaceTop ex stack) (PlaceIs ex js x k2)
         (component_place g call ss z)
     selected_gives call ok Whole x k k2 sc q stack z a js o s n t pl pi h =
@@ -160,7 +161,7 @@ module _ {M : Type 0} (ex : Execution M) where
         → (args : Actuals) (xs : List ℕ) (sc : List Scope) (q : ℕ) (stack : List Entry) (js : List FramePair)
         (o : LocalState)
         (s : Store) (n : M) → rel.Stand js o s n → P ex sc js (In_actuals args)
-        → ActualsAt p moves shares (CodeAt code) (HasFork code) (HasWords code) hush sc q args xs
+        → ActualsAt p moves shares (CodeAt code) (HasFork code) (HasWords code) callable sc q args xs
         → G ex js (m.At q stack n) o s (after_actuals q args)
         (λ (gs : List ArgumentValue) (es : List Entry). pushed es stack)
         (λ gs es. GivensAre rel p js xs gs es × Gave p (sources js) args gs) (actuals g call args)
@@ -190,8 +191,8 @@ module _ {M : Type 0} (ex : Execution M) where
       → (v : Var) (k : ℕ) (sc : List Scope) (q : ℕ) (stack : List Entry) (js : List FramePair) (o : LocalState)
       (s : Store) (n : M)
       → rel.Stand js o s n → P ex sc js (In_target v)
-      → PlaceAt p moves shares (CodeAt code) (HasFork code) (HasWords code) hush sc q v k
-      → IsTarget p moves shares (CodeAt code) (HasFork code) (HasWords code) hush v
+      → PlaceAt p moves shares (CodeAt code) (HasFork code) (HasWords code) callable sc q v k
+      → IsTarget p moves shares (CodeAt code) (HasFork code) (HasWords code) callable v
       → G ex js (m.At q stack n) o s (after_var q v) (λ (b : Address) (u : Ptr). m.Pointer u ∷ stack)
       (λ b u. (b.kind ≡ k) × rel.Points js b u × R b.spot × (location_of p (sources js) (variable_of v) ≡ Some b.spot))
       (address g call v)
@@ -206,7 +207,7 @@ module _ {M : Type 0} (ex : Execution M) where
       → (e : Expr) (sc : List Scope) (q : ℕ) (stack : List Entry) (js : List FramePair) (o : LocalState) (s : Store)
       (n : M)
       → rel.Stand js o s n → P ex sc js (In_expr e)
-      → OrdinalAt p moves shares (CodeAt code) (HasFork code) (HasWords code) hush sc q e
+      → OrdinalAt p moves shares (CodeAt code) (HasFork code) (HasWords code) callable sc q e
       → G ex js (m.At q stack n) o s (after_value q e) (λ (v : ℤ) (u : Unit {0}). m.Number v ∷ stack) (λ v u. Unit {0})
       (ordinal_of g call e)
   ordinal_gives call ok e sc q stack js o s n t pl h =

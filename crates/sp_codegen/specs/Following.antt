@@ -44,10 +44,10 @@ StandsFor rel (At pc st n) s = (js : List FramePair) × (o : LocalState) × rel.
 pub record RunsToFault {M : Type 0} (ops : Ops M) (rel : Relation M) (code : Code) (c : Config M) (f : Fault)
     (s : Store) :
     Type 0 where
-  pub at : Config M
-  pub comes : RunsTo ops code c at
-  pub fails : next_step ops code at ≡ Fails f
-  pub stands : StandsFor rel at s
+  pub configuration : Config M
+  pub comes : RunsTo ops code c configuration
+  pub fails : next_step ops code configuration ≡ Fails f
+  pub stands : StandsFor rel configuration s
 
 abbrev pub cells_in : Entry → List Cell
 cells_in (m.Number n) = cell.Ordinal n ∷ []
@@ -72,7 +72,7 @@ module _ {M : Type 0} (ex : Execution M) where
     code,
     moves,
     shares,
-    IsCallableInFunctions as hush,
+    IsCallableInFunctions as callable,
     who as w,
     Writes as W,
     IsReadable as R,
@@ -89,11 +89,11 @@ module _ {M : Type 0} (ex : Execution M) where
 
   -- the machine comes from one place to another, and only jumps
   pub record Slides (pc q : ℕ) (stack : List Entry) : Type 0 where
-    pub by : (n : M) → RunsTo ops code (At pc stack n) (At q stack n)
+    pub proof : (n : M) → RunsTo ops code (At pc stack n) (At q stack n)
 
   abbrev pub Turns : Bool → List Scope → ℕ → ℕ → Bool → Stmt → Type 0
-  Turns free sc q x down s = TurnsAt p moves shares (CodeAt code) (HasFork code) (HasWords code) hush sc q x down
-      (after_statement p (q + 1 + 1) s) (StandsAt p moves shares (CodeAt code) (HasFork code) (HasWords code) hush
+  Turns free sc q x down s = TurnsAt p moves shares (CodeAt code) (HasFork code) (HasWords code) callable sc q x down
+      (after_statement p (q + 1 + 1) s) (StandsAt p moves shares (CodeAt code) (HasFork code) (HasWords code) callable
       free sc
       (q + 1 + 1) s)
 
@@ -103,7 +103,7 @@ module _ {M : Type 0} (ex : Execution M) where
   CodeFollows end base below pc stack fs [] = Slides pc end stack × (stack ≡ base) × (fs ≡ below)
   CodeFollows end base below pc stack fs (Do s ∷ todo) =
       (q : ℕ) × (sc : List Scope) × Slides pc q stack × Pl sc fs (In_stmt s)
-      × (StandsAt p moves shares (CodeAt code) (HasFork code) (HasWords code) hush (is_in_no_function stack) sc q s)
+      × (StandsAt p moves shares (CodeAt code) (HasFork code) (HasWords code) callable (is_in_no_function stack) sc q s)
       × CodeFollows end base below (after_statement p q s) stack fs todo
   CodeFollows end base below pc stack fs (First x low high down s ∷ todo) =
       (q : ℕ) × (sc : List Scope) × (st : List Entry) × Slides pc q stack × (stack ≡ m.Number high ∷ m.Number low ∷ st)
@@ -115,7 +115,7 @@ module _ {M : Type 0} (ex : Execution M) where
       × CodeFollows end base below (after_statement p (q + 1 + 1) s + 1) st fs todo
   CodeFollows end base below pc stack fs (Test s e ∷ todo) =
       (q : ℕ) × (sc : List Scope) × Slides pc (after_statement p (q + 1) s) stack × Pl sc fs (In_stmt (Repeat s e))
-      × (StandsAt p moves shares (CodeAt code) (HasFork code) (HasWords code) hush (is_in_no_function stack) sc q
+      × (StandsAt p moves shares (CodeAt code) (HasFork code) (HasWords code) callable (is_in_no_function stack) sc q
       (Repeat s e)) × CodeFollows end base below (after_statement p q (Repeat s e)) stack fs todo
   CodeFollows end base below pc stack fs (Leave ∷ todo) =
       (q r : ℕ) × (st : List Entry) × (f : FramePair) × (rest : List FramePair) × Slides pc q stack
@@ -139,7 +139,7 @@ module _ {M : Type 0} (ex : Execution M) where
       (ss : Stmts) × (table q : ℕ) × (sc : List Scope)
       × (z ≡ Forks table (pos 0) (length (children_tables p moves shares q ss)))
       × HasFork code table (record { children = children_tables p moves shares q ss }) × (bs ≡ children ss)
-      × ChildrenAt p moves shares (CodeAt code) (HasFork code) (HasWords code) hush free sc q ss
+      × ChildrenAt p moves shares (CodeAt code) (HasFork code) (HasWords code) callable free sc q ss
       × Pl sc fs (In_stmt (Parallel ss))
 
   -- those of a forall, of which there is one for each value
@@ -149,7 +149,7 @@ module _ {M : Type 0} (ex : Execution M) where
       × (z ≡ Forks table lo (values_in lo hi))
       × HasFork code table (record { children = child_table p moves shares q (Some x) s ∷ [] })
       × (bs ≡ indexed_children x s lo (nat_abs ((hi -ℤ lo) +ℤ pos 1))) × (int_lt hi lo ≡ false)
-      × StandsAt p moves shares (CodeAt code) (HasFork code) (HasWords code) hush free (OfIndex x ∷ sc) q s
+      × StandsAt p moves shares (CodeAt code) (HasFork code) (HasWords code) callable free (OfIndex x ∷ sc) q s
       × (slice_get code.instrs (after_statement p q s) ≡ Some i.End) × Pl sc fs (In_stmt (Forall x from to s))
 
   abbrev pub ForkIs : Bool → List FramePair → List Birth → Stop → Type 0

@@ -28,7 +28,7 @@ use Rattle.sp_codegen.specs.FramePairs.{FramePair, pairs_from}
 use Rattle.sp_codegen.specs.ProcessInfos.{ProcessInfo, code_of, Named, Called, IsWritableLoc, IsReadable, Indexes}
 use Rattle.sp_codegen.specs.Standing.{spot_at, Live, HeldAt, Stand}
 
-module _ (p : Program) (moves shares : Stmt → List ℕ) (code : Code) (hush : ℕ → Type 0) (free : Bool)
+module _ (p : Program) (moves shares : Stmt → List ℕ) (code : Code) (callable : ℕ → Type 0) (free : Bool)
     (sc : List Scope) where
   -- child k of a parallel statement
   pub record ChildIs (ss : Stmts) (q k : ℕ) (b : Birth) : Type 0 where
@@ -37,7 +37,7 @@ module _ (p : Program) (moves shares : Stmt → List ℕ) (code : Code) (hush : 
     pub table : slice_get (children_tables p moves shares q ss) k
         ≡ Some (child_table p moves shares entry None statement)
     pub birth : b ≡ record { todo = push statement []; index = None }
-    pub body : StandsAt p moves shares (CodeAt code) (HasFork code) (HasWords code) hush free sc entry statement
+    pub body : StandsAt p moves shares (CodeAt code) (HasFork code) (HasWords code) callable free sc entry statement
     pub end : slice_get code.instrs (after_statement p entry statement) ≡ Some i.End
     pub inside : (u : Use) → In_stmt statement u → In_stmts ss u
 

@@ -184,9 +184,9 @@ module _ (ts : List ChildTable) (n : ℕ) (b : Before) (before : IsBefore ts n b
   clash_is e =
       ⊎_elim
       (λ h. let r = meets_is b.handed.keys t.moved h in let s = (before.handed r.0).0 r.2 in
-      (s.child, s.table, s.before, s.is, (r.0, inr (r.1, s.has))))
+      (s.child, s.table, s.before, s.table_is, (r.0, inr (r.1, s.has))))
       (λ h. let r = meets_is b.moved.keys t.shared h in let s = (before.moved r.0).0 r.2 in
-      (s.child, s.table, s.before, s.is, (r.0, inl (s.has, member_back r.0 t.moved t.shared r.1))))
+      (s.child, s.table, s.before, s.table_is, (r.0, inl (s.has, member_back r.0 t.moved t.shared r.1))))
       (or_cases (meets b.handed.keys t.moved) (meets b.moved.keys t.shared) e)
 
   pub clash_from : ClashesBefore ts n t → clashes b.moved.keys b.handed.keys t ≡ true
@@ -198,17 +198,17 @@ module _ (ts : List ChildTable) (n : ℕ) (b : Before) (before : IsBefore ts n b
         child = j;
         table = s;
         before = l;
-        is = is;
+        table_is = is;
         has = member_front x s.moved s.shared m;
       }))))
       (λ i. or_right (meets b.handed.keys t.moved) (meets b.moved.keys t.shared)
       (meets_from b.moved.keys t.shared x i
-      ((before.moved x).1 (record { child = j; table = s; before = l; is = is; has = m }))))
+      ((before.moved x).1 (record { child = j; table = s; before = l; table_is = is; has = m }))))
       (member_either x t.moved t.shared h)
   clash_from (j, s, l, is, (x, inr (m, h))) =
       or_left (meets b.handed.keys t.moved) (meets b.moved.keys t.shared)
       (meets_from b.handed.keys t.moved x m
-      ((before.handed x).1 (record { child = j; table = s; before = l; is = is; has = h })))
+      ((before.handed x).1 (record { child = j; table = s; before = l; table_is = is; has = h })))
 
 -- ---- one more before
 
@@ -218,9 +218,9 @@ module _ (of : ChildTable → List ℕ) (ts : List ChildTable) (n x : ℕ) (t : 
   more_before s = go (less_same_or_more s.child n)
     where
       go : (s.child < n) ⊎ ((s.child ≡ n) ⊎ (n < s.child)) → SomeHas of ts n x ⊎ IsMember x (of t)
-      go (inl l) = inl (record { child = s.child; table = s.table; before = l; is = s.is; has = s.has })
+      go (inl l) = inl (record { child = s.child; table = s.table; before = l; table_is = s.table_is; has = s.has })
       go (inr (inl i)) = inr (subst (λ (z : ChildTable). IsMember x (of z))
-          (same_Some s.table t (sym (ap (slice_get ts) (sym i) ∙ s.is) ∙ at)) s.has)
+          (same_Some s.table t (sym (ap (slice_get ts) (sym i) ∙ s.table_is) ∙ at)) s.has)
       go (inr (inr l)) = absurd (let m = s.before in omega (arith, l, m))
 
   pub before_more : SomeHas of ts n x ⊎ IsMember x (of t) → SomeHas of ts (n + 1) x
@@ -228,10 +228,10 @@ module _ (of : ChildTable → List ℕ) (ts : List ChildTable) (n x : ℕ) (t : 
     child = s.child;
     table = s.table;
     before = (let m = s.before in omega (arith, m));
-    is = s.is;
+    table_is = s.table_is;
     has = s.has;
   }
-  before_more (inr m) = record { child = n; table = t; before = omega arith; is = at; has = m }
+  before_more (inr m) = record { child = n; table = t; before = omega arith; table_is = at; has = m }
 
 pub begun : (ts : List ChildTable) (b : Before) → b.moved.keys ≡ [] → b.handed.keys ≡ [] → IsBefore ts 0 b
 begun ts b e f = record {

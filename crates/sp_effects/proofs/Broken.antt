@@ -60,15 +60,15 @@ module _ (c : Parts) (e : Effects) (are : AreEffects c e) where
         go : (k : ℕ) → ChildFails e tb.children k p → BreaksV6 c p
         go k (ch, at, first, f) =
             let o = child_area c kept os own t k ch (ap (λ (o : Option ForkTable). child_of o k) is ∙ at) in
-            let r = row o.around o.at k ch o.there o.child in (
+            let r = row o.around o.position k ch o.there o.child in (
               o.around,
-              o.at,
+              o.position,
               k,
               ch,
               o.there,
               o.child,
               first,
-              to_rule o.around t o.at k ch tb is o.names r.0 r.2
+              to_rule o.around t o.position k ch tb is o.names r.0 r.2
                   (subst (λ (z : Option Deeds). FailsAs z tb.children k ch) r.1 f),
             )
 

@@ -61,10 +61,10 @@ name_in t (o ∷ os) = go (is_name t (table_named (Some o))) (name_in t os)
 -- a child by the instruction that makes it
 pub record IsOf (c : Parts) (t k : ℕ) (ch : ChildTable) : Type 0 where
   pub around : Area
-  pub at : ℕ
-  pub names : Names c t at
-  pub there : IsArea c (Child around at k)
-  pub child : child_at c at k ≡ Some ch
+  pub position : ℕ
+  pub names : Names c t position
+  pub there : IsArea c (Child around position k)
+  pub child : child_at c position k ≡ Some ch
 
 pub child_by : (c : Parts) (t q k : ℕ) (ch : ChildTable) → Names c t q → IsChild c t k ch → child_at c q k ≡ Some ch
 child_by c t q k ch n h = ap (λ (o : Option ℕ). child_of (table_at c.forks o) k) n ∙ h
@@ -74,7 +74,7 @@ module _ (c : Parts) (kept : (p : ℕ) → BreaksV1 c p → ⊥) (os : List Owne
   by_owner q owner.Nobody h = inr h
   by_owner q (owner.Block b) h = inl (h.area, h.lies)
   by_owner q (owner.Child p k) h = inl (h.area, h.lies)
-  by_owner q owner.Several h = inl (h.one, h.lies)
+  by_owner q owner.Several h = inl (h.first, h.lies)
 
   pub area_of : (q : ℕ) → q < length c.instrs → ((a : Area) × LiesIn c q a) ⊎ ((a : Area) → LiesIn c q a → ⊥)
   area_of q l = let r = item_there os q (subst (λ n. q < n) (sym own.0) l) in by_owner q r.0 (own.1 q r.0 r.1)
@@ -91,7 +91,7 @@ module _ (c : Parts) (kept : (p : ℕ) → BreaksV1 c p → ⊥) (os : List Owne
     where
       in_area : (q : ℕ) → Names c t q → ((a : Area) × LiesIn c q a) ⊎ ((a : Area) → LiesIn c q a → ⊥) → IsOf c t k ch
       in_area q n (inl r) = let e = child_by c t q k ch n h in
-          record { around = r.0; at = q; names = n; there = (r.1.0, r.1.1, (ch, e)); child = e }
+          record { around = r.0; position = q; names = n; there = (r.1.0, r.1.1, (ch, e)); child = e }
       in_area q n (inr f) = let d = first_child t k ch h in absurd
           (kept d.0.entry (TableUnnamed (t, d.0, d.1, refl, inr (inr (q, n, f)))))
 

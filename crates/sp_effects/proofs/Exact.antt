@@ -53,7 +53,7 @@ module _ (c : Parts) (kept : (p : ℕ) → BreaksV1 c p → ⊥) (os : List Owne
   alone p owner.Nobody h a b la lb = absurd (h a la)
   alone p (owner.Block d) h a b la lb = h.only a la ∙ sym (h.only b lb)
   alone p (owner.Child q k) h a b la lb = h.only a la ∙ sym (h.only b lb)
-  alone p owner.Several h a b la lb = absurd (kept p (InTwo (h.one, h.lies, inl (h.other, h.too, h.apart))))
+  alone p owner.Several h a b la lb = absurd (kept p (InTwo (h.first, h.lies, inl (h.second, h.too, h.apart))))
 
   pub one_area : (a b : Area) → IsArea c a → IsArea c b → entry c a ≡ entry c b → a ≡ b
   one_area a b ia ib e =

@@ -123,16 +123,20 @@ module _ (c : Parts) (k : KeepsCodeRules c) (first : BTreeMap ℕ ℕ) (s : Shap
     is_placed j h = come h.area h.stack h.lies h.come ∙ h.calls
 
     some_more : (j : ℕ) → SomeCalls c first s (p + 1) j → SomeCalls c first s p j ⊎ (o ≡ Some j)
-    some_more j h = go (less_same_or_more h.at p)
+    some_more j h = go (less_same_or_more h.position p)
       where
-        go : (h.at < p) ⊎ ((h.at ≡ p) ⊎ (p < h.at)) → SomeCalls c first s p j ⊎ (o ≡ Some j)
-        go (inl l) = inl (record { at = h.at; before = l; calls = h.calls })
+        go : (h.position < p) ⊎ ((h.position ≡ p) ⊎ (p < h.position)) → SomeCalls c first s p j ⊎ (o ≡ Some j)
+        go (inl l) = inl (record { position = h.position; before = l; calls = h.calls })
         go (inr (inl e)) = inr (is_placed j (subst (λ q. CallsInside c first s q j) e h.calls))
         go (inr (inr l)) = absurd (let m = h.before in omega (arith, l, m))
 
     more_some : (j : ℕ) → SomeCalls c first s p j ⊎ (o ≡ Some j) → SomeCalls c first s (p + 1) j
-    more_some j (inl h) = record { at = h.at; before = (let m = h.before in omega (arith, m)); calls = h.calls }
-    more_some j (inr e) = record { at = p; before = omega arith; calls = placed_is j e }
+    more_some j (inl h) = record {
+      position = h.position;
+      before = (let m = h.before in omega (arith, m));
+      calls = h.calls;
+    }
+    more_some j (inr e) = record { position = p; before = omega arith; calls = placed_is j e }
 
     -- a flag is set, or none is
     pub flagged : (old new : List Bool) (j : ℕ) → o ≡ Some j → Marks old new j → AreInside c first s p old

@@ -24,7 +24,7 @@ module _ (c : Parts) where
 
   one_found : (p : ℕ) (o : Owner) (r : Option ℕ) → IsOnly c p o → r ≡ entry_by c o → IsAreaEntry p r
   one_found p o r h e =
-      let s : entry_by c o ≡ Some (entry c h.area) = ap (entry_by c) (sym h.is) ∙ area_entry h.area h.lies.0 in
+      let s : entry_by c o ≡ Some (entry c h.area) = ap (entry_by c) (sym h.owner_is) ∙ area_entry h.area h.lies.0 in
       subst (IsAreaEntry p) (sym (e ∙ s)) (h.area, (h.lies, h.only), refl)
 
   pub area_found : (p : ℕ) (o : Owner) (r : Option ℕ) → ((q : ℕ) → BreaksV1 c q → ⊥) → Owns c p o → r ≡ entry_by c o
@@ -32,7 +32,7 @@ module _ (c : Parts) where
   area_found p owner.Nobody r kept h e = subst (IsAreaEntry p) (sym e) h
   area_found p (owner.Block b) r kept h e = one_found p (owner.Block b) r h e
   area_found p (owner.Child q k) r kept h e = one_found p (owner.Child q k) r h e
-  area_found p owner.Several r kept h e = absurd (kept p (InTwo (h.one, h.lies, inl (h.other, h.too, h.apart))))
+  area_found p owner.Several r kept h e = absurd (kept p (InTwo (h.first, h.lies, inl (h.second, h.too, h.apart))))
 
   pub owner_there : (os : List Owner) (p : ℕ) → AreOwners c os → p < length c.instrs → slice_get os p ≡ None → ⊥
   owner_there os p are l e = item_is_not_none os p (let m = are.0 in omega (arith, l, m)) e

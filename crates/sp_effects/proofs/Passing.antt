@@ -125,13 +125,13 @@ module _ (l : Layout) (ss : List Shape) where
 
   -- two operands with one variable
   pub record Twice (n : ℕ) : Type 0 where
-    pub one : ℕ
-    pub other : ℕ
+    pub first : ℕ
+    pub second : ℕ
     pub variable : ℕ
-    pub apart : one < other
-    pub within : other < n
-    pub has : IsActualAt one variable
-    pub too : IsActualAt other variable
+    pub apart : first < second
+    pub within : second < n
+    pub has : IsActualAt first variable
+    pub too : IsActualAt second variable
 
   twice_or : (n : ℕ) → Twice n ⊎ AllDifferent (actuals l.formals ss n)
   twice_or zero = inr tt
@@ -139,8 +139,8 @@ module _ (l : Layout) (ss : List Shape) where
     where
       further : Twice n → Twice (suc n)
       further t = record {
-        one = t.one;
-        other = t.other;
+        first = t.first;
+        second = t.second;
         variable = t.variable;
         apart = t.apart;
         within =
@@ -159,7 +159,7 @@ module _ (l : Layout) (ss : List Shape) where
           → IsMember x (actuals l.formals ss n) ⊎ (IsMember x (actuals l.formals ss n) → ⊥)
           → Twice (suc n) ⊎ AllDifferent (actuals l.formals ss (suc n))
       at x e d (inl m) = let r = member_at n x m in inl
-          (record { one = r.0; other = n; variable = x; apart = r.1; within = omega arith; has = r.2; too = e })
+          (record { first = r.0; second = n; variable = x; apart = r.1; within = omega arith; has = r.2; too = e })
       at x e d (inr f) = inr (joined d (actual_at l.formals ss n)
           (λ y s m. f (subst (λ z. IsMember z (actuals l.formals ss n)) (same_Some y x (sym s ∙ e)) m)))
 
@@ -192,13 +192,13 @@ module _ (l : Layout) (ss : List Shape) where
       let a = t.apart in
       let w = t.within in
       let n = length l.formals in (
-        n - 1 - t.one,
-        n - 1 - t.other,
+        n - 1 - t.first,
+        n - 1 - t.second,
         t.variable,
         (λ e. absurd (omega (arith, a, w, e))),
-        at_is t.one t.variable
+        at_is t.first t.variable
             (omega (arith, a, w)) t.has,
-        at_is t.other t.variable w t.too,
+        at_is t.second t.variable w t.too,
       )
 
   is_twice : AllDifferent (actuals l.formals ss (length l.formals)) → IsTwice → ⊥

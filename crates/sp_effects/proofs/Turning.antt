@@ -121,21 +121,21 @@ module _ (c : Parts) (k : KeepsCodeRules c) (kept : (p : ℕ) → BreaksV1 c p �
             → fork.IsCalledInside c (Does c) (HasStop c) (Inside c) l.block
         by_call h =
             let q = h.calls in
-            let r = inside_call (homes c q.area) first (instr_at c h.at) j q.calls in
+            let r = inside_call (homes c q.area) first (instr_at c h.position) j q.calls in
             let b = r.0 in
             let same_place = place_some c.layouts b j (sym (numbered b) ∙ r.4) in
             let here : layout_of c.layouts b ≡ Some l = sym same_place ∙ is in
             let named : l.block ≡ b = (found_layout c.layouts b l here).0 in
-            let come = shapes.come h.at q.stack (stands s h.at q.stack q.come) in
+            let come = shapes.come h.position q.stack (stands s h.position q.stack q.come) in
             let a = come.0 in
-            let lies : LiesIn c h.at a = (come.1.0, passes c a h.at (list_of s.stacks q.stack) come.1.1) in
+            let lies : LiesIn c h.position a = (come.1.0, passes c a h.position (list_of s.stacks q.stack) come.1.1) in
             let alike : a ≡ q.area = q.lies.1 a lies in
-            let call : IsCalled c a h.at b r.1
+            let call : IsCalled c a h.position b r.1
             (list_of s.stacks q.stack) l = record { reached = come.1.1; call = r.2; layout = here } in
-            let round = inside_is c k a h.at b r.1 (list_of s.stacks q.stack) l come.1.0 call
+            let round = inside_is c k a h.position b r.1 (list_of s.stacks q.stack) l come.1.0 call
             (subst (λ (z : Area). is_inside (homes c z) b r.1 ≡ true) (sym alike) r.3) in
             subst (λ d. fork.IsCalledInside c (Does c) (HasStop c) (Inside c) d) (sym named)
-            (a, h.at, r.1, list_of s.stacks q.stack, l, come.1.0, call, round)
+            (a, h.position, r.1, list_of s.stacks q.stack, l, come.1.0, call, round)
 
     -- its block has that place
     placed : number_of first l.block ≡ Some j
@@ -164,7 +164,7 @@ module _ (c : Parts) (k : KeepsCodeRules c) (kept : (p : ℕ) → BreaksV1 c p �
         let calls = ap (λ (o : Option Instr). inside_of (homes c a) first o) call.call
         ∙ ap (λ t. if t then number_of first l.block else None) h ∙ placed in
         (inside.each j below).1 (record {
-          at = p;
+          position = p;
           before = slice_get_within c.instrs p (i.Call l.block up) call.call;
           calls = record {
             area = a;

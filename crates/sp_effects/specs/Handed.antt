@@ -60,7 +60,7 @@ pub record SomeHas (of : ChildTable → List ℕ) (ts : List ChildTable) (n x : 
   pub child : ℕ
   pub table : ChildTable
   pub before : child < n
-  pub is : slice_get ts child ≡ Some table
+  pub table_is : slice_get ts child ≡ Some table
   pub has : IsMember x (of table)
 
 abbrev pub moved_to : ChildTable → List ℕ

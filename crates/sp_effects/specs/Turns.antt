@@ -41,9 +41,9 @@ pub record CallsInside (c : Parts) (first : BTreeMap ℕ ℕ) (s : Shapes) (p j 
 
 -- one of the first n instructions does
 pub record SomeCalls (c : Parts) (first : BTreeMap ℕ ℕ) (s : Shapes) (n j : ℕ) : Type 0 where
-  pub at : ℕ
-  pub before : at < n
-  pub calls : CallsInside c first s at j
+  pub position : ℕ
+  pub before : position < n
+  pub calls : CallsInside c first s position j
 
 -- so many flags, which say of each layout whether one of the first n instructions calls its block inside itself
 pub record AreInside (c : Parts) (first : BTreeMap ℕ ℕ) (s : Shapes) (n : ℕ) (flags : List Bool) : Type 0 where

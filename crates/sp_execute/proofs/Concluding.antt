@@ -82,7 +82,8 @@ module _ (g : RunInput) (moves shares : Stmt
     same_output q text o =
         let mine = program_output g moves shares pause ready es names t h n s k in
         let holder : mine.0 ≡ q = o.only mine.0 mine.1 (output_of g s) mine.2 mine.3 in
-        let store : Some o.store ≡ Some mine.1 = sym o.at ∙ ap (λ y. store_in (t.condition y)) (sym holder) ∙ mine.2 in
+        let store : Some o.store ≡ Some mine.1 = sym o.store_is ∙ ap (λ y. store_in (t.condition y)) (sym holder)
+        ∙ mine.2 in
         same_Some text (output_of g s) (sym o.output ∙ ap (λ y. plain.output y) (same_Some o.store mine.1 store)
         ∙ mine.3)
 

@@ -76,24 +76,24 @@ pub ordinal_there : (o : Option KindOf) → is_ordinal o ≡ true → (t : KindO
 ordinal_there None e = absurd (cc e)
 ordinal_there (Some t) e = (t, refl)
 
-module _ (p : Program) (m : ℕ) (moves shares : Stmt → List ℕ) (hush : ℕ → Type 0) (env : Env)
+module _ (p : Program) (m : ℕ) (moves shares : Stmt → List ℕ) (callable : ℕ → Type 0) (env : Env)
     (knows : TablesMatch p m env)
     (sc : List Scope) (indices : HasIndices p env sc) where
   -- nothing is said of the code
   abbrev Value : ℕ → Expr → Type 0
-  Value q e = ValueAt p moves shares AnyInstr AnyTable AnyText hush sc q e
+  Value q e = ValueAt p moves shares AnyInstr AnyTable AnyText callable sc q e
 
   abbrev Forms : ℕ → ℕ → ExprForm → Type 0
-  Forms q k form = FormAt p moves shares AnyInstr AnyTable AnyText hush sc q k form
+  Forms q k form = FormAt p moves shares AnyInstr AnyTable AnyText callable sc q k form
 
   abbrev Selects : ℕ → plain.Selectors → ℕ → ℕ → Type 0
-  Selects q ss k1 k2 = SelectedAt p moves shares AnyInstr AnyTable AnyText hush sc q ss k1 k2
+  Selects q ss k1 k2 = SelectedAt p moves shares AnyInstr AnyTable AnyText callable sc q ss k1 k2
 
   abbrev ActualsInScope : ℕ → Actuals → List ℕ → Type 0
-  ActualsInScope q args xs = ActualsAt p moves shares AnyInstr AnyTable AnyText hush sc q args xs
+  ActualsInScope q args xs = ActualsAt p moves shares AnyInstr AnyTable AnyText callable sc q args xs
 
   abbrev Place_ : ℕ → plain.Var → ℕ → Type 0
-  Place_ q v k = PlaceAt p moves shares AnyInstr AnyTable AnyText hush sc q v k
+  Place_ q v k = PlaceAt p moves shares AnyInstr AnyTable AnyText callable sc q v k
 
   -- a type, and what is said of a form of it at every place
   abbrev pub FormIs : Option ℕ → ExprForm → Type 0
@@ -119,7 +119,7 @@ module _ (p : Program) (m : ℕ) (moves shares : Stmt → List ℕ) (hush : ℕ 
 
   -- a variable is read
   read_at : (q k : ℕ) (t : KindOf) → slice_get p.kinds k ≡ Some t
-      → ReadAt p moves shares AnyInstr AnyTable AnyText hush q k (sort p k)
+      → ReadAt p moves shares AnyInstr AnyTable AnyText callable q k (sort p k)
   read_at q k t e = go (sort p k) (no_sort (slice_get p.kinds k) e)
     where
       no_sort : (o : Option KindOf) → o ≡ Some t → sort_by o ≡ NoSort → ⊥
@@ -132,7 +132,7 @@ module _ (p : Program) (m : ℕ) (moves shares : Stmt → List ℕ) (hush : ℕ 
       no_sort (Some (kind.Fields fs)) e s = cc s
       no_sort (Some (kind.Channel ks)) e s = cc s
 
-      go : (s : Sort) → (s ≡ NoSort → ⊥) → ReadAt p moves shares AnyInstr AnyTable AnyText hush q k s
+      go : (s : Sort) → (s ≡ NoSort → ⊥) → ReadAt p moves shares AnyInstr AnyTable AnyText callable q k s
       go Ordinals d = tt
       go Channels d = tt
       go Many d = tt
@@ -148,7 +148,7 @@ module _ (p : Program) (m : ℕ) (moves shares : Stmt → List ℕ) (hush : ℕ 
   unary_kind unary.Minus = (kind.Integer, knows.integer)
   unary_kind unary.Not = (kind.Boolean, knows.boolean)
 
-  unary_at : (q : ℕ) (op : UnaryOp) → UnaryAt p moves shares AnyInstr AnyTable AnyText hush q op
+  unary_at : (q : ℕ) (op : UnaryOp) → UnaryAt p moves shares AnyInstr AnyTable AnyText callable q op
   unary_at q unary.Plus = tt
   unary_at q unary.Minus = tt
   unary_at q unary.Not = tt
@@ -196,13 +196,13 @@ module _ (p : Program) (m : ℕ) (moves shares : Stmt → List ℕ) (hush : ℕ 
   -- an entire variable: its type is known, and it stands where it is seen
   abbrev pub EntireIs : ℕ → Type 0
   EntireIs x = (k : ℕ) × (variable_kind env x ≡ Some k) × IsKind p k
-      × ((q : ℕ) → VarAt p moves shares AnyInstr AnyTable AnyText hush sc q x k)
+      × ((q : ℕ) → VarAt p moves shares AnyInstr AnyTable AnyText callable sc q x k)
 
   pub entire_fine : (x : ℕ) → SeenIn p m sc x → EntireIs x
   entire_fine x (v, at, seen) = go v.role refl seen
     where
       known : (r : Role) → v.role ≡ r → NoIndex r
-          → ((q : ℕ) → VarRole p moves shares AnyInstr AnyTable AnyText hush sc q x v r) → EntireIs x
+          → ((q : ℕ) → VarRole p moves shares AnyInstr AnyTable AnyText callable sc q x v r) → EntireIs x
       known r e d h = let w = knows.variables x v at (subst NoIndex (sym e) d) in (
         v.kind,
         w.0,
@@ -211,7 +211,7 @@ module _ (p : Program) (m : ℕ) (moves shares : Stmt → List ℕ) (hush : ℕ 
           v,
           at,
           refl,
-          subst (λ r. VarRole p moves shares AnyInstr AnyTable AnyText hush sc q x v r) (sym e) (h q),
+          subst (λ r. VarRole p moves shares AnyInstr AnyTable AnyText callable sc q x v r) (sym e) (h q),
         ),
       )
 
@@ -229,18 +229,18 @@ module _ (p : Program) (m : ℕ) (moves shares : Stmt → List ℕ) (hush : ℕ 
           v,
           at,
           refl,
-          subst (λ r. VarRole p moves shares AnyInstr AnyTable AnyText hush sc q x v r) (sym e)
+          subst (λ r. VarRole p moves shares AnyInstr AnyTable AnyText callable sc q x v r) (sym e)
               (up, l, tt, ordinal_sort (slice_get p.kinds v.kind) w.1),
         ),
       )
 
   around_at : (f up : ℕ) (o : Option ℕ) → AroundIn p m sc f o up
-      → Around p moves shares AnyInstr AnyTable AnyText hush sc f o up
+      → Around p moves shares AnyInstr AnyTable AnyText callable sc f o up
   around_at f up None a = a
   around_at f up (Some b) a = a
 
   pub call_at : (f : ℕ) (b : Block) → CallIn p m sc f b → (q : ℕ)
-      → CallAt p moves shares AnyInstr AnyTable AnyText hush sc q f b
+      → CallAt p moves shares AnyInstr AnyTable AnyText callable sc q f b
   call_at f b (up, at, around) q = (up, at, around_at f up b.parent around, tt)
 
   -- a field under its name stands at its number
@@ -440,7 +440,7 @@ module _ (p : Program) (m : ℕ) (moves shares : Stmt → List ℕ) (hush : ℕ 
   abbrev pub ReferenceIs : n.Expression → Type 0
   ReferenceIs e = (v : c.Variable) × (variable_actual (checked_expression env e) ≡ c.ByReference v) × (k : ℕ)
       × (expression_kind env e ≡ Some k) × ((q : ℕ) → Place_ q (bare_variable v) k)
-      × IsTarget p moves shares AnyInstr AnyTable AnyText hush (bare_variable v)
+      × IsTarget p moves shares AnyInstr AnyTable AnyText callable (bare_variable v)
 
   argument_one : (x : ℕ) (xs : List ℕ) (e : n.Expression) (rest : c.Actuals) (v : Variable) (o : Option Role)
       → slice_get p.variables x ≡ Some v → o ≡ Some v.role → (v.role ≡ role.Value) ⊎ (v.role ≡ role.Reference)

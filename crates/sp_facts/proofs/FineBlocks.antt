@@ -51,7 +51,7 @@ no_forall p f = go (length p.blocks)
     go zero h = h
     go (suc k) h = h
 
-module _ (p : plain.Program) (m : ℕ) (moves shares : Stmt → List ℕ) (hush : ℕ → Type 0) where
+module _ (p : plain.Program) (m : ℕ) (moves shares : Stmt → List ℕ) (callable : ℕ → Type 0) where
   ready_at : (f : ℕ) (env : Env) (k : ℕ) → TablesMatch p m env → MatchesWithIndices p m (with_first_number env k)
       (scopes_of p f)
   ready_at f env k h = (
@@ -79,10 +79,10 @@ module _ (p : plain.Program) (m : ℕ) (moves shares : Stmt → List ℕ) (hush 
       → w.blocks_sites [] both_lists refusal_list numbers cells variables k env starts bs ≡ []
       → AreBlocksTyped p env starts bs
       → ((i : ℕ) (c : plain.Block) → slice_get (map bare_block (checked_blocks env starts bs)) i ≡ Some c
-      → KeepsRulesHere p m moves shares hush true (scopes_of p (k + i)) (In_stmt c.body))
+      → KeepsRulesHere p m moves shares callable true (scopes_of p (k + i)) (In_stmt c.body))
       → (free : Bool) (i : ℕ) (c : plain.Block) → slice_get (map bare_block (checked_blocks env starts bs)) i ≡ Some c
-      → KeepsRulesHere p m moves shares hush free (scopes_of p (k + i)) (In_stmt c.body)
-      → StatementHasCode p m moves shares hush free (scopes_of p (k + i)) c.body
+      → KeepsRulesHere p m moves shares callable free (scopes_of p (k + i)) (In_stmt c.body)
+      → StatementHasCode p m moves shares callable free (scopes_of p (k + i)) c.body
   blocks_fine numbers cells variables k env starts [] knows here calm typed calm_use free i c e quiet = absurd (cc e)
   blocks_fine numbers cells variables k env [] (b ∷ bs) knows here calm typed calm_use free i c e quiet = absurd (cc e)
   blocks_fine numbers cells variables k env (z ∷ starts) (b ∷ bs) knows (in_b, in_bs) calm (typed_b, typed_bs) calm_use
@@ -90,7 +90,7 @@ module _ (p : plain.Program) (m : ℕ) (moves shares : Stmt → List ℕ) (hush 
       by i e quiet (λ j e2 q2. blocks_fine numbers cells variables (suc k) next starts bs grown.0 in_bs
       (subst (λ y. w.blocks_sites [] both_lists refusal_list numbers cells variables y next starts bs ≡ [])
       (let y : k + 1 ≡ suc k = omega arith in y) two.1) typed_bs
-      (λ j d e3. subst (λ y. KeepsRulesHere p m moves shares hush true (scopes_of p y) (In_stmt d.body))
+      (λ j d e3. subst (λ y. KeepsRulesHere p m moves shares callable true (scopes_of p y) (In_stmt d.body))
       (let y : k + suc j ≡ suc k + j = omega arith in y) (calm_use (suc j) d e3)) free j c e2 q2)
     where
       next : Env
@@ -114,37 +114,39 @@ module _ (p : plain.Program) (m : ℕ) (moves shares : Stmt → List ℕ) (hush 
           (w.statement_sites [] both_lists refusal_list (with_first_number env z) b.body)) two.0).1).1
 
       grown : Grown p m (with_first_number env z) (statement_after (with_first_number env z) b.body)
-      grown = (statement_fine p m moves shares hush (performs p m moves shares hush) true (with_first_number env z)
+      grown = (statement_fine p m moves shares callable (performs p m moves shares callable) true
+          (with_first_number env z)
           (scopes_of p k) b.body (ready_at k env z knows) body_calm in_b typed_b
-          (subst (λ y. KeepsRulesHere p m moves shares hush true (scopes_of p y)
+          (subst (λ y. KeepsRulesHere p m moves shares callable true (scopes_of p y)
           (In_stmt (bare_statement (checked_statement (with_first_number env z) b.body))))
           (let y : k + 0 ≡ k = omega arith in y)
           (calm_use 0 (bare_block (checked_block (with_first_number env z) b)) refl))).0
 
       first : (d : plain.Block) → bare_block (checked_block (with_first_number env z) b) ≡ d
-          → KeepsRulesHere p m moves shares hush free (scopes_of p k) (In_stmt d.body)
-          → StatementHasCode p m moves shares hush free (scopes_of p k) d.body
-      first d e q = subst (λ (y : plain.Block). KeepsRulesHere p m moves shares hush free (scopes_of p k)
+          → KeepsRulesHere p m moves shares callable free (scopes_of p k) (In_stmt d.body)
+          → StatementHasCode p m moves shares callable free (scopes_of p k) d.body
+      first d e q = subst (λ (y : plain.Block). KeepsRulesHere p m moves shares callable free (scopes_of p k)
           (In_stmt y.body)
-          → StatementHasCode p m moves shares hush free (scopes_of p k) y.body) e
-          (λ q. (statement_fine p m moves shares hush (performs p m moves shares hush) free (with_first_number env z)
+          → StatementHasCode p m moves shares callable free (scopes_of p k) y.body) e
+          (λ q. (statement_fine p m moves shares callable (performs p m moves shares callable) free
+          (with_first_number env z)
           (scopes_of p k) b.body (ready_at k env z knows) body_calm in_b typed_b q).1) q
 
       by : (i : ℕ) → slice_get (map bare_block (checked_blocks env (z ∷ starts) (b ∷ bs))) i ≡ Some c
-          → KeepsRulesHere p m moves shares hush free (scopes_of p (k + i)) (In_stmt c.body)
+          → KeepsRulesHere p m moves shares callable free (scopes_of p (k + i)) (In_stmt c.body)
           → ((j : ℕ) → slice_get
           (map bare_block (checked_blocks (statement_after (with_first_number env z) b.body) starts bs)) j
-          ≡ Some c → KeepsRulesHere p m moves shares hush free (scopes_of p (suc k + j)) (In_stmt c.body)
-          → StatementHasCode p m moves shares hush free (scopes_of p (suc k + j)) c.body)
-          → StatementHasCode p m moves shares hush free (scopes_of p (k + i)) c.body
-      by zero e q later = subst (λ y. StatementHasCode p m moves shares hush free (scopes_of p y) c.body)
+          ≡ Some c → KeepsRulesHere p m moves shares callable free (scopes_of p (suc k + j)) (In_stmt c.body)
+          → StatementHasCode p m moves shares callable free (scopes_of p (suc k + j)) c.body)
+          → StatementHasCode p m moves shares callable free (scopes_of p (k + i)) c.body
+      by zero e q later = subst (λ y. StatementHasCode p m moves shares callable free (scopes_of p y) c.body)
           (let y : k ≡ k + 0 = omega arith in y)
           (first c (same_Some (bare_block (checked_block (with_first_number env z) b)) c e)
-          (subst (λ y. KeepsRulesHere p m moves shares hush free (scopes_of p y) (In_stmt c.body))
+          (subst (λ y. KeepsRulesHere p m moves shares callable free (scopes_of p y) (In_stmt c.body))
           (let y : k + 0 ≡ k = omega arith in y) q))
-      by (suc i) e q later = subst (λ y. StatementHasCode p m moves shares hush free (scopes_of p y) c.body)
+      by (suc i) e q later = subst (λ y. StatementHasCode p m moves shares callable free (scopes_of p y) c.body)
           (let y : suc k + i ≡ k + suc i = omega arith in y)
-          (later i e (subst (λ y. KeepsRulesHere p m moves shares hush free (scopes_of p y) (In_stmt c.body))
+          (later i e (subst (λ y. KeepsRulesHere p m moves shares callable free (scopes_of p y) (In_stmt c.body))
           (let y : k + suc i ≡ suc k + i = omega arith in y) q))
 
 -- ---- the program
@@ -182,8 +184,8 @@ module _ (s : syntax.Program) (calm : broken_name_rules s ≡ []) (no_types : ty
   quiet_in : (free : Bool) (f : ℕ) (c : plain.Block) → slice_get p_.blocks f ≡ Some c
       → IsCallable (NeverStops p_) free f
       → KeepsRulesHere p_ m_ moves shares (NeverStops p_) free (scopes_of p_ f) (In_stmt c.body)
-  quiet_in free f c at hushed = (
-    by free hushed,
+  quiet_in free f c at is_callable = (
+    by free is_callable,
     (λ i x h. no_forall p_ f i),
     λ x t h y k. (free_of.blocks f c at (ForallOf x t) h).1 y ([], k),
   )
@@ -198,7 +200,7 @@ module _ (s : syntax.Program) (calm : broken_name_rules s ≡ []) (no_types : ty
   block_fine f q c at = record {
     body = λ free h. stands free h;
     end = tt;
-    hushed = λ x ans. functions f x c at ans;
+    callable_function = λ x ans. functions f x c at ans;
     answer = λ x ans. (let r = knows.answers f c x at ans in
         (r.0, r.1, r.2, r.3, ordinal_sort (slice_get p_.kinds r.0.kind) r.4));
   }

@@ -46,10 +46,10 @@ use Rattle.sp_facts.specs.Scoped.{AreAimed, AimsOf}
 use Rattle.sp_facts.proofs.Expressions.{channel_is, integer_is}
 use Rattle.sp_facts.proofs.Statements.{MatchesWithIndices, StatementHasCode, KeepsRulesHere, within, free_is, Performs}
 
-module _ (p : Program) (m : ℕ) (moves shares : Stmt → List ℕ) (hush : ℕ → Type 0) (free : Bool) where
+module _ (p : Program) (m : ℕ) (moves shares : Stmt → List ℕ) (callable : ℕ → Type 0) (free : Bool) where
   abbrev pub Fine : List Scope → c.Form → Type 0
-  Fine sc f = KeepsRulesHere p m moves shares hush free sc (In_stmt (bare_statement_form f))
-      → StatementHasCode p m moves shares hush free sc (bare_statement_form f)
+  Fine sc f = KeepsRulesHere p m moves shares callable free sc (In_stmt (bare_statement_form f))
+      → StatementHasCode p m moves shares callable free sc (bare_statement_form f)
 
   abbrev pub AllFine : List Scope → List c.Form → Type 0
   AllFine sc [] = Unit {0}
@@ -60,22 +60,22 @@ module _ (p : Program) (m : ℕ) (moves shares : Stmt → List ℕ) (hush : ℕ 
   all_join sc (f ∷ fs) gs x y = (x.0, all_join sc fs gs x.1 y)
 
   numbered_fine : (sc : List Scope) (k : ℕ) (at : Place) (fs : List c.Form) → AllFine sc fs
-      → KeepsRulesHere p m moves shares hush free sc
+      → KeepsRulesHere p m moves shares callable free sc
       (In_stmts (bare_statements (of_.statements (numbered_statements k at fs)))) → (q : ℕ)
-      → AllAt p moves shares AnyInstr AnyTable AnyText hush free sc q
+      → AllAt p moves shares AnyInstr AnyTable AnyText callable free sc q
       (bare_statements (of_.statements (numbered_statements k at fs)))
   numbered_fine sc k at [] h quiet q = tt
   numbered_fine sc k at (f ∷ fs) h quiet q =
       let s_ = bare_statement_form f in
       let r_ = bare_statements (of_.statements (numbered_statements (k + 1) at fs)) in (
-        h.0 (within p m moves shares hush free sc (In_stmts (plain.And s_ r_)) (In_stmt s_) (λ u i. inl i) quiet) q,
-        numbered_fine sc (k + 1) at fs h.1 (within p m moves shares hush free sc (In_stmts (plain.And s_ r_))
+        h.0 (within p m moves shares callable free sc (In_stmts (plain.And s_ r_)) (In_stmt s_) (λ u i. inl i) quiet) q,
+        numbered_fine sc (k + 1) at fs h.1 (within p m moves shares callable free sc (In_stmts (plain.And s_ r_))
             (In_stmts r_) (λ u i. inr i) quiet) (after_statement p q s_),
       )
 
   expanded_fine : (sc : List Scope) (k : ℕ) (at : Place) (fs : List c.Form) → AllFine sc fs
-      → KeepsRulesHere p m moves shares hush free sc (In_stmt (bare_statement_form (expanded_form k at fs)))
-      → StatementHasCode p m moves shares hush free sc (bare_statement_form (expanded_form k at fs))
+      → KeepsRulesHere p m moves shares callable free sc (In_stmt (bare_statement_form (expanded_form k at fs)))
+      → StatementHasCode p m moves shares callable free sc (bare_statement_form (expanded_form k at fs))
   expanded_fine sc k at [] h quiet q = tt
   expanded_fine sc k at (f ∷ []) h quiet q = h.0 quiet q
   expanded_fine sc k at (f ∷ g ∷ fs) h quiet q = numbered_fine sc k at (f ∷ g ∷ fs) h quiet q
@@ -83,20 +83,20 @@ module _ (p : Program) (m : ℕ) (moves shares : Stmt → List ℕ) (hush : ℕ 
   module _ (env : Env) (sc : List Scope) (ready : MatchesWithIndices p m env sc) where
     value : (e : n.Expression) (f : FirstRefusal) → both_lists (expression_sites [] both_lists refusal_list env e)
         (refusal_list f) ≡ []
-        → InExpression p m sc e → ValueIs p m moves shares hush env ready.0 sc ready.1 (expression_kind env e)
+        → InExpression p m sc e → ValueIs p m moves shares callable env ready.0 sc ready.1 (expression_kind env e)
         (bare_expression (checked_expression env e)) × (f ≡ None)
     value e f calm here = let two = none_with_site (expression_sites [] both_lists refusal_list env e) f calm in
-        (expression_fine p m moves shares hush env ready.0 sc ready.1 e two.0 here, two.1)
+        (expression_fine p m moves shares callable env ready.0 sc ready.1 e two.0 here, two.1)
 
     width_fine : (at : Place) (wd : n.Width) → w.width_sites [] both_lists refusal_list env at wd ≡ []
         → InWidth p m sc wd
-        → (q : ℕ) → WidthAt p moves shares AnyInstr AnyTable AnyText hush sc q (bare_width (checked_width env wd))
+        → (q : ℕ) → WidthAt p moves shares AnyInstr AnyTable AnyText callable sc q (bare_width (checked_width env wd))
     width_fine at n.NoWidth calm here q = tt
     width_fine at (n.WithWidth e) calm here q =
         let r = value e (width_rule at (expression_kind env e)) calm here in
         let is = nat_eq_is 0 r.0.0 (takes_if_none rule.Y8 at (nat_eq 0) (expression_kind env e) r.0.0 r.0.1 r.1) in (
           r.0.4 q,
-          integer_is p m moves shares hush env ready.0 sc ready.1
+          integer_is p m moves shares callable env ready.0 sc ready.1
               (kind_of (bare_expression (checked_expression env e))) (r.0.3 ∙ sym is),
         )
 
@@ -181,18 +181,18 @@ module _ (p : Program) (m : ℕ) (moves shares : Stmt → List ℕ) (hush : ℕ 
         → both_lists (variable_sites [] both_lists refusal_list env (n.Entire x name ss)) (refusal_list f) ≡ []
         → InVariable p m sc (n.Entire x name ss)
         → ((k : ℕ) × (selected env (n.Entire x name ss) ≡ Some k) × IsKind p k
-        × ((q : ℕ) → PlaceAt p moves shares AnyInstr AnyTable AnyText hush sc q
+        × ((q : ℕ) → PlaceAt p moves shares AnyInstr AnyTable AnyText callable sc q
         (bare_variable (checked_variable env (n.Entire x name ss))) k)) × (f ≡ None)
     aimed_one at x name ss f calm here = let two =
         none_with_site (variable_sites [] both_lists refusal_list env (n.Entire x name ss)) f calm in
-        (variable_fine p m moves shares hush env ready.0 sc ready.1 (n.Entire x name ss) two.0 here, two.1)
+        (variable_fine p m moves shares callable env ready.0 sc ready.1 (n.Entire x name ss) two.0 here, two.1)
 
     reads_kind : (k : ℕ) → is_readable k ≡ true → (t : KindOf) × (slice_get p.kinds k ≡ Some t)
-        × ((q : ℕ) → ReadsAt p moves shares AnyInstr AnyTable AnyText hush q t)
+        × ((q : ℕ) → ReadsAt p moves shares AnyInstr AnyTable AnyText callable q t)
     reads_kind k e = go (nat_eq k 0) refl e
       where
         go : (a : Bool) → nat_eq k 0 ≡ a → (a || nat_eq k 2) ≡ true → (t : KindOf) × (slice_get p.kinds k ≡ Some t)
-            × ((q : ℕ) → ReadsAt p moves shares AnyInstr AnyTable AnyText hush q t)
+            × ((q : ℕ) → ReadsAt p moves shares AnyInstr AnyTable AnyText callable q t)
         go true ae e = (kind.Integer, ap (slice_get p.kinds) (nat_eq_is k 0 ae) ∙ ready.0.integer, λ q. tt)
         go false ae e = (kind.Char, ap (slice_get p.kinds) (nat_eq_is k 2 e) ∙ ready.0.char, λ q. tt)
 
@@ -234,7 +234,7 @@ module _ (p : Program) (m : ℕ) (moves shares : Stmt → List ℕ) (hush : ℕ 
         (n.Pass (n.ExpressionAt at (n.Read (n.Entire x name ss))) wd))
         (w.each_sites [] both_lists refusal_list env (w.channel_sites [] both_lists refusal_list env) rest) calm in
         let r = aimed_one at x name ss (channel_rule env at (selected env (n.Entire x name ss))) two.0 here.0 in
-        let is = channel_is p m moves shares hush env ready.0 sc ready.1 r.0.0
+        let is = channel_is p m moves shares callable env ready.0 sc ready.1 r.0.0
         (takes_if_none rule.Y8 at (channel env) (selected env (n.Entire x name ss)) r.0.0 r.0.1 r.1) in
         let v_ = bare_variable (checked_variable env (n.Entire x name ss)) in (
           (λ quiet q. (
@@ -243,7 +243,7 @@ module _ (p : Program) (m : ℕ) (moves shares : Stmt → List ℕ) (hush : ℕ 
             aims.0,
             is,
             tt,
-            free_is p m moves shares hush free sc (In_stmt (plain.Open v_)) quiet (inr refl),
+            free_is p m moves shares callable free sc (In_stmt (plain.Open v_)) quiet (inr refl),
           )),
           opens_fine rest two.1 aims.1 here.2,
         )
@@ -257,7 +257,7 @@ module _ (p : Program) (m : ℕ) (moves shares : Stmt → List ℕ) (hush : ℕ 
 
     -- a channel, and what is sent or received
     abbrev ChannelIs : n.Expression → Type 0
-    ChannelIs e = ((q : ℕ) → ValueAt p moves shares AnyInstr AnyTable AnyText hush sc q
+    ChannelIs e = ((q : ℕ) → ValueAt p moves shares AnyInstr AnyTable AnyText callable sc q
         (bare_expression (checked_expression env e)))
         × (sort p (kind_of (bare_expression (checked_expression env e))) ≡ Channels)
 
@@ -266,7 +266,7 @@ module _ (p : Program) (m : ℕ) (moves shares : Stmt → List ℕ) (hush : ℕ 
     channel_one e wd calm here =
         let r = value e (channel_rule env (place e) (expression_kind env e)) calm here in (
           r.0.4,
-          ap (sort p) r.0.3 ∙ channel_is p m moves shares hush env ready.0 sc ready.1 r.0.0
+          ap (sort p) r.0.3 ∙ channel_is p m moves shares callable env ready.0 sc ready.1 r.0.0
               (takes_if_none rule.Y8 (place e) (channel env) (expression_kind env e) r.0.0 r.0.1 r.1),
         )
 
@@ -285,7 +285,7 @@ module _ (p : Program) (m : ℕ) (moves shares : Stmt → List ℕ) (hush : ℕ 
             is.1,
             r.0.4 (after_value q c_),
             tt,
-            free_is p m moves shares hush free sc (In_stmt (plain.Send c_ e_)) quiet (inr (inr refl)),
+            free_is p m moves shares callable free sc (In_stmt (plain.Send c_ e_)) quiet (inr (inr refl)),
           )),
           sends_fine ch o is rest two.1 here.2,
         )
@@ -310,7 +310,7 @@ module _ (p : Program) (m : ℕ) (moves shares : Stmt → List ℕ) (hush : ℕ 
             r.0.3 (after_value q c_),
             aims.0,
             tt,
-            free_is p m moves shares hush free sc (In_stmt (plain.Receive c_ v_)) quiet (inr (inr refl)),
+            free_is p m moves shares callable free sc (In_stmt (plain.Receive c_ v_)) quiet (inr (inr refl)),
           )),
           receives_fine ch o is rest two.1 aims.1 here.2,
         )
@@ -352,7 +352,8 @@ module _ (p : Program) (m : ℕ) (moves shares : Stmt → List ℕ) (hush : ℕ 
         calm in
         receives_fine e (expression_kind env e) (channel_one e wd two.0 here.0) rest two.1 aims here.2
 
-pub performs : (p : Program) (m : ℕ) (moves shares : Stmt → List ℕ) (hush : ℕ → Type 0) → Performs p m moves shares hush
-performs p m moves shares hush free env sc at f args ready calm here quiet =
-    expanded_fine p m moves shares hush free sc env.next at (singles env f args)
-    (singles_fine p m moves shares hush free env sc ready f args calm here.1 here.2) quiet
+pub performs : (p : Program) (m : ℕ) (moves shares : Stmt → List ℕ) (callable : ℕ → Type 0)
+    → Performs p m moves shares callable
+performs p m moves shares callable free env sc at f args ready calm here quiet =
+    expanded_fine p m moves shares callable free sc env.next at (singles env f args)
+    (singles_fine p m moves shares callable free env sc ready f args calm here.1 here.2) quiet

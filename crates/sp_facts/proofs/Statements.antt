@@ -192,14 +192,14 @@ module _ (p : Program) (m : ℕ) where
       go y v at e false b =
           ap table_entry (get_other env.variables x y o (λ yx. true≢false (sym (eq-eqb y x yx) ∙ b))) ∙ e
 
-  module _ (moves shares : Stmt → List ℕ) (hush : ℕ → Type 0) where
+  module _ (moves shares : Stmt → List ℕ) (callable : ℕ → Type 0) where
     abbrev pub StatementHasCode : Bool → List Scope → Stmt → Type 0
-    StatementHasCode free sc s = (q : ℕ) → StandsAt p moves shares AnyInstr AnyTable AnyText hush free sc q s
+    StatementHasCode free sc s = (q : ℕ) → StandsAt p moves shares AnyInstr AnyTable AnyText callable free sc q s
 
     -- what may stand where a function is being called, and in a forall: the rules of interference say so
     abbrev pub KeepsRulesHere : Bool → List Scope → (Use → Type 0) → Type 0
     KeepsRulesHere free sc Here =
-        (free ≡ false → (Here Stop → ⊥) × ((g : ℕ) (args : Actuals) → Here (CallOf g args) → hush g))
+        (free ≡ false → (Here Stop → ⊥) × ((g : ℕ) (args : Actuals) → Here (CallOf g args) → callable g))
         × (IsInForall sc → (x : ℕ) → Here (Target x) → ⊥)
         × ((x : ℕ) (s : Stmt) → Here (ForallOf x s) → (y : ℕ) → In_stmt s (Target y) → ⊥)
 
@@ -230,7 +230,7 @@ module _ (p : Program) (m : ℕ) where
 
     callable_if_called : (free : Bool) (sc : List Scope) (Here : Use → Type 0) (f : ℕ) (args : Actuals)
         → KeepsRulesHere free sc Here
-        → Here (CallOf f args) → IsCallable hush free f
+        → Here (CallOf f args) → IsCallable callable free f
     callable_if_called true sc Here f args quiet h = tt
     callable_if_called false sc Here f args quiet h = (quiet.0 refl).1 f args h
 
@@ -242,8 +242,8 @@ module _ (p : Program) (m : ℕ) where
 
     -- of an array or record nothing but a variable has the type
     right_at : (sc : List Scope) (q k : ℕ) (s : Sort) (form : ExprForm) → sort p k ≡ s → IsKind p k
-        → FormAt p moves shares AnyInstr AnyTable AnyText hush sc q k form
-        → RightAt p moves shares AnyInstr AnyTable AnyText hush sc q k s form
+        → FormAt p moves shares AnyInstr AnyTable AnyText callable sc q k form
+        → RightAt p moves shares AnyInstr AnyTable AnyText callable sc q k s form
     right_at sc q k Ordinals form e ik h = (h, tt)
     right_at sc q k Channels form e ik h = (h, tt)
     right_at sc q k Many (plain.Read v) e ik h = (h.0, tt)
@@ -282,17 +282,17 @@ module _ (p : Program) (m : ℕ) where
         go (kind.Fields fs) e = cc e
         go (kind.Channel ks) e = cc e
 
-    tests_at : (q : ℕ) (arms : plain.Arms) (b : ℕ) → TestsAt p moves shares AnyInstr AnyTable AnyText hush q arms b
+    tests_at : (q : ℕ) (arms : plain.Arms) (b : ℕ) → TestsAt p moves shares AnyInstr AnyTable AnyText callable q arms b
     tests_at q plain.NoArm b = tt
     tests_at q (plain.Or (plain.On ms s) rest) b =
         (one q ms, tests_at (after_test q ms) rest (after_statement p b s + 1))
       where
-        one : (q : ℕ) (ms : List ℤ) → TestAt p moves shares AnyInstr AnyTable AnyText hush q ms b
+        one : (q : ℕ) (ms : List ℤ) → TestAt p moves shares AnyInstr AnyTable AnyText callable q ms b
         one q [] = tt
         one q (n ∷ ms) = (tt, one (q + 1) ms)
 
     abbrev pub Ordinal_ : List Scope → Expr → Type 0
-    Ordinal_ sc e = (q : ℕ) → OrdinalAt p moves shares AnyInstr AnyTable AnyText hush sc q e
+    Ordinal_ sc e = (q : ℕ) → OrdinalAt p moves shares AnyInstr AnyTable AnyText callable sc q e
 
     pub condition : (env : Env) (sc : List Scope) → MatchesWithIndices env sc → (e : n.Expression)
         → w.condition_sites [] both_lists refusal_list env e ≡ [] → InExpression p m sc e
@@ -300,11 +300,11 @@ module _ (p : Program) (m : ℕ) where
     condition env sc ready e calm here q =
         let parts = none_with_site (expression_sites [] both_lists refusal_list env e)
         (condition_rule (place e) (expression_kind env e)) calm in
-        let r = expression_fine p m moves shares hush env ready.0 sc ready.1 e parts.0 here in
+        let r = expression_fine p m moves shares callable env ready.0 sc ready.1 e parts.0 here in
         let is = nat_eq_is 1 r.0 (takes_if_none rule.Y4 (place e) (nat_eq 1) (expression_kind env e) r.0 r.1
         parts.1) in (
           r.4 q,
-          boolean_is p m moves shares hush env ready.0 sc ready.1
+          boolean_is p m moves shares callable env ready.0 sc ready.1
               (kind_of (bare_expression (checked_expression env e))) (r.3 ∙ sym is),
         )
 
@@ -317,7 +317,7 @@ module _ (p : Program) (m : ℕ) where
         let parts = none_with_site (expression_sites [] both_lists refusal_list env e)
         (limit_rule (place e) o (expression_kind env e))
         calm in
-        let r = expression_fine p m moves shares hush env ready.0 sc ready.1 e parts.0 here in
+        let r = expression_fine p m moves shares callable env ready.0 sc ready.1 e parts.0 here in
         let is = same_if_none o (expression_kind env e) k r.0 oe r.1
         (not_if_none rule.Y10 (place e) (differ o (expression_kind env e)) parts.1) in
         (r.4 q, ap (sort p) (r.3 ∙ sym is) ∙ ord)
@@ -331,7 +331,7 @@ module _ (p : Program) (m : ℕ) where
     ranged rl env sc ready e calm here =
         let parts = none_with_site (expression_sites [] both_lists refusal_list env e)
         (unless rl (place e) (ordinal env) (expression_kind env e)) calm in
-        let r = expression_fine p m moves shares hush env ready.0 sc ready.1 e parts.0 here in
+        let r = expression_fine p m moves shares callable env ready.0 sc ready.1 e parts.0 here in
         let ord = takes_if_none rl (place e) (ordinal env) (expression_kind env e) r.0 r.1 parts.1 in
         let is = subst (λ ks. is_ordinal (slice_get ks r.0) ≡ true) ready.0.kinds ord in
         (r.0, r.1, is, λ q. (r.4 q, ap (sort p) r.3 ∙ ordinal_sort (slice_get p.kinds r.0) is))
@@ -373,16 +373,16 @@ module _ (p : Program) (m : ℕ) where
             (refusal_list (assign_rule eat (selected env (n.Entire x name ss)) (form_kind env form)))) calm in
             let one = none_with_site (form_sites [] both_lists refusal_list env eat form)
             (assign_rule eat (selected env (n.Entire x name ss)) (form_kind env form)) parts.1 in
-            let rv = variable_fine p m moves shares hush env ready.0 sc ready.1 (n.Entire x name ss) parts.0
+            let rv = variable_fine p m moves shares callable env ready.0 sc ready.1 (n.Entire x name ss) parts.0
             (seen, in_ss) in
-            let re = form_fine p m moves shares hush env ready.0 sc ready.1 eat form one.0 in_e in
+            let re = form_fine p m moves shares callable env ready.0 sc ready.1 eat form one.0 in_e in
             let is = same_if_none (selected env (n.Entire x name ss)) (form_kind env form) rv.0 re.0 rv.1 re.1
             (not_if_none rule.Y5 eat (differ (selected env (n.Entire x name ss)) (form_kind env form)) one.1) in
             let v = bare_variable (checked_variable env (n.Entire x name ss)) in (
               grown_to_itself env ready.0,
-              λ q. subst (λ z. StandsAt p moves shares AnyInstr AnyTable AnyText hush free sc q
+              λ q. subst (λ z. StandsAt p moves shares AnyInstr AnyTable AnyText callable free sc q
                   (plain.Assign v (plain.Typed z (bare_form (checked_form env form))))) (sym (ap or_zero re.1)) (
-                    subst (λ z. PlaceAt p moves shares AnyInstr AnyTable AnyText hush sc q v z) is (rv.3 q),
+                    subst (λ z. PlaceAt p moves shares AnyInstr AnyTable AnyText callable sc q v z) is (rv.3 q),
                     aimed,
                     right_at sc (after_var q v) re.0 (sort p re.0) (bare_form (checked_form env form)) refl re.2
                         (re.3 (after_var q v)),
@@ -390,16 +390,16 @@ module _ (p : Program) (m : ℕ) where
             )
         statement_form_fine env sc at (n.Call f args) ready calm (b, call, none, acts) typed quiet =
             let formals : formals_of env f ≡ b.formals = ap formals_in (ready.0.blocks f b call.1) in
-            let passes = actuals_fine p m moves shares hush env ready.0 sc ready.1 b.formals args
+            let passes = actuals_fine p m moves shares callable env ready.0 sc ready.1 b.formals args
             (subst (λ z. actuals_sites [] both_lists refusal_list env z args ≡ []) formals calm)
             (ready.0.formals f b call.1) acts in
             let args_ = bare_actuals (of_.actuals (checked_actuals env (formals_of env f) args)) in (
               grown_to_itself env ready.0,
               λ q. (
                 b,
-                subst (λ z. ActualsAt p moves shares AnyInstr AnyTable AnyText hush sc q
+                subst (λ z. ActualsAt p moves shares AnyInstr AnyTable AnyText callable sc q
                     (bare_actuals (of_.actuals (checked_actuals env z args))) b.formals) (sym formals) (passes q),
-                call_at p m moves shares hush env ready.0 sc ready.1 f b call (after_actuals q args_),
+                call_at p m moves shares callable env ready.0 sc ready.1 f b call (after_actuals q args_),
                 none,
                 callable_if_called free sc (In_stmt (plain.Call f args_)) f args_ quiet (inl refl),
               ),
@@ -497,7 +497,7 @@ module _ (p : Program) (m : ℕ) where
             (w.statement_sites [] both_lists refusal_list env a) two.1 in
             let ord = takes_if_none rule.Y10 name (ordinal env) (variable_kind env x) v.kind known.0
             (none_at_site (range_rule env name (variable_kind env x)) parts.0) in
-            let sorted = ordinal_is p m moves shares hush env ready.0 sc ready.1 v.kind ord in
+            let sorted = ordinal_is p m moves shares callable env ready.0 sc ready.1 v.kind ord in
             let l1 = limit env sc ready (variable_kind env x) v.kind known.0 sorted from two.0 in_from in
             let l2 = limit env sc ready (variable_kind env x) v.kind known.0 sorted to three.0 in_to in
             let f_ = bare_expression (checked_expression env from) in
@@ -581,7 +581,7 @@ module _ (p : Program) (m : ℕ) where
             → w.statements_sites [] both_lists refusal_list env ss ≡ [] → InStatements p m sc ss → AreTyped p env ss
             → KeepsRulesHere free sc (In_stmts (bare_statements (of_.statements (checked_statements env ss))))
             → Grown env (statements_after env ss)
-            × ((q : ℕ) → AllAt p moves shares AnyInstr AnyTable AnyText hush free sc q
+            × ((q : ℕ) → AllAt p moves shares AnyInstr AnyTable AnyText callable free sc q
             (bare_statements (of_.statements (checked_statements env ss))))
         statements_fine env sc n.NoStatement ready calm here typed quiet = (grown_to_itself env ready.0, λ q. tt)
         statements_fine env sc (n.AndThen a rest) ready calm (in_a, in_rest) (ta, trest) quiet =
@@ -602,7 +602,7 @@ module _ (p : Program) (m : ℕ) where
             → w.arms_sites [] both_lists refusal_list env arms ≡ [] → InArms p m sc arms → AreTypedArms p env arms
             → KeepsRulesHere free sc (In_arms (bare_arms (of_.arms (checked_arms env arms))))
             → Grown env (arms_after env arms)
-            × ((q end : ℕ) → ArmsAt p moves shares AnyInstr AnyTable AnyText hush free sc q
+            × ((q end : ℕ) → ArmsAt p moves shares AnyInstr AnyTable AnyText callable free sc q
             (bare_arms (of_.arms (checked_arms env arms))) end)
         arms_fine env sc n.NoArm ready calm here typed quiet = (grown_to_itself env ready.0, λ q end. tt)
         arms_fine env sc (n.Or (n.On cs a) rest) ready calm (in_a, in_rest) (ta, trest) quiet =
@@ -623,7 +623,7 @@ module _ (p : Program) (m : ℕ) where
             → w.branches_sites [] both_lists refusal_list env bs ≡ [] → InBranches p m sc bs → AreTypedBranches p env bs
             → KeepsRulesHere free sc (In_stmts (bare_statements (of_.statements (checked_branches env at bs))))
             → Grown env (branches_after env bs)
-            × ((q : ℕ) → ChildrenAt p moves shares AnyInstr AnyTable AnyText hush free sc q
+            × ((q : ℕ) → ChildrenAt p moves shares AnyInstr AnyTable AnyText callable free sc q
             (bare_statements (of_.statements (checked_branches env at bs))))
         branches_fine env sc at n.NoBranch ready calm here typed quiet = (grown_to_itself env ready.0, λ q. tt)
         branches_fine env sc at (n.Beside ss rest) ready calm (in_ss, in_rest) (ts, trest) quiet =

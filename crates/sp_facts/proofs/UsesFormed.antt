@@ -19,7 +19,7 @@ use Rattle.sp_code.specs.CodeOfTree.{WidthAt, RightAt, StandsAt, AllAt, Children
 
 module _ (p : Program) (input : (v : Variable) × (slice_get p.variables 0 ≡ Some v) × (v.role ≡ role.Console))
     (output : (v : Variable) × (slice_get p.variables 1 ≡ Some v) × (v.role ≡ role.Console))
-    (moves shares : Stmt → List ℕ) (hush : ℕ → Type 0) where
+    (moves shares : Stmt → List ℕ) (callable : ℕ → Type 0) where
   abbrev pub IsGoodUse : Use → Type 0
   IsGoodUse (use_of.Target x) = (v : Variable) × (slice_get p.variables x ≡ Some v) × (v.role ≡ role.Index → ⊥)
   IsGoodUse (Seen x) = x ≡ 1 → ⊥
@@ -29,25 +29,25 @@ module _ (p : Program) (input : (v : Variable) × (slice_get p.variables 0 ≡ S
   IsGoodUse Stop = Unit {0}
 
   abbrev Value : List Scope → ℕ → Expr → Type 0
-  Value = ValueAt p moves shares AnyInstr AnyTable AnyText hush
+  Value = ValueAt p moves shares AnyInstr AnyTable AnyText callable
 
   abbrev Form : List Scope → ℕ → ℕ → ExprForm → Type 0
-  Form = FormAt p moves shares AnyInstr AnyTable AnyText hush
+  Form = FormAt p moves shares AnyInstr AnyTable AnyText callable
 
   abbrev Place : List Scope → ℕ → Var → ℕ → Type 0
-  Place = PlaceAt p moves shares AnyInstr AnyTable AnyText hush
+  Place = PlaceAt p moves shares AnyInstr AnyTable AnyText callable
 
   abbrev Selected : List Scope → ℕ → Selectors → ℕ → ℕ → Type 0
-  Selected = SelectedAt p moves shares AnyInstr AnyTable AnyText hush
+  Selected = SelectedAt p moves shares AnyInstr AnyTable AnyText callable
 
   abbrev ActualsInCode : List Scope → ℕ → Actuals → List ℕ → Type 0
-  ActualsInCode = ActualsAt p moves shares AnyInstr AnyTable AnyText hush
+  ActualsInCode = ActualsAt p moves shares AnyInstr AnyTable AnyText callable
 
   abbrev Target : Var → Type 0
-  Target = IsTarget p moves shares AnyInstr AnyTable AnyText hush
+  Target = IsTarget p moves shares AnyInstr AnyTable AnyText callable
 
   abbrev StatementInCode : List Scope → ℕ → Stmt → Type 0
-  StatementInCode = StandsAt p moves shares AnyInstr AnyTable AnyText hush true
+  StatementInCode = StandsAt p moves shares AnyInstr AnyTable AnyText callable true
 
   no_index : (r : Role) → NoIndex r → r ≡ role.Index → ⊥
   no_index role.Console d e = cc e
@@ -57,11 +57,12 @@ module _ (p : Program) (input : (v : Variable) × (slice_get p.variables 0 ≡ S
   no_index role.Index d e = d
   no_index role.Answer d e = cc e
 
-  no_output : (sc : List Scope) (q x k : ℕ) → VarAt p moves shares AnyInstr AnyTable AnyText hush sc q x k → x ≡ 1 → ⊥
+  no_output : (sc : List Scope) (q x k : ℕ) → VarAt p moves shares AnyInstr AnyTable AnyText callable sc q x k → x ≡ 1
+      → ⊥
   no_output sc q x k (v, at, kind, r) e =
       let s : v ≡ output.0 = same_Some v output.0
       (sym (subst (λ z. slice_get p.variables z ≡ Some v) e at) ∙ output.1) in
-      subst (VarRole p moves shares AnyInstr AnyTable AnyText hush sc q x v)
+      subst (VarRole p moves shares AnyInstr AnyTable AnyText callable sc q x v)
       (ap (λ (z : Variable). z.role) s ∙ output.2) r
 
   console_not : (r : Role) → r ≡ role.Console → r ≡ role.Index → ⊥
@@ -123,12 +124,13 @@ module _ (p : Program) (input : (v : Variable) × (slice_get p.variables 0 ≡ S
         actuals_uses sc (after_var q v) rest xs more u i
 
   width_uses : (sc : List Scope) (q : ℕ) (w : Option Expr)
-      → WidthAt p moves shares AnyInstr AnyTable AnyText hush sc q w → (u : Use) → In_width w u → IsGoodUse u
+      → WidthAt p moves shares AnyInstr AnyTable AnyText callable sc q w → (u : Use) → In_width w u → IsGoodUse u
   width_uses sc q None h u i = absurd i
   width_uses sc q (Some e) h u i = value_uses sc q e h.0 u i
 
   right_uses : (sc : List Scope) (q k : ℕ) (s : Sort) (form : ExprForm)
-      → RightAt p moves shares AnyInstr AnyTable AnyText hush sc q k s form → (u : Use) → In_form form u → IsGoodUse u
+      → RightAt p moves shares AnyInstr AnyTable AnyText callable sc q k s form → (u : Use) → In_form form u
+      → IsGoodUse u
   right_uses sc q k Ordinals form h u i = form_uses sc q k form h.0 u i
   right_uses sc q k Channels form h u i = form_uses sc q k form h.0 u i
   right_uses sc q k Many (Read v) h u i = read_uses sc q v k h.0 u i
@@ -206,21 +208,22 @@ module _ (p : Program) (input : (v : Variable) × (slice_get p.variables 0 ≡ S
         target_uses sc (after_value q c) v k at target u i
     stands_uses sc q (Receive c v) h u (inr (inr e)) = of_stop u e
 
-    all_uses : (sc : List Scope) (q : ℕ) (ss : Stmts) → AllAt p moves shares AnyInstr AnyTable AnyText hush true sc q ss
+    all_uses : (sc : List Scope) (q : ℕ) (ss : Stmts)
+        → AllAt p moves shares AnyInstr AnyTable AnyText callable true sc q ss
         → (u : Use) → In_stmts ss u → IsGoodUse u
     all_uses sc q No h u i = absurd i
     all_uses sc q (And s rest) h u (inl i) = stands_uses sc q s h.0 u i
     all_uses sc q (And s rest) h u (inr i) = all_uses sc (after_statement p q s) rest h.1 u i
 
     children_uses : (sc : List Scope) (q : ℕ) (ss : Stmts)
-        → ChildrenAt p moves shares AnyInstr AnyTable AnyText hush true sc q ss → (u : Use) → In_stmts ss u
+        → ChildrenAt p moves shares AnyInstr AnyTable AnyText callable true sc q ss → (u : Use) → In_stmts ss u
         → IsGoodUse u
     children_uses sc q No h u i = absurd i
     children_uses sc q (And s rest) h u (inl i) = stands_uses sc q s h.0 u i
     children_uses sc q (And s rest) h u (inr i) = children_uses sc (after_statement p q s + 1) rest h.2 u i
 
     arms_uses : (sc : List Scope) (q : ℕ) (arms : Arms) (end : ℕ)
-        → ArmsAt p moves shares AnyInstr AnyTable AnyText hush true sc q arms end → (u : Use) → In_arms arms u
+        → ArmsAt p moves shares AnyInstr AnyTable AnyText callable true sc q arms end → (u : Use) → In_arms arms u
         → IsGoodUse u
     arms_uses sc q NoArm end h u i = absurd i
     arms_uses sc q (Or (On ms s) rest) end h u (inl i) = stands_uses sc q s h.0 u i

@@ -96,7 +96,7 @@ done_by : (text : List ℕ) (ts : List Token) → Scans text text [] ts
 done_by text ts x f Done q = refl
 done_by text ts x f (StuckAt w rest) q =
     let r = refusal_of text w rest in
-    let b = first_broken text ts x r (record { why = w; rest = rest; by = q; is = refl }) in
+    let b = first_broken text ts x r (record { why = w; rest = rest; proof = q; refusal_is = refl }) in
     absurd (f r.rule r.at b.breaks)
 
 gap_same : (s : Symbol) (t u : Token) → skips_if (gap s t) ≡ skips_if (gap s u)
@@ -180,15 +180,15 @@ canonical_tree {text} {is} (p, t) x l =
     )
 
 pub accepted : {text out : List ℕ} → HasTree text → IsCanonical text out → HasTree out
-accepted {text} {out} t p = subst HasTree (back_of p.is)
-    (canonical_tree t p.has (subst (λ o. length o ≤ 1048576) p.is p.short))
+accepted {text} {out} t p = subst HasTree (back_of p.text_is)
+    (canonical_tree t p.has (subst (λ o. length o ≤ 1048576) p.text_is p.short))
 
 -- it is its own canonical text
 pub is_own : {text out : List ℕ} → HasTree text → IsCanonical text out → IsCanonical out out
 is_own {text} {out} t p = record {
   items = p.items;
-  has = subst (λ o. HasItems o p.items) (back_of p.is) (has_items (canonical_kept t.0 t.1 p.has).kept);
-  is = p.is;
+  has = subst (λ o. HasItems o p.items) (back_of p.text_is) (has_items (canonical_kept t.0 t.1 p.has).kept);
+  text_is = p.text_is;
   short = p.short;
 }
 
@@ -198,7 +198,7 @@ pub not_refused : {text out : List ℕ} (r : Refusal) → HasTree text → IsCan
 not_refused {text} {out} r t p (inl b) = let h = accepted t p in not_both out h.0 r h.1 b
 not_refused {text} {out} r t p (inr (h, b)) =
     let o = is_own t p in
-    let same : canonical_text b.items ≡ out = ap canonical_text (one_items b.has o.has) ∙ back_of o.is in
+    let same : canonical_text b.items ≡ out = ap canonical_text (one_items b.has o.has) ∙ back_of o.text_is in
     let l = b.long in
     let m = p.short in
     omega (arith, ap length same)

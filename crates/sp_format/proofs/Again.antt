@@ -170,7 +170,7 @@ word_again k b bs u h x w r s =
     ∙ ap (map lower_case_letter) (back_of e) in
     let l : Longest k (lower_case_letter b ∷ (c ++ r)) r =
     longest_name (lower_case_letter b ∷ (c ++ r)) (c ++ r) r (lower_case_letter b) k refl (lower_letter b h)
-    (record { is = y.again r; longest = λ other z. stops_behind c r s z })
+    (record { run = y.again r; longest = λ other z. stops_behind c r s z })
     (subst (λ v. IsWordOf v k) (back_of f) w) in
     subst (λ v. ReadsToken k (map lower_case_letter v) r) (back_of e)
     (letter_opens (lower_case_letter b) (c ++ r) (lower_letter b h), l)
@@ -182,7 +182,7 @@ number_again b bs u h x r s =
     let e : front (b ∷ bs) u ≡ b ∷ y.bytes = front_is (b ∷ bs) (b ∷ y.bytes) u (ap (λ l. b ∷ l) y.whole) in
     let l : Longest kind.Number (b ∷ (y.bytes ++ r)) r =
     longest_number (b ∷ (y.bytes ++ r)) (y.bytes ++ r) r b refl h
-    (record { is = y.again r; longest = λ other z. stops_behind y.bytes r s z }) in
+    (record { run = y.again r; longest = λ other z. stops_behind y.bytes r s z }) in
     subst (λ v. ReadsToken kind.Number v r) (back_of e) (digit_opens b (y.bytes ++ r) h, l)
 
 text_again : (q : ℕ) (bs u : List ℕ) → q ≡ 39 → TextBody bs u → (r : List ℕ) → Lacks 39 r
@@ -263,8 +263,8 @@ sign_again_by n b s u h f o r g =
       sign_opens b s r u f o g,
       longest_sign (b ∷ (s ++ r)) (s ++ r) r b n refl (false_from_ne_true (is_letter b) (no_letter b p))
           (false_from_ne_true (is_digit b) (no_digit b p)) (no_quote b p)
-          (record { text = b ∷ s; is = h; all = refl })
-          (λ m r' l x. sign_bound (b ∷ s) x.text r r' f (each_at SignForm signs m x.text signs_form x.is) g x.all),
+          (record { text = b ∷ s; sign_is = h; all = refl })
+          (λ m r' l x. sign_bound (b ∷ s) x.text r r' f (each_at SignForm signs m x.text signs_form x.sign_is) g x.all),
     )
 
 sign_again : (n : ℕ) (s bs u : List ℕ) → slice_get signs n ≡ Some s → SignForm s → bs ≡ s ++ u

@@ -358,4 +358,4 @@ far_by (inr (w, us, h, q)) = absurd (omega arith)
 pub program_apart : (text : List ℕ) (ts : List Token) (p : Program) → Spells text ts p
     → apart_from kind.Name (map (λ t. t.kind) ts)
 program_apart text ts p h = run_apart ts (AProgram ∷ []) kind.Name refl refl
-    (far_by (leads text Any None 0 (λ d ts o. inl refl) (program text Any h) []).by)
+    (far_by (leads text Any None 0 (λ d ts o. inl refl) (program text Any h) []).proof)

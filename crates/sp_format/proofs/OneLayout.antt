@@ -10,7 +10,7 @@ use Rattle.sp_format.proofs.Walking.{one_items, one_text}
 long_or_short : {text out : List ℕ} {r : Refusal} → IsCanonical text out → IsLong text r → ⊥
 long_or_short {out = out} x y =
     let same : length out ≡ length (canonical_text y.items) =
-    ap length (x.is ∙ ap canonical_text (one_items x.has y.has)) in
+    ap length (x.text_is ∙ ap canonical_text (one_items x.has y.has)) in
     absurd (omega (arith, same, x.short, y.long))
 
 pub one_layout : (text a b : List ℕ) → HasLayout text a → HasLayout text b → a ≡ b
@@ -20,7 +20,7 @@ pub one_refusal : (text : List ℕ) (a b : Refusal) → HasNoLayout text a → H
 one_refusal text a b (inl x) (inl y) = one_verdict text a b x y
 one_refusal text a b (inl x) (inr y) = absurd (not_both text y.0.0 a y.0.1 x)
 one_refusal text a b (inr x) (inl y) = absurd (not_both text x.0.0 b x.0.1 y)
-one_refusal text a b (inr x) (inr y) = x.1.is ∙ sym y.1.is
+one_refusal text a b (inr x) (inr y) = x.1.refusal_is ∙ sym y.1.refusal_is
 
 pub layout_or_refusal : (text out : List ℕ) (r : Refusal) → HasLayout text out → HasNoLayout text r → ⊥
 layout_or_refusal text out r x (inl y) = not_both text x.0.0 r x.0.1 y

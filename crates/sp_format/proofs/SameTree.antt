@@ -328,7 +328,7 @@ pub same_tree : (text out : List ℕ) (p : Program) → IsTree text p → IsCano
 same_tree text out p t c =
     let other = accepted (p, t) c in
     let a = listed text [] refl c.has in
-    let b = listed out [] refl (subst (λ o. HasItems o c.items) (back_of c.is) (canonical_items (p, t) c.has)) in
+    let b = listed out [] refl (subst (λ o. HasItems o c.items) (back_of c.text_is) (canonical_items (p, t) c.has)) in
     let is : t.tokens ≡ a.tokens = one_list text t.are_tokens.scans a.scans in
     let us : other.1.tokens ≡ b.tokens = one_list out other.1.are_tokens.scans b.scans in
     record {

@@ -285,7 +285,7 @@ module _ {text rest out others : List ℕ} {context : Context} (after : List ℕ
       ap length (laid_by q),
       length-append o (items_layout (item_from k rest after ∷ x.before) here.next.others),
     );
-    is = w;
+    refusal_is = w;
   }
 
 none_left : {rest : List ℕ} {is : List Item} → rest ≡ [] → HasItems rest is → is ≡ []
@@ -299,7 +299,7 @@ pub lay_done : {text rest out : List ℕ} {context : Context} (o : List ℕ) →
 lay_done {out = out} o e h q x = record {
   items = x.all;
   has = x.has_all;
-  is = q ∙ ap (λ l. l ++ 10 ∷ []) (back_of (append-nil out)
+  text_is = q ∙ ap (λ l. l ++ 10 ∷ []) (back_of (append-nil out)
       ∙ ap (λ l. out ++ items_layout x.before l) (back_of (none_left e x.has)) ∙ x.out_is);
   short = omega (arith, ap length q, length-append out (10 ∷ []));
 }
@@ -308,7 +308,7 @@ lay_done {out = out} o e h q x = record {
 
 pub same_text : {text other a b : List ℕ} {is : List Item} → HasItems text is → HasItems other is → IsCanonical text a
     → IsCanonical other b → a ≡ b
-same_text x y p q = p.is ∙ ap canonical_text (one_items p.has x ∙ one_items y q.has) ∙ back_of q.is
+same_text x y p q = p.text_is ∙ ap canonical_text (one_items p.has x ∙ one_items y q.has) ∙ back_of q.text_is
 
 pub one_text : {text a b : List ℕ} → IsCanonical text a → IsCanonical text b → a ≡ b
 one_text p q = same_text p.has p.has p q

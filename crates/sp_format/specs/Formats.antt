@@ -18,7 +18,7 @@ use Rattle.sp_format.specs.Layout.{canonical_text}
 pub record IsCanonical (text out : List ℕ) : Type 0 where
   pub items : List Item
   pub has : HasItems text items
-  pub is : out ≡ canonical_text items
+  pub text_is : out ≡ canonical_text items
   pub short : length out ≤ 1048576
 
 -- The canonical text would be longer than a text may be.
@@ -26,7 +26,7 @@ pub record IsLong (text : List ℕ) (r : Refusal) : Type 0 where
   pub items : List Item
   pub has : HasItems text items
   pub long : 1048576 < length (canonical_text items)
-  pub is : r ≡ record { rule = rule.L1; at = start }
+  pub refusal_is : r ≡ record { rule = rule.L1; at = start }
 
 -- the answer of the writing; want of memory is free
 abbrev pub Lays : List ℕ → Result (Vec ℕ Global) Halt → Type 0

@@ -58,7 +58,7 @@ module _ (text : List ℕ) (ts : List Token) (are : IsTokens text ts) where
       ts,
       are,
       first_broken text ts are.scans (refusal_of text w rest)
-          (record { why = w; rest = rest; by = q; is = refl }),
+          (record { why = w; rest = rest; proof = q; refusal_is = refl }),
     ),
   )
 

@@ -216,8 +216,8 @@ module _ (text : List ℕ) (ts : List Token) (scans : Scans text text [] ts) whe
 
   -- where the machine gets stuck, the first rule is broken
   pub first_broken : (r : Refusal) → GetsStuck text ts (AProgram ∷ []) r → IsFirst (BreaksGrammar text ts) r
-  first_broken r s = let b = splits nesting ts (AProgram ∷ []) s.why s.rest s.by in
-      subst (IsFirst (BreaksGrammar text ts)) s.is (by_stop s.why s.rest b b.stops)
+  first_broken r s = let b = splits nesting ts (AProgram ∷ []) s.why s.rest s.proof in
+      subst (IsFirst (BreaksGrammar text ts)) s.refusal_is (by_stop s.why s.rest b b.stops)
 
 -- Tokens of a program none of whose parts lies too deep break no rule.
 shallow_whole : (text : List ℕ) (ts : List Token) (p : Program) → IsProgram text (Shallow nesting 0) ts [] p

@@ -42,7 +42,10 @@ module _ (text : List ℕ) (Ok : ℕ → List Token → Type 0) (reach : Option 
 
   infixl 10 ◌⨾◌
   ◌⨾◌ : {a b c : List Token} {i j l : List Symbol} → L a i b j → L b j c l → L a i c l
-  ◌⨾◌ {a} {b} {c} {i} {j} {l} p q = record { by = join (run reach a i) (run reach b j) (run reach c l) p.by q.by }
+  ◌⨾◌ {a} {b} {c} {i} {j} {l} p q = record {
+    proof = join (run reach a i) (run reach b j)
+        (run reach c l) p.proof q.proof;
+  }
 
   may_begin : (p : Option ℕ) (ts : List Token) → PartMayBegin Ok p ts → (allows reach p ≡ true) ⊎ (length ts < k)
   may_begin None ts h = inl (allows_none reach)
@@ -52,12 +55,12 @@ module _ (text : List ℕ) (Ok : ℕ → List Token → Type 0) (reach : Option 
       → look (rows s) t.kind ≡ Some e → (b : Bool) → allows reach (part s) ≡ b → (allows reach (part s) ≡ true)
       ⊎ (length (t ∷ ts) < k) → L (t ∷ ts) (s ∷ q) ts (e.left ++ q)
   step s t ts q e h true p o = record {
-    by =
+    proof =
         inl (at_act reach s t ts q (Take e.left) (act_takes reach s t e true h p));
   }
   step s t ts q e h false p (inl o) = absurd cc
   step s t ts q e h false p (inr o) = record {
-    by =
+    proof =
         inr (Deep, t ∷ ts, o, at_act reach s t ts q (Fail Deep) (act_takes reach s t e false h p));
   }
 
@@ -66,9 +69,9 @@ module _ (text : List ℕ) (Ok : ℕ → List Token → Type 0) (reach : Option 
         → L ts (s ∷ q) r q
     leads {s} (takes t e h g x) q = step s t _ q e h (allows reach (part s)) refl (may_begin (part s) _ g) ⨾ leads_all x
         q
-    leads {s} (skips t {v} h g) q = record { by = inl (at_act reach s t _ q Skip (act_skips reach s t v h g)) }
+    leads {s} (skips t {v} h g) q = record { proof = inl (at_act reach s t _ q Skip (act_skips reach s t v h g)) }
 
     pub leads_all : {l : List Symbol} {ts r : List Token} {vs : Values l} → DerivesAll text Ok l ts r vs
         → (q : List Symbol) → L ts (l ++ q) r q
-    leads_all none q = record { by = inl refl }
+    leads_all none q = record { proof = inl refl }
     leads_all {l = s ∷ l} (and x xs) q = leads x (l ++ q) ⨾ leads_all xs q

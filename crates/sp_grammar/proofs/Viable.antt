@@ -174,7 +174,7 @@ module _ (limit : ℕ) where
     far_by (inr (w, us, h, q)) = absurd (omega arith)
 
     far_done : {ts : List Token} {p : Program} → Spells text ts p → run None ts (AProgram ∷ []) ≡ Done
-    far_done h = far_by (leads text Any None 0 (λ d ts o. inl refl) (program text Any h) []).by
+    far_done h = far_by (leads text Any None 0 (λ d ts o. inl refl) (program text Any h) []).proof
 
     -- a part that begins in tokens of which more than k are left may begin for the machine with the limit
     bound : (k d : ℕ) (ts : List Token) → Shallow limit k d ts → ltb d limit ≡ false → (k < length ts) ⊎ (length ts ≤ k)
@@ -191,7 +191,7 @@ module _ (limit : ℕ) where
         → (run (Some limit) ts (AProgram ∷ []) ≡ Done)
         ⊎ ((w : Why) × (us : List Token) × (length us < suc k) × (run (Some limit) ts (AProgram ∷ []) ≡ StuckAt w us))
     shallow_done {k} h = (leads text (Shallow limit k) (Some limit) (suc k)
-        (λ d ts g. reaches_by k d ts g (ltb d limit) refl) (program text (Shallow limit k) h) []).by
+        (λ d ts g. reaches_by k d ts g (ltb d limit) refl) (program text (Shallow limit k) h) []).proof
 
     regroup : (front us : List Token) (t : Token) → front ++ t ∷ us ≡ (front ++ t ∷ []) ++ us
     regroup front us t = back_of (append_assoc front (t ∷ []) us)

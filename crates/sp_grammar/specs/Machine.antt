@@ -83,5 +83,5 @@ run reach (t ∷ ts) stack = end_from (next_behind reach stack t) (t ∷ ts) (ru
 pub record RunContinues (reach : Option ℕ) (k : ℕ) (ts : List Token) (j : List Symbol) (r : List Token)
     (l : List Symbol) :
     Type 0 where
-  pub by : (run reach ts j ≡ run reach r l) ⊎ ((w : Why) × (us : List Token) × (length us < k)
+  pub proof : (run reach ts j ≡ run reach r l) ⊎ ((w : Why) × (us : List Token) × (length us < k)
       × (run reach ts j ≡ StuckAt w us))

@@ -22,5 +22,5 @@ refusal_of text Deep (t ∷ ts) = record { rule = rule.L2; at = t.at }
 pub record GetsStuck (text : List ℕ) (ts : List Token) (stack : List Symbol) (r : Refusal) : Type 0 where
   pub why : Why
   pub rest : List Token
-  pub by : run (Some nesting) ts stack ≡ StuckAt why rest
-  pub is : refusal_of text why rest ≡ r
+  pub proof : run (Some nesting) ts stack ≡ StuckAt why rest
+  pub refusal_is : refusal_of text why rest ≡ r

@@ -426,7 +426,7 @@ module _ (g : CodeRun) (k : KeepsCodeRules g.code) (e : KeepsEffects g.code (Doe
             let v = stopped x d is in
             happens_apart x (process_at_entry d) (at_entry d v.0) (writes_at_entry x d v.1)
             (λ t n u o. split d t n u (record {
-              at = c0;
+              configuration = c0;
               runs = runs;
               turn = subst
                   (λ z. IsTurn (memory plain g) g.code c0 (Stopped z d)) o is;
@@ -436,7 +436,7 @@ module _ (g : CodeRun) (k : KeepsCodeRules g.code) (e : KeepsEffects g.code (Doe
             }))
             (λ y left h o b at. subst (λ z. CanJoin (store_of h) z) (sym (same_store d))
             (sound.ends q left y d h (record {
-              at = c0;
+              configuration = c0;
               runs = runs;
               turn = subst
                   (λ z. IsTurn (memory plain g) g.code c0 (Stopped z d)) o is;

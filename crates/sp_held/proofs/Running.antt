@@ -134,11 +134,11 @@ module _ (g : CodeRun) (k : KeepsCodeRules g.code) (e : KeepsEffects g.code (Doe
         s h in
         w y.0 s (may_store g k e known a y.0 i (record {
           areas = [];
-          by = inr (
+          proof = inr (
             p,
             ch.number,
             ch.table,
-            (passes g.code a p ss way, ch.is),
+            (passes g.code a p ss way, ch.table_is),
             subst
                 (λ (z : ChildTable). IsMember y.0 z.moved) ch.begins y.1,
           );
@@ -167,7 +167,7 @@ module _ (g : CodeRun) (k : KeepsCodeRules g.code) (e : KeepsEffects g.code (Doe
     stop_at x q s1 m ne s h t here =
         let same = same_area x t.area s.area (areas_of t.callers) (areas_of s.callers) m here ne in (
           out (At q s1 m) (s, h),
-          stop_writes x t.area t.at q t.shapes s1 m t.callers t.there t.reached t.so
+          stop_writes x t.area t.position q t.shapes s1 m t.callers t.there t.reached t.so
               (subst (λ a. WritesWell g.code r m.store.moved a m.frames) (sym same)
               (subst (λ z. WritesWell g.code z m.store.moved s.area m.frames) h.1
               (newest_writes g.code m.process m.store.moved s.area (areas_of s.callers) m.frames h.0.3))),
@@ -203,7 +203,7 @@ module _ (g : CodeRun) (k : KeepsCodeRules g.code) (e : KeepsEffects g.code (Doe
 
         go : (t : Bool) → BeginsOrFaults t c (Faulted f d) (Runs (memory plain g) g.code c (Faulted f d)) → Out d
         go true h = subst Out (sym h.2.1)
-            (out h.0 (safe.comes_in plain g k IsHoldingChanged holds_ready holds_kept h.1.steps c h.0 w h.1.by))
+            (out h.0 (safe.comes_in plain g k IsHoldingChanged holds_ready holds_kept h.1.steps c h.0 w h.1.proof))
         go false h = subst Out (sym (same _ c h)) (out c w)
 
   -- ---- from a process that lives and stands

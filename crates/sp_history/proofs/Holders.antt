@@ -440,7 +440,7 @@ module _ (g : CodeRun) (s : System Plain) (q : ℕ) (c0 : Config (Memory Plain))
       by_fault None w e (Faulted f d) is k = laid d true k
       by_fault None w e (Stopped stop d) is k =
           happens_held stop d k.1 k.0.1 (record {
-            at = c0;
+            configuration = c0;
             runs = runs;
             turn = subst (IsTurn (memory plain g) g.code c0) is turn;
             quiet = w;
@@ -478,7 +478,7 @@ opening_held g = record {
     here = (plain.root (sizes_of (m.layout_of g.code.layouts 0)), refl);
     stores = λ q p e. stores p (q == 0) e;
     up = λ q b e. absurd (cc e);
-    one = λ q r b d e. absurd (cc e);
+    siblings = λ q r b d e. absurd (cc e);
     had = λ q b p e. absurd (cc e);
     not_had = λ q b p e. absurd (cc e);
     aims = λ q. aims (q == 0);
@@ -591,7 +591,7 @@ module _ (g : CodeRun) where
         t.0,
         record {
           store = p.0;
-          at = p.1;
+          store_is = p.1;
           output = t.1;
           only = λ r u cs w o. h.shared.only r
               (is_holding (h.share r) u (h.shared.stores r u w) (text_output (map.get u.map output_spot) cs o));

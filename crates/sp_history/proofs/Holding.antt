@@ -69,7 +69,7 @@ module _ (share : ℕ → Share) (holder : ℕ) (birth : ℕ → Option Birth) w
     here = here (number_or z holder);
     stores = λ q r e. stores q r (at_store q r e);
     up = h.up;
-    one = h.one;
+    siblings = h.siblings;
     had = λ q b r w e k. had q b r w k (at_store q r e);
     not_had = λ q b r w e n k. not_had q b r w n k (at_store q r e);
     aims = λ q. aims_at q (number_or z q);
@@ -259,7 +259,7 @@ module _ (share : ℕ → Share) (holder : ℕ) (birth : ℕ → Option Birth) (
       here = here (number_or b.parent holder);
       stores = λ r t e. stores r t (join_store r t e);
       up = h.up;
-      one = h.one;
+      siblings = h.siblings;
       had = λ r d t w e k. had r d t w k (join_store r t e);
       not_had = λ r d t w e n k. not_had r d t w n k (join_store r t e);
       aims = join_aims;
@@ -345,7 +345,7 @@ module _ (share : ℕ → Share) (holder : ℕ) (birth : ℕ → Option Birth) (
       here = (plain.joined m p, ap store_in at_parent ∙ now);
       stores = λ r t e. stores r t (join_store r t e);
       up = λ r d w i. up r d w i (which r) (which d.parent);
-      one = λ r t d e w v z i j. h.one r t d e w v z (part_was r i) (part_was t j);
+      siblings = λ r t d e w v z i j. h.siblings r t d e w v z (part_was r i) (part_was t j);
       had = λ r d t w e k. had r d t w (part_was r k) (join_store r t e);
       not_had = λ r d t w e n k. not_had r d t w n (part_was d.parent k) (join_store r t e);
       aims = join_aims;
@@ -385,7 +385,7 @@ module _ (share : ℕ → Share) (holder : ℕ) (birth : ℕ → Option Birth) (
         up r d w i (Parent e) (Parent k) = absurd (omega (arith, order r d w, k, e))
         up r d w i (Another n v) (Another l k) = next_other d.parent l k ∙ h.up r d w (part_was r i)
         up r d w i (Another n v) (Child k) = absurd (hold_lend (sym mine ∙ ap share k ∙ h.up r d w (part_was r i)))
-        up r d w i (Another n v) (Parent k) = absurd (v (h.one q r b d born w k part (part_was r i)))
+        up r d w i (Another n v) (Parent k) = absurd (v (h.siblings q r b d born w k part (part_was r i)))
 
         had : (r : ℕ) (d : Birth) (t : Plain) → birth r ≡ Some d → IsPart (share r)
             → ((b.parent ≡ r) × (plain.joined m p ≡ t)) ⊎ ((b.parent ≢ r) × (q ≢ r) × (store_in (f r) ≡ Some t))

@@ -36,17 +36,18 @@ use Rattle.sp_history.specs.Channels.{CellHas, CellsHave, EntriesHave, ConfigHas
 -- what the operations of a memory keep of I, where each channel that they are handed is one of C
 pub record HasKeeping {M : Type 0} (ops : Ops M) (C : ℕ → Type 0) (I : M → Type 0) (J : ℕ → Address → M → Type 0) : Type
     0 where
-  pub look : (a : Address) (n : M) → I n → CellHas C (ops.read a n)
+  pub read : (a : Address) (n : M) → I n → CellHas C (ops.read a n)
   pub cells : (a : Address) (k : ℕ) (n : M) → I n → CellsHave C (ops.cells a k n)
   pub put : (a : Address) (c : Cell) (n : M) → I n → ops.has a 1 n ≡ true → CellHas C c → I (ops.put a c n)
-  pub read : (a : Address) (v : ℤ) (k : ℕ) (bs : List ℕ) (n : M) → I n → ops.has a 1 n ≡ true → ops.left n ≡ Some bs
+  pub read_item : (a : Address) (v : ℤ) (k : ℕ) (bs : List ℕ) (n : M) → I n → ops.has a 1 n ≡ true
+      → ops.left n ≡ Some bs
       → I (ops.put a (cell.Ordinal v) (ops.advance k n))
   pub advance : (k : ℕ) (bs : List ℕ) (n : M) → I n → ops.left n ≡ Some bs → I (ops.advance k n)
   pub copy : (to from : Address) (k : ℕ) (n : M) → I n → ops.has to k n ≡ true → I (ops.copy to from k n)
-  pub own : (a : Address) (k : ℕ) (n : M) → I n → ops.has a k n ≡ true → I (ops.make_own a n)
+  pub make_own : (a : Address) (k : ℕ) (n : M) → I n → ops.has a k n ≡ true → I (ops.make_own a n)
   pub target : (a : Address) (k : ℕ) (n : M) → I n → ops.has a k n ≡ true → J k a (ops.make_own a n)
   pub print : (t : List ℕ) (n m : M) → I n → ops.has_output n ≡ true → ops.print t n ≡ Done m → I m
-  pub beat : (n m : M) → I n → ops.tick n ≡ Done m → I m
+  pub tick : (n m : M) → I n → ops.tick n ≡ Done m → I m
   pub open_frame : (l : Layout) (up : ℕ) (es : List Entry) (n m : M) → I n → EntriesHave C es
       → ops.open_frame l up es n ≡ Done m → I m
   pub close_frame : (n : M) → I n → ops.may_close n ≡ true → I (ops.close_frame n)
@@ -191,7 +192,7 @@ module _ {M : Type 0} (ops : Ops M) (code : Parts) (C : ℕ → Type 0) (I : M �
     taken_keeps : (t : ReadResult) (a : Address) (bs : List ℕ) (st1 : List Entry) → EntriesHave C st1
         → ops.has a 1 n ≡ true
         → ops.left n ≡ Some bs → OneHas C I J (item_step ops code t a (pc + 1) st1 n)
-    taken_keeps (ReadItem v k) a bs st1 f w x = (f, law.read a v k bs n h w x)
+    taken_keeps (ReadItem v k) a bs st1 f w x = (f, law.read_item a v k bs n h w x)
     taken_keeps (Faulty g) a bs st1 f w x = tt
 
     reads_keeps : (item : List ℕ → ReadResult) → OneHas C I J (reads ops code item (pc + 1) st n)
@@ -261,7 +262,7 @@ module _ {M : Type 0} (ops : Ops M) (code : Parts) (C : ℕ → Type 0) (I : M �
       (λ w. k_ordinal C I J (ops.read a n) _ (λ v. ((tt, f), h))))
   instruction_keeps (Some i.Loadc) pc st n e h =
       k_address C I J st _ e (λ a st1 f. k_when C I J (ops.has a 1 n) _
-      (λ w. k_channel_in C I J (ops.read a n) _ (law.look a n h) (λ c k. ((k, f), h))))
+      (λ w. k_channel_in C I J (ops.read a n) _ (law.read a n h) (λ c k. ((k, f), h))))
   instruction_keeps (Some i.Store) pc st n e h =
       k_cell C I J st _ e (λ c st1 k f. k_address C I J st1 _ f
       (λ a st2 j. k_when C I J (ops.has a 1 n) _ (λ w. (j, law.put a c n h w k))))
@@ -297,7 +298,7 @@ module _ {M : Type 0} (ops : Ops M) (code : Parts) (C : ℕ → Type 0) (I : M �
       k_number C I J st _ e (λ u st1 f. k_if C I J (same_ordinal u v) _ _ (f, h) ((tt, f), h))
   instruction_keeps (Some i.Nocase) pc st n e h = tt
   instruction_keeps (Some i.Tick) pc st n e h =
-      k_then C I J (ops.tick n) _ (λ m d. paced_keeps pc st n e h (pc + 1) st m e (law.beat n m h d))
+      k_then C I J (ops.tick n) _ (λ m d. paced_keeps pc st n e h (pc + 1) st m e (law.tick n m h d))
   instruction_keeps (Some i.Assume) pc st n e h =
       k_number C I J st _ e (λ v st1 f. k_if C I J (not (int_le v (pos 0))) _ _ (f, h) tt)
   instruction_keeps (Some (i.Forup var to)) pc st n e h = begins_keeps pc st n e h false var to
@@ -331,12 +332,12 @@ module _ {M : Type 0} (ops : Ops M) (code : Parts) (C : ℕ → Type 0) (I : M �
       k_address C I J st _ e (λ a st1 f. k_when C I J (ops.has a k n) _ (λ w. ((law.cells a k n h, f), h)))
   instruction_keeps (Some i.Open) pc st n e h =
       k_address C I J st _ e (λ a st1 f. k_when C I J (ops.has a 1 n) _
-      (λ w. ((tt, law.target a 1 n h w), (f, law.own a 1 n h w))))
+      (λ w. ((tt, law.target a 1 n h w), (f, law.make_own a 1 n h w))))
   instruction_keeps (Some (i.Send k)) pc st n e h =
       k_cells C I J st _ e (λ cs st1 d f. k_channel C I J st1 _ f (λ c st2 x k. (((x, d), tt), (k, h))))
   instruction_keeps (Some (i.Receive k)) pc st n e h =
       k_address C I J st _ e (λ a st1 f. k_channel C I J st1 _ f
-      (λ c st2 x k. k_when C I J (ops.has a 0 n) _ (λ w. ((x, law.target a 0 n h w), (k, law.own a 0 n h w)))))
+      (λ c st2 x k. k_when C I J (ops.has a 0 n) _ (λ w. ((x, law.target a 0 n h w), (k, law.make_own a 0 n h w)))))
   instruction_keeps (Some (i.Fork t)) pc st n e h =
       k_there C I J (slice_get code.forks t) _
       (λ table x. forked_keeps pc st n e h t (pos 0) (length table.children) (pc + 1) st e)
@@ -362,7 +363,7 @@ module _ {M : Type 0} (ops : Ops M) (code : Parts) (C : ℕ → Type 0) (I : M �
   turn_does c t h = go (frames_fit ops code c)
     where
       go : (b : Bool) → BeginsOrFaults b c t (Runs ops code c t) → TurnDoes C I J t
-      go true r = ends_has r.0 t (comes_has r.1.steps c r.0 h r.1.by) r.2
+      go true r = ends_has r.0 t (comes_has r.1.steps c r.0 h r.1.proof) r.2
       go false r = subst (TurnDoes C I J) (sym r) h
 
 -- where nothing is said of addresses

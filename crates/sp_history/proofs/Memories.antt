@@ -78,10 +78,10 @@ module _ (g : CodeRun) (C : ℕ → Type 0) (q : ℕ) where
 
   pub keeping : HasKeeping (memory plain g) C (MemoryHas C q) Anywhere
   keeping = record {
-    look = λ a n h. have_at C (cells_at plain n.store a.spot) a.offset cell.Undefined (h.1 a.spot) tt;
+    read = λ a n h. have_at C (cells_at plain n.store a.spot) a.offset cell.Undefined (h.1 a.spot) tt;
     cells = λ a k n h. have_part C (cells_at plain n.store a.spot) a.offset k (h.1 a.spot);
     put = λ a c n h w k. (h.0, put_has a c n.store h.1 k);
-    read = λ a v k bs n h w x. (
+    read_item = λ a v k bs n h w x. (
       h.0,
       put_has a (cell.Ordinal v) ((memory plain g).advance k n).store
           (advances_has k n h).1 tt,
@@ -92,11 +92,12 @@ module _ (g : CodeRun) (C : ℕ → Type 0) (q : ℕ) where
       puts_has to (part (cells_at plain n.store from.spot) from.offset k) n.store h.1
           (have_part C (cells_at plain n.store from.spot) from.offset k (h.1 from.spot)),
     );
-    own = λ a k n h w. (h.0, insert_has C n.store.map a.spot (Own (cells_at plain n.store a.spot)) h.1 (h.1 a.spot));
+    make_own = λ a k n h w.
+        (h.0, insert_has C n.store.map a.spot (Own (cells_at plain n.store a.spot)) h.1 (h.1 a.spot));
     target = λ a k n h w. tt;
     print = λ t n m h w d. prints t n m h (nat_lt g.limits.output (length (bytes_in (plain.output n.store)) + length t))
         d;
-    beat = λ n m h d. beats n m h (nat_lt n.ticks g.limits.ticks) d;
+    tick = λ n m h d. ticks_by_one n m h (nat_lt n.ticks g.limits.ticks) d;
     open_frame = λ l up es n m h e d. opens_has l up es n m h e d;
     close_frame = λ n h w. closes_has n.frames n refl h;
   }
@@ -108,7 +109,7 @@ module _ (g : CodeRun) (C : ℕ → Type 0) (q : ℕ) where
       prints t n m h false d = subst (MemoryHas C q) (is_done _ m d)
           (h.0, insert_has C n.store.map output_spot (Output (bytes_of (map.get n.store.map output_spot) ++ t)) h.1 tt)
 
-      beats : (n m : Memory Plain) → MemoryHas C q n → (b : Bool)
+      ticks_by_one : (n m : Memory Plain) → MemoryHas C q n → (b : Bool)
           → (if b then Done (record n { ticks = n.ticks + 1 }) else Failed fault.F10) ≡ Done m → MemoryHas C q m
-      beats n m h true d = subst (MemoryHas C q) (is_done _ m d) h
-      beats n m h false d = absurd (not_done fault.F10 m d)
+      ticks_by_one n m h true d = subst (MemoryHas C q) (is_done _ m d) h
+      ticks_by_one n m h false d = absurd (not_done fault.F10 m d)

@@ -247,21 +247,21 @@ module _ (g : CodeRun) (h : Share) (moved : List Spot) where
 
   pub sharing : HasKeeping (memory plain g) AnyChannel (Shares h moved) Owned
   sharing = record {
-    look = λ a n k. any_cell ((memory plain g).read a n);
+    read = λ a n k. any_cell ((memory plain g).read a n);
     cells = λ a j n k. any_cells ((memory plain g).cells a j n);
     put = λ a c n k w x. put_is a c n.store (piece_apart h n.store a 1 k.0 w) k;
-    read = λ a v j bs n k w x. put_is a (cell.Ordinal v) ((memory plain g).advance j n).store
+    read_item = λ a v j bs n k w x. put_is a (cell.Ordinal v) ((memory plain g).advance j n).store
         (piece_apart h n.store a 1 k.0 w) (advances_is j n k);
     advance = λ j bs n k x. advances_is j n k;
     copy = λ to from j n k w. puts_is to _ n.store (piece_apart h n.store to j k.0 w) k;
-    own = λ a m n k w. (
+    make_own = λ a m n k w. (
       own_is h n.store a.spot (cells_at plain n.store a.spot) (piece_apart h n.store a m k.0 w) k.0,
       k.1,
     );
     target = λ a m n k w. subst IsOwn (sym (get_here n.store.map a.spot (Own (cells_at plain n.store a.spot)))) tt;
     print = λ t n m k w d. prints t n m k (output_held n.store.map w)
         (nat_lt g.limits.output (length (bytes_in (plain.output n.store)) + length t)) d;
-    beat = λ n m k d. beats n m k (nat_lt n.ticks g.limits.ticks) d;
+    tick = λ n m k d. ticks_by_one n m k (nat_lt n.ticks g.limits.ticks) d;
     open_frame = λ l up es n m k e d. opens_is l up es n m k d;
     close_frame = λ n k w. closes_is n.frames n refl w k;
   }
@@ -273,7 +273,7 @@ module _ (g : CodeRun) (h : Share) (moved : List Spot) where
       prints t n m k o false d = subst (Shares h moved) (is_done _ m d)
           (printed_is h n.store (bytes_of (map.get n.store.map output_spot) ++ t) o k.0, k.1)
 
-      beats : (n m : Memory Plain) → Shares h moved n → (b : Bool)
+      ticks_by_one : (n m : Memory Plain) → Shares h moved n → (b : Bool)
           → (if b then Done (record n { ticks = n.ticks + 1 }) else Failed fault.F10) ≡ Done m → Shares h moved m
-      beats n m k true d = subst (Shares h moved) (is_done _ m d) k
-      beats n m k false d = absurd (not_done fault.F10 m d)
+      ticks_by_one n m k true d = subst (Shares h moved) (is_done _ m d) k
+      ticks_by_one n m k false d = absurd (not_done fault.F10 m d)

@@ -241,7 +241,7 @@ module _ (share : ℕ → Share) (holder : ℕ) (birth : ℕ → Option Birth) (
       here = here (number_or q holder);
       stores = λ r t k. stores r t k (who r);
       up = λ r d w i. up r d w i (who r);
-      one = λ r t b d w v k i j. one r t b d w v k i j (who r) (who t);
+      siblings = λ r t b d w v k i j. one r t b d w v k i j (who r) (who t);
       had = λ r d t w k i. had r d t w k i (who r);
       not_had = λ r d t w k i j m. not_had r d t w k i j m (who r);
       aims = fork_aims;
@@ -282,7 +282,7 @@ module _ (share : ℕ → Share) (holder : ℕ) (birth : ℕ → Option Birth) (
 
         one_old : (r t : ℕ) (b d : Birth) → births_then r ≡ Some b → births_then t ≡ Some d → b.parent ≡ d.parent
             → IsPart (kept r) → IsPart (kept t) → nx r ≡ false → nx t ≡ false → r ≡ t
-        one_old r t b d w v k i j x y = h.one r t b d (old_birth r b x w) (old_birth t d y v) k
+        one_old r t b d w v k i j x y = h.siblings r t b d (old_birth r b x w) (old_birth t d y v) k
             (subst IsPart (kept_old r x) i) (subst IsPart (kept_old t y) j)
 
         one : (r t : ℕ) (b d : Birth) → births_then r ≡ Some b → births_then t ≡ Some d → b.parent ≡ d.parent
@@ -372,7 +372,7 @@ module _ (share : ℕ → Share) (holder : ℕ) (birth : ℕ → Option Birth) (
       here = (store_of (child r0), ap store_in (new_is r0 new0) ∙ store_runs (child r0));
       stores = λ r t k. stores r t k (who r);
       up = λ r d w i. up r d w i (who r);
-      one = λ r t b d w v k i j. one r t b d w v k i j (nx r) (nx t) refl refl;
+      siblings = λ r t b d w v k i j. one r t b d w v k i j (nx r) (nx t) refl refl;
       had = λ r d t w k i. had r d t w k i (who r);
       not_had = λ r d t w k i j m. not_had r d t w k i j m (who r);
       aims = fork_aims;
@@ -444,7 +444,7 @@ module _ (share : ℕ → Share) (holder : ℕ) (birth : ℕ → Option Birth) (
         one r t b d w v k i j true false x y = absurd (mixed r t b d w v k j x y)
         one r t b d w v k i j false true x y = absurd (mixed t r d b v w (sym k) i y x)
         one r t b d w v k i j false false x y =
-            h.one r t b d (old_birth r b x w) (old_birth t d y v) k (part_old r x i) (part_old t y j)
+            h.siblings r t b d (old_birth r b x w) (old_birth t d y v) k (part_old r x i) (part_old t y j)
 
         had : (r : ℕ) (d : Birth) (t : Plain) → births_then r ≡ Some d → store_in (after_fork r) ≡ Some t
             → IsPart (lent_on r) → BirthCase r → In output_spot t.moved

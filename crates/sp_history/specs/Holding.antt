@@ -58,7 +58,7 @@ pub record IsShared (share : ℕ → Share) (holder : ℕ) (condition : ℕ → 
   pub here : (p : Plain) × (store_in (condition holder) ≡ Some p)
   pub stores : (q : ℕ) (p : Plain) → store_in (condition q) ≡ Some p → StoreIs (share q) p
   pub up : (q : ℕ) (b : Birth) → birth q ≡ Some b → IsPart (share q) → share b.parent ≡ LendsIt
-  pub one : (q r : ℕ) (b d : Birth) → birth q ≡ Some b → birth r ≡ Some d → b.parent ≡ d.parent → IsPart (share q)
+  pub siblings : (q r : ℕ) (b d : Birth) → birth q ≡ Some b → birth r ≡ Some d → b.parent ≡ d.parent → IsPart (share q)
       → IsPart (share r) → q ≡ r
   pub had : (q : ℕ) (b : Birth) (p : Plain) → birth q ≡ Some b → store_in (condition q) ≡ Some p → IsPart (share q)
       → In output_spot p.moved
@@ -75,6 +75,6 @@ pub record HasHolder (s : System Plain) : Type 0 where
 -- a process holds the output, and its text is that of the system: no other holds one
 pub record IsOutputOf (s : System Plain) (q : ℕ) (bs : List ℕ) : Type 0 where
   pub store : Plain
-  pub at : store_in (s.condition q) ≡ Some store
+  pub store_is : store_in (s.condition q) ≡ Some store
   pub output : plain.output store ≡ Some bs
   pub only : (r : ℕ) (p : Plain) (cs : List ℕ) → store_in (s.condition r) ≡ Some p → plain.output p ≡ Some cs → r ≡ q

@@ -65,7 +65,7 @@ nothing_left v s l rest (x ∷ more) e h =
 pub record FirstLeft (v : Version) (s : Births) (rest : List ℕ) (more : List Entry) : Type 0 where
   pub entry : Entry
   pub others : List Entry
-  pub is : more ≡ entry ∷ others
+  pub more_is : more ≡ entry ∷ others
   pub can_come : CanCome v s entry
   pub line : first_split 10 rest ≡ Some (entry_text s entry, entries_text (births_after_entry s entry) others)
   pub left : IsTextOfRest v (births_after_entry s entry) (entries_text (births_after_entry s entry) others) others
@@ -76,7 +76,7 @@ first_left v s l rest [] n h = absurd (n h.text)
 first_left v s l rest (x ∷ more) n h = record {
   entry = x;
   others = more;
-  is = refl;
+  more_is = refl;
   can_come = (h.nameable.0, h.held.0);
   line = ap (first_split 10) h.text ∙ entry_line s l x h.nameable.0 (entries_text (births_after_entry s x) more);
   left = record { nameable = h.nameable.1; held = h.held.1; text = refl };
@@ -157,7 +157,7 @@ module _ (bytes : List ℕ) (v : Version) (es : List Entry) (rest : List ℕ) (b
         h.left) in (
           b.0,
           h.others,
-          b.2 ∙ ap (λ (x : List Entry). es ++ x) (h.is ∙ ap (λ (x : Entry). x ∷ h.others) entry)
+          b.2 ∙ ap (λ (x : List Entry). es ++ x) (h.more_is ∙ ap (λ (x : Entry). x ∷ h.others) entry)
               ∙ sym (append_assoc es (e ∷ []) h.others),
           subst (λ (x : Births). IsTextOfRest v x after h.others) (sym (births_last es e)) others,
         );

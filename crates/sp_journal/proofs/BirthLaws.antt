@@ -23,7 +23,7 @@ step_same a b p q e = cc
 -- how process q came to be, and what follows for its name
 pub record Born (s : Births) (q : ℕ) : Type 0 where
   pub birth : Birth
-  pub is : s.birth q ≡ Some birth
+  pub birth_is : s.birth q ≡ Some birth
   pub named : s.name q ≡ (birth.fork, birth.child) ∷ s.name birth.parent
   pub older : birth.parent < q
   pub made : birth.fork < s.forks birth.parent
@@ -101,7 +101,7 @@ module _ (s : Births) (lawful : Lawful s) (p n : ℕ) (there : p < s.processes) 
       let o : b.birth.parent < s.processes = omega (arith, b.older) in
       record {
         birth = b.birth;
-        is = old_birth q l ∙ b.is;
+        birth_is = old_birth q l ∙ b.birth_is;
         named = old_name q l ∙ b.named ∙ ap (λ (x : Name). (b.birth.fork, b.birth.child) ∷ x)
             (sym (old_name b.birth.parent o));
         older = b.older;
@@ -113,7 +113,7 @@ module _ (s : Births) (lawful : Lawful s) (p n : ℕ) (there : p < s.processes) 
   new_born : (q : ℕ) → s.processes ≤ q → q < s.processes + n → Born after q
   new_born q l h = record {
     birth = its_birth q;
-    is = new_birth q l h;
+    birth_is = new_birth q l h;
     named = new_name q l h ∙ ap (λ (x : Name). (s.forks p, q - s.processes) ∷ x) (sym (old_name p there));
     older = omega arith;
     made = one_more;
@@ -236,7 +236,7 @@ module _ (s : Births) (lawful : Lawful s) (p : ℕ) (there : p < s.processes) (f
     born = λ q z l. let b = lawful.born q z l in
         record {
           birth = b.birth;
-          is = b.is;
+          birth_is = b.birth_is;
           named = b.named;
           older = b.older;
           made = b.made;
@@ -310,15 +310,15 @@ module _ (s : Births) (lawful : Lawful s) (q : ℕ) (there : q < s.processes) wh
 
   pub parent_older : (b : Birth) → Some b ≡ s.birth q → b.parent < q
   parent_older b e = let o = lawful.born q (no_root b e) there in
-      subst (λ (x : Birth). x.parent < q) (same_birth b o.birth e o.is) o.older
+      subst (λ (x : Birth). x.parent < q) (same_birth b o.birth e o.birth_is) o.older
 
   pub name_by_birth : (b : Birth) → Some b ≡ s.birth q → s.name q ≡ (b.fork, b.child) ∷ s.name b.parent
   name_by_birth b e = let o = lawful.born q (no_root b e) there in
-      subst (λ (x : Birth). s.name q ≡ (x.fork, x.child) ∷ s.name x.parent) (same_birth b o.birth e o.is) o.named
+      subst (λ (x : Birth). s.name q ≡ (x.fork, x.child) ∷ s.name x.parent) (same_birth b o.birth e o.birth_is) o.named
 
   pub name_of_root : None ≡ s.birth q → s.name q ≡ []
   name_of_root e = ⊎_elim (λ (l : q < 1). let z : q ≡ 0 = omega arith in ap s.name z ∙ lawful.no_name)
-      (λ (l : 1 ≤ q). let o = lawful.born q l there in let f = o.is in absurd (cc (e, f))) (cases_lt q 1)
+      (λ (l : 1 ≤ q). let o = lawful.born q l there in let f = o.birth_is in absurd (cc (e, f))) (cases_lt q 1)
 
 -- no entry takes a process away
 pub processes_grow : (s : Births) (es : List Entry) → s.processes ≤ (births_from s es).processes

@@ -55,7 +55,8 @@ module _ (r : Reader) (reader : IsReader r) where
         record {
           first = q - b.birth.child;
           child = b.birth.child;
-          found = ap (get_by_text r.families) (sym (parts_first _ _ x y f)) ∙ reader.families q b.birth there b.is;
+          found = ap (get_by_text r.families) (sym (parts_first _ _ x y f))
+              ∙ reader.families q b.birth there b.birth_is;
           number = sym (parts_second _ _ x y f);
           small = small;
           sum = let a = b.small_child in omega arith;

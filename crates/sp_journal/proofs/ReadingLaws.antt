@@ -61,7 +61,7 @@ module _ (r m : Reader) (p : ℕ) (reader : IsReader r) (ledger : IsLedger m.led
           absurd (none-some b (sym lawful.no_birth ∙ sym (ap s.birth i) ∙ e)))
           (λ (z : 1 ≤ q).
           let a : Born s q = lawful.born q z l in
-          let same : a.birth ≡ b = same_Some _ _ (sym a.is ∙ e) in
+          let same : a.birth ≡ b = same_Some _ _ (sym a.birth_is ∙ e) in
           let older : b.parent < q = subst (λ (x : Birth). x.parent < q) same a.older in
           let made : b.fork < s.forks b.parent = subst (λ (x : Birth). x.fork < s.forks x.parent) same a.made in
           let small : b.fork < 2 ^ 32 = subst (λ (x : Birth). x.fork < 2 ^ 32) same a.small_fork in

@@ -148,7 +148,7 @@ module _ (es : List Entry) (nameable : NameableFrom first_births es) (q : ℕ) w
   pub has_none : None ≡ (births es).birth q → (q ≡ 0) ⊎ ((births es).processes ≤ q)
   has_none e = ⊎_elim
       (λ (l : q < (births es).processes). ⊎_elim (λ (z : q < 1). inl (omega arith))
-      (λ (z : 1 ≤ q). let b = (lawful es nameable).born q z l in absurd (none-some b.birth (e ∙ b.is)))
+      (λ (z : 1 ≤ q). let b = (lawful es nameable).born q z l in absurd (none-some b.birth (e ∙ b.birth_is)))
       (cases_lt q 1))
       (λ (l : (births es).processes ≤ q). inr l)
       (cases_lt q (births es).processes)

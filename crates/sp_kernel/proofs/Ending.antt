@@ -93,7 +93,7 @@ output_held log y (x, fine, ran) kept o is = go o is
     go : (o : Option (List ℕ)) → first_output y.slots ≡ o → (q : ℕ) × (bs : List ℕ) × IsOutputOf (system_of y) q bs
         × (o ≡ Some bs)
     go None e = absurd (none_writes y.slots e holder.0 holder.2.store holder.1 (here.away holder.0) (here.gone holder.0)
-        holder.2.at holder.2.output)
+        holder.2.store_is holder.2.output)
     go (Some bs) e =
         let w = written_is y.slots bs e in
         let s = writes_store y.slots bs w in
@@ -102,7 +102,8 @@ output_held log y (x, fine, ran) kept o is = go o is
           bs,
           record {
             store = w.proc.store;
-            at = subst (λ q. Rattle.sp_code.specs.System.store_in ((system_of y).condition q) ≡ Some w.proc.store) same
+            store_is = subst (λ q. Rattle.sp_code.specs.System.store_in ((system_of y).condition q) ≡ Some
+                w.proc.store) same
                 s.0;
             output = s.1;
             only = holder.2.only;

@@ -136,7 +136,7 @@ module _ (x : Kernel) (k : IsKernel x) (p w : ℕ) (here : (control_of x).doing 
   number = f.hands.1 ∙ own.0
 
   all_length : length f.slots ≡ l + n
-  all_length = f.seated.same ∙ length-append x.slots (repeat n slot.Ended)
+  all_length = f.seated.length_is ∙ length-append x.slots (repeat n slot.Ended)
       ∙ ap (λ i. l + i) (length_repeat n slot.Ended)
 
   p_among : p < length f.slots
@@ -347,7 +347,7 @@ module _ (x : Kernel) (k : IsKernel x) (p w : ℕ) (here : (control_of x).doing 
   }
 
   pub gave_fork : Gave x p h y
-  gave_fork = subst (Gave x p h) (sym f.is) (subst (λ i. Gave x p h (record x {
+  gave_fork = subst (Gave x p h) (sym f.kernel_is) (subst (λ i. Gave x p h (record x {
     slots = slice_set f.slots i (slot.Here f.parent (st.Joining n));
     parents = x.parents ++ repeat n (Some i);
     ready = x.ready ++ numbers (length x.slots) n;
@@ -370,9 +370,9 @@ can_fork x w h t v n is quiet fine at fits =
   where
     stops : StopsAt (setting_of x) (system_of x) h.proc.number (m.Forks t v n) (config_of h.proc)
     stops = record {
-      at = fits.at;
+      configuration = fits.configuration;
       runs = fits.runs;
-      turn = subst (λ z. IsTurn (memory plain (setting_of x)) (setting_of x).code fits.at z)
+      turn = subst (λ z. IsTurn (memory plain (setting_of x)) (setting_of x).code fits.configuration z)
           (ap (λ s. turn_by s h.proc) is) fits.turn;
       quiet = quiet;
       fine = fine;

@@ -284,9 +284,9 @@ child_joins x k w h is quiet fits z c = subst (λ i. IsJoiner (slice_get x.slots
   where
     stops : StopsAt (setting_of x) (system_of x) h.proc.number m.Ends (config_of h.proc)
     stops = record {
-      at = fits.at;
+      configuration = fits.configuration;
       runs = fits.runs;
-      turn = subst (λ t. IsTurn (memory plain (setting_of x)) (setting_of x).code fits.at t)
+      turn = subst (λ t. IsTurn (memory plain (setting_of x)) (setting_of x).code fits.configuration t)
           (ap (λ s. turn_by s h.proc) is) fits.turn;
       quiet = quiet;
       fine = refl;

@@ -98,16 +98,16 @@ module _ (g : CodeRun) where
 
   keeping : HasKeeping (memory plain g) Any Every FitsCells
   keeping = record {
-    look = λ a n i. any_cell ((memory plain g).read a n);
+    read = λ a n i. any_cell ((memory plain g).read a n);
     cells = λ a k n i. any_cells ((memory plain g).cells a k n);
     put = λ a c n i w x. tt;
-    read = λ a v k bs n i w x. tt;
+    read_item = λ a v k bs n i w x. tt;
     advance = λ k bs n i x. tt;
     copy = λ to from k n i w. tt;
-    own = λ a k n i w. tt;
+    make_own = λ a k n i w. tt;
     target = λ a k n i w. takes a k n w;
     print = λ t n o i w d. tt;
-    beat = λ n o i d. tt;
+    tick = λ n o i d. tt;
     open_frame = λ l up es n o i e d. tt;
     close_frame = λ n i w. tt;
   }

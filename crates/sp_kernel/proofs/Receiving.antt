@@ -336,9 +336,9 @@ sender_fits x k w h c j is quiet fine fits q e f = go (slice_get x.slots q.proce
   where
     stops : StopsAt (setting_of x) (system_of x) h.proc.number (m.Receives c j h.proc.target) (config_of h.proc)
     stops = record {
-      at = fits.at;
+      configuration = fits.configuration;
       runs = fits.runs;
-      turn = subst (λ t. IsTurn (memory plain (setting_of x)) (setting_of x).code fits.at t)
+      turn = subst (λ t. IsTurn (memory plain (setting_of x)) (setting_of x).code fits.configuration t)
           (ap (λ s. turn_by s h.proc) is) fits.turn;
       quiet = quiet;
       fine = fine;

@@ -126,7 +126,7 @@ noted_turn x w h m y r g e fits gave t is answer =
       changed = λ same. one_more x.journal.entries _
           (sym (ap (λ (j : _). j.entries) t.journal ∙ gave.entry) ∙ ap (λ (z : Kernel). z.journal.entries) same);
       follows = record {
-        gives = (fits.out, (fits.at, fits.runs, turn_of h, fits.turn, sym is, t.system ∙ gave.system));
+        gives = (fits.out, (fits.configuration, fits.runs, turn_of h, fits.turn, sym is, t.system ∙ gave.system));
         gets = t.front ∙ ap front back;
       };
       control = now;

@@ -119,7 +119,7 @@ module _ (x : Kernel) (k : IsKernel x) (w q : ℕ) (goes : is_over (control_of x
     control = control ∙ ap (λ n. takes w (Some n) (control_of x)) (sym number);
     front = ap (λ n. Some n) number ∙ sym (not_over (control_of x) goes ∙ e);
     system = system;
-    same = λ r. absurd (cc r);
+    unchanged = λ r. absurd (cc r);
     work = λ r f. let g : p ≡ r = cc f in subst
         (λ (z : Proc). ((system_of x).condition z.number ≡ Working (config_of z))
         × (z.input.value ≡ (setting_of x).input)) g (ap (system_of x).condition number ∙ ap condition_in here, own.1);

@@ -45,11 +45,17 @@ pub record HoldsOutput (slots : List Slot) (bs : List ℕ) : Type 0 where
   pub process : ℕ
   pub proc : Proc
   pub state : State
-  pub at : slice_get slots process ≡ Some (slot.Here proc state)
+  pub slot_is : slice_get slots process ≡ Some (slot.Here proc state)
   pub output : output_of_process proc ≡ Some bs
 
 later : (s : Slot) (ss : List Slot) (bs : List ℕ) → HoldsOutput ss bs → HoldsOutput (s ∷ ss) bs
-later s ss bs w = record { process = suc w.process; proc = w.proc; state = w.state; at = w.at; output = w.output }
+later s ss bs w = record {
+  process = suc w.process;
+  proc = w.proc;
+  state = w.state;
+  slot_is = w.slot_is;
+  output = w.output;
+}
 
 pub written_is : (slots : List Slot) (bs : List ℕ) → first_output slots ≡ Some bs → HoldsOutput slots bs
 written_is [] bs e = absurd (cc e)
@@ -57,7 +63,7 @@ written_is (slot.Here p s ∷ ss) bs e = go (output_of_process p) refl e (λ f. 
   where
     go : (o : Option (List ℕ)) → output_of_process p ≡ o → or_rest o (first_output ss) ≡ Some bs
         → (first_output ss ≡ Some bs → HoldsOutput ss bs) → HoldsOutput (slot.Here p s ∷ ss) bs
-    go (Some cs) is f h = record { process = zero; proc = p; state = s; at = refl; output = is ∙ f }
+    go (Some cs) is f h = record { process = zero; proc = p; state = s; slot_is = refl; output = is ∙ f }
     go None is f h = later (slot.Here p s) ss bs (h f)
 written_is (slot.Out w p ∷ ss) bs e = later (slot.Out w p) ss bs (written_is ss bs e)
 written_is (slot.Ended ∷ ss) bs e = later slot.Ended ss bs (written_is ss bs e)
@@ -65,7 +71,7 @@ written_is (slot.Gone p ∷ ss) bs e = later (slot.Gone p) ss bs (written_is ss 
 
 pub writes_store : (slots : List Slot) (bs : List ℕ) (w : HoldsOutput slots bs)
     → (store_in (condition_in (slice_get slots w.process)) ≡ Some w.proc.store) × (plain.output w.proc.store ≡ Some bs)
-writes_store slots bs w = (ap (λ o. store_in (condition_in o)) w.at ∙ store_here w.proc w.state, w.output)
+writes_store slots bs w = (ap (λ o. store_in (condition_in o)) w.slot_is ∙ store_here w.proc w.state, w.output)
 
 pub or_rest_none : (o r : Option (List ℕ)) → or_rest o r ≡ None → (o ≡ None) × (r ≡ None)
 or_rest_none None r e = (refl, e)
@@ -96,8 +102,8 @@ held y bs e =
       w.process,
       w.proc.store,
       (
-        (λ v f. not_out w.proc w.state v (ap doing_in (sym w.at) ∙ f)),
-        (λ f. not_gone w.proc w.state (ap doing_in (sym w.at) ∙ f)),
+        (λ v f. not_out w.proc w.state v (ap doing_in (sym w.slot_is) ∙ f)),
+        (λ f. not_gone w.proc w.state (ap doing_in (sym w.slot_is) ∙ f)),
       ),
       s.0,
       s.1,

@@ -117,13 +117,13 @@ pub record HoldsOut (g : CodeRun) (seen : List Note) (w q : ℕ) : Type 0 where
   pub system : System Plain
   pub reaches : Reaches plain g control_at_start (opening_system plain g) seen system
   pub out : (control seen).doing q ≡ Out w
-  pub at : Config (Memory Plain)
-  pub runs : system.condition q ≡ Working at
+  pub configuration : Config (Memory Plain)
+  pub runs : system.condition q ≡ Working configuration
 
 -- it was run by one turn from that state, on the input of the run, to the stop that is handed in
 pub record HasRun (g : CodeRun) (seen : List Note) (w : ℕ) (h : Handed) : Type 0 where
   pub holds : HoldsOut g seen w h.proc.number
-  pub turn : IsTurn (memory plain g) g.code holds.at (turn_of h)
+  pub turn : IsTurn (memory plain g) g.code holds.configuration (turn_of h)
   pub fork : KeepsFork h.stop h.proc
   pub input : h.proc.input.value ≡ g.input
   pub whole : IsWhole h.stop

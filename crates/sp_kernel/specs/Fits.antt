@@ -51,9 +51,9 @@ pub record FitsCode (code : Parts) : Type 0 where
 -- the process is out with the worker, and was run by one turn from where the system has it
 pub record FitsHanded (x : Kernel) (w : ℕ) (h : Handed) : Type 0 where
   pub out : (control_of x).doing h.proc.number ≡ Out w
-  pub at : Config (Memory Plain)
-  pub runs : (system_of x).condition h.proc.number ≡ Working at
-  pub turn : IsTurn (memory plain (setting_of x)) (setting_of x).code at (turn_of h)
+  pub configuration : Config (Memory Plain)
+  pub runs : (system_of x).condition h.proc.number ≡ Working configuration
+  pub turn : IsTurn (memory plain (setting_of x)) (setting_of x).code configuration (turn_of h)
   pub safe : IsSafeSystem (setting_of x) (system_of x)
   pub offered : IsOffered (length x.channels) h.stop
   pub fork : KeepsFork h.stop h.proc

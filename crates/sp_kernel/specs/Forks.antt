@@ -56,7 +56,7 @@ pub record HasForked (x : Kernel) (p : Proc) (n : ℕ) (y : Kernel) : Type 0 whe
   pub born : AreNewborn x.code.value p (table_or (slice_get x.code.value.forks p.table)) (length x.slots) n children
   pub slots : List Slot
   pub seated : Seated (x.slots ++ repeat n slot.Ended) (length x.slots) children slots
-  pub is : y ≡ kernel_after_fork parent n slots x
+  pub kernel_is : y ≡ kernel_after_fork parent n slots x
 
 -- a stop at a fork of n children
 abbrev pub IsForkOf : Stop → ℕ → Type 0

@@ -203,17 +203,23 @@ module _ (x : Kernel) (fine : IsOpening x) (log : List Note) (y : Kernel) (told 
         (ap (λ (c : Control). c.doing p) (ap control starts.1 ∙ noted_append seen starts.0 control_at_start) ∙ o.0, o.1)
 
     module _ (q : ℕ) (h : HoldsOut (setting_of x) seen w q) where
-      pub kept : ((control log).doing q ≡ Out w) × ((system_of y).condition q ≡ Working h.at)
-      kept = as_before h.system q h.at h.reaches h.out h.runs
+      pub kept : ((control log).doing q ≡ Out w) × ((system_of y).condition q ≡ Working h.configuration)
+      kept = as_before h.system q h.configuration h.reaches h.out h.runs
 
       pub out_now : (control_of y).doing q ≡ Out w
       out_now = ap (λ (c : Control). c.doing q) control_is ∙ kept.0
 
-      pub runs_now : (system_of y).condition q ≡ Working h.at
+      pub runs_now : (system_of y).condition q ≡ Working h.configuration
       runs_now = kept.1
 
       abbrev pub held_now : HoldsOut (setting_of x) log w q
-      held_now = record { system = system_of y; reaches = from_start; out = kept.0; at = h.at; runs = kept.1 }
+      held_now = record {
+        system = system_of y;
+        reaches = from_start;
+        out = kept.0;
+        configuration = h.configuration;
+        runs = kept.1;
+      }
 
       -- the parent of a child that is out waits for it
       pub parent_waits : (b : Birth) → (system_of y).births.birth q ≡ Some b → (n : ℕ)
@@ -254,13 +260,14 @@ module _ (x : Kernel) (fine : IsOpening x) (log : List Note) (y : Kernel) (told 
     pub fits_now : (h : Handed) → HasRun (setting_of x) seen w h → FitsHanded y w h
     fits_now h m = record {
       out = out_now h.proc.number m.holds;
-      at = m.holds.at;
+      configuration = m.holds.configuration;
       runs = runs_now h.proc.number m.holds;
-      turn = subst (λ (g : CodeRun). IsTurn (memory plain g) g.code m.holds.at (turn_of h)) (sym after_log.setting)
+      turn = subst (λ (g : CodeRun). IsTurn (memory plain g) g.code m.holds.configuration (turn_of h))
+          (sym after_log.setting)
           m.turn;
       safe = subst (λ (g : CodeRun). IsSafeSystem g (system_of y)) (sym after_log.setting)
           (fine.sound.safe x.root.value.input.value x.limits fine.limits (entries_of log) (system_of y) along);
-      offered = offered_now h m.holds.at (runs_now h.proc.number m.holds) m.turn m.whole;
+      offered = offered_now h m.holds.configuration (runs_now h.proc.number m.holds) m.turn m.whole;
       fork = m.fork;
       input = m.input ∙ ap (λ (g : CodeRun). g.input) (sym after_log.setting);
       parent = parent_waits h.proc.number m.holds;

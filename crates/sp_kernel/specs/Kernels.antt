@@ -213,7 +213,7 @@ pub record Takes (x : Kernel) (w : ℕ) (y : Kernel) (r : Option Proc) : Type 0 
   pub control : control_of y ≡ takes w (option_map (λ (p : Proc). p.number) r) (control_of x)
   pub front : option_map (λ (p : Proc). p.number) r ≡ front (control_of x)
   pub system : system_of y ≡ system_of x
-  pub same : r ≡ None → y ≡ x
+  pub unchanged : r ≡ None → y ≡ x
   pub work : (p : Proc) → r ≡ Some p → ((system_of x).condition p.number ≡ Working (config_of p))
       × (p.input.value ≡ (setting_of x).input)
   pub setting : (y.code ≡ x.code) × (y.limits ≡ x.limits) × (y.root ≡ x.root)

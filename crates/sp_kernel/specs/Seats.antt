@@ -8,7 +8,7 @@ use Rattle.sp_kernel.specs.declared.slot.State.TheVariants as st
 
 -- each of these is ready in its slot, the first at a place; the slots around them are as before
 pub record Seated (xs : List Slot) (first : ℕ) (children : List Proc) (ys : List Slot) : Type 0 where
-  pub same : length ys ≡ length xs
+  pub length_is : length ys ≡ length xs
   pub before : (q : ℕ) → q < first → slice_get ys q ≡ slice_get xs q
   pub after : (q : ℕ) → first + length children ≤ q → slice_get ys q ≡ slice_get xs q
   pub seats : (k : ℕ) (c : Proc) → slice_get children k ≡ Some c

@@ -27,7 +27,7 @@ use Rattle.sp_codegen.specs.Following.{Slides, CodeFollows}
 use Rattle.sp_link.proofs.Relation.{RunContext, BirthRights, Called, Fresh, Fo, Ca, St, Rel, law, ops}
 
 -- the code of what is left goes by the frames that a process made, and by nothing else of what it is
-module _ {M : Type 0} (g : RunInput) (code : Code) (moves shares : Stmt → List ℕ) (hush : ℕ → Type 0)
+module _ {M : Type 0} (g : RunInput) (code : Code) (moves shares : Stmt → List ℕ) (callable : ℕ → Type 0)
     (W R : Loc → Type 0) (J : ℕ → Type 0) (ops : Ops M) (free : IsFreeOfInterference g.program)
     (finds : (f : ℕ) (l : Layout) → slice_get code.layouts f ≡ Some l → layout_of code.layouts f ≡ Some l)
     (formed : (f : ℕ) (b : Block) → slice_get g.program.blocks f ≡ Some b → (u : Use) → In_stmt b.body u
@@ -43,7 +43,7 @@ module _ {M : Type 0} (g : RunInput) (code : Code) (moves shares : Stmt → List
     code = code;
     moves = moves;
     shares = shares;
-    IsCallableInFunctions = hush;
+    IsCallableInFunctions = callable;
     who = w;
     due = due;
     Writes = W;
@@ -65,7 +65,7 @@ module _ {M : Type 0} (g : RunInput) (code : Code) (moves shares : Stmt → List
     code = code;
     moves = moves;
     shares = shares;
-    IsCallableInFunctions = hush;
+    IsCallableInFunctions = callable;
     who = w1;
     due = due1;
     Writes = W;
@@ -82,7 +82,7 @@ module _ {M : Type 0} (g : RunInput) (code : Code) (moves shares : Stmt → List
   }
 
   slides_again : {pc to : ℕ} {stack : List Entry} → Slides before pc to stack → Slides now pc to stack
-  slides_again h = record { by = h.by }
+  slides_again h = record { proof = h.proof }
 
   pub again : (end : ℕ) (base : List Entry) (below : List FramePair) (pc : ℕ) (stack : List Entry) (js : List FramePair)
       (todo : List Item) → CodeFollows before end base below pc stack js todo
@@ -166,7 +166,7 @@ module _ (G : RunContext) (lf : BirthRights) (kids : ℕ → ℕ → BirthRights
     known = t.known;
     unaway = t.unaway;
     held = λ r h x l m. (let z = t.held r h x l m in
-        record { tree = z.tree; is = z.is; cells = z.cells; piece = z.piece; flat = z.flat });
+        record { tree = z.tree; tree_is = z.tree_is; cells = z.cells; piece = z.piece; flat = z.flat });
     indexes = t.indexes;
     position = t.position;
     output = t.output;
@@ -176,7 +176,7 @@ module _ (G : RunContext) (lf : BirthRights) (kids : ℕ → ℕ → BirthRights
     -- the code of what is left
     pub follows_again : (pc : ℕ) (stack : List Entry) (js : List FramePair) (todo : List Item)
         → Fo G lf kids q f w n a pc stack js todo → Fo G lf kids q f1 w1 n1 b pc stack js todo
-    follows_again pc stack js todo h = again G.g G.code G.moves G.shares G.hush (λ l. OwnLocation q l ⊎ lf.W l)
+    follows_again pc stack js todo h = again G.g G.code G.moves G.shares G.callable (λ l. OwnLocation q l ⊎ lf.W l)
         (λ l. OwnLocation q l ⊎ lf.R l) lf.J (ops G) G.free G.finds G.formed.uses f.reads f1.reads w
         (due_after a G.pause)
         (Rel G lf kids q w a) (law G lf kids q f w n a) (λ h x. inl n)

@@ -58,7 +58,7 @@ module _ (G : RunContext) (lv : RightsOfAll G) (c : Course) (s : StateOf G.g) (u
   opens_same = ap (λ (a : Identity). a.opens) x.who_is ∙ (its G lv c s u l i d at_i).3
 
   -- what it keeps to when it goes on, and that it may take what it asks for
-  pub holds : ConditionInRights G.g.program (W_of G lv) (R_of G lv) x.at.forks v
+  pub holds : ConditionInRights G.g.program (W_of G lv) (R_of G lv) x.state.forks v
       (Rattle.sp_meaning.specs.Model.Waits off)
   holds = (
     record {
@@ -72,7 +72,7 @@ module _ (G : RunContext) (lv : RightsOfAll G) (c : Course) (s : StateOf G.g) (u
   )
 
   module _ (since1 : ℕ) (since_is : since1 ≡ (t.2).ticks) where
-    abbrev pub stands : ProcessMatches G (lv v) (λ a b. lv ((a, b) ∷ v)) v since1 off.next x.at.store there
+    abbrev pub stands : ProcessMatches G (lv v) (λ a b. lv ((a, b) ∷ v)) v since1 off.next x.state.store there
     stands = record {
       fresh = z.fresh;
       named = x.good.named;
@@ -80,11 +80,11 @@ module _ (G : RunContext) (lv : RightsOfAll G) (c : Course) (s : StateOf G.g) (u
       pc = t.0;
       stack = t.1;
       memory = n1;
-      is = refl;
+      configuration_is = refl;
       stand = stand_again G (lv v) (λ a b. lv ((a, b) ∷ v)) v {w = (p1 G lv c s u l i d at_i).who} {w1 = x.left.who}
           {since = c.since v} {since1 = since1} (ap (λ (a : Identity). a.name) x.who_is) since_is
-          (stand_dead G (lv v) (λ a b. lv ((a, b) ∷ v)) v t.8 x.at.store
-          (λ a. subst (λ b. (x.at.store a ≡ m a) ⊎ IsDead b a)
+          (stand_dead G (lv v) (λ a b. lv ((a, b) ∷ v)) v t.8 x.state.store
+          (λ a. subst (λ b. (x.state.store a ≡ m a) ⊎ IsDead b a)
           (ap (λ b. length b) (t.8).frames.sources_are ∙ sources_length t.3)
           (same_but_dead G lv c s u l i d at_i z (Offered ch kd cg todo) o m x tt a)));
       follows = follows_again G (lv v) (λ a b. lv ((a, b) ∷ v)) v z.fresh z.fresh (p1 G lv c s u l i d at_i).who

@@ -56,32 +56,34 @@ module _ (G : RunContext) (lv : RightsOfAll G) (c : Course) (s : StateOf G.g) (u
     -- fault no output
     pub same_but_dead : (e : Action) (o : LocalState) (m : Store) (x : Stopped_at (Computed e o, m)) → IsStop e
         → (a : Loc)
-        → (x.at.store a ≡ m a) ⊎ IsDead (length o.frames) a
+        → (x.state.store a ≡ m a) ⊎ IsDead (length o.frames) a
     same_but_dead e o m x stop = actions_are_silent G.g G.free G.pure (pure_blocks G)
         (Wr G (lv w) (kids G lv c s u l i d at_i) w (c.since w))
-        (Rd G (lv w) (kids G lv c s u l i d at_i) w (c.since w)) kt.last x.left x.good.fit x.good.pure x.at.store e o m
+        (Rd G (lv w) (kids G lv c s u l i d at_i) w
+        (c.since w)) kt.last x.left x.good.fit x.good.pure x.state.store e o m
         stop x.does
 
     pub same_but_one : (todo : List Item) (o : LocalState) (m : Store) (x : Stopped_at (Computed (Opened todo) o, m))
-        → IsSameButOne (length x.left.own.frames) x.at.store m
+        → IsSameButOne (length x.left.own.frames) x.state.store m
     same_but_one todo o m x = quiet_opens G.g G.free G.pure (pure_blocks G)
         (Wr G (lv w) (kids G lv c s u l i d at_i) w (c.since w))
-        (Rd G (lv w) (kids G lv c s u l i d at_i) w (c.since w)) kt.last x.left x.good.fit x.good.pure x.at.store todo o
+        (Rd G (lv w) (kids G lv c s u l i d at_i) w
+        (c.since w)) kt.last x.left x.good.fit x.good.pure x.state.store todo o
         m x.does
 
-    pub same_output : (f : Fault) (m : Store) (x : Stopped_at (EndsInFault f, m)) → x.at.store Output ≡ m Output
+    pub same_output : (f : Fault) (m : Store) (x : Stopped_at (EndsInFault f, m)) → x.state.store Output ≡ m Output
     same_output f m x = quiet_faults G.g G.free G.pure (pure_blocks G)
         (Wr G (lv w) (kids G lv c s u l i d at_i) w (c.since w))
-        (Rd G (lv w) (kids G lv c s u l i d at_i) w (c.since w)) kt.last x.left x.good.fit x.good.pure x.at.store f m
+        (Rd G (lv w) (kids G lv c s u l i d at_i) w (c.since w)) kt.last x.left x.good.fit x.good.pure x.state.store f m
         x.does
 
     module _ (r : WorkOutcome Action × Store) (x : Stopped_at r) (what : Happening)
-        (said : happening_at G.g x.at w x.left ≡ Some what) where
-      pub alone_at : IsAlone x.at w
+        (said : happening_at G.g x.state w x.left ≡ Some what) where
+      pub alone_at : IsAlone x.state w
       alone_at = inl (x.left, x.runs)
 
-      pub known_at : StateKeeps G.g x.at
-      known_at = turn_known G.g G.pause (c.since w) w x.steps s x.at false l.known (x.turn what said)
+      pub known_at : StateKeeps G.g x.state
+      known_at = turn_known G.g G.pause (c.since w) w x.steps s x.state false l.known (x.turn what said)
 
       pub keeps_at : Keeps_to G.g.program (W_of G lv) (R_of G lv) s.forks w x.left
       keeps_at = record {
@@ -92,27 +94,28 @@ module _ (G : RunContext) (lv : RightsOfAll G) (c : Course) (s : StateOf G.g) (u
         fit = x.good.fit;
       }
 
-      pub rights_at : Inv G.g.program (W_of G lv) (R_of G lv) x.at.condition x.at.forks
-      rights_at = inv_local G (W_of G lv) (R_of G lv) s.condition x.at.condition s.forks x.at.forks w l.rights
+      pub rights_at : Inv G.g.program (W_of G lv) (R_of G lv) x.state.condition x.state.forks
+      rights_at = inv_local G (W_of G lv) (R_of G lv) s.condition x.state.condition s.forks x.state.forks w l.rights
           x.elsewhere.forks (present G lv c s u l i d at_i) x.elsewhere.condition
-          (holds_by G (W_of G lv) (R_of G lv) x.at.condition s.forks w (x.at.condition w) x.left x.runs keeps_at)
+          (holds_by G (W_of G lv) (R_of G lv) x.state.condition s.forks w (x.state.condition w) x.left x.runs keeps_at)
 
-      pub ended_at : has_ended (x.at.condition w) ≡ false
-      ended_at = go (has_ended (x.at.condition w)) refl
+      pub ended_at : has_ended (x.state.condition w) ≡ false
+      ended_at = go (has_ended (x.state.condition w)) refl
         where
-          go : (b : Bool) → has_ended (x.at.condition w) ≡ b → b ≡ false
-          go true e = absurd (lives_ended (x.at.condition w)
-              (working_lives x.at.condition w (x.at.condition w) x.left x.runs) e)
+          go : (b : Bool) → has_ended (x.state.condition w) ≡ b → b ≡ false
+          go true e = absurd (lives_ended (x.state.condition w)
+              (working_lives x.state.condition w (x.state.condition w) x.left x.runs) e)
           go false e = refl
 
-      ended_same : (r1 : Name) → has_ended (x.at.condition r1) ≡ has_ended (s.condition r1)
-      ended_same r1 = ⊎_elim (λ (e : r1 ≡ w). ap (λ y. has_ended (x.at.condition y)) e ∙ ended_at
+      ended_same : (r1 : Name) → has_ended (x.state.condition r1) ≡ has_ended (s.condition r1)
+      ended_same r1 = ⊎_elim (λ (e : r1 ≡ w). ap (λ y. has_ended (x.state.condition y)) e ∙ ended_at
           ∙ sym (not_ended G lv c s u l i d at_i) ∙ ap (λ y. has_ended (s.condition y)) (sym e))
           (λ (e : r1 ≢ w). ap (λ y. has_ended y) (x.elsewhere.condition r1 e)) (same_or_not name_test r1 w)
 
-      present_same : (r1 : Name) → s.condition r1 ≢ Absent → x.at.condition r1 ≢ Absent
-      present_same r1 h e = ⊎_elim (λ (f : r1 ≡ w). subst (λ y. IsLive y) (subst (λ a. x.at.condition a ≡ Absent) f e)
-          (working_lives x.at.condition w (x.at.condition w) x.left x.runs))
+      present_same : (r1 : Name) → s.condition r1 ≢ Absent → x.state.condition r1 ≢ Absent
+      present_same r1 h e = ⊎_elim
+          (λ (f : r1 ≡ w). subst (λ y. IsLive y) (subst (λ a. x.state.condition a ≡ Absent) f e)
+          (working_lives x.state.condition w (x.state.condition w) x.left x.runs))
           (λ (f : r1 ≢ w). h (sym (x.elsewhere.condition r1 f) ∙ e)) (same_or_not name_test r1 w)
 
       pub other_name : (j : ℕ) → j < u.births.processes → i ≢ j → G.births.name j ≢ w
@@ -123,10 +126,10 @@ module _ (G : RunContext) (lv : RightsOfAll G) (c : Course) (s : StateOf G.g) (u
 
       -- the others
       pub does_at : (j : ℕ) → j < u.births.processes → i ≢ j
-          → Performs_all G lv (G.births.name j) c x.at (u.births.opens j) (u.condition j)
+          → Performs_all G lv (G.births.name j) c x.state (u.births.opens j) (u.condition j)
       does_at j lt e =
           let apart = other_name j lt e in
-          does_stay G lv s x.at l.known.sound l.rights.fair w (alone G lv c s u l i d at_i) x.good.stays
+          does_stay G lv s x.state l.known.sound l.rights.fair w (alone G lv c s u l i d at_i) x.good.stays
           (G.births.name j) apart (x.elsewhere.condition (G.births.name j) apart)
           (λ k n. ended_same ((k, n) ∷ G.births.name j)) (λ k n. present_same ((k, n) ∷ G.births.name j)) c c refl
           refl (λ h. h) (u.births.opens j) (u.condition j) (l.does j lt)

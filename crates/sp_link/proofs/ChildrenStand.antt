@@ -78,7 +78,7 @@ module _ (G : RunContext) (lf : BirthRights) (kids : ℕ → ℕ → BirthRights
       {n : Memory Plain}
       (t : St G lf kids q w since js o s n) (may_fork : o.depth + 1 ≤ G.g.limits.depth)
       (ss : Stmts) (sc : List Scope) (pl : Placed G.g Wr Rd lf.J sc js (In_stmt (Parallel ss))) (first k : ℕ)
-      (b : Birth) (z : ChildIs G.g.program G.moves G.shares G.code G.hush true sc ss first k b)
+      (b : Birth) (z : ChildIs G.g.program G.moves G.shares G.code G.callable true sc ss first k b)
       (child : Name) (longer : suc (length w.name) ≤ length child) (value : ℤ) where
     -- how the statement is formed, and what it reaches
     formed_here : (u : Use) → In_stmt z.statement u → IsFormedUse G.g.program u
@@ -146,7 +146,7 @@ module _ (G : RunContext) (lf : BirthRights) (kids : ℕ → ℕ → BirthRights
           (In_stmt z.statement)
       begins = child_begins G.g G.code w (Named G) (Called G) Wr Rd lf.J lf.low (length lf.below) lf.born since G.pause
           lf.moved f.based G.formed G.laid G.free f.reads G.moves G.shares G.sets consoles t may_fork
-          ss sc pl G.hush first k b z unread own.who longer number called pc stack value all_moved_known
+          ss sc pl G.callable first k b z unread own.who longer number called pc stack value all_moved_known
 
       pub fresh : Fresh G life more child
       fresh = record {
@@ -168,7 +168,7 @@ module _ (G : RunContext) (lf : BirthRights) (kids : ℕ → ℕ → BirthRights
         pc = z.entry;
         stack = [];
         memory = memory_in (child_process plain (run_is G) (At pc stack n) value number k table);
-        is = refl;
+        configuration_is = refl;
         stand = begins.0;
         follows = child_follows (execution G life more child fresh own.who refl 0)
             z.statement sc z.entry (G.moves z.statement) (G.shares z.statement) None js begins.1 z.body;
@@ -312,7 +312,7 @@ module _ (G : RunContext) (lf : BirthRights) (kids : ℕ → ℕ → BirthRights
     stack = stack;
     memory = m;
     held = map_after_fork m.store.map hs;
-    is = refl;
+    configuration_is = refl;
     joining = joining_more G lf kids q (λ a h. let z = parts a h in (z.0, (z.1, living z.0 z.1), z.2))
         (handed_joining G.g G.code next.who (Named G) (Called G) (λ l. OwnLocation q l ⊎ lf.W l)
         (λ l. OwnLocation q l ⊎ lf.R l) lf.J

@@ -64,7 +64,7 @@ module _ (G : RunContext) (lf : BirthRights) (kids : ℕ → ℕ → BirthRights
       (t : St G lf kids q w since js o s n) (may_fork : o.depth + 1 ≤ G.g.limits.depth)
       (x : ℕ) (from1 to : Expr) (st : Stmt) (sc : List Scope)
       (pl : Placed G.g Wr Rd lf.J sc js (In_stmt (Forall x from1 to st))) (entry : ℕ)
-      (body : StandsAt G.g.program G.moves G.shares (StandsIn G.code) (HasFork G.code) (HasWords G.code) G.hush true
+      (body : StandsAt G.g.program G.moves G.shares (StandsIn G.code) (HasFork G.code) (HasWords G.code) G.callable true
       (places.OfIndex x ∷ sc) entry st) (ends : slice_get G.code.instrs (after_statement G.g.program entry st)
       ≡ Some i.End)
       (child : Name) (longer : suc (length w.name) ≤ length child) (value : ℤ) (j : ℕ) where
@@ -247,7 +247,7 @@ module _ (G : RunContext) (lf : BirthRights) (kids : ℕ → ℕ → BirthRights
           pc = entry;
           stack = [];
           memory = memory_in (child_process plain (run_is G) (At pc stack n) value number j table);
-          is = refl;
+          configuration_is = refl;
           stand = begins.0;
           follows = child_follows (execution G life more child fresh own.who refl 0) st (places.OfIndex x ∷ sc) entry
               (G.moves st) (G.shares st) None (with_index ∷ js) begins.1 body;

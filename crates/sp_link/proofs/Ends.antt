@@ -61,41 +61,43 @@ module _ (G : RunContext) (lv : RightsOfAll G) (c : Course) (s : StateOf G.g) (u
   abbrev r : WorkOutcome Action × Store
   r = (Computed deeds.Ended o, m)
 
-  said : happening_at G.g x.at v x.left ≡ Some happenings.Ended
-  said = kernel_says G.g v x.at x.left x.runs r x.does
+  said : happening_at G.g x.state v x.left ≡ Some happenings.Ended
+  said = kernel_says G.g v x.state x.left x.runs r x.does
 
   abbrev t1 : StateOf G.g
-  t1 = with_change {L = superpascal G.g} (Becomes v Ended) x.at
+  t1 = with_change {L = superpascal G.g} (Becomes v Ended) x.state
 
-  goes_next : next_state G.g x.at v ≡ Some t1
-  goes_next = kernel_next G.g v x.at x.left x.runs r x.does
+  goes_next : next_state G.g x.state v ≡ Some t1
+  goes_next = kernel_next G.g v x.state x.left x.runs r x.does
 
   abbrev c1 : Course
   c1 = with_ticks v (ticks_of G.g t1 v) c
 
   gone : t1.condition v ≡ Ended
-  gone = at_same name_test x.at.condition v Ended
+  gone = at_same name_test x.state.condition v Ended
 
-  same : (a : Name) → a ≢ v → t1.condition a ≡ x.at.condition a
-  same a e = at_other name_test x.at.condition v a Ended (λ h. e (sym h))
+  same : (a : Name) → a ≢ v → t1.condition a ≡ x.state.condition a
+  same a e = at_other name_test x.state.condition v a Ended (λ h. e (sym h))
 
-  known_then : StateKeeps G.g x.at
+  known_then : StateKeeps G.g x.state
   known_then = known_at G lv c s u l i d at_i z r x happenings.Ended said
 
   known_now : StateKeeps G.g t1
   known_now = record {
-    sound = step_sound (total_limits G.g) x.at v t1 known_then.sound goes_next;
-    well = lowered G.g (λ a. ticks_in (x.at.condition a)) t1
-        (step_well G.g x.at known_then.sound v (raised G.g x.at known_then.well) t1 goes_next);
+    sound = step_sound (total_limits G.g) x.state v t1 known_then.sound goes_next;
+    well = lowered G.g (λ a. ticks_in (x.state.condition a)) t1
+        (step_well G.g x.state known_then.sound v (raised G.g x.state known_then.well) t1 goes_next);
   }
 
-  rights_then : Inv G.g.program (W_of G lv) (R_of G lv) x.at.condition x.at.forks
+  rights_then : Inv G.g.program (W_of G lv) (R_of G lv) x.state.condition x.state.forks
   rights_then = rights_at G lv c s u l i d at_i z r x happenings.Ended said
 
   rights_now : Inv G.g.program (W_of G lv) (R_of G lv) t1.condition t1.forks
-  rights_now = inv_local G (W_of G lv) (R_of G lv) x.at.condition t1.condition x.at.forks t1.forks v rights_then refl
-      (λ e. subst (λ a. IsLive a) e (working_lives x.at.condition v (x.at.condition v) x.left x.runs)) same
-      (subst (λ a. Rattle.sp_meaning.proofs.Owned.ConditionInRights G.g.program (W_of G lv) (R_of G lv) x.at.forks v a)
+  rights_now = inv_local G (W_of G lv)
+      (R_of G lv) x.state.condition t1.condition x.state.forks t1.forks v rights_then refl
+      (λ e. subst (λ a. IsLive a) e (working_lives x.state.condition v (x.state.condition v) x.left x.runs)) same
+      (subst (λ a. Rattle.sp_meaning.proofs.Owned.ConditionInRights G.g.program (W_of G lv)
+      (R_of G lv) x.state.forks v a)
       (sym gone) tt)
 
   -- one that is not its parent
@@ -103,7 +105,7 @@ module _ (G : RunContext) (lv : RightsOfAll G) (c : Course) (s : StateOf G.g) (u
       → Performs_all G lv (G.births.name j) c1 t1 (u.births.opens j) (u.condition j)
   does_other j lt e far =
       let apart = other_name G lv c s u l i d at_i z r x happenings.Ended said j lt e in
-      does_stay G lv x.at t1 known_then.sound rights_then.fair v
+      does_stay G lv x.state t1 known_then.sound rights_then.fair v
       (alone_at G lv c s u l i d at_i z r x happenings.Ended said) (λ a. inl refl) (G.births.name j) apart
       (same (G.births.name j) apart)
       (λ k n. ap (λ a. has_ended a) (same ((k, n) ∷ G.births.name j) (far k n)))
@@ -124,12 +126,13 @@ module _ (G : RunContext) (lv : RightsOfAll G) (c : Course) (s : StateOf G.g) (u
   tn_is : IsTurn (ops G) G.code d (Stopped machine.Ends (At t.0 t.1 t.2))
   tn_is = turn_is G lv c s u l i d at_i z (Stopped machine.Ends (At t.0 t.1 t.2)) (At t.0 t.1 t.2, t.4, t.5)
 
-  stood : St G (lv v) (λ a b. lv ((a, b) ∷ v)) v (p1 G lv c s u l i d at_i).who (c.since v) (lv v).below o x.at.store
+  stood : St G (lv v) (λ a b. lv ((a, b) ∷ v)) v (p1 G lv c s u l i d at_i).who (c.since v) (lv v).below o x.state.store
       t.2
-  stood = subst (λ y. St G (lv v) (λ a b. lv ((a, b) ∷ v)) v (p1 G lv c s u l i d at_i).who (c.since v) y o x.at.store
+  stood = subst (λ y. St G (lv v) (λ a b. lv ((a, b) ∷ v)) v (p1 G lv c s u l i d at_i).who (c.since v) y o
+      x.state.store
       t.2) (t.7).2
-      (stand_dead G (lv v) (λ a b. lv ((a, b) ∷ v)) v t.6 x.at.store
-      (λ a. subst (λ y. (x.at.store a ≡ m a) ⊎ IsDead y a) lengths
+      (stand_dead G (lv v) (λ a b. lv ((a, b) ∷ v)) v t.6 x.state.store
+      (λ a. subst (λ y. (x.state.store a ≡ m a) ⊎ IsDead y a) lengths
       (same_but_dead G lv c s u l i d at_i z deeds.Ended o m x tt a)))
     where
       count : (js : List Rattle.sp_codegen.specs.FramePairs.FramePair)
@@ -224,32 +227,32 @@ module _ (G : RunContext) (lv : RightsOfAll G) (c : Course) (s : StateOf G.g) (u
     abbrev op : ℕ
     op = u.births.opens b.parent
 
-    live_now : IsLive (x.at.condition v)
-    live_now = working_lives x.at.condition v (x.at.condition v) x.left x.runs
+    live_now : IsLive (x.state.condition v)
+    live_now = working_lives x.state.condition v (x.state.condition v) x.left x.runs
 
-    live_there : IsLive (x.at.condition ((b.fork, b.child) ∷ P))
-    live_there = subst (λ y. IsLive (x.at.condition y)) name_is live_now
+    live_there : IsLive (x.state.condition ((b.fork, b.child) ∷ P))
+    live_there = subst (λ y. IsLive (x.state.condition y)) name_is live_now
 
-    joins_at : JoinsAt b.fork b.child (x.at.condition P)
+    joins_at : JoinsAt b.fork b.child (x.state.condition P)
     joins_at = known_then.sound.joined P b.fork b.child live_there
 
     parent_apart : P ≢ v
     parent_apart = other_name G lv c s u l i d at_i z r x happenings.Ended said b.parent known_parent
         (λ e. older (sym e))
 
-    at_parent : t1.condition P ≡ x.at.condition P
+    at_parent : t1.condition P ≡ x.state.condition P
     at_parent = same P parent_apart
 
-    not_alone : Rattle.sp_meaning.proofs.Parallel.IsAlone x.at P → ⊥
-    not_alone a = alone_childless x.at P b.fork b.child a live_there joins_at
+    not_alone : Rattle.sp_meaning.proofs.Parallel.IsAlone x.state P → ⊥
+    not_alone a = alone_childless x.state P b.fork b.child a live_there joins_at
 
     abbrev dx : ℕ → Config (Memory Plain) → sys.Condition Plain
     dx left e = if left == 1 then sys.Working e else sys.Joins (left - 1) e
 
     -- the parent, at the fork whose child this is
     module _ (left : ℕ) (dd : Config (Memory Plain)) (k n : ℕ) (pr : Process)
-        (at_join : x.at.condition P ≡ Joins k n pr)
-        (zj : Joined G (lv P) (λ a e. lv ((a, e) ∷ P)) P (c.since P) k n left pr x.at dd)
+        (at_join : x.state.condition P ≡ Joins k n pr)
+        (zj : Joined G (lv P) (λ a e. lv ((a, e) ∷ P)) P (c.since P) k n left pr x.state dd)
         (opens_are : pr.who.opens ≡ op) (unlaid : c.laid P ≡ false) where
       j : JoinsAt {O = Process} {V = LocationContent} {T = Address} b.fork b.child (Joins k n pr)
       j = subst (λ y. JoinsAt {O = Process} {V = LocationContent} {T = Address} b.fork b.child y) at_join joins_at
@@ -257,36 +260,37 @@ module _ (G : RunContext) (lv : RightsOfAll G) (c : Course) (s : StateOf G.g) (u
       vy : v ≡ (k, b.child) ∷ P
       vy = name_is ∙ ap (λ y. (y, b.child) ∷ P) (sym j.0)
 
-      yet : has_ended (x.at.condition ((k, b.child) ∷ P)) ≡ false
-      yet = subst (λ y. has_ended (x.at.condition y) ≡ false) vy
+      yet : has_ended (x.state.condition ((k, b.child) ∷ P)) ≡ false
+      yet = subst (λ y. has_ended (x.state.condition y) ≡ false) vy
           (ended_at G lv c s u l i d at_i z r x happenings.Ended said)
 
       stood_there : St G (lv ((k, b.child) ∷ P)) (λ a e. lv ((a, e) ∷ (k, b.child) ∷ P)) ((k, b.child) ∷ P)
-          (p1 G lv c s u l i d at_i).who (c.since v) (lv ((k, b.child) ∷ P)).below o x.at.store t.2
+          (p1 G lv c s u l i d at_i).who (c.since v) (lv ((k, b.child) ∷ P)).below o x.state.store t.2
       stood_there = subst (λ y. St G (lv y) (λ a e. lv ((a, e) ∷ y)) y (p1 G lv c s u l i d at_i).who (c.since v)
-          (lv y).below o x.at.store t.2) vy stood
+          (lv y).below o x.state.store t.2) vy stood
 
       moved_there : (t.2).store.moved ≡ (lv ((k, b.child) ∷ P)).moved
       moved_there = subst (λ y. (t.2).store.moved ≡ (lv y).moved) vy moved_here
 
       abbrev t2 : StateOf G.g
-      t2 = with_change {L = superpascal G.g} (Becomes ((k, b.child) ∷ P) Ended) x.at
+      t2 = with_change {L = superpascal G.g} (Becomes ((k, b.child) ∷ P) Ended) x.state
 
       state_same : t2 ≡ t1
-      state_same = ap (λ y. with_change {L = superpascal G.g} (Becomes y Ended) x.at) (sym vy)
+      state_same = ap (λ y. with_change {L = superpascal G.g} (Becomes y Ended) x.state) (sym vy)
 
       abbrev left1 : ℕ
       left1 = left_of G (lv P) (λ a e. lv ((a, e) ∷ P)) P t2.condition k n
 
       fewer : left ≡ suc left1
-      fewer = one_fewer G lv P (c.since P) k n left b.child pr x.at dd zj j.1 yet
+      fewer = one_fewer G lv P (c.since P) k n left b.child pr x.state dd zj j.1 yet
 
       abbrev after_it : Config (Memory Plain)
-      after_it = At zj.pc zj.stack (memory_after G lv P (c.since P) k n left b.child pr x.at dd zj j.1 yet stood_there
+      after_it = At zj.pc zj.stack
+          (memory_after G lv P (c.since P) k n left b.child pr x.state dd zj j.1 yet stood_there
           moved_there)
 
       config_is : sys.on_store (λ y. plain.joined y (sys.store_of left_it)) dd ≡ after_it
-      config_is = ap (λ y. sys.on_store (λ y. plain.joined y (sys.store_of left_it)) y) zj.is
+      config_is = ap (λ y. sys.on_store (λ y. plain.joined y (sys.store_of left_it)) y) zj.configuration_is
 
       there : t2.condition P ≡ Joins k n pr
       there = ap (λ (y : StateOf G.g). y.condition P) state_same ∙ at_parent ∙ at_join
@@ -298,10 +302,10 @@ module _ (G : RunContext) (lv : RightsOfAll G) (c : Course) (s : StateOf G.g) (u
             pr,
             ap (own_part_in t2.condition P) there
                 ∙ ap (λ a. if a then Some pr else None)
-                (all_over G lv P (c.since P) k n left b.child pr x.at dd zj j.1 yet t2.condition n none),
+                (all_over G lv P (c.since P) k n left b.child pr x.state dd zj j.1 yet t2.condition n none),
             inl (subst (λ y. ProcessMatches G (lv P) (λ a e. lv ((a, e) ∷ P)) P y pr t2.store after_it)
                 (sym (since_other c v (ticks_of G.g t1 v) P parent_apart))
-                (runs_on G lv P (c.since P) k n left b.child pr x.at dd zj j.1 yet stood_there moved_there none)),
+                (runs_on G lv P (c.since P) k n left b.child pr x.state dd zj j.1 yet stood_there moved_there none)),
             opens_are,
             unlaid,
           )
@@ -314,7 +318,7 @@ module _ (G : RunContext) (lv : RightsOfAll G) (c : Course) (s : StateOf G.g) (u
             subst (λ y. Joined G (lv P) (λ a e. lv ((a, e) ∷ P)) P (c1.since P) k n y pr t2 after_it) (sym less)
                 (subst (λ y. Joined G (lv P) (λ a e. lv ((a, e) ∷ P)) P y k n left1 pr t2 after_it)
                 (sym (since_other c v (ticks_of G.g t1 v) P parent_apart))
-                (joins_on G lv P (c.since P) k n left b.child pr x.at dd zj j.1 yet stood_there moved_there some)),
+                (joins_on G lv P (c.since P) k n left b.child pr x.state dd zj j.1 yet stood_there moved_there some)),
             opens_are,
             unlaid,
           )
@@ -333,7 +337,7 @@ module _ (G : RunContext) (lv : RightsOfAll G) (c : Course) (s : StateOf G.g) (u
       rejoins = subst (λ y. Performs_all G lv P c1 t1 op (dx left y)) (sym config_is)
           (subst (λ y. Performs_all G lv P c1 y op (dx left after_it)) state_same (by_left (left == 1) refl))
 
-    rejoin : (X : sys.Condition Plain) → Performs_all G lv P c x.at op X
+    rejoin : (X : sys.Condition Plain) → Performs_all G lv P c x.state op X
         → Performs_all G lv P c1 t1 op (parent_after_join plain (run_is G) left_it X)
     rejoin sys.Absent h = absurd h
     rejoin (sys.Working dd) h = absurd (not_alone (inl (h.0, h.1)))
@@ -424,8 +428,8 @@ module _ (G : RunContext) (lv : RightsOfAll G) (c : Course) (s : StateOf G.g) (u
   pub finishing : Entry_of G c s u i d
   finishing = record {
     turn = tn;
-    is = tn_is;
-    way = way_of_step G lv c s u l i d at_i x.steps x.at (x.turn happenings.Ended said) happenings.Ended t1
+    is_turn = tn_is;
+    way = way_of_step G lv c s u l i d at_i x.steps x.state (x.turn happenings.Ended said) happenings.Ended t1
         (λ left n k. (l.faulted ∙ quiet, refl, t1, n, one-add n, (x.left, x.runs, said, goes_next), k)) _ (sym told);
     speaks = subst (λ a. IsOpen u.births (if a then event.Laid else event.End)) (sym quiet) tt;
     lives = lv;

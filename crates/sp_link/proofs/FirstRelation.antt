@@ -46,7 +46,7 @@ module _ (G : RunContext) (b : Block) (eb : slice_get G.g.program.blocks 0 ≡ S
   pub called : Called G [] 0
   called = (let a = begun.processes in omega (arith, a), sym (begun.names 0 (omega arith)))
 
-  pub block : BlockAt G.g.program G.moves G.shares G.code G.hush 0 b
+  pub block : BlockAt G.g.program G.moves G.shares G.code G.callable 0 b
   block = G.blocks 0 b eb
 
   abbrev pub js : List FramePair
@@ -75,7 +75,7 @@ module _ (G : RunContext) (b : Block) (eb : slice_get G.g.program.blocks 0 ≡ S
   n0 = first_memory plain (run_is G) (layout_of G.code.layouts 0)
 
   first_is : first_process plain (run_is G) ≡ At block.layout.entry [] n0
-  first_is = ap (λ y. At (entry_of plain (run_is G) y) [] n0) (G.finds 0 block.layout block.at)
+  first_is = ap (λ y. At (entry_of plain (run_is G) y) [] n0) (G.finds 0 block.layout block.layout_at)
 
   -- what it has to do
   todo_by : (large : Bool) → nat_lt G.g.limits.cells (size_of_frame G.g 0) ≡ large
@@ -101,7 +101,7 @@ module _ (G : RunContext) (b : Block) (eb : slice_get G.g.program.blocks 0 ≡ S
     pc = block.layout.entry;
     stack = [];
     memory = n0;
-    is = first_is;
+    configuration_is = first_is;
     stand = root_stands G.g G.code G.formed G.laid b eb G.pause (Named G) (Called G) called fits;
     follows = subst (λ y. Rattle.sp_codegen.specs.Following.CodeFollows
         (execution G (lives []) kids [] fresh who refl 0)

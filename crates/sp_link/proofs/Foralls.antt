@@ -125,7 +125,7 @@ module _ (G : RunContext) (lv : RightsOfAll G) (c : Course) (s : StateOf G.g) (u
   some = let a = some_value lo h.5 h.12 in omega (arith, a, length_is)
 
   abbrev k : ℕ
-  k = x.at.forks v
+  k = x.state.forks v
 
   abbrev pub n1 : Memory Plain
   n1 = record (t.2) { since = (t.2).ticks }
@@ -238,7 +238,7 @@ module _ (G : RunContext) (lv : RightsOfAll G) (c : Course) (s : StateOf G.g) (u
   table_is j = ap (λ a. child_or (child_at (table_or a) j)) h.10
 
   -- its parent's memory
-  stood : St G (lv v) (λ a b. lv ((a, b) ∷ v)) v w1 (t.2).ticks t.3 o x.at.store n1
+  stood : St G (lv v) (λ a b. lv ((a, b) ∷ v)) v w1 (t.2).ticks t.3 o x.state.store n1
   stood = fk.parent_stand G lv c s u l i d at_i z bs todo o m x t y quiet h.6 lo n h.9 some (t.2).ticks refl
 
   longer : (j : ℕ) → suc (length w1.name) ≤ length ((k, j) ∷ v)
@@ -319,20 +319,20 @@ module _ (G : RunContext) (lv : RightsOfAll G) (c : Course) (s : StateOf G.g) (u
 
       it_stands : j < range → (b : Birth) → slice_get bs j ≡ Some b → Called G ((k, j) ∷ v) (u.births.processes + j)
           → (own_more : ℕ → ℕ → BirthRights)
-          → ProcessMatches G (new_life j) own_more ((k, j) ∷ v) 0 (new_process x.left.who o j b) x.at.store
+          → ProcessMatches G (new_life j) own_more ((k, j) ∷ v) 0 (new_process x.left.who o j b) x.state.store
           (sys.child_process plain (run_is G) (At t.0 t.1 n1) lo (u.births.processes + j) j
           (child_or (child_at (table_or (slice_get G.code.forks h.6)) j)))
       it_stands lt b e called own_more =
           subst (λ (lf : BirthRights). ProcessMatches G lf own_more ((k, j) ∷ v) 0 (new_process x.left.who o j b)
-          x.at.store
+          x.state.store
           (sys.child_process plain (run_is G) (At t.0 t.1 n1) lo (u.births.processes + j) j
           (child_or (child_at (table_or (slice_get G.code.forks h.6)) j)))) (sym (life_is j lt))
-          (subst (λ a. ProcessMatches G (life_by (Some st) j) own_more ((k, j) ∷ v) 0 a x.at.store
+          (subst (λ a. ProcessMatches G (life_by (Some st) j) own_more ((k, j) ∷ v) 0 a x.state.store
           (sys.child_process plain (run_is G) (At t.0 t.1 n1) lo (u.births.processes + j) j
           (child_or (child_at (table_or (slice_get G.code.forks h.6)) j)))) (sym (process_is b e))
           (subst (λ a. ProcessMatches G (life_by (Some st) j) own_more ((k, j) ∷ v) 0
           (each.own G (lv v) more v fresh stood may_fork ix h.1 h.2 st sc h.15 entry h.13 h.14 ((k, j) ∷ v)
-          (longer j) lo j (u.births.processes + j)) x.at.store
+          (longer j) lo j (u.births.processes + j)) x.state.store
           (sys.child_process plain (run_is G) (At t.0 t.1 n1) lo (u.births.processes + j) j a)) (sym (table_is j))
           (each.each_stands G (lv v) more v fresh stood may_fork ix h.1 h.2 st sc h.15 entry h.13 h.14 ((k, j) ∷ v)
           (longer j) lo j (u.births.processes + j) called t.0 t.1 own_more)))

@@ -132,7 +132,7 @@ module _ (G : RunContext) (lv : RightsOfAll G) (c : Course) (s : StateOf G.g) (u
 
   -- the number of the fork
   abbrev pub k : ℕ
-  k = x.at.forks v
+  k = x.state.forks v
 
   abbrev os : List Process
   os = new_processes x.left.who o 0 bs
@@ -155,7 +155,7 @@ module _ (G : RunContext) (lv : RightsOfAll G) (c : Course) (s : StateOf G.g) (u
 
   passes : (e1 e2 : Bool) → nat_lt G.g.limits.entries (u.entries + 1) ≡ e1
       → nat_lt G.g.limits.processes (u.births.processes + length os) ≡ e2
-      → limit_fault (total_limits G.g) x.at.totals (Some grows)
+      → limit_fault (total_limits G.g) x.state.totals (Some grows)
       ≡ (if e1 then Some fault.F15 else (if e2 then Some fault.F13 else None))
   passes e1 e2 h1 h2 =
       ap (λ (a : Totals). limit_fault (total_limits G.g) a (Some grows)) x.elsewhere.totals
@@ -179,17 +179,18 @@ module _ (G : RunContext) (lv : RightsOfAll G) (c : Course) (s : StateOf G.g) (u
       (if nat_lt G.g.limits.processes (u.births.processes + n) then Some fault.F13 else None)) None) h1
       ∙ ap (λ b. sys.first_fault (if e1 then Some fault.F15 else (if b then Some fault.F13 else None)) None) h2
 
-  comes_to : (f : Option Fault) → limit_fault (total_limits G.g) x.at.totals (Some grows) ≡ f
-      → step_outcome {L = superpascal G.g} (total_limits G.g) x.at v (Forks goes_on os)
-      ≡ fault_or f (act_outcome {L = superpascal G.g} x.at v (Forks goes_on os))
-  comes_to f e = ap (λ a. fault_or a (act_outcome {L = superpascal G.g} x.at v (Forks goes_on os))) e
+  comes_to : (f : Option Fault) → limit_fault (total_limits G.g) x.state.totals (Some grows) ≡ f
+      → step_outcome {L = superpascal G.g} (total_limits G.g) x.state v (Forks goes_on os)
+      ≡ fault_or f (act_outcome {L = superpascal G.g} x.state v (Forks goes_on os))
+  comes_to f e = ap (λ a. fault_or a (act_outcome {L = superpascal G.g} x.state v (Forks goes_on os))) e
 
-  fails : (f : Fault) → step_outcome {L = superpascal G.g} (total_limits G.g) x.at v (Forks goes_on os) ≡ Faulty f
+  fails : (f : Fault) → step_outcome {L = superpascal G.g} (total_limits G.g) x.state v (Forks goes_on os) ≡ Faulty f
       → fault_of G.g.limits u tn ≡ Some f → Entry_of G c s u i d
   fails f e h = failed_entry G lv c s u l i d at_i (forked_halt G lv c s u l i d at_i z bs todo o m x t) refl f
-      (kernel_says G.g v x.at x.left x.runs r x.does
+      (kernel_says G.g v x.state x.left x.runs r x.does
       ∙ ap (λ b. happening_of {L = superpascal G.g} (Forks goes_on os) b) e)
-      (kernel_next G.g v x.at x.left x.runs r x.does ∙ ap (λ b. Some (result_of {L = superpascal G.g} x.at v b)) e) h
+      (kernel_next G.g v x.state x.left x.runs r x.does
+      ∙ ap (λ b. Some (result_of {L = superpascal G.g} x.state v b)) e) h
       quiet
 
   -- the faults, where the two counts pass the limit alike
@@ -219,11 +220,11 @@ module _ (G : RunContext) (lv : RightsOfAll G) (c : Course) (s : StateOf G.g) (u
 
   -- where it stands, without what calls wrote in frames that are gone
   pub parent_stand : (since1 : ℕ) → since1 ≡ (t.2).ticks
-      → St G (lv v) (λ a b. lv ((a, b) ∷ v)) v goes_on.who since1 t.3 o x.at.store n1
+      → St G (lv v) (λ a b. lv ((a, b) ∷ v)) v goes_on.who since1 t.3 o x.state.store n1
   parent_stand since1 e = stand_again G (lv v) (λ a b. lv ((a, b) ∷ v)) v {w = p1.who} {w1 = goes_on.who}
       {since = c.since v} {since1 = since1} (ap (λ (a : Identity). a.name) x.who_is) e
-      (stand_dead G (lv v) (λ a b. lv ((a, b) ∷ v)) v t.8 x.at.store
-      (λ a. subst (λ b. (x.at.store a ≡ m a) ⊎ IsDead b a)
+      (stand_dead G (lv v) (λ a b. lv ((a, b) ∷ v)) v t.8 x.state.store
+      (λ a. subst (λ b. (x.state.store a ≡ m a) ⊎ IsDead b a)
       (ap (λ b. length b) (t.8).frames.sources_are ∙ sources_length t.3)
       (same_but_dead G lv c s u l i d at_i z (Forked bs todo) o m x tt a)))
 
@@ -260,47 +261,47 @@ module _ (G : RunContext) (lv : RightsOfAll G) (c : Course) (s : StateOf G.g) (u
       (handed : (more : ℕ → ℕ → BirthRights) (j : ℕ) → j < n → Handed G (lv v) more v t.3 n1 (new_life j) ((k, j) ∷ v))
       (children : (more : ℕ → ℕ → BirthRights) (j : ℕ) → j < n → (b : Birth) → slice_get bs j ≡ Some b
       → Rattle.sp_link.proofs.Relation.Called G ((k, j) ∷ v) (u.births.processes + j)
-      → ProcessMatches G (new_life j) more ((k, j) ∷ v) 0 (new_process x.left.who o j b) x.at.store
+      → ProcessMatches G (new_life j) more ((k, j) ∷ v) 0 (new_process x.left.who o j b) x.state.store
       (child_of (u.births.processes + j) j)) where
     os_length : length os ≡ n
     os_length = newborns_length x.left.who o 0 bs ∙ count_is
 
-    does_it : step_outcome {L = superpascal G.g} (total_limits G.g) x.at v (Forks goes_on os)
-        ≡ act_outcome {L = superpascal G.g} x.at v (Forks goes_on os)
+    does_it : step_outcome {L = superpascal G.g} (total_limits G.g) x.state v (Forks goes_on os)
+        ≡ act_outcome {L = superpascal G.g} x.state v (Forks goes_on os)
     does_it = comes_to None (passes false false room1
         (ap (λ a. nat_lt G.g.limits.processes (u.births.processes + a)) os_length ∙ room2))
 
     abbrev before : Conditions
-    before = put_at same_name v (Joins k (length os) goes_on) x.at.condition
+    before = put_at same_name v (Joins k (length os) goes_on) x.state.condition
 
     abbrev t1 : StateOf G.g
-    t1 = record (x.at) {
+    t1 = record (x.state) {
       condition = after_births G.g.program v k 0 os before;
-      forks = put_at same_name v (x.at.forks v + 1) x.at.forks;
-      totals = add x.at.totals grows;
+      forks = put_at same_name v (x.state.forks v + 1) x.state.forks;
+      totals = add x.state.totals grows;
     }
 
     abbrev says_now : Happening
     says_now = happenings.Forked (length os)
 
-    said_now : happening_at G.g x.at v x.left ≡ Some says_now
-    said_now = kernel_says G.g v x.at x.left x.runs r x.does
+    said_now : happening_at G.g x.state v x.left ≡ Some says_now
+    said_now = kernel_says G.g v x.state x.left x.runs r x.does
         ∙ ap (λ b. happening_of {L = superpascal G.g} (Forks goes_on os) b) does_it
 
-    goes_next : next_state G.g x.at v ≡ Some t1
-    goes_next = kernel_next G.g v x.at x.left x.runs r x.does
-        ∙ ap (λ b. Some (result_of {L = superpascal G.g} x.at v b)) does_it
+    goes_next : next_state G.g x.state v ≡ Some t1
+    goes_next = kernel_next G.g v x.state x.left x.runs r x.does
+        ∙ ap (λ b. Some (result_of {L = superpascal G.g} x.state v b)) does_it
         ∙ ap (λ b. Some b) (born_is G.g v k 0 os
         (with_change {L = superpascal G.g} (AddsTotals grows)
         (with_change {L = superpascal G.g} (Counts_fork v)
-        (with_change {L = superpascal G.g} (Becomes v (Joins k (length os) goes_on)) x.at))))
+        (with_change {L = superpascal G.g} (Becomes v (Joins k (length os) goes_on)) x.state))))
 
     no_child : (j : ℕ) → v ≢ (k, j) ∷ v
     no_child j e = let h = ap (λ (a : Name). length a) e in omega (arith, h)
 
     cond_v : t1.condition v ≡ Joins k (length os) goes_on
     cond_v = born_else G.g v k 0 os before v (λ j lt. no_child (0 + j))
-        ∙ at_same name_test x.at.condition v (Joins k (length os) goes_on)
+        ∙ at_same name_test x.state.condition v (Joins k (length os) goes_on)
 
     cond_child : (j : ℕ) (b : Birth) → slice_get bs j ≡ Some b
         → t1.condition ((k, j) ∷ v) ≡ Works (new_process x.left.who o j b)
@@ -311,7 +312,7 @@ module _ (G : RunContext) (lv : RightsOfAll G) (c : Course) (s : StateOf G.g) (u
     cond_r : (a : Name) → a ≢ v → ((j : ℕ) → j < n → a ≢ (k, j) ∷ v) → t1.condition a ≡ s.condition a
     cond_r a e f = born_else G.g v k 0 os before a
         (λ j lt h. f j (omega (arith, lt, os_length)) (h ∙ ap (λ b. cons (k, b) v) (zero-add j)))
-        ∙ at_other name_test x.at.condition v a (Joins k (length os) goes_on) (λ h. e (sym h))
+        ∙ at_other name_test x.state.condition v a (Joins k (length os) goes_on) (λ h. e (sym h))
         ∙ x.elsewhere.condition a e
 
     -- no child was there
@@ -342,14 +343,14 @@ module _ (G : RunContext) (lv : RightsOfAll G) (c : Course) (s : StateOf G.g) (u
             let ge = ltb-false b n h in omega (arith, lt, is, ge)))
         by false e g h = inr (λ j lt f. (let is : true ≡ false = sym (test j f) ∙ e in absurd (cc is)))
 
-    known_then : StateKeeps G.g x.at
+    known_then : StateKeeps G.g x.state
     known_then = known_at G lv c s u l i d at_i z r x says_now said_now
 
     known_now : StateKeeps G.g t1
     known_now = record {
-      sound = step_sound (total_limits G.g) x.at v t1 known_then.sound goes_next;
-      well = lowered G.g (λ b. ticks_in (x.at.condition b)) t1
-          (step_well G.g x.at known_then.sound v (raised G.g x.at known_then.well) t1 goes_next);
+      sound = step_sound (total_limits G.g) x.state v t1 known_then.sound goes_next;
+      well = lowered G.g (λ b. ticks_in (x.state.condition b)) t1
+          (step_well G.g x.state known_then.sound v (raised G.g x.state known_then.well) t1 goes_next);
     }
 
     -- ---- lives and rights
@@ -377,11 +378,11 @@ module _ (G : RunContext) (lv : RightsOfAll G) (c : Course) (s : StateOf G.g) (u
     lv1_child j = ap (λ f. pick f (new_life j) (lv ((k, j) ∷ v)))
         (ap (λ f. f && (k == k)) (itself name_test v) ∙ eq-eqb k k refl)
 
-    rights_then : Inv G.g.program (W_of G lv) (R_of G lv) x.at.condition x.at.forks
+    rights_then : Inv G.g.program (W_of G lv) (R_of G lv) x.state.condition x.state.forks
     rights_then = rights_at G lv c s u l i d at_i z r x says_now said_now
 
-    there_at : x.at.condition v ≢ Absent
-    there_at e = subst (λ b. IsLive b) e (working_lives x.at.condition v (x.at.condition v) x.left x.runs)
+    there_at : x.state.condition v ≢ Absent
+    there_at e = subst (λ b. IsLive b) e (working_lives x.state.condition v (x.state.condition v) x.left x.runs)
 
     abbrev W1 : Name → Loc → Type 0
     W1 a b = writes_after G.g.program (W_of G lv) (R_of G lv) v k o.frames stmts a b
@@ -434,8 +435,9 @@ module _ (G : RunContext) (lv : RightsOfAll G) (c : Course) (s : StateOf G.g) (u
     rights_now : Inv G.g.program (W_of G lv1) (R_of G lv1) t1.condition t1.forks
     rights_now = inv_same G W1 R1 (W_of G lv1) (R_of G lv1) to_writes from_writes to_reads from_reads t1.condition
         t1.forks
-        (forks_keep G.g.program (W_of G lv) (R_of G lv) x.at.condition x.at.forks rights_then v
-        (known_if G.g.program (W_of G lv) (R_of G lv) x.at.condition x.at.forks rights_then v there_at) x.left.who o
+        (forks_keep G.g.program (W_of G lv) (R_of G lv) x.state.condition x.state.forks rights_then v
+        (known_if G.g.program (W_of G lv)
+        (R_of G lv) x.state.condition x.state.forks rights_then v there_at) x.left.who o
         x.good.named counted
         goes_on x.good.named (ap (λ a. a + 1) counted) (keeps_to G lv c s u l i d at_i).last y.final.2 stmts bs born
         (y.final.2).linked (length os))
@@ -505,7 +507,7 @@ module _ (G : RunContext) (lv : RightsOfAll G) (c : Course) (s : StateOf G.g) (u
     joined : Joined G (lv v) kids1 v (c1.since v) k n n goes_on t1 left_it
     joined = parent_joins G (lv v) kids1 v fresh1 (c1.since v) k n goes_on t.3 t1 n1
         (parent_stand (c1.since v) since_here) x.good.named t.0 t.1
-        (again G.g G.code G.moves G.shares G.hush (λ a. OwnLocation v a ⊎ (lv v).W a)
+        (again G.g G.code G.moves G.shares G.callable (λ a. OwnLocation v a ⊎ (lv v).W a)
         (λ a. OwnLocation v a ⊎ (lv v).R a) (lv v).J
         (ops G) G.free G.finds G.formed.uses z.fresh.reads fresh1.reads
         p1.who (due_after (c.since v) G.pause) (Rel G (lv v) (kids G lv c s u l i d at_i) v p1.who (c.since v))
@@ -648,16 +650,16 @@ module _ (G : RunContext) (lv : RightsOfAll G) (c : Course) (s : StateOf G.g) (u
       not_i : (a : ℕ) → P ≤ a → i ≢ a
       not_i a le e = let b = here G lv c s u l i d at_i in omega (arith, b, le, e)
 
-      child_forks : (j : ℕ) → j < n → x.at.forks ((k, j) ∷ v) ≡ 0
-      child_forks j lt = subst (λ b. ConditionInRights G.g.program (W_of G lv) (R_of G lv) x.at.forks ((k, j) ∷ v) b)
+      child_forks : (j : ℕ) → j < n → x.state.forks ((k, j) ∷ v) ≡ 0
+      child_forks j lt = subst (λ b. ConditionInRights G.g.program (W_of G lv) (R_of G lv) x.state.forks ((k, j) ∷ v) b)
           (x.elsewhere.condition ((k, j) ∷ v) (λ e. no_child j (sym e)) ∙ unborn j) (rights_then.holds ((k, j) ∷ v))
 
       forks_old : (a : ℕ) → a < P → t1.forks (G.births.name a) ≡ b1.forks a
       forks_old a lt = ⊎_elim
           (λ (e : i ≡ a). subst (λ b. t1.forks (G.births.name b) ≡ b1.forks b) e
-          (at_same name_test x.at.forks v (k + 1) ∙ ap (λ b. b + 1) (sym forks_here)
+          (at_same name_test x.state.forks v (k + 1) ∙ ap (λ b. b + 1) (sym forks_here)
           ∙ sym (ap (λ f. cond f (u.births.forks i + 1) (u.births.forks i)) (eq-eqb i i refl))))
-          (λ (e : i ≢ a). at_other name_test x.at.forks v (G.births.name a) (k + 1)
+          (λ (e : i ≢ a). at_other name_test x.state.forks v (G.births.name a) (k + 1)
           (λ h. e (G.one_name i a (few i (here G lv c s u l i d at_i)) (few a lt) h))
           ∙ ap (λ b. b (G.births.name a)) x.elsewhere.forks ∙ l.forks a lt
           ∙ sym (ap (λ f. cond f (u.births.forks i + 1) (u.births.forks a)) (ne_eqb i a e)))
@@ -665,7 +667,7 @@ module _ (G : RunContext) (lv : RightsOfAll G) (c : Course) (s : StateOf G.g) (u
 
       forks_new : (j : ℕ) → j < n → t1.forks (G.births.name (P + j)) ≡ b1.forks (P + j)
       forks_new j lt = ap (λ b. t1.forks b) (name_child j lt)
-          ∙ at_other name_test x.at.forks v ((k, j) ∷ v) (k + 1) (no_child j) ∙ child_forks j lt
+          ∙ at_other name_test x.state.forks v ((k, j) ∷ v) (k + 1) (no_child j) ∙ child_forks j lt
           ∙ sym (l.unmade (P + j) (omega arith)).0
           ∙ sym (ap (λ f. cond f (u.births.forks i + 1) (u.births.forks (P + j)))
           (ne_eqb i (P + j) (not_i (P + j) (omega arith))))
@@ -725,8 +727,8 @@ module _ (G : RunContext) (lv : RightsOfAll G) (c : Course) (s : StateOf G.g) (u
     pub fork_entry : Entry_of G c s u i d
     fork_entry = record {
       turn = tn;
-      is = tn_is;
-      way = way_of_step G lv c s u l i d at_i x.steps x.at (x.turn says_now said_now) says_now t1
+      is_turn = tn_is;
+      way = way_of_step G lv c s u l i d at_i x.steps x.state (x.turn says_now said_now) says_now t1
           (λ left n k. (l.faulted ∙ quiet, refl, t1, n, one-add n, (x.left, x.runs, said_now, goes_next), k)) _
           (sym told);
       speaks = subst (λ f. IsOpen u.births f) (sym event_is) tt;

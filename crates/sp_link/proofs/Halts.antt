@@ -114,20 +114,20 @@ module _ (G : RunContext) (lv : RightsOfAll G) (c : Course) (s : StateOf G.g) (u
   -- where its turn has come to, on both sides
   pub record Halted : Type 1 where
     pub turn : Turn (Memory Plain)
-    pub is : IsTurn (ops G) G.code d turn
+    pub is_turn : IsTurn (ops G) G.code d turn
     pub steps : ℕ
-    pub at : StateOf G.g
+    pub state : StateOf G.g
     pub paused : Bool
-    pub way : along.Turn G.g G.pause (c.since v) v steps s at paused
+    pub way : along.Turn G.g G.pause (c.since v) v steps s state paused
     pub left : Process
-    pub runs : running_process G.g at v ≡ Some left
-    pub other : (r : Name) → r ≢ v → at.condition r ≡ s.condition r
-    pub forks : at.forks ≡ s.forks
-    pub pending : at.pending ≡ s.pending
-    pub totals : at.totals ≡ s.totals
-    pub stays : (a : Loc) → (at.store a ≡ s.store a) ⊎ OwnOrGiven (W_of G lv) v a
+    pub runs : running_process G.g state v ≡ Some left
+    pub others_stay : (r : Name) → r ≢ v → state.condition r ≡ s.condition r
+    pub forks : state.forks ≡ s.forks
+    pub pending : state.pending ≡ s.pending
+    pub totals : state.totals ≡ s.totals
+    pub stays : (a : Loc) → (state.store a ≡ s.store a) ⊎ OwnOrGiven (W_of G lv) v a
     pub rights : Keeps_to G.g.program (W_of G lv) (R_of G lv) s.forks v left
-    pub told : OutputMatches G (lv v) (λ k n. lv ((k, n) ∷ v)) v at.store (config_of turn)
+    pub told : OutputMatches G (lv v) (λ k n. lv ((k, n) ∷ v)) v state.store (config_of turn)
 
   -- ---- it is laid down
 
@@ -140,12 +140,12 @@ module _ (G : RunContext) (lv : RightsOfAll G) (c : Course) (s : StateOf G.g) (u
   pub laid_entry : Halted → u.faulted ≡ true → Entry_of G c s u i d
   laid_entry h bad = record {
     turn = h.turn;
-    is = h.is;
+    is_turn = h.is_turn;
     way = way_by _ (sym said);
     speaks = subst (IsOpen u.births) (sym event_is) tt;
     lives = lv;
-    linked = λ began. now_by G lv c1 h.at (system_after_turn plain (run_is G) i h.turn u)
-        (subst (λ y. Linked G lv c1 h.at y) (sym (after_laid G i h.turn u bad)) linked);
+    linked = λ began. now_by G lv c1 h.state (system_after_turn plain (run_is G) i h.turn u)
+        (subst (λ y. Linked G lv c1 h.state y) (sym (after_laid G i h.turn u bad)) linked);
   }
     where
       c1 : Course
@@ -157,9 +157,11 @@ module _ (G : RunContext) (lv : RightsOfAll G) (c : Course) (s : StateOf G.g) (u
       said : happening u.births (event_of G.g.limits u h.turn) ≡ Laid
       said = ap (happening u.births) event_is
 
-      linked : Linked G lv c1 h.at (record u { condition = at_key ◌==◌ i (sys.Laid (config_of h.turn)) u.condition })
-      linked = linked_local G lv c s u l i d at_i h.at c1 (sys.Laid (config_of h.turn)) u.faulted h.other h.forks
-          h.pending h.totals h.stays (turn_known G.g G.pause (c.since v) v h.steps s h.at h.paused l.known h.way) h.left
+      linked : Linked G lv c1 h.state (record u { condition = at_key ◌==◌ i (sys.Laid (config_of h.turn)) u.condition })
+      linked = linked_local G lv c s u l i d at_i h.state c1
+          (sys.Laid (config_of h.turn)) u.faulted h.others_stay h.forks
+          h.pending h.totals h.stays
+          (turn_known G.g G.pause (c.since v) v h.steps s h.state h.paused l.known h.way) h.left
           h.runs h.rights
           (λ r a. refl) (λ r a. laid_other c r a) (λ e. refl) (sym bad)
           (λ e. absurd (not_true_and_false u.faulted bad e)) (λ e. absurd (not_true_and_false u.faulted bad e))
@@ -169,27 +171,27 @@ module _ (G : RunContext) (lv : RightsOfAll G) (c : Course) (s : StateOf G.g) (u
       way_by e k = record {
         unlaid = (its G lv c s u l i d at_i).4;
         steps = h.steps;
-        at = h.at;
+        source = h.state;
         paused = h.paused;
         turn = h.way;
         cost = 0;
         course = c1;
-        state = h.at;
-        enters = λ left n y. subst (λ f. EntryStep G.g left c h.at h.paused v f (0 + n)) k
-            (l.faulted ∙ bad, subst (λ j. left c1 h.at j) (is_none_plus n) y);
+        state = h.state;
+        enters = λ left n y. subst (λ f. EntryStep G.g left c h.state h.paused v f (0 + n)) k
+            (l.faulted ∙ bad, subst (λ j. left c1 h.state j) (is_none_plus n) y);
       }
 
   -- ---- it faults
 
   pub failed_entry : (h : Halted) → h.paused ≡ false → (f : Fault)
-      → happening_at G.g h.at v h.left ≡ Some (happenings.Faulted f)
-      → next_state G.g h.at v ≡ Some (with_change {L = superpascal G.g} (Faults v f) h.at)
+      → happening_at G.g h.state v h.left ≡ Some (happenings.Faulted f)
+      → next_state G.g h.state v ≡ Some (with_change {L = superpascal G.g} (Faults v f) h.state)
       → fault_of G.g.limits u h.turn ≡ Some f
       → u.faulted ≡ false → Entry_of G c s u i d
   failed_entry h whole f says_it goes_next fault_is quiet =
       record {
         turn = h.turn;
-        is = h.is;
+        is_turn = h.is_turn;
         way = way_by _ (sym said);
         speaks = subst (IsOpen u.births) (sym event_is) tt;
         lives = lv;
@@ -198,7 +200,7 @@ module _ (G : RunContext) (lv : RightsOfAll G) (c : Course) (s : StateOf G.g) (u
       }
     where
       t1 : StateOf G.g
-      t1 = with_change {L = superpascal G.g} (Faults v f) h.at
+      t1 = with_change {L = superpascal G.g} (Faults v f) h.state
 
       c0 : Course
       c0 = with_ticks v (ticks_of G.g t1 v) c
@@ -206,14 +208,14 @@ module _ (G : RunContext) (lv : RightsOfAll G) (c : Course) (s : StateOf G.g) (u
       c1 : Course
       c1 = with_fault v c0
 
-      known_then : StateKeeps G.g h.at
-      known_then = turn_known G.g G.pause (c.since v) v h.steps s h.at h.paused l.known h.way
+      known_then : StateKeeps G.g h.state
+      known_then = turn_known G.g G.pause (c.since v) v h.steps s h.state h.paused l.known h.way
 
       known_now : StateKeeps G.g t1
       known_now = record {
-        sound = step_sound (total_limits G.g) h.at v t1 known_then.sound goes_next;
-        well = lowered G.g (λ a. ticks_in (h.at.condition a)) t1
-            (step_well G.g h.at known_then.sound v (raised G.g h.at known_then.well) t1 goes_next);
+        sound = step_sound (total_limits G.g) h.state v t1 known_then.sound goes_next;
+        well = lowered G.g (λ a. ticks_in (h.state.condition a)) t1
+            (step_well G.g h.state known_then.sound v (raised G.g h.state known_then.well) t1 goes_next);
       }
 
       event_is : event_of G.g.limits u h.turn ≡ event.Fault f
@@ -233,7 +235,8 @@ module _ (G : RunContext) (lv : RightsOfAll G) (c : Course) (s : StateOf G.g) (u
         condition = at_key ◌==◌ i (sys.Laid (config_of h.turn)) u.condition;
         faulted = true;
       })
-      linked = linked_local G lv c s u l i d at_i t1 c1 (sys.Laid (config_of h.turn)) true h.other h.forks h.pending
+      linked = linked_local G lv c s u l i d at_i t1 c1
+          (sys.Laid (config_of h.turn)) true h.others_stay h.forks h.pending
           h.totals h.stays known_now h.left h.runs h.rights
           (λ r a. ap (λ b. cond b (ticks_of G.g t1 v) (c.since r)) (differs name_test v r (λ e. a (sym e))))
           (λ r a. laid_other c0 r a) (λ e. refl) refl (λ e. absurd (not_true_and_false true refl e))
@@ -244,13 +247,13 @@ module _ (G : RunContext) (lv : RightsOfAll G) (c : Course) (s : StateOf G.g) (u
       way_by e k = record {
         unlaid = (its G lv c s u l i d at_i).4;
         steps = h.steps;
-        at = h.at;
+        source = h.state;
         paused = h.paused;
         turn = h.way;
         cost = 1;
         course = c1;
         state = t1;
-        enters = λ left n y. subst (λ e. EntryStep G.g left c h.at h.paused v e (1 + n)) k
+        enters = λ left n y. subst (λ e. EntryStep G.g left c h.state h.paused v e (1 + n)) k
             (l.faulted ∙ quiet, whole, t1, n, one-add n, (h.left, h.runs, says_it, goes_next), y);
       }
 
@@ -273,10 +276,10 @@ module _ (G : RunContext) (lv : RightsOfAll G) (c : Course) (s : StateOf G.g) (u
     abbrev too_large_halt : Halted
     too_large_halt = record {
       turn = Faulted fault.F12 d;
-      is = subst (λ b. BeginsOrFaults b d (Faulted fault.F12 d)
+      is_turn = subst (λ b. BeginsOrFaults b d (Faulted fault.F12 d)
           (Rattle.sp_code.specs.Turns.Runs (ops G) G.code d (Faulted fault.F12 d))) (sym z.4) refl;
       steps = 0;
-      at = s;
+      state = s;
       paused = false;
       way = (
         refl,
@@ -288,7 +291,7 @@ module _ (G : RunContext) (lv : RightsOfAll G) (c : Course) (s : StateOf G.g) (u
       );
       left = at.p1 G lv c s u l i d at_i;
       runs = runs_as_pr G lv c s u l i d at_i;
-      other = λ r a. refl;
+      others_stay = λ r a. refl;
       forks = refl;
       pending = refl;
       totals = refl;
@@ -315,14 +318,14 @@ module _ (G : RunContext) (lv : RightsOfAll G) (c : Course) (s : StateOf G.g) (u
         → Machined G lv c s u l i d at_i z (Computed (source.Paused todo) o, m) → Halted
     paused_halt todo o m x t = record {
       turn = Stopped machine.Pauses (At t.0 t.1 t.2);
-      is = turn_is G lv c s u l i d at_i z (Stopped machine.Pauses (At t.0 t.1 t.2)) (t.4, t.5, t.6);
+      is_turn = turn_is G lv c s u l i d at_i z (Stopped machine.Pauses (At t.0 t.1 t.2)) (t.4, t.5, t.6);
       steps = x.steps;
-      at = x.at;
+      state = x.state;
       paused = true;
       way = x.turn;
       left = with_todo todo (at.p1 G lv c s u l i d at_i).who o;
       runs = x.runs;
-      other = x.elsewhere.condition;
+      others_stay = x.elsewhere.condition;
       forks = x.elsewhere.forks;
       pending = x.elsewhere.pending;
       totals = x.elsewhere.totals;
@@ -338,19 +341,19 @@ module _ (G : RunContext) (lv : RightsOfAll G) (c : Course) (s : StateOf G.g) (u
     }
 
     module _ (r : WorkOutcome Action × Store) (x : Rattle.sp_link.proofs.AtStop.Stopped_at G lv c s u l i d at_i z r)
-        (what : Happening) (said : happening_at G.g x.at v x.left ≡ Some what) where
+        (what : Happening) (said : happening_at G.g x.state v x.left ≡ Some what) where
       abbrev pub halt_by : (tn : Turn (Memory Plain)) → IsTurn (ops G) G.code d tn
-          → OutputMatches G (lv v) (λ k n. lv ((k, n) ∷ v)) v x.at.store (config_of tn) → Halted
+          → OutputMatches G (lv v) (λ k n. lv ((k, n) ∷ v)) v x.state.store (config_of tn) → Halted
       halt_by tn is told = record {
         turn = tn;
-        is = is;
+        is_turn = is;
         steps = x.steps;
-        at = x.at;
+        state = x.state;
         paused = false;
         way = x.turn what said;
         left = x.left;
         runs = x.runs;
-        other = x.elsewhere.condition;
+        others_stay = x.elsewhere.condition;
         forks = x.elsewhere.forks;
         pending = x.elsewhere.pending;
         totals = x.elsewhere.totals;
@@ -362,13 +365,13 @@ module _ (G : RunContext) (lv : RightsOfAll G) (c : Course) (s : StateOf G.g) (u
     -- what the step at a stop says
     pub says_something : (r : WorkOutcome Action × Store) (x : Rattle.sp_link.proofs.AtStop.Stopped_at G lv c s u l i d
         at_i z r)
-        → IsKernel G.g (act G.g v x.at x.left x.runs r x.does) → (what : Happening)
-        × (happening_at G.g x.at v x.left ≡ Some what)
+        → IsKernel G.g (act G.g v x.state x.left x.runs r x.does) → (what : Happening)
+        × (happening_at G.g x.state v x.left ≡ Some what)
     says_something r x k =
-        let y = something_said G.g (act G.g v x.at x.left x.runs r x.does) k
-        (Rattle.sp_meaning.specs.Steps.step_outcome (total_limits G.g) x.at v
-        (act G.g v x.at x.left x.runs r x.does)) in
-        (y.0, kernel_says G.g v x.at x.left x.runs r x.does ∙ y.1)
+        let y = something_said G.g (act G.g v x.state x.left x.runs r x.does) k
+        (Rattle.sp_meaning.specs.Steps.step_outcome (total_limits G.g) x.state v
+        (act G.g v x.state x.left x.runs r x.does)) in
+        (y.0, kernel_says G.g v x.state x.left x.runs r x.does ∙ y.1)
 
     abbrev pub forked_halt : (bs : List Birth) (todo : List Item) (o : LocalState) (m : Store)
         → Meant G lv c s u l i d at_i z (Computed (source.Stops (Forked bs todo)) o, m)
@@ -376,7 +379,7 @@ module _ (G : RunContext) (lv : RightsOfAll G) (c : Course) (s : StateOf G.g) (u
     forked_halt bs todo o m x t = let y = says_something (Computed (Forked bs todo) o, m) x tt in
         halt_by (Computed (Forked bs todo) o, m) x y.0 y.1 (Stopped t.5 (At t.0 t.1 t.2))
         (turn_is G lv c s u l i d at_i z (Stopped t.5 (At t.0 t.1 t.2)) (t.4, t.6, t.7))
-        (told_same G (lv v) (λ k n. lv ((k, n) ∷ v)) v (At t.0 t.1 t.2) m x.at.store
+        (told_same G (lv v) (λ k n. lv ((k, n) ∷ v)) v (At t.0 t.1 t.2) m x.state.store
         (⊎_elim (λ b. b) (λ b. absurd b) (same_but_dead G lv c s u l i d at_i z (Forked bs todo) o m x tt Output))
         (told_by G (lv v) (λ k n. lv ((k, n) ∷ v)) v t.0 t.1 t.8))
 
@@ -388,7 +391,7 @@ module _ (G : RunContext) (lv : RightsOfAll G) (c : Course) (s : StateOf G.g) (u
     offered_halt ch k cg todo o m x t = let y = says_something (Computed (Offered ch k cg todo) o, m) x tt in
         halt_by (Computed (Offered ch k cg todo) o, m) x y.0 y.1 (Stopped t.5 (At t.0 t.1 t.2))
         (turn_is G lv c s u l i d at_i z (Stopped t.5 (At t.0 t.1 t.2)) (t.4, t.6, t.7))
-        (told_same G (lv v) (λ k n. lv ((k, n) ∷ v)) v (At t.0 t.1 t.2) m x.at.store
+        (told_same G (lv v) (λ k n. lv ((k, n) ∷ v)) v (At t.0 t.1 t.2) m x.state.store
         (⊎_elim (λ b. b) (λ b. absurd b)
         (same_but_dead G lv c s u l i d at_i z (Offered ch k cg todo) o m x tt Output))
         (told_by G (lv v) (λ k n. lv ((k, n) ∷ v)) v t.0 t.1 t.8))
@@ -399,7 +402,7 @@ module _ (G : RunContext) (lv : RightsOfAll G) (c : Course) (s : StateOf G.g) (u
     over_halt o m x t = let y = says_something (Computed deeds.Ended o, m) x tt in
         halt_by (Computed deeds.Ended o, m) x y.0 y.1 (Stopped machine.Ends (At t.0 t.1 t.2))
         (turn_is G lv c s u l i d at_i z (Stopped machine.Ends (At t.0 t.1 t.2)) (At t.0 t.1 t.2, t.4, t.5))
-        (told_same G (lv v) (λ k n. lv ((k, n) ∷ v)) v (At t.0 t.1 t.2) m x.at.store
+        (told_same G (lv v) (λ k n. lv ((k, n) ∷ v)) v (At t.0 t.1 t.2) m x.state.store
         (⊎_elim (λ b. b) (λ b. absurd b) (same_but_dead G lv c s u l i d at_i z deeds.Ended o m x tt Output))
         (told_by G (lv v) (λ k n. lv ((k, n) ∷ v)) v t.0 t.1 t.6))
 
@@ -422,10 +425,10 @@ module _ (G : RunContext) (lv : RightsOfAll G) (c : Course) (s : StateOf G.g) (u
               owner = (at.p1 G lv c s u l i d at_i).who.name;
               nth = (at.p1 G lv c s u l i d at_i).who.opens;
             })))) (t.7 Output))
-            (cell_no_output t.5 t.11.owner t.11.frame t.11.variable t.11.is)
+            (cell_no_output t.5 t.11.owner t.11.frame t.11.variable t.11.cell_is)
 
         wrote : Rattle.sp_link.proofs.Relation.IsReadable G (lv v) (λ k n. lv ((k, n) ∷ v)) v Output
-            → IsSameButOne (length x.left.own.frames) x.at.store m → x.at.store Output ≡ t.7 Output
+            → IsSameButOne (length x.left.own.frames) x.state.store m → x.state.store Output ≡ t.7 Output
         wrote may h = ⊎_elim (λ e. e ∙ output_is)
             (λ e. ⊎_elim (λ b. absurd b) (λ b. absurd
             (let y = (t.10).output may in no_tree h.value y.0 (sym h.now ∙ ap m b ∙ output_is ∙ y.1))) e)
@@ -435,18 +438,20 @@ module _ (G : RunContext) (lv : RightsOfAll G) (c : Course) (s : StateOf G.g) (u
         → Machined G lv c s u l i d at_i z (EndsInFault f, m) → Halted
     bad_halt f m x t =
         halt_by (EndsInFault f, m) x (happenings.Faulted f)
-        (kernel_says G.g v x.at x.left x.runs (EndsInFault f, m) x.does)
-        (Faulted f t.at) (turn_is G lv c s u l i d at_i z (Faulted f t.at) (t.at, t.comes, (t.fails, refl)))
-        (told_same G (lv v) (λ k n. lv ((k, n) ∷ v)) v t.at m x.at.store (same_output G lv c s u l i d at_i z f m x)
-        (told_break G (lv v) (λ k n. lv ((k, n) ∷ v)) v (at.p1 G lv c s u l i d at_i).who (c.since v) t.at m
+        (kernel_says G.g v x.state x.left x.runs (EndsInFault f, m) x.does)
+        (Faulted f t.configuration)
+        (turn_is G lv c s u l i d at_i z (Faulted f t.configuration) (t.configuration, t.comes, (t.fails, refl)))
+        (told_same G (lv v) (λ k n. lv ((k, n) ∷ v)) v t.configuration m x.state.store
+        (same_output G lv c s u l i d at_i z f m x)
+        (told_break G (lv v) (λ k n. lv ((k, n) ∷ v)) v (at.p1 G lv c s u l i d at_i).who (c.since v) t.configuration m
         t.stands))
 
     -- the entry of a fault of an instruction
     pub failing : (f : Fault) (m : Store) → Meant G lv c s u l i d at_i z (EndsInFault f, m)
         → Machined G lv c s u l i d at_i z (EndsInFault f, m) → u.faulted ≡ false → Entry_of G c s u i d
     failing f m x t quiet = failed_entry (bad_halt f m x t) refl f
-        (kernel_says G.g v x.at x.left x.runs (EndsInFault f, m) x.does)
-        (kernel_next G.g v x.at x.left x.runs (EndsInFault f, m) x.does) refl quiet
+        (kernel_says G.g v x.state x.left x.runs (EndsInFault f, m) x.does)
+        (kernel_next G.g v x.state x.left x.runs (EndsInFault f, m) x.does) refl quiet
 
     -- and of a process that is laid, wherever its turn ends
     pub laying : (r : WorkOutcome source.Stop × Store) → Rattle.sp_codegen.proofs.Safe.AtEnd r

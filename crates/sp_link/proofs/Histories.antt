@@ -69,52 +69,52 @@ set p d f n h q = go (p == q)
 -- an event keeps it, and gives nobody up
 record Keeps_all (k a : Control) : Type 0 where
   pub none : NoneGone k.doing → NoneGone a.doing
-  pub same : a.abandons ≡ k.abandons
+  pub abandons_are : a.abandons ≡ k.abandons
 
 fewer : (p : ℕ) (d : Doing) (k : Control) → Keeps_all k (one_fewer p d k)
 fewer p (Joining left) k = go (left == 1)
   where
     go : (b : Bool) → Keeps_all k (if b then queues p k else does p (Joining (left - 1)) k)
-    go true = record { none = λ h. set p Ready k.doing (λ e. cc e) h; same = refl }
-    go false = record { none = λ h. set p (Joining (left - 1)) k.doing (λ e. cc e) h; same = refl }
-fewer p Unborn k = record { none = λ h. h; same = refl }
-fewer p Ready k = record { none = λ h. h; same = refl }
-fewer p (Out worker) k = record { none = λ h. h; same = refl }
-fewer p (Sending channel) k = record { none = λ h. h; same = refl }
-fewer p (Receiving channel) k = record { none = λ h. h; same = refl }
-fewer p Laid k = record { none = λ h. h; same = refl }
-fewer p Ended k = record { none = λ h. h; same = refl }
-fewer p Gone k = record { none = λ h. h; same = refl }
+    go true = record { none = λ h. set p Ready k.doing (λ e. cc e) h; abandons_are = refl }
+    go false = record { none = λ h. set p (Joining (left - 1)) k.doing (λ e. cc e) h; abandons_are = refl }
+fewer p Unborn k = record { none = λ h. h; abandons_are = refl }
+fewer p Ready k = record { none = λ h. h; abandons_are = refl }
+fewer p (Out worker) k = record { none = λ h. h; abandons_are = refl }
+fewer p (Sending channel) k = record { none = λ h. h; abandons_are = refl }
+fewer p (Receiving channel) k = record { none = λ h. h; abandons_are = refl }
+fewer p Laid k = record { none = λ h. h; abandons_are = refl }
+fewer p Ended k = record { none = λ h. h; abandons_are = refl }
+fewer p Gone k = record { none = λ h. h; abandons_are = refl }
 
 reporting : (b : Option Birth) (p : ℕ) (k : Control) → Keeps_all k (reports b (does p Ended k))
-reporting None p k = record { none = λ h. set p Ended k.doing (λ e. cc e) h; same = refl }
+reporting None p k = record { none = λ h. set p Ended k.doing (λ e. cc e) h; abandons_are = refl }
 reporting (Some b) p k =
     let w = fewer b.parent ((does p Ended k).doing b.parent) (does p Ended k) in
-    record { none = λ h. w.none (set p Ended k.doing (λ e. cc e) h); same = w.same }
+    record { none = λ h. w.none (set p Ended k.doing (λ e. cc e) h); abandons_are = w.abandons_are }
 
 offering : (w : Way) (d : Doing) (p c : ℕ) (o : Option (Way × ℕ)) (k : Control) → d ≢ Gone
     → Keeps_all k (offers w d p c o k)
-offering w d p c None k n = record { none = λ h. set p d k.doing n h; same = refl }
+offering w d p c None k n = record { none = λ h. set p d k.doing n h; abandons_are = refl }
 offering w d p c (Some z) k n = record {
   none =
       λ h. set p Ready (at_key ◌==◌ z.1 Ready k.doing) (λ e. cc e) (set z.1 Ready k.doing (λ e. cc e) h);
-  same = refl;
+  abandons_are = refl;
 }
 
 happening : (p : ℕ) (e : Event) (k : Control) → Keeps_all k (happens p e k)
-happening p (event.Fork n) k = record { none = λ h q. by h q (is_next k.births n q) (p == q); same = refl }
+happening p (event.Fork n) k = record { none = λ h q. by h q (is_next k.births n q) (p == q); abandons_are = refl }
   where
     by : NoneGone k.doing → (q : ℕ) (a b : Bool) → cond a Ready (cond b (Joining n) (k.doing q)) ≢ Gone
     by h q true b = λ e. cc e
     by h q false true = λ e. cc e
     by h q false false = h q
-happening p event.Open k = record { none = λ h. set p Ready k.doing (λ e. cc e) h; same = refl }
+happening p event.Open k = record { none = λ h. set p Ready k.doing (λ e. cc e) h; abandons_are = refl }
 happening p (event.Send c) k = offering way.Send (Sending c) p c (k.pending c) k (λ e. cc e)
 happening p (event.Receive c) k = offering way.Receive (Receiving c) p c (k.pending c) k (λ e. cc e)
 happening p event.End k = reporting (k.births.birth p) p k
-happening p (event.Fault f) k = record { none = λ h. set p Laid k.doing (λ e. cc e) h; same = refl }
-happening p event.Laid k = record { none = λ h. set p Laid k.doing (λ e. cc e) h; same = refl }
-happening p event.Pause k = record { none = λ h. set p Ready k.doing (λ e. cc e) h; same = refl }
+happening p (event.Fault f) k = record { none = λ h. set p Laid k.doing (λ e. cc e) h; abandons_are = refl }
+happening p event.Laid k = record { none = λ h. set p Laid k.doing (λ e. cc e) h; abandons_are = refl }
+happening p event.Pause k = record { none = λ h. set p Ready k.doing (λ e. cc e) h; abandons_are = refl }
 
 abbrev Unless_given_up : Control → Type 0
 Unless_given_up k = k.abandons ≡ 0 → NoneGone k.doing
@@ -129,7 +129,7 @@ giving_up (Some p) k = λ e. absurd (omega (arith, e))
 
 giving : (p : Option ℕ) (e : Option Event) (got : Option ℕ) (k : Control) → Unless_given_up k
     → Unless_given_up (after_give p e got k)
-giving (Some p) (Some e) got k h = λ r. (let w = happening p e k in w.none (h (sym w.same ∙ r)))
+giving (Some p) (Some e) got k h = λ r. (let w = happening p e k in w.none (h (sym w.abandons_are ∙ r)))
 giving None (Some e) got k h = h
 giving None None None k h = giving_up None k
 giving (Some p) None None k h = giving_up (Some p) k

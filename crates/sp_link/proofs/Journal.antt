@@ -25,14 +25,14 @@ use Rattle.sp_link.proofs.Relation.{RunContext, RightsOfAll, Began, Linked, at_o
 pub record Way_by (g : RunInput) (pause : ℕ) (c : Course) (s : StateOf g) (q : Name) (what : Happening) : Type 1 where
   pub unlaid : c.laid q ≡ false
   pub steps : ℕ
-  pub at : StateOf g
+  pub source : StateOf g
   pub paused : Bool
-  pub turn : Turn g pause (c.since q) q steps s at paused
+  pub turn : Turn g pause (c.since q) q steps s source paused
   pub cost : ℕ
   pub course : Course
   pub state : StateOf g
   pub enters : (left : Course → StateOf g → ℕ → Type 0) (n : ℕ) → left course state n
-      → EntryStep g left c at paused q what (cost + n)
+      → EntryStep g left c source paused q what (cost + n)
 
 abbrev pub Way_on : (G : RunContext) → Course → StateOf G.g → Name → Happening → Type 1
 Way_on G c s q what = Way_by G.g G.pause c s q what
@@ -129,7 +129,7 @@ module _ (G : RunContext) where
               x.way.unlaid,
               x.way.steps,
               x.way.cost + y.steps,
-              x.way.at,
+              x.way.source,
               x.way.paused,
               refl,
               x.way.turn,

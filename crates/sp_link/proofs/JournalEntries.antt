@@ -103,7 +103,7 @@ module _ (G : RunContext) where
   pub one_entry : OneEntry G
   one_entry lv c s u t i e l h began =
       let en = entry (at_open G u.births.channels) lv c s u l i h.0 h.1 in
-      let same : en.turn ≡ h.2 = turn_same (ops G) G.code h.0 en.turn h.2 en.is h.3 in
+      let same : en.turn ≡ h.2 = turn_same (ops G) G.code h.0 en.turn h.2 en.is_turn h.3 in
       let at : system_after_turn plain (run_is G) i en.turn u ≡ t =
       ap (λ x. system_after_turn plain (run_is G) i x u) same ∙ sym h.5 in
       let said : event_of G.g.limits u en.turn ≡ e = ap (λ x. event_of G.g.limits u x) same ∙ h.4 in

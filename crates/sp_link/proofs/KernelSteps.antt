@@ -51,9 +51,9 @@ module _ (G : RunContext) (lf : BirthRights) (kids : ℕ → ℕ → BirthRights
     held = λ r h x l m. (let z = t.held r h x l m in
         record {
           tree = z.tree;
-          is = ⊎_elim (λ e. e)
+          tree_is = ⊎_elim (λ e. e)
               (λ (d : length js ≤ h). (let a = (from_length (suc h) js l.joint l.rest l.at).1 in
-              absurd (omega (arith, a, d)))) (same (Cell r h x)) ∙ z.is;
+              absurd (omega (arith, a, d)))) (same (Cell r h x)) ∙ z.tree_is;
           cells = z.cells;
           piece = z.piece;
           flat = z.flat;

@@ -66,7 +66,7 @@ module _ (G : RunContext) (lf : BirthRights) (kids : ℕ → ℕ → BirthRights
     pc = t.pc;
     stack = t.stack;
     memory = record (t.memory) { store = put_cells plain x.1 ds t.memory.store };
-    is = ap (λ y. on_store (put_cells plain x.1 ds) y) t.is;
+    configuration_is = ap (λ y. on_store (put_cells plain x.1 ds) y) t.configuration_is;
     stand = put_cells_law G.g G.code pr.who (Named G) (Called G) (λ l. OwnLocation q l ⊎ lf.W l)
         (λ l. OwnLocation q l ⊎ lf.R l) lf.J
         lf.low (length lf.below) lf.born since G.pause lf.moved G.formed t.stand a x.1 x.5 x.6 v ds

@@ -71,7 +71,7 @@ module _ (Named Named1 : Channel → ℕ → Type 0) (more : (c : Channel) (j : 
       held = λ q h x l r. (let z = t.held q h x l r in
           record {
             tree = z.tree;
-            is = z.is;
+            tree_is = z.tree_is;
             cells = z.cells;
             piece = z.piece;
             flat = flat_more g.program l.info.kind z.tree z.cells z.flat;
@@ -93,7 +93,7 @@ module _ (Named Named1 : Channel → ℕ → Type 0) (more : (c : Channel) (j : 
       held = λ q h x l r. ⊎_elim (λ a. inl a)
           (λ z. inr (record {
             tree = z.tree;
-            is = z.is;
+            tree_is = z.tree_is;
             cells = z.cells;
             piece = z.piece;
             flat = flat_more g.program l.info.kind z.tree z.cells z.flat;
@@ -119,7 +119,8 @@ module _ (G : RunContext) where
         (js : List FramePair) (todo : List Item) → Fo G lf kids q f w n since pc stack js todo
         → Fo (one_more G) lf kids q (fresh_more f) w n since pc stack js todo
     follows_more f w n since pc stack js todo h =
-        again G.g G.code G.moves G.shares G.hush (λ l. OwnLocation q l ⊎ lf.W l) (λ l. OwnLocation q l ⊎ lf.R l) lf.J
+        again G.g G.code G.moves G.shares G.callable (λ l. OwnLocation q l ⊎ lf.W l)
+        (λ l. OwnLocation q l ⊎ lf.R l) lf.J
         (ops G) G.free
         G.finds G.formed.uses f.reads f.reads w (due_after since G.pause) (Rel G lf kids q w since)
         (law G lf kids q f w n since) (λ h x. inl n)
@@ -136,7 +137,7 @@ module _ (G : RunContext) where
       pc = z.pc;
       stack = z.stack;
       memory = z.memory;
-      is = z.is;
+      configuration_is = z.configuration_is;
       stand = stand_more (Named G) (Named (one_more G)) named_more G.g G.code pr.who (Called G)
           (λ l. OwnLocation q l ⊎ lf.W l)
           (λ l. OwnLocation q l ⊎ lf.R l) lf.J lf.low (length lf.below) lf.born since G.pause lf.moved z.stand;
@@ -194,7 +195,7 @@ module _ (G : RunContext) where
       stack = z.stack;
       memory = z.memory;
       held = z.held;
-      is = z.is;
+      configuration_is = z.configuration_is;
       joining = joining_grows (Named G) (Named (one_more G)) named_more G.g G.code pr.who (Called G)
           (λ l. OwnLocation q l ⊎ lf.W l) (λ l. OwnLocation q l ⊎ lf.R l) lf.J lf.low (length lf.below) lf.born since
           G.pause lf.moved

@@ -55,7 +55,7 @@ module _ (G : RunContext) (lv : RightsOfAll G) (c : Course) (s : StateOf G.g) (u
   off = ao.off G lv c s u l i d at_i z ch kd cg todo o m x t y
 
   -- what the step says, whatever it comes to
-  said_any : (what : Happening) × (happening_at G.g x.at v x.left ≡ Some what)
+  said_any : (what : Happening) × (happening_at G.g x.state v x.left ≡ Some what)
   said_any = says_something G lv c s u l i d at_i z r x tt
 
   -- ---- the entries are at their limit
@@ -63,19 +63,20 @@ module _ (G : RunContext) (lv : RightsOfAll G) (c : Course) (s : StateOf G.g) (u
   over_entry : nat_lt G.g.limits.entries (u.entries + 1) ≡ true → Entry_of G c s u i d
   over_entry full = failed_entry G lv c s u l i d at_i (offered_halt G lv c s u l i d at_i z ch kd cg todo o m x t) refl
       fault.F15
-      (kernel_says G.g v x.at x.left x.runs r x.does ∙ ap (λ b. happening_of {L = superpascal G.g} (Offering off) b)
+      (kernel_says G.g v x.state x.left x.runs r x.does ∙ ap (λ b. happening_of {L = superpascal G.g} (Offering off) b)
       faults)
-      (kernel_next G.g v x.at x.left x.runs r x.does ∙ ap (λ b. Some (result_of {L = superpascal G.g} x.at v b)) faults)
+      (kernel_next G.g v x.state x.left x.runs r x.does
+      ∙ ap (λ b. Some (result_of {L = superpascal G.g} x.state v b)) faults)
       (found cg refl t.9) quiet
     where
-      passes : limit_fault (total_limits G.g) x.at.totals (Some entry_cost) ≡ Some fault.F15
+      passes : limit_fault (total_limits G.g) x.state.totals (Some entry_cost) ≡ Some fault.F15
       passes =
           ap (λ (a : Totals). limit_fault (total_limits G.g) a (Some entry_cost)) x.elsewhere.totals
           ∙ ap (λ n. if nat_lt G.g.limits.entries (n + 1) then Some fault.F15 else None) l.entries
           ∙ ap (λ b. if b then Some fault.F15 else None) full
 
-      faults : step_outcome {L = superpascal G.g} (total_limits G.g) x.at v (Offering off) ≡ Faulty fault.F15
-      faults = ap (λ a. fault_or a (offer_outcome {L = superpascal G.g} x.at v off (x.at.pending ch))) passes
+      faults : step_outcome {L = superpascal G.g} (total_limits G.g) x.state v (Offering off) ≡ Faulty fault.F15
+      faults = ap (λ a. fault_or a (offer_outcome {L = superpascal G.g} x.state v off (x.state.pending ch))) passes
 
       found : (g1 : Cargo LocationContent Address) → cg ≡ g1
           → Ca G (lv v) (λ a b. lv ((a, b) ∷ v)) v z.fresh (p1 G lv c s u l i d at_i).who z.named (c.since v) t.3 ch kd
@@ -106,20 +107,20 @@ module _ (G : RunContext) (lv : RightsOfAll G) (c : Course) (s : StateOf G.g) (u
     apart e = waiting_idle s.condition v ch (s.condition v) _ (subst (λ b. WaitsOn ch (s.condition b)) e waits_on)
         (runs_as_pr G lv c s u l i d at_i)
 
-    waits_then : WaitsOn ch (x.at.condition (G.births.name zi))
+    waits_then : WaitsOn ch (x.state.condition (G.births.name zi))
     waits_then = subst (λ b. WaitsOn ch b) (sym (x.elsewhere.condition (G.births.name zi) apart)) waits_on
 
     by_condition : (X : sys.Condition Plain) → u.condition zi ≡ X
-        → Performs_all G lv (G.births.name zi) c x.at (u.births.opens zi) X → Entry_of G c s u i d
+        → Performs_all G lv (G.births.name zi) c x.state (u.births.opens zi) X → Entry_of G c s u i d
     by_condition sys.Absent e h = absurd h
     by_condition (sys.Working a) e h = absurd
-        (waiting_idle x.at.condition (G.births.name zi) ch (x.at.condition (G.births.name zi)) h.0 waits_then h.1)
+        (waiting_idle x.state.condition (G.births.name zi) ch (x.state.condition (G.births.name zi)) h.0 waits_then h.1)
     by_condition (sys.Waits st2 d2) e h = meeting_entry G lv c s u l i d at_i z ch kd cg todo o m x t y said_any.0
         said_any.1 quiet zi few pends j named pending_is enough apart st2 d2 e h.0 h.1
         (subst (λ b. WaitsOn ch b) h.1 waits_then) h.2 h.3 h.4 h.5
     by_condition (sys.Joins left a) e h = absurd (subst (λ b. WaitsOn ch b) h.3 waits_then)
-    by_condition (sys.Laid a) e h = absurd (waiting_idle x.at.condition (G.births.name zi) ch
-        (x.at.condition (G.births.name zi)) h.2.0 waits_then h.2.1)
+    by_condition (sys.Laid a) e h = absurd (waiting_idle x.state.condition (G.births.name zi) ch
+        (x.state.condition (G.births.name zi)) h.2.0 waits_then h.2.1)
     by_condition sys.Gone e h = absurd (subst (λ b. WaitsOn ch b) h.0 waits_then)
     by_condition (sys.Over a) e h = absurd (subst (λ b. WaitsOn ch b) h.0 waits_then)
 

@@ -83,16 +83,16 @@ module _ (G : RunContext) (lv : RightsOfAll G) (c : Course) (s : StateOf G.g) (u
     (x : Meant G lv c s u l i d at_i z (Computed (source.Stops (Offered ch kd cg todo)) o, m))
     (t : Machined G lv c s u l i d at_i z (Computed (source.Stops (Offered ch kd cg todo)) o, m))
     (y : Kept_to G lv c s u l i d at_i z (Computed (source.Stops (Offered ch kd cg todo)) o, m))
-    (what : Happening) (said : happening_at G.g x.at (w G lv c s u l i d at_i) x.left ≡ Some what)
+    (what : Happening) (said : happening_at G.g x.state (w G lv c s u l i d at_i) x.left ≡ Some what)
     (quiet : u.faulted ≡ false)
     (zi : ℕ) (few : zi < u.births.processes) (pends : s.pending ch ≡ Some (G.births.name zi)) (j : ℕ)
     (named : Named G ch j) (pending_is : u.pending j ≡ Some zi)
     (enough : nat_lt G.g.limits.entries (u.entries + 1) ≡ false)
     (apart : G.births.name zi ≢ w G lv c s u l i d at_i) (st2 : Stop) (d2 : Config (Memory Plain))
     (at_z : u.condition zi ≡ sys.Waits st2 d2) (off2 : OfferOf (superpascal G.g))
-    (waits : x.at.condition (G.births.name zi) ≡ Waits off2) (on : off2.channel ≡ ch)
+    (waits : x.state.condition (G.births.name zi) ≡ Waits off2) (on : off2.channel ≡ ch)
     (t2 : ProcessMatches G (lv (G.births.name zi)) (λ a b. lv ((a, b) ∷ G.births.name zi)) (G.births.name zi)
-    (c.since (G.births.name zi)) off2.next x.at.store d2)
+    (c.since (G.births.name zi)) off2.next x.state.store d2)
     (ca2 : Ca G (lv (G.births.name zi)) (λ a b. lv ((a, b) ∷ G.births.name zi)) (G.births.name zi) t2.fresh
     off2.next.who t2.named (c.since (G.births.name zi)) t2.js off2.channel off2.kind off2.cargo st2)
     (opens2 : off2.next.who.opens ≡ u.births.opens zi) (laid2 : c.laid (G.births.name zi) ≡ false) where
@@ -108,27 +108,27 @@ module _ (G : RunContext) (lv : RightsOfAll G) (c : Course) (s : StateOf G.g) (u
   abbrev off : OfferOf (superpascal G.g)
   off = ao.off G lv c s u l i d at_i z ch kd cg todo o m x t y
 
-  known_then : StateKeeps G.g x.at
+  known_then : StateKeeps G.g x.state
   known_then = known_at G lv c s u l i d at_i z r x what said
 
-  rights_then : Inv G.g.program (W_of G lv) (R_of G lv) x.at.condition x.at.forks
+  rights_then : Inv G.g.program (W_of G lv) (R_of G lv) x.state.condition x.state.forks
   rights_then = rights_at G lv c s u l i d at_i z r x what said
 
   -- ---- what the offer comes to in the meaning
 
-  passes : limit_fault (total_limits G.g) x.at.totals (Some entry_cost) ≡ None
+  passes : limit_fault (total_limits G.g) x.state.totals (Some entry_cost) ≡ None
   passes =
       ap (λ (a : Totals). limit_fault (total_limits G.g) a (Some entry_cost)) x.elsewhere.totals
       ∙ ap (λ n. if nat_lt G.g.limits.entries (n + 1) then Some fault.F15 else None) l.entries
       ∙ ap (λ b. if b then Some fault.F15 else None) enough
 
   outcome_is : (mm : Option (Address × LocationContent)) → message cg off2.cargo ≡ mm
-      → step_outcome {L = superpascal G.g} (total_limits G.g) x.at v (Offering off)
-      ≡ handover_outcome {L = superpascal G.g} x.at v off zn off2 mm
-  outcome_is mm e = ap (λ a. fault_or a (offer_outcome {L = superpascal G.g} x.at v off (x.at.pending ch))) passes
-      ∙ ap (λ a. offer_outcome {L = superpascal G.g} x.at v off a) (ap (λ a. a ch) x.elsewhere.pending ∙ pends)
-      ∙ ap (λ a. meeting_outcome {L = superpascal G.g} x.at v off zn a) waits
-      ∙ ap (λ a. handover_outcome {L = superpascal G.g} x.at v off zn off2 a) e
+      → step_outcome {L = superpascal G.g} (total_limits G.g) x.state v (Offering off)
+      ≡ handover_outcome {L = superpascal G.g} x.state v off zn off2 mm
+  outcome_is mm e = ap (λ a. fault_or a (offer_outcome {L = superpascal G.g} x.state v off (x.state.pending ch))) passes
+      ∙ ap (λ a. offer_outcome {L = superpascal G.g} x.state v off a) (ap (λ a. a ch) x.elsewhere.pending ∙ pends)
+      ∙ ap (λ a. meeting_outcome {L = superpascal G.g} x.state v off zn a) waits
+      ∙ ap (λ a. handover_outcome {L = superpascal G.g} x.state v off zn off2 a) e
 
   numbers : i ≢ zi
   numbers e = apart (ap (λ n. G.births.name n) (sym e))
@@ -143,89 +143,89 @@ module _ (G : RunContext) (lv : RightsOfAll G) (c : Course) (s : StateOf G.g) (u
 
   module _ (a : Address) (hv : LocationContent) (same_kind : kd == off2.kind ≡ true)
       (msg : message cg off2.cargo ≡ Some (a, hv))
-      (wr : Name) (wr_alone : IsAlone x.at wr) (wr_is : (wr ≡ v) ⊎ (wr ≡ zn))
+      (wr : Name) (wr_alone : IsAlone x.state wr) (wr_is : (wr ≡ v) ⊎ (wr ≡ zn))
       (may : OwnOrGiven (W_of G lv) wr a.spot) where
     abbrev t1 : StateOf G.g
-    t1 = After {L = superpascal G.g} (meeting_changes {L = superpascal G.g} x.at v off zn off2 (a, hv)) x.at
+    t1 = After {L = superpascal G.g} (meeting_changes {L = superpascal G.g} x.state v off zn off2 (a, hv)) x.state
 
-    meets_so : step_outcome {L = superpascal G.g} (total_limits G.g) x.at v (Offering off)
-        ≡ Advances (meeting_changes {L = superpascal G.g} x.at v off zn off2 (a, hv))
+    meets_so : step_outcome {L = superpascal G.g} (total_limits G.g) x.state v (Offering off)
+        ≡ Advances (meeting_changes {L = superpascal G.g} x.state v off zn off2 (a, hv))
     meets_so = outcome_is (Some (a, hv)) msg
-        ∙ ap (λ b. if b then Advances (meeting_changes {L = superpascal G.g} x.at v off zn off2 (a, hv)) else Faulty
+        ∙ ap (λ b. if b then Advances (meeting_changes {L = superpascal G.g} x.state v off zn off2 (a, hv)) else Faulty
         fault.F7)
         same_kind
 
     abbrev says_now : Happening
     says_now = Is_offered (way_of cg) ch
 
-    said_now : happening_at G.g x.at v x.left ≡ Some says_now
-    said_now = kernel_says G.g v x.at x.left x.runs r x.does
+    said_now : happening_at G.g x.state v x.left ≡ Some says_now
+    said_now = kernel_says G.g v x.state x.left x.runs r x.does
         ∙ ap (λ b. happening_of {L = superpascal G.g} (Offering off) b) meets_so
 
-    goes_next : next_state G.g x.at v ≡ Some t1
-    goes_next = kernel_next G.g v x.at x.left x.runs r x.does
-        ∙ ap (λ b. Some (result_of {L = superpascal G.g} x.at v b)) meets_so
+    goes_next : next_state G.g x.state v ≡ Some t1
+    goes_next = kernel_next G.g v x.state x.left x.runs r x.does
+        ∙ ap (λ b. Some (result_of {L = superpascal G.g} x.state v b)) meets_so
 
     cond_z : t1.condition zn ≡ Works off2.next
-    cond_z = at_same name_test (put_at same_name v (Works off.next) x.at.condition) zn (Works off2.next)
+    cond_z = at_same name_test (put_at same_name v (Works off.next) x.state.condition) zn (Works off2.next)
 
     cond_v : t1.condition v ≡ Works off.next
-    cond_v = at_other name_test (put_at same_name v (Works off.next) x.at.condition) zn v (Works off2.next) apart
-        ∙ at_same name_test x.at.condition v (Works off.next)
+    cond_v = at_other name_test (put_at same_name v (Works off.next) x.state.condition) zn v (Works off2.next) apart
+        ∙ at_same name_test x.state.condition v (Works off.next)
 
-    cond_r : (b : Name) → b ≢ v → b ≢ zn → t1.condition b ≡ x.at.condition b
-    cond_r b nv nz = at_other name_test (put_at same_name v (Works off.next) x.at.condition) zn b (Works off2.next)
-        (λ e. nz (sym e)) ∙ at_other name_test x.at.condition v b (Works off.next) (λ e. nv (sym e))
+    cond_r : (b : Name) → b ≢ v → b ≢ zn → t1.condition b ≡ x.state.condition b
+    cond_r b nv nz = at_other name_test (put_at same_name v (Works off.next) x.state.condition) zn b (Works off2.next)
+        (λ e. nz (sym e)) ∙ at_other name_test x.state.condition v b (Works off.next) (λ e. nv (sym e))
 
     known_now : StateKeeps G.g t1
     known_now = record {
-      sound = step_sound (total_limits G.g) x.at v t1 known_then.sound goes_next;
-      well = lowered G.g (λ b. ticks_in (x.at.condition b)) t1
-          (step_well G.g x.at known_then.sound v (raised G.g x.at known_then.well) t1 goes_next);
+      sound = step_sound (total_limits G.g) x.state v t1 known_then.sound goes_next;
+      well = lowered G.g (λ b. ticks_in (x.state.condition b)) t1
+          (step_well G.g x.state known_then.sound v (raised G.g x.state known_then.well) t1 goes_next);
     }
 
-    holds_z : ConditionInRights G.g.program (W_of G lv) (R_of G lv) x.at.forks zn (Waits off2)
-    holds_z = subst (λ b. ConditionInRights G.g.program (W_of G lv) (R_of G lv) x.at.forks zn b) waits
+    holds_z : ConditionInRights G.g.program (W_of G lv) (R_of G lv) x.state.forks zn (Waits off2)
+    holds_z = subst (λ b. ConditionInRights G.g.program (W_of G lv) (R_of G lv) x.state.forks zn b) waits
         (rights_then.holds zn)
 
     rights_now : Inv G.g.program (W_of G lv) (R_of G lv) t1.condition t1.forks
-    rights_now = inv_local G (W_of G lv) (R_of G lv) first t1.condition x.at.forks x.at.forks zn
-        (inv_local G (W_of G lv) (R_of G lv) x.at.condition first x.at.forks x.at.forks v rights_then refl
-        (λ e. subst (λ b. IsLive b) e (working_lives x.at.condition v (x.at.condition v) x.left x.runs))
-        (λ b e. at_other name_test x.at.condition v b (Works off.next) (λ f. e (sym f)))
-        (subst (λ b. ConditionInRights G.g.program (W_of G lv) (R_of G lv) x.at.forks v b)
-        (sym (at_same name_test x.at.condition v (Works off.next)))
+    rights_now = inv_local G (W_of G lv) (R_of G lv) first t1.condition x.state.forks x.state.forks zn
+        (inv_local G (W_of G lv) (R_of G lv) x.state.condition first x.state.forks x.state.forks v rights_then refl
+        (λ e. subst (λ b. IsLive b) e (working_lives x.state.condition v (x.state.condition v) x.left x.runs))
+        (λ b e. at_other name_test x.state.condition v b (Works off.next) (λ f. e (sym f)))
+        (subst (λ b. ConditionInRights G.g.program (W_of G lv) (R_of G lv) x.state.forks v b)
+        (sym (at_same name_test x.state.condition v (Works off.next)))
         (ao.holds G lv c s u l i d at_i z ch kd cg todo o m x t y).0))
         refl (λ e. no_absent (sym waits ∙ sym
-        (at_other name_test x.at.condition v zn (Works off.next) (λ f. apart (sym f))) ∙ e))
+        (at_other name_test x.state.condition v zn (Works off.next) (λ f. apart (sym f))) ∙ e))
         (λ b e. at_other name_test first zn b (Works off2.next) (λ f. e (sym f)))
-        (subst (λ b. ConditionInRights G.g.program (W_of G lv) (R_of G lv) x.at.forks zn b) (sym cond_z) holds_z.0)
+        (subst (λ b. ConditionInRights G.g.program (W_of G lv) (R_of G lv) x.state.forks zn b) (sym cond_z) holds_z.0)
       where
         first : Name → Condition Process LocationContent Address
-        first = put_at same_name v (Works off.next) x.at.condition
+        first = put_at same_name v (Works off.next) x.state.condition
 
         no_absent : ◌≡◌ {A = Condition Process LocationContent Address} (Waits off2) Absent → ⊥
         no_absent e = cc e
 
-    stays : (b : Loc) → (t1.store b ≡ x.at.store b) ⊎ OwnOrGiven (W_of G lv) wr b
+    stays : (b : Loc) → (t1.store b ≡ x.state.store b) ⊎ OwnOrGiven (W_of G lv) wr b
     stays b = go (same_loc a.spot b) refl
       where
-        go : (f : Bool) → same_loc a.spot b ≡ f → (t1.store b ≡ x.at.store b) ⊎ OwnOrGiven (W_of G lv) wr b
+        go : (f : Bool) → same_loc a.spot b ≡ f → (t1.store b ≡ x.state.store b) ⊎ OwnOrGiven (W_of G lv) wr b
         go true e = inr (subst (λ k. OwnOrGiven (W_of G lv) wr k) ((loc_test a.spot b).0 e) may)
-        go false e = inl (ap (λ f. cond f (content_with a (x.at.store a.spot) hv) (x.at.store b)) e)
+        go false e = inl (ap (λ f. cond f (content_with a (x.state.store a.spot) hv) (x.state.store b)) e)
 
-    ended_same : (b : Name) → has_ended (t1.condition b) ≡ has_ended (x.at.condition b)
+    ended_same : (b : Name) → has_ended (t1.condition b) ≡ has_ended (x.state.condition b)
     ended_same b = ⊎_elim
         (λ (e : b ≡ v). ap (λ k. has_ended (t1.condition k)) e ∙ ap (λ k. has_ended k) cond_v
-        ∙ sym (ended_at G lv c s u l i d at_i z r x what said) ∙ ap (λ k. has_ended (x.at.condition k)) (sym e))
+        ∙ sym (ended_at G lv c s u l i d at_i z r x what said) ∙ ap (λ k. has_ended (x.state.condition k)) (sym e))
         (λ (nv : b ≢ v). ⊎_elim
         (λ (e : b ≡ zn). ap (λ k. has_ended (t1.condition k)) e ∙ ap (λ k. has_ended k) cond_z
-        ∙ sym (ap (λ k. has_ended k) waits) ∙ ap (λ k. has_ended (x.at.condition k)) (sym e))
+        ∙ sym (ap (λ k. has_ended k) waits) ∙ ap (λ k. has_ended (x.state.condition k)) (sym e))
         (λ (nz : b ≢ zn). ap (λ k. has_ended k) (cond_r b nv nz))
         (same_or_not name_test b zn))
         (same_or_not name_test b v)
 
-    present_same : (b : Name) → x.at.condition b ≢ Absent → t1.condition b ≢ Absent
+    present_same : (b : Name) → x.state.condition b ≢ Absent → t1.condition b ≢ Absent
     present_same b h e = ⊎_elim
         (λ (f : b ≡ v). subst (λ k. IsLive k) (sym cond_v ∙ subst (λ k. t1.condition k ≡ Absent) f e) tt)
         (λ (nv : b ≢ v). ⊎_elim (λ (f : b ≡ zn). subst (λ k. IsLive k)
@@ -254,7 +254,7 @@ module _ (G : RunContext) (lv : RightsOfAll G) (c : Course) (s : StateOf G.g) (u
     does_other k lt e f =
         let nv = other_name G lv c s u l i d at_i z r x what said k lt e in
         let nz = other_z k lt f in
-        does_stay G lv x.at t1 known_then.sound rights_then.fair wr wr_alone stays (G.births.name k)
+        does_stay G lv x.state t1 known_then.sound rights_then.fair wr wr_alone stays (G.births.name k)
         (not_writer (G.births.name k) nv nz) (cond_r (G.births.name k) nv nz)
         (λ a b. ended_same ((a, b) ∷ G.births.name k)) (λ a b. present_same ((a, b) ∷ G.births.name k)) c c1
         (since_other c v (ticks_of G.g t1 v) (G.births.name k) nv) refl (λ h. h) (u.births.opens k) (u.condition k)
@@ -262,7 +262,7 @@ module _ (G : RunContext) (lv : RightsOfAll G) (c : Course) (s : StateOf G.g) (u
 
     -- with the message, and with nothing else changed
     abbrev with_message : StateOf G.g
-    with_message = record (x.at) { store = t1.store }
+    with_message = record (x.state) { store = t1.store }
 
     module _ (e1 e2 : Config (Memory Plain))
         (do_v : ProcessMatches G (lv v) (λ a b. lv ((a, b) ∷ v)) v (c1.since v) off.next t1.store e1)
@@ -307,12 +307,13 @@ module _ (G : RunContext) (lv : RightsOfAll G) (c : Course) (s : StateOf G.g) (u
       pends_now : (k : ℕ) → k < u.births.channels → IsPending G (t1.pending (channel G.births k)) (u1.pending k)
       pends_now k lt = ⊎_elim
           (λ (e : j ≡ k). subst (λ b. IsPending G (t1.pending (channel G.births b)) (u1.pending b)) e
-          (subst (λ b. IsPending G (cond b None (x.at.pending (channel G.births j))) (u1.pending j))
+          (subst (λ b. IsPending G (cond b None (x.state.pending (channel G.births j))) (u1.pending j))
           (sym ((channel_test ch (channel G.births j)).1 (sym named.2)))
           (subst (λ b. IsPending G None (cond b None (u.pending j))) (sym (eq-eqb j j refl)) tt)))
-          (λ (e : j ≢ k). subst (λ b. IsPending G (cond b None (x.at.pending (channel G.births k))) (u1.pending k))
+          (λ (e : j ≢ k). subst (λ b. IsPending G (cond b None (x.state.pending (channel G.births k))) (u1.pending k))
           (sym (far e))
-          (subst (λ b. IsPending G (x.at.pending (channel G.births k)) (cond b None (u.pending k))) (sym (ne_eqb j k e))
+          (subst (λ b. IsPending G (x.state.pending (channel G.births k)) (cond b None (u.pending k)))
+          (sym (ne_eqb j k e))
           (subst (λ b. IsPending G (b (channel G.births k)) (u.pending k)) (sym x.elsewhere.pending)
           (l.pending k lt))))
           (number_or j k)
@@ -376,8 +377,8 @@ module _ (G : RunContext) (lv : RightsOfAll G) (c : Course) (s : StateOf G.g) (u
           → IsOpen u.births (event_of G.g.limits u (Stopped t.5 (At t.0 t.1 t.2))) → Entry_of G c s u i d
       entry_by is told speaks = record {
         turn = Stopped t.5 (At t.0 t.1 t.2);
-        is = ao.tn_is G lv c s u l i d at_i z ch kd cg todo o m x t y;
-        way = way_of_step G lv c s u l i d at_i x.steps x.at (x.turn says_now said_now) says_now t1
+        is_turn = ao.tn_is G lv c s u l i d at_i z ch kd cg todo o m x t y;
+        way = way_of_step G lv c s u l i d at_i x.steps x.state (x.turn says_now said_now) says_now t1
             (λ left n k. (l.faulted ∙ quiet, refl, t1, n, one-add n, (x.left, x.runs, said_now, goes_next), k)) _
             (sym told);
         speaks = speaks;
@@ -393,13 +394,13 @@ module _ (G : RunContext) (lv : RightsOfAll G) (c : Course) (s : StateOf G.g) (u
     msg : message cg off2.cargo ≡ Some (a, Tree value)
     msg = ap (λ b. message b off2.cargo) cg_is ∙ ap (λ b. message (Message (Tree value)) b) cargo2
 
-    alone_z : IsAlone x.at zn
+    alone_z : IsAlone x.state zn
     alone_z = inr (ch, subst (λ b. WaitsOn ch b) (sym waits) on)
 
     may_z : OwnOrGiven (W_of G lv) zn a.spot
     may_z = (subst (λ b. Rattle.sp_meaning.specs.Owning.MayTake G.g.program (λ k. OwnOrGiven (W_of G lv) zn k)
         (λ k. OwnOrGiven (R_of G lv) zn k) b) cargo2
-        (subst (λ b. ConditionInRights G.g.program (W_of G lv) (R_of G lv) x.at.forks zn b) waits
+        (subst (λ b. ConditionInRights G.g.program (W_of G lv) (R_of G lv) x.state.forks zn b) waits
         (rights_then.holds zn)).1)
 
     abbrev t1s : StateOf G.g
@@ -433,7 +434,7 @@ module _ (G : RunContext) (lv : RightsOfAll G) (c : Course) (s : StateOf G.g) (u
 
     sender : ProcessMatches G (lv v) (λ a b. lv ((a, b) ∷ v)) v (c1s.since v) off.next t1s.store
         (ao.there G lv c s u l i d at_i z ch kd cg todo o m x t y)
-    sender = stands_stay G lv x.at (with_message a (Tree value) same_kind msg zn alone_z (inr refl) may_z)
+    sender = stands_stay G lv x.state (with_message a (Tree value) same_kind msg zn alone_z (inr refl) may_z)
         known_then.sound rights_then.fair zn alone_z (stays a (Tree value) same_kind msg zn alone_z (inr refl) may_z) v
         (λ e. apart (sym e)) refl (λ k n. refl) (λ k n h. h)
         (c1s.since v) off.next (ao.there G lv c s u l i d at_i z ch kd cg todo o m x t y) (inl (x.left, x.runs))
@@ -518,7 +519,7 @@ module _ (G : RunContext) (lv : RightsOfAll G) (c : Course) (s : StateOf G.g) (u
     msg_r : message cg off2.cargo ≡ Some (a, Tree value)
     msg_r = ap (λ b. message b off2.cargo) cg_is ∙ ap (λ b. message (Takes a) b) cargo2
 
-    alone_v : IsAlone x.at v
+    alone_v : IsAlone x.state v
     alone_v = inl (x.left, x.runs)
 
     may_v : OwnOrGiven (W_of G lv) v a.spot
@@ -551,7 +552,7 @@ module _ (G : RunContext) (lv : RightsOfAll G) (c : Course) (s : StateOf G.g) (u
         (sort G.g.program off2.kind) refl value gives_z.1 gives_z.4)
 
     sender_z : ProcessMatches G (lv zn) (λ a b. lv ((a, b) ∷ zn)) zn (c.since zn) off2.next t1r.store d2
-    sender_z = stands_stay G lv x.at (with_message a (Tree value) same_kind msg_r v alone_v (inl refl) may_v)
+    sender_z = stands_stay G lv x.state (with_message a (Tree value) same_kind msg_r v alone_v (inl refl) may_v)
         known_then.sound rights_then.fair v alone_v (stays a (Tree value) same_kind msg_r v alone_v (inl refl) may_v) zn
         apart refl (λ k n. refl) (λ k n h. h)
         (c.since zn) off2.next d2 (inr (ch, subst (λ b. WaitsOn ch b) (sym waits) on)) t2
@@ -633,14 +634,15 @@ module _ (G : RunContext) (lv : RightsOfAll G) (c : Course) (s : StateOf G.g) (u
 
   -- ---- the two do not go together
 
-  module _ (f : Fault) (faults : step_outcome {L = superpascal G.g} (total_limits G.g) x.at v (Offering off) ≡ Faulty f)
+  module _ (f : Fault)
+      (faults : step_outcome {L = superpascal G.g} (total_limits G.g) x.state v (Offering off) ≡ Faulty f)
       (fault_is : fault_of G.g.limits u (Stopped t.5 (At t.0 t.1 t.2)) ≡ Some f) where
     clash_entry : Entry_of G c s u i d
     clash_entry = failed_entry G lv c s u l i d at_i (offered_halt G lv c s u l i d at_i z ch kd cg todo o m x t) refl f
-        (kernel_says G.g v x.at x.left x.runs r x.does
+        (kernel_says G.g v x.state x.left x.runs r x.does
         ∙ ap (λ b. happening_of {L = superpascal G.g} (Offering off) b) faults)
-        (kernel_next G.g v x.at x.left x.runs r x.does
-        ∙ ap (λ b. Some (result_of {L = superpascal G.g} x.at v b)) faults) fault_is quiet
+        (kernel_next G.g v x.state x.left x.runs r x.does
+        ∙ ap (λ b. Some (result_of {L = superpascal G.g} x.state v b)) faults) fault_is quiet
 
   -- what the machine finds at this stop against the other one
   found : (st : Stop) (w1 : Way) → t.5 ≡ st → ((e1 : Option Fault)
@@ -685,7 +687,7 @@ module _ (G : RunContext) (lv : RightsOfAll G) (c : Course) (s : StateOf G.g) (u
   send_take value a e f h k false q = clash_entry fault.F7
       (outcome_is (Some (a, Tree value)) (ap (λ b. message b off2.cargo) e
       ∙ ap (λ b. message (Message (Tree value)) b) f)
-      ∙ ap (λ b. if b then Advances (meeting_changes {L = superpascal G.g} x.at v off zn off2 (a, Tree value)) else
+      ∙ ap (λ b. if b then Advances (meeting_changes {L = superpascal G.g} x.state v off zn off2 (a, Tree value)) else
       Faulty fault.F7) q)
       (sends_found (cells_in h.1) h.0 h.3 h.2 ∙ ap (λ b. sys.clash_by way.Send kd (Some b)) k.2
       ∙ ap (λ b. if b then None else Some fault.F7) (other_kind false q))
@@ -695,7 +697,7 @@ module _ (G : RunContext) (lv : RightsOfAll G) (c : Course) (s : StateOf G.g) (u
   take_send value a e f h k true q = receiving_meets value a e f q
   take_send value a e f h k false q = clash_entry fault.F7
       (outcome_is (Some (a, Tree value)) (ap (λ b. message b off2.cargo) e ∙ ap (λ b. message (Takes a) b) f)
-      ∙ ap (λ b. if b then Advances (meeting_changes {L = superpascal G.g} x.at v off zn off2 (a, Tree value)) else
+      ∙ ap (λ b. if b then Advances (meeting_changes {L = superpascal G.g} x.state v off zn off2 (a, Tree value)) else
       Faulty fault.F7) q)
       (takes_found h.1 h.0 h.3 h.2 ∙ ap (λ b. sys.clash_by way.Receive kd (Some b)) k.2
       ∙ ap (λ b. if b then None else Some fault.F7) (other_kind false q))

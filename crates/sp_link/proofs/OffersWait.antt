@@ -73,36 +73,37 @@ module _ (G : RunContext) (lv : RightsOfAll G) (c : Course) (s : StateOf G.g) (u
   abbrev off : OfferOf (superpascal G.g)
   off = record { channel = ch; kind = kd; cargo = cg; next = with_todo todo x.left.who o }
 
-  totals_are : x.at.totals ≡ s.totals
+  totals_are : x.state.totals ≡ s.totals
   totals_are = x.elsewhere.totals
 
-  passes : limit_fault (total_limits G.g) x.at.totals (Some entry_cost) ≡ None
+  passes : limit_fault (total_limits G.g) x.state.totals (Some entry_cost) ≡ None
   passes =
       ap (λ (a : Totals). limit_fault (total_limits G.g) a (Some entry_cost)) totals_are
       ∙ ap (λ n. if nat_lt G.g.limits.entries (n + 1) then
       Some Rattle.sp_base.specs.declared.fault.Fault.TheVariants.F15 else None) l.entries
       ∙ ap (λ b. if b then Some Rattle.sp_base.specs.declared.fault.Fault.TheVariants.F15 else None) enough
 
-  none_there : x.at.pending ch ≡ None
+  none_there : x.state.pending ch ≡ None
   none_there = ap (λ a. a ch) x.elsewhere.pending ∙ alone_there
 
-  outcome_is : step_outcome {L = superpascal G.g} (total_limits G.g) x.at v (Rattle.sp_meaning.specs.Model.Offering off)
-      ≡ Advances (waiting_changes {L = superpascal G.g} x.at v off)
-  outcome_is = ap (λ a. fault_or a (offer_outcome {L = superpascal G.g} x.at v off (x.at.pending ch))) passes
-      ∙ ap (λ a. offer_outcome {L = superpascal G.g} x.at v off a) none_there
+  outcome_is : step_outcome {L = superpascal G.g} (total_limits G.g) x.state v
+      (Rattle.sp_meaning.specs.Model.Offering off)
+      ≡ Advances (waiting_changes {L = superpascal G.g} x.state v off)
+  outcome_is = ap (λ a. fault_or a (offer_outcome {L = superpascal G.g} x.state v off (x.state.pending ch))) passes
+      ∙ ap (λ a. offer_outcome {L = superpascal G.g} x.state v off a) none_there
 
   abbrev t1 : StateOf G.g
-  t1 = After {L = superpascal G.g} (waiting_changes {L = superpascal G.g} x.at v off) x.at
+  t1 = After {L = superpascal G.g} (waiting_changes {L = superpascal G.g} x.state v off) x.state
 
-  said : happening_at G.g x.at v x.left ≡ Some (Is_offered (way_of cg) ch)
-  said = kernel_says G.g v x.at x.left x.runs r x.does
+  said : happening_at G.g x.state v x.left ≡ Some (Is_offered (way_of cg) ch)
+  said = kernel_says G.g v x.state x.left x.runs r x.does
       ∙ ap (λ a. Rattle.sp_meaning.specs.Runs.happening_of {L = superpascal G.g}
       (Rattle.sp_meaning.specs.Model.Offering off)
       a) outcome_is
 
-  goes_next : next_state G.g x.at v ≡ Some t1
-  goes_next = kernel_next G.g v x.at x.left x.runs r x.does
-      ∙ ap (λ a. Some (Rattle.sp_meaning.specs.Steps.result_of {L = superpascal G.g} x.at v a)) outcome_is
+  goes_next : next_state G.g x.state v ≡ Some t1
+  goes_next = kernel_next G.g v x.state x.left x.runs r x.does
+      ∙ ap (λ a. Some (Rattle.sp_meaning.specs.Steps.result_of {L = superpascal G.g} x.state v a)) outcome_is
 
   abbrev what : Happening
   what = Is_offered (way_of cg) ch
@@ -111,25 +112,25 @@ module _ (G : RunContext) (lv : RightsOfAll G) (c : Course) (s : StateOf G.g) (u
   c1 = with_ticks v (ticks_of G.g t1 v) c
 
   waits : t1.condition v ≡ Waits off
-  waits = at_same name_test x.at.condition v (Waits off)
+  waits = at_same name_test x.state.condition v (Waits off)
 
-  same : (a : Name) → a ≢ v → t1.condition a ≡ x.at.condition a
-  same a e = at_other name_test x.at.condition v a (Waits off) (λ h. e (sym h))
+  same : (a : Name) → a ≢ v → t1.condition a ≡ x.state.condition a
+  same a e = at_other name_test x.state.condition v a (Waits off) (λ h. e (sym h))
 
-  known_then : StateKeeps G.g x.at
+  known_then : StateKeeps G.g x.state
   known_then = known_at G lv c s u l i d at_i z r x what said
 
   known_now : StateKeeps G.g t1
   known_now = record {
-    sound = step_sound (total_limits G.g) x.at v t1 known_then.sound goes_next;
-    well = lowered G.g (λ a. ticks_in (x.at.condition a)) t1
-        (step_well G.g x.at known_then.sound v (raised G.g x.at known_then.well) t1 goes_next);
+    sound = step_sound (total_limits G.g) x.state v t1 known_then.sound goes_next;
+    well = lowered G.g (λ a. ticks_in (x.state.condition a)) t1
+        (step_well G.g x.state known_then.sound v (raised G.g x.state known_then.well) t1 goes_next);
   }
 
-  rights_then : Inv G.g.program (W_of G lv) (R_of G lv) x.at.condition x.at.forks
+  rights_then : Inv G.g.program (W_of G lv) (R_of G lv) x.state.condition x.state.forks
   rights_then = rights_at G lv c s u l i d at_i z r x what said
 
-  holds : ConditionInRights G.g.program (W_of G lv) (R_of G lv) x.at.forks v (Waits off)
+  holds : ConditionInRights G.g.program (W_of G lv) (R_of G lv) x.state.forks v (Waits off)
   holds = (
     record {
       named = x.good.named;
@@ -142,16 +143,17 @@ module _ (G : RunContext) (lv : RightsOfAll G) (c : Course) (s : StateOf G.g) (u
   )
 
   rights_now : Inv G.g.program (W_of G lv) (R_of G lv) t1.condition t1.forks
-  rights_now = inv_local G (W_of G lv) (R_of G lv) x.at.condition t1.condition x.at.forks t1.forks v rights_then refl
-      (λ e. subst (λ a. IsLive a) e (working_lives x.at.condition v (x.at.condition v) x.left x.runs)) same
-      (subst (λ a. ConditionInRights G.g.program (W_of G lv) (R_of G lv) x.at.forks v a) (sym waits) holds)
+  rights_now = inv_local G (W_of G lv)
+      (R_of G lv) x.state.condition t1.condition x.state.forks t1.forks v rights_then refl
+      (λ e. subst (λ a. IsLive a) e (working_lives x.state.condition v (x.state.condition v) x.left x.runs)) same
+      (subst (λ a. ConditionInRights G.g.program (W_of G lv) (R_of G lv) x.state.forks v a) (sym waits) holds)
 
-  ended_same : (a : Name) → has_ended (t1.condition a) ≡ has_ended (x.at.condition a)
+  ended_same : (a : Name) → has_ended (t1.condition a) ≡ has_ended (x.state.condition a)
   ended_same a = ⊎_elim (λ (e : a ≡ v). ap (λ b. has_ended (t1.condition b)) e ∙ ap (λ b. has_ended b) waits
-      ∙ sym (ended_at G lv c s u l i d at_i z r x what said) ∙ ap (λ b. has_ended (x.at.condition b)) (sym e))
+      ∙ sym (ended_at G lv c s u l i d at_i z r x what said) ∙ ap (λ b. has_ended (x.state.condition b)) (sym e))
       (λ (e : a ≢ v). ap (λ b. has_ended b) (same a e)) (same_or_not name_test a v)
 
-  present_same : (a : Name) → x.at.condition a ≢ Absent → t1.condition a ≢ Absent
+  present_same : (a : Name) → x.state.condition a ≢ Absent → t1.condition a ≢ Absent
   present_same a h e = ⊎_elim (λ (f : a ≡ v). subst (λ b. IsLive b)
       (sym waits ∙ subst (λ b. t1.condition b ≡ Absent) f e) tt) (λ (f : a ≢ v). h (sym (same a f) ∙ e))
       (same_or_not name_test a v)
@@ -160,7 +162,7 @@ module _ (G : RunContext) (lv : RightsOfAll G) (c : Course) (s : StateOf G.g) (u
       → Performs_all G lv (G.births.name j) c1 t1 (u.births.opens j) (u.condition j)
   does_other j lt e =
       let apart = other_name G lv c s u l i d at_i z r x what said j lt e in
-      does_stay G lv x.at t1 known_then.sound rights_then.fair v (alone_at G lv c s u l i d at_i z r x what said)
+      does_stay G lv x.state t1 known_then.sound rights_then.fair v (alone_at G lv c s u l i d at_i z r x what said)
       (λ a. inl refl) (G.births.name j) apart (same (G.births.name j) apart)
       (λ k n. ended_same ((k, n) ∷ G.births.name j)) (λ k n. present_same ((k, n) ∷ G.births.name j)) c c1
       (since_other c v (ticks_of G.g t1 v) (G.births.name j) apart) refl (λ h. h) (u.births.opens j) (u.condition j)
@@ -191,13 +193,13 @@ module _ (G : RunContext) (lv : RightsOfAll G) (c : Course) (s : StateOf G.g) (u
     pc = t.0;
     stack = t.1;
     memory = n1;
-    is = refl;
+    configuration_is = refl;
     stand = stand_again G (lv v) (λ a b. lv ((a, b) ∷ v)) v {w = (p1 G lv c s u l i d at_i).who} {w1 = x.left.who}
         {since = c.since v} {since1 = c1.since v} (ap (λ (a : Rattle.sp_meaning.specs.LocalWork.Identity). a.name)
         x.who_is)
         since_here
-        (stand_dead G (lv v) (λ a b. lv ((a, b) ∷ v)) v t.8 x.at.store
-        (λ a. subst (λ b. (x.at.store a ≡ m a) ⊎ IsDead b a)
+        (stand_dead G (lv v) (λ a b. lv ((a, b) ∷ v)) v t.8 x.state.store
+        (λ a. subst (λ b. (x.state.store a ≡ m a) ⊎ IsDead b a)
         (ap (λ b. length b) (t.8).frames.sources_are ∙ Rattle.sp_codegen.proofs.FramePairs.sources_length t.3)
         (same_but_dead G lv c s u l i d at_i z (Offered ch kd cg todo) o m x tt a)));
     follows = follows_again G (lv v) (λ a b. lv ((a, b) ∷ v)) v z.fresh z.fresh (p1 G lv c s u l i d at_i).who
@@ -249,12 +251,12 @@ module _ (G : RunContext) (lv : RightsOfAll G) (c : Course) (s : StateOf G.g) (u
     pends_now : (a : ℕ) → a < u.births.channels → IsPending G (t1.pending (channel G.births a)) (u1.pending a)
     pends_now a lt = ⊎_elim
         (λ (e : j ≡ a). subst (λ b. IsPending G (t1.pending (channel G.births b)) (u1.pending b)) e
-        (subst (λ b. IsPending G (cond b (Some v) (x.at.pending (channel G.births j))) (u1.pending j))
+        (subst (λ b. IsPending G (cond b (Some v) (x.state.pending (channel G.births j))) (u1.pending j))
         (sym ((channel_test ch (channel G.births j)).1 (sym named.2)))
         (subst (λ b. IsPending G (Some v) (cond b (Some i) (u.pending j))) (sym (eq-eqb j j refl)) (few, refl))))
-        (λ (e : j ≢ a). subst (λ b. IsPending G (cond b (Some v) (x.at.pending (channel G.births a))) (u1.pending a))
+        (λ (e : j ≢ a). subst (λ b. IsPending G (cond b (Some v) (x.state.pending (channel G.births a))) (u1.pending a))
         (sym (apart e))
-        (subst (λ b. IsPending G (x.at.pending (channel G.births a)) (cond b (Some i) (u.pending a)))
+        (subst (λ b. IsPending G (x.state.pending (channel G.births a)) (cond b (Some i) (u.pending a)))
         (sym (ne_eqb j a e)) (subst (λ b. IsPending G (b (channel G.births a)) (u.pending a))
         (sym x.elsewhere.pending) (l.pending a lt))))
         (number_or j a)
@@ -372,8 +374,8 @@ module _ (G : RunContext) (lv : RightsOfAll G) (c : Course) (s : StateOf G.g) (u
         → IsOpen u.births (event_of G.g.limits u (turn_of t.5)) → Entry_of G c s u i d
     entry_by is told speaks = record {
       turn = turn_of t.5;
-      is = tn_is;
-      way = way_of_step G lv c s u l i d at_i x.steps x.at (x.turn what said) what t1
+      is_turn = tn_is;
+      way = way_of_step G lv c s u l i d at_i x.steps x.state (x.turn what said) what t1
           (λ left n k. (l.faulted ∙ quiet, refl, t1, n, one-add n, (x.left, x.runs, said, goes_next), k)) _ (sym told);
       speaks = speaks;
       lives = lv;

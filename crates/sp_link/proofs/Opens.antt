@@ -133,7 +133,7 @@ module _ (G : RunContext) (lv : RightsOfAll G) (c : Course) (s : StateOf G.g) (u
   r = (Computed (Opened todo) o, m)
 
   abbrev ws : List (Loc × LocationContent)
-  ws = tree_writes same_loc (act_tree G.g x.left) x.at.store
+  ws = tree_writes same_loc (act_tree G.g x.left) x.state.store
 
   abbrev goes_on : Process
   goes_on = with_todo todo (record (x.left.who) { opens = x.left.who.opens + 1 }) o
@@ -149,7 +149,7 @@ module _ (G : RunContext) (lv : RightsOfAll G) (c : Course) (s : StateOf G.g) (u
 
   passes : (e1 e2 : Bool) → nat_lt G.g.limits.entries (u.entries + 1) ≡ e1
       → nat_lt G.g.limits.channels (u.births.channels + 1) ≡ e2
-      → limit_fault (total_limits G.g) x.at.totals (Some a_channel)
+      → limit_fault (total_limits G.g) x.state.totals (Some a_channel)
       ≡ (if e1 then Some fault.F15 else (if e2 then Some fault.F14 else None))
   passes e1 e2 h1 h2 =
       ap (λ (a : Totals). limit_fault (total_limits G.g) a (Some a_channel)) x.elsewhere.totals
@@ -170,64 +170,65 @@ module _ (G : RunContext) (lv : RightsOfAll G) (c : Course) (s : StateOf G.g) (u
       (if nat_lt G.g.limits.channels (u.births.channels + 1) then Some fault.F14 else None)) None) h1
       ∙ ap (λ b. sys.first_fault (if e1 then Some fault.F15 else (if b then Some fault.F14 else None)) None) h2
 
-  comes_to : (f : Option Fault) → limit_fault (total_limits G.g) x.at.totals (Some a_channel) ≡ f
-      → step_outcome {L = superpascal G.g} (total_limits G.g) x.at v (Opens goes_on ws)
-      ≡ fault_or f (act_outcome {L = superpascal G.g} x.at v (Opens goes_on ws))
-  comes_to f e = ap (λ a. fault_or a (act_outcome {L = superpascal G.g} x.at v (Opens goes_on ws))) e
+  comes_to : (f : Option Fault) → limit_fault (total_limits G.g) x.state.totals (Some a_channel) ≡ f
+      → step_outcome {L = superpascal G.g} (total_limits G.g) x.state v (Opens goes_on ws)
+      ≡ fault_or f (act_outcome {L = superpascal G.g} x.state v (Opens goes_on ws))
+  comes_to f e = ap (λ a. fault_or a (act_outcome {L = superpascal G.g} x.state v (Opens goes_on ws))) e
 
-  fails : (f : Fault) → step_outcome {L = superpascal G.g} (total_limits G.g) x.at v (Opens goes_on ws) ≡ Faulty f
+  fails : (f : Fault) → step_outcome {L = superpascal G.g} (total_limits G.g) x.state v (Opens goes_on ws) ≡ Faulty f
       → fault_of G.g.limits u tn ≡ Some f → Entry_of G c s u i d
   fails f e h = failed_entry G lv c s u l i d at_i (opened_halt G lv c s u l i d at_i z todo o m x t) refl f
-      (kernel_says G.g v x.at x.left x.runs r x.does
+      (kernel_says G.g v x.state x.left x.runs r x.does
       ∙ ap (λ b. happening_of {L = superpascal G.g} (Opens goes_on ws) b) e)
-      (kernel_next G.g v x.at x.left x.runs r x.does ∙ ap (λ b. Some (result_of {L = superpascal G.g} x.at v b)) e) h
+      (kernel_next G.g v x.state x.left x.runs r x.does
+      ∙ ap (λ b. Some (result_of {L = superpascal G.g} x.state v b)) e) h
       quiet
 
   -- ---- it opens
 
   module _ (room1 : nat_lt G.g.limits.entries (u.entries + 1) ≡ false)
       (room2 : nat_lt G.g.limits.channels (u.births.channels + 1) ≡ false) where
-    does_it : step_outcome {L = superpascal G.g} (total_limits G.g) x.at v (Opens goes_on ws)
+    does_it : step_outcome {L = superpascal G.g} (total_limits G.g) x.state v (Opens goes_on ws)
         ≡ Advances (Becomes v (Works goes_on) ∷ AddsTotals a_channel ∷ write_changes {L = superpascal G.g} ws)
     does_it = comes_to None (passes false false room1 room2)
 
     abbrev t1 : StateOf G.g
-    t1 = record (x.at) {
-      condition = put_at same_name v (Works goes_on) x.at.condition;
-      totals = add x.at.totals a_channel;
+    t1 = record (x.state) {
+      condition = put_at same_name v (Works goes_on) x.state.condition;
+      totals = add x.state.totals a_channel;
       store = m;
     }
 
-    said_now : happening_at G.g x.at v x.left ≡ Some Is_opened
-    said_now = kernel_says G.g v x.at x.left x.runs r x.does
+    said_now : happening_at G.g x.state v x.left ≡ Some Is_opened
+    said_now = kernel_says G.g v x.state x.left x.runs r x.does
         ∙ ap (λ b. happening_of {L = superpascal G.g} (Opens goes_on ws) b) does_it
 
-    goes_next : next_state G.g x.at v ≡ Some t1
-    goes_next = kernel_next G.g v x.at x.left x.runs r x.does
-        ∙ ap (λ b. Some (result_of {L = superpascal G.g} x.at v b)) does_it
+    goes_next : next_state G.g x.state v ≡ Some t1
+    goes_next = kernel_next G.g v x.state x.left x.runs r x.does
+        ∙ ap (λ b. Some (result_of {L = superpascal G.g} x.state v b)) does_it
         ∙ ap (λ b. Some b) (stored (superpascal G.g) (act_tree G.g x.left)
         (with_change {L = superpascal G.g} (AddsTotals a_channel)
-        (with_change {L = superpascal G.g} (Becomes v (Works goes_on)) x.at))
-        ∙ ap (λ (b : (List (Loc × LocationContent) → ActOf (superpascal G.g)) × Store). record (x.at) {
-          condition = put_at same_name v (Works goes_on) x.at.condition;
-          totals = add x.at.totals a_channel;
+        (with_change {L = superpascal G.g} (Becomes v (Works goes_on)) x.state))
+        ∙ ap (λ (b : (List (Loc × LocationContent) → ActOf (superpascal G.g)) × Store). record (x.state) {
+          condition = put_at same_name v (Works goes_on) x.state.condition;
+          totals = add x.state.totals a_channel;
           store = b.1;
-        }) (answered G.g x.at x.left (Computed (Opened todo) o) m x.does))
+        }) (answered G.g x.state x.left (Computed (Opened todo) o) m x.does))
 
     cond_v : t1.condition v ≡ Works goes_on
-    cond_v = at_same name_test x.at.condition v (Works goes_on)
+    cond_v = at_same name_test x.state.condition v (Works goes_on)
 
     cond_r : (b : Name) → b ≢ v → t1.condition b ≡ s.condition b
-    cond_r b e = at_other name_test x.at.condition v b (Works goes_on) (λ f. e (sym f)) ∙ x.elsewhere.condition b e
+    cond_r b e = at_other name_test x.state.condition v b (Works goes_on) (λ f. e (sym f)) ∙ x.elsewhere.condition b e
 
-    known_then : StateKeeps G.g x.at
+    known_then : StateKeeps G.g x.state
     known_then = known_at G lv c s u l i d at_i z r x Is_opened said_now
 
     known_now : StateKeeps G.g t1
     known_now = record {
-      sound = step_sound (total_limits G.g) x.at v t1 known_then.sound goes_next;
-      well = lowered G.g (λ b. ticks_in (x.at.condition b)) t1
-          (step_well G.g x.at known_then.sound v (raised G.g x.at known_then.well) t1 goes_next);
+      sound = step_sound (total_limits G.g) x.state v t1 known_then.sound goes_next;
+      well = lowered G.g (λ b. ticks_in (x.state.condition b)) t1
+          (step_well G.g x.state known_then.sound v (raised G.g x.state known_then.well) t1 goes_next);
     }
 
     rights_now : Inv G.g.program (W_of G lv) (R_of G lv) t1.condition t1.forks
@@ -345,7 +346,7 @@ module _ (G : RunContext) (lv : RightsOfAll G) (c : Course) (s : StateOf G.g) (u
         pc = t.0;
         stack = t.1;
         memory = n1;
-        is = refl;
+        configuration_is = refl;
         stand = stand_again G (lv v) (λ a b. lv ((a, b) ∷ v)) v {w = p1.who} {w1 = goes_on.who} {since = c.since v}
             {since1 = c1.since v} (ap (λ (a : Identity). a.name) x.who_is) since_here t.10;
         follows = follows_again G (lv v) (λ a b. lv ((a, b) ∷ v)) v z.fresh z.fresh p1.who goes_on.who z.named
@@ -374,7 +375,7 @@ module _ (G : RunContext) (lv : RightsOfAll G) (c : Course) (s : StateOf G.g) (u
         pc = t.0;
         stack = t.1;
         memory = record n1 { store = put_cell plain t.6 (cell.Channel k) n1.store };
-        is = refl;
+        configuration_is = refl;
         stand = stand_now;
         follows = before.follows;
       }
@@ -450,8 +451,8 @@ module _ (G : RunContext) (lv : RightsOfAll G) (c : Course) (s : StateOf G.g) (u
     opens_entry : Entry_of G c s u i d
     opens_entry = record {
       turn = tn;
-      is = tn_is;
-      way = way_of_step G lv c s u l i d at_i x.steps x.at (x.turn Is_opened said_now) Is_opened t1
+      is_turn = tn_is;
+      way = way_of_step G lv c s u l i d at_i x.steps x.state (x.turn Is_opened said_now) Is_opened t1
           (λ left n k. (l.faulted ∙ quiet, refl, t1, n, one-add n, (x.left, x.runs, said_now, goes_next), k)) _
           (sym told);
       speaks = subst (λ f. IsOpen u.births f) (sym event_is) tt;

@@ -103,7 +103,7 @@ module _ (G : RunContext) (lv : RightsOfAll G) (s t : StateOf G.g) (sound : Soun
       pc = z.pc;
       stack = z.stack;
       memory = z.memory;
-      is = z.is;
+      configuration_is = z.configuration_is;
       stand = stand_same G.g G.code pr.who (Named G) (Called G) (λ l. OwnLocation r l ⊎ (lv r).W l)
           (λ l. OwnLocation r l ⊎ (lv r).R l) (lv r).J (lv r).low (Rattle.std.specs.Prelude.length (lv r).below)
           (lv r).born
@@ -126,7 +126,7 @@ module _ (G : RunContext) (lv : RightsOfAll G) (s t : StateOf G.g) (sound : Soun
           (λ (p : AreParallel w r). absurd (parallel_apart (W_of G lv) (R_of G lv) fair w r p l x may))
           (λ (u : Under s w r). inl (under u
           (child_writes (W_of G lv) (R_of G lv) fair u.front r u.fork u.child l
-          (subst (λ y. OwnOrGiven (W_of G lv) y l) u.is x) may)))
+          (subst (λ y. OwnOrGiven (W_of G lv) y l) u.name_is x) may)))
           (stance s w r sound alone (subst (λ y. IsLive y) (sym at) tt) apart)) (stays l)
         where
           lives_not : (x : Condition Process LocationContent Address) → IsLive x → has_ended x ≡ false
@@ -164,7 +164,7 @@ module _ (G : RunContext) (lv : RightsOfAll G) (s t : StateOf G.g) (sound : Soun
         stack = z.stack;
         memory = z.memory;
         held = z.held;
-        is = z.is;
+        configuration_is = z.configuration_is;
         joining = joining_more G (lv r) kids r (λ a h. (h.0, yet h.0 h.1, h.2))
             (joining_same G.g G.code pr.who (Named G) (Called G) (λ l. OwnLocation r l ⊎ (lv r).W l)
             (λ l. OwnLocation r l ⊎ (lv r).R l) (lv r).J (lv r).low (Rattle.std.specs.Prelude.length (lv r).below)

@@ -100,17 +100,19 @@ module _ (G : RunContext) (lv : RightsOfAll G) (c : Course) (s : StateOf G.g) (u
       by sys.Absent e h next = absurd h
       by (sys.Working d) e h next = ⊎_elim
           (λ z. (let y = z.stand.output may in
-          holds_it i (sys.Working d) (At z.pc z.stack z.memory) e (ap (λ y. store_in (sys.Working y)) z.is) y.0 y.1
+          holds_it i (sys.Working d) (At z.pc z.stack z.memory) e
+          (ap (λ y. store_in (sys.Working y)) z.configuration_is) y.0 y.1
           (ap output_of y.2)))
           (λ z. told_it (G.births.name i) i (sys.Working d) d e (at_config d) z.5 may) h.2
       by (sys.Waits a d) e h next = let z = h.2 in let y = z.stand.output may in
-          holds_it i (sys.Waits a d) (At z.pc z.stack z.memory) e (ap (λ y. store_in (sys.Waits a y)) z.is) y.0 y.1
+          holds_it i (sys.Waits a d) (At z.pc z.stack z.memory) e
+          (ap (λ y. store_in (sys.Waits a y)) z.configuration_is) y.0 y.1
           (ap output_of y.2)
       by (sys.Joins left d) e h next = let z = h.4 in ⊎_elim
           (λ a. to_child h.0 a.0 a.1.1 (z.there a.0 a.1.0) ((z.children a.0 a.1).output may a.2) next)
           (λ y. holds_it i (sys.Joins left d)
           (At z.pc z.stack (record (z.memory) { store = Rattle.sp_cell.specs.Map.with_map z.memory.store z.held }))
-          e (ap (λ y. store_in (sys.Joins left y)) z.is) y.0 y.1 (ap output_of y.2))
+          e (ap (λ y. store_in (sys.Joins left y)) z.configuration_is) y.0 y.1 (ap output_of y.2))
           (z.joining.output may)
       by (sys.Laid d) e h next = told_it (G.births.name i) i (sys.Laid d) d e (at_laid d) h.3 may
       by sys.Gone e h next = ⊎_elim (λ a. absurd (h.1 a))

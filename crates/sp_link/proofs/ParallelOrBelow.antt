@@ -15,14 +15,14 @@ pub record Under {L : Language} (s : State L) (w r : Name) : Type 0 where
   pub front : Name
   pub fork : ℕ
   pub child : ℕ
-  pub is : w ≡ front ++ (fork, child) ∷ r
+  pub name_is : w ≡ front ++ (fork, child) ∷ r
   pub lives : IsAlive (s.condition ((fork, child) ∷ r))
   pub joins : JoinsAt fork child (s.condition r)
 
 pub stance : {L : Language} (s : State L) (w r : Name) → Sound s → IsAlone s w → IsAlive (s.condition r) → r ≢ w
     → AreParallel w r ⊎ Under s w r
 stance {L} s w r sound alone lives apart = ⊎_elim
-    (λ (h : Below w r). inr (under h.rest h.is))
+    (λ (h : Below w r). inr (under h.rest h.name_is))
     (⊎_elim
     (λ (h : Below r w). absurd (not_above s r w sound alone lives apart h))
     (λ (h : Parts w r). inl (both h)))
@@ -32,7 +32,7 @@ stance {L} s w r sound alone lives apart = ⊎_elim
     under [] e = absurd (apart (sym e))
     under (v ∷ rest) e =
         let l = last_of v rest in
-        let w_is : w ≡ l.front ++ l.last ∷ r = e ∙ ap (λ z. z ++ r) l.is ∙ moved l.front l.last r in
+        let w_is : w ≡ l.front ++ l.last ∷ r = e ∙ ap (λ z. z ++ r) l.name_is ∙ moved l.front l.last r in
         let child : IsAlive (s.condition (l.last ∷ r)) =
         ancestors_live s sound l.front (l.last ∷ r)
         (subst (λ z. IsAlive (s.condition z)) w_is (alone_lives s w alone)) in
@@ -40,7 +40,7 @@ stance {L} s w r sound alone lives apart = ⊎_elim
           front = l.front;
           fork = (l.last).0;
           child = (l.last).1;
-          is = w_is;
+          name_is = w_is;
           lives = child;
           joins = sound.joined r (l.last).0 (l.last).1 child;
         }
@@ -56,8 +56,8 @@ stance {L} s w r sound alone lives apart = ⊎_elim
         record {
           common = h.common;
           fork = (h.x).0;
-          one = (h.x).1;
-          other = (h.y).1;
+          first = (h.x).1;
+          second = (h.y).1;
           apart = λ e. h.apart (λ i. (fork i, e i));
           after_one = h.after_x;
           after_other = h.after_y;

@@ -66,18 +66,19 @@ entry_at p (And st rest) q (suc j) = entry_at p rest (after_statement p q st + 1
 module _ (G : RunContext) (free : Bool) (sc : List Scope) where
   record Child (ss : Stmts) (q j : ℕ) (b : Birth) : Type 0 where
     pub statement : Stmt
-    pub is : slice_get (list_of ss) j ≡ Some statement
-    pub child : ChildIs G.g.program G.moves G.shares G.code G.hush free sc ss q j b
-    pub same : child.statement ≡ statement
-    pub at : child.entry ≡ entry_at G.g.program ss q j
+    pub statement_is : slice_get (list_of ss) j ≡ Some statement
+    pub child : ChildIs G.g.program G.moves G.shares G.code G.callable free sc ss q j b
+    pub child_is : child.statement ≡ statement
+    pub entry_is : child.entry ≡ entry_at G.g.program ss q j
 
   child_here : (ss : Stmts) (q j : ℕ) (b : Birth) → slice_get (children ss) j ≡ Some b
-      → ChildrenAt G.g.program G.moves G.shares (StandsIn G.code) (HasFork G.code) (HasWords G.code) G.hush free sc q ss
+      → ChildrenAt G.g.program G.moves G.shares (StandsIn G.code) (HasFork G.code)
+      (HasWords G.code) G.callable free sc q ss
       → Child ss q j b
   child_here No q j b e h = absurd (cc e)
   child_here (And st rest) q zero b e h = record {
     statement = st;
-    is = refl;
+    statement_is = refl;
     child = record {
       statement = st;
       entry = q;
@@ -87,14 +88,14 @@ module _ (G : RunContext) (free : Bool) (sc : List Scope) where
       end = h.1;
       inside = λ u. inl;
     };
-    same = refl;
-    at = refl;
+    child_is = refl;
+    entry_is = refl;
   }
   child_here (And st rest) q (suc j) b e h =
       let z = child_here rest (after_statement G.g.program q st + 1) j b e h.2 in
       record {
         statement = z.statement;
-        is = z.is;
+        statement_is = z.statement_is;
         child = record {
           statement = z.child.statement;
           entry = z.child.entry;
@@ -104,8 +105,8 @@ module _ (G : RunContext) (free : Bool) (sc : List Scope) where
           end = z.child.end;
           inside = λ u a. inr (z.child.inside u a);
         };
-        same = z.same;
-        at = z.at;
+        child_is = z.child_is;
+        entry_is = z.entry_is;
       }
 
   tables_count : (ss : Stmts) (q : ℕ) → length (children ss)
@@ -144,7 +145,7 @@ module _ (G : RunContext) (lv : RightsOfAll G) (c : Course) (s : StateOf G.g) (u
   some = subst (λ b. 1 ≤ length b) (sym h.6) (some_part ss (h.8.formed (ParallelOf ss) (inl refl)))
 
   abbrev k : ℕ
-  k = x.at.forks v
+  k = x.state.forks v
 
   abbrev pub n1 : Memory Plain
   n1 = record (t.2) { since = (t.2).ticks }
@@ -226,7 +227,7 @@ module _ (G : RunContext) (lv : RightsOfAll G) (c : Course) (s : StateOf G.g) (u
       (born_of ss (part (λ u a. inr (inl a)) h.8.sound) (h.8.sound.kept (ParallelOf ss) (inl refl))))
 
   -- its parent's memory
-  stood : St G (lv v) (λ a b. lv ((a, b) ∷ v)) v w1 (t.2).ticks t.3 o x.at.store n1
+  stood : St G (lv v) (λ a b. lv ((a, b) ∷ v)) v w1 (t.2).ticks t.3 o x.state.store n1
   stood = fk.parent_stand G lv c s u l i d at_i z bs todo o m x t y quiet h.1 (pos 0)
       (length (children_tables G.g.program G.moves G.shares h.2 h.0)) h.4 some (t.2).ticks refl
 
@@ -241,13 +242,13 @@ module _ (G : RunContext) (lv : RightsOfAll G) (c : Course) (s : StateOf G.g) (u
       here : Child G true h.3 ss h.2 j b
       here = child_here G true h.3 ss h.2 j b (ap (λ a. slice_get a j) (sym h.6) ∙ e) h.7
 
-      abbrev ch : ChildIs p G.moves G.shares G.code G.hush true h.3 ss h.2 j b
+      abbrev ch : ChildIs p G.moves G.shares G.code G.callable true h.3 ss h.2 j b
       ch = here.child
 
       -- its life is that by its statement
       life_is : new_life j ≡ life_by (Some ch.statement) ch.entry j
-      life_is = ap (λ a. life_by a (entry_at p ss h.2 j) j) (here.is ∙ ap (λ a. Some a) (sym here.same))
-          ∙ ap (λ a. life_by (Some ch.statement) a j) (sym here.at)
+      life_is = ap (λ a. life_by a (entry_at p ss h.2 j) j) (here.statement_is ∙ ap (λ a. Some a) (sym here.child_is))
+          ∙ ap (λ a. life_by (Some ch.statement) a j) (sym here.entry_is)
 
       table_is : child_or (child_at (table_or (slice_get G.code.forks h.1)) j)
           ≡ child_table p G.moves G.shares ch.entry None ch.statement
@@ -307,20 +308,20 @@ module _ (G : RunContext) (lv : RightsOfAll G) (c : Course) (s : StateOf G.g) (u
           ∙ ap (λ a. cons (k, j) a) x.good.named)
 
       it_stands : (number : ℕ) → Called G ((k, j) ∷ v) number → (own_more : ℕ → ℕ → BirthRights)
-          → ProcessMatches G (new_life j) own_more ((k, j) ∷ v) 0 (new_process x.left.who o j b) x.at.store
+          → ProcessMatches G (new_life j) own_more ((k, j) ∷ v) 0 (new_process x.left.who o j b) x.state.store
           (sys.child_process plain (run_is G) (At t.0 t.1 n1) (pos 0) number j
           (child_or (child_at (table_or (slice_get G.code.forks h.1)) j)))
       it_stands number called own_more =
           subst (λ (lf : BirthRights). ProcessMatches G lf own_more ((k, j) ∷ v) 0 (new_process x.left.who o j b)
-          x.at.store
+          x.state.store
           (sys.child_process plain (run_is G) (At t.0 t.1 n1) (pos 0) number j
           (child_or (child_at (table_or (slice_get G.code.forks h.1)) j)))) (sym life_is)
-          (subst (λ a. ProcessMatches G (life_by (Some ch.statement) ch.entry j) own_more ((k, j) ∷ v) 0 a x.at.store
+          (subst (λ a. ProcessMatches G (life_by (Some ch.statement) ch.entry j) own_more ((k, j) ∷ v) 0 a x.state.store
           (sys.child_process plain (run_is G) (At t.0 t.1 n1) (pos 0) number j
           (child_or (child_at (table_or (slice_get G.code.forks h.1)) j)))) (sym process_is)
           (subst (λ a. ProcessMatches G (life_by (Some ch.statement) ch.entry j) own_more ((k, j) ∷ v) 0
           (cs.own G (lv v) more v fresh stood may_fork ss h.3 h.8 h.2 j b ch ((k, j) ∷ v) (longer j) (pos 0))
-          x.at.store (sys.child_process plain (run_is G) (At t.0 t.1 n1) (pos 0) number j a)) (sym table_is)
+          x.state.store (sys.child_process plain (run_is G) (At t.0 t.1 n1) (pos 0) number j a)) (sym table_is)
           (cs.child_stands G (lv v) more v fresh stood may_fork ss h.3 h.8 h.2 j b ch ((k, j) ∷ v) (longer j) (pos 0)
           number called t.0 t.1 shares_known own_more)))
 

@@ -55,7 +55,7 @@ pub record Entry_of (G : RunContext) (c : Course) (s : StateOf G.g) (u : System 
     (d : Config (Memory Plain)) :
     Type 1 where
   pub turn : Turn (Memory Plain)
-  pub is : IsTurn (ops G) G.code d turn
+  pub is_turn : IsTurn (ops G) G.code d turn
   pub way : Way_on G c s (G.births.name i) (Rattle.sp_journal.specs.Births.happening u.births
       (event_of G.g.limits u turn))
   pub speaks : IsOpen u.births (event_of G.g.limits u turn)
@@ -86,7 +86,7 @@ module _ (G : RunContext) (lv : RightsOfAll G) (c : Course) (s : StateOf G.g) (u
   way_of_step steps at turn what t1 enters e h = record {
     unlaid = (its G lv c s u l i d at_i).4;
     steps = steps;
-    at = at;
+    source = at;
     paused = false;
     turn = turn;
     cost = 1;
@@ -121,12 +121,12 @@ module _ (G : RunContext) (lv : RightsOfAll G) (c : Course) (s : StateOf G.g) (u
         → Machined (Computed (source.Paused todo) o, m) → u.faulted ≡ false → Entry_of G c s u i d
     pausing todo o m x t quiet = record {
       turn = tn;
-      is = tn_is;
+      is_turn = tn_is;
       way = way_by _ (sym said);
       speaks = subst (λ b. IsOpen u.births (if b then event.Laid else event.Pause)) (sym quiet) tt;
       lives = lv;
-      linked = λ began. now_by G lv c1 x.at (system_after_turn plain (run_is G) i tn u)
-          (subst (λ y. Linked G lv c1 x.at y) (sym (after_quiet G i tn u quiet)) linked);
+      linked = λ began. now_by G lv c1 x.state (system_after_turn plain (run_is G) i tn u)
+          (subst (λ y. Linked G lv c1 x.state y) (sym (after_quiet G i tn u quiet)) linked);
     }
       where
         tn : Turn (Memory Plain)
@@ -141,19 +141,19 @@ module _ (G : RunContext) (lv : RightsOfAll G) (c : Course) (s : StateOf G.g) (u
         p2 : Process
         p2 = with_todo todo p1.who o
 
-        ticks : ticks_of G.g x.at w ≡ o.ticks
+        ticks : ticks_of G.g x.state w ≡ o.ticks
         ticks = ap ticks_in x.condition
 
         c1 : Course
-        c1 = with_ticks w (ticks_of G.g x.at w) c
+        c1 = with_ticks w (ticks_of G.g x.state w) c
 
         since_here : c1.since w ≡ (t.2).ticks
-        since_here = ap (λ b. cond b (ticks_of G.g x.at w) (c.since w)) (itself name_test w) ∙ ticks ∙ (t.7).ticks
+        since_here = ap (λ b. cond b (ticks_of G.g x.state w) (c.since w)) (itself name_test w) ∙ ticks ∙ (t.7).ticks
 
         n1 : Memory Plain
         n1 = record (t.2) { since = (t.2).ticks }
 
-        stands : ProcessMatches G (lv w) kids w (c1.since w) p2 x.at.store (At t.0 t.1 n1)
+        stands : ProcessMatches G (lv w) kids w (c1.since w) p2 x.state.store (At t.0 t.1 n1)
         stands = subst (λ y. ProcessMatches G (lv w) kids w (c1.since w) p2 y (At t.0 t.1 n1)) (sym x.store) (record {
           fresh = z.fresh;
           named = z.named;
@@ -161,20 +161,20 @@ module _ (G : RunContext) (lv : RightsOfAll G) (c : Course) (s : StateOf G.g) (u
           pc = t.0;
           stack = t.1;
           memory = n1;
-          is = refl;
+          configuration_is = refl;
           stand = stand_again G (lv w) kids w {w = p1.who} {w1 = p1.who} {since = c.since w} {since1 = c1.since w} refl
               since_here t.7;
           follows = follows_again G (lv w) kids w z.fresh z.fresh p1.who p1.who z.named z.named (c.since w) (c1.since w)
               t.0 t.1 t.3 todo t.8;
         })
 
-        linked : Linked G lv c1 x.at (record u { condition = at_key ◌==◌ i (Working (At t.0 t.1 n1)) u.condition })
-        linked = linked_local G lv c s u l i d at_i x.at c1 (Working (At t.0 t.1 n1)) u.faulted
+        linked : Linked G lv c1 x.state (record u { condition = at_key ◌==◌ i (Working (At t.0 t.1 n1)) u.condition })
+        linked = linked_local G lv c s u l i d at_i x.state c1 (Working (At t.0 t.1 n1)) u.faulted
             x.elsewhere.condition x.elsewhere.forks x.elsewhere.pending x.elsewhere.totals
             (subst (λ y. (a : Loc) → (y a ≡ s.store a) ⊎ OwnOrGiven (W_of G lv) w a) (sym x.store) x.good.stays)
-            (turn_known G.g G.pause (c.since w) w x.steps s x.at true l.known x.turn) p2 x.runs
+            (turn_known G.g G.pause (c.since w) w x.steps s x.state true l.known x.turn) p2 x.runs
             (record { named = z.named; forked = kt.forked; last = kt.last; fit = x.good.fit })
-            (λ r a. ap (λ b. cond b (ticks_of G.g x.at w) (c.since r)) (differs name_test w r (λ e. a (sym e))))
+            (λ r a. ap (λ b. cond b (ticks_of G.g x.state w) (c.since r)) (differs name_test w r (λ e. a (sym e))))
             (λ r a. refl) (λ e. e) l.faulted
             (λ e. x.elsewhere.fault ∙ l.quiet e) l.unlaid
             (p2, x.runs, inl stands, (its G lv c s u l i d at_i).3, (its G lv c s u l i d at_i).4) (λ e. absurd (cc e))
@@ -183,12 +183,12 @@ module _ (G : RunContext) (lv : RightsOfAll G) (c : Course) (s : StateOf G.g) (u
         way_by e h = record {
           unlaid = (its G lv c s u l i d at_i).4;
           steps = x.steps;
-          at = x.at;
+          source = x.state;
           paused = true;
           turn = x.turn;
           cost = 0;
           course = c1;
-          state = x.at;
-          enters = λ left n y. subst (λ f. EntryStep G.g left c x.at true w f (0 + n)) h
-              (l.faulted ∙ quiet, refl, subst (λ k. left c1 x.at k) (is_none_plus n) y);
+          state = x.state;
+          enters = λ left n y. subst (λ f. EntryStep G.g left c x.state true w f (0 + n)) h
+              (l.faulted ∙ quiet, refl, subst (λ k. left c1 x.state k) (is_none_plus n) y);
         }

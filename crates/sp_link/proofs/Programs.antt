@@ -56,7 +56,7 @@ module _ (g : RunInput) (moves shares : Stmt → List ℕ) (pause : ℕ) (ready 
     code = code;
     moves = moves;
     shares = shares;
-    hush = NeverStops g.program;
+    callable = NeverStops g.program;
     pause = pause;
     births = births_from first_births es;
     opened = 0;

@@ -217,7 +217,7 @@ module _ (G : RunContext) (lv : RightsOfAll G) (P : Name) (since k n left i : �
       stack = z.stack;
       memory = z.memory;
       held = map_after_join z.held nc.store;
-      is = refl;
+      configuration_is = refl;
       joining = joining_after;
       follows = z.follows;
       count = refl;
@@ -240,7 +240,7 @@ module _ (G : RunContext) (lv : RightsOfAll G) (P : Name) (since k n left i : �
       pc = z.pc;
       stack = z.stack;
       memory = memory_after;
-      is = refl;
+      configuration_is = refl;
       stand = all_joined G.g G.code pr.who (Named G) (Called G) (λ l. OwnLocation P l ⊎ (lv P).W l)
           (λ l. OwnLocation P l ⊎ (lv P).R l) (lv P).J (lv P).low (length (lv P).below) (lv P).born since G.pause
           (lv P).moved

@@ -64,7 +64,7 @@ pub record RunContext : Type 1 where
   pub code : Code
   pub moves : Stmt → List ℕ
   pub shares : Stmt → List ℕ
-  pub hush : ℕ → Type 0
+  pub callable : ℕ → Type 0
   pub pause : ℕ
   pub births : Births
   -- how many channels are open so far
@@ -77,7 +77,7 @@ pub record RunContext : Type 1 where
   pub pure : AreFunctionsPure g.program
   pub values : DoFunctionsTakeValues g.program
   pub finds : (f : ℕ) (l : Layout) → slice_get code.layouts f ≡ Some l → layout_of code.layouts f ≡ Some l
-  pub blocks : BlocksAt g.program moves shares code hush
+  pub blocks : BlocksAt g.program moves shares code callable
   pub sets : SetsAre g.program moves shares
   pub limits : AreLimits g.limits
   pub one_name : (a b : ℕ) → a < births.processes → b < births.processes → births.name a ≡ births.name b → a ≡ b
@@ -191,7 +191,7 @@ module _ (G : RunContext) where
         code = G.code;
         moves = G.moves;
         shares = G.shares;
-        IsCallableInFunctions = G.hush;
+        IsCallableInFunctions = G.callable;
         who = w;
         due = due_after since G.pause;
         Writes = IsWritableLoc;
@@ -223,7 +223,7 @@ module _ (G : RunContext) where
       pub pc : ℕ
       pub stack : List Entry
       pub memory : Memory Plain
-      pub is : c ≡ At pc stack memory
+      pub configuration_is : c ≡ At pc stack memory
       pub stand : St pr.who since js pr.own s memory
       pub follows : Fo fresh pr.who named since pc stack js pr.todo
 
@@ -272,7 +272,7 @@ module _ (G : RunContext) where
       pub stack : List Entry
       pub memory : Memory Plain
       pub held : Map
-      pub is : c ≡ At pc stack (record memory { store = with_map memory.store held })
+      pub configuration_is : c ≡ At pc stack (record memory { store = with_map memory.store held })
       pub joining : Joining G.g G.code pr.who Named Called IsWritableLoc IsReadable lf.J lf.low base lf.born since
           G.pause
           lf.moved (Away_yet s k n) js pr.own s.store memory held

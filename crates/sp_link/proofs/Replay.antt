@@ -280,17 +280,17 @@ module _ (G : RunContext) where
       u1 = sys.system_after_turn plain (run_is G) e.process en.turn u
 
       same : SameTurnEnd G.g G.pause (c.since (G.births.name e.process)) (G.births.name e.process) en.way.steps h.1
-          en.way.at
+          en.way.source
           h.3 en.way.paused h.4
       same = turn_one G.g G.pause (c.since (G.births.name e.process)) (G.births.name e.process) en.way.steps h.1 s
-          en.way.at h.3 en.way.paused h.4 en.way.turn way
+          en.way.source h.3 en.way.paused h.4 en.way.turn way
 
       its : EntryStep G.g (Here G.g en.way.course en.way.state) c h.3 h.4 (G.births.name e.process)
           (happening u.births f)
           (en.way.cost + 0)
       its = subst (λ a. EntryStep G.g (Here G.g en.way.course en.way.state) c a h.4 (G.births.name e.process)
           (happening u.births f) (en.way.cost + 0)) same.state
-          (subst (λ a. EntryStep G.g (Here G.g en.way.course en.way.state) c en.way.at a (G.births.name e.process)
+          (subst (λ a. EntryStep G.g (Here G.g en.way.course en.way.state) c en.way.source a (G.births.name e.process)
           (happening u.births f) (en.way.cost + 0)) same.paused
           (en.way.enters (Here G.g en.way.course en.way.state) 0 (refl, refl)))
 
@@ -314,4 +314,4 @@ module _ (G : RunContext) where
           (subst (λ a. AllBegan G a es) (sym births_are) b.1) (subst (λ a. NameableFrom a es) (sym births_are) y.1)
           one.1.0 (subst (λ a. Along G.g G.pause en.way.course en.way.state (occurrences_from a es) one.1.0 t)
           (sym births_are) one.1.1) in
-          (z.0, (u1, (at.0, at.1, en.turn, en.is, event_is, refl), z.1))
+          (z.0, (u1, (at.0, at.1, en.turn, en.is_turn, event_is, refl), z.1))

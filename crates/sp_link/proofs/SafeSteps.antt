@@ -148,7 +148,7 @@ module _ (G : RunContext) (lv : RightsOfAll G) (c : Course) (s : StateOf G.g) (u
       pub own : LocalState
       pub store : Store
       pub memory : Memory Plain
-      pub is : store_of e ≡ memory.store
+      pub store_is : store_of e ≡ memory.store
       pub stands : St G (lv v) (kids G lv c s u l i d at) v (pr G lv c s u l i d at).who (c.since v) (lv v).below own
           store memory
 
@@ -225,14 +225,14 @@ module _ (G : RunContext) (lv : RightsOfAll G) (c : Course) (s : StateOf G.g) (u
           own = o;
           store = m;
           memory = t.2;
-          is = refl;
+          store_is = refl;
           stands = subst (λ b. St G (lv v) (kids G lv c s u l i d at) v (pr G lv c s u l i d at).who (c.since v) b o m
               t.2) (t.7).2 t.6;
         },
       )
       by_well (EndsInFault f, m) e x t y = (
-        Faulted f t.at,
-        turn_is G lv c s u l i d at z (Faulted f t.at) (t.at, t.comes, (t.fails, refl)),
+        Faulted f t.configuration,
+        turn_is G lv c s u l i d at z (Faulted f t.configuration) (t.configuration, t.comes, (t.fails, refl)),
         tt,
       )
       by_well (IllFormed, m) e x t y = absurd e
@@ -317,7 +317,7 @@ module _ (G : RunContext) (lv : RightsOfAll G) (c : Course) (s : StateOf G.g) (u
       moved_to = (lv ((does.0, b.child) ∷ parent)).moved
 
       moved_here : (store_of e).moved ≡ moved_to
-      moved_here = ap (λ (y : Plain). y.moved) ended.is ∙ ended.stands.moved_is ∙ ap (λ y. (lv y).moved) name_now
+      moved_here = ap (λ (y : Plain). y.moved) ended.store_is ∙ ended.stands.moved_is ∙ ap (λ y. (lv y).moved) name_now
 
       stood : St G (lv ((does.0, b.child) ∷ parent)) (λ a1 b1. lv ((a1, b1) ∷ (does.0, b.child) ∷ parent))
           ((does.0, b.child) ∷ parent) (pr G lv c s u l i d at).who (c.since v) (lv ((does.0, b.child) ∷ parent)).below
@@ -337,12 +337,12 @@ module _ (G : RunContext) (lv : RightsOfAll G) (c : Course) (s : StateOf G.g) (u
           ((zj.children b.child (joins_at.1, yet)).kept a h)
 
       parent_map : (store_of dd).map ≡ zj.held
-      parent_map = ap (λ (y : Config (Memory Plain)). (store_of y).map) zj.is
+      parent_map = ap (λ (y : Config (Memory Plain)). (store_of y).map) zj.configuration_is
 
       pub can_join : CanJoin (store_of dd) (store_of e)
       can_join = record {
-        no_frame = ap (λ (y : Plain). y.own) ended.is ∙ ended.stands.frames.own_frames ∙ none_made (lv v).below;
-        held = λ a h. subst (λ (y : Plain). IsHeld (fin.get y.map a)) (sym ended.is)
+        no_frame = ap (λ (y : Plain). y.own) ended.store_is ∙ ended.stands.frames.own_frames ∙ none_made (lv v).below;
+        held = λ a h. subst (λ (y : Plain). IsHeld (fin.get y.map a)) (sym ended.store_is)
             (held_there a (subst (λ y. In a y) moved_here h));
         away = λ a h. ap (λ y. fin.get y a) parent_map
             ∙ zj.gone b.child (joins_at.1, yet) a (subst (λ y. In a y) moved_here h);
@@ -401,11 +401,11 @@ module _ (G : RunContext) (lv : RightsOfAll G) (c : Course) (s : StateOf G.g) (u
       by (Takes w) x =
           let e1 : (h.0).kind ≡ k = sym (kind_of x.2) in
           let e2 : x.1 ≡ a = sym (target_of x.2) in
-          subst (λ (y : Config (Memory Plain)). Takes_well G k a y) (sym (h.2).is)
+          subst (λ (y : Config (Memory Plain)). Takes_well G k a y) (sym (h.2).configuration_is)
           (taken_well G (lv (G.births.name z)) (λ a b. lv ((a, b) ∷ G.births.name z)) (G.births.name z) k w a (h.2).pc
           (h.2).stack (h.2).memory (h.2).stand (x.4 ∙ e1) (subst (λ y. PointsTo G.g.program (h.2).js w y) e2 x.5)
           x.6
-          (subst (λ (y : Config (Memory Plain)). IsOwn (fin.get (store_of y).map a.spot)) (h.2).is h.6))
+          (subst (λ (y : Config (Memory Plain)). IsOwn (fin.get (store_of y).map a.spot)) (h.2).configuration_is h.6))
         where
           kind_of : {a b e f : ℕ} {x y : Ptr} → machine.Receives a b x ≡ machine.Receives e f y → b ≡ f
           kind_of r = cc r
@@ -440,7 +440,7 @@ module _ (G : RunContext) (lv : RightsOfAll G) (c : Course) (s : StateOf G.g) (u
       let kinds : j ≡ k = one_type j k (sys.clash_of u (machine.Sends ch k cs))
       (ap (λ y. sys.clash_by way.Send k y) pending) clash in
       can_put G j a e cs (waits_room ch j a z e there w)
-      (subst (λ y. IsMessage G y cs) (sym kinds) (sends_well i st.at st.runs ch k cs d st.turn))
+      (subst (λ y. IsMessage G y cs) (sym kinds) (sends_well i st.configuration st.runs ch k cs d st.turn))
 
   pub put_by_receive : (i z ch k j : ℕ) (a : Ptr) (cs : List OneCell) (d e : Config (Memory Plain))
       → StopsAt (run_is G) u i (machine.Receives ch k a) d → u.pending ch ≡ Some z
@@ -453,5 +453,5 @@ module _ (G : RunContext) (lv : RightsOfAll G) (c : Course) (s : StateOf G.g) (u
       (sys.clash_of u (machine.Receives ch k a)) st.fine in
       let kinds : j ≡ k = one_type j k (sys.clash_of u (machine.Receives ch k a))
       (ap (λ y. sys.clash_by way.Receive k y) pending) clash in
-      can_put G k a d cs (takes_well i st.at st.runs ch k a d st.turn)
+      can_put G k a d cs (takes_well i st.configuration st.runs ch k a d st.turn)
       (subst (λ y. IsMessage G y cs) kinds (waits_message ch j cs z e there w))

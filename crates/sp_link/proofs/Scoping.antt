@@ -51,7 +51,7 @@ Direct p sc (ForallOf x s) = Unit {0}
 Direct p sc Stop = Unit {0}
 
 module _ (p : Program) (free : IsFreeOfInterference p) (moves shares : Stmt → List ℕ) (Is : ℕ → Instr → Type 0)
-    (HasTable : ℕ → ForkTable → Type 0) (HasText : ℕ → List ℕ → Type 0) (hush : ℕ → Type 0) where
+    (HasTable : ℕ → ForkTable → Type 0) (HasText : ℕ → List ℕ → Type 0) (callable : ℕ → Type 0) where
   abbrev D : List Scope → Use → Type 0
   D sc u = Direct p sc u
 
@@ -67,12 +67,12 @@ module _ (p : Program) (free : IsFreeOfInterference p) (moves shares : Stmt → 
       no_console e h = let bad : role.Console ≡ role.Index = sym e ∙ h in absurd (cc bad)
 
   mutual
-    expr : (e : Expr) (sc : List Scope) (q : ℕ) → ValueAt p moves shares Is HasTable HasText hush sc q e → (u : Use)
+    expr : (e : Expr) (sc : List Scope) (q : ℕ) → ValueAt p moves shares Is HasTable HasText callable sc q e → (u : Use)
         → In_expr e u → D sc u
     expr (Typed k form) sc q h u a = formed form k sc q h u a
 
     formed : (form : ExprForm) (k : ℕ) (sc : List Scope) (q : ℕ)
-        → FormAt p moves shares Is HasTable HasText hush sc q k form → (u : Use) → In_form form u → D sc u
+        → FormAt p moves shares Is HasTable HasText callable sc q k form → (u : Use) → In_form form u → D sc u
     formed (Number n) k sc q h u a = absurd a
     formed (Read v) k sc q h u a = variable v k sc q h.0 u a
     formed (Unary op e) k sc q h u a = expr e sc q h.0 u a
@@ -83,32 +83,33 @@ module _ (p : Program) (free : IsFreeOfInterference p) (moves shares : Stmt → 
     formed (Standard f e) k sc q h u a = expr e sc q h.2 u a
     formed (AtInput f) k sc q h u a = at sc u (Seen 0) a (input sc)
 
-    variable : (v : Var) (k : ℕ) (sc : List Scope) (q : ℕ) → PlaceAt p moves shares Is HasTable HasText hush sc q v k
+    variable : (v : Var) (k : ℕ) (sc : List Scope) (q : ℕ)
+        → PlaceAt p moves shares Is HasTable HasText callable sc q v k
         → (u : Use) → In_read v u → D sc u
     variable (Entire x ss) k sc q h u (inl a) =
         at sc u (Seen x) a (
           h.1.0,
           h.1.1,
           λ iv.
-              (let r = subst (λ r. VarRole p moves shares Is HasTable HasText hush sc q x h.1.0 r) iv h.1.3 in
+              (let r = subst (λ r. VarRole p moves shares Is HasTable HasText callable sc q x h.1.0 r) iv h.1.3 in
               (r.0, r.1)),
         )
     variable (Entire x ss) k sc q h u (inr a) = selectors ss h.0 k sc (q + 1) h.2 u a
 
-    target : (v : Var) (k : ℕ) (sc : List Scope) (q : ℕ) → PlaceAt p moves shares Is HasTable HasText hush sc q v k
+    target : (v : Var) (k : ℕ) (sc : List Scope) (q : ℕ) → PlaceAt p moves shares Is HasTable HasText callable sc q v k
         → (u : Use) → In_target v u → D sc u
     target (Entire x ss) k sc q h u (inl a) = at sc u (Target x) a tt
     target (Entire x ss) k sc q h u (inr a) = selectors ss h.0 k sc (q + 1) h.2 u a
 
     selectors : (ss : Selectors) (k k2 : ℕ) (sc : List Scope) (q : ℕ)
-        → SelectedAt p moves shares Is HasTable HasText hush sc q ss k k2 → (u : Use) → In_selectors ss u → D sc u
+        → SelectedAt p moves shares Is HasTable HasText callable sc q ss k k2 → (u : Use) → In_selectors ss u → D sc u
     selectors Whole k k2 sc q h u a = absurd a
     selectors (Select (Index e) rest) k k2 sc q h u (inl a) = expr e sc q h.5 u a
     selectors (Select (Index e) rest) k k2 sc q h u (inr a) = selectors rest h.3 k2 sc (after_value q e + 1) h.8 u a
     selectors (Select (Field f) rest) k k2 sc q h u a = selectors rest h.2 k2 sc (q + 1) h.6 u a
 
     actuals : (args : Actuals) (xs : List ℕ) (sc : List Scope) (q : ℕ)
-        → ActualsAt p moves shares Is HasTable HasText hush sc q args xs → (u : Use) → In_actuals args u → D sc u
+        → ActualsAt p moves shares Is HasTable HasText callable sc q args xs → (u : Use) → In_actuals args u → D sc u
     actuals Nothing xs sc q h u a = absurd a
     actuals (Pass b rest) [] sc q h u a = absurd h
     actuals (Pass (ByValue e) rest) (x ∷ xs) sc q h u (inl a) = expr e sc q h.0 u a
@@ -116,13 +117,13 @@ module _ (p : Program) (free : IsFreeOfInterference p) (moves shares : Stmt → 
     actuals (Pass (ByReference v) rest) (x ∷ xs) sc q h u (inl a) = target v h.0 sc q h.1 u a
     actuals (Pass (ByReference v) rest) (x ∷ xs) sc q h u (inr a) = actuals rest xs sc (after_var q v) h.4 u a
 
-  width : (w : Option Expr) (sc : List Scope) (q : ℕ) → WidthAt p moves shares Is HasTable HasText hush sc q w
+  width : (w : Option Expr) (sc : List Scope) (q : ℕ) → WidthAt p moves shares Is HasTable HasText callable sc q w
       → (u : Use) → In_width w u → D sc u
   width None sc q h u a = absurd a
   width (Some e) sc q h u a = expr e sc q h.0 u a
 
   right : (z : Sort) (form : ExprForm) (k : ℕ) (sc : List Scope) (q : ℕ)
-      → RightAt p moves shares Is HasTable HasText hush sc q k z form → (u : Use) → In_form form u → D sc u
+      → RightAt p moves shares Is HasTable HasText callable sc q k z form → (u : Use) → In_form form u → D sc u
   right Ordinals form k sc q h u a = formed form k sc q h.0 u a
   right Channels form k sc q h u a = formed form k sc q h.0 u a
   right Many (Number n) k sc q h u a = absurd h
@@ -149,7 +150,7 @@ module _ (p : Program) (free : IsFreeOfInterference p) (moves shares : Stmt → 
 
   mutual
     pub stmt : (s : Stmt) (fr : Bool) (sc : List Scope) (q : ℕ)
-        → StandsAt p moves shares Is HasTable HasText hush fr sc q s → (u : Use) → In_stmt s u → D sc u
+        → StandsAt p moves shares Is HasTable HasText callable fr sc q s → (u : Use) → In_stmt s u → D sc u
     stmt Empty fr sc q h u a = absurd a
     stmt (Assign v (Typed k form)) fr sc q h u (inl a) = target v k sc q h.0 u a
     stmt (Assign v (Typed k form)) fr sc q h u (inr a) = right (sort p k) form k sc (after_var q v) h.2 u a
@@ -206,20 +207,21 @@ module _ (p : Program) (free : IsFreeOfInterference p) (moves shares : Stmt → 
     stmt (Receive c v) fr sc q h u (inr (inl a)) = target v h.0 sc (after_value q c) h.3 u a
     stmt (Receive c v) fr sc q h u (inr (inr a)) = at sc u Stop a tt
 
-    all : (ss : Stmts) (fr : Bool) (sc : List Scope) (q : ℕ) → AllAt p moves shares Is HasTable HasText hush fr sc q ss
+    all : (ss : Stmts) (fr : Bool) (sc : List Scope) (q : ℕ)
+        → AllAt p moves shares Is HasTable HasText callable fr sc q ss
         → (u : Use) → In_stmts ss u → D sc u
     all No fr sc q h u a = absurd a
     all (And s rest) fr sc q h u (inl a) = stmt s fr sc q h.0 u a
     all (And s rest) fr sc q h u (inr a) = all rest fr sc (after_statement p q s) h.1 u a
 
     children : (ss : Stmts) (fr : Bool) (sc : List Scope) (q : ℕ)
-        → ChildrenAt p moves shares Is HasTable HasText hush fr sc q ss → (u : Use) → In_stmts ss u → D sc u
+        → ChildrenAt p moves shares Is HasTable HasText callable fr sc q ss → (u : Use) → In_stmts ss u → D sc u
     children No fr sc q h u a = absurd a
     children (And s rest) fr sc q h u (inl a) = stmt s fr sc q h.0 u a
     children (And s rest) fr sc q h u (inr a) = children rest fr sc (after_statement p q s + 1) h.2 u a
 
     each : (arms : Arms) (fr : Bool) (sc : List Scope) (q end : ℕ)
-        → ArmsAt p moves shares Is HasTable HasText hush fr sc q arms end → (u : Use) → In_arms arms u → D sc u
+        → ArmsAt p moves shares Is HasTable HasText callable fr sc q arms end → (u : Use) → In_arms arms u → D sc u
     each NoArm fr sc q end h u a = absurd a
     each (Or (On ms s) rest) fr sc q end h u (inl a) = stmt s fr sc q h.0 u a
     each (Or (On ms s) rest) fr sc q end h u (inr a) = each rest fr sc (after_statement p q s + 1) end h.2 u a
@@ -250,7 +252,7 @@ module _ (G : RunContext) where
   seen {Here = Here} sc direct (b ∷ bs) y r =
       let z = G.blocks b r.2 r.3 in
       let w = seen {Here = λ a. In_stmt r.2.body a} (scopes_of G.g.program b)
-      (λ u a. stmt G.g.program G.free G.moves G.shares (CodeAt G.code) (HasFork G.code) (HasWords G.code) G.hush
+      (λ u a. stmt G.g.program G.free G.moves G.shares (CodeAt G.code) (HasFork G.code) (HasWords G.code) G.callable
       r.2.body true (scopes_of G.g.program b) z.layout.entry (z.stands.body true tt) u a) bs y r.5 in (
         w.0,
         w.1,
@@ -259,17 +261,18 @@ module _ (G : RunContext) where
       )
 
   pub is_scoped : (fr : Bool) (sc : List Scope) (q : ℕ) (st : Stmt)
-      → StandsAt G.g.program G.moves G.shares (CodeAt G.code) (HasFork G.code) (HasWords G.code) G.hush fr sc q st
+      → StandsAt G.g.program G.moves G.shares (CodeAt G.code) (HasFork G.code) (HasWords G.code) G.callable fr sc q st
       → ((u : Use) → In_stmt st u → IsFormedUse G.g.program u) → IsScoped G.g.program sc st
   is_scoped fr sc q st h formed y (inl a) = let f = reached_formed G a.0 formed (Target y) a.1 in
       (f.0, f.1, λ iv. absurd (f.2 iv))
   is_scoped fr sc q st h formed y (inr a) = seen sc
-      (λ u b. stmt G.g.program G.free G.moves G.shares (CodeAt G.code) (HasFork G.code) (HasWords G.code) G.hush st fr
+      (λ u b. stmt G.g.program G.free G.moves G.shares (CodeAt G.code) (HasFork G.code)
+      (HasWords G.code) G.callable st fr
       sc q h u b) a.0 y a.1
 
   -- of all children of a parallel statement
   pub parts_scoped : (fr : Bool) (sc : List Scope) (q : ℕ) (ss : Stmts)
-      → ChildrenAt G.g.program G.moves G.shares (CodeAt G.code) (HasFork G.code) (HasWords G.code) G.hush fr sc q ss
+      → ChildrenAt G.g.program G.moves G.shares (CodeAt G.code) (HasFork G.code) (HasWords G.code) G.callable fr sc q ss
       → ((u : Use) → In_stmt (Parallel ss) u → IsFormedUse G.g.program u) → IsScoped G.g.program sc (Parallel ss)
   parts_scoped fr sc q ss h formed y (inl a) = let f = reached_formed G a.0 formed (Target y) a.1 in
       (f.0, f.1, λ iv. absurd (f.2 iv))
@@ -278,5 +281,5 @@ module _ (G : RunContext) where
       direct : (u : Use) → In_stmt (Parallel ss) u → Direct G.g.program sc u
       direct u (inl b) = subst (λ k. Direct G.g.program sc k) (sym b) tt
       direct u (inr (inl b)) = children G.g.program G.free G.moves G.shares (CodeAt G.code) (HasFork G.code)
-          (HasWords G.code) G.hush ss fr sc q h u b
+          (HasWords G.code) G.callable ss fr sc q h u b
       direct u (inr (inr b)) = subst (λ k. Direct G.g.program sc k) (sym b) tt

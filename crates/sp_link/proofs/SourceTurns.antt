@@ -70,25 +70,25 @@ module _ (g : RunInput) (q : Name) (pause since : ℕ) (P : Process → Store �
   -- local steps of q lead from s to t, where it has pr left to do and its next step does what r says
   pub record Comes_to (s : StateOf g) (pr : Process) (r : WorkOutcome Action × Store) : Type 0 where
     pub steps : ℕ
-    pub at : StateOf g
+    pub state : StateOf g
     pub left : Process
-    pub elsewhere : Elsewhere s at
-    pub runs : running_process g at q ≡ Some left
+    pub elsewhere : Elsewhere s state
+    pub runs : running_process g state q ≡ Some left
     pub who_is : left.who ≡ pr.who
-    pub good : P left at.store
-    pub does : ◌≡◌ {A = WorkOutcome Action × Store} (run_tree same_loc (action_of g left) at.store) r
-    pub turn : (what : Happening) → happening_at g at q left ≡ Some what → Turn g pause since q steps s at false
+    pub good : P left state.store
+    pub does : ◌≡◌ {A = WorkOutcome Action × Store} (run_tree same_loc (action_of g left) state.store) r
+    pub turn : (what : Happening) → happening_at g state q left ≡ Some what → Turn g pause since q steps s state false
 
   -- or to the first moment at which it is due
   pub record Pauses (s : StateOf g) (pr : Process) (todo : List Item) (o : LocalState) (m : Store) : Type 0 where
     pub steps : ℕ
-    pub at : StateOf g
-    pub elsewhere : Elsewhere s at
-    pub runs : running_process g at q ≡ Some (with_todo todo pr.who o)
-    pub condition : at.condition q ≡ Works (with_todo todo pr.who o)
-    pub store : at.store ≡ m
+    pub state : StateOf g
+    pub elsewhere : Elsewhere s state
+    pub runs : running_process g state q ≡ Some (with_todo todo pr.who o)
+    pub condition : state.condition q ≡ Works (with_todo todo pr.who o)
+    pub store : state.store ≡ m
     pub good : P (with_todo todo pr.who o) m
-    pub turn : Turn g pause since q steps s at true
+    pub turn : Turn g pause since q steps s state true
 
   abbrev pub Outcome : StateOf g → Process → WorkOutcome source.Stop × Store → Type 0
   Outcome s pr (Computed (source.Paused todo) o, m) = Pauses s pr todo o m
@@ -157,37 +157,37 @@ module _ (g : RunInput) (q : Name) (pause since : ℕ) (P : Process → Store �
   after s pr e todo o m d er k st eb (Computed (source.Paused left) o1, m1) h =
       record {
         steps = suc h.steps;
-        at = h.at;
+        state = h.state;
         elsewhere = elsewhere_on (moved_elsewhere s (with_todo todo pr.who o) m) h.elsewhere;
         runs = h.runs;
         condition = h.condition;
         store = h.store;
         good = h.good;
-        turn = front s pr e todo o m d er k st false eb h.steps h.at true h.turn;
+        turn = front s pr e todo o m d er k st false eb h.steps h.state true h.turn;
       }
   after s pr e todo o m d er k st eb (Computed (source.Stops x) o1, m1) h =
       record {
         steps = suc h.steps;
-        at = h.at;
+        state = h.state;
         left = h.left;
         elsewhere = elsewhere_on (moved_elsewhere s (with_todo todo pr.who o) m) h.elsewhere;
         runs = h.runs;
         who_is = h.who_is;
         good = h.good;
         does = h.does;
-        turn = λ what y. front s pr e todo o m d er k st false eb h.steps h.at false (h.turn what y);
+        turn = λ what y. front s pr e todo o m d er k st false eb h.steps h.state false (h.turn what y);
       }
   after s pr e todo o m d er k st eb (EndsInFault f, m1) h =
       record {
         steps = suc h.steps;
-        at = h.at;
+        state = h.state;
         left = h.left;
         elsewhere = elsewhere_on (moved_elsewhere s (with_todo todo pr.who o) m) h.elsewhere;
         runs = h.runs;
         who_is = h.who_is;
         good = h.good;
         does = h.does;
-        turn = λ what y. front s pr e todo o m d er k st false eb h.steps h.at false (h.turn what y);
+        turn = λ what y. front s pr e todo o m d er k st false eb h.steps h.state false (h.turn what y);
       }
   after s pr e todo o m d er k st eb (IllFormed, m1) h = tt
   after s pr e todo o m d er k st eb (OutOfFuel, m1) h = tt
@@ -198,7 +198,7 @@ module _ (g : RunInput) (q : Name) (pause since : ℕ) (P : Process → Store �
   comes_now s pr x e r er = record {
     good = x;
     steps = 0;
-    at = s;
+    state = s;
     left = pr;
     elsewhere = nowhere s;
     runs = e;
@@ -239,7 +239,7 @@ module _ (g : RunInput) (q : Name) (pause since : ℕ) (P : Process → Store �
               → Outcome s pr (run (if b then give (source.Paused todo) else source.turn g is_due k todo) pr.who o m)
           by_due true eb = record {
             steps = 1;
-            at = moved g s q pr1 m;
+            state = moved g s q pr1 m;
             elsewhere = moved_elsewhere s pr1 m;
             runs = moved_runs s pr1 m;
             condition = at_same name_test s.condition q (Works pr1);

@@ -97,7 +97,7 @@ module _ (G : RunContext) (lf : BirthRights) (kids : ℕ → ℕ → BirthRights
       {n : Memory Plain}
       (t : St G lf kids q w since js o s n)
       (ss : Stmts) (sc : List Scope) (pl : Placed G.g Wr Rd lf.J sc js (In_stmt (Parallel ss))) (first : ℕ)
-      (stand : ChildrenAt G.g.program G.moves G.shares (StandsIn G.code) (HasFork G.code) (HasWords G.code) G.hush
+      (stand : ChildrenAt G.g.program G.moves G.shares (StandsIn G.code) (HasFork G.code) (HasWords G.code) G.callable
       true sc first ss) (value : ℤ) where
     abbrev p : Program
     p = G.g.program

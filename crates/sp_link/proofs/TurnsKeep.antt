@@ -72,7 +72,7 @@ module _ (g : RunInput) (free : IsFreeOfInterference g.program) (q : Name) (W R 
         tree = source.turn_step g due todo w o
 
         within : StaysWithin W R F tree
-        within = (next_action_from g q W R own reads free (fuel_of g o) z o.frames todo f).by w o n refl
+        within = (next_action_from g q W R own reads free (fuel_of g o) z o.frames todo f).proof w o n refl
 
         go : ((todo1 : List Item) (o1 : LocalState) (s1 : Store) → Fit g.program W R z o1.frames todo1
             → TurnKeeps s1 (run (source.turn g due k todo1) w o1 s1)) → (r : WorkOutcome Action × Store)

@@ -56,7 +56,7 @@ turn_known g turn since q (suc n) s t paused k h =
 
 -- all expressions of the program are pure
 pub pure_blocks : (G : RunContext) → AreBlocksPure G.g.program
-pure_blocks G = blocks_pure G.g.program G.values G.moves G.shares G.code G.hush G.blocks
+pure_blocks G = blocks_pure G.g.program G.values G.moves G.shares G.code G.callable G.blocks
 
 module _ (G : RunContext) (lf : BirthRights) (kids : ℕ → ℕ → BirthRights) (q : Name) (since : ℕ) where
   abbrev pub Wr : Loc → Type 0
@@ -106,7 +106,7 @@ module _ (G : RunContext) (lf : BirthRights) (kids : ℕ → ℕ → BirthRights
         within : StaysWithin Wr Rd F (action_of G.g p1)
         within = (next_action_from G.g q Wr Rd own_right z.fresh.reads G.free (fuel_of G.g p1.own) last p1.own.frames
             p1.todo
-            k.fit).by p1.who p1.own k.named refl
+            k.fit).proof p1.who p1.own k.named refl
 
         fair : Fair G.g.program Wr Rd last e o.frames
         fair = subst (λ (x : WorkOutcome Action × Store). Result F x.0) er
@@ -165,7 +165,8 @@ module _ (G : RunContext) (lf : BirthRights) (kids : ℕ → ℕ → BirthRights
 
     -- so no instruction of it lacks what it needs
     pub safe : IsSafe (ops G) G.code d
-    safe = subst (IsSafe (ops G) G.code) (sym z.is) (finishes_safe (ops G) G.code (At z.pc z.stack z.memory)
+    safe = subst (IsSafe (ops G) G.code) (sym z.configuration_is)
+        (finishes_safe (ops G) G.code (At z.pc z.stack z.memory)
         (turn_finishes (execution G lf kids q z.fresh pr.who z.named since) (At z.pc z.stack z.memory) lf.end []
         lf.below result turned ends))
 
@@ -175,6 +176,6 @@ module _ (G : RunContext) (lf : BirthRights) (kids : ℕ → ℕ → BirthRights
     -- a run of its instructions is a turn
     pub is_turn : (t : Machine_turn (Memory Plain)) → Runs (ops G) G.code (At z.pc z.stack z.memory) t
         → IsTurn (ops G) G.code d t
-    is_turn t r = subst (λ c. IsTurn (ops G) G.code c t) (sym z.is)
+    is_turn t r = subst (λ c. IsTurn (ops G) G.code c t) (sym z.configuration_is)
         (subst (λ b. BeginsOrFaults b (At z.pc z.stack z.memory) t (Runs (ops G) G.code (At z.pc z.stack z.memory) t))
         (sym fits_now) r)

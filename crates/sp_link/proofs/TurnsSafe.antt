@@ -31,5 +31,5 @@ module _ (G : RunContext) (lv : RightsOfAll G) (c : Course) (s : StateOf G.g) (u
       let en = entry G lv c s u l i d at in (
         Rattle.sp_code.specs.System.event_of G.g.limits u en.turn,
         Rattle.sp_code.specs.System.system_after_turn plain (run_is G) i en.turn u,
-        (d, at, en.turn, en.is, refl, refl),
+        (d, at, en.turn, en.is_turn, refl, refl),
       )

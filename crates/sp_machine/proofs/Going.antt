@@ -48,7 +48,7 @@ module _ (g : CodeRun) where
   ended : (c d : m.Config (Memory Plain)) (t : Turn (Memory Plain)) (n : ℕ) → frames_fit ops g.code c ≡ true
       → RunsIn ops g.code n c d → EndsSo ops g.code d t → IsTurn ops g.code c t
   ended c d t n b h k = subst (λ (x : Bool). BeginsOrFaults x c t (Runs ops g.code c t)) (sym b)
-      (d, record { steps = n; by = h }, k)
+      (d, record { steps = n; proof = h }, k)
 
   module _ (c : m.Config (Memory Plain)) (p q : State) (n : ℕ) (b : frames_fit ops g.code c ≡ true)
       (h : RunsIn ops g.code n c (config_of p)) (x : State) (code : Parts) (lim : Limits) (is : c ≡ config_of x)
@@ -118,7 +118,7 @@ module _ (x : State) (code : Parts) (lim : Limits) (p : State) (input : p.input 
   pub safe_next : (n : ℕ) → IsSafe (memory plain (setting_of x code lim)) code (config_of x)
       → frames_fit (memory plain (setting_of x code lim)) code (config_of x) ≡ true
       → RunsIn (memory plain (setting_of x code lim)) code n (config_of x) (config_of p) → next_of p code lim ≢ m.Stuck
-  safe_next n safe b h e = safe b (config_of p) (record { steps = n; by = h }) (sym same_next ∙ e)
+  safe_next n safe b h e = safe b (config_of p) (record { steps = n; proof = h }) (sym same_next ∙ e)
 
   -- where it goes on by two instructions
   to_both : (n : ℕ) → RunsIn (memory plain (setting_of x code lim)) code n (config_of x) (config_of p)
@@ -129,7 +129,7 @@ module _ (x : State) (code : Parts) (lim : Limits) (p : State) (input : p.input 
   pub safe_both : (n : ℕ) → IsSafe (memory plain (setting_of x code lim)) code (config_of x)
       → frames_fit (memory plain (setting_of x code lim)) code (config_of x) ≡ true
       → RunsIn (memory plain (setting_of x code lim)) code n (config_of x) (config_of p) → IsSafeThen p code lim
-  safe_both n safe b h d e s = safe b d (record { steps = suc n; by = to_both n h d e }) (sym (same_from d) ∙ s)
+  safe_both n safe b h d e s = safe b d (record { steps = suc n; proof = to_both n h d e }) (sym (same_from d) ∙ s)
 
   module _ (q : State) (n : ℕ) (safe : IsSafe (memory plain (setting_of x code lim)) code (config_of x))
       (b : frames_fit (memory plain (setting_of x code lim)) code (config_of x) ≡ true)
@@ -147,7 +147,7 @@ module _ (x : State) (code : Parts) (lim : Limits) (p : State) (input : p.input 
         < left_by code.instrs (ticks_left (setting_of x code lim)) (config_of p)
     smaller ranked c = falls (memory plain (setting_of x code lim)) code (ticks_left (setting_of x code lim))
         (spends plain (setting_of x code lim)) (config_of p) (config_of q)
-        (ranked (config_of p) (record { steps = n; by = h })) (goes_to c)
+        (ranked (config_of p) (record { steps = n; proof = h })) (goes_to c)
 
     pub on_both : WentTwice p code lim q
         → RunsIn (memory plain (setting_of x code lim)) code (suc (suc n)) (config_of x) (config_of q)
@@ -161,10 +161,10 @@ module _ (x : State) (code : Parts) (lim : Limits) (p : State) (input : p.input 
       arith,
       falls (memory plain (setting_of x code lim)) code (ticks_left (setting_of x code lim))
           (spends plain (setting_of x code lim)) (config_of p) w.0
-          (ranked (config_of p) (record { steps = n; by = h })) (sym same_next ∙ w.1.0),
+          (ranked (config_of p) (record { steps = n; proof = h })) (sym same_next ∙ w.1.0),
       falls (memory plain (setting_of x code lim)) code (ticks_left (setting_of x code lim))
           (spends plain (setting_of x code lim)) w.0 (config_of q)
-          (ranked w.0 (record { steps = suc n; by = to_both n h w.0 w.1.0 })) (sym (same_from w.0) ∙ w.1.1),
+          (ranked w.0 (record { steps = suc n; proof = to_both n h w.0 w.1.0 })) (sym (same_from w.0) ∙ w.1.1),
     )
 
     pub ends_it : (s : Stop) → StepMatches (next_of p code lim) p q (Some s) → IsTurnOf x code lim q s

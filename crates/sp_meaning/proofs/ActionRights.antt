@@ -53,32 +53,33 @@ use Rattle.sp_meaning.proofs.SoundParts.{last_shorter, linked_below, list_of, pu
 -- begun by q with these frames it keeps within W and R, and its value and the frames then have this fact
 pub record From {A : Type 0} (q : Name) (W R : Loc → Type 0) (fs : List Frame) (G : A → List Frame → Type 0)
     (h : Work A) : Type 0 where
-  pub by : (w : Identity) (o : LocalState) → w.name ≡ q → o.frames ≡ fs
+  pub proof : (w : Identity) (o : LocalState) → w.name ≡ q → o.frames ≡ fs
       → StaysWithin W R (λ a o1. G a o1.frames) (h w o)
 
 module _ (q : Name) (W R : Loc → Type 0) where
   pub after : {A B : Type 0} {F : A → Type 0} {G : B → List Frame → Type 0} {fs : List Frame} (h : Work A)
       (g : A → Work B) → KeepsRights q W R fs F h → ((a : A) → F a → From q W R fs G (g a)) → From q W R fs G (bind h g)
   after {F = F} {G = G} {fs = fs} h g a b = record {
-    by =
-        λ w o n e. within_then W R (λ x o1. (o1.frames ≡ fs) × F x) (λ x o1. G x o1.frames) (h w o) g w (a.by w o n e)
-        (λ x o1 f. (b x f.1).by w o1 n f.0);
+    proof =
+        λ w o n e. within_then W R (λ x o1. (o1.frames ≡ fs) × F x) (λ x o1. G x o1.frames) (h w o) g w
+        (a.proof w o n e)
+        (λ x o1 f. (b x f.1).proof w o1 n f.0);
   }
 
   pub after_from : {A B : Type 0} {F : A → List Frame → Type 0} {G : B → List Frame → Type 0} {fs : List Frame}
       (h : Work A) (g : A → Work B) → From q W R fs F h → ((a : A) (gs : List Frame) → F a gs → From q W R gs G (g a))
       → From q W R fs G (bind h g)
   after_from {F = F} {G = G} h g a b = record {
-    by =
-        λ w o n e. within_then W R (λ x o1. F x o1.frames) (λ x o1. G x o1.frames) (h w o) g w (a.by w o n e)
-        (λ x o1 f. (b x o1.frames f).by w o1 n refl);
+    proof =
+        λ w o n e. within_then W R (λ x o1. F x o1.frames) (λ x o1. G x o1.frames) (h w o) g w (a.proof w o n e)
+        (λ x o1 f. (b x o1.frames f).proof w o1 n refl);
   }
 
   pub gives : {A : Type 0} {G : A → List Frame → Type 0} {fs : List Frame} (a : A) → G a fs → From q W R fs G (give a)
-  gives {G = G} a f = record { by = λ w o n e. subst (λ z. G a z) (sym e) f }
+  gives {G = G} a f = record { proof = λ w o n e. subst (λ z. G a z) (sym e) f }
 
   pub fails : {A : Type 0} {G : A → List Frame → Type 0} {fs : List Frame} (f : Fault) → From q W R fs G (fail f)
-  fails f = record { by = λ w o n e. tt }
+  fails f = record { proof = λ w o n e. tt }
 
 -- low: what stands in the process's frames from this number on is its own to write
 module _ (set : RunInput) (q : Name) (W R : Loc → Type 0) (low : ℕ) (own : (n x : ℕ) → low ≤ n → W (Cell q n x))
@@ -92,7 +93,7 @@ module _ (set : RunInput) (q : Name) (W R : Loc → Type 0) (low : ℕ) (own : (
 
   module _ (fs : List Frame) where
     pub tick_stays : KeepsRights q W R fs Any (tick set.limits)
-    tick_stays = record { by = λ w o n e. go w o e (nat_lt o.ticks set.limits.ticks) }
+    tick_stays = record { proof = λ w o n e. go w o e (nat_lt o.ticks set.limits.ticks) }
       where
         go : (w : Identity) (o : LocalState) → o.frames ≡ fs → (b : Bool)
             → StaysWithin {A = Unit {0}} W R (λ a o1. (o1.frames ≡ fs) × Unit {0})
@@ -101,7 +102,7 @@ module _ (set : RunInput) (q : Name) (W R : Loc → Type 0) (low : ℕ) (own : (
         go w o e false = tt
 
     pub deepen_stays : KeepsRights q W R fs Any (deepen set.limits)
-    deepen_stays = record { by = λ w o n e. go w o e (nat_lt o.depth set.limits.depth) }
+    deepen_stays = record { proof = λ w o n e. go w o e (nat_lt o.depth set.limits.depth) }
       where
         go : (w : Identity) (o : LocalState) → o.frames ≡ fs → (b : Bool)
             → StaysWithin {A = Unit {0}} W R (λ a o1. (o1.frames ≡ fs) × Unit {0})
@@ -110,7 +111,7 @@ module _ (set : RunInput) (q : Name) (W R : Loc → Type 0) (low : ℕ) (own : (
         go w o e false = tt
 
     pub widen_stays : (m : ℕ) → KeepsRights q W R fs Any (widen set.limits m)
-    widen_stays m = record { by = λ w o n e. go w o e (nat_lt set.limits.cells (o.cells + m)) }
+    widen_stays m = record { proof = λ w o n e. go w o e (nat_lt set.limits.cells (o.cells + m)) }
       where
         go : (w : Identity) (o : LocalState) → o.frames ≡ fs → (b : Bool)
             → StaysWithin {A = Unit {0}} W R (λ a o1. (o1.frames ≡ fs) × Unit {0})
@@ -125,10 +126,10 @@ module _ (set : RunInput) (q : Name) (W R : Loc → Type 0) (low : ℕ) (own : (
 
     reach_keeps : Linked fs → (c : ℕ) → KeepsRights q W R fs (Encloses (Some c)) (link_to (is_block c))
     reach_keeps l c = record {
-      by = λ w o n e. subst
+      proof = λ w o n e. subst
           (λ z. StaysWithin W R (λ a o1. (o1.frames ≡ fs) × Encloses (Some c) a)
           (frame_link (seek (is_block c) (length z) z) w o)) (sym e)
-          ((found (seek (is_block c) (length fs) fs) refl).by w o n e);
+          ((found (seek (is_block c) (length fs) fs) refl).proof w o n e);
     }
       where
         found : (gs : List Frame) → seek (is_block c) (length fs) fs ≡ gs
@@ -145,7 +146,7 @@ module _ (set : RunInput) (q : Name) (W R : Loc → Type 0) (low : ℕ) (own : (
     lay_one_stays : (n : ℕ) → low ≤ n → (x : ℕ × Variable) (v : Option Value)
         → KeepsRights q W R fs Any (lay_one set n x v)
     lay_one_stays n h x None = give_stays q W R fs tt
-    lay_one_stays n h x (Some v) = record { by = λ w o m e. (own_cell w n x.0 h m, (e, tt)) }
+    lay_one_stays n h x (Some v) = record { proof = λ w o m e. (own_cell w n x.0 h m, (e, tt)) }
 
     pub lay_stays : (n : ℕ) → low ≤ n → (xs : List (ℕ × Variable)) → KeepsRights q W R fs Any (lay set n xs)
     lay_stays n h [] = give_stays q W R fs tt
@@ -158,11 +159,11 @@ module _ (set : RunInput) (q : Name) (W R : Loc → Type 0) (low : ℕ) (own : (
     copy_stays n h [] gs = give_stays q W R fs tt
     copy_stays n h (x ∷ xs) [] = give_stays q W R fs tt
     copy_stays n h (x ∷ xs) (ValueOf v ∷ gs) =
-        record { by = λ w o m e. (own_cell w n x h m, (copy_stays n h xs gs).by w o m e) }
+        record { proof = λ w o m e. (own_cell w n x h m, (copy_stays n h xs gs).proof w o m e) }
     copy_stays n h (x ∷ xs) (PlaceOf a ∷ gs) = copy_stays n h xs gs
 
     leave_from : From q W R fs (λ (u : Unit {0}) gs. gs ≡ frames_below fs) (leave set)
-    leave_from = record { by = λ w o n e. go o.frames o refl ∙ ap frames_below e }
+    leave_from = record { proof = λ w o n e. go o.frames o refl ∙ ap frames_below e }
       where
         go : (gs : List Frame) (o : LocalState) → o.frames ≡ gs → (without_frame set gs o).frames ≡ frames_below gs
         go [] o e = e
@@ -170,7 +171,7 @@ module _ (set : RunInput) (q : Name) (W R : Loc → Type 0) (low : ℕ) (own : (
 
     write_stays : W Output → (bs : List ℕ) → KeepsRights q W R fs Any (write set bs)
     write_stays out bs = record {
-      by = λ w o n e.
+      proof = λ w o n e.
           (reads Output out, λ h. go w o e h (nat_lt set.limits.output (length (bytes_in h) + length bs)));
     }
       where
@@ -181,7 +182,7 @@ module _ (set : RunInput) (q : Name) (W R : Loc → Type 0) (low : ℕ) (own : (
         go w o e h false = (out, (e, tt))
 
     advance_stays : W Input → (n : ℕ) → KeepsRights q W R fs Any (advance set n)
-    advance_stays a n = record { by = λ w o m e. (reads Input a, λ h. (a, (e, tt))) }
+    advance_stays a n = record { proof = λ w o m e. (reads Input a, λ h. (a, (e, tt))) }
 
     take_stays : W Input → (a : Address) → W a.spot → (x : ReadResult) → KeepsRights q W R fs Any (take_in set a x)
     take_stays i a u (Took n bytes) = then_stays q W R fs (advance set bytes) _ (advance_stays i bytes)
@@ -213,8 +214,8 @@ module _ (set : RunInput) (q : Name) (W R : Loc → Type 0) (low : ℕ) (own : (
       (λ u _. after q W R _ _ (widen_stays fs (size_of_frame set f)) (λ u _.
       after q W R _ _ (enclosing_keeps fs l b.parent)
       (λ link en. record {
-        by = λ w o n e.
-            (laid b is link en o.frames (subst (λ y. low ≤ length y) (sym e) high)).by w
+        proof = λ w o n e.
+            (laid b is link en o.frames (subst (λ y. low ≤ length y) (sym e) high)).proof w
             (pushed_frame set f link (references b.formals gs) w o) n (same b link en w o n e);
       })))))
     where
@@ -266,8 +267,8 @@ module _ (set : RunInput) (q : Name) (W R : Loc → Type 0) (low : ℕ) (own : (
     went todo f = gives q W R (Stepped todo) f
 
     -- after a tick
-    beat : (todo : List Item) → ItemsFit todo → Step (bind (tick set.limits) (λ u. give (Ticked todo)))
-    beat todo f = after q W R (tick set.limits) _ (tick_stays fs) (λ u _. gives q W R (Ticked todo) f)
+    go_on : (todo : List Item) → ItemsFit todo → Step (bind (tick set.limits) (λ u. give (Ticked todo)))
+    go_on todo f = after q W R (tick set.limits) _ (tick_stays fs) (λ u _. gives q W R (Ticked todo) f)
 
     add : (i : Item) (todo : List Item)
         → (ItemsAreSound set.program W R fs todo → ItemsAreSound set.program W R fs (i ∷ todo))
@@ -282,13 +283,13 @@ module _ (set : RunInput) (q : Name) (W R : Loc → Type 0) (low : ℕ) (own : (
         (λ y e. after q W R _ _ (address_of_keeps q W R fs set (location_of set.program fs x) y e) (λ a d.
         let w : W a.spot = so.allowed [] (Target x) (inl refl) x a.spot (refl, d) in
         after q W R _ _ (assign_stays q W R fs a (Ordinal n) (reads a.spot w) w) (λ u _.
-        beat (push s (Again x limit down s ∷ todo))
+        go_on (push s (Again x limit down s ∷ todo))
         (push_good set.program W R z fs s (Again x limit down s ∷ todo) (part (λ u. inr) so)
         (add (Again x limit down s) todo (λ r. (so, r)) refl f)))))
 
     fork_from : (ss : List Stmt) (bs : List Birth) (todo : List Item) → Born set.program W R fs ss bs → ItemsFit todo
         → Step (fork set bs todo)
-    fork_from ss bs todo b f = record { by = λ w o n e. go w o n e (nat_lt o.depth set.limits.depth) }
+    fork_from ss bs todo b f = record { proof = λ w o n e. go w o n e (nat_lt o.depth set.limits.depth) }
       where
         go : (w : Identity) (o : LocalState) → w.name ≡ q → o.frames ≡ fs → (c : Bool)
             → StaysWithin W R (λ d o1. Fair set.program W R z d o1.frames)
@@ -349,10 +350,10 @@ module _ (set : RunInput) (q : Name) (W R : Loc → Type 0) (low : ℕ) (own : (
           go : (b : Bool) → Step (if b then give (Stepped todo) else
               bind (tick set.limits) (λ u. give (Ticked (push s (Do (While e s) ∷ todo)))))
           go true = went todo f
-          go false = beat (push s (Do (While e s) ∷ todo))
+          go false = go_on (push s (Do (While e s) ∷ todo))
               (push_good set.program W R z fs s (Do (While e s) ∷ todo) (part (λ u. inr) so)
               (add_do set.program W R z fs (While e s) todo so f))
-      start_from (Repeat s e) todo so f = beat (push s (Test s e ∷ todo))
+      start_from (Repeat s e) todo so f = go_on (push s (Test s e ∷ todo))
           (push_good set.program W R z fs s (Test s e ∷ todo) (part (λ u. inr) so)
           (add (Test s e) todo (λ r. (so, r)) refl f))
       start_from (For x from down to s) todo so f =
@@ -413,7 +414,7 @@ module _ (set : RunInput) (q : Name) (W R : Loc → Type 0) (low : ℕ) (own : (
           (λ bs _. printed bs todo (output_written q W R fs set free reads so (inl refl)) f))
       start_from WriteLine todo so f = printed (10 ∷ []) todo (output_written q W R fs set free reads so (inl refl)) f
       start_from (Open v) todo so f = after q W R _ _ (target v (part (λ u. inl) so))
-          (λ a w. record { by = λ y o n e. (opened a w y).by y o n e })
+          (λ a w. record { proof = λ y o n e. (opened a w y).proof y o n e })
         where
           opened : (a : Address) → W a.spot → (y : Identity)
               → Step (bind (assign a (Chan (record { owner = y.name; nth = y.opens }))) (λ u. give (Opened todo)))
@@ -487,7 +488,7 @@ module _ (set : RunInput) (q : Name) (W R : Loc → Type 0) (low : ℕ) (own : (
   settle_from z fs (Break x ∷ todo) f = gives q W R (Break x ∷ todo) f
 
   pub record AllKeep (n : ℕ) : Type 0 where
-    pub by : (z fs : List Frame) (todo : List Item) → low ≤ length z → Fit set.program W R z fs todo
+    pub proof : (z fs : List Frame) (todo : List Item) → low ≤ length z → Fit set.program W R z fs todo
         → From q W R fs (λ (xs : List Item) gs. gs ≡ z) (run_items set n todo)
 
   at_same : {A : Type 0} (G : A → List Frame → Type 0) (fs gs : List Frame) (h : Work A) → gs ≡ fs → From q W R fs G h
@@ -537,8 +538,8 @@ module _ (set : RunInput) (q : Name) (W R : Loc → Type 0) (low : ℕ) (own : (
   pub call_keeps : (n : ℕ) → AllKeep n → (fs : List Frame) → low ≤ length fs → Linked fs
       → CallsKeep q W R fs set free reads (call_by set (run_items set n))
   call_keeps n ih fs high l = record {
-    by = λ f args gs so gave.
-        record { by = λ w o m e. (whole f args gs so gave).by w o m e };
+    proof = λ f args gs so gave.
+        record { proof = λ w o m e. (whole f args gs so gave).proof w o m e };
   }
     where
       Ended : Value → List Frame → Type 0
@@ -558,7 +559,7 @@ module _ (set : RunInput) (q : Name) (W R : Loc → Type 0) (low : ℕ) (own : (
           → Gave set.program fs args gs → From q W R fs Ended
           (bind (enter set f gs) (λ b. bind (run_items set n (push b.body [])) (λ rest. finish b)))
       whole f args gs so gave = after_from q W R _ _ (enter_from fs high f args gs l so gave) (λ b hs h.
-          after_from q W R _ _ (ih.by hs hs (push b.body []) (higher hs h.3 h.4)
+          after_from q W R _ _ (ih.proof hs hs (push b.body []) (higher hs h.3 h.4)
           (push_good set.program W R hs hs b.body [] h.2 (record { linked = h.1; ready = tt; ends = refl })))
           (λ rest is e. at_same Ended hs is (finish b) e (finished f b hs h)))
 
@@ -571,17 +572,17 @@ module _ (set : RunInput) (q : Name) (W R : Loc → Type 0) (low : ℕ) (own : (
     where
       go : (d : Action) (gs : List Frame) → Fair set.program W R z d gs
           → From q W R gs (λ (xs : List Item) hs. hs ≡ z) (bind (items_after set d) (run_items set n))
-      go (Stepped todo1) gs h = record { by = λ w o m e. (ih.by z gs todo1 high h).by w o m e }
-      go (Ticked todo1) gs h = record { by = λ w o m e. (ih.by z gs todo1 high h).by w o m e }
-      go (Opened todo1) gs h = record { by = λ w o m e. tt }
-      go (Forked bs todo1) gs h = record { by = λ w o m e. tt }
-      go (Offered c k g todo1) gs h = record { by = λ w o m e. tt }
-      go deeds.Ended gs h = record { by = λ w o m e. tt }
+      go (Stepped todo1) gs h = record { proof = λ w o m e. (ih.proof z gs todo1 high h).proof w o m e }
+      go (Ticked todo1) gs h = record { proof = λ w o m e. (ih.proof z gs todo1 high h).proof w o m e }
+      go (Opened todo1) gs h = record { proof = λ w o m e. tt }
+      go (Forked bs todo1) gs h = record { proof = λ w o m e. tt }
+      go (Offered c k g todo1) gs h = record { proof = λ w o m e. tt }
+      go deeds.Ended gs h = record { proof = λ w o m e. tt }
 
   pub all_keep : (n : ℕ) → AllKeep n
-  all_keep zero = record { by = λ z fs todo high f. record { by = λ w o m e. tt } }
+  all_keep zero = record { proof = λ z fs todo high f. record { proof = λ w o m e. tt } }
   all_keep (suc n) = record {
-    by = λ z fs todo high f. after_from q W R _ _ (settle_from z fs todo f)
+    proof = λ z fs todo high f. after_from q W R _ _ (settle_from z fs todo f)
         (λ todo1 gs g. rest_by_from n (all_keep n) z gs todo1 high g);
   }
 

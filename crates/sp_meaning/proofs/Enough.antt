@@ -71,30 +71,30 @@ ends_weaker u t (WriteThen l v more) le h = ends_weaker u t more le h
 
 -- begun with t ticks or more it ends so
 pub record Steady {A : Type 0} (t : ℕ) (h : Work A) : Type 0 where
-  pub by : (w : Identity) (o : LocalState) → t ≤ o.ticks → EndsInTicks t Any (h w o)
+  pub proof : (w : Identity) (o : LocalState) → t ≤ o.ticks → EndsInTicks t Any (h w o)
 
 pub then_steady : {A B : Type 0} (t : ℕ) (h : Work A) (g : A → Work B) → Steady t h → ((a : A) → Steady t (g a))
     → Steady t (bind h g)
 then_steady t h g a b = record {
-  by = λ w o le. ends_then t Any Any (h w o) g w (a.by w o le)
-      (λ x o1 l1 u. (b x).by w o1 l1);
+  proof = λ w o le. ends_then t Any Any (h w o) g w (a.proof w o le)
+      (λ x o1 l1 u. (b x).proof w o1 l1);
 }
 
 module _ (t : ℕ) where
   pub give_steady : {A : Type 0} (a : A) → Steady t (give a)
-  give_steady a = record { by = λ w o le. (le, tt) }
+  give_steady a = record { proof = λ w o le. (le, tt) }
 
   pub fail_steady : (A : Type 0) (f : Fault) → Steady {A = A} t (fail f)
-  fail_steady A f = record { by = λ w o le. tt }
+  fail_steady A f = record { proof = λ w o le. tt }
 
   pub lost_steady : (A : Type 0) → Steady {A = A} t ill_formed
-  lost_steady A = record { by = λ w o le. tt }
+  lost_steady A = record { proof = λ w o le. tt }
 
   pub look_steady : (l : Loc) → Steady t (read_location l)
-  look_steady l = record { by = λ w o le h. (le, tt) }
+  look_steady l = record { proof = λ w o le h. (le, tt) }
 
   pub put_steady : (l : Loc) (h : LocationContent) → Steady t (write_location l h)
-  put_steady l h = record { by = λ w o le. (le, tt) }
+  put_steady l h = record { proof = λ w o le. (le, tt) }
 
   pub or_lost_steady : {A : Type 0} (x : Option A) → Steady t (or_ill_formed x)
   or_lost_steady {A} None = lost_steady A
@@ -111,10 +111,10 @@ module _ (t : ℕ) where
   assign_steady a v = then_steady t (read_location a.spot) _ (look_steady a.spot) (λ h. put_steady a.spot _)
 
   pub visible_steady : (fits : Home → Bool) → Steady t (visible_frame fits)
-  visible_steady fits = record { by = λ w o le. (or_lost_steady (find_visible fits o.frames)).by w o le }
+  visible_steady fits = record { proof = λ w o le. (or_lost_steady (find_visible fits o.frames)).proof w o le }
 
   pub reach_steady : (fits : Home → Bool) → Steady t (link_to fits)
-  reach_steady fits = record { by = λ w o le. go w o le (seek fits (length o.frames) o.frames) }
+  reach_steady fits = record { proof = λ w o le. go w o le (seek fits (length o.frames) o.frames) }
     where
       go : (w : Identity) (o : LocalState) → t ≤ o.ticks → (fs : List Frame) → EndsInTicks t Any (frame_link fs w o)
       go w o le [] = tt
@@ -263,7 +263,7 @@ module _ (t : ℕ) where
     as_ordinal_steady h st = then_steady t h _ st (λ v. ordinal_steady v)
 
     pub record CallsEnd (call : Calls) : Type 0 where
-      pub by : (f : ℕ) (gs : List ArgumentValue) → Steady t (call f gs)
+      pub proof : (f : ℕ) (gs : List ArgumentValue) → Steady t (call f gs)
 
     mutual
       pub value_steady : (call : Calls) → CallsEnd call → (e : Expr) → Steady t (value g call e)
@@ -278,7 +278,7 @@ module _ (t : ℕ) where
           then_steady t (value g call a) _ (value_steady call ok a)
           (λ v. then_steady t (value g call b) _ (value_steady call ok b) (λ w. binary_steady op v w))
       form_steady call ok k (Apply f args) =
-          then_steady t (actuals g call args) _ (actuals_steady call ok args) (λ gs. ok.by f gs)
+          then_steady t (actuals g call args) _ (actuals_steady call ok args) (λ gs. ok.proof f gs)
       form_steady call ok k (Standard f a) =
           then_steady t (as_ordinal (value g call a)) _ (as_ordinal_steady _ (value_steady call ok a))
           (λ n. then_steady t (kind_at g k) _ (kind_steady k) (λ u. standard_steady f u n))

@@ -52,24 +52,24 @@ ends_strong u t F G (WriteThen l v more) le f h = ends_strong u t F G more le f 
 
 -- begun with t ticks or more it ends so, with this fact
 pub record From {A : Type 0} (t : ℕ) (G : A → LocalState → Type 0) (h : Work A) : Type 0 where
-  pub by : (w : Identity) (o : LocalState) → t ≤ o.ticks → EndsInTicks t G (h w o)
+  pub proof : (w : Identity) (o : LocalState) → t ≤ o.ticks → EndsInTicks t G (h w o)
 
 after : {A B : Type 0} (t : ℕ) (G : B → LocalState → Type 0) (h : Work A) (g : A → Work B) → Steady t h
     → ((a : A) → From t G (g a)) → From t G (bind h g)
 after t G h g st next = record {
-  by = λ w o le. ends_then t Any G (h w o) g w (st.by w o le)
-      (λ a o1 l u. (next a).by w o1 l);
+  proof = λ w o le. ends_then t Any G (h w o) g w (st.proof w o le)
+      (λ a o1 l u. (next a).proof w o1 l);
 }
 
 after_fact : {A B : Type 0} (t : ℕ) (F : A → LocalState → Type 0) (G : B → LocalState → Type 0) (h : Work A)
     (g : A → Work B)
     → From t F h → ((w : Identity) (a : A) (o : LocalState) → t ≤ o.ticks → F a o → EndsInTicks t G (g a w o))
     → From t G (bind h g)
-after_fact t F G h g st next = record { by = λ w o le. ends_then t F G (h w o) g w (st.by w o le) (next w) }
+after_fact t F G h g st next = record { proof = λ w o le. ends_then t F G (h w o) g w (st.proof w o le) (next w) }
 
 module _ (g : RunInput) (t : ℕ) where
   deepen_steady : Steady t (deepen g.limits)
-  deepen_steady = record { by = λ w o le. go w o le (nat_lt o.depth g.limits.depth) }
+  deepen_steady = record { proof = λ w o le. go w o le (nat_lt o.depth g.limits.depth) }
     where
       go : (w : Identity) (o : LocalState) → t ≤ o.ticks → (b : Bool)
           → EndsInTicks {A = Unit {0}} t Any (if b then set_local_state (record o { depth = o.depth + 1 }) w o else fail
@@ -78,7 +78,7 @@ module _ (g : RunInput) (t : ℕ) where
       go w o le false = tt
 
   widen_steady : (n : ℕ) → Steady t (widen g.limits n)
-  widen_steady n = record { by = λ w o le. go w o le (nat_lt g.limits.cells (o.cells + n)) }
+  widen_steady n = record { proof = λ w o le. go w o le (nat_lt g.limits.cells (o.cells + n)) }
     where
       go : (w : Identity) (o : LocalState) → t ≤ o.ticks → (b : Bool)
           → EndsInTicks {A = Unit {0}} t Any
@@ -92,7 +92,7 @@ module _ (g : RunInput) (t : ℕ) where
 
   lay_one_steady : (n : ℕ) (x : ℕ × Variable) (v : Option Value) → Steady t (lay_one g n x v)
   lay_one_steady n x None = give_steady t tt
-  lay_one_steady n x (Some v) = record { by = λ w o le. (le, tt) }
+  lay_one_steady n x (Some v) = record { proof = λ w o le. (le, tt) }
 
   lay_steady : (n : ℕ) (xs : List (ℕ × Variable)) → Steady t (lay g n xs)
   lay_steady n [] = give_steady t tt
@@ -102,18 +102,21 @@ module _ (g : RunInput) (t : ℕ) where
   copy_steady : (n : ℕ) (xs : List ℕ) (gs : List ArgumentValue) → Steady t (copy_in g n xs gs)
   copy_steady n [] gs = give_steady t tt
   copy_steady n (x ∷ xs) [] = give_steady t tt
-  copy_steady n (x ∷ xs) (ValueOf v ∷ gs) = record { by = λ w o le. (copy_steady n xs gs).by w o le }
+  copy_steady n (x ∷ xs) (ValueOf v ∷ gs) = record { proof = λ w o le. (copy_steady n xs gs).proof w o le }
   copy_steady n (x ∷ xs) (PlaceOf a ∷ gs) = copy_steady n xs gs
 
   leave_steady : Steady t (leave g)
-  leave_steady = record { by = λ w o le. go o.frames o le }
+  leave_steady = record { proof = λ w o le. go o.frames o le }
     where
       go : (fs : List Frame) (o : LocalState) → t ≤ o.ticks → (t ≤ (without_frame g fs o).ticks) × Unit {0}
       go [] o le = (le, tt)
       go (f ∷ fs) o le = (le, tt)
 
   write_steady : (bs : List ℕ) → Steady t (write g bs)
-  write_steady bs = record { by = λ w o le h. go w o le h (nat_lt g.limits.output (length (bytes_in h) + length bs)) }
+  write_steady bs = record {
+    proof = λ w o le h. go w o le h
+        (nat_lt g.limits.output (length (bytes_in h) + length bs));
+  }
     where
       go : (w : Identity) (o : LocalState) → t ≤ o.ticks → (h : LocationContent) → (b : Bool)
           → EndsInTicks {A = Unit {0}} t Any
@@ -122,7 +125,7 @@ module _ (g : RunInput) (t : ℕ) where
       go w o le h false = (le, tt)
 
   advance_steady : (n : ℕ) → Steady t (advance g n)
-  advance_steady n = record { by = λ w o le h. (le, tt) }
+  advance_steady n = record { proof = λ w o le h. (le, tt) }
 
   take_steady : (a : Address) (x : ReadResult) → Steady t (take_in g a x)
   take_steady a (Took n bytes) = then_steady t (advance g bytes) _ (advance_steady bytes)
@@ -135,7 +138,7 @@ module _ (g : RunInput) (t : ℕ) where
 
   in_width_steady : (cut : Bool) (bs : List ℕ) (w : Option ℤ) → Steady t (in_width cut bs w)
   in_width_steady cut bs None = give_steady t bs
-  in_width_steady cut bs (Some m) = record { by = λ w o le. go w o le (int_le m (pos 0)) }
+  in_width_steady cut bs (Some m) = record { proof = λ w o le. go w o le (int_le m (pos 0)) }
     where
       go : (w : Identity) (o : LocalState) → t ≤ o.ticks → (b : Bool)
           → EndsInTicks {A = List ℕ} t Any ((if b then fail fault.F1 else
@@ -161,13 +164,13 @@ module _ (g : RunInput) (k : ℕ) where
       omega (arith, mul-le-mul_left (k + 3) e)
 
   pub record Light : Type 0 where
-    pub by : (f : ℕ) → LightBlock k (slice_get g.program.blocks f)
+    pub proof : (f : ℕ) → LightBlock k (slice_get g.program.blocks f)
 
   abbrev Ticked : {A : Type 0} → ℕ → A → LocalState → Type 0
   Ticked t a o = (t < g.limits.ticks) × (t + 1 ≤ o.ticks)
 
   tick_ends : (t : ℕ) → From t (Ticked {A = Unit {0}} t) (tick g.limits)
-  tick_ends t = record { by = λ w o le. go w o le (nat_lt o.ticks g.limits.ticks) refl }
+  tick_ends t = record { proof = λ w o le. go w o le (nat_lt o.ticks g.limits.ticks) refl }
     where
       go : (w : Identity) (o : LocalState) → t ≤ o.ticks → (b : Bool) → nat_lt o.ticks g.limits.ticks ≡ b
           → EndsInTicks {A = Unit {0}} t (Ticked t)
@@ -195,25 +198,25 @@ module _ (g : RunInput) (k : ℕ) where
   rest_ends t f gs b wb =
       after t Is _ _ (deepen_steady g t) (λ u. after t Is _ _ (widen_steady g t (size_of_frame g f))
       (λ u. after t Is _ _ (enclosing_steady g t b.parent)
-      (λ link. record { by = λ w o le. (laid o).by w (pushed_frame g f link (references b.formals gs) w o) le })))
+      (λ link. record { proof = λ w o le. (laid o).proof w (pushed_frame g f link (references b.formals gs) w o) le })))
     where
       laid : (o : LocalState) → From t Is (bind (lay g (length o.frames) (variables_of f 0 g.program.variables))
           (λ u. bind (copy_in g (length o.frames) b.formals gs) (λ u. give b)))
       laid o = after t Is _ _ (lay_steady g t (length o.frames) (variables_of f 0 g.program.variables))
           (λ u. after t Is _ _ (copy_steady g t (length o.frames) b.formals gs)
-          (λ u. record { by = λ w o1 le. (le, wb) }))
+          (λ u. record { proof = λ w o1 le. (le, wb) }))
 
   enter_ends : Light → (t f : ℕ) (gs : List ArgumentValue) → From t (EnteredInTicks t) (enter g f gs)
-  enter_ends l t f gs = go (slice_get g.program.blocks f) (l.by f)
+  enter_ends l t f gs = go (slice_get g.program.blocks f) (l.proof f)
     where
       go : (x : Option Block) → LightBlock k x
           → From t (EnteredInTicks t) (bind (or_ill_formed x) (λ b. bind (tick g.limits) (λ u. rest_of f gs b)))
-      go None h = record { by = λ w o le. tt }
+      go None h = record { proof = λ w o le. tt }
       go (Some b) wb = record {
-        by = λ w o le.
+        proof = λ w o le.
             (after_fact t (Ticked t) (EnteredInTicks t) (tick g.limits) (λ u. rest_of f gs b) (tick_ends t)
             (λ w1 u o1 l1 h. ends_strong (t + 1) t Is (EnteredInTicks t) (rest_of f gs b w1 o1) (omega arith)
-            (λ c o2 l2 i. (i, h.0, l2)) ((rest_ends (t + 1) f gs b wb).by w1 o1 h.1))).by w o le;
+            (λ c o2 l2 i. (i, h.0, l2)) ((rest_ends (t + 1) f gs b wb).proof w1 o1 h.1))).proof w o le;
       }
 
   -- a step takes from what is left
@@ -230,12 +233,12 @@ module _ (g : RunInput) (k : ℕ) where
 
   went : (t w : ℕ) (todo : List Item) → weights todo < w → AreLight k todo
       → From t (ActionFalls t w) (give (Stepped todo))
-  went t w todo h f = record { by = λ w o le. (le, (omega (arith, budget_mono t o.ticks le), f)) }
+  went t w todo h f = record { proof = λ w o le. (le, (omega (arith, budget_mono t o.ticks le), f)) }
 
   -- after a tick
-  beat : (t w : ℕ) (todo : List Item) → weights todo < w + (k + 3) → AreLight k todo
+  go_on : (t w : ℕ) (todo : List Item) → weights todo < w + (k + 3) → AreLight k todo
       → From t (ActionFalls t w) (bind (tick g.limits) (λ u. give (deeds.Ticked todo)))
-  beat t w todo h f = after_fact t (Ticked t) (ActionFalls t w) (tick g.limits) (λ u. give (deeds.Ticked todo))
+  go_on t w todo h f = after_fact t (Ticked t) (ActionFalls t w) (tick g.limits) (λ u. give (deeds.Ticked todo))
       (tick_ends t)
       (λ w u o1 l1 i. (l1, (omega (arith, budget_tick t o1.ticks i.0 i.1), f)))
 
@@ -245,12 +248,12 @@ module _ (g : RunInput) (k : ℕ) where
       after t (ActionFalls t w) _ _ (place_of_steady t g x)
       (λ q. after t (ActionFalls t w) _ _ (address_of_steady t g q)
       (λ a. after t (ActionFalls t w) _ _ (assign_steady t a (Ordinal n)) (λ u.
-      beat t w (push s (Again x limit down s ∷ todo)) (omega (arith, push_weight s (Again x limit down s ∷ todo)))
+      go_on t w (push s (Again x limit down s ∷ todo)) (omega (arith, push_weight s (Again x limit down s ∷ todo)))
       (push_fit k s (Again x limit down s ∷ todo) (omega arith) (h, f)))))
 
   fork_ends : (t v : ℕ) (bs : List Birth) (todo : List Item) → AllBorn k bs → AreLight k todo
       → From t (ActionFalls t v) (fork g bs todo)
-  fork_ends t v bs todo born f = record { by = λ w o le. go w o le (nat_lt o.depth g.limits.depth) }
+  fork_ends t v bs todo born f = record { proof = λ w o le. go w o le (nat_lt o.depth g.limits.depth) }
     where
       go : (w : Identity) (o : LocalState) → t ≤ o.ticks → (b : Bool)
           → EndsInTicks t (ActionFalls t v) ((if b then give (Forked bs todo) else fail fault.F11) w o)
@@ -258,7 +261,7 @@ module _ (g : RunInput) (k : ℕ) where
       go w o le false = tt
 
   fails : (t w : ℕ) (f : Fault) → From t (ActionFalls t w) (fail f)
-  fails t w f = record { by = λ w o le. tt }
+  fails t w f = record { proof = λ w o le. tt }
 
   start_ends : Light → (call : Calls) (t : ℕ) → CallsEnd t g call → (s : Stmt) (todo : List Item) → weight s ≤ k
       → AreLight k todo → From t (ActionFalls t (weight s + weights todo)) (statement_action g call s todo)
@@ -308,11 +311,11 @@ module _ (g : RunInput) (k : ℕ) where
           ((if b then give (Stepped todo) else
           bind (tick g.limits) (λ u. give (deeds.Ticked (push s (Do (While e s) ∷ todo))))))
       go true = went t (weight (While e s) + weights todo) todo (omega arith) f
-      go false = beat t (weight (While e s) + weights todo) (push s (Do (While e s) ∷ todo))
+      go false = go_on t (weight (While e s) + weights todo) (push s (Do (While e s) ∷ todo))
           (omega (arith, push_weight s (Do (While e s) ∷ todo)))
           (push_fit k s (Do (While e s) ∷ todo) (omega arith) (w, f))
   start_ends l call t ok (Repeat s e) todo w f =
-      beat t (weight (Repeat s e) + weights todo) (push s (Test s e ∷ todo))
+      go_on t (weight (Repeat s e) + weights todo) (push s (Test s e ∷ todo))
       (omega (arith, push_weight s (Test s e ∷ todo))) (push_fit k s (Test s e ∷ todo) (omega arith) (w, f))
   start_ends l call t ok (For x from down to s) todo w f =
       after t (ActionFalls t (weight (For x from down to s) + weights todo)) _ _ (ordinal_of_steady t g call ok from)
@@ -385,24 +388,24 @@ module _ (g : RunInput) (k : ℕ) where
       (λ u. went t (weight WriteLine + weights todo) todo (omega arith) f)
   start_ends l call t ok (Open v) todo w f =
       after t (ActionFalls t (weight (Open v) + weights todo)) _ _ (address_steady t g call ok v)
-      (λ a. record { by = λ w o le. (opened a w).by w o le })
+      (λ a. record { proof = λ w o le. (opened a w).proof w o le })
     where
       opened : (a : Address) (o : Identity) → From t (ActionFalls t (1 + weights todo))
           (bind (assign a (Chan (record { owner = o.name; nth = o.opens }))) (λ u. give (Opened todo)))
       opened a o = after t (ActionFalls t (1 + weights todo))
           (assign a (Chan (record { owner = o.name; nth = o.opens })))
           (λ u. give (Opened todo)) (assign_steady t a (Chan (record { owner = o.name; nth = o.opens })))
-          (λ u. record { by = λ w o1 l1. (l1, f) })
+          (λ u. record { proof = λ w o1 l1. (l1, f) })
   start_ends l call t ok (Send c (Typed i form)) todo w f =
       after t (ActionFalls t (weight (Send c (Typed i form)) + weights todo)) _ _ (value_steady t g call ok c)
       (λ v. after t (ActionFalls t (weight (Send c (Typed i form)) + weights todo)) _ _ (channel_steady t v)
       (λ to. after t (ActionFalls t (weight (Send c (Typed i form)) + weights todo)) _ _
-      (value_steady t g call ok (Typed i form)) (λ x. record { by = λ w o1 l1. (l1, f) })))
+      (value_steady t g call ok (Typed i form)) (λ x. record { proof = λ w o1 l1. (l1, f) })))
   start_ends l call t ok (Receive c x) todo w f =
       after t (ActionFalls t (weight (Receive c x) + weights todo)) _ _ (value_steady t g call ok c)
       (λ v. after t (ActionFalls t (weight (Receive c x) + weights todo)) _ _ (channel_steady t v)
       (λ from. after t (ActionFalls t (weight (Receive c x) + weights todo)) _ _ (address_steady t g call ok x)
-      (λ a. record { by = λ w o1 l1. (l1, f) })))
+      (λ a. record { proof = λ w o1 l1. (l1, f) })))
 
   act_ends : Light → (call : Calls) (t : ℕ) → CallsEnd t g call → (i : Item) (todo : List Item) → AreLight k (i ∷ todo)
       → From t (ActionFalls t (weights (i ∷ todo))) (item_action g call i todo)
@@ -429,25 +432,25 @@ module _ (g : RunInput) (k : ℕ) where
   Settled w todo o = (weights todo ≤ w) × AreLight k todo
 
   settle_ends : (t : ℕ) (todo : List Item) → AreLight k todo → From t (Settled (weights todo)) (settle g todo)
-  settle_ends t [] f = record { by = λ w o le. (le, (omega arith, f)) }
-  settle_ends t (Do s ∷ todo) f = record { by = λ w o le. (le, (omega arith, f)) }
-  settle_ends t (First x m n down s ∷ todo) f = record { by = λ w o le. (le, (omega arith, f)) }
+  settle_ends t [] f = record { proof = λ w o le. (le, (omega arith, f)) }
+  settle_ends t (Do s ∷ todo) f = record { proof = λ w o le. (le, (omega arith, f)) }
+  settle_ends t (First x m n down s ∷ todo) f = record { proof = λ w o le. (le, (omega arith, f)) }
   settle_ends t (Again x n down s ∷ todo) f =
       after t (Settled (1 + weights todo)) _ _ (peek_steady g t x) (λ v. go (goes_on down n v) (settle_ends t todo f.1))
     where
       go : (b : Bool) → From t (Settled (weights todo)) (settle g todo)
           → From t (Settled (1 + weights todo)) (if b then give (Again x n down s ∷ todo) else settle g todo)
-      go true h = record { by = λ w o le. (le, (omega arith, f)) }
+      go true h = record { proof = λ w o le. (le, (omega arith, f)) }
       go false h = record {
-        by = λ w o le. ends_strong t t (Settled (weights todo)) (Settled (1 + weights todo))
-            (settle g todo w o) (omega arith) (λ xs o1 l1 i. (omega (arith, i.0), i.1)) (h.by w o le);
+        proof = λ w o le. ends_strong t t (Settled (weights todo)) (Settled (1 + weights todo))
+            (settle g todo w o) (omega arith) (λ xs o1 l1 i. (omega (arith, i.0), i.1)) (h.proof w o le);
       }
-  settle_ends t (Test s e ∷ todo) f = record { by = λ w o le. (le, (omega arith, f)) }
-  settle_ends t (Leave ∷ todo) f = record { by = λ w o le. (le, (omega arith, f)) }
-  settle_ends t (Break x ∷ todo) f = record { by = λ w o le. (le, (omega arith, f)) }
+  settle_ends t (Test s e ∷ todo) f = record { proof = λ w o le. (le, (omega arith, f)) }
+  settle_ends t (Leave ∷ todo) f = record { proof = λ w o le. (le, (omega arith, f)) }
+  settle_ends t (Break x ∷ todo) f = record { proof = λ w o le. (le, (omega arith, f)) }
 
   pub record AllEnd (n : ℕ) : Type 0 where
-    pub by : (todo : List Item) (w : Identity) (o : LocalState) → AreLight k todo → budget o.ticks + weights todo < n
+    pub proof : (todo : List Item) (w : Identity) (o : LocalState) → AreLight k todo → budget o.ticks + weights todo < n
         → EndsInTicks o.ticks Any (run_items g n todo w o)
 
   answer_steady : (t : ℕ) (x : Option ℕ) → Steady t (function_result g x)
@@ -456,14 +459,14 @@ module _ (g : RunInput) (k : ℕ) where
 
   call_ends : Light → (n : ℕ) → AllEnd n → (t : ℕ) → budget t ≤ n → CallsEnd t g (call_by g (run_items g n))
   call_ends l n ih t le = record {
-    by = λ f gs. record {
-      by = λ w o lo. (after_fact t (EnteredInTicks t) Any (enter g f gs) (ending f) (enter_ends l t f gs)
+    proof = λ f gs. record {
+      proof = λ w o lo. (after_fact t (EnteredInTicks t) Any (enter g f gs) (ending f) (enter_ends l t f gs)
           (λ w1 b o1 l1 h.
           ends_then t Any Any (run_items g n (push b.body []) w1 o1) (finish b) w1
           (ends_weaker o1.ticks t (run_items g n (push b.body []) w1 o1) l1
-          (ih.by (push b.body []) w1 o1 (push_fit k b.body [] h.0 tt)
+          (ih.proof (push b.body []) w1 o1 (push_fit k b.body [] h.0 tt)
           (omega (arith, budget_tick t o1.ticks h.1 h.2, push_weight b.body [], h.0, le))))
-          (λ rest o2 l2 u. (finished b).by w1 o2 l2))).by w o lo;
+          (λ rest o2 l2 u. (finished b).proof w1 o2 l2))).proof w o lo;
     };
   }
     where
@@ -484,7 +487,7 @@ module _ (g : RunInput) (k : ℕ) where
   rest_by_ends l n ih (i ∷ todo) w o f h =
       ends_then o.ticks (ActionFalls o.ticks (weights (i ∷ todo))) Any
       (item_action g (call_by g (run_items g n)) i todo w o) onward w
-      ((act_ends l _ o.ticks (call_ends l n ih o.ticks (omega arith)) i todo f).by w o (omega arith)) go
+      ((act_ends l _ o.ticks (call_ends l n ih o.ticks (omega arith)) i todo f).proof w o (omega arith)) go
     where
       onward : Action → Work (List Item)
       onward d = bind (items_after g d) (run_items g n)
@@ -492,9 +495,9 @@ module _ (g : RunInput) (k : ℕ) where
       go : (d : Action) (o1 : LocalState) → o.ticks ≤ o1.ticks → ActionFalls o.ticks (weights (i ∷ todo)) d o1
           → EndsInTicks o.ticks Any (bind (items_after g d) (run_items g n) w o1)
       go (Stepped todo1) o1 le d = ends_weaker o1.ticks o.ticks (run_items g n todo1 w o1) le
-          (ih.by todo1 w o1 d.1 (omega (arith, d.0, h)))
+          (ih.proof todo1 w o1 d.1 (omega (arith, d.0, h)))
       go (deeds.Ticked todo1) o1 le d = ends_weaker o1.ticks o.ticks (run_items g n todo1 w o1) le
-          (ih.by todo1 w o1 d.1 (omega (arith, d.0, h)))
+          (ih.proof todo1 w o1 d.1 (omega (arith, d.0, h)))
       go (Opened todo1) o1 le d = tt
       go (Forked os todo1) o1 le d = tt
       go (Offered c x g todo1) o1 le d = tt
@@ -502,11 +505,11 @@ module _ (g : RunInput) (k : ℕ) where
 
   -- with this bound all that is left comes to an end, to a fault, or breaks a rule
   pub all_ends : Light → (n : ℕ) → AllEnd n
-  all_ends l zero = record { by = λ todo w o f h. absurd (omega arith) }
+  all_ends l zero = record { proof = λ todo w o f h. absurd (omega arith) }
   all_ends l (suc n) = record {
-    by = λ todo w o f h. ends_then o.ticks (Settled (weights todo)) Any (settle g todo w o)
+    proof = λ todo w o f h. ends_then o.ticks (Settled (weights todo)) Any (settle g todo w o)
         (rest_by g (run_items g n)) w
-        ((settle_ends o.ticks todo f).by w o (omega arith)) (λ todo1 o1 le fact.
+        ((settle_ends o.ticks todo f).proof w o (omega arith)) (λ todo1 o1 le fact.
         ends_weaker o1.ticks o.ticks (rest_by g (run_items g n) todo1 w o1) le
         (rest_by_ends l n (all_ends l n) todo1 w o1 fact.1
         (omega (arith, budget_mono o.ticks o1.ticks le, fact.0, h))));
@@ -517,7 +520,7 @@ module _ (g : RunInput) (k : ℕ) where
       → budget o.ticks ≤ n
       → EndsInTicks o.ticks (ActionFalls o.ticks (weights todo)) (next_action g n todo w o)
   next_action_ends l n todo w o f h = ends_then o.ticks (Settled (weights todo)) (ActionFalls o.ticks (weights todo))
-      (settle g todo w o) (action_by g (run_items g n)) w ((settle_ends o.ticks todo f).by w o (omega arith))
+      (settle g todo w o) (action_by g (run_items g n)) w ((settle_ends o.ticks todo f).proof w o (omega arith))
       (λ todo1 o1 le fact. go todo1 o1 le fact.0 fact.1)
     where
       go : (todo1 : List Item) (o1 : LocalState) → o.ticks ≤ o1.ticks → weights todo1 ≤ weights todo → AreLight k todo1
@@ -526,7 +529,7 @@ module _ (g : RunInput) (k : ℕ) where
       go (i ∷ rest) o1 le v fact = ends_strong o.ticks o.ticks (ActionFalls o.ticks (weights (i ∷ rest)))
           (ActionFalls o.ticks (weights todo)) (item_action g (call_by g (run_items g n)) i rest w o1)
           (omega arith) more
-          ((act_ends l _ o.ticks (call_ends l n (all_ends l n) o.ticks h) i rest fact).by w o1 le)
+          ((act_ends l _ o.ticks (call_ends l n (all_ends l n) o.ticks h) i rest fact).proof w o1 le)
         where
           more : (d : Action) (o2 : LocalState) → o.ticks ≤ o2.ticks → ActionFalls o.ticks (weights (i ∷ rest)) d o2
               → ActionFalls o.ticks (weights todo) d o2
@@ -551,7 +554,7 @@ all_light (b ∷ bs) (suc f) = go (slice_get bs f) (all_light bs f)
 pub enough_is : (g : RunInput) (todo : List Item) (w : Identity) (o : LocalState) → AreLight (weight_of g.program) todo
     → EndsInTicks o.ticks (ActionFalls g (weight_of g.program) o.ticks (weights todo))
     (next_action g (fuel_of g o) todo w o)
-enough_is g todo w o f = next_action_ends g (weight_of g.program) (record { by = all_light g.program.blocks })
+enough_is g todo w o f = next_action_ends g (weight_of g.program) (record { proof = all_light g.program.blocks })
     (fuel_of g o)
     todo w o f (le (mul-le-mul_left (weight_of g.program + 3) (less g.limits.ticks o.ticks)))
   where

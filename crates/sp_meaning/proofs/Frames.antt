@@ -96,7 +96,7 @@ hands_in {L} s p o z w (Some m) e c h = elim (o.kind == w.kind) as
             refl,
             (
               record
-                  { other = z; pends = e; its = w; waits = c; passes = m; is = h; there = refl },
+                  { partner = z; pends = e; its = w; waits = c; passes = m; message_is = h; there = refl },
               (tt, tt),
             ),
           ),

@@ -15,7 +15,7 @@ pub record Met {L : Language} (s : State L) (p : Name) (o : OfferOf L) (z : Name
   pub its : OfferOf L
   pub waits : s.condition z ≡ Waits its
   pub passes : L.Target × L.Value
-  pub is : message o.cargo its.cargo ≡ Some passes
+  pub message_is : message o.cargo its.cargo ≡ Some passes
   pub alike : o.kind == its.kind ≡ true
   pub made : cs ≡ meeting_changes s p o z its passes
 
@@ -26,7 +26,7 @@ module _ {L : Language} (s : State L) (p : Name) (o : OfferOf L) (z : Name) (cs 
   met_by w (Some m) c h e = elim (o.kind == w.kind) as
       (λ b. o.kind == w.kind ≡ b → cond b (Advances (meeting_changes s p o z w m)) (Faulty fault.F7) ≡ Advances cs
       → Met s p o z cs) [
-        | true ↦ λ a f. record { its = w; waits = c; passes = m; is = h; alike = a; made = same_changes _ _ f }
+        | true ↦ λ a f. record { its = w; waits = c; passes = m; message_is = h; alike = a; made = same_changes _ _ f }
         | false ↦ λ a f. absurd (cc f)
       ] refl e
 

@@ -494,7 +494,7 @@ module _ (set : RunInput) (totals : Totals) (free : IsFreeOfInterference set.pro
         (λ d o. Fair set.program (OwnOrGiven W q) (OwnOrGiven R q) k.last d o.frames) (action_of set pr)
     within = (next_action_from set q (OwnOrGiven W q) (OwnOrGiven R q) own_write reads_all free (fuel_of set pr.own)
         k.last pr.own.frames
-        pr.todo k.fit).by pr.who pr.own k.named refl
+        pr.todo k.fit).proof pr.who pr.own k.named refl
 
     abbrev came : WorkOutcome Action
     came = (run_tree same_loc (action_of set pr) s.store).0
@@ -567,10 +567,10 @@ module _ (set : RunInput) (totals : Totals) (free : IsFreeOfInterference set.pro
 
     pub gets_right : (who : Name) (l : Loc) → Receiving s q (L.next pr s.store) who l → OwnOrGiven W who l
     gets_right who l g = subst (λ z. OwnOrGiven W who z) g.goes.there
-        (received who g.goes.other g.offer.cargo g.goes.its.cargo g.goes.passes g.goes.is
-        (subst (λ (a : ActOf L). TakesWell q a) (sym next_act ∙ g.is) (takes_well came writes good))
-        (subst (λ (c : ConditionOf L). ConditionInRights set.program W R s.forks g.goes.other c) g.goes.waits
-        (inv.holds g.goes.other)).1 g.who_is)
+        (received who g.goes.partner g.offer.cargo g.goes.its.cargo g.goes.passes g.goes.message_is
+        (subst (λ (a : ActOf L). TakesWell q a) (sym next_act ∙ g.offer_is) (takes_well came writes good))
+        (subst (λ (c : ConditionOf L). ConditionInRights set.program W R s.forks g.goes.partner c) g.goes.waits
+        (inv.holds g.goes.partner)).1 g.who_is)
 
     pub writes_right : (who : Name) (l : Loc) → WritesIn s q pr who l → OwnOrGiven W who l
     writes_right who l (inl h) = subst (λ z. OwnOrGiven W z l) (sym h.0)

@@ -12,7 +12,7 @@ use Rattle.sp_meaning.proofs.Kept.{waits_lives}
 -- a is b or an ancestor of it, or the other way round, or they part
 pub record Below (a b : Name) : Type 0 where
   pub rest : Name
-  pub is : a ≡ rest ++ b
+  pub name_is : a ≡ rest ++ b
 
 pub record Parts (a b : Name) : Type 0 where
   pub common : Name
@@ -28,11 +28,16 @@ pub record Parts (a b : Name) : Type 0 where
 pub record Last (r : Name) : Type 0 where
   pub front : Name
   pub last : ℕ × ℕ
-  pub is : r ≡ front ++ last ∷ []
+  pub name_is : r ≡ front ++ last ∷ []
 
 pub last_of : (x : ℕ × ℕ) (r : Name) → Last (x ∷ r)
-last_of x [] = record { front = []; last = x; is = refl }
-last_of x (y ∷ r) = let l = last_of y r in record { front = x ∷ l.front; last = l.last; is = ap (λ z. x ∷ z) l.is }
+last_of x [] = record { front = []; last = x; name_is = refl }
+last_of x (y ∷ r) = let l = last_of y r in record {
+  front = x ∷ l.front;
+  last = l.last;
+  name_is = ap (λ z. x ∷ z)
+      l.name_is;
+}
 
 pub moved : (u : Name) (x : ℕ × ℕ) (z : Name) → (u ++ x ∷ []) ++ z ≡ u ++ x ∷ z
 moved u x z = append_assoc u (x ∷ []) z
@@ -47,10 +52,10 @@ same_pair x y = ⊎_elim
     head x y e = cc
 
 pub parts : (a b : Name) → Below a b ⊎ (Below b a ⊎ Parts a b)
-parts [] b = inr (inl (record { rest = b; is = sym (append-nil b) }))
+parts [] b = inr (inl (record { rest = b; name_is = sym (append-nil b) }))
 parts (x ∷ a) b = ⊎_elim
-    (λ (h : Below a b). inl (record { rest = x ∷ h.rest; is = ap (λ z. x ∷ z) h.is }))
-    (⊎_elim (λ (h : Below b a). under h.rest h.is)
+    (λ (h : Below a b). inl (record { rest = x ∷ h.rest; name_is = ap (λ z. x ∷ z) h.name_is }))
+    (⊎_elim (λ (h : Below b a). under h.rest h.name_is)
     (λ (h : Parts a b). inr (inr (record {
       common = h.common;
       x = h.x;
@@ -64,13 +69,13 @@ parts (x ∷ a) b = ⊎_elim
     (parts a b)
   where
     under : (r : Name) → b ≡ r ++ a → Below (x ∷ a) b ⊎ (Below b (x ∷ a) ⊎ Parts (x ∷ a) b)
-    under [] e = inl (record { rest = x ∷ []; is = ap (λ z. x ∷ z) (sym e) })
+    under [] e = inl (record { rest = x ∷ []; name_is = ap (λ z. x ∷ z) (sym e) })
     under (v ∷ r) e =
         let l = last_of v r in
-        let b_is : b ≡ l.front ++ l.last ∷ a = e ∙ ap (λ z. z ++ a) l.is ∙ moved l.front l.last a in
+        let b_is : b ≡ l.front ++ l.last ∷ a = e ∙ ap (λ z. z ++ a) l.name_is ∙ moved l.front l.last a in
         ⊎_elim
         (λ (same : x ≡ l.last). inr (inl (record
-        { rest = l.front; is = b_is ∙ ap (λ z. l.front ++ z ∷ a) (sym same) })))
+        { rest = l.front; name_is = b_is ∙ ap (λ z. l.front ++ z ∷ a) (sym same) })))
         (λ (apart : x ≢ l.last). inr (inr (record {
           common = a;
           x = x;
@@ -121,13 +126,13 @@ alone_childless s p k i h l j = ⊎_elim
 
 pub not_above : {L : Language} (s : State L) (a b : Name) → Sound s → IsAlone s b → IsAlive (s.condition a) → a ≢ b
     → Below a b → ⊥
-not_above {L} s a b sound alone lives apart h = over h.rest h.is
+not_above {L} s a b sound alone lives apart h = over h.rest h.name_is
   where
     over : (r : Name) → a ≡ r ++ b → ⊥
     over [] e = apart e
     over (v ∷ r) e =
         let l = last_of v r in
-        let a_is : a ≡ l.front ++ l.last ∷ b = e ∙ ap (λ z. z ++ b) l.is ∙ moved l.front l.last b in
+        let a_is : a ≡ l.front ++ l.last ∷ b = e ∙ ap (λ z. z ++ b) l.name_is ∙ moved l.front l.last b in
         let child : IsAlive (s.condition (l.last ∷ b)) =
         ancestors_live s sound l.front (l.last ∷ b) (subst (λ z. IsAlive (s.condition z)) a_is lives) in
         alone_childless s b (l.last).0 (l.last).1 alone child (sound.joined b (l.last).0 (l.last).1 child)
@@ -148,8 +153,8 @@ parallel s a b sound one other apart = ⊎_elim
     record {
       common = h.common;
       fork = (h.x).0;
-      one = (h.x).1;
-      other = (h.y).1;
+      first = (h.x).1;
+      second = (h.y).1;
       apart = λ e. h.apart (λ i. (fork i, e i));
       after_one = h.after_x;
       after_other = h.after_y;

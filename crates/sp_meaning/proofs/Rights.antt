@@ -73,18 +73,18 @@ below_both z k i j Output apart a b = a
 
 pub parallel_apart : (W R : Name → Loc → Type 0) → Fair_rights W R → (a b : Name) → AreParallel a b → (l : Loc)
     → OwnOrGiven W a l → OwnOrGiven R b l → ⊥
-parallel_apart W R f a b h l w r = go (came_down W f.less_write h.after_one ((h.fork, h.one) ∷ h.common) l
-    (subst (λ x. OwnOrGiven W x l) h.a_is w)) (came_down R f.less_read h.after_other ((h.fork, h.other) ∷ h.common) l
+parallel_apart W R f a b h l w r = go (came_down W f.less_write h.after_one ((h.fork, h.first) ∷ h.common) l
+    (subst (λ x. OwnOrGiven W x l) h.a_is w)) (came_down R f.less_read h.after_other ((h.fork, h.second) ∷ h.common) l
     (subst (λ x. OwnOrGiven R x l) h.b_is r))
   where
     one : Name
-    one = (h.fork, h.one) ∷ h.common
+    one = (h.fork, h.first) ∷ h.common
 
     other : Name
-    other = (h.fork, h.other) ∷ h.common
+    other = (h.fork, h.second) ∷ h.common
 
     go : IsBelow one l ⊎ W one l → IsBelow other l ⊎ R other l → ⊥
-    go (inl x) (inl y) = below_both h.common h.fork h.one h.other l h.apart x y
+    go (inl x) (inl y) = below_both h.common h.fork h.first h.second l h.apart x y
     go (inl x) (inr y) = not_both one other l refl x (f.above other l y)
     go (inr x) (inl y) = not_both other one l refl y (f.above one l (f.reads one l x))
-    go (inr x) (inr y) = f.apart h.common h.fork h.one h.other l h.apart x y
+    go (inr x) (inr y) = f.apart h.common h.fork h.first h.second l h.apart x y

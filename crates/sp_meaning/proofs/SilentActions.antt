@@ -87,10 +87,10 @@ IsOpening Ended = ⊥
 
 -- of all that is there one variable at most has another value
 pub record IsSameButOne (n : ℕ) (s m : Store) : Type 0 where
-  pub one : Loc
+  pub location : Loc
   pub value : Value
-  pub now : m one ≡ Tree value
-  pub others : (l : Loc) → (s l ≡ m l) ⊎ (IsDead n l ⊎ (one ≡ l))
+  pub now : m location ≡ Tree value
+  pub others : (l : Loc) → (s l ≡ m l) ⊎ (IsDead n l ⊎ (location ≡ l))
 
 same_on : (n : ℕ) (s t u : Store) → IsSame n s t → IsSame n t u → IsSame n s u
 same_on n s t u a b l = ⊎_elim (λ (e : s l ≡ t l). ⊎_elim (λ (f : t l ≡ u l). inl (e ∙ f)) (λ d. inr d) (b l))
@@ -197,8 +197,8 @@ module _ (set : RunInput) (free : IsFreeOfInterference set.program) (pure : AreF
   calm : {A : Type 0} {F : A → Type 0} (h : Work A) → IsSilentWork F h → (w : Identity) (o : LocalState) (s : Store)
       → w.name ≡ q
       → o.frames ≡ fs → LeavesFrames F s (run h w o s)
-  calm {A} {F} h k w o s n e = go (run h w o s) (λ l. stored New AnyLocation G (h w o) s (k.by w o n e) l)
-      (result_within New AnyLocation G (λ r. r) (h w o) s (k.by w o n e))
+  calm {A} {F} h k w o s n e = go (run h w o s) (λ l. stored New AnyLocation G (h w o) s (k.proof w o n e) l)
+      (result_within New AnyLocation G (λ r. r) (h w o) s (k.proof w o n e))
     where
       G : A → LocalState → Type 0
       G a o1 = (o1.frames ≡ fs) × F a
@@ -218,17 +218,17 @@ module _ (set : RunInput) (free : IsFreeOfInterference set.program) (pure : AreF
   SilentStep s (OutOfFuel, m) = Unit {0}
 
   record StepIsSilent (h : Work Action) : Type 0 where
-    by : (w : Identity) (o : LocalState) (s : Store) → w.name ≡ q → o.frames ≡ fs → SilentStep s (run h w o s)
+    proof : (w : Identity) (o : LocalState) (s : Store) → w.name ≡ q → o.frames ≡ fs → SilentStep s (run h w o s)
 
   told_on : (s m : Store) → IsSame (length fs) s m → (r : WorkOutcome Action × Store) → SilentStep m r → SilentStep s r
   told_on s m a (Computed d o, u) t = (
     t.0,
     λ h. (let z = t.1 h in (z.0, same_on (length fs) s m u a z.1)),
     λ h. (let z = t.2 h in record {
-      one = z.one;
+      location = z.location;
       value = z.value;
       now = z.now;
-      others = λ l. on l z.one (a l) (z.others l);
+      others = λ l. on l z.location (a l) (z.others l);
     }),
   )
     where
@@ -244,13 +244,13 @@ module _ (set : RunInput) (free : IsFreeOfInterference set.program) (pure : AreF
   then_tells : {A : Type 0} {F : A → Type 0} (h : Work A) (g : A → Work Action) → IsSilentWork F h
       → ((a : A) → F a → StepIsSilent (g a)) → StepIsSilent (bind h g)
   then_tells {A} {F} h g k next = record {
-    by =
+    proof =
         λ w o s n e. subst (SilentStep s) (sym (run_bind h g w o s)) (go w s n (run h w o s) (calm h k w o s n e));
   }
     where
       go : (w : Identity) (s : Store) → w.name ≡ q → (r : WorkOutcome A × Store) → LeavesFrames F s r
           → SilentStep s (then_run g w r)
-      go w s n (Computed a o, m) c = told_on s m c.2 (run (g a) w o m) ((next a c.1).by w o m n c.0)
+      go w s n (Computed a o, m) c = told_on s m c.2 (run (g a) w o m) ((next a c.1).proof w o m n c.0)
       go w s n (EndsInFault f, m) c = output_same (length fs) s m c
       go w s n (IllFormed, m) c = tt
       go w s n (OutOfFuel, m) c = tt
@@ -261,9 +261,9 @@ module _ (set : RunInput) (free : IsFreeOfInterference set.program) (pure : AreF
       → ((a : A) → F a → IsPureAction p (g a) × ((IsStop (g a) → ⊥) × (IsOpening (g a) → ⊥)))
       → StepIsSilent (bind h (λ a. give (g a)))
   cells_tell {A} {F} h g k next = record {
-    by = λ w o s n e. subst (SilentStep s) (sym (run_bind h (λ a. give (g a)) w o s))
-        (go w s (run h w o s) (λ l. stored IsCell AnyLocation G (h w o) s (k.by w o n e) l)
-        (result_within IsCell AnyLocation G (λ r. r) (h w o) s (k.by w o n e)));
+    proof = λ w o s n e. subst (SilentStep s) (sym (run_bind h (λ a. give (g a)) w o s))
+        (go w s (run h w o s) (λ l. stored IsCell AnyLocation G (h w o) s (k.proof w o n e) l)
+        (result_within IsCell AnyLocation G (λ r. r) (h w o) s (k.proof w o n e)));
   }
     where
       G : A → LocalState → Type 0
@@ -278,34 +278,34 @@ module _ (set : RunInput) (free : IsFreeOfInterference set.program) (pure : AreF
       go w s (OutOfFuel, m) i f = tt
 
   went : (todo : List Item) → PureItems p todo → StepIsSilent (give (Stepped todo))
-  went todo k = record { by = λ w o s n e. (k, λ h. absurd h, λ h. absurd h) }
+  went todo k = record { proof = λ w o s n e. (k, λ h. absurd h, λ h. absurd h) }
 
   fails : (f : Fault) → StepIsSilent (fail f)
-  fails f = record { by = λ w o s n e. refl }
+  fails f = record { proof = λ w o s n e. refl }
 
-  beat : (todo : List Item) → PureItems p todo → StepIsSilent (bind (tick set.limits) (λ u. give (Ticked todo)))
-  beat todo k = then_tells (tick set.limits) _ (tick_stays set q New AnyLocation (length fs) (λ n x h. h)
+  go_on : (todo : List Item) → PureItems p todo → StepIsSilent (bind (tick set.limits) (λ u. give (Ticked todo)))
+  go_on todo k = then_tells (tick set.limits) _ (tick_stays set q New AnyLocation (length fs) (λ n x h. h)
       (λ l w. tt) free fs)
-      (λ u _. record { by = λ w o s n e. (k, λ h. absurd h, λ h. absurd h) })
+      (λ u _. record { proof = λ w o s n e. (k, λ h. absurd h, λ h. absurd h) })
 
   -- a value is assigned, and nothing fails after it
   stores : (a : Address) (v : Value) (todo : List Item) → PureItems p todo
       → StepIsSilent (bind (assign a v) (λ u. give (Stepped todo)))
-  stores a v todo k = record { by = λ w o s n e. (k, λ h. absurd h, λ h. absurd h) }
+  stores a v todo k = record { proof = λ w o s n e. (k, λ h. absurd h, λ h. absurd h) }
 
   takes : (a : Address) (t : ReadResult) (todo : List Item) → PureItems p todo
       → StepIsSilent (bind (take_in set a t) (λ u. give (Stepped todo)))
-  takes a (Took n bytes) todo k = record { by = λ w o s m e. (k, λ h. absurd h, λ h. absurd h) }
-  takes a (Refuses_it f) todo k = record { by = λ w o s m e. refl }
+  takes a (Took n bytes) todo k = record { proof = λ w o s m e. (k, λ h. absurd h, λ h. absurd h) }
+  takes a (Refuses_it f) todo k = record { proof = λ w o s m e. refl }
 
   skips : (n : ℕ) (todo : List Item) → PureItems p todo → StepIsSilent (bind (advance set n) (λ u. give (Stepped todo)))
-  skips n todo k = record { by = λ w o s m e. (k, λ h. absurd h, λ h. absurd h) }
+  skips n todo k = record { proof = λ w o s m e. (k, λ h. absurd h, λ h. absurd h) }
 
   opens : (a : Address) (todo : List Item) → PureItems p todo
       → StepIsSilent (bind who (λ w. bind (assign a (Chan (record { owner = w.name; nth = w.opens })))
       (λ u. give (Opened todo))))
   opens a todo k = record {
-    by = λ w o s n e. (
+    proof = λ w o s n e. (
       k,
       λ h. absurd h,
       λ h. one_put s (assigned_value a (s a.spot)
@@ -320,7 +320,7 @@ module _ (set : RunInput) (free : IsFreeOfInterference set.program) (pure : AreF
       one_put : (s : Store) {v : LocationContent} → (y : Value) × (v ≡ Tree y)
           → IsSameButOne (length fs) s (at_key same_loc a.spot v s)
       one_put s {v} y = record {
-        one = a.spot;
+        location = a.spot;
         value = y.0;
         now = ap (λ b. cond b v (s a.spot)) ((loc_test a.spot a.spot).1 refl) ∙ y.1;
         others = λ l. go l (same_loc a.spot l) refl;
@@ -333,12 +333,12 @@ module _ (set : RunInput) (free : IsFreeOfInterference set.program) (pure : AreF
 
   offers : (c : Channel) (t : ℕ) (x : Cargo LocationContent Address) (todo : List Item) → PureItems p todo
       → StepIsSilent (give (Offered c t x todo))
-  offers c t x todo k = record { by = λ w o s n e. (k, λ h. (e, λ l. inl refl), λ h. absurd h) }
+  offers c t x todo k = record { proof = λ w o s n e. (k, λ h. (e, λ l. inl refl), λ h. absurd h) }
 
   prints : (bs : List ℕ) (todo : List Item) → PureItems p todo
       → StepIsSilent (bind (write set bs) (λ u. give (Stepped todo)))
   prints bs todo k = record {
-    by = λ w o s n e. go w o s
+    proof = λ w o s n e. go w o s
         (nat_lt set.limits.output (length (bytes_in (s Output)) + length bs));
   }
     where
@@ -350,7 +350,7 @@ module _ (set : RunInput) (free : IsFreeOfInterference set.program) (pure : AreF
       go w o s false = (k, λ h. absurd h, λ h. absurd h)
 
   forks : (bs : List Birth) (todo : List Item) → PureItems p todo → StepIsSilent (fork set bs todo)
-  forks bs todo k = record { by = λ w o s n e. go w o s e (nat_lt o.depth set.limits.depth) }
+  forks bs todo k = record { proof = λ w o s n e. go w o s e (nat_lt o.depth set.limits.depth) }
     where
       go : (w : Identity) (o : LocalState) (s : Store) → o.frames ≡ fs → (b : Bool)
           → SilentStep s (run (if b then give (Forked bs todo) else fail fault.F11) w o s)
@@ -384,7 +384,7 @@ module _ (set : RunInput) (free : IsFreeOfInterference set.program) (pure : AreF
 
       at_cell : (a : Address) → IsCell a.spot
           → StepIsSilent (bind (assign a (Ordinal n)) (λ u. bind (tick set.limits) (λ u. give (Ticked next))))
-      at_cell a c = record { by = λ w o m _ e. ticks_on a.spot _ c w o m (nat_lt o.ticks set.limits.ticks) }
+      at_cell a c = record { proof = λ w o m _ e. ticks_on a.spot _ c w o m (nat_lt o.ticks set.limits.ticks) }
 
   -- what stands here is sound with these rights where it has no target
   sound_here : {Here : Use → Type 0} → Sound p W R fs Here → ((u : Use) → Here u → PureUse p u)
@@ -460,8 +460,8 @@ module _ (set : RunInput) (free : IsFreeOfInterference set.program) (pure : AreF
         b.parent)
         (λ link en.
         record {
-          by = λ w o n e. (laid b is (length o.frames)
-              (pushed_frame set f link (references b.formals gs) w o).frames).by w
+          proof = λ w o n e. (laid b is (length o.frames)
+              (pushed_frame set f link (references b.formals gs) w o).frames).proof w
               (pushed_frame set f link (references b.formals gs) w o) n refl;
         })))))
       where
@@ -507,8 +507,8 @@ module _ (set : RunInput) (free : IsFreeOfInterference set.program) (pure : AreF
         go : (b : Bool) → StepIsSilent (if b then give (Stepped todo) else
             bind (tick set.limits) (λ u. give (Ticked (push s (Do (While e s) ∷ todo)))))
         go true = went todo k
-        go false = beat (push s (Do (While e s) ∷ todo)) (push_pure p s (Do (While e s) ∷ todo) h.1 (h, k))
-    start_tells (Repeat s e) todo h k so = beat (push s (Test s e ∷ todo)) (push_pure p s (Test s e ∷ todo) h.1 (h, k))
+        go false = go_on (push s (Do (While e s) ∷ todo)) (push_pure p s (Do (While e s) ∷ todo) h.1 (h, k))
+    start_tells (Repeat s e) todo h k so = go_on (push s (Test s e ∷ todo)) (push_pure p s (Test s e ∷ todo) h.1 (h, k))
     start_tells (For x from down to s) todo h k so =
         then_tells _ _ (test from h.0 (part (λ u i. inr (inl i)) so))
         (λ m _. then_tells _ _ (test to h.1 (part (λ u i. inr (inr (inl i))) so))
@@ -591,7 +591,7 @@ module _ (set : RunInput) (free : IsFreeOfInterference set.program) (pure : AreF
           go : (b : Bool) → StepIsSilent (give (Stepped (if b then Do (Repeat s e) ∷ todo else todo)))
           go true = went (Do (Repeat s e) ∷ todo) (h.0, h.1)
           go false = went todo h.1
-      act_tells Leave todo h f = record { by = λ w o m n e. (h, λ y. absurd y, λ y. absurd y) }
+      act_tells Leave todo h f = record { proof = λ w o m n e. (h, λ y. absurd y, λ y. absurd y) }
       act_tells (Break x) todo h f = fails x
 
       abbrev PureAndFit : List Item → Type 0
@@ -625,7 +625,7 @@ module _ (set : RunInput) (free : IsFreeOfInterference set.program) (pure : AreF
       next_action_is_silent todo h f = then_tells _ _ (settles todo h f) go
         where
           go : (xs : List Item) → PureAndFit xs → StepIsSilent (action_by set (run_items set n) xs)
-          go [] l = record { by = λ w o m _ e. (tt, λ y. (e, λ k. inl refl), λ y. absurd y) }
+          go [] l = record { proof = λ w o m _ e. (tt, λ y. (e, λ k. inl refl), λ y. absurd y) }
           go (i ∷ rest) l = act_tells i rest l.0 l.1
 
 -- of a process whose rights are known, with pure expressions
@@ -638,7 +638,7 @@ module _ (set : RunInput) (free : IsFreeOfInterference set.program) (pure : AreF
   told : ProcessStepIsSilent (run_tree same_loc (action_of set pr) s)
   told = (next_action_is_silent set free pure blocks pr.who.name W R pr.own.frames fit.linked (fuel_of set pr.own) z
       pr.todo items
-      fit).by pr.who pr.own s refl refl
+      fit).proof pr.who pr.own s refl refl
 
   -- what a step that forks, offers or ends wrote is of frames that are gone
   pub actions_are_silent : (d : Action) (o : LocalState) (m : Store) → IsStop d

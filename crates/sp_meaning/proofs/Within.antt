@@ -79,7 +79,7 @@ part {p} i s = record {
 pub record KeepsRights {A : Type 0} (q : Name) (W R : Loc → Type 0) (fs : List Frame) (F : A → Type 0)
     (h : Work A) : Type
     0 where
-  pub by : (w : Identity) (o : LocalState) → w.name ≡ q → o.frames ≡ fs
+  pub proof : (w : Identity) (o : LocalState) → w.name ≡ q → o.frames ≡ fs
       → StaysWithin W R (λ a o1. (o1.frames ≡ fs) × F a) (h w o)
 
 abbrev pub variable_of : Var → ℕ
@@ -99,9 +99,9 @@ module _ (q : Name) (W R : Loc → Type 0) (fs : List Frame) where
       → KeepsRights q W R fs F h
       → ((a : A) → F a → KeepsRights q W R fs G (g a)) → KeepsRights q W R fs G (bind h g)
   then_keeps {F = F} {G = G} h g a b = record {
-    by =
+    proof =
         λ w o n e. within_then W R (λ x o1. (o1.frames ≡ fs) × F x) (λ x o1. (o1.frames ≡ fs) × G x) (h w o) g w
-        (a.by w o n e) (λ x o1 f. (b x f.1).by w o1 n f.0);
+        (a.proof w o n e) (λ x o1 f. (b x f.1).proof w o1 n f.0);
   }
 
   pub then_stays : {A B : Type 0} {G : B → Type 0} (h : Work A) (g : A → Work B) → KeepsRightsOnly h
@@ -109,28 +109,28 @@ module _ (q : Name) (W R : Loc → Type 0) (fs : List Frame) where
   then_stays h g a b = then_keeps h g a (λ x u. b x)
 
   pub give_keeps : {A : Type 0} {F : A → Type 0} (a : A) → F a → KeepsRights q W R fs F (give a)
-  give_keeps a f = record { by = λ w o n e. (e, f) }
+  give_keeps a f = record { proof = λ w o n e. (e, f) }
 
   pub give_stays : {A : Type 0} (a : A) → KeepsRightsOnly (give a)
-  give_stays a = record { by = λ w o n e. (e, tt) }
+  give_stays a = record { proof = λ w o n e. (e, tt) }
 
   pub fail_stays : (A : Type 0) (f : Fault) → KeepsRightsOnly {A = A} (fail f)
-  fail_stays A f = record { by = λ w o n e. tt }
+  fail_stays A f = record { proof = λ w o n e. tt }
 
   pub fail_keeps : {A : Type 0} {F : A → Type 0} (f : Fault) → KeepsRights q W R fs F (fail f)
-  fail_keeps f = record { by = λ w o n e. tt }
+  fail_keeps f = record { proof = λ w o n e. tt }
 
   pub lost_stays : (A : Type 0) → KeepsRightsOnly {A = A} ill_formed
-  lost_stays A = record { by = λ w o n e. tt }
+  lost_stays A = record { proof = λ w o n e. tt }
 
   pub lost_keeps : {A : Type 0} {F : A → Type 0} → KeepsRights q W R fs F ill_formed
-  lost_keeps = record { by = λ w o n e. tt }
+  lost_keeps = record { proof = λ w o n e. tt }
 
   pub look_stays : (l : Loc) → R l → KeepsRightsOnly (read_location l)
-  look_stays l r = record { by = λ w o n e. (r, λ h. (e, tt)) }
+  look_stays l r = record { proof = λ w o n e. (r, λ h. (e, tt)) }
 
   pub put_stays : (l : Loc) (h : LocationContent) → W l → KeepsRightsOnly (write_location l h)
-  put_stays l h r = record { by = λ w o n e. (r, (e, tt)) }
+  put_stays l h r = record { proof = λ w o n e. (r, (e, tt)) }
 
   abbrev pub Is : {A : Type 0} → Option A → A → Type 0
   Is x a = x ≡ Some a
@@ -152,11 +152,11 @@ module _ (q : Name) (W R : Loc → Type 0) (fs : List Frame) where
   pub visible_keeps : (fits : Home → Bool) → KeepsRights q W R fs (Is (frame_found fits (length fs) fs))
       (visible_frame fits)
   visible_keeps fits = record {
-    by = λ w o n e. subst (λ z. StaysWithin W R (λ a o1. (o1.frames ≡ fs) × Is (frame_found fits (length fs) fs) a)
+    proof = λ w o n e. subst (λ z. StaysWithin W R (λ a o1. (o1.frames ≡ fs) × Is (frame_found fits (length fs) fs) a)
         (or_ill_formed (find_visible fits z) w o)) (sym e)
         (subst (λ x. StaysWithin W R (λ a o1. (o1.frames ≡ fs) × Is (frame_found fits (length fs) fs) a)
         (or_ill_formed x w o))
-        (sym (find_is fits (length fs) fs)) ((or_lost_keeps (frame_found fits (length fs) fs)).by w o n e));
+        (sym (find_is fits (length fs) fs)) ((or_lost_keeps (frame_found fits (length fs) fs)).proof w o n e));
   }
 
   work_stays : (x : OperatorResult) → KeepsRightsOnly (work_of x)
@@ -327,8 +327,8 @@ module _ (q : Name) (W R : Loc → Type 0) (fs : List Frame) where
       where
         go : (v : Option Variable) → KeepsRights q W R fs (IsComponentOf (location_at fs x v))
             (bind (or_ill_formed v) (λ i. place_by set x i i.role))
-        go None = record { by = λ w o n e. tt }
-        go (Some i) = record { by = λ w o n e. (place_by_keeps x i i.role).by w o n e }
+        go None = record { proof = λ w o n e. tt }
+        go (Some i) = record { proof = λ w o n e. (place_by_keeps x i i.role).proof w o n e }
 
     module _ (free : IsFreeOfInterference set.program) (writes_read : (l : Loc) → W l → R l) where
       abbrev IsSound : (Use → Type 0) → Type 0
@@ -336,7 +336,7 @@ module _ (q : Name) (W R : Loc → Type 0) (fs : List Frame) where
 
       -- calls keep within what their call may do
       pub record CallsKeep (call : Calls) : Type 0 where
-        pub by : (f : ℕ) (args : Actuals) (gs : List ArgumentValue) → IsSound (In_call f args)
+        pub proof : (f : ℕ) (args : Actuals) (gs : List ArgumentValue) → IsSound (In_call f args)
             → Gave set.program fs args gs
             → KeepsRightsOnly (call f gs)
 
@@ -381,7 +381,7 @@ module _ (q : Name) (W R : Loc → Type 0) (fs : List Frame) where
             (λ w. operate_stays op v w))
         form_stays call ok k (Apply f args) s =
             then_keeps (actuals set call args) _ (actuals_keeps call ok args (part (λ u. inr) s))
-            (λ gs g. ok.by f args gs s g)
+            (λ gs g. ok.proof f args gs s g)
         form_stays call ok k (Standard f a) s =
             then_stays (as_ordinal (value set call a)) _ (as_ordinal_stays _ (value_stays call ok a s))
             (λ n. then_stays (kind_at set k) _ (kind_stays k) (λ u. standard_stays f u n))

@@ -12,13 +12,13 @@ use Rattle.sp_meaning.specs.Schedules.{ScheduleLeads}
 pub record AreParallel (a b : Name) : Type 0 where
   pub common : Name
   pub fork : ℕ
-  pub one : ℕ
-  pub other : ℕ
-  pub apart : one ≢ other
+  pub first : ℕ
+  pub second : ℕ
+  pub apart : first ≢ second
   pub after_one : Name
   pub after_other : Name
-  pub a_is : a ≡ after_one ++ (fork, one) ∷ common
-  pub b_is : b ≡ after_other ++ (fork, other) ∷ common
+  pub a_is : a ≡ after_one ++ (fork, first) ∷ common
+  pub b_is : b ≡ after_other ++ (fork, second) ∷ common
 
 -- the location is written
 abbrev pub IsWrittenIn : {M V : Type 0} → List (M × V) → M → Type 0
@@ -41,20 +41,20 @@ receiver (Takes t) p z = p
 
 -- the step of this offer puts a message there
 pub record Delivers {L : Language} (s : State L) (o : OfferOf L) (l : L.Loc) : Type 0 where
-  pub other : Name
-  pub pends : s.pending o.channel ≡ Some other
+  pub partner : Name
+  pub pends : s.pending o.channel ≡ Some partner
   pub its : OfferOf L
-  pub waits : s.condition other ≡ Waits its
+  pub waits : s.condition partner ≡ Waits its
   pub passes : L.Target × L.Value
-  pub is : message o.cargo its.cargo ≡ Some passes
+  pub message_is : message o.cargo its.cargo ≡ Some passes
   pub there : L.place passes.0 ≡ l
 
 -- p's step at s assigns a message to l, which counts as a write of the receiver
 pub record Receiving {L : Language} (s : State L) (p : Name) (a : ActOf L) (who : Name) (l : L.Loc) : Type 0 where
   pub offer : OfferOf L
-  pub is : a ≡ Offering offer
+  pub offer_is : a ≡ Offering offer
   pub goes : Delivers s offer l
-  pub who_is : who ≡ receiver offer.cargo p goes.other
+  pub who_is : who ≡ receiver offer.cargo p goes.partner
 
 -- in the step of p at s, who writes l
 abbrev pub WritesIn : {L : Language} → State L → Name → L.Own → Name → L.Loc → Type 0

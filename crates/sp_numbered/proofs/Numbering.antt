@@ -121,7 +121,8 @@ module _ (g : RunInput) (moves shares : Stmt → List ℕ) (pause : ℕ) (ready 
     u = system_after_turn plain run number.0 turns.turn t
 
     leads : IsSystem plain run (es ++ e ∷ []) u
-    leads = leads_last (opening_system plain run) es e t u system.1 (works.0, works.1, turns.turn, turns.is, refl, refl)
+    leads = leads_last (opening_system plain run) es e t u system.1
+        (works.0, works.1, turns.turn, turns.is_turn, refl, refl)
 
     nameable : NameableFrom first_births (es ++ e ∷ [])
     nameable = names_on g moves shares pause ready (es ++ e ∷ []) u leads

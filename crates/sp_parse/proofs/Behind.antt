@@ -30,5 +30,5 @@ pub behind_result : {X V : Type 0} {source : Source} {k : Kind} {ts r : List Tok
     (of : Values l → V) (plain : X → V) → Expected source k ts r → (result : Result (X × Bor (List Token)) Halt)
     → ParsesAs source (production l of) plain r result
     → ParsesAs source (production (AToken k ∷ l) (λ vs. of vs.1)) plain ts result
-behind_result l of plain a (Ok x) h = has_read h.ready (and (expected a) h.derives) h.same
+behind_result l of plain a (Ok x) h = has_read h.ready (and (expected a) h.derives) h.value_is
 behind_result l of plain a (Err e) h = halts_behind l a e h

@@ -25,7 +25,7 @@ use Rattle.sp_parse.proofs.SoFar.{ends, skipped}
 abbrev pub with_is : {source : Source} {ts r : List Token} {t : Token} {k : Kind} → HasFirstToken source ts t r
     → t.kind ≡ k
     → BeginsWith source ts k r
-with_is {t = t} a e = record { token = t; is = e; all = a.all; ready = a.ready }
+with_is {t = t} a e = record { token = t; token_is = e; all = a.all; ready = a.ready }
 
 -- a symbol takes a token and leaves nothing
 pub takes_alone : {X V : Type 0} {source : Source} {s : Symbol} {k : Kind} {to : Values (s ∷ []) → V} {view : X → V}
@@ -35,7 +35,7 @@ pub takes_alone : {X V : Type 0} {source : Source} {s : Symbol} {k : Kind} {to :
 takes_alone {source = source} {s = s} {k = k} {to = to} {r = r} row found b o e =
     has_read b.ready (subst (λ ts. DerivesAll source.text.now IsNestable (s ∷ []) ts r
     (build source.text.now row b.token tt, tt)) (back_of b.all)
-    (and (take (row_entry k [] row) found b.token b.is o none) none)) e
+    (and (take (row_entry k [] row) found b.token b.token_is o none) none)) e
 
 -- the pending symbol takes a token, and nothing is left
 pub closes : {X V : Type 0} {source : Source} {l : List Symbol} {of : Values l → V} {s : Symbol} {gives : Value s → V}
@@ -46,7 +46,8 @@ pub closes : {X V : Type 0} {source : Source} {l : List Symbol} {of : Values l �
 closes {source = source} {s = s} {r = r} {k = k} row found whole so b e =
     ends so (subst (λ ts. Derives source.text.now IsNestable s ts r (build source.text.now row b.token tt))
     (back_of b.all)
-    (take (row_entry k [] row) found b.token b.is (subst (λ p. MayBegin IsNestable p (b.token ∷ r)) (back_of whole)
+    (take (row_entry k [] row) found b.token b.token_is
+    (subst (λ p. MayBegin IsNestable p (b.token ∷ r)) (back_of whole)
     tt) none))
     b.ready e
 
@@ -79,7 +80,7 @@ pub record NameFirst {V : Type 0} (source : Source) (l : List Symbol) (of : Valu
   pub begins : BeginsWith source ts kind.Name rest
   pub given : Values l
   pub read : HasRead source l (λ vs. vs) (λ (vs : Values l). vs) rest r given
-  pub same : v ≡ of (name_of source.text.now begins.token, read.values)
+  pub value_is : v ≡ of (name_of source.text.now begins.token, read.values)
 
 name_entry : (k : Kind) (e : RowEntry (Row AName)) → look (rows AName) k ≡ Some e → (k ≡ kind.Name)
     × (row_entry kind.Name [] row.name ≡ e)
@@ -110,7 +111,7 @@ pub name_first : {X V : Type 0} {source : Source} {l : List Symbol} {of : Values
     {ts r : List Token} {x : X} → HasTokens source ts → HasRead source (AName ∷ l) of plain ts r x
     → NameFirst source l of (plain x) ts r
 name_first {source = source} {l = l} {of = of} {plain = plain} {ts = ts} {r = r} {x = x} a h =
-    first_of a h.derives h.same where
+    first_of a h.derives h.value_is where
       first_of : {vs : Values (AName ∷ l)} → HasTokens source ts → DerivesAll source.text.now IsNestable (AName ∷ l)
           ts r vs
           → plain x ≡ of vs → NameFirst source l of (plain x) ts r
@@ -121,13 +122,13 @@ name_first {source = source} {l = l} {of = of} {plain = plain} {ts = ts} {r = r}
             rest = u;
             begins = record {
               token = i.0;
-              is = i.2;
+              token_is = i.2;
               all = i.1;
               ready = record { end = a.end; fit = (subst (TokensFit source.text.now) i.1 a.fit).1 };
             };
             given = vs;
             read = left;
-            same = e ∙ ap (λ n. of (n, vs)) i.3 ∙ ap (λ us. of (name_of source.text.now i.0, us)) left.same;
+            value_is = e ∙ ap (λ n. of (n, vs)) i.3 ∙ ap (λ us. of (name_of source.text.now i.0, us)) left.value_is;
           }
 
 pub name_less : {X V : Type 0} {source : Source} {l : List Symbol} {of : Values (AName ∷ l) → V} {plain : X → V}

@@ -32,7 +32,7 @@ use Rattle.sp_parse.proofs.Fitting.{all_fit}
 
 -- the place behind what is passed
 pub record PlaceSoFar (text rest : List ℕ) (line column : ℕ) : Type 0 where
-  pub is : place_behind (record { line = line; column = column }) rest ≡ place_behind start text
+  pub place_is : place_behind (record { line = line; column = column }) rest ≡ place_behind start text
   pub low : line + length rest ≤ 1 + length text
   pub left : column + length rest ≤ 1 + length text
 
@@ -50,7 +50,7 @@ is_ready source ts e h = record { end = e; fit = all_fit source.text.now ts h }
 stopped : (text : List ℕ) (ts : List Token) (f : Refusal) (x : RunEnd) → run (Some nesting) ts (AProgram ∷ []) ≡ x
     → refused_by text x ≡ Some f → GetsStuck text ts (AProgram ∷ []) f
 stopped text ts f Done e h = absurd cc
-stopped text ts f (StuckAt w us) e h = record { why = w; rest = us; by = e; is = cc }
+stopped text ts f (StuckAt w us) e h = record { why = w; rest = us; proof = e; refusal_is = cc }
 
 stops : (source : Source) (ts : List Token) (f : Refusal) → breaks source ts (AProgram ∷ []) ≡ Some f
     → GetsStuck source.text.now ts (AProgram ∷ []) f
@@ -106,4 +106,4 @@ is_tree source ts rest tree x q =
     let text = source.text.now in
     let y : IsProgram text IsNestable ts [] x.values.0 =
     subst (λ r. IsProgram text IsNestable ts r x.values.0) q (from text IsNestable (first_derived x)) in
-    subst (SpellsWell text ts) (back_of x.same) (spelled source ts x.values.0 (shallow source ts x.values.0 y))
+    subst (SpellsWell text ts) (back_of x.value_is) (spelled source ts x.values.0 (shallow source ts x.values.0 y))

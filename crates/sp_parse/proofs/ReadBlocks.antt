@@ -59,7 +59,7 @@ module _ (source : Source) where
   inner_result : (d : ℕ) (ts : List Token) → d < nesting → (result : Result (SynBlock × Bor (List Token)) Halt)
       → ParsesAs source (single (Parts (suc d))) block_of ts result
       → ParsesAs source (single (ABlock d)) block_of ts result
-  inner_result d ts b (Ok x) h = has_read h.ready (and (block_derives d b (first_derived h)) none) h.same
+  inner_result d ts b (Ok x) h = has_read h.ready (and (block_derives d b (first_derived h)) none) h.value_is
   inner_result d ts b (Err e) h = halts_same source (ABlock d ∷ []) (Parts (suc d) ∷ []) ts ts (block_leads d ts b) e h
 
   pub block_result : (d inner : ℕ) (ts : List Token) → inner ≡ suc d → d < nesting
@@ -84,7 +84,7 @@ pub other_first : {source : Source} {ts r : List Token} {t : Token} {k : Kind} �
     → BeginsOther ts k
     → kind_is k t.kind ≡ false
 other_first {t = t} {k = k} a b = let same : b.token ≡ t = cc (a.all, b.all) in
-    subst (λ t. kind_is k t.kind ≡ false) same b.other
+    subst (λ t. kind_is k t.kind ≡ false) same b.differs
 
 pub no_part : (d : ℕ) (k : Kind) → kind_is w.Begin k ≡ false → kind_is w.Const k ≡ false → kind_is w.Type' k ≡ false
     → kind_is w.Var k ≡ false → kind_is w.Procedure k ≡ false → kind_is w.Function k ≡ false
@@ -102,9 +102,9 @@ parts_start d {all} a e = nothing_yet (Parts d) (λ vs. vs.0) (λ b. and_parts a
 pub parts_more : {source : Source} {ts rest left : List Token} (d : ℕ) (all new : List SynPart)
     → PartsSoFar source d all ts rest → HasDeclared source d all rest left new → PartsSoFar source d new ts left
 parts_more d all new so h = record {
-  is = λ r v x.
-      let i = h.so_far.is r v x in
-      let j = so.is r i.0.0 (head i.1) in
+  derives = λ r v x.
+      let i = h.so_far.derives r v x in
+      let j = so.derives r i.0.0 (head i.1) in
       (j.0, j.1, i.2 ∙ j.2);
   leads = λ q. so.leads q ∙ h.so_far.leads q;
   shorter = omega (arith, so.shorter, h.less);
@@ -135,8 +135,8 @@ parts_end {source} {r = r} d all so first h e =
     ends so (subst (λ ts. Derives text IsNestable (Parts d) ts r
     (build text (row.parts (row.parts_begin {d = d})) first.token h.values)) (back_of first.all)
     (take (row_entry w.Begin (AStatement d ∷ MoreStatements d ∷ AToken w.End ∷ [])
-    (row.parts (row.parts_begin {d = d}))) refl first.token first.is tt h.derives)) h.ready
-    (e ∙ block_same first.token.at (back_of (lay_parts (map part_of all))) h.same)
+    (row.parts (row.parts_begin {d = d}))) refl first.token first.token_is tt h.derives)) h.ready
+    (e ∙ block_same first.token.at (back_of (lay_parts (map part_of all))) h.value_is)
 
 -- one more section
 untouched : {source : Source} {ts : List Token} (d : ℕ) (before : List SynPart) → HasTokens source ts
@@ -166,7 +166,8 @@ pub one_more : {source : Source} {ts rest r : List Token} {k : Kind} {a : List S
     → HasDeclared source d before ts r new
 one_more {p = p} d before row found y b h e same = record {
   so_far = goes_on row found refl (untouched d before y) b h
-      (λ v. ap (λ l. and_parts l v) e ∙ part_behind before p v ∙ ap (λ q. and_parts before (with_part_first q v)) h.same
+      (λ v. ap (λ l. and_parts l v) e ∙ part_behind before p v
+      ∙ ap (λ q. and_parts before (with_part_first q v)) h.value_is
       ∙ ap (and_parts before) (same v));
   less = omega (arith, h.shorter, ap length b.all);
 }

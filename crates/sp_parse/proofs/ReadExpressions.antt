@@ -50,7 +50,7 @@ no_operator Is tail source ts o h e = subst (λ o. ReadsOperator Is tail source 
 
 pub behind_operator : {Is : Kind → BinaryOp → Type 0} {source : Source} {ts r : List Token} {o : BinaryOp}
     (h : Operator Is source ts o r) → BeginsWith source ts h.key r
-behind_operator h = record { token = h.token; is = h.is; all = h.all; ready = h.ready }
+behind_operator h = record { token = h.token; token_is = h.key_is; all = h.all; ready = h.ready }
 
 module _ (source : Source) where
   -- an expression is a simple one and a relation
@@ -90,7 +90,7 @@ module _ (source : Source) where
   expression_begun_at : (d : ℕ) {ts rest : List Token} (e : SynExpr) → d < nesting
       → HasRead source (sym.ASimple (suc d) ∷ []) (λ vs. vs.0) expression_of ts rest e → ExpressionSoFar d e ts rest
   expression_begun_at d {ts} e b h = record {
-    is = λ r f y. ((f h.values.0, tt), and (expression_derives d b (first_derived h) y) none, ap f h.same);
+    derives = λ r f y. ((f h.values.0, tt), and (expression_derives d b (first_derived h) y) none, ap f h.value_is);
     leads = λ q. expression_leads d ts b q ∙ h.leads (sym.ARelation (suc d) ∷ q);
     shorter = h.shorter;
     ready = h.ready;
@@ -111,7 +111,7 @@ module _ (source : Source) where
 
   pub no_relation : (d : ℕ) {ts rest : List Token} (e : SynExpr) → ExpressionSoFar d e ts rest
       → NoOperator sym.ARelation rest → HasRead source (sym.AnExpression d ∷ []) (λ vs. vs.0) expression_of ts rest e
-  no_relation d e so n = ends so (skipped (sym.ARelation (suc d)) n.token n.rest n.all (n.other (suc d)) refl) so.ready
+  no_relation d e so n = ends so (skipped (sym.ARelation (suc d)) n.token n.rest n.all (n.none (suc d)) refl) so.ready
       refl
 
   pub relation_halts : (d inner : ℕ) {ts rest behind : List Token} (e : SynExpr) {o : BinaryOp} → inner ≡ suc d
@@ -130,7 +130,7 @@ module _ (source : Source) where
       ends so (subst (λ l. Derives source.text.now IsNestable (sym.ARelation (suc d)) l left
       (λ a. g.binary_at_left o a x.values.0))
       (back_of h.all) (take (row_entry _ _ (row.relation h.is_operator)) (look_relation (suc d) h.is_operator) h.token
-      h.is tt (and (first_derived x) none))) x.ready (p ∙ ap (g.binary_at_left o (expression_of e)) x.same)
+      h.key_is tt (and (first_derived x) none))) x.ready (p ∙ ap (g.binary_at_left o (expression_of e)) x.value_is)
 
   pub relation_is : (d inner : ℕ) {ts rest behind left : List Token} (e b new : SynExpr) {o : BinaryOp} → inner ≡ suc d
       → ExpressionSoFar d e ts rest → Operator g.IsRelational source rest o behind
@@ -181,7 +181,7 @@ module _ (source : Source) where
 
   pub term_whole : (d : ℕ) {ts r : List Token} (e : SynExpr) → IsTerm d ts r e
       → HasRead source (sym.ATerm d ∷ []) (λ vs. vs.0) expression_of ts r e
-  term_whole d e h = has_read h.ready (and (first_of h.derives) none) h.same
+  term_whole d e h = has_read h.ready (and (first_of h.derives) none) h.value_is
 
   pub term_halts : (d : ℕ) (ts : List Token) (e : Halt) → Halts source (sym.AFactor d ∷ sym.MoreFactors d ∷ []) ts e
       → Halts source (sym.ATerm d ∷ []) ts e
@@ -233,7 +233,7 @@ module _ (source : Source) where
     pub unsigned_begun : {rest : List Token} (e : SynExpr) → IsTerm d (t ∷ ts) rest e
         → SoFar source (sym.ASimple d ∷ []) (λ vs. vs.0) (sym.MoreTerms d) (λ f. f (expression_of e)) (t ∷ ts) rest
     unsigned_begun e x = record {
-      is = λ r f y. ((f (x.values.1.0 x.values.0), tt), and (unsigned_all x.derives y) none, ap f x.same);
+      derives = λ r f y. ((f (x.values.1.0 x.values.0), tt), and (unsigned_all x.derives y) none, ap f x.value_is);
       leads = λ q. unsigned_leads q ∙ x.leads (sym.MoreTerms d ∷ q);
       shorter = x.shorter;
       ready = x.ready;
@@ -277,10 +277,12 @@ module _ (source : Source) where
       → IsSign t (Some o)
       → (e : Halt) → Halts source (sym.AFactor d ∷ sym.MoreFactors d ∷ []) r e → Halts source (sym.ASimple d ∷ []) ts e
   signed_halts d ts r t unary.Plus b s e h =
-      row_halts (row.simple row.simple_plus) refl (record { token = t; is = s; all = b.all; ready = b.ready }) refl e
+      row_halts (row.simple row.simple_plus) refl
+      (record { token = t; token_is = s; all = b.all; ready = b.ready }) refl e
       (more_halts d r e h)
   signed_halts d ts r t unary.Minus b s e h =
-      row_halts (row.simple row.simple_minus) refl (record { token = t; is = s; all = b.all; ready = b.ready }) refl e
+      row_halts (row.simple row.simple_minus) refl
+      (record { token = t; token_is = s; all = b.all; ready = b.ready }) refl e
       (more_halts d r e h)
   signed_halts d ts r t o b s e h = absurd s
 
@@ -296,7 +298,7 @@ module _ (source : Source) where
       let x = term_whole d a h in
       chain row found refl (nothing_yet (sym.ASimple d) (λ vs. vs.0) (λ v. v) (λ v. refl) ready) b
       (starts {of = λ vs. vs.1.0 (tree.ExpressionAt b.token.at (tree.Unary o vs.0))} x
-      (λ f. ap f (e ∙ ap (λ y. tree.ExpressionAt b.token.at (tree.Unary o y)) x.same)))
+      (λ f. ap f (e ∙ ap (λ y. tree.ExpressionAt b.token.at (tree.Unary o y)) x.value_is)))
       (λ vs. back_of (builds vs))
 
   pub signed : (d : ℕ) {ts r left : List Token} (t : Token) (o : UnaryOp) (a new : SynExpr) → HasTokens source ts
@@ -304,10 +306,10 @@ module _ (source : Source) where
       → expression_of new ≡ tree.ExpressionAt t.at (tree.Unary o (expression_of a)) → SimpleSoFar d new ts left
   signed d t unary.Plus a new ready b s h e =
       signed_by d unary.Plus a new (row.simple row.simple_plus) refl ready
-      (record { token = t; is = s; all = b.all; ready = b.ready }) (λ vs. refl) h e
+      (record { token = t; token_is = s; all = b.all; ready = b.ready }) (λ vs. refl) h e
   signed d t unary.Minus a new ready b s h e =
       signed_by d unary.Minus a new (row.simple row.simple_minus) refl ready
-      (record { token = t; is = s; all = b.all; ready = b.ready }) (λ vs. refl) h e
+      (record { token = t; token_is = s; all = b.all; ready = b.ready }) (λ vs. refl) h e
   signed d t o a new ready b s h e = absurd s
 
   -- further terms
@@ -323,11 +325,11 @@ module _ (source : Source) where
       → expression_of new ≡ g.binary_at_left o (expression_of sum) (expression_of next) → SimpleSoFar d new ts left
   sum_more d sum next new {o = o} so h x e = let y = term_whole d next x in
       goes_on (row.next_term h.is_operator) (look_adding d h.is_operator) refl so (behind_operator h) y
-      (λ f. ap f (e ∙ ap (g.binary_at_left o (expression_of sum)) y.same))
+      (λ f. ap f (e ∙ ap (g.binary_at_left o (expression_of sum)) y.value_is))
 
   pub sum_done : (d : ℕ) {ts rest : List Token} (sum : SynExpr) → SimpleSoFar d sum ts rest
       → NoOperator sym.MoreTerms rest → HasRead source (sym.ASimple d ∷ []) (λ vs. vs.0) expression_of ts rest sum
-  sum_done d sum so n = ends so (skipped (sym.MoreTerms d) n.token n.rest n.all (n.other d) refl) so.ready refl
+  sum_done d sum so n = ends so (skipped (sym.MoreTerms d) n.token n.rest n.all (n.none d) refl) so.ready refl
 
   -- further factors
   abbrev pub TermSoFar : ℕ → SynExpr → List Token → List Token → Type 0
@@ -338,7 +340,7 @@ module _ (source : Source) where
   IsFactor d ts r e = HasRead source (sym.AFactor d ∷ []) (λ vs. vs.0) expression_of ts r e
 
   pub product_start : (d : ℕ) {ts rest : List Token} (e : SynExpr) → IsFactor d ts rest e → TermSoFar d e ts rest
-  product_start d e h = starts h (λ f. ap f h.same)
+  product_start d e h = starts h (λ f. ap f h.value_is)
 
   pub product_halts : (d : ℕ) {ts rest behind : List Token} (product : SynExpr) {o : BinaryOp}
       → TermSoFar d product ts rest → Operator g.IsMultiplying source rest o behind → (e : Halt)
@@ -351,9 +353,9 @@ module _ (source : Source) where
       → expression_of new ≡ g.binary_at_left o (expression_of product) (expression_of next) → TermSoFar d new ts left
   product_more d product next new {o = o} so h x e =
       goes_on (row.next_factor h.is_operator) (look_multiplying d h.is_operator) refl so (behind_operator h) x
-      (λ f. ap f (e ∙ ap (g.binary_at_left o (expression_of product)) x.same))
+      (λ f. ap f (e ∙ ap (g.binary_at_left o (expression_of product)) x.value_is))
 
   pub product_done : (d : ℕ) {ts rest : List Token} (product : SynExpr) → TermSoFar d product ts rest
       → NoOperator sym.MoreFactors rest → IsTerm d ts rest product
-  product_done d product so n = ends so (skipped (sym.MoreFactors d) n.token n.rest n.all (n.other d) refl) so.ready
+  product_done d product so n = ends so (skipped (sym.MoreFactors d) n.token n.rest n.all (n.none d) refl) so.ready
       refl

@@ -68,7 +68,7 @@ module _ (source : Source) where
   number_is d {ts} {r} b n x p e = has_read b.ready
       (subst (λ l. DerivesAll text IsNestable (sym.AFactor d ∷ []) l r
       (tree.ExpressionAt b.token.at (tree.Number (number_of text b.token)), tt)) (back_of b.all)
-      (and (take (row_entry _ _ (row.factor row.factor_number)) refl b.token b.is tt none) none))
+      (and (take (row_entry _ _ (row.factor row.factor_number)) refl b.token b.token_is tt none) none))
       (e ∙ ap (λ n. tree.ExpressionAt b.token.at (tree.Number n)) p)
 
   pub quoted_is : (d : ℕ) {ts r : List Token} (b : BeginsWith source ts kind.Text r) (q : List ℕ) (x : SynExpr)
@@ -76,7 +76,7 @@ module _ (source : Source) where
   quoted_is d {ts} {r} b q x p e = has_read b.ready
       (subst (λ l. DerivesAll text IsNestable (sym.AFactor d ∷ []) l r
       (tree.ExpressionAt b.token.at (tree.Quoted (quoted_of text b.token)), tt)) (back_of b.all)
-      (and (take (row_entry _ _ (row.factor row.factor_text)) refl b.token b.is tt none) none))
+      (and (take (row_entry _ _ (row.factor row.factor_text)) refl b.token b.token_is tt none) none))
       (e ∙ ap (λ q. tree.ExpressionAt b.token.at (tree.Quoted q)) p)
 
   -- a variable or a call
@@ -108,7 +108,7 @@ module _ (source : Source) where
       → IsExpression d rest left x → Expected source w.Close left r
       → expression_of y ≡ g.with_place b.token.at (expression_of x) → IsFactor d ts r y
   in_parentheses d x y b i c e = row_derives (row.factor row.factor_open) refl b tt c.first.ready
-      (and (first_derived i) (and (expected c) none)) (e ∙ ap (g.with_place b.token.at) i.same)
+      (and (first_derived i) (and (expected c) none)) (e ∙ ap (g.with_place b.token.at) i.value_is)
 
   -- behind `not`
   pub negation_result : (d : ℕ) (ts rest : List Token) (b : BeginsWith source ts w.Not rest)
@@ -150,7 +150,7 @@ module _ (source : Source) where
       → HasRead source (sym.ANegated d ∷ []) (λ vs. tree.ExpressionAt at (tree.Unary unary.Not vs.0))
       expression_of ts r x
   negated_at d at a x b h e = has_read h.ready (and (negated_derives d b (first_derived h)) none)
-      (e ∙ ap (λ y. tree.ExpressionAt at (tree.Unary unary.Not y)) h.same)
+      (e ∙ ap (λ y. tree.ExpressionAt at (tree.Unary unary.Not y)) h.value_is)
 
   pub negated : (d inner : ℕ) {ts r : List Token} (at : Place) (a x : SynExpr) → inner ≡ suc d → d < nesting
       → IsFactor inner ts r a → expression_of x ≡ tree.ExpressionAt at (tree.Unary unary.Not (expression_of a))
@@ -195,13 +195,13 @@ module _ (source : Source) where
       → Derives text IsNestable (sym.AReference d) ts r (λ n. tree.Read (tree.Entire n ss))
   reference_derives d {r = r} {ss = ss} b x =
       subst (λ l. Derives text IsNestable (sym.AReference d) l r (λ n. tree.Read (tree.Entire n ss))) (back_of b.all)
-      (reference_derives_at d b.token b.rest b.other
+      (reference_derives_at d b.token b.rest b.differs
       (subst (λ l. Derives text IsNestable (sym.Selectors d) l r ss) b.all x))
 
   pub variable_halts : (d : ℕ) (ts : List Token) → BeginsOther ts w.Open → (e : Halt)
       → Halts source (sym.Selectors d ∷ []) ts e → Halts source (sym.AReference d ∷ []) ts e
   variable_halts d ts b = halts_same source (sym.AReference d ∷ []) (sym.Selectors d ∷ []) ts ts
-      (λ q. ap (λ l. breaks source l (sym.AReference d ∷ q)) b.all ∙ reference_leads_at d b.token b.rest b.other q
+      (λ q. ap (λ l. breaks source l (sym.AReference d ∷ q)) b.all ∙ reference_leads_at d b.token b.rest b.differs q
       ∙ ap (λ l. breaks source l (sym.Selectors d ∷ q)) (back_of b.all))
 
   abbrev pub IsSelectors : ℕ → List Token → List Token → List SynSelector → Type 0
@@ -215,7 +215,7 @@ module _ (source : Source) where
       (x : SynExpr) → BeginsOther ts w.Open → IsSelectors d ts r ss → variable_of v ≡ tree.Entire n (selectors_of ss)
       → expression_of x ≡ tree.ExpressionAt at (tree.Read (variable_of v)) → IsReference d at n ts r x
   variable_is d at n ss v x b h p e = has_read h.ready (and (reference_derives d b (first_derived h)) none)
-      (e ∙ ap (λ v. tree.ExpressionAt at (tree.Read v)) (p ∙ ap (tree.Entire n) h.same))
+      (e ∙ ap (λ v. tree.ExpressionAt at (tree.Read v)) (p ∙ ap (tree.Entire n) h.value_is))
 
   abbrev pub IsArguments : ℕ → List Token → List Token → List SynArg → Type 0
   IsArguments d ts r args = HasRead source (sym.AnExpression d ∷ sym.AWidth d ∷ sym.MoreArguments d ∷ [])
@@ -230,7 +230,7 @@ module _ (source : Source) where
       → BeginsWith source ts w.Open rest → IsArguments d rest r args
       → expression_of x ≡ tree.ExpressionAt at (tree.Apply n (arguments_of args)) → IsReference d at n ts r x
   call_is d at n args x b h e =
-      row_reads row.arguments refl b tt h (e ∙ ap (λ a. tree.ExpressionAt at (tree.Apply n a)) h.same)
+      row_reads row.arguments refl b tt h (e ∙ ap (λ a. tree.ExpressionAt at (tree.Apply n a)) h.value_is)
 
   -- selectors
   abbrev pub SelectorsSoFar : ℕ → List SynSelector → List Token → List Token → Type 0
@@ -265,13 +265,13 @@ module _ (source : Source) where
       → new ≡ all ++ s ∷ [] → SelectorsSoFar d new ts left
   field_more d n s all new so b h p e = goes_on (row.selector row.selector_field) refl refl so b h
       (λ v. ap (λ l. and_selectors l v) e ∙ lay_push tree.Select selector_of all s v
-      ∙ ap (λ x. and_selectors all (tree.Select x v)) (p ∙ ap tree.Field h.same))
+      ∙ ap (λ x. and_selectors all (tree.Select x v)) (p ∙ ap tree.Field h.value_is))
 
   pub selectors_done : (d : ℕ) {ts rest : List Token} (all : List SynSelector) → SelectorsSoFar d all ts rest
       → BeginsOther rest w.OpenIndex → BeginsOther rest w.Dot → IsSelectors d ts rest all
   selectors_done d all so a b = ends so (skipped (sym.Selectors d) a.token a.rest a.all
       (ap (λ x. cond x (Some (row_entry _ _ (row.selector row.selector_index)))
-      (cond (kind_is w.Dot a.token.kind) (Some (row_entry _ _ (row.selector row.selector_field))) None)) a.other
+      (cond (kind_is w.Dot a.token.kind) (Some (row_entry _ _ (row.selector row.selector_field))) None)) a.differs
       ∙ ap (λ x. cond x (Some (row_entry _ _ (row.selector row.selector_field))) None) (neither a b)) refl) so.ready
       (back_of (lay_selectors (map selector_of all)))
 
@@ -295,7 +295,7 @@ module _ (source : Source) where
       → selector_of s ≡ tree.Index (expression_of e) → new ≡ all ++ s ∷ [] → MoreIndicesSoFar d before new ts left
   indices_read d e s before all new y h p q =
       item_read y h (λ v. ap (λ l. and_selectors l v) q ∙ lay_push tree.Select selector_of all s v
-      ∙ ap (λ x. and_selectors all (tree.Select x v)) (p ∙ ap tree.Index h.same))
+      ∙ ap (λ x. and_selectors all (tree.Select x v)) (p ∙ ap tree.Index h.value_is))
 
   pub indices_on : (d : ℕ) {ts rest behind : List Token} (before all : List SynSelector)
       → MoreIndicesSoFar d before all ts rest → BeginsWith source rest w.Comma behind
@@ -308,7 +308,7 @@ module _ (source : Source) where
       → Halts source (sym.AnExpression d ∷ sym.MoreIndices d ∷ []) ts e
   indices_close_halts d before all so b e h =
       halts_close row.indices_end b (ap (λ x. cond (kind_is w.CloseIndex b.token.kind)
-      (Some (row_entry _ _ row.indices_end)) (cond x (Some (row_entry _ _ row.next_index)) None)) b.other) refl
+      (Some (row_entry _ _ row.indices_end)) (cond x (Some (row_entry _ _ row.next_index)) None)) b.differs) refl
       refl so e h
 
   pub indices_close : (d : ℕ) {ts rest r : List Token} (before all : List SynSelector)
@@ -326,7 +326,7 @@ module _ (source : Source) where
 
   pub argument_start : (d : ℕ) {ts rest : List Token} (e : SynExpr) → IsExpression d ts rest e
       → ArgumentSoFar d e ts rest
-  argument_start d e h = starts h (λ v. ap (λ x. tree.Pass x v) h.same)
+  argument_start d e h = starts h (λ v. ap (λ x. tree.Pass x v) h.value_is)
 
   abbrev pub IsArgument : ℕ → List Token → List Token → SynArg → Type 0
   IsArgument d ts r a = HasRead source (sym.AnExpression d ∷ sym.AWidth d ∷ []) (λ vs. tree.Pass vs.0 vs.1.0)
@@ -336,7 +336,7 @@ module _ (source : Source) where
       → BeginsOther rest w.Colon → argument_of a ≡ tree.Pass (expression_of e) (width_of None) → IsArgument d ts rest a
   no_width d e a h b p = let so = argument_start d e h in
       ends so (skipped (sym.AWidth d) b.token b.rest b.all
-      (ap (λ x. cond x (Some (row_entry _ _ row.width)) None) b.other)
+      (ap (λ x. cond x (Some (row_entry _ _ row.width)) None) b.differs)
       refl) so.ready p
 
   pub width_halts : (d : ℕ) {ts rest behind : List Token} (e : SynExpr) → IsExpression d ts rest e
@@ -349,8 +349,8 @@ module _ (source : Source) where
       → argument_of a ≡ tree.Pass (expression_of e) (width_of (Some m)) → IsArgument d ts left a
   width_is d {left = left} e m a h b x p = ends (argument_start d e h)
       (subst (λ l. Derives text IsNestable (sym.AWidth d) l left (tree.WithWidth x.values.0)) (back_of b.all)
-      (take (row_entry _ _ row.width) refl b.token b.is tt (and (first_derived x) none))) x.ready
-      (p ∙ ap (λ y. tree.Pass (expression_of e) (tree.WithWidth y)) x.same)
+      (take (row_entry _ _ row.width) refl b.token b.token_is tt (and (first_derived x) none))) x.ready
+      (p ∙ ap (λ y. tree.Pass (expression_of e) (tree.WithWidth y)) x.value_is)
 
   abbrev pub ArgumentsSoFar : ℕ → List SynArg → List Token → List Token → Type 0
   ArgumentsSoFar d all ts rest = SoFar source (sym.AnExpression d ∷ sym.AWidth d ∷ sym.MoreArguments d ∷ [])
@@ -371,7 +371,7 @@ module _ (source : Source) where
       → ArgumentsPending d all ts rest → IsArgument d rest left a → new ≡ all ++ a ∷ [] → ArgumentsSoFar d new ts left
   arguments_read d a all new p h e = item_read p h
       (λ v. ap (λ l. and_arguments l v) e ∙ lay_push tree.AndArgument argument_of all a v
-      ∙ ap (λ x. and_arguments all (tree.AndArgument x v)) h.same)
+      ∙ ap (λ x. and_arguments all (tree.AndArgument x v)) h.value_is)
 
   pub arguments_on : (d : ℕ) {ts rest behind : List Token} (all : List SynArg) → ArgumentsSoFar d all ts rest
       → BeginsWith source rest w.Comma behind → ArgumentsPending d all ts behind
@@ -382,13 +382,13 @@ module _ (source : Source) where
       → Halts source (sym.AnExpression d ∷ sym.AWidth d ∷ sym.MoreArguments d ∷ []) ts e
   arguments_close_halts d all so b e h = halts_close row.arguments_end b
       (ap (λ x. cond (kind_is w.Close b.token.kind) (Some (row_entry _ _ row.arguments_end))
-      (cond x (Some (row_entry _ _ row.next_argument)) None)) b.other) refl refl so e h
+      (cond x (Some (row_entry _ _ row.next_argument)) None)) b.differs) refl refl so e h
 
   pub arguments_done : (d : ℕ) {ts rest r : List Token} (all : List SynArg) → ArgumentsSoFar d all ts rest
       → Expected source w.Close rest r → IsArguments d ts r all
   arguments_done d {r = r} all so h = ends so
       (subst (λ l. Derives text IsNestable (sym.MoreArguments d) l r tree.NoArgument) (back_of h.first.all)
-      (take (row_entry _ _ row.arguments_end) refl h.first.token h.first.is tt none)) h.first.ready
+      (take (row_entry _ _ row.arguments_end) refl h.first.token h.first.token_is tt none)) h.first.ready
       (back_of (lay_arguments (map argument_of all)))
 
 -- no factor begins so

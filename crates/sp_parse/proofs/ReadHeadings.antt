@@ -30,17 +30,18 @@ references_of g = record { by_reference = true; names = g.names; kind = g.kind }
 pub by_reference : {source : Source} {ts rest r : List Token} {g : SynGroup} {f : SynFormal}
     → BeginsWith source ts w.Var rest → GroupRead source rest r g
     → f ≡ record { by_reference = true; names = g.names; kind = g.kind } → FormalRead source ts r f
-by_reference b h e = row_reads row.by_reference refl b tt h (e ∙ ap references_of h.same)
+by_reference b h e = row_reads row.by_reference refl b tt h (e ∙ ap references_of h.value_is)
 
 pub by_value : {source : Source} {ts r : List Token} {g : SynGroup} {f : SynFormal} → HasTokens source ts
     → GroupRead source ts r g → f ≡ record { by_reference = false; names = g.names; kind = g.kind }
     → FormalRead source ts r f
-by_value a h e = let n = name_first a h in row_reads row.by_value refl n.begins tt n.read (e ∙ ap parameters_of n.same)
+by_value a h e = let n = name_first a h in row_reads row.by_value refl n.begins tt n.read
+    (e ∙ ap parameters_of n.value_is)
 
 pub no_formal : (source : Source) {ts : List Token} → BeginsOther ts w.Var → (e : Halt) → Halts source GroupSymbols ts e
     → Halts source (AFormal ∷ []) ts e
 no_formal source b e h = named_halts source row.by_value refl refl b.token b.rest b.all
-    (λ n. none_if _ n (none_if _ b.other refl)) refl e h
+    (λ n. none_if _ n (none_if _ b.differs refl)) refl e h
 
 abbrev pub FormalsSoFar : Source → List SynFormal → List Token → List Token → Type 0
 FormalsSoFar source all ts rest = SoFar source (AFormal ∷ MoreFormals ∷ []) (λ vs. vs.0 ∷ vs.1.0) MoreFormals
@@ -58,7 +59,7 @@ pub formals_read : {source : Source} {ts rest left : List Token} {f : SynFormal}
     → FormalsPending source all ts rest → FormalRead source rest left f → new ≡ all ++ f ∷ []
     → FormalsSoFar source new ts left
 formals_read all new p h e = item_read p h (λ fs. ap (λ l. l ++ fs) e ∙ append_assoc all _ fs
-    ∙ ap (λ f. all ++ f ∷ fs) h.same)
+    ∙ ap (λ f. all ++ f ∷ fs) h.value_is)
 
 pub formals_on : {source : Source} {ts rest behind : List Token} (all : List SynFormal)
     → FormalsSoFar source all ts rest → BeginsWith source rest w.Semicolon behind → FormalsPending source all ts behind
@@ -74,4 +75,5 @@ pub no_formals : {source : Source} {ts rest : List Token} (all : List SynFormal)
     → Halts source (AFormal ∷ MoreFormals ∷ []) ts e
 no_formals all so b e h = halts_close row.formals_end b
     (ap (λ x. cond (kind_is w.Close b.token.kind) (Some (row_entry w.Close [] row.formals_end))
-    (cond x (Some (row_entry w.Semicolon (AFormal ∷ MoreFormals ∷ []) row.next_formal)) None)) b.other) refl refl so e h
+    (cond x (Some (row_entry w.Semicolon (AFormal ∷ MoreFormals ∷ []) row.next_formal)) None)) b.differs) refl refl so
+    e h

@@ -45,7 +45,7 @@ pub names_read : {source : Source} {ts rest left : List Token} {n : Name} (all n
     → NamesPending source all ts rest → HasRead source (AName ∷ []) (λ vs. vs.0) (λ (n : Name). n) rest left n
     → new ≡ all ++ n ∷ [] → NamesSoFar source new ts left
 names_read all new p h e = item_read p h (λ ns. ap (λ l. l ++ ns) e ∙ append_assoc all _ ns
-    ∙ ap (λ n. all ++ n ∷ ns) h.same)
+    ∙ ap (λ n. all ++ n ∷ ns) h.value_is)
 
 pub names_on : {source : Source} {ts rest behind : List Token} (all : List Name) → NamesSoFar source all ts rest
     → BeginsWith source rest w.Comma behind → NamesPending source all ts behind
@@ -55,4 +55,4 @@ pub names_end : {source : Source} {ts rest : List Token} (all : List Name) → N
     → BeginsOther rest w.Comma → HasRead source (AName ∷ MoreNames ∷ []) (λ vs. vs.0 ∷ vs.1.0) (λ (ns : List Name). ns)
     ts rest all
 names_end all so b = ends so (skipped MoreNames b.token b.rest b.all
-    (ap (λ x. cond x (Some (row_entry _ _ row.next_name)) None) b.other) refl) so.ready (back_of (append-nil all))
+    (ap (λ x. cond x (Some (row_entry _ _ row.next_name)) None) b.differs) refl) so.ready (back_of (append-nil all))

@@ -43,7 +43,7 @@ variable_same p = ap variable_of p
 
 has_name : {source : Source} {ts r : List Token} {A : Type 0} (b : BeginsWith source ts kind.Name r)
     → kind_is kind.Name b.token.kind ≡ false → A
-has_name b n = absurd (let x : true ≡ false = back_of (ap (kind_is kind.Name) b.is) ∙ n in cc)
+has_name b n = absurd (let x : true ≡ false = back_of (ap (kind_is kind.Name) b.token_is) ∙ n in cc)
 
 -- constants
 abbrev pub ConstantsRead : Source → List Token → List Token → SynPart → Type 0
@@ -73,7 +73,7 @@ pub constants_read : {source : Source} {ts rest left : List Token} {p : SynPart}
     → (d : ℕ) → ConstantsSoFar source d before new ts left
 constants_read {p = p} before all new y h e d =
     item_read (y d) h (λ b. ap (λ l. and_parts l b) e ∙ part_behind all p b
-    ∙ ap (λ q. and_parts all (with_part_first q b)) h.same)
+    ∙ ap (λ q. and_parts all (with_part_first q b)) h.value_is)
 
 pub constants_on : {source : Source} {ts rest behind : List Token} (before all : List SynPart)
     → ((d : ℕ) → ConstantsSoFar source d before all ts rest) → BeginsWith source rest kind.Name behind → (d : ℕ)
@@ -95,16 +95,19 @@ pub constants_end : {source : Source} {ts rest : List Token} (before all : List 
     (λ vs. and_parts before (with_part_first (tree.Const vs.0 vs.1.1.0) vs.1.1.1.1.0)) (Parts d)
     (λ b. and_parts all b) ts rest
 constants_end {source} {ts} {rest} before all so b d = record {
-  is = λ r v x. (so d).is r v (subst (λ l. Derives source.text.now IsNestable (MoreConstants d) l r v) (back_of b.all)
+  derives = λ r v x. (so d).derives r v
+      (subst (λ l. Derives source.text.now IsNestable (MoreConstants d) l r v) (back_of b.all)
       (bare_derives source (PartsRow d) (MoreConstants d) (Parts d) (λ e. row.after_constants e.row)
       (λ e. row.parts e.row) (λ v. v) (λ e t us. refl) b.token b.rest r (look (parts_rows d) b.token.kind)
-      (look_constants d b.token b.other ∙ look_map (λ e. row_entry e.key e.left (row.after_constants e.row)) (λ e. refl)
+      (look_constants d b.token b.differs
+      ∙ look_map (λ e. row_entry e.key e.left (row.after_constants e.row)) (λ e. refl)
       (parts_rows d) b.token.kind) (look_map (λ e. row_entry e.key e.left (row.parts e.row)) (λ e. refl) (parts_rows d)
       b.token.kind) refl tt (subst (λ l. Derives source.text.now IsNestable (Parts d) l r v) b.all x)));
   leads = λ q. (so d).leads q ∙ ap (λ l. breaks source l (MoreConstants d ∷ q)) b.all
       ∙ bare_leads source (PartsRow d) (MoreConstants d) (Parts d) (λ e. row.after_constants e.row)
       (λ e. row.parts e.row) b.token b.rest (look (parts_rows d) b.token.kind)
-      (look_constants d b.token b.other ∙ look_map (λ e. row_entry e.key e.left (row.after_constants e.row)) (λ e. refl)
+      (look_constants d b.token b.differs
+      ∙ look_map (λ e. row_entry e.key e.left (row.after_constants e.row)) (λ e. refl)
       (parts_rows d) b.token.kind) (look_map (λ e. row_entry e.key e.left (row.parts e.row)) (λ e. refl) (parts_rows d)
       b.token.kind) refl refl refl refl q ∙ ap (λ l. breaks source l (Parts d ∷ q)) (back_of b.all);
   shorter = (so d).shorter;
@@ -138,7 +141,7 @@ pub types_read : {source : Source} {ts rest left : List Token} {p : SynPart} (be
     → ((d : ℕ) → TypesPending source d before all ts rest) → TypesRead source rest left p → new ≡ all ++ p ∷ []
     → (d : ℕ) → TypesSoFar source d before new ts left
 types_read {p = p} before all new y h e d = item_read (y d) h
-    (λ b. ap (λ l. and_parts l b) e ∙ part_behind all p b ∙ ap (λ q. and_parts all (with_part_first q b)) h.same)
+    (λ b. ap (λ l. and_parts l b) e ∙ part_behind all p b ∙ ap (λ q. and_parts all (with_part_first q b)) h.value_is)
 
 pub types_on : {source : Source} {ts rest behind : List Token} (before all : List SynPart)
     → ((d : ℕ) → TypesSoFar source d before all ts rest) → BeginsWith source rest kind.Name behind → (d : ℕ)
@@ -160,16 +163,17 @@ pub types_end : {source : Source} {ts rest : List Token} (before all : List SynP
     (λ vs. and_parts before (with_part_first (tree.Kind vs.0 vs.1.1.0) vs.1.1.1.1.0)) (Parts d)
     (λ b. and_parts all b) ts rest
 types_end {source} {ts} {rest} before all so b d = record {
-  is = λ r v x. (so d).is r v (subst (λ l. Derives source.text.now IsNestable (MoreTypes d) l r v) (back_of b.all)
+  derives = λ r v x. (so d).derives r v
+      (subst (λ l. Derives source.text.now IsNestable (MoreTypes d) l r v) (back_of b.all)
       (bare_derives source (PartsRow d) (MoreTypes d) (Parts d) (λ e. row.after_types e.row) (λ e. row.parts e.row)
       (λ v. v) (λ e t us. refl) b.token b.rest r (look (parts_rows d) b.token.kind)
-      (look_types d b.token b.other ∙ look_map (λ e. row_entry e.key e.left (row.after_types e.row)) (λ e. refl)
+      (look_types d b.token b.differs ∙ look_map (λ e. row_entry e.key e.left (row.after_types e.row)) (λ e. refl)
       (parts_rows d) b.token.kind) (look_map (λ e. row_entry e.key e.left (row.parts e.row)) (λ e. refl) (parts_rows d)
       b.token.kind) refl tt (subst (λ l. Derives source.text.now IsNestable (Parts d) l r v) b.all x)));
   leads = λ q. (so d).leads q ∙ ap (λ l. breaks source l (MoreTypes d ∷ q)) b.all
       ∙ bare_leads source (PartsRow d) (MoreTypes d) (Parts d) (λ e. row.after_types e.row) (λ e. row.parts e.row)
       b.token b.rest (look (parts_rows d) b.token.kind)
-      (look_types d b.token b.other ∙ look_map (λ e. row_entry e.key e.left (row.after_types e.row)) (λ e. refl)
+      (look_types d b.token b.differs ∙ look_map (λ e. row_entry e.key e.left (row.after_types e.row)) (λ e. refl)
       (parts_rows d) b.token.kind) (look_map (λ e. row_entry e.key e.left (row.parts e.row)) (λ e. refl) (parts_rows d)
       b.token.kind) refl refl refl refl q ∙ ap (λ l. breaks source l (Parts d ∷ q)) (back_of b.all);
   shorter = (so d).shorter;
@@ -203,7 +207,7 @@ pub variables_read : {source : Source} {ts rest left : List Token} {p : SynPart}
     → (d : ℕ) → VariablesSoFar source d before new ts left
 variables_read {p = p} before all new y h e d =
     item_read (y d) h (λ b. ap (λ l. and_parts l b) e ∙ part_behind all p b
-    ∙ ap (λ q. and_parts all (with_part_first q b)) h.same)
+    ∙ ap (λ q. and_parts all (with_part_first q b)) h.value_is)
 
 pub variables_on : {source : Source} {ts rest behind : List Token} (before all : List SynPart)
     → ((d : ℕ) → VariablesSoFar source d before all ts rest) → BeginsWith source rest kind.Name behind → (d : ℕ)
@@ -225,16 +229,19 @@ pub variables_end : {source : Source} {ts rest : List Token} (before all : List 
     (λ vs. and_parts before (with_part_first (tree.Var (vs.0 ∷ vs.1.0) vs.1.1.1.0) vs.1.1.1.1.1.0)) (Parts d)
     (λ b. and_parts all b) ts rest
 variables_end {source} {ts} {rest} before all so b d = record {
-  is = λ r v x. (so d).is r v (subst (λ l. Derives source.text.now IsNestable (MoreVariables d) l r v) (back_of b.all)
+  derives = λ r v x. (so d).derives r v
+      (subst (λ l. Derives source.text.now IsNestable (MoreVariables d) l r v) (back_of b.all)
       (bare_derives source (PartsRow d) (MoreVariables d) (Parts d) (λ e. row.after_variables e.row)
       (λ e. row.parts e.row) (λ v. v) (λ e t us. refl) b.token b.rest r (look (parts_rows d) b.token.kind)
-      (look_variables d b.token b.other ∙ look_map (λ e. row_entry e.key e.left (row.after_variables e.row)) (λ e. refl)
+      (look_variables d b.token b.differs
+      ∙ look_map (λ e. row_entry e.key e.left (row.after_variables e.row)) (λ e. refl)
       (parts_rows d) b.token.kind) (look_map (λ e. row_entry e.key e.left (row.parts e.row)) (λ e. refl) (parts_rows d)
       b.token.kind) refl tt (subst (λ l. Derives source.text.now IsNestable (Parts d) l r v) b.all x)));
   leads = λ q. (so d).leads q ∙ ap (λ l. breaks source l (MoreVariables d ∷ q)) b.all
       ∙ bare_leads source (PartsRow d) (MoreVariables d) (Parts d) (λ e. row.after_variables e.row)
       (λ e. row.parts e.row) b.token b.rest (look (parts_rows d) b.token.kind)
-      (look_variables d b.token b.other ∙ look_map (λ e. row_entry e.key e.left (row.after_variables e.row)) (λ e. refl)
+      (look_variables d b.token b.differs
+      ∙ look_map (λ e. row_entry e.key e.left (row.after_variables e.row)) (λ e. refl)
       (parts_rows d) b.token.kind) (look_map (λ e. row_entry e.key e.left (row.parts e.row)) (λ e. refl) (parts_rows d)
       b.token.kind) refl refl refl refl q ∙ ap (λ l. breaks source l (Parts d ∷ q)) (back_of b.all);
   shorter = (so d).shorter;

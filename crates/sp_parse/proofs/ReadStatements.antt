@@ -112,7 +112,7 @@ module _ (source : Source) where
   pub call_is : (d : ℕ) {ts rest r : List Token} (at : Place) (n : Name) (args : List SynArg) (s : SynStmt)
       → BeginsWith source ts w.Open rest → IsArguments source d rest r args
       → statement_of s ≡ tree.Does at (tree.Call n (arguments_of args)) → IsAfterName d at n ts r s
-  call_is d at n args s b h e = row_reads row.call refl b tt h (e ∙ ap (λ a. tree.Does at (tree.Call n a)) h.same)
+  call_is d at n args s b h e = row_reads row.call refl b tt h (e ∙ ap (λ a. tree.Does at (tree.Call n a)) h.value_is)
 
   pub becomes_halts : (d : ℕ) {ts rest : List Token} → BeginsWith source ts w.Becomes rest → (e : Halt)
       → Halts source (sym.AnExpression d ∷ []) rest e → Halts source (sym.AfterName d ∷ []) ts e
@@ -122,7 +122,7 @@ module _ (source : Source) where
       → BeginsWith source ts w.Becomes rest → IsExpression source d rest r x → variable_of v ≡ tree.Entire n tree.Whole
       → statement_of s ≡ tree.Does at (tree.Assign (variable_of v) (expression_of x)) → IsAfterName d at n ts r s
   becomes_is d at n v x s b h p e = row_reads row.becomes refl b tt h
-      (e ∙ (λ i. tree.Does at (tree.Assign (p i) (h.same i))))
+      (e ∙ (λ i. tree.Does at (tree.Assign (p i) (h.value_is i))))
 
   pub plain_call : (d : ℕ) {ts r : List Token} {t : Token} (at : Place) (n : Name) (s : SynStmt) → HasTokens source ts
       → HasFirstToken source ts t r → look (rows (sym.AfterName d)) t.kind ≡ None
@@ -181,7 +181,7 @@ module _ (source : Source) where
         → ParsesAs source (production (sym.Selectors d ∷ sym.AToken w.Becomes ∷ sym.AnExpression d ∷ [])
         (λ vs. tree.Does at (tree.Assign (tree.Entire n vs.0) vs.1.1.0))) statement_of (t ∷ ts) result
         → ParsesAs source (production (sym.AfterName d ∷ []) (λ vs. tree.Does at (vs.0 n))) statement_of (t ∷ ts) result
-    target_at at n (Ok x) h = has_read h.ready (and (target_all h.derives) none) h.same
+    target_at at n (Ok x) h = has_read h.ready (and (target_all h.derives) none) h.value_is
     target_at at n (Err x) h = halts_same source (sym.AfterName d ∷ [])
         (sym.Selectors d ∷ sym.AToken w.Becomes ∷ sym.AnExpression d ∷ []) (t ∷ ts) (t ∷ ts) target_leads x h
 
@@ -235,7 +235,7 @@ module _ (source : Source) where
       → StatementsSoFar d new ts left
   statements_read d s all new p h e = item_read p h
       (λ v. ap (λ l. and_statements l v) e ∙ lay_push tree.AndThen statement_of all s v
-      ∙ ap (λ x. and_statements all (tree.AndThen x v)) h.same)
+      ∙ ap (λ x. and_statements all (tree.AndThen x v)) h.value_is)
 
   pub statements_on : (d : ℕ) {ts rest behind : List Token} (all : List SynStmt) → StatementsSoFar d all ts rest
       → BeginsWith source rest w.Semicolon behind → StatementsPending d all ts behind
@@ -244,7 +244,7 @@ module _ (source : Source) where
   pub statements_done : (d : ℕ) {ts rest : List Token} (all : List SynStmt) → StatementsSoFar d all ts rest
       → BeginsOther rest w.Semicolon → AreStatements d ts rest all
   statements_done d all so b = ends so (skipped (sym.MoreStatements d) b.token b.rest b.all
-      (ap (λ x. cond x (Some (row_entry _ _ row.next_statement)) None) b.other) refl) so.ready
+      (ap (λ x. cond x (Some (row_entry _ _ row.next_statement)) None) b.differs) refl) so.ready
       (back_of (lay_statements (map statement_of all)))
 
   compound_all : (d : ℕ) {ts rest r : List Token} (all : List SynStmt)
@@ -258,7 +258,7 @@ module _ (source : Source) where
   pub compound_is : (d : ℕ) {ts rest r : List Token} (all : List SynStmt) → AreStatements d ts rest all
       → Expected source w.End rest r → HasRead source (sym.AStatement d ∷ sym.MoreStatements d ∷ sym.AToken w.End ∷ [])
       (λ vs. tree.AndThen vs.0 vs.1.0) statements_of ts r all
-  compound_is d all h x = compound_all d all h.derives h.same x
+  compound_is d all h x = compound_all d all h.derives h.value_is x
 
   pub sequence_is : (d : ℕ) {ts r : List Token} (at : Place) (all : List SynStmt) (s : SynStmt)
       → HasRead source (sym.AStatement d ∷ sym.MoreStatements d ∷ sym.AToken w.End ∷ [])
@@ -266,7 +266,7 @@ module _ (source : Source) where
       → statement_of s ≡ tree.Does at (tree.Sequence (statements_of all))
       → HasRead source (sym.AStatement d ∷ sym.MoreStatements d ∷ sym.AToken w.End ∷ [])
       (λ vs. tree.Does at (tree.Sequence (tree.AndThen vs.0 vs.1.0))) statement_of ts r s
-  sequence_is d at all s h e = has_read h.ready h.derives (e ∙ ap (λ x. tree.Does at (tree.Sequence x)) h.same)
+  sequence_is d at all s h e = has_read h.ready h.derives (e ∙ ap (λ x. tree.Does at (tree.Sequence x)) h.value_is)
 
   -- a condition last
   repeat_all : (d : ℕ) {ts rest behind r : List Token} (at : Place) (all : List SynStmt) (x : SynExpr) (s : SynStmt)
@@ -279,20 +279,20 @@ module _ (source : Source) where
       (λ vs. tree.Does at (tree.Repeat (tree.AndThen vs.0 vs.1.0) vs.1.1.1.0)) statement_of ts r s
   repeat_all d at all x s (and a (and b none)) p u h e =
       has_read h.ready (and a (and b (and (expected u) (and (first_derived h) none))))
-      (e ∙ (λ i. tree.Does at (tree.Repeat (p i) (h.same i))))
+      (e ∙ (λ i. tree.Does at (tree.Repeat (p i) (h.value_is i))))
 
   pub repeat_is : (d : ℕ) {ts rest behind r : List Token} (at : Place) (all : List SynStmt) (x : SynExpr) (s : SynStmt)
       → AreStatements d ts rest all → Expected source w.Until rest behind → IsExpression source d behind r x
       → statement_of s ≡ tree.Does at (tree.Repeat (statements_of all) (expression_of x))
       → HasRead source (sym.AStatement d ∷ sym.MoreStatements d ∷ sym.AToken w.Until ∷ sym.AnExpression d ∷ [])
       (λ vs. tree.Does at (tree.Repeat (tree.AndThen vs.0 vs.1.0) vs.1.1.1.0)) statement_of ts r s
-  repeat_is d at all x s h u y e = repeat_all d at all x s h.derives h.same u y e
+  repeat_is d at all x s h u y e = repeat_all d at all x s h.derives h.value_is u y e
 
   -- behind `else`
   pub no_other : (d : ℕ) {ts : List Token} → HasTokens source ts → BeginsOther ts w.Else
       → HasRead source (sym.AnElse d ∷ []) (λ vs. vs.0) other_of ts ts None
   no_other d a b = has_read a (and (skipped (sym.AnElse d) b.token b.rest b.all
-      (ap (λ x. cond x (Some (row_entry _ _ row.other)) None) b.other) refl) none) refl
+      (ap (λ x. cond x (Some (row_entry _ _ row.other)) None) b.differs) refl) none) refl
 
   pub other_halts : (d : ℕ) {ts rest : List Token} → BeginsWith source ts w.Else rest → (e : Halt)
       → Halts source (sym.AStatement d ∷ []) rest e → Halts source (sym.AnElse d ∷ []) ts e
@@ -300,7 +300,8 @@ module _ (source : Source) where
 
   pub other_is : (d : ℕ) {ts rest r : List Token} (s o : SynStmt) → BeginsWith source ts w.Else rest
       → IsStatement d rest r s → o ≡ s → HasRead source (sym.AnElse d ∷ []) (λ vs. vs.0) other_of ts r (Some o)
-  other_is d s o b h e = row_reads row.other refl b tt h (ap (λ x. tree.Else (statement_of x)) e ∙ ap tree.Else h.same)
+  other_is d s o b h e = row_reads row.other refl b tt h
+      (ap (λ x. tree.Else (statement_of x)) e ∙ ap tree.Else h.value_is)
 
   -- constants of an arm
   abbrev pub IsConstant : List Token → List Token → SynConst → Type 0
@@ -320,7 +321,7 @@ module _ (source : Source) where
   pub labels_read : {ts rest left : List Token} (c : SynConst) (all new : List SynConst) → LabelsPending all ts rest
       → IsConstant rest left c → new ≡ all ++ c ∷ [] → LabelsSoFar new ts left
   labels_read c all new p h e = item_read p h
-      (λ v. ap (λ l. l ++ v) e ∙ append_assoc all _ v ∙ ap (λ c. all ++ c ∷ v) h.same)
+      (λ v. ap (λ l. l ++ v) e ∙ append_assoc all _ v ∙ ap (λ c. all ++ c ∷ v) h.value_is)
 
   pub labels_on : {ts rest behind : List Token} (all : List SynConst) → LabelsSoFar all ts rest
       → BeginsWith source rest w.Comma behind → LabelsPending all ts behind
@@ -331,14 +332,14 @@ module _ (source : Source) where
       → Halts source (sym.AConstant ∷ sym.MoreLabels ∷ []) ts e
   labels_close_halt all so b e h = halts_close row.labels_end b
       (ap (λ x. cond (kind_is w.Colon b.token.kind) (Some (row_entry _ _ row.labels_end))
-      (cond x (Some (row_entry _ _ row.next_label)) None)) b.other) refl refl so e h
+      (cond x (Some (row_entry _ _ row.next_label)) None)) b.differs) refl refl so e h
 
   pub labels_done : {ts rest r : List Token} (all : List SynConst) → LabelsSoFar all ts rest
       → Expected source w.Colon rest r → HasRead source (sym.AConstant ∷ sym.MoreLabels ∷ []) (λ vs. vs.0 ∷ vs.1.0)
       (λ (cs : List SynConst). cs) ts r all
   labels_done {r = r} all so h =
       ends so (subst (λ l. Derives text IsNestable sym.MoreLabels l r []) (back_of h.first.all)
-      (take (row_entry _ _ row.labels_end) refl h.first.token h.first.is tt none)) h.first.ready
+      (take (row_entry _ _ row.labels_end) refl h.first.token h.first.token_is tt none)) h.first.ready
       (back_of (append-nil all))
 
   -- arms
@@ -351,12 +352,12 @@ module _ (source : Source) where
       → DerivesAll text IsNestable (sym.AConstant ∷ sym.MoreLabels ∷ []) ts rest vs → cs ≡ vs.0 ∷ vs.1.0
       → IsStatement d rest r s → arm_of a ≡ tree.On cs (statement_of s) → IsArm d ts r a
   arm_all d cs s a (and x (and y none)) p h e =
-      has_read h.ready (and x (and y (and (first_derived h) none))) (e ∙ (λ i. tree.On (p i) (h.same i)))
+      has_read h.ready (and x (and y (and (first_derived h) none))) (e ∙ (λ i. tree.On (p i) (h.value_is i)))
 
   pub arm_is : (d : ℕ) {ts rest r : List Token} (cs : List SynConst) (s : SynStmt) (a : SynArm)
       → HasRead source (sym.AConstant ∷ sym.MoreLabels ∷ []) (λ vs. vs.0 ∷ vs.1.0) (λ (cs : List SynConst). cs) ts rest
       cs → IsStatement d rest r s → arm_of a ≡ tree.On cs (statement_of s) → IsArm d ts r a
-  arm_is d cs s a h x e = arm_all d cs s a h.derives h.same x e
+  arm_is d cs s a h x e = arm_all d cs s a h.derives h.value_is x e
 
   abbrev pub ArmsSoFar : ℕ → List SynArm → List Token → List Token → Type 0
   ArmsSoFar d all ts rest = SoFar source (sym.AConstant ∷ sym.MoreLabels ∷ sym.AStatement d ∷ sym.MoreArms d ∷ [])
@@ -380,7 +381,8 @@ module _ (source : Source) where
   pub arms_read : (d : ℕ) {ts rest left : List Token} (a : SynArm) (all new : List SynArm) → ArmsPending d all ts rest
       → IsArm d rest left a → new ≡ all ++ a ∷ [] → ArmsSoFar d new ts left
   arms_read d a all new p h e = item_read p h
-      (λ v. ap (λ l. and_arms l v) e ∙ lay_push tree.Or arm_of all a v ∙ ap (λ x. and_arms all (tree.Or x v)) h.same)
+      (λ v. ap (λ l. and_arms l v) e ∙ lay_push tree.Or arm_of all a v
+      ∙ ap (λ x. and_arms all (tree.Or x v)) h.value_is)
 
   module _ (d : ℕ) (t : Token) (ts : List Token) (n : kind_is w.End t.kind ≡ false) where
     abbrev as_arm : RowEntry ConstantRow → RowEntry (Row (sym.ArmOrEnd d))
@@ -427,7 +429,8 @@ module _ (source : Source) where
         (λ vs. tree.Or (tree.On (vs.0 ∷ vs.1.0) vs.1.1.0) vs.1.1.1.0) (sym.ArmOrEnd d ∷ []) (λ vs. and_arms all vs.0) us
         (t ∷ ts) → ArmsPending d all us (t ∷ ts)
     an_arm_at all p = record {
-      is = λ r vs y. p.is r (tree.Or (tree.On (vs.0 ∷ vs.1.0) vs.1.1.0) vs.1.1.1.0, tt) (and (arm_derives y) none);
+      derives = λ r vs y. p.derives r (tree.Or (tree.On (vs.0 ∷ vs.1.0) vs.1.1.0) vs.1.1.1.0, tt)
+          (and (arm_derives y) none);
       leads = λ q. p.leads q ∙ arm_leads_at q;
       shorter = p.shorter;
       ready = p.ready;
@@ -440,7 +443,7 @@ module _ (source : Source) where
       (λ vs. tree.Or (tree.On (vs.0 ∷ vs.1.0) vs.1.1.0) vs.1.1.1.0) (sym.ArmOrEnd d ∷ []) (λ vs. and_arms all vs.0)
       ts _ = round_on row.arms_go_on refl refl so b (λ vs. refl) in
       subst (λ l. ArmsPending d all ts l) (back_of n.all)
-      (an_arm_at d n.token n.rest n.other all
+      (an_arm_at d n.token n.rest n.differs all
       (subst (λ l. Pending source (sym.AConstant ∷ sym.MoreLabels ∷ sym.AStatement d ∷ sym.MoreArms d ∷ [])
       (λ vs. tree.Or (tree.On (vs.0 ∷ vs.1.0) vs.1.1.0) vs.1.1.1.0) (sym.ArmOrEnd d ∷ []) (λ vs. and_arms all vs.0)
       ts l) n.all p))
@@ -458,9 +461,9 @@ module _ (source : Source) where
   arms_last d {r = r} all so b n =
       ends so
       (subst (λ l. Derives text IsNestable (sym.MoreArms d) l r tree.NoArm) (back_of b.all)
-      (take (row_entry _ _ row.arms_go_on) refl b.token b.is tt
+      (take (row_entry _ _ row.arms_go_on) refl b.token b.token_is tt
       (and (subst (λ l. Derives text IsNestable (sym.ArmOrEnd d) l r tree.NoArm) (back_of n.all)
-      (take (row_entry _ _ row.no_arm) refl n.token n.is tt none)) none)))
+      (take (row_entry _ _ row.no_arm) refl n.token n.token_is tt none)) none)))
       n.ready (no_more_arms all)
 
   pub arms_close_halt : (d : ℕ) {ts rest : List Token} (all : List SynArm) → ArmsSoFar d all ts rest
@@ -468,12 +471,13 @@ module _ (source : Source) where
       → Halts source (sym.AConstant ∷ sym.MoreLabels ∷ sym.AStatement d ∷ sym.MoreArms d ∷ []) ts e
   arms_close_halt d all so b e h = halts_close row.arms_end b
       (ap (λ x. cond (kind_is w.End b.token.kind) (Some (row_entry _ _ row.arms_end))
-      (cond x (Some (row_entry _ _ row.arms_go_on)) None)) b.other) refl refl so e h
+      (cond x (Some (row_entry _ _ row.arms_go_on)) None)) b.differs) refl refl so e h
 
   pub arms_done : (d : ℕ) {ts rest r : List Token} (all : List SynArm) → ArmsSoFar d all ts rest
       → Expected source w.End rest r → AreArms d ts r all
   arms_done d {r = r} all so h = ends so (subst (λ l. Derives text IsNestable (sym.MoreArms d) l r tree.NoArm)
-      (back_of h.first.all) (take (row_entry _ _ row.arms_end) refl h.first.token h.first.is tt none)) h.first.ready
+      (back_of h.first.all)
+      (take (row_entry _ _ row.arms_end) refl h.first.token h.first.token_is tt none)) h.first.ready
       (no_more_arms all)
 
   -- processes
@@ -501,7 +505,7 @@ module _ (source : Source) where
       → new ≡ all ++ x ∷ [] → BranchesSoFar d new ts left
   branches_read d ss x all new p h y e = item_read p h
       (λ v. ap (λ l. and_branches l v) e ∙ lay_push tree.Beside branch_of all x v
-      ∙ ap (λ z. and_branches all (tree.Beside z v)) (y ∙ h.same))
+      ∙ ap (λ z. and_branches all (tree.Beside z v)) (y ∙ h.value_is))
 
   pub branches_on : (d : ℕ) {ts rest behind : List Token} (all : List SynBranch) → BranchesSoFar d all ts rest
       → BeginsWith source rest w.Bar behind → BranchesPending d all ts behind
@@ -512,17 +516,17 @@ module _ (source : Source) where
       → Halts source (sym.AStatement d ∷ sym.MoreStatements d ∷ sym.MoreBranches d ∷ []) ts e
   branches_close_halt d all so b e h = halts_close row.branches_end b
       (ap (λ x. cond (kind_is w.End b.token.kind) (Some (row_entry _ _ row.branches_end))
-      (cond x (Some (row_entry _ _ row.next_branch)) None)) b.other) refl refl so e h
+      (cond x (Some (row_entry _ _ row.next_branch)) None)) b.differs) refl refl so e h
 
   pub branches_done : (d : ℕ) {ts rest r : List Token} (all : List SynBranch) → BranchesSoFar d all ts rest
       → Expected source w.End rest r → AreBranches d ts r all
   branches_done d {r = r} all so h = ends so
       (subst (λ l. Derives text IsNestable (sym.MoreBranches d) l r tree.NoBranch) (back_of h.first.all)
-      (take (row_entry _ _ row.branches_end) refl h.first.token h.first.is tt none)) h.first.ready
+      (take (row_entry _ _ row.branches_end) refl h.first.token h.first.token_is tt none)) h.first.ready
       (back_of (lay_branches (map branch_of all)))
 
   pub parallel_is : (d : ℕ) {ts r : List Token} (at : Place) (all : List SynBranch) (s : SynStmt)
       → AreBranches d ts r all → statement_of s ≡ tree.Does at (tree.Parallel (branches_of all))
       → HasRead source (sym.AStatement d ∷ sym.MoreStatements d ∷ sym.MoreBranches d ∷ [])
       (λ vs. tree.Does at (tree.Parallel (tree.Beside (tree.AndThen vs.0 vs.1.0) vs.1.1.0))) statement_of ts r s
-  parallel_is d at all s h e = has_read h.ready h.derives (e ∙ ap (λ x. tree.Does at (tree.Parallel x)) h.same)
+  parallel_is d at all s h e = has_read h.ready h.derives (e ∙ ap (λ x. tree.Does at (tree.Parallel x)) h.value_is)

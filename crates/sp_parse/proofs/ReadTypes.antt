@@ -68,7 +68,7 @@ pub fields_read : {source : Source} {ts rest left : List Token} {g : SynGroup} (
     → FieldsPending source all ts rest → GroupRead source rest left g → new ≡ all ++ g ∷ []
     → FieldsSoFar source new ts left
 fields_read {g = g} all new p h e = item_read p h
-    (λ gs. ap (λ l. l ++ gs) e ∙ append_assoc all (g ∷ []) gs ∙ ap (λ g. all ++ g ∷ gs) h.same)
+    (λ gs. ap (λ l. l ++ gs) e ∙ append_assoc all (g ∷ []) gs ∙ ap (λ g. all ++ g ∷ gs) h.value_is)
 
 pub fields_on : {source : Source} {ts rest behind : List Token} (all : List SynGroup) → FieldsSoFar source all ts rest
     → BeginsWith source rest w.Semicolon behind → FieldsUpTo source all ts behind
@@ -78,7 +78,7 @@ fields_on all so b = chain row.fields_go_on refl refl so b
 pub fields_next : {source : Source} {ts rest : List Token} (all : List SynGroup) → FieldsUpTo source all ts rest
     → BeginsOther rest w.End → FieldsPending source all ts rest
 fields_next all so b = round_at row.next_field refl refl so b.token b.rest b.all
-    (λ n. none_if _ b.other (none_if _ n refl)) refl (λ t vs. refl)
+    (λ n. none_if _ b.differs (none_if _ n refl)) refl (λ t vs. refl)
 
 pub fields_close : {source : Source} {ts rest r : List Token} (all : List SynGroup) → FieldsSoFar source all ts rest
     → BeginsWith source rest w.End r → HasRead source (AName ∷ MoreNames ∷ AToken w.Colon ∷ AName ∷ MoreFields ∷ [])
@@ -95,4 +95,4 @@ pub no_fields : {source : Source} {ts rest : List Token} (all : List SynGroup) �
     → Halts source (AName ∷ MoreNames ∷ AToken w.Colon ∷ AName ∷ MoreFields ∷ []) ts e
 no_fields all so b e h = halts_close row.fields_end b
     (ap (λ x. cond (kind_is w.End b.token.kind) (Some (row_entry w.End [] row.fields_end))
-    (cond x (Some (row_entry w.Semicolon (FieldOrEnd ∷ []) row.fields_go_on)) None)) b.other) refl refl so e h
+    (cond x (Some (row_entry w.Semicolon (FieldOrEnd ∷ []) row.fields_go_on)) None)) b.differs) refl refl so e h

@@ -21,7 +21,7 @@ use Rattle.sp_parse.proofs.Declares.{name_token, named_leads}
 
 pub record Pending {V : Type 0} (source : Source) (l : List Symbol) (of : Values l → V) (p : List Symbol)
     (gives : Values p → V) (ts rest : List Token) : Type 0 where
-  pub is : (r : List Token) (vs : Values p) → DerivesAll source.text.now IsNestable p rest r vs → (ws : Values l)
+  pub derives : (r : List Token) (vs : Values p) → DerivesAll source.text.now IsNestable p rest r vs → (ws : Values l)
       × DerivesAll source.text.now IsNestable l ts r ws × (gives vs ≡ of ws)
   pub leads : (q : List Symbol) → breaks source ts (l ++ q) ≡ breaks source rest (p ++ q)
   pub shorter : length rest ≤ length ts
@@ -30,7 +30,7 @@ pub record Pending {V : Type 0} (source : Source) (l : List Symbol) (of : Values
 -- nothing is read yet
 pub none_read : {V : Type 0} {source : Source} {l : List Symbol} {of gives : Values l → V} {ts : List Token}
     → ((vs : Values l) → gives vs ≡ of vs) → HasTokens source ts → Pending source l of l gives ts ts
-none_read e a = record { is = λ r vs d. (vs, d, e vs); leads = λ q. refl; shorter = omega arith; ready = a }
+none_read e a = record { derives = λ r vs d. (vs, d, e vs); leads = λ q. refl; shorter = omega arith; ready = a }
 
 -- an item is read
 pub item_read : {X U V : Type 0} {source : Source} {l : List Symbol} {of : Values l → V} {a : List Symbol} {s : Symbol}
@@ -39,8 +39,8 @@ pub item_read : {X U V : Type 0} {source : Source} {l : List Symbol} {of : Value
     → (h : HasRead source a from plain rest left x) → ((v : Value s) → new v ≡ gives (glue a s h.values v))
     → SoFar source l of s new ts left
 item_read {source = source} {a = a} {s = s} {rest = rest} p h e = record {
-  is = λ r v d.
-      let i = p.is r (glue a s h.values v) (glue_all a s h.derives d) in
+  derives = λ r v d.
+      let i = p.derives r (glue a s h.values v) (glue_all a s h.derives d) in
       (i.0, i.1, e v ∙ i.2);
   leads = λ q. p.leads q ∙ ap (breaks source rest) (append_assoc a (s ∷ []) q) ∙ h.leads (s ∷ q);
   shorter = omega (arith, p.shorter, h.shorter);
@@ -54,15 +54,15 @@ pub round_on : {V : Type 0} {source : Source} {l : List Symbol} {of : Values l �
     → (b : BeginsWith source rest k behind) → ((vs : Values m) → new vs ≡ gives (build source.text.now row b.token vs))
     → Pending source l of m new ts behind
 round_on {source = source} {s = s} {m = m} {behind = behind} {k = k} row found whole so b e = record {
-  is = λ r vs d.
+  derives = λ r vs d.
       let text = source.text.now in
-      let i = so.is r (build text row b.token vs)
+      let i = so.derives r (build text row b.token vs)
       (subst (λ l. Derives text IsNestable s l r (build text row b.token vs)) (back_of b.all)
-      (take (row_entry k m row) found b.token b.is
+      (take (row_entry k m row) found b.token b.token_is
       (subst (λ p. MayBegin IsNestable p (b.token ∷ behind)) (back_of whole) tt) d)) in
       (i.0, i.1, e vs ∙ i.2);
   leads = λ q. so.leads q ∙ ap (λ l. breaks source l (s ∷ q)) b.all
-      ∙ step_takes source s b.token behind (row_entry k m row) (ap (look (rows s)) b.is ∙ found)
+      ∙ step_takes source s b.token behind (row_entry k m row) (ap (look (rows s)) b.token_is ∙ found)
       (ap (allows (Some nesting)) whole) q;
   shorter = omega (arith, so.shorter, ap length b.all);
   ready = b.ready;
@@ -87,7 +87,7 @@ named_completes : {V : Type 0} {source : Source} {l : List Symbol} {of : Values 
 named_completes {source = source} {s = s} {m = m} new row found whole so e r (and {u = u} {vs = us} x xs) =
     let text = source.text.now in
     let i = name_token x in
-    let j = so.is r (build text row i.0 us) (subst (λ l. Derives text IsNestable s l r (build text row i.0 us))
+    let j = so.derives r (build text row i.0 us) (subst (λ l. Derives text IsNestable s l r (build text row i.0 us))
     (back_of i.1) (take (row_entry kind.Name m row) found i.0 i.2
     (subst (λ p. MayBegin IsNestable p (i.0 ∷ u)) (back_of whole) tt) xs)) in
     (j.0, j.1, ap (λ n. new (n, us)) i.3 ∙ e i.0 us ∙ j.2)
@@ -100,7 +100,7 @@ pub round_at : {V : Type 0} {source : Source} {l : List Symbol} {of : Values l �
     → new (name_of source.text.now t, vs) ≡ gives (build source.text.now row t vs))
     → Pending source l of (AName ∷ m) new ts rest
 round_at {source = source} {s = s} {m = m} {new = new} row found whole so t r p other g e = record {
-  is = λ r vs d. named_completes new row found whole so e r d;
+  derives = λ r vs d. named_completes new row found whole so e r d;
   leads = λ q. so.leads q ∙ ap (λ ts. breaks source ts (s ∷ q)) p
       ∙ named_leads source s m row found whole t r (kind_is kind.Name t.kind) refl other g q
       ∙ ap (λ ts. breaks source ts (AName ∷ m ++ q)) (back_of p);

@@ -34,7 +34,7 @@ other_at t k e h = back_of e ∙ h
 abbrev pub with_at : {source : Source} {ts r : List Token} {t : Token} {b : Bool} (k : Kind)
     → HasFirstToken source ts t r
     → b ≡ kind_is k t.kind → b ≡ true → BeginsWith source ts k r
-with_at {t = t} k a e h = record { token = t; is = kind_at t k e h; all = a.all; ready = a.ready }
+with_at {t = t} k a e h = record { token = t; token_is = kind_at t k e h; all = a.all; ready = a.ready }
 
 pub operator_is : {Is : Kind → BinaryOp → Type 0} {source : Source} {ts r : List Token} {t : Token} {o : BinaryOp}
     {b : Bool} (k : Kind) → Is k o → HasFirstToken source ts t r → b ≡ kind_is k t.kind → b ≡ true
@@ -43,7 +43,7 @@ operator_is {t = t} k c a e h = record {
   key = k;
   is_operator = c;
   token = t;
-  is = kind_at t k e h;
+  key_is = kind_at t k e h;
   all = a.all;
   ready = a.ready;
 }
@@ -96,13 +96,13 @@ pub row_reads : {X Y U V : Type 0} {source : Source} {s : Symbol} {k : Kind} {l 
 row_reads {source = source} {s = s} {k = k} {l = l} {r = r} row found b o h e =
     has_read h.ready (subst (λ ts. DerivesAll source.text.now IsNestable (s ∷ []) ts r
     (build source.text.now row b.token h.values, tt)) (back_of b.all)
-    (and (take (row_entry k l row) found b.token b.is o h.derives) none)) e
+    (and (take (row_entry k l row) found b.token b.token_is o h.derives) none)) e
 
 pub row_leads : {source : Source} {s : Symbol} {k : Kind} {l : List Symbol} {ts rest : List Token} (row : Row s k l)
     → look (rows s) k ≡ Some (row_entry k l row) → BeginsWith source ts k rest → allows (Some nesting) (part s) ≡ true
     → (q : List Symbol) → breaks source ts (s ∷ q) ≡ breaks source rest (l ++ q)
 row_leads {source} {s} {k} {l} {ts} {rest} row found b o q = ap (λ ts. breaks source ts (s ∷ q)) b.all
-    ∙ step_takes source s b.token rest (row_entry k l row) (ap (look (rows s)) b.is ∙ found) o q
+    ∙ step_takes source s b.token rest (row_entry k l row) (ap (look (rows s)) b.token_is ∙ found) o q
 
 pub row_halts : {source : Source} {s : Symbol} {k : Kind} {l : List Symbol} {ts rest : List Token} (row : Row s k l)
     → look (rows s) k ≡ Some (row_entry k l row) → BeginsWith source ts k rest → allows (Some nesting) (part s) ≡ true
@@ -236,7 +236,7 @@ pub row_result : {X V : Type 0} {source : Source} {s : Symbol} {k : Kind} {l : L
     → ((vs : Values l) → of vs ≡ to (build source.text.now row b.token vs, tt))
     → (result : Result (X × Bor (List Token)) Halt) → ParsesAs source (production l of) plain rest result
     → ParsesAs source (production (s ∷ []) to) plain ts result
-row_result of plain to row found b a o e (Ok x) h = row_reads row found b o h (h.same ∙ e h.values)
+row_result of plain to row found b a o e (Ok x) h = row_reads row found b o h (h.value_is ∙ e h.values)
 row_result of plain to row found b a o e (Err x) h = row_halts row found b a x h
 
 -- A symbol with the rows of another one.
@@ -320,7 +320,7 @@ module _ (source : Source) (R : Kind → List Symbol → Type 0) (s a : Symbol)
 -- two kinds that do not come first
 pub neither : {ts : List Token} {j k : Kind} (a : BeginsOther ts j) → BeginsOther ts k → kind_is k a.token.kind ≡ false
 neither {k = k} a b = let same : b.token ≡ a.token = cc (a.all, b.all) in
-    subst (λ t. kind_is k t.kind ≡ false) same b.other
+    subst (λ t. kind_is k t.kind ≡ false) same b.differs
 
 -- a symbol takes a token, and what it leaves is derived
 pub row_derives : {Y V : Type 0} {source : Source} {s : Symbol} {k : Kind} {l : List Symbol} {to : Values (s ∷ []) → V}
@@ -332,7 +332,7 @@ pub row_derives : {Y V : Type 0} {source : Source} {s : Symbol} {k : Kind} {l : 
 row_derives {source = source} {s = s} {k = k} {l = l} {r = r} {vs = vs} row found b o a d e =
     has_read a (subst (λ ts. DerivesAll source.text.now IsNestable (s ∷ []) ts r
     (build source.text.now row b.token vs, tt))
-    (back_of b.all) (and (take (row_entry k l row) found b.token b.is o d) none)) e
+    (back_of b.all) (and (take (row_entry k l row) found b.token b.token_is o d) none)) e
 
 -- no row fits
 abbrev pub NoneIs : {R : Kind → List Symbol → Type 0} → List (RowEntry R) → Kind → Type 0

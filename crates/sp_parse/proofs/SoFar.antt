@@ -31,7 +31,7 @@ pub starts : {X U V : Type 0} {source : Source} {a : List Symbol} {from : Values
     (h : HasRead source a from plain ts r x) → ((v : Value s) → gives v ≡ of (glue a s h.values v))
     → SoFar source (a ++ s ∷ []) of s gives ts r
 starts {source = source} {a = a} {ts = ts} {s = s} h e = record {
-  is = λ r v d. (glue a s h.values v, glue_all a s h.derives d, e v);
+  derives = λ r v d. (glue a s h.values v, glue_all a s h.derives d, e v);
   leads = λ q. ap (breaks source ts) (append_assoc a (s ∷ []) q) ∙ h.leads (s ∷ q);
   shorter = h.shorter;
   ready = h.ready;
@@ -47,15 +47,15 @@ pub goes_on : {X U V : Type 0} {source : Source} {l : List Symbol} {of : Values 
     → SoFar source l of s new ts left
 goes_on {source = source} {s = s} {rest = rest} {behind = behind} {left = left} {k = k} {a = a} row found whole so b h
     e = record {
-      is = λ r v d.
+      derives = λ r v d.
           let text = source.text.now in
-          let i = so.is r (build text row b.token (glue a s h.values v))
+          let i = so.derives r (build text row b.token (glue a s h.values v))
           (subst (λ l. Derives text IsNestable s l r (build text row b.token (glue a s h.values v))) (back_of b.all)
-          (take (row_entry k (a ++ s ∷ []) row) found b.token b.is
+          (take (row_entry k (a ++ s ∷ []) row) found b.token b.token_is
           (subst (λ p. MayBegin IsNestable p (b.token ∷ behind)) (back_of whole) tt) (glue_all a s h.derives d))) in
           (i.0, i.1, e v ∙ i.2);
       leads = λ q. so.leads q ∙ ap (λ l. breaks source l (s ∷ q)) b.all
-          ∙ step_takes source s b.token behind (row_entry k (a ++ s ∷ []) row) (ap (look (rows s)) b.is ∙ found)
+          ∙ step_takes source s b.token behind (row_entry k (a ++ s ∷ []) row) (ap (look (rows s)) b.token_is ∙ found)
           (ap (allows (Some nesting)) whole) q ∙ ap (breaks source behind) (append_assoc a (s ∷ []) q)
           ∙ h.leads (s ∷ q);
       shorter = omega (arith, so.shorter, h.shorter, ap length b.all);
@@ -70,7 +70,7 @@ pub halts_on : {V : Type 0} {source : Source} {l : List Symbol} {of : Values l �
 halts_on a row found whole so b halt.Memory h = tt
 halts_on {source = source} {s = s} {behind = behind} {k = k} a row found whole so b (halt.Refused f) h = λ q. so.leads q
     ∙ ap (λ l. breaks source l (s ∷ q)) b.all
-    ∙ step_takes source s b.token behind (row_entry k (a ++ s ∷ []) row) (ap (look (rows s)) b.is ∙ found)
+    ∙ step_takes source s b.token behind (row_entry k (a ++ s ∷ []) row) (ap (look (rows s)) b.token_is ∙ found)
     (ap (allows (Some nesting)) whole) q ∙ ap (breaks source behind) (append_assoc a (s ∷ []) q) ∙ h (s ∷ q)
 
 -- the rest is there
@@ -78,7 +78,7 @@ pub ends : {X V : Type 0} {source : Source} {l : List Symbol} {of : Values l →
     {ts rest r : List Token} {plain : X → V} {x : X} {v : Value s} → SoFar source l of s gives ts rest
     → Derives source.text.now IsNestable s rest r v → HasTokens source r → plain x ≡ gives v
     → HasRead source l of plain ts r x
-ends {r = r} {v = v} so d a e = let i = so.is r v d in has_read a i.1 (e ∙ i.2)
+ends {r = r} {v = v} so d a e = let i = so.derives r v d in has_read a i.1 (e ∙ i.2)
 
 -- it stands for nothing
 pub skipped : {text : List ℕ} (s : Symbol) {ts : List Token} {v : Value s} (t : Token) (r : List Token) → ts ≡ t ∷ r
@@ -90,7 +90,7 @@ pub nothing_yet : {V : Type 0} {source : Source} {ts : List Token} (s : Symbol) 
     (gives : Value s → V) → ((v : Value s) → gives v ≡ of (v, tt)) → HasTokens source ts
     → SoFar source (s ∷ []) of s gives ts ts
 nothing_yet s of gives e a = record {
-  is = λ r v d. ((v, tt), and d none, e v);
+  derives = λ r v d. ((v, tt), and d none, e v);
   leads = λ q. refl;
   shorter = omega arith;
   ready = a;
@@ -103,16 +103,16 @@ pub chain : {V : Type 0} {source : Source} {l : List Symbol} {of : Values l → 
     → (b : BeginsWith source rest k behind) → SoFar source a from z new behind left
     → ((vs : Values a) → from vs ≡ gives (build source.text.now row b.token vs)) → SoFar source l of z new ts left
 chain {source = source} {s = s} {rest = rest} {behind = behind} {k = k} {a = a} row found whole so b inner e = record {
-  is = λ r v d.
+  derives = λ r v d.
       let text = source.text.now in
-      let i = inner.is r v d in
-      let j = so.is r (build text row b.token i.0)
+      let i = inner.derives r v d in
+      let j = so.derives r (build text row b.token i.0)
       (subst (λ l. Derives text IsNestable s l r (build text row b.token i.0)) (back_of b.all)
-      (take (row_entry k a row) found b.token b.is
+      (take (row_entry k a row) found b.token b.token_is
       (subst (λ p. MayBegin IsNestable p (b.token ∷ behind)) (back_of whole) tt) i.1)) in
       (j.0, j.1, i.2 ∙ e i.0 ∙ j.2);
   leads = λ q. so.leads q ∙ ap (λ l. breaks source l (s ∷ q)) b.all
-      ∙ step_takes source s b.token behind (row_entry k a row) (ap (look (rows s)) b.is ∙ found)
+      ∙ step_takes source s b.token behind (row_entry k a row) (ap (look (rows s)) b.token_is ∙ found)
       (ap (allows (Some nesting)) whole) q ∙ inner.leads q;
   shorter = omega (arith, so.shorter, inner.shorter, ap length b.all);
   ready = inner.ready;
@@ -126,7 +126,7 @@ pub halts_chain : {V : Type 0} {source : Source} {l : List Symbol} {of : Values 
 halts_chain row found whole so b halt.Memory h = tt
 halts_chain {source = source} {s = s} {behind = behind} {k = k} {a = a} row found whole so b (halt.Refused f) h =
     λ q. so.leads q ∙ ap (λ l. breaks source l (s ∷ q)) b.all
-    ∙ step_takes source s b.token behind (row_entry k a row) (ap (look (rows s)) b.is ∙ found)
+    ∙ step_takes source s b.token behind (row_entry k a row) (ap (look (rows s)) b.token_is ∙ found)
     (ap (allows (Some nesting)) whole) q ∙ h q
 
 -- where the pending symbol is not there

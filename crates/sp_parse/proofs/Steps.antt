@@ -43,7 +43,7 @@ pub follows : (source : Source) {l : List Symbol} {ts r : List Token} {vs : Valu
 unfolding breaks
 follows source {l} {ts} {r} d q = ap (refused_by source.text.now)
     (same_end (run (Some nesting) ts (l ++ q)) (run (Some nesting) r q)
-    (leads_all source.text.now IsNestable (Some nesting) 0 reaches d q).by)
+    (leads_all source.text.now IsNestable (Some nesting) 0 reaches d q).proof)
 
 mutual
   shorter_one : {text : List ℕ} {s : Symbol} {ts r : List Token} {v : Value s} → Derives text IsNestable s ts r v
@@ -62,7 +62,14 @@ pub has_read : {X V : Type 0} {source : Source} {l : List Symbol} {of : Values l
     {ts r : List Token} {x : X} {vs : Values l} → HasTokens source r → DerivesAll source.text.now IsNestable l ts r vs
     → plain x ≡ of vs → HasRead source l of plain ts r x
 has_read {source = source} {vs = vs} a d e =
-    record { values = vs; derives = d; same = e; leads = λ q. follows source d q; shorter = shorter_all d; ready = a }
+    record {
+      values = vs;
+      derives = d;
+      value_is = e;
+      leads = λ q. follows source d q;
+      shorter = shorter_all d;
+      ready = a;
+    }
 
 -- the first of what is derived
 pub head : {text : List ℕ} {s : Symbol} {ts r : List Token} {vs : Values (s ∷ [])}
@@ -145,12 +152,12 @@ cut_ends source (t ∷ ts) h a = absurd (omega arith)
 pub token_is : {source : Source} {ts r : List Token} {k : Kind} → BeginsWith source ts k r
     → Derives source.text.now IsNestable (AToken k) ts r tt
 token_is {source} {ts} {r} {k} b = subst (λ l. Derives source.text.now IsNestable (AToken k) l r tt) (back_of b.all)
-    (take (row_entry k [] token) (look_token k k true (kind_is-same k)) b.token b.is tt none)
+    (take (row_entry k [] token) (look_token k k true (kind_is-same k)) b.token b.token_is tt none)
 
 pub expect_is : {source : Source} {ts r : List Token} {t : Token} (k : Kind) → HasFirstToken source ts t r → t.kind ≡ k
     → Expected source k ts r
 expect_is {source} {ts} {r} {t} k b p =
-    let first : BeginsWith source ts k r = record { token = t; is = p; all = b.all; ready = b.ready } in
+    let first : BeginsWith source ts k r = record { token = t; token_is = p; all = b.all; ready = b.ready } in
     record {
       first = first;
       leads = λ q. follows source (and (token_is first) none) q;
@@ -180,7 +187,7 @@ pub passes_other : {source : Source} {ts r : List Token} {t : Token} (k : Kind) 
 passes_other {r = r} {t = t} k b n = record {
   token = t;
   rest = r;
-  other = kind_is-other k t.kind (kind_is k t.kind) refl n;
+  differs = kind_is-other k t.kind (kind_is k t.kind) refl n;
   all = b.all;
 }
 

@@ -32,7 +32,7 @@ pub record Operator (Is : Kind → BinaryOp → Type 0) (source : Source) (ts : 
   pub key : Kind
   pub is_operator : Is key o
   pub token : Token
-  pub is : token.kind ≡ key
+  pub key_is : token.kind ≡ key
   pub all : ts ≡ token ∷ r
   pub ready : HasTokens source r
 
@@ -41,7 +41,7 @@ pub record NoOperator (tail : ℕ → Symbol) (ts : List Token) : Type 0 where
   pub token : Token
   pub rest : List Token
   pub all : ts ≡ token ∷ rest
-  pub other : (d : ℕ) → look (rows (tail d)) token.kind ≡ None
+  pub none : (d : ℕ) → look (rows (tail d)) token.kind ≡ None
 
 -- an operator and what is behind it; or none; or no token is left
 abbrev pub ReadsOperator : (Kind → BinaryOp → Type 0) → (ℕ → Symbol) → Source → List Token

@@ -61,7 +61,7 @@ pub record HasRead {X V : Type 0} (source : Source) (l : List Symbol) (of : Valu
     (ts r : List Token) (x : X) : Type 0 where
   pub values : Values l
   pub derives : DerivesAll source.text.now IsNestable l ts r values
-  pub same : plain x ≡ of values
+  pub value_is : plain x ≡ of values
   pub leads : (q : List Symbol) → breaks source ts (l ++ q) ≡ breaks source r q
   pub shorter : length r ≤ length ts
   pub ready : HasTokens source r
@@ -94,7 +94,7 @@ CutsToken source ts (Err (halt.Refused r)) =
 -- The tokens behind one of this kind, where it comes first.
 pub record BeginsWith (source : Source) (ts : List Token) (k : Kind) (r : List Token) : Type 0 where
   pub token : Token
-  pub is : token.kind ≡ k
+  pub token_is : token.kind ≡ k
   pub all : ts ≡ token ∷ r
   pub ready : HasTokens source r
 
@@ -113,7 +113,7 @@ Expects source k ts (Err e) = Halts source (AToken k ∷ []) ts e
 pub record BeginsOther (ts : List Token) (k : Kind) : Type 0 where
   pub token : Token
   pub rest : List Token
-  pub other : kind_is k token.kind ≡ false
+  pub differs : kind_is k token.kind ≡ false
   pub all : ts ≡ token ∷ rest
 
 -- The tokens behind one of this kind, where it comes first; or no token is left.
@@ -127,7 +127,7 @@ PassesToken source k ts (Err (halt.Refused r)) = (ts ≡ [])
 -- What is read so far of some symbols: what completes the pending one completes the whole.
 pub record SoFar {V : Type 0} (source : Source) (l : List Symbol) (of : Values l → V) (s : Symbol) (gives : Value s → V)
     (ts rest : List Token) : Type 0 where
-  pub is : (r : List Token) (v : Value s) → Derives source.text.now IsNestable s rest r v → (vs : Values l)
+  pub derives : (r : List Token) (v : Value s) → Derives source.text.now IsNestable s rest r v → (vs : Values l)
       × DerivesAll source.text.now IsNestable l ts r vs × (gives v ≡ of vs)
   pub leads : (q : List Symbol) → breaks source ts (l ++ q) ≡ breaks source rest (s ∷ q)
   pub shorter : length rest ≤ length ts

@@ -193,12 +193,12 @@ module _ {L : Language} (t s : State L) (q : Name) where
   meets_same o z (Works x) pe ce st = refl
   meets_same o z (Waits w) pe ce st = hands_same o z w (message o.cargo w.cargo)
       (λ x is. st (L.place x.0) (record {
-        other = z;
+        partner = z;
         pends = pe;
         its = w;
         waits = ce;
         passes = x;
-        is = is;
+        message_is = is;
         there = refl;
       }))
   meets_same o z (Joins n m x) pe ce st = refl
@@ -250,15 +250,15 @@ module _ {L : Language} {limits : Totals} (loc : IsTest L.same_loc) (s : State L
   writes_kept (Offering o) off l h =
       let a = L.next does.own s.store in
       let i = all_in s p a cs does.does in
-      let g = waiting_far s p cs sound does o.channel h.other (sound.waits o.channel h.other h.pends)
+      let g = waiting_far s p cs sound does o.channel h.partner (sound.waits o.channel h.partner h.pends)
       (λ on. off o.channel on refl) in
       record {
-        other = h.other;
+        partner = h.partner;
         pends = pending_frame s p a o.channel (λ on. off o.channel on refl) cs s i ∙ h.pends;
         its = h.its;
-        waits = condition_frame s p a h.other g cs s i ∙ h.waits;
+        waits = condition_frame s p a h.partner g cs s i ∙ h.waits;
         passes = h.passes;
-        is = h.is;
+        message_is = h.message_is;
         there = h.there;
       }
   writes_kept EndsProcess off l h = h
@@ -320,7 +320,7 @@ pub record Exchanged {L : Language} (limits : Totals) (s : State L) (p q : Name)
   pub first_act : L.next first.own s.store ≡ b
   pub second : Makes limits (with_changes ds s) p cs
   pub second_act : L.next second.own (with_changes ds s).store ≡ a
-  pub same : with_changes ds (with_changes cs s) ≡ with_changes cs (with_changes ds s)
+  pub commute : with_changes ds (with_changes cs s) ≡ with_changes cs (with_changes ds s)
 
 -- The exchange
 pub exchange : {L : Language} {limits : Totals} (laws : Laws L) (s : State L) (p q : Name) (cs ds : List (Change L))
@@ -378,5 +378,5 @@ exchange {L} {limits} laws s p q cs ds own sound one two apart w off free1 free2
         does = subst (λ z. act_outcome (with_changes ds s) p z ≡ Advances cs) a_is (kept' ∙ one.does);
       };
       second_act = sym a_is;
-      same = both_orders s sound p q cs ds one first apart off' (λ l h k. free2 l (writes' l k) (inr h)) laws.told;
+      commute = both_orders s sound p q cs ds one first apart off' (λ l h k. free2 l (writes' l k) (inr h)) laws.told;
     }

@@ -199,8 +199,8 @@ module _ {L : Language} (limits : Totals) (laws : Laws L) (origin : State L)
     flip x y h = record {
       common = h.common;
       fork = h.fork;
-      one = h.other;
-      other = h.one;
+      first = h.second;
+      second = h.first;
       apart = λ e. h.apart (sym e);
       after_one = h.after_other;
       after_other = h.after_one;
@@ -283,7 +283,7 @@ module _ {L : Language} (limits : Totals) (laws : Laws L) (origin : State L)
             (λ d v e on h. ap (λ f. f e) (sym (offers_frame s q b d v (λ k. off d on k) ms n (notes_in s n q b))) ∙ h)
             (sym (ap (λ z. (with_judge_notes z n).past p) (sym first_ms)
             ∙ past_kept s n q ds sound x.first p one.own apart one.works)) kp;
-        same = x.same;
+        commute = x.commute;
         same_notes = ap (λ z. with_judge_notes z (with_judge_notes ns n)) later ∙ all_notes_swap ns ms n
             ∙ ap (λ z. with_judge_notes z (with_judge_notes ms n)) (sym then_ns);
       })
@@ -398,7 +398,7 @@ module _ {L : Language} (limits : Totals) (laws : Laws L) (origin : State L)
         quiet = quiet_after s.state q x.ds x.first g.quiet;
         cs = x.cs;
         makes = x.second;
-        to = h'.to ∙ x.same;
+        to = h'.to ∙ x.commute;
         noted = h'.noted ∙ x.same_notes
             ∙ (λ i. notes_after (with_changes x.ds s.state) (by_c i) p (sym x.second_act i));
         knows = subst (λ a. KnowsBefore L (notes_after s.state s.notes q c) p a) (sym x.second_act)

@@ -215,7 +215,13 @@ module _ {L : Language} {limits : Totals} (s : State L) (v : JudgeNotes) (p : Na
             let before = sym (pend c) ∙ e in
             let away = waiting_far s p cs sound one c z (sound.waits c z before) (off c) in
             let b = link.pends c z w before (sym (condition_frame s p a z away cs s i) ∙ k) in
-            record { at = b.at; is = b.is; inside = b.inside; names = b.names; entry = b.entry };
+            record {
+              position = b.position;
+              pending_is = b.pending_is;
+              inside = b.inside;
+              names = b.names;
+              entry = b.entry;
+            };
         free = λ c e. link.free c (sym (pend c) ∙ e);
         forks = λ q. link.forks q ∙ ap (λ f. f q) (sym forks_at);
         apart = link.apart;
@@ -265,10 +271,11 @@ module _ {L : Language} {limits : Totals} (s : State L) (v : JudgeNotes) (p : Na
             (subst (λ m. NotesMatch (with_changes cs s)
             (with_judge_notes (meeting_notes v p o.channel (way_of o.cargo) z) v)
             (knowledge_after_offer j p n o.channel m) (done ++ record { who = p; what = h } ∷ []) (suc n) grows_label)
-            (sym b.is)
+            (sym b.pending_is)
             (subst (λ ds. NotesMatch (with_changes ds s)
             (with_judge_notes (meeting_notes v p o.channel (way_of o.cargo) z) v)
-            (knowledge_after_offer j p n o.channel (Some (z, b.at))) (done ++ record { who = p; what = h } ∷ []) (suc n)
+            (knowledge_after_offer j p n o.channel (Some (z, b.position))) (done ++ record { who = p; what = h } ∷ [])
+            (suc n)
             grows_label) (sym g.made) x))
       ] refl
 
@@ -287,11 +294,11 @@ pause_linked {L} s v j done n label q link = record {
   below = λ r i e. let k = link.below r i e in omega (arith, k);
   pends = λ c z w e k. let b = link.pends c z w e k in
       record {
-        at = b.at;
-        is = b.is;
+        position = b.position;
+        pending_is = b.pending_is;
         inside = omega (arith, b.inside);
-        names = old b.at b.inside ∙ b.names;
-        entry = kept_entry done entry _ b.at b.entry;
+        names = old b.position b.inside ∙ b.names;
+        entry = kept_entry done entry _ b.position b.entry;
       };
   free = link.free;
   forks = link.forks;
@@ -300,11 +307,11 @@ pause_linked {L} s v j done n label q link = record {
   made = λ i lt e f. link.made i (inside i lt e f) e (sym (old i (inside i lt e f)) ∙ f);
   offers = λ c w e k. let r = link.offers c w e k in
       record {
-        at = r.at;
+        position = r.position;
         who = r.who;
         inside = omega (arith, r.inside);
-        names = old r.at r.inside ∙ r.names;
-        entry = kept_entry done entry _ r.at r.entry;
+        names = old r.position r.inside ∙ r.names;
+        entry = kept_entry done entry _ r.position r.entry;
       };
 }
   where

@@ -36,7 +36,7 @@ pub known_linked : {L : Language} (s : State L) (v : JudgeNotes) (j : Knowledge)
     → KnowsEarlierOffers j done p (way_of o.cargo) o.channel → KnowsBefore L v p (Offering o)
 known_linked s v j done n label p o link k = λ e h.
     let r = link.offers o.channel (way_of o.cargo) e h in
-    ap (known_label (v.past p)) (sym r.names) ∙ sym (link.past p r.at r.inside) ∙ k r.at r.who r.entry
+    ap (known_label (v.past p)) (sym r.names) ∙ sym (link.past p r.position r.inside) ∙ k r.position r.who r.entry
 
 pub below_or_at : (i n : ℕ) → i < suc n → (i < n) ⊎ (n ≡ i)
 below_or_at i n h = elim (nat_lt i n) as (λ b. nat_lt i n ≡ b → (i < n) ⊎ (n ≡ i))
@@ -167,11 +167,11 @@ module _ {L : Language} {limits : Totals} (s : State L) (v : JudgeNotes) (p : Na
   keep_recorded : (c : Channel) (w : Way) (e : Event) → Recorded done n label c w e
       → Recorded grown (suc n) labels c w e
   keep_recorded c w e r = record {
-    at = r.at;
+    position = r.position;
     who = r.who;
     inside = omega (arith, r.inside);
-    names = old_label r.at r.inside ∙ r.names;
-    entry = kept_entry done entry _ r.at r.entry;
+    names = old_label r.position r.inside ∙ r.names;
+    entry = kept_entry done entry _ r.position r.entry;
   }
 
   -- an act that is no offer
@@ -202,12 +202,12 @@ module _ {L : Language} {limits : Totals} (s : State L) (v : JudgeNotes) (p : Na
             let before = sym (pend c) ∙ e in
             let b = link.pends c z w before (sym (condition_frame s p a z (away c z before) cs s i) ∙ f) in
             record {
-              at = b.at;
-              is = pending c ∙ b.is;
+              position = b.position;
+              pending_is = pending c ∙ b.pending_is;
               inside = omega (arith, b.inside);
-              names = old_label b.at b.inside
+              names = old_label b.position b.inside
                   ∙ b.names ∙ ap (λ x. Some x) (mine_is c z before);
-              entry = kept_entry done entry _ b.at b.entry;
+              entry = kept_entry done entry _ b.position b.entry;
             };
         free = λ c e. pending c ∙ link.free c (sym (pend c) ∙ e);
         forks = forks;
@@ -247,8 +247,8 @@ module _ {L : Language} {limits : Totals} (s : State L) (v : JudgeNotes) (p : Na
             let there : t.condition p ≡ Waits o = rw (itself name_test p) refl in
             let w_is : o ≡ w = waits_is (sym there ∙ subst (λ x. t.condition x ≡ Waits w) (sym z_is) k) in
             record {
-              at = n;
-              is = at_now c same ∙ ap (λ x. Some (x, n)) z_is;
+              position = n;
+              pending_is = at_now c same ∙ ap (λ x. Some (x, n)) z_is;
               inside = omega arith;
               names = new_label ∙ ap (λ x. Some (next_event_of v x)) z_is;
               entry = last_is c (way_of w.cargo)
@@ -261,11 +261,11 @@ module _ {L : Language} {limits : Totals} (s : State L) (v : JudgeNotes) (p : Na
             let z_not : p ≢ z = λ x. not_waiting c (before ∙ ap (λ y. Some y) (sym x)) in
             let b = link.pends c z w before (sym (at_other name_test s.condition p z (Waits o) z_not) ∙ k) in
             record {
-              at = b.at;
-              is = at_other channel_test j.pending o.channel c (Some (p, n)) other ∙ b.is;
+              position = b.position;
+              pending_is = at_other channel_test j.pending o.channel c (Some (p, n)) other ∙ b.pending_is;
               inside = omega (arith, b.inside);
-              names = old_label b.at b.inside ∙ b.names;
-              entry = kept_entry done entry _ b.at b.entry;
+              names = old_label b.position b.inside ∙ b.names;
+              entry = kept_entry done entry _ b.position b.entry;
             })
             (same_or_not channel_test o.channel c);
         free = λ c e. ⊎_elim
@@ -312,7 +312,7 @@ module _ {L : Language} {limits : Totals} (s : State L) (v : JudgeNotes) (p : Na
       → message o.cargo w.cargo ≡ Some m → (b : Pended s v j done n label o.channel z w)
       → NotesMatch (with_changes (meeting_changes s p o z w m) s)
       (with_judge_notes (meeting_notes v p o.channel (way_of o.cargo) z) v)
-      (knowledge_after_offer j p n o.channel (Some (z, b.at))) grown (suc n) labels
+      (knowledge_after_offer j p n o.channel (Some (z, b.position))) grown (suc n) labels
   linked_meets o h_is z w m pe ce me b =
       let es = meeting_changes s p o z w m in
       let ns = meeting_notes v p o.channel (way_of o.cargo) z in
@@ -320,17 +320,18 @@ module _ {L : Language} {limits : Totals} (s : State L) (v : JudgeNotes) (p : Na
       let u = with_judge_notes ns v in
       let other : Way = other_way (way_of o.cargo) in
       let w_way : way_of w.cargo ≡ other = ways_meet o.cargo w.cargo m me in
-      let at_is : (i : ℕ) → i < suc n → b.at == i ≡ known_label (same_event (next_event_of v z)) (labels i) =
+      let at_is : (i : ℕ) → i < suc n → b.position == i ≡ known_label (same_event (next_event_of v z)) (labels i) =
       λ i lt. ⊎_elim
-      (λ (e : b.at ≡ i). eq-eqb b.at i e ∙ sym
+      (λ (e : b.position ≡ i). eq-eqb b.position i e ∙ sym
       (subst (λ x. known_label (same_event (next_event_of v z)) (labels x) ≡ true) e
-      (ap (known_label (same_event (next_event_of v z))) (old_label b.at b.inside ∙ b.names)
+      (ap (known_label (same_event (next_event_of v z))) (old_label b.position b.inside ∙ b.names)
       ∙ itself event_test (next_event_of v z))))
-      (λ (e : b.at ≢ i). ne_eqb b.at i e ∙ sym
+      (λ (e : b.position ≢ i). ne_eqb b.position i e ∙ sym
       (false_from_ne_true (known_label (same_event (next_event_of v z)) (labels i)) (λ x.
       let y = is_label z (labels i) x in
-      e (labels_apart b.at i (omega (arith, b.inside)) lt (next_event_of v z) (old_label b.at b.inside ∙ b.names) y))))
-      (cases_eq b.at i) in
+      e (labels_apart b.position i (omega (arith, b.inside)) lt (next_event_of v z)
+      (old_label b.position b.inside ∙ b.names) y))))
+      (cases_eq b.position i) in
       let pend_other : (c : Channel) → o.channel ≢ c
       → t.pending c ≡ s.pending c = λ c e. at_other channel_test s.pending o.channel c None e in
       let pend_here : t.pending o.channel ≡ None = rw (itself channel_test o.channel) refl in
@@ -353,9 +354,9 @@ module _ {L : Language} {limits : Totals} (s : State L) (v : JudgeNotes) (p : Na
             (v.past z)
             (same_event (next_event_of v z)) (labels i));
         below = λ q i e. in_past (same_name z q) (same_name p q) (j.past q i) (j.past p i) (n == i) (j.past z i)
-            (b.at == i) i
+            (b.position == i) i
             (λ k. link.below q i k) (λ k. link.below p i k) (λ k. link.below z i k) (λ k. eqb-true n i k)
-            (λ k. subst (λ x. x < n) (eqb-true b.at i k) b.inside) e;
+            (λ k. subst (λ x. x < n) (eqb-true b.position i k) b.inside) e;
         pends = λ c y x e k. ⊎_elim
             (λ (same : o.channel ≡ c). absurd (none-some _ (sym (subst (λ x. t.pending x ≡ None) same pend_here) ∙ e)))
             (λ (away : o.channel ≢ c).
@@ -367,12 +368,12 @@ module _ {L : Language} {limits : Totals} (s : State L) (v : JudgeNotes) (p : Na
             ∙ at_other name_test s.condition p y (Works o.next) f in
             let r = link.pends c y x before (sym cond_is ∙ k) in
             record {
-              at = r.at;
-              is = at_other channel_test j.pending o.channel c None away ∙ r.is;
+              position = r.position;
+              pending_is = at_other channel_test j.pending o.channel c None away ∙ r.pending_is;
               inside = omega (arith, r.inside);
-              names = old_label r.at r.inside ∙ r.names
+              names = old_label r.position r.inside ∙ r.names
                   ∙ ap (λ d. Some (record { who = y; nth = d })) (sym (events_other y f g));
-              entry = kept_entry done entry _ r.at r.entry;
+              entry = kept_entry done entry _ r.position r.entry;
             })
             (same_or_not channel_test o.channel c);
         free = λ c e. ⊎_elim
@@ -439,7 +440,7 @@ module _ {L : Language} {limits : Totals} (s : State L) (v : JudgeNotes) (p : Na
           → same_event (next_event_of v p) e ≡ true
           → Recorded grown (suc n) labels c x e
       of_p c x e ce xe k = record {
-        at = n;
+        position = n;
         who = p;
         inside = omega arith;
         names = new_label
@@ -450,11 +451,11 @@ module _ {L : Language} {limits : Totals} (s : State L) (v : JudgeNotes) (p : Na
       of_z : (other : Way) → way_of w.cargo ≡ other → (c : Channel) (x : Way) (e : Event) → o.channel ≡ c → other ≡ x
           → same_event (next_event_of v z) e ≡ true → Recorded grown (suc n) labels c x e
       of_z other is c x e ce xe k = record {
-        at = b.at;
+        position = b.position;
         who = z;
         inside = omega (arith, b.inside);
-        names = old_label b.at b.inside ∙ b.names ∙ ap (λ y. Some y) ((event_test (next_event_of v z) e).0 k);
-        entry = kept_entry done entry _ b.at b.entry
+        names = old_label b.position b.inside ∙ b.names ∙ ap (λ y. Some y) ((event_test (next_event_of v z) e).0 k);
+        entry = kept_entry done entry _ b.position b.entry
             ∙ ap (λ y. Some (record { who = z; what = Offered y o.channel })) (is ∙ xe)
             ∙ ap (λ y. Some (record { who = z; what = Offered x y })) ce;
       }

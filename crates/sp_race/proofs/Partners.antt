@@ -42,12 +42,12 @@ writer {L} s p own l h = by_act (L.next own s.store) refl h
     by_act EndsProcess e h = absurd h
     by_act (MeetsFault f) e h = absurd h
     by_act (Offering o) e h = record {
-      who = receiver o.cargo p h.other;
-      writes = inr (record { offer = o; is = e; goes = h; who_is = refl });
-      part = subst (λ a. TakesPart s p a (receiver o.cargo p h.other)) (sym e) (of_cargo o.cargo);
+      who = receiver o.cargo p h.partner;
+      writes = inr (record { offer = o; offer_is = e; goes = h; who_is = refl });
+      part = subst (λ a. TakesPart s p a (receiver o.cargo p h.partner)) (sym e) (of_cargo o.cargo);
     }
       where
-        of_cargo : (c : Cargo L.Value L.Target) → TakesPart s p (Offering o) (receiver c p h.other)
+        of_cargo : (c : Cargo L.Value L.Target) → TakesPart s p (Offering o) (receiver c p h.partner)
         of_cargo (Message v) = inr (o.channel, refl, h.pends)
         of_cargo (Takes t) = inl refl
 

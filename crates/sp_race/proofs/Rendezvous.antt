@@ -147,7 +147,7 @@ pub record ExchangedTo {L : Language} (limits : Totals) (s : State L) (n : Judge
   pub second : Makes limits (with_changes ds s) p cs
   pub second_act : L.next second.own (with_changes ds s).store ≡ a
   pub knows_second : KnowsBefore L (notes_after s n q b) p a
-  pub same : t ≡ with_changes cs (with_changes ds s)
+  pub commute : t ≡ with_changes cs (with_changes ds s)
   pub same_notes : m ≡ notes_after (with_changes ds s) (notes_after s n q b) p a
 
 -- where p met another, q can't offer on that channel: it does not know of it
@@ -205,7 +205,7 @@ waits_first {L} {limits} s n p q ds sound pown o r pw is two is2 e apart w none 
     } in
     let s2 = with_changes (waiting_changes s q r) s in
     let meets_o : message r.cargo o.cargo ≡ Some h.passes =
-    subst (λ (x : OfferOf L). message r.cargo x.cargo ≡ Some h.passes) its_is h.is in
+    subst (λ (x : OfferOf L). message r.cargo x.cargo ≡ Some h.passes) its_is h.message_is in
     let qe : s2.pending o.channel ≡ Some q = rw ((channel_test r.channel o.channel).1 (sym e)) refl in
     let n1 : notes_after s n p (Offering o) ≡ n =
     ap (λ x. with_judge_notes (offer_notes n p o.channel (way_of o.cargo) x) n) none in
@@ -232,7 +232,7 @@ waits_first {L} {limits} s n p q ds sound pown o r pw is two is2 e apart w none 
       };
       second_act = is;
       knows_second = subst (λ m. KnowsBefore L m p (Offering o)) (sym n2) kp;
-      same = ap (λ x. with_changes x s1) (h.made ∙ ap (λ x. meeting_changes s1 q r p x h.passes) its_is)
+      commute = ap (λ x. with_changes x s1) (h.made ∙ ap (λ x. meeting_changes s1 q r p x h.passes) its_is)
           ∙ swapped s p q o r h.passes apart e;
       same_notes =
           ap (λ m. notes_after s1 m q (Offering r)) n1

@@ -56,8 +56,8 @@ module _ (g : RunInput) where
   -- a step without a fault, and its changes
   pub record Stepped (s : StateOf g) (q : Name) (own : Process) (m : StateOf g) : Type 0 where
     pub cs : List (Change (superpascal g))
-    pub one : Makes (total_limits g) s q cs
-    pub same : one.own ≡ own
+    pub makes : Makes (total_limits g) s q cs
+    pub process_is : makes.own ≡ own
     pub to : m ≡ with_changes cs s
     pub quiet : m.fault ≡ None
 
@@ -65,31 +65,40 @@ module _ (g : RunInput) where
       → next_state g s q ≡ Some m → m.fault ≡ None → Stepped s q own m
   stepped s q own m run st quiet =
       let x = made_of s q m st quiet in
-      record { cs = x.cs; one = x.makes; same = same_Some _ _ (sym x.makes.works ∙ run); to = x.to; quiet = quiet }
+      record {
+        cs = x.cs;
+        makes = x.makes;
+        process_is = same_Some _ _
+            (sym x.makes.works ∙ run);
+        to = x.to;
+        quiet = quiet;
+      }
 
   -- what the step says
   pub said : (s : StateOf g) (q : Name) (own : Process) (m : StateOf g) (x : Stepped s q own m)
-      → happening_at g s q own ≡ happening_of ((superpascal g).next x.one.own s.store) (Advances x.cs)
+      → happening_at g s q own ≡ happening_of ((superpascal g).next x.makes.own s.store) (Advances x.cs)
   said s q own m x =
-      let a = (superpascal g).next x.one.own s.store in
-      ap (happening_at g s q) (sym x.same) ∙ ap (happening_of a) (ap (λ f. fault_or f (act_outcome s q a)) x.one.within
-      ∙ x.one.does)
+      let a = (superpascal g).next x.makes.own s.store in
+      ap (happening_at g s q) (sym x.process_is)
+      ∙ ap (happening_of a) (ap (λ f. fault_or f (act_outcome s q a)) x.makes.within
+      ∙ x.makes.does)
 
   pub next_at : (s : StateOf g) (v : JudgeNotes) (j : Knowledge) (done : List Occurrence) (n : ℕ) (label : ℕ
       → Option Event)
       (q : Name) (own : Process) (m : StateOf g) → KnownAfterEntries s v j done n label → (x : Stepped s q own m)
       → (j1 : Knowledge) (done1 : List Occurrence) (n1 : ℕ) (label1 : ℕ → Option Event)
-      → NotesMatch (with_changes x.cs s) (notes_after s v q ((superpascal g).next x.one.own s.store)) j1 done1 n1 label1
+      → NotesMatch (with_changes x.cs s)
+      (notes_after s v q ((superpascal g).next x.makes.own s.store)) j1 done1 n1 label1
       → KnownAfterEntries m (notes_after s v q ((superpascal g).next own s.store)) j1 done1 n1 label1
   next_at s v j done n label q own m at x j1 done1 n1 label1 l =
-      let notes_are : notes_after s v q ((superpascal g).next x.one.own s.store)
+      let notes_are : notes_after s v q ((superpascal g).next x.makes.own s.store)
       ≡ notes_after s v q ((superpascal g).next own s.store) =
-      ap (λ z. notes_after s v q ((superpascal g).next z s.store)) x.same in
+      ap (λ z. notes_after s v q ((superpascal g).next z s.store)) x.process_is in
       record {
         linked = subst (λ (z : StateOf g). NotesMatch z (notes_after s v q ((superpascal g).next own s.store)) j1
             done1 n1
             label1) (sym x.to) (subst (λ z. NotesMatch (with_changes x.cs s) z j1 done1 n1 label1) notes_are l);
-        sound = subst (λ (z : StateOf g). Sound z) (sym x.to) (sound_kept s q x.cs at.sound x.one);
+        sound = subst (λ (z : StateOf g). Sound z) (sym x.to) (sound_kept s q x.cs at.sound x.makes);
         known = known_kept v at.known s q ((superpascal g).next own s.store);
         quiet = x.quiet;
       }
@@ -120,29 +129,29 @@ module _ (g : RunInput) where
   pub record IsMove (s : StateOf g) (own : Process) : Type 0 where
     pub next_own : Process
     pub writes : List ((superpascal g).Loc × (superpascal g).Value)
-    pub is : (superpascal g).next own s.store ≡ Moves next_own writes
+    pub move_is : (superpascal g).next own s.store ≡ Moves next_own writes
 
   pub local_moves : (s : StateOf g) (q : Name) (own : Process) (m : StateOf g) (x : Stepped s q own m)
-      → happening_at g s q own ≡ None → IsMove s x.one.own
-  local_moves s q own m x none = by ((superpascal g).next x.one.own s.store) refl (sym (said s q own m x) ∙ none)
+      → happening_at g s q own ≡ None → IsMove s x.makes.own
+  local_moves s q own m x none = by ((superpascal g).next x.makes.own s.store) refl (sym (said s q own m x) ∙ none)
     where
       faulty_does : {L : Language} {f : Fault} {cs : List (Change L)}
           → ◌≡◌ {A = ActOutcome L} (Faulty f) (Advances cs) → ⊥
       faulty_does e = cc
 
-      by : (a : ActOf (superpascal g)) → (superpascal g).next x.one.own s.store ≡ a
+      by : (a : ActOf (superpascal g)) → (superpascal g).next x.makes.own s.store ≡ a
           → happening_of a (Advances x.cs) ≡ None
-          → IsMove s x.one.own
-      by (Moves o ws) e h = record { next_own = o; writes = ws; is = e }
+          → IsMove s x.makes.own
+      by (Moves o ws) e h = record { next_own = o; writes = ws; move_is = e }
       by (Opens o ws) e h = absurd (none-some _ (sym h))
       by (Forks o os) e h = absurd (none-some _ (sym h))
       by (Offering o) e h = absurd (none-some _ (sym h))
       by EndsProcess e h = absurd (none-some _ (sym h))
-      by (MeetsFault f) e h = absurd (faulty_does (ap (act_outcome s q) (sym e) ∙ x.one.does))
+      by (MeetsFault f) e h = absurd (faulty_does (ap (act_outcome s q) (sym e) ∙ x.makes.does))
 
   pub moves_know : (s : StateOf g) (own : Process) (v : JudgeNotes) (q : Name) → IsMove s own
       → KnowsBefore (superpascal g) v q ((superpascal g).next own s.store)
-  moves_know s own v q h = subst (λ a. KnowsBefore (superpascal g) v q a) (sym h.is) tt
+  moves_know s own v q h = subst (λ a. KnowsBefore (superpascal g) v q a) (sym h.move_is) tt
 
   -- k local steps in front
   turned : (turn since : ℕ) (q : Name) (k : ℕ) (s m : StateOf g) (paused : Bool) (r : ℕ) (t : StateOf g)
@@ -163,9 +172,9 @@ module _ (g : RunInput) where
       let x = stepped s q own u h.1 h.4 (quiet_step g s q own u None h.1 h.2 tt h.4 at.quiet) in
       let mv = local_moves s q own u x h.2 in
       let at1 = next_at s v j done n label q own u at x j done n label
-      (moves_linked s v q x.cs at.sound at.known x.one j done n label at.linked mv.next_own mv.writes mv.is) in
-      let knows = subst (λ z. KnowsBefore (superpascal g) v q ((superpascal g).next z s.store)) x.same
-      (moves_know s x.one.own v q mv) in
+      (moves_linked s v q x.cs at.sound at.known x.makes j done n label at.linked mv.next_own mv.writes mv.move_is) in
+      let knows = subst (λ z. KnowsBefore (superpascal g) v q ((superpascal g).next z s.store)) x.process_is
+      (moves_know s x.makes.own v q mv) in
       subst (λ z. OrderedSchedule s v z t) suc_add (first s v q own u (k + r) t at.quiet h.1 h.4 knows
       (rest (notes_after s v q ((superpascal g).next own s.store)) u (is_due_after g turn since s own q u) h.5 at1
       (λ y a. turned turn since q k u m paused r t (notes_after s v q ((superpascal g).next own s.store)) j done n
@@ -206,45 +215,46 @@ module _ (g : RunInput) where
       → happening_at g s q own ≡ Some w → KnowsOffers j done q w
       → Enters_at s v q own m (knowledge_after j n q w) (With done q w) (suc n)
   enters s v q own m j done n label w at x is knows =
-      by ((superpascal g).next x.one.own s.store) refl w (sym (said s q own m x) ∙ is) knows
+      by ((superpascal g).next x.makes.own s.store) refl w (sym (said s q own m x) ∙ is) knows
     where
       L : Language
       L = superpascal g
 
       put : (w : Happening) (lb : ℕ → Option Event)
-          → NotesMatch (with_changes x.cs s) (notes_after s v q ((superpascal g).next x.one.own s.store))
+          → NotesMatch (with_changes x.cs s) (notes_after s v q ((superpascal g).next x.makes.own s.store))
           (knowledge_after j n q w)
-          (With done q w) (suc n) lb → KnowsBefore (superpascal g) v q ((superpascal g).next x.one.own s.store)
+          (With done q w) (suc n) lb → KnowsBefore (superpascal g) v q ((superpascal g).next x.makes.own s.store)
           → Enters_at s v q own m (knowledge_after j n q w) (With done q w) (suc n)
       put w lb l k = record {
         label = lb;
         at = next_at s v j done n label q own m at x (knowledge_after j n q w) (With done q w) (suc n) lb l;
-        knows = subst (λ z. KnowsBefore (superpascal g) v q ((superpascal g).next z s.store)) x.same k;
+        knows = subst (λ z. KnowsBefore (superpascal g) v q ((superpascal g).next z s.store)) x.process_is k;
       }
 
-      by : (a : ActOf (superpascal g)) → (superpascal g).next x.one.own s.store ≡ a → (w : Happening)
+      by : (a : ActOf (superpascal g)) → (superpascal g).next x.makes.own s.store ≡ a → (w : Happening)
           → happening_of a (Advances x.cs) ≡ Some w → KnowsOffers j done q w
           → Enters_at s v q own m (knowledge_after j n q w) (With done q w) (suc n)
       by (Moves o ws) e w h k = absurd (none-some _ h)
       by (MeetsFault f) e w h k = absurd (none-some _ h)
       by (Opens o ws) e w h k = subst (λ z. Enters_at s v q own m (knowledge_after j n q z) (With done q z) (suc n))
           (same_Some _ _ h)
-          (put Opened _ (opens_linked s v q x.cs at.sound at.known x.one j done n label at.linked o ws e)
+          (put Opened _ (opens_linked s v q x.cs at.sound at.known x.makes j done n label at.linked o ws e)
           (subst (λ a. KnowsBefore (superpascal g) v q a) (sym e) tt))
       by (Forks o os) e w h k = subst (λ z. Enters_at s v q own m (knowledge_after j n q z) (With done q z) (suc n))
           (same_Some _ _ h)
-          (put (Forked (length os)) _ (forks_linked s v q x.cs at.sound at.known x.one j done n label at.linked o os e)
+          (put (Forked (length os)) _
+          (forks_linked s v q x.cs at.sound at.known x.makes j done n label at.linked o os e)
           (subst (λ a. KnowsBefore (superpascal g) v q a) (sym e) tt))
       by (Offering o) e w h k =
           let k' : KnowsOffers j done q (Offered (way_of o.cargo) o.channel) =
           subst (KnowsOffers j done q) (sym (same_Some _ _ h)) k in
           subst (λ z. Enters_at s v q own m (knowledge_after j n q z) (With done q z) (suc n)) (same_Some _ _ h)
           (put (Offered (way_of o.cargo) o.channel) _
-          (offers_linked s v q x.cs at.sound at.known x.one j done n label at.linked o e)
+          (offers_linked s v q x.cs at.sound at.known x.makes j done n label at.linked o e)
           (subst (λ a. KnowsBefore (superpascal g) v q a) (sym e) (known_linked s v j done n label q o at.linked k')))
       by EndsProcess e w h k = subst (λ z. Enters_at s v q own m (knowledge_after j n q z) (With done q z) (suc n))
           (same_Some _ _ h)
-          (put Ended _ (ends_linked s v q x.cs at.sound at.known x.one j done n label at.linked e)
+          (put Ended _ (ends_linked s v q x.cs at.sound at.known x.makes j done n label at.linked e)
           (subst (λ a. KnowsBefore (superpascal g) v q a) (sym e) tt))
 
   abbrev Goes_on : (Course → StateOf g → ℕ → Type 0) → StateOf g → Knowledge → List Occurrence → ℕ → Type 0

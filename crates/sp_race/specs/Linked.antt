@@ -17,20 +17,20 @@ known_label f (Some e) = f e
 -- the pending offer's entry
 pub record Pended {L : Language} (s : State L) (v : JudgeNotes) (j : Knowledge) (done : List Occurrence) (n : ℕ)
     (label : ℕ → Option Event) (c : Channel) (z : Name) (w : OfferOf L) : Type 0 where
-  pub at : ℕ
-  pub is : j.pending c ≡ Some (z, at)
-  pub inside : at < n
-  pub names : label at ≡ Some (next_event_of v z)
-  pub entry : slice_get done at ≡ Some (record { who = z; what = Offered (way_of w.cargo) c })
+  pub position : ℕ
+  pub pending_is : j.pending c ≡ Some (z, position)
+  pub inside : position < n
+  pub names : label position ≡ Some (next_event_of v z)
+  pub entry : slice_get done position ≡ Some (record { who = z; what = Offered (way_of w.cargo) c })
 
 -- the entry of a completed offer
 pub record Recorded (done : List Occurrence) (n : ℕ) (label : ℕ → Option Event) (c : Channel) (w : Way) (e : Event) :
     Type 0 where
-  pub at : ℕ
+  pub position : ℕ
   pub who : Name
-  pub inside : at < n
-  pub names : label at ≡ Some e
-  pub entry : slice_get done at ≡ Some (record { who = who; what = Offered w c })
+  pub inside : position < n
+  pub names : label position ≡ Some e
+  pub entry : slice_get done position ≡ Some (record { who = who; what = Offered w c })
 
 abbrev pub IsPending : {L : Language} → State L → JudgeNotes → Event → Type 0
 IsPending s v e = (z : Name) × (c : Channel) × (s.pending c ≡ Some z) × (e ≡ next_event_of v z)

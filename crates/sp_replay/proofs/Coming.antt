@@ -144,7 +144,7 @@ module _ (x : Kernel) (c : HasCome x) where
     pub fits : (h : Handed) → WasTurned p code lim h → FitsHanded x 0 h
     fits h t =
         let may = may_hand_in c.opened code lim run c.log 0 p has (notes_of_worker 0 c.log) h.proc h.stop refl t.turn
-        t.same t.whole in
+        t.keeps t.whole in
         (later c.opened c.opening c.log x c.told 0 c.log (notes_of_worker 0 c.log) refl (starts_self c.log) refl
         (ask.Turn (Some h)) may.1).1
 
@@ -206,7 +206,7 @@ module _ (x : Kernel) (c : HasCome x) where
 
     answered : (r : Option Proc) → Takes m 0 y r → (g : Got)
         × GotMatchesNote y g (option_map (λ (p : Proc). p.number) r)
-    answered None t = nothing y (ap (λ (z : Kernel). front (control_of z)) (t.same refl) ∙ sym t.front)
+    answered None t = nothing y (ap (λ (z : Kernel). front (control_of z)) (t.unchanged refl) ∙ sym t.front)
     answered (Some p) t = (
       got.Work p,
       (
@@ -276,7 +276,7 @@ take_more x y held new p f t same =
 pub take_none : (x y : Kernel) (held : List (Option Proc)) → IsReplayKernel x (held_at held) → Takes x 0 y None
     → IsReplayKernel y (held_at held) × (y.ready ≡ []) × SameRun x y
 take_none x y held f t =
-    let same : x ≡ y = sym (t.same refl) in
+    let same : x ≡ y = sym (t.unchanged refl) in
     subst (λ (z : Kernel). IsReplayKernel z (held_at held) × (z.ready ≡ []) × SameRun x z) same (
       f,
       none_ready x f.come (held_at held) f.held (sym t.front),
@@ -305,7 +305,7 @@ module _ (f : Followed) (code : Parts) (lim : Limits) (runs : RunsOn f.kernel co
 
     left : AreOut m (held_at f.held)
     left = given_out f.kernel (is_whole f.kernel i.follows.come) i.none_ready i.who i.follows.held h m gave
-        (held_at f.held) (λ q. subst (λ n. held_at f.held q ≡ at_key ◌==◌ n None i.who q) (sym i.turned.same.0)
+        (held_at f.held) (λ q. subst (λ n. held_at f.held q ≡ at_key ◌==◌ n None i.who q) (sym i.turned.keeps.0)
         (i.others q))
 
     -- its event was made, and the next was taken, if any
@@ -315,7 +315,7 @@ module _ (f : Followed) (code : Parts) (lim : Limits) (runs : RunsOn f.kernel co
       made = record {
         setting = same_setting m y t.setting ∙ same_setting f.kernel m gave.setting;
         entries = ap (λ (j : _). j.entries) t.journal ∙ gave.entry;
-        enters = (fits_in.at, fits_in.runs, turn_of h, fits_in.turn, refl, t.system ∙ gave.system);
+        enters = (fits_in.configuration, fits_in.runs, turn_of h, fits_in.turn, refl, t.system ∙ gave.system);
       };
       follows = record {
         come = come_given f.kernel i.follows.come h fits_in m gave y r t;

@@ -98,7 +98,7 @@ module _ (x : Kernel) (c : HasCome x) (who : ℕ → Option Proc) (o : AreOut x 
       → plain.output m ≡ Some bs → IsOutputOf (system_of x) q bs
   is_output q m bs at out = record {
     store = m;
-    at = at;
+    store_is = at;
     output = out;
     only = λ r p cs a b. holder.2.only r p cs a b ∙ sym (holder.2.only q m bs at out);
   }
@@ -123,7 +123,7 @@ module _ (x : Kernel) (c : HasCome x) (who : ℕ → Option Proc) (o : AreOut x 
       away : IsOutOfKernel ((control_of x).doing holder.0) → ⊥
       away a =
           let w = o.all holder.0 a in
-          let same : w.0.store ≡ holder.2.store = same_Some _ _ (sym (store_is holder.0 w.0 w.1) ∙ holder.2.at) in
+          let same : w.0.store ≡ holder.2.store = same_Some _ _ (sym (store_is holder.0 w.0 w.1) ∙ holder.2.store_is) in
           let some : output_of_process w.0 ≡ Some holder.1 = ap (λ (m : Plain). plain.output m) same
           ∙ holder.2.output in
           let no = not_held holder.0 w.0 w.1 in
@@ -134,7 +134,7 @@ module _ (x : Kernel) (c : HasCome x) (who : ℕ → Option Proc) (o : AreOut x 
         holder.0,
         holder.2.store,
         ((λ w f. n w (sym e ∙ f)), (λ f. g (sym e ∙ f))),
-        holder.2.at,
+        holder.2.store_is,
         holder.2.output,
       )
 

@@ -89,7 +89,7 @@ module _ (x y : Kernel) (who : ℕ → Option Proc) (o : AreOut x who) where
 
   -- after a process was taken, if any
   pub taken_out : (r : Option Proc) → Takes x 0 y r → AreOut y (with_taken r who)
-  taken_out None t = subst (λ (k : Kernel). AreOut k who) (sym (t.same refl)) o
+  taken_out None t = subst (λ (k : Kernel). AreOut k who) (sym (t.unchanged refl)) o
   taken_out (Some p) t = taken_some p t
 
 -- after one was handed in

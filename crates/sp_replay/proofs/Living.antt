@@ -44,7 +44,7 @@ module _ (k : Control) (h : IsOrderly k) (c : HasChildren k) (lawful : Lawful k.
           let apart = o.0 in
           let b : Born k.births q = lawful.born q (omega (arith, apart)) (below q l) in
           on b.birth.parent (let less = b.older in omega (arith, less, le))
-          (awaits q (c.children b.birth.parent) (k.doing b.birth.parent) (c.all q b.birth b.is l)
+          (awaits q (c.children b.birth.parent) (k.doing b.birth.parent) (c.all q b.birth b.birth_is l)
           (c.count b.birth.parent))
 
   pub root_lives : (q : ℕ) → IsLive (k.doing q) → IsLive (k.doing 0)

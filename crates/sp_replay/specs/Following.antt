@@ -81,7 +81,7 @@ pub record RunsOn (x : Kernel) (parts : Parts) (lim : Limits) : Type 0 where
 -- a process was run by one turn, which memory did not end
 pub record WasTurned (p : Proc) (code : Parts) (lim : Limits) (h : Handed) : Type 0 where
   pub turn : IsTurnOf p code lim h.proc h.stop
-  pub same : KeepsNumberAndInput p h.proc
+  pub keeps : KeepsNumberAndInput p h.proc
   pub whole : h.stop ≡ stop.Memory → ⊥
 
 -- all that can run were held; then one was picked, and was run by one turn

@@ -102,5 +102,5 @@ module _ (g : CodeRun) (k : KeepsCodeRules g.code) where
         × ((f : ℕ) (l : Layout) → IsAreaAmong g.code (Body f) (areas t) → layout_of g.code.layouts f ≡ Some l
         → l.answer ≡ false)
     answers_quietly p q st s1 n m s h way is =
-        let w = safe.comes_in plain g k Both both_ready both_kept way.steps (At p st n) (At q s1 m) (s, h) way.by in
+        let w = safe.comes_in plain g k Both both_ready both_kept way.steps (At p st n) (At q s1 m) (s, h) way.proof in
         (w.0, none_answers g.code eight w.0.area (areas_of w.0.callers) q w.0.shapes w.1.1 w.0.reached is)

@@ -78,7 +78,7 @@ module _ (ls : List Layout) (ha : List Home) (k : ℕ) (l : Layout) (fs : List F
   -- the place of a variable of its own
   pub record OwnAt (y : ℕ) : Type 0 where
     pub place : ℕ
-    pub is : slice_get l.variables place ≡ Some y
+    pub variable_is : slice_get l.variables place ≡ Some y
     pub stands_so : (s : Spot) → spot_by f place (slice_get l.formals place) ≡ Some s → spot_of ls (f ∷ fs) y ≡ Some s
     pub extends_so : (n : ℕ) → extent_by ls f fs place (slice_get l.formals place) ≡ Some n
         → extent ls (f ∷ fs) y ≡ Some n
@@ -86,7 +86,7 @@ module _ (ls : List Layout) (ha : List Home) (k : ℕ) (l : Layout) (fs : List F
   pub own_at : (y : ℕ) → 2 ≤ y → IsMember y l.variables → OwnAt y
   own_at y r m = record {
     place = i;
-    is = w.2;
+    variable_is = w.2;
     stands_so = λ s e. spot_is ls hb (f ∷ fs) y r chain_new
         ∙ ap (λ o. or_outward o (spot_by_homes ls (drop k ha) (last_frames f.link fs) y)) (ap (spot_of_layout f y) lay
         ∙ ap (spot_at f l) place_is ∙ e);
@@ -142,8 +142,8 @@ module _ (ls : List Layout) (ha : List Home) (k : ℕ) (l : Layout) (fs : List F
     -- a variable of the new frame
     record IsNew (y : ℕ) : Type 0 where
       pub place : ℕ
-      pub is : slice_get l.variables place ≡ Some y
-      pub at : spot_of ls (f ∷ fs) y ≡ Some (new_spot place)
+      pub variable_is : slice_get l.variables place ≡ Some y
+      pub spot_is : spot_of ls (f ∷ fs) y ≡ Some (new_spot place)
       pub cells : List Cell
       pub piece : piece_of (map.get m1 (new_spot place)) ≡ Some cells
       pub whole : extent ls (f ∷ fs) y ≡ Some (length cells)
@@ -154,7 +154,7 @@ module _ (ls : List Layout) (ha : List Home) (k : ℕ) (l : Layout) (fs : List F
       pub was : ℕ
       pub effect : E was
       pub became : Became y was
-      pub at : spot_of ls (f ∷ fs) y ≡ spot_of ls fs was
+      pub spot_is : spot_of ls (f ∷ fs) y ≡ spot_of ls fs was
       pub console : (y < 2) → was ≡ y
       pub true_one : 2 ≤ y → 2 ≤ was
       pub whole : 2 ≤ y → (s : Spot) (n : ℕ) → spot_of ls fs was ≡ Some s → extent ls fs was ≡ Some n
@@ -175,13 +175,13 @@ module _ (ls : List Layout) (ha : List Home) (k : ℕ) (l : Layout) (fs : List F
             → spot_by f o.place u ≡ Some (new_spot o.place)
             → ((n : ℕ) → extent_by ls f fs o.place u ≡ size_at ls (OfBlock l.block) o.place) → IsNew y
         fresh u e plain at ext =
-            let w = pieces o.place y o.is (subst IsPlain (sym e) plain) in
+            let w = pieces o.place y o.variable_is (subst IsPlain (sym e) plain) in
             let size : size_at ls (OfBlock l.block) o.place ≡ Some (length w.2.0) = own_size o.place w.0 w.1
             ∙ ap Some (sym w.2.2) in
             record {
               place = o.place;
-              is = o.is;
-              at = o.stands_so (new_spot o.place) (ap (spot_by f o.place) e ∙ at);
+              variable_is = o.variable_is;
+              spot_is = o.stands_so (new_spot o.place) (ap (spot_by f o.place) e ∙ at);
               cells = w.2.0;
               piece = w.2.1;
               whole = o.extends_so (length w.2.0) (ap (extent_by ls f fs o.place) e ∙ ext 0 ∙ size);
@@ -197,8 +197,8 @@ module _ (ls : List Layout) (ha : List Home) (k : ℕ) (l : Layout) (fs : List F
             inr (record {
               was = w.0;
               effect = p.0;
-              became = inr (o.place, o.is, w.1);
-              at = o.stands_so w.2.0.spot (ap (spot_by f o.place) e ∙ ap spot_of_address w.2.1) ∙ sym w.2.2;
+              became = inr (o.place, o.variable_is, w.1);
+              spot_is = o.stands_so w.2.0.spot (ap (spot_by f o.place) e ∙ ap spot_of_address w.2.1) ∙ sym w.2.2;
               console = λ lt. absurd (omega (arith, lt, real y m));
               true_one = λ r. p.1;
               whole = λ r s n at ext size. (let same : w.2.0.spot ≡ s = same_Some _ _ (sym w.2.2 ∙ at) in
@@ -213,7 +213,7 @@ module _ (ls : List Layout) (ha : List Home) (k : ℕ) (l : Layout) (fs : List F
           was = y;
           effect = outer y d n;
           became = inl (refl, n);
-          at = stays n (around y d);
+          spot_is = stays n (around y d);
           console = λ lt. refl;
           true_one = λ r. r;
           whole = λ r s c at ext size. extends_on n r (around y d) ∙ ext;
@@ -275,7 +275,8 @@ module _ (ls : List Layout) (ha : List Home) (k : ℕ) (l : Layout) (fs : List F
 
     held_new : (y : ℕ) → D y → IsNew y ⊎ IsOld y → (s : Spot) × (spot_of ls (f ∷ fs) y ≡ Some s) × (s.frame < suc N)
         × HoldsVariable ls (f ∷ fs) m1 y s
-    held_new y d (inl o) = (new_spot o.place, o.at, omega arith, has_new y (real y (member o.place l.variables o.is)) o)
+    held_new y d (inl o) =
+        (new_spot o.place, o.spot_is, omega arith, has_new y (real y (member o.place l.variables o.variable_is)) o)
       where
         member : (i : ℕ) (ys : List ℕ) → slice_get ys i ≡ Some y → IsMember y ys
         member i [] e = absurd (cc e)
@@ -284,7 +285,7 @@ module _ (ls : List Layout) (ha : List Home) (k : ℕ) (l : Layout) (fs : List F
     held_new y d (inr o) =
         let w = caller.held o.was o.effect in (
           w.0,
-          o.at ∙ w.1,
+          o.spot_is ∙ w.1,
           omega (arith, w.2),
           has_old y o.was w.0 o.console o.true_one
               (λ r n a b. o.whole r w.0 n w.1 a b) w.2 w.3,
@@ -293,17 +294,17 @@ module _ (ls : List Layout) (ha : List Home) (k : ℕ) (l : Layout) (fs : List F
     old_frame : (y : ℕ) (o : IsOld y) (s : Spot) → spot_of ls (f ∷ fs) y ≡ Some s → s.frame < N
     old_frame y o s e =
         let w = caller.held o.was o.effect in
-        let same : w.0 ≡ s = same_Some _ _ (sym w.1 ∙ sym o.at ∙ e) in
+        let same : w.0 ≡ s = same_Some _ _ (sym w.1 ∙ sym o.spot_is ∙ e) in
         subst (λ (q : Spot). q.frame < N) same w.2
 
     new_frame : (y : ℕ) (o : IsNew y) (s : Spot) → spot_of ls (f ∷ fs) y ≡ Some s → s ≡ new_spot o.place
-    new_frame y o s e = same_Some _ _ (sym e ∙ o.at)
+    new_frame y o s e = same_Some _ _ (sym e ∙ o.spot_is)
 
     apart_new : (y z : ℕ) (s : Spot) → D y → D z → spot_of ls (f ∷ fs) y ≡ Some s → spot_of ls (f ∷ fs) z ≡ Some s
         → IsNew y ⊎ IsOld y → IsNew z ⊎ IsOld z → y ≡ z
     apart_new y z s d e a b (inl o) (inl p) =
         let same : o.place ≡ p.place = ap (λ (q : Spot). q.variable) (sym (new_frame y o s a) ∙ new_frame z p s b) in
-        same_Some _ _ (sym o.is ∙ ap (slice_get l.variables) same ∙ p.is)
+        same_Some _ _ (sym o.variable_is ∙ ap (slice_get l.variables) same ∙ p.variable_is)
     apart_new y z s d e a b (inl o) (inr p) = absurd
         (let lt = old_frame z p s b in let is : s.frame ≡ N = ap (λ (q : Spot). q.frame) (new_frame y o s a) in omega
         (arith, lt, is))
@@ -311,7 +312,8 @@ module _ (ls : List Layout) (ha : List Home) (k : ℕ) (l : Layout) (fs : List F
         (let lt = old_frame y o s a in let is : s.frame ≡ N = ap (λ (q : Spot). q.frame) (new_frame z p s b) in omega
         (arith, lt, is))
     apart_new y z s d e a b (inr o) (inr p) =
-        let same : o.was ≡ p.was = caller.apart o.was p.was s o.effect p.effect (sym o.at ∙ a) (sym p.at ∙ b) in
+        let same : o.was ≡ p.was = caller.apart o.was p.was s o.effect p.effect (sym o.spot_is ∙ a)
+        (sym p.spot_is ∙ b) in
         became_one p.was y z d e (subst (Became y) same o.became) p.became
 
     clear_new : K → (y : ℕ) (s : Spot) → 2 ≤ y → D y → spot_of ls (f ∷ fs) y ≡ Some s → IsNew y ⊎ IsOld y
@@ -323,7 +325,7 @@ module _ (ls : List Layout) (ha : List Home) (k : ℕ) (l : Layout) (fs : List F
           λ i. absurd
               (let z : s.frame ≡ 0 = ap (λ (q : Spot). q.frame) i in omega (arith, is, far, z)),
         )
-    clear_new c y s r d e (inr o) = caller.clear c o.was s (o.true_one r) o.effect (sym o.at ∙ e)
+    clear_new c y s r d e (inr o) = caller.clear c o.was s (o.true_one r) o.effect (sym o.spot_is ∙ e)
 
     -- the block's activation holds its effects
     pub callee : Allowed ls K D (suc N) (f ∷ fs) m1

@@ -12,20 +12,20 @@ use Rattle.sp_rules.specs.Shapes.{Shape}
 module _ (c : Parts) (Does : Kind → Area → ℕ → Type 0) where
   -- what an area does itself is an effect of it
   pub does_effect : (u : Kind) (a : Area) (x : ℕ) → Does u a x → IsEffect c Does u a x
-  does_effect u a x d = record { areas = []; by = d }
+  does_effect u a x d = record { areas = []; proof = d }
 
   -- an effect of a child is one of the area that starts it, its index aside
   pub child_effect : (u : Kind) (a : Area) (p k x : ℕ) (t : ChildTable) → IsStarted c a p k t → IsAside u t.index x
       → IsEffect c Does u (Child a p k) x → IsEffect c Does u a x
-  child_effect u a p k x t s o e = record { areas = Child a p k ∷ e.areas; by = inl (p, k, t, refl, s, o, e.by) }
+  child_effect u a p k x t s o e = record { areas = Child a p k ∷ e.areas; proof = inl (p, k, t, refl, s, o, e.proof) }
 
   -- an effect of a called block is one of the area that calls it, as what the variable is there
   pub called_effect : (u : Kind) (a : Area) (p f up x y : ℕ) (ss : List Shape) (l : Layout) → IsCalled c a p f up ss l
       → Becomes l ss y x → IsEffect c Does u (Body f) y → IsEffect c Does u a x
   called_effect u a p f up x y ss l call b e = record {
     areas = Body f ∷ e.areas;
-    by = inr
-        (p, f, up, ss, l, refl, call, (y, e.by, b));
+    proof = inr
+        (p, f, up, ss, l, refl, call, (y, e.proof, b));
   }
 
   -- a closed set has all effects
@@ -41,7 +41,7 @@ module _ (c : Parts) (Does : Kind → Area → ℕ → Type 0) where
         (subst (λ z. S u z d.7.0) d.5 (within bs u b d.7.0 d.7.1))
 
     pub effects_within : (u : Kind) (a : Area) (x : ℕ) → IsEffect c Does u a x → S u a x
-    effects_within u a x e = within e.areas u a x e.by
+    effects_within u a x e = within e.areas u a x e.proof
 
   -- and so for stops
   module _ (Stops : Area → Type 0) (S : Area → Type 0) (stops : (a : Area) → Stops a → S a)

@@ -69,7 +69,7 @@ stores = record { steps = 2; way = (5, A 2 1 ∷ [], (4, [], (refl, refl), inl (
 pub distant_effect : IsEffect distant_store (Does distant_store) Stored (Child (Body 0) 0 0) 2
 distant_effect = record {
   areas = Body 1 ∷ [];
-  by = inr
+  proof = inr
       (2, 1, 0, [], plain_one, refl, called, (2, inl (6, O ∷ A 2 1 ∷ [], stores, inl refl), inl (refl, λ m. m)));
 }
 

@@ -276,7 +276,7 @@ module _ (c : Parts) (k : KeepsCodeRules c) (e : KeepsEffects c (Does c)) (known
       outside None is m = subst (λ z. IsMember x (all_variables c.layouts (with_home z (homes c a)))) is m
       outside (Some y) is m = ⊎_elim
           (λ s. absurd (not_index u a d.0 d.1 x y d.2 child d.4.1 (sym (ap index_of_child d.4.1)
-          ∙ is) d.5 (record { areas = bs; by = subst (λ z. EffectBy c (Does c) bs u z x) d.3 d.6 }) s))
+          ∙ is) d.5 (record { areas = bs; proof = subst (λ z. EffectBy c (Does c) bs u z x) d.3 d.6 }) s))
           (λ r. r)
           (subst (λ z. IsMember x (all_variables c.layouts (with_home z (homes c a)))) is m)
   around (b ∷ bs) u a x area (inr d) = becomes
@@ -300,8 +300,8 @@ module _ (c : Parts) (k : KeepsCodeRules c) (e : KeepsEffects c (Does c)) (known
           (addresses_around c k a area d.0 d.3 d.6.reached) q.2.3)
 
   pub effects_around : (a : Area) (x : ℕ) → IsArea c a → HasEffect c (Does c) a x → (x < 2) ⊎ Around a x
-  effects_around a x area (inl h) = around h.areas Stored a x area h.by
-  effects_around a x area (inr h) = around h.areas Loaded a x area h.by
+  effects_around a x area (inl h) = around h.areas Stored a x area h.proof
+  effects_around a x area (inr h) = around h.areas Loaded a x area h.proof
 
   -- ---- what an activation may touch
 

@@ -209,7 +209,7 @@ module _ (g : CodeRun) where
       lives = h.0;
       well = let e = same_area x t.area s.area (areas_of t.callers) (areas_of s.callers) m here np in
           subst (λ z. StopsWell g (homes g.code) E T Room Sent x (z ∷ areas_of s.callers) (At q s1 m)) e
-          (well_here x t.area (areas_of s.callers) t.at q t.shapes s1 m t.callers t.there t.reached t.so
+          (well_here x t.area (areas_of s.callers) t.position q t.shapes s1 m t.callers t.there t.reached t.so
           (subst (λ z. IsHere plain g m x (t.area ∷ areas_of t.callers) (z ∷ areas_of s.callers)) (sym e) here) (
             s,
             ap (λ z. z ∷ areas_of s.callers) e,

@@ -108,7 +108,7 @@ module _ {S : Type 0} (stores : Stores S) (g : CodeRun) (k : KeepsCodeRules g.co
   pub record Kid (p t j : ℕ) : Type 0 where
     pub number : ℕ
     pub table : ChildTable
-    pub is : child_at g.code p number ≡ Some table
+    pub table_is : child_at g.code p number ≡ Some table
     pub begins : child_or (table_child (table_or (slice_get g.code.forks t)) j) ≡ table
 
   pub kid : (p t n j : ℕ) → ForksAt g.code p t n → j < n → Kid p t j
@@ -120,7 +120,7 @@ module _ {S : Type 0} (stores : Stores S) (g : CodeRun) (k : KeepsCodeRules g.co
       record {
         number = j;
         table = Rattle.std.specs.Prelude.get_or tb.children j Rattle.sp_code.specs.System.no_child;
-        is = ap (λ o. child_of (table_at g.code.forks (table_named o)) j) is ∙ here;
+        table_is = ap (λ o. child_of (table_at g.code.forks (table_named o)) j) is ∙ here;
         begins = ap (λ o. child_or (table_child (table_or o) j)) at
             ∙ (ap (λ o. child_or (child_by tb.children o j)) (no_index tb at) ∙ ap child_or ch);
       }
@@ -137,7 +137,7 @@ module _ {S : Type 0} (stores : Stores S) (g : CodeRun) (k : KeepsCodeRules g.co
       record {
         number = 0;
         table = f.1;
-        is = ap (λ o. child_of (table_at g.code.forks (table_named o)) 0) is
+        table_is = ap (λ o. child_of (table_at g.code.forks (table_named o)) 0) is
             ∙ (ap (λ o. child_of o 0) f.3 ∙ ap (λ cs. slice_get cs 0) f.4);
         begins = ap (λ o. child_or (table_child (table_or o) j)) f.3
             ∙ (ap (λ cs. child_or (child_by cs (Rattle.sp_code.specs.Tables.first_index cs) j)) f.4

@@ -74,9 +74,9 @@ module _ (c : Parts) (k : KeepsCodeRules c) (e : KeepsEffects c (Does c)) (known
   pub may_do : (u : Kind) (a : Area) (p x : ℕ) (ss : List Shape) → IsArea c a → Reaches c a p ss
       → IsIn x (does_at c u a p ss) → May c a x
   may_do Stored a p x ss area r m = may_effect c k e known a x area
-      (inl (record { areas = []; by = inl (p, ss, r, m) }))
+      (inl (record { areas = []; proof = inl (p, ss, r, m) }))
   may_do Loaded a p x ss area r m = may_effect c k e known a x area
-      (inr (record { areas = []; by = inl (p, ss, r, m) }))
+      (inr (record { areas = []; proof = inl (p, ss, r, m) }))
 
   -- ---- a call
 
@@ -100,7 +100,7 @@ module _ (c : Parts) (k : KeepsCodeRules c) (e : KeepsEffects c (Does c)) (known
     own y m = subst (λ o. IsMember y (variables_of o)) call.layout m
 
     pub actual_stored : (j x : ℕ) → IsActual l ss j x → IsEffect c (Does c) Stored a x
-    actual_stored j x w = record { areas = []; by = inl (p, ss, call.reached, stored) }
+    actual_stored j x w = record { areas = []; proof = inl (p, ss, call.reached, stored) }
       where
         there : IsIn x (addresses (length l.formals) ss)
         there = let b = slice_get_within l.formals j (formal.Reference w.0) w.2 in in_addresses (length l.formals)
@@ -115,8 +115,8 @@ module _ (c : Parts) (k : KeepsCodeRules c) (e : KeepsEffects c (Does c)) (known
         → IsEffect c (Does c) u a y
     outer_effect u y f n = record {
       areas = Body b ∷ f.areas;
-      by = inr
-          (p, b, up, ss, l, refl, call, (y, f.by, inl (refl, n)));
+      proof = inr
+          (p, b, up, ss, l, refl, call, (y, f.proof, inl (refl, n)));
     }
 
     sizes_are : (length l.sizes ≡ length l.variables)
@@ -188,8 +188,8 @@ module _ (g : CodeRun) (k : KeepsCodeRules g.code) (e : KeepsEffects g.code (Doe
           ∙ ap (λ o. with_home o (homes g.code a)) is
 
       effect : (x : ℕ) → IsMember x t.moved ⊎ IsMember x t.shared → HasEffect g.code (Does g.code) a x
-      effect x (inl m) = inl (record { areas = []; by = inr (p, j, t, s, m) })
-      effect x (inr m) = inr (record { areas = []; by = inr (p, j, t, s, m) })
+      effect x (inl m) = inl (record { areas = []; proof = inr (p, j, t, s, m) })
+      effect x (inr m) = inr (record { areas = []; proof = inr (p, j, t, s, m) })
 
   module _ (a : Area) (p t n : ℕ) (value : ℤ) (d : Config (Memory Plain)) (area : IsArea g.code a)
       (pass : IsInCodeOf g.code a p) (at : ForksAt g.code p t n)

@@ -170,36 +170,43 @@ module _ (c : Parts) (children : HaveChildren c) (fitting : FitsTypes c) (v1 : (
       not_other p q (λ n. v1 ch.0.entry (TableUnnamed (t, ch.0, ch.1, refl, inr (inl (p, q, h, k, n)))))
 
   lengths : (k n m : ℕ) → IsSent c k n → IsSent c k m → n ≡ m
-  lengths k n m s t = go (less_same_or_more s.at t.at)
+  lengths k n m s t = go (less_same_or_more s.position t.position)
     where
-      sends_s : (a : Area) × (ss : List Shape) × ComesTo c a s.at ss × (instr_at c s.at ≡ Some (i.Send k))
+      sends_s : (a : Area) × (ss : List Shape) × ComesTo c a s.position ss × (instr_at c s.position ≡ Some (i.Send k))
           × (message_cells c ss ≡ Some n)
-      sends_s = (s.area, s.shapes, (s.there, s.reached), s.is, s.cells)
+      sends_s = (s.area, s.shapes, (s.there, s.reached), s.instruction_is, s.cells)
 
-      sends_t : (a : Area) × (ss : List Shape) × ComesTo c a t.at ss × (instr_at c t.at ≡ Some (i.Send k))
+      sends_t : (a : Area) × (ss : List Shape) × ComesTo c a t.position ss × (instr_at c t.position ≡ Some (i.Send k))
           × (message_cells c ss ≡ Some m)
-      sends_t = (t.area, t.shapes, (t.there, t.reached), t.is, t.cells)
+      sends_t = (t.area, t.shapes, (t.there, t.reached), t.instruction_is, t.cells)
 
-      at_one : s.at ≡ t.at → n ≡ m
+      at_one : s.position ≡ t.position → n ≡ m
       at_one e =
-          let rt : Reaches c t.area s.at t.shapes = subst (λ p. Reaches c t.area p t.shapes) (sym e) t.reached in
-          let same : t.area ≡ s.area = apart s.at t.area s.area (t.there, passes c t.area s.at t.shapes rt)
-          (s.there, passes c s.area s.at s.shapes s.reached) in
-          let one = one_list c v2 s.area s.there s.at s.shapes t.shapes s.reached
-          (subst (λ a. Reaches c a s.at t.shapes) same rt) in
+          let rt : Reaches c t.area s.position t.shapes = subst (λ p. Reaches c t.area p t.shapes) (sym e) t.reached in
+          let same : t.area ≡ s.area = apart s.position t.area s.area (t.there, passes c t.area s.position t.shapes rt)
+          (s.there, passes c s.area s.position s.shapes s.reached) in
+          let one = one_list c v2 s.area s.there s.position s.shapes t.shapes s.reached
+          (subst (λ a. Reaches c a s.position t.shapes) same rt) in
           same_Some n m (sym s.cells ∙ (ap (message_cells c) one ∙ t.cells))
 
-      go : (s.at < t.at) ⊎ ((s.at ≡ t.at) ⊎ (t.at < s.at)) → n ≡ m
-      go (inl l) = not_other n m (λ h. v4 t.at (OtherLength k m s.at n sends_t l sends_s h))
+      go : (s.position < t.position) ⊎ ((s.position ≡ t.position) ⊎ (t.position < s.position)) → n ≡ m
+      go (inl l) = not_other n m (λ h. v4 t.position (OtherLength k m s.position n sends_t l sends_s h))
       go (inr (inl e)) = at_one e
-      go (inr (inr l)) = not_other n m (λ h. v4 s.at (OtherLength k n t.at m sends_s l sends_t (λ z. h (sym z))))
+      go (inr (inr l)) = not_other n m
+          (λ h. v4 s.position (OtherLength k n t.position m sends_s l sends_t (λ z. h (sym z))))
 
   rooms : (k n m : ℕ) → IsReceived c k n → IsSent c k m → m ≤ n
   rooms k n m r s = go (less_same_or_more n m)
     where
       go : (n < m) ⊎ ((n ≡ m) ⊎ (m < n)) → m ≤ n
-      go (inl l) = absurd (v4 r.at (NoRoom k n s.at m (r.area, r.shapes, (r.there, r.reached), r.is, r.cells)
-          (s.area, s.shapes, (s.there, s.reached), s.is, s.cells) l))
+      go (inl l) = absurd (v4 r.position (NoRoom k n s.position m (
+        r.area,
+        r.shapes,
+        (r.there, r.reached),
+        r.instruction_is,
+        r.cells,
+      )
+          (s.area, s.shapes, (s.there, s.reached), s.instruction_is, s.cells) l))
       go (inr (inl e)) = omega (arith, e)
       go (inr (inr l)) = omega (arith, l)
 

@@ -114,7 +114,7 @@ module _ (g : CodeRun) (k : KeepsCodeRules g.code) (e : KeepsEffects g.code (Doe
   -- a variable of the program by its place
   record ProgramSpot (x : ℕ) : Type 0 where
     pub place : ℕ
-    pub is : slice_get l.variables place ≡ Some x
+    pub variable_is : slice_get l.variables place ≡ Some x
     pub stands_so : spot_of g.code.layouts (f ∷ []) x ≡ Some (record { frame = 0; variable = 2 + place })
     pub cells : ℕ
     pub size : slice_get l.sizes place ≡ Some cells
@@ -155,7 +155,7 @@ module _ (g : CodeRun) (k : KeepsCodeRules g.code) (e : KeepsEffects g.code (Doe
       go [] ch = absurd ch
       go (h ∷ hs) ch = record {
         place = w.0;
-        is = w.2;
+        variable_is = w.2;
         stands_so =
             spot_is g.code.layouts (h ∷ hs) (f ∷ []) x real ch
             ∙ ap (λ z. or_outward (spot_in g.code.layouts f z x) (spot_by_homes g.code.layouts hs (last_frames 0 []) x))
@@ -250,7 +250,7 @@ module _ (g : CodeRun) (k : KeepsCodeRules g.code) (e : KeepsEffects g.code (Doe
   large_spot : (x : ℕ) (s : Spot) → 2 ≤ x → May g.code (Body 0) x → spot_of g.code.layouts (f ∷ []) x ≡ Some s → (j : ℕ)
       × (slice_get l.variables j ≡ Some x) × (s.variable ≡ 2 + j)
   large_spot x s r h q = let u = stays x r (mine x r h) in
-      (u.place, u.is, ap (λ (z : Spot). z.variable) (at_spot x s r u q))
+      (u.place, u.variable_is, ap (λ (z : Spot). z.variable) (at_spot x s r u q))
 
   apart : (x y : ℕ) (s : Spot) → May g.code (Body 0) x → May g.code (Body 0) y
       → spot_of g.code.layouts (f ∷ []) x ≡ Some s → spot_of g.code.layouts (f ∷ []) y ≡ Some s → x ≡ y

@@ -71,14 +71,14 @@ module _ (ls : List Layout) {Area : Type 0} (H : Area → List Home) (E : Area �
 
   -- outside the new frame nothing changes; nothing is away; what is known was known, or is of the new frame
   record Fair (s : Plain) : Type 0 where
-    pub other : (q : Spot) → q.frame ≢ N → map.get s.map q ≡ map.get p.map q
+    pub elsewhere : (q : Spot) → q.frame ≢ N → map.get s.map q ≡ map.get p.map q
     pub away : (q : Spot) → map.get s.map q ≢ Some Away
     pub own : s.own ≡ p.own ++ N ∷ []
     pub moved : s.moved ≡ p.moved
 
   fair_pushed : Fair (plain.pushed p l.sizes)
   fair_pushed = record {
-    other = λ q o. pieces_other p.map N 0 l.sizes q o;
+    elsewhere = λ q o. pieces_other p.map N 0 l.sizes q o;
     away = pieces_not_away p.map N 0 l.sizes h.none_away;
     own = refl;
     moved = refl;
@@ -87,8 +87,8 @@ module _ (ls : List Layout) {Area : Type 0} (H : Area → List Home) (E : Area �
   fair_written : (s : Plain) (i : ℕ) (cs : List Cell) → Fair s
       → Fair (plain.owned s (record { frame = N; variable = i }) cs)
   fair_written s i cs g = record {
-    other = λ q o. get_other s.map (record { frame = N; variable = i }) (Own cs) q
-        (λ e. o (ap (λ (z : Spot). z.frame) e)) ∙ g.other q o;
+    elsewhere = λ q o. get_other s.map (record { frame = N; variable = i }) (Own cs) q
+        (λ e. o (ap (λ (z : Spot). z.frame) e)) ∙ g.elsewhere q o;
     away = λ q e. ⊎_elim
         (λ (j : q ≡ record { frame = N; variable = i }). own_away
         (sym (get_here s.map (record { frame = N; variable = i }) (Own cs))
@@ -113,7 +113,7 @@ module _ (ls : List Layout) {Area : Type 0} (H : Area → List Home) (E : Area �
   })
 
   below : (q : Spot) → q.frame < N → map.get store.map q ≡ map.get p.map q
-  below q lt = fair.other q (λ e. omega (arith, lt, e))
+  below q lt = fair.elsewhere q (λ e. omega (arith, lt, e))
 
   -- the caller's activation, and those below it
   all : AllAllowed ls H E K N (a ∷ us) fs p.map
@@ -140,7 +140,7 @@ module _ (ls : List Layout) {Area : Type 0} (H : Area → List Home) (E : Area �
     where
       go : (t : Bool) → (q.frame == N) ≡ t → (q.frame ≡ N) ⊎ IsSome (map.get p.map q)
       go true e = inl (Rattle.std.proofs.lemmas.Bool.eqb-true q.frame N e)
-      go false e = inr (subst (λ z. IsSome z) (fair.other q (λ i. cc (sym e
+      go false e = inr (subst (λ z. IsSome z) (fair.elsewhere q (λ i. cc (sym e
           ∙ Rattle.sp_cell.proofs.FrameLaws.is_same q.frame N i))) g)
 
   long : length (p.own ++ N ∷ []) ≡ length p.own + 1

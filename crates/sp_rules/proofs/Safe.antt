@@ -65,7 +65,7 @@ module _ {S : Type 0} (stores : Stores S) (g : CodeRun) (k : KeepsCodeRules g.co
 
     -- no instruction of its turn lacks anything
     pub safe : (c : Config (Memory S)) → StandsWith c → IsSafe (memory stores g) g.code c
-    safe c w b d h e = stuck d (comes_in h.steps c d w h.by) e
+    safe c w b d h e = stuck d (comes_in h.steps c d w h.proof) e
       where
         stuck : (d : Config (Memory S)) → StandsWith d → next_step (memory stores g) g.code d ≡ Stuck → ⊥
         stuck (At p st n) w e = subst (λ z. Well stores g w.0.area (instr_at g.code p) w.0.shapes n (areas w.0) z) e
@@ -74,7 +74,7 @@ module _ {S : Type 0} (stores : Stores S) (g : CodeRun) (k : KeepsCodeRules g.co
     -- and where it stops, the stop is as it should be
     pub stops_well : (c d : Config (Memory S)) (x : Stop) → StandsWith c → Runs (memory stores g) g.code c (Stopped x d)
         → AtStop x d
-    stops_well c d x w (e, h, m) = at_stop e (comes_in h.steps c e w h.by) d x m
+    stops_well c d x w (e, h, m) = at_stop e (comes_in h.steps c e w h.proof) d x m
       where
         at_stop : (e : Config (Memory S)) → StandsWith e → (d : Config (Memory S)) (x : Stop)
             → next_step (memory stores g) g.code e ≡ Stops x d → AtStop x d
@@ -101,4 +101,4 @@ module _ {S : Type 0} (stores : Stores S) (g : CodeRun) (k : KeepsCodeRules g.co
 
       -- along all that its turn comes to
       pub ranks_along : (c : Config (Memory S)) → StandsWith c → IsRankedAlong (memory stores g) g.code c
-      ranks_along c w d h = ranks_fall d (comes_in h.steps c d w h.by)
+      ranks_along c w d h = ranks_fall d (comes_in h.steps c d w h.proof)

@@ -352,7 +352,8 @@ module _ (g : CodeRun) {Area : Type 0} (H : Area → List Home) (E : Area → �
       lives_at q c e = subst (λ y. Fine g H E T Room Cells i.base (i.base q) (i.children q) y) e (i.each q)
 
       stopped : (q : ℕ) (stop : Stop) (d : Config (Memory Plain)) → StopsAt g s q stop d → TurnsWell (i.base q) stop d
-      stopped q stop d a = let w = lives_at q a.at a.runs in turn (i.base q) w.0 a.at d stop w.1 w.2 a.turn
+      stopped q stop d a = let w = lives_at q a.configuration a.runs in turn
+          (i.base q) w.0 a.configuration d stop w.1 w.2 a.turn
 
       no_clash : (q : ℕ) (stop : Stop) (d : Config (Memory Plain)) → StopsAt g s q stop d → clash_of s stop ≡ None
       no_clash q stop d a = first_none (limit_of g.limits s stop) (clash_of s stop) a.fine

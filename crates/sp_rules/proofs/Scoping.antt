@@ -717,14 +717,14 @@ module _ (c : Parts) (k : KeepsCodeRules c) where
         referring (n, z) =
             let r = rw1 l le var v.cells (i.formals ∙ z) in (
               r.address,
-              r.is,
+              r.address_is,
               record {
                 real = is_real;
                 member = is_member;
-                spot = spot_here ∙ (ap (λ o. spot_by f var o) z ∙ ap spot_of_address r.is);
+                spot = spot_here ∙ (ap (λ o. spot_by f var o) z ∙ ap spot_of_address r.address_is);
                 size = r.size;
                 extent = extent_here ∙ (ap (λ o. extent_by c.layouts f gs var o) z
-                    ∙ (ap (λ o. size_behind c.layouts gs o) r.is ∙ r.whole));
+                    ∙ (ap (λ o. size_behind c.layouts gs o) r.address_is ∙ r.whole));
                 fits = r.fits;
                 small = r.small;
               },

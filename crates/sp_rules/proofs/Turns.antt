@@ -98,7 +98,7 @@ pub record Place (c : Parts) (a : Area) (p : ℕ) (ss : List Shape) (ks : List C
 
 -- what the rules give of the instruction there
 pub record Here (c : Parts) (a : Area) (p : ℕ) (ss : List Shape) (o : Option Instr) : Type 0 where
-  pub is : instr_at c p ≡ o
+  pub instruction_is : instr_at c p ≡ o
   pub good : LeadsToReached c a (instr_shapes c a o p ss)
   pub within : stays_within o ss ≡ true
   pub fits : rule.call_fits c o ss ≡ true
@@ -337,7 +337,7 @@ module _ {S : Type 0} (stores : Stores S) (g : CodeRun) (sc : Scoped g.code) (a 
       → StoppedAt g.code s q s1 n.frames
   stopped s q s1 so = record {
     area = a;
-    at = p;
+    position = p;
     shapes = ss;
     callers = ks;
     there = w.there;
@@ -546,11 +546,11 @@ module _ {S : Type 0} (stores : Stores S) (g : CodeRun) (sc : Scoped g.code) (a 
         stopped (Sends ch k v) (p + 1) s2
             (record {
               area = a;
-              at = p;
+              position = p;
               shapes = ss;
               there = w.there;
               reached = w.reached;
-              is = is;
+              instruction_is = is;
               cells = rw
                   (← z) mc;
             }),
@@ -576,11 +576,11 @@ module _ {S : Type 0} (stores : Stores S) (g : CodeRun) (sc : Scoped g.code) (a 
           pt,
           record {
             area = a;
-            at = p;
+            position = p;
             shapes = ss;
             there = w.there;
             reached = w.reached;
-            is = is;
+            instruction_is = is;
             cells = subst (λ zs. cells_left g.code zs ≡ Some m) z.0 refl;
           },
           sx,
@@ -596,7 +596,7 @@ module _ {S : Type 0} (stores : Stores S) (g : CodeRun) (sc : Scoped g.code) (a 
       let s : q.spot ≡ wh.spot = same_Some q.spot wh.spot (sym pt.stands ∙ wh.stands) in
       record {
         address = q;
-        is = refl;
+        address_is = refl;
         size = length wh.cells;
         whole = rw s wh.known;
         fits = reaches stores g.code.layouts n x left q pt wh k l;
@@ -626,7 +626,7 @@ module _ {S : Type 0} (stores : Stores S) (g : CodeRun) (sc : Scoped g.code) (a 
           record {
             area = Body b;
             shapes = [];
-            callers = record { area = a; at = p + 1; shapes = ts } ∷ ks;
+            callers = record { area = a; position = p + 1; shapes = ts } ∷ ks;
             rest = link_of l.answer (p + 1) ∷ s1;
             there = (l, e);
             reached = record { steps = 0; way = (rw e refl, refl) };
@@ -676,7 +676,15 @@ module _ {S : Type 0} (stores : Stores S) (g : CodeRun) (sc : Scoped g.code) (a 
             (Link (p + 1) ∷ s1) m)
         go true h = h
         go false h = paces (Link (p + 1) ∷ s1) m l.entry h
-            (record { area = a; at = p; shapes = ss; callers = ks; there = w.there; reached = w.reached; so = tt })
+            (record {
+              area = a;
+              position = p;
+              shapes = ss;
+              callers = ks;
+              there = w.there;
+              reached = w.reached;
+              so = tt;
+            })
 
     calls : (o : Option Layout) → layout_of g.code.layouts b ≡ o
         → on_option false o (λ l. is_block l.parent (slice_get (homes g.code a) up)) ≡ true
@@ -723,9 +731,9 @@ module _ {S : Type 0} (stores : Stores S) (g : CodeRun) (sc : Scoped g.code) (a 
       answer_at = ap (λ z. answer_in g.code.layouts z) e
           ∙ (ap (λ z. answer_of g.code.layouts f.number z) home ∙ ap (λ z. answer_by f.number z) le)
 
-      back_at : (sts : List Entry) (ts : List Shape) → Reaches g.code k.area k.at ts
-          → Operands g.code.layouts fs ts sts rest1 → Fn (Goes (At k.at sts ((memory stores g).close_frame n)))
-      back_at sts ts r o = subst (λ z. (s : StandsAt g.code k.at sts z)
+      back_at : (sts : List Entry) (ts : List Shape) → Reaches g.code k.area k.position ts
+          → Operands g.code.layouts fs ts sts rest1 → Fn (Goes (At k.position sts ((memory stores g).close_frame n)))
+      back_at sts ts r o = subst (λ z. (s : StandsAt g.code k.position sts z)
           × Changes stores g a (instr_at g.code p) ss n (a ∷ areas_of ks) (areas s) ((memory stores g).close_frame n))
           (sym (closed f fs e)) (
             record {
@@ -742,21 +750,22 @@ module _ {S : Type 0} (stores : Stores S) (g : CodeRun) (sc : Scoped g.code) (a 
             Returns (ap (λ z. a ∷ areas_of z) kse) is refl,
           )
 
-      go : (t : Bool) → l.answer ≡ t → st ≡ link_of l.answer k.at ∷ s1 → Fn (return_step (memory stores g) g.code st n)
+      go : (t : Bool) → l.answer ≡ t → st ≡ link_of l.answer k.position ∷ s1
+          → Fn (return_step (memory stores g) g.code st n)
       go true la es =
           let q = cell_at f.number (length l.formals) in
-          subst (λ z. Fn (return_step (memory stores g) g.code z n)) (sym (es ∙ ap (λ t. link_of t k.at ∷ s1) la))
+          subst (λ z. Fn (return_step (memory stores g) g.code z n)) (sym (es ∙ ap (λ t. link_of t k.position ∷ s1) la))
           (holds g.code a n.frames rest Fn fails ((memory stores g).may_close n) _ mc
           (is_found g.code a n.frames rest Fn fails ((memory stores g).answer n) q _ answer_at
           (holds g.code a n.frames rest Fn fails ((memory stores g).has q 1 n) _
           (subst (λ z. HasAnswer stores g n z) answer_at (an b l ae le la))
           (ordinal g.code a n.frames rest Fn fails ((memory stores g).read q n) _
           (λ v. back_at (Number v ∷ s1) (O ∷ k.shapes)
-          (subst (λ t. Reaches g.code k.area k.at (with_answer t k.shapes)) la rc) (tt, os))))))
+          (subst (λ t. Reaches g.code k.area k.position (with_answer t k.shapes)) la rc) (tt, os))))))
       go false la es =
-          subst (λ z. Fn (return_step (memory stores g) g.code z n)) (sym (es ∙ ap (λ t. link_of t k.at ∷ s1) la))
+          subst (λ z. Fn (return_step (memory stores g) g.code z n)) (sym (es ∙ ap (λ t. link_of t k.position ∷ s1) la))
           (holds g.code a n.frames rest Fn fails ((memory stores g).may_close n) _ mc
-          (back_at s1 k.shapes (subst (λ t. Reaches g.code k.area k.at (with_answer t k.shapes)) la rc) os))
+          (back_at s1 k.shapes (subst (λ t. Reaches g.code k.area k.position (with_answer t k.shapes)) la rc) os))
 
   -- nothing is left of the operands
   none_left : (zs : List Shape) → LeadsToReached g.code a (take_none zs) → Operands g.code.layouts n.frames zs st rest
@@ -781,7 +790,7 @@ module _ {S : Type 0} (stores : Stores S) (g : CodeRun) (sc : Scoped g.code) (a 
   At_ o = Here g.code a p ss o → MemorySuffices stores g a o ss n → Fn (instruction (memory stores g) g.code o p st n)
 
   sub : {o : Option Instr} → Here g.code a p ss o → Sub (stored_by g.code a o ss)
-  sub h x m = subst (λ o. IsIn x (stored_by g.code a o ss)) (sym h.is) m
+  sub h x m = subst (λ o. IsIn x (stored_by g.code a o ss)) (sym h.instruction_is) m
 
   pub fine : (o : Option Instr) → At_ o
   fine None h r = absurd h.good
@@ -898,7 +907,7 @@ module _ {S : Type 0} (stores : Stores S) (g : CodeRun) (sc : Scoped g.code) (a 
   fine (Some i.Tick) h r = done g.code a n.frames rest Fn fails ((memory stores g).tick n) _ (λ m e.
       paces st m (p + 1) (lands_with (p + 1) ss st m (beat_frames stores g n m e) h.good.0 w.operands
       (Ticks refl (beat_is stores g n m e)))
-      (record { area = a; at = p; shapes = ss; callers = ks; there = w.there; reached = w.reached; so = tt }))
+      (record { area = a; position = p; shapes = ss; callers = ks; there = w.there; reached = w.reached; so = tt }))
   fine (Some i.Assume) h r = number g.code a n.frames rest Fn fails (λ _. Unit {0}) ss st _ _ tt w.operands h.good
       (λ v ts s1 _ o1 g1. both g.code a n.frames rest Fn fails (not (int_le v (pos 0))) _ _
       (stays (p + 1) ts s1 g1.0 o1) tt)
@@ -906,9 +915,10 @@ module _ {S : Type 0} (stores : Stores S) (g : CodeRun) (sc : Scoped g.code) (a 
   fine (Some (i.Fordown var to)) h r = begun true var to h.loops r.whole (sub h) h.good
   fine (Some (i.Nextup var to)) h r = goes_on false var to h.loops r.whole (sub h) h.good
   fine (Some (i.Nextdown var to)) h r = goes_on true var to h.loops r.whole (sub h) h.good
-  fine (Some (i.Call b up)) h r = calls b up h.is (r.calls b up refl)
+  fine (Some (i.Call b up)) h r = calls b up h.instruction_is (r.calls b up refl)
       (layout_of g.code.layouts b) refl h.levels h.fits r.whole h.good
-  fine (Some i.Return) h r = returns_to h.is ks n.frames refl refl w.under h.ends (r.returns refl) (r.answers refl)
+  fine (Some i.Return) h r = returns_to h.instruction_is ks n.frames refl refl w.under h.ends (r.returns refl)
+      (r.answers refl)
       (none_left ss h.good w.operands)
   fine (Some i.ReadInt) h r = read_item number_in h.within r.whole (sub h) (r.input (inl refl)) h.good
   fine (Some i.ReadChar) h r = read_item char_in h.within r.whole (sub h) (r.input (inl refl)) h.good
@@ -937,15 +947,15 @@ module _ {S : Type 0} (stores : Stores S) (g : CodeRun) (sc : Scoped g.code) (a 
       (slice_get g.code.texts k) t.0 _ t.1 (wides true t.0 m (p + 1) ts s1 (r.output (inl refl)) (sub h) g1.0 o1))
   fine (Some i.Writeln) h r = printed (10 ∷ []) (p + 1) ss st (r.output (inl refl)) (sub h) h.good.0 w.operands
   fine (Some (i.Pack k)) h r = packs k h.within r.whole h.good
-  fine (Some i.Open) h r = opens h.is h.within r.whole h.good
-  fine (Some (i.Send k)) h r = sends k h.is h.good
-  fine (Some (i.Receive k)) h r = receives k h.is r.whole h.good
+  fine (Some i.Open) h r = opens h.instruction_is h.within r.whole h.good
+  fine (Some (i.Send k)) h r = sends k h.instruction_is h.good
+  fine (Some (i.Receive k)) h r = receives k h.instruction_is r.whole h.good
   fine (Some (i.Fork t)) h r = let tb = found (slice_get g.code.forks t) h.named in
       is_found g.code a n.frames rest Fn fails (slice_get g.code.forks t) tb.0 _ tb.1
-      (forks t (pos 0) (length tb.0.children) ss st (inl (tb.0, h.is, tb.1, refl)) h.good.0 w.operands)
+      (forks t (pos 0) (length tb.0.children) ss st (inl (tb.0, h.instruction_is, tb.1, refl)) h.good.0 w.operands)
   fine (Some (i.Forall t)) h r = number g.code a n.frames rest Fn fails (λ _. Unit {0}) ss st _ _ tt w.operands h.good
       (λ last ts s1 _ o1 g1.
       number g.code a n.frames rest Fn fails (λ _. Unit {0}) ts s1 _ _ tt o1 g1 (λ first us s2 _ o2 g2.
       both g.code a n.frames rest Fn fails (int_lt last first) _ _ (stays (p + 1) us s2 g2.0 o2)
-      (forks t first (values_in first last) us s2 (inr h.is) g2.0 o2)))
+      (forks t first (values_in first last) us s2 (inr h.instruction_is) g2.0 o2)))
   fine (Some i.End) h r = ends h.ends

@@ -237,7 +237,7 @@ module _ (c : Parts) where
   here k a p ss th r =
       let lies : LiesIn c p a = (th, passes a p ss r) in
       record {
-        is = refl;
+        instruction_is = refl;
         good = good a p ss r (k.right a p ss (th, r));
         within = k.within a p ss (th, r);
         fits = k.fits a p ss (th, r);

@@ -85,7 +85,7 @@ module _ (g : CodeRun) (k : KeepsCodeRules g.code) (e : KeepsEffects g.code (Doe
 
   pub stores : (a : Area) (p : ℕ) (ss : List Shape) (x : ℕ) → IsArea g.code a → Reaches g.code a p ss
       → IsIn x (stored_by g.code a (instr_at g.code p) ss) → MayStore g.code a x
-  stores a p ss x area r m = may_store a x area (record { areas = []; by = inl (p, ss, r, m) })
+  stores a p ss x area r m = may_store a x area (record { areas = []; proof = inl (p, ss, r, m) })
 
   -- ---- a call
 

@@ -68,7 +68,7 @@ module _ (c : Parts) where
     -- x is an effect of the area
     pub record IsEffect (e : Kind) (a : Area) (x : ℕ) : Type 0 where
       pub areas : List Area
-      pub by : EffectBy areas e a x
+      pub proof : EffectBy areas e a x
 
     -- of either kind
     abbrev pub HasEffect : Area → ℕ → Type 0

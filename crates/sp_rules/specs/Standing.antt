@@ -50,7 +50,7 @@ Operands ls fs (s ∷ ss) (e ∷ st) rest = HasShape ls fs s e × Operands ls fs
 -- what a variable parameter of so many cells stands for has them: it lies in the frames below
 pub record Refers (ls : List Layout) (fs : List Frame) (o : Option Address) (cells : ℕ) : Type 0 where
   pub address : Address
-  pub is : o ≡ Some address
+  pub address_is : o ≡ Some address
   pub size : ℕ
   pub whole : size_in ls fs address.spot ≡ Some size
   pub fits : address.offset + cells ≤ size
@@ -76,7 +76,7 @@ Framed ls (h ∷ hs) (f ∷ fs) = (f.home ≡ h) × (f.link ≤ length fs) × Re
 -- a caller: its area, where it goes on, and the shapes of its operands below the answer
 pub record Caller : Type 0 where
   pub area : Area
-  pub at : ℕ
+  pub position : ℕ
   pub shapes : List Shape
 
 -- where a caller goes on, as it lies on the stack
@@ -96,8 +96,9 @@ module _ (c : Parts) where
   Under (k ∷ ks) a [] st = ⊥
   Under (k ∷ ks) a (f ∷ fs) st =
       (b : ℕ) × (l : Layout) × (st1 : List Entry) × (rest : List Entry) × (a ≡ Body b) × ((b == 0) ≡ false)
-      × (layout_of c.layouts b ≡ Some l) × (st ≡ link_of l.answer k.at ∷ st1)
-      × IsArea c k.area × Reaches c k.area k.at (with_answer l.answer k.shapes) × Framed c.layouts (homes c k.area) fs
+      × (layout_of c.layouts b ≡ Some l) × (st ≡ link_of l.answer k.position ∷ st1)
+      × IsArea c k.area × Reaches c k.area k.position (with_answer l.answer k.shapes)
+      × Framed c.layouts (homes c k.area) fs
       × Operands c.layouts fs k.shapes st1 rest × Under ks k.area fs rest
 
   -- a process stands at p with this stack and these frames
@@ -137,20 +138,20 @@ module _ (c : Parts) where
   -- somewhere a message of this type has so many cells, and somewhere one is received where so many are left
   pub record IsSent (k n : ℕ) : Type 0 where
     pub area : Area
-    pub at : ℕ
+    pub position : ℕ
     pub shapes : List Shape
     pub there : IsArea c area
-    pub reached : Reaches c area at shapes
-    pub is : instr_at c at ≡ Some (i.Send k)
+    pub reached : Reaches c area position shapes
+    pub instruction_is : instr_at c position ≡ Some (i.Send k)
     pub cells : message_cells shapes ≡ Some n
 
   pub record IsReceived (k n : ℕ) : Type 0 where
     pub area : Area
-    pub at : ℕ
+    pub position : ℕ
     pub shapes : List Shape
     pub there : IsArea c area
-    pub reached : Reaches c area at shapes
-    pub is : instr_at c at ≡ Some (i.Receive k)
+    pub reached : Reaches c area position shapes
+    pub instruction_is : instr_at c position ≡ Some (i.Receive k)
     pub cells : cells_left shapes ≡ Some n
 
   -- the fork or forall at p makes so many children of this table
@@ -174,9 +175,9 @@ module _ (c : Parts) where
   -- on no more
   pub record StoppedAt (stop : Stop) (q : ℕ) (st : List Entry) (fs : List Frame) : Type 0 where
     pub area : Area
-    pub at : ℕ
+    pub position : ℕ
     pub shapes : List Shape
     pub callers : List Caller
     pub there : IsArea c area
-    pub reached : Reaches c area at shapes
-    pub so : StopsSo stop area at shapes fs callers
+    pub reached : Reaches c area position shapes
+    pub so : StopsSo stop area position shapes fs callers

@@ -30,7 +30,7 @@ use Rattle.sp_run.proofs.SameEval.{value_same, actuals_same, address_same, ordin
 use Rattle.sp_run.specs.Agree.{SameCalls}
 
 long_same : {A : Type 0} → GivesSame {A = A} n.out_of_fuel e.out_of_fuel
-long_same = record { by = λ w o s. refl }
+long_same = record { proof = λ w o s. refl }
 
 in_width_same : (cut : Bool) (bs : List ℕ) (w : Option ℤ) → GivesSame (m.in_width cut bs w) (d.in_width cut bs w)
 in_width_same cut bs None = give_same bs
@@ -38,7 +38,7 @@ in_width_same cut bs (Some k) = if_same (int_le k (pos 0)) _ _ _ _ (fail_same fa
 
 module _ (g : RunInput) where
   tick_same : GivesSame (n.tick g.limits) (e.tick g.limits)
-  tick_same = record { by = λ w o s. go w o s (nat_lt o.ticks g.limits.ticks) }
+  tick_same = record { proof = λ w o s. go w o s (nat_lt o.ticks g.limits.ticks) }
     where
       go : (w : Identity) (o : LocalState) (s : e.Store) (b : Bool)
           → direct_outcome (run {A = Unit {0}}
@@ -49,7 +49,7 @@ module _ (g : RunInput) where
       go w o s false = refl
 
   deepen_same : GivesSame (n.deepen g.limits) (e.deepen g.limits)
-  deepen_same = record { by = λ w o s. go w o s (nat_lt o.depth g.limits.depth) }
+  deepen_same = record { proof = λ w o s. go w o s (nat_lt o.depth g.limits.depth) }
     where
       go : (w : Identity) (o : LocalState) (s : e.Store) (b : Bool)
           → direct_outcome (run {A = Unit {0}}
@@ -60,7 +60,7 @@ module _ (g : RunInput) where
       go w o s false = refl
 
   widen_same : (k : ℕ) → GivesSame (n.widen g.limits k) (e.widen g.limits k)
-  widen_same k = record { by = λ w o s. go w o s (nat_lt g.limits.cells (o.cells + k)) }
+  widen_same k = record { proof = λ w o s. go w o s (nat_lt g.limits.cells (o.cells + k)) }
     where
       go : (w : Identity) (o : LocalState) (s : e.Store) (b : Bool)
           → direct_outcome (run {A = Unit {0}} (λ w o. if b then n.fail fault.F12 w o else
@@ -231,7 +231,7 @@ module _ (g : RunInput) where
   calls_same : (go : List Item → n.Work (List Item)) (on : List Item → e.Work (List Item))
       → ((todo : List Item) → GivesSame (go todo) (on todo)) → SameCalls (m.call_by g go) (d.call_by g on)
   calls_same go on p = record {
-    by = λ f gs. chain _ _ _ _ (enter_same f gs)
+    proof = λ f gs. chain _ _ _ _ (enter_same f gs)
         (λ b. chain _ _ _ _ (p (push b.body []))
         (λ rest. chain _ _ _ _ (answer_same b.answer) (λ z. chain _ _ _ _ leave_same (λ u. give_same z))));
   }

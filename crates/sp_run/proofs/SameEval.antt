@@ -43,40 +43,40 @@ answer_then (WriteThen l v more) f s = answer_then more f (at_key same_loc l v s
 pub chain : {A B : Type 0} (h : n.Work A) (k : A → n.Work B) (c : e.Work A) (l : A → e.Work B) → GivesSame h c
     → ((a : A) → GivesSame (k a) (l a)) → GivesSame (n.bind h k) (e.bind c l)
 chain {A} {B} h k c l p q = record {
-  by = λ w o s. ap direct_outcome (answer_then (h w o) (λ r. n.go_on k w r) s)
-      ∙ (go w (run h w o s) ∙ ap (e.go_on l w) (p.by w o s));
+  proof = λ w o s. ap direct_outcome (answer_then (h w o) (λ r. n.go_on k w r) s)
+      ∙ (go w (run h w o s) ∙ ap (e.go_on l w) (p.proof w o s));
 }
   where
     go : (w : Identity) (r : n.WorkOutcome A × e.Store) → direct_outcome (run_tree same_loc (n.go_on k w r.0) r.1)
         ≡ e.go_on l w (direct_outcome r)
-    go w (n.Computed a o1, s1) = (q a).by w o1 s1
+    go w (n.Computed a o1, s1) = (q a).proof w o1 s1
     go w (n.EndsInFault f, s1) = refl
     go w (n.IllFormed, s1) = refl
     go w (n.OutOfFuel, s1) = refl
 
 pub give_same : {A : Type 0} (a : A) → GivesSame (n.give a) (e.give a)
-give_same a = record { by = λ w o s. refl }
+give_same a = record { proof = λ w o s. refl }
 
 pub fail_same : {A : Type 0} (f : Fault) → GivesSame {A = A} (n.fail f) (e.fail f)
-fail_same f = record { by = λ w o s. refl }
+fail_same f = record { proof = λ w o s. refl }
 
 pub lost_same : {A : Type 0} → GivesSame {A = A} n.ill_formed e.ill_formed
-lost_same = record { by = λ w o s. refl }
+lost_same = record { proof = λ w o s. refl }
 
 pub mine_same : GivesSame n.local_state e.local_state
-mine_same = record { by = λ w o s. refl }
+mine_same = record { proof = λ w o s. refl }
 
 pub who_same : GivesSame n.who e.who
-who_same = record { by = λ w o s. refl }
+who_same = record { proof = λ w o s. refl }
 
 pub become_same : (o1 : LocalState) → GivesSame (n.set_local_state o1) (e.set_local_state o1)
-become_same o1 = record { by = λ w o s. refl }
+become_same o1 = record { proof = λ w o s. refl }
 
 pub look_same : (l : Loc) → GivesSame (n.read_location l) (e.read_location l)
-look_same l = record { by = λ w o s. refl }
+look_same l = record { proof = λ w o s. refl }
 
 pub put_same : (l : Loc) (h : LocationContent) → GivesSame (n.write_location l h) (e.write_location l h)
-put_same l h = record { by = λ w o s. refl }
+put_same l h = record { proof = λ w o s. refl }
 
 pub or_lost_same : {A : Type 0} (x : Option A) → GivesSame (n.or_ill_formed x) (e.or_ill_formed x)
 or_lost_same None = lost_same
@@ -88,16 +88,16 @@ if_same true h k c l x y = x
 if_same false h k c l x y = y
 
 pub fetch_same : (a : Address) → GivesSame (n.fetch a) (e.fetch a)
-fetch_same a = record { by = λ w o s. refl }
+fetch_same a = record { proof = λ w o s. refl }
 
 pub assign_same : (a : Address) (v : Value) → GivesSame (n.assign a v) (e.assign a v)
-assign_same a v = record { by = λ w o s. refl }
+assign_same a v = record { proof = λ w o s. refl }
 
 pub visible_same : (fits : Home → Bool) → GivesSame (n.visible_frame fits) (e.visible_frame fits)
-visible_same fits = record { by = λ w o s. (or_lost_same (find_visible fits o.frames)).by w o s }
+visible_same fits = record { proof = λ w o s. (or_lost_same (find_visible fits o.frames)).proof w o s }
 
 pub reach_same : (fits : Home → Bool) → GivesSame (n.link_to fits) (e.link_to fits)
-reach_same fits = record { by = λ w o s. go w o s (seek fits (length o.frames) o.frames) }
+reach_same fits = record { proof = λ w o s. go w o s (seek fits (length o.frames) o.frames) }
   where
     go : (w : Identity) (o : LocalState) (s : e.Store) (fs : List Frame) → direct_outcome (run (n.frame_link fs) w o s)
         ≡ e.frame_link fs w o s
@@ -251,7 +251,7 @@ module _ (g : RunInput) where
     form_same call direct ok k (Binary op a b) =
         chain _ _ _ _ (value_same call direct ok a)
         (λ v. chain _ _ _ _ (value_same call direct ok b) (λ w. binary_same op v w))
-    form_same call direct ok k (Apply f args) = chain _ _ _ _ (actuals_same call direct ok args) (λ gs. ok.by f gs)
+    form_same call direct ok k (Apply f args) = chain _ _ _ _ (actuals_same call direct ok args) (λ gs. ok.proof f gs)
     form_same call direct ok k (Standard f a) =
         chain _ _ _ _ (as_ordinal_same _ _ (value_same call direct ok a))
         (λ n. chain _ _ _ _ (kind_same k) (λ u. standard_same f u n))

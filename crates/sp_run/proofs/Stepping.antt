@@ -73,7 +73,7 @@ module _ (g : o.RunInput) where
       ≡ with_store g came.1 u = λ u. puts_after (act_tree g pr) s.store u ∙ ap (λ x. with_store g x.1 u) e in
       ap (λ a. result_of s p (step_outcome (total_limits g) s p a)) n
       ∙ (result_is p pr.who s came ws f ∙ ap (state_after_action g p pr.who s)
-      ((next_action_same g (fuel_of g pr.own) pr.todo).by pr.who pr.own s.store))
+      ((next_action_same g (fuel_of g pr.own) pr.todo).proof pr.who pr.own s.store))
 
   -- where the process is running, its step comes to what its own work comes to
   pub steps_so : (p : Name) (pr : o.Process) (s : StateOf g) → own_part s p ≡ Some pr

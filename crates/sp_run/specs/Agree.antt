@@ -18,8 +18,8 @@ direct_outcome (m.OutOfFuel, s) = d.NoResult halted.OutOfFuel
 
 -- both come to the same in every store, from every own part
 pub record GivesSame {A : Type 0} (h : m.Work A) (k : d.Work A) : Type 0 where
-  pub by : (w : m.Identity) (o : m.LocalState) (s : d.Store) → direct_outcome (run h w o s) ≡ k w o s
+  pub proof : (w : m.Identity) (o : m.LocalState) (s : d.Store) → direct_outcome (run h w o s) ≡ k w o s
 
 -- and so do the calls of functions
 pub record SameCalls (call : v.Calls) (direct : x.Calls) : Type 0 where
-  pub by : (f : ℕ) (gs : List v.ArgumentValue) → GivesSame (call f gs) (direct f gs)
+  pub proof : (f : ℕ) (gs : List v.ArgumentValue) → GivesSame (call f gs) (direct f gs)

@@ -182,7 +182,7 @@ module _ (x : Kernel) (code : Parts) (lim : Limits) (run : IsRunOf x code lim) (
     reaches = h.reaches;
     out = ap (control seen).doing same
         ∙ h.out;
-    at = config_of p;
+    configuration = config_of p;
     runs = ap h.system.condition same ∙ h.runs;
   }
 

@@ -117,11 +117,11 @@ text_cut bytes rest after b s e n r h = no_line (subst (λ l. TextBody l r) e (s
 
 -- runs
 pub record RunSoFar (p : ℕ → Bool) (bytes rest : List ℕ) : Type 0 where
-  pub is : (r : List ℕ) → Run p rest r → Run p bytes r
+  pub run : (r : List ℕ) → Run p rest r → Run p bytes r
   pub longest : (r : List ℕ) → Run p bytes r → (length rest ≤ length r) ⊎ Run p rest r
 
 pub run_start : (p : ℕ → Bool) (bytes : List ℕ) → RunSoFar p bytes bytes
-run_start p bytes = record { is = λ r h. h; longest = λ r h. inr h }
+run_start p bytes = record { run = λ r h. h; longest = λ r h. inr h }
 
 un_run : {p : ℕ → Bool} {b : ℕ} {bs r : List ℕ} → Run p (b ∷ bs) r → (length (b ∷ bs) ≤ length r) ⊎ Run p bs r
 un_run run_ends = inl (omega arith)
@@ -140,7 +140,7 @@ run_step {p} {rest} {after} {r} {b} e (inr h) = run_step_by e (un_run (subst (λ
 pub run_more : (p : ℕ → Bool) (bytes rest after : List ℕ) (b : ℕ) → RunSoFar p bytes rest → rest ≡ b ∷ after
     → p b ≡ true → RunSoFar p bytes after
 run_more p bytes rest after b s e h = record {
-  is = λ r x. s.is r (subst (λ l. Run p l r) (sym e) (run_goes_on b h x));
+  run = λ r x. s.run r (subst (λ l. Run p l r) (sym e) (run_goes_on b h x));
   longest = λ r x. run_step e (s.longest r x);
 }
 
@@ -156,7 +156,7 @@ either f (inr h) = ends_here f h
 
 pub run_done : (p : ℕ → Bool) (bytes rest : List ℕ) → RunSoFar p bytes rest
     → ((b : ℕ) (after : List ℕ) → rest ≡ b ∷ after → p b ≡ false) → EndsRun p bytes rest
-run_done p bytes rest s f = record { is = s.is rest run_ends; longest = λ r x. either f (s.longest r x) }
+run_done p bytes rest s f = record { run = s.run rest run_ends; longest = λ r x. either f (s.longest r x) }
 
 pub no_first : (p : ℕ → Bool) (rest : List ℕ) → rest ≡ [] → (b : ℕ) (after : List ℕ) → rest ≡ b ∷ after → p b ≡ false
 no_first p rest e b after f = absurd cc
@@ -227,14 +227,14 @@ strips_done bytes front rest left s e = s.from rest (sym (ap (λ l. l ++ rest) e
 
 -- the value of digits, digit by digit
 pub record ValueSoFar (digits rest : List ℕ) (value : ℕ) : Type 0 where
-  pub same : digits_value 0 digits ≡ digits_value value rest
+  pub value_is : digits_value 0 digits ≡ digits_value value rest
   pub low : value ≤ 9223372036854775807
 
 pub value_more : (digits rest after : List ℕ) (digit value next : ℕ) → ValueSoFar digits rest value
     → rest ≡ digit ∷ after → next ≡ 10 * value + (digit - 48) → next ≤ 9223372036854775807
     → ValueSoFar digits after next
 value_more digits rest after digit value next s e f l = record {
-  same = s.same ∙ ap (digits_value value) e ∙ ap (λ n. digits_value n after) (sym f);
+  value_is = s.value_is ∙ ap (digits_value value) e ∙ ap (λ n. digits_value n after) (sym f);
   low = l;
 }
 
@@ -246,16 +246,17 @@ pub value_above : (digits rest after : List ℕ) (digit value next : ℕ) → Va
     → rest ≡ digit ∷ after → next ≡ 10 * value + (digit - 48) → 9223372036854775807 < next
     → 9223372036854775807 < digits_value 0 digits
 value_above digits rest after digit value next s e f l =
-    let same = s.same ∙ ap (digits_value value) e in omega (arith, value_grows (10 * value + (digit - 48)) after)
+    let same = s.value_is ∙ ap (digits_value value) e in omega (arith, value_grows (10 * value + (digit - 48)) after)
 
 pub value_within : (digits rest : List ℕ) (value : ℕ) → ValueSoFar digits rest value → rest ≡ []
     → digits_value 0 digits ≤ 9223372036854775807
-value_within digits rest value s e = let same : digits_value 0 digits ≡ value = s.same ∙ ap (digits_value value) e in
+value_within digits rest value s e = let same : digits_value 0 digits ≡ value = s.value_is
+    ∙ ap (digits_value value) e in
     omega (arith, s.low)
 
 -- places, byte by byte
 pub record PlaceSoFar (first : Place) (bytes rest : List ℕ) (at : Place) : Type 0 where
-  pub same : place_behind first bytes ≡ place_behind at rest
+  pub place_is : place_behind first bytes ≡ place_behind at rest
   pub line : at.line + length rest < 4294967296
   pub column : at.column + length rest < 4294967296
 
@@ -270,11 +271,11 @@ column_by l false = omega arith
 pub place_more : (first : Place) (bytes rest after : List ℕ) (at : Place) (byte : ℕ) → PlaceSoFar first bytes rest at
     → rest ≡ byte ∷ after → PlaceSoFar first bytes after (next_place at byte)
 place_more first bytes rest after at byte s e = record {
-  same = s.same ∙ ap (place_behind at) e;
+  place_is = s.place_is ∙ ap (place_behind at) e;
   line = omega (arith, line_by at.line (byte == 10), s.line, ap length e);
   column = omega (arith, column_by at.column (byte == 10), s.column, ap length e);
 }
 
 pub place_done : (first : Place) (bytes rest : List ℕ) (at : Place) → PlaceSoFar first bytes rest at → rest ≡ []
     → at ≡ place_behind first bytes
-place_done first bytes rest at s e = sym (s.same ∙ ap (place_behind at) e)
+place_done first bytes rest at s e = sym (s.place_is ∙ ap (place_behind at) e)

@@ -54,7 +54,7 @@ pub longest_name : (bytes rest after : List ℕ) (b : ℕ) (k : Kind) → bytes 
     → EndsRun is_name_byte rest after → IsWordOf (lower_case_prefix bytes after) k → Longest k bytes after
 longest_name bytes rest after b k e h f w = record {
   spelled = subst (λ l. Lexeme k l after) (sym e)
-      (spelled_name b rest after k h f.is (subst (λ l. IsWordOf (lower_case_prefix l after) k) e w));
+      (spelled_name b rest after k h f.run (subst (λ l. IsWordOf (lower_case_prefix l after) k) e w));
   longest = λ j r x. name_longest b rest after r j h f (subst (λ l. Lexeme j l r) e x);
 }
 
@@ -69,7 +69,7 @@ number_longest b rest after r k h f (sign n s e g) = absurd (no_digit b (sign_pl
 pub longest_number : (bytes rest after : List ℕ) (b : ℕ) → bytes ≡ b ∷ rest → is_digit b ≡ true
     → EndsRun is_digit rest after → Longest kind.Number bytes after
 longest_number bytes rest after b e h f = record {
-  spelled = subst (λ l. Lexeme kind.Number l after) (sym e) (number b h f.is);
+  spelled = subst (λ l. Lexeme kind.Number l after) (sym e) (number b h f.run);
   longest = λ j r x. number_longest b rest after r j h f (subst (λ l. Lexeme j l r) e x);
 }
 
@@ -115,7 +115,8 @@ below_twenty n s h = slice_get_within signs n s h
 sign_longest : (b : ℕ) (rest after r : List ℕ) (k : Kind) → is_letter b ≡ false → is_digit b ≡ false → b ≢ 39
     → ((n : ℕ) (r : List ℕ) → n < 20 → HasSign (b ∷ rest) n r → length after ≤ length r) → Lexeme k (b ∷ rest) r
     → length after ≤ length r
-sign_longest b rest after r k l d q f (sign n s e g) = f n r (below_twenty n s e) (record { text = s; is = e; all = g })
+sign_longest b rest after r k l d q f (sign n s e g) = f n r (below_twenty n s e)
+    (record { text = s; sign_is = e; all = g })
 sign_longest b rest after r k l d q f (name c e x n) = absurd cc
 sign_longest b rest after r k l d q f (word n c e x w) = absurd cc
 sign_longest b rest after r k l d q f (number c e x) = absurd cc
@@ -125,14 +126,14 @@ pub longest_sign : (bytes rest after : List ℕ) (b n : ℕ) → bytes ≡ b ∷
     → b ≢ 39 → HasSign bytes n after → ((m : ℕ) (r : List ℕ) → m < 20 → HasSign bytes m r → length after ≤ length r)
     → Longest (kind.Sign n) bytes after
 longest_sign bytes rest after b n e l d q h f = record {
-  spelled = sign n h.text h.is h.all;
+  spelled = sign n h.text h.sign_is h.all;
   longest = λ j r x. sign_longest b rest after r j l d q (λ m r k g. f m r k (subst (λ l. HasSign l m r) (sym e) g))
       (subst (λ l. Lexeme j l r) e x);
 }
 
 no_sign_at : (b : ℕ) (rest r : List ℕ) (k : Kind) → is_letter b ≡ false → is_digit b ≡ false → b ≢ 39
     → ((n : ℕ) (r : List ℕ) → n < 20 → HasSign (b ∷ rest) n r → ⊥) → Lexeme k (b ∷ rest) r → ⊥
-no_sign_at b rest r k l d q f (sign n s e g) = f n r (below_twenty n s e) (record { text = s; is = e; all = g })
+no_sign_at b rest r k l d q f (sign n s e g) = f n r (below_twenty n s e) (record { text = s; sign_is = e; all = g })
 no_sign_at b rest r k l d q f (name c e x n) = cc
 no_sign_at b rest r k l d q f (word n c e x w) = cc
 no_sign_at b rest r k l d q f (number c e x) = cc
@@ -157,13 +158,13 @@ no_star_at behind a b h f (star_comment c e g i x) = f _ x
 sign_text : (bytes : List ℕ) (n : ℕ) (s r r' : List ℕ) → slice_get signs n ≡ Some s → bytes ≡ s ++ r
     → HasSign bytes n r' → length r ≡ length r'
 sign_text bytes n s r r' h e g =
-    let same : s ≡ g.text = (let x : Some s ≡ Some g.text = sym h ∙ g.is in cc) in
+    let same : s ≡ g.text = (let x : Some s ≡ Some g.text = sym h ∙ g.sign_is in cc) in
     let l : length (s ++ r) ≡ length (s ++ r') = ap length (sym e ∙ g.all ∙ ap (λ t. t ++ r') (sym same)) in
     omega (arith, length-append s r, length-append s r')
 
 no_such : (bytes : List ℕ) (n : ℕ) (s r : List ℕ) → slice_get signs n ≡ Some s → ((r : List ℕ) → bytes ≢ s ++ r)
     → HasSign bytes n r → ⊥
-no_such bytes n s r h f g = let same : s ≡ g.text = (let x : Some s ≡ Some g.text = sym h ∙ g.is in cc) in
+no_such bytes n s r h f g = let same : s ≡ g.text = (let x : Some s ≡ Some g.text = sym h ∙ g.sign_is in cc) in
     f r (g.all ∙ ap (λ t. t ++ r) (sym same))
 
 module _ (bytes : List ℕ) (n : ℕ) (s : List ℕ) (h : slice_get signs n ≡ Some s) where
@@ -187,7 +188,7 @@ module _ (bytes : List ℕ) (n : ℕ) (s : List ℕ) (h : slice_get signs n ≡ 
   pub better_new : (rest : Bor (List ℕ)) → bytes ≡ s ++ rest.now
       → ((m : ℕ) (r : List ℕ) → m < n → HasSign bytes m r → ⊥) → FindsSign (n + 1) bytes (Some (n, rest))
   better_new rest e f = (
-    record { text = s; is = h; all = e },
+    record { text = s; sign_is = h; all = e },
     λ m r l g. new rest.now m r e (λ m r l g. absurd (f m r l g)) (below_or_last m n l) g,
   )
 
@@ -195,7 +196,7 @@ module _ (bytes : List ℕ) (n : ℕ) (s : List ℕ) (h : slice_get signs n ≡ 
       → length rest.now < length other.now → ((m : ℕ) (r : List ℕ) → m < n → HasSign bytes m r
       → length other.now ≤ length r) → FindsSign (n + 1) bytes (Some (n, rest))
   better_more rest other e l f = (
-    record { text = s; is = h; all = e },
+    record { text = s; sign_is = h; all = e },
     λ m r k g. new rest.now m r e (λ m r k g. let i = f m r k g in omega arith) (below_or_last m n k) g,
   )
 

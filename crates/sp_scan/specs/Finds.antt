@@ -33,7 +33,7 @@ Strips bs front (Some r) = bs ≡ front ++ r.now
 
 -- the longest run of bytes that pass a test
 pub record EndsRun (p : ℕ → Bool) (bs r : List ℕ) : Type 0 where
-  pub is : Run p bs r
+  pub run : Run p bs r
   pub longest : (other : List ℕ) → Run p bs other → length r ≤ length other
 
 -- what is behind, or that nothing is
@@ -50,7 +50,7 @@ IsWordOf w k = ⊥
 -- a sign stands first
 pub record HasSign (bs : List ℕ) (n : ℕ) (r : List ℕ) : Type 0 where
   pub text : List ℕ
-  pub is : slice_get signs n ≡ Some text
+  pub sign_is : slice_get signs n ≡ Some text
   pub all : bs ≡ text ++ r
 
 -- the longest of the first k signs that stands first

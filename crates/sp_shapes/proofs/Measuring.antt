@@ -171,9 +171,9 @@ past_put R c s n m o v h e puts good more = record { each = each; some = some }
 pub no_other : (c : Parts) (s : Shapes) (n : ℕ) (m : BTreeMap ℕ ℕ) → AreLengths (λ x y. x ≡ y) c s n m → (p : ℕ) → p < n
     → Differs c s p → ⊥
 no_other c s n m h p l d =
-    let a = h.each p d.one l d.sent in
+    let a = h.each p d.first l d.sent in
     let before = d.before in
-    let b = h.each d.earlier d.other (omega (arith, before, l)) d.too in
+    let b = h.each d.earlier d.second (omega (arith, before, l)) d.too in
     let e : a.0 ≡ b.0 = same_Some a.0 b.0 (sym a.1 ∙ ap (length_of m) (sym d.kind) ∙ b.1) in
     d.apart (b.2 ∙ sym e ∙ sym a.2)
 
@@ -183,11 +183,11 @@ pub first_differs : (c : Parts) (s : Shapes) (n : ℕ) (m : BTreeMap ℕ ℕ) (w
 first_differs c s n m w x h e f apart =
     let r = h.some w.kind x f in (
       record {
-        one = w;
+        first = w;
         sent = e;
         earlier = r.0;
         before = r.1;
-        other = record { kind = w.kind; cells = x };
+        second = record { kind = w.kind; cells = x };
         too = r.2;
         kind = refl;
         apart = apart;
@@ -199,7 +199,7 @@ pub none_differs : (c : Parts) (s : Shapes) → AreShapes c s → (n : ℕ) (m :
     → AreLengths (λ x y. x ≡ y) c s n m → length c.instrs ≤ n → IsLeast (Differs c s) None
 none_differs c s g n m h l =
     λ p d. no_other c s n m h p
-    (let b = within c s g (λ q ss. sent_by c (instr_at c q) ss) p d.one d.sent in omega (arith, b, l)) d
+    (let b = within c s g (λ q ss. sent_by c (instr_at c q) ss) p d.first d.sent in omega (arith, b, l)) d
 
 -- a receive lacks room where the greatest length of its type is longer
 pub lacks_so : (c : Parts) (s : Shapes) → AreShapes c s → (m : BTreeMap ℕ ℕ)
@@ -245,8 +245,8 @@ least_length c s h m n f g = least_of_same (λ p. Differs c s p ⊎ LacksRoom c 
   where
     up : (p : ℕ) → Differs c s p ⊎ LacksRoom c s p → BreaksV4 c p
     up p (inl d) =
-        OtherLength d.one.kind d.one.cells d.earlier d.other.cells (sends c s h p d.one d.sent) d.before
-        (subst (λ k. SendsAt c d.earlier k d.other.cells) d.kind (sends c s h d.earlier d.other d.too)) d.apart
+        OtherLength d.first.kind d.first.cells d.earlier d.second.cells (sends c s h p d.first d.sent) d.before
+        (subst (λ k. SendsAt c d.earlier k d.second.cells) d.kind (sends c s h d.earlier d.second d.too)) d.apart
     up p (inr l) =
         NoRoom l.room.kind l.room.cells l.place l.message.cells (receives c s h p l.room l.received)
         (subst (λ k. SendsAt c l.place k l.message.cells) l.kind (sends c s h l.place l.message l.sent)) l.longer
@@ -254,11 +254,11 @@ least_length c s h m n f g = least_of_same (λ p. Differs c s p ⊎ LacksRoom c 
     down : (p : ℕ) → BreaksV4 c p → Differs c s p ⊎ LacksRoom c s p
     down p (OtherLength k x q y a l b d) =
         inl (record {
-          one = record { kind = k; cells = x };
+          first = record { kind = k; cells = x };
           sent = sent_there c s h p k x a;
           earlier = q;
           before = l;
-          other = record { kind = k; cells = y };
+          second = record { kind = k; cells = y };
           too = sent_there c s h q k y b;
           kind = refl;
           apart = d;

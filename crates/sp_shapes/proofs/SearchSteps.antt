@@ -167,7 +167,7 @@ module _ (c : Parts) (v1 : KeepsV1 c) (n : ℕ) (s : Search) (rest : List ℕ) (
     lacks =
         let z = h.sound.come p k leap.has in
         LacksBy z.0 (list_of s.stacks k) z.1
-        (sym (leap.goes z.0 (only_in c v1 p z.0 (lies c z.0 n p (list_of s.stacks k) z.1))).is)
+        (sym (leap.goes z.0 (only_in c v1 p z.0 (lies c z.0 n p (list_of s.stacks k) z.1))).shaped_is)
 
     marked_new : (q : ℕ) → slice_get (slice_set s.broken p true) q ≡ Some true → BrokenBy c n q
     marked_new q m = ⊎_elim (λ (z : p ≡ q). subst (BrokenBy c n) z lacks)
@@ -195,7 +195,7 @@ module _ (c : Parts) (v1 : KeepsV1 c) (n : ℕ) (s : Search) (rest : List ℕ) (
 
     is : (a : Area) → LiesIn c p a → To (with_brought st f (with_brought st g [])) ≡ instr_shapes c a (instr_at c p)
         p shapes
-    is a l = (leap.goes a (only_in c v1 p a l)).is
+    is a l = (leap.goes a (only_in c v1 p a l)).shaped_is
 
     right : (a : Area) → LiesIn c p a → instr_shapes c a (instr_at c p) p shapes ≢ Wrong
     right a l e = let z = is a l ∙ e in cc z
@@ -305,7 +305,7 @@ module _ (c : Parts) (v1 : KeepsV1 c) (s : Search) (rest : List ℕ) (p : ℕ) (
         less = λ e. (let a = ap length last in let b = length_push rest p in let d = ap length z.0 in
             omega (arith, a, b, d));
         still = λ e. absurd (cc e);
-        same = z.1;
+        position_is = z.1;
       }
 
   pub past_one : length c.instrs ≤ p → WalksOne c s (record s { frontier = rest }) true
@@ -313,7 +313,7 @@ module _ (c : Parts) (v1 : KeepsV1 c) (s : Search) (rest : List ℕ) (p : ℕ) (
     stepped = (h.0, walked_past c v1 h.0 s rest p last h.1 past);
     less = λ e. (let a = ap length last in let b = length_push rest p in omega (arith, a, b));
     still = λ e. absurd (cc e);
-    same = refl;
+    position_is = refl;
   }
 
   pub sane : IsSane c (record s { frontier = rest })

@@ -89,7 +89,7 @@ module _ (c : Parts) where
   someone p owner.Nobody h e = absurd (cc e)
   someone p (owner.Block b) h e = (h.area, h.lies)
   someone p (owner.Child q k) h e = (h.area, h.lies)
-  someone p owner.Several h e = (h.one, h.lies)
+  someone p owner.Several h e = (h.first, h.lies)
 
   module _ (p t : ℕ) (tb : ForkTable) (e : table_named (instr_at c p) ≡ Some t) (g : slice_get c.forks t ≡ Some tb)
     where

@@ -20,8 +20,8 @@ module _ (c : Parts) (a : Area) (p : ℕ) (ss : List Shape) (i : Instr) where
 
   pub wrong_form : (st : Stacks) → instr_at c p ≡ Some i → None ≡ plan_at c a i
       → IsStep st step.Wrong (instr_shapes c a (instr_at c p) p ss)
-  wrong_form st e h = record { is = sym (form None e h); held = λ x b. absurd b }
+  wrong_form st e h = record { shaped_is = sym (form None e h); held = λ x b. absurd b }
 
   pub right_form : (st : Stacks) (s : Step) (pl : Plan) → instr_at c p ≡ Some i → Some pl ≡ plan_at c a i
       → IsStep st s (by_plan pl p ss) → IsStep st s (instr_shapes c a (instr_at c p) p ss)
-  right_form st s pl e h k = record { is = k.is ∙ sym (form (Some pl) e h); held = k.held }
+  right_form st s pl e h k = record { shaped_is = k.shaped_is ∙ sym (form (Some pl) e h); held = k.held }

@@ -38,14 +38,14 @@ received_at c s p = on_option None (shapes_at s p) (λ ss. received_by c (instr_
 
 -- a message has another length than one of its type that is sent earlier
 pub record Differs (c : Parts) (s : Shapes) (p : ℕ) : Type 0 where
-  pub one : Message
-  pub sent : sent_at c s p ≡ Some one
+  pub first : Message
+  pub sent : sent_at c s p ≡ Some first
   pub earlier : ℕ
   pub before : earlier < p
-  pub other : Message
-  pub too : sent_at c s earlier ≡ Some other
-  pub kind : other.kind ≡ one.kind
-  pub apart : other.cells ≢ one.cells
+  pub second : Message
+  pub too : sent_at c s earlier ≡ Some second
+  pub kind : second.kind ≡ first.kind
+  pub apart : second.cells ≢ first.cells
 
 -- there is no room for a message that is sent somewhere
 pub record LacksRoom (c : Parts) (s : Shapes) (p : ℕ) : Type 0 where

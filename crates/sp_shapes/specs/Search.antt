@@ -180,10 +180,10 @@ pub record WalksOne (c : Parts) (old new : Search) (more : Bool) : Type 0 where
   pub stepped : AreStepped c new
   pub less : more ≡ true → length new.frontier < length old.frontier
   pub still : more ≡ false → new.frontier ≡ []
-  pub same : new.at ≡ old.at
+  pub position_is : new.at ≡ old.at
 
 -- all are
 pub record WalksAll (c : Parts) (old new : Search) : Type 0 where
   pub stepped : AreStepped c new
   pub still : new.frontier ≡ []
-  pub same : new.at ≡ old.at
+  pub position_is : new.at ≡ old.at

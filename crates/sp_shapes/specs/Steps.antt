@@ -25,5 +25,5 @@ Brings (step.To f s) x = (f ≡ Some x) ⊎ (s ≡ Some x)
 
 -- a step means this, and its lists are there
 pub record IsStep (st : Stacks) (o : Step) (sh : Shaped) : Type 0 where
-  pub is : shaped_by st o ≡ sh
+  pub shaped_is : shaped_by st o ≡ sh
   pub held : (x : Arrival) → Brings o x → IsListNumber st x.list

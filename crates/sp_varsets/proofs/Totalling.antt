@@ -45,11 +45,18 @@ entry_from {a} {b} {c} x targets seen own e w i = record {
         ↔ IsInTotal a rows k own.runs y
     same rows k low y = (
       λ s. elim s [
-        | inl p ↦ inl (sym (x.same k y low) ∙ p)
+        | inl p ↦ inl (sym (x.unchanged k y low) ∙ p)
         | inr t ↦ inr
-            (t.0, sym (x.same own.runs t.0 w.runs) ∙ t.1, t.2)
+            (t.0, sym (x.unchanged own.runs t.0 w.runs) ∙ t.1, t.2)
       ],
-      λ s. elim s [ inl p ↦ inl (x.same k y low ∙ p) | inr t ↦ inr (t.0, x.same own.runs t.0 w.runs ∙ t.1, t.2) ],
+      λ s. elim s [
+        | inl p ↦ inl (x.unchanged k y low ∙ p)
+        | inr t ↦ inr (
+          t.0,
+          x.unchanged own.runs t.0 w.runs ∙ t.1,
+          t.2,
+        )
+      ],
     )
 
 pub entries_more : (old mid new : List VarSet) (slots : List (Option Own)) (targets seen : List VarSet)

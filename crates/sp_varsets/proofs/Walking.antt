@@ -26,18 +26,22 @@ use Rattle.sp_varsets.specs.Walks.{Walked}
 use Rattle.sp_varsets.proofs.Adding.{HasUses, adds_then, adds_nothing, from_empty, merged, without}
 
 pub extends_self : (pool : List VarSet) → Extends pool pool
-extends_self pool = record { longer = omega arith; same = λ i x h. refl }
+extends_self pool = record { longer = omega arith; unchanged = λ i x h. refl }
 
 pub extends_then : {a b c : List VarSet} → Extends a b → Extends b c → Extends a c
 extends_then {a} {b} {c} f g = record {
   longer = let l = f.longer in let m = g.longer in omega arith;
-  same = λ i x h. let l = f.longer in g.same i x (omega arith) ∙ f.same i x h;
+  unchanged = λ i x h. let l = f.longer in g.unchanged i x (omega arith) ∙ f.unchanged i x h;
 }
 
 pub stands_more : {a b : List VarSet} {i : ℕ} {F : ℕ → Type 0} → Extends a b → IsSetOfIndex a i F → IsSetOfIndex b i F
 stands_more {a} {b} {i} {F} e s = record {
   within = let l = e.longer in let w = s.within in omega arith;
-  members = λ x. (λ h. (s.members x).0 (sym (e.same i x s.within) ∙ h), λ f. e.same i x s.within ∙ (s.members x).1 f);
+  members = λ x. (
+    λ h. (s.members x).0 (sym (e.unchanged i x s.within) ∙ h),
+    λ f. e.unchanged i x s.within ∙ (s.members
+        x).1 f,
+  );
 }
 
 pub stands_as : {a : List VarSet} {i : ℕ} {F G : ℕ → Type 0} → IsSetOfIndex a i F → ((x : ℕ) → F x ↔ G x)

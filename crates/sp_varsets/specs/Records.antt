@@ -23,7 +23,7 @@ pool_has pool (suc i) x = row_has (slice_get pool i) x
 -- the pool has what it had
 pub record Extends (old new : List VarSet) : Type 0 where
   pub longer : length old ≤ length new
-  pub same : (i x : ℕ) → i ≤ length old → pool_has new i x ≡ pool_has old i x
+  pub unchanged : (i x : ℕ) → i ≤ length old → pool_has new i x ≡ pool_has old i x
 
 -- the set of this index has exactly these members
 pub record IsSetOfIndex (pool : List VarSet) (i : ℕ) (F : ℕ → Type 0) : Type 0 where

@@ -55,11 +55,11 @@ module _ (g : RunInput) where
       due_is : (since : ℕ) (b : Bool) (ticks : ℕ) → IsMove g turn since x b ticks
           → is_due_after g turn since s.state x.own h.who m.state ≡ b
       due_is since b ticks v =
-          (λ i. does.fits.beat_is i && nat_le (since + turn) ((ticks_are ∙ ap (ticks_by g) v.is) i)) ∙ v.due_is
+          (λ i. does.fits.beat_is i && nat_le (since + turn) ((ticks_are ∙ ap (ticks_by g) v.move_is) i)) ∙ v.due_is
 
       local_says : (since : ℕ) (b : Bool) (ticks : ℕ) → IsMove g turn since x b ticks
           → happening_at g s.state h.who x.own ≡ None
-      local_says since b ticks v = says_is ∙ ap (λ z. happening_of {L = L} z (Advances [])) v.is
+      local_says since b ticks v = says_is ∙ ap (λ z. happening_of {L = L} z (Advances [])) v.move_is
 
     -- one local step that is not due, in front
     more_turn : (since : ℕ) (s m : WithNotes L) (h : Head) (x : Tag g) (k : ℕ) (t : StateOf g) (paused : Bool)
@@ -167,7 +167,7 @@ module _ (g : RunInput) where
                     (Turn g turn since h.who zero m.state m.state true)) (sym b) (refl, refl, refl),
               );
               ends = (refl, refl);
-              ticks_end = ticks_are s h x m does ∙ ap (ticks_by g) y.is ∙ sym y.ticks_are;
+              ticks_end = ticks_are s h x m does ∙ ap (ticks_by g) y.move_is ∙ sym y.ticks_are;
             }
         last (Forked n) m does y = kernel (Forked n) m does y (λ mid z. z)
         last Opened m does y = kernel Opened m does y (λ mid z. z)

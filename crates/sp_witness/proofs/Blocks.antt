@@ -19,8 +19,8 @@ module _ (g : RunInput) (turn : ℕ) where
   pub record IsMove (since : ℕ) (x : Tag g) (is_due : Bool) (ticks : ℕ) : Type 0 where
     pub to : Process
     pub writes : List (L.Loc × L.Value)
-    pub is : x.act ≡ Moves to writes
-    pub due_is : x.beat && nat_le (since + turn) to.own.ticks ≡ is_due
+    pub move_is : x.act ≡ Moves to writes
+    pub due_is : x.pauses && nat_le (since + turn) to.own.ticks ≡ is_due
     pub ticks_are : ticks ≡ to.own.ticks
 
   -- a local step that is not due

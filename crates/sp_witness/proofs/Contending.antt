@@ -31,7 +31,7 @@ use Rattle.sp_witness.proofs.Moving.{Head, Tag, Block, Does, Runs, BlockRuns}
 -- an act says of an offer what it offers
 pub record Offers (L : Language) (a : ActOf L) (w : Way) (c : Channel) : Type 0 where
   pub offer : OfferOf L
-  pub is : a ≡ Offering offer
+  pub offer_is : a ≡ Offering offer
   pub way_is : way_of offer.cargo ≡ w
   pub channel_is : offer.channel ≡ c
 
@@ -47,7 +47,13 @@ offers_of L (Forks o os) w c h = absurd (differ (same_Some _ _ h))
     differ : {n : ℕ} → Forked n ≡ Offered w c → ⊥
     differ e = cc
 offers_of L (Offering o) w c h =
-    record { offer = o; is = refl; way_is = way_same (same_Some _ _ h); channel_is = channel_same (same_Some _ _ h) }
+    record {
+      offer = o;
+      offer_is = refl;
+      way_is = way_same (same_Some _ _ h);
+      channel_is = channel_same
+          (same_Some _ _ h);
+    }
   where
     way_same : {v : Way} {d : Channel} → Offered v d ≡ Offered w c → v ≡ w
     way_same e = cc
@@ -124,7 +130,7 @@ module _ (g : RunInput) (label : ℕ → Option Event) where
       PendsKnown u = (c : Channel) (z : Name) → u.state.pending c ≡ Some z
           → (k : ℕ) × (label k ≡ Some (next_event_of u.notes z)) × (known k ≡ true)
 
-      pub pends_next : IsLocal x.act ⊎ (known h.at ≡ true) → PendsKnown s → PendsKnown m
+      pub pends_next : IsLocal x.act ⊎ (known h.position ≡ true) → PendsKnown s → PendsKnown m
       pends_next why pends c z e = by act refl
         where
           made : (with_changes does.good.cs s.state).pending c ≡ Some z
@@ -171,13 +177,13 @@ module _ (g : RunInput) (label : ℕ → Option Event) where
                   ∙ here) in
                   let notes_are : m.notes ≡ s.notes = does.good.noted ∙ ap (λ a. notes_after s.state s.notes h.who a) is
                   ∙ ap (λ p. with_judge_notes (offer_notes s.notes h.who o.channel (way_of o.cargo) p) s.notes) pe in
-                  let own_label : label h.at ≡ Some (next_event_of s.notes h.who) =
+                  let own_label : label h.position ≡ Some (next_event_of s.notes h.who) =
                   ⊎_elim (λ (l : IsLocal x.act). absurd (subst IsLocal (sym act_is ∙ is) l))
-                  (λ (e : label h.at ≡ Some (next_event_of s.notes h.who)). e) does.fits.named in
-                  let is_known : known h.at ≡ true =
+                  (λ (e : label h.position ≡ Some (next_event_of s.notes h.who)). e) does.fits.named in
+                  let is_known : known h.position ≡ true =
                   ⊎_elim (λ (l : IsLocal x.act). absurd (subst IsLocal (sym act_is ∙ is) l))
-                  (λ (e : known h.at ≡ true). e) why in
-                  (h.at, own_label ∙ (λ i. Some (next_event_of (sym notes_are i) (who i))), is_known)
+                  (λ (e : known h.position ≡ true). e) why in
+                  (h.position, own_label ∙ (λ i. Some (next_event_of (sym notes_are i) (who i))), is_known)
                 where
                   at_channel : Option Name → Option Name
                   at_channel v = cond (same_channel o.channel c) v (s.state.pending c)
@@ -194,7 +200,8 @@ module _ (g : RunInput) (label : ℕ → Option Event) where
     waits_here w c o pe =
         let none : s.state.pending o.offer.channel ≡ None = ap s.state.pending o.channel_is ∙ pe in
         let list = waited s.state h.who o.offer does.good.cs none
-        (subst (λ a. act_outcome s.state h.who a ≡ Advances does.good.cs) (act_is ∙ o.is) does.good.makes.does) in (
+        (subst (λ a. act_outcome s.state h.who a ≡ Advances does.good.cs)
+        (act_is ∙ o.offer_is) does.good.makes.does) in (
           ap (λ (z : StateOf g). z.pending c) does.good.to ∙ ap (λ ds. (with_changes ds s.state).pending c) list
               ∙ ap (λ b. cond b (Some h.who) (s.state.pending c)) ((channel_test o.offer.channel c).1 o.channel_is),
           ap (λ (z : StateOf g). z.condition h.who) does.good.to
@@ -232,5 +239,6 @@ module _ (g : RunInput) (label : ℕ → Option Event) where
           ∙ ap (handover_outcome s q o.offer p other) (no_message o.offer.cargo other.cargo (o.way_is ∙ sym same))
 
       out : step_outcome (total_limits g) s q (L.next own s.store) ≡ Faulty fault.F6
-      out = ap (step_outcome (total_limits g) s q) o.is ∙ ap (λ f. fault_or f (act_outcome s q (Offering o.offer))) fits
+      out = ap (step_outcome (total_limits g) s q) o.offer_is
+          ∙ ap (λ f. fault_or f (act_outcome s q (Offering o.offer))) fits
           ∙ met_here

@@ -350,7 +350,7 @@ module _ (g : RunInput) (disjoint : IsDisjointRun g) where
   pub record Unmoved (j k : WithNotes L) (q : Name) (own : Process) : Type 0 where
     pub works : own_part k.state q ≡ Some own
     pub act : L.next own k.state.store ≡ L.next own j.state.store
-    pub beat : pauses_next g own k.state.store ≡ pauses_next g own j.state.store
+    pub pauses : pauses_next g own k.state.store ≡ pauses_next g own j.state.store
     pub past : k.notes.past q ≡ j.notes.past q
     pub events : k.notes.events q ≡ j.notes.events q
 
@@ -406,7 +406,7 @@ module _ (g : RunInput) (disjoint : IsDisjointRun g) where
     unmoved = record {
       works = still;
       act = (superpascal_keeps g).local own k.state.store j.state.store agrees;
-      beat = ap is_pausing (local loc_test (action_of g own) k.state.store j.state.store
+      pauses = ap is_pausing (local loc_test (action_of g own) k.state.store j.state.store
           (λ l h. agrees l (asks_then same_loc (action_of g own) _ k.state.store l h))).value;
       past = ap (λ (v : JudgeNotes). v.past q) x.noted ∙ past_kept j.state j.notes p x.cs x.sound x.makes q own apart w;
       events = ap (λ (v : JudgeNotes). v.events q) x.noted

@@ -27,13 +27,13 @@ IsBlank s = (q : ℕ) → s.processes ≤ q → (s.forks q ≡ 0) × (s.opens q 
 pub record Origin (t s' : Births) (m : Table) (s : Births) (r : ℕ) : Type 0 where
   pub old : ℕ
   pub there : old < s.processes
-  pub is : m.process old ≡ r
+  pub process_is : m.process old ≡ r
   pub name : t.name old ≡ s'.name r
 
 pub record Source (t s' : Births) (m : Table) (s : Births) (d : ℕ) : Type 0 where
   pub old : ℕ
   pub there : old < s.channels
-  pub is : m.channel old ≡ d
+  pub channel_is : m.channel old ≡ d
   pub name : channel t old ≡ channel s' d
 
 -- s is what the run has given so far, s' what the new entries have given, t what the whole run gives
@@ -77,7 +77,7 @@ module _ (t : Births) (law : Lawful t) where
         let a = o.there in
         let b = stay.processes in
         let is : o.old ≡ e.process = law.one_name o.old e.process (omega (arith, a, b)) there (o.name ∙ sym name_is) in
-        ap m.process (sym is) ∙ o.is
+        ap m.process (sym is) ∙ o.process_is
 
     channel_is : (c d : ℕ) → c < s.channels → d < s'.channels → channel s' d ≡ channel t c → m.channel c ≡ d
     channel_is c d l k h =
@@ -85,7 +85,7 @@ module _ (t : Births) (law : Lawful t) where
         let a = o.there in
         let b = stay.channels in
         let is : o.old ≡ c = one_channel t law o.old c (omega (arith, a, b)) (omega (arith, l, b)) (o.name ∙ h) in
-        ap m.channel (sym is) ∙ o.is
+        ap m.channel (sym is) ∙ o.channel_is
 
     event_is : renumbered_event m e.event ≡ e'.event
     event_is = by e.event e'.event can.1 can'.1 (ap (λ (o : Occurrence). o.what) same)
@@ -199,9 +199,9 @@ module _ (t : Births) (law : Lawful t) where
       processes = f.processes;
       channels = f.channels;
       origin = λ r l. let o = f.origin r l in let a = o.there in let b = more.processes in
-          record { old = o.old; there = omega (arith, a, b); is = o.is; name = o.name };
+          record { old = o.old; there = omega (arith, a, b); process_is = o.process_is; name = o.name };
       source = λ d l. let o = f.source d l in let a = o.there in let b = more.channels in
-          record { old = o.old; there = omega (arith, a, b); is = o.is; name = o.name };
+          record { old = o.old; there = omega (arith, a, b); channel_is = o.channel_is; name = o.name };
       made = λ q r l k is clean.
           let parts = apart q clean in
           let o = f.origin r k in
@@ -356,12 +356,12 @@ module _ (t : Births) (law : Lawful t) where
         record {
           old = o.old;
           there = omega (arith, a, b);
-          is = old_process o.old o.there ∙ o.is;
+          process_is = old_process o.old o.there ∙ o.process_is;
           name = o.name
               ∙ sym (grown'.names r l);
         })
         (λ (l : s'.processes ≤ r). let o = new_origin r l lt in
-        record { old = o.old; there = o.there; is = o.is; name = o.name })
+        record { old = o.old; there = o.there; process_is = o.is; name = o.name })
         (cases_lt r s'.processes)
 
     source_after : (d : ℕ) → d < s1'.channels → Source t s1' m1 s1 d
@@ -378,7 +378,7 @@ module _ (t : Births) (law : Lawful t) where
             record {
               old = o.old;
               there = omega (arith, a, b);
-              is = same o.old o.there ∙ o.is;
+              channel_is = same o.old o.there ∙ o.channel_is;
               name = o.name
                   ∙ channel_kept d l;
             }
@@ -422,7 +422,7 @@ module _ (t : Births) (law : Lawful t) where
             record {
               old = s.channels;
               there = subst (λ v. s.channels < (births_after_event s e.process v).channels) (sym is) (omega arith);
-              is = subst (λ v. (table_after s m v).channel s.channels ≡ d) (sym is)
+              channel_is = subst (λ v. (table_after s m v).channel s.channels ≡ d) (sym is)
                   (ap (λ b. cond b m.channels (m.channel s.channels)) here ∙ f.channels ∙ d_is);
               name = subst (λ v. channel t s.channels
                   ≡ channel (births_after_event s' e'.process (renumbered_event m v)) d)

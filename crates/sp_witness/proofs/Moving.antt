@@ -20,22 +20,22 @@ use Rattle.sp_witness.proofs.Independent.{IsLocal, enabled, unmoved}
 pub record Head : Type 0 where
   pub who : Name
   pub what : Happening
-  pub at : ℕ
+  pub position : ℕ
   pub knows : ℕ → Bool
 
 -- b depends in no way on a, which is earlier
 abbrev pub Free : Head → Head → Type 0
-Free a b = (a.who ≢ b.who) × (a.at < b.at) × (b.knows a.at ≡ false)
+Free a b = (a.who ≢ b.who) × (a.position < b.position) × (b.knows a.position ≡ false)
 
 -- of these, each that is marked is free of a
 abbrev pub MarkedFree : (ℕ → Bool) → Head → List Head → Type 0
 MarkedFree mark a [] = Unit {0}
-MarkedFree mark a (b ∷ bs) = (mark b.at ≡ true → Free a b) × MarkedFree mark a bs
+MarkedFree mark a (b ∷ bs) = (mark b.position ≡ true → Free a b) × MarkedFree mark a bs
 
 -- each that is marked is free of each one before it that is not
 abbrev pub Cuts : (ℕ → Bool) → List Head → Type 0
 Cuts mark [] = Unit {0}
-Cuts mark (b ∷ bs) = (mark b.at ≡ false → MarkedFree mark b bs) × Cuts mark bs
+Cuts mark (b ∷ bs) = (mark b.position ≡ false → MarkedFree mark b bs) × Cuts mark bs
 
 module _ (g : RunInput) where
   abbrev L : Language
@@ -45,7 +45,7 @@ module _ (g : RunInput) where
   pub record Tag : Type 0 where
     pub own : Process
     pub act : ActOf L
-    pub beat : Bool
+    pub pauses : Bool
 
   -- an entry with the steps that lead to it, and its process's ticks after them
   pub record Block : Type 0 where
@@ -60,27 +60,27 @@ module _ (g : RunInput) where
   -- the marked ones, and the others
   abbrev pub kept : (ℕ → Bool) → List Block → List Block
   kept mark [] = []
-  kept mark (b ∷ bs) = if mark b.head.at then b ∷ kept mark bs else kept mark bs
+  kept mark (b ∷ bs) = if mark b.head.position then b ∷ kept mark bs else kept mark bs
 
   abbrev pub left : (ℕ → Bool) → List Block → List Block
   left mark [] = []
-  left mark (b ∷ bs) = if mark b.head.at then left mark bs else b ∷ left mark bs
+  left mark (b ∷ bs) = if mark b.head.position then left mark bs else b ∷ left mark bs
 
   module _ (label : ℕ → Option Event) where
     -- the step can be made in this state
     pub record CanBeMade (s : WithNotes L) (h : Head) (x : Tag) : Type 0 where
       pub works : own_part s.state h.who ≡ Some x.own
       pub act_is : L.next x.own s.state.store ≡ x.act
-      pub beat_is : pauses_next g x.own s.state.store ≡ x.beat
-      pub past : (k : ℕ) (e : Event) → k < h.at → label k ≡ Some e → s.notes.past h.who e ≡ h.knows k
-      pub named : IsLocal x.act ⊎ (label h.at ≡ Some (next_event_of s.notes h.who))
+      pub pauses_are : pauses_next g x.own s.state.store ≡ x.pauses
+      pub past : (k : ℕ) (e : Event) → k < h.position → label k ≡ Some e → s.notes.past h.who e ≡ h.knows k
+      pub named : IsLocal x.act ⊎ (label h.position ≡ Some (next_event_of s.notes h.who))
 
     -- the step is what its process does next
     pub record IsNextOfProcess (s : WithNotes L) (h : Head) (x : Tag) : Type 0 where
       pub works : own_part s.state h.who ≡ Some x.own
       pub act_is : L.next x.own s.state.store ≡ x.act
-      pub beat_is : pauses_next g x.own s.state.store ≡ x.beat
-      pub past : (k : ℕ) (e : Event) → k < h.at → label k ≡ Some e → s.notes.past h.who e ≡ h.knows k
+      pub pauses_are : pauses_next g x.own s.state.store ≡ x.pauses
+      pub past : (k : ℕ) (e : Event) → k < h.position → label k ≡ Some e → s.notes.past h.who e ≡ h.knows k
 
     pub record Does (s : WithNotes L) (h : Head) (x : Tag) (m : WithNotes L) : Type 0 where
       pub fits : CanBeMade s h x
@@ -127,9 +127,9 @@ module _ (g : RunInput) where
           never l = ⊎_elim
               (λ (loc : IsLocal x.act). l.0
               (subst IsLocal (sym h.fits.act_is ∙ ap (λ o. L.next o s.state.store) (sym own_is)) loc))
-              (λ (is : label a.at ≡ Some (next_event_of s.notes a.who)).
-              let seen : s1.notes.past b.who (next_event_of s.notes a.who) ≡ b.knows a.at =
-              k.past a.at (next_event_of s.notes a.who) free.1 is in
+              (λ (is : label a.position ≡ Some (next_event_of s.notes a.who)).
+              let seen : s1.notes.past b.who (next_event_of s.notes a.who) ≡ b.knows a.position =
+              k.past a.position (next_event_of s.notes a.who) free.1 is in
               let learned : s1.notes.past b.who (next_event_of s.notes a.who) ≡ true =
               ap (λ (v : JudgeNotes). v.past b.who (next_event_of s.notes a.who)) h.good.noted ∙ l.1 in
               true≢false (sym learned ∙ seen ∙ free.2))
@@ -141,12 +141,12 @@ module _ (g : RunInput) where
               record {
                 works = w;
                 act_is = sym u.act ∙ k.act_is;
-                beat_is = sym u.beat ∙ k.beat_is;
+                pauses_are = sym u.pauses ∙ k.pauses_are;
                 past = λ i e lt is. ap (λ f. f e) (sym u.past) ∙ k.past i e lt is;
               }
 
       pub ready_of : (s : WithNotes L) (h : Head) (x : Tag) → CanBeMade s h x → IsNextOfProcess s h x
-      ready_of s h x f = record { works = f.works; act_is = f.act_is; beat_is = f.beat_is; past = f.past }
+      ready_of s h x f = record { works = f.works; act_is = f.act_is; pauses_are = f.pauses_are; past = f.past }
 
       swap : (s s1 s2 : WithNotes L) (a b : Head) (x y : Tag) → Free a b → Does s a x s1 → Does s1 b y s2
           → (m : WithNotes L) × Does s b y m × Does m a x s2
@@ -168,10 +168,10 @@ module _ (g : RunInput) where
               fits = record {
                 works = r.works;
                 act_is = r.act_is;
-                beat_is = r.beat_is;
+                pauses_are = r.pauses_are;
                 past = r.past;
                 named = ⊎_elim (λ (l : IsLocal y.act). inl l)
-                    (λ (is : label b.at ≡ Some (next_event_of s1.notes b.who)). inr (is
+                    (λ (is : label b.position ≡ Some (next_event_of s1.notes b.who)). inr (is
                     ∙ (λ i. Some (record { who = b.who; nth = u.events i })))) k.fits.named;
               };
               good = ex.0;
@@ -180,10 +180,10 @@ module _ (g : RunInput) where
               fits = record {
                 works = v.works;
                 act_is = v.act ∙ h.fits.act_is;
-                beat_is = v.beat ∙ h.fits.beat_is;
+                pauses_are = v.pauses ∙ h.fits.pauses_are;
                 past = λ i e lt is. ap (λ f. f e) v.past ∙ h.fits.past i e lt is;
                 named = ⊎_elim (λ (l : IsLocal x.act). inl l)
-                    (λ (is : label a.at ≡ Some (next_event_of s.notes a.who)). inr (is
+                    (λ (is : label a.position ≡ Some (next_event_of s.notes a.who)). inr (is
                     ∙ (λ i. Some (record { who = a.who; nth = sym v.events i })))) h.fits.named;
               };
               good = ex.1;
@@ -220,7 +220,8 @@ module _ (g : RunInput) where
           → AllFree a (kept mark bs)
       marked_free mark a [] h = tt
       marked_free mark a (b ∷ bs) h =
-          elim (mark b.head.at) as (λ x. mark b.head.at ≡ x → AllFree a (cond x (b ∷ kept mark bs) (kept mark bs))) [
+          elim (mark b.head.position) as
+          (λ x. mark b.head.position ≡ x → AllFree a (cond x (b ∷ kept mark bs) (kept mark bs))) [
             | true ↦ λ e. (h.0 e, marked_free mark a bs h.1)
             | false ↦ λ e. marked_free mark a bs h.1
           ] refl
@@ -231,7 +232,7 @@ module _ (g : RunInput) where
       parted mark s t [] h r = (s, refl, r)
       parted mark s t (b ∷ bs) h r =
           let p = parted mark r.0 t bs h.1 r.2 in
-          elim (mark b.head.at) as (λ x. mark b.head.at ≡ x
+          elim (mark b.head.position) as (λ x. mark b.head.position ≡ x
           → (m : WithNotes L) × BlockRuns s (cond x (b ∷ kept mark bs) (kept mark bs)) m
           × BlockRuns m (cond x (left mark bs) (b ∷ left mark bs)) t) [
             | true ↦ λ e. (p.0, (r.0, r.1, p.1), p.2)

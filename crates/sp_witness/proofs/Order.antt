@@ -32,7 +32,8 @@ module _ (es : List Occurrence) (w : Way) (c : Channel) (earlier later : ℕ)
   )
     where
       front_is : knowledge_of (take n es) ≡ j
-      front_is = ap knowledge_of (ap (take n) st.whole ∙ take_at done (e ∷ (mid ++ tail)) n st.size) ∙ sym st.is
+      front_is = ap knowledge_of (ap (take n) st.whole ∙ take_at done (e ∷ (mid ++ tail)) n st.size)
+          ∙ sym st.knowledge_is
 
       -- else these two were a race, and a smaller one
       never : (v : Way) (d : Channel) → e.what ≡ Offered v d → (i : ℕ) (z : Name)
@@ -78,4 +79,4 @@ module _ (es : List Occurrence) (w : Way) (c : Channel) (earlier later : ℕ)
   pub known_front : (front tail : List Occurrence) → es ≡ front ++ tail → length front ≤ later → AreKnown front
   known_front front tail whole le =
       ordered_known front (ordered_from [] front tail no_knowledge 0
-      (record { whole = whole; is = refl; size = refl }) (omega (arith, le)))
+      (record { whole = whole; knowledge_is = refl; size = refl }) (omega (arith, le)))

@@ -59,7 +59,7 @@ module _ (earlier last : ℕ) where
 -- no marked entry of this process
 abbrev NoneOf : (ℕ → Bool) → Name → List Head → Type 0
 NoneOf mark p [] = Unit {0}
-NoneOf mark p (b ∷ bs) = (mark b.at ≡ true → p ≢ b.who) × NoneOf mark p bs
+NoneOf mark p (b ∷ bs) = (mark b.position ≡ true → p ≢ b.who) × NoneOf mark p bs
 
 none_of : (mark : ℕ → Bool) (a : Head) (bs : List Head) → MarkedFree mark a bs → NoneOf mark a.who bs
 none_of mark a [] m = tt
@@ -101,7 +101,7 @@ module _ (t : Births) (os : List Occurrence) (earlier later : ℕ) (mark : ℕ �
               (none_of mark (record {
                 who = t.name e.process;
                 what = (occurrence t e).what;
-                at = n;
+                position = n;
                 knows =
                     j.past (t.name e.process);
               })
@@ -142,14 +142,15 @@ numbers_by_tables j named quiet clean earlier later lt one two got_one got_two p
     let mark = mark_in os earlier later 0 (map (occurrence t) front) in
     let say = parts.marks_are os earlier later (map (occurrence t) front) in
     let cuts = cuts_from os earlier later mark [] (map (occurrence t) front) (occurrence t two ∷ b.after) no_knowledge
-    0 (record { whole = whole; is = refl; size = refl }) nothing_kept
+    0 (record { whole = whole; knowledge_is = refl; size = refl }) nothing_kept
     (quiet_front no_knowledge 0 (map (occurrence t) front) (occurrence t two ∷ b.after) q).0 ok say in
     let same : marks earlier two.process first_births (λ c. None) 0 front
     ≡ member_marks os earlier later 0 (map (occurrence t) front) =
     marks_taken es named earlier later two got_two
     ∙ ap (needed_marks os earlier later no_knowledge 0) (ap (take later) all ∙ take_map (occurrence t) later es)
     ∙ pass.marks_are os earlier later lt (below_at os quiet earlier) (occurrence t two) b.after []
-    (map (occurrence t) front) no_knowledge 0 (record { whole = whole; is = refl; size = refl }) nothing_stands q
+    (map (occurrence t) front) no_knowledge 0
+    (record { whole = whole; knowledge_is = refl; size = refl }) nothing_stands q
     ok (omega (arith, size_is)) in
     let own = subst (IsOwnFront (λ x. false) front) (sym same)
     (own_fronts t os earlier later mark front no_knowledge 0 (λ x. false) say cuts

@@ -26,7 +26,7 @@ use Rattle.sp_witness.proofs.Back.{entry_of, entries}
 -- h depends on none of these that are not marked
 abbrev pub UnmarkedFree : (ℕ → Bool) → List Head → Head → Type 0
 UnmarkedFree mark [] h = Unit {0}
-UnmarkedFree mark (a ∷ hs) h = (mark a.at ≡ false → Free a h) × UnmarkedFree mark hs h
+UnmarkedFree mark (a ∷ hs) h = (mark a.position ≡ false → Free a h) × UnmarkedFree mark hs h
 
 module _ (es : List Occurrence) (earlier later : ℕ) where
   abbrev known : ℕ → Bool
@@ -73,11 +73,12 @@ module _ (es : List Occurrence) (earlier later : ℕ) where
   members_are g mark j n [] (b ∷ bs) e m = absurd (cons_is_not_nil e)
   members_are g mark j n (x ∷ mid) [] e m = absurd (nil_is_not_cons e)
   members_are g mark j n (x ∷ mid) (b ∷ bs) e m =
-      let h : b.head ≡ record { who = x.who; what = x.what; at = n; knows = j.past x.who } = same_head e in
+      let h : b.head ≡ record { who = x.who; what = x.what; position = n; knows = j.past x.who } = same_head e in
       let r : entries g (kept g mark bs) ≡ members es earlier later (suc n) mid =
       members_are g mark (knowledge_after j n x.who x.what) (suc n) mid bs (same_tail e) m.1 in
-      let t : mark b.head.at ≡ member n x (among x.who (suc n) mid) = ap (λ (z : Head). mark z.at) h ∙ m.0 in
-      by (mark b.head.at) ∙ (λ i. cond (t i) (entry_of (h i) ∷ r i) (r i))
+      let t : mark b.head.position ≡ member n x (among x.who (suc n) mid) = ap (λ (z : Head). mark z.position) h
+      ∙ m.0 in
+      by (mark b.head.position) ∙ (λ i. cond (t i) (entry_of (h i) ∷ r i) (r i))
     where
       by : (c : Bool) → entries g (cond c (b ∷ kept g mark bs) (kept g mark bs))
           ≡ cond c (entry_of b.head ∷ entries g (kept g mark bs)) (entries g (kept g mark bs))
@@ -93,8 +94,8 @@ module _ (es : List Occurrence) (earlier later : ℕ) where
       (quiet_i : WaitsForNone ji target.who) (who_is : who_at es i ≡ target.who) where
     free_at : (n : ℕ) (x : Occurrence) (f : ℕ → Bool) → n < i → slice_get before n ≡ Some x → IsCleanly x.what
         → (b : Bool) → member n x b ≡ false
-        → Free (record { who = x.who; what = x.what; at = n; knows = f })
-        (record { who = target.who; what = target.what; at = i; knows = ji.past target.who })
+        → Free (record { who = x.who; what = x.what; position = n; knows = f })
+        (record { who = target.who; what = target.what; position = i; knows = ji.past target.who })
     free_at n x f lt got clean b out = (apart, lt, not_known)
       where
         parts : (known n ≡ false) × (is_pause x.what && (offers_after es earlier later x.who n || b) ≡ false)
@@ -135,7 +136,7 @@ module _ (es : List Occurrence) (earlier later : ℕ) where
     pub free_before : (mark : ℕ → Bool) (done mid extra : List Occurrence) (j : Knowledge) (n : ℕ) → length done ≡ n
         → before ≡ done ++ mid → IsClean mid → MarksAre es earlier later mark n (mid ++ extra) → n + length mid ≤ i
         → UnmarkedFree mark (heads_from j n mid)
-        (record { who = target.who; what = target.what; at = i; knows = ji.past target.who })
+        (record { who = target.who; what = target.what; position = i; knows = ji.past target.who })
     free_before mark done [] extra j n size all clean marks le = tt
     free_before mark done (e ∷ mid) extra j n size all clean marks le = (
       λ out. free_at n e (j.past e.who) (omega (arith, le)) (ap (λ xs. slice_get xs n) all ∙ got done n size) clean.0
@@ -155,7 +156,7 @@ module _ (g : RunInput) (mark : ℕ → Bool) where
       → EachFree g label (left g mark bs) h
   each_left label [] h u = tt
   each_left label (b ∷ bs) h u =
-      elim (mark b.head.at) as (λ c. mark b.head.at ≡ c
+      elim (mark b.head.position) as (λ c. mark b.head.position ≡ c
       → EachFree g label (cond c (left g mark bs) (b ∷ left g mark bs)) h) [
         | true ↦ λ e. each_left label bs h u.1
         | false ↦ λ e. (u.0 e, each_left label bs h u.1)
@@ -164,7 +165,7 @@ module _ (g : RunInput) (mark : ℕ → Bool) where
   pub left_append : (xs bs : List (Block g)) → left g mark (xs ++ bs) ≡ left g mark xs ++ left g mark bs
   left_append [] bs = refl
   left_append (a ∷ xs) bs =
-      elim (mark a.head.at) as (λ c. cond c (left g mark (xs ++ bs)) (a ∷ left g mark (xs ++ bs))
+      elim (mark a.head.position) as (λ c. cond c (left g mark (xs ++ bs)) (a ∷ left g mark (xs ++ bs))
       ≡ cond c (left g mark xs) (a ∷ left g mark xs) ++ left g mark bs) [
         | true ↦ left_append xs bs
         | false ↦ ap (λ z. a ∷ z) (left_append xs bs)
@@ -173,7 +174,7 @@ module _ (g : RunInput) (mark : ℕ → Bool) where
   pub kept_append : (xs bs : List (Block g)) → kept g mark (xs ++ bs) ≡ kept g mark xs ++ kept g mark bs
   kept_append [] bs = refl
   kept_append (a ∷ xs) bs =
-      elim (mark a.head.at) as (λ c. cond c (a ∷ kept g mark (xs ++ bs)) (kept g mark (xs ++ bs))
+      elim (mark a.head.position) as (λ c. cond c (a ∷ kept g mark (xs ++ bs)) (kept g mark (xs ++ bs))
       ≡ cond c (a ∷ kept g mark xs) (kept g mark xs) ++ kept g mark bs) [
         | true ↦ ap (λ z. a ∷ z) (kept_append xs bs)
         | false ↦ kept_append xs bs
@@ -183,12 +184,12 @@ module _ (g : RunInput) (mark : ℕ → Bool) where
     -- process q has a marked entry among these
     abbrev Later : Name → List (Block g) → Type 0
     Later q [] = ⊥
-    Later q (b ∷ bs) = ((mark b.head.at ≡ true) × (b.head.who ≡ q)) ⊎ Later q bs
+    Later q (b ∷ bs) = ((mark b.head.position ≡ true) × (b.head.who ≡ q)) ⊎ Later q bs
 
     later_apart : (a : Head) (bs : List (Block g)) (q : Name) → MarkedFree mark a (heads g bs) → Later q bs → a.who ≢ q
     later_apart a [] q m h = absurd h
     later_apart a (b ∷ bs) q m h =
-        ⊎_elim (λ (x : (mark b.head.at ≡ true) × (b.head.who ≡ q)). λ e. (m.0 x.0).0 (e ∙ sym x.1))
+        ⊎_elim (λ (x : (mark b.head.position ≡ true) × (b.head.who ≡ q)). λ e. (m.0 x.0).0 (e ∙ sym x.1))
         (λ (x : Later q bs). later_apart a bs q m.1 x) h
 
     -- the marked entries are valid without the others
@@ -196,7 +197,7 @@ module _ (g : RunInput) (mark : ℕ → Bool) where
         → ((q : Name) → Later q bs → d q ≡ c q) → AllValid g turn d (kept g mark bs)
     kept_valid c d [] v cuts same = tt
     kept_valid c d (b ∷ bs) v cuts same =
-        elim (mark b.head.at) as (λ x. mark b.head.at ≡ x
+        elim (mark b.head.position) as (λ x. mark b.head.position ≡ x
         → AllValid g turn d (cond x (b ∷ kept g mark bs) (kept g mark bs))) [
           | true ↦ λ e. (
             subst (λ z. Valid g turn z b.head.what b.tags b.ticks) (sym (same b.head.who (inl (e, refl)))) v.0,
@@ -213,7 +214,7 @@ module _ (g : RunInput) (mark : ℕ → Bool) where
         → d h.who ≡ c h.who → since_all g turn d (kept g mark bs) h.who ≡ since_all g turn c bs h.who
     since_kept c d [] h u e = e
     since_kept c d (b ∷ bs) h u e =
-        elim (mark b.head.at) as (λ x. mark b.head.at ≡ x
+        elim (mark b.head.position) as (λ x. mark b.head.position ≡ x
         → since_all g turn d (cond x (b ∷ kept g mark bs) (kept g mark bs)) h.who
         ≡ since_all g turn (since_after g turn c b) bs h.who) [
           | true ↦ λ is. since_kept (since_after g turn c b) (since_after g turn d b) bs h u.1
@@ -227,7 +228,7 @@ module _ (g : RunInput) (mark : ℕ → Bool) where
         → since_all g turn d (kept g mark bs) a.who ≡ d a.who
     since_stays d [] a m = refl
     since_stays d (b ∷ bs) a m =
-        elim (mark b.head.at) as (λ x. mark b.head.at ≡ x
+        elim (mark b.head.position) as (λ x. mark b.head.position ≡ x
         → since_all g turn d (cond x (b ∷ kept g mark bs) (kept g mark bs)) a.who ≡ d a.who) [
           | true ↦ λ is. since_stays (since_after g turn d b) bs a m.1
               ∙ ap (λ x. cond x b.ticks (d a.who)) (differs name_test b.head.who a.who (λ e. (m.0 is).0 (sym e)))
@@ -246,7 +247,7 @@ module _ (g : RunInput) (mark : ℕ → Bool) where
 
 -- the marked ones after an entry that is not marked are free of it
 pub cuts_second : (g : RunInput) (mark : ℕ → Bool) (xs : List (Block g)) (b : Block g) (ys : List (Block g))
-    → Cuts mark (heads g (xs ++ b ∷ ys)) → mark b.head.at ≡ false → MarkedFree mark b.head (heads g ys)
+    → Cuts mark (heads g (xs ++ b ∷ ys)) → mark b.head.position ≡ false → MarkedFree mark b.head (heads g ys)
 cuts_second g mark [] b ys h out = h.0 out
 cuts_second g mark (x ∷ xs) b ys h out = cuts_second g mark xs b ys h.1 out
 
@@ -294,7 +295,7 @@ pub heads_append : (j : Knowledge) (n : ℕ) (xs ys : List Occurrence)
 heads_append j n [] ys = let e : n ≡ n + 0 = omega arith in ap (λ z. heads_from j z ys) e
 heads_append j n (x ∷ xs) ys =
     let e : suc n + length xs ≡ n + suc (length xs) = omega arith in
-    ap (λ z. record { who = x.who; what = x.what; at = n; knows = j.past x.who } ∷ z)
+    ap (λ z. record { who = x.who; what = x.what; position = n; knows = j.past x.who } ∷ z)
     (heads_append (knowledge_after j n x.who x.what) (suc n) xs ys
     ∙ ap (λ z. heads_from (knowledge_after j n x.who x.what) (suc n) xs
     ++ heads_from (knowledge_from (knowledge_after j n x.who x.what) (suc n) xs) z ys) e)

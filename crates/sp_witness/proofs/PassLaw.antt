@@ -42,7 +42,7 @@ whole_pass es earlier later quiet clean in_order inside =
     let size = b.size in
     ap (needed_entries es earlier later no_knowledge 0) front
     ∙ taken_is es earlier later in_order (below_at es quiet earlier) two.0 b.after [] b.before no_knowledge 0
-    (record { whole = b.whole; is = refl; size = refl }) nothing_stands
+    (record { whole = b.whole; knowledge_is = refl; size = refl }) nothing_stands
     (subst (WaitersSilentFrom no_knowledge 0) b.whole quiet)
     (clean_front b.before (two.0 ∷ b.after) (subst IsClean b.whole clean)) (omega (arith, size))
     ∙ sym (ap (members es earlier later 0) front)

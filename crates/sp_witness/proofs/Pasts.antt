@@ -69,21 +69,22 @@ get_at (x ∷ xs) e ys n h = subst (λ z. slice_get (x ∷ (xs ++ e ∷ ys)) z �
 abbrev pub heads_from : Knowledge → ℕ → List Occurrence → List Head
 heads_from j n [] = []
 heads_from j n (e ∷ es) =
-    record { who = e.who; what = e.what; at = n; knows = j.past e.who }
+    record { who = e.who; what = e.what; position = n; knows = j.past e.who }
     ∷ heads_from (knowledge_after j n e.who e.what) (suc n) es
 
 module _ (es : List Occurrence) where
   -- some entries are done, and the others are to come
   pub record Stage (done rest : List Occurrence) (j : Knowledge) (n : ℕ) : Type 0 where
     pub whole : es ≡ done ++ rest
-    pub is : j ≡ knowledge_of done
+    pub knowledge_is : j ≡ knowledge_of done
     pub size : length done ≡ n
 
   pub next_stage : (done : List Occurrence) (e : Occurrence) (rest : List Occurrence) (j : Knowledge) (n : ℕ)
       → Stage done (e ∷ rest) j n → Stage (done ++ e ∷ []) rest (knowledge_after j n e.who e.what) (suc n)
   next_stage done e rest j n st = record {
     whole = st.whole ∙ sym (append_assoc done (e ∷ []) rest);
-    is = (λ i. knowledge_after (st.is i) (sym st.size i) e.who e.what) ∙ sym (judged_append done (e ∷ []));
+    knowledge_is = (λ i. knowledge_after (st.knowledge_is i) (sym st.size i) e.who e.what)
+        ∙ sym (judged_append done (e ∷ []));
     size = grown_size done n e st.size;
   }
 
@@ -92,7 +93,8 @@ module _ (es : List Occurrence) where
   past_here done e rest j n st k =
       let front : take n es ≡ done = ap (take n) st.whole ∙ take_at done (e ∷ rest) n st.size in
       let got : slice_get es n ≡ Some e = ap (λ xs. slice_get xs n) st.whole ∙ get_at done e rest n st.size in
-      (λ i. (knowledge_of (front i)).past (who_of (got i)) k) ∙ ap (λ (x : Knowledge). x.past e.who k) (sym st.is)
+      (λ i. (knowledge_of (front i)).past (who_of (got i)) k)
+      ∙ ap (λ (x : Knowledge). x.past e.who k) (sym st.knowledge_is)
 
   -- who knows an entry knows what its process knew before it
   abbrev pub KnowsPastOfKnown : (ℕ → Bool) → Type 0
@@ -193,11 +195,11 @@ module _ (es : List Occurrence) where
   closed_walk done [] rest w c = subst (λ x. Closed (knowledge_of x)) (sym (append-nil done)) c
   closed_walk done (e ∷ mid) rest w c =
       let st : Stage done (e ∷ (mid ++ rest)) (knowledge_of done) (length done) =
-      record { whole = w; is = refl; size = refl } in
+      record { whole = w; knowledge_is = refl; size = refl } in
       let s = next_stage done e (mid ++ rest) (knowledge_of done) (length done) st in
       subst (λ x. Closed (knowledge_of x)) (append_assoc done (e ∷ []) mid)
       (closed_walk (done ++ e ∷ []) mid rest s.whole
-      (subst Closed s.is (closed_by (knowledge_of done) (length done) e.who
+      (subst Closed s.knowledge_is (closed_by (knowledge_of done) (length done) e.who
       (past_here done e (mid ++ rest) (knowledge_of done) (length done) st) c e.what)))
 
   closed_at : (i : ℕ) (q : Name) → KnowsPastOfKnown ((knowledge_of (take i es)).past q)
@@ -216,7 +218,7 @@ module _ (es : List Occurrence) where
       ∙ judged_append done (take (i - n) rest) in
       subst (λ (x : Knowledge). x.past q k ≡ true) (sym all)
       (stays_from (knowledge_of done) (length done) (take (i - n) rest) q k
-      (ap (λ (x : Knowledge). x.past q k) (sym st.is)
+      (ap (λ (x : Knowledge). x.past q k) (sym st.knowledge_is)
       ∙ h))
 
   module _ (earlier later : ℕ) where
@@ -303,19 +305,21 @@ module _ (es : List Occurrence) where
     -- an entry that is not known: those in the first part after it are free of it
     free_from : (mark : ℕ → Bool) (a : Head) (done mid tail : List Occurrence) (j : Knowledge) (n : ℕ)
         → Stage done (mid ++ tail) j n → PrefixesAreKnown j done → WaitersSilentFrom j n mid → MarksAre mark n mid
-        → a.at < n → known a.at ≡ false → Reason done n mid a.who a.at → MarkedFree mark a (heads_from j n mid)
+        → a.position < n → known a.position ≡ false → Reason done n mid a.who a.position
+        → MarkedFree mark a (heads_from j n mid)
     free_from mark a done [] tail j n st kept quiet marks lt not why = tt
     free_from mark a done (e ∷ mid) tail j n st kept quiet marks lt not why = (
       λ marked.
           let h : member n e (among e.who (suc n) mid) ≡ true = sym marks.0 ∙ marked in
-          let unknown : j.past e.who a.at ≡ true → ⊥ =
-          λ p. true_is_not_false (sym (member_knows done e mid tail j n st a.at h p) ∙ not) in (
+          let unknown : j.past e.who a.position ≡ true → ⊥ =
+          λ p. true_is_not_false (sym (member_knows done e mid tail j n st a.position h p) ∙ not) in (
             λ is. ⊎_elim
-                (λ (c : Counts done a.who a.at). ⊎_elim
-                (λ (p : j.past a.who a.at ≡ true). unknown (subst (λ (z : Name). j.past z a.at ≡ true) is p))
-                (λ (w : (d : Channel) × (j.pending d ≡ Some (a.who, a.at))). quiet.0 w.0 a.at (w.1
-                ∙ (λ i. Some (is i, a.at))))
-                (kept.own a.who a.at c))
+                (λ (c : Counts done a.who a.position). ⊎_elim
+                (λ (p : j.past a.who a.position ≡ true). unknown
+                (subst (λ (z : Name). j.past z a.position ≡ true) is p))
+                (λ (w : (d : Channel) × (j.pending d ≡ Some (a.who, a.position))). quiet.0 w.0 a.position (w.1
+                ∙ (λ i. Some (is i, a.position))))
+                (kept.own a.who a.position c))
                 (λ (none : among a.who n (e ∷ mid) ≡ false).
                 let x = (or_parts (same_name a.who e.who && member n e (among e.who (suc n) mid))
                 (among a.who (suc n) mid) none).0 in
@@ -324,13 +328,13 @@ module _ (es : List Occurrence) where
                 true_is_not_false (sym h ∙ (ap (λ b. b && member n e (among e.who (suc n) mid)) (sym same) ∙ x)))
                 why,
             lt,
-            false_from_ne_true (j.past e.who a.at) unknown,
+            false_from_ne_true (j.past e.who a.position) unknown,
           ),
       free_from mark a (done ++ e ∷ []) mid tail (knowledge_after j n e.who e.what) (suc n)
           (next_stage done e (mid ++ tail) j n st)
           (subst (λ z. PrefixesAreKnown (knowledge_after j z e.who e.what) (done ++ e ∷ [])) st.size
           (one_entry j done e.who e.what kept quiet.0)) quiet.1 marks.1 (omega (arith, lt)) not
-          (⊎_elim (λ (c : Counts done a.who a.at). inl (c.0, kept_entry done e _ a.at c.1, c.2))
+          (⊎_elim (λ (c : Counts done a.who a.position). inl (c.0, kept_entry done e _ a.position c.1, c.2))
           (λ (none : among a.who n (e ∷ mid) ≡ false). inr
           (or_parts (same_name a.who e.who && member n e (among e.who (suc n) mid)) (among a.who (suc n) mid)
           none).1) why),
@@ -350,7 +354,8 @@ module _ (es : List Occurrence) where
               let h : member n e (among e.who (suc n) mid) ≡ false = sym marks.0 ∙ unmarked in
               let parts = or_parts (known n)
               (is_pause e.what && (offers_after es earlier later e.who n || among e.who (suc n) mid)) h in
-              free_from mark (record { who = e.who; what = e.what; at = n; knows = j.past e.who }) (done ++ e ∷ []) mid
+              free_from mark (record { who = e.who; what = e.what; position = n; knows = j.past e.who })
+              (done ++ e ∷ []) mid
               tail (knowledge_after j n e.who e.what) (suc n) s kept' quiet.1 marks.1 (omega arith) parts.0
               (why e.what refl clean.0 parts.1),
           cuts_from mark (done ++ e ∷ []) mid tail (knowledge_after j n e.who e.what) (suc n) s kept' quiet.1 clean.1

@@ -82,10 +82,15 @@ module _ (g : RunInput) (disjoint : IsDisjointRun g) (turn : ℕ) (es : List Occ
   zero_second = omega (arith, size_second)
 
   stage_first : Stage es before (one ∷ (mid ++ two ∷ after)) (knowledge_of before) earlier
-  stage_first = record { whole = whole ∙ append_assoc before (one ∷ mid) (two ∷ after); is = refl; size = size_first }
+  stage_first = record {
+    whole = whole
+        ∙ append_assoc before (one ∷ mid) (two ∷ after);
+    knowledge_is = refl;
+    size = size_first;
+  }
 
   stage_second : Stage es front (two ∷ after) (knowledge_of front) later
-  stage_second = record { whole = whole; is = refl; size = size_second }
+  stage_second = record { whole = whole; knowledge_is = refl; size = size_second }
 
   quiet_second : WaitersSilentFrom no_knowledge 0 front × WaitersSilentFrom (knowledge_of front) (0 + length front)
       (two ∷ after)
@@ -145,10 +150,10 @@ module _ (g : RunInput) (disjoint : IsDisjointRun g) (turn : ℕ) (es : List Occ
       ∙ or_from (known earlier) false first_unknown refl
 
   abbrev head_first : Head
-  head_first = record { who = first; what = Offered w c; at = earlier; knows = (knowledge_of before).past first }
+  head_first = record { who = first; what = Offered w c; position = earlier; knows = (knowledge_of before).past first }
 
   abbrev head_second : Head
-  head_second = record { who = second; what = Offered w c; at = later; knows = (knowledge_of front).past second }
+  head_second = record { who = second; what = Offered w c; position = later; knows = (knowledge_of front).past second }
 
   clean_all : IsClean front
   clean_all = clean_front front (two ∷ after) (subst IsClean whole clean)
@@ -188,7 +193,7 @@ module _ (g : RunInput) (disjoint : IsDisjointRun g) (turn : ℕ) (es : List Occ
 
   at_second : KnownAfterEntries g walk.state walk.notes (knowledge_of front) front later label
   at_second = subst (λ z. KnownAfterEntries g walk.state walk.notes (knowledge_of front) front z label) zero_second
-      walk.at
+      walk.known
 
   abbrev start_notes : WithNotes L
   start_notes = beside g (start g) no_notes
@@ -205,7 +210,7 @@ module _ (g : RunInput) (disjoint : IsDisjointRun g) (turn : ℕ) (es : List Occ
   cuts : Cuts mark (heads g blocks)
   cuts = subst (Cuts mark) (sym walk.heads_are)
       (cuts_from es earlier later mark [] front (two ∷ after) no_knowledge 0
-      (record { whole = whole; is = refl; size = refl }) nothing_kept quiet_second.0 clean_all marks)
+      (record { whole = whole; knowledge_is = refl; size = refl }) nothing_kept quiet_second.0 clean_all marks)
 
   -- the entries with their steps, cut at the earlier offer
   cut : Split g (heads_from no_knowledge 0 before) head_first
@@ -218,8 +223,8 @@ module _ (g : RunInput) (disjoint : IsDisjointRun g) (turn : ℕ) (es : List Occ
   abbrev block : Block g
   block = cut.block
 
-  block_unmarked : mark block.head.at ≡ false
-  block_unmarked = ap (λ (z : Head). mark z.at) cut.block_is ∙ first_unmarked
+  block_unmarked : mark block.head.position ≡ false
+  block_unmarked = ap (λ (z : Head). mark z.position) cut.block_is ∙ first_unmarked
 
   cuts_cut : Cuts mark (heads g (cut.front ++ block ∷ cut.back))
   cuts_cut = subst (λ z. Cuts mark (heads g z)) cut.whole cuts
@@ -236,12 +241,12 @@ module _ (g : RunInput) (disjoint : IsDisjointRun g) (turn : ℕ) (es : List Occ
   kept_is : kept g mark blocks ≡ kept g mark cut.front ++ kept g mark cut.back
   kept_is = ap (kept g mark) cut.whole ∙ kept_append g mark cut.front (block ∷ cut.back)
       ∙ ap (λ z. kept g mark cut.front ++ z)
-      (cond_false (mark block.head.at) (block ∷ kept g mark cut.back) (kept g mark cut.back) block_unmarked)
+      (cond_false (mark block.head.position) (block ∷ kept g mark cut.back) (kept g mark cut.back) block_unmarked)
 
   left_is : left g mark blocks ≡ left g mark cut.front ++ block ∷ left g mark cut.back
   left_is = ap (left g mark) cut.whole ∙ left_append g mark cut.front (block ∷ cut.back)
       ∙ ap (λ z. left g mark cut.front ++ z)
-      (cond_false (mark block.head.at) (left g mark cut.back) (block ∷ left g mark cut.back) block_unmarked)
+      (cond_false (mark block.head.position) (left g mark cut.back) (block ∷ left g mark cut.back) block_unmarked)
 
   -- the later offer's process: its local steps, and its offer
   rest : Along g turn walk.course walk.state (two ∷ after) walk.steps_left t
@@ -277,16 +282,16 @@ module _ (g : RunInput) (disjoint : IsDisjointRun g) (turn : ℕ) (es : List Occ
   its_offer =
       let h = rest.7.5 in
       let x = stepped g rest.3 second own rest.7.2 h.1 h.3
-      (quiet_step g rest.3 second own rest.7.2 (Some (Offered w c)) h.1 h.2 tt h.3 local_steps.at.quiet) in
+      (quiet_step g rest.3 second own rest.7.2 (Some (Offered w c)) h.1 h.2 tt h.3 local_steps.known.quiet) in
       let is : happening_of {L = L} (L.next own rest.3.store) (Advances []) ≡ Some (Offered w c) =
       said_same {L = L} (L.next own rest.3.store) [] x.cs
-      ∙ ap (λ z. happening_of {L = L} (L.next z rest.3.store) (Advances x.cs)) (sym x.same)
+      ∙ ap (λ z. happening_of {L = L} (L.next z rest.3.store) (Advances x.cs)) (sym x.process_is)
       ∙ sym (said g rest.3 second own rest.7.2 x) ∙ h.2 in
       let o = offers_of L (L.next own rest.3.store) w c is in (
         o,
-        subst (λ a. limit_fault (total_limits g) rest.3.totals (cost a) ≡ None) o.is
-            (subst (λ z. limit_fault (total_limits g) rest.3.totals (cost (L.next z rest.3.store)) ≡ None) x.same
-            x.one.within),
+        subst (λ a. limit_fault (total_limits g) rest.3.totals (cost a) ≡ None) o.offer_is
+            (subst (λ z. limit_fault (total_limits g) rest.3.totals (cost (L.next z rest.3.store)) ≡ None) x.process_is
+            x.makes.within),
       )
 
   ready_end : IsNextOfProcess g label end_notes head_second (tag_of g rest.3 own)
@@ -295,7 +300,7 @@ module _ (g : RunInput) (disjoint : IsDisjointRun g) (turn : ℕ) (es : List Occ
     act_is = refl;
     beat_is = refl;
     past = λ k e lt is. knows_so g rest.3 local_steps.notes (knowledge_of front) front later label label second
-        local_steps.at
+        local_steps.known
         (λ i l. refl) k e lt is;
   }
 
@@ -387,15 +392,15 @@ module _ (g : RunInput) (disjoint : IsDisjointRun g) (turn : ℕ) (es : List Occ
   all_fit j n xs [] e m = tt
   all_fit j n [] (b ∷ bs) e m = absurd (cons_is_not_nil e)
   all_fit j n (x ∷ xs) (b ∷ bs) e m =
-      let h : b.head ≡ record { who = x.who; what = x.what; at = n; knows = j.past x.who } = same_head e in
+      let h : b.head ≡ record { who = x.who; what = x.what; position = n; knows = j.past x.who } = same_head e in
       let r = all_fit (knowledge_after j n x.who x.what) (suc n) xs bs (same_tail e) m.1 in
-      elim (mark b.head.at) as (λ z. mark b.head.at ≡ z
+      elim (mark b.head.position) as (λ z. mark b.head.position ≡ z
       → HeadsFit g label turn known (cond z (b ∷ kept g mark bs) (kept g mark bs))) [
         | true ↦ λ is.
             let k : is_member es earlier later n x (is_among es earlier later x.who (suc n) xs) ≡ true = sym m.0
-            ∙ ap (λ (z : Head). mark z.at) (sym h) ∙ is in (
+            ∙ ap (λ (z : Head). mark z.position) (sym h) ∙ is in (
               ⊎_elim
-                  (λ (y : known n ≡ true). inr (ap (λ (z : Head). known z.at) h ∙ y))
+                  (λ (y : known n ≡ true). inr (ap (λ (z : Head). known z.position) h ∙ y))
                   (λ (y : is_pause x.what && (offers_after es earlier later x.who n
                   || is_among es earlier later x.who (suc n) xs) ≡ true). inl
                   (ap (λ (z : Head). is_pause z.what) h
@@ -426,8 +431,8 @@ module _ (g : RunInput) (disjoint : IsDisjointRun g) (turn : ℕ) (es : List Occ
       ⊎_elim
       (λ (x : past_before es earlier k.0 ≡ true).
       let p : (knowledge_of before).past first k.0 ≡ true = sym (past_first k.0) ∙ x in
-      let lt : k.0 < block.head.at =
-      subst (λ (h : Head). k.0 < h.at) (sym cut.block_is) (stands_first.paired.below first k.0 p) in
+      let lt : k.0 < block.head.position =
+      subst (λ (h : Head). k.0 < h.position) (sym cut.block_is) (stands_first.paired.below first k.0 p) in
       let q : last.before.notes.past block.head.who m ≡ true = last.does.fits.past k.0 m lt k.1
       ∙ ap (λ (h : Head). h.knows k.0) cut.block_is ∙ p in
       lt_irrefl m.nth (last.does.good.known block.head.who m q))
@@ -550,7 +555,7 @@ module _ (g : RunInput) (disjoint : IsDisjointRun g) (turn : ℕ) (es : List Occ
           own = own;
           runs = ready_at_end.works;
           offer = offers_end.offer;
-          offers = offers_end.is;
+          offers = offers_end.offer_is;
           way_is = offers_end.way_is;
           channel_is = offers_end.channel_is;
           pends = pends_end;

@@ -29,7 +29,7 @@ follows_start t law = record {
   blank_new = λ q l. (refl, refl);
   processes = refl;
   channels = refl;
-  origin = λ r l. record { old = 0; there = omega arith; is = omega (arith, l); name = law.no_name };
+  origin = λ r l. record { old = 0; there = omega arith; process_is = omega (arith, l); name = law.no_name };
   source = λ d l. absurd (omega (arith, l));
   made = λ q r l k e h. (refl, refl);
 }

@@ -49,7 +49,7 @@ module _ (g : RunInput) where
   LabelsAgree lf label n = (k : ℕ) → k < n → lf k ≡ label k
 
   abbrev pub tag_of : StateOf g → Process → Tag g
-  tag_of s own = record { own = own; act = L.next own s.store; beat = pauses_next g own s.store }
+  tag_of s own = record { own = own; act = L.next own s.store; pauses = pauses_next g own s.store }
 
   before_step : (s : StateOf g) (q : Name) (own : Process) (m : StateOf g) → Before s → s.fault ≡ None
       → Stepped g s q own m → Before m
@@ -58,7 +58,7 @@ module _ (g : RunInput) where
     leads_on (total_limits g) way.0 (q ∷ []) (start g) s m way.1 (
       m,
       quiet,
-      steps s q x.cs x.one
+      steps s q x.cs x.makes
           ∙ ap (λ (z : StateOf g). Some z) (sym x.to),
       refl,
     ),
@@ -78,10 +78,10 @@ module _ (g : RunInput) where
     known = at.known;
     quiet = at.quiet;
     cs = x.cs;
-    makes = x.one;
+    makes = x.makes;
     to = x.to;
-    noted = ap (λ z. notes_after s v q (L.next z s.store)) (sym x.same);
-    knows = subst (λ z. KnowsBefore L v q (L.next z s.store)) (sym x.same) knows;
+    noted = ap (λ z. notes_after s v q (L.next z s.store)) (sym x.process_is);
+    knows = subst (λ z. KnowsBefore L v q (L.next z s.store)) (sym x.process_is) knows;
   }
 
   -- what the process knows, by the indices and by the notes
@@ -98,7 +98,7 @@ module _ (g : RunInput) where
       (done : List Occurrence)
       (n : ℕ) (label : ℕ → Option Event) (h : Head) (paused : Bool) : Type 0 where
     pub notes : JudgeNotes
-    pub at : KnownAfterEntries g m notes j done n label
+    pub known : KnownAfterEntries g m notes j done n label
     pub way : Before m
     pub tags : List (Tag g)
     pub runs : (lf : ℕ → Option Event) → LabelsAgree lf label n → Runs g lf (beside s v) h tags (beside m notes)
@@ -108,12 +108,12 @@ module _ (g : RunInput) where
 
   pub turned : (turn since : ℕ) (q : Name) (k : ℕ) (s m : StateOf g) (v : JudgeNotes) (j : Knowledge)
       (done : List Occurrence)
-      (n : ℕ) (label : ℕ → Option Event) (h : Head) (paused : Bool) → h.who ≡ q → h.at ≡ n → h.knows ≡ j.past q
+      (n : ℕ) (label : ℕ → Option Event) (h : Head) (paused : Bool) → h.who ≡ q → h.position ≡ n → h.knows ≡ j.past q
       → Turn g turn since q k s m paused → KnownAfterEntries g s v j done n label → Before s
       → Turned turn since q s m v j done n label h paused
   turned turn since q zero s m v j done n label h paused hw ha hk t at way = record {
     notes = v;
-    at = subst (λ z. KnownAfterEntries g z v j done n label) (sym t.0) at;
+    known = subst (λ z. KnownAfterEntries g z v j done n label) (sym t.0) at;
     way = subst Before (sym t.0) way;
     tags = [];
     runs = λ lf agree. λ i. beside (t.0 i) v;
@@ -132,20 +132,21 @@ module _ (g : RunInput) where
       let x = stepped g s q own u t.1 t.4 (quiet_step g s q own u None t.1 t.2 tt t.4 at.quiet) in
       let mv = local_moves g s q own u x t.2 in
       let at1 = next_at g s v j done n label q own u at x j done n label
-      (moves_linked s v q x.cs at.sound at.known x.one j done n label at.linked mv.next_own mv.writes mv.is) in
-      let knows = subst (λ z. KnowsBefore L v q (L.next z s.store)) x.same (moves_know g s x.one.own v q mv) in
-      let act_is : L.next own s.store ≡ Moves mv.next_own mv.writes = ap (λ z. L.next z s.store) (sym x.same) ∙ mv.is in
+      (moves_linked s v q x.cs at.sound at.known x.makes j done n label at.linked mv.next_own mv.writes mv.move_is) in
+      let knows = subst (λ z. KnowsBefore L v q (L.next z s.store)) x.process_is (moves_know g s x.makes.own v q mv) in
+      let act_is : L.next own s.store ≡ Moves mv.next_own mv.writes = ap (λ z. L.next z s.store) (sym x.process_is)
+      ∙ mv.move_is in
       let w : JudgeNotes = notes_after s v q (L.next own s.store) in
       let good = good_step s v j done n label q own u way at x knows in
       let ticks : ticks_of g u q ≡ mv.next_own.own.ticks = ap (λ z. ticks_of g z q) x.to
-      ∙ ticks_after g s q x.cs at.sound x.one ∙ ap (ticks_by g) mv.is in
+      ∙ ticks_after g s q x.cs at.sound x.makes ∙ ap (ticks_by g) mv.move_is in
       let does : (lf : ℕ → Option Event) → LabelsAgree lf label n
       → Does g lf (beside s v) h (tag_of s own) (beside u w) =
       λ lf agree. record {
         fits = record {
           works = subst (λ z. own_part s z ≡ Some own) (sym hw) t.1;
           act_is = refl;
-          beat_is = refl;
+          pauses_are = refl;
           past = λ i e lt is. ap (λ z. v.past z e) hw
               ∙ knows_so s v j done n label lf q at agree i e (subst (λ z. i < z) ha lt) is ∙ ap (λ f. f i) (sym hk);
           named = inl (subst IsLocal (sym act_is) tt);
@@ -158,7 +159,7 @@ module _ (g : RunInput) where
       (λ b e. record {
         to = mv.next_own;
         writes = mv.writes;
-        is = act_is;
+        move_is = act_is;
         due_is =
             ap (λ z. pauses_next g own s.store && nat_le (since + turn) z) (sym ticks) ∙ e;
         ticks_are = ticks;
@@ -174,7 +175,7 @@ module _ (g : RunInput) where
           → Turned turn since q s m v j done n label h paused
       rest own u w at1 way1 does true e y again move = record {
         notes = w;
-        at = subst (λ z. KnownAfterEntries g z w j done n label) (sym y.1) at1;
+        known = subst (λ z. KnownAfterEntries g z w j done n label) (sym y.1) at1;
         way = subst Before (sym y.1) way1;
         tags = tag_of s own ∷ [];
         runs = λ lf agree. (beside u w, does lf agree, λ i. beside (y.1 i) w);
@@ -191,7 +192,7 @@ module _ (g : RunInput) where
           let r = again y in
           record {
             notes = r.notes;
-            at = r.at;
+            known = r.known;
             way = r.way;
             tags = tag_of s own ∷ r.tags;
             runs = λ lf agree. (beside u w, does lf agree, r.runs lf agree);
@@ -226,41 +227,41 @@ module _ (g : RunInput) where
       → (x : Stepped g s q own m)
       → happening_at g s q own ≡ Some w → KnowsOffers j done q w → EntersAt s v q own m j done n label w
   enters s v q own m j done n label w at x is knows =
-      by (L.next x.one.own s.store) refl w (sym (said g s q own m x) ∙ is) knows
+      by (L.next x.makes.own s.store) refl w (sym (said g s q own m x) ∙ is) knows
     where
       put : (w : Happening)
-          → NotesMatch (with_changes x.cs s) (notes_after s v q (L.next x.one.own s.store)) (knowledge_after j n q w)
+          → NotesMatch (with_changes x.cs s) (notes_after s v q (L.next x.makes.own s.store)) (knowledge_after j n q w)
           (With done q w)
-          (suc n) (grown n v q label) → KnowsBefore L v q (L.next x.one.own s.store)
+          (suc n) (grown n v q label) → KnowsBefore L v q (L.next x.makes.own s.store)
           → EntersAt s v q own m j done n label w
       put w l k = record {
         at = next_at g s v j done n label q own m at x (knowledge_after j n q w) (With done q w) (suc n)
             (grown n v q label)
             l;
-        knows = subst (λ z. KnowsBefore L v q (L.next z s.store)) x.same k;
+        knows = subst (λ z. KnowsBefore L v q (L.next z s.store)) x.process_is k;
       }
 
-      by : (a : ActOf L) → L.next x.one.own s.store ≡ a → (w : Happening) → happening_of a (Advances x.cs) ≡ Some w
+      by : (a : ActOf L) → L.next x.makes.own s.store ≡ a → (w : Happening) → happening_of a (Advances x.cs) ≡ Some w
           → KnowsOffers j done q w → EntersAt s v q own m j done n label w
       by (Moves o ws) e w h k = absurd (none-some _ h)
       by (MeetsFault f) e w h k = absurd (none-some _ h)
       by (Opens o ws) e w h k =
           subst (EntersAt s v q own m j done n label) (same_Some _ _ h)
-          (put Opened (opens_linked s v q x.cs at.sound at.known x.one j done n label at.linked o ws e)
+          (put Opened (opens_linked s v q x.cs at.sound at.known x.makes j done n label at.linked o ws e)
           (subst (λ a. KnowsBefore L v q a) (sym e) tt))
       by (Forks o os) e w h k =
           subst (EntersAt s v q own m j done n label) (same_Some _ _ h)
-          (put (Forked (length os)) (forks_linked s v q x.cs at.sound at.known x.one j done n label at.linked o os e)
+          (put (Forked (length os)) (forks_linked s v q x.cs at.sound at.known x.makes j done n label at.linked o os e)
           (subst (λ a. KnowsBefore L v q a) (sym e) tt))
       by (Offering o) e w h k =
           let k' : KnowsOffers j done q (Offered (way_of o.cargo) o.channel) =
           subst (KnowsOffers j done q) (sym (same_Some _ _ h)) k in
           subst (EntersAt s v q own m j done n label) (same_Some _ _ h)
           (put (Offered (way_of o.cargo) o.channel)
-          (offers_linked s v q x.cs at.sound at.known x.one j done n label at.linked o e)
+          (offers_linked s v q x.cs at.sound at.known x.makes j done n label at.linked o e)
           (subst (λ a. KnowsBefore L v q a) (sym e) (known_linked s v j done n label q o at.linked k')))
       by EndsProcess e w h k = subst (EntersAt s v q own m j done n label) (same_Some _ _ h)
-          (put happenings.Ended (ends_linked s v q x.cs at.sound at.known x.one j done n label at.linked e)
+          (put happenings.Ended (ends_linked s v q x.cs at.sound at.known x.makes j done n label at.linked e)
           (subst (λ a. KnowsBefore L v q a) (sym e) tt))
 
   -- an entry with its steps
@@ -277,13 +278,14 @@ module _ (g : RunInput) where
     way : Before state
     tags : List (Tag g)
     runs : (lf : ℕ → Option Event) → LabelsAgree lf label_after (suc n)
-        → Runs g lf (beside s v) (record { who = q; what = what; at = n; knows = j.past q }) tags (beside state notes)
+        → Runs g lf (beside s v) (record { who = q; what = what; position = n; knows = j.past q }) tags
+        (beside state notes)
     agree : LabelsAgree label_after label n
     valid : Valid g turn (c.since q) what tags (ticks_of g state q)
     since : course.since ≡ (λ r. cond (same_name q r) (ticks_of g state q) (c.since r))
 
   abbrev HeadOf : Knowledge → ℕ → Name → Happening → Head
-  HeadOf j n q what = record { who = q; what = what; at = n; knows = j.past q }
+  HeadOf j n q what = record { who = q; what = what; position = n; knows = j.past q }
 
   kernel_entry : (turn : ℕ) (left : Course → StateOf g → ℕ → Type 0) (c : Course) (s m : StateOf g) (paused : Bool)
       (v : JudgeNotes) (j : Knowledge) (done : List Occurrence) (n : ℕ) (label : ℕ → Option Event) (q : Name)
@@ -297,17 +299,17 @@ module _ (g : RunInput) where
   kernel_entry turn left c s m paused v j done n label q what r ok last since_is h t knows =
       let own = h.5.0 in
       let u = h.2 in
-      let x = stepped g m q own u h.5.1 h.5.3 (quiet_step g m q own u (Some what) h.5.1 h.5.2 ok h.5.3 t.at.quiet) in
-      let y = enters m t.notes q own u j done n label what t.at x h.5.2 knows in
+      let x = stepped g m q own u h.5.1 h.5.3 (quiet_step g m q own u (Some what) h.5.1 h.5.2 ok h.5.3 t.known.quiet) in
+      let y = enters m t.notes q own u j done n label what t.known x h.5.2 knows in
       let w : JudgeNotes = notes_after m t.notes q (L.next own m.store) in
       let lab = grown n t.notes q label in
       let agree : LabelsAgree lab label n = λ k lt. rw (ne_eqb n k (λ e. omega (arith, e, lt))) in
-      let good = good_step m t.notes j done n label q own u t.way t.at x y.knows in
+      let good = good_step m t.notes j done n label q own u t.way t.known x y.knows in
       let ticks : ticks_of g u q ≡ ticks_by g (L.next own m.store) = ap (λ z. ticks_of g z q) x.to
-      ∙ ticks_after g m q x.cs t.at.sound x.one ∙ ap (λ z. ticks_by g (L.next z m.store)) x.same in
+      ∙ ticks_after g m q x.cs t.known.sound x.makes ∙ ap (λ z. ticks_by g (L.next z m.store)) x.process_is in
       let says_it : happening_of {L = L} (L.next own m.store) (Advances []) ≡ Some what =
       said_same {L = L} (L.next own m.store) [] x.cs
-      ∙ ap (λ z. happening_of {L = L} (L.next z m.store) (Advances x.cs)) (sym x.same) ∙ sym (said g m q own u x)
+      ∙ ap (λ z. happening_of {L = L} (L.next z m.store) (Advances x.cs)) (sym x.process_is) ∙ sym (said g m q own u x)
       ∙ h.5.2 in
       let quiet : AllQuiet g turn (c.since q) t.tags =
       ⊎_elim (λ (z : (paused ≡ false) × AllQuiet g turn (c.since q) t.tags × (own : Process)
@@ -322,15 +324,15 @@ module _ (g : RunInput) where
         notes = w;
         label_after = lab;
         at = y.at;
-        way = before_step m q own u t.way t.at.quiet x;
+        way = before_step m q own u t.way t.known.quiet x;
         tags = t.tags ++ tag_of m own ∷ [];
         runs = λ lf ag. run_on lf (HeadOf j n q what) t.tags (tag_of m own) (beside s v) (beside m t.notes) (beside u w)
             (t.runs lf (λ k lt. ag k (omega (arith, lt)) ∙ agree k lt)) (record {
               fits = record {
                 works = h.5.1;
                 act_is = refl;
-                beat_is = refl;
-                past = λ i e lt is. knows_so m t.notes j done n label lf q t.at (λ k lt. ag k (omega (arith, lt))
+                pauses_are = refl;
+                past = λ i e lt is. knows_so m t.notes j done n label lf q t.known (λ k lt. ag k (omega (arith, lt))
                     ∙ agree k lt) i e lt is;
                 named = inr (ag n (omega arith) ∙ rw (eq-eqb n n refl) refl);
               };
@@ -376,10 +378,10 @@ module _ (g : RunInput) where
     notes = t.notes;
     label_after = λ i. cond (n == i) None (label i);
     at = record {
-      linked = pause_linked m t.notes j done n label q t.at.linked;
-      sound = t.at.sound;
-      known = t.at.known;
-      quiet = t.at.quiet;
+      linked = pause_linked m t.notes j done n label q t.known.linked;
+      sound = t.known.sound;
+      known = t.known.known;
+      quiet = t.known.quiet;
     };
     way = t.way;
     tags = t.tags;
@@ -403,7 +405,7 @@ module _ (g : RunInput) where
     pub goes_on : Along g turn course state tail steps_left t
     pub notes : JudgeNotes
     pub label_after : ℕ → Option Event
-    pub at : KnownAfterEntries g state notes (knowledge_from j n pre) (done ++ pre) (n + length pre) label_after
+    pub known : KnownAfterEntries g state notes (knowledge_from j n pre) (done ++ pre) (n + length pre) label_after
     pub way : Before state
     pub blocks_of : List (Block g)
     pub heads_are : heads g blocks_of ≡ heads_from j n pre
@@ -426,7 +428,7 @@ module _ (g : RunInput) where
         goes_on = a;
         notes = v;
         label_after = label;
-        at = subst (λ z. KnownAfterEntries g s v j z (n + 0) label) (sym (append-nil done))
+        known = subst (λ z. KnownAfterEntries g s v j z (n + 0) label) (sym (append-nil done))
             (subst (λ z. KnownAfterEntries g s v j done z label) size at);
         way = way;
         blocks_of = [];
@@ -454,12 +456,12 @@ module _ (g : RunInput) where
         goes_on = w.goes_on;
         notes = w.notes;
         label_after = w.label_after;
-        at = subst (λ z. KnownAfterEntries g w.state w.notes
+        known = subst (λ z. KnownAfterEntries g w.state w.notes
             (knowledge_from (knowledge_after j n e.who e.what) (suc n) pre) (done ++ e ∷ pre) z
             w.label_after) size
             (subst (λ z. KnownAfterEntries g w.state w.notes
             (knowledge_from (knowledge_after j n e.who e.what) (suc n) pre) z
-            (suc n + length pre) w.label_after) (append_assoc done (e ∷ []) pre) w.at);
+            (suc n + length pre) w.label_after) (append_assoc done (e ∷ []) pre) w.known);
         way = w.way;
         blocks_of = b ∷ w.blocks_of;
         heads_are = ap (λ z. HeadOf j n e.who e.what ∷ z) w.heads_are;

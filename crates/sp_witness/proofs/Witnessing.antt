@@ -87,7 +87,7 @@ module _ (g : RunInput) (label : ℕ → Option Event) where
         v
 
     local_is : (since : ℕ) (x : Tag g) (b : Bool) (ticks : ℕ) → IsMove g turn since x b ticks → IsLocal x.act
-    local_is since x b ticks v = subst IsLocal (sym v.is) tt
+    local_is since x b ticks v = subst IsLocal (sym v.move_is) tt
 
     pub quiet_pending : (since : ℕ) (s t : WithNotes L) (h : Head) (xs : List (Tag g)) (c : Channel)
         → AllQuiet g turn since xs → Runs g label s h xs t → t.state.pending c ≡ s.state.pending c
@@ -116,7 +116,7 @@ module _ (g : RunInput) (label : ℕ → Option Event) where
 
       -- a pause, or an entry that is known
       abbrev pub IsFit : Head → Type 0
-      IsFit h = (is_pause h.what ≡ true) ⊎ (known h.at ≡ true)
+      IsFit h = (is_pause h.what ≡ true) ⊎ (known h.position ≡ true)
 
       last_local : (what : Happening) (since : ℕ) (x : Tag g) (ticks : ℕ) → is_pause what ≡ true
           → IsLast g turn since what x ticks → IsLocal x.act
@@ -139,7 +139,7 @@ module _ (g : RunInput) (label : ℕ → Option Event) where
           let e : t ≡ r.0 = subst (λ z. Runs g label r.0 h z t) y.0 r.2 in
           subst Pends (sym e) (pends_next g label s h x r.0 r.1 known
           (⊎_elim (λ (z : is_pause h.what ≡ true). inl (last_local h.what since x ticks z y.1))
-          (λ (z : known h.at ≡ true). inr z) fit) p))
+          (λ (z : known h.position ≡ true). inr z) fit) p))
           v
 
       abbrev pub HeadsFit : List (Block g) → Type 0

@@ -17,7 +17,8 @@ pub returns-in-None : goal.returns-in-None
 returns-in-None c = λ a l.
     let code = c.args.code.now in
     let found = c.in-None.ensures code a c.requires.homes c.requires.there l in
-    around_none code.layouts c.args.x (homes code a) c.loop-up.up (get_none (homes code a) c.loop-up.up (sym found.is))
+    around_none code.layouts c.args.x (homes code a) c.loop-up.up
+    (get_none (homes code a) c.loop-up.up (sym found.home_is))
     (c.loop-up.invariant a l)
 
 pub returns-then-has_variable : goal.returns-then-has_variable

@@ -39,7 +39,7 @@ parts-declarations-requires t c = (
     record {
       token = c.in-Ok.value.0;
       rest = c.in-Ok.value.1.now;
-      other = (other_at c.in-Ok.value.0 w.Begin c.is.ensures c.if-is.false);
+      differs = (other_at c.in-Ok.value.0 w.Begin c.is.ensures c.if-is.false);
       all = c.in-Ok.ensures.all;
     },
   ),
@@ -120,8 +120,9 @@ procedure-returns-in-Err-body t c = halts_after (sym.Formals ∷ sym.AToken w.Se
 pub procedure-returns : goal.procedure-returns
 procedure-returns t c = has_read c.in-Ok-body.ensures.ready
     (and (first_derived c.in-Ok.ensures) (and (first_derived c.in-Ok-formals.ensures) c.in-Ok-body.ensures.derives))
-    (c.procedure_declaration-made.ensures ∙ procedure_same None c.in-Ok.ensures.same c.in-Ok-formals.ensures.same
-    c.in-Ok-body.ensures.same)
+    (c.procedure_declaration-made.ensures
+    ∙ procedure_same None c.in-Ok.ensures.value_is c.in-Ok-formals.ensures.value_is
+    c.in-Ok-body.ensures.value_is)
 
 pub body-returns-in-Err : goal.body-returns-in-Err
 body-returns-in-Err t c = halts_longer c.args.source.now (sym.AToken w.Semicolon ∷ [])
@@ -140,7 +141,7 @@ pub body-returns : goal.body-returns
 body-returns t c = has_read c.in-Ok-expect.ensures.first.ready
     (and (expected c.in-Ok.ensures)
     (and (first_derived c.in-Ok-block.ensures) (and (expected c.in-Ok-expect.ensures) none)))
-    (ap block_of c.in_ok-boxed.ensures ∙ c.in-Ok-block.ensures.same)
+    (ap block_of c.in_ok-boxed.ensures ∙ c.in-Ok-block.ensures.value_is)
 
 pub function-returns-in-Err : goal.function-returns-in-Err
 function-returns-in-Err t c = halts_longer c.args.source.now (sym.AName ∷ [])
@@ -173,5 +174,5 @@ function-returns t c = has_read c.in-Ok-body.ensures.ready
     (join_all (sym.AToken w.Colon ∷ sym.AName ∷ [])
     (sym.AToken w.Semicolon ∷ sym.ABlock c.args.depth ∷ sym.AToken w.Semicolon ∷ []) c.in-Ok-type_name.ensures.derives
     c.in-Ok-body.ensures.derives))) (c.procedure_declaration-made.ensures
-    ∙ function_same c.in-Ok.ensures.same c.in-Ok-formals.ensures.same c.in-Ok-type_name.ensures.same
-    c.in-Ok-body.ensures.same)
+    ∙ function_same c.in-Ok.ensures.value_is c.in-Ok-formals.ensures.value_is c.in-Ok-type_name.ensures.value_is
+    c.in-Ok-body.ensures.value_is)

@@ -10,7 +10,7 @@ pub returns-in-Ok-expect : goal.returns-in-Ok-expect
 returns-in-Ok-expect c = has_read c.in-Ok-expect.ensures.first.ready
     (and (expected c.in-Ok.ensures)
     (and (first_derived c.in-Ok-block.ensures) (and (expected c.in-Ok-expect.ensures) none)))
-    c.in-Ok-block.ensures.same
+    c.in-Ok-block.ensures.value_is
 
 pub returns-in-Err-expect : goal.returns-in-Err-expect
 returns-in-Err-expect c = halts_behind (ABlock 0 ∷ AToken w.Dot ∷ []) c.in-Ok.ensures _

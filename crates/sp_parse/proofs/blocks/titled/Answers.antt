@@ -26,4 +26,4 @@ pub returns : goal.returns
 returns c = has_read c.in-Ok-outer_block.ensures.ready
     (and (first_derived c.in-Ok.ensures)
     (and (first_derived c.in-Ok-heading.ensures) c.in-Ok-outer_block.ensures.derives))
-    (program_same c.in-Ok.ensures.same c.in-Ok-heading.ensures.same c.in-Ok-outer_block.ensures.same)
+    (program_same c.in-Ok.ensures.value_is c.in-Ok-heading.ensures.value_is c.in-Ok-outer_block.ensures.value_is)

@@ -16,7 +16,7 @@ pub returns-then-is : goal.returns-then-is
 returns-then-is c = row_reads (row.constant row.constant_plus) refl
     (with_at w.Plus c.in-Ok.ensures c.is.ensures c.if-is.true) tt c.in-Ok-value.ensures
     (ap (λ (v : value.the_data). record { at = c.in-Ok.value.0.at; negative = Some false; value = v })
-    c.in-Ok-value.ensures.same)
+    c.in-Ok-value.ensures.value_is)
 
 pub returns-in-Err-value-2 : goal.returns-in-Err-value-2
 returns-in-Err-value-2 c = row_halts (row.constant row.constant_minus) refl
@@ -26,7 +26,7 @@ pub returns-then-is-2 : goal.returns-then-is-2
 returns-then-is-2 c = row_reads (row.constant row.constant_minus) refl
     (with_at w.Minus c.in-Ok.ensures c.is-2.ensures c.if-is-2.true) tt c.in-Ok-value-2.ensures
     (ap (λ (v : value.the_data). record { at = c.in-Ok.value.0.at; negative = Some true; value = v })
-    c.in-Ok-value-2.ensures.same)
+    c.in-Ok-value-2.ensures.value_is)
 
 pub returns-in-Number : goal.returns-in-Number
 returns-in-Number c = takes_alone (row.constant row.constant_number) refl (with_is c.in-Ok.ensures c.in-Number.is)

@@ -20,4 +20,4 @@ pub returns : goal.returns
 returns c = has_read c.in-Ok-constant_then.ensures.ready
     (join_all (AName ∷ AToken w.Equal ∷ []) (AConstant ∷ AToken w.Semicolon ∷ []) c.in-Ok.ensures.derives
     c.in-Ok-constant_then.ensures.derives) (c.constant_declaration.ensures
-    ∙ constant_same c.in-Ok.ensures.same c.in-Ok-constant_then.ensures.same)
+    ∙ constant_same c.in-Ok.ensures.value_is c.in-Ok-constant_then.ensures.value_is)

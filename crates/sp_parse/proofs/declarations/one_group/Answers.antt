@@ -11,4 +11,5 @@ use Rattle.sp_parse.proofs.declarations.one_group.Goals as goal
 pub returns : goal.returns
 returns c = has_read c.in-Ok-expect.ensures.first.ready
     (join_all GroupSymbols (AToken w.Semicolon ∷ []) c.in-Ok.ensures.derives
-    (and (expected c.in-Ok-expect.ensures) none)) (c.variable_declaration.ensures ∙ variable_same c.in-Ok.ensures.same)
+    (and (expected c.in-Ok-expect.ensures) none))
+    (c.variable_declaration.ensures ∙ variable_same c.in-Ok.ensures.value_is)

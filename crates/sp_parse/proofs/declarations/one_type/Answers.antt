@@ -20,4 +20,4 @@ pub returns : goal.returns
 returns c = has_read c.in-Ok-definition.ensures.ready
     (join_all (AName ∷ AToken w.Equal ∷ []) (AType ∷ AToken w.Semicolon ∷ []) c.in-Ok.ensures.derives
     c.in-Ok-definition.ensures.derives) (c.type_declaration.ensures
-    ∙ type_same c.in-Ok.ensures.same c.in-Ok-definition.ensures.same)
+    ∙ type_same c.in-Ok.ensures.value_is c.in-Ok-definition.ensures.value_is)

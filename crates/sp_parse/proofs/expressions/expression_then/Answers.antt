@@ -15,4 +15,4 @@ returns-in-Err-expect c = halts_after (AToken c.args.kind ∷ []) c.in-Ok.ensure
 
 pub returns : goal.returns
 returns c = has_read c.in-Ok-expect.ensures.first.ready
-    (and (first_derived c.in-Ok.ensures) (and (expected c.in-Ok-expect.ensures) none)) c.in-Ok.ensures.same
+    (and (first_derived c.in-Ok.ensures) (and (expected c.in-Ok-expect.ensures) none)) c.in-Ok.ensures.value_is

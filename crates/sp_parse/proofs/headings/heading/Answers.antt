@@ -14,5 +14,5 @@ returns-in-Some c = row_result (λ vs. vs.0 ∷ vs.1.0) (λ x. x) (λ vs. vs.0) 
 
 pub returns-in-None : goal.returns-in-None
 returns-in-None c = let b = (not_passed c.args.source.now w.Open c.args.tokens.now _ c.in-Ok.ensures
-    c.in-None.is) in stands_for_nothing AHeading c.requires b.token b.rest b.all (none_if _ b.other refl) refl
+    c.in-None.is) in stands_for_nothing AHeading c.requires b.token b.rest b.all (none_if _ b.differs refl) refl
     c.new.ensures

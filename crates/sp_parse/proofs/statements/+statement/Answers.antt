@@ -117,7 +117,7 @@ boxed_statement-returns-in-Err t c = c.in-Err.ensures
 
 pub boxed_statement-returns : goal.boxed_statement-returns
 boxed_statement-returns t c = has_read c.in-Ok.ensures.ready c.in-Ok.ensures.derives
-    (ap statement_of c.in_ok-new.ensures ∙ c.in-Ok.ensures.same)
+    (ap statement_of c.in_ok-new.ensures ∙ c.in-Ok.ensures.value_is)
 
 pub compound-returns-in-Err : goal.compound-returns-in-Err
 compound-returns-in-Err t c = halts_longer c.args.source.now
@@ -181,7 +181,8 @@ choice-returns t c = has_read c.in-Ok-otherwise.ensures.ready
     (sym.AStatement c.args.depth ∷ sym.AnElse c.args.depth ∷ []) c.in-Ok.ensures.derives
     (and (first_derived c.in-Ok-boxed_statement.ensures) c.in-Ok-otherwise.ensures.derives))
     (c.if_statement.ensures ∙ (λ i. tree.Does c.args.at
-    (tree.If (c.in-Ok.ensures.same i) (c.in-Ok-boxed_statement.ensures.same i) (c.in-Ok-otherwise.ensures.same i))))
+    (tree.If (c.in-Ok.ensures.value_is i) (c.in-Ok-boxed_statement.ensures.value_is i)
+    (c.in-Ok-otherwise.ensures.value_is i))))
 
 pub otherwise-returns-in_default : goal.otherwise-returns-in_default
 otherwise-returns-in_default t c = no_other c.args.source.now c.args.depth c.requires
@@ -210,7 +211,7 @@ while_loop-returns t c = has_read c.in-Ok-boxed_statement.ensures.ready
     (join_all (sym.AnExpression c.args.depth ∷ sym.AToken w.Do ∷ []) (sym.AStatement c.args.depth ∷ [])
     c.in-Ok.ensures.derives c.in-Ok-boxed_statement.ensures.derives)
     (c.while_statement.ensures ∙ (λ i. tree.Does c.args.at
-    (tree.While (c.in-Ok.ensures.same i) (c.in-Ok-boxed_statement.ensures.same i))))
+    (tree.While (c.in-Ok.ensures.value_is i) (c.in-Ok-boxed_statement.ensures.value_is i))))
 
 pub repeat_loop-returns-in-Err : goal.repeat_loop-returns-in-Err
 repeat_loop-returns-in-Err t c = halts_longer c.args.source.now
@@ -256,8 +257,8 @@ for_loop-returns t c = has_read c.in-Ok-boxed_statement.ensures.ready
     (join_all (sym.AnExpression c.args.depth ∷ sym.ADirection ∷ sym.AnExpression c.args.depth ∷ sym.AToken w.Do ∷ [])
     (sym.AStatement c.args.depth ∷ []) c.in-Ok-bounds.ensures.derives c.in-Ok-boxed_statement.ensures.derives))
     (c.for_statement.ensures ∙ (λ i. tree.Does c.args.at
-    (tree.For (c.in-Ok.ensures.same i) (c.in-Ok-bounds.ensures.same i).0 (c.in-Ok-bounds.ensures.same i).1
-    (c.in-Ok-bounds.ensures.same i).2 (c.in-Ok-boxed_statement.ensures.same i))))
+    (tree.For (c.in-Ok.ensures.value_is i) (c.in-Ok-bounds.ensures.value_is i).0 (c.in-Ok-bounds.ensures.value_is i).1
+    (c.in-Ok-bounds.ensures.value_is i).2 (c.in-Ok-boxed_statement.ensures.value_is i))))
 
 pub forall-returns-in-Err : goal.forall-returns-in-Err
 forall-returns-in-Err t c = halts_longer c.args.source.now (sym.AName ∷ sym.AToken w.Becomes ∷ [])
@@ -292,8 +293,9 @@ forall-returns t c = has_read c.in-Ok-boxed_statement.ensures.ready (join_all (s
     c.in-Ok-expression_then.ensures.derives (join_all (sym.AnExpression c.args.depth ∷ sym.AToken w.Do ∷ [])
     (sym.AStatement c.args.depth ∷ []) c.in-Ok-expression_then-2.ensures.derives
     c.in-Ok-boxed_statement.ensures.derives))) (c.forall_statement.ensures ∙ (λ i. tree.Does c.args.at (tree.Forall
-    (c.in-Ok.ensures.same i) (c.in-Ok-expression_then.ensures.same i) (c.in-Ok-expression_then-2.ensures.same i)
-    (c.in-Ok-boxed_statement.ensures.same i))))
+    (c.in-Ok.ensures.value_is i) (c.in-Ok-expression_then.ensures.value_is i)
+    (c.in-Ok-expression_then-2.ensures.value_is i)
+    (c.in-Ok-boxed_statement.ensures.value_is i))))
 
 pub case_choice-returns-in-Err : goal.case_choice-returns-in-Err
 case_choice-returns-in-Err t c = halts_longer c.args.source.now (sym.AnExpression c.args.depth ∷ sym.AToken w.Of ∷ [])
@@ -310,7 +312,7 @@ case_choice-returns t c = has_read c.in-Ok-arms.ensures.ready
     (sym.AConstant ∷ sym.MoreLabels ∷ sym.AStatement c.args.depth ∷ sym.MoreArms c.args.depth ∷ [])
     c.in-Ok.ensures.derives c.in-Ok-arms.ensures.derives)
     (c.case_statement.ensures ∙ (λ i. tree.Does c.args.at
-    (tree.Case (c.in-Ok.ensures.same i) (c.in-Ok-arms.ensures.same i))))
+    (tree.Case (c.in-Ok.ensures.value_is i) (c.in-Ok-arms.ensures.value_is i))))
 
 pub arm-returns-in-Err : goal.arm-returns-in-Err
 arm-returns-in-Err t c = halts_longer c.args.source.now (sym.AConstant ∷ sym.MoreLabels ∷ [])

@@ -5,4 +5,4 @@ use Rattle.sp_parse.proofs.statements.assume.Goals as goal
 
 pub returns : goal.returns
 returns c = has_read c.in-Ok.ensures.ready c.in-Ok.ensures.derives
-    (c.assume_statement.ensures ∙ ap (λ x. tree.Does c.args.at (tree.Assume x)) c.in-Ok.ensures.same)
+    (c.assume_statement.ensures ∙ ap (λ x. tree.Does c.args.at (tree.Assume x)) c.in-Ok.ensures.value_is)

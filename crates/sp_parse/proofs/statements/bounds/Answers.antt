@@ -25,4 +25,9 @@ pub returns : goal.returns
 returns c = has_read c.in-Ok-expression_then.ensures.ready
     (and (first_derived c.in-Ok.ensures)
     (and (first_derived c.in-Ok-direction.ensures) c.in-Ok-expression_then.ensures.derives))
-    (λ i. (c.in-Ok.ensures.same i, c.in-Ok-direction.ensures.same i, c.in-Ok-expression_then.ensures.same i))
+    (λ i. (
+      c.in-Ok.ensures.value_is i,
+      c.in-Ok-direction.ensures.value_is i,
+      c.in-Ok-expression_then.ensures.value_is
+          i,
+    ))

@@ -9,5 +9,5 @@ returns c = has_read c.in-Ok-expression.ensures.ready
     (and (first_derived c.in-Ok.ensures)
     (and (expected c.in-Ok-expect.ensures) (and (first_derived c.in-Ok-expression.ensures) none)))
     (c.assign_statement.ensures ∙ (λ i. tree.Does c.args.at
-    (tree.Assign ((c.variable.ensures ∙ ap (tree.Entire c.args.name) c.in-Ok.ensures.same) i)
-    (c.in-Ok-expression.ensures.same i))))
+    (tree.Assign ((c.variable.ensures ∙ ap (tree.Entire c.args.name) c.in-Ok.ensures.value_is) i)
+    (c.in-Ok-expression.ensures.value_is i))))

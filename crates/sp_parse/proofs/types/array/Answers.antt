@@ -35,4 +35,4 @@ returns c = has_read c.in-Ok-elements.ensures.ready (and (expected c.in-Ok.ensur
     (AConstant ∷ AToken w.Range ∷ []) (AConstant ∷ AToken w.CloseIndex ∷ AToken w.Of ∷ AName ∷ [])
     c.in-Ok-constant_then.ensures.derives (join_all (AConstant ∷ AToken w.CloseIndex ∷ []) (AToken w.Of ∷ AName ∷ [])
     c.in-Ok-constant_then-2.ensures.derives c.in-Ok-elements.ensures.derives))) (array_same
-    c.in-Ok-constant_then.ensures.same c.in-Ok-constant_then-2.ensures.same c.in-Ok-elements.ensures.same)
+    c.in-Ok-constant_then.ensures.value_is c.in-Ok-constant_then-2.ensures.value_is c.in-Ok-elements.ensures.value_is)

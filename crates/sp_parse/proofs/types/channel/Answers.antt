@@ -6,4 +6,4 @@ use Rattle.sp_parse.proofs.types.channel.Goals as goal
 
 pub returns : goal.returns
 returns c = has_read c.in-Ok-listed.ensures.ready (and (expected c.in-Ok.ensures) c.in-Ok-listed.ensures.derives)
-    (ap kinds.Channel c.in-Ok-listed.ensures.same)
+    (ap kinds.Channel c.in-Ok-listed.ensures.value_is)

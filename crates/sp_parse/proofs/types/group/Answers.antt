@@ -18,4 +18,4 @@ returns-in-Err-type_name c = halts_after (AToken w.Colon ∷ AName ∷ []) c.in-
 pub returns : goal.returns
 returns c = has_read c.in-Ok-type_name.ensures.ready
     (join_all (AName ∷ MoreNames ∷ []) (AToken w.Colon ∷ AName ∷ []) c.in-Ok.ensures.derives
-    c.in-Ok-type_name.ensures.derives) (group_same c.in-Ok.ensures.same c.in-Ok-type_name.ensures.same)
+    c.in-Ok-type_name.ensures.derives) (group_same c.in-Ok.ensures.value_is c.in-Ok-type_name.ensures.value_is)

@@ -9,4 +9,4 @@ use Rattle.sp_parse.proofs.types.listed.Goals as goal
 pub returns : goal.returns
 returns c = has_read c.in-Ok-expect.ensures.first.ready
     (join_all (AName ∷ MoreNames ∷ []) (AToken w.Close ∷ []) c.in-Ok.ensures.derives
-    (and (expected c.in-Ok-expect.ensures) none)) c.in-Ok.ensures.same
+    (and (expected c.in-Ok-expect.ensures) none)) c.in-Ok.ensures.value_is

@@ -21,7 +21,7 @@ returns-in-Err-listed c = row_halts row.enumeration refl (with_at w.Open c.in-Ok
 pub returns-then-is-2 : goal.returns-then-is-2
 returns-then-is-2 c = row_reads row.enumeration refl
     (with_at w.Open c.in-Ok.ensures c.is-2.ensures c.if-is-2.true) tt c.in-Ok-listed.ensures
-    (ap kinds.Enumeration c.in-Ok-listed.ensures.same)
+    (ap kinds.Enumeration c.in-Ok-listed.ensures.value_is)
 
 pub returns-then-is-3 : goal.returns-then-is-3
 returns-then-is-3 c = row_result (λ vs. kinds.Array vs.1.0 vs.1.1.1.0 vs.1.1.1.1.1.1.0) (λ k. k) (λ vs. vs.0) row.array
@@ -34,7 +34,7 @@ returns-in-Err-fields c = row_halts row.fields refl (with_at w.Record c.in-Ok.en
 
 pub returns-then-is-4 : goal.returns-then-is-4
 returns-then-is-4 c = row_reads row.fields refl (with_at w.Record c.in-Ok.ensures c.is-4.ensures c.if-is-4.true)
-    tt c.in-Ok-fields.ensures (ap kinds.Record c.in-Ok-fields.ensures.same)
+    tt c.in-Ok-fields.ensures (ap kinds.Record c.in-Ok-fields.ensures.value_is)
 
 pub returns-then-is-5 : goal.returns-then-is-5
 returns-then-is-5 c = row_result (λ vs. kinds.Channel (vs.1.0 ∷ vs.1.1.0)) (λ k. k) (λ vs. vs.0) row.channel refl

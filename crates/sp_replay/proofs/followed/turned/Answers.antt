@@ -12,6 +12,6 @@ turn-requires-clause-formals c = c.requires.sound.formals
 pub returns-in_default : goal.returns-in_default
 returns-in_default c = record {
   turn = c.turn.ensures.turn;
-  same = c.turn.ensures.same;
+  keeps = c.turn.ensures.same;
   whole = c.in_default.not-Memory;
 }

@@ -4,7 +4,7 @@ use Rattle.sp_scan.proofs.Tokens.{longest_name}
 use Rattle.sp_scan.proofs.token.name.Goals as goal
 
 pub slice_bounds-word_of-count : goal.slice_bounds-word_of-count
-slice_bounds-word_of-count c = omega (arith, run_length c.after_name-after.ensures.is, ap length c.requires.starts)
+slice_bounds-word_of-count c = omega (arith, run_length c.after_name-after.ensures.run, ap length c.requires.starts)
 
 pub returns : goal.returns
 returns c = longest_name c.args.bytes.now c.args.rest.now c.after_name-after.result.now c.args.first c.word_of.result

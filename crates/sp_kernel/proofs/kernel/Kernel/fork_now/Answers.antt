@@ -72,6 +72,6 @@ returns-in-Ok-clause-ok c =
           c.len-first.ensures
           (subst (λ (l : List Slot). Seated l c.len-first.result c.in-Ok.children c.seat.new.slots)
           (ap (λ (k : Kernel). k.slots) a) c.seat.ensures);
-      is = placed x c.admit.new.self c.place.new.self _ c.number-number.result p.number n c.seat.new.slots
+      kernel_is = placed x c.admit.new.self c.place.new.self _ c.number-number.result p.number n c.seat.new.slots
           c.enter.new.self a c.place.ensures (c.number-number.ensures ∙ sym number) refl;
     }

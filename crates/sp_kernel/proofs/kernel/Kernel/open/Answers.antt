@@ -44,7 +44,7 @@ returns-then-count-self-clause-ok c =
 
 pub open_now-requires-clause-target : goal.open_now-requires-clause-target
 open_now-requires-clause-target c = open_takes (setting_of c.args.self.now) (setting_of c.args.self.now).code
-    c.requires.fits.at c.args.proc c.requires.fits.turn (cell.Channel (length c.args.self.now.channels))
+    c.requires.fits.configuration c.args.proc c.requires.fits.turn (cell.Channel (length c.args.self.now.channels))
 
 pub returns-in-Ok-clause-ok : goal.returns-in-Ok-clause-ok
 returns-in-Ok-clause-ok c =

@@ -24,7 +24,7 @@ same_before old s (suc i) x h = member_before old s i x (omega arith)
 extended : (old : List VarSet) (s : VarSet) → Extends old (old ++ s ∷ [])
 extended old s =
     let e = length_more old s in
-    record { longer = omega arith; same = same_before old s }
+    record { longer = omega arith; unchanged = same_before old s }
 
 stands_last : (old : List VarSet) (s : VarSet) (i : ℕ) → i ≡ length (old ++ s ∷ [])
     → IsSetOfIndex (old ++ s ∷ []) i (λ x. has s x ≡ true)
