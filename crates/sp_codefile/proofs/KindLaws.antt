@@ -8,8 +8,8 @@ use Rattle.std.specs.Fmt.{digit_glyph}
 use Rattle.std.proofs.lemmas.Bool.Decides.{nat_tests}
 use Rattle.std.proofs.lemmas.Fmt.{decimal_nonempty}
 use Rattle.std.proofs.lemmas.List.Elements.{All-head, All-tail}
-use Rattle.sp_codefile.proofs.WordLaws.{BytesWithin}
-use Rattle.sp_codefile.proofs.WordLaws.{digits_within}
+use Rattle.sp_journal.proofs.SplitLaws.{AllInRange}
+use Rattle.sp_journal.proofs.TextLaws.{digits_within}
 use Rattle.sp_code.specs.declared.code.ChildTable.{ChildTable}
 use Rattle.sp_code.specs.declared.code.ForkTable.{ForkTable}
 use Rattle.sp_code.specs.declared.code.Layout.{Layout}
@@ -67,7 +67,7 @@ kind_of_item (item.Instr x) = kind.Instr
 kind_of_item (item.Table c) = kind.Child
 kind_of_item (item.Child c) = kind.Child
 
-digit_kind : (ds rest : List ℕ) → 0 < length ds → BytesWithin 48 57 ds → kind_of (ds ++ rest) ≡ kind.Instr
+digit_kind : (ds rest : List ℕ) → 0 < length ds → AllInRange 48 57 ds → kind_of (ds ++ rest) ≡ kind.Instr
 digit_kind [] rest s w = absurd (omega arith)
 digit_kind (d ∷ ds) rest s w =
     let a = w.0 in

@@ -1,5 +1,5 @@
 -- The text of an item has no line feed.
-use Rattle.std.proofs.Common.{◌≡◌, ℕ, suc, ◌-◌, ◌/◌, ◌%◌, ◌^◌, ◌<◌, ◌≤◌, ◌&&◌, nat_le, Bool, true, false, ℤ, pos}
+use Rattle.std.proofs.Common.{◌≡◌, ℕ, suc, ◌-◌, ◌/◌, ◌%◌, ◌^◌, ◌<◌, ◌≤◌, Bool, true, false, ℤ, pos}
 use Rattle.std.proofs.Common.{negsuc, List, [], ◌∷◌, ◌++◌, length, Option, Some, None, refl, sym, subst, arith, codes}
 use Rattle.std.proofs.Common.{decimal, All}
 use Rattle.std.specs.Int.Signed.{mag}
@@ -7,10 +7,9 @@ use Rattle.std.specs.List.{flat_map}
 use Rattle.std.specs.Fmt.{signed_decimal, digit_glyph}
 use Rattle.std.proofs.lemmas.Bool.Decides.{nat_tests}
 use Rattle.std.proofs.lemmas.List.Elements.{All-head, All-tail}
-use Rattle.std.proofs.lemmas.Bool.{leb-true}
-use Rattle.sp_base.proofs.Facts.{first_true, second_true}
-use Rattle.sp_codefile.proofs.WordLaws.{BytesWithin, within_append, within_wider}
-use Rattle.sp_codefile.proofs.WordLaws.{digits_within}
+use Rattle.sp_journal.proofs.EntryText.{in_line, from_test}
+use Rattle.sp_journal.proofs.SplitLaws.{AllInRange, within_append, within_wider}
+use Rattle.sp_journal.proofs.TextLaws.{digits_within}
 use Rattle.sp_code.specs.declared.code.ChildTable.{ChildTable}
 use Rattle.sp_code.specs.declared.code.Formal.{Formal}
 use Rattle.sp_code.specs.declared.code.Formal.TheVariants as formal
@@ -28,24 +27,9 @@ use Rattle.sp_codefile.specs.Items.{item_text, last_children, CanFollow}
 use Rattle.sp_codefile.proofs.Printing.{child_body}
 use Rattle.sp_codefile.proofs.InstrLaws.{AreSmall, operands_small}
 
-abbrev in_line : List ℕ → Bool
-in_line [] = true
-in_line (x ∷ xs) = nat_le 32 x && (nat_le x 122 && in_line xs)
-
 -- bytes that are printed
 abbrev Plain : List ℕ → Type 0
-Plain xs = BytesWithin 32 122 xs
-
-tested : (xs : List ℕ) → in_line xs ≡ true → Plain xs
-tested [] e = tt
-tested (x ∷ xs) e =
-    let r = second_true (nat_le 32 x) (nat_le x 122 && in_line xs) e in (
-      leb-true 32 x (first_true (nat_le 32 x) (nat_le x 122
-          && in_line xs) e),
-      leb-true x 122 (first_true (nat_le x 122) (in_line xs) r),
-      tested xs
-          (second_true (nat_le x 122) (in_line xs) r),
-    )
+Plain xs = AllInRange 32 122 xs
 
 joined : (xs ys : List ℕ) → Plain xs → Plain ys → Plain (xs ++ ys)
 joined xs ys a b = within_append 32 122 xs ys a b
@@ -92,16 +76,16 @@ numbers : (ns : List ℕ) → All IsNumber ns → Plain (flat_map number_text ns
 numbers ns a = each number_text IsNumber number ns a
 
 parent : (p : Option ℕ) → MayBeNumber p → Plain (parent_text p)
-parent None f = tested (codes " -") refl
+parent None f = from_test (codes " -") refl
 parent (Some b) f = number b f
 
 answer : (b : Bool) → Plain (answer_text b)
-answer true = tested (codes " answer") refl
-answer false = tested (codes " none") refl
+answer true = from_test (codes " answer") refl
+answer false = from_test (codes " none") refl
 
 one_formal : (f : Formal) → FormalFits f → Plain (formal_text f)
-one_formal (formal.Value n) l = joined (codes " value") (number_text n) (tested (codes " value") refl) (number n l)
-one_formal (formal.Reference n) l = joined (codes " reference") (number_text n) (tested (codes " reference") refl)
+one_formal (formal.Value n) l = joined (codes " value") (number_text n) (from_test (codes " value") refl) (number n l)
+one_formal (formal.Reference n) l = joined (codes " reference") (number_text n) (from_test (codes " reference") refl)
     (number n l)
 
 layout : (l : Layout) → LayoutFits l → Plain (layout_text l)
@@ -109,10 +93,10 @@ layout l f =
     joined_11 (codes "layout") (number_text l.block) (number_text l.entry) (parent_text l.parent) (answer_text l.answer)
     (codes " sizes") (flat_map number_text l.sizes) (codes " variables") (flat_map number_text l.variables)
     (codes " formals") (flat_map formal_text l.formals)
-    (tested (codes "layout") refl) (number l.block f.block) (number l.entry f.entry) (parent l.parent f.parent)
-    (answer l.answer) (tested (codes " sizes") refl) (numbers l.sizes f.sizes) (tested (codes " variables") refl)
+    (from_test (codes "layout") refl) (number l.block f.block) (number l.entry f.entry) (parent l.parent f.parent)
+    (answer l.answer) (from_test (codes " sizes") refl) (numbers l.sizes f.sizes) (from_test (codes " variables") refl)
     (numbers l.variables f.variables)
-    (tested (codes " formals") refl) (each formal_text FormalFits one_formal l.formals f.formals)
+    (from_test (codes " formals") refl) (each formal_text FormalFits one_formal l.formals f.formals)
 
 glyph : (d : ℕ) → d < 16 → (32 ≤ digit_glyph false d) × (digit_glyph false d ≤ 122)
 glyph d l = (grind (arith, nat_tests), grind (arith, nat_tests))
@@ -124,22 +108,22 @@ one_byte b l =
     (high.0, high.1, (low.0, low.1, tt))
 
 text : (t : List ℕ) → All IsByte t → Plain (text_text t)
-text t a = joined (codes "text ") (flat_map byte_text t) (tested (codes "text ") refl)
+text t a = joined (codes "text ") (flat_map byte_text t) (from_test (codes "text ") refl)
     (each byte_text IsByte one_byte t a)
 
 index : (i : Option ℕ) → MayBeNumber i → Plain (index_text i)
 index None f = tt
-index (Some v) f = joined (codes " index") (number_text v) (tested (codes " index") refl) (number v f)
+index (Some v) f = joined (codes " index") (number_text v) (from_test (codes " index") refl) (number v f)
 
 child : (t k : ℕ) (c : ChildTable) → t < 2 ^ 64 → k < 2 ^ 64 → ChildFits c → Plain (child_text t k c)
 child t k c l m f = subst (λ (z : List ℕ). Plain (z ++ index_text c.index)) (sym (child_body t k c))
     (joined_child (codes "table ") (decimal t) (codes " child ") (decimal k) (codes " entry ") (decimal c.entry)
     (codes " moves") (flat_map number_text c.moved) (codes " shares") (flat_map number_text c.shared)
     (index_text c.index)
-    (tested (codes "table ") refl) (digits t l) (tested (codes " child ") refl) (digits k m)
-    (tested (codes " entry ") refl) (digits c.entry (let a = f.entry in omega arith)) (tested (codes " moves") refl)
-    (numbers c.moved f.moved)
-    (tested (codes " shares") refl) (numbers c.shared f.shared) (index c.index f.index))
+    (from_test (codes "table ") refl) (digits t l) (from_test (codes " child ") refl) (digits k m)
+    (from_test (codes " entry ") refl) (digits c.entry (let a = f.entry in omega arith))
+    (from_test (codes " moves") refl) (numbers c.moved f.moved)
+    (from_test (codes " shares") refl) (numbers c.shared f.shared) (index c.index f.index))
 
 in_words : (x : Instr) → in_line (word x) ≡ true
 in_words (i.Const x) = refl
@@ -216,7 +200,7 @@ all_operands (z ∷ zs) s = (
 )
 
 instr : (x : Instr) → InstrFits x → Plain (instr_text x)
-instr x f = joined (word x) (flat_map operand_text (operands x)) (tested (word x) (in_words x))
+instr x f = joined (word x) (flat_map operand_text (operands x)) (from_test (word x) (in_words x))
     (all_operands (operands x) (operands_small x f))
 
 one_line : (xs : List ℕ) → Plain xs → IsOneLine xs
@@ -229,7 +213,7 @@ item_one_line p (item.Text t) c h = one_line (text_text t) (text t h.1)
 item_one_line p (item.Instr x) c h = one_line (item_text p (item.Instr x))
     (joined (decimal (length p.instrs) ++ codes " ") (instr_text x)
     (joined (decimal (length p.instrs)) (codes " ") (digits (length p.instrs) (let a = h.0.1 in omega arith))
-    (tested (codes " ") refl)) (instr x h.1))
+    (from_test (codes " ") refl)) (instr x h.1))
 item_one_line p (item.Table c) k h = one_line (child_text (length p.forks) 0 c)
     (child (length p.forks) 0 c (let a = h.0 in omega arith) (omega arith) h.1)
 item_one_line p (item.Child c) k h = one_line (child_text (length p.forks - 1) (last_children p.forks) c)

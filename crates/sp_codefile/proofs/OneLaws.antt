@@ -8,8 +8,8 @@ use Rattle.std.specs.Fmt.{signed_decimal}
 use Rattle.std.proofs.lemmas.Fmt.{decimal_injective}
 use Rattle.std.proofs.lemmas.List.Elements.{All-head, All-tail}
 use Rattle.std.proofs.lemmas.Option.{same_Some}
-use Rattle.sp_codefile.proofs.WordLaws.{BytesWithin}
-use Rattle.sp_codefile.proofs.WordLaws.{digits_within}
+use Rattle.sp_journal.proofs.SplitLaws.{AllInRange}
+use Rattle.sp_journal.proofs.TextLaws.{digits_within}
 use Rattle.sp_code.specs.declared.code.ChildTable.{ChildTable}
 use Rattle.sp_code.specs.declared.code.Formal.{Formal}
 use Rattle.sp_code.specs.declared.code.Formal.TheVariants as formal
@@ -227,13 +227,13 @@ signed_same (pos m) (pos n) p q e = ap pos (decimal_injective m n (omega arith) 
 signed_same (pos m) (negsuc n) p q e = absurd (no_minus m (decimal (suc n)) (omega arith) e)
   where
     no_minus : (m : ℕ) (ds : List ℕ) → m < 2 ^ 64 → decimal m ≡ 45 ∷ ds → ⊥
-    no_minus m ds l e = let w : BytesWithin 48 57 (45 ∷ ds) = subst (BytesWithin 48 57) e (digits_within m l) in
+    no_minus m ds l e = let w : AllInRange 48 57 (45 ∷ ds) = subst (AllInRange 48 57) e (digits_within m l) in
         let a = w.0 in
         omega arith
 signed_same (negsuc m) (pos n) p q e = absurd (no_minus n (decimal (suc m)) (omega arith) (sym e))
   where
     no_minus : (m : ℕ) (ds : List ℕ) → m < 2 ^ 64 → decimal m ≡ 45 ∷ ds → ⊥
-    no_minus m ds l e = let w : BytesWithin 48 57 (45 ∷ ds) = subst (BytesWithin 48 57) e (digits_within m l) in
+    no_minus m ds l e = let w : AllInRange 48 57 (45 ∷ ds) = subst (AllInRange 48 57) e (digits_within m l) in
         let a = w.0 in
         omega arith
 signed_same (negsuc m) (negsuc n) p q e = ap negsuc

@@ -11,6 +11,7 @@ use Rattle.sp_codefile.specs.declared.item.Item.{Item}
 use Rattle.std.specs.List.{flat_map}
 use Rattle.std.proofs.lemmas.Bool.{eqb-true, ne_eqb, true≢false}
 use Rattle.sp_journal.proofs.Facts.{here}
+use Rattle.sp_journal.proofs.TextLaws.{parts_first, parts_second, none_parts}
 use Rattle.sp_code.specs.Listing.{numbered_texts, instr_line}
 use Rattle.sp_codefile.specs.CodeText.{layout_text, text_text, table_text, line, code_text, IsCode, IsTextOf, IsOneLine}
 use Rattle.sp_codefile.specs.CodeText.{AreLines, IsFirstBad}
@@ -18,25 +19,6 @@ use Rattle.sp_codefile.specs.Items.{item_text, CanFollow, after_item, IsNextItem
 use Rattle.sp_codefile.proofs.ItemLaws.{text_step, code_step}
 use Rattle.sp_codefile.proofs.LeadLaws.{ItemsLead, no_parts, from_nothing, items_text, text_along}
 use Rattle.sp_codefile.proofs.LineLaws.{item_one_line}
-
--- what stands before and behind the first line feed
-
-pub parts_first : (a b c d : List ℕ) → ◌≡◌ {A = Option (List ℕ × List ℕ)} (Some (a, b)) (Some (c, d)) → a ≡ c
-parts_first a b c d e = ap first e
-  where
-    first : Option (List ℕ × List ℕ) → List ℕ
-    first None = []
-    first (Some p) = p.0
-
-pub parts_second : (a b c d : List ℕ) → ◌≡◌ {A = Option (List ℕ × List ℕ)} (Some (a, b)) (Some (c, d)) → b ≡ d
-parts_second a b c d e = ap second e
-  where
-    second : Option (List ℕ × List ℕ) → List ℕ
-    second None = []
-    second (Some p) = p.1
-
-pub none_parts : (a b : List ℕ) → ◌≡◌ {A = Option (List ℕ × List ℕ)} None (Some (a, b)) → ⊥
-none_parts a b e = cc
 
 pub line_at : (xs ys : List ℕ) → IsOneLine xs → first_split 10 (xs ++ 10 ∷ ys) ≡ Some (xs, ys)
 line_at [] ys w = refl

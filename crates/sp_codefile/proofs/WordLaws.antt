@@ -1,17 +1,19 @@
 -- Laws of cutting a line into words.
-use Rattle.std.proofs.Common.{◌≡◌, ◌≢◌, ℕ, suc, ◌+◌, ◌%◌, ◌^◌, ◌<◌, ◌≤◌, ◌==◌, ◌&&◌, nat_le, Bool, true, false, cond, ℤ}
+use Rattle.std.proofs.Common.{◌≡◌, ◌≢◌, ℕ, suc, ◌+◌, ◌^◌, ◌<◌, ◌≤◌, ◌==◌, ◌&&◌, nat_le, Bool, true, false, cond, ℤ}
 use Rattle.std.proofs.Common.{pos, negsuc, List, [], ◌∷◌, ◌++◌, length, refl, sym, ap, ◌∙◌, subst, arith, decimal}
 use Rattle.std.proofs.Common.{codes, All}
 use Rattle.std.specs.Fmt.{signed_decimal}
 use Rattle.std.specs.Int.Signed.{mag}
 use Rattle.std.specs.List.{flat_map}
 use Rattle.std.proofs.lemmas.Bool.Decides.{nat_tests}
-use Rattle.std.proofs.lemmas.Fmt.{decimal_by_steps, decimal_nonempty}
+use Rattle.std.proofs.lemmas.Fmt.{decimal_nonempty}
 use Rattle.std.proofs.lemmas.List.Elements.{All-head, All-tail}
 use Rattle.std.proofs.lemmas.Bool.{eqb-true, ne_eqb, true≢false}
 use Rattle.std.proofs.lemmas.List.{nil_from_length}
 use Rattle.sp_base.proofs.Facts.{and_with_false}
 use Rattle.sp_journal.proofs.Facts.{here}
+use Rattle.sp_journal.proofs.SplitLaws.{AllInRange}
+use Rattle.sp_journal.proofs.TextLaws.{digits_within}
 use Rattle.sp_code.specs.Listing.{number_text}
 use Rattle.sp_codefile.specs.CodeText.{IsNumber, IsInteger}
 use Rattle.sp_codefile.specs.Cuts.{blank_cut, word_of, begins, class_cut}
@@ -60,33 +62,11 @@ pub outside_append : (low high : ℕ) (xs ys : List ℕ) → Outside low high xs
 outside_append low high [] ys a b = b
 outside_append low high (x ∷ xs) ys a b = (a.0, outside_append low high xs ys a.1 b)
 
--- each byte is from low to high
-abbrev pub BytesWithin : ℕ → ℕ → List ℕ → Type 0
-BytesWithin low high [] = Unit {0}
-BytesWithin low high (x ∷ xs) = (low ≤ x) × (x ≤ high) × BytesWithin low high xs
-
-pub within_append : (low high : ℕ) (xs ys : List ℕ) → BytesWithin low high xs → BytesWithin low high ys
-    → BytesWithin low high (xs ++ ys)
-within_append low high [] ys a b = b
-within_append low high (x ∷ xs) ys a b = (a.0, a.1, within_append low high xs ys a.2 b)
-
-pub within_wider : (lo hi low high : ℕ) (xs : List ℕ) → low ≤ lo → hi ≤ high → BytesWithin lo hi xs
-    → BytesWithin low high xs
-within_wider lo hi low high [] l h w = tt
-within_wider lo hi low high (x ∷ xs) l h w =
-    (let a = w.0 in omega arith, let a = w.1 in omega arith, within_wider lo hi low high xs l h w.2)
-
-pub digits_within : (n : ℕ) → n < 2 ^ 64 → BytesWithin 48 57 (decimal n)
-digits_within n l = decimal_by_steps (λ _ ds. BytesWithin 48 57 ds)
-    (λ n h. (omega arith, omega arith, tt))
-    (λ n ds h w. within_append 48 57 ds ((48 + n % 10) ∷ []) w (omega arith, omega arith, tt))
-    n l
-
-no_blank : (xs : List ℕ) → BytesWithin 48 57 xs → NoBlank xs
+no_blank : (xs : List ℕ) → AllInRange 48 57 xs → NoBlank xs
 no_blank [] w = tt
 no_blank (x ∷ xs) w = (ne_eqb x 32 (λ e. let a = w.0 in omega arith), no_blank xs w.2)
 
-no_letter : (xs : List ℕ) → BytesWithin 48 57 xs → Outside 97 122 xs
+no_letter : (xs : List ℕ) → AllInRange 48 57 xs → Outside 97 122 xs
 no_letter [] w = tt
 no_letter (x ∷ xs) w = (small x w.1, no_letter xs w.2)
   where
@@ -111,7 +91,7 @@ pub signed_no_blank : (z : ℤ) → mag z < 2 ^ 63 → NoBlank (signed_decimal z
 signed_no_blank (pos n) l = digits_no_blank n (omega arith)
 signed_no_blank (negsuc n) l = (refl, digits_no_blank (suc n) (omega arith))
 
-begins_digit : (ds rest : List ℕ) → 0 < length ds → BytesWithin 48 57 ds → begins 45 57 (ds ++ rest) ≡ true
+begins_digit : (ds rest : List ℕ) → 0 < length ds → AllInRange 48 57 ds → begins 45 57 (ds ++ rest) ≡ true
 begins_digit [] rest s w = absurd (omega arith)
 begins_digit (d ∷ ds) rest s w = digit d w.0 w.1
   where
@@ -180,6 +160,6 @@ some_length (x ∷ xs) n = omega arith
 -- a sign alone is no number
 pub no_sign : (n : ℕ) → IsNumber n → codes "-" ≡ decimal n → ⊥
 no_sign n l e =
-    let w : BytesWithin 48 57 (codes "-") = subst (BytesWithin 48 57) (sym e) (digits_within n (omega arith)) in
+    let w : AllInRange 48 57 (codes "-") = subst (AllInRange 48 57) (sym e) (digits_within n (omega arith)) in
     let a = w.0 in
     omega arith

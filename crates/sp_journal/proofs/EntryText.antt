@@ -20,11 +20,12 @@ use Rattle.sp_journal.proofs.SplitLaws.{AllInRange, HasNone, within_append, with
 use Rattle.sp_journal.proofs.TextLaws.{digits_within, name_within, channel_within}
 use Rattle.sp_journal.proofs.BirthLaws.{Lawful}
 
+-- each byte is printed (from a blank to z)
 abbrev pub in_line : List ℕ → Bool
 in_line [] = true
 in_line (x ∷ xs) = nat_le 32 x && (nat_le x 122 && in_line xs)
 
-from_test : (xs : List ℕ) → in_line xs ≡ true → AllInRange 32 122 xs
+pub from_test : (xs : List ℕ) → in_line xs ≡ true → AllInRange 32 122 xs
 from_test [] e = tt
 from_test (x ∷ xs) e =
     let r = second_true (nat_le 32 x) (nat_le x 122 && in_line xs) e in (

@@ -1,15 +1,15 @@
 mod BegunLaws
 pub mod BirthLaws
-mod EntryText
+pub mod EntryText
 pub mod Facts
 mod Families
 mod LedgerLaws
-mod NameLaws
+pub mod NameLaws
 mod OneText
 mod NumberlessEvents
 mod ReaderLaws
 mod ReadingLaws
 mod Rows
-mod SplitLaws
-mod TextLaws
+pub mod SplitLaws
+pub mod TextLaws
 pub mod Walk

@@ -8,7 +8,7 @@ use Rattle.sp_journal.specs.declared.entry.Way.{Way}
 use Rattle.sp_journal.specs.Names.{Name, Channel, same_name, Happening, Opened, Forked, Offered, Ended, Faulted, Laid}
 use Rattle.sp_journal.specs.Names.{Paused, Occurrence}
 use Rattle.sp_journal.specs.Past.{Knowledge, learn, known_with, knowledge_after_offer, knowledge_after, no_knowledge}
-use Rattle.sp_meaning.proofs.Keys.{name_is}
+use Rattle.sp_journal.proofs.NameLaws.{name_is}
 use Rattle.sp_judge.proofs.Prefixing.{get_low, get_last, learn_all, teach_all, report_all, learn_more, teach_more}
 use Rattle.sp_judge.proofs.Prefixing.{report_more, at_channel}
 use Rattle.sp_race.specs.Known.{KnowsOffers}

@@ -15,7 +15,7 @@ use Rattle.sp_journal.specs.Births.{Births, first_births, births_after_event, bi
 use Rattle.sp_journal.specs.Births.{occurrence}
 use Rattle.sp_journal.specs.Past.{Knowledge, knowledge_of, knowledge_after}
 use Rattle.sp_journal.proofs.BirthLaws.{Lawful, name_by_birth, name_of_root}
-use Rattle.sp_meaning.proofs.Keys.{name_itself}
+use Rattle.sp_journal.proofs.NameLaws.{name_itself}
 use Rattle.sp_judge.specs.Prefixes.{WaitersAreSilent, is_counted}
 use Rattle.sp_judge.specs.declared.judge_tables.Offer.{Offer}
 use Rattle.sp_judge.specs.declared.judge_tables.ChannelOffers.{ChannelOffers}

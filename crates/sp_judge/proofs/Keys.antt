@@ -3,7 +3,7 @@ use Rattle.std.proofs.Common.{◌≡◌, true, ◌==◌, [], refl, eqb-true, eq-
 use Rattle.std.proofs.lemmas.Bool.{and_from}
 use Rattle.sp_base.proofs.Facts.{first_true, second_true}
 use Rattle.sp_journal.specs.Names.{Channel, same_name, same_channel}
-use Rattle.sp_meaning.proofs.Keys.{name_itself, name_is}
+use Rattle.sp_journal.proofs.NameLaws.{name_itself, name_is}
 
 pub channel_is : (c d : Channel) → same_channel c d ≡ true → c ≡ d
 channel_is c d e =

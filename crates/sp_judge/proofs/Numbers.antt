@@ -14,7 +14,7 @@ use Rattle.sp_journal.specs.Births.{channel, CanFollow}
 use Rattle.sp_journal.specs.Births.{GivesNumbers, NameableFrom, happening, occurrence, occurrences_from}
 use Rattle.sp_journal.proofs.Facts.{below, between}
 use Rattle.sp_journal.proofs.BirthLaws.{Lawful, lawful_start, lawful_after, lawful}
-use Rattle.sp_meaning.proofs.Keys.{name_itself, name_is}
+use Rattle.sp_journal.proofs.NameLaws.{name_itself, name_is}
 use Rattle.sp_judge.proofs.Keys.{channel_itself, channel_is}
 use Rattle.sp_judge.specs.Counts.{with_merged_clock, with_children_merged}
 use Rattle.sp_judge.proofs.Tallies.{index_or_not}

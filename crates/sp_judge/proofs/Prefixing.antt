@@ -10,7 +10,7 @@ use Rattle.sp_journal.specs.Names.{Name, Channel, same_name, same_channel, Happe
 use Rattle.sp_journal.specs.Names.{Faulted, Laid, Paused, Occurrence}
 use Rattle.sp_journal.specs.Past.{Knowledge, learn, teach, report, known_with, knowledge_after_offer, knowledge_after}
 use Rattle.sp_journal.specs.Past.{knowledge_from, no_knowledge}
-use Rattle.sp_meaning.proofs.Keys.{name_itself, name_is}
+use Rattle.sp_journal.proofs.NameLaws.{name_itself, name_is}
 use Rattle.sp_judge.specs.Prefixes.{is_counted, Counts, WaitsForNone, WaitersSilentFrom, WaitersAreSilent}
 use Rattle.sp_judge.specs.Prefixes.{KnowsPrefixes, KnowsCounted}
 use Rattle.sp_judge.proofs.Keys.{channel_is, channel_itself}

@@ -9,7 +9,7 @@ use Rattle.sp_base.proofs.Facts.{below_or_at, or_with_false, true_is_not_false}
 use Rattle.sp_journal.specs.Names.{Name, Channel, same_name, Happening, Opened, Forked, Offered, Ended, Faulted, Laid}
 use Rattle.sp_journal.specs.Names.{Paused, Occurrence}
 use Rattle.sp_journal.specs.Past.{Knowledge, learn, teach, report, known_with, knowledge_after_offer, knowledge_after}
-use Rattle.sp_meaning.proofs.Keys.{name_itself, name_is}
+use Rattle.sp_journal.proofs.NameLaws.{name_itself, name_is}
 use Rattle.sp_meaning.proofs.Keys.{name_test}
 use Rattle.sp_judge.specs.Prefixes.{is_counted, Counts, WaitsForNone}
 use Rattle.sp_judge.specs.Counts.{count_of_entries, PlaceOf, with_clock, with_merged_clock, with_children_merged}

@@ -1,16 +1,14 @@
--- The order of names as the program keeps them is that of the meaning (`in_order`), and each is told by its pairs
--- (`one_name`).
+-- The order of names as the program keeps them is that of the meaning (`in_order`).
 use Rattle.std.proofs.Common.{◌≡◌, ℕ, ◌==◌, List, [], ◌∷◌, ◌++◌, Bool, true, false, cond, if◌then◌else◌, refl, sym, ap}
 use Rattle.std.proofs.Common.{◌∙◌, arith}
 use Rattle.std.specs.Prelude.{nat_lt, map, reverse}
-use Rattle.std.proofs.lemmas.List.{reverse-append, reverse-reverse}
+use Rattle.std.proofs.lemmas.List.{reverse-append}
 use Rattle.std.specs.declared.cmp.Ordering.{Ordering}
 use Rattle.std.specs.declared.cmp.Ordering.TheVariants.{Less, Equal, Greater}
 use Rattle.std.specs.Ordering.{nat_cmp, ordering_then}
 use Rattle.std.specs.Cmp.Lexicographic.{slice_cmp}
 use Rattle.sp_base.specs.Order.{pair_cmp, name_cmp}
 use Rattle.sp_base.specs.declared.name.Pair.{Pair}
-use Rattle.sp_base.specs.declared.name.ProcName.{ProcName}
 use Rattle.sp_journal.specs.Names.{Name, pairs_of, proc_name}
 use Rattle.sp_meaning.specs.Ends.{pairs_before, name_before}
 
@@ -64,18 +62,3 @@ pub in_order : (p q : Name) → name_cmp (proc_name p) (proc_name q) ≡ Less �
 in_order p q e = list_before (reverse p) (reverse q)
     (ap (λ y. slice_cmp pair_cmp y (map pair (reverse q))) (sym (pairs_are p))
     ∙ ap (λ y. slice_cmp pair_cmp (pairs_of p) y) (sym (pairs_are q)) ∙ e)
-
--- a name is told by its pairs
-abbrev unpair : Pair → ℕ × ℕ
-unpair a = (a.fork, a.child)
-
-back : (xs : List (ℕ × ℕ)) → map unpair (map pair xs) ≡ xs
-back [] = refl
-back (x ∷ xs) = ap (λ y. x ∷ y) (back xs)
-
-pub one_name : (p q : Name) → proc_name p ≡ proc_name q → p ≡ q
-one_name p q e =
-    let pairs : map pair (reverse p) ≡ map pair (reverse q) = sym (pairs_are p) ∙ ap (λ (y : ProcName). y.pairs) e
-    ∙ pairs_are q in
-    let same : reverse p ≡ reverse q = sym (back (reverse p)) ∙ ap (λ y. map unpair y) pairs ∙ back (reverse q) in
-    sym (reverse-reverse p) ∙ ap (λ y. reverse y) same ∙ reverse-reverse q

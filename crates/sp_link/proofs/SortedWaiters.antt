@@ -17,11 +17,12 @@ use Rattle.sp_journal.specs.declared.outcome.Waiter.{Waiter}
 use Rattle.sp_journal.specs.Births.{channel}
 use Rattle.sp_journal.specs.Names.{same_name, proc_name}
 use Rattle.sp_journal.proofs.BirthLaws.{Lawful}
+use Rattle.sp_journal.proofs.NameLaws.{names_differ}
 use Rattle.sp_meaning.specs.Ends.{Waiting, IsIn, IsSorted, name_before, waiter_of}
 use Rattle.sp_meaning.proofs.Keys.{name_test}
 use Rattle.sp_code.specs.Control.{Control, Doing, Unborn, Ready, Out, Sending, Receiving, Joining, Laid, Ended, Gone}
 use Rattle.sp_link.specs.Endings.{IsWaiting, AreAllWaiting, with_waiting, waiting_from}
-use Rattle.sp_link.proofs.NameOrder.{in_order, one_name}
+use Rattle.sp_link.proofs.NameOrder.{in_order}
 
 -- ---- a list that is permuted in another form
 
@@ -112,7 +113,7 @@ before v u h n = in_order v.who u.who (go (name_cmp (proc_name u.who) (proc_name
         → name_cmp (proc_name v.who) (proc_name u.who) ≡ Less
     go Less e f = absurd (cc f)
     go Equal e f =
-        let same : u.who ≡ v.who = one_name u.who v.who (name_of_tie (proc_name u.who) (proc_name v.who) e) in
+        let same : u.who ≡ v.who = names_differ u.who v.who (name_of_tie (proc_name u.who) (proc_name v.who) e) in
         let bad : true ≡ false = sym ((name_test v.who u.who).1 (sym same)) ∙ n in absurd (cc bad)
     go Greater e f = name_total.antisymm (proc_name v.who) (proc_name u.who) ∙ ap ordering_reverse e
 

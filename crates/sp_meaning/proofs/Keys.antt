@@ -1,8 +1,9 @@
 -- Numbers, names and channels are told apart by their tests.
-use Rattle.std.proofs.Common.{◌≡◌, true, ◌&&◌, ◌==◌, [], ◌∷◌, refl, ap, subst, eqb-true, eq-eqb, ◌≢◌, ◌⊎◌, inl, inr, ℕ}
+use Rattle.std.proofs.Common.{◌≡◌, true, ◌==◌, refl, ap, subst, eqb-true, eq-eqb, ◌≢◌, ◌⊎◌, inl, inr, ℕ}
 use Rattle.std.proofs.Common.{Bool, false, sym, ◌∙◌}
 use Rattle.std.proofs.lemmas.Bool.{and_from}
-use Rattle.sp_base.proofs.Facts.{false_is_not_true, first_true, second_true}
+use Rattle.sp_base.proofs.Facts.{first_true, second_true}
+use Rattle.sp_journal.proofs.NameLaws.{name_is, name_itself}
 use Rattle.sp_meaning.specs.Maps.{IsTest}
 use Rattle.sp_meaning.specs.Model.{Name, Channel, same_name, same_channel}
 
@@ -12,24 +13,6 @@ number_or a b = go (a == b) refl
     go : (c : Bool) → a == b ≡ c → (a ≡ b) ⊎ (a ≢ b)
     go true e = inl (eqb-true a b e)
     go false e = inr (λ f. let x : false ≡ true = sym e ∙ eq-eqb a b f in absurd (cc x))
-
--- a name is the same as itself
-pub name_itself : (p : Name) → same_name p p ≡ true
-name_itself [] = refl
-name_itself (a ∷ p) = and_from ((a.0 == a.0) && (a.1 == a.1)) (same_name p p)
-    (and_from (a.0 == a.0) (a.1 == a.1) (eq-eqb a.0 a.0 refl) (eq-eqb a.1 a.1 refl)) (name_itself p)
-
--- names that are the same by their test are one
-pub name_is : (p q : Name) → same_name p q ≡ true → p ≡ q
-name_is [] [] e = refl
-name_is [] (b ∷ q) e = false_is_not_true e
-name_is (a ∷ p) [] e = false_is_not_true e
-name_is (a ∷ p) (b ∷ q) e =
-    let h = first_true ((a.0 == b.0) && (a.1 == b.1)) (same_name p q) e in
-    let x = eqb-true a.0 b.0 (first_true (a.0 == b.0) (a.1 == b.1) h) in
-    let y = eqb-true a.1 b.1 (second_true (a.0 == b.0) (a.1 == b.1) h) in
-    let r = name_is p q (second_true ((a.0 == b.0) && (a.1 == b.1)) (same_name p q) e) in
-    λ i. (x i, y i) ∷ r i
 
 pub name_test : IsTest same_name
 name_test p q = (name_is p q, name_same p q)

@@ -6,7 +6,7 @@ use Rattle.sp_base.proofs.Facts.{false_is_not_true}
 use Rattle.sp_journal.specs.Maps.{at_key}
 use Rattle.sp_journal.specs.Names.{Name, same_name}
 use Rattle.sp_journal.specs.Past.{learn, teach, report}
-use Rattle.sp_meaning.proofs.Keys.{name_itself, name_is}
+use Rattle.sp_journal.proofs.NameLaws.{name_itself, name_is}
 use Rattle.sp_judge.proofs.Prefixing.{teach_more, learn_here}
 use Rattle.sp_witness.specs.Needed.{any_child}
 

@@ -8,7 +8,7 @@ use Rattle.sp_base.proofs.Facts.{first_true, same_if_both_follow, second_true, t
 use Rattle.sp_journal.specs.Names.{Name, Channel, same_name, Happening, Opened, Forked, Offered, Ended, Faulted, Laid}
 use Rattle.sp_journal.specs.Names.{Paused, Occurrence}
 use Rattle.sp_journal.specs.Past.{Knowledge, knowledge_after}
-use Rattle.sp_meaning.proofs.Keys.{name_itself, name_is}
+use Rattle.sp_journal.proofs.NameLaws.{name_itself, name_is}
 use Rattle.sp_meaning.specs.Along.{IsCleanly, IsClean}
 use Rattle.sp_judge.specs.Prefixes.{WaitsForNone, WaitersSilentFrom}
 use Rattle.sp_witness.specs.Witness.{who_of, who_at, past_before, is_pause, is_known, offers_after, is_member, is_among}

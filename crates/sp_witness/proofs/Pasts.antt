@@ -12,7 +12,7 @@ use Rattle.sp_journal.specs.Names.{Name, Channel, same_name, same_channel, Happe
 use Rattle.sp_journal.specs.Names.{Faulted, Laid, Paused, Occurrence}
 use Rattle.sp_journal.specs.Past.{Knowledge, learn, known_with, knowledge_after_offer, knowledge_after, knowledge_from}
 use Rattle.sp_journal.specs.Past.{knowledge_of, no_knowledge}
-use Rattle.sp_meaning.proofs.Keys.{name_itself, name_is}
+use Rattle.sp_journal.proofs.NameLaws.{name_itself, name_is}
 use Rattle.sp_meaning.specs.Along.{IsCleanly, IsClean}
 use Rattle.sp_judge.specs.Prefixes.{is_counted, Counts, WaitersSilentFrom}
 use Rattle.sp_judge.proofs.Prefixing.{learn_all, teach_all, report_all, learn_more, teach_more, report_more}

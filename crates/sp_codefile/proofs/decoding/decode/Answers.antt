@@ -1,5 +1,5 @@
 use Rattle.std.proofs.Common.{◌≡◌, ℕ, suc, ◌∙◌, List, Some, None, refl, sym, ap, subst, arith, codes, rules}
-use Rattle.sp_codefile.proofs.ReadLaws.{parts_first, none_parts}
+use Rattle.sp_journal.proofs.TextLaws.{parts_first, none_parts}
 use Rattle.sp_code.specs.declared.code.Parts.{Parts}
 use Rattle.sp_codefile.specs.CodeText.{IsTextOf}
 use Rattle.sp_codefile.specs.Items.{item_text, IsNextItem}
