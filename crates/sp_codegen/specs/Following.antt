@@ -18,7 +18,7 @@ use Rattle.sp_meaning.specs.LocalWork.{Break, WorkOutcome, Computed, EndsInFault
 use Rattle.sp_meaning.specs.LocalWork.{same_loc}
 use Rattle.sp_meaning.specs.Actions.{Action, Stepped, Ticked, Opened, Forked, Offered, Birth, is_range, children}
 use Rattle.sp_meaning.specs.Actions.{indexed_children}
-use Rattle.sp_meaning.specs.Actions as deeds
+use Rattle.sp_meaning.specs.Actions as actions
 use Rattle.sp_meaning.specs.Run.{Store}
 use Rattle.sp_code.specs.declared.code.Parts.{Parts as Code}
 use Rattle.sp_code.specs.declared.instr.Instr.TheVariants as i
@@ -179,7 +179,7 @@ module _ {M : Type 0} (ex : Execution M) where
       (pc : ℕ) × (st : List Entry) × (n : M) × (fs : List FramePair) × (d : Config M) × (z : Stop) × RunsTo ops code c d
       × (next_step ops code d ≡ Stops z (At pc st n)) × rel.Stand fs o s n × CargoIs fs ch k g z × Q todo fs pc st
       × (is_in_no_function st ≡ true) × IsOwned ops z n
-  Made c Q (Computed deeds.Ended o, s) = (pc : ℕ) × (st : List Entry) × (n : M) × (fs : List FramePair)
+  Made c Q (Computed actions.Ended o, s) = (pc : ℕ) × (st : List Entry) × (n : M) × (fs : List FramePair)
       × RunsTo ops code c (At pc st n) × (next_step ops code (At pc st n) ≡ Stops Ended (At pc st n))
       × rel.Stand fs o s n
       × Q [] fs pc st × (is_in_no_function st ≡ true)
