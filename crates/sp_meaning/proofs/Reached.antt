@@ -33,7 +33,7 @@ use Rattle.sp_meaning.proofs.Maps.{at_other}
 use Rattle.sp_meaning.proofs.Keys.{name_test}
 use Rattle.sp_meaning.proofs.EffectTree.{answer_then}
 use Rattle.sp_meaning.proofs.Instance.{loc_test}
-use Rattle.sp_meaning.proofs.Enough.{EndsInTicks as Comes}
+use Rattle.sp_meaning.proofs.Enough.{EndsInTicks}
 use Rattle.sp_meaning.proofs.EnoughSteps.{ActionFalls, enough_is}
 use Rattle.sp_meaning.proofs.Weights.{AreLight, AllBorn, weights, push_fit}
 
@@ -46,7 +46,7 @@ Result t F OutOfFuel = ⊥
 
 pub result_is : {A : Type 0} (t : ℕ) (F : A → LocalState → Type 0) (x : EffectTree Loc LocationContent (WorkOutcome A))
     (m : Loc → LocationContent)
-    → Comes t F x → Result t F (run_tree same_loc x m).0
+    → EndsInTicks t F x → Result t F (run_tree same_loc x m).0
 result_is t F (Leaf (Computed a o)) m h = h
 result_is t F (Leaf (EndsInFault f)) m h = tt
 result_is t F (Leaf IllFormed) m h = tt
