@@ -27,9 +27,9 @@ use sp_base::{List, Memory};
 use sp_code::Code;
 use sp_effects::clash::first_clash;
 use sp_effects::effects::{Effects, find_effects};
-use sp_effects::ground::Ground;
 use sp_effects::handed::first_ill_handed;
 use sp_effects::loud::first_loud;
+use sp_effects::pass_context::PassContext;
 use sp_rules::laws::verified_code_is_sound;
 use sp_shapes::calls::first_unfit;
 use sp_shapes::cells::first_passing;
@@ -170,7 +170,7 @@ fn keep_cells(code: &Code, blocks: &Blocks, shapes: &Shapes) -> Result<(), Rejec
 }
 
 // Whether V6, V7 and V8 are.
-fn keep_effects(g: &Ground, effects: &Effects) -> Result<(), Rejected>
+fn keep_effects(g: &PassContext, effects: &Effects) -> Result<(), Rejected>
     requires known { IsPassContext g.now }
     requires kept { KeepsBefore g.now.code.now 6 }
     requires effects { AreEffects g.now.code.now effects.now }
@@ -185,7 +185,7 @@ fn keep_effects(g: &Ground, effects: &Effects) -> Result<(), Rejected>
 }
 
 // Whether V3 to V8 are.
-fn keep_shaped(g: &Ground) -> Result<(), Rejected>
+fn keep_shaped(g: &PassContext) -> Result<(), Rejected>
     requires known { IsPassContext g.now }
     requires kept { KeepsBefore g.now.code.now 3 }
     ensures ok { OnOk result (KeepsBefore g.now.code.now 9) }
@@ -211,7 +211,7 @@ fn keep_between(
     ensures err { IfErr result (λ e. IsRefused code.now e) }
 {
     let shapes = keep_shapes(code, blocks, owners, homes)?;
-    keep_shaped(&Ground {
+    keep_shaped(&PassContext {
         code,
         blocks,
         owners,

@@ -7,7 +7,7 @@ use Rattle.sp_cell.specs.Map.{Plain}
 use Rattle.sp_meaning.specs.LocalWork.{RunInput, Loc, Identity, WorkOutcome, Computed, EndsInFault, IllFormed}
 use Rattle.sp_meaning.specs.LocalWork.{OutOfFuel}
 use Rattle.sp_meaning.specs.Actions.{Stepped, Ticked, Opened, Forked, Offered, push, size_of_frame}
-use Rattle.sp_meaning.specs.Actions as deeds
+use Rattle.sp_meaning.specs.Actions as actions
 use Rattle.sp_meaning.specs.Run.{Store, run}
 use Rattle.sp_meaning.specs.SuperPascal.{root, first_store}
 use Rattle.sp_meaning.specs.Turn as source
@@ -148,7 +148,7 @@ module _ (g : RunInput) (code : Code) (formed : IsFormed g.program) (types : Has
     turn_by (At layout.layout.entry [] n0) (Stopped q.5 (At q.0 q.1 q.2)) fits_first
         (q.4, q.6, q.7),
   )
-  by_outcome (Computed (source.Stops deeds.Ended) o, s) q = (
+  by_outcome (Computed (source.Stops actions.Ended) o, s) q = (
     At q.0 q.1 q.2,
     turn_by (At layout.layout.entry [] n0) (Stopped Ended (At q.0 q.1 q.2)) fits_first
         (At q.0 q.1 q.2, q.4, q.5),

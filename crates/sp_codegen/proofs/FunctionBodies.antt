@@ -93,33 +93,33 @@ module _ {M : Type 0} (ex : Execution M) where
   inside_gives end base below ob go ih c o s h k =
       record {
         proof = subst (RealizesResult ops rel w code below c end (BaseTop base) No_more)
-            (sym (run_bind h (λ d. bind (items_after g d) go) w o s)) (by_deed (run h w o s) k.proof);
+            (sym (run_bind h (λ d. bind (items_after g d) go) w o s)) (by_action (run h w o s) k.proof);
       }
     where
       no : (st : List Entry) (pc : ℕ) (fs : List FramePair) (todo : List Item) → F ex end base below pc st fs todo
           → is_in_no_function st ≡ true → ⊥
       no st pc fs todo f e = subst IsTrue (sym (outside_follows ex end base below pc st fs todo f ∙ ob) ∙ e) tt
 
-      by_deed : (r : WorkOutcome Action × Store) → Made ex c (After ex end base below) r
+      by_action : (r : WorkOutcome Action × Store) → Made ex c (After ex end base below) r
           → RealizesResult ops rel w code below c end (BaseTop base) No_more
           (then_run (λ d. bind (items_after g d) go) w r)
-      by_deed (Computed (Stepped todo) o1, s1) q =
+      by_action (Computed (Stepped todo) o1, s1) q =
           ends_after ops rel w code below c (m.At q.0 q.1 q.2) end (BaseTop base) No_more (run (go todo) w o1 s1) q.4
           (ih.proof end base below ob todo q.0 q.1 q.3 o1 s1 q.2 q.5 q.6).proof
-      by_deed (Computed (Ticked todo) o1, s1) q =
+      by_action (Computed (Ticked todo) o1, s1) q =
           ends_after ops rel w code below c (m.At q.0 q.1 q.2) end (BaseTop base) No_more (run (go todo) w o1 s1)
           (comes_on ops rel w code q.5 (goes ops rel w code
           (q.6 ∙ ap (λ b. if b then (if ops.due q.2 then Stops m.Pauses (m.At q.0 q.1 q.2) else
           Goes (m.At q.0 q.1 q.2)) else Goes (m.At q.0 q.1 q.2))
           (outside_follows ex end base below q.0 q.1 q.3 todo q.8 ∙ ob))))
           (ih.proof end base below ob todo q.0 q.1 q.3 o1 s1 q.2 q.7 q.8).proof
-      by_deed (Computed (Opened todo) o1, s1) q = absurd (no q.1 q.0 q.3 todo q.14 q.15)
-      by_deed (Computed (Forked bs todo) o1, s1) q = absurd (no q.1 q.0 q.3 todo q.9 q.10)
-      by_deed (Computed (Offered ch x cg todo) o1, s1) q = absurd (no q.1 q.0 q.3 todo q.10 q.11)
-      by_deed (Computed Ended o1, s1) q = absurd (no q.1 q.0 q.3 [] q.7 q.8)
-      by_deed (EndsInFault f, s1) q = q
-      by_deed (IllFormed, s1) q = q
-      by_deed (OutOfFuel, s1) q = q
+      by_action (Computed (Opened todo) o1, s1) q = absurd (no q.1 q.0 q.3 todo q.14 q.15)
+      by_action (Computed (Forked bs todo) o1, s1) q = absurd (no q.1 q.0 q.3 todo q.9 q.10)
+      by_action (Computed (Offered ch x cg todo) o1, s1) q = absurd (no q.1 q.0 q.3 todo q.10 q.11)
+      by_action (Computed Ended o1, s1) q = absurd (no q.1 q.0 q.3 [] q.7 q.8)
+      by_action (EndsInFault f, s1) q = q
+      by_action (IllFormed, s1) q = q
+      by_action (OutOfFuel, s1) q = q
 
   gives_assoc : {A B D E : Type 0} {fs : List FramePair} {c : Config M} {o : LocalState} {s : Store} {pc : ℕ}
       {st : D → E → List Entry} {T : D → E → Type 0} (h : Work A) (gg : A → Work B) (k : B → Work D)

@@ -7,7 +7,7 @@ use Rattle.sp_meaning.specs.Model.{Name}
 use Rattle.sp_meaning.specs.LocalWork.{RunInput, Loc, Cell, LocalState, Item, WorkOutcome, Computed, EndsInFault}
 use Rattle.sp_meaning.specs.LocalWork.{IllFormed, OutOfFuel}
 use Rattle.sp_meaning.specs.Actions.{Stepped, Ticked, Opened, Forked, Offered}
-use Rattle.sp_meaning.specs.Actions as deeds
+use Rattle.sp_meaning.specs.Actions as actions
 use Rattle.sp_meaning.specs.Run.{Store, run}
 use Rattle.sp_meaning.specs.SuperPascal.{weight_of}
 use Rattle.sp_meaning.specs.Turn as source
@@ -90,7 +90,7 @@ module _ (g : RunInput) (moves shares : Stmt → List ℕ) (pause : ℕ) (life :
     at_end (Computed (source.Stops (Opened todo)) o, m) e t = tt
     at_end (Computed (source.Stops (Forked bs todo)) o, m) e t = tt
     at_end (Computed (source.Stops (Offered c k x todo)) o, m) e t = tt
-    at_end (Computed (source.Stops deeds.Ended) o, m) e t = tt
+    at_end (Computed (source.Stops actions.Ended) o, m) e t = tt
     at_end (EndsInFault f, m) e t = tt
     at_end (IllFormed, m) e t = absurd t
     at_end (OutOfFuel, m) e t = e

@@ -352,13 +352,13 @@ module _ {M : Type 0} (ex : Execution M) where
       }
   act_makes call ok bl end base below (Break f) pc stack todo fs o s n t h r = absurd h
 
-  pub deed_makes : (go : List Item → Work (List Item)) → Oks ex (call_by g go) → Blocks ex
+  pub action_makes : (go : List Item → Work (List Item)) → Oks ex (call_by g go) → Blocks ex
       → (end : ℕ) (base : List Entry) (below : List FramePair) → slice_get code.instrs end ≡ Some i.End
       → is_in_no_function base ≡ true → (todo : List Item) (pc : ℕ) (stack : List Entry) (fs : List FramePair)
       (o : LocalState) (s : Store)
       (n : M) → rel.Stand fs o s n → F end base below pc stack fs todo → LoopMayGoOn fs o s n todo
       → Ka end base below (m.At pc stack n) o s (action_by g go todo)
-  deed_makes go ok bl end base below e ob [] pc stack fs o s n t h r =
+  action_makes go ok bl end base below e ob [] pc stack fs o s n t h r =
       record {
         proof = (
           end,
@@ -372,7 +372,7 @@ module _ {M : Type 0} (ex : Execution M) where
           ap is_in_no_function h.1 ∙ ob,
         );
       }
-  deed_makes go ok bl end base below e ob (item ∷ todo) pc stack fs o s n t h r =
+  action_makes go ok bl end base below e ob (item ∷ todo) pc stack fs o s n t h r =
       act_makes (call_by g go) ok bl end base below item pc stack todo fs o s n t h r
 
   -- one step of a process
@@ -385,5 +385,5 @@ module _ {M : Type 0} (ex : Execution M) where
   step_makes k ok bl end base below e ob todo pc stack fs o s n t h =
       let z = settle_follows end base below fs o s n t pc stack todo h in
       makes_known ex (action_by g (run_items g k)) z.left z.known
-      (makes_after ex z.comes (deed_makes (run_items g k) ok bl end base below e ob z.left z.place z.st fs o s n t
+      (makes_after ex z.comes (action_makes (run_items g k) ok bl end base below e ob z.left z.place z.st fs o s n t
       z.follows z.ready))

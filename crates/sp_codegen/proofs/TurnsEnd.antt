@@ -4,7 +4,7 @@ use Rattle.std.proofs.Common.{ℕ, zero, suc, ◌+◌, ◌<◌, List, Bool, true
 use Rattle.sp_meaning.specs.LocalWork.{RunInput, LocalState, Identity, Item, Process, WorkOutcome, Computed}
 use Rattle.sp_meaning.specs.LocalWork.{EndsInFault, IllFormed, OutOfFuel, give}
 use Rattle.sp_meaning.specs.Actions.{Action, Stepped, Ticked, Opened, Forked, Offered}
-use Rattle.sp_meaning.specs.Actions as deeds
+use Rattle.sp_meaning.specs.Actions as actions
 use Rattle.sp_meaning.specs.SuperPascal.{weight_of}
 use Rattle.sp_meaning.specs.Run.{Store, run}
 use Rattle.sp_meaning.specs.Turn as source
@@ -25,7 +25,7 @@ module _ (g : RunInput) (due : LocalState → Bool) where
   Ended (Computed (source.Stops (Opened todo)) o, s) = Unit {0}
   Ended (Computed (source.Stops (Forked bs todo)) o, s) = Unit {0}
   Ended (Computed (source.Stops (Offered c k x todo)) o, s) = Unit {0}
-  Ended (Computed (source.Stops deeds.Ended) o, s) = Unit {0}
+  Ended (Computed (source.Stops actions.Ended) o, s) = Unit {0}
   Ended (EndsInFault f, s) = Unit {0}
   Ended (IllFormed, s) = Unit {0}
   Ended (OutOfFuel, s) = ⊥
@@ -53,7 +53,7 @@ module _ (g : RunInput) (due : LocalState → Bool) where
       go ih (Computed (Opened todo1) o1, s1) d = tt
       go ih (Computed (Forked bs todo1) o1, s1) d = tt
       go ih (Computed (Offered c x cargo todo1) o1, s1) d = tt
-      go ih (Computed deeds.Ended o1, s1) d = tt
+      go ih (Computed actions.Ended o1, s1) d = tt
       go ih (EndsInFault x, s1) d = tt
       go ih (IllFormed, s1) d = tt
       go ih (OutOfFuel, s1) d = d

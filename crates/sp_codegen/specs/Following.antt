@@ -10,7 +10,7 @@ use Rattle.sp_cell.specs.declared.cell.Cell.{Cell}
 use Rattle.sp_cell.specs.declared.cell.Cell.TheVariants as cell
 use Rattle.sp_cell.specs.declared.spot.Address.{Address as Ptr}
 use Rattle.sp_meaning.specs.Maps.{at_key}
-use Rattle.sp_meaning.specs.Model.{Channel, Cargo, Message as Given, Takes}
+use Rattle.sp_meaning.specs.Model.{Channel, Cargo, Message as MessageCargo, Takes}
 use Rattle.sp_meaning.specs.Values.{Chan}
 use Rattle.sp_meaning.specs.LocalWork.{LocationContent, Tree, Position, Written, Address, LocalState, Item, Do, First}
 use Rattle.sp_meaning.specs.LocalWork.{Again, Test, Leave}
@@ -18,7 +18,7 @@ use Rattle.sp_meaning.specs.LocalWork.{Break, WorkOutcome, Computed, EndsInFault
 use Rattle.sp_meaning.specs.LocalWork.{same_loc}
 use Rattle.sp_meaning.specs.Actions.{Action, Stepped, Ticked, Opened, Forked, Offered, Birth, is_range, children}
 use Rattle.sp_meaning.specs.Actions.{indexed_children}
-use Rattle.sp_meaning.specs.Actions as deeds
+use Rattle.sp_meaning.specs.Actions as actions
 use Rattle.sp_meaning.specs.Run.{Store}
 use Rattle.sp_code.specs.declared.code.Parts.{Parts as Code}
 use Rattle.sp_code.specs.declared.instr.Instr.TheVariants as i
@@ -126,10 +126,10 @@ module _ {M : Type 0} (ex : Execution M) where
 
   -- what is sent or received, at the stop
   abbrev pub CargoIs : List FramePair → Channel → ℕ → Cargo LocationContent Address → Stop → Type 0
-  CargoIs fs c k (Given (Tree v)) z = (j : ℕ) × (e : Entry) × (z ≡ Sends j k (cells_in e)) × rel.Named c j
+  CargoIs fs c k (MessageCargo (Tree v)) z = (j : ℕ) × (e : Entry) × (z ≡ Sends j k (cells_in e)) × rel.Named c j
       × Stood rel p (sort p k) k v e
-  CargoIs fs c k (Given (Position n)) z = ⊥
-  CargoIs fs c k (Given (Written bs)) z = ⊥
+  CargoIs fs c k (MessageCargo (Position n)) z = ⊥
+  CargoIs fs c k (MessageCargo (Written bs)) z = ⊥
   CargoIs fs c k (Takes a) z = (j : ℕ) × (t : Ptr) × (z ≡ Receives j k t) × rel.Named c j × (a.kind ≡ k)
       × rel.Points fs a t × R a.spot
 
@@ -179,7 +179,7 @@ module _ {M : Type 0} (ex : Execution M) where
       (pc : ℕ) × (st : List Entry) × (n : M) × (fs : List FramePair) × (d : Config M) × (z : Stop) × RunsTo ops code c d
       × (next_step ops code d ≡ Stops z (At pc st n)) × rel.Stand fs o s n × CargoIs fs ch k g z × Q todo fs pc st
       × (is_in_no_function st ≡ true) × IsOwned ops z n
-  Made c Q (Computed deeds.Ended o, s) = (pc : ℕ) × (st : List Entry) × (n : M) × (fs : List FramePair)
+  Made c Q (Computed actions.Ended o, s) = (pc : ℕ) × (st : List Entry) × (n : M) × (fs : List FramePair)
       × RunsTo ops code c (At pc st n) × (next_step ops code (At pc st n) ≡ Stops Ended (At pc st n))
       × rel.Stand fs o s n
       × Q [] fs pc st × (is_in_no_function st ≡ true)

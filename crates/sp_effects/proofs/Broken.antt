@@ -15,9 +15,9 @@ use Rattle.sp_areas.specs.declared.owners.Owner.{Owner}
 use Rattle.sp_areas.specs.LeastPlaces.{IsLeast, Upto}
 use Rattle.sp_areas.specs.Owners.{AreOwners}
 use Rattle.sp_areas.proofs.Leasts.{all}
-use Rattle.sp_effects.specs.declared.effects.Deeds.{Deeds}
+use Rattle.sp_effects.specs.declared.effects.EffectRow.{EffectRow}
 use Rattle.sp_effects.specs.declared.effects.Effects.{Effects}
-use Rattle.sp_effects.specs.Effects.{AreEffects, AreDeeds}
+use Rattle.sp_effects.specs.Effects.{AreEffects, IsRowOf}
 use Rattle.sp_effects.specs.Handed.{ChildFails, FailsAs, TableFails}
 use Rattle.sp_effects.proofs.Children.{child_area, child_by, name_there, table_there}
 
@@ -25,17 +25,17 @@ use Rattle.sp_effects.proofs.Children.{child_area, child_by, name_there, table_t
 
 module _ (c : Parts) (e : Effects) (are : AreEffects c e) where
   -- the row of a child
-  row : (a : Area) (q k : ℕ) (ch : ChildTable) → IsArea c (Child a q k) → child_at c q k ≡ Some ch → (d : Deeds)
-      × (slice_get e.rows ch.entry ≡ Some d) × AreDeeds c (Child a q k) d
+  row : (a : Area) (q k : ℕ) (ch : ChildTable) → IsArea c (Child a q k) → child_at c q k ≡ Some ch → (d : EffectRow)
+      × (slice_get e.rows ch.entry ≡ Some d) × IsRowOf c (Child a q k) d
   row a q k ch there is =
       let r = are.rows (Child a q k) there in
       (r.0, ap (slice_get e.rows) (sym (ap entry_of_child is)) ∙ r.1, r.2)
 
   module _ (a : Area) (t q k : ℕ) (ch : ChildTable) (tb : ForkTable) (is : slice_get c.forks t ≡ Some tb)
-      (n : Names c t q) (d : Deeds) (deeds : AreDeeds c (Child a q k) d) where
+      (n : Names c t q) (d : EffectRow) (effects_of : IsRowOf c (Child a q k) d) where
     to_rule : FailsAs (Some d) tb.children k ch → fork.BreaksV6 c (Does c) (HasStop c) a q k ch
-    to_rule (inl (inl (x, i, m))) = inl (x, (deeds.stored x).0 i, m)
-    to_rule (inl (inr (inl (x, i, s, m)))) = inr (inl (x, (deeds.loaded x).0 i, s, m))
+    to_rule (inl (inl (x, i, m))) = inl (x, (effects_of.stored x).0 i, m)
+    to_rule (inl (inr (inl (x, i, s, m)))) = inr (inl (x, (effects_of.loaded x).0 i, s, m))
     to_rule (inl (inr (inr h))) = inr (inr (inl h))
     to_rule (inr (j, s, l, at, h)) = inr
         (inr (inr (j, s, l, child_by c t q j s n (ap (λ (o : Option ForkTable). child_of o j) is ∙ at), h)))
@@ -48,8 +48,8 @@ module _ (c : Parts) (e : Effects) (are : AreEffects c e) where
             ∙ ap (λ (o : Option ForkTable). child_of o j) is
 
     from_rule : fork.BreaksV6 c (Does c) (HasStop c) a q k ch → FailsAs (Some d) tb.children k ch
-    from_rule (inl (x, i, m)) = inl (inl (x, (deeds.stored x).1 i, m))
-    from_rule (inr (inl (x, i, s, m))) = inl (inr (inl (x, (deeds.loaded x).1 i, s, m)))
+    from_rule (inl (x, i, m)) = inl (inl (x, (effects_of.stored x).1 i, m))
+    from_rule (inr (inl (x, i, s, m))) = inl (inr (inl (x, (effects_of.loaded x).1 i, s, m)))
     from_rule (inr (inr (inl h))) = inl (inr (inr h))
     from_rule (inr (inr (inr (j, s, l, at, h)))) = inr (j, s, l, same_table j s at, h)
 
@@ -69,7 +69,7 @@ module _ (c : Parts) (e : Effects) (are : AreEffects c e) where
               o.child,
               first,
               to_rule o.around t o.position k ch tb is o.names r.0 r.2
-                  (subst (λ (z : Option Deeds). FailsAs z tb.children k ch) r.1 f),
+                  (subst (λ (z : Option EffectRow). FailsAs z tb.children k ch) r.1 f),
             )
 
     v6_finds : (p : ℕ) → BreaksV6 c p → Upto (TableFails e c.forks) (length c.forks) p
@@ -90,7 +90,7 @@ module _ (c : Parts) (e : Effects) (are : AreEffects c e) where
                 ch,
                 tb.2,
                 first,
-                subst (λ (z : Option Deeds). FailsAs z tb.0.children k ch) (sym r.1)
+                subst (λ (z : Option EffectRow). FailsAs z tb.0.children k ch) (sym r.1)
                     (from_rule a n.0 q k ch tb.0 tb.1 n.1 r.0 r.2 f),
               );
             },

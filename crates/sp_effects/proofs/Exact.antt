@@ -29,13 +29,13 @@ use Rattle.sp_areas.proofs.Owned.{name_of}
 use Rattle.sp_effects.specs.declared.edges.Edge.{Edge}
 use Rattle.sp_effects.specs.declared.edges.Edge.TheVariants as edge
 use Rattle.sp_effects.specs.declared.facts.Fact.{Fact}
-use Rattle.sp_effects.specs.declared.facts.Deed.{Deed}
-use Rattle.sp_effects.specs.declared.facts.Deed.TheVariants as deed
+use Rattle.sp_effects.specs.declared.facts.Effect.{Effect}
+use Rattle.sp_effects.specs.declared.facts.Effect.TheVariants as effect
 use Rattle.sp_effects.specs.Facts.{has_fact, fact, Tells}
 use Rattle.sp_effects.specs.Own.{DoesAt, OwnBefore}
 use Rattle.sp_effects.specs.Edges.{EdgeAt, AreEdges}
 use Rattle.sp_effects.specs.Effects.{ComesToStop}
-use Rattle.sp_effects.specs.Closing.{is_own, is_index, fact_along, FactLeads, FollowsBy, Closes, ClosesBy, IsDeed}
+use Rattle.sp_effects.specs.Closing.{is_own, is_index, fact_along, FactLeads, FollowsBy, Closes, ClosesBy, IsEffectOf}
 use Rattle.sp_effects.specs.Closing.{AreFacts}
 use Rattle.sp_effects.specs.Variables.{AreOwn, owns}
 use Rattle.sp_effects.proofs.Linking.{entry_within}
@@ -67,66 +67,68 @@ module _ (c : Parts) (kept : (p : ℕ) → BreaksV1 c p → ⊥) (os : List Owne
 
     -- an area does it
     abbrev IsTrue : Fact → Type 0
-    IsTrue g = (a : Area) × IsArea c a × (g.area ≡ entry c a) × IsDeed c a g.deed
+    IsTrue g = (a : Area) × IsArea c a × (g.area ≡ entry c a) × IsEffectOf c a g.effect
 
-    does_deed : (a : Area) (p : ℕ) (d : Deed) → DoesAt c a p d → IsDeed c a d
-    does_deed a p (deed.Stores x) (inl (ss, r, h)) = does_effect c (Does c) Stored a x (inl (p, ss, r, h))
-    does_deed a p (deed.Stores x) (inr (k, t, s, h)) = does_effect c (Does c) Stored a x (inr (p, k, t, s, h))
-    does_deed a p (deed.Loads x) (inl (ss, r, h)) = does_effect c (Does c) Loaded a x (inl (p, ss, r, h))
-    does_deed a p (deed.Loads x) (inr (k, t, s, h)) = does_effect c (Does c) Loaded a x (inr (p, k, t, s, h))
-    does_deed a p deed.Stops (inl (ss, r, h)) = ([], (p, ss, r, h))
-    does_deed a p deed.Stops (inr (k, t, s, h)) = absurd h
+    does_effect_of : (a : Area) (p : ℕ) (d : Effect) → DoesAt c a p d → IsEffectOf c a d
+    does_effect_of a p (effect.Stores x) (inl (ss, r, h)) = does_effect c (Does c) Stored a x (inl (p, ss, r, h))
+    does_effect_of a p (effect.Stores x) (inr (k, t, s, h)) = does_effect c (Does c) Stored a x (inr (p, k, t, s, h))
+    does_effect_of a p (effect.Loads x) (inl (ss, r, h)) = does_effect c (Does c) Loaded a x (inl (p, ss, r, h))
+    does_effect_of a p (effect.Loads x) (inr (k, t, s, h)) = does_effect c (Does c) Loaded a x (inr (p, k, t, s, h))
+    does_effect_of a p effect.Stops (inl (ss, r, h)) = ([], (p, ss, r, h))
+    does_effect_of a p effect.Stops (inr (k, t, s, h)) = absurd h
 
-    led : (a : Area) (d : Deed) (g : Fact) → IsArea c a → Some (fact (entry c a) d) ≡ Some g → IsDeed c a d → IsTrue g
+    led : (a : Area) (d : Effect) (g : Fact) → IsArea c a → Some (fact (entry c a) d) ≡ Some g → IsEffectOf c a d
+        → IsTrue g
     led a d g ia e h = let s = same_Some (fact (entry c a) d) g e in
-        (a, ia, ap (λ (z : Fact). z.area) (sym s), subst (λ (z : Fact). IsDeed c a z.deed) s h)
+        (a, ia, ap (λ (z : Fact). z.area) (sym s), subst (λ (z : Fact). IsEffectOf c a z.effect) s h)
 
     not_aside : (o : Option ℕ) (x : ℕ) → is_index o x ≡ false → IsAside Loaded o x
     not_aside None x e = tt
     not_aside (Some y) x e = λ s. not_true_and_false (x == y) (eq-eqb x y s) e
 
     module _ (a : Area) (ia : IsArea c a) (p : ℕ) (g : Fact) where
-      by_start : (k : ℕ) (t : ChildTable) (own : Bool) (d : Deed) → IsStarted c a p k t → IsDeed c (Child a p k) d
+      by_start : (k : ℕ) (t : ChildTable) (own : Bool) (d : Effect) → IsStarted c a p k t → IsEffectOf c (Child a p k) d
           → fact_along (edge.Started (entry c a) t.index) own d ≡ Some g → IsTrue g
-      by_start k t own (deed.Stores x) s h e = led a (deed.Stores x) g ia e
+      by_start k t own (effect.Stores x) s h e = led a (effect.Stores x) g ia e
           (child_effect c (Does c) Stored a p k x t s tt h)
-      by_start k t own (deed.Loads x) s h e = go (is_index t.index x) refl e
+      by_start k t own (effect.Loads x) s h e = go (is_index t.index x) refl e
         where
           go : (b : Bool) → is_index t.index x ≡ b
-              → (if b then None else Some (fact (entry c a) (deed.Loads x))) ≡ Some g → IsTrue g
+              → (if b then None else Some (fact (entry c a) (effect.Loads x))) ≡ Some g → IsTrue g
           go true z e = absurd (none-some g e)
-          go false z e = led a (deed.Loads x) g ia e
+          go false z e = led a (effect.Loads x) g ia e
               (child_effect c (Does c) Loaded a p k x t s (not_aside t.index x z) h)
-      by_start k t own deed.Stops s h e = led a deed.Stops g ia e (Child a p k ∷ h.0, inl (p, k, t, refl, s, h.1))
+      by_start k t own effect.Stops s h e = led a effect.Stops g ia e (Child a p k ∷ h.0, inl (p, k, t, refl, s, h.1))
 
       module _ (f up : ℕ) (ss : List Shape) (l : Layout) (call : IsCalled c a p f up ss l) where
-        by_call : (own : Bool) (d : Deed) → own ≡ is_own ks l.entry d → IsDeed c (Body f) d
+        by_call : (own : Bool) (d : Effect) → own ≡ is_own ks l.entry d → IsEffectOf c (Body f) d
             → fact_along (edge.Called (entry c a)) own d ≡ Some g → IsTrue g
-        by_call true (deed.Stores x) z h e = absurd (none-some g e)
-        by_call false (deed.Stores x) z h e = led a (deed.Stores x) g ia e
+        by_call true (effect.Stores x) z h e = absurd (none-some g e)
+        by_call false (effect.Stores x) z h e = led a (effect.Stores x) g ia e
             (called_effect c (Does c) Stored a p f up x x ss l call
             (inl (
               refl,
               λ m. not_true_and_false (owns ks l.entry x) (in_own c kept ks are_own f l call.layout x m)
                   (sym z),
             )) h)
-        by_call true (deed.Loads x) z h e = absurd (none-some g e)
-        by_call false (deed.Loads x) z h e = led a (deed.Loads x) g ia e
+        by_call true (effect.Loads x) z h e = absurd (none-some g e)
+        by_call false (effect.Loads x) z h e = led a (effect.Loads x) g ia e
             (called_effect c (Does c) Loaded a p f up x x ss l call
             (inl (
               refl,
               λ m. not_true_and_false (owns ks l.entry x) (in_own c kept ks are_own f l call.layout x m)
                   (sym z),
             )) h)
-        by_call own deed.Stops z h e = led a deed.Stops g ia e (Body f ∷ h.0, inr (p, f, up, ss, l, refl, call, h.1))
+        by_call own effect.Stops z h e = led a effect.Stops g ia e
+            (Body f ∷ h.0, inr (p, f, up, ss, l, refl, call, h.1))
 
-        by_pass : (k y x : ℕ) (own : Bool) (d : Deed) → IsNumber l k y → IsActual l ss k x → IsDeed c (Body f) d
+        by_pass : (k y x : ℕ) (own : Bool) (d : Effect) → IsNumber l k y → IsActual l ss k x → IsEffectOf c (Body f) d
             → fact_along (edge.Passed (entry c a) y x) own d ≡ Some g → IsTrue g
-        by_pass k y x own (deed.Stores w) num act h e = go (w == y) refl e
+        by_pass k y x own (effect.Stores w) num act h e = go (w == y) refl e
           where
-            go : (b : Bool) → (w == y) ≡ b → (if b then Some (fact (entry c a) (deed.Stores x)) else None) ≡ Some g
+            go : (b : Bool) → (w == y) ≡ b → (if b then Some (fact (entry c a) (effect.Stores x)) else None) ≡ Some g
                 → IsTrue g
-            go true z e = led a (deed.Stores x) g ia e
+            go true z e = led a (effect.Stores x) g ia e
                 (called_effect c (Does c) Stored a p f up x w ss l call (inr (
                   k,
                   num
@@ -134,11 +136,11 @@ module _ (c : Parts) (kept : (p : ℕ) → BreaksV1 c p → ⊥) (os : List Owne
                   act,
                 )) h)
             go false z e = absurd (none-some g e)
-        by_pass k y x own (deed.Loads w) num act h e = go (w == y) refl e
+        by_pass k y x own (effect.Loads w) num act h e = go (w == y) refl e
           where
-            go : (b : Bool) → (w == y) ≡ b → (if b then Some (fact (entry c a) (deed.Loads x)) else None) ≡ Some g
+            go : (b : Bool) → (w == y) ≡ b → (if b then Some (fact (entry c a) (effect.Loads x)) else None) ≡ Some g
                 → IsTrue g
-            go true z e = led a (deed.Loads x) g ia e
+            go true z e = led a (effect.Loads x) g ia e
                 (called_effect c (Does c) Loaded a p f up x w ss l call (inr (
                   k,
                   num
@@ -146,63 +148,65 @@ module _ (c : Parts) (kept : (p : ℕ) → BreaksV1 c p → ⊥) (os : List Owne
                   act,
                 )) h)
             go false z e = absurd (none-some g e)
-        by_pass k y x own deed.Stops num act h e = absurd (none-some g e)
+        by_pass k y x own effect.Stops num act h e = absurd (none-some g e)
 
     module _ (rows : List (List Edge)) (edges : AreEdges c rows) where
       true_led : (f g : Fact) → IsTrue f → FactLeads rows ks f g → IsTrue g
       true_led f g (b, ib, at, h) (e, has, w) = go (edges.only f.area e has)
         where
           own : Bool
-          own = is_own ks f.area f.deed
+          own = is_own ks f.area f.effect
 
-          as_edge : (x : Edge) → e ≡ x → fact_along x own f.deed ≡ Some g
-          as_edge x s = ap (λ z. fact_along z own f.deed) (sym s) ∙ w
+          as_edge : (x : Edge) → e ≡ x → fact_along x own f.effect ≡ Some g
+          as_edge x s = ap (λ z. fact_along z own f.effect) (sym s) ∙ w
 
           go : (p : ℕ) × EdgeAt c p f.area e → IsTrue g
           go (p, inr (a, k, t, ia, st, (m, s))) =
               let child : IsArea c (Child a p k) = (ia, st.0, (t, st.1)) in
               let same : b ≡ Child a p k = one_area b (Child a p k) ib child (sym at ∙ m
               ∙ sym (ap entry_of_child st.1)) in
-              by_start a ia p g k t own f.deed st (subst (λ (z : Area). IsDeed c z f.deed) same h)
+              by_start a ia p g k t own f.effect st (subst (λ (z : Area). IsEffectOf c z f.effect) same h)
               (as_edge (edge.Started (entry c a) t.index) s)
           go (p, inl (a, d, up, ss, l, ia, call, (m, inl s))) =
               let same : b ≡ Body d = one_area b (Body d) ib (l, call.layout) (sym at ∙ m
               ∙ sym (ap entry_of_layout call.layout)) in
-              by_call a ia p g d up ss l call own f.deed (ap (λ n. is_own ks n f.deed) m)
-              (subst (λ (z : Area). IsDeed c z f.deed) same h) (as_edge (edge.Called (entry c a)) s)
+              by_call a ia p g d up ss l call own f.effect (ap (λ n. is_own ks n f.effect) m)
+              (subst (λ (z : Area). IsEffectOf c z f.effect) same h) (as_edge (edge.Called (entry c a)) s)
           go (p, inl (a, d, up, ss, l, ia, call, (m, inr (k, y, x, num, act, s)))) =
               let same : b ≡ Body d = one_area b (Body d) ib (l, call.layout) (sym at ∙ m
               ∙ sym (ap entry_of_layout call.layout)) in
-              by_pass a ia p g d up ss l call k y x own f.deed num act (subst (λ (z : Area). IsDeed c z f.deed) same h)
+              by_pass a ia p g d up ss l call k y x own f.effect num act
+                  (subst (λ (z : Area). IsEffectOf c z f.effect) same h)
               (as_edge (edge.Passed (entry c a) y x) s)
 
       module _ (old new : List Fact) (start : Tells [] old (OwnBefore c (length c.instrs)))
           (closes : Closes rows ks old new) where
         first_true : (g : Fact) → has_fact old g ≡ true → IsTrue g
         first_true g h = ⊎_elim (λ z. absurd (cc z))
-            (λ (w : OwnBefore c (length c.instrs) g). (w.2.0, w.2.1.0, w.2.2, does_deed w.2.0 w.0 g.deed w.2.3))
+            (λ (w : OwnBefore c (length c.instrs) g). (w.2.0, w.2.1.0, w.2.2, does_effect_of w.2.0 w.0 g.effect w.2.3))
             (start.only g h)
 
         all_true : (n : ℕ) (g : Fact) → FollowsBy rows ks old n g → IsTrue g
         all_true zero g h = first_true g h
         all_true (suc n) g (f, h, l) = true_led f g (all_true n f h) l
 
-        sound : (a : Area) (d : Deed) → IsArea c a → has_fact new (fact (entry c a) d) ≡ true → IsDeed c a d
+        sound : (a : Area) (d : Effect) → IsArea c a → has_fact new (fact (entry c a) d) ≡ true → IsEffectOf c a d
         sound a d ia h =
             let w = closes.only (fact (entry c a) d) h in
             let t = all_true w.0 (fact (entry c a) d) w.1 in
-            subst (λ (z : Area). IsDeed c z d) (one_area t.0 a t.1 ia (sym t.2)) t.3
+            subst (λ (z : Area). IsEffectOf c z d) (one_area t.0 a t.1 ia (sym t.2)) t.3
 
         -- ---- none is left out
 
-        abbrev deed_by : Kind → ℕ → Deed
-        deed_by Stored x = deed.Stores x
-        deed_by Loaded x = deed.Loads x
+        abbrev effect_by : Kind → ℕ → Effect
+        effect_by Stored x = effect.Stores x
+        effect_by Loaded x = effect.Loads x
 
-        abbrev HasFactOf : Area → Deed → Type 0
+        abbrev HasFactOf : Area → Effect → Type 0
         HasFactOf a d = IsArea c a → has_fact new (fact (entry c a) d) ≡ true
 
-        own_there : (a : Area) (p : ℕ) (d : Deed) → IsArea c a → IsInCodeOf c a p → p < length c.instrs → DoesAt c a p d
+        own_there : (a : Area) (p : ℕ) (d : Effect) → IsArea c a → IsInCodeOf c a p → p < length c.instrs
+            → DoesAt c a p d
             → has_fact new (fact (entry c a) d) ≡ true
         own_there a p d ia w l h = closes.kept (fact (entry c a) d)
             (start.has (fact (entry c a) d) (p, l, (a, (ia, w), refl, h)))
@@ -243,26 +247,27 @@ module _ (c : Parts) (kept : (p : ℕ) → BreaksV1 c p → ⊥) (os : List Owne
         call_within : (p f up : ℕ) → instr_at c p ≡ Some (i.Call f up) → p < length c.instrs
         call_within p f up e = slice_get_within c.instrs p (i.Call f up) e
 
-        does_has : (u : Kind) (a : Area) (x : ℕ) → Does c u a x → HasFactOf a (deed_by u x)
-        does_has Stored a x (inl (p, ss, r, h)) ia = own_there a p (deed.Stores x) ia (passes c a p ss r)
+        does_has : (u : Kind) (a : Area) (x : ℕ) → Does c u a x → HasFactOf a (effect_by u x)
+        does_has Stored a x (inl (p, ss, r, h)) ia = own_there a p (effect.Stores x) ia (passes c a p ss r)
             (stored_within a p x ss h) (inl (ss, r, h))
-        does_has Stored a x (inr (p, k, t, s, h)) ia = own_there a p (deed.Stores x) ia s.0 (table_within p k t s.1)
+        does_has Stored a x (inr (p, k, t, s, h)) ia = own_there a p (effect.Stores x) ia s.0 (table_within p k t s.1)
             (inr (k, t, s, h))
-        does_has Loaded a x (inl (p, ss, r, h)) ia = own_there a p (deed.Loads x) ia (passes c a p ss r)
+        does_has Loaded a x (inl (p, ss, r, h)) ia = own_there a p (effect.Loads x) ia (passes c a p ss r)
             (loaded_within a p x ss h) (inl (ss, r, h))
-        does_has Loaded a x (inr (p, k, t, s, h)) ia = own_there a p (deed.Loads x) ia s.0 (table_within p k t s.1)
+        does_has Loaded a x (inr (p, k, t, s, h)) ia = own_there a p (effect.Loads x) ia s.0 (table_within p k t s.1)
             (inr (k, t, s, h))
 
-        stop_has : (a : Area) → HasStop c a → HasFactOf a deed.Stops
-        stop_has a (p, ss, r, h) ia = own_there a p deed.Stops ia (passes c a p ss r) (stop_within p h) (inl (ss, r, h))
+        stop_has : (a : Area) → HasStop c a → HasFactOf a effect.Stops
+        stop_has a (p, ss, r, h) ia = own_there a p effect.Stops ia (passes c a p ss r) (stop_within p h)
+            (inl (ss, r, h))
 
         -- along an edge
-        goes : (p m n : ℕ) (e : Edge) (d x : Deed) → p < length c.instrs → EdgeAt c p m e
+        goes : (p m n : ℕ) (e : Edge) (d x : Effect) → p < length c.instrs → EdgeAt c p m e
             → has_fact new (fact m d) ≡ true
             → fact_along e (is_own ks m d) d ≡ Some (fact n x) → has_fact new (fact n x) ≡ true
         goes p m n e d x l w h s = closes.closed (fact m d) (fact n x) h (e, edges.has p m e l w, s)
 
-        from_child : (a : Area) (p k : ℕ) (t : ChildTable) (d : Deed) → IsStarted c a p k t
+        from_child : (a : Area) (p k : ℕ) (t : ChildTable) (d : Effect) → IsStarted c a p k t
             → ((own : Bool) → fact_along (edge.Started (entry c a) t.index) own d ≡ Some (fact (entry c a) d))
             → HasFactOf (Child a p k) d → HasFactOf a d
         from_child a p k t d s z h ia =
@@ -280,14 +285,14 @@ module _ (c : Parts) (kept : (p : ℕ) → BreaksV1 c p → ⊥) (os : List Owne
             go false e = refl
 
         child_has : (u : Kind) (a : Area) (p k x : ℕ) (t : ChildTable) → IsStarted c a p k t → IsAside u t.index x
-            → HasFactOf (Child a p k) (deed_by u x) → HasFactOf a (deed_by u x)
-        child_has Stored a p k x t s z h = from_child a p k t (deed.Stores x) s (λ own. refl) h
-        child_has Loaded a p k x t s z h = from_child a p k t (deed.Loads x) s
-            (λ own. ap (λ (b : Bool). if b then None else Some (fact (entry c a) (deed.Loads x)))
+            → HasFactOf (Child a p k) (effect_by u x) → HasFactOf a (effect_by u x)
+        child_has Stored a p k x t s z h = from_child a p k t (effect.Stores x) s (λ own. refl) h
+        child_has Loaded a p k x t s z h = from_child a p k t (effect.Loads x) s
+            (λ own. ap (λ (b : Bool). if b then None else Some (fact (entry c a) (effect.Loads x)))
             (no_index t.index x z)) h
 
         module _ (a : Area) (p f up : ℕ) (ss : List Shape) (l : Layout) (call : IsCalled c a p f up ss l) where
-          at_entry : (d : Deed) → HasFactOf (Body f) d → has_fact new (fact l.entry d) ≡ true
+          at_entry : (d : Effect) → HasFactOf (Body f) d → has_fact new (fact l.entry d) ≡ true
           at_entry d h = subst (λ n. has_fact new (fact n d) ≡ true) (ap entry_of_layout call.layout)
               (h (l, call.layout))
 
@@ -298,14 +303,14 @@ module _ (c : Parts) (kept : (p : ℕ) → BreaksV1 c p → ⊥) (os : List Owne
               go true e = absurd (never (own_in c kept ks are_own f l call.layout x e))
               go false e = refl
 
-          from_called : (d : Deed)
+          from_called : (d : Effect)
               → fact_along (edge.Called (entry c a)) (is_own ks l.entry d) d ≡ Some (fact (entry c a) d)
               → HasFactOf (Body f) d
               → HasFactOf a d
           from_called d z h ia = goes p l.entry (entry c a) (edge.Called (entry c a)) d d (call_within p f up call.call)
               (inl (a, f, up, ss, l, ia, call, (refl, inl refl))) (at_entry d h) z
 
-          from_passed : (k y x : ℕ) (d e : Deed) → IsNumber l k y → IsActual l ss k x
+          from_passed : (k y x : ℕ) (d e : Effect) → IsNumber l k y → IsActual l ss k x
               → ((own : Bool) → fact_along (edge.Passed (entry c a) y x) own d ≡ Some (fact (entry c a) e))
               → HasFactOf (Body f) d → HasFactOf a e
           from_passed k y x d e num act z h ia =
@@ -316,36 +321,36 @@ module _ (c : Parts) (kept : (p : ℕ) → BreaksV1 c p → ⊥) (os : List Owne
           if_same : (y : ℕ) (g : Fact) → ◌≡◌ {A = Option Fact} (if y == y then Some g else None) (Some g)
           if_same y g = ap (λ (b : Bool). if b then Some g else None) (eq-eqb y y refl)
 
-          called_has : (u : Kind) (x y : ℕ) → Becomes l ss y x → HasFactOf (Body f) (deed_by u y)
-              → HasFactOf a (deed_by u x)
+          called_has : (u : Kind) (x y : ℕ) → Becomes l ss y x → HasFactOf (Body f) (effect_by u y)
+              → HasFactOf a (effect_by u x)
           called_has Stored x y (inl (s, never)) h =
-              subst (λ z. HasFactOf a (deed.Stores z)) (sym s)
-              (from_called (deed.Stores y) (ap
-              (λ (b : Bool). if b then None else Some (fact (entry c a) (deed.Stores y))) (outer y never)) h)
-          called_has Stored x y (inr (k, num, act)) h = from_passed k y x (deed.Stores y) (deed.Stores x) num act
-              (λ own. if_same y (fact (entry c a) (deed.Stores x))) h
+              subst (λ z. HasFactOf a (effect.Stores z)) (sym s)
+              (from_called (effect.Stores y) (ap
+              (λ (b : Bool). if b then None else Some (fact (entry c a) (effect.Stores y))) (outer y never)) h)
+          called_has Stored x y (inr (k, num, act)) h = from_passed k y x (effect.Stores y) (effect.Stores x) num act
+              (λ own. if_same y (fact (entry c a) (effect.Stores x))) h
           called_has Loaded x y (inl (s, never)) h =
-              subst (λ z. HasFactOf a (deed.Loads z)) (sym s)
-              (from_called (deed.Loads y) (ap
-              (λ (b : Bool). if b then None else Some (fact (entry c a) (deed.Loads y))) (outer y never)) h)
-          called_has Loaded x y (inr (k, num, act)) h = from_passed k y x (deed.Loads y) (deed.Loads x) num act
-              (λ own. if_same y (fact (entry c a) (deed.Loads x))) h
+              subst (λ z. HasFactOf a (effect.Loads z)) (sym s)
+              (from_called (effect.Loads y) (ap
+              (λ (b : Bool). if b then None else Some (fact (entry c a) (effect.Loads y))) (outer y never)) h)
+          called_has Loaded x y (inr (k, num, act)) h = from_passed k y x (effect.Loads y) (effect.Loads x) num act
+              (λ own. if_same y (fact (entry c a) (effect.Loads x))) h
 
-        effect_has : (u : Kind) (a : Area) (x : ℕ) → IsEffect c (Does c) u a x → HasFactOf a (deed_by u x)
+        effect_has : (u : Kind) (a : Area) (x : ℕ) → IsEffect c (Does c) u a x → HasFactOf a (effect_by u x)
         effect_has u a x e =
-            effects_within c (Does c) (λ v b y. HasFactOf b (deed_by v y)) does_has child_has
+            effects_within c (Does c) (λ v b y. HasFactOf b (effect_by v y)) does_has child_has
             (λ v b p f up z y ss l call m h. called_has b p f up ss l call v z y m h) u a x e
 
-        comes_has : (a : Area) → ComesToStop c a → HasFactOf a deed.Stops
+        comes_has : (a : Area) → ComesToStop c a → HasFactOf a effect.Stops
         comes_has a (bs, h) =
-            stops_within c (Does c) (HasStop c) (λ b. HasFactOf b deed.Stops) stop_has
-            (λ b p k t s z. from_child b p k t deed.Stops s (λ own. refl) z)
-            (λ b p f up ss l call z. from_called b p f up ss l call deed.Stops refl z) bs a h
+            stops_within c (Does c) (HasStop c) (λ b. HasFactOf b effect.Stops) stop_has
+            (λ b p k t s z. from_child b p k t effect.Stops s (λ own. refl) z)
+            (λ b p f up ss l call z. from_called b p f up ss l call effect.Stops refl z) bs a h
 
-        complete : (a : Area) (d : Deed) → IsArea c a → IsDeed c a d → has_fact new (fact (entry c a) d) ≡ true
-        complete a (deed.Stores x) ia h = effect_has Stored a x h ia
-        complete a (deed.Loads x) ia h = effect_has Loaded a x h ia
-        complete a deed.Stops ia h = comes_has a h ia
+        complete : (a : Area) (d : Effect) → IsArea c a → IsEffectOf c a d → has_fact new (fact (entry c a) d) ≡ true
+        complete a (effect.Stores x) ia h = effect_has Stored a x h ia
+        complete a (effect.Loads x) ia h = effect_has Loaded a x h ia
+        complete a effect.Stops ia h = comes_has a h ia
 
         pub are_facts : AreFacts c new
         are_facts a d ia = (sound a d ia, complete a d ia)

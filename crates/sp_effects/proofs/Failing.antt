@@ -7,7 +7,7 @@ use Rattle.sp_code.specs.declared.code.ChildTable.{ChildTable}
 use Rattle.sp_code.specs.declared.code.ForkTable.{ForkTable}
 use Rattle.sp_areas.specs.LeastPlaces.{IsLeast, Upto}
 use Rattle.sp_areas.proofs.Leasts.{least_of_same}
-use Rattle.sp_effects.specs.declared.effects.Deeds.{Deeds}
+use Rattle.sp_effects.specs.declared.effects.EffectRow.{EffectRow}
 use Rattle.sp_effects.specs.declared.effects.Effects.{Effects}
 use Rattle.sp_effects.specs.declared.handed.Before.{Before}
 use Rattle.sp_effects.specs.Befores.{IsBefore}
@@ -15,7 +15,7 @@ use Rattle.sp_effects.specs.Handed.{ChildFails, FailsAs, TableFails, clashes, fa
 use Rattle.sp_effects.proofs.Alone.{alone_is, alone_from, clash_is, clash_from}
 
 -- a child, by what it does
-pub fails_as : (o : Option Deeds) (b : Before) (t : ChildTable) (ts : List ChildTable) (n : ℕ) → IsBefore ts n b
+pub fails_as : (o : Option EffectRow) (b : Before) (t : ChildTable) (ts : List ChildTable) (n : ℕ) → IsBefore ts n b
     → (fails_by o b.moved.keys b.handed.keys t ≡ true) ↔ FailsAs o ts n t
 fails_as None b t ts n before = (λ e. absurd (cc e), λ f. absurd f)
 fails_as (Some d) b t ts n before = (

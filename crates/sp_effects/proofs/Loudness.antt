@@ -14,9 +14,9 @@ use Rattle.sp_rules.specs.Named.{BreaksV1}
 use Rattle.sp_rules.specs.Verdict.{BreaksV8, HasStop}
 use Rattle.sp_areas.specs.LeastPlaces.{IsLeast, Upto}
 use Rattle.sp_areas.proofs.Leasts.{all}
-use Rattle.sp_effects.specs.declared.effects.Deeds.{Deeds}
+use Rattle.sp_effects.specs.declared.effects.EffectRow.{EffectRow}
 use Rattle.sp_effects.specs.declared.effects.Effects.{Effects}
-use Rattle.sp_effects.specs.Effects.{AreEffects, AreDeeds}
+use Rattle.sp_effects.specs.Effects.{AreEffects, IsRowOf}
 use Rattle.sp_effects.specs.Loud.{IsLoud, LayoutLoud, is_loud}
 use Rattle.sp_effects.specs.Variables.{AreOwn, goes_out}
 use Rattle.sp_effects.proofs.Owned.{layout_here, one_layout, out_from, out_is}
@@ -28,7 +28,7 @@ module _ (c : Parts) (kept : (p : ℕ) → BreaksV1 c p → ⊥) (ks : List (ℕ
   at : layout_of c.layouts l.block ≡ Some l
   at = layout_here c kept j l is
 
-  loud_is : (o : Option Deeds) → is_loud ks l o ≡ true → IsLoud l o
+  loud_is : (o : Option EffectRow) → is_loud ks l o ≡ true → IsLoud l o
   loud_is None e = absurd (cc e)
   loud_is (Some d) e =
       let b = and_parts l.answer (d.stops || goes_out ks l.entry 0 d.stored) e in (
@@ -38,7 +38,7 @@ module _ (c : Parts) (kept : (p : ℕ) → BreaksV1 c p → ⊥) (ks : List (ℕ
             (or_cases d.stops (goes_out ks l.entry 0 d.stored) b.1),
       )
 
-  loud_from : (o : Option Deeds) → IsLoud l o → is_loud ks l o ≡ true
+  loud_from : (o : Option EffectRow) → IsLoud l o → is_loud ks l o ≡ true
   loud_from None h = absurd h
   loud_from (Some d) (a, inr s) = and_from l.answer (d.stops
       || goes_out ks l.entry 0 d.stored) a (or_left d.stops (goes_out ks l.entry 0 d.stored) s)
@@ -56,7 +56,7 @@ module _ (c : Parts) (kept : (p : ℕ) → BreaksV1 c p → ⊥) (ks : List (ℕ
 -- ---- the row of a block
 
 pub body_row : (c : Parts) (e : Effects) (are : AreEffects c e) (l : Layout) → layout_of c.layouts l.block ≡ Some l
-    → (d : Deeds) × (slice_get e.rows l.entry ≡ Some d) × AreDeeds c (Body l.block) d
+    → (d : EffectRow) × (slice_get e.rows l.entry ≡ Some d) × IsRowOf c (Body l.block) d
 body_row c e are l is =
     let r = are.rows (Body l.block) (l, is) in
     (r.0, ap (slice_get e.rows) (sym (ap entry_of_layout is)) ∙ r.1, r.2)
@@ -64,15 +64,15 @@ body_row c e are l is =
 -- ---- V8
 
 module _ (c : Parts) (e : Effects) (are : AreEffects c e) (kept : (p : ℕ) → BreaksV1 c p → ⊥) where
-  to_rule : (l : Layout) (d : Deeds) → AreDeeds c (Body l.block) d → IsLoud l (Some d)
+  to_rule : (l : Layout) (d : EffectRow) → IsRowOf c (Body l.block) d → IsLoud l (Some d)
       → fork.BreaksV8 c (Does c) (HasStop c) l l.block
-  to_rule l d deeds (a, inl (x, i, m)) = (a, inl (x, (deeds.stored x).0 i, m))
-  to_rule l d deeds (a, inr s) = (a, inr (deeds.stops.0 s))
+  to_rule l d effects_of (a, inl (x, i, m)) = (a, inl (x, (effects_of.stored x).0 i, m))
+  to_rule l d effects_of (a, inr s) = (a, inr (effects_of.stops.0 s))
 
-  from_rule : (l : Layout) (d : Deeds) → AreDeeds c (Body l.block) d → fork.BreaksV8 c (Does c) (HasStop c) l l.block
+  from_rule : (l : Layout) (d : EffectRow) → IsRowOf c (Body l.block) d → fork.BreaksV8 c (Does c) (HasStop c) l l.block
       → IsLoud l (Some d)
-  from_rule l d deeds (a, inl (x, i, m)) = (a, inl (x, (deeds.stored x).1 i, m))
-  from_rule l d deeds (a, inr s) = (a, inr (deeds.stops.1 s))
+  from_rule l d effects_of (a, inl (x, i, m)) = (a, inl (x, (effects_of.stored x).1 i, m))
+  from_rule l d effects_of (a, inr s) = (a, inr (effects_of.stops.1 s))
 
   found : (j p : ℕ) → LayoutLoud e c.layouts j p → BreaksV8 c p
   found j p (l, is, at, h) =

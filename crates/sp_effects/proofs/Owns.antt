@@ -22,12 +22,12 @@ use Rattle.std.proofs.lemmas.Option.{none-some, same_Some}
 use Rattle.sp_base.proofs.Facts.{below_or_last}
 use Rattle.sp_rules.proofs.Effects.{is_member, is_in_list}
 use Rattle.sp_effects.specs.declared.facts.Fact.{Fact}
-use Rattle.sp_effects.specs.declared.facts.Deed.{Deed}
-use Rattle.sp_effects.specs.declared.facts.Deed.TheVariants as deed
+use Rattle.sp_effects.specs.declared.facts.Effect.{Effect}
+use Rattle.sp_effects.specs.declared.facts.Effect.TheVariants as effect
 use Rattle.sp_effects.specs.Facts.{fact, with_fact, Tells}
-use Rattle.sp_effects.specs.Own.{IsOf, IsDeedAmong, IsStop, IsHanded, OneIsHanded, ForkedAt, ReachedAt, OwnAt}
+use Rattle.sp_effects.specs.Own.{IsOf, IsEffectAmong, IsStop, IsHanded, OneIsHanded, ForkedAt, ReachedAt, OwnAt}
 use Rattle.sp_effects.specs.Own.{OwnBefore}
-use Rattle.sp_effects.specs.Own.{DoesBy, deed_of}
+use Rattle.sp_effects.specs.Own.{DoesBy, effect_of}
 use Rattle.sp_effects.proofs.Telling.{tells_none, tells_as, tells_then, tells_one}
 
 -- ---- lists
@@ -64,40 +64,41 @@ taken_in xs i x y e h = subst (λ n. IsIn x (take n xs)) (sym (add-one i)) (firs
 
 -- ---- one fact
 
-pub fact_is : (n : ℕ) (e : Deed) (f : Fact) → f.area ≡ n → f.deed ≡ e → f ≡ fact n e
-fact_is n e f p q = λ i. record { area = p i; deed = q i }
+pub fact_is : (n : ℕ) (e : Effect) (f : Fact) → f.area ≡ n → f.effect ≡ e → f ≡ fact n e
+fact_is n e f p q = λ i. record { area = p i; effect = q i }
 
 -- what an area does in one way more
-pub of_one : (n : ℕ) (e : Deed) (g : Fact) (D : Deed → Type 0) (f : Fact) → g ≡ fact n e → f ≡ g → D e → IsOf n D f
+pub of_one : (n : ℕ) (e : Effect) (g : Fact) (D : Effect → Type 0) (f : Fact) → g ≡ fact n e → f ≡ g → D e → IsOf n D f
 of_one n e g D f s h d = let p = h
-    ∙ s in record { area = ap (λ (x : Fact). x.area) p; does = subst D (sym (ap (λ (x : Fact). x.deed) p)) d }
+    ∙ s in record { area = ap (λ (x : Fact). x.area) p; does = subst D (sym (ap (λ (x : Fact). x.effect) p)) d }
 
-pub told_more : (a b : List Fact) (n i y : ℕ) (s : Bool) (xs : List ℕ) (e : Deed) → slice_get xs i ≡ Some y
-    → e ≡ deed_of s y
-    → Tells a b (IsOf n (IsDeedAmong s (take i xs)))
-    → Tells a (with_fact b (fact n e)) (IsOf n (IsDeedAmong s (take (i + 1) xs)))
+pub told_more : (a b : List Fact) (n i y : ℕ) (s : Bool) (xs : List ℕ) (e : Effect) → slice_get xs i ≡ Some y
+    → e ≡ effect_of s y
+    → Tells a b (IsOf n (IsEffectAmong s (take i xs)))
+    → Tells a (with_fact b (fact n e)) (IsOf n (IsEffectAmong s (take (i + 1) xs)))
 told_more a b n i y s xs e g h t =
-    tells_as a (with_fact b (fact n e)) (λ f. IsOf n (IsDeedAmong s (take i xs)) f
-    ⊎ (f ≡ fact n e)) (IsOf n (IsDeedAmong s (take (i + 1) xs))) to from
-    (tells_then a b (with_fact b (fact n e)) (IsOf n (IsDeedAmong s (take i xs))) (λ f. f ≡ fact n e) t
+    tells_as a (with_fact b (fact n e)) (λ f. IsOf n (IsEffectAmong s (take i xs)) f
+    ⊎ (f ≡ fact n e)) (IsOf n (IsEffectAmong s (take (i + 1) xs))) to from
+    (tells_then a b (with_fact b (fact n e)) (IsOf n (IsEffectAmong s (take i xs))) (λ f. f ≡ fact n e) t
     (tells_one b (fact n e)))
   where
-    to : (f : Fact) → IsOf n (IsDeedAmong s (take i xs)) f ⊎ (f ≡ fact n e) → IsOf n (IsDeedAmong s (take (i + 1) xs)) f
+    to : (f : Fact) → IsOf n (IsEffectAmong s (take i xs)) f ⊎ (f ≡ fact n e)
+        → IsOf n (IsEffectAmong s (take (i + 1) xs)) f
     to f (inl o) = record { area = o.area; does = (o.does.0, taken_in xs i o.does.0 y g (inl o.does.1), o.does.2) }
-    to f (inr p) = of_one n e (fact n e) (IsDeedAmong s (take (i + 1) xs)) f refl p
+    to f (inr p) = of_one n e (fact n e) (IsEffectAmong s (take (i + 1) xs)) f refl p
         (y, taken_in xs i y y g (inr refl), h)
 
-    from : (f : Fact) → IsOf n (IsDeedAmong s (take (i + 1) xs)) f → IsOf n (IsDeedAmong s (take i xs)) f
+    from : (f : Fact) → IsOf n (IsEffectAmong s (take (i + 1) xs)) f → IsOf n (IsEffectAmong s (take i xs)) f
         ⊎ (f ≡ fact n e)
     from f o = ⊎_elim (λ m. inl (record { area = o.area; does = (o.does.0, m, o.does.2) }))
-        (λ m. inr (fact_is n e f o.area (o.does.2 ∙ ap (deed_of s) m ∙ sym h))) (in_taken xs i o.does.0 y g o.does.1)
+        (λ m. inr (fact_is n e f o.area (o.does.2 ∙ ap (effect_of s) m ∙ sym h))) (in_taken xs i o.does.0 y g o.does.1)
 
 pub stop_told : (a : List Fact) (n : ℕ) (o : Instr) → is_stop (Some o) ≡ true
-    → Tells a (with_fact a (fact n deed.Stops)) (IsOf n (IsStop (Some o)))
+    → Tells a (with_fact a (fact n effect.Stops)) (IsOf n (IsStop (Some o)))
 stop_told a n o e =
-    tells_as a (with_fact a (fact n deed.Stops)) (λ f. f ≡ fact n deed.Stops) (IsOf n (IsStop (Some o)))
-    (λ f p. of_one n deed.Stops (fact n deed.Stops) (IsStop (Some o)) f refl p (e, refl))
-    (λ f h. fact_is n deed.Stops f h.area h.does.1) (tells_one a (fact n deed.Stops))
+    tells_as a (with_fact a (fact n effect.Stops)) (λ f. f ≡ fact n effect.Stops) (IsOf n (IsStop (Some o)))
+    (λ f p. of_one n effect.Stops (fact n effect.Stops) (IsStop (Some o)) f refl p (e, refl))
+    (λ f h. fact_is n effect.Stops f h.area h.does.1) (tells_one a (fact n effect.Stops))
 
 pub no_stop : (a : List Fact) (n : ℕ) (o : Instr) → is_stop (Some o) ≡ false → Tells a a (IsOf n (IsStop (Some o)))
 no_stop a n o e = tells_none a (IsOf n (IsStop (Some o))) (λ f h. absurd (let z = sym e ∙ h.does.0 in cc (z)))
@@ -107,14 +108,14 @@ no_stop a n o e = tells_none a (IsOf n (IsStop (Some o))) (λ f h. absurd (let z
 module _ (c : Parts) (a : Area) (p : ℕ) (ss : List Shape) where
   pub shaped_told : (f g h k : List Fact) (n : ℕ) (o : Instr) (xs ys : List ℕ) → instr_at c p ≡ Some o
       → stored_by c a (Some o) ss ≡ xs → loaded_by c a (Some o) ss ≡ ys
-      → Tells f g (IsOf n (IsDeedAmong true xs)) → Tells g h (IsOf n (IsDeedAmong false ys))
+      → Tells f g (IsOf n (IsEffectAmong true xs)) → Tells g h (IsOf n (IsEffectAmong false ys))
       → Tells h k (IsOf n (IsStop (Some o))) → Tells f k (IsOf n (DoesBy c a p ss))
   shaped_told f g h k n o xs ys ei ex ey t u v =
-      tells_as f k (λ z. (IsOf n (IsDeedAmong true xs) z ⊎ IsOf n (IsDeedAmong false ys) z)
+      tells_as f k (λ z. (IsOf n (IsEffectAmong true xs) z ⊎ IsOf n (IsEffectAmong false ys) z)
       ⊎ IsOf n (IsStop (Some o)) z) (IsOf n (DoesBy c a p ss)) to from
-      (tells_then f h k (λ z. IsOf n (IsDeedAmong true xs) z
-      ⊎ IsOf n (IsDeedAmong false ys) z) (IsOf n (IsStop (Some o)))
-      (tells_then f g h (IsOf n (IsDeedAmong true xs)) (IsOf n (IsDeedAmong false ys)) t u) v)
+      (tells_then f h k (λ z. IsOf n (IsEffectAmong true xs) z
+      ⊎ IsOf n (IsEffectAmong false ys) z) (IsOf n (IsStop (Some o)))
+      (tells_then f g h (IsOf n (IsEffectAmong true xs)) (IsOf n (IsEffectAmong false ys)) t u) v)
     where
       es : stored_by c a (instr_at c p) ss ≡ xs
       es = ap (λ (z : Option Instr). stored_by c a z ss) ei ∙ ex
@@ -122,44 +123,46 @@ module _ (c : Parts) (a : Area) (p : ℕ) (ss : List Shape) where
       el : loaded_by c a (instr_at c p) ss ≡ ys
       el = ap (λ (z : Option Instr). loaded_by c a z ss) ei ∙ ey
 
-      stored : (x : ℕ) (d : Deed) → IsIn x xs → d ≡ deed.Stores x → DoesBy c a p ss d
+      stored : (x : ℕ) (d : Effect) → IsIn x xs → d ≡ effect.Stores x → DoesBy c a p ss d
       stored x d i s = subst (DoesBy c a p ss) (sym s) (subst (IsIn x) (sym es) i)
 
-      loaded : (x : ℕ) (d : Deed) → IsIn x ys → d ≡ deed.Loads x → DoesBy c a p ss d
+      loaded : (x : ℕ) (d : Effect) → IsIn x ys → d ≡ effect.Loads x → DoesBy c a p ss d
       loaded x d i s = subst (DoesBy c a p ss) (sym s) (subst (IsIn x) (sym el) i)
 
-      stops : (d : Deed) → is_stop (Some o) ≡ true → d ≡ deed.Stops → DoesBy c a p ss d
+      stops : (d : Effect) → is_stop (Some o) ≡ true → d ≡ effect.Stops → DoesBy c a p ss d
       stops d e s = subst (DoesBy c a p ss) (sym s) (ap is_stop ei ∙ e)
 
-      to : (z : Fact) → (IsOf n (IsDeedAmong true xs) z ⊎ IsOf n (IsDeedAmong false ys) z) ⊎ IsOf n (IsStop (Some o)) z
+      to : (z : Fact) → (IsOf n (IsEffectAmong true xs) z ⊎ IsOf n (IsEffectAmong false ys) z)
+          ⊎ IsOf n (IsStop (Some o)) z
           → IsOf n (DoesBy c a p ss) z
-      to z (inl (inl w)) = record { area = w.area; does = stored w.does.0 z.deed w.does.1 w.does.2 }
-      to z (inl (inr w)) = record { area = w.area; does = loaded w.does.0 z.deed w.does.1 w.does.2 }
-      to z (inr w) = record { area = w.area; does = stops z.deed w.does.0 w.does.1 }
+      to z (inl (inl w)) = record { area = w.area; does = stored w.does.0 z.effect w.does.1 w.does.2 }
+      to z (inl (inr w)) = record { area = w.area; does = loaded w.does.0 z.effect w.does.1 w.does.2 }
+      to z (inr w) = record { area = w.area; does = stops z.effect w.does.0 w.does.1 }
 
-      split : (d : Deed) → DoesBy c a p ss d → (IsDeedAmong true xs d ⊎ IsDeedAmong false ys d) ⊎ IsStop (Some o) d
-      split (deed.Stores x) i = inl (inl (x, subst (IsIn x) es i, refl))
-      split (deed.Loads x) i = inl (inr (x, subst (IsIn x) el i, refl))
-      split deed.Stops e = inr (sym (ap is_stop ei) ∙ e, refl)
+      split : (d : Effect) → DoesBy c a p ss d → (IsEffectAmong true xs d ⊎ IsEffectAmong false ys d)
+          ⊎ IsStop (Some o) d
+      split (effect.Stores x) i = inl (inl (x, subst (IsIn x) es i, refl))
+      split (effect.Loads x) i = inl (inr (x, subst (IsIn x) el i, refl))
+      split effect.Stops e = inr (sym (ap is_stop ei) ∙ e, refl)
 
       from : (z : Fact) → IsOf n (DoesBy c a p ss) z
-          → (IsOf n (IsDeedAmong true xs) z ⊎ IsOf n (IsDeedAmong false ys) z)
+          → (IsOf n (IsEffectAmong true xs) z ⊎ IsOf n (IsEffectAmong false ys) z)
           ⊎ IsOf n (IsStop (Some o)) z
       from z w =
           ⊎_elim (λ r. inl (⊎_elim (λ q. inl (record { area = w.area; does = q }))
           (λ q. inr (record { area = w.area; does = q })) r)) (λ q. inr (record { area = w.area; does = q }))
-          (split z.deed w.does)
+          (split z.effect w.does)
 
 -- ---- children
 
 pub child_told : (f g h : List Fact) (n : ℕ) (t : ChildTable) (ms ss : List ℕ) → ms ≡ t.moved → ss ≡ t.shared
-    → Tells f g (IsOf n (IsDeedAmong true ms)) → Tells g h (IsOf n (IsDeedAmong false ss))
+    → Tells f g (IsOf n (IsEffectAmong true ms)) → Tells g h (IsOf n (IsEffectAmong false ss))
     → Tells f h (IsOf n (IsHanded t))
-child_told f g h n t ms ss em es u v = tells_as f h (λ z. IsOf n (IsDeedAmong true ms) z
-    ⊎ IsOf n (IsDeedAmong false ss) z) (IsOf n (IsHanded t)) to from
-    (tells_then f g h (IsOf n (IsDeedAmong true ms)) (IsOf n (IsDeedAmong false ss)) u v)
+child_told f g h n t ms ss em es u v = tells_as f h (λ z. IsOf n (IsEffectAmong true ms) z
+    ⊎ IsOf n (IsEffectAmong false ss) z) (IsOf n (IsHanded t)) to from
+    (tells_then f g h (IsOf n (IsEffectAmong true ms)) (IsOf n (IsEffectAmong false ss)) u v)
   where
-    to : (z : Fact) → IsOf n (IsDeedAmong true ms) z ⊎ IsOf n (IsDeedAmong false ss) z → IsOf n (IsHanded t) z
+    to : (z : Fact) → IsOf n (IsEffectAmong true ms) z ⊎ IsOf n (IsEffectAmong false ss) z → IsOf n (IsHanded t) z
     to z (inl w) = record {
       area = w.area;
       does = subst (IsHanded t) (sym w.does.2)
@@ -171,14 +174,14 @@ child_told f g h n t ms ss em es u v = tells_as f h (λ z. IsOf n (IsDeedAmong t
           (is_member w.does.0 t.shared (subst (IsIn w.does.0) es w.does.1));
     }
 
-    split : (d : Deed) → IsHanded t d → IsDeedAmong true ms d ⊎ IsDeedAmong false ss d
-    split (deed.Stores x) i = inl (x, subst (IsIn x) (sym em) (is_in_list x t.moved i), refl)
-    split (deed.Loads x) i = inr (x, subst (IsIn x) (sym es) (is_in_list x t.shared i), refl)
-    split deed.Stops i = absurd i
+    split : (d : Effect) → IsHanded t d → IsEffectAmong true ms d ⊎ IsEffectAmong false ss d
+    split (effect.Stores x) i = inl (x, subst (IsIn x) (sym em) (is_in_list x t.moved i), refl)
+    split (effect.Loads x) i = inr (x, subst (IsIn x) (sym es) (is_in_list x t.shared i), refl)
+    split effect.Stops i = absurd i
 
-    from : (z : Fact) → IsOf n (IsHanded t) z → IsOf n (IsDeedAmong true ms) z ⊎ IsOf n (IsDeedAmong false ss) z
+    from : (z : Fact) → IsOf n (IsHanded t) z → IsOf n (IsEffectAmong true ms) z ⊎ IsOf n (IsEffectAmong false ss) z
     from z w = ⊎_elim (λ q. inl (record { area = w.area; does = q })) (λ q. inr (record { area = w.area; does = q }))
-        (split z.deed w.does)
+        (split z.effect w.does)
 
 pub children_more : (f g h : List Fact) (n k : ℕ) (t : ChildTable) (ts : List ChildTable) → slice_get ts k ≡ Some t
     → Tells f g (IsOf n (OneIsHanded ts k)) → Tells g h (IsOf n (IsHanded t))
@@ -200,7 +203,7 @@ children_more f g h n k t ts e u v = tells_as f h (λ z. IsOf n (OneIsHanded ts 
         ⊎_elim (λ l. inl (record { area = w.area; does = (w.does.0, w.does.1, l, w.does.3, w.does.4) }))
         (λ s. inr (record {
           area = w.area;
-          does = subst (λ (y : ChildTable). IsHanded y z.deed)
+          does = subst (λ (y : ChildTable). IsHanded y z.effect)
               (same_Some w.does.1 t (sym w.does.3 ∙ ap (slice_get ts) s ∙ e)) w.does.4;
         })) (below_or_last w.does.0 k w.does.2)
 
@@ -247,8 +250,8 @@ module _ (c : Parts) (p : ℕ) where
             record {
               area = h ∙ ap (entry c) q
                   ∙ at;
-              does = subst (λ (y : List Shape). DoesBy c a p y z.deed) l
-                  (subst (λ (y : Area). DoesBy c y p ss z.deed) q d);
+              does = subst (λ (y : List Shape). DoesBy c a p y z.effect) l
+                  (subst (λ (y : Area). DoesBy c y p ss z.effect) q d);
             }
 
   -- ---- both

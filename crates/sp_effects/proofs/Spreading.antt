@@ -10,7 +10,7 @@ use Rattle.sp_code.specs.declared.code.Layout.{Layout}
 use Rattle.sp_code.specs.declared.code.Parts.{Parts}
 use Rattle.sp_effects.specs.declared.edges.Edge.{Edge}
 use Rattle.sp_effects.specs.declared.facts.Fact.{Fact}
-use Rattle.sp_effects.specs.declared.facts.Deed.{Deed}
+use Rattle.sp_effects.specs.declared.facts.Effect.{Effect}
 use Rattle.sp_effects.specs.Facts.{has_fact, with_fact, pair_cmp, has_pair, Tells}
 use Rattle.sp_effects.specs.Closing.{AlongOne, Closes, ClosesTo, FollowsFrom, FactLeads, fact_along, is_own}
 use Rattle.sp_effects.specs.Variables.{AddsPairs, AreOwn, IsOwnIn, IsOwnOf}
@@ -91,7 +91,7 @@ pub carried_told : (fs : List Fact) (o : Option Fact) (g : Fact) → o ≡ Some 
 carried_told fs o g e = tells_as fs (with_fact fs g) (λ f. f ≡ g) (λ f. o ≡ Some f) (λ f s. e
     ∙ ap Some (sym s)) (λ f s. same_Some f g (sym s ∙ e)) (tells_one fs g)
 
-pub along_more : (a b x : List Fact) (row : List Edge) (own : Bool) (d : Deed) (k : ℕ) (e : Edge)
+pub along_more : (a b x : List Fact) (row : List Edge) (own : Bool) (d : Effect) (k : ℕ) (e : Edge)
     → slice_get row k ≡ Some e → Tells a b (AlongOne row own d k) → Tells b x (λ g. fact_along e own d ≡ Some g)
     → Tells a x (AlongOne row own d (k + 1))
 along_more a b x row own d k e h u v = tells_as a x (λ g. AlongOne row own d k g
@@ -110,12 +110,12 @@ along_more a b x row own d k e h u v = tells_as a x (λ g. AlongOne row own d k 
 
 module _ (rows : List (List Edge)) (own : List (ℕ × ℕ)) where
   pub row_leads : (a b : List Fact) (f : Fact) (r row : List Edge) (mine : Bool) → slice_get rows f.area ≡ Some r
-      → row ≡ r → mine ≡ is_own own f.area f.deed → Tells a b (AlongOne row mine f.deed (length row))
+      → row ≡ r → mine ≡ is_own own f.area f.effect → Tells a b (AlongOne row mine f.effect (length row))
       → Tells a b (FactLeads rows own f)
-  row_leads a b f r row mine e s m t = tells_as a b (AlongOne row mine f.deed (length row)) (FactLeads rows own f)
+  row_leads a b f r row mine e s m t = tells_as a b (AlongOne row mine f.effect (length row)) (FactLeads rows own f)
       to from t
     where
-      to : (g : Fact) → AlongOne row mine f.deed (length row) g → FactLeads rows own f g
+      to : (g : Fact) → AlongOne row mine f.effect (length row) g → FactLeads rows own f g
       to g (k, x, l, h, w) = (
         x,
         (
@@ -127,14 +127,14 @@ module _ (rows : List (List Edge)) (own : List (ℕ × ℕ)) where
                 ∙ h,
           ),
         ),
-        ap (λ (z : Bool). fact_along x z f.deed) (sym m) ∙ w,
+        ap (λ (z : Bool). fact_along x z f.effect) (sym m) ∙ w,
       )
 
-      from : (g : Fact) → FactLeads rows own f g → AlongOne row mine f.deed (length row) g
+      from : (g : Fact) → FactLeads rows own f g → AlongOne row mine f.effect (length row) g
       from g (x, (q, h, (k, i)), w) =
           let z : q ≡ row = same_Some q r (sym h ∙ e) ∙ sym s in
           let at : slice_get row k ≡ Some x = ap (λ (y : List Edge). slice_get y k) (sym z) ∙ i in
-          (k, x, slice_get_within row k x at, at, ap (λ (y : Bool). fact_along x y f.deed) m ∙ w)
+          (k, x, slice_get_within row k x at, at, ap (λ (y : Bool). fact_along x y f.effect) m ∙ w)
 
   -- ---- until nothing is left
 

@@ -16,9 +16,9 @@ use Rattle.sp_rules.specs.Areas.{on_option}
 use Rattle.sp_effects.specs.declared.facts.Fact.{Fact}
 use Rattle.sp_effects.specs.declared.facts.Index.{Index}
 use Rattle.sp_effects.specs.declared.facts.Sets.{Sets}
-use Rattle.sp_effects.specs.declared.facts.Deed.{Deed}
-use Rattle.sp_effects.specs.declared.facts.Deed.TheVariants as deed
-use Rattle.sp_effects.specs.Facts.{same_deed, same_fact, has_fact, with_fact, pair_cmp, has_pair, has_number, in_sets}
+use Rattle.sp_effects.specs.declared.facts.Effect.{Effect}
+use Rattle.sp_effects.specs.declared.facts.Effect.TheVariants as effect
+use Rattle.sp_effects.specs.Facts.{same_effect, same_fact, has_fact, with_fact, pair_cmp, has_pair, has_number, in_sets}
 use Rattle.sp_effects.specs.Facts.{index_has}
 use Rattle.sp_effects.specs.Facts.{sets_have, AreIndexed, Tells}
 
@@ -26,31 +26,32 @@ use Rattle.sp_effects.specs.Facts.{sets_have, AreIndexed, Tells}
 
 -- ---- equal facts
 
-pub deed_is : (d e : Deed) → same_deed d e ≡ true → d ≡ e
-deed_is (deed.Stores x) (deed.Stores y) h = ap deed.Stores (eqb-true x y h)
-deed_is (deed.Loads x) (deed.Loads y) h = ap deed.Loads (eqb-true x y h)
-deed_is deed.Stops deed.Stops h = refl
-deed_is (deed.Stores x) (deed.Loads y) h = absurd (cc h)
-deed_is (deed.Stores x) deed.Stops h = absurd (cc h)
-deed_is (deed.Loads x) (deed.Stores y) h = absurd (cc h)
-deed_is (deed.Loads x) deed.Stops h = absurd (cc h)
-deed_is deed.Stops (deed.Stores y) h = absurd (cc h)
-deed_is deed.Stops (deed.Loads y) h = absurd (cc h)
+pub effect_is : (d e : Effect) → same_effect d e ≡ true → d ≡ e
+effect_is (effect.Stores x) (effect.Stores y) h = ap effect.Stores (eqb-true x y h)
+effect_is (effect.Loads x) (effect.Loads y) h = ap effect.Loads (eqb-true x y h)
+effect_is effect.Stops effect.Stops h = refl
+effect_is (effect.Stores x) (effect.Loads y) h = absurd (cc h)
+effect_is (effect.Stores x) effect.Stops h = absurd (cc h)
+effect_is (effect.Loads x) (effect.Stores y) h = absurd (cc h)
+effect_is (effect.Loads x) effect.Stops h = absurd (cc h)
+effect_is effect.Stops (effect.Stores y) h = absurd (cc h)
+effect_is effect.Stops (effect.Loads y) h = absurd (cc h)
 
-deed_self : (d : Deed) → same_deed d d ≡ true
-deed_self (deed.Stores x) = eq-eqb x x refl
-deed_self (deed.Loads x) = eq-eqb x x refl
-deed_self deed.Stops = refl
+effect_self : (d : Effect) → same_effect d d ≡ true
+effect_self (effect.Stores x) = eq-eqb x x refl
+effect_self (effect.Loads x) = eq-eqb x x refl
+effect_self effect.Stops = refl
 
 pub same_is : (f g : Fact) → same_fact f g ≡ true → f ≡ g
 same_is f g h =
-    let b = and_parts (f.area == g.area) (same_deed f.deed g.deed) h in
+    let b = and_parts (f.area == g.area) (same_effect f.effect g.effect) h in
     let p : f.area ≡ g.area = eqb-true f.area g.area b.0 in
-    let d : f.deed ≡ g.deed = deed_is f.deed g.deed b.1 in
-    λ i. record { area = p i; deed = d i }
+    let d : f.effect ≡ g.effect = effect_is f.effect g.effect b.1 in
+    λ i. record { area = p i; effect = d i }
 
 pub same_self : (f : Fact) → same_fact f f ≡ true
-same_self f = and_from (f.area == f.area) (same_deed f.deed f.deed) (eq-eqb f.area f.area refl) (deed_self f.deed)
+same_self f = and_from (f.area == f.area) (same_effect f.effect f.effect) (eq-eqb f.area f.area refl)
+    (effect_self f.effect)
 
 -- ---- lists of facts
 
@@ -102,31 +103,31 @@ number_put : (new old : List ℕ) (k : ℕ)
 number_put new old k h p = h p ∙ ap (λ (b : Bool). cond b true (has_number old p)) (nat_same k p)
     ∙ cond_or (p == k) (has_number old p)
 
--- the sets of an area with one deed more
-abbrev PutsIn : Sets → Sets → Deed → Type 0
-PutsIn old new e = (d : Deed) → in_sets new d ≡ (same_deed d e || in_sets old d)
+-- the sets of an area with one effect more
+abbrev PutsIn : Sets → Sets → Effect → Type 0
+PutsIn old new e = (d : Effect) → in_sets new d ≡ (same_effect d e || in_sets old d)
 
 pub puts_stores : (old : Sets) (s : BTreeSet ℕ) (x : ℕ)
     → ((q : ℕ) → has_number s.keys q ≡ cond (is_eq (nat_cmp x q)) true (has_number old.stored.keys q))
-    → PutsIn old (record { stored = s; loaded = old.loaded; stops = old.stops }) (deed.Stores x)
-puts_stores old s x h (deed.Stores y) = number_put s.keys old.stored.keys x h y
-puts_stores old s x h (deed.Loads y) = refl
-puts_stores old s x h deed.Stops = refl
+    → PutsIn old (record { stored = s; loaded = old.loaded; stops = old.stops }) (effect.Stores x)
+puts_stores old s x h (effect.Stores y) = number_put s.keys old.stored.keys x h y
+puts_stores old s x h (effect.Loads y) = refl
+puts_stores old s x h effect.Stops = refl
 
 pub puts_loads : (old : Sets) (s : BTreeSet ℕ) (x : ℕ)
     → ((q : ℕ) → has_number s.keys q ≡ cond (is_eq (nat_cmp x q)) true (has_number old.loaded.keys q))
-    → PutsIn old (record { stored = old.stored; loaded = s; stops = old.stops }) (deed.Loads x)
-puts_loads old s x h (deed.Stores y) = refl
-puts_loads old s x h (deed.Loads y) = number_put s.keys old.loaded.keys x h y
-puts_loads old s x h deed.Stops = refl
+    → PutsIn old (record { stored = old.stored; loaded = s; stops = old.stops }) (effect.Loads x)
+puts_loads old s x h (effect.Stores y) = refl
+puts_loads old s x h (effect.Loads y) = number_put s.keys old.loaded.keys x h y
+puts_loads old s x h effect.Stops = refl
 
-pub puts_deed : (old new : Sets) (g e : Deed) → g ≡ e → PutsIn old new e → (d : Deed)
-    → in_sets new d ≡ (same_deed d g || in_sets old d)
-puts_deed old new g e s h d = h d ∙ ap (λ (x : Deed). same_deed d x || in_sets old d) (sym s)
+pub adds_effect : (old new : Sets) (g e : Effect) → g ≡ e → PutsIn old new e → (d : Effect)
+    → in_sets new d ≡ (same_effect d g || in_sets old d)
+adds_effect old new g e s h d = h d ∙ ap (λ (x : Effect). same_effect d x || in_sets old d) (sym s)
 
 -- one area more, that does nothing
-pub noted_more : (areas : List Sets) (none : Sets) → ((d : Deed) → in_sets none d ≡ false)
-    → (p : ℕ) (d : Deed) → sets_have (areas ++ none ∷ []) p d ≡ sets_have areas p d
+pub noted_more : (areas : List Sets) (none : Sets) → ((d : Effect) → in_sets none d ≡ false)
+    → (p : ℕ) (d : Effect) → sets_have (areas ++ none ∷ []) p d ≡ sets_have areas p d
 noted_more [] none h zero d = h d
 noted_more [] none h (suc p) d = refl
 noted_more (s ∷ areas) none h zero d = refl
@@ -134,9 +135,9 @@ noted_more (s ∷ areas) none h (suc p) d = noted_more areas none h p d
 
 -- one place is changed
 pub noted_put : (areas : List Sets) (none old new : Sets) (g : Fact) → slice_get areas g.area ≡ Some old
-    → PutsIn old new g.deed
-    → (f : Fact) → sets_have (slice_set (slice_set areas g.area none) g.area new) f.area f.deed ≡ (same_fact f g
-    || sets_have areas f.area f.deed)
+    → PutsIn old new g.effect
+    → (f : Fact) → sets_have (slice_set (slice_set areas g.area none) g.area new) f.area f.effect ≡ (same_fact f g
+    || sets_have areas f.area f.effect)
 noted_put areas none old new g at h f = ⊎_elim here there (cases_eq f.area g.area)
   where
     m : ℕ
@@ -149,30 +150,30 @@ noted_put areas none old new g at h f = ⊎_elim here there (cases_eq f.area g.a
     inside = subst (λ n. m < n) (sym (length-set areas m none)) (slice_get_within areas m old at)
 
     of : Option Sets → Bool
-    of o = on_option false o (λ s. in_sets s f.deed)
+    of o = on_option false o (λ s. in_sets s f.effect)
 
-    now : f.area ≡ m → sets_have (slice_set middle m new) f.area f.deed ≡ in_sets new f.deed
-    now q = ap (λ n. sets_have (slice_set middle m new) n f.deed) q
-        ∙ ap (λ (o : Option Sets). on_option false o (λ s. in_sets s f.deed)) (get_where_set middle m new inside)
+    now : f.area ≡ m → sets_have (slice_set middle m new) f.area f.effect ≡ in_sets new f.effect
+    now q = ap (λ n. sets_have (slice_set middle m new) n f.effect) q
+        ∙ ap (λ (o : Option Sets). on_option false o (λ s. in_sets s f.effect)) (get_where_set middle m new inside)
 
-    was : f.area ≡ m → sets_have areas f.area f.deed ≡ in_sets old f.deed
-    was q = ap (λ n. sets_have areas n f.deed) q
-        ∙ ap (λ (o : Option Sets). on_option false o (λ s. in_sets s f.deed)) at
+    was : f.area ≡ m → sets_have areas f.area f.effect ≡ in_sets old f.effect
+    was q = ap (λ n. sets_have areas n f.effect) q
+        ∙ ap (λ (o : Option Sets). on_option false o (λ s. in_sets s f.effect)) at
 
-    here : f.area ≡ m → sets_have (slice_set middle m new) f.area f.deed
-        ≡ (same_fact f g || sets_have areas f.area f.deed)
+    here : f.area ≡ m → sets_have (slice_set middle m new) f.area f.effect
+        ≡ (same_fact f g || sets_have areas f.area f.effect)
     here q =
-        now q ∙ h f.deed ∙ ap (λ (b : Bool). same_deed f.deed g.deed || b) (sym (was q)) ∙
-        ap (λ (b : Bool). (b && same_deed f.deed g.deed)
-        || sets_have areas f.area f.deed) (sym (eq-eqb f.area g.area q))
+        now q ∙ h f.effect ∙ ap (λ (b : Bool). same_effect f.effect g.effect || b) (sym (was q)) ∙
+        ap (λ (b : Bool). (b && same_effect f.effect g.effect)
+        || sets_have areas f.area f.effect) (sym (eq-eqb f.area g.area q))
 
-    there : f.area ≢ m → sets_have (slice_set middle m new) f.area f.deed
-        ≡ (same_fact f g || sets_have areas f.area f.deed)
+    there : f.area ≢ m → sets_have (slice_set middle m new) f.area f.effect
+        ≡ (same_fact f g || sets_have areas f.area f.effect)
     there q =
-        ap (λ (o : Option Sets). on_option false o (λ s. in_sets s f.deed))
+        ap (λ (o : Option Sets). on_option false o (λ s. in_sets s f.effect))
         (get_beside_set middle m f.area new (λ s. q (sym s)) ∙ get_beside_set areas m f.area none (λ s. q (sym s))) ∙
-        sym (ap (λ (b : Bool). (b && same_deed f.deed g.deed)
-        || sets_have areas f.area f.deed) (false_from_ne_true (f.area == g.area) (λ s. q (eqb-true f.area g.area s))))
+        sym (ap (λ (b : Bool). (b && same_effect f.effect g.effect)
+        || sets_have areas f.area f.effect) (false_from_ne_true (f.area == g.area) (λ s. q (eqb-true f.area g.area s))))
 
 -- the list and the sets grow together
 or_turned : (a b : Bool) → (a || b) ≡ (b || a)
@@ -182,9 +183,9 @@ or_turned false true = refl
 or_turned false false = refl
 
 pub indexed_more : (fs : List Fact) (old new : Index) (g : Fact) → AreIndexed fs old
-    → ((f : Fact) → index_has new f.area f.deed ≡ (same_fact f g || index_has old f.area f.deed))
+    → ((f : Fact) → index_has new f.area f.effect ≡ (same_fact f g || index_has old f.area f.effect))
     → AreIndexed (fs ++ g ∷ []) new
-indexed_more fs old new g h put f = put f ∙ or_turned (same_fact f g) (index_has old f.area f.deed)
+indexed_more fs old new g h put f = put f ∙ or_turned (same_fact f g) (index_has old f.area f.effect)
     ∙ ap (λ (b : Bool). b || same_fact f g) (h f) ∙ sym (told_last fs g f)
 
 -- ---- what is told more

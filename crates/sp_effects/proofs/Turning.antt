@@ -33,10 +33,10 @@ use Rattle.sp_shapes.specs.declared.shapes.Shapes.{Shapes}
 use Rattle.sp_shapes.specs.Shapes.{AreShapes}
 use Rattle.sp_shapes.specs.Stacks.{list_of}
 use Rattle.sp_shapes.proofs.Reaching.{reached_there, stands}
-use Rattle.sp_effects.specs.declared.effects.Deeds.{Deeds}
+use Rattle.sp_effects.specs.declared.effects.EffectRow.{EffectRow}
 use Rattle.sp_effects.specs.declared.effects.Effects.{Effects}
 use Rattle.sp_effects.specs.Calls.{CallFails}
-use Rattle.sp_effects.specs.Effects.{AreEffects, AreDeeds}
+use Rattle.sp_effects.specs.Effects.{AreEffects, IsRowOf}
 use Rattle.sp_effects.specs.Turns.{AreInside, LayoutTurns, SomeCalls, Turns, inside_of, is_inside, turns}
 use Rattle.sp_effects.specs.Variables.{AreOwn, goes_out}
 use Rattle.sp_effects.proofs.Inward.{inside_is, is_inside_here}
@@ -54,7 +54,7 @@ module _ (c : Parts) (kept : (p : ℕ) → BreaksV1 c p → ⊥) (ks : List (ℕ
   abbrev pub Out : List ℕ → Bool
   Out xs = goes_out ks l.entry 2 xs
 
-  turns_is : (flag : Bool) (o : Option Deeds) → turns ks flag l o ≡ true → Turns flag l o
+  turns_is : (flag : Bool) (o : Option EffectRow) → turns ks flag l o ≡ true → Turns flag l o
   turns_is flag None e = absurd (cc e)
   turns_is flag (Some d) e =
       let b = and_parts flag (Out d.stored || Out d.loaded) e in (
@@ -67,7 +67,7 @@ module _ (c : Parts) (kept : (p : ℕ) → BreaksV1 c p → ⊥) (ks : List (ℕ
             (or_cases (Out d.stored) (Out d.loaded) b.1),
       )
 
-  turns_from : (flag : Bool) (o : Option Deeds) → Turns flag l o → turns ks flag l o ≡ true
+  turns_from : (flag : Bool) (o : Option EffectRow) → Turns flag l o → turns ks flag l o ≡ true
   turns_from flag None h = absurd h
   turns_from flag (Some d) (f, (x, inl i, m, h)) =
       and_from flag (Out d.stored || Out d.loaded) f
@@ -175,15 +175,15 @@ module _ (c : Parts) (k : KeepsCodeRules c) (kept : (p : ℕ) → BreaksV1 c p �
           };
         })
 
-    turn_rule : (d : Deeds) → AreDeeds c (Body l.block) d → Turns (flag_at flags j) l (Some d)
+    turn_rule : (d : EffectRow) → IsRowOf c (Body l.block) d → Turns (flag_at flags j) l (Some d)
         → fork.BreaksV7Inside c (Does c) (HasStop c) (Inside c) l l.block
-    turn_rule d deeds (f, (x, inl h, m, z)) = (called_is f, (x, (inl ((deeds.stored x).0 h), m), z))
-    turn_rule d deeds (f, (x, inr h, m, z)) = (called_is f, (x, (inr ((deeds.loaded x).0 h), m), z))
+    turn_rule d effects_of (f, (x, inl h, m, z)) = (called_is f, (x, (inl ((effects_of.stored x).0 h), m), z))
+    turn_rule d effects_of (f, (x, inr h, m, z)) = (called_is f, (x, (inr ((effects_of.loaded x).0 h), m), z))
 
-    rule_turn : (d : Deeds) → AreDeeds c (Body l.block) d
+    rule_turn : (d : EffectRow) → IsRowOf c (Body l.block) d
         → fork.BreaksV7Inside c (Does c) (HasStop c) (Inside c) l l.block → Turns (flag_at flags j) l (Some d)
-    rule_turn d deeds (f, (x, (inl h, m), z)) = (is_called f, (x, inl ((deeds.stored x).1 h), m, z))
-    rule_turn d deeds (f, (x, (inr h, m), z)) = (is_called f, (x, inr ((deeds.loaded x).1 h), m, z))
+    rule_turn d effects_of (f, (x, (inl h, m), z)) = (is_called f, (x, inl ((effects_of.stored x).1 h), m, z))
+    rule_turn d effects_of (f, (x, (inr h, m), z)) = (is_called f, (x, inr ((effects_of.loaded x).1 h), m, z))
 
   turn_found : (j p : ℕ) → LayoutTurns e flags c.layouts j p → TurnBreaks c p
   turn_found j p (l, is, first, h) =

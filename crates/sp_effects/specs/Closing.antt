@@ -9,18 +9,18 @@ use Rattle.sp_rules.specs.Effects.{Stored, Loaded, Does, IsEffect}
 use Rattle.sp_effects.specs.declared.edges.Edge.{Edge}
 use Rattle.sp_effects.specs.declared.edges.Edge.TheVariants as edge
 use Rattle.sp_effects.specs.declared.facts.Fact.{Fact}
-use Rattle.sp_effects.specs.declared.facts.Deed.{Deed}
-use Rattle.sp_effects.specs.declared.facts.Deed.TheVariants as deed
+use Rattle.sp_effects.specs.declared.facts.Effect.{Effect}
+use Rattle.sp_effects.specs.declared.facts.Effect.TheVariants as effect
 use Rattle.sp_effects.specs.Facts.{fact, has_fact}
 use Rattle.sp_effects.specs.Edges.{HasEdge, AreEdges}
 use Rattle.sp_effects.specs.Effects.{ComesToStop}
 use Rattle.sp_effects.specs.Variables.{AreOwn, owns}
 
 -- it is done to a variable of the area's own
-abbrev pub is_own : List (ℕ × ℕ) → ℕ → Deed → Bool
-is_own ks m (deed.Stores x) = owns ks m x
-is_own ks m (deed.Loads x) = owns ks m x
-is_own ks m deed.Stops = false
+abbrev pub is_own : List (ℕ × ℕ) → ℕ → Effect → Bool
+is_own ks m (effect.Stores x) = owns ks m x
+is_own ks m (effect.Loads x) = owns ks m x
+is_own ks m effect.Stops = false
 
 -- ---- along an edge
 
@@ -30,25 +30,26 @@ is_index (Some y) x = x == y
 
 -- what is done becomes this on the edge, if it goes along it; own says whether it is done to a variable of the area's
 -- own
-abbrev pub fact_along : Edge → Bool → Deed → Option Fact
-fact_along (edge.Started to index) own (deed.Stores x) = Some (fact to (deed.Stores x))
-fact_along (edge.Started to index) own (deed.Loads x) = if is_index index x then None else Some (fact to (deed.Loads x))
-fact_along (edge.Started to index) own deed.Stops = Some (fact to deed.Stops)
-fact_along (edge.Called to) own (deed.Stores x) = if own then None else Some (fact to (deed.Stores x))
-fact_along (edge.Called to) own (deed.Loads x) = if own then None else Some (fact to (deed.Loads x))
-fact_along (edge.Called to) own deed.Stops = Some (fact to deed.Stops)
-fact_along (edge.Passed to y x) own (deed.Stores z) = if z == y then Some (fact to (deed.Stores x)) else None
-fact_along (edge.Passed to y x) own (deed.Loads z) = if z == y then Some (fact to (deed.Loads x)) else None
-fact_along (edge.Passed to y x) own deed.Stops = None
+abbrev pub fact_along : Edge → Bool → Effect → Option Fact
+fact_along (edge.Started to index) own (effect.Stores x) = Some (fact to (effect.Stores x))
+fact_along (edge.Started to index) own (effect.Loads x) =
+    if is_index index x then None else Some (fact to (effect.Loads x))
+fact_along (edge.Started to index) own effect.Stops = Some (fact to effect.Stops)
+fact_along (edge.Called to) own (effect.Stores x) = if own then None else Some (fact to (effect.Stores x))
+fact_along (edge.Called to) own (effect.Loads x) = if own then None else Some (fact to (effect.Loads x))
+fact_along (edge.Called to) own effect.Stops = Some (fact to effect.Stops)
+fact_along (edge.Passed to y x) own (effect.Stores z) = if z == y then Some (fact to (effect.Stores x)) else None
+fact_along (edge.Passed to y x) own (effect.Loads z) = if z == y then Some (fact to (effect.Loads x)) else None
+fact_along (edge.Passed to y x) own effect.Stops = None
 
 -- along one of these edges
-abbrev pub AlongOne : List Edge → Bool → Deed → ℕ → Fact → Type 0
+abbrev pub AlongOne : List Edge → Bool → Effect → ℕ → Fact → Type 0
 AlongOne row own d n g = (k : ℕ) × (e : Edge) × (k < n) × (slice_get row k ≡ Some e) × (fact_along e own d ≡ Some g)
 
 module _ (rows : List (List Edge)) (own : List (ℕ × ℕ)) where
   -- one fact leads to another
   abbrev pub FactLeads : Fact → Fact → Type 0
-  FactLeads f g = (e : Edge) × HasEdge rows f.area e × (fact_along e (is_own own f.area f.deed) f.deed ≡ Some g)
+  FactLeads f g = (e : Edge) × HasEdge rows f.area e × (fact_along e (is_own own f.area f.effect) f.effect ≡ Some g)
 
   -- in so many steps from these
   abbrev pub FollowsBy : List Fact → ℕ → Fact → Type 0
@@ -74,10 +75,10 @@ module _ (rows : List (List Edge)) (own : List (ℕ × ℕ)) where
 
 module _ (c : Parts) where
   -- the area does it, with what it starts and calls
-  abbrev pub IsDeed : Area → Deed → Type 0
-  IsDeed a (deed.Stores x) = IsEffect c (Does c) Stored a x
-  IsDeed a (deed.Loads x) = IsEffect c (Does c) Loaded a x
-  IsDeed a deed.Stops = ComesToStop c a
+  abbrev pub IsEffectOf : Area → Effect → Type 0
+  IsEffectOf a (effect.Stores x) = IsEffect c (Does c) Stored a x
+  IsEffectOf a (effect.Loads x) = IsEffect c (Does c) Loaded a x
+  IsEffectOf a effect.Stops = ComesToStop c a
 
   -- the facts are closed along the edges of the code
   pub record ClosesBy (old new : List Fact) : Type 0 where
@@ -89,4 +90,4 @@ module _ (c : Parts) where
 
   -- the facts are those of the areas that are there
   abbrev pub AreFacts : List Fact → Type 0
-  AreFacts fs = (a : Area) (d : Deed) → IsArea c a → (has_fact fs (fact (entry c a) d) ≡ true) ↔ IsDeed a d
+  AreFacts fs = (a : Area) (d : Effect) → IsArea c a → (has_fact fs (fact (entry c a) d) ≡ true) ↔ IsEffectOf a d

@@ -10,24 +10,24 @@ use Rattle.sp_effects.specs.declared.facts.Fact.{Fact}
 use Rattle.sp_effects.specs.declared.facts.Sets.{Sets}
 use Rattle.sp_effects.specs.declared.facts.Index.{Index}
 use Rattle.sp_rules.specs.Areas.{on_option}
-use Rattle.sp_effects.specs.declared.facts.Deed.{Deed}
-use Rattle.sp_effects.specs.declared.facts.Deed.TheVariants as deed
+use Rattle.sp_effects.specs.declared.facts.Effect.{Effect}
+use Rattle.sp_effects.specs.declared.facts.Effect.TheVariants as effect
 
-abbrev pub same_deed : Deed → Deed → Bool
-same_deed (deed.Stores x) (deed.Stores y) = x == y
-same_deed (deed.Loads x) (deed.Loads y) = x == y
-same_deed deed.Stops deed.Stops = true
-same_deed d e = false
+abbrev pub same_effect : Effect → Effect → Bool
+same_effect (effect.Stores x) (effect.Stores y) = x == y
+same_effect (effect.Loads x) (effect.Loads y) = x == y
+same_effect effect.Stops effect.Stops = true
+same_effect d e = false
 
 abbrev pub same_fact : Fact → Fact → Bool
-same_fact f g = (f.area == g.area) && same_deed f.deed g.deed
+same_fact f g = (f.area == g.area) && same_effect f.effect g.effect
 
 -- the fact is among these
 abbrev pub has_fact : List Fact → Fact → Bool
 has_fact fs f = list_any (same_fact f) fs
 
-abbrev pub fact : ℕ → Deed → Fact
-fact p d = record { area = p; deed = d }
+abbrev pub fact : ℕ → Effect → Fact
+fact p d = record { area = p; effect = d }
 
 -- with one more, unless it is there
 abbrev pub with_fact : List Fact → Fact → List Fact
@@ -44,21 +44,21 @@ abbrev pub has_number : List ℕ → ℕ → Bool
 has_number ks q = list_any (λ k. is_eq (nat_cmp q k)) ks
 
 -- sets of variables say so
-abbrev pub in_sets : Sets → Deed → Bool
-in_sets s (deed.Stores x) = has_number s.stored.keys x
-in_sets s (deed.Loads x) = has_number s.loaded.keys x
-in_sets s deed.Stops = s.stops
+abbrev pub in_sets : Sets → Effect → Bool
+in_sets s (effect.Stores x) = has_number s.stored.keys x
+in_sets s (effect.Loads x) = has_number s.loaded.keys x
+in_sets s effect.Stops = s.stops
 
 -- those of an area do
-abbrev pub sets_have : List Sets → ℕ → Deed → Bool
+abbrev pub sets_have : List Sets → ℕ → Effect → Bool
 sets_have areas p d = on_option false (slice_get areas p) (λ s. in_sets s d)
 
-abbrev pub index_has : Index → ℕ → Deed → Bool
+abbrev pub index_has : Index → ℕ → Effect → Bool
 index_has it p d = sets_have it.areas p d
 
 -- the sets have the same facts
 abbrev pub AreIndexed : List Fact → Index → Type 0
-AreIndexed fs it = (f : Fact) → index_has it f.area f.deed ≡ has_fact fs f
+AreIndexed fs it = (f : Fact) → index_has it f.area f.effect ≡ has_fact fs f
 
 -- these facts are added, and no others; each that was there stays at its place
 pub record Tells (old new : List Fact) (W : Fact → Type 0) : Type 0 where

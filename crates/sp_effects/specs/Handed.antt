@@ -12,7 +12,7 @@ use Rattle.sp_rules.specs.Effects.{IsAside, Loaded, handed_to}
 use Rattle.sp_rules.specs.Forks.{Clash, IsIllHanded}
 use Rattle.sp_rules.specs.Reach.{IsIn}
 use Rattle.sp_areas.specs.LeastPlaces.{Upto}
-use Rattle.sp_effects.specs.declared.effects.Deeds.{Deeds}
+use Rattle.sp_effects.specs.declared.effects.EffectRow.{EffectRow}
 use Rattle.sp_effects.specs.declared.effects.Effects.{Effects}
 use Rattle.sp_effects.specs.Sets.{with_all, with_index, all_new, meets, goes_beyond}
 
@@ -73,12 +73,12 @@ ClashesBefore ts n t = (j : ℕ) × (s : ChildTable) × (j < n) × (slice_get ts
 -- ---- children and tables
 
 -- a child that does this, where those before it are moved and handed these, fails
-abbrev pub fails_by : Option Deeds → (moved handed : List ℕ) → ChildTable → Bool
+abbrev pub fails_by : Option EffectRow → (moved handed : List ℕ) → ChildTable → Bool
 fails_by None moved handed t = false
 fails_by (Some d) moved handed t = fails_alone d.stored d.loaded t || clashes moved handed t
 
 -- a child that does this fails, behind so many others
-abbrev pub FailsAs : Option Deeds → List ChildTable → ℕ → ChildTable → Type 0
+abbrev pub FailsAs : Option EffectRow → List ChildTable → ℕ → ChildTable → Type 0
 FailsAs None ts n t = ⊥
 FailsAs (Some d) ts n t = FailsAlone d.stored d.loaded t ⊎ ClashesBefore ts n t
 

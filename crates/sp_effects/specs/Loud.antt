@@ -5,16 +5,16 @@ use Rattle.std.specs.Prelude.{◌≡◌, ◌⊎◌, ℕ, List, Option, Some, Non
 use Rattle.sp_tree.specs.Interference.{IsMember}
 use Rattle.sp_code.specs.declared.code.Layout.{Layout}
 use Rattle.sp_rules.specs.Reach.{IsIn}
-use Rattle.sp_effects.specs.declared.effects.Deeds.{Deeds}
+use Rattle.sp_effects.specs.declared.effects.EffectRow.{EffectRow}
 use Rattle.sp_effects.specs.declared.effects.Effects.{Effects}
 use Rattle.sp_effects.specs.Variables.{LayoutDoes, goes_out}
 
 -- an answering block stores outside itself, or stops
-abbrev pub is_loud : List (ℕ × ℕ) → Layout → Option Deeds → Bool
+abbrev pub is_loud : List (ℕ × ℕ) → Layout → Option EffectRow → Bool
 is_loud ks l None = false
 is_loud ks l (Some d) = l.answer && (d.stops || goes_out ks l.entry 0 d.stored)
 
-abbrev pub IsLoud : Layout → Option Deeds → Type 0
+abbrev pub IsLoud : Layout → Option EffectRow → Type 0
 IsLoud l None = ⊥
 IsLoud l (Some d) = (l.answer ≡ true) × (((x : ℕ) × IsIn x d.stored × (IsMember x l.variables → ⊥)) ⊎ (d.stops ≡ true))
 

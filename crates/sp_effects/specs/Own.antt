@@ -19,8 +19,8 @@ use Rattle.sp_areas.specs.declared.owners.Owner.{Owner}
 use Rattle.sp_areas.specs.declared.owners.Owner.TheVariants as owner
 use Rattle.sp_areas.specs.Owners.{entry_at}
 use Rattle.sp_effects.specs.declared.facts.Fact.{Fact}
-use Rattle.sp_effects.specs.declared.facts.Deed.{Deed}
-use Rattle.sp_effects.specs.declared.facts.Deed.TheVariants as deed
+use Rattle.sp_effects.specs.declared.facts.Effect.{Effect}
+use Rattle.sp_effects.specs.declared.facts.Effect.TheVariants as effect
 use Rattle.sp_effects.specs.declared.places.Place.{Place}
 use Rattle.sp_effects.specs.declared.places.Place.TheVariants as place
 
@@ -52,56 +52,56 @@ module _ (c : Parts) where
   variables_at a (place.Passed b) ss = operand_variables (layout_of c.layouts b) ss
 
   -- the instruction at p does this, where the operands have these shapes
-  abbrev pub DoesBy : Area → ℕ → List Shape → Deed → Type 0
-  DoesBy a p ss (deed.Stores x) = IsIn x (stored_by c a (instr_at c p) ss)
-  DoesBy a p ss (deed.Loads x) = IsIn x (loaded_by c a (instr_at c p) ss)
-  DoesBy a p ss deed.Stops = is_stop (instr_at c p) ≡ true
+  abbrev pub DoesBy : Area → ℕ → List Shape → Effect → Type 0
+  DoesBy a p ss (effect.Stores x) = IsIn x (stored_by c a (instr_at c p) ss)
+  DoesBy a p ss (effect.Loads x) = IsIn x (loaded_by c a (instr_at c p) ss)
+  DoesBy a p ss effect.Stops = is_stop (instr_at c p) ≡ true
 
 -- a child is handed this
-abbrev pub IsHanded : ChildTable → Deed → Type 0
-IsHanded t (deed.Stores x) = IsMember x t.moved
-IsHanded t (deed.Loads x) = IsMember x t.shared
-IsHanded t deed.Stops = ⊥
+abbrev pub IsHanded : ChildTable → Effect → Type 0
+IsHanded t (effect.Stores x) = IsMember x t.moved
+IsHanded t (effect.Loads x) = IsMember x t.shared
+IsHanded t effect.Stops = ⊥
 
 -- one of these children is
-abbrev pub OneIsHanded : List ChildTable → ℕ → Deed → Type 0
+abbrev pub OneIsHanded : List ChildTable → ℕ → Effect → Type 0
 OneIsHanded ts n d = (k : ℕ) × (t : ChildTable) × (k < n) × (slice_get ts k ≡ Some t) × IsHanded t d
 
 -- a variable is stored, or loaded
-abbrev pub deed_of : Bool → ℕ → Deed
-deed_of true x = deed.Stores x
-deed_of false x = deed.Loads x
+abbrev pub effect_of : Bool → ℕ → Effect
+effect_of true x = effect.Stores x
+effect_of false x = effect.Loads x
 
 -- an area does what fits
-pub record IsOf (n : ℕ) (D : Deed → Type 0) (f : Fact) : Type 0 where
+pub record IsOf (n : ℕ) (D : Effect → Type 0) (f : Fact) : Type 0 where
   pub area : f.area ≡ n
-  pub does : D f.deed
+  pub does : D f.effect
 
 -- it comes to a stop, if the instruction is one
-abbrev pub IsStop : Option Instr → Deed → Type 0
-IsStop o d = (is_stop o ≡ true) × (d ≡ deed.Stops)
+abbrev pub IsStop : Option Instr → Effect → Type 0
+IsStop o d = (is_stop o ≡ true) × (d ≡ effect.Stops)
 
 -- a variable among these is stored, or loaded
-abbrev pub IsDeedAmong : Bool → List ℕ → Deed → Type 0
-IsDeedAmong s xs d = (x : ℕ) × IsIn x xs × (d ≡ deed_of s x)
+abbrev pub IsEffectAmong : Bool → List ℕ → Effect → Type 0
+IsEffectAmong s xs d = (x : ℕ) × IsIn x xs × (d ≡ effect_of s x)
 
 module _ (c : Parts) where
   -- the fork or forall at p hands it to a child
-  abbrev pub ForkedAt : ℕ → Deed → Type 0
+  abbrev pub ForkedAt : ℕ → Effect → Type 0
   ForkedAt p d = (k : ℕ) × (t : ChildTable) × (child_at c p k ≡ Some t) × IsHanded t d
 
   -- the instruction at p does it itself, where it is reached
   abbrev pub ReachedAt : ℕ → Fact → Type 0
-  ReachedAt p f = (a : Area) × (ss : List Shape) × ComesTo c a p ss × (f.area ≡ entry c a) × DoesBy c a p ss f.deed
+  ReachedAt p f = (a : Area) × (ss : List Shape) × ComesTo c a p ss × (f.area ≡ entry c a) × DoesBy c a p ss f.effect
 
   -- the instruction at p does it itself, or hands it to a child
-  abbrev pub DoesAt : Area → ℕ → Deed → Type 0
+  abbrev pub DoesAt : Area → ℕ → Effect → Type 0
   DoesAt a p d = ((ss : List Shape) × Reaches c a p ss × DoesBy c a p ss d)
       ⊎ ((k : ℕ) × (t : ChildTable) × IsStarted c a p k t × IsHanded t d)
 
   -- the area that has the instruction does it there
   abbrev pub OwnAt : ℕ → Fact → Type 0
-  OwnAt p f = (a : Area) × LiesIn c p a × (f.area ≡ entry c a) × DoesAt a p f.deed
+  OwnAt p f = (a : Area) × LiesIn c p a × (f.area ≡ entry c a) × DoesAt a p f.effect
 
   -- at one of the first instructions
   abbrev pub OwnBefore : ℕ → Fact → Type 0

@@ -6,9 +6,9 @@ use Rattle.sp_areas.specs.Blocks.{IsNumbered}
 use Rattle.sp_areas.specs.Homes.{AreHomes}
 use Rattle.sp_areas.specs.Owners.{AreOwners}
 use Rattle.sp_shapes.specs.Shapes.{AreShapes}
-use Rattle.sp_effects.specs.declared.ground.Ground.{Ground}
+use Rattle.sp_effects.specs.declared.pass_context.PassContext.{PassContext}
 
-pub record IsPassContext (g : Ground) : Type 0 where
+pub record IsPassContext (g : PassContext) : Type 0 where
   pub kept : (p : ℕ) → BreaksV1 g.code.now p → ⊥
   pub blocks : IsNumbered g.blocks.now.first g.code.now.layouts
   pub owners : AreOwners g.code.now g.owners.now

@@ -18,7 +18,7 @@ use Rattle.sp_areas.specs.Blocks.{number_of}
 use Rattle.sp_areas.specs.Only.{LiesOnlyIn}
 use Rattle.sp_shapes.specs.declared.shapes.Shapes.{Shapes}
 use Rattle.sp_shapes.specs.Reached.{reached_at}
-use Rattle.sp_effects.specs.declared.effects.Deeds.{Deeds}
+use Rattle.sp_effects.specs.declared.effects.EffectRow.{EffectRow}
 use Rattle.sp_effects.specs.declared.effects.Effects.{Effects}
 use Rattle.sp_effects.specs.Variables.{LayoutDoes, goes_out}
 
@@ -51,11 +51,11 @@ pub record AreInside (c : Parts) (first : BTreeMap ℕ ℕ) (s : Shapes) (n : �
   pub each : (j : ℕ) → j < length c.layouts → (flag_at flags j ≡ true) ↔ SomeCalls c first s n j
 
 -- such a block, by its flag, does something outside itself, besides to the input and the output
-abbrev pub turns : List (ℕ × ℕ) → Bool → Layout → Option Deeds → Bool
+abbrev pub turns : List (ℕ × ℕ) → Bool → Layout → Option EffectRow → Bool
 turns ks flag l None = false
 turns ks flag l (Some d) = flag && (goes_out ks l.entry 2 d.stored || goes_out ks l.entry 2 d.loaded)
 
-abbrev pub Turns : Bool → Layout → Option Deeds → Type 0
+abbrev pub Turns : Bool → Layout → Option EffectRow → Type 0
 Turns flag l None = ⊥
 Turns flag l (Some d) = (flag ≡ true)
     × ((x : ℕ) × (IsIn x d.stored ⊎ IsIn x d.loaded) × (IsMember x l.variables → ⊥) × (1 < x))

@@ -9,7 +9,7 @@ ghost use Rattle.sp_effects.specs.Own.{child_entry, entry_by};
 ghost use Rattle.sp_rules.specs.Areas.{Area, child_at, entry, instr_at, table_at, table_named};
 ghost use Rattle.sp_rules.specs.Named.{LiesIn};
 
-use crate::ground::Ground;
+use crate::pass_context::PassContext;
 use sp_areas::owners::{Owner, table_number};
 use sp_code::{Code, ForkTable, Instr};
 
@@ -38,7 +38,7 @@ fn entry_of_child(code: &Code, p: u32, child: usize) -> Option<u32>
 }
 
 // Where the area of an owner begins.
-fn entry_of(g: &Ground, owner: Owner) -> Option<u32>
+fn entry_of(g: &PassContext, owner: Owner) -> Option<u32>
     requires known { IsPassContext g.now }
     ensures { result ≡ entry_by g.now.code.now owner }
 {
@@ -51,7 +51,7 @@ fn entry_of(g: &Ground, owner: Owner) -> Option<u32>
 }
 
 /// The area in which an instruction lies.
-pub fn area_at(g: &Ground, p: u32) -> Option<u32>
+pub fn area_at(g: &PassContext, p: u32) -> Option<u32>
     requires known { IsPassContext g.now }
     requires there { p < length g.now.code.now.instrs }
     ensures { MatchOption result ((a : Area) → LiesIn g.now.code.now p a → ⊥)

@@ -10,7 +10,7 @@ ghost use Rattle.sp_effects.specs.Calls.{meets_outer};
 
 use crate::areas::called_block;
 use crate::effects::Effects;
-use crate::ground::Ground;
+use crate::pass_context::PassContext;
 use crate::sets::add_all;
 use crate::variables::owns;
 use sp_base::{List, Memory};
@@ -117,7 +117,7 @@ fn call_clashes(
 }
 
 // Whether an instruction is a call that clashes.
-fn fails_at(g: &Ground, effects: &Effects, p: u32) -> Result<bool, Memory>
+fn fails_at(g: &PassContext, effects: &Effects, p: u32) -> Result<bool, Memory>
     requires known { IsPassContext g.now }
     ensures { IfOk result (λ fails. fails ≡ fails_at g.now.code.now effects.now g.now.shapes.now p) }
 {
@@ -137,7 +137,7 @@ fn fails_at(g: &Ground, effects: &Effects, p: u32) -> Result<bool, Memory>
 }
 
 // The least call that clashes.
-pub(crate) fn first_call(g: &Ground, effects: &Effects) -> Result<Option<u32>, Memory>
+pub(crate) fn first_call(g: &PassContext, effects: &Effects) -> Result<Option<u32>, Memory>
     requires known { IsPassContext g.now }
     ensures { IfOk result (λ first. IsLeast (CallFails g.now.code.now effects.now g.now.shapes.now) first) }
 {

@@ -9,9 +9,9 @@ ghost use Rattle.sp_effects.specs.Effects.{AreEffects};
 ghost use Rattle.sp_effects.specs.Turns.{LayoutTurns, turns};
 
 use crate::calls::first_call;
-use crate::effects::{Deeds, Effects};
-use crate::ground::Ground;
+use crate::effects::{EffectRow, Effects};
 use crate::inside::called_inside;
+use crate::pass_context::PassContext;
 use crate::variables::goes_out;
 use sp_areas::flags::flag_at;
 use sp_areas::least::{least, place_if};
@@ -20,12 +20,12 @@ use sp_code::Layout;
 
 // Whether a block that does this is called inside itself, by its flag, and does something outside itself, besides to
 // the input and the output.
-fn deeds_turn(effects: &Effects, flag: bool, l: &Layout, deeds: &Deeds) -> bool
-    ensures { result ≡ turns effects.now.own.keys flag l.now (Some deeds.now) }
+fn row_turns(effects: &Effects, flag: bool, l: &Layout, row: &EffectRow) -> bool
+    ensures { result ≡ turns effects.now.own.keys flag l.now (Some row.now) }
 {
     let own = &effects.own;
-    flag && (goes_out(own, l.entry, 2, deeds.stored.items())
-        || goes_out(own, l.entry, 2, deeds.loaded.items()))
+    flag && (goes_out(own, l.entry, 2, row.stored.items())
+        || goes_out(own, l.entry, 2, row.loaded.items()))
 }
 
 fn turns(effects: &Effects, flag: bool, l: &Layout) -> bool
@@ -33,12 +33,12 @@ fn turns(effects: &Effects, flag: bool, l: &Layout) -> bool
 {
     match effects.of(l.entry) {
         None => false,
-        Some(deeds) => deeds_turn(effects, flag, l, deeds),
+        Some(row) => row_turns(effects, flag, l, row),
     }
 }
 
 // The least first instruction of a block that does.
-fn first_turn(g: &Ground, effects: &Effects, flags: &List<bool>) -> Option<u32>
+fn first_turn(g: &PassContext, effects: &Effects, flags: &List<bool>) -> Option<u32>
     requires known { IsPassContext g.now }
     requires effects { AreEffects g.now.code.now effects.now }
     ensures { IsLeast (Upto (LayoutTurns effects.now flags.now g.now.code.now.layouts)
@@ -56,7 +56,7 @@ fn first_turn(g: &Ground, effects: &Effects, flags: &List<bool>) -> Option<u32>
 /// block uses itself; or the first instruction of a block that is called inside itself and uses variables outside
 /// itself other than the input and the output. None where there is none. It wants V2 to V5 kept. The only other answer
 /// is want of memory.
-pub fn first_clash(g: &Ground, effects: &Effects) -> Result<Option<u32>, Memory>
+pub fn first_clash(g: &PassContext, effects: &Effects) -> Result<Option<u32>, Memory>
     requires known { IsPassContext g.now }
     requires v2 { (p : ℕ) → BreaksV2 g.now.code.now p → ⊥ }
     requires v3 { (p : ℕ) → BreaksV3 g.now.code.now p → ⊥ }

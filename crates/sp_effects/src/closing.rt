@@ -9,20 +9,20 @@ ghost use Rattle.sp_effects.specs.Facts.{Tells, fact};
 ghost use Rattle.sp_effects.specs.Variables.{AreOwn};
 
 use crate::edges::{Edge, edges_of};
-use crate::facts::{Deed, Fact, Facts};
-use crate::ground::Ground;
+use crate::facts::{Effect, Fact, Facts};
 use crate::own::tell_own;
+use crate::pass_context::PassContext;
 use crate::variables::owns;
 use sp_base::{List, Memory};
 use std::collections::BTreeSet;
 
-fn is_own(own: &BTreeSet<(u32, u32)>, area: u32, deed: Deed) -> bool
-    ensures { result ≡ is_own own.now.keys area deed }
+fn is_own(own: &BTreeSet<(u32, u32)>, area: u32, effect: Effect) -> bool
+    ensures { result ≡ is_own own.now.keys area effect }
 {
-    match deed {
-        Deed::Stores(x) => owns(own, area, x),
-        Deed::Loads(x) => owns(own, area, x),
-        Deed::Stops => false,
+    match effect {
+        Effect::Stores(x) => owns(own, area, x),
+        Effect::Loads(x) => owns(own, area, x),
+        Effect::Stops => false,
     }
 }
 
@@ -35,78 +35,78 @@ fn is_index(index: Option<u32>, x: u32) -> bool
     }
 }
 
-fn fact(area: u32, deed: Deed) -> Option<Fact>
-    ensures { result ≡ Some (fact area deed) }
+fn fact(area: u32, effect: Effect) -> Option<Fact>
+    ensures { result ≡ Some (fact area effect) }
 {
-    Some(Fact { area, deed })
+    Some(Fact { area, effect })
 }
 
 // From a child to the area that starts it.
-fn along_start(to: u32, index: Option<u32>, deed: Deed) -> Option<Fact>
-    ensures { (own : Bool) → result ≡ fact_along (edge.Started to index) own deed }
+fn along_start(to: u32, index: Option<u32>, effect: Effect) -> Option<Fact>
+    ensures { (own : Bool) → result ≡ fact_along (edge.Started to index) own effect }
 {
-    match deed {
-        Deed::Stores(_) => fact(to, deed),
-        Deed::Loads(x) => {
+    match effect {
+        Effect::Stores(_) => fact(to, effect),
+        Effect::Loads(x) => {
             if is_index(index, x) {
                 None
             } else {
-                fact(to, deed)
+                fact(to, effect)
             }
         }
-        Deed::Stops => fact(to, deed),
+        Effect::Stops => fact(to, effect),
     }
 }
 
 // From a block to one that calls it.
-fn along_call(to: u32, own: bool, deed: Deed) -> Option<Fact>
-    ensures { result ≡ fact_along (edge.Called to) own deed }
+fn along_call(to: u32, own: bool, effect: Effect) -> Option<Fact>
+    ensures { result ≡ fact_along (edge.Called to) own effect }
 {
-    match deed {
-        Deed::Stores(_) => { if own { None } else { fact(to, deed) } }
-        Deed::Loads(_) => { if own { None } else { fact(to, deed) } }
-        Deed::Stops => fact(to, deed),
+    match effect {
+        Effect::Stores(_) => { if own { None } else { fact(to, effect) } }
+        Effect::Loads(_) => { if own { None } else { fact(to, effect) } }
+        Effect::Stops => fact(to, effect),
     }
 }
 
 // From a formal to its actual variable.
-fn along_formal(to: u32, formal: u32, actual: u32, deed: Deed) -> Option<Fact>
-    ensures { (own : Bool) → result ≡ fact_along (edge.Passed to formal actual) own deed }
+fn along_formal(to: u32, formal: u32, actual: u32, effect: Effect) -> Option<Fact>
+    ensures { (own : Bool) → result ≡ fact_along (edge.Passed to formal actual) own effect }
 {
-    match deed {
-        Deed::Stores(x) => {
+    match effect {
+        Effect::Stores(x) => {
             if x == formal {
-                fact(to, Deed::Stores(actual))
+                fact(to, Effect::Stores(actual))
             } else {
                 None
             }
         }
-        Deed::Loads(x) => {
+        Effect::Loads(x) => {
             if x == formal {
-                fact(to, Deed::Loads(actual))
+                fact(to, Effect::Loads(actual))
             } else {
                 None
             }
         }
-        Deed::Stops => None,
+        Effect::Stops => None,
     }
 }
 
 // What goes along an edge.
-fn fact_along(edge: Edge, own: bool, deed: Deed) -> Option<Fact>
-    ensures { result ≡ fact_along edge own deed }
+fn fact_along(edge: Edge, own: bool, effect: Effect) -> Option<Fact>
+    ensures { result ≡ fact_along edge own effect }
 {
     match edge {
-        Edge::Started { to, index } => along_start(to, index, deed),
-        Edge::Called { to } => along_call(to, own, deed),
-        Edge::Passed { to, formal, actual } => along_formal(to, formal, actual, deed),
+        Edge::Started { to, index } => along_start(to, index, effect),
+        Edge::Called { to } => along_call(to, own, effect),
+        Edge::Passed { to, formal, actual } => along_formal(to, formal, actual, effect),
     }
 }
 
-fn spread_one(facts: &mut Facts, edge: Edge, own: bool, deed: Deed) -> Result<(), Memory>
-    ensures { OnOk result (Tells facts.old facts.new (λ g. fact_along edge own deed ≡ Some g)) }
+fn spread_one(facts: &mut Facts, edge: Edge, own: bool, effect: Effect) -> Result<(), Memory>
+    ensures { OnOk result (Tells facts.old facts.new (λ g. fact_along edge own effect ≡ Some g)) }
 {
-    match fact_along(edge, own, deed) {
+    match fact_along(edge, own, effect) {
         None => Ok(()),
         Some(fact) => facts.add(fact),
     }
@@ -120,12 +120,12 @@ fn edge_at(row: &[Edge], k: usize) -> Edge
 }
 
 // Along all edges of an area.
-fn spread_row(facts: &mut Facts, row: &[Edge], own: bool, deed: Deed) -> Result<(), Memory>
-    ensures { OnOk result (Tells facts.old facts.new (AlongOne row.now own deed (length row.now))) }
+fn spread_row(facts: &mut Facts, row: &[Edge], own: bool, effect: Effect) -> Result<(), Memory>
+    ensures { OnOk result (Tells facts.old facts.new (AlongOne row.now own effect (length row.now))) }
 {
     for k in 0..row.len() {
         let edge = edge_at(row, k);
-        spread_one(facts, edge, own, deed)?;
+        spread_one(facts, edge, own, effect)?;
     }
     Ok(())
 }
@@ -142,8 +142,8 @@ fn spread(
     match rows.get(fact.area as usize) {
         None => Ok(()),
         Some(row) => {
-            let mine = is_own(own, fact.area, fact.deed);
-            spread_row(facts, row.items(), mine, fact.deed)
+            let mine = is_own(own, fact.area, fact.effect);
+            spread_row(facts, row.items(), mine, fact.effect)
         }
     }
 }
@@ -167,7 +167,7 @@ fn close(
 }
 
 // The same, by the code.
-fn close_by(g: &Ground, own: &BTreeSet<(u32, u32)>, facts: &mut Facts) -> Result<(), Memory>
+fn close_by(g: &PassContext, own: &BTreeSet<(u32, u32)>, facts: &mut Facts) -> Result<(), Memory>
     requires known { IsPassContext g.now }
     requires own { AreOwn g.now.code.now own.now.keys }
     ensures { OnOk result (ClosesBy g.now.code.now facts.old facts.new) }
@@ -177,7 +177,7 @@ fn close_by(g: &Ground, own: &BTreeSet<(u32, u32)>, facts: &mut Facts) -> Result
 }
 
 /// What each area does, with what it starts and calls, by the variables of blocks.
-pub fn facts_of(g: &Ground, own: &BTreeSet<(u32, u32)>) -> Result<Facts, Memory>
+pub fn facts_of(g: &PassContext, own: &BTreeSet<(u32, u32)>) -> Result<Facts, Memory>
     requires known { IsPassContext g.now }
     requires own { AreOwn g.now.code.now own.now.keys }
     ensures { IfOk result (AreFacts g.now.code.now) }

@@ -13,7 +13,7 @@ ghost use Rattle.sp_rules.specs.Areas.{Area, entry};
 ghost use Rattle.sp_shapes.specs.Stacks.{IsListNumber, IsStacks, list_of, shape_of};
 
 use crate::areas::{area_at, called_block, table_of};
-use crate::ground::Ground;
+use crate::pass_context::PassContext;
 use sp_base::{List, Memory};
 use sp_code::{ChildTable, Code, Formal, Layout};
 use sp_shapes::reached::reached;
@@ -168,7 +168,7 @@ fn link_call(
 }
 
 // Puts those of the call at p, if there is one that is reached.
-fn link_called(g: &Ground, rows: &mut List<List<Edge>>, to: u32, p: u32) -> Result<(), Memory>
+fn link_called(g: &PassContext, rows: &mut List<List<Edge>>, to: u32, p: u32) -> Result<(), Memory>
     requires known { IsPassContext g.now }
     requires lies { (a : Area) × LiesOnlyIn g.now.code.now p a × (entry g.now.code.now a ≡ to) }
     requires there { (b : ℕ) (l : Layout) → layout_of g.now.code.now.layouts b ≡ Some l → l.entry < length rows.old }
@@ -218,7 +218,7 @@ fn link_started(code: &Code, rows: &mut List<List<Edge>>, to: u32, p: u32) -> Re
 }
 
 // Puts those at p.
-fn link_at(g: &Ground, rows: &mut List<List<Edge>>, p: u32) -> Result<(), Memory>
+fn link_at(g: &PassContext, rows: &mut List<List<Edge>>, p: u32) -> Result<(), Memory>
     requires known { IsPassContext g.now }
     requires there { p < length g.now.code.now.instrs }
     requires size { length rows.old ≡ length g.now.code.now.instrs }
@@ -244,7 +244,7 @@ fn empty_rows(alloc: Global, count: usize) -> Result<List<List<Edge>>, Memory>
 }
 
 /// All edges, by the first instructions of the areas from which they lead.
-pub fn edges_of(g: &Ground) -> Result<List<List<Edge>>, Memory>
+pub fn edges_of(g: &PassContext) -> Result<List<List<Edge>>, Memory>
     requires known { IsPassContext g.now }
     ensures { IfOk result (AreEdges g.now.code.now) }
 {

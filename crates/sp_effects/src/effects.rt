@@ -2,13 +2,13 @@
 
 ghost use Rattle.std.specs.Prelude.{◌≡◌, ℕ, IfOk, OnOk, length, slice_get};
 ghost use Rattle.sp_effects.specs.PassContexts.{IsPassContext};
-ghost use Rattle.sp_effects.specs.Effects.{AreEffects, AreRows, HasDeed, PutsDeed, WritesFact, touches};
-ghost use Rattle.sp_effects.specs.declared.facts.Deed.{Deed as DeedOf};
+ghost use Rattle.sp_effects.specs.Effects.{AreEffects, AreRows, RowsHave, AddsEffect, WritesFact, touches};
+ghost use Rattle.sp_effects.specs.declared.facts.Effect.{Effect as EffectOf};
 ghost use Rattle.std.specs.Option.{option_copied};
 
 use crate::closing::facts_of;
-use crate::facts::{Deed, Fact, Facts};
-use crate::ground::Ground;
+use crate::facts::{Effect, Fact, Facts};
+use crate::pass_context::PassContext;
 use crate::variables::own_of;
 use sp_base::{List, Memory};
 use std::alloc::Global;
@@ -16,7 +16,7 @@ use std::collections::BTreeSet;
 
 /// What the code of a block or child does, with the children that it starts and the blocks that it calls.
 #[derive(Drop)]
-pub struct Deeds {
+pub struct EffectRow {
     /// The variables that it stores, each once.
     pub stored: List<u32>,
     /// The variables that it loads, each once.
@@ -29,7 +29,7 @@ pub struct Deeds {
 #[derive(Drop)]
 pub struct Effects {
     /// By the number of the first instruction. Where no code begins, a row says nothing.
-    pub rows: List<Deeds>,
+    pub rows: List<EffectRow>,
     /// The same as facts.
     pub facts: Facts,
     /// The variables of each block, each under the first instruction of its block.
@@ -38,7 +38,7 @@ pub struct Effects {
 
 impl Effects {
     /// What the block or child with this first instruction does.
-    pub fn of(&self, entry: u32) -> Option<&Deeds>
+    pub fn of(&self, entry: u32) -> Option<&EffectRow>
         ensures { option_copied result ≡ slice_get self.now.rows entry }
     {
         self.rows.get(entry as usize)
@@ -50,23 +50,23 @@ impl Effects {
     {
         let stores = Fact {
             area: entry,
-            deed: Deed::Stores(variable),
+            effect: Effect::Stores(variable),
         };
         let loads = Fact {
             area: entry,
-            deed: Deed::Loads(variable),
+            effect: Effect::Loads(variable),
         };
         self.facts.has(stores) || self.facts.has(loads)
     }
 }
 
 // So many rows that say nothing.
-fn empty_rows(alloc: Global, count: usize) -> Result<List<Deeds>, Memory>
-    ensures { IfOk result (λ rows. (length rows ≡ count) × ((m : ℕ) (d : DeedOf) → HasDeed rows m d → ⊥)) }
+fn empty_rows(alloc: Global, count: usize) -> Result<List<EffectRow>, Memory>
+    ensures { IfOk result (λ rows. (length rows ≡ count) × ((m : ℕ) (d : EffectOf) → RowsHave rows m d → ⊥)) }
 {
     let mut rows = List::new(alloc);
     for _m in 0..count {
-        rows.push(Deeds {
+        rows.push(EffectRow {
             stored: List::new(alloc),
             loaded: List::new(alloc),
             stops: false,
@@ -75,18 +75,18 @@ fn empty_rows(alloc: Global, count: usize) -> Result<List<Deeds>, Memory>
     Ok(rows)
 }
 
-// Puts a deed into a row.
-fn put(row: &mut Deeds, deed: Deed) -> Result<(), Memory>
-    ensures { OnOk result (PutsDeed row.old row.new deed) }
+// Puts an effect into a row.
+fn put(row: &mut EffectRow, effect: Effect) -> Result<(), Memory>
+    ensures { OnOk result (AddsEffect row.old row.new effect) }
 {
-    match deed {
-        Deed::Stores(x) => {
+    match effect {
+        Effect::Stores(x) => {
             row.stored.push(x)?;
         }
-        Deed::Loads(x) => {
+        Effect::Loads(x) => {
             row.loaded.push(x)?;
         }
-        Deed::Stops => {
+        Effect::Stops => {
             row.stops = true;
         }
     }
@@ -94,26 +94,26 @@ fn put(row: &mut Deeds, deed: Deed) -> Result<(), Memory>
 }
 
 // Writes a fact into the row of its area.
-fn write(alloc: Global, rows: &mut List<Deeds>, fact: Fact) -> Result<(), Memory>
+fn write(alloc: Global, rows: &mut List<EffectRow>, fact: Fact) -> Result<(), Memory>
     ensures { OnOk result (WritesFact rows.old rows.new fact) }
 {
     let at = fact.area as usize;
     if at >= rows.len() {
         return Ok(());
     }
-    let none = Deeds {
+    let none = EffectRow {
         stored: List::new(alloc),
         loaded: List::new(alloc),
         stops: false,
     };
     let mut row = rows.replace(at, none);
-    put(&mut row, fact.deed)?;
+    put(&mut row, fact.effect)?;
     let _none = rows.replace(at, row);
     Ok(())
 }
 
 // Facts by their areas, in so many rows.
-fn rows_of(alloc: Global, facts: &Facts, count: usize) -> Result<List<Deeds>, Memory>
+fn rows_of(alloc: Global, facts: &Facts, count: usize) -> Result<List<EffectRow>, Memory>
     ensures { IfOk result (AreRows facts.now (length facts.now) count) }
 {
     let mut rows = empty_rows(alloc, count)?;
@@ -128,7 +128,7 @@ fn rows_of(alloc: Global, facts: &Facts, count: usize) -> Result<List<Deeds>, Me
 }
 
 /// What the code of each block and child does. The only other answer is want of memory.
-pub fn find_effects(g: &Ground) -> Result<Effects, Memory>
+pub fn find_effects(g: &PassContext) -> Result<Effects, Memory>
     requires known { IsPassContext g.now }
     ensures { IfOk result (λ effects. AreEffects g.now.code.now effects) }
 {

@@ -1,9 +1,9 @@
 //! Facts about areas of code: a set that keeps the order in which they are found.
 
 ghost use Rattle.std.specs.Prelude.{◌≡◌, ℕ, ◌<◌, ◌||◌, ◌++◌, ◌∷◌, [], false, IfOk, OnOk, length, slice_get};
-ghost use Rattle.sp_effects.specs.declared.facts.Deed.{Deed as DeedOf};
+ghost use Rattle.sp_effects.specs.declared.facts.Effect.{Effect as EffectOf};
 ghost use Rattle.sp_effects.specs.declared.facts.Fact.{Fact as FactOf};
-ghost use Rattle.sp_effects.specs.Facts.{in_sets, index_has, sets_have, same_fact, same_deed, has_fact, with_fact};
+ghost use Rattle.sp_effects.specs.Facts.{in_sets, index_has, sets_have, same_fact, same_effect, has_fact, with_fact};
 
 use sp_base::{List, Memory};
 use std::alloc::Global;
@@ -13,7 +13,7 @@ use std::mem;
 
 /// What the code of an area does.
 #[derive(Clone, Copy)]
-pub enum Deed {
+pub enum Effect {
     /// It stores the variable of this number.
     Stores(u32),
     /// It loads it.
@@ -27,7 +27,7 @@ pub enum Deed {
 pub struct Fact {
     /// The first instruction of the area.
     pub area: u32,
-    pub deed: Deed,
+    pub effect: Effect,
 }
 
 // What one area does.
@@ -39,7 +39,7 @@ struct Sets {
 }
 
 fn no_sets(alloc: Global) -> Sets
-    ensures { (d : DeedOf) → in_sets result d ≡ false }
+    ensures { (d : EffectOf) → in_sets result d ≡ false }
 {
     Sets {
         stored: BTreeSet::new(alloc),
@@ -48,27 +48,27 @@ fn no_sets(alloc: Global) -> Sets
     }
 }
 
-fn has_deed(sets: &Sets, deed: Deed) -> bool
-    ensures { result ≡ in_sets sets.now deed }
+fn has_effect(sets: &Sets, effect: Effect) -> bool
+    ensures { result ≡ in_sets sets.now effect }
 {
-    match deed {
-        Deed::Stores(x) => sets.stored.contains(&x),
-        Deed::Loads(x) => sets.loaded.contains(&x),
-        Deed::Stops => sets.stops,
+    match effect {
+        Effect::Stores(x) => sets.stored.contains(&x),
+        Effect::Loads(x) => sets.loaded.contains(&x),
+        Effect::Stops => sets.stops,
     }
 }
 
-fn put_deed(sets: &mut Sets, deed: Deed) -> Result<(), Memory>
-    ensures { OnOk result ((d : DeedOf) → in_sets sets.new d ≡ same_deed d deed || in_sets sets.old d) }
+fn put_effect(sets: &mut Sets, effect: Effect) -> Result<(), Memory>
+    ensures { OnOk result ((d : EffectOf) → in_sets sets.new d ≡ same_effect d effect || in_sets sets.old d) }
 {
-    match deed {
-        Deed::Stores(x) => {
+    match effect {
+        Effect::Stores(x) => {
             sets.stored.insert(x)?;
         }
-        Deed::Loads(x) => {
+        Effect::Loads(x) => {
             sets.loaded.insert(x)?;
         }
-        Deed::Stops => {
+        Effect::Stops => {
             sets.stops = true;
         }
     }
@@ -78,7 +78,7 @@ fn put_deed(sets: &mut Sets, deed: Deed) -> Result<(), Memory>
 // Gives an area a place, and those before it.
 fn reach(areas: &mut List<Sets>, area: u32) -> Result<(), Memory>
     ensures { OnOk result ((area < length areas.new)
-        × ((p : ℕ) (d : DeedOf) → sets_have areas.new p d ≡ sets_have areas.old p d)) }
+        × ((p : ℕ) (d : EffectOf) → sets_have areas.new p d ≡ sets_have areas.old p d)) }
 {
     let alloc = areas.alloc();
     for _place in areas.len()..area as usize + 1 {
@@ -90,12 +90,12 @@ fn reach(areas: &mut List<Sets>, area: u32) -> Result<(), Memory>
 // Puts a fact at the place of its area.
 fn put_at(areas: &mut List<Sets>, fact: Fact) -> Result<(), Memory>
     requires { fact.area < length areas.old }
-    ensures { OnOk result ((f : FactOf) → sets_have areas.new f.area f.deed
-        ≡ same_fact f fact || sets_have areas.old f.area f.deed) }
+    ensures { OnOk result ((f : FactOf) → sets_have areas.new f.area f.effect
+        ≡ same_fact f fact || sets_have areas.old f.area f.effect) }
 {
     let none = no_sets(areas.alloc());
     let mut sets = areas.replace(fact.area as usize, none);
-    put_deed(&mut sets, fact.deed)?;
+    put_effect(&mut sets, fact.effect)?;
     let _none = areas.replace(fact.area as usize, sets);
     Ok(())
 }
@@ -108,7 +108,7 @@ struct Index {
 
 impl Index {
     fn new(alloc: Global) -> Index
-        ensures { (p : ℕ) (d : DeedOf) → index_has result p d ≡ false }
+        ensures { (p : ℕ) (d : EffectOf) → index_has result p d ≡ false }
     {
         Index {
             areas: List::new(alloc),
@@ -116,17 +116,17 @@ impl Index {
     }
 
     fn has(&self, fact: Fact) -> bool
-        ensures { result ≡ index_has self.now fact.area fact.deed }
+        ensures { result ≡ index_has self.now fact.area fact.effect }
     {
         match self.areas.get(fact.area as usize) {
             None => false,
-            Some(sets) => has_deed(sets, fact.deed),
+            Some(sets) => has_effect(sets, fact.effect),
         }
     }
 
     fn put(&mut self, fact: Fact) -> Result<(), Memory>
-        ensures { OnOk result ((f : FactOf) → index_has self.new f.area f.deed
-            ≡ same_fact f fact || index_has self.old f.area f.deed) }
+        ensures { OnOk result ((f : FactOf) → index_has self.new f.area f.effect
+            ≡ same_fact f fact || index_has self.old f.area f.effect) }
     {
         reach(&mut self.areas, fact.area)?;
         put_at(&mut self.areas, fact)

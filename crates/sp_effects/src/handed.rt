@@ -9,8 +9,8 @@ ghost use Rattle.sp_effects.specs.Handed.{ChildFails, TableFails, clashes, fails
 ghost use Rattle.sp_effects.specs.Handed.{fails_alone, is_loose};
 ghost use Rattle.sp_effects.specs.Sets.{with_all};
 
-use crate::effects::{Deeds, Effects};
-use crate::ground::Ground;
+use crate::effects::{EffectRow, Effects};
+use crate::pass_context::PassContext;
 use crate::sets::{add_all, add_index, goes_beyond, meets};
 use sp_areas::least::{least, place_if};
 use sp_base::Memory;
@@ -73,14 +73,14 @@ fn note(before: &mut Before, child: &ChildTable) -> Result<(), Memory>
 // Whether a child that does this fails, alone or beside those before it.
 fn fails_so(
     alloc: Global,
-    deeds: &Deeds,
+    row: &EffectRow,
     before: &Before,
     child: &ChildTable,
 ) -> Result<bool, Memory>
     ensures { IfOk result (λ fails. fails
-        ≡ fails_by (Some deeds.now) before.now.moved.keys before.now.handed.keys child.now) }
+        ≡ fails_by (Some row.now) before.now.moved.keys before.now.handed.keys child.now) }
 {
-    let alone = fails_alone(alloc, child, deeds.stored.items(), deeds.loaded.items())?;
+    let alone = fails_alone(alloc, child, row.stored.items(), row.loaded.items())?;
     Ok(alone || clashes(before, child))
 }
 
@@ -96,7 +96,7 @@ fn child_fails(
 {
     match effects.of(child.entry) {
         None => Ok(false),
-        Some(deeds) => fails_so(alloc, deeds, before, child),
+        Some(row) => fails_so(alloc, row, before, child),
     }
 }
 
@@ -137,7 +137,7 @@ fn first_in(alloc: Global, effects: &Effects, tables: &[ForkTable]) -> Result<Op
 /// handed, is handed something wrongly, or clashes with a child before it. None where there is none. The only other
 /// answer is want of memory.
 #[tactic(auto, using(crate::proofs::Broken::v6_least))]
-pub fn first_ill_handed(g: &Ground, effects: &Effects) -> Result<Option<u32>, Memory>
+pub fn first_ill_handed(g: &PassContext, effects: &Effects) -> Result<Option<u32>, Memory>
     requires known { IsPassContext g.now }
     requires effects { AreEffects g.now.code.now effects.now }
     ensures { IfOk result (λ first. IsLeast (BreaksV6 g.now.code.now) first) }

@@ -8,7 +8,7 @@ ghost use Rattle.sp_shapes.specs.Reached.{reached_at};
 ghost use Rattle.sp_effects.specs.PassContexts.{IsPassContext};
 ghost use Rattle.sp_effects.specs.Turns.{AreInside, inside_of, is_inside};
 
-use crate::ground::Ground;
+use crate::pass_context::PassContext;
 use sp_areas::flags::{mark, no_flags};
 use sp_areas::levels::is_block_outward;
 use sp_base::{List, Memory};
@@ -16,7 +16,7 @@ use sp_code::Instr;
 use sp_shapes::reached::reached;
 
 // Whether a block that is called from so many levels inside the one around it is called inside itself.
-fn is_inside(g: &Ground, p: u32, block: u32, up: u32) -> bool
+fn is_inside(g: &PassContext, p: u32, block: u32, up: u32) -> bool
     requires known { IsPassContext g.now }
     requires there { p < length g.now.code.now.instrs }
     ensures { (a : Area) → LiesOnlyIn g.now.code.now p a
@@ -26,7 +26,7 @@ fn is_inside(g: &Ground, p: u32, block: u32, up: u32) -> bool
 }
 
 // The place of the layout of a block that an instruction calls inside itself.
-fn inside_of(g: &Ground, p: u32, instr: Instr) -> Option<u32>
+fn inside_of(g: &PassContext, p: u32, instr: Instr) -> Option<u32>
     requires known { IsPassContext g.now }
     requires there { p < length g.now.code.now.instrs }
     ensures { (a : Area) → LiesOnlyIn g.now.code.now p a
@@ -45,7 +45,7 @@ fn inside_of(g: &Ground, p: u32, instr: Instr) -> Option<u32>
 }
 
 // The place of the layout of a block that an instruction which is reached calls inside itself.
-fn place_at(g: &Ground, p: u32) -> Option<u32>
+fn place_at(g: &PassContext, p: u32) -> Option<u32>
     requires known { IsPassContext g.now }
     requires there { p < length g.now.code.now.instrs }
     ensures come { (a : Area) (n : ℕ) → LiesOnlyIn g.now.code.now p a → reached_at g.now.shapes.now p ≡ Some n
@@ -62,7 +62,7 @@ fn place_at(g: &Ground, p: u32) -> Option<u32>
 }
 
 // Sets the flag of the layout of a block that an instruction calls inside itself, if it calls one.
-fn note(g: &Ground, flags: &mut List<bool>, p: u32)
+fn note(g: &PassContext, flags: &mut List<bool>, p: u32)
     requires known { IsPassContext g.now }
     requires keeps { KeepsCodeRules g.now.code.now }
     requires there { p < length g.now.code.now.instrs }
@@ -76,7 +76,7 @@ fn note(g: &Ground, flags: &mut List<bool>, p: u32)
 }
 
 /// For each layout, whether its block is called inside itself: in its own code, or in that of a block inside it.
-pub(crate) fn called_inside(g: &Ground) -> Result<List<bool>, Memory>
+pub(crate) fn called_inside(g: &PassContext) -> Result<List<bool>, Memory>
     requires known { IsPassContext g.now }
     requires keeps { KeepsCodeRules g.now.code.now }
     ensures { IfOk result (λ flags. AreInside g.now.code.now g.now.blocks.now.first g.now.shapes.now

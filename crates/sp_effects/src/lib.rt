@@ -1,7 +1,7 @@
 //! What the code of blocks and children does to variables, for rules V6 to V8 of code files.
 //!
 //! Calls:
-//! - `Ground` (`ground`): code that keeps V1, with what is known of it. All passes go by it.
+//! - `PassContext` (`pass_context`): code that keeps V1, with what is known of it. All passes go by it.
 //! - `find_effects` (`effects`): exactly the variables that each area stores and loads, with what it starts and calls,
 //!   and whether it comes to a stop other than a fault (`AreEffects`).
 //! - `Effects::of`, `touches`: what the area with this first instruction does; whether it stores or loads a variable.
@@ -29,11 +29,11 @@ pub mod closing;
 pub mod edges;
 pub mod effects;
 pub mod facts;
-pub mod ground;
 pub mod handed;
 pub mod inside;
 pub mod loud;
 pub mod own;
+pub mod pass_context;
 pub mod places;
 pub mod sets;
 pub mod variables;

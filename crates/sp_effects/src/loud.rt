@@ -7,17 +7,17 @@ ghost use Rattle.sp_effects.specs.PassContexts.{IsPassContext};
 ghost use Rattle.sp_effects.specs.Effects.{AreEffects};
 ghost use Rattle.sp_effects.specs.Loud.{is_loud};
 
-use crate::effects::{Deeds, Effects};
-use crate::ground::Ground;
+use crate::effects::{EffectRow, Effects};
+use crate::pass_context::PassContext;
 use crate::variables::goes_out;
 use sp_areas::least::{least, place_if};
 use sp_code::Layout;
 
 // Whether an answering block that does this stores outside itself, or stops.
-fn deeds_are_loud(effects: &Effects, l: &Layout, deeds: &Deeds) -> bool
-    ensures { result ≡ is_loud effects.now.own.keys l.now (Some deeds.now) }
+fn row_is_loud(effects: &Effects, l: &Layout, row: &EffectRow) -> bool
+    ensures { result ≡ is_loud effects.now.own.keys l.now (Some row.now) }
 {
-    l.answer && (deeds.stops || goes_out(&effects.own, l.entry, 0, deeds.stored.items()))
+    l.answer && (row.stops || goes_out(&effects.own, l.entry, 0, row.stored.items()))
 }
 
 fn is_loud(effects: &Effects, l: &Layout) -> bool
@@ -25,13 +25,13 @@ fn is_loud(effects: &Effects, l: &Layout) -> bool
 {
     match effects.of(l.entry) {
         None => false,
-        Some(deeds) => deeds_are_loud(effects, l, deeds),
+        Some(row) => row_is_loud(effects, l, row),
     }
 }
 
 /// The least instruction at which V8 is broken: the first instruction of a block with an answer that stores outside
 /// itself, or comes to a stop. None where there is none.
-pub fn first_loud(g: &Ground, effects: &Effects) -> Option<u32>
+pub fn first_loud(g: &PassContext, effects: &Effects) -> Option<u32>
     requires known { IsPassContext g.now }
     requires effects { AreEffects g.now.code.now effects.now }
     ensures { IsLeast (BreaksV8 g.now.code.now) result }

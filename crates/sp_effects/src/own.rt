@@ -6,16 +6,16 @@ ghost use Rattle.sp_areas.specs.Only.{LiesOnlyIn};
 ghost use Rattle.sp_code.specs.Machine.{layout_of};
 ghost use Rattle.sp_effects.specs.PassContexts.{IsPassContext};
 ghost use Rattle.sp_effects.specs.Facts.{Tells};
-ghost use Rattle.sp_effects.specs.Own.{DoesBy, ForkedAt, IsDeedAmong, IsHanded, IsOf, IsStop, OneIsHanded, OwnAt};
-ghost use Rattle.sp_effects.specs.Own.{OwnBefore, ReachedAt, deed_of, operand_variables, variables_at};
+ghost use Rattle.sp_effects.specs.Own.{DoesBy, ForkedAt, IsEffectAmong, IsHanded, IsOf, IsStop, OneIsHanded, OwnAt};
+ghost use Rattle.sp_effects.specs.Own.{OwnBefore, ReachedAt, effect_of, operand_variables, variables_at};
 ghost use Rattle.sp_rules.specs.Areas.{Area, entry, instr_at};
 ghost use Rattle.sp_rules.specs.Touched.{topmost_variable, addresses, number_list};
 ghost use Rattle.sp_rules.specs.Shapes.{below_topmost};
 ghost use Rattle.sp_shapes.specs.Stacks.{IsListNumber, IsStacks, list_of, shape_of};
 
 use crate::areas::{area_at, table_of};
-use crate::facts::{Deed, Fact, Facts};
-use crate::ground::Ground;
+use crate::facts::{Effect, Fact, Facts};
+use crate::pass_context::PassContext;
 use crate::places::{Place, is_stop, loaded_place, stored_place};
 use sp_areas::homes::Found;
 use sp_base::{List, Memory};
@@ -99,7 +99,7 @@ fn push_addresses(
 }
 
 // Those of the operands of a call.
-fn push_passed(list: &mut List<u32>, g: &Ground, block: u32, stack: u32) -> Result<(), Memory>
+fn push_passed(list: &mut List<u32>, g: &PassContext, block: u32, stack: u32) -> Result<(), Memory>
     requires known { IsPassContext g.now }
     requires there { IsListNumber g.now.shapes.now.stacks stack }
     ensures { OnOk result (list.new ≡ list.old
@@ -114,7 +114,7 @@ fn push_passed(list: &mut List<u32>, g: &Ground, block: u32, stack: u32) -> Resu
 // The variables at a place.
 fn push_placed(
     list: &mut List<u32>,
-    g: &Ground,
+    g: &PassContext,
     p: u32,
     place: Place,
     stack: u32,
@@ -143,7 +143,7 @@ fn push_placed(
     }
 }
 
-fn variables_at(g: &Ground, p: u32, place: Place, stack: u32) -> Result<List<u32>, Memory>
+fn variables_at(g: &PassContext, p: u32, place: Place, stack: u32) -> Result<List<u32>, Memory>
     requires known { IsPassContext g.now }
     requires there { IsListNumber g.now.shapes.now.stacks stack }
     requires within { p < length g.now.code.now.instrs }
@@ -155,23 +155,23 @@ fn variables_at(g: &Ground, p: u32, place: Place, stack: u32) -> Result<List<u32
     Ok(list)
 }
 
-fn deed_of(stores: bool, x: u32) -> Deed
-    ensures { result ≡ deed_of stores x }
+fn effect_of(stores: bool, x: u32) -> Effect
+    ensures { result ≡ effect_of stores x }
 {
     if stores {
-        Deed::Stores(x)
+        Effect::Stores(x)
     } else {
-        Deed::Loads(x)
+        Effect::Loads(x)
     }
 }
 
 // Tells that an area stores these variables, or that it loads them.
 fn tell(facts: &mut Facts, area: u32, stores: bool, variables: &[u32]) -> Result<(), Memory>
-    ensures { OnOk result (Tells facts.old facts.new (IsOf area (IsDeedAmong stores variables.now))) }
+    ensures { OnOk result (Tells facts.old facts.new (IsOf area (IsEffectAmong stores variables.now))) }
 {
     for i in 0..variables.len() {
-        let deed = deed_of(stores, variables[i]);
-        facts.add(Fact { area, deed })?;
+        let effect = effect_of(stores, variables[i]);
+        facts.add(Fact { area, effect })?;
     }
     Ok(())
 }
@@ -183,7 +183,7 @@ fn tell_stop(facts: &mut Facts, area: u32, instr: Instr) -> Result<(), Memory>
     if is_stop(instr) {
         facts.add(Fact {
             area,
-            deed: Deed::Stops,
+            effect: Effect::Stops,
         })?;
     }
     Ok(())
@@ -191,7 +191,7 @@ fn tell_stop(facts: &mut Facts, area: u32, instr: Instr) -> Result<(), Memory>
 
 // Tells what an instruction does itself, with these shapes.
 fn tell_shaped(
-    g: &Ground,
+    g: &PassContext,
     facts: &mut Facts,
     area: u32,
     p: u32,
@@ -241,7 +241,7 @@ fn tell_forked(code: &Code, facts: &mut Facts, area: u32, p: u32) -> Result<(), 
 }
 
 // Tells what the instruction at p does itself, if it is reached.
-fn tell_reached(g: &Ground, facts: &mut Facts, area: u32, p: u32) -> Result<(), Memory>
+fn tell_reached(g: &PassContext, facts: &mut Facts, area: u32, p: u32) -> Result<(), Memory>
     requires known { IsPassContext g.now }
     requires lies { (a : Area) × LiesOnlyIn g.now.code.now p a × (entry g.now.code.now a ≡ area) }
     requires within { p < length g.now.code.now.instrs }
@@ -259,7 +259,7 @@ fn tell_reached(g: &Ground, facts: &mut Facts, area: u32, p: u32) -> Result<(), 
 }
 
 // Tells what the instruction at p does.
-fn tell_at(g: &Ground, facts: &mut Facts, p: u32) -> Result<(), Memory>
+fn tell_at(g: &PassContext, facts: &mut Facts, p: u32) -> Result<(), Memory>
     requires known { IsPassContext g.now }
     requires there { p < length g.now.code.now.instrs }
     ensures { OnOk result (Tells facts.old facts.new (OwnAt g.now.code.now p)) }
@@ -273,7 +273,7 @@ fn tell_at(g: &Ground, facts: &mut Facts, p: u32) -> Result<(), Memory>
 }
 
 /// What each area does itself, or hands to its children.
-pub fn tell_own(g: &Ground, facts: &mut Facts) -> Result<(), Memory>
+pub fn tell_own(g: &PassContext, facts: &mut Facts) -> Result<(), Memory>
     requires known { IsPassContext g.now }
     ensures { OnOk result (Tells facts.old facts.new (OwnBefore g.now.code.now (length g.now.code.now.instrs))) }
 {

@@ -48,7 +48,7 @@ pub wrote : {T E : Type 0} (r : Result T E) (d e : CodeBuffer) (ys xs : List Ins
 wrote (Ok v) d e ys xs h k = ap (λ (zs : List Instr). buffer_of zs (d.forks) (d.texts)) h ∙ k
 wrote (Err x) d e ys xs h k = h
 
--- a draft that was made, where all went well
+-- a buffer that was made, where all went well
 pub went : {T E : Type 0} (r : Result T E) (x y z : CodeBuffer) → OnOk r (x ≡ y) → y ≡ z → OnOk r (x ≡ z)
 went (Ok v) x y z h k = h ∙ k
 went (Err e) x y z h k = h

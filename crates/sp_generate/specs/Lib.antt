@@ -5,6 +5,6 @@ pub mod Tables
 pub mod Handings
 pub mod Steps
 pub mod Written
-pub mod Puts
+pub mod BuffersAfter
 pub mod Numbered
 pub mod Generated

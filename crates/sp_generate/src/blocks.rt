@@ -6,7 +6,7 @@ ghost use Rattle.sp_tree.specs.Bare.{without_places, bare_block};
 ghost use Rattle.sp_tree.specs.Around.{parent_of, scopes_of};
 ghost use Rattle.sp_code.specs.Emitted.{cells_of, formal_by, formal_of, end_instr, layout_of};
 ghost use Rattle.sp_generate.specs.Views.{plain_program, scopes, cells_in, formals_in};
-ghost use Rattle.sp_generate.specs.Puts.{with_block};
+ghost use Rattle.sp_generate.specs.BuffersAfter.{with_block};
 
 use crate::code_buffer::CodeBuffer;
 use crate::code_context::CodeContext;

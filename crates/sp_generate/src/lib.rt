@@ -12,7 +12,7 @@
 //!   are handed variables in order of their numbers, so that a program has one code (`src/law.rt`).
 //! - A number that is no `u32`, and code with more fork tables, texts or layouts than it may have, are answered as want
 //!   of memory. Neither is in the code of a text, which has at most 1,048,576 bytes.
-//! - `ground.rt` is what is kept of the tree, `single.rt` has single instructions, `expressions.rt`, `simple.rt`,
+//! - `code_context.rt` is what is kept of the tree, `single.rt` has single instructions, `expressions.rt`, `simple.rt`,
 //!   `statements.rt`, `choices.rt` and `blocks.rt` are the pass, `handed.rt` is what a process is handed.
 //! - `specs/Written.antt` is what stands once a part was written behind what stood: the form of every contract of the
 //!   pass. `Tables` and `Handings` are the fork tables by the numbers of statements, `Numbered` the code with them.

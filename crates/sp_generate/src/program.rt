@@ -2,7 +2,7 @@
 
 ghost use Rattle.std.specs.Prelude.{◌≡◌, ◌<◌, ◌↔◌, IsTrue, IfOk, OnOk, length, map};
 ghost use Rattle.sp_tree.specs.CheckedOf.{program_of, block_of};
-ghost use Rattle.sp_generate.specs.Puts.{with_blocks, layouts_in};
+ghost use Rattle.sp_generate.specs.BuffersAfter.{with_blocks, layouts_in};
 ghost use Rattle.sp_generate.specs.declared.program.GenError.TheVariants.{Memory as OutOfMemory};
 ghost use Rattle.sp_varsets.specs.AreSets.{AreSets};
 ghost use Rattle.sp_generate.specs.Numbered.{numbered_code};

@@ -13,9 +13,9 @@ ghost use Rattle.sp_generate.specs.declared.levels.Scope.TheVariants as scope;
 ghost use Rattle.sp_generate.specs.Steps.{for_instr, next_instr};
 ghost use Rattle.sp_generate.specs.Views.{plain_program, scopes};
 ghost use Rattle.sp_generate.specs.Written.{with_code, starts_of, ends_of};
-ghost use Rattle.sp_generate.specs.Puts.{with_statement, with_form, with_all, with_children, with_arms, with_branch};
-ghost use Rattle.sp_generate.specs.Puts.{with_passed, with_loop, with_spread, with_choices, child_of, index_child};
-ghost use Rattle.sp_generate.specs.Puts.{children_of};
+ghost use Rattle.sp_generate.specs.BuffersAfter.{with_statement, with_form, with_all, with_children, with_arms};
+ghost use Rattle.sp_generate.specs.BuffersAfter.{with_branch, with_passed, with_loop, with_spread, with_choices};
+ghost use Rattle.sp_generate.specs.BuffersAfter.{child_of, index_child, children_of};
 
 use crate::choices::{fill_ends, fill_tests, put_blanks};
 use crate::code_buffer::{CodeBuffer, patch, patch_table};

@@ -17,7 +17,7 @@ use Rattle.sp_cell.specs.Spots.{In}
 use Rattle.sp_journal.specs.Births.{Births, is_next, first_births, births_after_event}
 use Rattle.sp_journal.specs.Maps.{at_key}
 use Rattle.sp_journal.specs.declared.entry.Birth.{Birth}
-use Rattle.sp_journal.specs.declared.entry.Entry.{Entry as Entered}
+use Rattle.sp_journal.specs.declared.entry.Entry.{Entry as JournalEntry}
 use Rattle.sp_journal.specs.declared.entry.Event.{Event}
 use Rattle.sp_journal.specs.declared.entry.Event.TheVariants as event
 use Rattle.sp_code.specs.Machine.{Entry, Stop, Forks, Opens, Sends, Receives, Ends, Pauses, Config, At}
@@ -466,7 +466,7 @@ module _ (g : CodeRun) (k : KeepsCodeRules g.code) (e : KeepsEffects g.code (Doe
   enters_apart s t q ev i p h = subst (λ (x : System Plain). AreApart x.condition x.births.birth) (sym h.5)
       (turn_apart s i p q h.0 h.1 h.2 h.3)
 
-  leads_apart : (es : List Entered) (s t : System Plain) → IsInvariant s.condition s.births
+  leads_apart : (es : List JournalEntry) (s t : System Plain) → IsInvariant s.condition s.births
       → AreApart s.condition s.births.birth → EntriesLead plain g s es t
       → IsInvariant t.condition t.births × AreApart t.condition t.births.birth
   leads_apart [] s t i p l = subst
@@ -510,7 +510,7 @@ module _ (g : CodeRun) (k : KeepsCodeRules g.code) (e : KeepsEffects g.code (Doe
           go false is = refl
 
   -- along every journal
-  pub along : (es : List Entered) (s : System Plain) → IsSystem plain g es s
+  pub along : (es : List JournalEntry) (s : System Plain) → IsSystem plain g es s
       → IsInvariant s.condition s.births × AreApart s.condition s.births.birth
   along es s l = leads_apart es (opening_system plain g) s
       (live_along g k e known small v9 [] (opening_system plain g) refl)

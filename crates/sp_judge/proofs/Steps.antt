@@ -28,7 +28,7 @@ use Rattle.sp_judge.specs.JudgeTables.{IsNameableAndSilent, IsPlain, offer_event
 use Rattle.sp_judge.proofs.TableLaws.{clock_is}
 use Rattle.sp_judge.proofs.Numbers.{ExtendsBirths}
 use Rattle.sp_judge.proofs.Fronts as front
-use Rattle.sp_judge.proofs.JudgeTableLaws as bench
+use Rattle.sp_judge.proofs.JudgeTableLaws as laws
 use Rattle.sp_judge.proofs.OfferLaws as offers
 use Rattle.sp_judge.proofs.VerdictLaws.{offer_happens, channel_there, IsOffer, none_known, last_known, last_counted}
 use Rattle.sp_judge.proofs.VerdictLaws.{own_known}
@@ -62,7 +62,7 @@ module _ (all : List Entry) (t : IsNameableAndSilent all) (at : ℕ) (e : Entry)
   p = e.process
 
   abbrev Asked : ℕ → Type 0
-  Asked = bench.Live all t.nameable t.quiet law at e inside until b h
+  Asked = laws.Live all t.nameable t.quiet law at e inside until b h
 
   there : p < s.processes
   there = front.there all t.nameable t.quiet law at e inside
@@ -116,12 +116,12 @@ module _ (all : List Entry) (t : IsNameableAndSilent all) (at : ℕ) (e : Entry)
     all_clocks = len ∙ h.all_clocks;
     all_made = lm;
     all_lines = ll;
-    all_places = ap length places ∙ bench.places_length all t.nameable t.quiet law at e inside until b h;
-    clocks = bench.clocks_more all t.nameable t.quiet law at e inside until b h b' clocks;
+    all_places = ap length places ∙ laws.places_length all t.nameable t.quiet law at e inside until b h;
+    clocks = laws.clocks_more all t.nameable t.quiet law at e inside until b h b' clocks;
     made_is = made_is;
     lines = lines;
     places = λ i x g. ap (λ xs. slice_get xs i) places
-        ∙ bench.places_more all t.nameable t.quiet law at e inside until b h i x g;
+        ∙ laws.places_more all t.nameable t.quiet law at e inside until b h i x g;
     next = next ∙ ap (λ (x : Births). x.processes) (sym (front.births_more all t.nameable t.quiet law at e inside));
   }
 
@@ -141,7 +141,7 @@ module _ (all : List Entry) (t : IsNameableAndSilent all) (at : ℕ) (e : Entry)
       → TablesHold s until (take (at + 1) all) b'
   counted_then b' counted len clocks mk ll lines places next = holds_then b' len clocks
       (ap length mk ∙ length-set b.made.items p (number_at b.made.items p + 1) ∙ h.all_made)
-      (λ r l. ap (λ xs. slice_get xs r) mk ∙ bench.made_counted all t.nameable t.quiet law at e inside until b h counted
+      (λ r l. ap (λ xs. slice_get xs r) mk ∙ laws.made_counted all t.nameable t.quiet law at e inside until b h counted
       r l)
       ll lines places next
 
@@ -152,7 +152,7 @@ module _ (all : List Entry) (t : IsNameableAndSilent all) (at : ℕ) (e : Entry)
       (happening s e.event)).pending ≡ (knowledge_of (entries_by_names s (take at all))).pending
       → (c : ℕ) → c < s.channels → (l : ChannelOffers) × (slice_get b'.lines.items c ≡ Some l)
       × IsChannelOffers s (entries_by_names s (take (at + 1) all)) (channel s c) l
-  old_lines b' same off pend c l = let x = bench.lines_stay all t.nameable t.quiet law at e inside until b h off pend c
+  old_lines b' same off pend c l = let x = laws.lines_stay all t.nameable t.quiet law at e inside until b h off pend c
       l in (x.0, ap (λ xs. slice_get xs c) same ∙ x.1, x.2)
 
   module _ (b' : JudgeTables) (len : length b'.clocks.items ≡ length b.clocks.items)
@@ -166,7 +166,7 @@ module _ (all : List Entry) (t : IsNameableAndSilent all) (at : ℕ) (e : Entry)
             (clock_at b.clocks.items r q))
             → TablesHold s until (take (at + 1) all) b'
         opened is next clocks = counted_then b' (ap (λ v. is_counted (happening s v)) is) len
-            (λ r q l k. bench.own_raised_is all t.nameable t.quiet law at e inside until b h (clock_at b'.clocks.items)
+            (λ r q l k. laws.own_raised_is all t.nameable t.quiet law at e inside until b h (clock_at b'.clocks.items)
             clocks r q l k ∙ sym (ap (λ v. clocks_after_entry (clocks_of (entries_by_names s (take at all)))
             (knowledge_of (entries_by_names s (take at all))) (entries_by_names s (take at all)) (s.name p)
             (happening s v) (s.name r)
@@ -186,7 +186,7 @@ module _ (all : List Entry) (t : IsNameableAndSilent all) (at : ℕ) (e : Entry)
             ≡ cond (nat_le b.next r && nat_lt r (b.next + n)) (max (c1 r q) (c1 p q)) (c1 r q))
             → TablesHold s until (take (at + 1) all) b'
         forked n is next c1 one two = counted_then b' (ap (λ v. is_counted (happening s v)) is) len
-            (λ r q l k. bench.forked_is all t.nameable t.quiet law at e inside until b h n is c1
+            (λ r q l k. laws.forked_is all t.nameable t.quiet law at e inside until b h n is c1
             (clock_at b'.clocks.items) one two r q l k
             ∙ sym (ap (λ v. clocks_after_entry (clocks_of (entries_by_names s (take at all)))
             (knowledge_of (entries_by_names s (take at all)))
@@ -225,7 +225,7 @@ module _ (all : List Entry) (t : IsNameableAndSilent all) (at : ℕ) (e : Entry)
             (clock_at b.clocks.items r q))
             → TablesHold s until (take (at + 1) all) b'
         ended_root is next none one = ended_with is next
-            (bench.ended_root_is all t.nameable t.quiet law at e inside until b h none (clock_at b'.clocks.items) one)
+            (laws.ended_root_is all t.nameable t.quiet law at e inside until b h none (clock_at b'.clocks.items) one)
 
         pub ended : e.event ≡ event.End → b'.next ≡ b.next → (u : Birth) → Some u ≡ s.birth p → (c1 : ℕ → ℕ → ℕ)
             → ((r q : ℕ) → IsAsked until (at + 1) q
@@ -234,7 +234,7 @@ module _ (all : List Entry) (t : IsNameableAndSilent all) (at : ℕ) (e : Entry)
             → ((r q : ℕ) → clock_at b'.clocks.items r q ≡ cond (u.parent == r) (max (c1 u.parent q) (c1 p q)) (c1 r q))
             → TablesHold s until (take (at + 1) all) b'
         ended is next u born c1 one two = ended_with is next
-            (bench.ended_is all t.nameable t.quiet law at e inside until b h u born
+            (laws.ended_is all t.nameable t.quiet law at e inside until b h u born
             (let a = parent_older s law p there u born in let c = there in omega arith) c1 (clock_at b'.clocks.items)
             one two)
 
@@ -306,14 +306,14 @@ module _ (all : List Entry) (t : IsNameableAndSilent all) (at : ℕ) (e : Entry)
             → TablesHold s until (take (at + 1) all) b'
         all_of v is counted off same pend still = holds_then b' len
             (λ r q l k. ap (λ cs. clock_at cs r q) clocks
-            ∙ bench.clock_is all t.nameable t.quiet law at e inside until b h r q l k
+            ∙ laws.clock_is all t.nameable t.quiet law at e inside until b h r q l k
             ∙ sym (ap (λ x. clocks_after_entry (clocks_of (entries_by_names s (take at all)))
             (knowledge_of (entries_by_names s (take at all)))
             (entries_by_names s (take at all)) (s.name p) (happening s x) (s.name r) (s.name q)) is
             ∙ same (s.name r) (s.name q)))
             (ap length mk ∙ h.all_made)
             (λ r l. ap (λ xs. slice_get xs r) mk
-            ∙ bench.made_kept all t.nameable t.quiet law at e inside until b h
+            ∙ laws.made_kept all t.nameable t.quiet law at e inside until b h
             (ap (λ x. is_counted (happening s x)) is ∙ counted) r l)
             (ap length lines ∙ h.all_lines)
             (old_lines b' lines (λ d w f. off d w (sym (ap (happening s) is) ∙ f))

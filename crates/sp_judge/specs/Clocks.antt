@@ -1,6 +1,6 @@
 -- None of this belongs to what the program promises: it is for contracts between crates.
--- What a clock says: a count for each process, 0 where it has no pair. The contracts of clocks, tables and the bench
--- cite it, as functions, since equal clocks may be stored differently.
+-- What a clock says: a count for each process, 0 where it has no pair. The contracts of clocks and of the judge's
+-- tables cite it, as functions, since equal clocks may be stored differently.
 use Rattle.std.specs.Prelude.{◌≡◌, ℕ, ◌<◌, cond, max, ◌==◌, List, Option, Some, None, unwrap_or, slice_get, IsSome}
 use Rattle.std.specs.Ordering.{nat_cmp}
 use Rattle.std.specs.BTreeMap as tree

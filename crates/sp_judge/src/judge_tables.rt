@@ -86,7 +86,7 @@ pub(crate) struct RacingOffer {
 impl JudgeTables {
     /// The tables of a journal with so many processes and channels, before its first entry.
     pub(crate) fn new(alloc: Global, processes: u64, channels: u64) -> Result<JudgeTables, Memory>
-        ensures { IfOk result (λ bench. IsBlank bench processes channels) }
+        ensures { IfOk result (λ tables. IsBlank tables processes channels) }
     {
         let mut clocks = Vec::new(alloc);
         let mut made = Vec::new(alloc);

@@ -79,7 +79,7 @@ fn ask(until: &mut Vec<u64>, users: &mut Vec<Users>, entry: Entry, end: u64) {
 /// Whether the process of this offer, the next entry, knows of all offers of its way on its channel so far. All of them
 /// were in order.
 pub(crate) fn knows_offers(
-    bench: &JudgeTables,
+    tables: &JudgeTables,
     ledger: &Ledger,
     entries: &[Entry],
     until: &[u64],
@@ -89,21 +89,21 @@ pub(crate) fn knows_offers(
     requires tame { IsNameableAndSilent entries.now }
     requires ledger { IsLedger ledger.now }
     requires its_journal { ledger.now.journal.entries ≡ entries.now }
-    requires holds { TablesHold (births entries.now) until.now (take at entries.now) bench.now }
+    requires holds { TablesHold (births entries.now) until.now (take at entries.now) tables.now }
     requires here { slice_get entries.now at
         ≡ Some (record { process = offer.process; event = offer_event offer.way offer.channel }) }
     requires in_order { AreKnown (entries_by_names (births entries.now) (take at entries.now)) }
     ensures { IfOk result (λ knows. IsTrue knows ↔ KnowsAll entries.now at offer.process offer.way offer.channel) }
 {
-    match bench.lines[offer.channel as usize].last(offer.way) {
+    match tables.lines[offer.channel as usize].last(offer.way) {
         None => Ok(true),
         Some(last) => {
             if last.process == offer.process {
                 Ok(true)
             } else if is_asked(until, last.process, at as u64) {
-                Ok(bench.clocks[offer.process as usize].knows(last.process, last.place))
+                Ok(tables.clocks[offer.process as usize].knows(last.process, last.place))
             } else {
-                knows_entry(bench.alloc, ledger, entries, at, offer.process, last)
+                knows_entry(tables.alloc, ledger, entries, at, offer.process, last)
             }
         }
     }
@@ -140,11 +140,11 @@ fn knows_entry(
     ensures { IfOk result (λ known. IsTrue known ↔ (offer.place < count_before entries.now at process offer.process)) }
 {
     let until = one_question(alloc, ledger.processes(), offer.process, at as u64 + 1)?;
-    let mut bench = JudgeTables::new(alloc, ledger.processes(), ledger.channels())?;
+    let mut tables = JudgeTables::new(alloc, ledger.processes(), ledger.channels())?;
     for i in 0..at {
-        bench.see(ledger, entries, &until, i)?;
+        tables.see(ledger, entries, &until, i)?;
     }
-    Ok(bench.clocks[process as usize].knows(offer.process, offer.place))
+    Ok(tables.clocks[process as usize].knows(offer.process, offer.place))
 }
 
 /// The last offer of this way on this channel before an index.
@@ -167,7 +167,7 @@ fn last_offer(entries: &[Entry], before: usize, way: Way, channel: u32) -> Optio
 /// know. Who knows of an offer knows of the ones before it, so the first one is found by halves.
 pub(crate) fn first_unknown(
     ledger: &Ledger,
-    bench: &JudgeTables,
+    tables: &JudgeTables,
     entries: &[Entry],
     until: &[u64],
     at: usize,
@@ -176,7 +176,7 @@ pub(crate) fn first_unknown(
     requires tame { IsNameableAndSilent entries.now }
     requires ledger { IsLedger ledger.now }
     requires its_journal { ledger.now.journal.entries ≡ entries.now }
-    requires holds { TablesHold (births entries.now) until.now (take at entries.now) bench.now }
+    requires holds { TablesHold (births entries.now) until.now (take at entries.now) tables.now }
     requires here { slice_get entries.now at
         ≡ Some (record { process = racer.process; event = offer_event racer.way racer.channel }) }
     requires in_order { AreKnown (entries_by_names (births entries.now) (take at entries.now)) }
@@ -191,9 +191,9 @@ pub(crate) fn first_unknown(
             Some(i) => {
                 let offer = Offer {
                     process: entries[i].process,
-                    place: bench.places[i],
+                    place: tables.places[i],
                 };
-                if knows_entry(bench.alloc, ledger, entries, at, racer.process, offer)? {
+                if knows_entry(tables.alloc, ledger, entries, at, racer.process, offer)? {
                     known = middle;
                 } else {
                     first = i;

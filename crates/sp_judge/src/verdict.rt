@@ -51,20 +51,20 @@ fn judged_entries(alloc: Global, journal: &Journal) -> Result<Verdict, Memory>
     let ledger = Ledger::of(alloc, journal)?;
     let entries = journal.entries.items();
     let until = questions(alloc, entries, ledger.processes(), ledger.channels())?;
-    let mut bench = JudgeTables::new(alloc, ledger.processes(), ledger.channels())?;
+    let mut tables = JudgeTables::new(alloc, ledger.processes(), ledger.channels())?;
     for at in 0..entries.len() {
-        let found = racing(&bench, &ledger, entries, &until, at)?;
+        let found = racing(&tables, &ledger, entries, &until, at)?;
         if let Some(racer) = found {
-            return race(&ledger, &bench, entries, &until, at, racer);
+            return race(&ledger, &tables, entries, &until, at, racer);
         }
-        bench.see(&ledger, entries, &until, at)?;
+        tables.see(&ledger, entries, &until, at)?;
     }
     Ok(Verdict::Ordered)
 }
 
 /// The next entry's offer, where its process does not know of an earlier one of its way on its channel.
 fn racing(
-    bench: &JudgeTables,
+    tables: &JudgeTables,
     ledger: &Ledger,
     entries: &[Entry],
     until: &[u64],
@@ -74,14 +74,14 @@ fn racing(
     requires ledger { IsLedger ledger.now }
     requires its_journal { ledger.now.journal.entries ≡ entries.now }
     requires inside { at < length entries.now }
-    requires holds { TablesHold (births entries.now) until.now (take at entries.now) bench.now }
+    requires holds { TablesHold (births entries.now) until.now (take at entries.now) tables.now }
     requires in_order { AreKnown (entries_by_names (births entries.now) (take at entries.now)) }
     ensures { IfOk result (λ racer. IsRacing entries.now at racer) }
 {
     let Entry { process, event } = entries[at];
     match event {
         Event::Send(channel) => offer_racing(
-            bench,
+            tables,
             ledger,
             entries,
             until,
@@ -93,7 +93,7 @@ fn racing(
             },
         ),
         Event::Receive(channel) => offer_racing(
-            bench,
+            tables,
             ledger,
             entries,
             until,
@@ -111,7 +111,7 @@ fn racing(
 
 /// This offer, where its process does not know of an earlier one.
 fn offer_racing(
-    bench: &JudgeTables,
+    tables: &JudgeTables,
     ledger: &Ledger,
     entries: &[Entry],
     until: &[u64],
@@ -121,13 +121,13 @@ fn offer_racing(
     requires tame { IsNameableAndSilent entries.now }
     requires ledger { IsLedger ledger.now }
     requires its_journal { ledger.now.journal.entries ≡ entries.now }
-    requires holds { TablesHold (births entries.now) until.now (take at entries.now) bench.now }
+    requires holds { TablesHold (births entries.now) until.now (take at entries.now) tables.now }
     requires here { slice_get entries.now at
         ≡ Some (record { process = offer.process; event = offer_event offer.way offer.channel }) }
     requires in_order { AreKnown (entries_by_names (births entries.now) (take at entries.now)) }
     ensures { IfOk result (λ racer. IsRacing entries.now at racer) }
 {
-    if knows_offers(bench, ledger, entries, until, at, offer)? {
+    if knows_offers(tables, ledger, entries, until, at, offer)? {
         Ok(None)
     } else {
         Ok(Some(offer))
@@ -137,7 +137,7 @@ fn offer_racing(
 /// The race of the next entry with the first earlier offer that its process does not know.
 fn race(
     ledger: &Ledger,
-    bench: &JudgeTables,
+    tables: &JudgeTables,
     entries: &[Entry],
     until: &[u64],
     at: usize,
@@ -146,12 +146,12 @@ fn race(
     requires tame { IsNameableAndSilent entries.now }
     requires ledger { IsLedger ledger.now }
     requires its_journal { ledger.now.journal.entries ≡ entries.now }
-    requires holds { TablesHold (births entries.now) until.now (take at entries.now) bench.now }
+    requires holds { TablesHold (births entries.now) until.now (take at entries.now) tables.now }
     requires in_order { AreKnown (entries_by_names (births entries.now) (take at entries.now)) }
     requires racing { IsRacing entries.now at (Some racer) }
     ensures { IfOk result (λ verdict. IsJudged (entries_by_names (births entries.now) entries.now) verdict) }
 {
-    let first = first_unknown(ledger, bench, entries, until, at, racer)?;
+    let first = first_unknown(ledger, tables, entries, until, at, racer)?;
     match first {
         None => Ok(Verdict::Ordered),
         Some(earlier) => Ok(Verdict::Race {

@@ -16,7 +16,7 @@ use Rattle.sp_history.specs.Holding.{IsOutputOf}
 use Rattle.sp_history.proofs.Speaking.{system_spoken}
 use Rattle.sp_history.proofs.Naming.{system_nameable}
 use Rattle.sp_history.proofs.Holders.{one_holder}
-use Rattle.sp_room.specs.History.{LeadsTo as Told}
+use Rattle.sp_room.specs.History.{LeadsTo}
 use Rattle.sp_kernel.specs.declared.kernel.Kernel.{Kernel}
 use Rattle.sp_kernel.specs.Kernels.{system_of, setting_of}
 use Rattle.sp_kernel.specs.Faults.{fault_in, fault_by}
@@ -28,7 +28,7 @@ use Rattle.sp_kernel.proofs.Faulting.{fault_told}
 use Rattle.sp_kernel.proofs.Closing.{AllHere, all_here}
 use Rattle.sp_kernel.proofs.Writing.{written_is, writes_store, none_writes}
 
-pub named : (x : Kernel) (fine : IsOpening x) (log : List Note) (y : Kernel) → Told KernelSteps x log y
+pub named : (x : Kernel) (fine : IsOpening x) (log : List Note) (y : Kernel) → LeadsTo KernelSteps x log y
     → IsNameableKernel y
 named x fine log y told =
     let journal : y.journal.entries ≡ entries_of log = (after_log x fine log y told).journal

@@ -18,7 +18,7 @@ use Rattle.sp_code.specs.Control.{Out, Gone, standing, entries_of, Running, IsDo
 use Rattle.sp_code.specs.System.{store_in}
 use Rattle.sp_history.specs.Agreement.{IsOver}
 use Rattle.sp_history.specs.NamesChannels.{NamesChannels}
-use Rattle.sp_room.specs.History.{LeadsTo as Told}
+use Rattle.sp_room.specs.History.{LeadsTo}
 use Rattle.sp_kernel.specs.declared.slot.Slot.{Slot}
 use Rattle.sp_kernel.specs.declared.slot.Slot.TheVariants as slot
 use Rattle.sp_kernel.specs.declared.slot.State.TheVariants as st
@@ -108,7 +108,7 @@ or_empty (Some bs) = bs
 
 -- the run of x came to its end after these notes, and nothing is out
 pub record RanTo (x : Kernel) (log : List Note) (y : Kernel) : Type 0 where
-  pub legal : Told KernelSteps x log y
+  pub legal : LeadsTo KernelSteps x log y
   pub over : IsOver (control_of y)
   pub journal : y.journal.entries ≡ entries_of log
 

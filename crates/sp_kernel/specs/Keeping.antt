@@ -12,7 +12,7 @@ use Rattle.sp_code.specs.Turns.{IsTurn, Stopped}
 use Rattle.sp_code.specs.Control.{Control, Out, Joining, control_at_start, control, after_note, after_notes, entries_of}
 use Rattle.sp_code.specs.Control.{entry_of}
 use Rattle.sp_code.specs.System.{System, Working, opening_system, IsSystem}
-use Rattle.sp_room.specs.History.{LeadsTo as Told, notes_by, StartsWith, either_list}
+use Rattle.sp_room.specs.History.{LeadsTo, notes_by, StartsWith, either_list}
 use mathlib.Core.List.{append-nil}
 use Rattle.sp_base.proofs.Facts.{equals_itself}
 use Rattle.sp_kernel.specs.declared.handed.Handed.{Handed}
@@ -81,7 +81,7 @@ pub record KernelAfter (x : Kernel) (log : List Note) (y : Kernel) : Type 0 wher
   pub abandons : y.abandons ≤ x.abandons + length log
   pub journal : y.journal.entries ≡ x.journal.entries ++ entries_of log
 
-pub kernel_after : (x : Kernel) (log : List Note) (y : Kernel) → IsKernel x → Told KernelSteps x log y
+pub kernel_after : (x : Kernel) (log : List Note) (y : Kernel) → IsKernel x → LeadsTo KernelSteps x log y
     → KernelAfter x log y
 kernel_after x [] y k r = record {
   reaches = ap system_of r;
@@ -151,7 +151,7 @@ none_by w (n ∷ ns) e = go (n.worker == w) refl e (λ h. none_by w ns h)
       on h,
     )
 
-module _ (x : Kernel) (fine : IsOpening x) (log : List Note) (y : Kernel) (told : Told KernelSteps x log y) where
+module _ (x : Kernel) (fine : IsOpening x) (log : List Note) (y : Kernel) (told : LeadsTo KernelSteps x log y) where
   pub after_log : KernelAfter x log y
   after_log = kernel_after x log y fine.whole told
 
@@ -292,7 +292,7 @@ module _ (x : Kernel) (fine : IsOpening x) (log : List Note) (y : Kernel) (told 
 
 pub asks_last : (x : Kernel) (w : ℕ) (seen own : List Note) (a : Ask) (log : List Note) (y : Kernel) → IsOpening x
     → MayAsk x w seen own a → StartsWith log seen → notes_by (λ (n : Note). n.worker) w log ≡ own
-    → Told KernelSteps x log y
+    → LeadsTo KernelSteps x log y
     → length log < 18446744073709551615
     → MayAsk x w log own a × CanServe y w a
 asks_last x w seen own a log y fine may starts by told short =

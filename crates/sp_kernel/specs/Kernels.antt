@@ -20,7 +20,7 @@ use Rattle.sp_code.specs.Control.{Control, Doing, Unborn, Ready, Out, Sending, R
 use Rattle.sp_code.specs.Control.{comes_back, takes, abandons, front, has_ended, standing, Standing}
 use Rattle.sp_code.specs.Control.{Running}
 use Rattle.sp_code.specs.Control.{IsDone, IsDeadlock, IsFault, IsMemory}
-use Rattle.sp_kernel.specs.declared.kernel.Standing.{Standing as Told}
+use Rattle.sp_kernel.specs.declared.kernel.Standing.{Standing as KernelStanding}
 use Rattle.sp_kernel.specs.declared.kernel.Standing.TheVariants as told
 use Rattle.sp_code.specs.System.{System, Condition, Absent, Working, Waits, Joins, Laid as IsLaid, Gone as HasGone}
 use Rattle.sp_code.specs.System.{Over, system_after_turn, event_of}
@@ -225,7 +225,7 @@ abbrev pub is_over : Control → Bool
 is_over k = nat_lt 0 k.abandons || (k.faulted || has_ended (k.doing 0))
 
 -- how a run stands, as the kernel tells it
-abbrev pub told_standing : Standing → Told
+abbrev pub told_standing : Standing → KernelStanding
 told_standing Running = told.Running
 told_standing IsDone = told.Done
 told_standing IsDeadlock = told.Deadlock
@@ -233,7 +233,7 @@ told_standing IsFault = told.Fault
 told_standing IsMemory = told.Memory
 
 -- how the run stands, as the kernel tells it
-abbrev pub stands_as : Control → Told
+abbrev pub stands_as : Control → KernelStanding
 stands_as k = told_standing (standing k)
 
 -- a worker gave up, with the process o, if any

@@ -16,7 +16,7 @@ use Rattle.sp_meaning.specs.Steps.{has_ended, own_part_in, JoinsAt, IsAlive as I
 use Rattle.sp_journal.specs.Names as happenings
 use Rattle.sp_meaning.specs.LocalWork.{LocationContent, Address, LocalState, Process, WorkOutcome, Computed}
 use Rattle.sp_meaning.specs.Actions.{Action}
-use Rattle.sp_meaning.specs.Actions as deeds
+use Rattle.sp_meaning.specs.Actions as actions
 use Rattle.sp_meaning.specs.SuperPascal.{superpascal}
 use Rattle.sp_meaning.specs.Run.{Store}
 use Rattle.sp_meaning.specs.Runs.{StateOf, total_limits, next_state, happening_at}
@@ -53,13 +53,14 @@ module _ (G : RunContext) (lv : RightsOfAll G) (c : Course) (s : StateOf G.g) (u
     (d : Config (Memory Plain)) (at_i : u.condition i ≡ sys.Working d)
     (z : ProcessMatches G (lv (w G lv c s u l i d at_i)) (kids G lv c s u l i d at_i) (w G lv c s u l i d at_i)
     (c.since (w G lv c s u l i d at_i)) (p1 G lv c s u l i d at_i) s.store d)
-    (o : LocalState) (m : Store) (x : Meant G lv c s u l i d at_i z (Computed (source.Stops deeds.Ended) o, m))
-    (t : Machined G lv c s u l i d at_i z (Computed (source.Stops deeds.Ended) o, m)) (quiet : u.faulted ≡ false) where
+    (o : LocalState) (m : Store) (x : Meant G lv c s u l i d at_i z (Computed (source.Stops actions.Ended) o, m))
+    (t : Machined G lv c s u l i d at_i z (Computed (source.Stops actions.Ended) o, m))
+    (quiet : u.faulted ≡ false) where
   abbrev v : Name
   v = w G lv c s u l i d at_i
 
   abbrev r : WorkOutcome Action × Store
-  r = (Computed deeds.Ended o, m)
+  r = (Computed actions.Ended o, m)
 
   said : happening_at G.g x.state v x.left ≡ Some happenings.Ended
   said = kernel_says G.g v x.state x.left x.runs r x.does
@@ -133,7 +134,7 @@ module _ (G : RunContext) (lv : RightsOfAll G) (c : Course) (s : StateOf G.g) (u
       t.2) (t.7).2
       (stand_dead G (lv v) (λ a b. lv ((a, b) ∷ v)) v t.6 x.state.store
       (λ a. subst (λ y. (x.state.store a ≡ m a) ⊎ IsDead y a) lengths
-      (same_but_dead G lv c s u l i d at_i z deeds.Ended o m x tt a)))
+      (same_but_dead G lv c s u l i d at_i z actions.Ended o m x tt a)))
     where
       count : (js : List Rattle.sp_codegen.specs.FramePairs.FramePair)
           → length (Rattle.sp_codegen.specs.FramePairs.sources js) ≡ length js

@@ -20,7 +20,7 @@ use Rattle.sp_meaning.specs.LocalWork.{RunInput, Loc, Cell, Output, LocationCont
 use Rattle.sp_meaning.specs.LocalWork.{WorkOutcome, Computed, EndsInFault, IllFormed, OutOfFuel}
 use Rattle.sp_meaning.specs.LocalWork.{same_loc}
 use Rattle.sp_meaning.specs.Actions.{Action, Birth, Stepped, Ticked, Opened, Forked, Offered}
-use Rattle.sp_meaning.specs.Actions as deeds
+use Rattle.sp_meaning.specs.Actions as actions
 use Rattle.sp_meaning.specs.SuperPascal.{superpascal, action_of, with_todo, fuel_of, root}
 use Rattle.sp_meaning.specs.Run.{Store}
 use Rattle.sp_meaning.specs.Runs.{StateOf, total_limits, running_process, next_state, happening_at, happening_of}
@@ -397,13 +397,13 @@ module _ (G : RunContext) (lv : RightsOfAll G) (c : Course) (s : StateOf G.g) (u
         (told_by G (lv v) (λ k n. lv ((k, n) ∷ v)) v t.0 t.1 t.8))
 
     abbrev pub over_halt : (o : LocalState) (m : Store)
-        → Meant G lv c s u l i d at_i z (Computed (source.Stops deeds.Ended) o, m)
-        → Machined G lv c s u l i d at_i z (Computed (source.Stops deeds.Ended) o, m) → Halted
-    over_halt o m x t = let y = says_something (Computed deeds.Ended o, m) x tt in
-        halt_by (Computed deeds.Ended o, m) x y.0 y.1 (Stopped machine.Ends (At t.0 t.1 t.2))
+        → Meant G lv c s u l i d at_i z (Computed (source.Stops actions.Ended) o, m)
+        → Machined G lv c s u l i d at_i z (Computed (source.Stops actions.Ended) o, m) → Halted
+    over_halt o m x t = let y = says_something (Computed actions.Ended o, m) x tt in
+        halt_by (Computed actions.Ended o, m) x y.0 y.1 (Stopped machine.Ends (At t.0 t.1 t.2))
         (turn_is G lv c s u l i d at_i z (Stopped machine.Ends (At t.0 t.1 t.2)) (At t.0 t.1 t.2, t.4, t.5))
         (told_same G (lv v) (λ k n. lv ((k, n) ∷ v)) v (At t.0 t.1 t.2) m x.state.store
-        (⊎_elim (λ b. b) (λ b. absurd b) (same_but_dead G lv c s u l i d at_i z deeds.Ended o m x tt Output))
+        (⊎_elim (λ b. b) (λ b. absurd b) (same_but_dead G lv c s u l i d at_i z actions.Ended o m x tt Output))
         (told_by G (lv v) (λ k n. lv ((k, n) ∷ v)) v t.0 t.1 t.6))
 
     -- the target of an open is no console
@@ -463,7 +463,7 @@ module _ (G : RunContext) (lv : RightsOfAll G) (c : Course) (s : StateOf G.g) (u
     laying (Computed (source.Stops (Forked bs todo)) o, m) e x t bad = laid_entry (forked_halt bs todo o m x t) bad
     laying (Computed (source.Stops (Offered ch k cg todo)) o, m) e x t bad =
         laid_entry (offered_halt ch k cg todo o m x t) bad
-    laying (Computed (source.Stops deeds.Ended) o, m) e x t bad = laid_entry (over_halt o m x t) bad
+    laying (Computed (source.Stops actions.Ended) o, m) e x t bad = laid_entry (over_halt o m x t) bad
     laying (EndsInFault f, m) e x t bad = laid_entry (bad_halt f m x t) bad
     laying (IllFormed, m) e x t bad = absurd e
     laying (OutOfFuel, m) e x t bad = absurd e

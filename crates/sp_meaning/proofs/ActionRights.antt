@@ -29,7 +29,7 @@ use Rattle.sp_meaning.specs.Actions.{take_in, width, peek, turn_of, fork, arm_ac
 use Rattle.sp_meaning.specs.Actions.{settle, items_after, function_result}
 use Rattle.sp_meaning.specs.Actions.{call_by, rest_by, run_items, action_by, next_action, size_of_frame, references}
 use Rattle.sp_meaning.specs.Actions.{reading_by, ordinal_text}
-use Rattle.sp_meaning.specs.Actions as deeds
+use Rattle.sp_meaning.specs.Actions as actions
 use Rattle.sp_tree.specs.declared.checked.Role.TheVariants as role
 use Rattle.sp_meaning.specs.Model.{Name, Message, Takes}
 use Rattle.sp_tree.specs.Uses.{Use, Target, ParallelOf, ForallOf, In_expr, In_target, In_call, In_width, In_stmt}
@@ -577,7 +577,7 @@ module _ (set : RunInput) (q : Name) (W R : Loc → Type 0) (low : ℕ) (own : (
       go (Opened todo1) gs h = record { proof = λ w o m e. tt }
       go (Forked bs todo1) gs h = record { proof = λ w o m e. tt }
       go (Offered c k g todo1) gs h = record { proof = λ w o m e. tt }
-      go deeds.Ended gs h = record { proof = λ w o m e. tt }
+      go actions.Ended gs h = record { proof = λ w o m e. tt }
 
   pub all_keep : (n : ℕ) → AllKeep n
   all_keep zero = record { proof = λ z fs todo high f. record { proof = λ w o m e. tt } }
@@ -593,7 +593,7 @@ module _ (set : RunInput) (q : Name) (W R : Loc → Type 0) (low : ℕ) (own : (
     where
       go : (todo1 : List Item) (gs : List Frame) → Fit set.program W R z gs todo1
           → From q W R gs (Fair set.program W R z) (action_by set (run_items set n) todo1)
-      go [] gs g = gives q W R deeds.Ended tt
+      go [] gs g = gives q W R actions.Ended tt
       go (i ∷ rest) gs g = let h = high_at z gs (i ∷ rest) high g in
           act_from gs z h (call_by set (run_items set n)) (call_keeps n (all_keep n) gs h g.linked) i rest g
 

@@ -29,7 +29,7 @@ use Rattle.sp_meaning.specs.Actions.{function_result, call_by, rest_by, run_item
 use Rattle.sp_meaning.specs.Actions.{action_by, next_action, children, indexed_children, size_of_frame, references}
 use Rattle.sp_meaning.specs.Actions.{reading_by}
 use Rattle.sp_meaning.specs.Actions.{ordinal_text}
-use Rattle.sp_meaning.specs.Actions as deeds
+use Rattle.sp_meaning.specs.Actions as actions
 use Rattle.sp_meaning.specs.SuperPascal.{weight, weight_arms, weight_blocks, weight_of, fuel_of}
 use Rattle.sp_meaning.proofs.Enough.{EndsInTicks, ends_then, ends_weaker, Any, Steady, then_steady, give_steady}
 use Rattle.sp_meaning.proofs.Enough.{fail_steady}
@@ -225,7 +225,7 @@ module _ (g : RunInput) (k : ℕ) where
 
   abbrev pub ActionFalls : ℕ → ℕ → Action → LocalState → Type 0
   ActionFalls t w (Stepped todo) o = Falls t w todo o
-  ActionFalls t w (deeds.Ticked todo) o = Falls t w todo o
+  ActionFalls t w (actions.Ticked todo) o = Falls t w todo o
   ActionFalls t w (Opened todo) o = AreLight k todo
   ActionFalls t w (Forked bs todo) o = AllBorn k bs × AreLight k todo
   ActionFalls t w (Offered c i cargo todo) o = AreLight k todo
@@ -237,8 +237,8 @@ module _ (g : RunInput) (k : ℕ) where
 
   -- after a tick
   go_on : (t w : ℕ) (todo : List Item) → weights todo < w + (k + 3) → AreLight k todo
-      → From t (ActionFalls t w) (bind (tick g.limits) (λ u. give (deeds.Ticked todo)))
-  go_on t w todo h f = after_fact t (Ticked t) (ActionFalls t w) (tick g.limits) (λ u. give (deeds.Ticked todo))
+      → From t (ActionFalls t w) (bind (tick g.limits) (λ u. give (actions.Ticked todo)))
+  go_on t w todo h f = after_fact t (Ticked t) (ActionFalls t w) (tick g.limits) (λ u. give (actions.Ticked todo))
       (tick_ends t)
       (λ w u o1 l1 i. (l1, (omega (arith, budget_tick t o1.ticks i.0 i.1), f)))
 
@@ -309,7 +309,7 @@ module _ (g : RunInput) (k : ℕ) where
     where
       go : (b : Bool) → From t (ActionFalls t (weight s + 2 + weights todo))
           ((if b then give (Stepped todo) else
-          bind (tick g.limits) (λ u. give (deeds.Ticked (push s (Do (While e s) ∷ todo))))))
+          bind (tick g.limits) (λ u. give (actions.Ticked (push s (Do (While e s) ∷ todo))))))
       go true = went t (weight (While e s) + weights todo) todo (omega arith) f
       go false = go_on t (weight (While e s) + weights todo) (push s (Do (While e s) ∷ todo))
           (omega (arith, push_weight s (Do (While e s) ∷ todo)))
@@ -496,7 +496,7 @@ module _ (g : RunInput) (k : ℕ) where
           → EndsInTicks o.ticks Any (bind (items_after g d) (run_items g n) w o1)
       go (Stepped todo1) o1 le d = ends_weaker o1.ticks o.ticks (run_items g n todo1 w o1) le
           (ih.proof todo1 w o1 d.1 (omega (arith, d.0, h)))
-      go (deeds.Ticked todo1) o1 le d = ends_weaker o1.ticks o.ticks (run_items g n todo1 w o1) le
+      go (actions.Ticked todo1) o1 le d = ends_weaker o1.ticks o.ticks (run_items g n todo1 w o1) le
           (ih.proof todo1 w o1 d.1 (omega (arith, d.0, h)))
       go (Opened todo1) o1 le d = tt
       go (Forked os todo1) o1 le d = tt
@@ -534,7 +534,7 @@ module _ (g : RunInput) (k : ℕ) where
           more : (d : Action) (o2 : LocalState) → o.ticks ≤ o2.ticks → ActionFalls o.ticks (weights (i ∷ rest)) d o2
               → ActionFalls o.ticks (weights todo) d o2
           more (Stepped x) o2 l2 d = (omega (arith, d.0, v), d.1)
-          more (deeds.Ticked x) o2 l2 d = (omega (arith, d.0, v), d.1)
+          more (actions.Ticked x) o2 l2 d = (omega (arith, d.0, v), d.1)
           more (Opened x) o2 l2 d = d
           more (Forked os x) o2 l2 d = d
           more (Offered c y q x) o2 l2 d = d

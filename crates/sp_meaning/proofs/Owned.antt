@@ -30,7 +30,7 @@ use Rattle.sp_meaning.specs.LocalWork.{Leave, Break, Process, WorkOutcome, Compu
 use Rattle.sp_meaning.specs.LocalWork.{same_loc}
 use Rattle.sp_meaning.specs.Actions.{Birth, Action, Stepped, Ticked, Opened, Forked as Forks_it, Offered, new_process}
 use Rattle.sp_meaning.specs.Actions.{new_processes}
-use Rattle.sp_meaning.specs.Actions as deeds
+use Rattle.sp_meaning.specs.Actions as actions
 use Rattle.sp_meaning.specs.SuperPascal.{fuel_of, action_of, act_tree, act_of, superpascal}
 use Rattle.sp_meaning.proofs.Keys.{name_test}
 use Rattle.sp_meaning.proofs.EffectTree.{answer_then}
@@ -475,7 +475,7 @@ module _ (set : RunInput) (totals : Totals) (free : IsFreeOfInterference set.pro
     acts_keep (Computed (Offered c i g todo) o) h ws =
         offering (record { channel = c; kind = i; cargo = g; next = record { todo = todo; who = pr.who; own = o } })
         (next_is pr.who o todo k.named k.forked h.1) h.0 (s.pending c)
-    acts_keep (Computed deeds.Ended o) h ws = as_it_is _ (after_it Ended tt)
+    acts_keep (Computed actions.Ended o) h ws = as_it_is _ (after_it Ended tt)
     acts_keep (EndsInFault f) h ws = as_it_is _ inv
     acts_keep IllFormed h ws = as_it_is _ inv
     acts_keep OutOfFuel h ws = as_it_is _ inv
@@ -525,7 +525,7 @@ module _ (set : RunInput) (totals : Totals) (free : IsFreeOfInterference set.pro
     assigned (Computed (Opened todo) o) ws l h = h
     assigned (Computed (Forks_it bs todo) o) ws l h = absurd h
     assigned (Computed (Offered c i g todo) o) ws l h = absurd h
-    assigned (Computed deeds.Ended o) ws l h = absurd h
+    assigned (Computed actions.Ended o) ws l h = absurd h
     assigned (EndsInFault f) ws l h = absurd h
     assigned IllFormed ws l h = absurd h
     assigned OutOfFuel ws l h = absurd h
@@ -546,7 +546,7 @@ module _ (set : RunInput) (totals : Totals) (free : IsFreeOfInterference set.pro
     takes_well (Computed (Opened todo) o) ws h = tt
     takes_well (Computed (Forks_it bs todo) o) ws h = tt
     takes_well (Computed (Offered c i g todo) o) ws h = h.0
-    takes_well (Computed deeds.Ended o) ws h = tt
+    takes_well (Computed actions.Ended o) ws h = tt
     takes_well (EndsInFault f) ws h = tt
     takes_well IllFormed ws h = tt
     takes_well OutOfFuel ws h = tt

@@ -21,7 +21,7 @@ use Rattle.sp_meaning.specs.LocalWork.{same_loc}
 use Rattle.sp_meaning.specs.Actions.{Birth, Action, Stepped, Ticked, Opened, Forked as Forked_it, Offered, push}
 use Rattle.sp_meaning.specs.Actions.{new_processes}
 use Rattle.sp_meaning.specs.Actions.{size_of_frame}
-use Rattle.sp_meaning.specs.Actions as deeds
+use Rattle.sp_meaning.specs.Actions as actions
 use Rattle.std.specs.Prelude.{nat_lt}
 use Rattle.std.proofs.lemmas.Option.{same_Some}
 use Rattle.sp_meaning.specs.SuperPascal.{superpascal, act_tree, action_of, act_of, weight_of, weight_blocks, main_items}
@@ -33,7 +33,7 @@ use Rattle.sp_meaning.proofs.Maps.{at_other}
 use Rattle.sp_meaning.proofs.Keys.{name_test}
 use Rattle.sp_meaning.proofs.EffectTree.{answer_then}
 use Rattle.sp_meaning.proofs.Instance.{loc_test}
-use Rattle.sp_meaning.proofs.Enough.{EndsInTicks as Comes}
+use Rattle.sp_meaning.proofs.Enough.{EndsInTicks}
 use Rattle.sp_meaning.proofs.EnoughSteps.{ActionFalls, enough_is}
 use Rattle.sp_meaning.proofs.Weights.{AreLight, AllBorn, weights, push_fit}
 
@@ -46,7 +46,7 @@ Result t F OutOfFuel = ⊥
 
 pub result_is : {A : Type 0} (t : ℕ) (F : A → LocalState → Type 0) (x : EffectTree Loc LocationContent (WorkOutcome A))
     (m : Loc → LocationContent)
-    → Comes t F x → Result t F (run_tree same_loc x m).0
+    → EndsInTicks t F x → Result t F (run_tree same_loc x m).0
 result_is t F (Leaf (Computed a o)) m h = h
 result_is t F (Leaf (EndsInFault f)) m h = tt
 result_is t F (Leaf IllFormed) m h = tt
@@ -197,12 +197,12 @@ module _ (g : RunInput) where
         light = x.1;
         later = omega (arith, h.later, x.0);
       }
-  well_by t f p pr ws h (Computed deeds.Ended o) x = tt
+  well_by t f p pr ws h (Computed actions.Ended o) x = tt
   well_by t f p pr ws h (EndsInFault e) x = tt
   well_by t f p pr ws h IllFormed x = tt
   well_by t f p pr ws h OutOfFuel x = tt
 
-  -- a step comes to an answer, and never to Long
+  -- a step comes to an answer, and never to OutOfFuel
   pub action_is : (pr : Process) (m : Loc → LocationContent) → AreLight K pr.todo
       → Result pr.own.ticks (ActionFalls g K pr.own.ticks (weights pr.todo)) (run_tree same_loc (action_of g pr) m).0
   action_is pr m light = result_is pr.own.ticks (ActionFalls g K pr.own.ticks (weights pr.todo)) (action_of g pr) m

@@ -373,7 +373,7 @@ module _ (g : RunInput) where
   run_items zero todo = out_of_fuel
   run_items (suc n) todo = bind (settle todo) (rest_by (run_items n))
 
-  -- the deed of the first item
+  -- the action of the first item
   abbrev pub action_by : (List Item → Work (List Item)) → List Item → Work Action
   action_by go [] = give Ended
   action_by go (i ∷ todo) = item_action (call_by go) i todo

@@ -1,5 +1,5 @@
 -- All of this belongs to what the program promises (docs/promise.txt).
--- Expressions, variables and arguments, evaluated from left to right. Deeds are made of it, and the interpreter
+-- Expressions, variables and arguments, evaluated from left to right. Actions are made of it, and the interpreter
 -- promises it; each evaluation is a tree of reads and writes.
 use Rattle.std.specs.Prelude.{ℕ, ◌==◌, ℤ, pos, ◌-ℤ◌, nat_abs, int_le, List, [], ◌∷◌, ◌++◌, Option, Some, None, ◌&&◌}
 use Rattle.std.specs.Prelude.{not, if◌then◌else◌, length, drop, slice_get}

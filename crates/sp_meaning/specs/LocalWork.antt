@@ -78,8 +78,8 @@ pub record Process : Type 0 where
   pub who : Identity
   pub own : LocalState
 
--- what comes of a computation: a value and the own part after it, a fault, or neither: the tree breaks a rule (Lost),
--- or the bound of the computation ran out (Long)
+-- what comes of a computation: a value and the own part after it, a fault, or neither: the tree breaks a rule
+-- (IllFormed), or the bound of the computation ran out (OutOfFuel)
 pub data WorkOutcome (A : Type 0) : Type 0 where
   Computed : (a : A) (own : LocalState) → WorkOutcome A
   EndsInFault : (fault : Fault) → WorkOutcome A

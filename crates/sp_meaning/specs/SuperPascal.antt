@@ -69,10 +69,10 @@ fuel_of g o = (weight_of g.program + 3) * (g.limits.ticks + 1 - o.ticks) + weigh
 abbrev pub with_todo : List Item → Identity → LocalState → Process
 with_todo todo w o = record { todo = todo; who = w; own = o }
 
--- what a deed is to the other processes. A tree that breaks a rule has no meaning (Lost), and Long never comes up;
--- so that a step is a function both stand under F8, a false assumption
+-- what an action is to the other processes. A tree that breaks a rule has no meaning (IllFormed), and OutOfFuel never
+-- comes up; so that a step is a function both stand under F8, a false assumption
 -- The writes of a step that forks, offers or ends are left out: they are of frames that calls made and that are gone
--- (proofs/QuietDeeds)
+-- (proofs/SilentActions)
 abbrev pub act_of : Identity → WorkOutcome Action → List (Loc × LocationContent)
     → Act Process Loc LocationContent Address
 act_of w (Computed (Stepped todo) o) ws = Moves (with_todo todo w o) ws
@@ -87,7 +87,7 @@ act_of w (EndsInFault f) ws = MeetsFault f
 act_of w IllFormed ws = MeetsFault fault.F8
 act_of w OutOfFuel ws = MeetsFault fault.F8
 
--- the deed is a tick of its own
+-- the action is a tick of its own
 abbrev pub is_pausing : WorkOutcome Action → Bool
 is_pausing (Computed (Stepped todo) o) = false
 is_pausing (Computed (Ticked todo) o) = true

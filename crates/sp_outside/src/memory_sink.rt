@@ -6,8 +6,8 @@ ghost use Rattle.sp_outside.specs.Counts.{Rose};
 ghost use Rattle.sp_outside.specs.Visible.{Grows};
 
 use crate::failed::Failed;
+use crate::output_buffer::OutputBuffer;
 use crate::plan::Plan;
-use crate::room::Room;
 use crate::sink::Sink;
 use sp_base::List;
 
@@ -16,7 +16,7 @@ use sp_base::List;
 /// told any more. The calls whose numbers, from 0, are in `failing` fail, and no other. It takes no memory.
 #[derive(Debug, Drop)]
 pub struct MemorySink {
-    room: Room,
+    buffer: OutputBuffer,
     most: usize,
     plan: Plan,
     ghost most_not_zero: { 1 ≤ most },
@@ -28,12 +28,12 @@ impl MemorySink {
 
     pub fn new(room: Vec<u8>, most: usize, failing: List<u32>) -> MemorySink
         requires { 1 ≤ most }
-        ensures room { IsEmptyBuffer (vec_len room) result.room }
+        ensures buffer { IsEmptyBuffer (vec_len room) result.buffer }
         ensures most { result.most ≡ most }
         ensures plan { result.plan ≡ first_plan failing }
     {
         MemorySink {
-            room: Room::new(room),
+            buffer: OutputBuffer::new(room),
             most,
             plan: Plan::new(failing),
         }
@@ -41,9 +41,9 @@ impl MemorySink {
 
     /// What has fitted.
     pub fn bytes(&self) -> &[u8]
-        ensures { result.now ≡ kept_bytes self.now.room }
+        ensures { result.now ≡ kept_bytes self.now.buffer }
     {
-        self.room.fitted()
+        self.buffer.fitted()
     }
 }
 
@@ -51,7 +51,7 @@ impl Sink for MemorySink {
     ghost use Rattle.sp_outside.specs.OutputBuffers.{visible_bytes, IsPut};
     ghost use Rattle.sp_outside.specs.Plans.{fails_next, plan_after_call};
 
-    ghost written = { λ s. visible_bytes s.room };
+    ghost written = { λ s. visible_bytes s.buffer };
 
     ghost faults = { λ s. s.plan.faults };
 
@@ -59,9 +59,9 @@ impl Sink for MemorySink {
         ensures within { IfOk result (λ n. n ≤ length piece.now) }
         ensures some { IfOk result (λ n. 0 < length piece.now → 0 < n) }
         ensures ok { IfOk result
-            (λ n. Grows (visible_bytes self.old.room) (visible_bytes self.new.room) (take n piece.now)) }
+            (λ n. Grows (visible_bytes self.old.buffer) (visible_bytes self.new.buffer) (take n piece.now)) }
         ensures failed { OnErr result (Rose self.old.plan.faults self.new.plan.faults) }
-        ensures unchanged { OnErr result (visible_bytes self.new.room ≡ visible_bytes self.old.room) }
+        ensures unchanged { OnErr result (visible_bytes self.new.buffer ≡ visible_bytes self.old.buffer) }
         ensures counted { self.old.plan.faults ≤ self.new.plan.faults }
 
         // Exactly the calls that are to fail do. What fits of the bytes taken is kept.
@@ -69,8 +69,8 @@ impl Sink for MemorySink {
         ensures plan { self.new.plan ≡ plan_after_call (fails_next self.old.plan) self.old.plan }
         ensures most { self.new.most ≡ self.old.most }
         ensures count { IfOk result (λ n. n ≡ min (length piece.now) self.old.most) }
-        ensures kept { IfOk result (λ n. IsPut self.old.room (take n piece.now) self.new.room) }
-        ensures same { OnErr result (self.new.room ≡ self.old.room) }
+        ensures kept { IfOk result (λ n. IsPut self.old.buffer (take n piece.now) self.new.buffer) }
+        ensures same { OnErr result (self.new.buffer ≡ self.old.buffer) }
     {
         let fails = self.plan.fails();
         self.plan.call();
@@ -79,7 +79,7 @@ impl Sink for MemorySink {
             return Err(Failed);
         }
         let count = piece.len().min(self.most);
-        self.room.put(&piece[..count]);
+        self.buffer.put(&piece[..count]);
         Ok(count)
     }
 }
@@ -87,32 +87,32 @@ impl Sink for MemorySink {
 /// Takes every piece whole, and otherwise is as a `MemorySink` of which no call fails.
 #[derive(Debug, Drop)]
 pub struct SureSink {
-    room: Room,
+    buffer: OutputBuffer,
 }
 
 impl SureSink {
     ghost use Rattle.sp_outside.specs.OutputBuffers.{IsEmptyBuffer, kept_bytes};
 
     pub fn new(room: Vec<u8>) -> SureSink
-        ensures { IsEmptyBuffer (vec_len room) result.room }
+        ensures { IsEmptyBuffer (vec_len room) result.buffer }
     {
         SureSink {
-            room: Room::new(room),
+            buffer: OutputBuffer::new(room),
         }
     }
 
     /// What has fitted.
     pub fn bytes(&self) -> &[u8]
-        ensures { result.now ≡ kept_bytes self.now.room }
+        ensures { result.now ≡ kept_bytes self.now.buffer }
     {
-        self.room.fitted()
+        self.buffer.fitted()
     }
 }
 
 impl Sink for SureSink {
     ghost use Rattle.sp_outside.specs.OutputBuffers.{visible_bytes, IsPut};
 
-    ghost written = { λ s. visible_bytes s.room };
+    ghost written = { λ s. visible_bytes s.buffer };
 
     ghost faults = { λ _. 0 };
 
@@ -120,16 +120,16 @@ impl Sink for SureSink {
         ensures within { IfOk result (λ n. n ≤ length piece.now) }
         ensures some { IfOk result (λ n. 0 < length piece.now → 0 < n) }
         ensures ok { IfOk result
-            (λ n. Grows (visible_bytes self.old.room) (visible_bytes self.new.room) (take n piece.now)) }
+            (λ n. Grows (visible_bytes self.old.buffer) (visible_bytes self.new.buffer) (take n piece.now)) }
         ensures failed { OnErr result (Rose 0 0) }
-        ensures unchanged { OnErr result (visible_bytes self.new.room ≡ visible_bytes self.old.room) }
+        ensures unchanged { OnErr result (visible_bytes self.new.buffer ≡ visible_bytes self.old.buffer) }
         ensures counted { 0 ≤ 0 }
 
         // Each piece is taken whole. What fits of it is kept.
         ensures all { result ≡ Ok (length piece.now) }
-        ensures kept { IsPut self.old.room piece.now self.new.room }
+        ensures kept { IsPut self.old.buffer piece.now self.new.buffer }
     {
-        self.room.put(piece);
+        self.buffer.put(piece);
         Ok(piece.len())
     }
 }

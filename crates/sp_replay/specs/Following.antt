@@ -16,7 +16,7 @@ use Rattle.sp_code.specs.System.{System, Working}
 use Rattle.sp_machine.specs.declared.state.State.{State as Proc}
 use Rattle.sp_machine.specs.declared.state.Stop.TheVariants as stop
 use Rattle.sp_machine.specs.Procs.{config_of, IsTurnOf, KeepsNumberAndInput}
-use Rattle.sp_room.specs.History.{LeadsTo as Told}
+use Rattle.sp_room.specs.History.{LeadsTo}
 use Rattle.sp_kernel.specs.declared.handed.Handed.{Handed}
 use Rattle.sp_kernel.specs.declared.kernel.Kernel.{Kernel}
 use Rattle.sp_kernel.specs.Kernels.{control_of, system_of, setting_of}
@@ -48,7 +48,7 @@ pub record HasCome (y : Kernel) : Type 0 where
   pub opened : Kernel
   pub opening : IsOpening opened
   pub log : List Note
-  pub told : Told KernelSteps opened log y
+  pub told : LeadsTo KernelSteps opened log y
   pub kept : y.abandons ≡ 0
 
 -- the processes that are out are these, by their numbers; and once a fault stands, none is ready

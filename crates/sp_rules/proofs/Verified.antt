@@ -5,7 +5,7 @@ use Rattle.std.proofs.Common.{subst, arith, inl, Bool, if◌then◌else◌}
 use Rattle.std.proofs.lemmas.Bool.{eqb-true}
 use Rattle.std.specs.Prelude.{not}
 use Rattle.sp_cell.specs.Map.{Plain}
-use Rattle.sp_journal.specs.declared.entry.Entry.{Entry as Entered}
+use Rattle.sp_journal.specs.declared.entry.Entry.{Entry as JournalEntry}
 use Rattle.sp_journal.specs.declared.entry.Event.{Event}
 use Rattle.sp_code.specs.declared.code.Layout.{Layout}
 use Rattle.sp_code.specs.declared.instr.Instr.TheVariants as i
@@ -180,7 +180,7 @@ module _ (g : CodeRun) (k : KeepsCodeRules g.code) (e : KeepsEffects g.code (Doe
 
   module _ (v9 : (p : ℕ) → BreaksV9 g.code p → ⊥) where
     -- every process of the system along a journal lives and stands
-    pub live_along : (es : List Entered) (s : System Plain) → IsSystem plain g es s
+    pub live_along : (es : List JournalEntry) (s : System Plain) → IsSystem plain g es s
         → Inv g H E (T g) (Room g) (Sent g) s.condition s.births
     live_along es s l =
         system_ok g H E (T g) (Room g) (Sent g) k.rooms (t_store g) (t_entered g) (t_deep g small)
@@ -209,14 +209,14 @@ module _ (g : CodeRun) (k : KeepsCodeRules g.code) (e : KeepsEffects g.code (Doe
         s i
 
     -- so it is in the system along every journal
-    pub safe_along : (es : List Entered) (s : System Plain) → IsSystem plain g es s → IsSafeSystem g s
+    pub safe_along : (es : List JournalEntry) (s : System Plain) → IsSystem plain g es s → IsSafeSystem g s
     safe_along es s l = safe_where s (live_along es s l)
 
     -- a process that runs comes to no instruction that stops, other than by a fault or a pause, while a block that
     -- answers is being called
     pub quiet_along : ((f : ℕ) (l : Layout) → layout_of g.code.layouts f ≡ Some l
         → fork.BreaksV8 g.code (Does g.code) (HasStop g.code) l f → ⊥)
-        → (es : List Entered) (s : System Plain) → IsSystem plain g es s → (q : ℕ) (c : Config (Memory Plain))
+        → (es : List JournalEntry) (s : System Plain) → IsSystem plain g es s → (q : ℕ) (c : Config (Memory Plain))
         → s.condition q ≡ Working c → (p : ℕ) (st : List Entry) (m : Memory Plain)
         → RunsTo (memory plain g) g.code c (At p st m) → is_stop (instr_at g.code p) ≡ true
         → (t : StandsAt g.code p st m.frames)

@@ -4,7 +4,7 @@
 use Rattle.std.specs.Prelude.{◌≡◌, ◌⊎◌, ℕ, List, [], ◌∷◌, Some, true, false}
 use Rattle.sp_base.specs.declared.limits.Limits.{Limits}
 use Rattle.sp_cell.specs.Map.{Plain}
-use Rattle.sp_journal.specs.declared.entry.Entry.{Entry as Entered}
+use Rattle.sp_journal.specs.declared.entry.Entry.{Entry as JournalEntry}
 use Rattle.sp_code.specs.declared.code.Layout.{Layout}
 use Rattle.sp_code.specs.declared.code.Parts.{Parts}
 use Rattle.sp_code.specs.Machine.{Config, At, Entry, layout_of}
@@ -38,7 +38,7 @@ module _ (c : Parts) where
   -- along every journal, wherever a turn comes to an instruction that stops, no activation is of a block that answers
   abbrev pub AnswersQuietly : Type 0
   AnswersQuietly =
-      (input : List ℕ) (lim : Limits) → AreLimits lim → (es : List Entered) (s : System Plain)
+      (input : List ℕ) (lim : Limits) → AreLimits lim → (es : List JournalEntry) (s : System Plain)
       → IsSystem plain (run_of c input lim) es s → (q : ℕ) (d : Config (Memory Plain)) → s.condition q ≡ Working d
       → (p : ℕ) (st : List Entry) (m : Memory Plain) → RunsTo (memory plain (run_of c input lim)) c d (At p st m)
       → is_stop (instr_at c p) ≡ true

@@ -1,6 +1,6 @@
 -- None of this belongs to what the program promises: it is for contracts between crates.
 -- What a step does once its expressions have values, and what is left of a function's body. The contracts of `acts`
--- and `bodies` cite it: a part of a deed for each function of the interpreter.
+-- and `bodies` cite it: a part of an action for each function of the interpreter.
 use Rattle.std.specs.Prelude.{ℕ, ℤ, List, [], ◌∷◌, Option, Some, None, Bool, true, false, if◌then◌else◌}
 use Rattle.sp_base.specs.declared.fault.Fault.TheVariants as fault
 use Rattle.sp_tree.specs.Plain.{Expr, Stmt, Block, While, Repeat}

@@ -1,6 +1,6 @@
 -- None of this belongs to what the program promises: it is for contracts between crates.
--- Arguments, deeds and calls, as they are kept in memory. The contracts of the interpreter speak of the meaning's ones
--- by it.
+-- Arguments, actions and calls, as they are kept in memory. The contracts of the interpreter speak of the meaning's
+-- ones by it.
 use Rattle.std.specs.Prelude.{ℕ, List, [], map}
 use denote.Bor.{Bor}
 use Rattle.sp_tree.specs.Plain.{Block}
@@ -13,7 +13,7 @@ use Rattle.sp_run.specs.declared.actions.Births.TheVariants as births
 use Rattle.sp_run.specs.declared.actions.Cargo.{Cargo}
 use Rattle.sp_run.specs.declared.actions.Cargo.TheVariants as cargo
 use Rattle.sp_run.specs.declared.actions.Action.{Action}
-use Rattle.sp_run.specs.declared.actions.Action.TheVariants as deed
+use Rattle.sp_run.specs.declared.actions.Action.TheVariants as action
 use Rattle.sp_run.specs.declared.machine.RunInput.{RunInput}
 use Rattle.sp_meaning.specs.Model as model
 use Rattle.sp_meaning.specs.LocalWork as o
@@ -47,14 +47,14 @@ abbrev pub plain_cargo : Cargo → model.Cargo o.LocationContent o.Address
 plain_cargo (cargo.Message v) = model.Message (o.Tree (plain_value v))
 plain_cargo (cargo.Takes a) = model.Takes (plain_address a)
 
--- a deed, and what is then left to do
+-- an action, and what is then left to do
 abbrev pub plain_action : List o.Item → Action → s.Action
-plain_action todo deed.Stepped = s.Stepped todo
-plain_action todo deed.Ticked = s.Ticked todo
-plain_action todo deed.Opened = s.Opened todo
-plain_action todo (deed.Forked b) = s.Forked (births_of b) todo
-plain_action todo (deed.Offered c k g) = s.Offered (plain_channel c) k (plain_cargo g) todo
-plain_action todo deed.Ended = s.Ended
+plain_action todo action.Stepped = s.Stepped todo
+plain_action todo action.Ticked = s.Ticked todo
+plain_action todo action.Opened = s.Opened todo
+plain_action todo (action.Forked b) = s.Forked (births_of b) todo
+plain_action todo (action.Offered c k g) = s.Offered (plain_channel c) k (plain_cargo g) todo
+plain_action todo action.Ended = s.Ended
 
 -- all that was left is done
 abbrev pub nothing_left : Unit {0} → List o.Item

@@ -1,5 +1,5 @@
 -- None of this belongs to what the program promises: it is for contracts between crates.
--- Statements in steps, with the store passed along: the meaning's Deeds, line by line, over the work of
+-- Statements in steps, with the store passed along: the meaning's Actions, line by line, over the work of
 -- `Direct.antt`. The interpreter promises it.
 use Rattle.std.specs.Prelude.{ℕ, zero, suc, ◌+◌, ℤ, pos, ◌+ℤ◌, ◌-ℤ◌, nat_abs, int_lt, int_le, List, [], ◌∷◌, ◌++◌}
 use Rattle.std.specs.Prelude.{Option, Some, None, Bool, true, if◌then◌else◌, nat_lt, length, take, slice_get}

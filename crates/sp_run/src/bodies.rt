@@ -62,13 +62,13 @@ pub fn left_after<'a>(
     who: &Identity,
     machine: &Machine,
     todo: &Vec<Item<'a>>,
-    deed: Done<Action<'a>>,
+    action: Done<Action<'a>>,
 ) -> Done<bool>
     ensures { ImplementsNext run.now who.now (plain_action (items_of todo.now.items))
         (left_if (items_of todo.now.items))
-        machine.now deed.entry result machine.now (rest_after_action (run_input_of run.now)) }
+        machine.now action.entry result machine.now (rest_after_action (run_input_of run.now)) }
 {
-    match take!(deed) {
+    match take!(action) {
         Action::Stepped => Done::Gives(true),
         Action::Ticked => Done::Gives(true),
         Action::Opened => Done::Halts(Halted::IllFormed),

@@ -346,8 +346,8 @@ fn one<'a>(
     let Some(item) = take!(first_of(run, who, machine, todo)) else {
         return Done::Gives(false);
     };
-    let deed = act(run, who, fuel, levels, machine, item, todo);
-    left_after(run, who, machine, todo, deed)
+    let action = act(run, who, fuel, levels, machine, item, todo);
+    left_after(run, who, machine, todo, action)
 }
 
 /// The ordinal of an expression.

@@ -10,7 +10,7 @@ ghost use Rattle.sp_meaning.specs.SuperPascal.{fuel_of};
 ghost use Rattle.sp_meaning.specs.Eval.{Calls, value};
 ghost use Rattle.sp_meaning.specs.Actions.{next_action};
 ghost use Rattle.sp_run.specs.DirectEval.{Calls as DirectCalls, value as direct_value};
-ghost use Rattle.sp_run.specs.DirectActions.{next_action as direct_deed};
+ghost use Rattle.sp_run.specs.DirectActions.{next_action as direct_action};
 ghost use Rattle.sp_run.specs.Agree.{GivesSame, SameCalls};
 ghost use Rattle.sp_run.specs.States.{state_after_action};
 
@@ -22,12 +22,12 @@ pub fn values_agree()
 
 /// A step of a process by the meaning is that with the store passed along.
 pub fn steps_agree()
-    ensures { (g : RunInput) (n : ℕ) (todo : List Item) → GivesSame (next_action g n todo) (direct_deed g n todo) }
+    ensures { (g : RunInput) (n : ℕ) (todo : List Item) → GivesSame (next_action g n todo) (direct_action g n todo) }
 {}
 
 /// The step of a process that is running is what its own work, with the store passed along, comes to.
 pub fn steps_come_of_work()
     ensures { (g : RunInput) (p : Name) (pr : Process) (s : StateOf g) → running_process g s p ≡ Some pr
         → next_state g s p
-        ≡ Some (state_after_action g p pr.who s (direct_deed g (fuel_of g pr.own) pr.todo pr.who pr.own s.store)) }
+        ≡ Some (state_after_action g p pr.who s (direct_action g (fuel_of g pr.own) pr.todo pr.who pr.own s.store)) }
 {}

@@ -490,14 +490,14 @@ fn completes<'a>(
     p: &[(u64, u64)],
     next: Process<'a>,
     log: List<Write>,
-    deed: Action<'a>,
+    action: Action<'a>,
 ) -> Result<(), Memory>
     ensures { OnOk result (state_of run.now s.new
         ≡ state_after_action (run_input_of run.now) p.now (plain_identity next.entry.who) (state_of run.now s.old)
-        (Computed (plain_action (items_of next.entry.todo.items) deed.entry) (plain_local_state next.entry.own)
+        (Computed (plain_action (items_of next.entry.todo.items) action.entry) (plain_local_state next.entry.own)
         (store_of run.now log))) }
 {
-    match deed {
+    match action {
         Action::Stepped => moves(run, s, p, next, log),
         Action::Ticked => moves(run, s, p, next, log),
         Action::Opened => opens(run, s, p, next, log),
@@ -519,7 +519,7 @@ fn completes<'a>(
     }
 }
 
-/// A step that comes to no deed is a fault.
+/// A step that comes to no action is a fault.
 fn stops(run: &RunInput, s: &mut State, p: &[(u64, u64)], halted: Halted) -> Result<(), Memory>
     ensures { (w : WhoIn) → OnOk result (state_of run.now s.new
         ≡ state_after_action (run_input_of run.now) p.now w (state_of run.now s.old) (NoResult halted)) }
@@ -607,7 +607,7 @@ fn works<'a>(
     let came = action_of(run, &who, fuel, &mut machine, &mut todo);
     let Machine { own, log } = machine;
     match came {
-        Done::Gives(deed) => completes(run, s, p, Process { todo, who, own }, log, deed),
+        Done::Gives(action) => completes(run, s, p, Process { todo, who, own }, log, action),
         Done::Halts(halted) => stops(run, s, p, halted),
         Done::NoMemory => Err(Memory),
     }

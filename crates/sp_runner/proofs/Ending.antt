@@ -13,7 +13,7 @@ use Rattle.sp_history.proofs.Agreeing.{agrees_start, orderly_start}
 use Rattle.sp_history.proofs.Legal.{keeps, reaches_keeps, reaches_front, noted_more}
 use Rattle.sp_history.proofs.Outs.{outs_start, outs_by, outs_all, over_by}
 use Rattle.sp_machine.specs.declared.state.State.{State as Proc}
-use Rattle.sp_room.specs.History.{LeadsTo as Told, StartsWith}
+use Rattle.sp_room.specs.History.{LeadsTo, StartsWith}
 use Rattle.sp_room.specs.RoomRule.{Called, Declined}
 use Rattle.sp_room.specs.declared.view.View.{View}
 use Rattle.sp_kernel.specs.declared.kernel.Kernel.{Kernel}
@@ -105,7 +105,7 @@ over_stays stores g k s t (n ∷ ns) h a o v r =
     (outs_by stores g n.worker n.given n.event n.got k s r.0 h o r.1.gives r.1.gets) b.1 r.2
 
 -- once one seat has left, and no worker gave up, the run is over
-pub ran_to : (x : Kernel) (fine : IsOpening x) (log : List Note) (y : Kernel) → Told KernelSteps x log y
+pub ran_to : (x : Kernel) (fine : IsOpening x) (log : List Note) (y : Kernel) → LeadsTo KernelSteps x log y
     → (seen : List Note)
     → StartsWith log seen → LeftAfter seen → y.abandons ≡ 0 → RanTo x log y
 ran_to x fine log y told seen starts left kept = record {

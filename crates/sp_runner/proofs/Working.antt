@@ -20,7 +20,7 @@ use Rattle.sp_machine.specs.declared.state.State.{State as Proc}
 use Rattle.sp_machine.specs.declared.state.Stop.{Stop}
 use Rattle.sp_machine.specs.declared.state.Stop.TheVariants as stop
 use Rattle.sp_machine.specs.Procs.{config_of, turn_by, CanTurn, IsRankedFrom, IsTurnOf, KeepsFork, KeepsNumberAndInput}
-use Rattle.sp_room.specs.History.{LeadsTo as Told, StartsWith, note_list as with_note}
+use Rattle.sp_room.specs.History.{LeadsTo, StartsWith, note_list as with_note}
 use Rattle.sp_room.specs.RoomRule.{Called, Declined}
 use Rattle.sp_room.specs.declared.view.View.{View}
 use Rattle.sp_kernel.specs.declared.handed.Handed.{Handed}
@@ -50,7 +50,7 @@ record Back (x : Kernel) (v w : View Kernel Note) (a : Ask) (h : Option Handed) 
   ask : a ≡ ask.Turn h
   own : w.own ≡ v.own
   last : Kernel
-  legal : Told KernelSteps x w.seen last
+  legal : LeadsTo KernelSteps x w.seen last
 
 module _ (x : Kernel) (fine : IsOpening x) (v w : View Kernel Note) (a : Ask) where
   -- who gets work has it out

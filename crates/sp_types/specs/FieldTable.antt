@@ -1,6 +1,6 @@
 -- Some of this belongs to what the program promises (docs/promise.txt).
 -- The fields of a record in an ordered table by their names, and the message types of a channel in an ordered set. The
--- contracts of `entries` cite it; the rules speak of the first field of a name, and the table of the only one.
+-- contracts of `field_table` cite it; the rules speak of the first field of a name, and the table of the only one.
 use Rattle.std.specs.Prelude.{◌≡◌, ℕ, ◌+◌, nat_eq, if◌then◌else◌, List, [], ◌∷◌, Option, Some, None}
 use Rattle.std.specs.List.{list_any}
 use Rattle.std.specs.Option.{option_or}

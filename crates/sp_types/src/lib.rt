@@ -25,7 +25,7 @@
 //!   an expression at its place, `calls.rt` and `performs.rt` for calls, `choices.rt` and `seen.rt` for the constants
 //!   of a `case`.
 //! - `src/numbers.rt`, `written.rt`, `constants.rt`, `kinds.rt` and `tabling.rt` make the tables of what is declared,
-//!   with `entries.rt` for what is looked up in a type; `declarations.rt` has the rules there, with `sizes.rt` for
+//!   with `field_table.rt` for what is looked up in a type; `declarations.rt` has the rules there, with `sizes.rt` for
 //!   cells.
 //! - `src/bodies.rt` and `counting.rt` have the numbers of statements, `blocks.rt` the blocks, `program.rt` the whole
 //!   (`type_check`).
@@ -58,8 +58,8 @@ mod choices;
 mod constants;
 mod counting;
 mod declarations;
-mod entries;
 mod expressions;
+mod field_table;
 mod kinds;
 pub mod law;
 mod numbers;

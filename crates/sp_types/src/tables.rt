@@ -10,7 +10,7 @@ ghost use Rattle.sp_types.specs.Tables.{formals_of, answer_kind};
 ghost use Rattle.sp_types.specs.Tables.{ordinal_kind};
 ghost use Rattle.sp_types.specs.TypeWalk.{formal_role, formal_kind, with_more_numbers};
 
-use crate::entries::KindEntry;
+use crate::field_table::KindEntry;
 use sp_base::{Halt, List, Text};
 use sp_tree::{KindOf, Role};
 use std::mem::replace;

@@ -5,7 +5,7 @@ ghost use Rattle.sp_tree.specs.PhaseResults.{Answers};
 ghost use Rattle.sp_tree.specs.NamedOf.{block_of};
 ghost use Rattle.sp_types.specs.Tables.{answer_variable, type_of, types_of, roles_of, signatures};
 
-use crate::entries::KindEntry;
+use crate::field_table::KindEntry;
 use crate::numbers::type_number;
 use crate::tables::{Ordinal, Signature, Tables};
 use crate::take;

@@ -11,7 +11,7 @@ pub returns-in-Some : goal.returns-in-Some
 returns-in-Some c =
     let fs = c.args.facts.now in
     let g = c.in-Some.fact in
-    let o = fact_along c.args.edge c.args.own c.args.deed in
+    let o = fact_along c.args.edge c.args.own c.args.effect in
     ok_on c.add.result (c.add.new.self ≡ with_fact fs g) (Tells fs c.add.new.self (λ f. o ≡ Some f))
     (λ v. subst (λ (x : List Fact). Tells fs x (λ f. o ≡ Some f)) (sym v) (carried_told fs o g (sym c.fact_along.ensures
     ∙ c.in-Some.is)))

@@ -1,9 +1,9 @@
 use Rattle.std.proofs.Common.{◌∷◌, [], ◌+◌, ◌∙◌, refl, ap, sym, subst, length, List, ℕ, false}
 use Rattle.std.proofs.lemmas.List.{length-append}
-use Rattle.sp_effects.specs.declared.effects.Deeds.{Deeds}
-use Rattle.sp_effects.specs.declared.facts.Deed.{Deed}
-use Rattle.sp_effects.specs.Effects.{HasDeed}
-use Rattle.sp_effects.proofs.Rows.{deeds_more}
+use Rattle.sp_effects.specs.declared.effects.EffectRow.{EffectRow}
+use Rattle.sp_effects.specs.declared.facts.Effect.{Effect}
+use Rattle.sp_effects.specs.Effects.{RowsHave}
+use Rattle.sp_effects.proofs.Rows.{effect_rows_more}
 use Rattle.sp_effects.proofs.effects.empty_rows.Goals as goal
 
 pub loop-m-preserved : goal.loop-m-preserved
@@ -13,8 +13,8 @@ loop-m-preserved c =
       ap length e ∙ length-append rows
           (record { stored = c.new.result; loaded = c.new-in-loop-m.result; stops = false } ∷ [])
           ∙ ap (λ n. n + 1) c.loop-m.invariant.0,
-      subst (λ (x : List Deeds). (m : ℕ) (d : Deed) → HasDeed x m d → ⊥) (sym e)
-          (deeds_more rows (record {
+      subst (λ (x : List EffectRow). (m : ℕ) (d : Effect) → RowsHave x m d → ⊥) (sym e)
+          (effect_rows_more rows (record {
             stored = c.new.result;
             loaded = c.new-in-loop-m.result;
             stops = false;

@@ -10,8 +10,9 @@ pub returns : goal.returns
 returns c =
     let old = c.args.areas.now in
     let g = c.args.fact in
-    subst (λ (x : List Sets). (f : Fact) → sets_have x f.area f.deed ≡ (same_fact f g || sets_have old f.area f.deed))
+    subst (λ (x : List Sets). (f : Fact) → sets_have x f.area f.effect
+    ≡ (same_fact f g || sets_have old f.area f.effect))
     (sym (c.replace-none.ensures.list
-    ∙ ap (λ (x : List Sets). slice_set x g.area c.put_deed.new.sets) c.replace-sets.ensures.list))
-    (noted_put old c.no_sets-none.result c.replace-sets.result c.put_deed.new.sets g c.replace-sets.ensures.replaced
-    c.in_ok-put_deed.ensures)
+    ∙ ap (λ (x : List Sets). slice_set x g.area c.put_effect.new.sets) c.replace-sets.ensures.list))
+    (noted_put old c.no_sets-none.result c.replace-sets.result c.put_effect.new.sets g c.replace-sets.ensures.replaced
+    c.in_ok-put_effect.ensures)

@@ -1,5 +1,5 @@
 use Rattle.sp_effects.specs.Facts.{Tells}
-use Rattle.sp_effects.specs.Own.{IsOf, IsHanded, IsDeedAmong}
+use Rattle.sp_effects.specs.Own.{IsOf, IsHanded, IsEffectAmong}
 use Rattle.std.specs.Prelude.{false}
 use Rattle.sp_base.proofs.Facts.{on_map as ok_on}
 use Rattle.sp_effects.proofs.Owns.{child_told}
@@ -12,7 +12,7 @@ returns c =
     let f = c.args.facts.now in
     let g = c.tell.new.facts in
     let h = c.tell-2.new.facts in
-    ok_on c.tell-2.result (Tells g h (IsOf n (IsDeedAmong false c.items-2.result.now)))
+    ok_on c.tell-2.result (Tells g h (IsOf n (IsEffectAmong false c.items-2.result.now)))
     (Tells f h (IsOf n (IsHanded t)))
     (λ v. child_told f g h n t c.items.result.now c.items-2.result.now c.items.ensures c.items-2.ensures
     c.in_ok-tell.ensures v)

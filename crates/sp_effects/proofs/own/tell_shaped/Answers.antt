@@ -5,7 +5,7 @@ use Rattle.sp_rules.specs.Areas.{Area}
 use Rattle.sp_areas.specs.Only.{LiesOnlyIn}
 use Rattle.sp_shapes.specs.Stacks.{list_of}
 use Rattle.sp_effects.specs.Facts.{Tells}
-use Rattle.sp_effects.specs.Own.{IsDeedAmong, IsOf, IsStop, DoesBy, variables_at}
+use Rattle.sp_effects.specs.Own.{IsEffectAmong, IsOf, IsStop, DoesBy, variables_at}
 use Rattle.sp_effects.proofs.Owns.{shaped_told}
 use Rattle.sp_effects.proofs.own.tell_shaped.Goals as goal
 
@@ -25,8 +25,8 @@ returns c =
     (λ v a only. shaped_told code a p ss f g h k n o
     (variables_at code a c.stored_place.result ss) (variables_at code a c.loaded_place.result ss)
     c.requires.instr (c.stored_place.ensures code a ss) (c.loaded_place.ensures code a ss)
-    (subst (λ (xs : List ℕ). Tells f g (IsOf n (IsDeedAmong true xs))) (c.items.ensures
+    (subst (λ (xs : List ℕ). Tells f g (IsOf n (IsEffectAmong true xs))) (c.items.ensures
     ∙ c.in_ok-stored.ensures a only) c.in_ok-tell.ensures)
-    (subst (λ (xs : List ℕ). Tells g h (IsOf n (IsDeedAmong false xs))) (c.items-2.ensures
+    (subst (λ (xs : List ℕ). Tells g h (IsOf n (IsEffectAmong false xs))) (c.items-2.ensures
     ∙ c.in_ok-loaded.ensures a only) c.in_ok-tell-2.ensures) v)
     c.tell_stop.ensures

@@ -33,9 +33,9 @@ index-requires c =
     let h = c.loop-known.invariant.0 in
     let l = c.in-Some.ensures.0 in
     let p = place_there c.args.entries.now c.requires.tame c.args.at c.args.racer.process c.args.racer.way
-    c.args.racer.channel c.requires.here c.args.until.now c.args.bench.now c.requires.holds c.in-Some.i
+    c.args.racer.channel c.requires.here c.args.until.now c.args.tables.now c.requires.holds c.in-Some.i
     (omega (arith, h, l)) in
-    subst (λ n. c.in-Some.i < n) (sym c.args.bench.now.places.ok.0) p
+    subst (λ n. c.in-Some.i < n) (sym c.args.tables.now.places.ok.0) p
 
 pub knows_entry-requires-clause-inside : goal.knows_entry-requires-clause-inside
 knows_entry-requires-clause-inside c = inside c.args.entries.now c.requires.tame c.args.at c.args.racer.process
@@ -56,7 +56,7 @@ loop-known-preserved-then-branch c =
     let o = c.in-Some.ensures in
     let l : c.in-Some.i < c.loop-known.first - (c.loop-known.first - c.loop-known.known) / 2 = o.0 in
     let says = counted c.args.entries.now c.requires.tame c.args.at c.args.racer.process c.args.racer.way
-    c.args.racer.channel c.requires.here c.args.until.now c.args.bench.now c.requires.holds c.in-Some.i
+    c.args.racer.channel c.requires.here c.args.until.now c.args.tables.now c.requires.holds c.in-Some.i
     c.index.result.now any (omega (arith, low, l)) o.1 c.index.ensures in (
       h.0,
       all_below c.args.entries.now c.requires.tame c.args.at c.args.racer.process c.args.racer.way c.args.racer.channel
@@ -72,7 +72,7 @@ loop-known-preserved c =
     let o = c.in-Some.ensures in
     let l : c.in-Some.i < c.loop-known.first - (c.loop-known.first - c.loop-known.known) / 2 = o.0 in
     let says = counted c.args.entries.now c.requires.tame c.args.at c.args.racer.process c.args.racer.way
-    c.args.racer.channel c.requires.here c.args.until.now c.args.bench.now c.requires.holds c.in-Some.i
+    c.args.racer.channel c.requires.here c.args.until.now c.args.tables.now c.requires.holds c.in-Some.i
     c.index.result.now any (omega (arith, low, l)) o.1 c.index.ensures in (
       omega (arith, low, l),
       h.1,

@@ -21,8 +21,8 @@ loop-at-init c =
     let q : c.channels-2.result ≡ (births es).channels = c.channels-2.ensures.value
     ∙ ap (λ (j : Journal). (births j.entries).channels) c.in_ok-ledger.ensures.1
     ∙ ap (λ xs. (births xs).channels) is in (
-      blank_holds es c.in_ok-bench.bench (subst (λ n. IsBlank c.in_ok-bench.bench n (births es).channels) p
-          (subst (λ n. IsBlank c.in_ok-bench.bench c.processes-2.result n) q c.in_ok-bench.ensures))
+      blank_holds es c.in_ok-tables.tables (subst (λ n. IsBlank c.in_ok-tables.tables n (births es).channels) p
+          (subst (λ n. IsBlank c.in_ok-tables.tables c.processes-2.result n) q c.in_ok-tables.ensures))
           c.in_ok-until.until.items,
       tt,
     )

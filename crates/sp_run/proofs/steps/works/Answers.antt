@@ -19,7 +19,7 @@ returns-in-Gives c =
     (fuel_of (run_input_of c.args.run.now) (plain_local_state c.args.process.own))
     (items_of c.args.process.todo.items) (plain_identity c.args.process.who) (plain_local_state c.args.process.own)
     (store_of c.args.run.now c.args.s.now.log)
-    ≡ Computed (plain_action (items_of c.action_of-came.new.todo.items) c.in-Gives.deed)
+    ≡ Computed (plain_action (items_of c.action_of-came.new.todo.items) c.in-Gives.action)
     (plain_local_state c.action_of-came.new.machine.own) (store_of c.args.run.now c.action_of-came.new.machine.log) =
     rw (c.in-Gives.is, b, l) at c.action_of-came.ensures in
     ok_then c.completes.result c.completes.ensures

@@ -4,7 +4,7 @@ ghost use Rattle.std.specs.Prelude.{◌≡◌, ◌≤◌, vec_len, vec_capacity}
 
 /// The bytes that have fitted, how many there may be, and whether all that was put has fitted.
 #[derive(Debug, Drop)]
-pub struct Room {
+pub struct OutputBuffer {
     bytes: Vec<u8>,
     size: usize,
     whole: bool,
@@ -12,17 +12,17 @@ pub struct Room {
     ghost size_within_capacity: { size ≤ vec_capacity bytes },
 }
 
-impl Room {
+impl OutputBuffer {
     ghost use Rattle.sp_outside.specs.OutputBuffers.{IsEmptyBuffer, kept_bytes, visible_bytes, IsPut};
     ghost use Rattle.sp_outside.specs.Visible.{Grows};
 
-    /// A room as long as the vector, with nothing in it.
-    pub fn new(mut bytes: Vec<u8>) -> Room
+    /// A buffer as long as the vector, with nothing in it.
+    pub fn new(mut bytes: Vec<u8>) -> OutputBuffer
         ensures { IsEmptyBuffer (vec_len bytes) result }
     {
         let size = bytes.len();
         bytes.clear();
-        Room {
+        OutputBuffer {
             bytes,
             size,
             whole: true,

@@ -10,7 +10,7 @@ use sp_shapes::shapes::Shapes;
 /// Code, its layouts by their blocks, and of each instruction whose code it is, what is around it, and the shapes that
 /// it is reached with (`IsPassContext`).
 #[derive(Drop)]
-pub struct Ground<'a> {
+pub struct PassContext<'a> {
     pub code: &'a Code,
     pub blocks: &'a Blocks,
     pub owners: &'a List<Owner>,

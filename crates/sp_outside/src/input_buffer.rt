@@ -4,19 +4,19 @@ ghost use Rattle.std.specs.Prelude.{◌≡◌, ◌≤◌, ◌++◌, Some, take, 
 
 /// The bytes, and how many of them were given.
 #[derive(Debug, Drop)]
-pub struct Tape {
+pub struct InputBuffer {
     bytes: Vec<u8>,
     given: usize,
     ghost given_in_bytes: { given ≤ vec_len bytes },
 }
 
-impl Tape {
+impl InputBuffer {
     ghost use Rattle.sp_outside.specs.InputBuffers.{bytes_left};
 
-    pub fn new(bytes: Vec<u8>) -> Tape
+    pub fn new(bytes: Vec<u8>) -> InputBuffer
         ensures { bytes_left result ≡ bytes.items }
     {
-        Tape { bytes, given: 0 }
+        InputBuffer { bytes, given: 0 }
     }
 
     /// Moves the next bytes into the front of the buffer, as many as it takes and `most` allows.

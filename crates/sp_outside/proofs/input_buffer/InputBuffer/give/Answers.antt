@@ -1,6 +1,6 @@
 use Rattle.std.proofs.Common.{◌≡◌, ◌∙◌, ℕ, ◌+◌, ◌≤◌, ◌++◌, List, take, drop, length, arith, ap, sym, length-take}
 use Rattle.std.proofs.lemmas.List.{take-append-drop, drop-drop, take_at}
-use Rattle.sp_outside.proofs.tape.Tape.give.Goals as goal
+use Rattle.sp_outside.proofs.input_buffer.InputBuffer.give.Goals as goal
 
 -- n bytes of what is left stand in front of the buffer, and the others are left
 given_on : (items buf got left : List ℕ) (given n : ℕ) → left ≡ drop given items → got ≡ take n left → n ≤ length left

@@ -1,6 +1,6 @@
 -- None of this belongs to what the program promises: it is for contracts between crates.
--- What is written by the functions over trees in memory: the words of their contracts, which name the draft before and
--- the part, and no more.
+-- What is written by the functions over trees in memory: the words of their contracts, which name the buffer before
+-- and the part, and no more.
 use Rattle.std.specs.Prelude.{ℕ, List, map, Some, None}
 use Rattle.sp_tree.specs.PlainChecked as c
 use Rattle.sp_code.specs.declared.code.ChildTable.{ChildTable}

@@ -2,7 +2,7 @@ use Rattle.std.proofs.Common.{◌∙◌, ap, sym, ◌||◌, ◌+◌, ℕ, List, 
 use Rattle.std.specs.List.{list_any}
 use Rattle.sp_types.proofs.Declared.{drop_head}
 use Rattle.sp_types.proofs.Noting.{counted, has}
-use Rattle.sp_types.proofs.entries.numbers_of.Goals as goal
+use Rattle.sp_types.proofs.field_table.numbers_of.Goals as goal
 
 pub loop-k-preserved : goal.loop-k-preserved
 loop-k-preserved c = λ k.
