@@ -1,5 +1,6 @@
 //! Tests of clocks, and of the verdicts on journals written by hand.
 
+ghost use Rattle.std.specs.Prelude.{◌≡◌};
 ghost use Rattle.sp_journal.specs.Births.{occurrences, IsNameable};
 ghost use Rattle.sp_judge.specs.Prefixes.{WaitersAreSilent};
 
@@ -66,6 +67,12 @@ fn a_clock_merged_has_the_greater_counts(rt: HostRuntime) -> Result<(), Fail> {
     assert!(rt; clock.knows(1, 0));
     assert!(rt; !clock.knows(1, 1));
     Ok(())
+}
+
+fn entry(process: u32, event: Event) -> Entry
+    ensures { result ≡ record { process = process; event = event } }
+{
+    Entry { process, event }
 }
 
 // Whether this is the verdict on a journal and an end.
@@ -141,10 +148,7 @@ fn is_unjudged(alloc: Global, journal: Journal, process: &[Pair]) -> Result<bool
 #[test]
 fn nothing_to_order(rt: HostRuntime) -> Result<(), Fail> {
     let entries = vec![in rt.alloc();
-        Entry {
-            process: 0,
-            event: Event::End,
-        },
+        entry(0, Event::End),
     ]?;
     let journal = Journal {
         entries: List::of(entries),
@@ -157,14 +161,8 @@ fn nothing_to_order(rt: HostRuntime) -> Result<(), Fail> {
 #[test]
 fn one_offer(rt: HostRuntime) -> Result<(), Fail> {
     let entries = vec![in rt.alloc();
-        Entry {
-            process: 0,
-            event: Event::Open,
-        },
-        Entry {
-            process: 0,
-            event: Event::Receive(0),
-        },
+        entry(0, Event::Open),
+        entry(0, Event::Receive(0)),
     ]?;
     let journal = Journal {
         entries: List::of(entries),
@@ -177,14 +175,8 @@ fn one_offer(rt: HostRuntime) -> Result<(), Fail> {
 #[test]
 fn one_offer_and_a_fault(rt: HostRuntime) -> Result<(), Fail> {
     let entries = vec![in rt.alloc();
-        Entry {
-            process: 0,
-            event: Event::Open,
-        },
-        Entry {
-            process: 0,
-            event: Event::Receive(0),
-        },
+        entry(0, Event::Open),
+        entry(0, Event::Receive(0)),
     ]?;
     let journal = Journal {
         entries: List::of(entries),
@@ -197,46 +189,16 @@ fn one_offer_and_a_fault(rt: HostRuntime) -> Result<(), Fail> {
 #[test]
 fn two_senders(rt: HostRuntime) -> Result<(), Fail> {
     let entries = vec![in rt.alloc();
-        Entry {
-            process: 0,
-            event: Event::Open
-        },
-        Entry {
-            process: 0,
-            event: Event::Fork(3)
-        },
-        Entry {
-            process: 1,
-            event: Event::Receive(0)
-        },
-        Entry {
-            process: 2,
-            event: Event::Send(0)
-        },
-        Entry {
-            process: 3,
-            event: Event::Send(0)
-        },
-        Entry {
-            process: 1,
-            event: Event::Receive(0)
-        },
-        Entry {
-            process: 2,
-            event: Event::End
-        },
-        Entry {
-            process: 3,
-            event: Event::End
-        },
-        Entry {
-            process: 1,
-            event: Event::End
-        },
-        Entry {
-            process: 0,
-            event: Event::End
-        },
+        entry(0, Event::Open),
+        entry(0, Event::Fork(3)),
+        entry(1, Event::Receive(0)),
+        entry(2, Event::Send(0)),
+        entry(3, Event::Send(0)),
+        entry(1, Event::Receive(0)),
+        entry(2, Event::End),
+        entry(3, Event::End),
+        entry(1, Event::End),
+        entry(0, Event::End),
     ]?;
     let journal = Journal {
         entries: List::of(entries),
@@ -249,46 +211,16 @@ fn two_senders(rt: HostRuntime) -> Result<(), Fail> {
 #[test]
 fn two_receivers(rt: HostRuntime) -> Result<(), Fail> {
     let entries = vec![in rt.alloc();
-        Entry {
-            process: 0,
-            event: Event::Open
-        },
-        Entry {
-            process: 0,
-            event: Event::Fork(3)
-        },
-        Entry {
-            process: 1,
-            event: Event::Send(0)
-        },
-        Entry {
-            process: 2,
-            event: Event::Receive(0)
-        },
-        Entry {
-            process: 3,
-            event: Event::Receive(0)
-        },
-        Entry {
-            process: 1,
-            event: Event::Send(0)
-        },
-        Entry {
-            process: 2,
-            event: Event::End
-        },
-        Entry {
-            process: 3,
-            event: Event::End
-        },
-        Entry {
-            process: 1,
-            event: Event::End
-        },
-        Entry {
-            process: 0,
-            event: Event::End
-        },
+        entry(0, Event::Open),
+        entry(0, Event::Fork(3)),
+        entry(1, Event::Send(0)),
+        entry(2, Event::Receive(0)),
+        entry(3, Event::Receive(0)),
+        entry(1, Event::Send(0)),
+        entry(2, Event::End),
+        entry(3, Event::End),
+        entry(1, Event::End),
+        entry(0, Event::End),
     ]?;
     let journal = Journal {
         entries: List::of(entries),
@@ -301,62 +233,20 @@ fn two_receivers(rt: HostRuntime) -> Result<(), Fail> {
 #[test]
 fn used_twice(rt: HostRuntime) -> Result<(), Fail> {
     let entries = vec![in rt.alloc();
-        Entry {
-            process: 0,
-            event: Event::Open
-        },
-        Entry {
-            process: 0,
-            event: Event::Fork(2)
-        },
-        Entry {
-            process: 1,
-            event: Event::Send(0)
-        },
-        Entry {
-            process: 2,
-            event: Event::Receive(0)
-        },
-        Entry {
-            process: 1,
-            event: Event::Pause
-        },
-        Entry {
-            process: 1,
-            event: Event::End
-        },
-        Entry {
-            process: 2,
-            event: Event::End
-        },
-        Entry {
-            process: 0,
-            event: Event::Pause
-        },
-        Entry {
-            process: 0,
-            event: Event::Fork(2)
-        },
-        Entry {
-            process: 3,
-            event: Event::Send(0)
-        },
-        Entry {
-            process: 4,
-            event: Event::Receive(0)
-        },
-        Entry {
-            process: 3,
-            event: Event::End
-        },
-        Entry {
-            process: 4,
-            event: Event::End
-        },
-        Entry {
-            process: 0,
-            event: Event::End
-        },
+        entry(0, Event::Open),
+        entry(0, Event::Fork(2)),
+        entry(1, Event::Send(0)),
+        entry(2, Event::Receive(0)),
+        entry(1, Event::Pause),
+        entry(1, Event::End),
+        entry(2, Event::End),
+        entry(0, Event::Pause),
+        entry(0, Event::Fork(2)),
+        entry(3, Event::Send(0)),
+        entry(4, Event::Receive(0)),
+        entry(3, Event::End),
+        entry(4, Event::End),
+        entry(0, Event::End),
     ]?;
     let journal = Journal {
         entries: List::of(entries),
@@ -369,54 +259,18 @@ fn used_twice(rt: HostRuntime) -> Result<(), Fail> {
 #[test]
 fn used_inside(rt: HostRuntime) -> Result<(), Fail> {
     let entries = vec![in rt.alloc();
-        Entry {
-            process: 0,
-            event: Event::Open
-        },
-        Entry {
-            process: 0,
-            event: Event::Fork(2)
-        },
-        Entry {
-            process: 1,
-            event: Event::Send(0)
-        },
-        Entry {
-            process: 2,
-            event: Event::Receive(0)
-        },
-        Entry {
-            process: 1,
-            event: Event::End
-        },
-        Entry {
-            process: 2,
-            event: Event::Fork(2)
-        },
-        Entry {
-            process: 3,
-            event: Event::Send(0)
-        },
-        Entry {
-            process: 4,
-            event: Event::Receive(0)
-        },
-        Entry {
-            process: 3,
-            event: Event::End
-        },
-        Entry {
-            process: 4,
-            event: Event::End
-        },
-        Entry {
-            process: 2,
-            event: Event::End
-        },
-        Entry {
-            process: 0,
-            event: Event::End
-        },
+        entry(0, Event::Open),
+        entry(0, Event::Fork(2)),
+        entry(1, Event::Send(0)),
+        entry(2, Event::Receive(0)),
+        entry(1, Event::End),
+        entry(2, Event::Fork(2)),
+        entry(3, Event::Send(0)),
+        entry(4, Event::Receive(0)),
+        entry(3, Event::End),
+        entry(4, Event::End),
+        entry(2, Event::End),
+        entry(0, Event::End),
     ]?;
     let journal = Journal {
         entries: List::of(entries),
@@ -429,22 +283,10 @@ fn used_inside(rt: HostRuntime) -> Result<(), Fail> {
 #[test]
 fn a_second_sender_faults(rt: HostRuntime) -> Result<(), Fail> {
     let entries = vec![in rt.alloc();
-        Entry {
-            process: 0,
-            event: Event::Open,
-        },
-        Entry {
-            process: 0,
-            event: Event::Fork(3),
-        },
-        Entry {
-            process: 1,
-            event: Event::Send(0),
-        },
-        Entry {
-            process: 2,
-            event: Event::Fault(Fault::F6),
-        },
+        entry(0, Event::Open),
+        entry(0, Event::Fork(3)),
+        entry(1, Event::Send(0)),
+        entry(2, Event::Fault(Fault::F6)),
     ]?;
     let journal = Journal {
         entries: List::of(entries),
@@ -457,50 +299,17 @@ fn a_second_sender_faults(rt: HostRuntime) -> Result<(), Fail> {
 #[test]
 fn handed_on(rt: HostRuntime) -> Result<(), Fail> {
     let entries = vec![in rt.alloc();
-        Entry {
-            process: 0,
-            event: Event::Open,
-        },
-        Entry {
-            process: 0,
-            event: Event::Open,
-        },
-        Entry {
-            process: 0,
-            event: Event::Fork(3),
-        },
-        Entry {
-            process: 1,
-            event: Event::Send(0),
-        },
-        Entry {
-            process: 2,
-            event: Event::Receive(0),
-        },
-        Entry {
-            process: 3,
-            event: Event::Receive(1),
-        },
-        Entry {
-            process: 1,
-            event: Event::End,
-        },
-        Entry {
-            process: 2,
-            event: Event::Send(1),
-        },
-        Entry {
-            process: 3,
-            event: Event::End,
-        },
-        Entry {
-            process: 2,
-            event: Event::End,
-        },
-        Entry {
-            process: 0,
-            event: Event::End,
-        },
+        entry(0, Event::Open),
+        entry(0, Event::Open),
+        entry(0, Event::Fork(3)),
+        entry(1, Event::Send(0)),
+        entry(2, Event::Receive(0)),
+        entry(3, Event::Receive(1)),
+        entry(1, Event::End),
+        entry(2, Event::Send(1)),
+        entry(3, Event::End),
+        entry(2, Event::End),
+        entry(0, Event::End),
     ]?;
     let journal = Journal {
         entries: List::of(entries),
@@ -513,90 +322,27 @@ fn handed_on(rt: HostRuntime) -> Result<(), Fail> {
 #[test]
 fn pipeline(rt: HostRuntime) -> Result<(), Fail> {
     let entries = vec![in rt.alloc();
-        Entry {
-            process: 0,
-            event: Event::Open,
-        },
-        Entry {
-            process: 0,
-            event: Event::Open,
-        },
-        Entry {
-            process: 0,
-            event: Event::Open,
-        },
-        Entry {
-            process: 0,
-            event: Event::Open,
-        },
-        Entry {
-            process: 0,
-            event: Event::Fork(3),
-        },
-        Entry {
-            process: 1,
-            event: Event::Send(0),
-        },
-        Entry {
-            process: 2,
-            event: Event::Fork(3),
-        },
-        Entry {
-            process: 3,
-            event: Event::Receive(3),
-        },
-        Entry {
-            process: 4,
-            event: Event::Receive(0),
-        },
-        Entry {
-            process: 5,
-            event: Event::Receive(1),
-        },
-        Entry {
-            process: 6,
-            event: Event::Receive(2),
-        },
-        Entry {
-            process: 1,
-            event: Event::End,
-        },
-        Entry {
-            process: 4,
-            event: Event::Send(1),
-        },
-        Entry {
-            process: 5,
-            event: Event::Send(2),
-        },
-        Entry {
-            process: 4,
-            event: Event::End,
-        },
-        Entry {
-            process: 6,
-            event: Event::Send(3),
-        },
-        Entry {
-            process: 5,
-            event: Event::End,
-        },
-        Entry {
-            process: 3,
-            event: Event::End,
-        },
-        Entry {
-            process: 6,
-            event: Event::End,
-        },
-        Entry {
-            process: 2,
-            event: Event::End,
-        },
-        Entry {
-            process: 0,
-            event: Event::End,
-        },
+        entry(0, Event::Open),
+        entry(0, Event::Open),
+        entry(0, Event::Open),
+        entry(0, Event::Open),
+        entry(0, Event::Fork(3)),
+        entry(1, Event::Send(0)),
+        entry(2, Event::Fork(3)),
+        entry(3, Event::Receive(3)),
+        entry(4, Event::Receive(0)),
+        entry(5, Event::Receive(1)),
+        entry(6, Event::Receive(2)),
+        entry(1, Event::End),
+        entry(4, Event::Send(1)),
+        entry(5, Event::Send(2)),
+        entry(4, Event::End),
+        entry(6, Event::Send(3)),
+        entry(5, Event::End),
+        entry(3, Event::End),
+        entry(6, Event::End),
+        entry(2, Event::End),
+        entry(0, Event::End),
     ]?;
     let journal = Journal {
         entries: List::of(entries),
@@ -609,78 +355,24 @@ fn pipeline(rt: HostRuntime) -> Result<(), Fail> {
 #[test]
 fn pipeline_with_pauses(rt: HostRuntime) -> Result<(), Fail> {
     let entries = vec![in rt.alloc();
-        Entry {
-            process: 0,
-            event: Event::Pause,
-        },
-        Entry {
-            process: 0,
-            event: Event::Open,
-        },
-        Entry {
-            process: 0,
-            event: Event::Open,
-        },
-        Entry {
-            process: 0,
-            event: Event::Pause,
-        },
-        Entry {
-            process: 0,
-            event: Event::Fork(3),
-        },
-        Entry {
-            process: 1,
-            event: Event::Send(0),
-        },
-        Entry {
-            process: 2,
-            event: Event::Fork(1),
-        },
-        Entry {
-            process: 3,
-            event: Event::Receive(1),
-        },
-        Entry {
-            process: 4,
-            event: Event::Receive(0),
-        },
-        Entry {
-            process: 4,
-            event: Event::Pause,
-        },
-        Entry {
-            process: 1,
-            event: Event::Pause,
-        },
-        Entry {
-            process: 1,
-            event: Event::End,
-        },
-        Entry {
-            process: 4,
-            event: Event::Pause,
-        },
-        Entry {
-            process: 4,
-            event: Event::Send(1),
-        },
-        Entry {
-            process: 3,
-            event: Event::End,
-        },
-        Entry {
-            process: 4,
-            event: Event::End,
-        },
-        Entry {
-            process: 2,
-            event: Event::End,
-        },
-        Entry {
-            process: 0,
-            event: Event::End,
-        },
+        entry(0, Event::Pause),
+        entry(0, Event::Open),
+        entry(0, Event::Open),
+        entry(0, Event::Pause),
+        entry(0, Event::Fork(3)),
+        entry(1, Event::Send(0)),
+        entry(2, Event::Fork(1)),
+        entry(3, Event::Receive(1)),
+        entry(4, Event::Receive(0)),
+        entry(4, Event::Pause),
+        entry(1, Event::Pause),
+        entry(1, Event::End),
+        entry(4, Event::Pause),
+        entry(4, Event::Send(1)),
+        entry(3, Event::End),
+        entry(4, Event::End),
+        entry(2, Event::End),
+        entry(0, Event::End),
     ]?;
     let journal = Journal {
         entries: List::of(entries),
@@ -693,74 +385,23 @@ fn pipeline_with_pauses(rt: HostRuntime) -> Result<(), Fail> {
 #[test]
 fn tree(rt: HostRuntime) -> Result<(), Fail> {
     let entries = vec![in rt.alloc();
-        Entry {
-            process: 0,
-            event: Event::Open,
-        },
-        Entry {
-            process: 0,
-            event: Event::Fork(2),
-        },
-        Entry {
-            process: 1,
-            event: Event::Open,
-        },
-        Entry {
-            process: 2,
-            event: Event::Receive(0),
-        },
-        Entry {
-            process: 1,
-            event: Event::Open,
-        },
-        Entry {
-            process: 1,
-            event: Event::Fork(3),
-        },
-        Entry {
-            process: 3,
-            event: Event::Send(1),
-        },
-        Entry {
-            process: 4,
-            event: Event::Send(2),
-        },
-        Entry {
-            process: 5,
-            event: Event::Receive(1),
-        },
-        Entry {
-            process: 3,
-            event: Event::End,
-        },
-        Entry {
-            process: 5,
-            event: Event::Receive(2),
-        },
-        Entry {
-            process: 4,
-            event: Event::End,
-        },
-        Entry {
-            process: 5,
-            event: Event::Send(0),
-        },
-        Entry {
-            process: 2,
-            event: Event::End,
-        },
-        Entry {
-            process: 5,
-            event: Event::End,
-        },
-        Entry {
-            process: 1,
-            event: Event::End,
-        },
-        Entry {
-            process: 0,
-            event: Event::End,
-        },
+        entry(0, Event::Open),
+        entry(0, Event::Fork(2)),
+        entry(1, Event::Open),
+        entry(2, Event::Receive(0)),
+        entry(1, Event::Open),
+        entry(1, Event::Fork(3)),
+        entry(3, Event::Send(1)),
+        entry(4, Event::Send(2)),
+        entry(5, Event::Receive(1)),
+        entry(3, Event::End),
+        entry(5, Event::Receive(2)),
+        entry(4, Event::End),
+        entry(5, Event::Send(0)),
+        entry(2, Event::End),
+        entry(5, Event::End),
+        entry(1, Event::End),
+        entry(0, Event::End),
     ]?;
     let journal = Journal {
         entries: List::of(entries),
@@ -773,58 +414,19 @@ fn tree(rt: HostRuntime) -> Result<(), Fail> {
 #[test]
 fn two_senders_with_pauses(rt: HostRuntime) -> Result<(), Fail> {
     let entries = vec![in rt.alloc();
-        Entry {
-            process: 0,
-            event: Event::Open,
-        },
-        Entry {
-            process: 0,
-            event: Event::Fork(3),
-        },
-        Entry {
-            process: 1,
-            event: Event::Receive(0),
-        },
-        Entry {
-            process: 2,
-            event: Event::Pause,
-        },
-        Entry {
-            process: 2,
-            event: Event::Send(0),
-        },
-        Entry {
-            process: 3,
-            event: Event::Pause,
-        },
-        Entry {
-            process: 2,
-            event: Event::Pause,
-        },
-        Entry {
-            process: 3,
-            event: Event::Send(0),
-        },
-        Entry {
-            process: 1,
-            event: Event::Receive(0),
-        },
-        Entry {
-            process: 2,
-            event: Event::End,
-        },
-        Entry {
-            process: 3,
-            event: Event::End,
-        },
-        Entry {
-            process: 1,
-            event: Event::End,
-        },
-        Entry {
-            process: 0,
-            event: Event::End,
-        },
+        entry(0, Event::Open),
+        entry(0, Event::Fork(3)),
+        entry(1, Event::Receive(0)),
+        entry(2, Event::Pause),
+        entry(2, Event::Send(0)),
+        entry(3, Event::Pause),
+        entry(2, Event::Pause),
+        entry(3, Event::Send(0)),
+        entry(1, Event::Receive(0)),
+        entry(2, Event::End),
+        entry(3, Event::End),
+        entry(1, Event::End),
+        entry(0, Event::End),
     ]?;
     let journal = Journal {
         entries: List::of(entries),
@@ -838,74 +440,23 @@ fn two_senders_with_pauses(rt: HostRuntime) -> Result<(), Fail> {
 #[test]
 fn the_first_that_is_not_known(rt: HostRuntime) -> Result<(), Fail> {
     let entries = vec![in rt.alloc();
-        Entry {
-            process: 0,
-            event: Event::Open,
-        },
-        Entry {
-            process: 0,
-            event: Event::Fork(2),
-        },
-        Entry {
-            process: 1,
-            event: Event::Send(0),
-        },
-        Entry {
-            process: 2,
-            event: Event::Receive(0),
-        },
-        Entry {
-            process: 1,
-            event: Event::End,
-        },
-        Entry {
-            process: 2,
-            event: Event::End,
-        },
-        Entry {
-            process: 0,
-            event: Event::Fork(3),
-        },
-        Entry {
-            process: 3,
-            event: Event::Send(0),
-        },
-        Entry {
-            process: 4,
-            event: Event::Receive(0),
-        },
-        Entry {
-            process: 3,
-            event: Event::Send(0),
-        },
-        Entry {
-            process: 4,
-            event: Event::Receive(0),
-        },
-        Entry {
-            process: 5,
-            event: Event::Send(0),
-        },
-        Entry {
-            process: 4,
-            event: Event::Receive(0),
-        },
-        Entry {
-            process: 3,
-            event: Event::End,
-        },
-        Entry {
-            process: 5,
-            event: Event::End,
-        },
-        Entry {
-            process: 4,
-            event: Event::End,
-        },
-        Entry {
-            process: 0,
-            event: Event::End,
-        },
+        entry(0, Event::Open),
+        entry(0, Event::Fork(2)),
+        entry(1, Event::Send(0)),
+        entry(2, Event::Receive(0)),
+        entry(1, Event::End),
+        entry(2, Event::End),
+        entry(0, Event::Fork(3)),
+        entry(3, Event::Send(0)),
+        entry(4, Event::Receive(0)),
+        entry(3, Event::Send(0)),
+        entry(4, Event::Receive(0)),
+        entry(5, Event::Send(0)),
+        entry(4, Event::Receive(0)),
+        entry(3, Event::End),
+        entry(5, Event::End),
+        entry(4, Event::End),
+        entry(0, Event::End),
     ]?;
     let journal = Journal {
         entries: List::of(entries),

@@ -30,7 +30,8 @@ use Rattle.sp_format.specs.Items.{Item, HasItems}
 use Rattle.sp_format.specs.Layout.{canonical_text}
 use Rattle.sp_format.specs.Formats.{HasTree, IsCanonical, IsLong}
 use Rattle.sp_format.proofs.Walking.{one_items}
-use Rattle.sp_format.proofs.Follows.{KeptItems, kept_end, kept_blank, kept_comment, kept_token, has_items, kinds_of}
+use Rattle.sp_format.proofs.Neighbours.{kinds_of}
+use Rattle.sp_format.proofs.Follows.{KeptItems, kept_end, kept_blank, kept_comment, kept_token, has_items}
 use Rattle.sp_format.proofs.Follows.{canonical_kept}
 
 -- ---- tokens

@@ -2,6 +2,7 @@ pub mod Walking
 pub mod Joining
 pub mod Neat
 pub mod Again
+pub mod Neighbours
 pub mod Follows
 pub mod Accepts
 pub mod OneLayout

@@ -43,7 +43,8 @@ use Rattle.sp_words.specs.declared.command.CommandName.TheVariants.{Check, Run, 
 use Rattle.sp_words.specs.declared.command.CommandName.TheVariants.{Witness, Build, Exec}
 use Rattle.sp_words.proofs.Readings.{HoldsOfEach}
 use Rattle.sp_words.proofs.Rules.{Options, Parsers, clear, file_id, journal_id, level, rules}
-use Rattle.sp_words.proofs.Levels.{IsFree, good, names, or_else-nil}
+use Rattle.sp_words.proofs.WalkStates.{good, or_else-nil}
+use Rattle.sp_words.proofs.Levels.{IsFree, names}
 use Rattle.sp_words.proofs.LevelEnds.{ParsersMatch, good_agrees, is_complete, level_reads, names_agree}
 
 -- ---- the first word

@@ -20,8 +20,8 @@ use Rattle.sp_words.specs.Options.{Choice}
 use Rattle.sp_words.specs.Words.{each_once, is_accepted, lookup, subject, text_of, with_journal}
 use Rattle.sp_words.proofs.Rules.{Options, Parsers, behind_file, built_file, built_journal, built_option, clear}
 use Rattle.sp_words.proofs.Rules.{clear-or_else, file_id, journal_id, level, named, options, rules}
-use Rattle.sp_words.proofs.Levels.{IsFree, Level, good, has_row-more, names, nothing, or-assoc}
-use Rattle.sp_words.proofs.Levels.{row_for, rows_after, rests, takes, words_ahead}
+use Rattle.sp_words.proofs.WalkStates.{Level, good, nothing, or-assoc, row_for, rows_after, takes}
+use Rattle.sp_words.proofs.Levels.{IsFree, has_row-more, names, rests, words_ahead}
 
 -- ---- after the walk: no argument has a default, and only FILE and JOURNAL are required
 

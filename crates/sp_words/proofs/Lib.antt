@@ -6,4 +6,5 @@ mod ParserLemmas
 mod RangeLemmas
 mod Readings
 mod Rules
+mod WalkStates
 mod WordForms

@@ -1,3 +1,5 @@
+pub mod Forms
+pub mod FromEnding
 pub mod Calling
 pub mod Laws
 pub mod Parts

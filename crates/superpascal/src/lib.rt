@@ -30,8 +30,8 @@
 //!   `specs/Causes.antt` (`Cause`), what it has to write in `specs/Answers.antt`.
 //! - Of the proofs, `Running` and `RunningFiles` lead from `sp_execute` to a text's program and to a code file,
 //!   `Parts`, `Replaying` and `Executed` from the steps of a command to the cause of its answer, `Why` from an ending
-//!   to its cause, `Calling` and `Executing` from cause and writing to the contract; `Promising` puts the parts
-//!   together.
+//!   to its cause, `FromEnding` from both to what is due, `Calling` and `Executing` from cause and writing to the
+//!   contract; `Promising` puts the parts together.
 //! - The rules of the text come before its input, so `run`, `check` and `code` name the first broken rule of all;
 //!   `sets` looks up to types and `format` at characters and grammar. A text longer than the library's limit is never
 //!   seen whole; that it is longer is all that L1 says, so its refusal needs no bytes.
@@ -51,7 +51,7 @@
 //! To change:
 //! - A status or a line: `Ending` in `src/ending.rt`, `specs/Answers.antt`, `own_line` of `specs/Answering.antt` and of
 //!   `src/answers.rt`, its cause in `Due` of `specs/Causes.antt`, the step that it ends in `specs/Steps.antt`, its
-//!   clause in `specs/Statuses.antt`, `proofs/Why.antt` and `proofs/Calling.antt`.
+//!   clause in `specs/Statuses.antt`, `proofs/Why.antt`, `proofs/FromEnding.antt` and `proofs/Calling.antt`.
 //! - A command: its variant in `sp_words`; what it asks for in `src/asked.rt`; `text_of`, `IsAbout`, `FollowsUnder`,
 //!   `ExecutesUnder`, `FirstBrokenFor`, `AcceptedFor`, `asks_text`, `asks_run`, `asks_replay`, `asks_build`,
 //!   `asks_execution`,
