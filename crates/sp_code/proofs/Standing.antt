@@ -21,8 +21,8 @@ use Rattle.sp_code.specs.declared.code.ForkTable.{ForkTable}
 use Rattle.sp_code.specs.declared.code.Parts.{Parts}
 use Rattle.sp_code.specs.Scopes.{Sort, Ordinals, Channels, Many, NoSort, Scope, OfIndex, is_given, kind_at, sort, size}
 use Rattle.sp_code.specs.Scopes.{slot, second_or, element_type, field_type, selected_type, type_by, type_of}
-use Rattle.sp_code.specs.Places.{after_value, after_form, after_var, after_actuals, after_width}
-use Rattle.sp_code.specs.Places.{after_test, after_tests, after_statement, after_arms}
+use Rattle.sp_code.specs.Places.{after_value, after_form, after_var, after_actuals, after_width, after_test}
+use Rattle.sp_code.specs.Places.{after_tests, after_statement, after_arms}
 use Rattle.sp_code.specs.Emitted.{or_none, unary_code, standard_code, input_instr, read_instr, index_instr, field_instr}
 use Rattle.sp_code.specs.Emitted.{write_instr, reading_instr, assign_instr, addr_by, addr_of, call_up, call_instr}
 use Rattle.sp_code.specs.Emitted.{test_code, tables_in, texts_of, texts_of_all, texts_of_arms, texts_in, addr_code}
@@ -30,13 +30,12 @@ use Rattle.sp_code.specs.Emitted.{value_code, form_code, var_code, selectors_cod
 use Rattle.sp_code.specs.Emitted.{tests_code, code, code_all, code_children, code_arms, tables, tables_all}
 use Rattle.sp_code.specs.Emitted.{tables_children, tables_arms}
 use Rattle.sp_code.specs.CodeOfTree.{AnyInstr, AnyTable, AnyText, CodeAt, HasFork, HasWords, HasAt, VarRole, VarAt}
-use Rattle.sp_code.specs.CodeOfTree.{ReadAt}
-use Rattle.sp_code.specs.CodeOfTree.{UnaryAt, StandardAt, InputAt, Around, CallAt, ValueAt, FormAt, PlaceAt, SelectedAt}
-use Rattle.sp_code.specs.CodeOfTree.{ActualsAt, OrdinalAt, WidthAt, ReadsAt, RightAt, TestAt, TestsAt, StandsAt, AllAt}
-use Rattle.sp_code.specs.CodeOfTree.{ChildrenAt, ArmsAt}
-use Rattle.sp_code.proofs.Counts.{value_after, form_after, var_after, actuals_after, width_after}
-use Rattle.sp_code.proofs.Counts.{tests_after, stmt_after, value_count, form_count, var_count, actuals_count}
-use Rattle.sp_code.proofs.Counts.{width_count, tests_count, code_count, texts_count, tables_count}
+use Rattle.sp_code.specs.CodeOfTree.{ReadAt, UnaryAt, StandardAt, InputAt, Around, CallAt, ValueAt, FormAt, PlaceAt}
+use Rattle.sp_code.specs.CodeOfTree.{SelectedAt, ActualsAt, OrdinalAt, WidthAt, ReadsAt, RightAt, TestAt, TestsAt}
+use Rattle.sp_code.specs.CodeOfTree.{StandsAt, AllAt, ChildrenAt, ArmsAt}
+use Rattle.sp_code.proofs.Counts.{value_after, form_after, var_after, actuals_after, width_after, tests_after}
+use Rattle.sp_code.proofs.Counts.{stmt_after, value_count, form_count, var_count, actuals_count, width_count}
+use Rattle.sp_code.proofs.Counts.{tests_count, code_count, texts_count, tables_count}
 
 -- the first part of what stands at q, and the part behind it
 pub has_front : {X : Type 0} (xs : List X) (q : ℕ) (a b : List X) → HasAt xs q (a ++ b) → HasAt xs q a
