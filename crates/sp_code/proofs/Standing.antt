@@ -324,8 +324,7 @@ module _ (p : Program) (moves shares : Stmt → List ℕ) (all : Parts) (callabl
       ∙ ap (λ (n : ℕ). selected_type p n rest) (ap (second_or k) f.4) ∙ selected_is sc (q + 1) rest f.2 k2 f.6
 
   type_is : (sc : List Scope) (q : ℕ) (v : Var) (k : ℕ)
-      → PlaceAt p moves shares AnyInstr AnyTable AnyText callable sc q v k
-      → type_of p v ≡ k
+      → PlaceAt p moves shares AnyInstr AnyTable AnyText callable sc q v k → type_of p v ≡ k
   type_is sc q (Entire x ss) k f = ap (λ (n : ℕ). selected_type p n ss) (ap type_by f.1.1 ∙ f.1.2)
       ∙ selected_is sc (q + 1) ss f.0 k f.2
 

@@ -83,7 +83,7 @@ abbrev pub IsCallable : (ℕ → Type 0) → Bool → ℕ → Type 0
 IsCallable callable true f = Unit {0}
 IsCallable callable false f = callable f
     -- p: the program; moves, shares: what a process statement may change and only reads; Is: this instruction stands
-        at a
+    at a
     -- place; HasTable, HasText: this fork table, this text has a number; callable: a block that leads to no kernel
     statement
 
