@@ -147,9 +147,7 @@ fn is_unjudged(alloc: Global, journal: Journal, process: &[Pair]) -> Result<bool
 // A program that forks no process: `0 end`.
 #[test]
 fn nothing_to_order(rt: HostRuntime) -> Result<(), Fail> {
-    let entries = vec![in rt.alloc();
-        entry(0, Event::End),
-    ]?;
+    let entries = vec![in rt.alloc(); entry(0, Event::End)]?;
     let journal = Journal {
         entries: List::of(entries),
     };
@@ -160,10 +158,7 @@ fn nothing_to_order(rt: HostRuntime) -> Result<(), Fail> {
 // A process that receives and waits forever: `0 open`, `0 receive 0#0`.
 #[test]
 fn one_offer(rt: HostRuntime) -> Result<(), Fail> {
-    let entries = vec![in rt.alloc();
-        entry(0, Event::Open),
-        entry(0, Event::Receive(0)),
-    ]?;
+    let entries = vec![in rt.alloc(); entry(0, Event::Open), entry(0, Event::Receive(0))]?;
     let journal = Journal {
         entries: List::of(entries),
     };
@@ -174,10 +169,7 @@ fn one_offer(rt: HostRuntime) -> Result<(), Fail> {
 // The same journal of a run that ended by a fault, which is not judged.
 #[test]
 fn one_offer_and_a_fault(rt: HostRuntime) -> Result<(), Fail> {
-    let entries = vec![in rt.alloc();
-        entry(0, Event::Open),
-        entry(0, Event::Receive(0)),
-    ]?;
+    let entries = vec![in rt.alloc(); entry(0, Event::Open), entry(0, Event::Receive(0))]?;
     let journal = Journal {
         entries: List::of(entries),
     };

@@ -176,7 +176,7 @@ module _ (c : Parts) (kept : (p : ℕ) → BreaksV1 c p → ⊥) (os : List Owne
               let same : b ≡ Body d = one_area b (Body d) ib (l, call.layout) (sym at ∙ m
               ∙ sym (ap entry_of_layout call.layout)) in
               by_pass a ia p g d up ss l call k y x own f.effect num act
-                  (subst (λ (z : Area). IsEffectOf c z f.effect) same h)
+              (subst (λ (z : Area). IsEffectOf c z f.effect) same h)
               (as_edge (edge.Passed (entry c a) y x) s)
 
       module _ (old new : List Fact) (start : Tells [] old (OwnBefore c (length c.instrs)))
