@@ -316,7 +316,8 @@ pub one-returns : goal.one-returns
 one-returns t c =
     let e = rw c.in-Some.is at c.in-Gives.ensures in
     rw e (then_one c.args.run.now c.args.who.now (plain_action (items_of c.act-action.new.todo.items))
-    (left_if (items_of c.act-action.new.todo.items)) c.first_of.new.machine c.act-action.new.machine c.act-action.new.machine
+    (left_if (items_of c.act-action.new.todo.items)) c.first_of.new.machine c.act-action.new.machine
+    c.act-action.new.machine
     c.act-action.result c.left_after.result
     (item_action (run_input_of c.args.run.now) (calls_of c.args.run.now c.args.fuel) (item_of c.in-Some.item) (items_of
     c.first_of.new.todo.items))
