@@ -52,7 +52,7 @@ fn visit(rows: &mut List<VarSet>, b: usize, calls: &VarSet, hidden: &VarSet) -> 
 {
     let mut changed = false;
     let mut from = 0u64;
-    'blocks: while from < 4_294_967_296 {
+    'called: while from < 4_294_967_296 {
         let f = match calls.next(from as u32) {
             Some(f) => f,
             None => return Ok(changed),

@@ -28,7 +28,7 @@ fn add_rows(
         ↔ ((has all.old x ≡ true) ⊎ ((f : ℕ) × (has calls.now f ≡ true) × (member rows.now f x ≡ true)))) }
 {
     let mut from = 0u64;
-    'blocks: while from < 4_294_967_296 {
+    'called: while from < 4_294_967_296 {
         let f = match calls.next(from as u32) {
             Some(f) => f,
             None => return Ok(()),
