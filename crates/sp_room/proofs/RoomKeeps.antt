@@ -352,7 +352,7 @@ module _ {O A G N : Type 0} (opens : O → Type 0) (steps : O → ℕ → A → 
   laid me me' d bare is =
       is ∙ ap (λ (m : SeatPart O N). (me.0, (0, Some d) ∷ Rattle.atomic_table.specs.Table.rest m.1)) bare
 
-  -- the desk was laid back as it was found
+  -- the slot's content was laid back as it was found
   pub gives_back : (slots id : ℕ) (me me' : SeatPart O N) (d : SlotBox O N) → me ≡ (me.0, (0, None) ∷ [])
       → me' ≡ (me.0, (0, Some d) ∷ Rattle.atomic_table.specs.Table.rest me.1)
       → me.0.spent ≡ false → me.0.holding ≡ true → d.value.notes.items ≡ me.0.seen
@@ -364,7 +364,7 @@ module _ {O A G N : Type 0} (opens : O → Type 0) (steps : O → ℕ → A → 
       (sym (laid me me' d bare is))
       (returns_turn slots id (me.0, (0, Some d) ∷ []) d active holding refl items runs reserve space)
 
-  -- the desk was laid back with one note more
+  -- the slot's content was laid back with one note more
   pub counts_on : (slots id : ℕ) (me me' : SeatPart O N) (d : SlotBox O N) (note : N) → me ≡ (me.0, (0, None) ∷ [])
       → me' ≡ (me.0, (0, Some d) ∷ Rattle.atomic_table.specs.Table.rest me.1)
       → me.0.spent ≡ false → me.0.holding ≡ true → author note ≡ me.0.number
@@ -403,7 +403,7 @@ module _ {O A G N : Type 0} (opens : O → Type 0) (steps : O → ℕ → A → 
       reserve
       (omega (arith, ap (λ (l : List N). length l) items, space)))
 
-  -- the desk was laid back with one note more
+  -- the slot's content was laid back with one note more
   pub counts_last : (slots id : ℕ) (me me' : SeatPart O N) (d : SlotBox O N) (note : N) → me ≡ (me.0, (0, None) ∷ [])
       → me' ≡ (me.0, (0, Some d) ∷ Rattle.atomic_table.specs.Table.rest me.1)
       → me.0.spent ≡ false → me.0.holding ≡ true → author note ≡ me.0.number

@@ -354,7 +354,7 @@ opens_filed {O} {A} {G} {N} opens steps author x first d slots filed is same fin
     (subst (λ (e : RoomSlot O N). opens e.object) back fine) (ap (λ (e : RoomSlot O N). e.notes.items) filed ∙ empty)
     (ap (λ (e : RoomSlot O N). e.reserved) filed ∙ kept) (subst (λ (e : RoomSlot O N). 64 ≤ e.notes.cap) back space)
 
--- the desk that was taken out of the slot
+-- what was taken out of the slot
 pub settled : {O A G N : Type 0} (opens : O → Type 0) (steps : O → ℕ → A → O → G → Option N → Type 0) (author : N → ℕ)
     (start : O) (words : List ℕ) (slots : List (Option (SlotBox O N))) (id : ℕ) (v : View O N)
     (x : Option (SlotBox O N))

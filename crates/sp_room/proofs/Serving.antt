@@ -9,15 +9,15 @@ use Rattle.sp_room.proofs.Histories.{starts_longer, by_mine, runs_on}
 
 module _ {O A G N : Type 0} (opens : O → Type 0) (steps : O → ℕ → A → O → G → Option N → Type 0) (author : N → ℕ)
     (x : O) where
-  -- the desk with the note of the call
-  pub noted_desk : (m m' : SeatPart O N) (cs : List (ℕ × Option (SlotBox O N))) (d : SlotBox O N) (y : O) (number : ℕ)
+  -- the slot's content with the note of the call
+  pub noted_slot : (m m' : SeatPart O N) (cs : List (ℕ × Option (SlotBox O N))) (d : SlotBox O N) (y : O) (number : ℕ)
       (a : A)
       (g : G) (o : Option N) (n : N) (items : List N)
       → m' ≡ (holder m.0 d.value.notes.items d.value.reserved, cs) → HoldsSlot opens steps author m.0 d
       → m.0.opening ≡ Some x → steps d.value.object number a y g o → o ≡ Some n
       → items ≡ d.value.notes.items ++ n ∷ []
       → (items ≡ m'.0.seen ++ n ∷ []) × LeadsTo steps x (m'.0.seen ++ n ∷ []) y
-  noted_desk m m' cs d y number a g o n items won holds from call is more =
+  noted_slot m m' cs d y number a g o n items won holds from call is more =
       subst (λ (z : SeatPart O N). (items ≡ z.0.seen ++ n ∷ []) × LeadsTo steps x (z.0.seen ++ n ∷ []) y) (sym won) (
         more,
         runs_on steps x d.value.notes.items d.value.object y number a g n ((holds.2 x from).1)

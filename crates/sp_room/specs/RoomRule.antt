@@ -151,7 +151,7 @@ module _ {O N : Type 0} where
   abbrev pub view_after_return : View O N → View O N
   view_after_return v = record v { turns = v.turns + 1; holding = false }
 
-  -- the history so far is seen, in which the seat's own notes are these, and the desk is in hand
+  -- the history so far is seen, in which the seat's own notes are these, and the slot's content is in hand
   abbrev pub HoldsSlot : {A G : Type 0} → (O → Type 0) → (O → ℕ → A → O → G → Option N → Type 0) → (N → ℕ) → View O N
       → SlotBox O N → Type 0
   HoldsSlot opens steps author v d = StartsWith d.value.notes.items v.seen
@@ -167,12 +167,12 @@ module _ {O N : Type 0} where
       × (r ≡ 0 → (d : SlotBox O N) × (m' ≡ (holder m.0 d.value.notes.items d.value.reserved, (0, Some d) ∷ []))
       × HoldsSlot opens steps author m.0 d)
 
-  -- the notes of a desk, if it is there
+  -- the notes of a slot's content, if it is there
   abbrev pub items_of : Option (SlotBox O N) → List N
   items_of (Some d) = d.value.notes.items
   items_of None = []
 
-  -- the notes of the desk in hand
+  -- the notes of the content in hand
   abbrev pub in_hand : List (ℕ × Option (SlotBox O N)) → List N
   in_hand [] = []
   in_hand (x ∷ xs) = items_of x.1
@@ -185,7 +185,7 @@ module _ {O N : Type 0} where
   abbrev pub RaisedLast : RoomStep O N → SeatPart O N → ℕ → SeatPart O N → Type 0
   RaisedLast st m r m' = m' ≡ (view_after_last_note m.0 (drop (length m.0.seen) (in_hand m.1)), m.1)
 
-  -- the turn was given back, and the desk with it
+  -- the turn was given back, and the slot's content with it
   abbrev pub Returned : RoomStep O N → SeatPart O N → ℕ → SeatPart O N → Type 0
   Returned st m r m' = m' ≡ (view_after_return m.0, [])
 

@@ -1,4 +1,4 @@
-//! The end of a room: one seat takes in all others, and the desk comes back.
+//! The end of a room: one seat takes in all others, and what lies in the slot comes back.
 ghost use Rattle.std.specs.Prelude.{◌≡◌, ℕ, ◌<◌, ◌≤◌, Some, [], length, slice_get};
 ghost use Rattle.std.specs.Slots.{slots_len, slots_items, IsFull};
 ghost use mathlib.Core.Option.{some};
@@ -41,8 +41,8 @@ pub(crate) fn gather<K: Kept>(room: Room<K>, mut row: Vec<RoomSeat<K>>) -> Box<R
     }
     let Room { table, lobby: _ } = room;
     let held = take_only(table.close_with(keeper));
-    let Some(desk) = held else { unreachable!() };
-    desk
+    let Some(slot) = held else { unreachable!() };
+    slot
 }
 
 // What lies in the one slot of a table that was closed.

@@ -16,9 +16,9 @@
 //!   laws. `Served`: an answer, and the note of what changed.
 //!
 //! To know:
-//! - `seat.rt` is the room and a seat, `room.rt` has the calls, `turn.rt` takes the turn and gives it back, `desk.rt`
-//!   asks the object, `seats.rt` and `ending.rt` make and take in the seats, `law.rt` names the steps, `view.rt` is
-//!   what a seat knows.
+//! - `seat.rt` is the room and a seat, `room.rt` has the calls, `turn.rt` takes the turn and gives it back,
+//!   `room_slot.rt` asks the object, `seats.rt` and `ending.rt` make and take in the seats, `law.rt` names the steps,
+//!   `view.rt` is what a seat knows.
 //! - `lobby.rt` counts beside the table who sleeps and who looks for something to take, and wakes by that; `rest.rt` is
 //!   what a seat does that found nothing. No clause speaks of them.
 //! - `specs/Seats.antt`, `Ends.antt` and `History.antt` are the words of the contracts, `specs/RoomRule.antt` is the

@@ -46,19 +46,19 @@ impl<K: Kept> Room<K> {
         let Ok(notes) = Vec::with_capacity(alloc, RESERVE as usize) else {
             return Err(object);
         };
-        let desk = RoomSlot {
+        let slot = RoomSlot {
             object,
             notes,
             reserved: RESERVE,
         };
-        let desk = match Box::new(alloc, desk) {
-            Ok(desk) => desk,
+        let slot = match Box::new(alloc, slot) {
+            Ok(slot) => slot,
             Err(AllocFailed { value }) => return Err(object_off(value)),
         };
         let Ok(mut slots) = Vec::with_capacity(alloc, 1) else {
-            return Err(object_off(Box::into_inner(desk)));
+            return Err(object_off(Box::into_inner(slot)));
         };
-        slots.push_reserved(Some(desk));
+        slots.push_reserved(Some(slot));
         match Table::new(alloc, &[0, 0], slots, &about) {
             Ok((table, first)) => {
                 let room = Room { table, lobby };
@@ -98,18 +98,18 @@ fn taken_back<K: Kept>(refused: Refused<Option<Box<RoomSlot<K, K::Note>>>, Globa
     let held = slots.pop();
     slots.destroy_empty();
     let Some(held) = held else { unreachable!() };
-    let Some(desk) = held else { unreachable!() };
-    object_off(Box::into_inner(desk))
+    let Some(slot) = held else { unreachable!() };
+    object_off(Box::into_inner(slot))
 }
 
-fn object_off<K: Kept>(desk: RoomSlot<K, K::Note>) -> K
-    ensures { result ≡ desk.object }
+fn object_off<K: Kept>(slot: RoomSlot<K, K::Note>) -> K
+    ensures { result ≡ slot.object }
 {
     let RoomSlot {
         object,
         notes: _,
         reserved: _,
-    } = desk;
+    } = slot;
     object
 }
 
@@ -145,20 +145,20 @@ impl<K: Kept> RoomSeat<K> {
             self.seen = give_last(room, &mut self.seat, held, note);
             return got;
         }
-        let mut desk = take_turn(rt, room, &mut self.seat, self.number);
-        match put(&mut desk, self.number, ask) {
+        let mut slot = take_turn(rt, room, &mut self.seat, self.number);
+        match put(&mut slot, self.number, ask) {
             Ok(Served { got, note }) => match note {
                 Some(note) => {
-                    self.seen = give_on(room, &mut self.seat, desk, note);
+                    self.seen = give_on(room, &mut self.seat, slot, note);
                     got
                 }
                 None => {
-                    self.seen = give_back(room, &mut self.seat, desk);
+                    self.seen = give_back(room, &mut self.seat, slot);
                     got
                 }
             },
             Err(got) => {
-                self.seen = give_back(room, &mut self.seat, desk);
+                self.seen = give_back(room, &mut self.seat, slot);
                 got
             }
         }

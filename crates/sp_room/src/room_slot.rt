@@ -16,49 +16,49 @@ pub struct RoomSlot<O, N> {
 
 // Puts a last ask to the object. Its note goes into the reserve.
 pub(crate) fn put_last<K: Kept>(
-    desk: &mut RoomSlot<K, K::Note>,
+    slot: &mut RoomSlot<K, K::Note>,
     worker: u32,
     ask: K::Ask,
 ) -> (K::Got, K::Note)
-    requires serves { K.can_serve desk.old.object worker ask }
+    requires serves { K.can_serve slot.old.object worker ask }
     requires last { K.final_ask ask ≡ true }
-    requires reserve { (0 < desk.old.reserved)
-        × (length desk.old.notes.items + desk.old.reserved ≤ vec_capacity desk.old.notes) }
-    ensures step { K.steps desk.old.object worker ask desk.new.object result.0 (Some result.1) }
-    ensures notes { desk.new.notes.items ≡ desk.old.notes.items ++ result.1 ∷ [] }
-    ensures reserve { (desk.new.reserved ≡ desk.old.reserved - 1)
-        × (length desk.new.notes.items + desk.new.reserved ≤ vec_capacity desk.new.notes) }
+    requires reserve { (0 < slot.old.reserved)
+        × (length slot.old.notes.items + slot.old.reserved ≤ vec_capacity slot.old.notes) }
+    ensures step { K.steps slot.old.object worker ask slot.new.object result.0 (Some result.1) }
+    ensures notes { slot.new.notes.items ≡ slot.old.notes.items ++ result.1 ∷ [] }
+    ensures reserve { (slot.new.reserved ≡ slot.old.reserved - 1)
+        × (length slot.new.notes.items + slot.new.reserved ≤ vec_capacity slot.new.notes) }
 {
-    let Served { got, note } = desk.object.serve(worker, ask);
+    let Served { got, note } = slot.object.serve(worker, ask);
     let Some(note) = note else { unreachable!() };
-    desk.reserved -= 1;
-    desk.notes.push_reserved(note);
+    slot.reserved -= 1;
+    slot.notes.push_reserved(note);
     (got, note)
 }
 
 // Puts another ask to the object, where there is memory for a note beside the reserve.
 pub(crate) fn put<K: Kept>(
-    desk: &mut RoomSlot<K, K::Note>,
+    slot: &mut RoomSlot<K, K::Note>,
     worker: u32,
     ask: K::Ask,
 ) -> Result<Served<K::Got, K::Note>, K::Got>
-    requires serves { K.can_serve desk.old.object worker ask }
+    requires serves { K.can_serve slot.old.object worker ask }
     requires other { K.final_ask ask ≡ false }
-    requires reserve { length desk.old.notes.items + desk.old.reserved ≤ vec_capacity desk.old.notes }
-    ensures ok { IfOk result (λ s. K.steps desk.old.object worker ask desk.new.object s.got s.note
-        × (desk.new.notes.items ≡ desk.old.notes.items ++ note_list s.note)) }
-    ensures err { IfErr result (λ g. K.refused ask g × (desk.new.object ≡ desk.old.object)
-        × (desk.new.notes.items ≡ desk.old.notes.items)) }
-    ensures reserve { (desk.new.reserved ≡ desk.old.reserved)
-        × (length desk.new.notes.items + desk.new.reserved ≤ vec_capacity desk.new.notes) }
+    requires reserve { length slot.old.notes.items + slot.old.reserved ≤ vec_capacity slot.old.notes }
+    ensures ok { IfOk result (λ s. K.steps slot.old.object worker ask slot.new.object s.got s.note
+        × (slot.new.notes.items ≡ slot.old.notes.items ++ note_list s.note)) }
+    ensures err { IfErr result (λ g. K.refused ask g × (slot.new.object ≡ slot.old.object)
+        × (slot.new.notes.items ≡ slot.old.notes.items)) }
+    ensures reserve { (slot.new.reserved ≡ slot.old.reserved)
+        × (length slot.new.notes.items + slot.new.reserved ≤ vec_capacity slot.new.notes) }
 {
-    let more = desk.reserved as usize + 1;
-    if desk.notes.reserve(more).is_err() {
+    let more = slot.reserved as usize + 1;
+    if slot.notes.reserve(more).is_err() {
         return Err(K::refuse(ask));
     }
-    let served = desk.object.serve(worker, ask);
+    let served = slot.object.serve(worker, ask);
     if let Some(note) = served.note {
-        desk.notes.push_reserved(note);
+        slot.notes.push_reserved(note);
     }
     Ok(served)
 }

@@ -26,8 +26,8 @@ const TRIES: u32 = 20;
 
 const BETWEEN: u32 = 2;
 
-// Waits until the turn is free, and takes the desk. Who loses a try looks for a moment whether the turn comes free, and
-// then sleeps until a turn is given back.
+// Waits until the turn is free, and takes what lies in the slot. Who loses a try looks for a moment whether the turn
+// comes free, and then sleeps until a turn is given back.
 pub(crate) fn take_turn<K: Kept, R: Wait>(
     rt: &R,
     room: &Room<K>,
@@ -45,10 +45,10 @@ pub(crate) fn take_turn<K: Kept, R: Wait>(
     for _ in rt.forever() {
         let found = shared.compare_exchange::<Take<K>>(seat, TURN, 0, mine);
         if found == 0 {
-            let Some(desk) = shared.exchange(seat, 0, None) else {
+            let Some(slot) = shared.exchange(seat, 0, None) else {
                 unreachable!()
             };
-            return desk;
+            return slot;
         }
         if !comes_free(room) {
             room.lobby.begin_wait();
@@ -80,55 +80,55 @@ fn wake_next<K: Kept>(room: &Room<K>) {
     }
 }
 
-// Lays the desk back as it was found, and gives the turn back.
+// Lays the slot's content back as it was found, and gives the turn back.
 pub(crate) fn give_back<K: Kept>(
     room: &Room<K>,
     seat: &mut Seat<Option<Box<RoomSlot<K, K::Note>>>, View<K, K::Note>>,
-    desk: Box<RoomSlot<K, K::Note>>,
+    slot: Box<RoomSlot<K, K::Note>>,
 ) -> u64
     requires room { seat.old.table_id ≡ room.now.table.shared.table_id }
     requires holds { (seat.old.me ≡ (seat.old.me.0, (0, None) ∷ [])) × (seat.old.me.0.holding ≡ true)
         × (seat.old.me.0.spent ≡ false) }
-    requires desk { (desk.value.notes.items ≡ seat.old.me.0.seen)
-        × LeadsTo K.steps room.now.table.shared.key.value seat.old.me.0.seen desk.value.object
-        × (desk.value.reserved ≡ seat.old.me.0.reserve)
-        × (length seat.old.me.0.seen + desk.value.reserved ≤ vec_capacity desk.value.notes) }
+    requires slot { (slot.value.notes.items ≡ seat.old.me.0.seen)
+        × LeadsTo K.steps room.now.table.shared.key.value seat.old.me.0.seen slot.value.object
+        × (slot.value.reserved ≡ seat.old.me.0.reserve)
+        × (length seat.old.me.0.seen + slot.value.reserved ≤ vec_capacity slot.value.notes) }
     ensures same { (seat.new.table_id ≡ seat.old.table_id) × (seat.new.id ≡ seat.old.id) }
     ensures free { seat.new.me ≡ (view_after_return seat.old.me.0, []) }
     ensures count { result ≡ length seat.new.me.0.seen }
 {
     let shared = &room.table.shared;
-    let count = desk.notes.len() as u64;
-    let empty = shared.exchange(seat, 0, Some(desk));
+    let count = slot.notes.len() as u64;
+    let empty = shared.exchange(seat, 0, Some(slot));
     let None = empty else { unreachable!() };
     shared.store::<GiveBack>(seat, TURN, 0);
     wake_next(room);
     count
 }
 
-// Lays the desk back with one note more, counts it, and gives the turn back.
+// Lays the slot's content back with one note more, counts it, and gives the turn back.
 pub(crate) fn give_on<K: Kept>(
     room: &Room<K>,
     seat: &mut Seat<Option<Box<RoomSlot<K, K::Note>>>, View<K, K::Note>>,
-    desk: Box<RoomSlot<K, K::Note>>,
+    slot: Box<RoomSlot<K, K::Note>>,
     note: K::Note,
 ) -> u64
     requires room { seat.old.table_id ≡ room.now.table.shared.table_id }
     requires holds { (seat.old.me ≡ (seat.old.me.0, (0, None) ∷ [])) × (seat.old.me.0.holding ≡ true)
         × (seat.old.me.0.spent ≡ false) }
     requires note { K.author note ≡ seat.old.me.0.number }
-    requires desk { (desk.value.notes.items ≡ seat.old.me.0.seen ++ note ∷ [])
-        × LeadsTo K.steps room.now.table.shared.key.value (seat.old.me.0.seen ++ note ∷ []) desk.value.object
-        × (desk.value.reserved ≡ seat.old.me.0.reserve)
-        × (length desk.value.notes.items + desk.value.reserved ≤ vec_capacity desk.value.notes) }
+    requires slot { (slot.value.notes.items ≡ seat.old.me.0.seen ++ note ∷ [])
+        × LeadsTo K.steps room.now.table.shared.key.value (seat.old.me.0.seen ++ note ∷ []) slot.value.object
+        × (slot.value.reserved ≡ seat.old.me.0.reserve)
+        × (length slot.value.notes.items + slot.value.reserved ≤ vec_capacity slot.value.notes) }
     ensures same { (seat.new.table_id ≡ seat.old.table_id) × (seat.new.id ≡ seat.old.id) }
     ensures free { seat.new.me ≡ (view_after_return (view_after_note seat.old.me.0 (note ∷ [])), []) }
     ensures count { result ≡ length seat.new.me.0.seen }
 {
     let shared = &room.table.shared;
-    let count = desk.notes.len() as u64;
-    room.lobby.tell(desk.object.left());
-    let empty = shared.exchange(seat, 0, Some(desk));
+    let count = slot.notes.len() as u64;
+    room.lobby.tell(slot.object.left());
+    let empty = shared.exchange(seat, 0, Some(slot));
     let None = empty else { unreachable!() };
     shared.fetch_add::<Raise>(seat, COUNT, 1);
     shared.store::<GiveBack>(seat, TURN, 0);
@@ -137,11 +137,11 @@ pub(crate) fn give_on<K: Kept>(
     count
 }
 
-// Lays the desk back with a note of the reserve, counts it, and gives the turn back.
+// Lays the slot's content back with a note of the reserve, counts it, and gives the turn back.
 pub(crate) fn give_last<K: Kept>(
     room: &Room<K>,
     seat: &mut Seat<Option<Box<RoomSlot<K, K::Note>>>, View<K, K::Note>>,
-    desk: Box<RoomSlot<K, K::Note>>,
+    slot: Box<RoomSlot<K, K::Note>>,
     note: K::Note,
 ) -> u64
     requires room { seat.old.table_id ≡ room.now.table.shared.table_id }
@@ -149,18 +149,18 @@ pub(crate) fn give_last<K: Kept>(
         × (seat.old.me.0.spent ≡ false) }
     requires claim { 0 < seat.old.me.0.claims }
     requires note { K.author note ≡ seat.old.me.0.number }
-    requires desk { (desk.value.notes.items ≡ seat.old.me.0.seen ++ note ∷ [])
-        × LeadsTo K.steps room.now.table.shared.key.value (seat.old.me.0.seen ++ note ∷ []) desk.value.object
-        × (desk.value.reserved ≡ seat.old.me.0.reserve - 1)
-        × (length desk.value.notes.items + desk.value.reserved ≤ vec_capacity desk.value.notes) }
+    requires slot { (slot.value.notes.items ≡ seat.old.me.0.seen ++ note ∷ [])
+        × LeadsTo K.steps room.now.table.shared.key.value (seat.old.me.0.seen ++ note ∷ []) slot.value.object
+        × (slot.value.reserved ≡ seat.old.me.0.reserve - 1)
+        × (length slot.value.notes.items + slot.value.reserved ≤ vec_capacity slot.value.notes) }
     ensures same { (seat.new.table_id ≡ seat.old.table_id) × (seat.new.id ≡ seat.old.id) }
     ensures free { seat.new.me ≡ (view_after_return (view_after_last_note seat.old.me.0 (note ∷ [])), []) }
     ensures count { result ≡ length seat.new.me.0.seen }
 {
     let shared = &room.table.shared;
-    let count = desk.notes.len() as u64;
-    room.lobby.tell(desk.object.left());
-    let empty = shared.exchange(seat, 0, Some(desk));
+    let count = slot.notes.len() as u64;
+    room.lobby.tell(slot.object.left());
+    let empty = shared.exchange(seat, 0, Some(slot));
     let None = empty else { unreachable!() };
     shared.fetch_add::<RaiseLast>(seat, COUNT, 1);
     shared.store::<GiveBack>(seat, TURN, 0);

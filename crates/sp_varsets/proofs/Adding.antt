@@ -49,26 +49,26 @@ turned f to from = (
 
 pub adds_then : {a b c : Uses} {H K : Use → Type 0} → AddsUses a b H → AddsUses b c K → AddsUses a c (λ u. H u ⊎ K u)
 adds_then f g = record {
-  aims = λ x. then (f.aims x) (g.aims x);
-  sees = λ x. then (f.sees x) (g.sees x);
-  runs = λ x. some_of (then (f.runs x) (g.runs x));
+  targets = λ x. then (f.targets x) (g.targets x);
+  expressions = λ x. then (f.expressions x) (g.expressions x);
+  calls = λ x. some_of (then (f.calls x) (g.calls x));
   stops = then f.stops g.stops;
 }
 
 pub adds_nothing : (a : Uses) (H : Use → Type 0) → ((u : Use) → H u → ⊥) → AddsUses a a H
 adds_nothing a H n = record {
-  aims = λ x. none_more (n (Target x));
-  sees = λ x. none_more (n (Seen x));
-  runs = λ x. none_more (λ h. n (CallOf x h.0) h.1);
+  targets = λ x. none_more (n (Target x));
+  expressions = λ x. none_more (n (Seen x));
+  calls = λ x. none_more (λ h. n (CallOf x h.0) h.1);
   stops = none_more (n Stop);
 }
 
 pub adds_as : (a b : Uses) (H K : Use → Type 0) → AddsUses a b H → ((u : Use) → H u → K u) → ((u : Use) → K u → H u)
     → AddsUses a b K
 adds_as a b H K f to from = record {
-  aims = λ x. turned (f.aims x) (to (Target x)) (from (Target x));
-  sees = λ x. turned (f.sees x) (to (Seen x)) (from (Seen x));
-  runs = λ x. turned (f.runs x) (λ h. (h.0, to (CallOf x h.0) h.1)) (λ k. (k.0, from (CallOf x k.0) k.1));
+  targets = λ x. turned (f.targets x) (to (Target x)) (from (Target x));
+  expressions = λ x. turned (f.expressions x) (to (Seen x)) (from (Seen x));
+  calls = λ x. turned (f.calls x) (λ h. (h.0, to (CallOf x h.0) h.1)) (λ k. (k.0, from (CallOf x k.0) k.1));
   stops = turned f.stops (to Stop) (from Stop);
 }
 
@@ -90,47 +90,53 @@ put_in old new v e x = (
   ],
 )
 
-pub aimed : (old new : Uses) (v : ℕ) → ((x : ℕ) → has new.aims x ≡ (v == x) || has old.aims x) → new.sees ≡ old.sees
-    → new.runs ≡ old.runs → new.stops ≡ old.stops → AddsUses old new (λ u. u ≡ Target v)
-aimed old new v e s r t = record {
-  aims = λ x. turned (put_in old.aims new.aims v e x) (λ i. ap (λ y. Target y) i) (λ i. cc);
-  sees = λ x. subst (λ z. (has z x ≡ true) ↔ ((has old.sees x ≡ true) ⊎ (Seen x ≡ Target v))) (sym s)
+pub target_added : (old new : Uses) (v : ℕ) → ((x : ℕ) → has new.targets x ≡ (v == x) || has old.targets x)
+    → new.expressions ≡ old.expressions → new.calls ≡ old.calls → new.stops ≡ old.stops
+    → AddsUses old new (λ u. u ≡ Target v)
+target_added old new v e s r t = record {
+  targets = λ x. turned (put_in old.targets new.targets v e x) (λ i. ap (λ y. Target y) i) (λ i. cc);
+  expressions = λ x. subst (λ z. (has z x ≡ true) ↔ ((has old.expressions x ≡ true) ⊎ (Seen x ≡ Target v))) (sym s)
       (none_more (λ i. cc));
-  runs = λ x. subst (λ z. (has z x ≡ true) ↔ ((has old.runs x ≡ true)
+  calls = λ x. subst (λ z. (has z x ≡ true) ↔ ((has old.calls x ≡ true)
       ⊎ ((args : Actuals) × (CallOf x args ≡ Target v)))) (sym r) (none_more (λ i. let e = i.1 in cc));
   stops = subst (λ z. (has z 0 ≡ true) ↔ ((has old.stops 0 ≡ true) ⊎ (Stop ≡ Target v))) (sym t) (none_more (λ i. cc));
 }
 
-pub seen : (old new : Uses) (v : ℕ) → ((x : ℕ) → has new.sees x ≡ (v == x) || has old.sees x) → new.aims ≡ old.aims
-    → new.runs ≡ old.runs → new.stops ≡ old.stops → AddsUses old new (λ u. u ≡ Seen v)
-seen old new v e s r t = record {
-  aims = λ x. subst (λ z. (has z x ≡ true) ↔ ((has old.aims x ≡ true) ⊎ (Target x ≡ Seen v))) (sym s)
+pub seen_added : (old new : Uses) (v : ℕ) → ((x : ℕ) → has new.expressions x ≡ (v == x) || has old.expressions x)
+    → new.targets ≡ old.targets → new.calls ≡ old.calls → new.stops ≡ old.stops
+    → AddsUses old new (λ u. u ≡ Seen v)
+seen_added old new v e s r t = record {
+  targets = λ x. subst (λ z. (has z x ≡ true) ↔ ((has old.targets x ≡ true) ⊎ (Target x ≡ Seen v))) (sym s)
       (none_more (λ i. cc));
-  sees = λ x. turned (put_in old.sees new.sees v e x) (λ i. ap (λ y. Seen y) i) (λ i. cc);
-  runs = λ x. subst (λ z. (has z x ≡ true) ↔ ((has old.runs x ≡ true) ⊎ ((args : Actuals) × (CallOf x args ≡ Seen v))))
+  expressions = λ x. turned (put_in old.expressions new.expressions v e x) (λ i. ap (λ y. Seen y) i) (λ i. cc);
+  calls = λ x. subst (λ z. (has z x ≡ true) ↔ ((has old.calls x ≡ true)
+      ⊎ ((args : Actuals) × (CallOf x args ≡ Seen v))))
       (sym r) (none_more (λ i. let e = i.1 in cc));
   stops = subst (λ z. (has z 0 ≡ true) ↔ ((has old.stops 0 ≡ true) ⊎ (Stop ≡ Seen v))) (sym t) (none_more (λ i. cc));
 }
 
-pub ran : (old new : Uses) (v : ℕ) (args : Actuals) → ((x : ℕ) → has new.runs x ≡ (v == x) || has old.runs x)
-    → new.aims ≡ old.aims → new.sees ≡ old.sees → new.stops ≡ old.stops → AddsUses old new (λ u. u ≡ CallOf v args)
-ran old new v args e s r t = record {
-  aims = λ x. subst (λ z. (has z x ≡ true) ↔ ((has old.aims x ≡ true) ⊎ (Target x ≡ CallOf v args))) (sym s)
+pub call_added : (old new : Uses) (v : ℕ) (args : Actuals) → ((x : ℕ) → has new.calls x ≡ (v == x) || has old.calls x)
+    → new.targets ≡ old.targets → new.expressions ≡ old.expressions → new.stops ≡ old.stops
+    → AddsUses old new (λ u. u ≡ CallOf v args)
+call_added old new v args e s r t = record {
+  targets = λ x. subst (λ z. (has z x ≡ true) ↔ ((has old.targets x ≡ true) ⊎ (Target x ≡ CallOf v args))) (sym s)
       (none_more (λ i. cc));
-  sees = λ x. subst (λ z. (has z x ≡ true) ↔ ((has old.sees x ≡ true) ⊎ (Seen x ≡ CallOf v args))) (sym r)
+  expressions = λ x. subst (λ z. (has z x ≡ true) ↔ ((has old.expressions x ≡ true) ⊎ (Seen x ≡ CallOf v args))) (sym r)
       (none_more (λ i. cc));
-  runs = λ x. turned (put_in old.runs new.runs v e x) (λ i. (args, ap (λ y. CallOf y args) i)) (λ i. let e = i.1 in cc);
+  calls = λ x. turned (put_in old.calls new.calls v e x) (λ i. (args, ap (λ y. CallOf y args) i))
+      (λ i. let e = i.1 in cc);
   stops = subst (λ z. (has z 0 ≡ true) ↔ ((has old.stops 0 ≡ true) ⊎ (Stop ≡ CallOf v args))) (sym t)
       (none_more (λ i. cc));
 }
 
-pub stopped : (old new : Uses) → ((x : ℕ) → has new.stops x ≡ (0 == x) || has old.stops x) → new.aims ≡ old.aims
-    → new.sees ≡ old.sees → new.runs ≡ old.runs → AddsUses old new (λ u. u ≡ Stop)
+pub stopped : (old new : Uses) → ((x : ℕ) → has new.stops x ≡ (0 == x) || has old.stops x) → new.targets ≡ old.targets
+    → new.expressions ≡ old.expressions → new.calls ≡ old.calls → AddsUses old new (λ u. u ≡ Stop)
 stopped old new e s r t = record {
-  aims = λ x. subst (λ z. (has z x ≡ true) ↔ ((has old.aims x ≡ true) ⊎ (Target x ≡ Stop))) (sym s)
+  targets = λ x. subst (λ z. (has z x ≡ true) ↔ ((has old.targets x ≡ true) ⊎ (Target x ≡ Stop))) (sym s)
       (none_more (λ i. cc));
-  sees = λ x. subst (λ z. (has z x ≡ true) ↔ ((has old.sees x ≡ true) ⊎ (Seen x ≡ Stop))) (sym r) (none_more (λ i. cc));
-  runs = λ x. subst (λ z. (has z x ≡ true) ↔ ((has old.runs x ≡ true) ⊎ ((args : Actuals) × (CallOf x args ≡ Stop))))
+  expressions = λ x. subst (λ z. (has z x ≡ true) ↔ ((has old.expressions x ≡ true) ⊎ (Seen x ≡ Stop))) (sym r)
+      (none_more (λ i. cc));
+  calls = λ x. subst (λ z. (has z x ≡ true) ↔ ((has old.calls x ≡ true) ⊎ ((args : Actuals) × (CallOf x args ≡ Stop))))
       (sym t) (none_more (λ i. let e = i.1 in cc));
   stops = turned (put_in old.stops new.stops 0 e 0) (λ i. refl) (λ i. refl);
 }
@@ -197,16 +203,16 @@ gathered e m x H n f = (
 )
 
 pub record HasUses (m : Uses) (Here : Use → Type 0) : Type 0 where
-  pub aims : (x : ℕ) → (has m.aims x ≡ true) ↔ Here (Target x)
-  pub sees : (x : ℕ) → (has m.sees x ≡ true) ↔ Here (Seen x)
-  pub runs : (f : ℕ) → (has m.runs f ≡ true) ↔ ((args : Actuals) × Here (CallOf f args))
+  pub targets : (x : ℕ) → (has m.targets x ≡ true) ↔ Here (Target x)
+  pub expressions : (x : ℕ) → (has m.expressions x ≡ true) ↔ Here (Seen x)
+  pub calls : (f : ℕ) → (has m.calls f ≡ true) ↔ ((args : Actuals) × Here (CallOf f args))
   pub stops : (has m.stops 0 ≡ true) ↔ Here Stop
 
 pub from_empty : {e m : Uses} {H : Use → Type 0} → AreEmpty e → AddsUses e m H → HasUses m H
 from_empty n f = record {
-  aims = λ x. gathered _ _ x _ (n.aims x) (f.aims x);
-  sees = λ x. gathered _ _ x _ (n.sees x) (f.sees x);
-  runs = λ x. gathered _ _ x _ (n.runs x) (f.runs x);
+  targets = λ x. gathered _ _ x _ (n.targets x) (f.targets x);
+  expressions = λ x. gathered _ _ x _ (n.expressions x) (f.expressions x);
+  calls = λ x. gathered _ _ x _ (n.calls x) (f.calls x);
   stops = gathered _ _ 0 _ (n.stops 0) f.stops;
 }
 
@@ -218,21 +224,27 @@ joins f g = (
 
 pub merged : {a m b : Uses} {H : Use → Type 0} → HasUses m H → AreUnions a m b → AddsUses a b H
 merged f u = record {
-  aims = λ x. joins (u.aims x) (f.aims x);
-  sees = λ x. joins (u.sees x) (f.sees x);
-  runs = λ x. joins (u.runs x) (f.runs x);
+  targets = λ x. joins (u.targets x) (f.targets x);
+  expressions = λ x. joins (u.expressions x) (f.expressions x);
+  calls = λ x. joins (u.calls x) (f.calls x);
   stops = joins (u.stops 0) f.stops;
 }
 
-pub without : {m k : Uses} {H : Use → Type 0} (y : ℕ) → HasUses m H → IsWithout m.aims k.aims y
-    → IsWithout m.sees k.sees y
-    → k.runs ≡ m.runs → k.stops ≡ m.stops → HasUses k (λ u. H u × IsOther y u)
+pub without : {m k : Uses} {H : Use → Type 0} (y : ℕ) → HasUses m H → IsWithout m.targets k.targets y
+    → IsWithout m.expressions k.expressions y
+    → k.calls ≡ m.calls → k.stops ≡ m.stops → HasUses k (λ u. H u × IsOther y u)
 without {m} {k} {H} y f a s r t = record {
-  aims = λ x. (λ h. let o = (a x).0 h in ((f.aims x).0 o.0, o.1), λ h. (a x).1 ((f.aims x).1 h.0, h.1));
-  sees = λ x. (λ h. let o = (s x).0 h in ((f.sees x).0 o.0, o.1), λ h. (s x).1 ((f.sees x).1 h.0, h.1));
-  runs = λ x. (
-    λ h. let o = (f.runs x).0 (ap (λ z. has z x) (sym r) ∙ h) in (o.0, (o.1, tt)),
-    λ h. ap (λ z. has z x) r ∙ (f.runs x).1 (h.0, h.1.0),
+  targets = λ x. (
+    λ h. let o = (a x).0 h in ((f.targets x).0 o.0, o.1),
+    λ h. (a x).1 ((f.targets x).1 h.0, h.1),
+  );
+  expressions = λ x. (
+    λ h. let o = (s x).0 h in ((f.expressions x).0 o.0, o.1),
+    λ h. (s x).1 ((f.expressions x).1 h.0, h.1),
+  );
+  calls = λ x. (
+    λ h. let o = (f.calls x).0 (ap (λ z. has z x) (sym r) ∙ h) in (o.0, (o.1, tt)),
+    λ h. ap (λ z. has z x) r ∙ (f.calls x).1 (h.0, h.1.0),
   );
   stops = (λ h. (f.stops.0 (ap (λ z. has z 0) (sym t) ∙ h), tt), λ h. ap (λ z. has z 0) t ∙ f.stops.1 h.0);
 }
@@ -240,16 +252,16 @@ without {m} {k} {H} y f a s r t = record {
 -- a fork is no use of a variable
 pub splits_add : (a : Uses) (ss : Stmts) → AddsUses a a (λ u. u ≡ ParallelOf ss)
 splits_add a ss = record {
-  aims = λ x. none_more (λ i. cc);
-  sees = λ x. none_more (λ i. cc);
-  runs = λ x. none_more (λ i. let e = i.1 in cc);
+  targets = λ x. none_more (λ i. cc);
+  expressions = λ x. none_more (λ i. cc);
+  calls = λ x. none_more (λ i. let e = i.1 in cc);
   stops = none_more (λ i. cc);
 }
 
 pub spreads_add : (a : Uses) (y : ℕ) (s : Stmt) → AddsUses a a (λ u. u ≡ ForallOf y s)
 spreads_add a y s = record {
-  aims = λ x. none_more (λ i. cc);
-  sees = λ x. none_more (λ i. cc);
-  runs = λ x. none_more (λ i. let e = i.1 in cc);
+  targets = λ x. none_more (λ i. cc);
+  expressions = λ x. none_more (λ i. cc);
+  calls = λ x. none_more (λ i. let e = i.1 in cc);
   stops = none_more (λ i. cc);
 }

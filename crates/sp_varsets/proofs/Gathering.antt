@@ -52,13 +52,13 @@ rows_last old s n b x H l h f =
 
 pub bodies_more : (blocks : List p.Block) (old new : Bodies) (uses : Uses) (k : p.Block) (n : ℕ)
     → AreBodies blocks old n → slice_get blocks n ≡ Some k
-    → new.aims ≡ old.aims ++ uses.aims ∷ [] → new.sees ≡ old.sees ++ uses.sees ∷ []
-    → new.runs ≡ old.runs ++ uses.runs ∷ [] → new.stops ≡ old.stops ++ uses.stops ∷ []
+    → new.targets ≡ old.targets ++ uses.targets ∷ [] → new.expressions ≡ old.expressions ++ uses.expressions ∷ []
+    → new.calls ≡ old.calls ++ uses.calls ∷ [] → new.stops ≡ old.stops ++ uses.stops ∷ []
     → HasUses uses (In_stmt (bare_statement k.body)) → AreBodies blocks new (n + 1)
 bodies_more blocks old new uses k n a at ea es er et h = record {
-  aims = ap length ea ∙ (length_more old.aims uses.aims ∙ ap (λ m. m + 1) a.aims);
-  sees = ap length es ∙ (length_more old.sees uses.sees ∙ ap (λ m. m + 1) a.sees);
-  runs = ap length er ∙ (length_more old.runs uses.runs ∙ ap (λ m. m + 1) a.runs);
+  targets = ap length ea ∙ (length_more old.targets uses.targets ∙ ap (λ m. m + 1) a.targets);
+  expressions = ap length es ∙ (length_more old.expressions uses.expressions ∙ ap (λ m. m + 1) a.expressions);
+  calls = ap length er ∙ (length_more old.calls uses.calls ∙ ap (λ m. m + 1) a.calls);
   stops = ap length et ∙ (length_more old.stops uses.stops ∙ ap (λ m. m + 1) a.stops);
   each = λ b j low is. elim (cases_eq b n) [
     | inl here ↦
@@ -71,28 +71,32 @@ bodies_more blocks old new uses k n a at ea es er et h = record {
     before : (b : ℕ) (j : p.Block) → b < n → slice_get blocks b ≡ Some j
         → BodyAt new b (In_stmt (bare_statement j.body))
     before b j low is = let o = a.each b j low is in record {
-      aims = λ x. subst (λ z. (member z b x ≡ true) ↔ (In_stmt (bare_statement j.body) (Target x))) (sym ea)
-          (rows_more old.aims uses.aims n b x (In_stmt (bare_statement j.body) (Target x)) a.aims low (o.aims x));
-      sees = λ x. subst (λ z. (member z b x ≡ true) ↔ (In_stmt (bare_statement j.body) (Seen x))) (sym es)
-          (rows_more old.sees uses.sees n b x (In_stmt (bare_statement j.body) (Seen x)) a.sees low (o.sees x));
-      runs = λ x. subst (λ z. (member z b x ≡ true)
+      targets = λ x. subst (λ z. (member z b x ≡ true) ↔ (In_stmt (bare_statement j.body) (Target x))) (sym ea)
+          (rows_more old.targets uses.targets n b x (In_stmt (bare_statement j.body) (Target x)) a.targets low
+          (o.targets x));
+      expressions = λ x. subst (λ z. (member z b x ≡ true) ↔ (In_stmt (bare_statement j.body) (Seen x))) (sym es)
+          (rows_more old.expressions uses.expressions n b x (In_stmt (bare_statement j.body) (Seen x)) a.expressions low
+          (o.expressions x));
+      calls = λ x. subst (λ z. (member z b x ≡ true)
           ↔ ((args : Actuals) × In_stmt (bare_statement j.body) (CallOf x args))) (sym er)
-          (rows_more old.runs uses.runs n b x ((args : Actuals) × In_stmt (bare_statement j.body) (CallOf x args))
-          a.runs low (o.runs x));
+          (rows_more old.calls uses.calls n b x ((args : Actuals) × In_stmt (bare_statement j.body) (CallOf x args))
+          a.calls low (o.calls x));
       stops = subst (λ z. (member z b 0 ≡ true) ↔ (In_stmt (bare_statement j.body) Stop)) (sym et)
           (rows_more old.stops uses.stops n b 0 (In_stmt (bare_statement j.body) Stop) a.stops low o.stops);
     }
 
     last : (b : ℕ) → b ≡ n → BodyAt new b (In_stmt (bare_statement k.body))
     last b here = record {
-      aims = λ x. subst (λ z. (member z b x ≡ true) ↔ (In_stmt (bare_statement k.body) (Target x))) (sym ea)
-          (rows_last old.aims uses.aims n b x (In_stmt (bare_statement k.body) (Target x)) a.aims here (h.aims x));
-      sees = λ x. subst (λ z. (member z b x ≡ true) ↔ (In_stmt (bare_statement k.body) (Seen x))) (sym es)
-          (rows_last old.sees uses.sees n b x (In_stmt (bare_statement k.body) (Seen x)) a.sees here (h.sees x));
-      runs = λ x. subst (λ z. (member z b x ≡ true)
+      targets = λ x. subst (λ z. (member z b x ≡ true) ↔ (In_stmt (bare_statement k.body) (Target x))) (sym ea)
+          (rows_last old.targets uses.targets n b x (In_stmt (bare_statement k.body) (Target x)) a.targets here
+          (h.targets x));
+      expressions = λ x. subst (λ z. (member z b x ≡ true) ↔ (In_stmt (bare_statement k.body) (Seen x))) (sym es)
+          (rows_last old.expressions uses.expressions n b x (In_stmt (bare_statement k.body) (Seen x)) a.expressions
+          here (h.expressions x));
+      calls = λ x. subst (λ z. (member z b x ≡ true)
           ↔ ((args : Actuals) × In_stmt (bare_statement k.body) (CallOf x args))) (sym er)
-          (rows_last old.runs uses.runs n b x ((args : Actuals) × In_stmt (bare_statement k.body) (CallOf x args))
-          a.runs here (h.runs x));
+          (rows_last old.calls uses.calls n b x ((args : Actuals) × In_stmt (bare_statement k.body) (CallOf x args))
+          a.calls here (h.calls x));
       stops = subst (λ z. (member z b 0 ≡ true) ↔ (In_stmt (bare_statement k.body) Stop)) (sym et)
           (rows_last old.stops uses.stops n b 0 (In_stmt (bare_statement k.body) Stop) a.stops here h.stops);
     }

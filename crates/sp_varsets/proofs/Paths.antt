@@ -87,11 +87,11 @@ carried old to from row now hidden changed is within away added same grew = reco
 
 -- the calls of one block, one after another
 
-pub visited_more : (old mid new : List VarSet) (b : ℕ) (runs hidden : VarSet) (n f : ℕ) (one two : Bool)
-    → Visited old mid b runs hidden n one → Carried mid new b f hidden two
-    → has runs f ≡ true → n ≤ f → ((x : ℕ) → n ≤ x → x < f → has runs x ≡ false)
-    → Visited old new b runs hidden (f + 1) (one || two)
-visited_more old mid new b runs hidden n f one two v c is low between = record {
+pub visited_more : (old mid new : List VarSet) (b : ℕ) (calls hidden : VarSet) (n f : ℕ) (one two : Bool)
+    → Visited old mid b calls hidden n one → Carried mid new b f hidden two
+    → has calls f ≡ true → n ≤ f → ((x : ℕ) → n ≤ x → x < f → has calls x ≡ false)
+    → Visited old new b calls hidden (f + 1) (one || two)
+visited_more old mid new b calls hidden n f one two v c is low between = record {
   rows = c.rows ∙ v.rows;
   kept = λ d x h. c.kept d x (v.kept d x h);
   led = λ d x h. elim (c.led d x h) [
@@ -123,10 +123,10 @@ visited_more old mid new b runs hidden n f one two v c is low between = record {
   ];
 }
 
-pub visited_rest : (old new : List VarSet) (b : ℕ) (runs hidden : VarSet) (n m : ℕ) (changed : Bool)
-    → Visited old new b runs hidden n changed → ((x : ℕ) → n ≤ x → x < m → has runs x ≡ false)
-    → Visited old new b runs hidden m changed
-visited_rest old new b runs hidden n m changed v none = record {
+pub visited_rest : (old new : List VarSet) (b : ℕ) (calls hidden : VarSet) (n m : ℕ) (changed : Bool)
+    → Visited old new b calls hidden n changed → ((x : ℕ) → n ≤ x → x < m → has calls x ≡ false)
+    → Visited old new b calls hidden m changed
+visited_rest old new b calls hidden n m changed v none = record {
   rows = v.rows;
   kept = v.kept;
   led = v.led;
@@ -140,25 +140,26 @@ visited_rest old new b runs hidden n m changed v none = record {
   some = v.some;
 }
 
-leads_led : (runs hidden old new : List VarSet)
-    → ((b x : ℕ) → member new b x ≡ true → (cs : List ℕ) × PathLeads old runs hidden cs b x) → (cs : List ℕ) (b x : ℕ)
-    → PathLeads new runs hidden cs b x → (ds : List ℕ) × PathLeads old runs hidden ds b x
-leads_led runs hidden old new f [] b x h = f b x h
-leads_led runs hidden old new f (c ∷ cs) b x (r, h, l) = let d = leads_led runs hidden old new f cs c x l in
+leads_led : (calls hidden old new : List VarSet)
+    → ((b x : ℕ) → member new b x ≡ true → (cs : List ℕ) × PathLeads old calls hidden cs b x) → (cs : List ℕ) (b x : ℕ)
+    → PathLeads new calls hidden cs b x → (ds : List ℕ) × PathLeads old calls hidden ds b x
+leads_led calls hidden old new f [] b x h = f b x h
+leads_led calls hidden old new f (c ∷ cs) b x (r, h, l) = let d = leads_led calls hidden old new f cs c x l in
     (c ∷ d.0, (r, h, d.1))
 
-pub follows_then : {runs hidden a b c : List VarSet} → ExtendsByPaths runs hidden a b → ExtendsByPaths runs hidden b c
-    → ExtendsByPaths runs hidden a c
-follows_then {runs} {hidden} {a} {b} {c} f g = record {
+pub follows_then : {calls hidden a b c : List VarSet} → ExtendsByPaths calls hidden a b
+    → ExtendsByPaths calls hidden b c
+    → ExtendsByPaths calls hidden a c
+follows_then {calls} {hidden} {a} {b} {c} f g = record {
   rows = g.rows ∙ f.rows;
   kept = λ d x h. g.kept d x (f.kept d x h);
-  led = λ d x h. let l = g.led d x h in leads_led runs hidden a b f.led l.0 d x l.1;
+  led = λ d x h. let l = g.led d x h in leads_led calls hidden a b f.led l.0 d x l.1;
 }
 
-pub follows_visit : (runs hidden old new : List VarSet) (b n : ℕ) (r h : VarSet) (changed : Bool)
-    → slice_get runs b ≡ Some r → slice_get hidden b ≡ Some h → Visited old new b r h n changed
-    → ExtendsByPaths runs hidden old new
-follows_visit runs hidden old new b n r h changed er eh v = record {
+pub follows_visit : (calls hidden old new : List VarSet) (b n : ℕ) (r h : VarSet) (changed : Bool)
+    → slice_get calls b ≡ Some r → slice_get hidden b ≡ Some h → Visited old new b r h n changed
+    → ExtendsByPaths calls hidden old new
+follows_visit calls hidden old new b n r h changed er eh v = record {
   rows = v.rows;
   kept = v.kept;
   led = λ c x m. elim (v.led c x m) [
@@ -166,7 +167,7 @@ follows_visit runs hidden old new b n r h changed er eh v = record {
     | inr t ↦ (
       t.1 ∷ [],
       (
-        ap (λ z. member runs z t.1) t.0 ∙ (row_is runs b r t.1 er ∙ t.2),
+        ap (λ z. member calls z t.1) t.0 ∙ (row_is calls b r t.1 er ∙ t.2),
         ap (λ z. member hidden z x) t.0 ∙ (row_is hidden b h x eh ∙ t.3),
         t.4,
       ),
@@ -174,19 +175,19 @@ follows_visit runs hidden old new b n r h changed er eh v = record {
   ];
 }
 
-pub swept_more : (runs hidden old mid new : List VarSet) (b : ℕ) (r h : VarSet) (one two : Bool)
-    → slice_get runs b ≡ Some r → slice_get hidden b ≡ Some h → length old ≤ 2 ^ 32
-    → Swept runs hidden old mid b one → Visited mid new b r h (2 ^ 32) two
-    → Swept runs hidden old new (b + 1) (one || two)
-swept_more runs hidden old mid new b r h one two er eh small s v = record {
-  follows = follows_then s.follows (follows_visit runs hidden mid new b (2 ^ 32) r h two er eh v);
+pub swept_more : (calls hidden old mid new : List VarSet) (b : ℕ) (r h : VarSet) (one two : Bool)
+    → slice_get calls b ≡ Some r → slice_get hidden b ≡ Some h → length old ≤ 2 ^ 32
+    → Swept calls hidden old mid b one → Visited mid new b r h (2 ^ 32) two
+    → Swept calls hidden old new (b + 1) (one || two)
+swept_more calls hidden old mid new b r h one two er eh small s v = record {
+  follows = follows_then s.follows (follows_visit calls hidden mid new b (2 ^ 32) r h two er eh v);
   none = λ e c x. v.none (second_false one two e) c x ∙ s.none (first_false one two e) c x;
   full = λ e c f x l run hide m. elim (cases_eq c b) [
     | inl here ↦
         let rows : length new ≡ length old = v.rows ∙ s.follows.rows in
         let f_in = within_rows new f x m in
         ap (λ z. member new z x) here ∙ v.full f x (omega arith)
-        (sym (row_is runs b r f er) ∙ (sym (ap (λ z. member runs z f) here) ∙ run))
+        (sym (row_is calls b r f er) ∙ (sym (ap (λ z. member calls z f) here) ∙ run))
         (sym (row_is hidden b h x eh) ∙ (sym (ap (λ z. member hidden z x) here) ∙ hide)) m
     | inr away ↦ v.kept c x (s.full (first_false one two e) c f x (omega arith) run hide
         (sym (v.none (second_false one two e) f x) ∙ m))
@@ -203,25 +204,25 @@ swept_more runs hidden old mid new b r h one two er eh small s v = record {
 }
 
 -- at the end nothing is left out
-pub all_led : (runs hidden rows old : List VarSet) → ((b x : ℕ) → member old b x ≡ true → member rows b x ≡ true)
-    → ((b c x : ℕ) → member runs b c ≡ true → member hidden b x ≡ false → member rows c x ≡ true
+pub all_led : (calls hidden rows old : List VarSet) → ((b x : ℕ) → member old b x ≡ true → member rows b x ≡ true)
+    → ((b c x : ℕ) → member calls b c ≡ true → member hidden b x ≡ false → member rows c x ≡ true
     → member rows b x ≡ true)
-    → (cs : List ℕ) (b x : ℕ) → PathLeads old runs hidden cs b x → member rows b x ≡ true
-all_led runs hidden rows old kept full [] b x h = kept b x h
-all_led runs hidden rows old kept full (c ∷ cs) b x (r, h, l) =
-    full b c x r h (all_led runs hidden rows old kept full cs c x l)
+    → (cs : List ℕ) (b x : ℕ) → PathLeads old calls hidden cs b x → member rows b x ≡ true
+all_led calls hidden rows old kept full [] b x h = kept b x h
+all_led calls hidden rows old kept full (c ∷ cs) b x (r, h, l) =
+    full b c x r h (all_led calls hidden rows old kept full cs c x l)
 
-pub closes : (runs hidden old mid new : List VarSet) (changed : Bool) → length runs ≡ length old
-    → ExtendsByPaths runs hidden old mid → Swept runs hidden mid new (length mid) changed → changed ≡ false
-    → Closes runs hidden old new
-closes runs hidden old mid new changed len f s e =
+pub closes : (calls hidden old mid new : List VarSet) (changed : Bool) → length calls ≡ length old
+    → ExtendsByPaths calls hidden old mid → Swept calls hidden mid new (length mid) changed → changed ≡ false
+    → Closes calls hidden old new
+closes calls hidden old mid new changed len f s e =
     let all = follows_then f s.follows in record {
       rows = all.rows;
       members = λ b x. (
         λ h. all.led b x h,
-        λ l. all_led runs hidden new old all.kept
+        λ l. all_led calls hidden new old all.kept
             (λ c d y run hide m.
-            let inside : c < length runs = within_rows runs c d run in
+            let inside : c < length calls = within_rows calls c d run in
             let same = f.rows in
             s.full e c d y (omega arith) run hide m)
             l.0 b x l.1,
@@ -313,7 +314,7 @@ below_span [] b x h = absurd (let no : false ≡ true = h in cc)
 below_span (s ∷ rows) zero x h = let l = below_words s.words x h in omega arith
 below_span (s ∷ rows) (suc b) x h = let l = below_span rows b x h in omega arith
 
-pub leads_below : (runs hidden rows : List VarSet) (cs : List ℕ) (b x : ℕ) → PathLeads rows runs hidden cs b x
+pub leads_below : (calls hidden rows : List VarSet) (cs : List ℕ) (b x : ℕ) → PathLeads rows calls hidden cs b x
     → x < span rows
-leads_below runs hidden rows [] b x h = below_span rows b x h
-leads_below runs hidden rows (c ∷ cs) b x (r, h, l) = leads_below runs hidden rows cs c x l
+leads_below calls hidden rows [] b x h = below_span rows b x h
+leads_below calls hidden rows (c ∷ cs) b x (r, h, l) = leads_below calls hidden rows cs c x l

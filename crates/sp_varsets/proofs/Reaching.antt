@@ -26,7 +26,7 @@ map_at f [] i y e = absurd (let no : None ≡ Some y = e in cc)
 map_at f (x ∷ xs) zero y e = (x, refl, let s : Some (f x) ≡ Some y = e in cc)
 map_at f (x ∷ xs) (suc i) y e = map_at f xs i y e
 
-module _ (g : Program) (u : Use) (x : ℕ) (rows runs hidden : List VarSet) where
+module _ (g : Program) (u : Use) (x : ℕ) (rows calls hidden : List VarSet) where
   -- the rows, the calls and what is hidden are those of the blocks
   pub record AreRowsOfBlocks : Type 0 where
     pub rows_of : (b : ℕ) → member rows b x ≡ true → (k : Block) × (slice_get g.blocks b ≡ Some k)
@@ -34,36 +34,37 @@ module _ (g : Program) (u : Use) (x : ℕ) (rows runs hidden : List VarSet) wher
         × In_stmt k.body u
     pub rows_in : (b : ℕ) (k : Block) → slice_get g.blocks b ≡ Some k → IsUseOfCallers g b u → In_stmt k.body u
         → member rows b x ≡ true
-    pub runs_of : (b c : ℕ) → member runs b c ≡ true → (k : Block) × (slice_get g.blocks b ≡ Some k) × (args : Actuals)
+    pub calls_of : (b c : ℕ) → member calls b c ≡ true → (k : Block) × (slice_get g.blocks b ≡ Some k)
+        × (args : Actuals)
         × In_stmt k.body (CallOf c args)
-    pub runs_in : (b c : ℕ) (k : Block) (args : Actuals) → slice_get g.blocks b ≡ Some k
-        → In_stmt k.body (CallOf c args) → member runs b c ≡ true
+    pub calls_in : (b c : ℕ) (k : Block) (args : Actuals) → slice_get g.blocks b ≡ Some k
+        → In_stmt k.body (CallOf c args) → member calls b c ≡ true
     pub hidden_of : (b : ℕ) (k : Block) → slice_get g.blocks b ≡ Some k → member hidden b x ≡ false
         → IsUseOfCallers g b u
     pub hidden_in : (b : ℕ) (k : Block) → slice_get g.blocks b ≡ Some k → IsUseOfCallers g b u
         → member hidden b x ≡ false
 
-  leads_to : AreRowsOfBlocks → (cs : List ℕ) (b : ℕ) → PathLeads rows runs hidden cs b x → OfBlock g b u
+  leads_to : AreRowsOfBlocks → (cs : List ℕ) (b : ℕ) → PathLeads rows calls hidden cs b x → OfBlock g b u
   leads_to f [] b h = let r = f.rows_of b h in step_here g b r.0 u r.1 r.2 r.3
-  leads_to f (c ∷ cs) b (run, hide, l) = let r = f.runs_of b c run in
+  leads_to f (c ∷ cs) b (run, hide, l) = let r = f.calls_of b c run in
       step_call g b c r.0 r.2 u r.1 (f.hidden_of b r.0 r.1 hide) r.3 (leads_to f cs c l)
 
   abbrev Claim : ℕ → Use → Type 0
-  Claim b v = v ≡ u → (cs : List ℕ) × PathLeads rows runs hidden cs b x
+  Claim b v = v ≡ u → (cs : List ℕ) × PathLeads rows calls hidden cs b x
 
   claims_closed : AreRowsOfBlocks → IsClosedUnderCalls g Claim
   claims_closed f b k e v passes = (
     λ h i. ([], f.rows_in b k e (subst (λ w. IsUseOfCallers g b w) i passes) (subst (λ w. In_stmt k.body w) i h)),
     λ c args h claim i. let l = claim i in (
       c ∷ l.0,
-      (f.runs_in b c k args e h, f.hidden_in b k e (subst (λ w. IsUseOfCallers g b w) i passes), l.1),
+      (f.calls_in b c k args e h, f.hidden_in b k e (subst (λ w. IsUseOfCallers g b w) i passes), l.1),
     ),
   )
 
-  to_leads : AreRowsOfBlocks → (b : ℕ) → OfBlock g b u → (cs : List ℕ) × PathLeads rows runs hidden cs b x
+  to_leads : AreRowsOfBlocks → (b : ℕ) → OfBlock g b u → (cs : List ℕ) × PathLeads rows calls hidden cs b x
   to_leads f b o = all_of_block g Claim (claims_closed f) b u o refl
 
-  pub closed_is : AreRowsOfBlocks → (new : List VarSet) → Closes runs hidden rows new → (b : ℕ)
+  pub closed_is : AreRowsOfBlocks → (new : List VarSet) → Closes calls hidden rows new → (b : ℕ)
       → (member new b x ≡ true)
       ↔ OfBlock g b u
   closed_is f new c b = (
@@ -92,7 +93,7 @@ module _ (c : p.Program) (bodies : Bodies) (hidden rows own : List VarSet) (u : 
       → ((b : ℕ) → member rows b x ≡ member own b x && not (member hidden b x))
       → ((b : ℕ) → b < length c.blocks → member hidden b x ≡ false → IsUseOfCallers (without_places c) b u)
       → ((b : ℕ) → b < length c.blocks → IsUseOfCallers (without_places c) b u → member hidden b x ≡ false)
-      → AreRowsOfBlocks (without_places c) u x rows bodies.runs hidden
+      → AreRowsOfBlocks (without_places c) u x rows bodies.calls hidden
   fits bs count own_is shown passes hides = record {
     rows_of = λ b h.
         let s = and_not_parts (member own b x) (member hidden b x) (sym (shown b) ∙ h) in
@@ -104,34 +105,34 @@ module _ (c : p.Program) (bodies : Bodies) (hidden rows own : List VarSet) (u : 
         let inside : b < length c.blocks = slice_get_within c.blocks b m.0 m.1 in
         shown b ∙ and_not_from (member own b x) (member hidden b x)
         ((own_is b m.0 m.1).1 (subst (λ (z : Block). In_stmt z.body u) (sym m.2) h)) (hides b inside f);
-    runs_of = λ b f h.
-        let inside : b < length c.blocks = subst (λ n. b < n) bs.runs (within_rows bodies.runs b f h) in
+    calls_of = λ b f h.
+        let inside : b < length c.blocks = subst (λ n. b < n) bs.calls (within_rows bodies.calls b f h) in
         let k = item_there c.blocks b inside in
         let at = bs.each b k.0 inside k.1 in
-        let r = (at.runs f).0 h in
+        let r = (at.calls f).0 h in
         (bare_block k.0, get_of_map bare_block c.blocks b k.0 k.1, r.0, r.1);
-    runs_in = λ b f k args e h.
+    calls_in = λ b f k args e h.
         let m = map_at bare_block c.blocks b k e in
         let inside : b < length c.blocks = slice_get_within c.blocks b m.0 m.1 in
         let at = bs.each b m.0 inside m.1 in
-        (at.runs f).1 (args, subst (λ (z : Block). In_stmt z.body (CallOf f args)) (sym m.2) h);
+        (at.calls f).1 (args, subst (λ (z : Block). In_stmt z.body (CallOf f args)) (sym m.2) h);
     hidden_of = λ b k e h. let m = map_at bare_block c.blocks b k e in passes b (slice_get_within c.blocks b m.0 m.1) h;
     hidden_in = λ b k e f. let m = map_at bare_block c.blocks b k e in hides b (slice_get_within c.blocks b m.0 m.1) f;
   }
 
 -- the set of a part, from what stands in it and the rows of the blocks that it calls
-pub total_is : (g : Program) (Here : Use → Type 0) (u : Use) (pool rows : List VarSet) (own runs x : ℕ)
-    → ((pool_has pool own x ≡ true) ↔ Here u) → ((f : ℕ) → (pool_has pool runs f ≡ true)
+pub total_is : (g : Program) (Here : Use → Type 0) (u : Use) (pool rows : List VarSet) (own calls x : ℕ)
+    → ((pool_has pool own x ≡ true) ↔ Here u) → ((f : ℕ) → (pool_has pool calls f ≡ true)
     ↔ ((args : Actuals) × Here (CallOf f args)))
     → ((f : ℕ) → (member rows f x ≡ true) ↔ OfBlock g f u)
-    → IsInTotal pool rows own runs x ↔ IsReached g Here u
-total_is g Here u pool rows own runs x here calls reach = (
+    → IsInTotal pool rows own calls x ↔ IsReached g Here u
+total_is g Here u pool rows own calls x here called reach = (
   λ h. elim h [
     | inl o ↦ from_part g Here u (inl (here.0 o))
-    | inr t ↦ (let a = (calls t.0).0 t.1 in from_part g Here u (inr (t.0, a.0, a.1, (reach t.0).0 t.2)))
+    | inr t ↦ (let a = (called t.0).0 t.1 in from_part g Here u (inr (t.0, a.0, a.1, (reach t.0).0 t.2)))
   ],
   λ r. elim (of_part g Here u r) [
     | inl h ↦ inl (here.1 h)
-    | inr t ↦ inr (t.0, (calls t.0).1 (t.1, t.2), (reach t.0).1 t.3)
+    | inr t ↦ inr (t.0, (called t.0).1 (t.1, t.2), (reach t.0).1 t.3)
   ],
 )

@@ -13,7 +13,7 @@ use Rattle.sp_varsets.specs.declared.find.Reach.{Reach}
 use Rattle.sp_varsets.specs.declared.sets.Entry.{Entry}
 use Rattle.sp_varsets.specs.declared.sets.Sets.{Sets}
 use Rattle.sp_varsets.specs.declared.var_set.VarSet.{VarSet}
-use Rattle.sp_varsets.specs.declared.walk.Own.{Own}
+use Rattle.sp_varsets.specs.declared.walk.StatementSets.{StatementSets}
 use Rattle.sp_varsets.specs.declared.walk.Walk.{Walk}
 use Rattle.sp_varsets.specs.AreSets.{AreSets, OfStatement, OfBlock, HaveOwnNumbers, set_of_index, target_index}
 use Rattle.sp_varsets.specs.AreSets.{expression_index, targets_of, expressions_of, implicit_targets_of}
@@ -40,13 +40,15 @@ chosen_is pool nothing none (suc i) x = item pool i
     item (s ∷ pool) zero = refl
     item (s ∷ pool) (suc i) = item pool i
 
-slot_within : (slots : List (Option Own)) (n : ℕ) (own : Own) → slot_at slots n ≡ Some own → n < length slots
-slot_within [] n own e = absurd (let no : None ≡ Some own = e in cc)
-slot_within (s ∷ slots) zero own e = omega arith
-slot_within (s ∷ slots) (suc n) own e = let l = slot_within slots n own e in omega arith
+slot_within : (slots : List (Option StatementSets)) (n : ℕ) (sets : StatementSets) → slot_at slots n ≡ Some sets
+    → n < length slots
+slot_within [] n sets e = absurd (let no : None ≡ Some sets = e in cc)
+slot_within (s ∷ slots) zero sets e = omega arith
+slot_within (s ∷ slots) (suc n) sets e = let l = slot_within slots n sets e in omega arith
 
-no_slot : (slots : List (Option Own)) (n : ℕ) (own : Own) → length slots ≡ 0 → slot_at slots n ≡ Some own → ⊥
-no_slot slots n own l e = let w = slot_within slots n own e in omega arith
+no_slot : (slots : List (Option StatementSets)) (n : ℕ) (sets : StatementSets) → length slots ≡ 0
+    → slot_at slots n ≡ Some sets → ⊥
+no_slot slots n sets l e = let w = slot_within slots n sets e in omega arith
 
 through : {A B C : Type 0} → A ↔ B → B ↔ C → A ↔ C
 through f g = (λ a. g.0 (f.0 a), λ c. f.1 (g.1 c))
@@ -63,12 +65,12 @@ pub record PartsOfSets (c : p.Program) (start walk mid end : Walk) (bodies : Bod
   pub bodies_are : AreBodies c.blocks bodies (length c.blocks)
   pub declared : AreDeclared (without_places c) hidden (length (without_places c).variables)
   pub free_is : (b x : ℕ) → member free b x ≡ false
-  pub targets_shown : (b x : ℕ) → member targets_own b x ≡ member bodies.aims b x && not (member hidden b x)
-  pub seen_shown : (b x : ℕ) → member seen_own b x ≡ member bodies.sees b x && not (member hidden b x)
+  pub targets_shown : (b x : ℕ) → member targets_own b x ≡ member bodies.targets b x && not (member hidden b x)
+  pub seen_shown : (b x : ℕ) → member seen_own b x ≡ member bodies.expressions b x && not (member hidden b x)
   pub stops_shown : (b x : ℕ) → member stops_own b x ≡ member bodies.stops b x && not (member free b x)
-  pub targets_closed : Closes bodies.runs hidden targets_own targets
-  pub seen_closed : Closes bodies.runs hidden seen_own seen
-  pub stops_closed : Closes bodies.runs free stops_own stops
+  pub targets_closed : Closes bodies.calls hidden targets_own targets
+  pub seen_closed : Closes bodies.calls hidden seen_own seen
+  pub stops_closed : Closes bodies.calls free stops_own stops
   pub entries : AreEntries walk.pool mid.pool walk.slots targets seen statements (length walk.slots)
   pub row_entries : AreRowEntries mid.pool end.pool targets seen blocks (length targets)
   pub count : length targets ≡ length c.blocks
@@ -86,25 +88,25 @@ module _ (c : p.Program) (start walk mid end : Walk) (bodies : Bodies)
   bare_low b h = let l = length_of_map bare_block c.blocks in omega arith
 
   reach_targets : (b x : ℕ) → (member targets b x ≡ true) ↔ r.OfBlock (without_places c) b (Target x)
-  reach_targets b x = closed_is (without_places c) (Target x) x targets_own bodies.runs hidden
-      (fits c bodies hidden targets_own bodies.aims (Target x) x f.bodies_are f.bodies_are.aims
-      (λ d k e. let at = f.bodies_are.each d k (slice_get_within c.blocks d k e) e in at.aims x)
+  reach_targets b x = closed_is (without_places c) (Target x) x targets_own bodies.calls hidden
+      (fits c bodies hidden targets_own bodies.targets (Target x) x f.bodies_are f.bodies_are.targets
+      (λ d k e. let at = f.bodies_are.each d k (slice_get_within c.blocks d k e) e in at.targets x)
       (λ d. f.targets_shown d x)
       (λ d low h. free_of (without_places c) hidden d x f.declared (bare_low d low) h)
       (λ d low h. free_in (without_places c) hidden d x f.declared (bare_low d low) h))
       targets f.targets_closed b
 
   reach_seen : (b x : ℕ) → (member seen b x ≡ true) ↔ r.OfBlock (without_places c) b (Seen x)
-  reach_seen b x = closed_is (without_places c) (Seen x) x seen_own bodies.runs hidden
-      (fits c bodies hidden seen_own bodies.sees (Seen x) x f.bodies_are f.bodies_are.sees
-      (λ d k e. let at = f.bodies_are.each d k (slice_get_within c.blocks d k e) e in at.sees x)
+  reach_seen b x = closed_is (without_places c) (Seen x) x seen_own bodies.calls hidden
+      (fits c bodies hidden seen_own bodies.expressions (Seen x) x f.bodies_are f.bodies_are.expressions
+      (λ d k e. let at = f.bodies_are.each d k (slice_get_within c.blocks d k e) e in at.expressions x)
       (λ d. f.seen_shown d x)
       (λ d low h. free_of (without_places c) hidden d x f.declared (bare_low d low) h)
       (λ d low h. free_in (without_places c) hidden d x f.declared (bare_low d low) h))
       seen f.seen_closed b
 
   reach_stops : (b : ℕ) → (member stops b 0 ≡ true) ↔ r.OfBlock (without_places c) b Stop
-  reach_stops b = closed_is (without_places c) Stop 0 stops_own bodies.runs free
+  reach_stops b = closed_is (without_places c) Stop 0 stops_own bodies.calls free
       (fits c bodies free stops_own bodies.stops Stop 0 f.bodies_are f.bodies_are.stops
       (λ d k e. let at = f.bodies_are.each d k (slice_get_within c.blocks d k e) e in at.stops)
       (λ d. f.stops_shown d 0)
@@ -113,7 +115,8 @@ module _ (c : p.Program) (start walk mid end : Walk) (bodies : Bodies)
       stops f.stops_closed b
 
   recorded : (b : ℕ) (k : p.Block) → slice_get c.blocks b ≡ Some k → (t : p.Statement) → IsPart t k.body
-      → (own : Own) × (slot_at walk.slots (number_of t) ≡ Some own) × Records walk.pool own (In_stmt (bare_statement t))
+      → (sets : StatementSets) × (slot_at walk.slots (number_of t) ≡ Some sets)
+      × Records walk.pool sets (In_stmt (bare_statement t))
   recorded b k e t part =
       let o = f.writes.all t (in_blocks c.blocks b k t e part) in
       elim (f.writes.only (number_of t) o.0 o.1) [
@@ -132,20 +135,20 @@ module _ (c : p.Program) (start walk mid end : Walk) (bodies : Bodies)
       let rec = o.2 in
       let en = f.entries.each (number_of t) o.0 (slot_within walk.slots (number_of t) o.0 o.1) o.1 in
       let entry = en.2 in
-      let aims = stands_more f.row_entries.extends entry.aims in
-      let sees = stands_more f.row_entries.extends entry.sees in record {
+      let entry_targets = stands_more f.row_entries.extends entry.targets in
+      let entry_expressions = stands_more f.row_entries.extends entry.expressions in record {
         targets = λ x. along
             (ap (λ z. has (set_of_index end.pool nothing (target_index z)) x) en.1
             ∙ chosen_is end.pool nothing f.none en.0.targets x)
-            (through (aims.members x) (total_is (without_places c) (In_stmt (bare_statement t)) (Target x) walk.pool
-            targets
-            o.0.aims o.0.runs x (rec.aims.members x) rec.runs.members (λ g. reach_targets g x)));
+            (through (entry_targets.members x) (total_is (without_places c) (In_stmt (bare_statement t)) (Target x)
+            walk.pool targets o.0.targets o.0.calls x (rec.targets.members x) rec.calls.members
+                (λ g. reach_targets g x)));
         expressions = λ x. along
             (ap (λ z. has (set_of_index end.pool nothing (expression_index z)) x) en.1
             ∙ chosen_is end.pool nothing f.none en.0.expressions x)
-            (through (sees.members x) (total_is (without_places c) (In_stmt (bare_statement t)) (Seen x) walk.pool seen
-            o.0.sees
-            o.0.runs x (rec.sees.members x) rec.runs.members (λ g. reach_seen g x)));
+            (through (entry_expressions.members x) (total_is (without_places c) (In_stmt (bare_statement t)) (Seen x)
+            walk.pool seen o.0.expressions o.0.calls x (rec.expressions.members x) rec.calls.members
+                (λ g. reach_seen g x)));
       }
 
   block_is : (b : ℕ) (k : p.Block) → slice_get c.blocks b ≡ Some k → OfBlock (without_places c) all b
@@ -197,7 +200,7 @@ if_found c start walk bodies reach numbers slots writes are reaches (Ok s) h =
       stops_closed = reaches.free.2.closes.2;
       entries = h.entries.1;
       row_entries = h.entries.2;
-      count = t.rows ∙ are.aims;
+      count = t.rows ∙ are.targets;
       flags_are = h.flags;
       none = h.none;
     })
@@ -206,11 +209,11 @@ if_found c start walk bodies reach numbers slots writes are reaches (Ok s) h =
 pub within_written : (start walk : Walk) (S : p.Statement → Type 0) → length start.slots ≡ 0
     → RecordsStatements start walk S
     → AreWithin walk
-within_written start walk S l w n own e = elim (w.only n own e) [
-  | inl before ↦ absurd (no_slot start.slots n own l before)
+within_written start walk S l w n sets e = elim (w.only n sets e) [
+  | inl before ↦ absurd (no_slot start.slots n sets l before)
   | inr r ↦ (let rec = r.3 in record {
-    aims = (let s = rec.aims in s.within);
-    sees = (let s = rec.sees in s.within);
-    runs = (let s = rec.runs in s.within);
+    targets = (let s = rec.targets in s.within);
+    expressions = (let s = rec.expressions in s.within);
+    calls = (let s = rec.calls in s.within);
   })
 ]

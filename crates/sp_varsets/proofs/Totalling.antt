@@ -5,7 +5,7 @@ use Rattle.std.proofs.lemmas.Bool.{cases_eq, cases_lt}
 use Rattle.std.proofs.lemmas.List.{get_or_past}
 use Rattle.sp_varsets.specs.declared.sets.Entry.{Entry}
 use Rattle.sp_varsets.specs.declared.var_set.VarSet.{VarSet}
-use Rattle.sp_varsets.specs.declared.walk.Own.{Own}
+use Rattle.sp_varsets.specs.declared.walk.StatementSets.{StatementSets}
 use Rattle.sp_varsets.specs.Members.{has}
 use Rattle.sp_varsets.specs.Paths.{row_has, member}
 use Rattle.sp_varsets.specs.Records.{Extends, IsSetOfIndex, slot_at}
@@ -29,53 +29,50 @@ entry_last xs e m h = ap (λ n. slice_get (xs ++ e ∷ []) n) h ∙ last xs
     last (x ∷ xs) = last xs
 
 pub totals_more : {a b : List VarSet} → Extends a b
-    → (targets seen : List VarSet) (own : Own) (e : Entry) (old : List VarSet) → IsEntry old a own targets seen e
-    → IsEntry old b own targets seen e
-totals_more x targets seen own e old i = record { aims = stands_more x i.aims; sees = stands_more x i.sees }
+    → (targets seen : List VarSet) (sets : StatementSets) (e : Entry) (old : List VarSet)
+    → IsEntry old a sets targets seen e
+    → IsEntry old b sets targets seen e
+totals_more x targets seen sets e old i = record {
+  targets = stands_more x i.targets;
+  expressions = stands_more x i.expressions;
+}
 
 -- an entry made later, of what the pool had before
-pub entry_from : {a b c : List VarSet} → Extends a b → (targets seen : List VarSet) (own : Own) (e : Entry)
-    → IsWithin a own → IsEntry b c own targets seen e → IsEntry a c own targets seen e
-entry_from {a} {b} {c} x targets seen own e w i = record {
-  aims = stands_as i.aims (same targets own.aims w.aims);
-  sees = stands_as i.sees (same seen own.sees w.sees);
+pub entry_from : {a b c : List VarSet} → Extends a b → (targets seen : List VarSet) (sets : StatementSets) (e : Entry)
+    → IsWithin a sets → IsEntry b c sets targets seen e → IsEntry a c sets targets seen e
+entry_from {a} {b} {c} x targets seen sets e w i = record {
+  targets = stands_as i.targets (same targets sets.targets w.targets);
+  expressions = stands_as i.expressions (same seen sets.expressions w.expressions);
 }
   where
-    same : (rows : List VarSet) (k : ℕ) → k ≤ length a → (y : ℕ) → IsInTotal b rows k own.runs y
-        ↔ IsInTotal a rows k own.runs y
+    same : (rows : List VarSet) (k : ℕ) → k ≤ length a → (y : ℕ) → IsInTotal b rows k sets.calls y
+        ↔ IsInTotal a rows k sets.calls y
     same rows k low y = (
       λ s. elim s [
         | inl p ↦ inl (sym (x.unchanged k y low) ∙ p)
         | inr t ↦ inr
-            (t.0, sym (x.unchanged own.runs t.0 w.runs) ∙ t.1, t.2)
+            (t.0, sym (x.unchanged sets.calls t.0 w.calls) ∙ t.1, t.2)
       ],
-      λ s. elim s [
-        | inl p ↦ inl (x.unchanged k y low ∙ p)
-        | inr t ↦ inr (
-          t.0,
-          x.unchanged own.runs t.0 w.runs ∙ t.1,
-          t.2,
-        )
-      ],
+      λ s. elim s [ inl p ↦ inl (x.unchanged k y low ∙ p) | inr t ↦ inr (t.0, x.unchanged sets.calls t.0 w.calls ∙ t.1, t.2) ],
     )
 
-pub entries_more : (old mid new : List VarSet) (slots : List (Option Own)) (targets seen : List VarSet)
-    (entries : List Entry) (n : ℕ) (o : Option Own) (e : Entry)
+pub entries_more : (old mid new : List VarSet) (slots : List (Option StatementSets)) (targets seen : List VarSet)
+    (entries : List Entry) (n : ℕ) (o : Option StatementSets) (e : Entry)
     → AreEntries old mid slots targets seen entries n → Extends mid new → o ≡ slot_at slots n
-    → ((own : Own) → o ≡ Some own → IsWithin old own)
-    → ((own : Own) → o ≡ Some own → IsEntry mid new own targets seen e)
+    → ((sets : StatementSets) → o ≡ Some sets → IsWithin old sets)
+    → ((sets : StatementSets) → o ≡ Some sets → IsEntry mid new sets targets seen e)
     → AreEntries old new slots targets seen (entries ++ e ∷ []) (n + 1)
 entries_more old mid new slots targets seen entries n o e a x at within is = record {
   count = length_more entries e ∙ ap (λ k. k + 1) a.count;
   extends = extends_then a.extends x;
-  each = λ m own low s. elim (cases_eq m n) [
+  each = λ m sets low s. elim (cases_eq m n) [
     | inl here ↦
-        let i : o ≡ Some own = at ∙ (ap (λ k. slot_at slots k) (sym here) ∙ s) in
+        let i : o ≡ Some sets = at ∙ (ap (λ k. slot_at slots k) (sym here) ∙ s) in
         let c = a.count in
-        (e, entry_last entries e m (omega arith), entry_from a.extends targets seen own e (within own i) (is own i))
+        (e, entry_last entries e m (omega arith), entry_from a.extends targets seen sets e (within sets i) (is sets i))
     | inr away ↦
-        let b = a.each m own (omega arith) s in
-        (b.0, entry_at entries e m b.0 b.1, totals_more x targets seen own b.0 old b.2)
+        let b = a.each m sets (omega arith) s in
+        (b.0, entry_at entries e m b.0 b.1, totals_more x targets seen sets b.0 old b.2)
   ];
 }
 

@@ -16,7 +16,7 @@ use Rattle.sp_tree.specs.Bare.{bare_statement, bare_statement_form}
 use Rattle.sp_tree.specs.Uses.{Use, IsOther, In_stmt}
 use Rattle.sp_varsets.specs.declared.uses.Uses.{Uses}
 use Rattle.sp_varsets.specs.declared.var_set.VarSet.{VarSet}
-use Rattle.sp_varsets.specs.declared.walk.Own.{Own}
+use Rattle.sp_varsets.specs.declared.walk.StatementSets.{StatementSets}
 use Rattle.sp_varsets.specs.declared.walk.Walk.{Walk}
 use Rattle.sp_varsets.specs.Members.{has}
 use Rattle.sp_varsets.specs.AddedUses.{AddsUses, AreEmpty, AreUnions, IsWithout}
@@ -52,15 +52,20 @@ stands_as s e = record {
       λ x. (λ h. (e x).0 ((s.members x).0 h), λ g. (s.members x).1 ((e x).1 g));
 }
 
-pub records_more : {a b : List VarSet} {own : Own} {H : Use → Type 0} → Extends a b → Records a own H → Records b own H
-records_more e r = record { aims = stands_more e r.aims; sees = stands_more e r.sees; runs = stands_more e r.runs }
+pub records_more : {a b : List VarSet} {sets : StatementSets} {H : Use → Type 0} → Extends a b → Records a sets H
+    → Records b sets H
+records_more e r = record {
+  targets = stands_more e r.targets;
+  expressions = stands_more e r.expressions;
+  calls = stands_more e r.calls;
+}
 
 pub writes_none : (w : Walk) (S : p.Statement → Type 0) → ((t : p.Statement) → S t → ⊥) → RecordsStatements w w S
 writes_none w S n = record {
   pool = extends_self w.pool;
   all = λ t s. absurd (n t s);
-  kept = λ n own e. (own, e);
-  only = λ n own e. inl e;
+  kept = λ n sets e. (sets, e);
+  only = λ n sets e. inl e;
 }
 
 pub writes_then : {a b c : Walk} {S R : p.Statement → Type 0} → RecordsStatements a b S → RecordsStatements b c R
@@ -68,9 +73,9 @@ pub writes_then : {a b c : Walk} {S R : p.Statement → Type 0} → RecordsState
 writes_then {a} {b} {c} {S} {R} f g = record {
   pool = extends_then f.pool g.pool;
   all = λ t s. elim s [ inl h ↦ (let o = f.all t h in g.kept (number_of t) o.0 o.1) | inr h ↦ g.all t h ];
-  kept = λ n own e. let o = f.kept n own e in g.kept n o.0 o.1;
-  only = λ n own e. elim (g.only n own e) [
-    | inl before ↦ elim (f.only n own before)
+  kept = λ n sets e. let o = f.kept n sets e in g.kept n o.0 o.1;
+  only = λ n sets e. elim (g.only n sets e) [
+    | inl before ↦ elim (f.only n sets before)
         [ inl start ↦ inl start | inr s ↦ inr (s.0, inl s.1, s.2, records_more g.pool s.3) ]
     | inr r ↦ inr (r.0, inr r.1, r.2, r.3)
   ];
@@ -82,7 +87,7 @@ writes_as f to from = record {
   pool = f.pool;
   all = λ t r. f.all t (from t r);
   kept = f.kept;
-  only = λ n own e. elim (f.only n own e) [ inl before ↦ inl before | inr s ↦ inr (s.0, to s.0 s.1, s.2, s.3) ];
+  only = λ n sets e. elim (f.only n sets e) [ inl before ↦ inl before | inr s ↦ inr (s.0, to s.0 s.1, s.2, s.3) ];
 }
 
 pub kept_writes : {w v : Walk} {uses : Uses} (t : p.Statement) → HasUses uses (In_stmt (bare_statement t))
@@ -90,13 +95,13 @@ pub kept_writes : {w v : Walk} {uses : Uses} (t : p.Statement) → HasUses uses 
 kept_writes {w} {v} {uses} t h k = record {
   pool = k.pool;
   all = λ u e. (k.slot.0, ap (λ z. slot_at v.slots (number_of z)) e ∙ k.slot.1);
-  kept = λ n own e. elim (cases_eq n (number_of t)) [
+  kept = λ n sets e. elim (cases_eq n (number_of t)) [
     | inl here ↦ (k.slot.0, ap (λ m. slot_at v.slots m) here ∙ k.slot.1)
-    | inr away ↦ (own, k.others n away ∙ e)
+    | inr away ↦ (sets, k.others n away ∙ e)
   ];
-  only = λ n own e. elim (cases_eq n (number_of t)) [
+  only = λ n sets e. elim (cases_eq n (number_of t)) [
     | inl here ↦
-        let is : k.slot.0 ≡ own = same_Some k.slot.0 own
+        let is : k.slot.0 ≡ sets = same_Some k.slot.0 sets
         (sym k.slot.1 ∙ (ap (λ m. slot_at v.slots m) (sym here) ∙ e)) in
         inr (t, refl, sym here, subst (λ o. Records v.pool o (In_stmt (bare_statement t))) is recorded)
     | inr away ↦ inl (sym (k.others n away) ∙ e)
@@ -105,9 +110,9 @@ kept_writes {w} {v} {uses} t h k = record {
   where
     recorded : Records v.pool k.slot.0 (In_stmt (bare_statement t))
     recorded = record {
-      aims = stands_as k.slot.2 (λ x. h.aims x);
-      sees = stands_as k.slot.3 (λ x. h.sees x);
-      runs = stands_as k.slot.4 (λ x. h.runs x);
+      targets = stands_as k.slot.2 (λ x. h.targets x);
+      expressions = stands_as k.slot.3 (λ x. h.expressions x);
+      calls = stands_as k.slot.4 (λ x. h.calls x);
     }
 
 pub walked_none : {w : Walk} {a b : Uses} {H : Use → Type 0} → AddsUses a b H → Walked w w a b H (λ t. ⊥)
@@ -220,12 +225,14 @@ receives_end (t ∷ es) zero n at c h = absurd (omega arith)
 receives_end (t ∷ es) (suc i) n at c h = receives_end es i n at c (omega arith)
 
 -- slots
-pub slot_put : (xs : List (Option Own)) (n : ℕ) (o : Own) → n < length xs → slot_at (set xs n (Some o)) n ≡ Some o
+pub slot_put : (xs : List (Option StatementSets)) (n : ℕ) (o : StatementSets) → n < length xs
+    → slot_at (set xs n (Some o)) n ≡ Some o
 slot_put [] n o h = absurd (omega arith)
 slot_put (x ∷ xs) zero o h = refl
 slot_put (x ∷ xs) (suc n) o h = slot_put xs n o (omega arith)
 
-pub slot_other : (xs : List (Option Own)) (n m : ℕ) (o : Option Own) → m ≢ n → slot_at (set xs n o) m ≡ slot_at xs m
+pub slot_other : (xs : List (Option StatementSets)) (n m : ℕ) (o : Option StatementSets) → m ≢ n
+    → slot_at (set xs n o) m ≡ slot_at xs m
 slot_other [] n m o h = refl
 slot_other (x ∷ xs) zero zero o h = absurd (h refl)
 slot_other (x ∷ xs) zero (suc m) o h = refl
@@ -273,28 +280,31 @@ statement_walked n at f empty walked union kept =
 
 pub element_walked : {w v : Walk} {a b e m k : Uses} (y : ℕ) (s : p.Statement) → AreEmpty e
     → Walked w v e m (In_stmt (bare_statement s)) (λ t. IsPart t s)
-    → IsWithout m.aims k.aims y → IsWithout m.sees k.sees y → k.runs ≡ m.runs → k.stops ≡ m.stops → AreUnions a k b
+    → IsWithout m.targets k.targets y → IsWithout m.expressions k.expressions y → k.calls ≡ m.calls → k.stops ≡ m.stops
+    → AreUnions a k b
     → Walked w v a b (λ u. In_stmt (bare_statement s) u × IsOther y u) (λ t. IsPart t s)
-element_walked y s empty walked aims sees runs stops union =
+element_walked y s empty walked targets expressions calls stops union =
     record {
-      adds = merged (without y (from_empty empty walked.adds) aims sees runs stops) union;
+      adds = merged (without y (from_empty empty walked.adds) targets expressions calls stops) union;
       writes = walked.writes;
     }
 
-pub keeps_is : (old new : Walk) (p1 p2 p3 : List VarSet) (slots : List (Option Own)) (n i j k : ℕ) (uses : Uses)
-    → Extends old.pool p1 → IsSetOfIndex p1 i (λ x. has uses.aims x ≡ true) → Extends p1 p2
-    → IsSetOfIndex p2 j (λ x. has uses.sees x ≡ true) → Extends p2 p3 → IsSetOfIndex p3 k (λ x. has uses.runs x ≡ true)
+pub keeps_is : (old new : Walk) (p1 p2 p3 : List VarSet) (slots : List (Option StatementSets)) (n i j k : ℕ)
+    (uses : Uses)
+    → Extends old.pool p1 → IsSetOfIndex p1 i (λ x. has uses.targets x ≡ true) → Extends p1 p2
+    → IsSetOfIndex p2 j (λ x. has uses.expressions x ≡ true) → Extends p2 p3
+    → IsSetOfIndex p3 k (λ x. has uses.calls x ≡ true)
     → new.pool ≡ p3 → ((m : ℕ) → slot_at slots m ≡ slot_at old.slots m) → n < length slots
-    → new.slots ≡ set slots n (Some (record { aims = i; sees = j; runs = k })) → RecordsSets old new n uses
+    → new.slots ≡ set slots n (Some (record { targets = i; expressions = j; calls = k })) → RecordsSets old new n uses
 keeps_is old new p1 p2 p3 slots n i j k uses e1 s1 e2 s2 e3 s3 pool same room list = record {
   pool = subst (λ q. Extends old.pool q) (sym pool) (extends_then e1 (extends_then e2 e3));
   slot = (
-    record { aims = i; sees = j; runs = k },
-    ap (λ z. slot_at z n) list ∙ slot_put slots n (record { aims = i; sees = j; runs = k }) room,
-    subst (λ q. IsSetOfIndex q i (λ x. has uses.aims x ≡ true)) (sym pool) (stands_more e3 (stands_more e2 s1)),
-    subst (λ q. IsSetOfIndex q j (λ x. has uses.sees x ≡ true)) (sym pool) (stands_more e3 s2),
-    subst (λ q. IsSetOfIndex q k (λ x. has uses.runs x ≡ true)) (sym pool) s3,
+    record { targets = i; expressions = j; calls = k },
+    ap (λ z. slot_at z n) list ∙ slot_put slots n (record { targets = i; expressions = j; calls = k }) room,
+    subst (λ q. IsSetOfIndex q i (λ x. has uses.targets x ≡ true)) (sym pool) (stands_more e3 (stands_more e2 s1)),
+    subst (λ q. IsSetOfIndex q j (λ x. has uses.expressions x ≡ true)) (sym pool) (stands_more e3 s2),
+    subst (λ q. IsSetOfIndex q k (λ x. has uses.calls x ≡ true)) (sym pool) s3,
   );
   others = λ m away. ap (λ z. slot_at z m) list
-      ∙ (slot_other slots n m (Some (record { aims = i; sees = j; runs = k })) away ∙ same m);
+      ∙ (slot_other slots n m (Some (record { targets = i; expressions = j; calls = k })) away ∙ same m);
 }

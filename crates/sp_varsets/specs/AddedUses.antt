@@ -13,16 +13,17 @@ use Rattle.sp_varsets.specs.Members.{has}
 -- the new sets have what the old ones had, and what stands here: target positions, expression positions, calls,
 -- statements that stop
 pub record AddsUses (old new : Uses) (Here : Use → Type 0) : Type 0 where
-  pub aims : (x : ℕ) → (has new.aims x ≡ true) ↔ ((has old.aims x ≡ true) ⊎ Here (Target x))
-  pub sees : (x : ℕ) → (has new.sees x ≡ true) ↔ ((has old.sees x ≡ true) ⊎ Here (Seen x))
-  pub runs : (f : ℕ) → (has new.runs f ≡ true) ↔ ((has old.runs f ≡ true) ⊎ ((args : Actuals) × Here (CallOf f args)))
+  pub targets : (x : ℕ) → (has new.targets x ≡ true) ↔ ((has old.targets x ≡ true) ⊎ Here (Target x))
+  pub expressions : (x : ℕ) → (has new.expressions x ≡ true) ↔ ((has old.expressions x ≡ true) ⊎ Here (Seen x))
+  pub calls : (f : ℕ) → (has new.calls f ≡ true) ↔ ((has old.calls f ≡ true)
+      ⊎ ((args : Actuals) × Here (CallOf f args)))
   pub stops : (has new.stops 0 ≡ true) ↔ ((has old.stops 0 ≡ true) ⊎ Here Stop)
 
 -- the sets are empty
 pub record AreEmpty (uses : Uses) : Type 0 where
-  pub aims : (x : ℕ) → has uses.aims x ≡ false
-  pub sees : (x : ℕ) → has uses.sees x ≡ false
-  pub runs : (x : ℕ) → has uses.runs x ≡ false
+  pub targets : (x : ℕ) → has uses.targets x ≡ false
+  pub expressions : (x : ℕ) → has uses.expressions x ≡ false
+  pub calls : (x : ℕ) → has uses.calls x ≡ false
   pub stops : (x : ℕ) → has uses.stops x ≡ false
 
 -- each set has what one of both had
@@ -30,9 +31,9 @@ abbrev pub IsUnion : VarSet → VarSet → VarSet → Type 0
 IsUnion a b both = (x : ℕ) → (has both x ≡ true) ↔ ((has a x ≡ true) ⊎ (has b x ≡ true))
 
 pub record AreUnions (a b both : Uses) : Type 0 where
-  pub aims : IsUnion a.aims b.aims both.aims
-  pub sees : IsUnion a.sees b.sees both.sees
-  pub runs : IsUnion a.runs b.runs both.runs
+  pub targets : IsUnion a.targets b.targets both.targets
+  pub expressions : IsUnion a.expressions b.expressions both.expressions
+  pub calls : IsUnion a.calls b.calls both.calls
   pub stops : IsUnion a.stops b.stops both.stops
 
 -- the set but for one member

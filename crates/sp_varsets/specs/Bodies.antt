@@ -23,25 +23,25 @@ IsInBlocks (k ∷ ks) t = IsPart t k.body ⊎ IsInBlocks ks t
 
 -- the rows of this block have what stands here
 pub record BodyAt (bodies : Bodies) (b : ℕ) (Here : Use → Type 0) : Type 0 where
-  pub aims : (x : ℕ) → (member bodies.aims b x ≡ true) ↔ Here (Target x)
-  pub sees : (x : ℕ) → (member bodies.sees b x ≡ true) ↔ Here (Seen x)
-  pub runs : (f : ℕ) → (member bodies.runs b f ≡ true) ↔ ((args : Actuals) × Here (CallOf f args))
+  pub targets : (x : ℕ) → (member bodies.targets b x ≡ true) ↔ Here (Target x)
+  pub expressions : (x : ℕ) → (member bodies.expressions b x ≡ true) ↔ Here (Seen x)
+  pub calls : (f : ℕ) → (member bodies.calls b f ≡ true) ↔ ((args : Actuals) × Here (CallOf f args))
   pub stops : (member bodies.stops b 0 ≡ true) ↔ Here Stop
 
 -- there is a row for each of the first n blocks
 pub record AreBodies (blocks : List p.Block) (bodies : Bodies) (n : ℕ) : Type 0 where
-  pub aims : length bodies.aims ≡ n
-  pub sees : length bodies.sees ≡ n
-  pub runs : length bodies.runs ≡ n
+  pub targets : length bodies.targets ≡ n
+  pub expressions : length bodies.expressions ≡ n
+  pub calls : length bodies.calls ≡ n
   pub stops : length bodies.stops ≡ n
   pub each : (b : ℕ) (k : p.Block) → b < n → slice_get blocks b ≡ Some k
       → BodyAt bodies b (In_stmt (bare_statement k.body))
 
 -- these sets are the last rows
 pub record AppendsRows (old new : Bodies) (uses : Uses) : Type 0 where
-  pub aims : new.aims ≡ old.aims ++ uses.aims ∷ []
-  pub sees : new.sees ≡ old.sees ++ uses.sees ∷ []
-  pub runs : new.runs ≡ old.runs ++ uses.runs ∷ []
+  pub targets : new.targets ≡ old.targets ++ uses.targets ∷ []
+  pub expressions : new.expressions ≡ old.expressions ++ uses.expressions ∷ []
+  pub calls : new.calls ≡ old.calls ++ uses.calls ∷ []
   pub stops : new.stops ≡ old.stops ++ uses.stops ∷ []
 
 -- what stands in this block's statement part is in the last rows, and was recorded

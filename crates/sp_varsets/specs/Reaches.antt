@@ -18,17 +18,17 @@ abbrev pub AreShown : (own hidden rows : List VarSet) → Type 0
 AreShown own hidden rows = (b x : ℕ) → member rows b x ≡ member own b x && not (member hidden b x)
 
 -- the new rows are the closure of what is shown of a block's own
-pub record IsClosureOfShown (runs hidden own new : List VarSet) : Type 0 where
+pub record IsClosureOfShown (calls hidden own new : List VarSet) : Type 0 where
   pub rows : length new ≡ length own
-  pub closes : (first : List VarSet) × AreShown own hidden first × Closes runs hidden first new
+  pub closes : (first : List VarSet) × AreShown own hidden first × Closes calls hidden first new
 
 -- so for all three kinds; statements that stop are hidden nowhere
 pub record Reaches (c : p.Program) (bodies : Bodies) (reach : Reach) : Type 0 where
   pub declared : (hidden : List VarSet) × AreDeclared (without_places c) hidden (length (without_places c).variables)
-      × IsClosureOfShown bodies.runs hidden bodies.aims reach.targets
-      × IsClosureOfShown bodies.runs hidden bodies.sees reach.seen
+      × IsClosureOfShown bodies.calls hidden bodies.targets reach.targets
+      × IsClosureOfShown bodies.calls hidden bodies.expressions reach.seen
   pub free : (free : List VarSet) × ((b x : ℕ) → member free b x ≡ false)
-      × IsClosureOfShown bodies.runs free bodies.stops reach.stops
+      × IsClosureOfShown bodies.calls free bodies.stops reach.stops
 
 -- the entries name sets of the pool that have what was recorded and what the rows have; the middle pool is the one
 -- before the blocks' sets

@@ -9,7 +9,7 @@ use Rattle.sp_tree.specs.Plain.{Actuals}
 use Rattle.sp_tree.specs.Uses.{Use, Target, Seen, CallOf, In_stmt}
 use Rattle.sp_varsets.specs.declared.uses.Uses.{Uses}
 use Rattle.sp_varsets.specs.declared.var_set.VarSet.{VarSet}
-use Rattle.sp_varsets.specs.declared.walk.Own.{Own}
+use Rattle.sp_varsets.specs.declared.walk.StatementSets.{StatementSets}
 use Rattle.sp_varsets.specs.declared.walk.Walk.{Walk}
 use Rattle.sp_varsets.specs.Members.{has}
 use Rattle.sp_varsets.specs.Parts.{number_of}
@@ -31,33 +31,34 @@ pub record IsSetOfIndex (pool : List VarSet) (i : ℕ) (F : ℕ → Type 0) : Ty
   pub members : (x : ℕ) → (pool_has pool i x ≡ true) ↔ F x
 
 -- what is recorded of a statement is what stands in it
-pub record Records (pool : List VarSet) (own : Own) (Here : Use → Type 0) : Type 0 where
-  pub aims : IsSetOfIndex pool own.aims (λ x. Here (Target x))
-  pub sees : IsSetOfIndex pool own.sees (λ x. Here (Seen x))
-  pub runs : IsSetOfIndex pool own.runs (λ f. (args : Actuals) × Here (CallOf f args))
+pub record Records (pool : List VarSet) (sets : StatementSets) (Here : Use → Type 0) : Type 0 where
+  pub targets : IsSetOfIndex pool sets.targets (λ x. Here (Target x))
+  pub expressions : IsSetOfIndex pool sets.expressions (λ x. Here (Seen x))
+  pub calls : IsSetOfIndex pool sets.calls (λ f. (args : Actuals) × Here (CallOf f args))
 
-abbrev pub recorded_sets : Option (Option Own) → Option Own
+abbrev pub recorded_sets : Option (Option StatementSets) → Option StatementSets
 recorded_sets None = None
 recorded_sets (Some o) = o
 
 -- what is recorded under a number
-abbrev pub slot_at : List (Option Own) → ℕ → Option Own
+abbrev pub slot_at : List (Option StatementSets) → ℕ → Option StatementSets
 slot_at slots n = recorded_sets (slice_get slots n)
 
 -- these statements were recorded under their numbers, and nothing else changed
 pub record RecordsStatements (old new : Walk) (S : p.Statement → Type 0) : Type 0 where
   pub pool : Extends old.pool new.pool
-  pub all : (t : p.Statement) → S t → (own : Own) × (slot_at new.slots (number_of t) ≡ Some own)
-  pub kept : (n : ℕ) (own : Own) → slot_at old.slots n ≡ Some own → (o : Own) × (slot_at new.slots n ≡ Some o)
-  pub only : (n : ℕ) (own : Own) → slot_at new.slots n ≡ Some own
-      → (slot_at old.slots n ≡ Some own) ⊎ ((t : p.Statement) × S t × (number_of t ≡ n)
-      × Records new.pool own (In_stmt (bare_statement t)))
+  pub all : (t : p.Statement) → S t → (sets : StatementSets) × (slot_at new.slots (number_of t) ≡ Some sets)
+  pub kept : (n : ℕ) (sets : StatementSets) → slot_at old.slots n ≡ Some sets → (o : StatementSets)
+      × (slot_at new.slots n ≡ Some o)
+  pub only : (n : ℕ) (sets : StatementSets) → slot_at new.slots n ≡ Some sets
+      → (slot_at old.slots n ≡ Some sets) ⊎ ((t : p.Statement) × S t × (number_of t ≡ n)
+      × Records new.pool sets (In_stmt (bare_statement t)))
 
 -- the sets were recorded under this number, and nothing else changed
 pub record RecordsSets (old new : Walk) (n : ℕ) (uses : Uses) : Type 0 where
   pub pool : Extends old.pool new.pool
-  pub slot : (own : Own) × (slot_at new.slots n ≡ Some own) × IsSetOfIndex new.pool own.aims
-      (λ x. has uses.aims x ≡ true)
-      × IsSetOfIndex new.pool own.sees (λ x. has uses.sees x ≡ true) × IsSetOfIndex new.pool own.runs
-      (λ x. has uses.runs x ≡ true)
+  pub slot : (sets : StatementSets) × (slot_at new.slots n ≡ Some sets) × IsSetOfIndex new.pool sets.targets
+      (λ x. has uses.targets x ≡ true)
+      × IsSetOfIndex new.pool sets.expressions (λ x. has uses.expressions x ≡ true) × IsSetOfIndex new.pool sets.calls
+      (λ x. has uses.calls x ≡ true)
   pub others : (m : ℕ) → m ≢ n → slot_at new.slots m ≡ slot_at old.slots m

@@ -21,9 +21,9 @@ use std::alloc::Global;
 /// What stands in the statement part of each block, by its number.
 #[derive(Drop)]
 pub(crate) struct Bodies {
-    pub aims: List<VarSet>,
-    pub sees: List<VarSet>,
-    pub runs: List<VarSet>,
+    pub targets: List<VarSet>,
+    pub expressions: List<VarSet>,
+    pub calls: List<VarSet>,
     pub stops: List<VarSet>,
 }
 
@@ -34,9 +34,9 @@ pub(crate) fn gather(walk: &mut Walk, blocks: &[Block]) -> Result<Bodies, Memory
 {
     let alloc = walk.alloc;
     let mut bodies = Bodies {
-        aims: List::new(alloc),
-        sees: List::new(alloc),
-        runs: List::new(alloc),
+        targets: List::new(alloc),
+        expressions: List::new(alloc),
+        calls: List::new(alloc),
         stops: List::new(alloc),
     };
     for block in blocks {
@@ -67,9 +67,9 @@ impl Bodies {
     fn put(&mut self, uses: &mut Uses) -> Result<(), Memory>
         ensures { OnOk result (AppendsRows self.old self.new uses.old) }
     {
-        self.aims.push(uses.aims.take())?;
-        self.sees.push(uses.sees.take())?;
-        self.runs.push(uses.runs.take())?;
+        self.targets.push(uses.targets.take())?;
+        self.expressions.push(uses.expressions.take())?;
+        self.calls.push(uses.calls.take())?;
         self.stops.push(uses.stops.take())?;
         Ok(())
     }

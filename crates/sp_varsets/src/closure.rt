@@ -46,14 +46,14 @@ fn carry(rows: &mut List<VarSet>, to: usize, from: usize, hidden: &VarSet) -> Re
 }
 
 // Adds to the row of a block those of all blocks that it calls, and says whether it grew.
-fn visit(rows: &mut List<VarSet>, b: usize, runs: &VarSet, hidden: &VarSet) -> Result<bool, Memory>
+fn visit(rows: &mut List<VarSet>, b: usize, calls: &VarSet, hidden: &VarSet) -> Result<bool, Memory>
     requires { b < length rows.old }
-    ensures { IfOk result (λ changed. Visited rows.old rows.new b runs.now hidden.now (2 ^ 32) changed) }
+    ensures { IfOk result (λ changed. Visited rows.old rows.new b calls.now hidden.now (2 ^ 32) changed) }
 {
     let mut changed = false;
     let mut from = 0u64;
-    'calls: while from < 4_294_967_296 {
-        let f = match runs.next(from as u32) {
+    'called: while from < 4_294_967_296 {
+        let f = match calls.next(from as u32) {
             Some(f) => f,
             None => return Ok(changed),
         };
@@ -64,15 +64,15 @@ fn visit(rows: &mut List<VarSet>, b: usize, runs: &VarSet, hidden: &VarSet) -> R
 }
 
 // Visits all blocks in order of their numbers, and says whether a row grew.
-fn sweep(rows: &mut List<VarSet>, runs: &[VarSet], hidden: &[VarSet]) -> Result<bool, Memory>
-    requires runs { length runs.now ≡ length rows.old }
+fn sweep(rows: &mut List<VarSet>, calls: &[VarSet], hidden: &[VarSet]) -> Result<bool, Memory>
+    requires calls { length calls.now ≡ length rows.old }
     requires hidden { length hidden.now ≡ length rows.old }
     requires small { length rows.old ≤ 2 ^ 32 }
-    ensures { IfOk result (λ changed. Swept runs.now hidden.now rows.old rows.new (length rows.old) changed) }
+    ensures { IfOk result (λ changed. Swept calls.now hidden.now rows.old rows.new (length rows.old) changed) }
 {
     let mut changed = false;
     'rows: for b in 0..rows.len() {
-        changed |= visit(rows, b, &runs[b], &hidden[b])?;
+        changed |= visit(rows, b, &calls[b], &hidden[b])?;
     }
     Ok(changed)
 }
@@ -81,17 +81,17 @@ fn sweep(rows: &mut List<VarSet>, runs: &[VarSet], hidden: &[VarSet]) -> Result<
 fn visit_one(
     rows: &mut List<VarSet>,
     b: usize,
-    runs: &[VarSet],
+    calls: &[VarSet],
     hidden: &[VarSet],
 ) -> Result<(), Memory>
-    requires runs { length runs.now ≡ length rows.old }
+    requires calls { length calls.now ≡ length rows.old }
     requires hidden { length hidden.now ≡ length rows.old }
-    ensures { OnOk result (ExtendsByPaths runs.now hidden.now rows.old rows.new) }
+    ensures { OnOk result (ExtendsByPaths calls.now hidden.now rows.old rows.new) }
 {
     if b >= rows.len() {
         return Ok(());
     }
-    let _grew = take!(visit(rows, b, &runs[b], &hidden[b]));
+    let _grew = take!(visit(rows, b, &calls[b], &hidden[b]));
     Ok(())
 }
 
@@ -99,15 +99,15 @@ fn visit_one(
 fn hurry(
     rows: &mut List<VarSet>,
     order: &[u32],
-    runs: &[VarSet],
+    calls: &[VarSet],
     hidden: &[VarSet],
 ) -> Result<(), Memory>
-    requires runs { length runs.now ≡ length rows.old }
+    requires calls { length calls.now ≡ length rows.old }
     requires hidden { length hidden.now ≡ length rows.old }
-    ensures { OnOk result (ExtendsByPaths runs.now hidden.now rows.old rows.new) }
+    ensures { OnOk result (ExtendsByPaths calls.now hidden.now rows.old rows.new) }
 {
     'steps: for block in order {
-        take!(visit_one(rows, *block as usize, runs, hidden));
+        take!(visit_one(rows, *block as usize, calls, hidden));
     }
     Ok(())
 }
@@ -116,17 +116,17 @@ fn hurry(
 pub(crate) fn close(
     rows: &mut List<VarSet>,
     order: &[u32],
-    runs: &[VarSet],
+    calls: &[VarSet],
     hidden: &[VarSet],
 ) -> Result<(), Memory>
-    requires runs { length runs.now ≡ length rows.old }
+    requires calls { length calls.now ≡ length rows.old }
     requires hidden { length hidden.now ≡ length rows.old }
     requires small { length rows.old ≤ 2 ^ 32 }
-    ensures { OnOk result (Closes runs.now hidden.now rows.old rows.new) }
+    ensures { OnOk result (Closes calls.now hidden.now rows.old rows.new) }
 {
     'sweeps: loop {
-        hurry(rows, order, runs, hidden)?;
-        if !sweep(rows, runs, hidden)? {
+        hurry(rows, order, calls, hidden)?;
+        if !sweep(rows, calls, hidden)? {
             return Ok(());
         }
     }

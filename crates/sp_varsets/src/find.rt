@@ -33,16 +33,16 @@ fn closed(
     alloc: Global,
     own: &[VarSet],
     order: &[u32],
-    runs: &[VarSet],
+    calls: &[VarSet],
     hidden: &[VarSet],
 ) -> Result<List<VarSet>, Memory>
-    requires runs { length runs.now ≡ length own.now }
+    requires calls { length calls.now ≡ length own.now }
     requires hidden { length hidden.now ≡ length own.now }
     requires small { length own.now ≤ 2 ^ 32 }
-    ensures { IfOk result (λ rows. IsClosureOfShown runs.now hidden.now own.now rows) }
+    ensures { IfOk result (λ rows. IsClosureOfShown calls.now hidden.now own.now rows) }
 {
     let mut rows = take!(shown(alloc, own, hidden));
-    take!(close(&mut rows, order, runs, hidden));
+    take!(close(&mut rows, order, calls, hidden));
     Ok(rows)
 }
 
@@ -54,16 +54,16 @@ fn reached(alloc: Global, checked: &Checked, bodies: &Bodies) -> Result<Reach, M
     requires bodies { AreBodies (map block_of checked.now.blocks) bodies.now (length checked.now.blocks) }
     ensures { IfOk result (λ reach. Reaches (program_of checked.now) bodies.now reach) }
 {
-    let order = take!(inner_first(alloc, checked.blocks.items()));
+    let order_list = take!(inner_first(alloc, checked.blocks.items()));
     let hidden = take!(declared(checked, alloc));
     let free = take!(empty_rows(alloc, checked.blocks.len()));
-    let order_items = order.items();
+    let order = order_list.items();
     let hidden_rows = hidden.items();
     let free_rows = free.items();
-    let runs = bodies.runs.items();
-    let targets = take!(closed(alloc, bodies.aims.items(), order_items, runs, hidden_rows));
-    let seen = take!(closed(alloc, bodies.sees.items(), order_items, runs, hidden_rows));
-    let stops = take!(closed(alloc, bodies.stops.items(), order_items, runs, free_rows));
+    let calls = bodies.calls.items();
+    let targets = take!(closed(alloc, bodies.targets.items(), order, calls, hidden_rows));
+    let seen = take!(closed(alloc, bodies.expressions.items(), order, calls, hidden_rows));
+    let stops = take!(closed(alloc, bodies.stops.items(), order, calls, free_rows));
     Ok(Reach {
         targets,
         seen,

@@ -28,14 +28,14 @@ impl Uses {
         ensures { OnOk result (AddsUses self.old self.new
             (In_stmt (Call block (bare_actuals (actuals (map actual_of args.now)))))) }
     {
-        take!(self.run(block));
+        take!(self.add_call(block));
         self.actuals(args)
     }
 
     pub(crate) fn read_value(&mut self, v: &Var) -> Result<(), Memory>
         ensures { OnOk result (AddsUses self.old self.new (In_stmt (ReadValue (bare_variable (variable_of v.now))))) }
     {
-        take!(self.aim(0));
+        take!(self.add_target(0));
         take!(self.target(v));
         self.stop()
     }
@@ -43,7 +43,7 @@ impl Uses {
     pub(crate) fn read_line(&mut self) -> Result<(), Memory>
         ensures { OnOk result (AddsUses self.old self.new (In_stmt ReadLine)) }
     {
-        take!(self.aim(0));
+        take!(self.add_target(0));
         self.stop()
     }
 
@@ -51,7 +51,7 @@ impl Uses {
         ensures { OnOk result (AddsUses self.old self.new
             (In_stmt (WriteValue (bare_expression (expression_of e.now)) (bare_width (width_of w.now))))) }
     {
-        take!(self.aim(1));
+        take!(self.add_target(1));
         take!(self.expression(e));
         take!(self.width(w));
         self.stop()
@@ -61,7 +61,7 @@ impl Uses {
         ensures { OnOk result ((text : List ℕ)
             → AddsUses self.old self.new (In_stmt (WriteText text (bare_width (width_of w.now))))) }
     {
-        take!(self.aim(1));
+        take!(self.add_target(1));
         take!(self.width(w));
         self.stop()
     }
@@ -69,7 +69,7 @@ impl Uses {
     pub(crate) fn write_line(&mut self) -> Result<(), Memory>
         ensures { OnOk result (AddsUses self.old self.new (In_stmt WriteLine)) }
     {
-        take!(self.aim(1));
+        take!(self.add_target(1));
         self.stop()
     }
 

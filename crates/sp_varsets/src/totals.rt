@@ -4,32 +4,32 @@ ghost use Rattle.std.specs.Prelude.{◌≡◌, ◌↔◌, ◌⊎◌, ℕ, ◌^�
 ghost use Rattle.sp_varsets.specs.Members.{has};
 ghost use Rattle.sp_varsets.specs.Paths.{member};
 ghost use Rattle.sp_varsets.specs.Records.{pool_has, Extends, IsSetOfIndex, slot_at};
-ghost use Rattle.sp_varsets.specs.declared.walk.Own.{Own};
+ghost use Rattle.sp_varsets.specs.declared.walk.StatementSets.{StatementSets};
 ghost use Rattle.sp_varsets.specs.Totals.{IsInTotal, IsWithin, AreWithin, IsEntry, AreEntries, AreRowEntries};
 
 use crate::closure::add_row;
 use crate::sets::Entry;
 use crate::take;
 use crate::var_set::VarSet;
-use crate::walk::{Own, Walk};
+use crate::walk::{StatementSets, Walk};
 use sp_base::{List, Memory};
 use std::alloc::Global;
 
 // Adds the rows of all blocks of a set.
 fn add_rows(
     all: &mut VarSet,
-    runs: &VarSet,
+    calls: &VarSet,
     rows: &[VarSet],
     nothing: &VarSet,
 ) -> Result<(), Memory>
     requires nothing { (x : ℕ) → has nothing.now x ≡ false }
     requires small { length rows.now ≤ 2 ^ 32 }
     ensures { OnOk result ((x : ℕ) → (has all.new x ≡ true)
-        ↔ ((has all.old x ≡ true) ⊎ ((f : ℕ) × (has runs.now f ≡ true) × (member rows.now f x ≡ true)))) }
+        ↔ ((has all.old x ≡ true) ⊎ ((f : ℕ) × (has calls.now f ≡ true) × (member rows.now f x ≡ true)))) }
 {
     let mut from = 0u64;
-    'calls: while from < 4_294_967_296 {
-        let f = match runs.next(from as u32) {
+    'called: while from < 4_294_967_296 {
+        let f = match calls.next(from as u32) {
             Some(f) => f,
             None => return Ok(()),
         };
@@ -41,11 +41,11 @@ fn add_rows(
 
 impl Walk {
     // What is recorded under this number.
-    fn slot(&self, n: usize) -> Option<Own>
+    fn slot(&self, n: usize) -> Option<StatementSets>
         ensures { result ≡ slot_at self.now.slots n }
     {
         match self.slots.get(n) {
-            Some(own) => *own,
+            Some(sets) => *sets,
             None => None,
         }
     }
@@ -67,20 +67,20 @@ impl Walk {
     fn add_called(
         &self,
         all: &mut VarSet,
-        runs: u32,
+        calls: u32,
         rows: &[VarSet],
         nothing: &VarSet,
     ) -> Result<(), Memory>
         requires nothing { (x : ℕ) → has nothing.now x ≡ false }
         requires small { length rows.now ≤ 2 ^ 32 }
         ensures { OnOk result ((x : ℕ) → (has all.new x ≡ true)
-            ↔ ((has all.old x ≡ true) ⊎ ((f : ℕ) × (pool_has self.now.pool runs f ≡ true)
+            ↔ ((has all.old x ≡ true) ⊎ ((f : ℕ) × (pool_has self.now.pool calls f ≡ true)
             × (member rows.now f x ≡ true)))) }
     {
-        if runs == 0 {
+        if calls == 0 {
             return Ok(());
         }
-        match self.pool.get(runs as usize - 1) {
+        match self.pool.get(calls as usize - 1) {
             Some(called) => {
                 take!(add_rows(all, called, rows, nothing));
                 Ok(())
@@ -93,7 +93,7 @@ impl Walk {
     fn total(
         &mut self,
         own: u32,
-        runs: u32,
+        calls: u32,
         rows: &[VarSet],
         nothing: &VarSet,
     ) -> Result<u32, Memory>
@@ -103,14 +103,14 @@ impl Walk {
         ensures slots { self.new.slots ≡ self.old.slots }
         ensures pool { OnOk result (Extends self.old.pool self.new.pool) }
         ensures set { IfOk result
-            (λ i. IsSetOfIndex self.new.pool i (λ x. IsInTotal self.old.pool rows.now own runs x)) }
+            (λ i. IsSetOfIndex self.new.pool i (λ x. IsInTotal self.old.pool rows.now own calls x)) }
     {
-        if runs == 0 {
+        if calls == 0 {
             return Ok(own);
         }
         let mut all = VarSet::new(self.alloc);
         take!(self.add_pooled(&mut all, own, nothing));
-        take!(self.add_called(&mut all, runs, rows, nothing));
+        take!(self.add_called(&mut all, calls, rows, nothing));
         let i = take!(self.put(all));
         Ok(i)
     }
@@ -132,7 +132,7 @@ fn put_row(walk: &mut Walk, row: &VarSet, nothing: &VarSet) -> Result<u32, Memor
 // The entry of what is recorded under one number.
 fn entry_of(
     walk: &mut Walk,
-    own: Option<Own>,
+    sets: Option<StatementSets>,
     targets: &[VarSet],
     seen: &[VarSet],
     nothing: &VarSet,
@@ -140,23 +140,23 @@ fn entry_of(
     requires nothing { (x : ℕ) → has nothing.now x ≡ false }
     requires targets { length targets.now ≤ 2 ^ 32 }
     requires seen { length seen.now ≤ 2 ^ 32 }
-    requires within { (o : Own) → own ≡ Some o → IsWithin walk.old.pool o }
+    requires within { (o : StatementSets) → sets ≡ Some o → IsWithin walk.old.pool o }
     ensures slots { walk.new.slots ≡ walk.old.slots }
     ensures pool { OnOk result (Extends walk.old.pool walk.new.pool) }
-    ensures entry { IfOk result (λ e. (o : Own) → own ≡ Some o
+    ensures entry { IfOk result (λ e. (o : StatementSets) → sets ≡ Some o
         → IsEntry walk.old.pool walk.new.pool o targets.now seen.now e) }
 {
-    match own {
+    match sets {
         None => Ok(Entry {
             targets: 0,
             expressions: 0,
         }),
-        Some(own) => {
-            let aims = walk.total(own.aims, own.runs, targets, nothing)?;
-            let sees = walk.total(own.sees, own.runs, seen, nothing)?;
+        Some(sets) => {
+            let target_index = walk.total(sets.targets, sets.calls, targets, nothing)?;
+            let expression_index = walk.total(sets.expressions, sets.calls, seen, nothing)?;
             Ok(Entry {
-                targets: aims,
-                expressions: sees,
+                targets: target_index,
+                expressions: expression_index,
             })
         }
     }
@@ -177,8 +177,8 @@ pub(crate) fn statement_entries(
     let nothing = VarSet::new(walk.alloc);
     let mut entries = List::new(walk.alloc);
     'slots: for n in 0..walk.slots.len() {
-        let own = walk.slot(n);
-        let entry = take!(entry_of(walk, own, targets, seen, &nothing));
+        let sets = walk.slot(n);
+        let entry = take!(entry_of(walk, sets, targets, seen, &nothing));
         entries.push(entry)?;
     }
     Ok(entries)
@@ -197,11 +197,11 @@ pub(crate) fn row_entries(
     let nothing = VarSet::new(walk.alloc);
     let mut entries = List::new(walk.alloc);
     'rows: for b in 0..targets.len() {
-        let aims = take!(put_row(walk, &targets[b], &nothing));
-        let sees = take!(put_row(walk, &seen[b], &nothing));
+        let target_index = take!(put_row(walk, &targets[b], &nothing));
+        let expression_index = take!(put_row(walk, &seen[b], &nothing));
         entries.push(Entry {
-            targets: aims,
-            expressions: sees,
+            targets: target_index,
+            expressions: expression_index,
         })?;
     }
     Ok(entries)

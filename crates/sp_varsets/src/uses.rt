@@ -32,9 +32,9 @@ macro_rules! take {
 /// that are called. `stops` has 0 where a statement stands there that a function may not have.
 #[derive(Drop)]
 pub(crate) struct Uses {
-    pub aims: VarSet,
-    pub sees: VarSet,
-    pub runs: VarSet,
+    pub targets: VarSet,
+    pub expressions: VarSet,
+    pub calls: VarSet,
     pub stops: VarSet,
 }
 
@@ -43,31 +43,31 @@ impl Uses {
         ensures { AreEmpty result }
     {
         Uses {
-            aims: VarSet::new(alloc),
-            sees: VarSet::new(alloc),
-            runs: VarSet::new(alloc),
+            targets: VarSet::new(alloc),
+            expressions: VarSet::new(alloc),
+            calls: VarSet::new(alloc),
             stops: VarSet::new(alloc),
         }
     }
 
-    #[tactic(auto, using(crate::proofs::Adding::aimed))]
-    pub(crate) fn aim(&mut self, variable: u32) -> Result<(), Memory>
+    #[tactic(auto, using(crate::proofs::Adding::target_added))]
+    pub(crate) fn add_target(&mut self, variable: u32) -> Result<(), Memory>
         ensures { OnOk result (AddsUses self.old self.new (λ u. u ≡ Target variable)) }
     {
-        self.aims.insert(variable)
+        self.targets.insert(variable)
     }
 
-    #[tactic(auto, using(crate::proofs::Adding::seen))]
-    pub(crate) fn see(&mut self, variable: u32) -> Result<(), Memory>
+    #[tactic(auto, using(crate::proofs::Adding::seen_added))]
+    pub(crate) fn add_seen(&mut self, variable: u32) -> Result<(), Memory>
         ensures { OnOk result (AddsUses self.old self.new (λ u. u ≡ Seen variable)) }
     {
-        self.sees.insert(variable)
+        self.expressions.insert(variable)
     }
 
-    pub(crate) fn run(&mut self, block: u32) -> Result<(), Memory>
+    pub(crate) fn add_call(&mut self, block: u32) -> Result<(), Memory>
         ensures { OnOk result ((args : Actuals) → AddsUses self.old self.new (λ u. u ≡ CallOf block args)) }
     {
-        self.runs.insert(block)
+        self.calls.insert(block)
     }
 
     #[tactic(auto, using(crate::proofs::Adding::stopped))]
@@ -81,21 +81,21 @@ impl Uses {
     pub(crate) fn merge(&mut self, other: &Uses) -> Result<(), Memory>
         ensures { OnOk result (AreUnions self.old other.now self.new) }
     {
-        self.aims.join(&other.aims)?;
-        self.sees.join(&other.sees)?;
-        self.runs.join(&other.runs)?;
+        self.targets.join(&other.targets)?;
+        self.expressions.join(&other.expressions)?;
+        self.calls.join(&other.calls)?;
         self.stops.join(&other.stops)
     }
 
     /// Leaves out the positions of the variable.
     pub(crate) fn forget(&mut self, variable: u32)
-        ensures aims { IsWithout self.old.aims self.new.aims variable }
-        ensures sees { IsWithout self.old.sees self.new.sees variable }
-        ensures runs { self.new.runs ≡ self.old.runs }
+        ensures targets { IsWithout self.old.targets self.new.targets variable }
+        ensures expressions { IsWithout self.old.expressions self.new.expressions variable }
+        ensures calls { self.new.calls ≡ self.old.calls }
         ensures stops { self.new.stops ≡ self.old.stops }
     {
-        self.aims.remove(variable);
-        self.sees.remove(variable);
+        self.targets.remove(variable);
+        self.expressions.remove(variable);
     }
 
     #[cycle(uses)]
@@ -118,12 +118,12 @@ impl Uses {
                 self.expression(b.get())
             }
             ExprForm::Call(f, _at, args) => {
-                self.run(*f)?;
+                self.add_call(*f)?;
                 self.actuals(args.items())
             }
             ExprForm::Standard(_f, args) => match args.items().split_first() {
                 Some((a, _rest)) => self.expression(a),
-                None => self.see(0),
+                None => self.add_seen(0),
             },
         }
     }
@@ -132,7 +132,7 @@ impl Uses {
     fn read(&mut self, v: &Var) -> Result<(), Memory>
         ensures { OnOk result (AddsUses self.old self.new (In_read (bare_variable (variable_of v.now)))) }
     {
-        self.see(v.variable)?;
+        self.add_seen(v.variable)?;
         self.selectors(v.selectors.items())
     }
 
@@ -140,7 +140,7 @@ impl Uses {
     pub(crate) fn target(&mut self, v: &Var) -> Result<(), Memory>
         ensures { OnOk result (AddsUses self.old self.new (In_target (bare_variable (variable_of v.now)))) }
     {
-        self.aim(v.variable)?;
+        self.add_target(v.variable)?;
         self.selectors(v.selectors.items())
     }
 

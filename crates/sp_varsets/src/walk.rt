@@ -23,10 +23,10 @@ use std::alloc::Global;
 /// What stands in one statement: the sets of its target positions, of its expression positions and of the blocks
 /// called in it. 0 names the empty set, n + 1 the set of place n in the pool.
 #[derive(Clone, Copy)]
-pub(crate) struct Own {
-    pub aims: u32,
-    pub sees: u32,
-    pub runs: u32,
+pub(crate) struct StatementSets {
+    pub targets: u32,
+    pub expressions: u32,
+    pub calls: u32,
 }
 
 /// The sets so far, and what is recorded of each statement, by its number.
@@ -34,7 +34,7 @@ pub(crate) struct Own {
 pub(crate) struct Walk {
     pub alloc: Global,
     pub pool: List<VarSet>,
-    pub slots: List<Option<Own>>,
+    pub slots: List<Option<StatementSets>>,
 }
 
 // So many sets, as the index of the last one.
@@ -95,11 +95,18 @@ impl Walk {
     fn keep(&mut self, number: usize, uses: &mut Uses) -> Result<(), Memory>
         ensures { OnOk result (RecordsSets self.old self.new number uses.old) }
     {
-        let aims = take!(self.put(uses.aims.take()));
-        let sees = take!(self.put(uses.sees.take()));
-        let runs = take!(self.put(uses.runs.take()));
+        let targets = take!(self.put(uses.targets.take()));
+        let expressions = take!(self.put(uses.expressions.take()));
+        let calls = take!(self.put(uses.calls.take()));
         take!(self.grow(number));
-        let _old = self.slots.replace(number, Some(Own { aims, sees, runs }));
+        let _old = self.slots.replace(
+            number,
+            Some(StatementSets {
+                targets,
+                expressions,
+                calls,
+            }),
+        );
         Ok(())
     }
 
@@ -157,7 +164,7 @@ impl Walk {
                 to,
                 body,
             } => {
-                into.aim(*variable)?;
+                into.add_target(*variable)?;
                 into.expression(from)?;
                 into.expression(to)?;
                 self.statement(into, body.get())

@@ -47,14 +47,14 @@ pub returns-clause-legal : goal.returns-clause-legal
 returns-clause-legal g c = let k = c.loop-next.invariant.1 in
     let none = at_start seat_view seat_table c.args.room.table.shared.table_id _ c.args.row.items c.loop-next.row.items
     c.loop-next.keeper.me.0 (search rules) c.requires.some refl k in
-    (settled g.K.Kept.opens g.K.Kept.steps g.K.Kept.author _ _ _ _ _ c.take_only-held.result c.in-Some-held.desk
+    (settled g.K.Kept.opens g.K.Kept.steps g.K.Kept.author _ _ _ _ _ c.take_only-held.result c.in-Some-held.slot
     c.close_with.ensures.values.2 k.0 k.1 none.0 none.1 c.take_only-held.ensures c.in-Some-held.is).0
 
 pub returns-clause-own : goal.returns-clause-own
 returns-clause-own g c = let k = c.loop-next.invariant.1 in
     let none = at_start seat_view seat_table c.args.room.table.shared.table_id _ c.args.row.items c.loop-next.row.items
     c.loop-next.keeper.me.0 (search rules) c.requires.some refl k in
-    let s = (settled g.K.Kept.opens g.K.Kept.steps g.K.Kept.author _ _ _ _ _ c.take_only-held.result c.in-Some-held.desk
+    let s = (settled g.K.Kept.opens g.K.Kept.steps g.K.Kept.author _ _ _ _ _ c.take_only-held.result c.in-Some-held.slot
     c.close_with.ensures.values.2 k.0 k.1 none.0 none.1 c.take_only-held.ensures c.in-Some-held.is).1 in
     λ i t e. s i (seat_view t).own (owns_of seat_view seat_table c.args.room.table.shared.table_id _ c.args.row.items
     c.loop-next.keeper.me.0 none.2 i t e)
@@ -63,7 +63,7 @@ pub returns-clause-seen : goal.returns-clause-seen
 returns-clause-seen g c = let k = c.loop-next.invariant.1 in
     let none = at_start seat_view seat_table c.args.room.table.shared.table_id _ c.args.row.items c.loop-next.row.items
     c.loop-next.keeper.me.0 (search rules) c.requires.some refl k in
-    let s = (settled g.K.Kept.opens g.K.Kept.steps g.K.Kept.author _ _ _ _ _ c.take_only-held.result c.in-Some-held.desk
+    let s = (settled g.K.Kept.opens g.K.Kept.steps g.K.Kept.author _ _ _ _ _ c.take_only-held.result c.in-Some-held.slot
     c.close_with.ensures.values.2 k.0 k.1 none.0 none.1 c.take_only-held.ensures c.in-Some-held.is).2 in
     λ i t e. s i (seat_view t).seen (seens_of seat_view seat_table c.args.room.table.shared.table_id _ c.args.row.items
     c.loop-next.keeper.me.0 none.2 i t e)
@@ -73,5 +73,5 @@ returns-clause-others g c = let k = c.loop-next.invariant.1 in
     let none = at_start seat_view seat_table c.args.room.table.shared.table_id _ c.args.row.items c.loop-next.row.items
     c.loop-next.keeper.me.0 (search rules) c.requires.some refl k in
     λ i l. nobody_else g.K.Kept.opens g.K.Kept.steps g.K.Kept.author _ _ _ _ _ c.take_only-held.result
-    c.in-Some-held.desk c.close_with.ensures.values.2 k.0 k.1 none.0 none.1 c.take_only-held.ensures
+    c.in-Some-held.slot c.close_with.ensures.values.2 k.0 k.1 none.0 none.1 c.take_only-held.ensures
     c.in-Some-held.is i (subst (λ n. n ≤ i) (sym k.3) l)

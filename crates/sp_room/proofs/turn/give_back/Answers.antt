@@ -7,6 +7,6 @@ store-requires g c = (
   search rules,
   search rules,
   gives_back g.K.Kept.opens g.K.Kept.steps g.K.Kept.author _ _ _ c.args.seat.now.me _
-      c.args.desk c.requires.holds.0 c.exchange-empty.ensures.3 (search rules) c.requires.holds.1 c.requires.desk.0
-      c.requires.desk.1 c.requires.desk.2 c.requires.desk.3,
+      c.args.slot c.requires.holds.0 c.exchange-empty.ensures.3 (search rules) c.requires.holds.1 c.requires.slot.0
+      c.requires.slot.1 c.requires.slot.2 c.requires.slot.3,
 )

@@ -6,16 +6,16 @@ pub fetch_add-requires : goal.fetch_add-requires
 fetch_add-requires g c = (
   search rules,
   search rules,
-  counts_last g.K.Kept.opens g.K.Kept.steps g.K.Kept.author _ _ _ c.args.seat.now.me _ c.args.desk c.args.note
-      c.requires.holds.0 c.exchange-empty.ensures.3 (search rules) c.requires.holds.1 c.requires.note c.requires.desk.0
-      c.requires.desk.1 c.requires.claim (search rules),
+  counts_last g.K.Kept.opens g.K.Kept.steps g.K.Kept.author _ _ _ c.args.seat.now.me _ c.args.slot c.args.note
+      c.requires.holds.0 c.exchange-empty.ensures.3 (search rules) c.requires.holds.1 c.requires.note c.requires.slot.0
+      c.requires.slot.1 c.requires.claim (search rules),
 )
 
 pub store-requires : goal.store-requires
 store-requires g c = (
   search rules,
   search rules,
-  gives_last g.K.Kept.opens g.K.Kept.steps g.K.Kept.author _ _ _ c.args.seat.now.me _ _ c.args.desk c.args.note
+  gives_last g.K.Kept.opens g.K.Kept.steps g.K.Kept.author _ _ _ c.args.seat.now.me _ _ c.args.slot c.args.note
       c.requires.holds.0 c.exchange-empty.ensures.3 c.fetch_add.ensures.2 (search rules) c.requires.holds.1
-      c.requires.desk.0 c.requires.desk.1 c.requires.desk.2 c.requires.desk.3,
+      c.requires.slot.0 c.requires.slot.1 c.requires.slot.2 c.requires.slot.3,
 )

@@ -15,7 +15,7 @@ loop-block-preserved c =
           (block_of c.block-item.result) c.loop-block.block-index c.loop-block.invariant.0
           (block_at c.args.blocks.now c.loop-block.block-index c.block-item.result c.loop-block-test.true
           c.block-item.is)
-          put.aims put.sees put.runs put.stops (from_empty e.2.1 w.adds),
+          put.targets put.expressions put.calls put.stops (from_empty e.2.1 w.adds),
       λ v f. c.loop-block.invariant.1 v (rw (blocks_on c.args.blocks.now c.loop-block.block-index c.block-item.result
           c.loop-block-test.true c.block-item.is) (writes_then w.writes f)),
     )

@@ -3,8 +3,8 @@ use Rattle.sp_varsets.proofs.Paths.{closes, follows_then, gaps_le, gaps_lt, span
 use Rattle.sp_varsets.proofs.closure.close.Goals as goal
 
 pub returns-then-not-branch : goal.returns-then-not-branch
-returns-then-not-branch c = closes c.args.runs.now c.args.hidden.now c.args.rows.now c.hurry.new.rows c.sweep.new.rows
-    c.in_ok-sweep.field-0 c.requires.runs (follows_then c.sweeps.invariant c.in_ok-hurry.ensures) c.in_ok-sweep.ensures
+returns-then-not-branch c = closes c.args.calls.now c.args.hidden.now c.args.rows.now c.hurry.new.rows c.sweep.new.rows
+    c.in_ok-sweep.field-0 c.requires.calls (follows_then c.sweeps.invariant c.in_ok-hurry.ensures) c.in_ok-sweep.ensures
     c.if-not-branch.true
 
 pub sweeps-preserved : goal.sweeps-preserved
@@ -18,7 +18,7 @@ sweeps-smaller c =
     let m = s.some c.if-not-branch.false in
     let f = follows_then c.sweeps.invariant (follows_then h s.follows) in
     let l = f.led m.0 m.1 m.2 in
-    let low = leads_below c.args.runs.now c.args.hidden.now c.args.rows.now l.0 m.0 m.1 l.1 in
+    let low = leads_below c.args.calls.now c.args.hidden.now c.args.rows.now l.0 m.0 m.1 l.1 in
     let one = gaps_le c.sweeps.rows c.hurry.new.rows (span c.args.rows.now) h.rows h.kept in
     let two = gaps_lt c.hurry.new.rows c.sweep.new.rows (span c.args.rows.now) m.0 m.1 s.follows.rows s.follows.kept low
     m.2 m.3 in

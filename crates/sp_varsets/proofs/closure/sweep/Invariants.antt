@@ -2,4 +2,4 @@ use Rattle.sp_varsets.specs.Paths.{Swept}
 use Rattle.sp_varsets.proofs.closure.sweep.Given as goal
 
 abbrev pub invariant-rows : goal.invariant-rows
-invariant-rows l = Swept l.runs l.hidden l.fn.rows l.rows l.b l.changed
+invariant-rows l = Swept l.calls l.hidden l.fn.rows l.rows l.b l.changed

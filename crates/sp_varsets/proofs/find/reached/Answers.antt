@@ -7,16 +7,18 @@ use Rattle.sp_varsets.proofs.find.reached.Goals as goal
 
 pub returns : goal.returns
 returns c =
-    let aims = rw (c.items-runs.ensures, c.items-hidden_rows.ensures, c.items-2.ensures) at c.in-Ok-closed.ensures in
-    let sees = rw (c.items-runs.ensures, c.items-hidden_rows.ensures, c.items-3.ensures) at c.in-Ok-closed-2.ensures in
-    let stops = rw (c.items-runs.ensures, c.items-free_rows.ensures, c.items-4.ensures) at c.in-Ok-closed-3.ensures in
+    let targets = rw (c.items-calls.ensures, c.items-hidden_rows.ensures, c.items-2.ensures)
+    at c.in-Ok-closed.ensures in
+    let expressions = rw (c.items-calls.ensures, c.items-hidden_rows.ensures, c.items-3.ensures)
+    at c.in-Ok-closed-2.ensures in
+    let stops = rw (c.items-calls.ensures, c.items-free_rows.ensures, c.items-4.ensures) at c.in-Ok-closed-3.ensures in
     record {
       declared = (
         c.in-Ok-declared.value,
         subst (λ n. AreDeclared (without_places (program_of c.args.checked.now)) c.in-Ok-declared.value n)
             (sym (length_of_map variable_of c.args.checked.now.variables)) c.in-Ok-declared.ensures,
-        aims,
-        sees,
+        targets,
+        expressions,
       );
       free = (c.in-Ok-empty_rows.value, c.in-Ok-empty_rows.ensures.empty, stops);
     }
@@ -27,17 +29,17 @@ closed-requires c =
     let bs = c.args.checked.now.blocks in
     let own = ap length c.items-2.ensures in
     record {
-      runs = omega (arith, b.runs, b.aims, own, ap length c.items-runs.ensures);
+      calls = omega (arith, b.calls, b.targets, own, ap length c.items-calls.ensures);
       hidden = omega (
         arith,
-        b.aims,
+        b.targets,
         own,
         ap length c.items-hidden_rows.ensures,
         c.in-Ok-declared.ensures.count,
         length_of_map bare_block (map block_of bs),
         length_of_map block_of bs,
       );
-      small = omega (arith, b.aims, own, c.requires.blocks);
+      small = omega (arith, b.targets, own, c.requires.blocks);
     }
 
 pub closed-requires-2 : goal.closed-requires-2
@@ -46,17 +48,17 @@ closed-requires-2 c =
     let bs = c.args.checked.now.blocks in
     let own = ap length c.items-3.ensures in
     record {
-      runs = omega (arith, b.runs, b.sees, own, ap length c.items-runs.ensures);
+      calls = omega (arith, b.calls, b.expressions, own, ap length c.items-calls.ensures);
       hidden = omega (
         arith,
-        b.sees,
+        b.expressions,
         own,
         ap length c.items-hidden_rows.ensures,
         c.in-Ok-declared.ensures.count,
         length_of_map bare_block (map block_of bs),
         length_of_map block_of bs,
       );
-      small = omega (arith, b.sees, own, c.requires.blocks);
+      small = omega (arith, b.expressions, own, c.requires.blocks);
     }
 
 pub closed-requires-3 : goal.closed-requires-3
@@ -64,7 +66,7 @@ closed-requires-3 c =
     let b = c.requires.bodies in
     let own = ap length c.items-4.ensures in
     record {
-      runs = omega (arith, b.runs, b.stops, own, ap length c.items-runs.ensures);
+      calls = omega (arith, b.calls, b.stops, own, ap length c.items-calls.ensures);
       hidden = omega (
         arith,
         b.stops,

@@ -6,7 +6,7 @@ use Rattle.sp_room.proofs.seat.Room.new.Goals as goal
 pub new-requires-2 : goal.new-requires-2
 new-requires-2 g c =
     opens_filed g.K.Kept.opens g.K.Kept.steps g.K.Kept.author _
-    (record { object = c.args.object; notes = c.in-Ok-with_capacity.notes; reserved = 64 }) c.in-Ok-new.desk _
+    (record { object = c.args.object; notes = c.in-Ok-with_capacity.notes; reserved = 64 }) c.in-Ok-new.slot _
     (search rules) (search rules) (search rules) c.requires.opens (search rules) refl (search rules)
 
 pub returns-in-Ok-new-2-clause-seats : goal.returns-in-Ok-new-2-clause-seats
@@ -15,4 +15,4 @@ returns-in-Ok-new-2-clause-seats g c = λ k t e. let f =
     ((f.0, ap (λ v. v.opening) f.1), born c.in-Ok-new-2.table.shared.key.value c.args.seats k (seat_view t) f.1 f.2 f.3)
 
 pub taken_back-requires : goal.taken_back-requires
-taken_back-requires g c = (c.in-Ok-new.desk, search rules)
+taken_back-requires g c = (c.in-Ok-new.slot, search rules)

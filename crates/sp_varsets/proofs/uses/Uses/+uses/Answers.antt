@@ -26,14 +26,15 @@ form-returns-in_ok-expression-in-Binary t c =
     c.expression-in-Binary-2.new.self (In_expr (bare_expression (expression_of c.in-Binary.a)))
     (In_expr (bare_expression (expression_of c.in-Binary.b))) e1 e2)
 
-pub form-returns-in_ok-run-in-Call : goal.form-returns-in_ok-run-in-Call
-form-returns-in_ok-run-in-Call t c =
+pub form-returns-in_ok-add_call-in-Call : goal.form-returns-in_ok-add_call-in-Call
+form-returns-in_ok-add_call-in-Call t c =
     let i : expression_form_of c.args.form.now
     ≡ Apply c.in-Call.f c.in-Call._at (actuals (map actual_of c.in-Call.args)) = search (rules, ast_f.the_lemmas) in
     let args : Actuals = bare_actuals (actuals (map actual_of c.in-Call.args)) in
-    let e1 = c.in_ok-run-in-Call.ensures args in
+    let e1 = c.in_ok-add_call-in-Call.ensures args in
     let e2 = rw c.items.ensures at c.actuals.ensures in
-    rw i (ok_then c.actuals.result c.args.self.now c.run.new.self c.actuals.new.self (λ u. u ≡ CallOf c.in-Call.f args)
+    rw i (ok_then c.actuals.result c.args.self.now c.add_call.new.self c.actuals.new.self
+        (λ u. u ≡ CallOf c.in-Call.f args)
     (In_actuals args) e1 e2)
 
 pub form-returns-in-None : goal.form-returns-in-None
@@ -43,7 +44,7 @@ form-returns-in-None t c =
     search (rules, ast_f.the_lemmas) in
     let l : length c.in-Standard.args ≡ 0 = first_of (search rules, grind (arith, rules)) in
     let xs : c.in-Standard.args ≡ [] = nil_from_length c.in-Standard.args l in
-    rw (i, xs) c.see.ensures
+    rw (i, xs) c.add_seen.ensures
 
 pub read-returns : goal.read-returns
 read-returns t c =
@@ -51,8 +52,8 @@ read-returns t c =
     let i : variable_of c.args.v.now ≡ Entire v.variable v.at (selectors (map selector_of v.selectors)) =
     search (rules, fold_out-Var) in
     let e = rw c.items.ensures at c.selectors.ensures in
-    rw i (ok_then c.selectors.result c.args.self.now c.see.new.self c.selectors.new.self (λ u. u ≡ Seen v.variable)
-    (In_selectors (bare_selectors (selectors (map selector_of v.selectors)))) c.in_ok-see.ensures e)
+    rw i (ok_then c.selectors.result c.args.self.now c.add_seen.new.self c.selectors.new.self (λ u. u ≡ Seen v.variable)
+    (In_selectors (bare_selectors (selectors (map selector_of v.selectors)))) c.in_ok-add_seen.ensures e)
 
 pub target-returns : goal.target-returns
 target-returns t c =
@@ -60,8 +61,9 @@ target-returns t c =
     let i : variable_of c.args.v.now ≡ Entire v.variable v.at (selectors (map selector_of v.selectors)) =
     search (rules, fold_out-Var) in
     let e = rw c.items.ensures at c.selectors.ensures in
-    rw i (ok_then c.selectors.result c.args.self.now c.aim.new.self c.selectors.new.self (λ u. u ≡ Target v.variable)
-    (In_selectors (bare_selectors (selectors (map selector_of v.selectors)))) c.in_ok-aim.ensures e)
+    rw i (ok_then c.selectors.result c.args.self.now c.add_target.new.self c.selectors.new.self
+        (λ u. u ≡ Target v.variable)
+    (In_selectors (bare_selectors (selectors (map selector_of v.selectors)))) c.in_ok-add_target.ensures e)
 
 pub actuals-loop-a-preserved : goal.actuals-loop-a-preserved
 actuals-loop-a-preserved t c z f =

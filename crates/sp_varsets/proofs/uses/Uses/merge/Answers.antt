@@ -4,8 +4,9 @@ use Rattle.sp_varsets.proofs.uses.Uses.merge.Goals as goal
 
 pub returns : goal.returns
 returns c = on_ok c.join-4.result c.join-4.ensures (λ e. record {
-  aims = union_is c.args.self.now.aims c.args.other.now.aims c.join.new.self c.in_ok-join.ensures;
-  sees = union_is c.args.self.now.sees c.args.other.now.sees c.join-2.new.self c.in_ok-join-2.ensures;
-  runs = union_is c.args.self.now.runs c.args.other.now.runs c.join-3.new.self c.in_ok-join-3.ensures;
+  targets = union_is c.args.self.now.targets c.args.other.now.targets c.join.new.self c.in_ok-join.ensures;
+  expressions = union_is c.args.self.now.expressions c.args.other.now.expressions c.join-2.new.self
+      c.in_ok-join-2.ensures;
+  calls = union_is c.args.self.now.calls c.args.other.now.calls c.join-3.new.self c.in_ok-join-3.ensures;
   stops = union_is c.args.self.now.stops c.args.other.now.stops c.join-4.new.self e;
 })

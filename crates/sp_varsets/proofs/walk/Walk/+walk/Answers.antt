@@ -73,7 +73,7 @@ form-returns-in_ok-expression-in-For-2 t c =
     ≡ For c.in-For.variable c.in-For._at (expression_of c.in-For.from) c.in-For._down (expression_of c.in-For.to)
     (statement_of c.in-For.body) = search (rules, folds.the_lemmas) in
     rw i (on_ok c.statement-in-For.result (rw c.get-in-For.ensures at c.statement-in-For.ensures)
-    (λ s. walked_first c.in_ok-aim-in-For.ensures
+    (λ s. walked_first c.in_ok-add_target-in-For.ensures
     (walked_first c.in_ok-expression-in-For.ensures (walked_first c.in_ok-expression-in-For-2.ensures s))))
 
 pub form-returns-in_ok-expression-in-Case : goal.form-returns-in_ok-expression-in-Case
@@ -201,8 +201,8 @@ element-returns t c = c.inside.ensures c.new-inner.ensures
 
 pub inside-returns : goal.inside-returns
 inside-returns t c empty = on_ok c.merge.result c.merge.ensures
-    (λ u. element_walked c.args.index (statement_of c.args.s.now) empty c.in-Ok.ensures c.forget.ensures.aims
-    c.forget.ensures.sees c.forget.ensures.runs c.forget.ensures.stops u)
+    (λ u. element_walked c.args.index (statement_of c.args.s.now) empty c.in-Ok.ensures c.forget.ensures.targets
+    c.forget.ensures.expressions c.forget.ensures.calls c.forget.ensures.stops u)
 
 pub statement-returns : goal.statement-returns
 statement-returns t c = c.record.ensures c.new-mine.ensures

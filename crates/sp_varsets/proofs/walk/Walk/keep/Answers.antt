@@ -6,11 +6,12 @@ use Rattle.sp_varsets.proofs.walk.Walk.keep.Goals as goal
 
 pub returns : goal.returns
 returns c =
-    let aims = subst (λ s. IsSetOfIndex c.put.new.self.pool c.in-Ok.value (λ x. has s x ≡ true)) c.take.ensures
+    let targets = subst (λ s. IsSetOfIndex c.put.new.self.pool c.in-Ok.value (λ x. has s x ≡ true)) c.take.ensures
     c.in-Ok.ensures.set in
-    let sees = subst (λ s. IsSetOfIndex c.put-2.new.self.pool c.in-Ok-put.value (λ x. has s x ≡ true)) c.take-2.ensures
+    let expressions = subst (λ s. IsSetOfIndex c.put-2.new.self.pool c.in-Ok-put.value (λ x. has s x ≡ true))
+    c.take-2.ensures
     c.in-Ok-put.ensures.set in
-    let runs = subst (λ s. IsSetOfIndex c.put-3.new.self.pool c.in-Ok-put-2.value (λ x. has s x ≡ true))
+    let calls = subst (λ s. IsSetOfIndex c.put-3.new.self.pool c.in-Ok-put-2.value (λ x. has s x ≡ true))
     c.take-3.ensures
     c.in-Ok-put-2.ensures.set in
     keeps_is c.args.self.now (record {
@@ -20,7 +21,7 @@ returns c =
     })
     c.put.new.self.pool c.put-2.new.self.pool c.put-3.new.self.pool c.grow.new.self.slots c.args.number
     c.in-Ok.value c.in-Ok-put.value c.in-Ok-put-2.value c.args.uses.now
-    c.in-Ok.ensures.pool aims c.in-Ok-put.ensures.pool sees c.in-Ok-put-2.ensures.pool runs
+    c.in-Ok.ensures.pool targets c.in-Ok-put.ensures.pool expressions c.in-Ok-put-2.ensures.pool calls
     c.in-Ok-grow.ensures.pool
     (λ m. c.in-Ok-grow.ensures.same m ∙ (ap (λ z. slot_at z m) c.in-Ok-put-2.ensures.slots
     ∙ (ap (λ z. slot_at z m) c.in-Ok-put.ensures.slots ∙ ap (λ z. slot_at z m) c.in-Ok.ensures.slots)))
