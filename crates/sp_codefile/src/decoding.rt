@@ -10,10 +10,10 @@ ghost use Rattle.sp_codefile.specs.Items.{IsNextItem};
 
 use crate::item::Item;
 use crate::reading::read_line;
-use crate::words::split_line;
 use crate::writing::{put_child, put_instr, put_layout, put_text};
 use sp_base::{List, Memory};
 use sp_code::{ChildTable, Code, ForkTable, MAX_CODE, MAX_FRAME, Parts};
+use sp_journal::split_first;
 use std::alloc::Global;
 use thiserror::Error;
 
@@ -143,7 +143,7 @@ fn add(parts: &mut Parts, item: Item) -> Result<(), Memory>
 pub fn decode(alloc: Global, bytes: &[u8]) -> Result<Code, DecodeError>
     ensures { Decodes bytes.now result }
 {
-    let Some((first, mut rest)) = split_line(bytes) else {
+    let Some((first, mut rest)) = split_first(bytes, b'\n') else {
         return Err(DecodeError::BadLine(1));
     };
     if first != "superpascal code 1".as_bytes() {
@@ -157,7 +157,7 @@ pub fn decode(alloc: Global, bytes: &[u8]) -> Result<Code, DecodeError>
     };
     let mut line = 2u64;
     while !rest.is_empty() {
-        let Some((text, behind)) = split_line(rest) else {
+        let Some((text, behind)) = split_first(rest, b'\n') else {
             return Err(DecodeError::BadLine(line)); // it has no line feed
         };
         let Some(item) = next(alloc, &parts, text)? else {

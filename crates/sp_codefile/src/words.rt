@@ -5,22 +5,10 @@ ghost use Rattle.std.specs.Prelude.{◌≡◌, ◌<◌, ℕ, ℤ, IfOk, decimal,
 ghost use Rattle.std.specs.Option.{option_map};
 ghost use Rattle.std.specs.List.{flat_map};
 ghost use Rattle.std.specs.Fmt.{signed_decimal};
-ghost use Rattle.std.specs.Str.{IsAscii};
-ghost use Rattle.sp_journal.specs.Splits.{first_split, parts_in};
 ghost use Rattle.sp_codefile.specs.Cuts.{begins, blank_cut, class_cut, word_of};
 ghost use Rattle.sp_codefile.specs.CodeText.{IsNumber, IsInteger};
 
-/// What stands before and after the first line feed.
-pub(crate) fn split_line(text: &[u8]) -> Option<(&[u8], &[u8])>
-    ensures { parts_in result ≡ first_split 10 text.now }
-{
-    for (at, byte) in text.iter().enumerate() {
-        if *byte == b'\n' {
-            return Some((&text[..at], &text[at + 1..]));
-        }
-    }
-    None
-}
+use sp_journal::text_of;
 
 /// Whether the first byte is from `low` to `high`.
 fn begins(text: &[u8], low: u8, high: u8) -> bool
@@ -78,16 +66,6 @@ pub(crate) fn after(text: &[u8], count: usize) -> &[u8]
         &text[count..]
     } else {
         &text[text.len()..]
-    }
-}
-
-/// ASCII bytes as a text. Other bytes may give the empty text.
-fn text_of(bytes: &[u8]) -> &str
-    ensures { IsAscii bytes.now → result.now ≡ bytes.now }
-{
-    match str::from_utf8(bytes) {
-        Ok(text) => text,
-        Err(_) => "",
     }
 }
 

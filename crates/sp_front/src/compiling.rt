@@ -8,6 +8,7 @@ ghost use Rattle.sp_meaning.specs.Runs.{IsDisjointRun};
 ghost use Rattle.sp_front.specs.Checks.{IsProgramOf};
 ghost use Rattle.sp_front.specs.Compiles.{Analyses, Compiles, AcceptedByPhases};
 
+use crate::apart::apart;
 use crate::law::{numbered_trees, one_answer};
 use crate::phases::typed;
 use sp_base::Halt;
@@ -18,7 +19,7 @@ use sp_tree::Checked;
 use sp_varsets::{Sets, sets_of};
 use std::alloc::Global;
 use std::snapshot::Snapshot;
-use std::thread::{Builder, Promise, Threads};
+use std::thread::{Promise, Threads};
 
 /// A text that breaks no rule: its tree, and the variables that its statements and blocks use.
 #[derive(Drop)]
@@ -88,9 +89,6 @@ pub fn compile(alloc: Global, text: &[u8]) -> Result<Accepted, Halt>
     }
 }
 
-/// The stack of the phases, in bytes: addresses alone, since a page is used once it is touched.
-pub(crate) const STACK: usize = 0x4000_0000;
-
 /// What the thread of the phases up to types promises of its answer about this text.
 #[derive(Drop)]
 struct AnalysedOf(Snapshot<Vec<u8>>);
@@ -107,11 +105,5 @@ pub fn analyse_apart(rt: &impl Threads, alloc: Global, text: &[u8]) -> Result<(C
     let mut copy = Vec::new(alloc);
     copy.extend_from_slice(text)?;
     let promise = AnalysedOf(Snapshot::of(&copy));
-    let started = Builder::new()
-        .stack_size(STACK)
-        .spawn_with(rt, promise, move || analyse(alloc, copy.as_slice()));
-    match started {
-        Ok(thread) => thread.join(rt),
-        Err(_) => Err(Halt::Memory),
-    }
+    apart(rt, promise, move || analyse(alloc, copy.as_slice()))
 }

@@ -37,7 +37,8 @@
 //!   what each of them answers; `Codes.antt` says what the listing of a text is, too.
 //! - Each call may answer want of memory too.
 //! - `typed`, `analyse`, `compile` and `compiled` recurse as deep as the longest chain of operators is long. For
-//!   `analyse` and `compiled` there is a call that brings the stack for it; who calls the others has to.
+//!   `analyse` and `compiled` there is a call that brings the stack for it, by `src/apart.rt`; who calls the others
+//!   has to.
 //! - `IsProgramOf` of `specs/Checks.antt` is the program of a text.
 //!
 //! To change:
@@ -45,6 +46,7 @@
 //!   one after the code: `src/to_code.rt` with `CompiledText`, and `IsCompiled` of `specs/Codes.antt`.
 #![tactic(auto)]
 
+mod apart;
 mod compiling;
 mod law;
 mod phases;

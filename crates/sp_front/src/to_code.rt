@@ -3,7 +3,8 @@
 ghost use Rattle.std.specs.Prelude.{◌≡◌};
 ghost use Rattle.sp_front.specs.Codes.{Codes, halt_of};
 
-use crate::compiling::{Accepted, STACK, compile};
+use crate::apart::apart;
+use crate::compiling::{Accepted, compile};
 use sp_base::{Halt, Place, Refusal, Rule};
 use sp_code::Code;
 use sp_generate::{GenError, generate};
@@ -11,7 +12,7 @@ use sp_tree::Checked;
 use sp_varsets::Sets;
 use std::alloc::Global;
 use std::snapshot::Snapshot;
-use std::thread::{Builder, Promise, Threads};
+use std::thread::{Promise, Threads};
 
 /// A text that breaks no rule: its tree, the variables that its statements and blocks use, and its code.
 #[derive(Drop)]
@@ -96,11 +97,5 @@ pub fn compiled_apart(rt: &impl Threads, alloc: Global, text: &[u8]) -> Result<C
     let mut copy = Vec::new(alloc);
     copy.extend_from_slice(text)?;
     let promise = CompiledOf(Snapshot::of(&copy));
-    let started = Builder::new()
-        .stack_size(STACK)
-        .spawn_with(rt, promise, move || compiled(alloc, copy.as_slice()));
-    match started {
-        Ok(thread) => thread.join(rt),
-        Err(_) => Err(Halt::Memory),
-    }
+    apart(rt, promise, move || compiled(alloc, copy.as_slice()))
 }

@@ -1,6 +1,5 @@
 -- None of this belongs to what the program promises: it is for contracts between crates.
--- Cutting a text at a byte, for the parts of the reader. No public contract cites these; they are recursive, so that
--- proofs go by the bytes of a line.
+-- Cutting a text at a byte, for the parts of readers. They are recursive, so that proofs go by the bytes of a line.
 use Rattle.std.specs.Prelude.{ℕ, cond, ◌==◌, List, [], ◌∷◌, Option, Some, None, find}
 use Rattle.std.specs.Borrow.{Bor}
 use Rattle.std.specs.Option.{option_map}

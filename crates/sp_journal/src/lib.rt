@@ -14,6 +14,8 @@
 //!   to a number that is there. `into_journal`: the journal alone.
 //! - `Ledger::put_entry`: puts exactly the text of an entry that can come next last, or leaves the bytes as before.
 //!   `Way::word`: the way's text.
+//! - `split_first`: what stands before and after the first of a byte. `text_of`: ASCII bytes as a text. Both are for
+//!   readers of texts, that of code files too.
 //! - Types: `Entry`, `Event`, `Way`, `Birth`, `Opening`; `Note` (what one call of the kernel did); `End`, `Waiter`
 //!   (how a run ends) and `Verdict`.
 //!
@@ -53,3 +55,4 @@ pub use ledger::Ledger;
 pub use outcome::{End, Verdict, Waiter};
 pub use print::print_journal;
 pub use read::{ReadError, read_journal};
+pub use split::{split_first, text_of};

@@ -7,7 +7,7 @@ ghost use Rattle.sp_journal.specs.Splits.{fault_of_name, first_split, last_split
 use sp_base::Fault;
 
 /// What stands before and after the first of these bytes.
-pub(crate) fn split_first(text: &[u8], mark: u8) -> Option<(&[u8], &[u8])>
+pub fn split_first(text: &[u8], mark: u8) -> Option<(&[u8], &[u8])>
     ensures { parts_in result ≡ first_split mark text.now }
 {
     for (at, byte) in text.iter().enumerate() {
@@ -31,7 +31,7 @@ pub(crate) fn split_last(text: &[u8], mark: u8) -> Option<(&[u8], &[u8])>
 }
 
 /// ASCII bytes as a text. Other bytes may give the empty text.
-pub(crate) fn text_of(bytes: &[u8]) -> &str
+pub fn text_of(bytes: &[u8]) -> &str
     ensures { IsAscii bytes.now → result.now ≡ bytes.now }
 {
     match str::from_utf8(bytes) {

@@ -36,44 +36,44 @@ loop-rest-init c =
       omega arith,
     )
 
-pub returns-in_default-split_line : goal.returns-in_default-split_line
-returns-in_default-split_line c =
+pub returns-in_default-split_first : goal.returns-in_default-split_first
+returns-in_default-split_first c =
     let rest = c.loop-rest.rest.now in
     let i = c.loop-rest.invariant in
     bad_line c.args.bytes.now i.0 c.loop-rest.line c.loop-rest.parts rest i.1 i.2
     (not_empty rest c.is_empty.result c.is_empty.ensures c.loop-rest-test.true)
-    (λ x more h f. none_parts (item_text c.loop-rest.parts x) more (c.in_default-split_line.ensures ∙ f))
+    (λ x more h f. none_parts (item_text c.loop-rest.parts x) more (c.in_default-split_first.ensures ∙ f))
 
 pub returns-in_default-2 : goal.returns-in_default-2
 returns-in_default-2 c =
     let rest = c.loop-rest.rest.now in
     let i = c.loop-rest.invariant in
-    let none : IsNextItem c.loop-rest.parts c.in-Some-split_line.text.now None = subst
-    (IsNextItem c.loop-rest.parts c.in-Some-split_line.text.now) c.in_default-2.is c.in_ok-item.ensures in
+    let none : IsNextItem c.loop-rest.parts c.in-Some-split_first.text.now None = subst
+    (IsNextItem c.loop-rest.parts c.in-Some-split_first.text.now) c.in_default-2.is c.in_ok-item.ensures in
     bad_line c.args.bytes.now i.0 c.loop-rest.line c.loop-rest.parts rest i.1 i.2
     (not_empty rest c.is_empty.result c.is_empty.ensures c.loop-rest-test.true)
-    (λ x more h f. none x h (parts_first _ _ _ _ (c.in-Some-split_line.ensures ∙ f)))
+    (λ x more h f. none x h (parts_first _ _ _ _ (c.in-Some-split_first.ensures ∙ f)))
 
 pub loop-rest-smaller : goal.loop-rest-smaller
-loop-rest-smaller c = let short = shorter c.loop-rest.rest.now c.in-Some-split_line.text.now
-    c.in-Some-split_line.behind.now c.in-Some-split_line.ensures in omega arith
+loop-rest-smaller c = let short = shorter c.loop-rest.rest.now c.in-Some-split_first.text.now
+    c.in-Some-split_first.behind.now c.in-Some-split_first.ensures in omega arith
 
 pub loop-rest-preserved : goal.loop-rest-preserved
 loop-rest-preserved c =
     let bytes = c.args.bytes.now in
     let p = c.loop-rest.parts in
     let rest = c.loop-rest.rest.now in
-    let text = c.in-Some-split_line.text.now in
-    let behind = c.in-Some-split_line.behind.now in
+    let text = c.in-Some-split_first.text.now in
+    let behind = c.in-Some-split_first.behind.now in
     let i = c.loop-rest.invariant in
     let next : IsNextItem p text (Some c.in-Some-2.item) =
     subst (IsNextItem p text) c.in-Some-2.is c.in_ok-item.ensures in
-    let short = shorter rest text behind c.in-Some-split_line.ensures in
+    let short = shorter rest text behind c.in-Some-split_first.ensures in
     let line = i.1 in
     let fits = i.3 in (
       suc i.0,
       omega arith,
-      begun_next bytes i.0 p rest text behind c.in-Some-2.item c.add.new.parts i.2 c.in-Some-split_line.ensures next
+      begun_next bytes i.0 p rest text behind c.in-Some-2.item c.add.new.parts i.2 c.in-Some-split_first.ensures next
           c.in_ok-add.ensures,
       omega arith,
     )
