@@ -81,8 +81,9 @@ fn is_behind(spots: &[Spot], spot: Spot) -> bool
     }
 }
 
-// Where the spot stands, if it is of the newest frame or of frame 0, and all variables of its frame stand there up to
-// it; else maybe nothing. Almost all loads and stores are of these.
+// Where the spot stands, if it is of the newest frame, and all variables of its frame stand there up to it, or of the
+// first one, and all between the first spot and it stand there; else maybe nothing. Almost all loads and stores are of
+// these.
 #[inline(always)]
 fn likely_place(spots: &[Spot], start: usize, spot: Spot) -> Option<usize>
     ensures { IfSome result (λ i. (i < length spots.now) × ((d : Spot) → slice_index_or spots.now i d ≡ spot)) }
@@ -91,11 +92,20 @@ fn likely_place(spots: &[Spot], start: usize, spot: Spot) -> Option<usize>
     if stands_at(spots, place, spot) {
         return Some(place);
     }
-    let place = spot.variable as usize;
+    let place = behind_first(spots, spot);
     if stands_at(spots, place, spot) {
         return Some(place);
     }
     None
+}
+
+// How far the spot is behind the first one, if all variables between stand there.
+#[inline(always)]
+fn behind_first(spots: &[Spot], spot: Spot) -> usize {
+    if spots.len() == 0 {
+        return 0;
+    }
+    (spot.variable as usize).wrapping_sub(spots[0].variable as usize)
 }
 
 #[inline(always)]
@@ -121,14 +131,29 @@ fn place(spots: &[Spot], entries: &[Entry], start: usize, spot: Spot) -> usize
 {
     match likely_place(spots, start, spot) {
         Some(i) => i,
-        None => far_place(spots, entries, spot),
+        None => far_place(spots, entries, start, spot),
     }
 }
 
-// The same of any spot.
+// The same of any spot. Of the others most are of the frame before the newest, which in a recursion is as long.
+#[inline(never)]
+fn far_place(spots: &[Spot], entries: &[Entry], start: usize, spot: Spot) -> usize
+    requires sorted { IsStrictlySortedBy spot_cmp spots.now }
+    requires lengths { length spots.now ≡ length entries.now }
+    requires known { IsSome (map.get (layout spots.now entries.now) spot) }
+    ensures { IsPlace spots.now entries.now spot result }
+{
+    let before = start.wrapping_sub(spots.len().wrapping_sub(start));
+    match likely_place(spots, before, spot) {
+        Some(i) => i,
+        None => any_place(spots, entries, spot),
+    }
+}
+
+// The same of any spot, by search.
 #[cold]
 #[inline(never)]
-fn far_place(spots: &[Spot], entries: &[Entry], spot: Spot) -> usize
+fn any_place(spots: &[Spot], entries: &[Entry], spot: Spot) -> usize
     requires sorted { IsStrictlySortedBy spot_cmp spots.now }
     requires lengths { length spots.now ≡ length entries.now }
     requires known { IsSome (map.get (layout spots.now entries.now) spot) }
