@@ -228,8 +228,8 @@ impl Slots {
                 Ok(())
             }
             Err(i) => {
-                self.spots.reserve(1)?;
-                self.entries.reserve(1)?;
+                make_room(&mut self.spots)?;
+                make_room(&mut self.entries)?;
                 put_in(&mut self.entries, i, entry);
                 put_in(&mut self.spots, i, spot);
                 self.start = newest_start(&self.spots);
@@ -310,6 +310,20 @@ fn start_of(spots: &[Spot], frame: u64, end: usize) -> usize
     n
 }
 
+// Takes room for one item more, unless it is there.
+#[inline(always)]
+fn make_room<T>(items: &mut Vec<T>) -> Result<(), Memory>
+    ensures items { items.new.items ≡ items.old.items }
+    ensures room { OnOk result (vec_len items.new < vec_capacity items.new) }
+    ensures same { vec_len items.new ≡ vec_len items.old }
+{
+    if items.len() < items.capacity() {
+        return Ok(());
+    }
+    items.reserve(1)?;
+    Ok(())
+}
+
 // Puts the item at the place. There is room for it.
 #[tactic(auto, using(crate::proofs::Ends::insert_last))]
 fn put_in<T: Drop>(items: &mut Vec<T>, place: usize, item: T)
@@ -318,10 +332,7 @@ fn put_in<T: Drop>(items: &mut Vec<T>, place: usize, item: T)
     ensures { items.new.items ≡ insert items.old.items place item }
 {
     if place == items.len() {
-        match items.push(item) {
-            Ok(()) => {}
-            Err(_) => unreachable!(),
-        }
+        items.push_reserved(item);
     } else {
         match items.insert(place, item) {
             Ok(()) => {}
