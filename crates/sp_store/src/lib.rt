@@ -28,8 +28,9 @@
 //! - `src/store.rt` has the calls, `src/slots.rt` the map in memory, `src/entry.rt` the work on one entry,
 //!   `src/frame.rt` that on a frame; `src/fork.rt` makes ready what a fork needs, `src/hand.rt` moves entries.
 //!   `src/send.rt` shows that a store goes to another thread.
-//! - A spot of the newest frame or of frame 0 stands mostly where it is guessed; another one is found in time of the
-//!   logarithm of the spots. A frame is pushed and popped at the end, in time of the frame.
+//! - A spot of the newest frame, of the oldest spots or, in a recursion, of the frame before the newest stands mostly
+//!   where it is guessed; another one is found in time of the logarithm of the spots. A frame is pushed and popped at
+//!   the end, in time of the frame.
 //! - An own piece of one cell stands in its entry, so it takes no memory of its own, and a load or store of it no step
 //!   more. Once it was shared it is a piece like others.
 //! - A piece that is shared already is only counted once more by a fork. After a join the parent's piece stays shared;

@@ -81,8 +81,9 @@ fn is_behind(spots: &[Spot], spot: Spot) -> bool
     }
 }
 
-// Where the spot stands, if it is of the newest frame or of frame 0, and all variables of its frame stand there up to
-// it; else maybe nothing. Almost all loads and stores are of these.
+// Where the spot stands, if it is of the newest frame, and all variables of its frame stand there up to it, or of the
+// first one, and all between the first spot and it stand there; else maybe nothing. Almost all loads and stores are of
+// these.
 #[inline(always)]
 fn likely_place(spots: &[Spot], start: usize, spot: Spot) -> Option<usize>
     ensures { IfSome result (λ i. (i < length spots.now) × ((d : Spot) → slice_index_or spots.now i d ≡ spot)) }
@@ -91,11 +92,20 @@ fn likely_place(spots: &[Spot], start: usize, spot: Spot) -> Option<usize>
     if stands_at(spots, place, spot) {
         return Some(place);
     }
-    let place = spot.variable as usize;
+    let place = behind_first(spots, spot);
     if stands_at(spots, place, spot) {
         return Some(place);
     }
     None
+}
+
+// How far the spot is behind the first one, if all variables between stand there.
+#[inline(always)]
+fn behind_first(spots: &[Spot], spot: Spot) -> usize {
+    if spots.len() == 0 {
+        return 0;
+    }
+    (spot.variable as usize).wrapping_sub(spots[0].variable as usize)
 }
 
 #[inline(always)]
@@ -121,14 +131,29 @@ fn place(spots: &[Spot], entries: &[Entry], start: usize, spot: Spot) -> usize
 {
     match likely_place(spots, start, spot) {
         Some(i) => i,
-        None => far_place(spots, entries, spot),
+        None => far_place(spots, entries, start, spot),
     }
 }
 
-// The same of any spot.
+// The same of any spot. Of the others most are of the frame before the newest, which in a recursion is as long.
+#[inline(never)]
+fn far_place(spots: &[Spot], entries: &[Entry], start: usize, spot: Spot) -> usize
+    requires sorted { IsStrictlySortedBy spot_cmp spots.now }
+    requires lengths { length spots.now ≡ length entries.now }
+    requires known { IsSome (map.get (layout spots.now entries.now) spot) }
+    ensures { IsPlace spots.now entries.now spot result }
+{
+    let before = start.wrapping_sub(spots.len().wrapping_sub(start));
+    match likely_place(spots, before, spot) {
+        Some(i) => i,
+        None => any_place(spots, entries, spot),
+    }
+}
+
+// The same of any spot, by search.
 #[cold]
 #[inline(never)]
-fn far_place(spots: &[Spot], entries: &[Entry], spot: Spot) -> usize
+fn any_place(spots: &[Spot], entries: &[Entry], spot: Spot) -> usize
     requires sorted { IsStrictlySortedBy spot_cmp spots.now }
     requires lengths { length spots.now ≡ length entries.now }
     requires known { IsSome (map.get (layout spots.now entries.now) spot) }
@@ -203,8 +228,8 @@ impl Slots {
                 Ok(())
             }
             Err(i) => {
-                self.spots.reserve(1)?;
-                self.entries.reserve(1)?;
+                make_room(&mut self.spots)?;
+                make_room(&mut self.entries)?;
                 put_in(&mut self.entries, i, entry);
                 put_in(&mut self.spots, i, spot);
                 self.start = newest_start(&self.spots);
@@ -285,6 +310,20 @@ fn start_of(spots: &[Spot], frame: u64, end: usize) -> usize
     n
 }
 
+// Takes room for one item more, unless it is there.
+#[inline(always)]
+fn make_room<T>(items: &mut Vec<T>) -> Result<(), Memory>
+    ensures items { items.new.items ≡ items.old.items }
+    ensures room { OnOk result (vec_len items.new < vec_capacity items.new) }
+    ensures same { vec_len items.new ≡ vec_len items.old }
+{
+    if items.len() < items.capacity() {
+        return Ok(());
+    }
+    items.reserve(1)?;
+    Ok(())
+}
+
 // Puts the item at the place. There is room for it.
 #[tactic(auto, using(crate::proofs::Ends::insert_last))]
 fn put_in<T: Drop>(items: &mut Vec<T>, place: usize, item: T)
@@ -293,10 +332,7 @@ fn put_in<T: Drop>(items: &mut Vec<T>, place: usize, item: T)
     ensures { items.new.items ≡ insert items.old.items place item }
 {
     if place == items.len() {
-        match items.push(item) {
-            Ok(()) => {}
-            Err(_) => unreachable!(),
-        }
+        items.push_reserved(item);
     } else {
         match items.insert(place, item) {
             Ok(()) => {}
