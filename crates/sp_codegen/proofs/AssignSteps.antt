@@ -33,7 +33,7 @@ use Rattle.sp_codegen.proofs.ValueForms.{within, may_see, at_one, kind_known, fe
 
 module _ {M : Type 0} (ex : Execution M) where
   open ex use {
-    setting as g,
+    run_input as g,
     code,
     moves,
     shares,

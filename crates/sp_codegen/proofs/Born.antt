@@ -166,7 +166,7 @@ module _ (g : RunInput) (W R : Loc → Type 0) (J : ℕ → Type 0) (sc : List S
 
 module _ {M : Type 0} (ex : Execution M) where
   open ex use {
-    setting as g,
+    run_input as g,
     code,
     moves,
     shares,

@@ -63,7 +63,7 @@ no_index_scope p (suc n) (Some b) x up e = go
 
 module _ {M : Type 0} (ex : Execution M) where
   open ex use {
-    setting as g,
+    run_input as g,
     code,
     moves,
     shares,

@@ -67,7 +67,7 @@ module _ (g : RunInput) (code : Code) (formed : IsFormed g.program) (types : Has
 
   abbrev execution : Execution (Memory Plain)
   execution = record {
-    setting = g;
+    run_input = g;
     code = code;
     moves = moves;
     shares = shares;

@@ -32,7 +32,7 @@ use Rattle.sp_codegen.proofs.ValueForms.{P, within}
 
 module _ {M : Type 0} (ex : Execution M) where
   open ex use {
-    setting as g,
+    run_input as g,
     code,
     moves,
     shares,

@@ -52,7 +52,7 @@ use Rattle.sp_codegen.proofs.TurnSteps.{IsTrue, kind_of_sort, F, Ka, LoopMayGoOn
 
 module _ {M : Type 0} (ex : Execution M) where
   open ex use {
-    setting as g,
+    run_input as g,
     code,
     moves,
     shares,

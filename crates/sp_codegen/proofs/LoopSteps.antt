@@ -33,7 +33,7 @@ use Rattle.sp_codegen.proofs.ValueForms.{within, at_one, or_known, visible_known
 
 module _ {M : Type 0} (ex : Execution M) where
   open ex use {
-    setting as g,
+    run_input as g,
     code,
     moves,
     shares,

@@ -34,7 +34,7 @@ use Rattle.sp_codegen.proofs.ValueForms.{rest_of}
 
 module _ {M : Type 0} (ex : Execution M) where
   open ex use {
-    setting as g,
+    run_input as g,
     code,
     moves,
     shares,

@@ -41,7 +41,7 @@ use Rattle.sp_codegen.proofs.ValueForms.{MayRead, visible_known, or_known, kind_
 
 module _ {M : Type 0} (ex : Execution M) where
   open ex use {
-    setting as g,
+    run_input as g,
     code,
     moves,
     shares,

@@ -165,8 +165,8 @@ blocks_pure p values moves shares code callable blocks f b e = let z = blocks f 
     z.layout.entry (z.stands.body true tt)
 
 -- what a process has left to do where it stands in its code
-module _ {M : Type 0} (ex : Execution M) (values : DoFunctionsTakeValues ex.setting.program) where
-  open ex use {setting as g, code, moves, shares, IsCallableInFunctions as callable}
+module _ {M : Type 0} (ex : Execution M) (values : DoFunctionsTakeValues ex.run_input.program) where
+  open ex use {run_input as g, code, moves, shares, IsCallableInFunctions as callable}
 
   pub follows_pure : (end : ℕ) (base : List Entry) (below : List FramePair) (pc : ℕ) (stack : List Entry)
       (fs : List FramePair)

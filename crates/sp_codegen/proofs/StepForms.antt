@@ -24,7 +24,7 @@ use Rattle.sp_codegen.proofs.ValueForms.{P, at_one}
 
 module _ {M : Type 0} (ex : Execution M) where
   open ex use {
-    setting as g,
+    run_input as g,
     code,
     moves,
     shares,

@@ -22,7 +22,7 @@ use Rattle.sp_codegen.proofs.FunctionBodies.{calls_meet}
 
 module _ {M : Type 0} (ex : Execution M) where
   open ex use {
-    setting as g,
+    run_input as g,
     code,
     who as w,
     due,

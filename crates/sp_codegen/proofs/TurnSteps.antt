@@ -56,7 +56,7 @@ kind_of_sort (Some ty) e = (ty, refl)
 
 module _ {M : Type 0} (ex : Execution M) where
   open ex use {
-    setting as g,
+    run_input as g,
     code,
     moves,
     shares,

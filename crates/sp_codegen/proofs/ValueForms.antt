@@ -68,7 +68,7 @@ within f pl = record {
 
 module _ {M : Type 0} (ex : Execution M) where
   open ex use {
-    setting as g,
+    run_input as g,
     code,
     moves,
     shares,

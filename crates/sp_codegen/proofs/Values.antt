@@ -35,7 +35,7 @@ use Rattle.sp_codegen.proofs.PlaceValues.{var_gives, indexed_gives, fielded_give
 
 module _ {M : Type 0} (ex : Execution M) where
   open ex use {
-    setting as g,
+    run_input as g,
     code,
     moves,
     shares,

@@ -15,7 +15,7 @@ use Rattle.sp_codegen.specs.Relation.{Relation, KeepsRelation}
 -- all of it
 pub record Execution (M : Type 0) : Type 1 where
   -- the program with its input and limits, its code, and which variables each child of a fork takes over
-  pub setting : RunInput
+  pub run_input : RunInput
   pub code : Parts
   pub moves : Stmt → List ℕ
   pub shares : Stmt → List ℕ
@@ -31,10 +31,10 @@ pub record Execution (M : Type 0) : Type 1 where
   -- the memory of the machine, how it stands for that of the meaning, and that all operations keep this
   pub operations : Ops M
   pub relation : Relation M
-  pub laws : KeepsRelation setting who due Writes IsReadable Indexes operations relation
+  pub laws : KeepsRelation run_input who due Writes IsReadable Indexes operations relation
   pub reads_written : (l : Loc) → Writes l → IsReadable l
-  pub free : IsFreeOfInterference setting.program
+  pub free : IsFreeOfInterference run_input.program
   pub own_written : (n x : ℕ) → Writes (Cell who.name n x)
-  pub uses_formed : (f : ℕ) (b : Block) → slice_get setting.program.blocks f ≡ Some b → (u : Use) → In_stmt b.body u
-      → IsFormedUse setting.program u
+  pub uses_formed : (f : ℕ) (b : Block) → slice_get run_input.program.blocks f ≡ Some b → (u : Use) → In_stmt b.body u
+      → IsFormedUse run_input.program u
   pub layouts_found : (f : ℕ) (l : Layout) → slice_get code.layouts f ≡ Some l → layout_of code.layouts f ≡ Some l

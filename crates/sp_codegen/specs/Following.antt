@@ -68,7 +68,7 @@ IsOwned ops Pauses n = Unit {0}
 
 module _ {M : Type 0} (ex : Execution M) where
   open ex use {
-    setting as g,
+    run_input as g,
     code,
     moves,
     shares,

@@ -139,7 +139,7 @@ module _ (g : RunInput) (moves shares : Stmt → List ℕ) (pause : ℕ) (life :
 
   abbrev pub execution_of : Laws → Execution (Memory Plain)
   execution_of h = record {
-    setting = g;
+    run_input = g;
     code = code_of;
     moves = moves;
     shares = shares;

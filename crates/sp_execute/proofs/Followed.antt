@@ -32,7 +32,7 @@ use Rattle.sp_replay.specs.declared.replayer.Replayed.{Replayed}
 use Rattle.sp_replay.specs.declared.replayer.ReplayError.{ReplayError}
 use Rattle.sp_replay.specs.declared.replayer.ReplayError.TheVariants as error
 use Rattle.sp_replay.specs.Replays as machine
-use Rattle.sp_execute.specs.Runs.{setting, IsCodeOf}
+use Rattle.sp_execute.specs.Runs.{run_input, IsCodeOf}
 use Rattle.sp_execute.specs.Follows.{FollowsTo}
 use Rattle.sp_execute.proofs.Concluding.{names, means, same_output, same_end}
 
@@ -106,9 +106,9 @@ module _ (g : RunInput) (moves shares : Stmt → List ℕ) (ready : IsReady g mo
   program_follows j named (Err error.Memory) h = tt {0}
 
 module _ (code : Parts) (input : List ℕ) (lim : Limits) (p : Program) (moves shares : Stmt
-    → List ℕ) (is : IsCodeOf (setting p input lim) moves shares code) where
+    → List ℕ) (is : IsCodeOf (run_input p input lim) moves shares code) where
   pub followed : (j : Journal) → IsNameable j → (r : Result Replayed ReplayError)
-      → machine.Replays (run_of code input lim) j.entries r → FollowsTo (setting p input lim) j r
+      → machine.Replays (run_of code input lim) j.entries r → FollowsTo (run_input p input lim) j r
   followed j named r h =
-      program_follows (setting p input lim) moves shares is.ready j named r
+      program_follows (run_input p input lim) moves shares is.ready j named r
       (subst (λ (x : Parts). machine.Replays (run_of x input lim) j.entries r) is.emitted h)

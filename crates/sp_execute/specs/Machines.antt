@@ -8,7 +8,7 @@ use Rattle.sp_code.specs.declared.code.Parts.{Parts}
 use Rattle.sp_code.specs.Sound.{run_of}
 use Rattle.sp_kernel.specs.declared.closed.Closed.{Closed}
 use Rattle.sp_runner.specs.Runs.{IsRun}
-use Rattle.sp_execute.specs.Runs.{IsAbout, IsCodeOf, setting}
+use Rattle.sp_execute.specs.Runs.{IsAbout, IsCodeOf, run_input}
 
 -- what the run of code on an input with limits, by so many workers, says of the machine, and of each program
 pub record RunsCode (code : Parts) (input : List ℕ) (limits : Limits) (workers : ℕ) (c : Closed) : Type 0 where
@@ -17,5 +17,5 @@ pub record RunsCode (code : Parts) (input : List ℕ) (limits : Limits) (workers
   pub machine : IsRun (run_of code input limits) workers c
   -- where the code is that of a program that is ready for it, its meaning is defined along the journal, with that end
   -- and output
-  pub program : (p : Program) (moves shares : Stmt → List ℕ) → IsCodeOf (setting p input limits) moves shares code
-      → IsAbout (setting p input limits) c
+  pub program : (p : Program) (moves shares : Stmt → List ℕ) → IsCodeOf (run_input p input limits) moves shares code
+      → IsAbout (run_input p input limits) c

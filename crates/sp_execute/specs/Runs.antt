@@ -22,8 +22,8 @@ use Rattle.sp_runner.specs.Ends.{EndsWith}
 use Rattle.sp_execute.specs.declared.execution.Ran.{Ran}
 
 -- a program on an input with limits
-abbrev pub setting : Program → List ℕ → Limits → RunInput
-setting p input lim = record { program = p; input = input; limits = lim }
+abbrev pub run_input : Program → List ℕ → Limits → RunInput
+run_input p input lim = record { program = p; input = input; limits = lim }
 
 -- the code is that of a program that is ready for it, where the forks take over and share these variables
 pub record IsCodeOf (g : RunInput) (moves shares : Stmt → List ℕ) (code : Parts) : Type 0 where

@@ -4,7 +4,7 @@ ghost use Rattle.std.specs.Prelude.{◌<◌, ◌≤◌, ℕ, List, IfOk};
 ghost use Rattle.sp_tree.specs.Plain.{Program, Stmt};
 ghost use Rattle.sp_code.specs.Sound.{run_of};
 ghost use Rattle.sp_runner.specs.Runs.{IsRun};
-ghost use Rattle.sp_execute.specs.Runs.{setting, IsCodeOf, Executes};
+ghost use Rattle.sp_execute.specs.Runs.{run_input, IsCodeOf, Executes};
 
 use crate::conclusion::{Concluded, conclude};
 use crate::verdict::judge;
@@ -46,11 +46,11 @@ pub fn execute<R: Threads + Wait + Sync, G: Gate>(
 ) -> Result<Ran, Memory>
     requires workers { (0 < workers) × (workers ≤ 64) }
     requires program { (p : Program) × (moves : Stmt → List ℕ) × (shares : Stmt → List ℕ)
-        × IsCodeOf (setting p input.value limits.now) moves shares code.value }
+        × IsCodeOf (run_input p input.value limits.now) moves shares code.value }
     ensures run { IfOk result (λ e. IsRun (run_of code.value input.value limits.now) workers e.closed) }
     ensures program { IfOk result (λ e. (p : Program) (moves shares : Stmt → List ℕ)
-        → IsCodeOf (setting p input.value limits.now) moves shares code.value
-        → Executes (setting p input.value limits.now) workers e) }
+        → IsCodeOf (run_input p input.value limits.now) moves shares code.value
+        → Executes (run_input p input.value limits.now) workers e) }
 {
     let closed = run(rt, alloc, code, input, workers, limits, gate)?;
     let concluded = conclude(closed);

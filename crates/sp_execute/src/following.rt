@@ -4,7 +4,7 @@ ghost use Rattle.std.specs.Prelude.{ℕ, List};
 ghost use Rattle.sp_tree.specs.Plain.{Program, Stmt};
 ghost use Rattle.sp_journal.specs.Births.{IsNameable};
 ghost use Rattle.sp_execute.specs.Follows.{FollowsTo};
-ghost use Rattle.sp_execute.specs.Runs.{setting, IsCodeOf};
+ghost use Rattle.sp_execute.specs.Runs.{run_input, IsCodeOf};
 
 use sp_base::{Limits, Text};
 use sp_code::Code;
@@ -27,11 +27,11 @@ pub fn follow(
     journal: &Journal,
 ) -> Result<Replayed, ReplayError>
     requires program { (p : Program) × (moves : Stmt → List ℕ) × (shares : Stmt → List ℕ)
-        × IsCodeOf (setting p input.value limits.now) moves shares code.value }
+        × IsCodeOf (run_input p input.value limits.now) moves shares code.value }
     requires nameable { IsNameable journal.now }
     ensures { (p : Program) (moves shares : Stmt → List ℕ)
-        → IsCodeOf (setting p input.value limits.now) moves shares code.value
-        → FollowsTo (setting p input.value limits.now) journal.now result }
+        → IsCodeOf (run_input p input.value limits.now) moves shares code.value
+        → FollowsTo (run_input p input.value limits.now) journal.now result }
 {
     replay(alloc, code, input, limits, journal)
 }

@@ -18,7 +18,7 @@ use Rattle.sp_kernel.specs.declared.slot.Slot.TheVariants as slot
 use Rattle.sp_kernel.specs.declared.slot.State.TheVariants as st
 use Rattle.sp_kernel.specs.declared.kernel.Kernel.{Kernel}
 use Rattle.sp_kernel.specs.Procs.{config_of}
-use Rattle.sp_kernel.specs.Kernels.{doing_in, condition_in, control_of, system_of, setting_of, WaitsAs, NumberIn}
+use Rattle.sp_kernel.specs.Kernels.{doing_in, condition_in, control_of, system_of, code_run_of, WaitsAs, NumberIn}
 use Rattle.sp_kernel.specs.Kernels.{HasParents, parent_in, parent_of, IsKernel}
 use Rattle.sp_kernel.specs.Asks.{IsOpening}
 
@@ -62,18 +62,18 @@ module _ (x : Kernel) (p : Proc) (f : IsFresh x p) (config : config_of p ≡ sta
     abandons = f.abandons i;
   }
 
-  condition : ◌≡◌ {A = ℕ → _} (system_of x).condition (opening_system plain (setting_of x)).condition
+  condition : ◌≡◌ {A = ℕ → _} (system_of x).condition (opening_system plain (code_run_of x)).condition
   condition = fun_ext (λ q. ap (λ (l : List Slot). condition_in (slice_get l q)) f.slots ∙ go q)
     where
-      start : config_of p ≡ Rattle.sp_code.specs.Memory.first_process plain (setting_of x)
+      start : config_of p ≡ Rattle.sp_code.specs.Memory.first_process plain (code_run_of x)
       start = config ∙ ap (λ (r : Proc). start_of x.code.value r.input.value) (sym f.root)
 
       go : (q : ℕ) → condition_in (slice_get (slot.Here p st.Ready ∷ []) q)
-          ≡ (opening_system plain (setting_of x)).condition q
+          ≡ (opening_system plain (code_run_of x)).condition q
       go zero = ap (λ c. Working c) start
       go (suc q) = rw (later q) refl
 
-  pub system : system_of x ≡ opening_system plain (setting_of x)
+  pub system : system_of x ≡ opening_system plain (code_run_of x)
   system = λ i. record {
     condition = condition i;
     births = births (f.journal i);
@@ -86,11 +86,11 @@ module _ (x : Kernel) (p : Proc) (f : IsFresh x p) (config : config_of p ≡ sta
   whole = record {
     orderly = subst IsOrderly (sym control) orderly_start;
     agrees = subst (λ k. AgreesWithSystem k (system_of x)) (sym control)
-        (subst (AgreesWithSystem control_at_start) (sym system) (agrees_start plain (setting_of x)));
+        (subst (AgreesWithSystem control_at_start) (sym system) (agrees_start plain (code_run_of x)));
     processes = ap length f.slots ∙ ap (λ l. (births l).processes) (sym f.journal);
     channels = ap length f.channels ∙ ap (λ l. (births l).channels) (sym f.journal);
     offers = λ c o e. none c o (ap (λ (l : List (Option Pending)). slice_get l c) (sym f.channels) ∙ e);
-    numbers = λ q. subst (λ (l : List Slot). NumberIn (setting_of x).input (slice_get l q) q) (sym f.slots) (own q);
+    numbers = λ q. subst (λ (l : List Slot). NumberIn (code_run_of x).input (slice_get l q) q) (sym f.slots) (own q);
     parents = subst (λ l. HasParents l (births x.journal.entries)) (sym f.parents)
         (subst (λ l. HasParents (None ∷ []) (births l)) (sym f.journal) (record { count = refl; each = each }));
   }
@@ -98,7 +98,7 @@ module _ (x : Kernel) (p : Proc) (f : IsFresh x p) (config : config_of p ≡ sta
       none : (c : ℕ) (o : Pending) → slice_get [] c ≡ Some (Some o) → WaitsAs (slice_get x.slots o.process) c o
       none c o e = absurd (cc e)
 
-      own : (q : ℕ) → NumberIn (setting_of x).input (slice_get (slot.Here p st.Ready ∷ []) q) q
+      own : (q : ℕ) → NumberIn (code_run_of x).input (slice_get (slot.Here p st.Ready ∷ []) q) q
       own zero = (number, ap (λ (r : Proc). r.input.value) (sym f.root))
       own (suc q) = tt {0}
 

@@ -16,7 +16,7 @@ use Rattle.sp_code.specs.Control.{queues, offers}
 use Rattle.sp_code.specs.Control.{one_fewer, reports}
 use Rattle.sp_code.specs.System.{opening_system}
 use Rattle.sp_kernel.specs.declared.kernel.Kernel.{Kernel}
-use Rattle.sp_kernel.specs.Kernels.{control_of, system_of, setting_of}
+use Rattle.sp_kernel.specs.Kernels.{control_of, system_of, code_run_of}
 use Rattle.sp_kernel.specs.Asks.{IsOpening}
 use Rattle.sp_kernel.specs.Closes.{RanTo}
 use Rattle.sp_history.proofs.Agreeing.{agrees_start, orderly_start}
@@ -155,9 +155,9 @@ all_here x fine log y ran kept = record { away = away; gone = gone }
   where
     outs : HasOuts (control_of y)
     outs = subst HasOuts (sym (control_is x fine log y ran.legal))
-        (outs_all plain (setting_of x) control_at_start (opening_system plain (setting_of x)) (system_of y) log
+        (outs_all plain (code_run_of x) control_at_start (opening_system plain (code_run_of x)) (system_of y) log
         orderly_start
-        (agrees_start plain (setting_of x)) outs_start (from_start x fine log y ran.legal))
+        (agrees_start plain (code_run_of x)) outs_start (from_start x fine log y ran.legal))
 
     away : (q w : ℕ) → (control_of y).doing q ≡ Out w → ⊥
     away q w e = among_none q outs.outs (outs.count ∙ ran.over.1) (outs.all q (w, e))

@@ -18,7 +18,7 @@ use Rattle.sp_history.proofs.Naming.{system_nameable}
 use Rattle.sp_history.proofs.Holders.{one_holder}
 use Rattle.sp_room.specs.History.{LeadsTo}
 use Rattle.sp_kernel.specs.declared.kernel.Kernel.{Kernel}
-use Rattle.sp_kernel.specs.Kernels.{system_of, setting_of}
+use Rattle.sp_kernel.specs.Kernels.{system_of, code_run_of}
 use Rattle.sp_kernel.specs.Faults.{fault_in, fault_by}
 use Rattle.sp_kernel.specs.Asks.{IsOpening, KernelSteps}
 use Rattle.sp_kernel.specs.Keeping.{from_start, after_log, along}
@@ -36,9 +36,9 @@ named x fine log y told =
     record {
       whole = (after_log x fine log y told).whole;
       nameable = subst (NameableFrom first_births) (sym journal)
-          (system_nameable (setting_of x) fine.limits (entries_of log) (system_of y) (along x fine log y told));
+          (system_nameable (code_run_of x) fine.limits (entries_of log) (system_of y) (along x fine log y told));
       told = fault_told x fine log y told journal;
-      spoken = system_spoken (setting_of x) (entries_of log) (system_of y) (along x fine log y told);
+      spoken = system_spoken (code_run_of x) (entries_of log) (system_of y) (along x fine log y told);
     }
 
 -- ---- the process of a fault is there
@@ -86,7 +86,7 @@ output_held log y (x, fine, ran) kept o is = go o is
     here = all_here x fine log y ran kept
 
     holder : (q : ℕ) × (bs : List ℕ) × IsOutputOf (system_of y) q bs
-    holder = one_holder (setting_of x) (system_of y) log
+    holder = one_holder (code_run_of x) (system_of y) log
         (λ es t l. fine.sound.safe x.root.value.input.value x.limits fine.limits es t l)
         (from_start x fine log y ran.legal)
 

@@ -35,7 +35,8 @@ use Rattle.sp_kernel.specs.declared.handed.Handed.{Handed}
 use Rattle.sp_machine.specs.declared.state.Stop.TheVariants as stop
 use Rattle.sp_kernel.specs.declared.kernel.Kernel.{Kernel}
 use Rattle.sp_kernel.specs.Procs.{config_of, turn_by, turn_of}
-use Rattle.sp_kernel.specs.Kernels.{doing_in, condition_in, control_of, system_of, setting_of, WaitsAs, IsOwn, NumberIn}
+use Rattle.sp_kernel.specs.Kernels.{doing_in, condition_in, control_of, system_of}
+use Rattle.sp_kernel.specs.Kernels.{code_run_of, WaitsAs, IsOwn, NumberIn}
 use Rattle.sp_kernel.specs.Kernels.{HasParents, parent_in, parent_of, IsKernel, Gave}
 use Rattle.sp_kernel.specs.ListEnds.{repeat}
 use Rattle.sp_kernel.specs.Forks.{HasForked}
@@ -108,7 +109,7 @@ push f false false u v w = refl
 module _ (x : Kernel) (k : IsKernel x) (p w : ℕ) (here : (control_of x).doing p ≡ Out w) (h : Handed) (t : ℕ) (v : ℤ)
     (n : ℕ) (is : h.stop ≡ stop.Fork t v n) (quiet : x.faulted ≡ false)
     (fine : fault_of x.limits (system_of x) (Stopped (m.Forks t v n) (config_of h.proc)) ≡ None)
-    (own : IsOwn (setting_of x).input h.proc p) (at : IsAtFork h.proc t v n) (y : Kernel)
+    (own : IsOwn (code_run_of x).input h.proc p) (at : IsAtFork h.proc t v n) (y : Kernel)
     (f : HasForked x h.proc n y) where
   turn_is : turn_of h ≡ Stopped (m.Forks t v n) (config_of h.proc)
   turn_is = ap (λ s. turn_by s h.proc) is
@@ -211,16 +212,16 @@ module _ (x : Kernel) (k : IsKernel x) (p w : ℕ) (here : (control_of x).doing 
   table = table_or (slice_get x.code.value.forks t)
 
   abbrev born : ℕ → ℕ → m.Config (Memory Plain)
-  born i j = child_process plain (setting_of x) c v i j (child_or (child_at table j))
+  born i j = child_process plain (code_run_of x) c v i j (child_or (child_at table j))
 
   born_at : (j : ℕ) → j < n → config_of (get_or f.children j h.proc) ≡ born (l + j) j
   born_at j few =
       (f.born.1 j h.proc few).0 x.limits
       ∙ ap (λ (input : List ℕ). child_process plain (run_of x.code.value input x.limits) c h.proc.first (l + j) j
       (child_or (child_at (table_or (slice_get x.code.value.forks h.proc.table)) j))) own.1
-      ∙ ap (λ (first : ℤ). child_process plain (setting_of x) c first (l + j) j
+      ∙ ap (λ (first : ℤ). child_process plain (code_run_of x) c first (l + j) j
       (child_or (child_at (table_or (slice_get x.code.value.forks h.proc.table)) j))) at.1.0
-      ∙ ap (λ (i : ℕ). child_process plain (setting_of x) c v (l + j) j
+      ∙ ap (λ (i : ℕ). child_process plain (code_run_of x) c v (l + j) j
       (child_or (child_at (table_or (slice_get x.code.value.forks i)) j))) at.0
 
   child_runs : (q : ℕ) → l ≤ q → q < l + n → condition_in (Some (child q)) ≡ Working (born q (q - b.processes))
@@ -230,7 +231,7 @@ module _ (x : Kernel) (k : IsKernel x) (p w : ℕ) (here : (control_of x).doing 
       ∙ ap (λ z. born q (q - z)) k.processes)
 
   parent_is : config_of f.parent ≡ on_store (λ m. plain.handed m
-      (Rattle.sp_code.specs.System.plan_of plain (setting_of x) c t v n)) c
+      (Rattle.sp_code.specs.System.plan_of plain (code_run_of x) c t v n)) c
   parent_is = f.hands.0
       ∙ ap (λ (z : ℕ). on_store (λ m. plain.handed m
       (plan_from x.code.value.layouts h.proc.frames (table_or (slice_get x.code.value.forks z)) h.proc.first 0 n))
@@ -241,31 +242,31 @@ module _ (x : Kernel) (k : IsKernel x) (p w : ℕ) (here : (control_of x).doing 
   conditions : (q : ℕ) → condition_in (slice_get (slice_set f.slots p s) q)
       ≡ cond (is_next b n q) (Working (born q (q - b.processes)))
       (cond (p == q) (Joins n (on_store (λ m. plain.handed m
-      (Rattle.sp_code.specs.System.plan_of plain (setting_of x) c t v n)) c)) ((system_of x).condition q))
+      (Rattle.sp_code.specs.System.plan_of plain (code_run_of x) c t v n)) c)) ((system_of x).condition q))
   conditions q = table_are condition_in q ∙ ap
       (λ d. cond (is_next b n q) (condition_in (Some (child q)))
       (cond (p == q) (Joins n d) ((system_of x).condition q))) parent_is ∙ go (is_next b n q) refl
     where
       go : (a : Bool) → is_next b n q ≡ a → cond a (condition_in (Some (child q)))
           (cond (p == q) (Joins n (on_store (λ m. plain.handed m
-          (Rattle.sp_code.specs.System.plan_of plain (setting_of x) c t v n)) c)) ((system_of x).condition q))
+          (Rattle.sp_code.specs.System.plan_of plain (code_run_of x) c t v n)) c)) ((system_of x).condition q))
           ≡ cond a (Working (born q (q - b.processes)))
           (cond (p == q) (Joins n (on_store
-          (λ m. plain.handed m (Rattle.sp_code.specs.System.plan_of plain (setting_of x) c t v n)) c))
+          (λ m. plain.handed m (Rattle.sp_code.specs.System.plan_of plain (code_run_of x) c t v n)) c))
           ((system_of x).condition q))
       go true e = let w = Rattle.sp_history.proofs.Orders.next_is b n q e in
           let processes : l ≡ b.processes = k.processes in
           child_runs q (omega (arith, w.0, processes)) (omega (arith, w.1, processes))
       go false e = refl
 
-  system : system_of forked ≡ system_after_turn plain (setting_of x) p (turn_of h) (system_of x)
+  system : system_of forked ≡ system_after_turn plain (code_run_of x) p (turn_of h) (system_of x)
   system = (λ i. record (system_of x) {
     condition = fun_ext {B = λ q. Condition Plain} conditions i;
     births = next_is i;
     entries = x.entries + 1;
   })
-      ∙ after_quiet (setting_of x) (system_of x) p (m.Forks t v n) (config_of h.proc) quiet fine
-      ∙ ap (λ t. system_after_turn plain (setting_of x) p t (system_of x)) (sym turn_is)
+      ∙ after_quiet (code_run_of x) (system_of x) p (m.Forks t v n) (config_of h.proc) quiet fine
+      ∙ ap (λ t. system_after_turn plain (code_run_of x) p t (system_of x)) (sym turn_is)
 
   offers : (d : ℕ) (o : Pending) → slice_get x.channels d ≡ Some (Some o)
       → WaitsAs (slice_get (slice_set f.slots p s) o.process) d o
@@ -275,7 +276,7 @@ module _ (x : Kernel) (k : IsKernel x) (p w : ℕ) (here : (control_of x).doing 
       ∙ f.seated.before o.process among ∙ get_left x.slots (repeat n slot.Ended) o.process among)) (k.offers d o e)
 
   abbrev input : List ℕ
-  input = (setting_of x).input
+  input = (code_run_of x).input
 
   numbered : (q : ℕ) → NumberIn input (slice_get (slice_set f.slots p s) q) q
   numbered q = subst (λ o. NumberIn input o q) (sym (slots_are q)) (go (is_next b n q) refl (number_or p q))
@@ -337,7 +338,7 @@ module _ (x : Kernel) (k : IsKernel x) (p w : ℕ) (here : (control_of x).doing 
   gave = record {
     control = control;
     system = system;
-    setting = (refl, refl, refl);
+    code_run = (refl, refl, refl);
     entry = ap (λ e. x.journal.entries ++ record { process = p; event = e } ∷ []) event_is;
     whole = whole_after x k p w here h forked control system
         (length-set f.slots p s ∙ all_length ∙ ap (λ i. i + n) k.processes
@@ -368,11 +369,11 @@ can_fork x w h t v n is quiet fine at fits =
     (plan_from x.code.value.layouts h.proc.frames (table_or (slice_get x.code.value.forks t)) z 0 n)) (sym at.1.0)
     (fits.safe.forks h.proc.number t n v (config_of h.proc) stops))
   where
-    stops : StopsAt (setting_of x) (system_of x) h.proc.number (m.Forks t v n) (config_of h.proc)
+    stops : StopsAt (code_run_of x) (system_of x) h.proc.number (m.Forks t v n) (config_of h.proc)
     stops = record {
       configuration = fits.configuration;
       runs = fits.runs;
-      turn = subst (λ z. IsTurn (memory plain (setting_of x)) (setting_of x).code fits.configuration z)
+      turn = subst (λ z. IsTurn (memory plain (code_run_of x)) (code_run_of x).code fits.configuration z)
           (ap (λ s. turn_by s h.proc) is) fits.turn;
       quiet = quiet;
       fine = fine;

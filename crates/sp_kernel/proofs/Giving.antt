@@ -30,7 +30,8 @@ use Rattle.sp_machine.specs.declared.state.Stop.{Stop}
 use Rattle.sp_machine.specs.declared.state.Stop.TheVariants as stop
 use Rattle.sp_kernel.specs.declared.kernel.Kernel.{Kernel}
 use Rattle.sp_kernel.specs.Procs.{config_of, turn_by, turn_of, EntersAs}
-use Rattle.sp_kernel.specs.Kernels.{doing_in, condition_in, control_of, system_of, setting_of, WaitsAs, IsOwn, NumberIn}
+use Rattle.sp_kernel.specs.Kernels.{doing_in, condition_in, control_of, system_of}
+use Rattle.sp_kernel.specs.Kernels.{code_run_of, WaitsAs, IsOwn, NumberIn}
 use Rattle.sp_kernel.specs.Kernels.{HasParents, IsKernel, kernel_after_give, Gave}
 use Rattle.sp_history.specs.Agreement.{IsOrderly, AgreesWithSystem}
 use Rattle.sp_history.proofs.Queues.{number_or}
@@ -122,10 +123,10 @@ module _ (x : Kernel) (k : IsKernel x) (p w : ℕ) (here : (control_of x).doing 
   -- the tables fit together after it too
   pub whole_after : (h : Handed) (y : Kernel)
       → control_of y ≡ comes_back p (event_of x.limits (system_of x) (turn_of h)) (control_of x)
-      → system_of y ≡ system_after_turn plain (setting_of x) p (turn_of h) (system_of x)
+      → system_of y ≡ system_after_turn plain (code_run_of x) p (turn_of h) (system_of x)
       → length y.slots ≡ (births y.journal.entries).processes → length y.channels ≡ (births y.journal.entries).channels
       → ((c : ℕ) (o : Pending) → slice_get y.channels c ≡ Some (Some o) → WaitsAs (slice_get y.slots o.process) c o)
-      → ((q : ℕ) → NumberIn (setting_of y).input (slice_get y.slots q) q)
+      → ((q : ℕ) → NumberIn (code_run_of y).input (slice_get y.slots q) q)
       → HasParents y.parents (births y.journal.entries) → IsKernel y
   whole_after h y control system processes channels offers numbers parents = record {
     numbers = numbers;
@@ -135,7 +136,7 @@ module _ (x : Kernel) (k : IsKernel x) (p w : ℕ) (here : (control_of x).doing 
     agrees = subst (λ c. AgreesWithSystem c (system_of y)) (sym control)
         (subst (λ s. AgreesWithSystem (comes_back p (event_of x.limits (system_of x) (turn_of h)) (control_of x)) s)
         (sym system)
-        (agrees_after plain (setting_of x) (control_of x) (system_of x) k.orderly k.agrees p w here (turn_of h)));
+        (agrees_after plain (code_run_of x) (control_of x) (system_of x) k.orderly k.agrees p w here (turn_of h)));
     processes = processes;
     channels = channels;
     offers = offers;
@@ -171,15 +172,16 @@ module _ (x : Kernel) (k : IsKernel x) (p w : ℕ) (here : (control_of x).doing 
   same_offers s c o e = subst (λ t. WaitsAs t c o)
       (sym (get_beside_set x.slots p o.process s (λ is. no_waiter c o e (sym is)))) (k.offers c o e)
 
-  pub same_numbers : (s : Slot) → NumberIn (setting_of x).input (Some s) p → (q : ℕ)
-      → NumberIn (setting_of x).input (slice_get (slice_set x.slots p s) q) q
+  pub same_numbers : (s : Slot) → NumberIn (code_run_of x).input (Some s) p → (q : ℕ)
+      → NumberIn (code_run_of x).input (slice_get (slice_set x.slots p s) q) q
   same_numbers s n q = go (number_or p q)
     where
       go : (p ≡ q) ⊎ ((p ≢ q) × (p == q ≡ false))
-          → NumberIn (setting_of x).input (slice_get (slice_set x.slots p s) q) q
-      go (inl is) = subst (λ j. NumberIn (setting_of x).input (slice_get (slice_set x.slots p s) j) j) is
-          (subst (λ t. NumberIn (setting_of x).input t p) (sym (get_where_set x.slots p s there)) n)
-      go (inr o) = subst (λ t. NumberIn (setting_of x).input t q) (sym (get_beside_set x.slots p q s o.0)) (k.numbers q)
+          → NumberIn (code_run_of x).input (slice_get (slice_set x.slots p s) q) q
+      go (inl is) = subst (λ j. NumberIn (code_run_of x).input (slice_get (slice_set x.slots p s) j) j) is
+          (subst (λ t. NumberIn (code_run_of x).input t p) (sym (get_where_set x.slots p s there)) n)
+      go (inr o) = subst (λ t. NumberIn (code_run_of x).input t q) (sym (get_beside_set x.slots p q s o.0))
+          (k.numbers q)
 
   module _ (e : Event) (s : Slot) where
     pub next_doing : ◌≡◌ {A = ℕ → Doing} (λ q. doing_in (slice_get (slice_set x.slots p s) q))
@@ -209,12 +211,12 @@ module _ (x : Kernel) (k : IsKernel x) (p w : ℕ) (here : (control_of x).doing 
     laid_condition = next_condition e (slot.Here h.proc st.Laid)
         ∙ ap (λ c. at_key ◌==◌ p (IsLaid c) (system_of x).condition) (sym (turn_config h.stop h.proc))
 
-  pub gave_laid : (h : Handed) → IsOwn (setting_of x).input h.proc p → x.faulted ≡ true
+  pub gave_laid : (h : Handed) → IsOwn (code_run_of x).input h.proc p → x.faulted ≡ true
       → Gave x p h (kernel_after_give p event.Laid (slot.Here h.proc st.Laid) x)
   gave_laid h num f = record {
     control = control;
     system = system;
-    setting = (refl, refl, refl);
+    code_run = (refl, refl, refl);
     entry = ap (λ e. x.journal.entries ++ record { process = p; event = e } ∷ [])
         (event_laid x.limits (system_of x) (turn_of h) f);
     whole = whole_after h _ control system
@@ -235,20 +237,20 @@ module _ (x : Kernel) (k : IsKernel x) (p w : ℕ) (here : (control_of x).doing 
           ∙ ap (λ e. comes_back p e (control_of x)) (event_laid x.limits (system_of x) (turn_of h) f)
 
       system : system_of (kernel_after_give p event.Laid (slot.Here h.proc st.Laid) x)
-          ≡ system_after_turn plain (setting_of x) p (turn_of h) (system_of x)
+          ≡ system_after_turn plain (code_run_of x) p (turn_of h) (system_of x)
       system = (λ i. record (system_of x) {
         condition = laid_condition h event.Laid i;
         births = next_births event.Laid (slot.Here h.proc st.Laid) i;
       })
-          ∙ after_laid (setting_of x) (system_of x) p (turn_of h) f
+          ∙ after_laid (code_run_of x) (system_of x) p (turn_of h) f
 
-  pub gave_fault : (h : Handed) (g : Fault) → IsOwn (setting_of x).input h.proc p → x.faulted ≡ false
+  pub gave_fault : (h : Handed) (g : Fault) → IsOwn (code_run_of x).input h.proc p → x.faulted ≡ false
       → fault_of x.limits (system_of x) (turn_of h) ≡ Some g
       → Gave x p h (record (kernel_after_give p (event.Fault g) (slot.Here h.proc st.Laid) x) { faulted = true })
   gave_fault h g num f is = record {
     control = control;
     system = system;
-    setting = (refl, refl, refl);
+    code_run = (refl, refl, refl);
     entry = ap (λ e. x.journal.entries ++ record { process = p; event = e } ∷ [])
         (event_fault x.limits (system_of x) (turn_of h) g f is);
     whole = whole_after h _ control system
@@ -273,22 +275,22 @@ module _ (x : Kernel) (k : IsKernel x) (p w : ℕ) (here : (control_of x).doing 
           ∙ ap (λ e. comes_back p e (control_of x)) (event_fault x.limits (system_of x) (turn_of h) g f is)
 
       system : system_of (record (kernel_after_give p (event.Fault g) (slot.Here h.proc st.Laid) x) { faulted = true })
-          ≡ system_after_turn plain (setting_of x) p (turn_of h) (system_of x)
+          ≡ system_after_turn plain (code_run_of x) p (turn_of h) (system_of x)
       system = (λ i. record (system_of x) {
         condition = laid_condition h (event.Fault g) i;
         births = next_births (event.Fault g) (slot.Here h.proc st.Laid) i;
         faulted = true;
       })
-          ∙ after_fault (setting_of x) (system_of x) p (turn_of h) g f is
+          ∙ after_fault (code_run_of x) (system_of x) p (turn_of h) g f is
 
-  pub gave_pause : (h : Handed) (r : Proc) → IsOwn (setting_of x).input h.proc p → h.stop ≡ stop.Pause
+  pub gave_pause : (h : Handed) (r : Proc) → IsOwn (code_run_of x).input h.proc p → h.stop ≡ stop.Pause
       → EntersAs h.proc r
       → x.faulted ≡ false → Gave x p h (record (kernel_after_give p event.Pause (slot.Here r st.Ready) x)
       { ready = x.ready ++ p ∷ [] })
   gave_pause h r num is en f = record {
     control = control;
     system = system;
-    setting = (refl, refl, refl);
+    code_run = (refl, refl, refl);
     entry = ap (λ e. x.journal.entries ++ record { process = p; event = e } ∷ [])
         (event_quiet x.limits (system_of x) m.Pauses (config_of h.proc) f refl
         ∙ ap (event_of x.limits (system_of x)) (sym turn_is));
@@ -323,12 +325,12 @@ module _ (x : Kernel) (k : IsKernel x) (p w : ℕ) (here : (control_of x).doing 
         ready =
             x.ready ++ p ∷ [];
       })
-          ≡ system_after_turn plain (setting_of x) p (turn_of h) (system_of x)
+          ≡ system_after_turn plain (code_run_of x) p (turn_of h) (system_of x)
       system = (λ i. record (system_of x) {
         condition =
             (next_condition event.Pause (slot.Here r st.Ready)
             ∙ ap (λ c. at_key ◌==◌ p (Working c) (system_of x).condition) en.0) i;
         births = next_births event.Pause (slot.Here r st.Ready) i;
       })
-          ∙ after_quiet (setting_of x) (system_of x) p m.Pauses (config_of h.proc) f refl
-          ∙ ap (λ t. system_after_turn plain (setting_of x) p t (system_of x)) (sym turn_is)
+          ∙ after_quiet (code_run_of x) (system_of x) p m.Pauses (config_of h.proc) f refl
+          ∙ ap (λ t. system_after_turn plain (code_run_of x) p t (system_of x)) (sym turn_is)

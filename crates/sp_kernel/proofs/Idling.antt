@@ -8,7 +8,7 @@ use Rattle.sp_code.specs.Control.{control_at_start, standing, Running as Going, 
 use Rattle.sp_code.specs.Control.{IsMemory, is_ready}
 use Rattle.sp_code.specs.System.{opening_system}
 use Rattle.sp_kernel.specs.declared.kernel.Kernel.{Kernel}
-use Rattle.sp_kernel.specs.Kernels.{control_of, system_of, setting_of}
+use Rattle.sp_kernel.specs.Kernels.{control_of, system_of, code_run_of}
 use Rattle.sp_kernel.specs.Closes.{RanFrom}
 use Rattle.sp_kernel.specs.Keeping.{from_start, control_is, after_log}
 use Rattle.sp_kernel.proofs.Closing.{AllHere, all_here}
@@ -36,6 +36,6 @@ idle_at log y (x, fine, ran) is =
 
     outs : HasOuts (control_of y)
     outs = subst HasOuts (sym (control_is x fine log y ran.legal))
-        (outs_all plain (setting_of x) control_at_start (opening_system plain (setting_of x)) (system_of y) log
+        (outs_all plain (code_run_of x) control_at_start (opening_system plain (code_run_of x)) (system_of y) log
         orderly_start
-        (agrees_start plain (setting_of x)) outs_start (from_start x fine log y ran.legal))
+        (agrees_start plain (code_run_of x)) outs_start (from_start x fine log y ran.legal))

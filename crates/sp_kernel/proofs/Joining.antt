@@ -29,7 +29,8 @@ use Rattle.sp_kernel.specs.declared.handed.Handed.{Handed}
 use Rattle.sp_machine.specs.declared.state.Stop.TheVariants as stop
 use Rattle.sp_kernel.specs.declared.kernel.Kernel.{Kernel}
 use Rattle.sp_kernel.specs.Procs.{config_of, turn_by, turn_of, EntersAs}
-use Rattle.sp_kernel.specs.Kernels.{doing_in, condition_in, control_of, system_of, setting_of, WaitsAs, IsOwn, NumberIn}
+use Rattle.sp_kernel.specs.Kernels.{doing_in, condition_in, control_of, system_of}
+use Rattle.sp_kernel.specs.Kernels.{code_run_of, WaitsAs, IsOwn, NumberIn}
 use Rattle.sp_kernel.specs.Kernels.{parent_in, parent_of, IsKernel, kernel_after_give, Gave}
 use Rattle.sp_kernel.specs.Ends.{left_in, one_fewer, ends_child, IsJoiner, JoinedSlot}
 use Rattle.sp_kernel.specs.Fits.{FitsHanded}
@@ -62,7 +63,7 @@ no_birth None e = refl
 no_birth (Some b) e = absurd (cc e)
 
 module _ (x : Kernel) (k : IsKernel x) (p w : ℕ) (here : (control_of x).doing p ≡ Out w) (h : Handed)
-    (is : h.stop ≡ stop.End) (quiet : x.faulted ≡ false) (own : IsOwn (setting_of x).input h.proc p) where
+    (is : h.stop ≡ stop.End) (quiet : x.faulted ≡ false) (own : IsOwn (code_run_of x).input h.proc p) where
   turn_is : turn_of h ≡ Stopped m.Ends (config_of h.proc)
   turn_is = ap (λ s. turn_by s h.proc) is
 
@@ -90,22 +91,22 @@ module _ (x : Kernel) (k : IsKernel x) (p w : ℕ) (here : (control_of x).doing 
         { out = x.out - 1; births = births x.journal.entries }) (sym first)
         ∙ ap (λ e. comes_back p e (control_of x)) event_is
 
-    over_system : system_of over ≡ system_after_turn plain (setting_of x) p (turn_of h) (system_of x)
+    over_system : system_of over ≡ system_after_turn plain (code_run_of x) p (turn_of h) (system_of x)
     over_system = (λ i. record (system_of x) {
       condition = (next_condition x k p w here event.End (slot.Here r st.Over)
           ∙ ap (λ c. at_key ◌==◌ p (Over c) (system_of x).condition) en.0) i;
       births = next_births x k p w here event.End (slot.Here r st.Over) i;
     })
-        ∙ ap (λ o. record (apply_end plain (setting_of x) p (process_at_entry (config_of h.proc)) o (system_of x))
+        ∙ ap (λ o. record (apply_end plain (code_run_of x) p (process_at_entry (config_of h.proc)) o (system_of x))
         { births = births x.journal.entries }) (sym first)
-        ∙ after_quiet (setting_of x) (system_of x) p m.Ends (config_of h.proc) quiet refl
-        ∙ ap (λ t. system_after_turn plain (setting_of x) p t (system_of x)) (sym turn_is)
+        ∙ after_quiet (code_run_of x) (system_of x) p m.Ends (config_of h.proc) quiet refl
+        ∙ ap (λ t. system_after_turn plain (code_run_of x) p t (system_of x)) (sym turn_is)
 
     over_gave : Gave x p h over
     over_gave = record {
       control = over_control;
       system = over_system;
-      setting = (refl, refl, refl);
+      code_run = (refl, refl, refl);
       entry = ap (λ e. x.journal.entries ++ record { process = p; event = e } ∷ []) event_is;
       whole = whole_after x k p w here h over over_control over_system
           (length-set x.slots p _ ∙ k.processes
@@ -200,19 +201,19 @@ module _ (x : Kernel) (k : IsKernel x) (p w : ℕ) (here : (control_of x).doing 
       condition_by true = ap (λ d. Working d) told.2.0
       condition_by false = ap (λ d. IsJoining (n - 1) d) told.2.0
 
-      ended_system : system_of ended ≡ system_after_turn plain (setting_of x) p (turn_of h) (system_of x)
+      ended_system : system_of ended ≡ system_after_turn plain (code_run_of x) p (turn_of h) (system_of x)
       ended_system = (λ i. record (system_of x) {
         condition = (both_set condition_in ∙ ap (λ c. at_key ◌==◌ z c (at_key ◌==◌ p HasGone (system_of x).condition))
             (condition_by (n == 1))
-            ∙ ap (λ o. at_key ◌==◌ z (parent_after_join plain (setting_of x) (process_at_entry (config_of h.proc))
+            ∙ ap (λ o. at_key ◌==◌ z (parent_after_join plain (code_run_of x) (process_at_entry (config_of h.proc))
             (condition_in o))
             (at_key ◌==◌ p HasGone (system_of x).condition)) (sym at_parent)) i;
         births = next_births x k p w here event.End slot.Ended i;
       })
-          ∙ ap (λ o. record (apply_end plain (setting_of x) p (process_at_entry (config_of h.proc)) o (system_of x))
+          ∙ ap (λ o. record (apply_end plain (code_run_of x) p (process_at_entry (config_of h.proc)) o (system_of x))
           { births = births x.journal.entries }) (sym born)
-          ∙ after_quiet (setting_of x) (system_of x) p m.Ends (config_of h.proc) quiet refl
-          ∙ ap (λ t. system_after_turn plain (setting_of x) p t (system_of x)) (sym turn_is)
+          ∙ after_quiet (code_run_of x) (system_of x) p m.Ends (config_of h.proc) quiet refl
+          ∙ ap (λ t. system_after_turn plain (code_run_of x) p t (system_of x)) (sym turn_is)
 
       ended_offers : (c : ℕ) (o : Pending) → slice_get x.channels c ≡ Some (Some o)
           → WaitsAs (slice_get (slice_set (slice_set x.slots p slot.Ended) z t) o.process) c o
@@ -226,7 +227,7 @@ module _ (x : Kernel) (k : IsKernel x) (p w : ℕ) (here : (control_of x).doing 
           ∙ get_beside_set x.slots p o.process slot.Ended not_p)) waits
 
       abbrev input : List ℕ
-      input = (setting_of x).input
+      input = (code_run_of x).input
 
       own_parent : IsOwn input parent z
       own_parent = subst (λ o. NumberIn input o z) at_parent (k.numbers z)
@@ -251,7 +252,7 @@ module _ (x : Kernel) (k : IsKernel x) (p w : ℕ) (here : (control_of x).doing 
       gave_child = record {
         control = ended_control;
         system = ended_system;
-        setting = (refl, refl, refl);
+        code_run = (refl, refl, refl);
         entry = ap (λ e. x.journal.entries ++ record { process = p; event = e } ∷ []) event_is;
         whole = whole_after x k p w here h ended ended_control ended_system
             (length-set (slice_set x.slots p slot.Ended) z t ∙ length-set x.slots p slot.Ended ∙ k.processes
@@ -282,11 +283,11 @@ pub child_joins : (x : Kernel) (k : IsKernel x) (w : ℕ) (h : Handed) → h.sto
 child_joins x k w h is quiet fits z c = subst (λ i. IsJoiner (slice_get x.slots i) h.proc) c.parent
     (go (joiner (slice_get x.slots c.birth.parent) c.left c.joins))
   where
-    stops : StopsAt (setting_of x) (system_of x) h.proc.number m.Ends (config_of h.proc)
+    stops : StopsAt (code_run_of x) (system_of x) h.proc.number m.Ends (config_of h.proc)
     stops = record {
       configuration = fits.configuration;
       runs = fits.runs;
-      turn = subst (λ t. IsTurn (memory plain (setting_of x)) (setting_of x).code fits.configuration t)
+      turn = subst (λ t. IsTurn (memory plain (code_run_of x)) (code_run_of x).code fits.configuration t)
           (ap (λ s. turn_by s h.proc) is) fits.turn;
       quiet = quiet;
       fine = refl;

@@ -12,7 +12,7 @@ use Rattle.sp_kernel.specs.declared.kernel.Kernel.{Kernel}
 use Rattle.sp_kernel.specs.declared.slot.Slot.{Slot}
 use Rattle.sp_kernel.specs.declared.slot.Slot.TheVariants as slot
 use Rattle.sp_kernel.specs.declared.slot.State.TheVariants as st
-use Rattle.sp_kernel.specs.Kernels.{control_of, setting_of, WaitsAs, IsOwn, NumberIn, IsKernel}
+use Rattle.sp_kernel.specs.Kernels.{control_of, code_run_of, WaitsAs, IsOwn, NumberIn, IsKernel}
 use Rattle.sp_history.proofs.Queues.{number_or}
 use Rattle.sp_kernel.proofs.Tables.{table_set}
 use Rattle.sp_kernel.proofs.Giving.{there, no_waiter}
@@ -101,20 +101,20 @@ module _ (x : Kernel) (k : IsKernel x) (p w : ℕ) (here : (control_of x).doing 
             (λ y. no_waiter x k p w here d o old (sym y))
             ∙ get_beside_set x.slots z o.process (slot.Here t st.Ready) not_z)) (k.offers d o old)
 
-    pub met_numbers : IsOwn (setting_of x).input t z → IsOwn (setting_of x).input r p → (y : ℕ)
-        → NumberIn (setting_of x).input (slice_get with_both y) y
+    pub met_numbers : IsOwn (code_run_of x).input t z → IsOwn (code_run_of x).input r p → (y : ℕ)
+        → NumberIn (code_run_of x).input (slice_get with_both y) y
     met_numbers theirs its y = go (number_or p y) (number_or z y)
       where
         go : (p ≡ y) ⊎ ((p ≢ y) × (p == y ≡ false)) → (z ≡ y) ⊎ ((z ≢ y) × (z == y ≡ false))
-            → NumberIn (setting_of x).input (slice_get with_both y) y
-        go (inl is) o = subst (λ i. NumberIn (setting_of x).input (slice_get with_both i) i) is
-            (subst (λ s. NumberIn (setting_of x).input s p)
+            → NumberIn (code_run_of x).input (slice_get with_both y) y
+        go (inl is) o = subst (λ i. NumberIn (code_run_of x).input (slice_get with_both i) i) is
+            (subst (λ s. NumberIn (code_run_of x).input s p)
             (sym (get_where_set with_other p (slot.Here r st.Ready) p_there)) its)
-        go (inr n) (inl is) = subst (λ s. NumberIn (setting_of x).input s y)
+        go (inr n) (inl is) = subst (λ s. NumberIn (code_run_of x).input s y)
             (sym (get_beside_set with_other p y (slot.Here r st.Ready) n.0))
-            (subst (λ i. NumberIn (setting_of x).input (slice_get with_other i) i) is
-            (subst (λ s. NumberIn (setting_of x).input s z)
+            (subst (λ i. NumberIn (code_run_of x).input (slice_get with_other i) i) is
+            (subst (λ s. NumberIn (code_run_of x).input s z)
             (sym (get_where_set x.slots z (slot.Here t st.Ready) (waiter_there x k c q pending))) theirs))
-        go (inr n) (inr o) = subst (λ s. NumberIn (setting_of x).input s y)
+        go (inr n) (inr o) = subst (λ s. NumberIn (code_run_of x).input s y)
             (sym (get_beside_set with_other p y (slot.Here r st.Ready) n.0
             ∙ get_beside_set x.slots z y (slot.Here t st.Ready) o.0)) (k.numbers y)

@@ -33,7 +33,7 @@ use Rattle.sp_kernel.specs.declared.handed.Handed.{Handed}
 use Rattle.sp_machine.specs.declared.state.Stop.TheVariants as stop
 use Rattle.sp_kernel.specs.declared.kernel.Kernel.{Kernel}
 use Rattle.sp_kernel.specs.Procs.{config_of, turn_by, turn_of}
-use Rattle.sp_kernel.specs.Kernels.{offer_in, process_in, control_of, system_of, setting_of, WaitsAs, IsKernel, Gave}
+use Rattle.sp_kernel.specs.Kernels.{offer_in, process_in, control_of, system_of, code_run_of, WaitsAs, IsKernel, Gave}
 use Rattle.sp_kernel.specs.Opens.{kernel_after_open, EntersAt}
 use Rattle.sp_kernel.proofs.Giving.{event_quiet, after_quiet, whole_after, next_doing, next_condition, next_births}
 use Rattle.sp_kernel.proofs.Giving.{same_offers, same_numbers, parents_after}
@@ -154,7 +154,7 @@ module _ (x : Kernel) (k : IsKernel x) (p w : ℕ) (here : (control_of x).doing 
     (is : h.stop ≡ stop.Open) (quiet : x.faulted ≡ false)
     (fine : fault_of x.limits (system_of x) (Stopped (m.Opens h.proc.target) (config_of h.proc)) ≡ None) (r : Proc)
     (en : EntersAt h.proc (length x.channels) r) (number : h.proc.number ≡ p)
-    (reads : h.proc.input.value ≡ (setting_of x).input) where
+    (reads : h.proc.input.value ≡ (code_run_of x).input) where
   turn_is : turn_of h ≡ Stopped (m.Opens h.proc.target) (config_of h.proc)
   turn_is = ap (λ s. turn_by s h.proc) is
 
@@ -190,7 +190,7 @@ module _ (x : Kernel) (k : IsKernel x) (p w : ℕ) (here : (control_of x).doing 
   channel_is = en.0 ∙ ap (λ n. on_store (put_cell plain h.proc.target (cell.Channel n))
       (process_at_entry (config_of h.proc))) k.channels
 
-  system : system_of opened ≡ system_after_turn plain (setting_of x) p (turn_of h) (system_of x)
+  system : system_of opened ≡ system_after_turn plain (code_run_of x) p (turn_of h) (system_of x)
   system = (λ i. record (system_of x) {
     condition = (next_condition x k p w here event.Open (slot.Here r st.Ready)
         ∙ ap (λ d. at_key ◌==◌ p (Working d) (system_of x).condition) channel_is) i;
@@ -198,8 +198,8 @@ module _ (x : Kernel) (k : IsKernel x) (p w : ℕ) (here : (control_of x).doing 
     births = next_births x k p w here event.Open (slot.Here r st.Ready) i;
     entries = x.entries + 1;
   })
-      ∙ after_quiet (setting_of x) (system_of x) p (m.Opens h.proc.target) (config_of h.proc) quiet fine
-      ∙ ap (λ t. system_after_turn plain (setting_of x) p t (system_of x)) (sym turn_is)
+      ∙ after_quiet (code_run_of x) (system_of x) p (m.Opens h.proc.target) (config_of h.proc) quiet fine
+      ∙ ap (λ t. system_after_turn plain (code_run_of x) p t (system_of x)) (sym turn_is)
 
   offers : (c : ℕ) (o : Pending) → slice_get (x.channels ++ None ∷ []) c ≡ Some (Some o)
       → WaitsAs (slice_get (slice_set x.slots p (slot.Here r st.Ready)) o.process) c o
@@ -210,7 +210,7 @@ module _ (x : Kernel) (k : IsKernel x) (p w : ℕ) (here : (control_of x).doing 
   gave = record {
     control = control;
     system = system;
-    setting = (refl, refl, refl);
+    code_run = (refl, refl, refl);
     entry = ap (λ e. x.journal.entries ++ record { process = p; event = e } ∷ []) event_is;
     whole = whole_after x k p w here h opened control system
         (length-set x.slots p _ ∙ k.processes

@@ -31,7 +31,7 @@ use Rattle.sp_kernel.specs.declared.handed.Handed.{Handed}
 use Rattle.sp_machine.specs.declared.state.Stop.TheVariants as stop
 use Rattle.sp_kernel.specs.declared.kernel.Kernel.{Kernel}
 use Rattle.sp_kernel.specs.Procs.{config_of, turn_by, turn_of, EntersAs}
-use Rattle.sp_kernel.specs.Kernels.{doing_in, condition_in, offer_in, process_in, control_of, system_of, setting_of}
+use Rattle.sp_kernel.specs.Kernels.{doing_in, condition_in, offer_in, process_in, control_of, system_of, code_run_of}
 use Rattle.sp_kernel.specs.Kernels.{WaitsAs, IsOwn, NumberIn, IsKernel, Gave}
 use Rattle.sp_kernel.specs.Receives.{waits_to_receive, meets_receiving, IsSender, IsSenderWith, EntersWith}
 use Rattle.sp_kernel.specs.Fits.{FitsHanded}
@@ -54,7 +54,7 @@ module _ (lim : Limits) (s : System Plain) (c k : ℕ) (a : Address) (d : m.Conf
 module _ (x : Kernel) (k : IsKernel x) (p w : ℕ) (here : (control_of x).doing p ≡ Out w) (h : Handed) (c j : ℕ)
     (is : h.stop ≡ stop.Receive c j) (quiet : x.faulted ≡ false)
     (fine : fault_of x.limits (system_of x) (Stopped (m.Receives c j h.proc.target) (config_of h.proc)) ≡ None)
-    (number : h.proc.number ≡ p) (reads : h.proc.input.value ≡ (setting_of x).input) where
+    (number : h.proc.number ≡ p) (reads : h.proc.input.value ≡ (code_run_of x).input) where
   turn_is : turn_of h ≡ Stopped (m.Receives c j h.proc.target) (config_of h.proc)
   turn_is = ap (λ s. turn_by s h.proc) is
 
@@ -67,7 +67,7 @@ module _ (x : Kernel) (k : IsKernel x) (p w : ℕ) (here : (control_of x).doing 
     own_first : r.number ≡ p
     own_first = en.1 ∙ number
 
-    its_first : IsOwn (setting_of x).input r p
+    its_first : IsOwn (code_run_of x).input r p
     its_first = (own_first, en.3 ∙ reads)
 
     abbrev first : Kernel
@@ -91,7 +91,7 @@ module _ (x : Kernel) (k : IsKernel x) (p w : ℕ) (here : (control_of x).doing 
         { out = x.out - 1; births = births x.journal.entries }) (sym (ap offer_in free))
         ∙ ap (λ e. comes_back p e (control_of x)) event_is
 
-    first_system : system_of first ≡ system_after_turn plain (setting_of x) p (turn_of h) (system_of x)
+    first_system : system_of first ≡ system_after_turn plain (code_run_of x) p (turn_of h) (system_of x)
     first_system = (λ i. record (system_of x) {
       condition = (next_condition x k p w here (event.Receive c) (slot.Here r (st.Receiving c j))
           ∙ ap (λ a. at_key ◌==◌ p (Waits (m.Receives c j a) (config_of r)) (system_of x).condition) en.2
@@ -101,18 +101,18 @@ module _ (x : Kernel) (k : IsKernel x) (p w : ℕ) (here : (control_of x).doing 
       births = next_births x k p w here (event.Receive c) (slot.Here r (st.Receiving c j)) i;
       entries = x.entries + 1;
     })
-        ∙ ap (λ (o : Option ℕ). record (with_entry_counted plain (setting_of x)
-        (apply_receive plain (setting_of x) p (m.Receives c j h.proc.target) c h.proc.target
+        ∙ ap (λ (o : Option ℕ). record (with_entry_counted plain (code_run_of x)
+        (apply_receive plain (code_run_of x) p (m.Receives c j h.proc.target) c h.proc.target
         (process_at_entry (config_of h.proc)) o (system_of x))) { births = births x.journal.entries })
         (sym (ap process_in free))
-        ∙ after_quiet (setting_of x) (system_of x) p (m.Receives c j h.proc.target) (config_of h.proc) quiet fine
-        ∙ ap (λ t. system_after_turn plain (setting_of x) p t (system_of x)) (sym turn_is)
+        ∙ after_quiet (code_run_of x) (system_of x) p (m.Receives c j h.proc.target) (config_of h.proc) quiet fine
+        ∙ ap (λ t. system_after_turn plain (code_run_of x) p t (system_of x)) (sym turn_is)
 
     first_gave : Gave x p h first
     first_gave = record {
       control = first_control;
       system = first_system;
-      setting = (refl, refl, refl);
+      code_run = (refl, refl, refl);
       entry = ap (λ e. x.journal.entries ++ record { process = p; event = e } ∷ []) event_is;
       whole = whole_after x k p w here h first first_control first_system
           (length-set x.slots p _ ∙ k.processes
@@ -143,7 +143,7 @@ module _ (x : Kernel) (k : IsKernel x) (p w : ℕ) (here : (control_of x).doing 
     own : r.number ≡ p
     own = en.1 ∙ number
 
-    its : IsOwn (setting_of x).input r p
+    its : IsOwn (code_run_of x).input r p
     its = (own, en.2 ∙ reads)
 
     met : Kernel
@@ -156,11 +156,11 @@ module _ (x : Kernel) (k : IsKernel x) (p w : ℕ) (here : (control_of x).doing 
       entries = x.entries + 1;
     }
 
-    received_is : after_message plain (setting_of x) [] (condition_in (slice_get x.slots z)) ≡ Working (config_of t)
+    received_is : after_message plain (code_run_of x) [] (condition_in (slice_get x.slots z)) ≡ Working (config_of t)
     received_is = go (slice_get x.slots z) gives
       where
         go : (o : Option Slot) → IsSenderWith o t cs
-            → after_message plain (setting_of x) [] (condition_in o) ≡ Working (config_of t)
+            → after_message plain (code_run_of x) [] (condition_in o) ≡ Working (config_of t)
         go None e = absurd e
         go (Some (slot.Here q st.Ready)) e = absurd e
         go (Some (slot.Out v q)) e = absurd e
@@ -172,10 +172,10 @@ module _ (x : Kernel) (k : IsKernel x) (p w : ℕ) (here : (control_of x).doing 
         go (Some (slot.Here q st.Over)) e = absurd e
         go (Some (slot.Gone q)) e = absurd e
 
-    message_is : message_of plain (setting_of x) (stop_of (condition_in (slice_get x.slots z))) ≡ cs
+    message_is : message_of plain (code_run_of x) (stop_of (condition_in (slice_get x.slots z))) ≡ cs
     message_is = go (slice_get x.slots z) gives
       where
-        go : (o : Option Slot) → IsSenderWith o t cs → message_of plain (setting_of x) (stop_of (condition_in o)) ≡ cs
+        go : (o : Option Slot) → IsSenderWith o t cs → message_of plain (code_run_of x) (stop_of (condition_in o)) ≡ cs
         go None e = absurd e
         go (Some (slot.Here q st.Ready)) e = absurd e
         go (Some (slot.Out v q)) e = absurd e
@@ -204,7 +204,7 @@ module _ (x : Kernel) (k : IsKernel x) (p w : ℕ) (here : (control_of x).doing 
         { out = x.out - 1; births = births x.journal.entries }) (sym (ap offer_in pending))
         ∙ ap (λ e. comes_back p e (control_of x)) event_is
 
-    met_system : system_of (met z pending t r cs gives en) ≡ system_after_turn plain (setting_of x) p (turn_of h)
+    met_system : system_of (met z pending t r cs gives en) ≡ system_after_turn plain (code_run_of x) p (turn_of h)
         (system_of x)
     unfolding met
     met_system = (λ i. record (system_of x) {
@@ -216,29 +216,29 @@ module _ (x : Kernel) (k : IsKernel x) (p w : ℕ) (here : (control_of x).doing 
           (sym (message_is z pending t r cs gives en))
           ∙ ap (λ y. at_key ◌==◌ p (Working (on_store
           (put_cells plain h.proc.target
-          (message_of plain (setting_of x) (stop_of (condition_in (slice_get x.slots z)))))
+          (message_of plain (code_run_of x) (stop_of (condition_in (slice_get x.slots z)))))
           (process_at_entry (config_of h.proc)))) (at_key ◌==◌ z y (system_of x).condition))
           (sym (received_is z pending t r cs gives en))) i;
       pending = table_set process_in x.channels c None (slice_get_within x.channels c _ pending) i;
       births = next_births x k p w here (event.Receive c) (slot.Here r st.Ready) i;
       entries = x.entries + 1;
     })
-        ∙ ap (λ (o : Option ℕ). record (with_entry_counted plain (setting_of x)
-        (apply_receive plain (setting_of x) p (m.Receives c j h.proc.target) c h.proc.target
+        ∙ ap (λ (o : Option ℕ). record (with_entry_counted plain (code_run_of x)
+        (apply_receive plain (code_run_of x) p (m.Receives c j h.proc.target) c h.proc.target
         (process_at_entry (config_of h.proc)) o (system_of x))) { births = births x.journal.entries })
         (sym (ap process_in pending))
-        ∙ after_quiet (setting_of x) (system_of x) p (m.Receives c j h.proc.target) (config_of h.proc) quiet fine
-        ∙ ap (λ t. system_after_turn plain (setting_of x) p t (system_of x)) (sym turn_is)
+        ∙ after_quiet (code_run_of x) (system_of x) p (m.Receives c j h.proc.target) (config_of h.proc) quiet fine
+        ∙ ap (λ t. system_after_turn plain (code_run_of x) p t (system_of x)) (sym turn_is)
 
-    got_number : IsOwn (setting_of x).input t z
+    got_number : IsOwn (code_run_of x).input t z
     got_number = go (slice_get x.slots z) gives (k.numbers z)
       where
-        go : (o : Option Slot) → IsSenderWith o t cs → NumberIn (setting_of x).input o z
-            → IsOwn (setting_of x).input t z
+        go : (o : Option Slot) → IsSenderWith o t cs → NumberIn (code_run_of x).input o z
+            → IsOwn (code_run_of x).input t z
         go None e n = absurd e
         go (Some (slot.Here q st.Ready)) e n = absurd e
         go (Some (slot.Out v q)) e n = absurd e
-        go (Some (slot.Here q (st.Sending d i bs))) e n = subst (λ (y : Proc). IsOwn (setting_of x).input y z) e.0 n
+        go (Some (slot.Here q (st.Sending d i bs))) e n = subst (λ (y : Proc). IsOwn (code_run_of x).input y z) e.0 n
         go (Some (slot.Here q (st.Receiving d i))) e n = absurd e
         go (Some (slot.Here q (st.Joining m))) e n = absurd e
         go (Some (slot.Here q st.Laid)) e n = absurd e
@@ -251,7 +251,7 @@ module _ (x : Kernel) (k : IsKernel x) (p w : ℕ) (here : (control_of x).doing 
     met_gave = record {
       control = met_control;
       system = met_system;
-      setting = (refl, refl, refl);
+      code_run = (refl, refl, refl);
       entry = ap (λ e. x.journal.entries ++ record { process = p; event = e } ∷ []) event_is;
       whole = whole_after x k p w here h (met z pending t r cs gives en) met_control met_system
           (length-set (slice_set x.slots z (slot.Here t st.Ready)) p _ ∙ length-set x.slots z _ ∙ k.processes
@@ -334,11 +334,11 @@ pub sender_fits : (x : Kernel) (k : IsKernel x) (w : ℕ) (h : Handed) (c j : �
     → IsSender (slice_get x.slots q.process) h.proc
 sender_fits x k w h c j is quiet fine fits q e f = go (slice_get x.slots q.process) refl (k.offers c q e)
   where
-    stops : StopsAt (setting_of x) (system_of x) h.proc.number (m.Receives c j h.proc.target) (config_of h.proc)
+    stops : StopsAt (code_run_of x) (system_of x) h.proc.number (m.Receives c j h.proc.target) (config_of h.proc)
     stops = record {
       configuration = fits.configuration;
       runs = fits.runs;
-      turn = subst (λ t. IsTurn (memory plain (setting_of x)) (setting_of x).code fits.configuration t)
+      turn = subst (λ t. IsTurn (memory plain (code_run_of x)) (code_run_of x).code fits.configuration t)
           (ap (λ s. turn_by s h.proc) is) fits.turn;
       quiet = quiet;
       fine = fine;

@@ -30,7 +30,7 @@ use Rattle.sp_kernel.specs.declared.handed.Handed.{Handed}
 use Rattle.sp_machine.specs.declared.state.Stop.TheVariants as stop
 use Rattle.sp_kernel.specs.declared.kernel.Kernel.{Kernel}
 use Rattle.sp_kernel.specs.Procs.{config_of, turn_by, turn_of, EntersAs}
-use Rattle.sp_kernel.specs.Kernels.{doing_in, condition_in, offer_in, process_in, control_of, system_of, setting_of}
+use Rattle.sp_kernel.specs.Kernels.{doing_in, condition_in, offer_in, process_in, control_of, system_of, code_run_of}
 use Rattle.sp_kernel.specs.Kernels.{WaitsAs, IsOwn, NumberIn, IsKernel, Gave}
 use Rattle.sp_kernel.specs.Sends.{waits_to_send, meets_sending, IsReceiver, Receives as Gets}
 use Rattle.sp_kernel.specs.Fits.{FitsHanded}
@@ -55,7 +55,7 @@ module _ (x : Kernel) (k : IsKernel x) (p w : ℕ) (here : (control_of x).doing 
     (is : h.stop ≡ stop.Send c j cs) (quiet : x.faulted ≡ false)
     (fine : fault_of x.limits (system_of x) (Stopped (m.Sends c j cs) (config_of h.proc)) ≡ None)
     (r : Proc) (en : EntersAs h.proc r) (number : h.proc.number ≡ p)
-    (reads : h.proc.input.value ≡ (setting_of x).input) where
+    (reads : h.proc.input.value ≡ (code_run_of x).input) where
   turn_is : turn_of h ≡ Stopped (m.Sends c j cs) (config_of h.proc)
   turn_is = ap (λ s. turn_by s h.proc) is
 
@@ -66,7 +66,7 @@ module _ (x : Kernel) (k : IsKernel x) (p w : ℕ) (here : (control_of x).doing 
   own : r.number ≡ p
   own = en.1 ∙ number
 
-  its : IsOwn (setting_of x).input r p
+  its : IsOwn (code_run_of x).input r p
   its = (own, en.3 ∙ reads)
 
   -- nothing is pending: it waits
@@ -92,7 +92,7 @@ module _ (x : Kernel) (k : IsKernel x) (p w : ℕ) (here : (control_of x).doing 
         { out = x.out - 1; births = births x.journal.entries }) (sym (ap offer_in free))
         ∙ ap (λ e. comes_back p e (control_of x)) event_is
 
-    first_system : system_of first ≡ system_after_turn plain (setting_of x) p (turn_of h) (system_of x)
+    first_system : system_of first ≡ system_after_turn plain (code_run_of x) p (turn_of h) (system_of x)
     first_system = (λ i. record (system_of x) {
       condition = (next_condition x k p w here (event.Send c) (slot.Here r (st.Sending c j cs))
           ∙ ap (λ d. at_key ◌==◌ p (Waits (m.Sends c j cs) d) (system_of x).condition) en.0) i;
@@ -101,17 +101,18 @@ module _ (x : Kernel) (k : IsKernel x) (p w : ℕ) (here : (control_of x).doing 
       births = next_births x k p w here (event.Send c) (slot.Here r (st.Sending c j cs)) i;
       entries = x.entries + 1;
     })
-        ∙ ap (λ (o : Option ℕ). record (with_entry_counted plain (setting_of x)
-        (apply_send plain (setting_of x) p (m.Sends c j cs) c cs (process_at_entry (config_of h.proc)) o (system_of x)))
+        ∙ ap (λ (o : Option ℕ). record (with_entry_counted plain (code_run_of x)
+        (apply_send plain (code_run_of x) p (m.Sends c j cs) c cs (process_at_entry (config_of h.proc)) o
+        (system_of x)))
         { births = births x.journal.entries }) (sym (ap process_in free))
-        ∙ after_quiet (setting_of x) (system_of x) p (m.Sends c j cs) (config_of h.proc) quiet fine
-        ∙ ap (λ t. system_after_turn plain (setting_of x) p t (system_of x)) (sym turn_is)
+        ∙ after_quiet (code_run_of x) (system_of x) p (m.Sends c j cs) (config_of h.proc) quiet fine
+        ∙ ap (λ t. system_after_turn plain (code_run_of x) p t (system_of x)) (sym turn_is)
 
     first_gave : Gave x p h first
     first_gave = record {
       control = first_control;
       system = first_system;
-      setting = (refl, refl, refl);
+      code_run = (refl, refl, refl);
       entry = ap (λ e. x.journal.entries ++ record { process = p; event = e } ∷ []) event_is;
       whole = whole_after x k p w here h first first_control first_system
           (length-set x.slots p _ ∙ k.processes
@@ -149,10 +150,10 @@ module _ (x : Kernel) (k : IsKernel x) (p w : ℕ) (here : (control_of x).doing 
       entries = x.entries + 1;
     }
 
-    received_is : after_message plain (setting_of x) cs (condition_in (slice_get x.slots z)) ≡ Working (config_of t)
+    received_is : after_message plain (code_run_of x) cs (condition_in (slice_get x.slots z)) ≡ Working (config_of t)
     received_is = go (slice_get x.slots z) gets
       where
-        go : (o : Option Slot) → Gets o cs t → after_message plain (setting_of x) cs (condition_in o)
+        go : (o : Option Slot) → Gets o cs t → after_message plain (code_run_of x) cs (condition_in o)
             ≡ Working (config_of t)
         go None e = absurd e
         go (Some (slot.Here q st.Ready)) e = absurd e
@@ -182,7 +183,7 @@ module _ (x : Kernel) (k : IsKernel x) (p w : ℕ) (here : (control_of x).doing 
         { out = x.out - 1; births = births x.journal.entries }) (sym (ap offer_in pending))
         ∙ ap (λ e. comes_back p e (control_of x)) event_is
 
-    met_system : system_of (met z pending t gets) ≡ system_after_turn plain (setting_of x) p (turn_of h) (system_of x)
+    met_system : system_of (met z pending t gets) ≡ system_after_turn plain (code_run_of x) p (turn_of h) (system_of x)
     unfolding met
     met_system = (λ i. record (system_of x) {
       condition = (both_set x k p w here c _ pending t r condition_in
@@ -194,16 +195,17 @@ module _ (x : Kernel) (k : IsKernel x) (p w : ℕ) (here : (control_of x).doing 
       births = next_births x k p w here (event.Send c) (slot.Here r st.Ready) i;
       entries = x.entries + 1;
     })
-        ∙ ap (λ (o : Option ℕ). record (with_entry_counted plain (setting_of x)
-        (apply_send plain (setting_of x) p (m.Sends c j cs) c cs (process_at_entry (config_of h.proc)) o (system_of x)))
+        ∙ ap (λ (o : Option ℕ). record (with_entry_counted plain (code_run_of x)
+        (apply_send plain (code_run_of x) p (m.Sends c j cs) c cs (process_at_entry (config_of h.proc)) o
+        (system_of x)))
         { births = births x.journal.entries }) (sym (ap process_in pending))
-        ∙ after_quiet (setting_of x) (system_of x) p (m.Sends c j cs) (config_of h.proc) quiet fine
-        ∙ ap (λ t. system_after_turn plain (setting_of x) p t (system_of x)) (sym turn_is)
+        ∙ after_quiet (code_run_of x) (system_of x) p (m.Sends c j cs) (config_of h.proc) quiet fine
+        ∙ ap (λ t. system_after_turn plain (code_run_of x) p t (system_of x)) (sym turn_is)
 
-    got_number : IsOwn (setting_of x).input t z
+    got_number : IsOwn (code_run_of x).input t z
     got_number = go (slice_get x.slots z) gets (k.numbers z)
       where
-        go : (o : Option Slot) → Gets o cs t → NumberIn (setting_of x).input o z → IsOwn (setting_of x).input t z
+        go : (o : Option Slot) → Gets o cs t → NumberIn (code_run_of x).input o z → IsOwn (code_run_of x).input t z
         go None e n = absurd e
         go (Some (slot.Here q st.Ready)) e n = absurd e
         go (Some (slot.Out v q)) e n = absurd e
@@ -220,7 +222,7 @@ module _ (x : Kernel) (k : IsKernel x) (p w : ℕ) (here : (control_of x).doing 
     met_gave = record {
       control = met_control;
       system = met_system;
-      setting = (refl, refl, refl);
+      code_run = (refl, refl, refl);
       entry = ap (λ e. x.journal.entries ++ record { process = p; event = e } ∷ []) event_is;
       whole = whole_after x k p w here h (met z pending t gets) met_control met_system
           (length-set (slice_set x.slots z (slot.Here t st.Ready)) p _ ∙ length-set x.slots z _ ∙ k.processes
@@ -300,11 +302,11 @@ pub receiver_takes : (x : Kernel) (k : IsKernel x) (w : ℕ) (h : Handed) (c j :
     → IsReceiver (slice_get x.slots q.process) cs
 receiver_takes x k w h c j cs is quiet fine fits q e f = go (slice_get x.slots q.process) refl (k.offers c q e)
   where
-    stops : StopsAt (setting_of x) (system_of x) h.proc.number (m.Sends c j cs) (config_of h.proc)
+    stops : StopsAt (code_run_of x) (system_of x) h.proc.number (m.Sends c j cs) (config_of h.proc)
     stops = record {
       configuration = fits.configuration;
       runs = fits.runs;
-      turn = subst (λ t. IsTurn (memory plain (setting_of x)) (setting_of x).code fits.configuration t)
+      turn = subst (λ t. IsTurn (memory plain (code_run_of x)) (code_run_of x).code fits.configuration t)
           (ap (λ s. turn_by s h.proc) is) fits.turn;
       quiet = quiet;
       fine = fine;

@@ -26,7 +26,7 @@ use Rattle.sp_kernel.specs.declared.ask.Ask.TheVariants as ask
 use Rattle.sp_kernel.specs.declared.ask.Got.{Got}
 use Rattle.sp_kernel.specs.declared.ask.Got.TheVariants as got
 use Rattle.sp_kernel.specs.Procs.{turn_of}
-use Rattle.sp_kernel.specs.Kernels.{control_of, system_of, setting_of, doing_in, condition_in, NumberIn, IsKernel}
+use Rattle.sp_kernel.specs.Kernels.{control_of, system_of, code_run_of, doing_in, condition_in, NumberIn, IsKernel}
 use Rattle.sp_kernel.specs.Kernels.{Takes, Gave, Abandons}
 use Rattle.sp_kernel.specs.Fits.{FitsHanded}
 use Rattle.sp_kernel.specs.Asks.{LeavesNote, GotMatchesNote, FitsAsk}
@@ -37,9 +37,9 @@ use Rattle.sp_kernel.proofs.Tables.{table_set, set_as_it_was}
 use Rattle.sp_kernel.proofs.Taking.{over_none}
 use Rattle.sp_kernel.proofs.Giving.{there, same_offers, same_numbers}
 
-pub same_setting : (x y : Kernel) → (y.code ≡ x.code) × (y.limits ≡ x.limits) × (y.root ≡ x.root)
-    → setting_of y ≡ setting_of x
-same_setting x y e = λ i. run_of (e.0 i).value (e.2 i).value.input.value (e.1 i)
+pub same_code_run : (x y : Kernel) → (y.code ≡ x.code) × (y.limits ≡ x.limits) × (y.root ≡ x.root)
+    → code_run_of y ≡ code_run_of x
+same_code_run x y e = λ i. run_of (e.0 i).value (e.2 i).value.input.value (e.1 i)
 
 pub noted_take : (x : Kernel) (w : ℕ) (y : Kernel) (p : Proc) → Takes x w y (Some p)
     → LeavesNote x w (ask.Turn None) y (got.Work p)
@@ -50,7 +50,7 @@ noted_take x w y p t = record {
       let f : y.out ≡ x.out = ap (λ (z : Kernel). z.out) same in omega (arith, e, f);
   follows = record { gives = t.system; gets = sym t.front };
   control = t.control;
-  setting = same_setting x y t.setting;
+  code_run = same_code_run x y t.code_run;
   whole = t.whole;
   out = let e : y.out ≡ x.out + 1 = ap (λ (c : Control). c.out) t.control in omega (arith, e);
   abandons = let e : y.abandons ≡ x.abandons = ap (λ (c : Control). c.abandons) t.control in omega (arith, e);
@@ -58,7 +58,7 @@ noted_take x w y p t = record {
     refl,
     ap (λ (s : System Plain). s.condition p.number) t.system ∙ (t.work p refl).0,
     (t.work p refl).1
-        ∙ ap (λ (g : CodeRun). g.input) (sym (same_setting x y t.setting)),
+        ∙ ap (λ (g : CodeRun). g.input) (sym (same_code_run x y t.code_run)),
   );
   journal = ap (λ (j : _). j.entries) t.journal ∙ sym (append-nil x.journal.entries);
   gives_up = (refl, refl);
@@ -130,7 +130,7 @@ noted_turn x w h m y r g e fits gave t is answer =
         gets = t.front ∙ ap front back;
       };
       control = now;
-      setting = same_setting m y t.setting ∙ same_setting x m gave.setting;
+      code_run = same_code_run m y t.code_run ∙ same_code_run x m gave.code_run;
       whole = t.whole;
       out = let a : y.out ≡ (takes w (option_map (λ (p : Proc). p.number) r) (comes_back h.proc.number e k)).out =
           ap (λ (c : Control). c.out) now in
@@ -152,7 +152,7 @@ module _ (x : Kernel) (k : IsKernel x) (w : ℕ) where
   gives_up_none = record {
     control = refl;
     system = refl;
-    setting = (refl, refl, refl);
+    code_run = (refl, refl, refl);
     journal = refl;
     whole = record {
       orderly = orderly_gives_up (control_of x) k.orderly w None (λ p e. absurd (cc e));
@@ -166,7 +166,8 @@ module _ (x : Kernel) (k : IsKernel x) (w : ℕ) where
   }
 
   module _ (q : ℕ) (out : (control_of x).doing q ≡ Out w) (s : Slot) (gone : doing_in (Some s) ≡ Gone)
-      (runs : condition_in (Some s) ≡ (system_of x).condition q) (free : NumberIn (setting_of x).input (Some s) q) where
+      (runs : condition_in (Some s) ≡ (system_of x).condition q)
+      (free : NumberIn (code_run_of x).input (Some s) q) where
     abbrev lost : Kernel
     lost = record x { slots = slice_set x.slots q s; out = x.out - 1; abandons = x.abandons + 1 }
 
@@ -192,7 +193,7 @@ module _ (x : Kernel) (k : IsKernel x) (w : ℕ) where
     gives_up_some = record {
       control = lost_control;
       system = lost_system;
-      setting = (refl, refl, refl);
+      code_run = (refl, refl, refl);
       journal = refl;
       whole = record {
         orderly = subst IsOrderly (sym lost_control) (orderly_gives_up (control_of x) k.orderly w (Some q) is_mine);
@@ -247,7 +248,7 @@ noted_abandon x w o y g fits a answer =
           absurd (omega (arith, more, e));
       follows = record { gives = gives o fits a.system; gets = gets o };
       control = a.control ∙ sym (noted_abandons w n (control_of x));
-      setting = same_setting x y a.setting;
+      code_run = same_code_run x y a.code_run;
       whole = a.whole;
       out = omega (arith, outs, abandons_out n (control_of x));
       abandons = omega (arith, more);
@@ -258,13 +259,13 @@ noted_abandon x w o y g fits a answer =
     }
   where
     gives : (p : Option Proc) → FitsAsk x w (ask.Abandon p) → system_of y ≡ system_of x
-        → GiveIsLegal plain (setting_of x) (control_of x) (system_of x) w (option_map (λ (q : Proc). q.number) p)
+        → GiveIsLegal plain (code_run_of x) (control_of x) (system_of x) w (option_map (λ (q : Proc). q.number) p)
         None None
         (system_of y)
     gives None f e = e
     gives (Some p) f e = (f, refl, e)
 
-    gets : (p : Option Proc) → GetIsLegal plain (setting_of x)
+    gets : (p : Option Proc) → GetIsLegal plain (code_run_of x)
         (after_give (option_map (λ (q : Proc). q.number) p) None None (control_of x)) None None
     gets p = tt {0}
 

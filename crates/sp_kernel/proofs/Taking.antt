@@ -17,7 +17,8 @@ use Rattle.sp_kernel.specs.declared.slot.State.TheVariants as st
 use Rattle.sp_machine.specs.declared.state.State.{State as Proc}
 use Rattle.sp_kernel.specs.declared.kernel.Kernel.{Kernel}
 use Rattle.sp_kernel.specs.Procs.{config_of}
-use Rattle.sp_kernel.specs.Kernels.{doing_in, condition_in, control_of, system_of, setting_of, WaitsAs, NumberIn, IsOwn}
+use Rattle.sp_kernel.specs.Kernels.{doing_in, condition_in, control_of, system_of}
+use Rattle.sp_kernel.specs.Kernels.{code_run_of, WaitsAs, NumberIn, IsOwn}
 use Rattle.sp_kernel.specs.Kernels.{IsKernel, Takes, is_over}
 use Rattle.sp_history.specs.Agreement.{EachNumber, IsGot}
 use Rattle.sp_history.proofs.Queues.{number_or}
@@ -68,12 +69,12 @@ first_ready x k q e = go x.ready refl k.orderly.queue.queued e
 module _ (x : Kernel) (k : IsKernel x) (w q : ℕ) (goes : is_over (control_of x) ≡ false) (e : front_of x.ready ≡ Some q)
     (p : Proc) (here : slice_get x.slots q ≡ Some (slot.Here p st.Ready)) (s : Slot)
     (doing : doing_in (Some s) ≡ Out w) (runs : condition_in (Some s) ≡ Working (config_of p))
-    (free : NumberIn (setting_of x).input (Some s) q) where
+    (free : NumberIn (code_run_of x).input (Some s) q) where
   abbrev taken : Kernel
   taken = record x { slots = slice_set x.slots q s; ready = queue_tail x.ready; out = x.out + 1 }
 
-  own : IsOwn (setting_of x).input p q
-  own = subst (λ o. NumberIn (setting_of x).input o q) here (k.numbers q)
+  own : IsOwn (code_run_of x).input p q
+  own = subst (λ o. NumberIn (code_run_of x).input o q) here (k.numbers q)
 
   number : p.number ≡ q
   number = own.0
@@ -105,14 +106,15 @@ module _ (x : Kernel) (k : IsKernel x) (w q : ℕ) (goes : is_over (control_of x
       (get_beside_set x.slots q o.process s (λ is. subst (λ t. WaitsAs t c o)
       (ap (λ i. slice_get x.slots i) (sym is) ∙ here) (k.offers c o f)))) (k.offers c o f)
 
-  numbers : (r : ℕ) → NumberIn (setting_of x).input (slice_get (slice_set x.slots q s) r) r
+  numbers : (r : ℕ) → NumberIn (code_run_of x).input (slice_get (slice_set x.slots q s) r) r
   numbers r = go (number_or q r)
     where
       go : (q ≡ r) ⊎ ((q ≢ r) × (q == r ≡ false))
-          → NumberIn (setting_of x).input (slice_get (slice_set x.slots q s) r) r
-      go (inl is) = subst (λ j. NumberIn (setting_of x).input (slice_get (slice_set x.slots q s) j) j) is
-          (subst (λ t. NumberIn (setting_of x).input t q) (sym (get_where_set x.slots q s q_there)) free)
-      go (inr o) = subst (λ t. NumberIn (setting_of x).input t r) (sym (get_beside_set x.slots q r s o.0)) (k.numbers r)
+          → NumberIn (code_run_of x).input (slice_get (slice_set x.slots q s) r) r
+      go (inl is) = subst (λ j. NumberIn (code_run_of x).input (slice_get (slice_set x.slots q s) j) j) is
+          (subst (λ t. NumberIn (code_run_of x).input t q) (sym (get_where_set x.slots q s q_there)) free)
+      go (inr o) = subst (λ t. NumberIn (code_run_of x).input t r) (sym (get_beside_set x.slots q r s o.0))
+          (k.numbers r)
 
   pub took_some : Takes x w taken (Some p)
   took_some = record {
@@ -122,8 +124,8 @@ module _ (x : Kernel) (k : IsKernel x) (w q : ℕ) (goes : is_over (control_of x
     unchanged = λ r. absurd (cc r);
     work = λ r f. let g : p ≡ r = cc f in subst
         (λ (z : Proc). ((system_of x).condition z.number ≡ Working (config_of z))
-        × (z.input.value ≡ (setting_of x).input)) g (ap (system_of x).condition number ∙ ap condition_in here, own.1);
-    setting = (refl, refl, refl);
+        × (z.input.value ≡ (code_run_of x).input)) g (ap (system_of x).condition number ∙ ap condition_in here, own.1);
+    code_run = (refl, refl, refl);
     journal = refl;
     whole = record {
       orderly = subst (λ c. Rattle.sp_history.specs.Agreement.IsOrderly c) (sym control)

@@ -22,7 +22,7 @@ use Rattle.sp_kernel.specs.declared.ask.Ask.TheVariants as ask
 use Rattle.sp_kernel.specs.declared.ask.Got.{Got}
 use Rattle.sp_kernel.specs.declared.ask.Got.TheVariants as got
 use Rattle.sp_kernel.specs.Procs.{config_of, turn_of}
-use Rattle.sp_kernel.specs.Kernels.{control_of, system_of, setting_of, IsKernel}
+use Rattle.sp_kernel.specs.Kernels.{control_of, system_of, code_run_of, IsKernel}
 use Rattle.sp_machine.specs.Procs.{KeepsFork}
 use Rattle.sp_kernel.specs.Fits.{FitsHanded, IsWhole}
 use Rattle.sp_history.specs.Agreement.{NoteLeads, Reaches}
@@ -31,7 +31,7 @@ use Rattle.sp_history.specs.Agreement.{NoteLeads, Reaches}
 pub record IsOpening (x : Kernel) : Type 0 where
   pub whole : IsKernel x
   pub control : control_of x ≡ control_at_start
-  pub system : system_of x ≡ opening_system plain (setting_of x)
+  pub system : system_of x ≡ opening_system plain (code_run_of x)
   pub out : x.out ≡ 0
   pub abandons : x.abandons ≡ 0
   pub journal : x.journal.entries ≡ []
@@ -56,7 +56,7 @@ pub record CanServe (x : Kernel) (w : ℕ) (a : Ask) : Type 0 where
 abbrev pub GotMatchesNote : Kernel → Got → Option ℕ → Type 0
 GotMatchesNote y (got.Work p) None = ⊥
 GotMatchesNote y (got.Work p) (Some q) = (p.number ≡ q) × ((system_of y).condition q ≡ Working (config_of p))
-    × (p.input.value ≡ (setting_of y).input)
+    × (p.input.value ≡ (code_run_of y).input)
 GotMatchesNote y got.Nothing None = (front (control_of y) ≡ None) × ((standing (control_of y) ≡ Running) ⊎ (0 < y.out))
 GotMatchesNote y got.Nothing (Some q) = ⊥
 GotMatchesNote y got.Finished None = (standing (control_of y) ≢ Running) × (y.out ≡ 0)
@@ -79,9 +79,9 @@ given_by (ask.Abandon p) = option_map (λ (q : Proc). q.number) p
 pub record LeavesNote (x : Kernel) (w : ℕ) (a : Ask) (y : Kernel) (g : Got) (n : Note) : Type 0 where
   pub worker : n.worker ≡ w
   pub changed : y ≢ x
-  pub follows : NoteLeads plain (setting_of x) (control_of x) (system_of x) n (system_of y)
+  pub follows : NoteLeads plain (code_run_of x) (control_of x) (system_of x) n (system_of y)
   pub control : control_of y ≡ after_note n (control_of x)
-  pub setting : setting_of y ≡ setting_of x
+  pub code_run : code_run_of y ≡ code_run_of x
   pub whole : IsKernel y
   pub out : y.out ≤ x.out + 1
   pub abandons : y.abandons ≤ x.abandons + 1
@@ -137,4 +137,4 @@ StandsFor g seen w (ask.Abandon (Some p)) = HoldsOut g seen w p.number
 
 -- what a seat may ask, by what it has seen
 abbrev pub MayAsk : Kernel → ℕ → List Note → List Note → Ask → Type 0
-MayAsk x w seen own a = (notes_by (λ (n : Note). n.worker) w seen ≡ own) × StandsFor (setting_of x) seen w a
+MayAsk x w seen own a = (notes_by (λ (n : Note). n.worker) w seen ≡ own) × StandsFor (code_run_of x) seen w a

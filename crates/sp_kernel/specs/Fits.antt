@@ -19,7 +19,7 @@ use Rattle.sp_kernel.specs.declared.kernel.Kernel.{Kernel}
 use Rattle.sp_code.specs.Formals.{HaveFormals}
 use Rattle.sp_machine.specs.Procs.{KeepsFork}
 use Rattle.sp_kernel.specs.Procs.{turn_of}
-use Rattle.sp_kernel.specs.Kernels.{control_of, system_of, setting_of}
+use Rattle.sp_kernel.specs.Kernels.{control_of, system_of, code_run_of}
 
 -- a stop that can be handed in: a turn that memory ended can't, and an offer is on one of so many channels
 abbrev pub IsOffered : ℕ → Stop → Type 0
@@ -53,12 +53,12 @@ pub record FitsHanded (x : Kernel) (w : ℕ) (h : Handed) : Type 0 where
   pub out : (control_of x).doing h.proc.number ≡ Out w
   pub configuration : Config (Memory Plain)
   pub runs : (system_of x).condition h.proc.number ≡ Working configuration
-  pub turn : IsTurn (memory plain (setting_of x)) (setting_of x).code configuration (turn_of h)
-  pub safe : IsSafeSystem (setting_of x) (system_of x)
+  pub turn : IsTurn (memory plain (code_run_of x)) (code_run_of x).code configuration (turn_of h)
+  pub safe : IsSafeSystem (code_run_of x) (system_of x)
   pub offered : IsOffered (length x.channels) h.stop
   pub fork : KeepsFork h.stop h.proc
-  pub input : h.proc.input.value ≡ (setting_of x).input
+  pub input : h.proc.input.value ≡ (code_run_of x).input
   -- its parent, if it has one, waits for it
   pub parent : (b : Birth) → (system_of x).births.birth h.proc.number ≡ Some b → (n : ℕ)
       × ((control_of x).doing b.parent ≡ Joining n)
-  pub code : FitsCode (setting_of x).code
+  pub code : FitsCode (code_run_of x).code

@@ -24,7 +24,7 @@ use Rattle.sp_kernel.specs.declared.ask.Ask.TheVariants as ask
 use Rattle.sp_kernel.specs.declared.ask.Got.{Got}
 use Rattle.sp_kernel.specs.declared.ask.Got.TheVariants as got
 use Rattle.sp_kernel.specs.Procs.{config_of, turn_by, turn_of}
-use Rattle.sp_kernel.specs.Kernels.{control_of, system_of, setting_of, IsKernel}
+use Rattle.sp_kernel.specs.Kernels.{control_of, system_of, code_run_of, IsKernel}
 use Rattle.sp_kernel.specs.Fits.{FitsHanded, FitsCode, IsOffered, IsWhole}
 use Rattle.sp_kernel.specs.Asks.{IsOpening, CanServe, FitsAsk, HoldsOut, HasRun, MayAsk, StandsFor, KernelSteps}
 use Rattle.sp_kernel.specs.Asks.{LeavesNote}
@@ -73,9 +73,9 @@ refusal_returns (ask.Abandon p) b g one two a c = absurd (cc one)
 
 -- where the kernel has come after these notes
 pub record KernelAfter (x : Kernel) (log : List Note) (y : Kernel) : Type 0 where
-  pub reaches : Reaches plain (setting_of x) (control_of x) (system_of x) log (system_of y)
+  pub reaches : Reaches plain (code_run_of x) (control_of x) (system_of x) log (system_of y)
   pub control : control_of y ≡ after_notes log (control_of x)
-  pub setting : setting_of y ≡ setting_of x
+  pub code_run : code_run_of y ≡ code_run_of x
   pub whole : IsKernel y
   pub out : y.out ≤ x.out + length log
   pub abandons : y.abandons ≤ x.abandons + length log
@@ -86,7 +86,7 @@ pub kernel_after : (x : Kernel) (log : List Note) (y : Kernel) → IsKernel x �
 kernel_after x [] y k r = record {
   reaches = ap system_of r;
   control = ap control_of (sym r);
-  setting = ap setting_of (sym r);
+  code_run = ap code_run_of (sym r);
   whole = subst IsKernel r k;
   out = let e : x.out ≡ y.out = ap (λ (z : Kernel). z.out) r in omega (arith, e);
   abandons = let e : x.abandons ≡ y.abandons = ap (λ (z : Kernel). z.abandons) r in omega (arith, e);
@@ -100,12 +100,12 @@ kernel_after x (n ∷ ns) y k r =
         system_of r.0,
         one.follows,
         subst (λ (g : CodeRun). Reaches plain g (after_note n (control_of x)) (system_of r.0) ns (system_of y))
-            one.setting
-            (subst (λ (c : Control). Reaches plain (setting_of r.0) c (system_of r.0) ns (system_of y)) one.control
+            one.code_run
+            (subst (λ (c : Control). Reaches plain (code_run_of r.0) c (system_of r.0) ns (system_of y)) one.control
             rest.reaches),
       );
       control = rest.control ∙ ap (after_notes ns) one.control;
-      setting = rest.setting ∙ one.setting;
+      code_run = rest.code_run ∙ one.code_run;
       whole = rest.whole;
       out = omega (arith, one.out, rest.out);
       abandons = omega (arith, one.abandons, rest.abandons);
@@ -155,16 +155,17 @@ module _ (x : Kernel) (fine : IsOpening x) (log : List Note) (y : Kernel) (told 
   pub after_log : KernelAfter x log y
   after_log = kernel_after x log y fine.whole told
 
-  pub from_start : Reaches plain (setting_of x) control_at_start (opening_system plain (setting_of x)) log (system_of y)
-  from_start = subst (λ (s : System Plain). Reaches plain (setting_of x) control_at_start s log (system_of y))
-      fine.system (subst (λ (c : Control). Reaches plain (setting_of x) c (system_of x) log (system_of y)) fine.control
+  pub from_start : Reaches plain (code_run_of x) control_at_start (opening_system plain (code_run_of x)) log
+      (system_of y)
+  from_start = subst (λ (s : System Plain). Reaches plain (code_run_of x) control_at_start s log (system_of y))
+      fine.system (subst (λ (c : Control). Reaches plain (code_run_of x) c (system_of x) log (system_of y)) fine.control
       after_log.reaches)
 
   pub control_is : control_of y ≡ control log
   control_is = after_log.control ∙ ap (after_notes log) fine.control
 
-  pub along : IsSystem plain (setting_of x) (entries_of log) (system_of y)
-  along = reaches_leads plain (setting_of x) control_at_start (opening_system plain (setting_of x)) (system_of y) log
+  pub along : IsSystem plain (code_run_of x) (entries_of log) (system_of y)
+  along = reaches_leads plain (code_run_of x) control_at_start (opening_system plain (code_run_of x)) (system_of y) log
       from_start
 
   few_out : length log < 18446744073709551615 → y.out + 1 < 18446744073709551616
@@ -185,24 +186,24 @@ module _ (x : Kernel) (fine : IsOpening x) (log : List Note) (y : Kernel) (told 
 
     -- what is out with the worker is as it was
     as_before : (s : System Plain) (p : ℕ) (at : Config (Memory Plain))
-        → Reaches plain (setting_of x) control_at_start (opening_system plain (setting_of x)) seen s
+        → Reaches plain (code_run_of x) control_at_start (opening_system plain (code_run_of x)) seen s
         → (control seen).doing p ≡ Out w → s.condition p ≡ Working at
         → ((control log).doing p ≡ Out w) × ((system_of y).condition p ≡ Working at)
     as_before s p at r out runs =
-        let f = reaches_front plain (setting_of x) control_at_start (opening_system plain (setting_of x))
+        let f = reaches_front plain (code_run_of x) control_at_start (opening_system plain (code_run_of x))
         (system_of y) seen
-        starts.0 (subst (λ (l : List Note). Reaches plain (setting_of x) control_at_start
-        (opening_system plain (setting_of x)) l (system_of y)) starts.1 from_start) in
-        let same : s ≡ f.0 = reaches_same plain (setting_of x) control_at_start
-        (opening_system plain (setting_of x)) s f.0
+        starts.0 (subst (λ (l : List Note). Reaches plain (code_run_of x) control_at_start
+        (opening_system plain (code_run_of x)) l (system_of y)) starts.1 from_start) in
+        let same : s ≡ f.0 = reaches_same plain (code_run_of x) control_at_start
+        (opening_system plain (code_run_of x)) s f.0
         seen r f.1 in
-        let kept = reaches_keeps plain (setting_of x) control_at_start (opening_system plain (setting_of x)) f.0 seen
-        orderly_start (agrees_start plain (setting_of x)) f.1 in
-        let o = stays plain (setting_of x) (control seen) f.0 (system_of y) starts.0 kept.0 kept.1 f.2 p w at quiet out
+        let kept = reaches_keeps plain (code_run_of x) control_at_start (opening_system plain (code_run_of x)) f.0 seen
+        orderly_start (agrees_start plain (code_run_of x)) f.1 in
+        let o = stays plain (code_run_of x) (control seen) f.0 (system_of y) starts.0 kept.0 kept.1 f.2 p w at quiet out
         (ap (λ (z : System Plain). z.condition p) (sym same) ∙ runs) in
         (ap (λ (c : Control). c.doing p) (ap control starts.1 ∙ noted_append seen starts.0 control_at_start) ∙ o.0, o.1)
 
-    module _ (q : ℕ) (h : HoldsOut (setting_of x) seen w q) where
+    module _ (q : ℕ) (h : HoldsOut (code_run_of x) seen w q) where
       pub kept : ((control log).doing q ≡ Out w) × ((system_of y).condition q ≡ Working h.configuration)
       kept = as_before h.system q h.configuration h.reaches h.out h.runs
 
@@ -212,7 +213,7 @@ module _ (x : Kernel) (fine : IsOpening x) (log : List Note) (y : Kernel) (told 
       pub runs_now : (system_of y).condition q ≡ Working h.configuration
       runs_now = kept.1
 
-      abbrev pub held_now : HoldsOut (setting_of x) log w q
+      abbrev pub held_now : HoldsOut (code_run_of x) log w q
       held_now = record {
         system = system_of y;
         reaches = from_start;
@@ -226,26 +227,26 @@ module _ (x : Kernel) (fine : IsOpening x) (log : List Note) (y : Kernel) (told 
           × ((control_of y).doing b.parent ≡ Joining n)
       parent_waits b e =
           let j = parent_joins (control log)
-          (children_all plain (setting_of x) control_at_start (opening_system plain (setting_of x)) (system_of y) log
-          orderly_start (agrees_start plain (setting_of x)) children_start from_start) q w b kept.0
+          (children_all plain (code_run_of x) control_at_start (opening_system plain (code_run_of x)) (system_of y) log
+          orderly_start (agrees_start plain (code_run_of x)) children_start from_start) q w b kept.0
           (ap (λ (c : Control). c.births.birth q) (sym control_is) ∙ e) in
           (j.0, ap (λ (c : Control). c.doing b.parent) control_is ∙ j.1)
 
     -- it offers on a channel that is there
     offered_now : (h : Handed) (at : Config (Memory Plain)) → (system_of y).condition h.proc.number ≡ Working at
-        → IsTurn (memory plain (setting_of x)) (setting_of x).code at (turn_of h) → IsWhole h.stop
+        → IsTurn (memory plain (code_run_of x)) (code_run_of x).code at (turn_of h) → IsWhole h.stop
         → IsOffered (length y.channels) h.stop
     offered_now h at runs turn whole = go h.stop whole turn
       where
         spoken : NamesChannels (system_of y)
-        spoken = system_spoken (setting_of x) (entries_of log) (system_of y) along
+        spoken = system_spoken (code_run_of x) (entries_of log) (system_of y) along
 
-        there : (stop : MachineStop) → IsTurn (memory plain (setting_of x)) (setting_of x).code at
+        there : (stop : MachineStop) → IsTurn (memory plain (code_run_of x)) (code_run_of x).code at
             (Stopped stop (config_of h.proc)) → StopHas (λ c. c < (system_of y).births.channels) stop
-        there stop t = (turn_spoken (setting_of x) (system_of y) h.proc.number at (Stopped stop (config_of h.proc))
+        there stop t = (turn_spoken (code_run_of x) (system_of y) h.proc.number at (Stopped stop (config_of h.proc))
             spoken runs t).0
 
-        go : (s : Stop) → IsWhole s → IsTurn (memory plain (setting_of x)) (setting_of x).code at (turn_by s h.proc)
+        go : (s : Stop) → IsWhole s → IsTurn (memory plain (code_run_of x)) (code_run_of x).code at (turn_by s h.proc)
             → IsOffered (length y.channels) s
         go (stop.Send c k cs) b t = subst (λ n. c < n) (sym after_log.whole.channels) (there (Sends c k cs) t).0
         go (stop.Receive c k) b t =
@@ -257,25 +258,25 @@ module _ (x : Kernel) (fine : IsOpening x) (log : List Note) (y : Kernel) (told 
         go stop.End b t = tt {0}
         go stop.Memory b t = absurd b
 
-    pub fits_now : (h : Handed) → HasRun (setting_of x) seen w h → FitsHanded y w h
+    pub fits_now : (h : Handed) → HasRun (code_run_of x) seen w h → FitsHanded y w h
     fits_now h m = record {
       out = out_now h.proc.number m.holds;
       configuration = m.holds.configuration;
       runs = runs_now h.proc.number m.holds;
       turn = subst (λ (g : CodeRun). IsTurn (memory plain g) g.code m.holds.configuration (turn_of h))
-          (sym after_log.setting)
+          (sym after_log.code_run)
           m.turn;
-      safe = subst (λ (g : CodeRun). IsSafeSystem g (system_of y)) (sym after_log.setting)
+      safe = subst (λ (g : CodeRun). IsSafeSystem g (system_of y)) (sym after_log.code_run)
           (fine.sound.safe x.root.value.input.value x.limits fine.limits (entries_of log) (system_of y) along);
       offered = offered_now h m.holds.configuration (runs_now h.proc.number m.holds) m.turn m.whole;
       fork = m.fork;
-      input = m.input ∙ ap (λ (g : CodeRun). g.input) (sym after_log.setting);
+      input = m.input ∙ ap (λ (g : CodeRun). g.input) (sym after_log.code_run);
       parent = parent_waits h.proc.number m.holds;
-      code = subst (λ (g : CodeRun). FitsCode g.code) (sym after_log.setting)
+      code = subst (λ (g : CodeRun). FitsCode g.code) (sym after_log.code_run)
           (record { blocks = fine.sound.blocks; formals = fine.sound.formals });
     }
 
-    pub later : (a : Ask) → StandsFor (setting_of x) seen w a → StandsFor (setting_of x) log w a × FitsAsk y w a
+    pub later : (a : Ask) → StandsFor (code_run_of x) seen w a → StandsFor (code_run_of x) log w a × FitsAsk y w a
     later (ask.Turn None) m = (tt {0}, tt {0})
     later (ask.Turn (Some h)) m = (
       record {

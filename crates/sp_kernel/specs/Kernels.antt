@@ -93,8 +93,8 @@ system_of x = record {
 }
 
 -- the run that it is of
-abbrev pub setting_of : Kernel → CodeRun
-setting_of x = run_of x.code.value x.root.value.input.value x.limits
+abbrev pub code_run_of : Kernel → CodeRun
+code_run_of x = run_of x.code.value x.root.value.input.value x.limits
 
 -- who offers waits with that offer
 abbrev pub WaitsAs : Option Slot → ℕ → Pending → Type 0
@@ -147,7 +147,7 @@ pub record IsKernel (x : Kernel) : Type 0 where
   pub channels : length x.channels ≡ (births x.journal.entries).channels
   pub offers : (c : ℕ) (o : Pending) → slice_get x.channels c ≡ Some (Some o)
       → WaitsAs (slice_get x.slots o.process) c o
-  pub numbers : (q : ℕ) → NumberIn (setting_of x).input (slice_get x.slots q) q
+  pub numbers : (q : ℕ) → NumberIn (code_run_of x).input (slice_get x.slots q) q
   pub parents : HasParents x.parents (births x.journal.entries)
 
 -- ---- what the steps do
@@ -189,8 +189,8 @@ kernel_after_pause q p x = record (kernel_after_give q event.Pause (slot.Here p 
 -- the event of what was handed in was done
 pub record Gave (x : Kernel) (p : ℕ) (h : Handed) (y : Kernel) : Type 0 where
   pub control : control_of y ≡ comes_back p (event_of x.limits (system_of x) (turn_of h)) (control_of x)
-  pub system : system_of y ≡ system_after_turn plain (setting_of x) p (turn_of h) (system_of x)
-  pub setting : (y.code ≡ x.code) × (y.limits ≡ x.limits) × (y.root ≡ x.root)
+  pub system : system_of y ≡ system_after_turn plain (code_run_of x) p (turn_of h) (system_of x)
+  pub code_run : (y.code ≡ x.code) × (y.limits ≡ x.limits) × (y.root ≡ x.root)
   pub entry : y.journal.entries ≡ x.journal.entries
       ++ record { process = p; event = event_of x.limits (system_of x) (turn_of h) } ∷ []
   pub whole : IsKernel y
@@ -215,8 +215,8 @@ pub record Takes (x : Kernel) (w : ℕ) (y : Kernel) (r : Option Proc) : Type 0 
   pub system : system_of y ≡ system_of x
   pub unchanged : r ≡ None → y ≡ x
   pub work : (p : Proc) → r ≡ Some p → ((system_of x).condition p.number ≡ Working (config_of p))
-      × (p.input.value ≡ (setting_of x).input)
-  pub setting : (y.code ≡ x.code) × (y.limits ≡ x.limits) × (y.root ≡ x.root)
+      × (p.input.value ≡ (code_run_of x).input)
+  pub code_run : (y.code ≡ x.code) × (y.limits ≡ x.limits) × (y.root ≡ x.root)
   pub journal : y.journal ≡ x.journal
   pub whole : IsKernel y
 
@@ -240,6 +240,6 @@ stands_as k = told_standing (standing k)
 pub record Abandons (x : Kernel) (o : Option ℕ) (y : Kernel) : Type 0 where
   pub control : control_of y ≡ abandons o (control_of x)
   pub system : system_of y ≡ system_of x
-  pub setting : (y.code ≡ x.code) × (y.limits ≡ x.limits) × (y.root ≡ x.root)
+  pub code_run : (y.code ≡ x.code) × (y.limits ≡ x.limits) × (y.root ≡ x.root)
   pub journal : y.journal ≡ x.journal
   pub whole : IsKernel y

@@ -10,7 +10,7 @@ ghost use Rattle.sp_code.specs.Sound.{IsSound, AreLimits, run_of};
 ghost use Rattle.sp_machine.specs.Procs.{config_of, start_of};
 ghost use Rattle.sp_kernel.specs.Kernels.{with_entry, kernel_after_give, kernel_after_pause, with_process_out};
 ghost use Rattle.sp_kernel.specs.Kernels.{kernel_after_loss, doing_in, condition_in, IsReady};
-ghost use Rattle.sp_kernel.specs.Kernels.{IsKernel, Gave, Takes, is_over, control_of, system_of, setting_of, stands_as};
+ghost use Rattle.sp_kernel.specs.Kernels.{IsKernel, Gave, Takes, is_over, control_of, system_of, code_run_of, stands_as};
 ghost use Rattle.sp_kernel.specs.Kernels.{Abandons};
 ghost use Rattle.sp_kernel.specs.Fits.{FitsHanded};
 ghost use Rattle.sp_kernel.specs.Asks.{IsOpening};
@@ -72,7 +72,7 @@ impl Kernel {
         requires sound { IsSound code.value }
         requires limits { AreLimits limits }
         ensures opening { IfOk result (λ k. IsOpening k) }
-        ensures setting { IfOk result (λ k. setting_of k ≡ run_of code.value root.input.value limits) }
+        ensures code_run { IfOk result (λ k. code_run_of k ≡ run_of code.value root.input.value limits) }
     {
         let first = Snapshot::of(&root);
         let mut slots = List::new(alloc);

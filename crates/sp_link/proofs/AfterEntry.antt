@@ -39,7 +39,7 @@ module _ {M : Type 0} (g : RunInput) (code : Code) (moves shares : Stmt → List
     (mine : (j : FramePair) (js : List FramePair) → rel.Mine j js → rel1.Mine j js) where
   abbrev before : Execution M
   before = record {
-    setting = g;
+    run_input = g;
     code = code;
     moves = moves;
     shares = shares;
@@ -61,7 +61,7 @@ module _ {M : Type 0} (g : RunInput) (code : Code) (moves shares : Stmt → List
 
   abbrev now : Execution M
   now = record {
-    setting = g;
+    run_input = g;
     code = code;
     moves = moves;
     shares = shares;

@@ -187,7 +187,7 @@ module _ (G : RunContext) where
       -- all that the simulation of its turns speaks of
       abbrev pub execution : Execution (Memory Plain)
       execution = record {
-        setting = G.g;
+        run_input = G.g;
         code = G.code;
         moves = G.moves;
         shares = G.shares;

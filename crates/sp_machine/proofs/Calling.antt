@@ -37,7 +37,7 @@ use Rattle.sp_machine.specs.declared.state.Stop.{Stop}
 use Rattle.sp_code.specs.Formals.{HasRoom}
 use Rattle.sp_machine.specs.declared.state.Interrupt.{Interrupt}
 use Rattle.sp_machine.specs.declared.state.Interrupt.TheVariants as interrupt
-use Rattle.sp_machine.specs.Procs.{StepMatches, CameBy, stop_by, KeepsNumberAndInput, memory_of, setting_of}
+use Rattle.sp_machine.specs.Procs.{StepMatches, CameBy, stop_by, KeepsNumberAndInput, memory_of, code_run_of}
 
 -- ---- arguments one after another
 
@@ -386,38 +386,39 @@ entered_never g code l r st n = go l.answer (m.is_in_no_function st) ((memory pl
     go false false d = tt
 
 module _ (p s q : State) (code : Parts) (lim : Limits) (l : Layout) (up : ℕ)
-    (safe : call (setting_of p code lim) code l up (p.pc + 1) p.stack (memory_of p) ≢ m.Stuck)
+    (safe : call (code_run_of p code lim) code l up (p.pc + 1) p.stack (memory_of p) ≢ m.Stuck)
     (ticks : p.ticks < lim.ticks) (depth : p.depth < lim.depth) (cells : p.cells + sum l.sizes ≤ lim.cells)
-    (opens : memory_of s ≡ memory_after_call plain (setting_of p code lim) l up
-    (arguments (setting_of p code lim) code l up (p.pc + 1) p.stack (memory_of p)) (memory_of p))
+    (opens : memory_of s ≡ memory_after_call plain (code_run_of p code lim) l up
+    (arguments (code_run_of p code lim) code l up (p.pc + 1) p.stack (memory_of p)) (memory_of p))
     (stack : s.stack ≡ drop (length l.formals) p.stack) (place : s.pc ≡ p.pc) (same : KeepsNumberAndInput p s) where
   abbrev new : Memory Plain
-  new = memory_after_call plain (setting_of p code lim) l up
-      (arguments (setting_of p code lim) code l up (p.pc + 1) p.stack (memory_of p)) (memory_of p)
+  new = memory_after_call plain (code_run_of p code lim) l up
+      (arguments (code_run_of p code lim) code l up (p.pc + 1) p.stack (memory_of p)) (memory_of p)
 
-  alike : m.enter_step (memory plain (setting_of p code lim)) code l (p.pc + 1)
+  alike : m.enter_step (memory plain (code_run_of p code lim)) code l (p.pc + 1)
       (entries_of (drop (length l.formals) p.stack)) new
-      ≡ m.enter_step (memory plain (setting_of s code lim)) code l (s.pc + 1) (entries_of s.stack) (memory_of s)
+      ≡ m.enter_step (memory plain (code_run_of s code lim)) code l (s.pc + 1) (entries_of s.stack) (memory_of s)
   alike =
-      let setting : setting_of p code lim ≡ setting_of s code lim = ap (λ i. run_of code i.value lim) (sym same.1) in
+      let code_run : code_run_of p code lim ≡ code_run_of s code lim = ap (λ i. run_of code i.value lim) (sym same.1) in
       ap (λ (g : CodeRun). m.enter_step (memory plain g) code l (p.pc + 1)
       (entries_of (drop (length l.formals) p.stack))
-      new) setting
-      ∙ ap (λ k. m.enter_step (memory plain (setting_of s code lim)) code l (k + 1)
+      new) code_run
+      ∙ ap (λ k. m.enter_step (memory plain (code_run_of s code lim)) code l (k + 1)
       (entries_of (drop (length l.formals) p.stack)) new) (sym place)
-      ∙ ap (λ (os : List Operand). m.enter_step (memory plain (setting_of s code lim)) code l (s.pc + 1) (entries_of os)
+      ∙ ap (λ (os : List Operand). m.enter_step (memory plain (code_run_of s code lim)) code l (s.pc + 1)
+      (entries_of os)
       new) (sym stack)
-      ∙ ap (λ (n : Memory Plain). m.enter_step (memory plain (setting_of s code lim)) code l (s.pc + 1)
+      ∙ ap (λ (n : Memory Plain). m.enter_step (memory plain (code_run_of s code lim)) code l (s.pc + 1)
       (entries_of s.stack) n) (sym opens)
 
   pub call_came : (r : Result (Option Interrupt) Refused)
-      → IfOk r (λ x. CameBy (m.enter_step (memory plain (setting_of s code lim)) code l (s.pc + 1) (entries_of s.stack)
+      → IfOk r (λ x. CameBy (m.enter_step (memory plain (code_run_of s code lim)) code l (s.pc + 1) (entries_of s.stack)
       (memory_of s)) s q x)
-      → IfOk r (λ x. CameBy (call (setting_of p code lim) code l up (p.pc + 1) p.stack (memory_of p)) p q x)
+      → IfOk r (λ x. CameBy (call (code_run_of p code lim) code l up (p.pc + 1) p.stack (memory_of p)) p q x)
   call_came (Ok x) w = subst (λ (o : m.StepResult (Memory Plain)). CameBy o p q x)
-      (sym (call_done (setting_of p code lim) code l up (p.pc + 1) p.stack (memory_of p) safe ticks depth cells
+      (sym (call_done (code_run_of p code lim) code l up (p.pc + 1) p.stack (memory_of p) safe ticks depth cells
       ∙ alike))
-      (came_any _ p s q (stop_by q x) (entered_never (setting_of s code lim) code l (s.pc + 1) (entries_of s.stack)
+      (came_any _ p s q (stop_by q x) (entered_never (code_run_of s code lim) code l (s.pc + 1) (entries_of s.stack)
       (memory_of s)) w)
   call_came (Err e) w = tt
 

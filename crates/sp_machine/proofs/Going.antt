@@ -25,7 +25,8 @@ use Rattle.sp_machine.specs.declared.state.Stop.{Stop}
 use Rattle.sp_machine.specs.declared.state.Stop.TheVariants as stop
 use Rattle.sp_machine.specs.Procs.{step_at_config, IsSafeThen, WentTwice, Proceeded, CameBy, does, memory_of}
 use Rattle.sp_machine.specs.StackEntries.{entries_of}
-use Rattle.sp_machine.specs.Procs.{config_of, setting_of, next_of, StepMatches, StopIs, FaultIs, IsRankedFrom, IsTurnOf}
+use Rattle.sp_machine.specs.Procs.{config_of, code_run_of, next_of, StepMatches}
+use Rattle.sp_machine.specs.Procs.{StopIs, FaultIs, IsRankedFrom, IsTurnOf}
 
 module _ (g : CodeRun) where
   abbrev ops : m.Ops (Memory Plain)
@@ -52,10 +53,10 @@ module _ (g : CodeRun) where
 
   module _ (c : m.Config (Memory Plain)) (p q : State) (n : ℕ) (b : frames_fit ops g.code c ≡ true)
       (h : RunsIn ops g.code n c (config_of p)) (x : State) (code : Parts) (lim : Limits) (is : c ≡ config_of x)
-      (same : g ≡ setting_of x code lim) where
+      (same : g ≡ code_run_of x code lim) where
     moved : (u : Turn (Memory Plain)) → IsTurn ops g.code c u
-        → IsTurn (memory plain (setting_of x code lim)) code (config_of x) u
-    moved u k = subst (λ (y : m.Config (Memory Plain)). IsTurn (memory plain (setting_of x code lim)) code y u) is
+        → IsTurn (memory plain (code_run_of x code lim)) code (config_of x) u
+    moved u k = subst (λ (y : m.Config (Memory Plain)). IsTurn (memory plain (code_run_of x code lim)) code y u) is
         (subst (λ (y : CodeRun). IsTurn (memory plain y) y.code c u) same k)
 
     -- the turn that ended at an instruction with this stop
@@ -64,7 +65,7 @@ module _ (g : CodeRun) where
         → StopIs s q t → config_of q ≡ d → IsTurnOf x code lim q s
     stopped_so s t d e i w = by s i
       where
-        done : (z : m.Stop) → t ≡ z → IsTurn (memory plain (setting_of x code lim)) code (config_of x)
+        done : (z : m.Stop) → t ≡ z → IsTurn (memory plain (code_run_of x code lim)) code (config_of x)
             (Stopped z (config_of q))
         done z k = moved (Stopped z (config_of q))
             (ended c (config_of p) (Stopped z (config_of q)) n b h
@@ -84,7 +85,7 @@ module _ (g : CodeRun) where
         → config_of q ≡ config_of p → IsTurnOf x code lim q s
     faulted_so s f e i w = by s i
       where
-        done : (z : Fault) → z ≡ f → IsTurn (memory plain (setting_of x code lim)) code (config_of x)
+        done : (z : Fault) → z ≡ f → IsTurn (memory plain (code_run_of x code lim)) code (config_of x)
             (Faulted z (config_of q))
         done z k = moved (Faulted z (config_of q))
             (ended c (config_of p) (Faulted z (config_of q)) n b h (e ∙ ap m.Fails (sym k), w))
@@ -107,68 +108,68 @@ module _ (g : CodeRun) where
     stopped s m.Stuck e live came = absurd (live refl)
 
 module _ (x : State) (code : Parts) (lim : Limits) (p : State) (input : p.input ≡ x.input) where
-  same_next : next_of p code lim ≡ m.next_step (memory plain (setting_of x code lim)) code (config_of p)
+  same_next : next_of p code lim ≡ m.next_step (memory plain (code_run_of x code lim)) code (config_of p)
   same_next = ap (λ (g : CodeRun). m.next_step (memory plain g) code (config_of p))
       (ap (λ i. run_of code i.value lim) input)
 
   same_from : (d : m.Config (Memory Plain))
-      → step_at_config p code lim d ≡ m.next_step (memory plain (setting_of x code lim)) code d
+      → step_at_config p code lim d ≡ m.next_step (memory plain (code_run_of x code lim)) code d
   same_from d = ap (λ (g : CodeRun). m.next_step (memory plain g) code d) (ap (λ i. run_of code i.value lim) input)
 
-  pub safe_next : (n : ℕ) → IsSafe (memory plain (setting_of x code lim)) code (config_of x)
-      → frames_fit (memory plain (setting_of x code lim)) code (config_of x) ≡ true
-      → RunsIn (memory plain (setting_of x code lim)) code n (config_of x) (config_of p) → next_of p code lim ≢ m.Stuck
+  pub safe_next : (n : ℕ) → IsSafe (memory plain (code_run_of x code lim)) code (config_of x)
+      → frames_fit (memory plain (code_run_of x code lim)) code (config_of x) ≡ true
+      → RunsIn (memory plain (code_run_of x code lim)) code n (config_of x) (config_of p) → next_of p code lim ≢ m.Stuck
   safe_next n safe b h e = safe b (config_of p) (record { steps = n; proof = h }) (sym same_next ∙ e)
 
   -- where it goes on by two instructions
-  to_both : (n : ℕ) → RunsIn (memory plain (setting_of x code lim)) code n (config_of x) (config_of p)
+  to_both : (n : ℕ) → RunsIn (memory plain (code_run_of x code lim)) code n (config_of x) (config_of p)
       → (d : m.Config (Memory Plain)) → next_of p code lim ≡ m.Goes d
-      → RunsIn (memory plain (setting_of x code lim)) code (suc n) (config_of x) d
-  to_both n h d e = comes_more (setting_of x code lim) n (config_of x) (config_of p) d h (sym same_next ∙ e)
+      → RunsIn (memory plain (code_run_of x code lim)) code (suc n) (config_of x) d
+  to_both n h d e = comes_more (code_run_of x code lim) n (config_of x) (config_of p) d h (sym same_next ∙ e)
 
-  pub safe_both : (n : ℕ) → IsSafe (memory plain (setting_of x code lim)) code (config_of x)
-      → frames_fit (memory plain (setting_of x code lim)) code (config_of x) ≡ true
-      → RunsIn (memory plain (setting_of x code lim)) code n (config_of x) (config_of p) → IsSafeThen p code lim
+  pub safe_both : (n : ℕ) → IsSafe (memory plain (code_run_of x code lim)) code (config_of x)
+      → frames_fit (memory plain (code_run_of x code lim)) code (config_of x) ≡ true
+      → RunsIn (memory plain (code_run_of x code lim)) code n (config_of x) (config_of p) → IsSafeThen p code lim
   safe_both n safe b h d e s = safe b d (record { steps = suc n; proof = to_both n h d e }) (sym (same_from d) ∙ s)
 
-  module _ (q : State) (n : ℕ) (safe : IsSafe (memory plain (setting_of x code lim)) code (config_of x))
-      (b : frames_fit (memory plain (setting_of x code lim)) code (config_of x) ≡ true)
-      (h : RunsIn (memory plain (setting_of x code lim)) code n (config_of x) (config_of p)) where
+  module _ (q : State) (n : ℕ) (safe : IsSafe (memory plain (code_run_of x code lim)) code (config_of x))
+      (b : frames_fit (memory plain (code_run_of x code lim)) code (config_of x) ≡ true)
+      (h : RunsIn (memory plain (code_run_of x code lim)) code n (config_of x) (config_of p)) where
     goes_to : StepMatches (next_of p code lim) p q None
-        → m.next_step (memory plain (setting_of x code lim)) code (config_of p) ≡ m.Goes (config_of q)
-    goes_to c = sym same_next ∙ went (setting_of x code lim) (next_of p code lim) p q c (safe_next n safe b h)
+        → m.next_step (memory plain (code_run_of x code lim)) code (config_of p) ≡ m.Goes (config_of q)
+    goes_to c = sym same_next ∙ went (code_run_of x code lim) (next_of p code lim) p q c (safe_next n safe b h)
 
     pub on_it : StepMatches (next_of p code lim) p q None
-        → RunsIn (memory plain (setting_of x code lim)) code (suc n) (config_of x) (config_of q)
-    on_it c = comes_more (setting_of x code lim) n (config_of x) (config_of p) (config_of q) h (goes_to c)
+        → RunsIn (memory plain (code_run_of x code lim)) code (suc n) (config_of x) (config_of q)
+    on_it c = comes_more (code_run_of x code lim) n (config_of x) (config_of p) (config_of q) h (goes_to c)
 
     pub smaller : IsRankedFrom x code lim → StepMatches (next_of p code lim) p q None
-        → left_by code.instrs (ticks_left (setting_of x code lim)) (config_of q)
-        < left_by code.instrs (ticks_left (setting_of x code lim)) (config_of p)
-    smaller ranked c = falls (memory plain (setting_of x code lim)) code (ticks_left (setting_of x code lim))
-        (spends plain (setting_of x code lim)) (config_of p) (config_of q)
+        → left_by code.instrs (ticks_left (code_run_of x code lim)) (config_of q)
+        < left_by code.instrs (ticks_left (code_run_of x code lim)) (config_of p)
+    smaller ranked c = falls (memory plain (code_run_of x code lim)) code (ticks_left (code_run_of x code lim))
+        (spends plain (code_run_of x code lim)) (config_of p) (config_of q)
         (ranked (config_of p) (record { steps = n; proof = h })) (goes_to c)
 
     pub on_both : WentTwice p code lim q
-        → RunsIn (memory plain (setting_of x code lim)) code (suc (suc n)) (config_of x) (config_of q)
-    on_both w = comes_more (setting_of x code lim) (suc n) (config_of x) w.0 (config_of q) (to_both n h w.0 w.1.0)
+        → RunsIn (memory plain (code_run_of x code lim)) code (suc (suc n)) (config_of x) (config_of q)
+    on_both w = comes_more (code_run_of x code lim) (suc n) (config_of x) w.0 (config_of q) (to_both n h w.0 w.1.0)
         (sym (same_from w.0) ∙ w.1.1)
 
     pub smaller_both : IsRankedFrom x code lim → WentTwice p code lim q
-        → left_by code.instrs (ticks_left (setting_of x code lim)) (config_of q)
-        < left_by code.instrs (ticks_left (setting_of x code lim)) (config_of p)
+        → left_by code.instrs (ticks_left (code_run_of x code lim)) (config_of q)
+        < left_by code.instrs (ticks_left (code_run_of x code lim)) (config_of p)
     smaller_both ranked w = omega (
       arith,
-      falls (memory plain (setting_of x code lim)) code (ticks_left (setting_of x code lim))
-          (spends plain (setting_of x code lim)) (config_of p) w.0
+      falls (memory plain (code_run_of x code lim)) code (ticks_left (code_run_of x code lim))
+          (spends plain (code_run_of x code lim)) (config_of p) w.0
           (ranked (config_of p) (record { steps = n; proof = h })) (sym same_next ∙ w.1.0),
-      falls (memory plain (setting_of x code lim)) code (ticks_left (setting_of x code lim))
-          (spends plain (setting_of x code lim)) w.0 (config_of q)
+      falls (memory plain (code_run_of x code lim)) code (ticks_left (code_run_of x code lim))
+          (spends plain (code_run_of x code lim)) w.0 (config_of q)
           (ranked w.0 (record { steps = suc n; proof = to_both n h w.0 w.1.0 })) (sym (same_from w.0) ∙ w.1.1),
     )
 
     pub ends_it : (s : Stop) → StepMatches (next_of p code lim) p q (Some s) → IsTurnOf x code lim q s
-    ends_it s c = stopped (setting_of x code lim) (config_of x) p q n b h x code lim refl refl s (next_of p code lim)
+    ends_it s c = stopped (code_run_of x code lim) (config_of x) p q n b h x code lim refl refl s (next_of p code lim)
         (sym same_next) (safe_next n safe b h) c
 
 -- what a turn did, whatever the state keeps of why it stopped
@@ -204,7 +205,7 @@ module _ (p : State) (code : Parts) (lim : Limits) (a : Address) where
   addressed = m.At (p.pc + 1) (m.Pointer a ∷ entries_of p.stack) (memory_of p)
 
   abbrev pub loads : Option Instr → m.StepResult (Memory Plain)
-  loads o = m.instruction (memory plain (setting_of p code lim)) code o (p.pc + 1) (m.Pointer a ∷ entries_of p.stack)
+  loads o = m.instruction (memory plain (code_run_of p code lim)) code o (p.pc + 1) (m.Pointer a ∷ entries_of p.stack)
       (memory_of p)
 
   pub at_address : (up var : ℕ) → slice_get code.instrs p.pc ≡ Some (instr.Addr up var)

@@ -40,8 +40,8 @@ abbrev pub config_of : State → m.Config (Memory Plain)
 config_of p = m.At p.pc (entries_of p.stack) (memory_of p)
 
 -- the run that it belongs to
-abbrev pub setting_of : State → Parts → Limits → CodeRun
-setting_of p code lim = run_of code p.input.value lim
+abbrev pub code_run_of : State → Parts → Limits → CodeRun
+code_run_of p code lim = run_of code p.input.value lim
 
 -- the first process of a run; limits make no difference to it
 abbrev pub start_of : Parts → List ℕ → m.Config (Memory Plain)
@@ -56,7 +56,7 @@ target_of p = p.target
 
 -- this instruction of a process
 abbrev pub does : Option Instr → State → Parts → Limits → m.StepResult (Memory Plain)
-does o p code lim = m.instruction (memory plain (setting_of p code lim)) code o p.pc (entries_of p.stack) (memory_of p)
+does o p code lim = m.instruction (memory plain (code_run_of p code lim)) code o p.pc (entries_of p.stack) (memory_of p)
 
 -- the next instruction of a process
 abbrev pub next_of : State → Parts → Limits → m.StepResult (Memory Plain)
@@ -65,7 +65,7 @@ next_of p code lim = does (slice_get code.instrs p.pc) p code lim
 -- whether the two last operands are equal, or whether they differ, is told, and the process goes on behind it
 abbrev pub equality_step : Bool → State → Parts → Limits → m.StepResult (Memory Plain)
 equality_step different p code lim = m.on_equals (entries_of p.stack)
-    (λ b st. m.truth_step (memory plain (setting_of p code lim)) code (if different then not b else b) (p.pc + 1) st
+    (λ b st. m.truth_step (memory plain (code_run_of p code lim)) code (if different then not b else b) (p.pc + 1) st
     (memory_of p))
 
 -- the process keeps its number and its input
@@ -123,7 +123,7 @@ CameBy o p q r = StepMatches o p q (stop_by q r)
 
 -- the instruction that a process would find at another place
 abbrev pub step_at_config : State → Parts → Limits → m.Config (Memory Plain) → m.StepResult (Memory Plain)
-step_at_config p code lim d = m.next_step (memory plain (setting_of p code lim)) code d
+step_at_config p code lim d = m.next_step (memory plain (code_run_of p code lim)) code d
 
 -- the instruction behind the next one lacks nothing either
 abbrev pub IsSafeThen : State → Parts → Limits → Type 0
@@ -165,15 +165,16 @@ KeepsFork stop.Memory q = Unit {0}
 
 -- no instruction of the turn lacks what it needs
 abbrev pub CanTurn : State → Parts → Limits → Type 0
-CanTurn p code lim = IsSafe (memory plain (setting_of p code lim)) code (config_of p)
+CanTurn p code lim = IsSafe (memory plain (code_run_of p code lim)) code (config_of p)
 
 -- the ranks fall along all that the turn comes to, so it ends
 abbrev pub IsRankedFrom : State → Parts → Limits → Type 0
-IsRankedFrom p code lim = IsRankedAlong (memory plain (setting_of p code lim)) code (config_of p)
+IsRankedFrom p code lim = IsRankedAlong (memory plain (code_run_of p code lim)) code (config_of p)
 
 -- the turn that the definition gives, with what a fork needs
 abbrev pub IsTurnBy : State → Parts → Limits → State → Stop → Type 0
-IsTurnBy p code lim q s = IsTurn (memory plain (setting_of p code lim)) code (config_of p) (turn_by s q) × KeepsFork s q
+IsTurnBy p code lim q s = IsTurn (memory plain (code_run_of p code lim)) code (config_of p) (turn_by s q)
+    × KeepsFork s q
 
 -- the turn that was made; of one that memory ended nothing is said
 abbrev pub IsTurnOf : State → Parts → Limits → State → Stop → Type 0

@@ -7,7 +7,7 @@ ghost use Rattle.sp_code.specs.PlainStore.{plain};
 ghost use Rattle.sp_code.specs.declared.instr.Instr.TheVariants as instr;
 ghost use Rattle.sp_values.specs.OperatorResults.{operator_result};
 ghost use Rattle.sp_machine.specs.StackEntries.{entries_of};
-ghost use Rattle.sp_machine.specs.Procs.{equality_step, does, CameBy, KeepsNumberAndInput, setting_of, memory_of};
+ghost use Rattle.sp_machine.specs.Procs.{equality_step, does, CameBy, KeepsNumberAndInput, code_run_of, memory_of};
 ghost use Rattle.sp_machine.specs.Conversions.{conversion_result};
 
 use crate::stack::Operand;
@@ -69,12 +69,12 @@ impl State {
         limits: &Limits,
     ) -> Result<Option<Interrupt>, Memory>
         requires next { self.old.pc + 1 < 4294967296 }
-        requires safe { on_one (memory plain (setting_of self.old code.now limits.now)) code.now
+        requires safe { on_one (memory plain (code_run_of self.old code.now limits.now)) code.now
             (conversion_result conversion)
             self.old.pc
             (entries_of self.old.stack) (memory_of self.old) ≢ Stuck }
         ensures came { IfOk result (λ s. CameBy
-            (on_one (memory plain (setting_of self.old code.now limits.now)) code.now (conversion_result conversion)
+            (on_one (memory plain (code_run_of self.old code.now limits.now)) code.now (conversion_result conversion)
             self.old.pc
             (entries_of self.old.stack) (memory_of self.old)) self.old self.new s) }
         ensures same { KeepsNumberAndInput self.old self.new }
@@ -184,10 +184,10 @@ impl State {
         limits: &Limits,
     ) -> Result<Option<Interrupt>, Memory>
         requires next { self.old.pc + 1 < 4294967296 }
-        requires safe { on_two (memory plain (setting_of self.old code.now limits.now)) code.now op self.old.pc
+        requires safe { on_two (memory plain (code_run_of self.old code.now limits.now)) code.now op self.old.pc
             (entries_of self.old.stack) (memory_of self.old) ≢ Stuck }
         ensures came { IfOk result (λ s. CameBy
-            (on_two (memory plain (setting_of self.old code.now limits.now)) code.now op self.old.pc
+            (on_two (memory plain (code_run_of self.old code.now limits.now)) code.now op self.old.pc
             (entries_of self.old.stack)
             (memory_of self.old)) self.old self.new s) }
         ensures same { KeepsNumberAndInput self.old self.new }

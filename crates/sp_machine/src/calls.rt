@@ -11,7 +11,7 @@ ghost use Rattle.sp_code.specs.Sound.{HasDistinctBlocks};
 ghost use Rattle.sp_code.specs.declared.instr.Instr.TheVariants as instr;
 ghost use Rattle.sp_machine.specs.Arguments.{TakeAll};
 ghost use Rattle.sp_machine.specs.StackEntries.{entries_of};
-ghost use Rattle.sp_machine.specs.Procs.{does, CameBy, KeepsNumberAndInput, setting_of, memory_of};
+ghost use Rattle.sp_machine.specs.Procs.{does, CameBy, KeepsNumberAndInput, code_run_of, memory_of};
 
 use crate::frames::{Frame, Home};
 use crate::layouts::{answer_of, cells_of, cells_of_home, layout_of};
@@ -99,7 +99,7 @@ impl State {
         requires depth { self.old.depth + 1 < 4294967296 }
         requires total { self.old.cells + cells < 18446744073709551616 }
         ensures opened { OnOk result (memory_of self.new
-            ≡ memory_after_call plain (setting_of self.old code.now limits.now) layout.now up
+            ≡ memory_after_call plain (code_run_of self.old code.now limits.now) layout.now up
             (entries_of (reverse (take (length layout.now.formals) self.old.stack))) (memory_of self.old)) }
         ensures stack { OnOk result (self.new.stack ≡ drop (length layout.now.formals) self.old.stack) }
         ensures place { self.new.pc ≡ self.old.pc }
@@ -134,7 +134,7 @@ impl State {
         limits: &Limits,
     ) -> Result<Option<Interrupt>, Memory>
         ensures came { IfOk result (λ s. CameBy
-            (enter_step (memory plain (setting_of self.old code.now limits.now)) code.now layout.now to
+            (enter_step (memory plain (code_run_of self.old code.now limits.now)) code.now layout.now to
             (entries_of self.old.stack)
             (memory_of self.old)) self.old self.new s) }
         ensures same { KeepsNumberAndInput self.old self.new }
@@ -163,11 +163,11 @@ impl State {
         requires sizes { length layout.now.sizes ≤ 4294967294 }
         requires formals { BeginsWithFormals layout.now }
         requires few { length layout.now.formals ≤ length layout.now.sizes }
-        requires safe { call_step (memory plain (setting_of self.old code.now limits.now)) code.now layout.now up
+        requires safe { call_step (memory plain (code_run_of self.old code.now limits.now)) code.now layout.now up
             (self.old.pc + 1)
             (entries_of self.old.stack) (memory_of self.old) ≢ Stuck }
         ensures came { IfOk result (λ s. CameBy
-            (call_step (memory plain (setting_of self.old code.now limits.now)) code.now layout.now up (self.old.pc + 1)
+            (call_step (memory plain (code_run_of self.old code.now limits.now)) code.now layout.now up (self.old.pc + 1)
             (entries_of self.old.stack) (memory_of self.old)) self.old self.new s) }
         ensures same { KeepsNumberAndInput self.old self.new }
     {
@@ -214,8 +214,8 @@ impl State {
     #[tactic(auto, using(sp_code::proofs::StoreLaws::may_go))]
     fn close_frame(&mut self, code: &Code, limits: &Limits)
         requires blocks { HasDistinctBlocks code.now.layouts }
-        requires may { can_pop plain (setting_of self.old code.now limits.now) self.old.frames self.old.store ≡ true }
-        ensures closed { memory_of self.new ≡ without_frame plain (setting_of self.old code.now limits.now)
+        requires may { can_pop plain (code_run_of self.old code.now limits.now) self.old.frames self.old.store ≡ true }
+        ensures closed { memory_of self.new ≡ without_frame plain (code_run_of self.old code.now limits.now)
             self.old.frames (memory_of self.old) }
         ensures rest { (self.new.stack ≡ self.old.stack) × (self.new.pc ≡ self.old.pc) }
         ensures same { KeepsNumberAndInput self.old self.new }

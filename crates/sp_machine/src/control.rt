@@ -8,7 +8,7 @@ ghost use Rattle.sp_code.specs.Memory.{memory};
 ghost use Rattle.sp_code.specs.PlainStore.{plain};
 ghost use Rattle.sp_code.specs.declared.instr.Instr.TheVariants as instr;
 ghost use Rattle.sp_machine.specs.StackEntries.{entries_of};
-ghost use Rattle.sp_machine.specs.Procs.{does, CameBy, KeepsNumberAndInput, setting_of, memory_of};
+ghost use Rattle.sp_machine.specs.Procs.{does, CameBy, KeepsNumberAndInput, code_run_of, memory_of};
 
 use crate::stack::Operand;
 use crate::state::{Interrupt, State};
@@ -173,11 +173,11 @@ impl State {
         limits: &Limits,
     ) -> Result<Option<Interrupt>, Memory>
         requires next { self.old.pc + 1 < 4294967296 }
-        requires safe { begins_loop (memory plain (setting_of self.old code.now limits.now)) code.now down var to
+        requires safe { begins_loop (memory plain (code_run_of self.old code.now limits.now)) code.now down var to
             self.old.pc
             (entries_of self.old.stack) (memory_of self.old) ≢ Stuck }
         ensures came { IfOk result (λ s. CameBy
-            (begins_loop (memory plain (setting_of self.old code.now limits.now)) code.now down var to self.old.pc
+            (begins_loop (memory plain (code_run_of self.old code.now limits.now)) code.now down var to self.old.pc
             (entries_of self.old.stack) (memory_of self.old)) self.old self.new s) }
         ensures same { KeepsNumberAndInput self.old self.new }
     {
@@ -211,11 +211,11 @@ impl State {
         limits: &Limits,
     ) -> Result<Option<Interrupt>, Memory>
         requires next { self.old.pc + 1 < 4294967296 }
-        requires safe { ends_loop (memory plain (setting_of self.old code.now limits.now)) code.now down var to
+        requires safe { ends_loop (memory plain (code_run_of self.old code.now limits.now)) code.now down var to
             self.old.pc
             (entries_of self.old.stack) (memory_of self.old) ≢ Stuck }
         ensures came { IfOk result (λ s. CameBy
-            (ends_loop (memory plain (setting_of self.old code.now limits.now)) code.now down var to self.old.pc
+            (ends_loop (memory plain (code_run_of self.old code.now limits.now)) code.now down var to self.old.pc
             (entries_of self.old.stack) (memory_of self.old)) self.old self.new s) }
         ensures same { KeepsNumberAndInput self.old self.new }
     {

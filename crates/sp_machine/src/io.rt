@@ -11,7 +11,7 @@ ghost use Rattle.sp_code.specs.PlainStore.{plain};
 ghost use Rattle.sp_code.specs.declared.instr.Instr.TheVariants as instr;
 ghost use Rattle.sp_values.specs.ReadResults.{read_result_of};
 ghost use Rattle.sp_machine.specs.StackEntries.{entries_of};
-ghost use Rattle.sp_machine.specs.Procs.{does, CameBy, KeepsNumberAndInput, setting_of, memory_of};
+ghost use Rattle.sp_machine.specs.Procs.{does, CameBy, KeepsNumberAndInput, code_run_of, memory_of};
 ghost use Rattle.sp_machine.specs.Texts.{item_in, text_of, is_cut, Emits};
 
 use crate::stack::Operand;
@@ -225,11 +225,11 @@ impl State {
         limits: &Limits,
     ) -> Result<Option<Interrupt>, Memory>
         requires next { self.old.pc + 1 < 4294967296 }
-        requires safe { reads (memory plain (setting_of self.old code.now limits.now)) code.now (item_in item)
+        requires safe { reads (memory plain (code_run_of self.old code.now limits.now)) code.now (item_in item)
             (self.old.pc + 1)
             (entries_of self.old.stack) (memory_of self.old) ≢ Stuck }
         ensures came { IfOk result (λ s. CameBy
-            (reads (memory plain (setting_of self.old code.now limits.now)) code.now (item_in item) (self.old.pc + 1)
+            (reads (memory plain (code_run_of self.old code.now limits.now)) code.now (item_in item) (self.old.pc + 1)
             (entries_of self.old.stack) (memory_of self.old)) self.old self.new s) }
         ensures same { KeepsNumberAndInput self.old self.new }
     {
@@ -308,11 +308,11 @@ impl State {
         limits: &Limits,
     ) -> Result<Option<Interrupt>, Memory>
         requires next { self.old.pc + 1 < 4294967296 }
-        requires safe { writes (memory plain (setting_of self.old code.now limits.now)) code.now (text_of shown)
+        requires safe { writes (memory plain (code_run_of self.old code.now limits.now)) code.now (text_of shown)
             (self.old.pc + 1)
             (entries_of self.old.stack) (memory_of self.old) ≢ Stuck }
         ensures came { IfOk result (λ s. CameBy
-            (writes (memory plain (setting_of self.old code.now limits.now)) code.now (text_of shown) (self.old.pc + 1)
+            (writes (memory plain (code_run_of self.old code.now limits.now)) code.now (text_of shown) (self.old.pc + 1)
             (entries_of self.old.stack) (memory_of self.old)) self.old self.new s) }
         ensures same { KeepsNumberAndInput self.old self.new }
     {
@@ -337,11 +337,11 @@ impl State {
         limits: &Limits,
     ) -> Result<Option<Interrupt>, Memory>
         requires next { self.old.pc + 1 < 4294967296 }
-        requires safe { writes_wide (memory plain (setting_of self.old code.now limits.now)) code.now (is_cut shown)
+        requires safe { writes_wide (memory plain (code_run_of self.old code.now limits.now)) code.now (is_cut shown)
             (text_of shown)
             (self.old.pc + 1) (entries_of self.old.stack) (memory_of self.old) ≢ Stuck }
         ensures came { IfOk result (λ s. CameBy
-            (writes_wide (memory plain (setting_of self.old code.now limits.now)) code.now (is_cut shown)
+            (writes_wide (memory plain (code_run_of self.old code.now limits.now)) code.now (is_cut shown)
             (text_of shown)
             (self.old.pc + 1) (entries_of self.old.stack) (memory_of self.old)) self.old self.new s) }
         ensures same { KeepsNumberAndInput self.old self.new }

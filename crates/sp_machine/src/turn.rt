@@ -11,7 +11,7 @@ ghost use Rattle.sp_machine.specs.StackEntries.{entries_of};
 ghost use Rattle.sp_machine.specs.Outcomes.{result_of_outcome};
 ghost use Rattle.sp_machine.specs.Procs.{CameBy, KeepsNumberAndInput, next_of, stop_by, CanTurn, IsRankedFrom};
 ghost use Rattle.sp_machine.specs.Procs.{IsTurnOf};
-ghost use Rattle.sp_machine.specs.Procs.{IsSafeThen, WentTwice, Proceeded, config_of, memory_of, setting_of};
+ghost use Rattle.sp_machine.specs.Procs.{IsSafeThen, WentTwice, Proceeded, config_of, memory_of, code_run_of};
 
 use crate::arithmetic::Conversion;
 use crate::io::{Item, Shown};
@@ -181,11 +181,11 @@ impl State {
     #[inline(always)]
     fn push_at(&mut self, at: Address, code: &Code, limits: &Limits) -> Result<bool, Memory>
         requires next { self.old.pc + 1 + 1 < 4294967296 }
-        requires safe { instruction (memory plain (setting_of self.old code.now limits.now)) code.now (Some instr.Load)
+        requires safe { instruction (memory plain (code_run_of self.old code.now limits.now)) code.now (Some instr.Load)
             (self.old.pc + 1)
             (Pointer at ∷ entries_of self.old.stack) (memory_of self.old) ≢ Stuck }
         ensures done { IfOk result (λ b. IsTrue b
-            → instruction (memory plain (setting_of self.old code.now limits.now)) code.now (Some instr.Load)
+            → instruction (memory plain (code_run_of self.old code.now limits.now)) code.now (Some instr.Load)
             (self.old.pc + 1) (Pointer at ∷ entries_of self.old.stack) (memory_of self.old)
             ≡ Goes (config_of self.new)) }
         ensures not { IfOk result (λ b. IsFalse b → self.new ≡ self.old) }

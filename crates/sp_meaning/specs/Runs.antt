@@ -1,6 +1,6 @@
 -- All of this belongs to what the program promises (docs/promise.txt).
 -- The runs of a program: its opening state, its steps, its lawful schedules, and the entry that a step makes. All
--- contracts on meaning begin here: the model and the language put together, for a setting.
+-- contracts on meaning begin here: the model and the language put together, for the input of a run.
 use Rattle.std.specs.Prelude.{ℕ, List, length, Option, Some, None}
 use Rattle.sp_meaning.specs.Model.{Name, Totals, Language, Moves, Opens, Forks, Offering, EndsProcess, MeetsFault}
 use Rattle.sp_meaning.specs.Model.{State}
@@ -16,7 +16,7 @@ use Rattle.sp_meaning.specs.Entries.{Happening, Opened, Forked, Offered, Ended, 
 abbrev pub total_limits : RunInput → Totals
 total_limits g = record { processes = g.limits.processes; channels = g.limits.channels; entries = g.limits.entries }
 
--- the states of a run of this setting
+-- the states of a run on this input
 abbrev pub StateOf : RunInput → Type 0
 StateOf g = State (superpascal g)
 

@@ -33,13 +33,13 @@ use Rattle.sp_kernel.specs.declared.ask.Ask.TheVariants as ask
 use Rattle.sp_kernel.specs.declared.ask.Got.{Got}
 use Rattle.sp_kernel.specs.declared.ask.Got.TheVariants as got
 use Rattle.sp_kernel.specs.Procs.{turn_of}
-use Rattle.sp_kernel.specs.Kernels.{control_of, system_of, setting_of, IsKernel, Gave, Takes}
+use Rattle.sp_kernel.specs.Kernels.{control_of, system_of, code_run_of, IsKernel, Gave, Takes}
 use Rattle.sp_kernel.specs.Fits.{FitsHanded}
 use Rattle.sp_kernel.specs.Closes.{IsNameableKernel}
 use Rattle.sp_kernel.specs.Asks.{IsOpening, KernelSteps, GotMatchesNote}
 use Rattle.sp_kernel.specs.Keeping.{after_log, from_start, control_is, along, later}
 use Rattle.sp_kernel.proofs.Ending.{named}
-use Rattle.sp_kernel.proofs.Serving.{same_setting, noted_take, noted_turn, taken_abandons, back_abandons}
+use Rattle.sp_kernel.proofs.Serving.{same_code_run, noted_take, noted_turn, taken_abandons, back_abandons}
 use Rattle.sp_runner.specs.Runs.{notes_of_worker}
 use Rattle.sp_runner.specs.Works.{IsRunOf}
 use Rattle.sp_runner.proofs.Working.{HasProcessOut, is_ranked, may_turn, may_hand_in}
@@ -57,8 +57,8 @@ module _ (x : Kernel) (c : HasCome x) where
   pub is_whole : IsKernel x
   is_whole = (after_log c.opened c.opening c.log x c.told).whole
 
-  pub setting_is : setting_of x ≡ setting_of c.opened
-  setting_is = (after_log c.opened c.opening c.log x c.told).setting
+  pub code_run_is : code_run_of x ≡ code_run_of c.opened
+  code_run_is = (after_log c.opened c.opening c.log x c.told).code_run
 
   pub is_named : IsNameableKernel x
   is_named = named c.opened c.opening c.log x c.told
@@ -68,23 +68,23 @@ module _ (x : Kernel) (c : HasCome x) where
       ∙ ap (λ l. l ++ entries_of c.log) c.opening.journal
 
   -- the system of the kernel is that along its journal
-  pub is_system : IsSystem plain (setting_of x) x.journal.entries (system_of x)
-  is_system = subst (λ (g : CodeRun). IsSystem plain g x.journal.entries (system_of x)) (sym setting_is)
-      (subst (λ (es : List Entry). IsSystem plain (setting_of c.opened) es (system_of x)) (sym entries_are)
+  pub is_system : IsSystem plain (code_run_of x) x.journal.entries (system_of x)
+  is_system = subst (λ (g : CodeRun). IsSystem plain g x.journal.entries (system_of x)) (sym code_run_is)
+      (subst (λ (es : List Entry). IsSystem plain (code_run_of c.opened) es (system_of x)) (sym entries_are)
       (along c.opened c.opening c.log x c.told))
 
   pub has_outs : HasOuts (control_of x)
   has_outs = subst HasOuts (sym (control_is c.opened c.opening c.log x c.told))
-      (outs_all plain (setting_of c.opened) control_at_start (opening_system plain (setting_of c.opened))
+      (outs_all plain (code_run_of c.opened) control_at_start (opening_system plain (code_run_of c.opened))
       (system_of x) c.log
-      orderly_start (agrees_start plain (setting_of c.opened)) outs_start
+      orderly_start (agrees_start plain (code_run_of c.opened)) outs_start
       (from_start c.opened c.opening c.log x c.told))
 
   has_children : HasChildren (control_of x)
   has_children = subst HasChildren (sym (control_is c.opened c.opening c.log x c.told))
-      (children_all plain (setting_of c.opened) control_at_start (opening_system plain (setting_of c.opened))
+      (children_all plain (code_run_of c.opened) control_at_start (opening_system plain (code_run_of c.opened))
       (system_of x)
-      c.log orderly_start (agrees_start plain (setting_of c.opened)) children_start
+      c.log orderly_start (agrees_start plain (code_run_of c.opened)) children_start
       (from_start c.opened c.opening c.log x c.told))
 
   is_lawful : Lawful (births x.journal.entries)
@@ -123,14 +123,14 @@ module _ (x : Kernel) (c : HasCome x) where
       along = along c.opened c.opening c.log x c.told;
       out = ap (λ (k : Control). k.doing p.number) (sym (control_is c.opened c.opening c.log x c.told)) ∙ o.out;
       runs = o.runs;
-      input = o.input ∙ ap (λ (g : CodeRun). g.input) setting_is;
+      input = o.input ∙ ap (λ (g : CodeRun). g.input) code_run_is;
     }
 
     run : IsRunOf c.opened code lim
     run = record {
       opening = c.opening;
-      code = ap (λ (g : CodeRun). g.code) (sym setting_is) ∙ runs.code;
-      limits = ap (λ (g : CodeRun). g.limits) (sym setting_is) ∙ runs.limits;
+      code = ap (λ (g : CodeRun). g.code) (sym code_run_is) ∙ runs.code;
+      limits = ap (λ (g : CodeRun). g.limits) (sym code_run_is) ∙ runs.limits;
     }
 
     -- it can make a turn
@@ -177,7 +177,7 @@ module _ (x : Kernel) (c : HasCome x) where
   takes_some y p t = (
     come_taken y p t,
     record {
-      setting = same_setting x y t.setting;
+      code_run = same_code_run x y t.code_run;
       entries = ap (λ (j : _). j.entries) t.journal;
       system = t.system;
     },
@@ -213,7 +213,7 @@ module _ (x : Kernel) (c : HasCome x) where
         refl,
         ap (λ (s : System Plain). s.condition p.number) t.system ∙ (t.work p refl).0,
         (t.work p refl).1
-            ∙ ap (λ (g : CodeRun). g.input) (sym (same_setting m y t.setting)),
+            ∙ ap (λ (g : CodeRun). g.input) (sym (same_code_run m y t.code_run)),
       ),
     )
 
@@ -280,12 +280,12 @@ take_none x y held f t =
     subst (λ (z : Kernel). IsReplayKernel z (held_at held) × (z.ready ≡ []) × SameRun x z) same (
       f,
       none_ready x f.come (held_at held) f.held (sym t.front),
-      record { setting = refl; entries = refl; system = refl },
+      record { code_run = refl; entries = refl; system = refl },
     )
 
 pub same_again : (x y z : Kernel) → SameRun x y → SameRun y z → SameRun x z
 same_again x y z a b = record {
-  setting = b.setting ∙ a.setting;
+  code_run = b.code_run ∙ a.code_run;
   entries = b.entries ∙ a.entries;
   system = b.system
       ∙ a.system;
@@ -313,7 +313,7 @@ module _ (f : Followed) (code : Parts) (lim : Limits) (runs : RunsOn f.kernel co
     exchanges r y t = record {
       event = event_of f.kernel.limits (system_of f.kernel) (turn_of h);
       made = record {
-        setting = same_setting m y t.setting ∙ same_setting f.kernel m gave.setting;
+        code_run = same_code_run m y t.code_run ∙ same_code_run f.kernel m gave.code_run;
         entries = ap (λ (j : _). j.entries) t.journal ∙ gave.entry;
         enters = (fits_in.configuration, fits_in.runs, turn_of h, fits_in.turn, refl, t.system ∙ gave.system);
       };
@@ -332,9 +332,9 @@ follows_same x y f h e same s = subst (λ (z : Kernel). IsReplayKernel z h) (sym
 -- an event was made, and then others were taken
 pub made_then : (x y z : Kernel) (p : ℕ) (e : Event) → EventMade x p e y → SameRun y z → EventMade x p e z
 made_then x y z p e m s = record {
-  setting = s.setting ∙ m.setting;
+  code_run = s.code_run ∙ m.code_run;
   entries = s.entries ∙ m.entries;
-  enters = subst (λ (t : System Plain). EntryLeads plain (setting_of x) (system_of x) p e t) (sym s.system) m.enters;
+  enters = subst (λ (t : System Plain). EntryLeads plain (code_run_of x) (system_of x) p e t) (sym s.system) m.enters;
 }
 
 -- who is held has its number

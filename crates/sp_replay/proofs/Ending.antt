@@ -15,7 +15,7 @@ use Rattle.sp_history.proofs.Outs.{nobody_runs}
 use Rattle.sp_history.proofs.Phases.{live_phase}
 use Rattle.sp_machine.specs.declared.state.State.{State as Proc}
 use Rattle.sp_kernel.specs.declared.kernel.Kernel.{Kernel}
-use Rattle.sp_kernel.specs.Kernels.{control_of, system_of, setting_of}
+use Rattle.sp_kernel.specs.Kernels.{control_of, system_of, code_run_of}
 use Rattle.sp_kernel.specs.Closes.{HeldHere, KernelEndsAs as KernelEndsSo}
 use Rattle.sp_kernel.specs.Outputs.{output_of_process, or_rest}
 use Rattle.sp_kernel.specs.Keeping.{from_start}
@@ -90,7 +90,7 @@ module _ (x : Kernel) (c : HasCome x) (who : ℕ → Option Proc) (o : AreOut x 
   -- ---- the output
 
   holder : (q : ℕ) × (bs : List ℕ) × IsOutputOf (system_of x) q bs
-  holder = one_holder (setting_of c.opened) (system_of x) c.log
+  holder = one_holder (code_run_of c.opened) (system_of x) c.log
       (λ es t l. c.opening.sound.safe c.opened.root.value.input.value c.opened.limits c.opening.limits es t l)
       (from_start c.opened c.opening c.log x c.told)
 

@@ -12,7 +12,7 @@ use Rattle.sp_code.proofs.Systems.{event_same, leads_same}
 use Rattle.sp_history.specs.Agreement.{Among, phase, phase_in, Running}
 use Rattle.sp_machine.specs.declared.state.State.{State as Proc}
 use Rattle.sp_kernel.specs.declared.kernel.Kernel.{Kernel}
-use Rattle.sp_kernel.specs.Kernels.{control_of, system_of, setting_of}
+use Rattle.sp_kernel.specs.Kernels.{control_of, system_of, code_run_of}
 use Rattle.sp_replay.specs.Following.{IsOutOfKernel, HasCome, AreOut, HoldsAllReady, EventMade, CannotCome}
 use Rattle.sp_replay.specs.declared.followed.Followed.{Followed}
 use Rattle.sp_replay.specs.Replays.{IsUnfitAt}
@@ -80,7 +80,8 @@ not_held x c who o none e free t enters = absurd (cc (sym free ∙ w.1))
 
 -- a turn makes no other event
 other_event : (x y : Kernel) (e : Entry) (f : Event) → EventMade x e.process f y → f ≢ e.event → CannotCome x e
-other_event x y e f made n t enters = n (event_same plain (setting_of x) (system_of x) e.process f e.event (system_of y)
+other_event x y e f made n t enters = n
+    (event_same plain (code_run_of x) (system_of x) e.process f e.event (system_of y)
     t made.enters enters)
 
 pub compared : (b : Bool) (f : Event) (x : Kernel) (g : Followed) (d : Entry) (e : Event) → HoldsAllReady g

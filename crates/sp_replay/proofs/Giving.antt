@@ -18,8 +18,8 @@ use Rattle.sp_history.proofs.Staying.{after_same, back_out}
 use Rattle.sp_kernel.specs.declared.handed.Handed.{Handed}
 use Rattle.sp_kernel.specs.declared.kernel.Kernel.{Kernel}
 use Rattle.sp_kernel.specs.Procs.{turn_of}
-use Rattle.sp_kernel.specs.Kernels.{control_of, system_of, setting_of, IsKernel, Gave, Takes}
-use Rattle.sp_kernel.proofs.Serving.{same_setting}
+use Rattle.sp_kernel.specs.Kernels.{control_of, system_of, code_run_of, IsKernel, Gave, Takes}
+use Rattle.sp_kernel.proofs.Serving.{same_code_run}
 use Rattle.sp_replay.specs.Following.{IsOutOfKernel, IsOutAs, AreOut, with_taken}
 use Rattle.sp_kernel.proofs.Closing.{back_kept}
 use Rattle.sp_replay.proofs.OutOfKernel.{away_by_none, back_still}
@@ -44,8 +44,8 @@ module _ (x y : Kernel) (who : ℕ → Option Proc) (o : AreOut x who) where
       doing_is : (q : ℕ) → (control_of y).doing q ≡ at_key ◌==◌ p.number (Out 0) (control_of x).doing q
       doing_is q = ap (λ (k : Control). k.doing q) t.control
 
-      input_is : (setting_of x).input ≡ (setting_of y).input
-      input_is = ap (λ (g : CodeRun). g.input) (sym (same_setting x y t.setting))
+      input_is : (code_run_of x).input ≡ (code_run_of y).input
+      input_is = ap (λ (g : CodeRun). g.input) (sym (same_code_run x y t.code_run))
 
       here : at_key ◌==◌ p.number (Some p) who p.number ≡ Some p
       here = at_same who p.number (Some p)
@@ -119,9 +119,9 @@ module _ (x : Kernel) (whole : IsKernel x) (none : x.ready ≡ []) (who : ℕ �
             number = w.number;
             out = doing_now q ∙ back_out (control_of x) whole.orderly q 0 h.proc.number w.out n.0 e;
             runs = ap (λ (s : System Plain). s.condition q) gave.system
-                ∙ after_same plain (setting_of x) (system_of x) q h.proc.number (config_of u) w.runs
+                ∙ after_same plain (code_run_of x) (system_of x) q h.proc.number (config_of u) w.runs
                 (out_there whole.orderly q 0 w.out) n.0 (turn_of h);
-            input = w.input ∙ ap (λ (g : CodeRun). g.input) (sym (same_setting x m gave.setting));
+            input = w.input ∙ ap (λ (g : CodeRun). g.input) (sym (same_code_run x m gave.code_run));
           }
 
   all_left : (q : ℕ) → IsOutOfKernel ((control_of m).doing q) → (u : Proc) × (rest q ≡ Some u)

@@ -19,7 +19,7 @@ use Rattle.sp_machine.specs.Procs.{config_of, IsTurnOf, KeepsNumberAndInput}
 use Rattle.sp_room.specs.History.{LeadsTo}
 use Rattle.sp_kernel.specs.declared.handed.Handed.{Handed}
 use Rattle.sp_kernel.specs.declared.kernel.Kernel.{Kernel}
-use Rattle.sp_kernel.specs.Kernels.{control_of, system_of, setting_of}
+use Rattle.sp_kernel.specs.Kernels.{control_of, system_of, code_run_of}
 use Rattle.sp_kernel.specs.Asks.{IsOpening, KernelSteps}
 use Rattle.sp_replay.specs.declared.followed.Followed.{Followed}
 use Rattle.sp_replay.specs.Held.{held_at}
@@ -41,7 +41,7 @@ pub record IsOutAs (y : Kernel) (q : ℕ) (p : Proc) : Type 0 where
   pub number : p.number ≡ q
   pub out : (control_of y).doing q ≡ Out 0
   pub runs : (system_of y).condition q ≡ Working (config_of p)
-  pub input : p.input.value ≡ (setting_of y).input
+  pub input : p.input.value ≡ (code_run_of y).input
 
 -- calls of one worker have led to the kernel, and none of them was an abandon
 pub record HasCome (y : Kernel) : Type 0 where
@@ -69,7 +69,7 @@ pub record HoldsAllReady (f : Followed) : Type 0 where
 
 -- the same run after the same entries
 pub record SameRun (x y : Kernel) : Type 0 where
-  pub setting : setting_of y ≡ setting_of x
+  pub code_run : code_run_of y ≡ code_run_of x
   pub entries : y.journal.entries ≡ x.journal.entries
   pub system : system_of y ≡ system_of x
 
@@ -96,13 +96,13 @@ pub record IsInHand (f : Followed) (code : Parts) (lim : Limits) (h : Handed) : 
 
 -- an event of process p was made
 pub record EventMade (x : Kernel) (p : ℕ) (e : Event) (y : Kernel) : Type 0 where
-  pub setting : setting_of y ≡ setting_of x
+  pub code_run : code_run_of y ≡ code_run_of x
   pub entries : y.journal.entries ≡ x.journal.entries ++ record { process = p; event = e } ∷ []
-  pub enters : system.EntryLeads plain (setting_of x) (system_of x) p e (system_of y)
+  pub enters : system.EntryLeads plain (code_run_of x) (system_of x) p e (system_of y)
 
 -- no system comes after the entry
 abbrev pub CannotCome : Kernel → Entry → Type 0
-CannotCome x e = (t : System Plain) → system.EntryLeads plain (setting_of x) (system_of x) e.process e.event t → ⊥
+CannotCome x e = (t : System Plain) → system.EntryLeads plain (code_run_of x) (system_of x) e.process e.event t → ⊥
 
 -- the process that was taken, if any, is held beside the others
 abbrev pub with_taken : Option Proc → (ℕ → Option Proc) → ℕ → Option Proc

@@ -4,7 +4,7 @@ ghost use Rattle.std.specs.Prelude.{◌≡◌, ◌≢◌, ℕ, [], Err, MatchBoo
 ghost use Rattle.sp_code.specs.Sound.{IsSound};
 ghost use Rattle.sp_history.specs.Holding.{IsOutputOf};
 ghost use Rattle.sp_kernel.specs.Asks.{IsOpening};
-ghost use Rattle.sp_kernel.specs.Kernels.{setting_of, system_of};
+ghost use Rattle.sp_kernel.specs.Kernels.{code_run_of, system_of};
 ghost use Rattle.sp_machine.specs.Procs.{CanTurn, IsRankedFrom};
 ghost use Rattle.sp_replay.specs.Held.{held_at};
 ghost use Rattle.sp_replay.specs.Following.{IsReplayKernel, HoldsAllReady, SameRun, RunsOn, WasTurned, IsInHand};
@@ -145,9 +145,9 @@ impl Followed {
         requires stands { HoldsAllReady self.old }
         requires start { self.old.kernel.journal.entries ≡ [] }
         ensures stands { OnOk result (HoldsAllReady self.new) }
-        ensures setting { OnOk result (setting_of self.new.kernel ≡ setting_of self.old.kernel) }
+        ensures code_run { OnOk result (code_run_of self.new.kernel ≡ code_run_of self.old.kernel) }
         ensures entries { OnOk result (self.new.kernel.journal.entries ≡ entries.now) }
-        ensures err { IfErr result (λ e. Replays (setting_of self.old.kernel) entries.now (Err e)) }
+        ensures err { IfErr result (λ e. Replays (code_run_of self.old.kernel) entries.now (Err e)) }
     {
         for (index, entry) in entries.iter().enumerate() {
             if !self.follow(code, limits, *entry)? {
@@ -174,7 +174,7 @@ impl Followed {
     /// The end and the output after the entries that were followed.
     pub(crate) fn finish(&self, alloc: Global) -> Result<Replayed, Memory>
         requires { HoldsAllReady self.now }
-        ensures { IfOk result (λ r. ReplayLeadsTo (setting_of self.now.kernel) self.now.kernel.journal.entries r) }
+        ensures { IfOk result (λ r. ReplayLeadsTo (code_run_of self.now.kernel) self.now.kernel.journal.entries r) }
     {
         let end = self.kernel.end()?;
         let output = Vec::from_slice(alloc, self.output())?;

@@ -2,7 +2,7 @@
 
 ghost use Rattle.std.specs.Prelude.{◌≡◌, [], IfOk};
 ghost use Rattle.sp_code.specs.Sound.{IsSound, AreLimits, run_of};
-ghost use Rattle.sp_kernel.specs.Kernels.{setting_of};
+ghost use Rattle.sp_kernel.specs.Kernels.{code_run_of};
 ghost use Rattle.sp_replay.specs.declared.replayer.ReplayError.TheVariants.{Memory as OutOfMemory};
 ghost use Rattle.sp_replay.specs.Following.{HoldsAllReady, RunsOn};
 ghost use Rattle.sp_replay.specs.Replays.{Replays};
@@ -56,7 +56,7 @@ fn begin(
     requires sound { IsSound code.now.value }
     requires limits { AreLimits limits.now }
     ensures stands { IfOk result (λ f. HoldsAllReady f) }
-    ensures setting { IfOk result (λ f. setting_of f.kernel ≡ run_of code.now.value input.value limits.now) }
+    ensures code_run { IfOk result (λ f. code_run_of f.kernel ≡ run_of code.now.value input.value limits.now) }
     ensures run { IfOk result (λ f. RunsOn f.kernel code.now.value limits.now) }
     ensures start { IfOk result (λ f. f.kernel.journal.entries ≡ []) }
 {

@@ -25,7 +25,7 @@ use Rattle.sp_history.proofs.Phases.{ended_phase, live_phase}
 use Rattle.sp_room.specs.History.{either_list}
 use Rattle.sp_kernel.specs.declared.closed.Closed.{Closed}
 use Rattle.sp_kernel.specs.declared.kernel.Kernel.{Kernel}
-use Rattle.sp_kernel.specs.Kernels.{control_of, system_of, setting_of, IsKernel}
+use Rattle.sp_kernel.specs.Kernels.{control_of, system_of, code_run_of, IsKernel}
 use Rattle.sp_kernel.specs.Asks.{IsOpening}
 use Rattle.sp_kernel.specs.Closes.{EndIs, AreWaiters}
 use Rattle.sp_kernel.specs.Keeping.{after_log, from_start, along}
@@ -126,24 +126,24 @@ pub closed_run : (workers : ℕ) (x : Kernel) (fine : IsOpening x) (log : List N
     → RanBy workers x log y → (c : Closed) → EndIs y c.end → c.journal.entries ≡ entries_of log
     → (y.abandons ≡ 0 → (q : ℕ) × IsOutputOf (system_of y) q c.output)
     → (standing (control_of y) ≡ Deadlock → (q : ℕ) → phase_in ((system_of y).condition q) ≢ Running)
-    → IsRun (setting_of x) workers c
+    → IsRun (code_run_of x) workers c
 closed_run workers x fine log y some by c ends journal output idle = record {
   notes = log;
-  legal = reaches_legal plain (setting_of x) control_at_start (opening_system plain (setting_of x)) (system_of y) log
+  legal = reaches_legal plain (code_run_of x) control_at_start (opening_system plain (code_run_of x)) (system_of y) log
       (from_start x fine log y by.ran.legal);
   journal = journal;
   calls = by.calls;
   others = by.others;
   gives = record {
     system = system_of y;
-    along = subst (λ (es : List Entry). IsSystem plain (setting_of x) es (system_of y)) (sym journal)
+    along = subst (λ (es : List Entry). IsSystem plain (code_run_of x) es (system_of y)) (sym journal)
         (along x fine log y by.ran.legal);
     end = subst (λ (es : List Entry). EndsAt es (system_of y) c.end) (by.ran.journal
         ∙ sym journal) (ends_at y (after_log x fine log y by.ran.legal).whole by.kept idle c.end ends);
     output = output by.kept;
   };
   in_turn = λ one. subst (λ (es : List Entry). InTurnFrom first_births first_queue es) (sym journal)
-      (first_in_first_out plain (setting_of x) (system_of y) log (from_start x fine log y by.ran.legal) (alone one));
+      (first_in_first_out plain (code_run_of x) (system_of y) log (from_start x fine log y by.ran.legal) (alone one));
 }
   where
     alone : workers ≡ 1 → OneByOne None log

@@ -21,7 +21,7 @@ use Rattle.sp_kernel.specs.declared.ask.Ask.{Ask}
 use Rattle.sp_kernel.specs.declared.ask.Ask.TheVariants as ask
 use Rattle.sp_kernel.specs.declared.ask.Got.{Got}
 use Rattle.sp_kernel.specs.declared.ask.Got.TheVariants as got
-use Rattle.sp_kernel.specs.Kernels.{control_of, system_of, setting_of}
+use Rattle.sp_kernel.specs.Kernels.{control_of, system_of, code_run_of}
 use Rattle.sp_kernel.specs.Asks.{IsOpening, KernelSteps, GotMatchesNote, is_abandon, refusal}
 use Rattle.sp_kernel.specs.Closes.{RanTo}
 use Rattle.sp_kernel.specs.Keeping.{from_start, control_is, after_log}
@@ -119,7 +119,7 @@ ran_to x fine log y told seen starts left kept = record {
 
     go : LeftAfter seen → IsOver (control_of y)
     go (inl v) =
-        let g = setting_of x in let at = opening_system plain g in
+        let g = code_run_of x in let at = opening_system plain g in
         let f = reaches_front plain g control_at_start at (system_of y) seen starts.0
         (subst (λ (l : List Note). Reaches plain g control_at_start at l (system_of y)) starts.1
         (from_start x fine log y told)) in

@@ -28,7 +28,7 @@ use Rattle.sp_kernel.specs.declared.kernel.Kernel.{Kernel}
 use Rattle.sp_kernel.specs.declared.ask.Ask.{Ask}
 use Rattle.sp_kernel.specs.declared.ask.Ask.TheVariants as ask
 use Rattle.sp_kernel.specs.declared.ask.Got.TheVariants as got
-use Rattle.sp_kernel.specs.Kernels.{control_of, system_of, setting_of}
+use Rattle.sp_kernel.specs.Kernels.{control_of, system_of, code_run_of}
 use Rattle.sp_kernel.specs.Fits.{IsWhole}
 use Rattle.sp_kernel.specs.Asks.{IsOpening, HoldsOut, MayAsk, StandsFor, KernelSteps, LeavesNote, GotMatchesNote}
 use Rattle.sp_kernel.specs.Asks.{is_abandon, refusal}
@@ -39,11 +39,11 @@ use Rattle.sp_runner.specs.Works.{IsRunOf}
 -- after these notes the system has this process so, out with the worker
 pub record HasProcessOut (x : Kernel) (seen : List Note) (w : ℕ) (p : Proc) : Type 0 where
   pub system : System Plain
-  pub reaches : Reaches plain (setting_of x) control_at_start (opening_system plain (setting_of x)) seen system
-  pub along : IsSystem plain (setting_of x) (entries_of seen) system
+  pub reaches : Reaches plain (code_run_of x) control_at_start (opening_system plain (code_run_of x)) seen system
+  pub along : IsSystem plain (code_run_of x) (entries_of seen) system
   pub out : (control seen).doing p.number ≡ Out w
   pub runs : system.condition p.number ≡ Working (config_of p)
-  pub input : p.input.value ≡ (setting_of x).input
+  pub input : p.input.value ≡ (code_run_of x).input
 
 -- the ask came back, no note was left, and what is seen is legal
 record Back (x : Kernel) (v w : View Kernel Note) (a : Ask) (h : Option Handed) : Type 0 where
@@ -77,7 +77,7 @@ module _ (x : Kernel) (fine : IsOpening x) (v w : View Kernel Note) (a : Ask) wh
             ∙ ap (after_note n (control_of c.met)).doing t.0 ∙ noted_out n q (control_of c.met) e
             ∙ ap (λ i. Out i) (s.worker ∙ sym same);
         runs = ap (system_of c.left).condition t.0 ∙ t.1;
-        input = t.2 ∙ ap (λ (g : CodeRun). g.input) (after_log x fine w.seen c.left c.legal_after).setting;
+        input = t.2 ∙ ap (λ (g : CodeRun). g.input) (after_log x fine w.seen c.left c.legal_after).code_run;
       }
 
       go : (o : Option Note) (b : Ask) → KernelSteps c.met v.number b c.left (got.Work p) o
@@ -130,8 +130,8 @@ module _ (x : Kernel) (fine : IsOpening x) (v w : View Kernel Note) (a : Ask) wh
       }
       go (ask.Abandon q) e f = absurd f
 
-  abrupt : (seen : List Note) (n : ℕ) (h : Option Handed) → StandsFor (setting_of x) seen n (ask.Turn h)
-      → StandsFor (setting_of x) seen n (ask.Abandon (option_map (λ (i : Handed). i.proc) h))
+  abrupt : (seen : List Note) (n : ℕ) (h : Option Handed) → StandsFor (code_run_of x) seen n (ask.Turn h)
+      → StandsFor (code_run_of x) seen n (ask.Abandon (option_map (λ (i : Handed). i.proc) h))
   abrupt seen n None s = tt {0}
   abrupt seen n (Some h) s = s.holds
 
@@ -153,15 +153,15 @@ module _ (x : Kernel) (fine : IsOpening x) (v w : View Kernel Note) (a : Ask) wh
           ∙ t.own) in
           let s = later x fine w.seen t.last t.legal v.number v.seen v.own may.0 starts mine a may.1 in (
             by,
-            subst (λ i. StandsFor (setting_of x) w.seen i (ask.Abandon (option_map (λ (j : Handed). j.proc) h)))
+            subst (λ i. StandsFor (code_run_of x) w.seen i (ask.Abandon (option_map (λ (j : Handed). j.proc) h)))
                 (sym number) (abrupt w.seen v.number h
-                (subst (λ b. StandsFor (setting_of x) w.seen v.number b) t.ask s.0)),
+                (subst (λ b. StandsFor (code_run_of x) w.seen v.number b) t.ask s.0)),
           )
 
 module _ (x : Kernel) (code : Parts) (lim : Limits) (run : IsRunOf x code lim) (seen : List Note) (w : ℕ) (p : Proc)
     (h : HasProcessOut x seen w p) where
   -- the run of the process is that of the room
-  same_run : setting_of x ≡ run_of code p.input.value lim
+  same_run : code_run_of x ≡ run_of code p.input.value lim
   same_run = λ i. run_of (run.code i) (sym h.input i) (run.limits i)
 
   -- a turn of what is held lacks nothing
@@ -176,7 +176,7 @@ module _ (x : Kernel) (code : Parts) (lim : Limits) (run : IsRunOf x code lim) (
       ((run.opening.sound.safe x.root.value.input.value x.limits run.opening.limits
       (entries_of seen) h.system h.along).ranks p.number (config_of p) h.runs)
 
-  abbrev holds : (q : Proc) → q.number ≡ p.number → HoldsOut (setting_of x) seen w q.number
+  abbrev holds : (q : Proc) → q.number ≡ p.number → HoldsOut (code_run_of x) seen w q.number
   holds q same = record {
     system = h.system;
     reaches = h.reaches;

@@ -5,7 +5,7 @@ use Rattle.std.proofs.lemmas.Bool.{true≢false}
 use Rattle.sp_base.specs.declared.halt.Refusal.{Refusal}
 use Rattle.sp_execute.specs.declared.execution.Ran.{Ran}
 use Rattle.sp_execute.specs.Follows.{IsMeant as IsDefined, IsUnfitAt}
-use Rattle.sp_execute.specs.Runs.{setting}
+use Rattle.sp_execute.specs.Runs.{run_input}
 use Rattle.sp_front.specs.Checks.{IsProgramOf}
 use Rattle.sp_gen.specs.Generated.{generated_text}
 use Rattle.sp_journal.specs.declared.entry.Journal.{Journal}
@@ -468,7 +468,7 @@ module _ (c : Call) (k : IsAnswered c) (l : Laws) where
 
       module _ (kept : IsAcceptedText text) (fits : length input ≤ 16777216) (p : Program) (is : IsProgramOf text p)
           (j : Journal) (of : IsJournalOf bytes j) where
-        is_accepted : IsDefined (setting p input b.limits) j.entries → IsFinal status ⊎ IsOutside status
+        is_accepted : IsDefined (run_input p input b.limits) j.entries → IsFinal status ⊎ IsOutside status
         is_accepted d = go (came_here kept)
           where
             final_replay : (o : Option End) → HasEndLines o → IsFinal (status_of (ending_of_replay o))
@@ -485,7 +485,7 @@ module _ (c : Call) (k : IsAnswered c) (l : Laws) where
             go (came_long h) = absurd (too_short of.short (if_told _ (c.files.held b.journal) bytes u h.long))
             go (came_outside o) = inr (outside o)
 
-        is_unfit : (n : ℕ) → IsUnfitAt (setting p input b.limits) j.entries n → SaysEnding c (e.Unfit n)
+        is_unfit : (n : ℕ) → IsUnfitAt (run_input p input b.limits) j.entries n → SaysEnding c (e.Unfit n)
         is_unfit n d = go (came_here kept)
           where
             go : Came_here → SaysEnding c (e.Unfit n)

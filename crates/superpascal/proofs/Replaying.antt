@@ -6,7 +6,7 @@ use Rattle.std.specs.Prelude.{IfSome}
 use Rattle.sp_base.specs.declared.limits.Limits.{Limits}
 use Rattle.sp_code.specs.declared.code.Parts.{Parts}
 use Rattle.sp_execute.specs.Follows.{IsMeant as IsDefined, IsUnfitAt}
-use Rattle.sp_execute.specs.Runs.{setting}
+use Rattle.sp_execute.specs.Runs.{run_input}
 use Rattle.sp_front.specs.Checks.{IsProgramOf}
 use Rattle.sp_journal.specs.declared.entry.Journal.{Journal}
 use Rattle.sp_journal.specs.declared.outcome.End.{End}
@@ -191,13 +191,13 @@ module _ (l : Laws) (text input : List ℕ) (limits : Limits) (j : Journal) wher
   same_program p (q, is, e) tree has = ap without_places (l.tree text tree q has.accepted.0 is) ∙ e
 
   pub meant_defined : (p : Program) → IsProgramOf text p → (r : Replayed) → IsReplayOf text input limits j r
-      → IsDefined (setting p input limits) j.entries
-  meant_defined p is r h = subst (λ (q : Program). IsDefined (setting q input limits) j.entries)
+      → IsDefined (run_input p input limits) j.entries
+  meant_defined p is r h = subst (λ (q : Program). IsDefined (run_input q input limits) j.entries)
       (same_program p is h.tree h.has) (h.meant.steps, h.meant.state, h.meant.along)
 
   pub unfit_there : (p : Program) → IsProgramOf text p → (n : ℕ) → IsUnfitFor text input limits j n
-      → IsUnfitAt (setting p input limits) j.entries n
-  unfit_there p is n h = subst (λ (q : Program). IsUnfitAt (setting q input limits) j.entries n)
+      → IsUnfitAt (run_input p input limits) j.entries n
+  unfit_there p is n h = subst (λ (q : Program). IsUnfitAt (run_input q input limits) j.entries n)
       (same_program p is h.tree h.has) h.unfit
 
 module _ (f : Files) (s : Stream) (b : Followed) (l : Laws) (h : HasRead f s b) (text bytes input : List ℕ)
@@ -240,22 +240,22 @@ module _ (f : Files) (s : Stream) (b : Followed) (l : Laws) (h : HasRead f s b) 
   -- a journal along which the meaning is defined was followed; one that was followed has no entry that is unfit
   module _ (p : Program) (is : IsProgramOf text p) (j : Journal) (of : IsJournalOf bytes j) where
     pub not_unfit : (n : ℕ) → IsUnfitFor h.text h.input b.limits h.journal n
-        → IsDefined (setting p input b.limits) j.entries → ⊥
+        → IsDefined (run_input p input b.limits) j.entries → ⊥
     not_unfit n m d =
-        l.unfit_or (setting p input b.limits) j.entries n d
-        (subst (λ (x : Journal). IsUnfitAt (setting p input b.limits) x.entries n) (same_journal j of)
+        l.unfit_or (run_input p input b.limits) j.entries n d
+        (subst (λ (x : Journal). IsUnfitAt (run_input p input b.limits) x.entries n) (same_journal j of)
         (unfit_there l text input b.limits h.journal p is n (unfit_is n m)))
 
     pub not_followed : (n : ℕ) (r : Replayed) → IsReplayOf h.text h.input b.limits h.journal r
-        → IsUnfitAt (setting p input b.limits) j.entries n → ⊥
+        → IsUnfitAt (run_input p input b.limits) j.entries n → ⊥
     not_followed n r m d =
-        l.unfit_or (setting p input b.limits) j.entries n
-        (subst (λ (x : Journal). IsDefined (setting p input b.limits) x.entries) (same_journal j of)
+        l.unfit_or (run_input p input b.limits) j.entries n
+        (subst (λ (x : Journal). IsDefined (run_input p input b.limits) x.entries) (same_journal j of)
         (meant_defined l text input b.limits h.journal p is r (replay_is r m))) d
 
     pub same_entry : (m n : ℕ) → IsUnfitFor h.text h.input b.limits h.journal m
-        → IsUnfitAt (setting p input b.limits) j.entries n → m ≡ n
+        → IsUnfitAt (run_input p input b.limits) j.entries n → m ≡ n
     same_entry m n x y =
-        l.unfit (setting p input b.limits) j.entries m n
-        (subst (λ (z : Journal). IsUnfitAt (setting p input b.limits) z.entries m) (same_journal j of)
+        l.unfit (run_input p input b.limits) j.entries m n
+        (subst (λ (z : Journal). IsUnfitAt (run_input p input b.limits) z.entries m) (same_journal j of)
         (unfit_there l text input b.limits h.journal p is m (unfit_is m x))) y

@@ -9,7 +9,7 @@ use Rattle.sp_code.specs.Shares.{SetsAre}
 use Rattle.sp_code.specs.Sound.{AreLimits}
 use Rattle.sp_execute.specs.declared.execution.Ran.{Ran}
 use Rattle.sp_execute.specs.Follows.{FollowsTo as FollowsProgram}
-use Rattle.sp_execute.specs.Runs.{Executes, IsCodeOf as IsReadyCode, setting}
+use Rattle.sp_execute.specs.Runs.{Executes, IsCodeOf as IsReadyCode, run_input}
 use Rattle.sp_execute.specs.Witnesses.{IsReadyRun, ShowsRace}
 use Rattle.sp_facts.specs.AcceptedTree.{IsAccepted}
 use Rattle.sp_journal.specs.declared.entry.Journal.{Journal}
@@ -63,7 +63,7 @@ ending_at (Err error.Memory) = Err ending.OutOfMemory
 module _ (law : ReadyLaw) (code : Parts) (input : List ℕ) (workers : ℕ) (lim : Limits)
     (range : IsInRange workers lim) where
   pub ready_code : (text : List ℕ) (t : c.Program) (has : HasCode text t code)
-      → IsReadyCode (setting (without_places t) input lim) has.code.0.moves has.code.0.shares code
+      → IsReadyCode (run_input (without_places t) input lim) has.code.0.moves has.code.0.shares code
   ready_code text t has = record {
     ready = law text t has.has.accepted has.code.0.moves has.code.0.shares has.code.0.are input lim
         (limits_are workers lim range);
@@ -73,26 +73,26 @@ module _ (law : ReadyLaw) (code : Parts) (input : List ℕ) (workers : ℕ) (lim
   -- of the code and the input as the run holds them
   module _ (held : Parts) (read : List ℕ) (h : held ≡ code) (i : read ≡ input) where
     pub ready_held : ((text : List ℕ) × (t : c.Program) × HasCode text t code) → (p : Program) × (moves : Stmt → List ℕ)
-        × (shares : Stmt → List ℕ) × IsReadyCode (setting p read lim) moves shares held
+        × (shares : Stmt → List ℕ) × IsReadyCode (run_input p read lim) moves shares held
     ready_held (text, t, has) = (
       without_places t,
       has.code.0.moves,
       has.code.0.shares,
-      subst (λ (z : List ℕ × Parts). IsReadyCode (setting (without_places t) z.0 lim) has.code.0.moves
+      subst (λ (z : List ℕ × Parts). IsReadyCode (run_input (without_places t) z.0 lim) has.code.0.moves
           has.code.0.shares z.1)
           (λ k. (sym i k, sym h k)) (ready_code text t has),
     )
 
     abbrev Meant : List ℕ → Parts → Ran → Type 0
-    Meant y x r = (p : Program) (moves shares : Stmt → List ℕ) → IsReadyCode (setting p y lim) moves shares x
-        → Executes (setting p y lim) workers r
+    Meant y x r = (p : Program) (moves shares : Stmt → List ℕ) → IsReadyCode (run_input p y lim) moves shares x
+        → Executes (run_input p y lim) workers r
 
     -- a run of the code is one of the program, and the program is ready for it
     pub ready_if : ((text : List ℕ) × (t : c.Program) × HasCode text t code) → (r : Result Ran Memory)
         → IfOk r (λ e. Meant read held e) → IfOk r IsReadyRun
     ready_if some (Ok e) meant =
         let x = ready_held some in
-        (setting x.0 read lim, x.1, x.2, workers, x.3.ready, meant x.0 x.1 x.2 x.3)
+        (run_input x.0 read lim, x.1, x.2, workers, x.3.ready, meant x.0 x.1 x.2 x.3)
     ready_if some (Err x) meant = tt
 
     pub is_run_if : RaceLaw → (r : Result Ran Memory) → IfOk r (λ e. Meant read held e)
@@ -105,26 +105,27 @@ module _ (law : ReadyLaw) (code : Parts) (input : List ℕ) (workers : ℕ) (lim
           tree = t;
           has = has.has;
           meant = executes;
-          shown = races (setting (without_places t) input lim) has.code.0.moves has.code.0.shares workers e ready.ready
+          shown = races (run_input (without_places t) input lim) has.code.0.moves has.code.0.shares workers e
+              ready.ready
               executes;
         }
     is_run_if races (Err x) meant = tt
 
     module _ (j : Journal) (r : Result Replayed ReplayError) (says : (p : Program) (moves shares : Stmt → List ℕ)
-        → IsReadyCode (setting p read lim) moves shares held → FollowsProgram (setting p read lim) j r) where
+        → IsReadyCode (run_input p read lim) moves shares held → FollowsProgram (run_input p read lim) j r) where
       said : (text : List ℕ) (t : c.Program) → HasCode text t code
-          → FollowsProgram (setting (without_places t) input lim) j r
+          → FollowsProgram (run_input (without_places t) input lim) j r
       said text t has =
           subst (λ (z : List ℕ × Parts). (p : Program) (moves shares : Stmt → List ℕ)
-          → IsReadyCode (setting p z.0 lim) moves shares z.1
-          → FollowsProgram (setting p z.0 lim) j r) (λ k. (i k, h k)) says
+          → IsReadyCode (run_input p z.0 lim) moves shares z.1
+          → FollowsProgram (run_input p z.0 lim) j r) (λ k. (i k, h k)) says
           (without_places t) has.code.0.moves has.code.0.shares (ready_code text t has)
 
       pub follows_text : (text : List ℕ) (t : c.Program) → HasCode text t code
           → ReplaysTo text input lim j (ending_at r)
       follows_text text t has = go r (said text t has)
         where
-          go : (x : Result Replayed ReplayError) → FollowsProgram (setting (without_places t) input lim) j x
+          go : (x : Result Replayed ReplayError) → FollowsProgram (run_input (without_places t) input lim) j x
               → ReplaysTo text input lim j (ending_at x)
           go (Ok y) m = record { tree = t; has = has.has; meant = m }
           go (Err (error.Unfit n)) m = inl (n, refl, record { tree = t; has = has.has; unfit = m })

@@ -4,7 +4,7 @@ use Rattle.sp_base.specs.declared.limits.Limits.{Limits}
 use Rattle.sp_cell.specs.Map.{Plain}
 use Rattle.sp_code.specs.System.{System}
 use Rattle.sp_execute.specs.declared.execution.Ran.{Ran}
-use Rattle.sp_execute.specs.Runs.{Executes, setting}
+use Rattle.sp_execute.specs.Runs.{Executes, run_input}
 use Rattle.sp_journal.specs.declared.entry.Entry.{Entry}
 use Rattle.sp_journal.specs.declared.entry.Journal.{Journal}
 use Rattle.sp_journal.specs.declared.outcome.End.{End}
@@ -37,7 +37,7 @@ executed g workers r h = (h.about.names, ends_at g h.about.state r.closed.end h.
 
 pub ends_of : (text input : List ℕ) (workers : ℕ) (limits : Limits) (r : Ran) → IsRunOf text input workers limits r
     → HasLines r.closed.end
-ends_of text input workers limits r h = (executed (setting (without_places h.tree) input limits) workers r h.meant).1
+ends_of text input workers limits r h = (executed (run_input (without_places h.tree) input limits) workers r h.meant).1
 
 -- no replay does
 meant_ends : (g : RunInput) (s : StateOf g) (o : Option End) → EndsSo g s o → HasEndLines o

@@ -8,7 +8,7 @@ use Rattle.sp_code.specs.declared.code.Parts.{Parts}
 use Rattle.sp_codefile.specs.CodeText.{IsFirstBad, IsText, IsTextOf}
 use Rattle.sp_codefile.specs.Verifying.{rule_of}
 use Rattle.sp_codefile.specs.declared.verifier.VRule.{VRule}
-use Rattle.sp_execute.specs.Runs.{IsAbout, setting}
+use Rattle.sp_execute.specs.Runs.{IsAbout, run_input}
 use Rattle.sp_front.specs.Checks.{IsProgramOf}
 use Rattle.sp_kernel.specs.declared.closed.Closed.{Closed}
 use Rattle.sp_outside.specs.Visible.{IsAtEnd}
@@ -42,7 +42,7 @@ IsExecutionOfWords c r =
 
 -- the text has this program, which means that end and that output along the journal
 abbrev pub IsMeantHere : Executed → List ℕ → List ℕ → Closed → Type 0
-IsMeantHere b text input r = (p : Program) × IsProgramOf text p × IsAbout (setting p input b.limits) r
+IsMeantHere b text input r = (p : Program) × IsProgramOf text p × IsAbout (run_input p input b.limits) r
 
 pub record Executing (c : Call) : Type 0 where
   -- a run is given back of `exec` alone, and wherever the status that was due, also one that a failed write displaced,

@@ -5,7 +5,7 @@ use Rattle.std.specs.Prelude.{ℕ, List, Some, None}
 use Rattle.sp_base.specs.declared.limits.Limits.{Limits}
 use Rattle.sp_code.specs.declared.code.Parts.{Parts}
 use Rattle.sp_execute.specs.Machines.{RunsCode}
-use Rattle.sp_execute.specs.Runs.{IsAbout, setting}
+use Rattle.sp_execute.specs.Runs.{IsAbout, run_input}
 use Rattle.sp_kernel.specs.declared.closed.Closed.{Closed}
 use Rattle.sp_print.specs.OutcomeLines.{end_text}
 use Rattle.sp_tree.specs.Bare.{without_places}
@@ -18,7 +18,7 @@ use Rattle.superpascal.specs.Texts.{IsCodeFile, IsFileOf}
 pub record IsMeantBy (text input : List ℕ) (limits : Limits) (r : Closed) : Type 0 where
   pub tree : c.Program
   pub has : HasTree text tree
-  pub about : IsAbout (setting (without_places tree) input limits) r
+  pub about : IsAbout (run_input (without_places tree) input limits) r
 
 -- An execution of the code file of these bytes on the input with the limits, by so many workers: the machine with the
 -- code comes to that end, with that output, along the journal. Where the bytes are what `build` writes for a text, so

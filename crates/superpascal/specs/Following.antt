@@ -4,7 +4,7 @@
 -- nothing else.
 use Rattle.std.specs.Prelude.{◌≡◌, ◌⊎◌, ℕ, ◌<◌, ◌≤◌, List, Some, IfSome, length}
 use Rattle.sp_execute.specs.Follows.{IsFollowed, IsMeant, IsUnfitAt}
-use Rattle.sp_execute.specs.Runs.{setting}
+use Rattle.sp_execute.specs.Runs.{run_input}
 use Rattle.sp_front.specs.Checks.{IsProgramOf}
 use Rattle.sp_journal.specs.declared.entry.Journal.{Journal}
 use Rattle.sp_journal.specs.Reading.{IsText}
@@ -35,7 +35,7 @@ pub record IsMeantAlong (b : Followed) (text bytes input : List ℕ) (r : Replay
   pub is_journal : IsJournalOf bytes journal
   pub program : Program
   pub is_program : IsProgramOf text program
-  pub followed : IsFollowed (setting program input b.limits) journal r
+  pub followed : IsFollowed (run_input program input b.limits) journal r
 
 -- no journal is read from these bytes
 abbrev pub IsNoJournal : List ℕ → Type 0
@@ -47,12 +47,12 @@ pub record Following (c : Call) : Type 0 where
       × IsMeantAlong b text bytes input r × PrintsReplay c r)
   -- a journal is followed wherever the meaning is defined along it
   pub accepted : OfReplayInput c (λ b text bytes input. IsAcceptedText text → length input ≤ 16777216 → (p : Program)
-      → IsProgramOf text p → (j : Journal) → IsJournalOf bytes j → IsMeant (setting p input b.limits) j.entries
+      → IsProgramOf text p → (j : Journal) → IsJournalOf bytes j → IsMeant (run_input p input b.limits) j.entries
       → IsFinal c.outcome.status ⊎ IsOutside c.outcome.status)
   -- else the first entry is named with which it is not defined
   pub unfit : OfReplayInput c (λ b text bytes input. IsAcceptedText text → length input ≤ 16777216 → (p : Program)
       → IsProgramOf text p → (j : Journal) → IsJournalOf bytes j → (n : ℕ)
-      → IsUnfitAt (setting p input b.limits) j.entries n
+      → IsUnfitAt (run_input p input b.limits) j.entries n
       → SaysEnding c (e.Unfit n))
   -- of bytes that are the text of no journal, the first line is named that is not the text of a next entry
   pub bad : OfReplay c (λ b text bytes. IsAcceptedText text → length bytes ≤ 67108864 → (IsText bytes → ⊥)

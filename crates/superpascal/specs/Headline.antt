@@ -11,7 +11,7 @@
 use Rattle.std.specs.Prelude.{◌≡◌, ◌≢◌, ◌⊎◌, ℕ, List, Some}
 use Rattle.sp_base.specs.declared.halt.Refusal.{Refusal}
 use Rattle.sp_execute.specs.declared.execution.Ran.{Ran}
-use Rattle.sp_execute.specs.Runs.{Executes, setting}
+use Rattle.sp_execute.specs.Runs.{Executes, run_input}
 use Rattle.sp_front.specs.Checks.{IsProgramOf}
 use Rattle.sp_tree.specs.Plain.{Program}
 use Rattle.superpascal.specs.declared.asked.Asked.{Asked}
@@ -32,7 +32,7 @@ pub record Prints (c : Call) (telling : Telling) (r : Ran) : Type 0 where
 -- is defined, with its output and its end; its verdict is the exact one; where that is `ordered`, every lawful schedule
 -- ends alike
 abbrev pub IsMeant : Asked → List ℕ → List ℕ → Ran → Type 0
-IsMeant a text input r = (p : Program) × IsProgramOf text p × Executes (setting p input a.limits) a.workers r
+IsMeant a text input r = (p : Program) × IsProgramOf text p × Executes (run_input p input a.limits) a.workers r
 
 pub record Headline (c : Call) : Type 0 where
   -- the text is refused exactly where a written rule is broken

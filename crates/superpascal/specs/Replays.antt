@@ -4,7 +4,7 @@
 use Rattle.std.specs.Prelude.{ℕ, ◌≤◌, List, ◌++◌, Option, Some, None, codes, length}
 use Rattle.sp_base.specs.declared.limits.Limits.{Limits}
 use Rattle.sp_execute.specs.Follows.{IsFollowed, IsUnfitAt}
-use Rattle.sp_execute.specs.Runs.{setting}
+use Rattle.sp_execute.specs.Runs.{run_input}
 use Rattle.sp_journal.specs.declared.entry.Journal.{Journal}
 use Rattle.sp_journal.specs.declared.outcome.End.{End}
 use Rattle.sp_journal.specs.declared.version.Version.{Version}
@@ -29,13 +29,13 @@ pub record IsJournalOf (bytes : List ℕ) (j : Journal) : Type 0 where
 pub record IsReplayOf (text input : List ℕ) (limits : Limits) (j : Journal) (r : Replayed) : Type 0 where
   pub tree : c.Program
   pub has : HasTree text tree
-  pub meant : IsFollowed (setting (without_places tree) input limits) j r
+  pub meant : IsFollowed (run_input (without_places tree) input limits) j r
 
 -- it can be followed along the first n entries, and not with the next one
 pub record IsUnfitFor (text input : List ℕ) (limits : Limits) (j : Journal) (n : ℕ) : Type 0 where
   pub tree : c.Program
   pub has : HasTree text tree
-  pub unfit : IsUnfitAt (setting (without_places tree) input limits) j.entries n
+  pub unfit : IsUnfitAt (run_input (without_places tree) input limits) j.entries n
 
 -- what a replay comes to is told by this ending of the call
 abbrev pub ending_of_replay : Option End → Ending

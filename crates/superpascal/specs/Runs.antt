@@ -9,7 +9,7 @@ use Rattle.sp_base.specs.declared.limits.Show.{Show}
 use Rattle.sp_base.specs.declared.limits.Show.TheVariants as show
 use Rattle.sp_code.specs.Lengths.{tree_length}
 use Rattle.sp_execute.specs.declared.execution.Ran.{Ran}
-use Rattle.sp_execute.specs.Runs.{Executes, setting}
+use Rattle.sp_execute.specs.Runs.{Executes, run_input}
 use Rattle.sp_execute.specs.Witnesses.{ShowsRace, witness_of}
 use Rattle.sp_front.specs.Compiles.{IsAccepted}
 use Rattle.sp_journal.specs.declared.entry.Entry.{Entry}
@@ -37,8 +37,8 @@ pub record HasTree (text : List ℕ) (tree : c.Program) : Type 0 where
 pub record IsRunOf (text input : List ℕ) (workers : ℕ) (limits : Limits) (r : Ran) : Type 0 where
   pub tree : c.Program
   pub has : HasTree text tree
-  pub meant : Executes (setting (without_places tree) input limits) workers r
-  pub shown : ShowsRace (setting (without_places tree) input limits) r
+  pub meant : Executes (run_input (without_places tree) input limits) workers r
+  pub shown : ShowsRace (run_input (without_places tree) input limits) r
 
 -- the end of a run is told by this ending of the call
 abbrev pub ending_of : End → Ending

@@ -3,7 +3,7 @@
 -- the program itself, on this input and with these limits, which ends where the two offers of the verdict contend.
 use Rattle.std.specs.Prelude.{◌≡◌, ℕ, List, Some}
 use Rattle.sp_execute.specs.declared.execution.Ran.{Ran}
-use Rattle.sp_execute.specs.Runs.{setting}
+use Rattle.sp_execute.specs.Runs.{run_input}
 use Rattle.sp_execute.specs.Witnesses.{ShowsRace}
 use Rattle.sp_front.specs.Checks.{IsProgramOf}
 use Rattle.sp_tree.specs.Plain.{Program}
@@ -13,7 +13,7 @@ use Rattle.superpascal.specs.Calls.{Call, OfInput}
 -- the witness of the run's race, if it has one, shows it: along the witness the meaning of the program of the text is
 -- defined, and its last entry is the fault F6 of the verdict's later offer, which meets the earlier one
 abbrev pub IsShown : Asked → List ℕ → List ℕ → Ran → Type 0
-IsShown a text input r = (p : Program) × IsProgramOf text p × ShowsRace (setting p input a.limits) r
+IsShown a text input r = (p : Program) × IsProgramOf text p × ShowsRace (run_input p input a.limits) r
 
 pub record Witnessing (c : Call) : Type 0 where
   pub shown : OfInput c (λ a text input. (r : Ran) → c.outcome.ran ≡ Some r → IsShown a text input r)

@@ -7,7 +7,7 @@ use Rattle.sp_history.specs.Holding.{IsOutputOf}
 use Rattle.sp_room.specs.Ends.{object_of, notes_of}
 use Rattle.sp_kernel.specs.declared.kernel.Kernel.{Kernel}
 use Rattle.sp_kernel.specs.Closes.{EndIs}
-use Rattle.sp_kernel.specs.Kernels.{setting_of, system_of}
+use Rattle.sp_kernel.specs.Kernels.{code_run_of, system_of}
 use Rattle.sp_runner.specs.Runs.{IsRun}
 use Rattle.sp_runner.proofs.Closing.{closed_run, if_closed}
 use Rattle.sp_runner.proofs.runner.run.Goals as goal
@@ -18,8 +18,8 @@ returns g c =
     let y : Kernel = object_of c.in_ok-settled.settled in
     let log = notes_of c.in_ok-settled.settled in
     let clone : c.in_ok-try_clone.field-0.value ≡ c.args.code.value = c.in_ok-try_clone.ensures in
-    let same : setting_of x ≡ run_of c.args.code.value c.args.input.value c.args.limits.now =
-    c.in_ok-kernel.ensures.setting
+    let same : code_run_of x ≡ run_of c.args.code.value c.args.input.value c.args.limits.now =
+    c.in_ok-kernel.ensures.code_run
     ∙ ap (λ (p : Parts). run_of p c.in_ok-root.root.input.value c.args.limits.now) clone
     ∙ ap (λ (i : _). run_of c.args.code.value i.value c.args.limits.now) c.in_ok-root.ensures.same.1 in
     if_closed (λ z. EndIs y z.end) (λ z. z.journal.entries ≡ entries_of log) (λ z. y.abandons ≡ 0 → (q : ℕ)

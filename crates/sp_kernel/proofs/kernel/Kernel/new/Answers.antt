@@ -21,5 +21,5 @@ returns c =
     } in
     record {
       opening = opened _ c.args.root fresh c.requires.root.0 c.requires.root.1 c.requires.limits c.requires.sound;
-      setting = λ i. run_of c.args.code.value (c.of-first.ensures i).input.value c.args.limits;
+      code_run = λ i. run_of c.args.code.value (c.of-first.ensures i).input.value c.args.limits;
     }

@@ -8,7 +8,7 @@ use Rattle.sp_machine.specs.declared.state.State.{State as Proc}
 use Rattle.sp_machine.specs.declared.state.Stop.TheVariants as stop
 use Rattle.sp_kernel.specs.declared.handed.Handed.{Handed}
 use Rattle.sp_kernel.specs.declared.kernel.Kernel.{Kernel}
-use Rattle.sp_kernel.specs.Kernels.{system_of, setting_of, Gave, IsKernel}
+use Rattle.sp_kernel.specs.Kernels.{system_of, code_run_of, Gave, IsKernel}
 use Rattle.sp_kernel.specs.Procs.{config_of}
 use Rattle.sp_kernel.proofs.Failing.{failed, is_full, not_full}
 use Rattle.sp_kernel.proofs.Opening.{open_full, open_many, open_fine, open_takes, gave_open}
@@ -43,7 +43,7 @@ returns-then-count-self-clause-ok c =
     (many x c.requires.whole c.count.result c.count.ensures c.if-count-self.true)) c.fail-then-count-self.ensures.ok
 
 pub open_now-requires-clause-target : goal.open_now-requires-clause-target
-open_now-requires-clause-target c = open_takes (setting_of c.args.self.now) (setting_of c.args.self.now).code
+open_now-requires-clause-target c = open_takes (code_run_of c.args.self.now) (code_run_of c.args.self.now).code
     c.requires.fits.configuration c.args.proc c.requires.fits.turn (cell.Channel (length c.args.self.now.channels))
 
 pub returns-in-Ok-clause-ok : goal.returns-in-Ok-clause-ok

@@ -3,7 +3,7 @@ use Rattle.sp_kernel.specs.Kernels.{Takes}
 use Rattle.sp_kernel.specs.Asks.{LeavesNote, GotMatchesNote}
 use Rattle.sp_kernel.specs.declared.ask.Got.TheVariants as got
 use Rattle.sp_kernel.specs.declared.ask.Ask.TheVariants as ask
-use Rattle.sp_kernel.proofs.Serving.{noted_turn, same_setting}
+use Rattle.sp_kernel.proofs.Serving.{noted_turn, same_code_run}
 use Rattle.sp_code.specs.Memory.{CodeRun}
 use Rattle.sp_kernel.proofs.kernel.Kernel.turn_in.Goals as goal
 
@@ -26,7 +26,7 @@ returns-in-Some c =
       refl,
       ap (λ s. s.condition c.in-Some.proc.number) t.system ∙ (t.work c.in-Some.proc refl).0,
       (t.work c.in-Some.proc refl).1 ∙ ap (λ (g : CodeRun). g.input)
-          (sym (same_setting c.give.new.self c.take.new.self t.setting)),
+          (sym (same_code_run c.give.new.self c.take.new.self t.code_run)),
     ) in
     subst (λ (n : ℕ × ℕ). LeavesNote c.args.self.now c.args.worker (ask.Turn (Some c.args.handed)) c.take.new.self
     (got.Work c.in-Some.proc) (record {

@@ -3,18 +3,18 @@ use Rattle.sp_code.specs.Turns.{RunsIn, frames_fit}
 use Rattle.sp_code.specs.Memory.{memory}
 use Rattle.sp_code.specs.PlainStore.{plain}
 use Rattle.sp_code.specs.Budgets.{left_by, ticks_left}
-use Rattle.sp_machine.specs.Procs.{config_of, setting_of, KeepsNumberAndInput}
+use Rattle.sp_machine.specs.Procs.{config_of, code_run_of, KeepsNumberAndInput}
 use Rattle.sp_machine.proofs.state.State.turn.Given as goal
 
 abbrev pub invariant-loop-interrupt : goal.invariant-loop-interrupt
 invariant-loop-interrupt l = record {
   same : KeepsNumberAndInput l.fn.self l.self;
-  begun : frames_fit (memory plain (setting_of l.fn.self l.code l.limits)) l.code (config_of l.fn.self)
+  begun : frames_fit (memory plain (code_run_of l.fn.self l.code l.limits)) l.code (config_of l.fn.self)
       ≡ Rattle.std.proofs.Common.true;
-  came : (n : ℕ) × RunsIn (memory plain (setting_of l.fn.self l.code l.limits)) l.code n (config_of l.fn.self)
+  came : (n : ℕ) × RunsIn (memory plain (code_run_of l.fn.self l.code l.limits)) l.code n (config_of l.fn.self)
       (config_of l.self);
 }
 
 abbrev pub decreases-loop-interrupt : goal.decreases-loop-interrupt
-decreases-loop-interrupt l = left_by l.code.instrs (ticks_left (setting_of l.fn.self l.code l.limits))
+decreases-loop-interrupt l = left_by l.code.instrs (ticks_left (code_run_of l.fn.self l.code l.limits))
     (config_of l.self)

@@ -6,7 +6,7 @@ use Rattle.sp_replay.proofs.Coming.{is_whole, out_bound, take_more, take_none, s
 use Rattle.sp_replay.proofs.followed.Followed.take_ready.Goals as goal
 
 pub loop-proc-init : goal.loop-proc-init
-loop-proc-init c = record { follows = c.requires; same = record { setting = refl; entries = refl; system = refl } }
+loop-proc-init c = record { follows = c.requires; same = record { code_run = refl; entries = refl; system = refl } }
 
 pub take-requires-clause-whole : goal.take-requires-clause-whole
 take-requires-clause-whole c = is_whole c.loop-proc.self.kernel c.loop-proc.invariant.follows.come
