@@ -17,11 +17,7 @@ pub(crate) fn apart<
     P: Promise<Result<T, Halt>> + Drop,
     F: FnOnce() -> Result<T, Halt> + Send + 'static,
     T: Send + Drop + 'static,
->(
-    rt: &R,
-    promise: P,
-    phases: F,
-) -> Result<T, Halt>
+>(rt: &R, promise: P, phases: F) -> Result<T, Halt>
     requires runs { F.pre phases }
     requires keeps { (r : Result T Halt) → F.post phases r → P.kept_by promise r }
     requires refused { P.kept_by promise (Err OutOfMemory) }

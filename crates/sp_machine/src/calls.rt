@@ -167,8 +167,8 @@ impl State {
             (self.old.pc + 1)
             (entries_of self.old.stack) (memory_of self.old) ≢ Stuck }
         ensures came { IfOk result (λ s. CameBy
-            (call_step (memory plain (code_run_of self.old code.now limits.now)) code.now layout.now up (self.old.pc + 1)
-            (entries_of self.old.stack) (memory_of self.old)) self.old self.new s) }
+            (call_step (memory plain (code_run_of self.old code.now limits.now)) code.now layout.now up
+            (self.old.pc + 1) (entries_of self.old.stack) (memory_of self.old)) self.old self.new s) }
         ensures same { KeepsNumberAndInput self.old self.new }
     {
         if self.ticks >= limits.ticks {

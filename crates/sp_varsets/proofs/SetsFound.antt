@@ -142,13 +142,13 @@ module _ (c : p.Program) (start walk mid end : Walk) (bodies : Bodies)
             ∙ chosen_is end.pool nothing f.none en.0.targets x)
             (through (entry_targets.members x) (total_is (without_places c) (In_stmt (bare_statement t)) (Target x)
             walk.pool targets o.0.targets o.0.calls x (rec.targets.members x) rec.calls.members
-                (λ g. reach_targets g x)));
+            (λ g. reach_targets g x)));
         expressions = λ x. along
             (ap (λ z. has (set_of_index end.pool nothing (expression_index z)) x) en.1
             ∙ chosen_is end.pool nothing f.none en.0.expressions x)
             (through (entry_expressions.members x) (total_is (without_places c) (In_stmt (bare_statement t)) (Seen x)
             walk.pool seen o.0.expressions o.0.calls x (rec.expressions.members x) rec.calls.members
-                (λ g. reach_seen g x)));
+            (λ g. reach_seen g x)));
       }
 
   block_is : (b : ℕ) (k : p.Block) → slice_get c.blocks b ≡ Some k → OfBlock (without_places c) all b

@@ -53,8 +53,14 @@ entry_from {a} {b} {c} x targets seen sets e w i = record {
         | inr t ↦ inr
             (t.0, sym (x.unchanged sets.calls t.0 w.calls) ∙ t.1, t.2)
       ],
-      λ s. elim s [ inl p ↦ inl (x.unchanged k y low ∙ p) | inr t ↦ inr (t.0, x.unchanged sets.calls t.0 w.calls ∙ t.1,
-          t.2) ],
+      λ s. elim s [
+        | inl p ↦ inl (x.unchanged k y low ∙ p)
+        | inr t ↦ inr (
+          t.0,
+          x.unchanged sets.calls t.0 w.calls ∙ t.1,
+          t.2,
+        )
+      ],
     )
 
 pub entries_more : (old mid new : List VarSet) (slots : List (Option StatementSets)) (targets seen : List VarSet)

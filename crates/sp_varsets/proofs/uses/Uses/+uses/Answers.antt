@@ -34,7 +34,7 @@ form-returns-in_ok-add_call-in-Call t c =
     let e1 = c.in_ok-add_call-in-Call.ensures args in
     let e2 = rw c.items.ensures at c.actuals.ensures in
     rw i (ok_then c.actuals.result c.args.self.now c.add_call.new.self c.actuals.new.self
-        (λ u. u ≡ CallOf c.in-Call.f args)
+    (λ u. u ≡ CallOf c.in-Call.f args)
     (In_actuals args) e1 e2)
 
 pub form-returns-in-None : goal.form-returns-in-None
@@ -62,7 +62,7 @@ target-returns t c =
     search (rules, fold_out-Var) in
     let e = rw c.items.ensures at c.selectors.ensures in
     rw i (ok_then c.selectors.result c.args.self.now c.add_target.new.self c.selectors.new.self
-        (λ u. u ≡ Target v.variable)
+    (λ u. u ≡ Target v.variable)
     (In_selectors (bare_selectors (selectors (map selector_of v.selectors)))) c.in_ok-add_target.ensures e)
 
 pub actuals-loop-a-preserved : goal.actuals-loop-a-preserved
