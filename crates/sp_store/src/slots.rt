@@ -81,9 +81,8 @@ fn is_behind(spots: &[Spot], spot: Spot) -> bool
     }
 }
 
-// Where the spot stands, if it is of the newest frame, and all variables of its frame stand there up to it, or of the
-// first one, and all between the first spot and it stand there; else maybe nothing. Almost all loads and stores are of
-// these.
+// Where the spot stands, if it is of the newest frame or of frame 0, and all variables of its frame stand there up to
+// it; else maybe nothing. Almost all loads and stores are of these.
 #[inline(always)]
 fn likely_place(spots: &[Spot], start: usize, spot: Spot) -> Option<usize>
     ensures { IfSome result (λ i. (i < length spots.now) × ((d : Spot) → slice_index_or spots.now i d ≡ spot)) }
@@ -92,7 +91,27 @@ fn likely_place(spots: &[Spot], start: usize, spot: Spot) -> Option<usize>
     if stands_at(spots, place, spot) {
         return Some(place);
     }
+    let place = spot.variable as usize;
+    if stands_at(spots, place, spot) {
+        return Some(place);
+    }
+    None
+}
+
+// Where the spot stands, if it is of the first one's frame, and all variables between stand there, or of the frame
+// before the newest, and that is as long; else maybe nothing. A child is handed spots from somewhere on, and in a
+// recursion frames are alike.
+fn older_place(spots: &[Spot], start: usize, spot: Spot) -> Option<usize>
+    ensures { IfSome result (λ i. (i < length spots.now) × ((d : Spot) → slice_index_or spots.now i d ≡ spot)) }
+{
     let place = behind_first(spots, spot);
+    if stands_at(spots, place, spot) {
+        return Some(place);
+    }
+    let newest = spots.len().wrapping_sub(start);
+    let place = start
+        .wrapping_sub(newest)
+        .wrapping_add(spot.variable as usize);
     if stands_at(spots, place, spot) {
         return Some(place);
     }
@@ -100,7 +119,6 @@ fn likely_place(spots: &[Spot], start: usize, spot: Spot) -> Option<usize>
 }
 
 // How far the spot is behind the first one, if all variables between stand there.
-#[inline(always)]
 fn behind_first(spots: &[Spot], spot: Spot) -> usize {
     if spots.len() == 0 {
         return 0;
@@ -135,7 +153,7 @@ fn place(spots: &[Spot], entries: &[Entry], start: usize, spot: Spot) -> usize
     }
 }
 
-// The same of any spot. Of the others most are of the frame before the newest, which in a recursion is as long.
+// The same of any spot.
 #[inline(never)]
 fn far_place(spots: &[Spot], entries: &[Entry], start: usize, spot: Spot) -> usize
     requires sorted { IsStrictlySortedBy spot_cmp spots.now }
@@ -143,8 +161,7 @@ fn far_place(spots: &[Spot], entries: &[Entry], start: usize, spot: Spot) -> usi
     requires known { IsSome (map.get (layout spots.now entries.now) spot) }
     ensures { IsPlace spots.now entries.now spot result }
 {
-    let before = start.wrapping_sub(spots.len().wrapping_sub(start));
-    match likely_place(spots, before, spot) {
+    match older_place(spots, start, spot) {
         Some(i) => i,
         None => any_place(spots, entries, spot),
     }
