@@ -1,7 +1,7 @@
 -- A clock while the pairs of another one are taken in.
 use Rattle.std.proofs.Common.{◌≡◌, ◌≢◌, ⊎_elim, ℕ, Bool, true, false, cond, max, ◌==◌, List, [], ◌∷◌, Some}
 use Rattle.std.proofs.Common.{Option, ◌⊎◌, is_some, filter, unwrap_or, refl, sym, ap, ◌∙◌, subst, eqb-true}
-use Rattle.std.proofs.Common.{eq-eqb}
+use Rattle.std.proofs.Common.{eq-eqb, length, arith}
 use Rattle.std.specs.Ordering.{nat_cmp, eq_by_cmp, is_eq}
 use Rattle.std.specs.Cmp.{nat_cmp_total, tied_itself}
 use Rattle.std.specs.FinMap.{nat_cmp-IsAntisymmetric}
@@ -17,6 +17,11 @@ use Rattle.sp_base.specs.Order.{tie_of}
 
 abbrev pub count_in : List (ℕ × ℕ) → ℕ → ℕ
 count_in es q = unwrap_or (lookup (is_at (nat_cmp q)) es) 0
+
+-- who has no pair has no counts
+pub none_counted : (es : List (ℕ × ℕ)) → length es ≡ 0 → (q : ℕ) → count_in es q ≡ 0
+none_counted [] none q = refl
+none_counted (e ∷ es) none q = absurd (omega arith)
 
 -- each process has one pair
 abbrev pub Single : List (ℕ × ℕ) → Type 0

@@ -70,6 +70,17 @@ learned cs l t none merged h empty is p q =
         (set_clock cs l none t q h ∙ ap (λ x. cond x (count_of none q) (clock_at cs t q)) d))
         (index_or_not l t)
 
+-- the teacher's clock says nothing
+pub nothing_learned : (cs : List Clock) (l t : ℕ) → ((q : ℕ) → clock_at cs t q ≡ 0) → (p q : ℕ)
+    → clock_at cs p q ≡ cond (l == p) (max (clock_at cs l q) (clock_at cs t q)) (clock_at cs p q)
+nothing_learned cs l t none p q = sym (⊎_elim
+    (λ (e : l ≡ p).
+    ap (λ x. cond x (max (clock_at cs l q) (clock_at cs t q)) (clock_at cs p q)) (eq-eqb l p e)
+    ∙ ap (max (clock_at cs l q)) (none q) ∙ max-zero (clock_at cs l q) ∙ ap (λ r. clock_at cs r q) e)
+    (λ (d : l == p ≡ false).
+    ap (λ x. cond x (max (clock_at cs l q) (clock_at cs t q)) (clock_at cs p q)) d)
+    (index_or_not l p))
+
 -- the process's own count was raised
 pub own_raised : (cs : List Clock) (l n : ℕ) (old new : Clock) (A : ℕ → Type 0) → l < length cs
     → ((q : ℕ) → count_of old q ≡ clock_at cs l q)

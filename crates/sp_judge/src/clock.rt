@@ -41,6 +41,13 @@ impl Clock {
         self.counts.get(&process).copied().unwrap_or(0)
     }
 
+    /// Whether it has no pair: then each count is 0.
+    pub(crate) fn is_empty(&self) -> bool
+        ensures { IsTrue result → (q : ℕ) → count_of self.now q ≡ 0 }
+    {
+        self.counts.is_empty()
+    }
+
     /// The process's count becomes the greater of its old one and `count`. The other pairs stay. Only a process without
     /// a pair takes memory, and after `Memory` the counts are as before.
     pub fn raise(&mut self, process: u32, count: u64) -> Result<(), Memory>
