@@ -82,11 +82,10 @@ IsWritten (kind.Channel ks) = ⊥
 abbrev pub IsCallable : (ℕ → Type 0) → Bool → ℕ → Type 0
 IsCallable callable true f = Unit {0}
 IsCallable callable false f = callable f
-    -- p: the program; moves, shares: what a process statement may change and only reads; Is: this instruction stands
-    at a
-    -- place; HasTable, HasText: this fork table, this text has a number; callable: a block that leads to no kernel
-    statement
 
+-- p: the program; moves, shares: what a process statement may change and only reads; Is: this instruction stands at a
+-- place; HasTable, HasText: this fork table, this text has a number; callable: a block that leads to no kernel
+-- statement
 module _ (p : Program) (moves shares : Stmt → List ℕ) (Is : ℕ → Instr → Type 0) (HasTable : ℕ → ForkTable → Type 0)
     (HasText : ℕ → List ℕ → Type 0) (callable : ℕ → Type 0) where
   -- an entire variable with this role
