@@ -261,7 +261,7 @@ module _ {L : Language} {limits : Totals} (s : State L) (v : JudgeNotes) (p : Na
             let g = met s p o z cs e does in
             let b = link.pends o.channel z g.its e g.waits in
             let x = linked_meets s v p cs sound known one j done n label link h o refl z g.its g.passes e g.waits
-                g.message_is
+            g.message_is
             b in
             let same : with_judge_notes (meeting_notes v p o.channel (way_of o.cargo) z) v
             ≡ notes_after s v p (L.next one.own s.store) =
