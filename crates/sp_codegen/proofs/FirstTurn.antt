@@ -154,9 +154,9 @@ module _ (g : RunInput) (code : Code) (formed : IsFormed g.program) (types : Has
         (At q.0 q.1 q.2, q.4, q.5),
   )
   by_outcome (EndsInFault f, s) q = (
-    q.known,
-    turn_by (At layout.layout.entry [] n0) (Faulted f q.known) fits_first
-        (q.known, q.comes, (q.fails, refl)),
+    q.configuration,
+    turn_by (At layout.layout.entry [] n0) (Faulted f q.configuration) fits_first
+        (q.configuration, q.comes, (q.fails, refl)),
   )
   by_outcome (IllFormed, s) q = q
   by_outcome (OutOfFuel, s) q = tt

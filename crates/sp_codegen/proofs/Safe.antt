@@ -62,6 +62,6 @@ module _ {M : Type 0} (ex : Execution M) where
       (q.4, q.6, last_by _ _ q.7 tt)
   turn_finishes c end base below (Computed (source.Stops Ended) o, s) q h =
       (At q.0 q.1 q.2, q.4, last_by (At q.0 q.1 q.2) _ q.5 tt)
-  turn_finishes c end base below (EndsInFault f, s) q h = (q.known, q.comes, last_by _ _ q.fails tt)
+  turn_finishes c end base below (EndsInFault f, s) q h = (q.configuration, q.comes, last_by _ _ q.fails tt)
   turn_finishes c end base below (IllFormed, s) q h = absurd h
   turn_finishes c end base below (OutOfFuel, s) q h = absurd h
