@@ -55,7 +55,7 @@ module _ (g : RunInput) where
       due_is : (since : ℕ) (b : Bool) (ticks : ℕ) → IsMove g turn since x b ticks
           → is_due_after g turn since s.state x.own h.who m.state ≡ b
       due_is since b ticks v =
-          (λ i. does.fits.beat_is i && nat_le (since + turn) ((ticks_are ∙ ap (ticks_by g) v.move_is) i)) ∙ v.due_is
+          (λ i. does.fits.pauses_are i && nat_le (since + turn) ((ticks_are ∙ ap (ticks_by g) v.move_is) i)) ∙ v.due_is
 
       local_says : (since : ℕ) (b : Bool) (ticks : ℕ) → IsMove g turn since x b ticks
           → happening_at g s.state h.who x.own ≡ None

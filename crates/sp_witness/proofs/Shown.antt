@@ -298,7 +298,7 @@ module _ (g : RunInput) (disjoint : IsDisjointRun g) (turn : ℕ) (es : List Occ
   ready_end = record {
     works = rest.7.5.1;
     act_is = refl;
-    beat_is = refl;
+    pauses_are = refl;
     past = λ k e lt is. knows_so g rest.3 local_steps.notes (knowledge_of front) front later label label second
         local_steps.known
         (λ i l. refl) k e lt is;
