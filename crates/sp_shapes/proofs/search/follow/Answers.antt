@@ -17,4 +17,4 @@ levels-preserved c = record {
 pub levels-smaller : goal.levels-smaller
 levels-smaller c =
     less_room c.levels.search c.compare_all.new.search c.walk_all.new.search c.in_ok-compare_all.ensures.room
-    c.levels.invariant.still c.if-is_empty.ensures.1 c.in_ok-walk_all.ensures.same
+    c.levels.invariant.still c.if-is_empty.ensures.1 c.in_ok-walk_all.ensures.position_is

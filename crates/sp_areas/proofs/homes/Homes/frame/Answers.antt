@@ -9,7 +9,7 @@ pub returns-in-Some-at : goal.returns-in-Some-at
 returns-in-Some-at c = λ p a are there lies.
     let h = are.each c.args.p a there lies in
     let node = c.in-Some-at.node in
-    let same : h.node ≡ node = same_Some h.node node (same_Some (Some h.node) (Some node) (sym h.at
+    let same : h.node ≡ node = same_Some h.node node (same_Some (Some h.node) (Some node) (sym h.node_is
     ∙ sym c.in-Some.ensures ∙ ap Some c.in-Some-at.is)) in
     let found = c.outward.ensures p.layouts are.lists are.tree
     (subst (λ n. n < length c.args.self.now.nodes) same h.within) in
