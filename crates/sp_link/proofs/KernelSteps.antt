@@ -52,7 +52,7 @@ module _ (G : RunContext) (lf : BirthRights) (kids : ℕ → ℕ → BirthRights
         record {
           tree = z.tree;
           tree_is = ⊎_elim (λ e. e)
-              (λ (d : length js ≤ h). (let a = (from_length (suc h) js l.joint l.rest l.at).1 in
+              (λ (d : length js ≤ h). (let a = (from_length (suc h) js l.joint l.rest l.frame_at).1 in
               absurd (omega (arith, a, d)))) (same (Cell r h x)) ∙ z.tree_is;
           cells = z.cells;
           piece = z.piece;
