@@ -1,7 +1,7 @@
 -- The states after births: the children of a fork, and everybody else.
 use Rattle.std.proofs.Common.{◌≡◌, ℕ, zero, suc, ◌+◌, ◌<◌, List, [], ◌∷◌, length, Some, Bool, true, false, refl, sym}
 use Rattle.std.proofs.Common.{ap, ◌∙◌, subst, arith, add-zero}
-use Rattle.std.specs.Prelude.{◌≢◌, ◌-◌, slice_get}
+use Rattle.std.specs.Prelude.{◌≢◌, slice_get}
 use Rattle.sp_base.proofs.Facts.{is_plus_none, next_goes_right, same_head}
 use Rattle.sp_meaning.specs.Maps.{at_key as put_at}
 use Rattle.sp_meaning.specs.Model.{Name, same_name, Works, Becomes, with_change, with_changes as After}
