@@ -1,6 +1,6 @@
 -- The plan of a fork by its children: no spot moves to two of them, and what one shares is shared by the plan.
 use Rattle.std.proofs.Common.{◌≡◌, ◌≢◌, ◌⊎◌, inl, inr, ℕ, zero, suc, ◌+◌, ◌<◌, ℤ, List}
-use Rattle.std.proofs.Common.{[], subst, arith}
+use Rattle.std.proofs.Common.{subst, arith}
 use Rattle.sp_base.proofs.Facts.{less_same_or_more}
 use Rattle.sp_cell.specs.declared.spot.Spot.{Spot}
 use Rattle.sp_cell.specs.Fork.{moved_of, shared_of}
