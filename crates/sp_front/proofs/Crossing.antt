@@ -3,15 +3,11 @@ use denote.Param.Send.{IsSend, struct_send, recorded_send, sendable}
 use denote.Struct.Declared as s
 use Rattle.std.proofs.Crossing.{crosses}
 use Rattle.std.proofs.option.Option.TheSendSync as option
-use Rattle.std.proofs.result.Result.TheSendSync as result
 use Rattle.std.proofs.vec.Vec.TheSendSync as vec
-use Rattle.std.specs.contracts.result.Result as Result
 use Rattle.sp_base.proofs.boxed.Boxed.TheSendSync as boxed
-use Rattle.sp_base.proofs.halt.Halt.TheSendSync as halt
 use Rattle.sp_base.proofs.list.List.TheSendSync as list
 use Rattle.sp_base.proofs.place.Place.TheSendSync as place
 use Rattle.sp_base.proofs.text.Text.TheSendSync as text
-use Rattle.sp_base.specs.contracts.halt.Halt as Halt
 use Rattle.sp_tree.proofs.checked.Actual.TheLaws.TheKnot as expressions
 use Rattle.sp_tree.proofs.checked.Form.TheLaws.TheKnot as statements
 use Rattle.sp_tree.proofs.checked.KindOf.TheSendSync as kind
@@ -48,9 +44,6 @@ checked_send = search (
 accepted_send : IsSend Accepted.the_field.row
 accepted_send = struct_send (s.shape Accepted.the_type) (checked_send, (sets.the_field_send, tt))
 
-compiled_send : IsSend CompiledText.the_row
+pub compiled_send : IsSend CompiledText.the_row
 compiled_send = recorded_send CompiledText.the_field.row _ _ CompiledText.the_type.to_one
     (struct_send (s.shape CompiledText.the_type) (accepted_send, (code.the_send, tt)))
-
-pub answer_send : IsSend (Result.the_row CompiledText.the_row Halt.the_row)
-answer_send = result.the_send CompiledText.the_row Halt.the_row compiled_send halt.the_send
