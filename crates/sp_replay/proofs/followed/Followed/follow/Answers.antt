@@ -38,7 +38,7 @@ returns c =
     let x = c.args.self.now.kernel in
     let s = c.in_ok-hand_in.ensures.0 in
     let e = c.in_ok-hand_in.ensures.1.0 in
-    let number : c.in_ok-handed.handed.proc.number ≡ c.args.entry.process = c.in_ok-handed.ensures.same.0
+    let number : c.in_ok-handed.handed.proc.number ≡ c.args.entry.process = c.in_ok-handed.ensures.keeps.0
     ∙ (c.requires.stands.follows.held.each c.args.entry.process c.in-Some.proc
     (sym c.pick.ensures.proc ∙ c.in-Some.is)).number in
     let made : EventMade x c.args.entry.process e c.hand_in.new.self.kernel =
