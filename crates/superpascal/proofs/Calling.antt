@@ -24,7 +24,6 @@ use Rattle.superpascal.specs.declared.asked.Followed.{Followed}
 use Rattle.superpascal.specs.declared.ending.Ending.{Ending}
 use Rattle.superpascal.specs.declared.ending.Ending.TheVariants as e
 use Rattle.superpascal.specs.declared.ending.Answer.{Answer}
-use Rattle.superpascal.specs.declared.telling.Telling.TheVariants as told
 use Rattle.superpascal.specs.Answering.{HasEndLines}
 use Rattle.superpascal.specs.Answers.{has_output, line_of, notes_by, notes_of, output_of, status_of}
 use Rattle.superpascal.specs.Calls.{WroteAll, Call, Exactly, Failed, IsAnswered, IsFinal, IsOutside, IsUnwritten}
@@ -50,7 +49,7 @@ use Rattle.superpascal.proofs.Tellable.{ends_of, replay_ends}
 use Rattle.superpascal.proofs.Why.{HasRanFor, ran_of, same_ran, why, why_of}
 use Rattle.superpascal.proofs.Forms.{one_command, one_size, not_too_long, final, run_notes_stand, output_stands}
 use Rattle.superpascal.proofs.FromEnding.{words_only, words_due, read_fails, input_long, no_memory, ran_keeps}
-use Rattle.superpascal.proofs.FromEnding.{long_code, refusal_due, refused_only, kept_by, made_only, long_only}
+use Rattle.superpascal.proofs.FromEnding.{refusal_due, refused_only, kept_by, made_only, long_only}
 use Rattle.superpascal.proofs.FromEnding.{long_code_due, made_due, ends_well, run_there, long_due, ReplayCause}
 use Rattle.superpascal.proofs.FromEnding.{came_followed, came_unfit, came_bad, came_long, came_outside, came}
 use Rattle.superpascal.proofs.FromEnding.{followed_only, long_said, journal_refused}

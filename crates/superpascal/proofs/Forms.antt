@@ -6,7 +6,6 @@ use Rattle.sp_journal.specs.declared.outcome.End.TheVariants as ends
 use Rattle.sp_print.specs.OutcomeLines.{HasLines}
 use Rattle.sp_words.specs.declared.command.Command.{Command}
 use Rattle.sp_words.specs.declared.command.Command.TheVariants as command
-use Rattle.superpascal.specs.declared.ending.Ending.TheVariants as e
 use Rattle.superpascal.specs.declared.telling.Telling.{Telling}
 use Rattle.superpascal.specs.declared.telling.Telling.TheVariants as told
 use Rattle.superpascal.specs.Answers.{has_output, notes_by, output_of, status_of}

@@ -20,7 +20,6 @@ use Rattle.superpascal.specs.declared.asked.Followed.{Followed}
 use Rattle.superpascal.specs.declared.ending.Ending.{Ending}
 use Rattle.superpascal.specs.declared.ending.Ending.TheVariants as e
 use Rattle.superpascal.specs.declared.ending.Answer.{Answer}
-use Rattle.superpascal.specs.declared.telling.Telling.TheVariants as told
 use Rattle.superpascal.specs.Answers.{line_of, notes_by, status_of}
 use Rattle.superpascal.specs.Calls.{IsFinal, IsOutside}
 use Rattle.superpascal.specs.Causes.{Files, HasMade, HasRead, HasReplayed, IsBadCode, IsBadJournal, IsLongCode}

@@ -13,8 +13,10 @@ returns-in-Err-BadLine c =
     inl (
       h.line,
       refl,
-      subst (λ (x : ReadError). ReadsJournal c.args.bytes.now (Err x)) h.field-0-is h.ensures.reads,
-      λ w. alone w.0 w.1 w.2,
+      (
+        subst (λ (x : ReadError). ReadsJournal c.args.bytes.now (Err x)) h.field-0-is h.ensures.reads,
+        λ w. alone w.0 w.1 w.2,
+      ),
     )
 
 pub returns-in-Err-Memory : goal.returns-in-Err-Memory
