@@ -8,7 +8,7 @@ pub mod Handing
 pub mod Owned
 pub mod Placing
 pub mod Declaring
-pub mod Lost
+pub mod NamedTables
 pub mod Summing
 pub mod Outward
 pub mod Rounding

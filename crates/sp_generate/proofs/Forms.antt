@@ -29,7 +29,7 @@ use Rattle.sp_generate.specs.Written.{buffer_after_children, buffer_after_arms, 
 use Rattle.sp_generate.specs.Written.{buffer_after_passed, buffer_after_loop, buffer_after_forall, buffer_after_case}
 use Rattle.sp_generate.specs.Written.{starts_of, ends_of, blank_tests, filled_ends, filled_tests, sends_code}
 use Rattle.sp_generate.specs.Written.{receives_code}
-use Rattle.sp_generate.proofs.Filled.{ends_filled, tests_filled, blank_length}
+use Rattle.sp_generate.proofs.CaseTests.{ends_filled, tests_filled, blank_length}
 
 -- instructions alone
 abbrev alone : CodeBuffer → List Instr → CodeBuffer

@@ -2,7 +2,7 @@ pub mod Tables
 pub mod Emitting
 pub mod Patched
 pub mod Handing
-pub mod Filled
+pub mod CaseTests
 pub mod Forms
 pub mod Locals
 pub mod WrittenProgram

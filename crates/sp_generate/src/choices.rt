@@ -32,7 +32,7 @@ fn put_blank(code: &mut List<Instr>, constants: &[i64]) -> Result<(), Memory>
 }
 
 /// The tests of all choices, which lead nowhere yet.
-#[tactic(auto, using(crate::proofs::Filled::blank_step))]
+#[tactic(auto, using(crate::proofs::CaseTests::blank_step))]
 pub fn put_blanks(code: &mut List<Instr>, xs: &List<Arm>) -> Result<(), Memory>
     ensures { OnOk result (code.new ≡ code.old ++ blank_tests (bare_arms (arms (map arm_of xs.now)))) }
 {
@@ -65,7 +65,7 @@ fn fill_test(code: &mut List<Instr>, k: usize, constants: &[i64], to: u32) -> Re
 }
 
 /// The tests from place `k` on lead to the statements of their choices, which begin at these places.
-#[tactic(auto, using(crate::proofs::Filled::fill_step, crate::proofs::Filled::fill_none))]
+#[tactic(auto, using(crate::proofs::CaseTests::fill_step, crate::proofs::CaseTests::fill_none))]
 pub fn fill_tests(
     code: &mut List<Instr>,
     k: usize,

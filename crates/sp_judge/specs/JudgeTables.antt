@@ -150,7 +150,7 @@ KnowsAll es at p w c = KnowsOffers (knowledge_of (occurrences_before es at)) (oc
 abbrev pub count_before : List Entry → ℕ → ℕ → ℕ → ℕ
 count_before es at p q = clocks_of (occurrences_before es at) ((births es).name p) ((births es).name q)
 
--- the first offer of this kind before an index of which the racer's process does not know, or there is none
+-- the first offer of this kind before an index of which the racing offer's process does not know, or there is none
 abbrev pub IsFirstUnknownOffer : List Entry → ℕ → RacingOffer → Option ℕ → Type 0
 IsFirstUnknownOffer es at r None = (i : ℕ) → i < at → IsUnknown (births es) (occurrences_before es at) es r.process
     r.way r.channel i → ⊥

@@ -163,7 +163,7 @@ fn last_offer(entries: &[Entry], before: usize, way: Way, channel: u32) -> Optio
     None
 }
 
-/// The first earlier offer of the racer's way on its channel of which its process, that of the next entry, does not
+/// The first earlier offer of the racing offer's way on its channel of which its process, that of the next entry, does not
 /// know. Who knows of an offer knows of the ones before it, so the first one is found by halves.
 pub(crate) fn first_unknown(
     ledger: &Ledger,
@@ -171,29 +171,29 @@ pub(crate) fn first_unknown(
     entries: &[Entry],
     until: &[u64],
     at: usize,
-    racer: RacingOffer,
+    racing_offer: RacingOffer,
 ) -> Result<Option<u64>, Memory>
     requires tame { IsNameableAndSilent entries.now }
     requires ledger { IsLedger ledger.now }
     requires its_journal { ledger.now.journal.entries ≡ entries.now }
     requires holds { TablesHold (births entries.now) until.now (take at entries.now) tables.now }
     requires here { slice_get entries.now at
-        ≡ Some (record { process = racer.process; event = offer_event racer.way racer.channel }) }
+        ≡ Some (record { process = racing_offer.process; event = offer_event racing_offer.way racing_offer.channel }) }
     requires in_order { AreKnown (entries_by_names (births entries.now) (take at entries.now)) }
-    ensures { IfOk result (λ first. IsFirstUnknownOffer entries.now at racer first) }
+    ensures { IfOk result (λ first. IsFirstUnknownOffer entries.now at racing_offer first) }
 {
     let mut known = 0;
     let mut first = at;
     while known < first {
         let middle = first - (first - known) / 2;
-        match last_offer(entries, middle, racer.way, racer.channel) {
+        match last_offer(entries, middle, racing_offer.way, racing_offer.channel) {
             None => known = middle,
             Some(i) => {
                 let offer = Offer {
                     process: entries[i].process,
                     place: tables.places[i],
                 };
-                if knows_entry(tables.alloc, ledger, entries, at, racer.process, offer)? {
+                if knows_entry(tables.alloc, ledger, entries, at, racing_offer.process, offer)? {
                     known = middle;
                 } else {
                     first = i;

@@ -54,8 +54,8 @@ fn judged_entries(alloc: Global, journal: &Journal) -> Result<Verdict, Memory>
     let mut tables = JudgeTables::new(alloc, ledger.processes(), ledger.channels())?;
     for at in 0..entries.len() {
         let found = racing(&tables, &ledger, entries, &until, at)?;
-        if let Some(racer) = found {
-            return race(&ledger, &tables, entries, &until, at, racer);
+        if let Some(racing_offer) = found {
+            return race(&ledger, &tables, entries, &until, at, racing_offer);
         }
         tables.see(&ledger, entries, &until, at)?;
     }
@@ -76,7 +76,7 @@ fn racing(
     requires inside { at < length entries.now }
     requires holds { TablesHold (births entries.now) until.now (take at entries.now) tables.now }
     requires in_order { AreKnown (entries_by_names (births entries.now) (take at entries.now)) }
-    ensures { IfOk result (λ racer. IsRacing entries.now at racer) }
+    ensures { IfOk result (λ racing_offer. IsRacing entries.now at racing_offer) }
 {
     let Entry { process, event } = entries[at];
     match event {
@@ -125,7 +125,7 @@ fn offer_racing(
     requires here { slice_get entries.now at
         ≡ Some (record { process = offer.process; event = offer_event offer.way offer.channel }) }
     requires in_order { AreKnown (entries_by_names (births entries.now) (take at entries.now)) }
-    ensures { IfOk result (λ racer. IsRacing entries.now at racer) }
+    ensures { IfOk result (λ racing_offer. IsRacing entries.now at racing_offer) }
 {
     if knows_offers(tables, ledger, entries, until, at, offer)? {
         Ok(None)
@@ -141,22 +141,22 @@ fn race(
     entries: &[Entry],
     until: &[u64],
     at: usize,
-    racer: RacingOffer,
+    racing_offer: RacingOffer,
 ) -> Result<Verdict, Memory>
     requires tame { IsNameableAndSilent entries.now }
     requires ledger { IsLedger ledger.now }
     requires its_journal { ledger.now.journal.entries ≡ entries.now }
     requires holds { TablesHold (births entries.now) until.now (take at entries.now) tables.now }
     requires in_order { AreKnown (entries_by_names (births entries.now) (take at entries.now)) }
-    requires racing { IsRacing entries.now at (Some racer) }
+    requires racing { IsRacing entries.now at (Some racing_offer) }
     ensures { IfOk result (λ verdict. IsJudged (entries_by_names (births entries.now) entries.now) verdict) }
 {
-    let first = first_unknown(ledger, tables, entries, until, at, racer)?;
+    let first = first_unknown(ledger, tables, entries, until, at, racing_offer)?;
     match first {
         None => Ok(Verdict::Ordered),
         Some(earlier) => Ok(Verdict::Race {
-            way: racer.way,
-            channel: ledger.channel(racer.channel)?,
+            way: racing_offer.way,
+            channel: ledger.channel(racing_offer.channel)?,
             earlier,
             later: at as u64,
         }),

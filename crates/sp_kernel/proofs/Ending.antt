@@ -37,7 +37,7 @@ named x fine log y told =
       whole = (after_log x fine log y told).whole;
       nameable = subst (NameableFrom first_births) (sym journal)
           (system_nameable (code_run_of x) fine.limits (entries_of log) (system_of y) (along x fine log y told));
-      told = fault_told x fine log y told journal;
+      fault_has_entry = fault_told x fine log y told journal;
       spoken = system_spoken (code_run_of x) (entries_of log) (system_of y) (along x fine log y told);
     }
 

@@ -88,7 +88,7 @@ KernelEndsAs y (Some e) = EndIs y e
 pub record IsNameableKernel (y : Kernel) : Type 0 where
   pub whole : IsKernel y
   pub nameable : NameableFrom first_births y.journal.entries
-  pub told : y.faulted ≡ is_there (fault_in y.journal.entries)
+  pub fault_has_entry : y.faulted ≡ is_there (fault_in y.journal.entries)
   pub spoken : NamesChannels (system_of y)
 
 -- ---- the output

@@ -21,7 +21,7 @@ use Rattle.sp_code.specs.Control.{comes_back, takes, abandons, front, has_ended,
 use Rattle.sp_code.specs.Control.{Running}
 use Rattle.sp_code.specs.Control.{IsDone, IsDeadlock, IsFault, IsMemory}
 use Rattle.sp_kernel.specs.declared.kernel.Standing.{Standing as KernelStanding}
-use Rattle.sp_kernel.specs.declared.kernel.Standing.TheVariants as told
+use Rattle.sp_kernel.specs.declared.kernel.Standing.TheVariants as kernel_standing
 use Rattle.sp_code.specs.System.{System, Condition, Absent, Working, Waits, Joins, Laid as IsLaid, Gone as HasGone}
 use Rattle.sp_code.specs.System.{Over, system_after_turn, event_of}
 use Rattle.sp_kernel.specs.declared.slot.Slot.{Slot}
@@ -225,16 +225,16 @@ abbrev pub is_over : Control → Bool
 is_over k = nat_lt 0 k.abandons || (k.faulted || has_ended (k.doing 0))
 
 -- how a run stands, as the kernel tells it
-abbrev pub told_standing : Standing → KernelStanding
-told_standing Running = told.Running
-told_standing IsDone = told.Done
-told_standing IsDeadlock = told.Deadlock
-told_standing IsFault = told.Fault
-told_standing IsMemory = told.Memory
+abbrev pub kernel_standing_of : Standing → KernelStanding
+kernel_standing_of Running = kernel_standing.Running
+kernel_standing_of IsDone = kernel_standing.Done
+kernel_standing_of IsDeadlock = kernel_standing.Deadlock
+kernel_standing_of IsFault = kernel_standing.Fault
+kernel_standing_of IsMemory = kernel_standing.Memory
 
 -- how the run stands, as the kernel tells it
 abbrev pub stands_as : Control → KernelStanding
-stands_as k = told_standing (standing k)
+stands_as k = kernel_standing_of (standing k)
 
 -- a worker gave up, with the process o, if any
 pub record Abandons (x : Kernel) (o : Option ℕ) (y : Kernel) : Type 0 where

@@ -21,7 +21,7 @@ use sp_cell::{Address, Cell, Spot};
 use sp_code::Code;
 use sp_store::Store;
 use sp_values::{
-    Taken, byte_of, char_in, cut_to, is_at_line_end, line_length, number_in, truth_of, truth_text,
+    ReadResult, byte_of, char_in, cut_to, is_at_line_end, line_length, number_in, truth_of, truth_text,
 };
 
 /// What is read.
@@ -40,7 +40,7 @@ pub(crate) enum Shown {
 }
 
 /// An item read.
-fn taken(item: Item, bytes: &[u8]) -> Taken
+fn taken(item: Item, bytes: &[u8]) -> ReadResult
     ensures { read_result_of result ≡ item_in item bytes.now }
 {
     match item {
@@ -235,12 +235,12 @@ impl State {
     {
         match self.stack.pop_pointer() {
             Some(at) => match taken(item, self.left()) {
-                Taken::Takes(value, bytes) => {
+                ReadResult::ReadItem(value, bytes) => {
                     self.take(at, value, bytes)?;
                     self.pc += 1;
                     Ok(None)
                 }
-                Taken::Fails(fault) => self.fail(Operand::Pointer(at), fault),
+                ReadResult::ReadFault(fault) => self.fail(Operand::Pointer(at), fault),
             },
             None => unreachable!(),
         }

@@ -10,7 +10,7 @@ use Rattle.sp_meaning.specs.Actions.{push, push_all, children, indexed_children,
 use Rattle.sp_tree.specs.Uses.{Use, Target, Seen, CallOf, ParallelOf, ForallOf, Stop, In_stmt, In_stmts, In_arms}
 use Rattle.sp_tree.specs.Uses.{IsOther}
 use Rattle.sp_tree.specs.Sets.{Reach, IsTarget, IsUsed}
-use Rattle.sp_tree.specs.Interference.{KeepsI1, KeepsRules}
+use Rattle.sp_tree.specs.Interference.{KeepsI1, IsFreeUse}
 use Rattle.sp_meaning.specs.Owning.{Linked, frames_below, last_of, location_by, location_at, location_of, Touches}
 use Rattle.sp_meaning.specs.Owning.{Sound, Fit, AreClear}
 use Rattle.sp_meaning.specs.Owning.{IsClearOf, Born}
@@ -118,7 +118,7 @@ module _ {p : Program} {W R : Loc → Type 0} {fs : List Frame} (x : ℕ) (from 
       (λ (o : IsOther x u). inr (inr (inr (inl (r, o))))) (other_or u)
   lifted (b ∷ bs) u r y l t = (r.0, inr (inr (inr (inl (r.1, tt)))), r.2, r.3, r.4, r.5)
 
-  rules : (u : Use) → In_stmt s u → KeepsRules p u
+  rules : (u : Use) → In_stmt s u → IsFreeUse p u
   rules (Target y) h = tt
   rules (Seen y) h = tt
   rules (CallOf f args) h = so.kept (CallOf f args) (inr (inr (inr (inl (h, tt)))))

@@ -14,7 +14,7 @@ use Rattle.sp_meaning.specs.Actions.{Birth, Action, Stepped, Ticked, Opened, For
 use Rattle.sp_meaning.specs.Eval.{ArgumentValue, ValueOf, PlaceOf}
 use Rattle.sp_tree.specs.Uses.{Use, Target, Seen, CallOf, ParallelOf, ForallOf, Stop, In_stmt, In_loop}
 use Rattle.sp_tree.specs.Sets.{IsTarget, IsUsed, Reach}
-use Rattle.sp_tree.specs.Interference.{KeepsRules}
+use Rattle.sp_tree.specs.Interference.{IsFreeUse}
 
 -- from where the list is so long outward along the links, the first frame that fits
 abbrev pub frame_found : (Home → Bool) → ℕ → List Frame → Option Frame
@@ -147,7 +147,7 @@ module _ (p : Program) where
       pub allowed : (bs : List ℕ) (u : Use) → Reach p Here bs u → (x : ℕ) (l : Loc) → Touches fs u x l → Right u l
       pub apart : (bs cs : List ℕ) (u v : Use) → Reach p Here bs u → Reach p Here cs v → (x y : ℕ) (l : Loc) → x ≢ y
           → Touches fs u x l → Touches fs v y l → ⊥
-      pub kept : (u : Use) → Here u → KeepsRules p u
+      pub kept : (u : Use) → Here u → IsFreeUse p u
 
     -- each item in the frames in which it will be done
     abbrev pub ItemsAreSound : List Frame → List Item → Type 0

@@ -70,8 +70,8 @@ module _ {S : Type 0} (stores : Stores S) (g : CodeRun) where
   same_done : (n m : Memory S) → ◌≡◌ {A = MemoryResult (Memory S)} (Done n) (Done m) → n ≡ m
   same_done n m e = cc
 
-  pub beat_is : (n m : Memory S) → (memory stores g).tick n ≡ Done m → m ≡ record n { ticks = n.ticks + 1 }
-  beat_is n m = go (nat_lt n.ticks g.limits.ticks)
+  pub tick_is : (n m : Memory S) → (memory stores g).tick n ≡ Done m → m ≡ record n { ticks = n.ticks + 1 }
+  tick_is n m = go (nat_lt n.ticks g.limits.ticks)
     where
       go : (t : Bool) → (if t then Done (record n { ticks = n.ticks + 1 }) else Failed fault.F10) ≡ Done m
           → m ≡ record n { ticks = n.ticks + 1 }

@@ -63,7 +63,7 @@ use Rattle.sp_rules.proofs.Taking.{is_there as is_found}
 use Rattle.sp_rules.proofs.Taking.{holds, done, yields, ordinal, channel_of, both}
 use Rattle.sp_rules.proofs.Facts.{found, found_some, in_span, part_length}
 use Rattle.sp_rules.proofs.Facts.{has_left as has_cells_left, reaches, here, size_here, beat_frames, print_frames}
-use Rattle.sp_rules.proofs.Facts.{opened_is, beat_is, print_is, opened_deep}
+use Rattle.sp_rules.proofs.Facts.{opened_is, tick_is, print_is, opened_deep}
 
 -- what the scopes of code give its frames: an address by level and number stands in the variable that is found there;
 -- and the frame of a called block has the frames around it
@@ -906,7 +906,7 @@ module _ {S : Type 0} (stores : Stores S) (g : CodeRun) (sc : Scoped g.code) (a 
   fine (Some i.Nocase) h r = tt
   fine (Some i.Tick) h r = done g.code a n.frames rest Fn fails ((memory stores g).tick n) _ (λ m e.
       paces st m (p + 1) (lands_with (p + 1) ss st m (beat_frames stores g n m e) h.good.0 w.operands
-      (Ticks refl (beat_is stores g n m e)))
+      (Ticks refl (tick_is stores g n m e)))
       (record { area = a; position = p; shapes = ss; callers = ks; there = w.there; reached = w.reached; so = tt }))
   fine (Some i.Assume) h r = number g.code a n.frames rest Fn fails (λ _. Unit {0}) ss st _ _ tt w.operands h.good
       (λ v ts s1 _ o1 g1. both g.code a n.frames rest Fn fails (not (int_le v (pos 0))) _ _

@@ -4,7 +4,7 @@
 use Rattle.std.specs.Prelude.{ℕ, ℤ, pos, ◌+ℤ◌, ◌-ℤ◌, nat_abs, int_lt, List, Bool, false, not, Option}
 use Rattle.std.specs.Prelude.{if◌then◌else◌}
 use Rattle.std.specs.Option.{option_map}
-use Rattle.sp_values.specs.declared.items.Taken.{Taken}
+use Rattle.sp_values.specs.declared.items.ReadResult.{ReadResult}
 use Rattle.sp_values.specs.ReadResults.{read_result_of}
 use Rattle.sp_tree.specs.Items as i
 use Rattle.sp_tree.specs.Plain.{Stmt}
@@ -16,7 +16,7 @@ use Rattle.sp_run.specs.DirectEval.{place_of, address_of}
 use Rattle.sp_run.specs.DirectActions.{fork, peek}
 
 -- what is read, if there is a way to read it
-abbrev pub reading_if : Option Taken → Option i.ReadResult
+abbrev pub reading_if : Option ReadResult → Option i.ReadResult
 reading_if o = option_map read_result_of o
 
 -- the children of a forall, if its range has values

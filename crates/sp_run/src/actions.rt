@@ -28,7 +28,7 @@ use crate::value::{Address, Chan, Loc, Value};
 use crate::{have, take};
 use sp_base::{Fault, List, Memory};
 use sp_tree::{Arm, Stmt};
-use sp_values::Taken;
+use sp_values::ReadResult;
 
 /// The children that are to be born: one for each process statement, or one for each value of an index.
 #[derive(Clone, Copy)]
@@ -363,16 +363,16 @@ pub fn take_in(
     who: &Identity,
     machine: &mut Machine,
     at: &Address,
-    taken: Taken,
+    taken: ReadResult,
 ) -> Done<()>
     ensures { Implements run.now who.now as_plain machine.old result machine.new
         (take_in (run_input_of run.now) (plain_address at.now) (read_result_of taken)) }
 {
     match taken {
-        Taken::Takes(n, bytes) => {
+        ReadResult::ReadItem(n, bytes) => {
             take!(advance(run, who, machine, bytes));
             assign(run, who, machine, at, &Value::Ordinal(n))
         }
-        Taken::Fails(f) => Done::Halts(Halted::Fault(f)),
+        ReadResult::ReadFault(f) => Done::Halts(Halted::Fault(f)),
     }
 }

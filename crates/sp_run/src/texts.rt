@@ -8,11 +8,11 @@ ghost use Rattle.sp_run.specs.Texts.{reading_if};
 
 use sp_base::{List, Memory, put_signed};
 use sp_tree::KindOf;
-use sp_values::{Taken, byte_of, char_in, number_in, truth_text};
+use sp_values::{ReadResult, byte_of, char_in, number_in, truth_text};
 use std::alloc::Global;
 
 /// What is read of a type.
-pub fn taken_by(kind: &KindOf, bytes: &[u8]) -> Option<Taken>
+pub fn taken_by(kind: &KindOf, bytes: &[u8]) -> Option<ReadResult>
     ensures { reading_if result ≡ reading_by kind.now bytes.now }
 {
     match kind {

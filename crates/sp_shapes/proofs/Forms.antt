@@ -15,8 +15,8 @@ use Rattle.sp_shapes.specs.declared.plans.Kind.{Kind}
 use Rattle.sp_shapes.specs.declared.plans.Kind.TheVariants as kind
 use Rattle.sp_shapes.specs.declared.plans.Takes.{Takes}
 use Rattle.sp_shapes.specs.declared.plans.Takes.TheVariants as takes
-use Rattle.sp_shapes.specs.declared.plans.Goes.{Goes}
-use Rattle.sp_shapes.specs.declared.plans.Goes.TheVariants as goes
+use Rattle.sp_shapes.specs.declared.plans.Successor.{Successor}
+use Rattle.sp_shapes.specs.declared.plans.Successor.TheVariants as goes
 use Rattle.sp_shapes.specs.declared.plans.Plan.{Plan}
 use Rattle.sp_shapes.specs.Plans.{plain_plan, plan_at, address_plan, call_plan, take_one, take_last, take, go_on}
 use Rattle.sp_shapes.specs.Plans.{goes_to}
@@ -269,10 +269,10 @@ module _ (q : ℕ) (ts : List Shape) where
   led_by takes.Last [] go h = (0, 0, [], h)
   led_by takes.Last (s ∷ ss) go h = absurd h
 
-  led_to : (g : Goes) (p : ℕ) (us vs : List Shape) → LeadsWith (go_on g p us vs) q ts → IsIn q (goes_to g p)
+  led_to : (g : Successor) (p : ℕ) (us vs : List Shape) → LeadsWith (go_on g p us vs) q ts → IsIn q (goes_to g p)
   led_to goes.Nowhere p us vs h = absurd h
-  led_to goes.Next p us vs (inl e) = inl e.0
-  led_to goes.Next p us vs (inr h) = absurd h
+  led_to goes.FallThrough p us vs (inl e) = inl e.0
+  led_to goes.FallThrough p us vs (inr h) = absurd h
   led_to (goes.There to) p us vs (inl e) = inl e.0
   led_to (goes.There to) p us vs (inr h) = absurd h
   led_to (goes.Either to) p us vs (inl e) = inl e.0

@@ -4,7 +4,7 @@ use Rattle.std.proofs.lemmas.Option.{none-some, same_Some}
 use Rattle.sp_rules.specs.Shapes.{Shape, Shaped, take_all}
 use Rattle.sp_shapes.specs.declared.stacks.Stacks.{Stacks}
 use Rattle.sp_shapes.specs.declared.plans.Takes.TheVariants as takes
-use Rattle.sp_shapes.specs.declared.taking.Taken.{Taken}
+use Rattle.sp_shapes.specs.declared.taking.TakeResult.{TakeResult}
 use Rattle.sp_shapes.specs.Stacks.{IsListNumber, list_of}
 use Rattle.sp_shapes.specs.Plans.{take}
 use Rattle.sp_shapes.specs.Taking.{IsTaken}
@@ -51,5 +51,5 @@ gone_all st n count k rest h e =
     record {
       goes = λ g. h.goes (g 0 0) ∙ ap (λ i. take_all i (list_of st rest) (g 0 0)) z;
       held =
-          λ t y. subst (IsListNumber st) (ap (λ (w : Taken). w.rest) (same_Some _ t y)) h.held;
+          λ t y. subst (IsListNumber st) (ap (λ (w : TakeResult). w.rest) (same_Some _ t y)) h.held;
     }

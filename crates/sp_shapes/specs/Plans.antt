@@ -18,54 +18,54 @@ use Rattle.sp_shapes.specs.declared.plans.Takes.{Takes}
 use Rattle.sp_shapes.specs.declared.plans.Takes.TheVariants as takes
 use Rattle.sp_shapes.specs.declared.plans.Leaves.{Leaves}
 use Rattle.sp_shapes.specs.declared.plans.Leaves.TheVariants as leaves
-use Rattle.sp_shapes.specs.declared.plans.Goes.{Goes}
-use Rattle.sp_shapes.specs.declared.plans.Goes.TheVariants as goes
+use Rattle.sp_shapes.specs.declared.plans.Successor.{Successor}
+use Rattle.sp_shapes.specs.declared.plans.Successor.TheVariants as goes
 use Rattle.sp_shapes.specs.declared.plans.Plan.{Plan}
 use Rattle.sp_shapes.specs.Stacks.{shape_of}
 
 -- ---- the forms
 
 abbrev pub straight_plan : Plan
-straight_plan = record { takes = takes.Nothing; leaves = leaves.Nothing; goes = goes.Next }
+straight_plan = record { takes = takes.Nothing; leaves = leaves.Nothing; goes = goes.FallThrough }
 
 abbrev pub push_plan : Kept → Plan
-push_plan s = record { takes = takes.Nothing; leaves = leaves.One s; goes = goes.Next }
+push_plan s = record { takes = takes.Nothing; leaves = leaves.One s; goes = goes.FallThrough }
 
 abbrev pub two_to_one : Plan
-two_to_one = record { takes = takes.Two kind.Ordinal kind.Ordinal; leaves = leaves.One kept.Ordinal; goes = goes.Next }
+two_to_one = record { takes = takes.Two kind.Ordinal kind.Ordinal; leaves = leaves.One kept.Ordinal; goes = goes.FallThrough }
 
 abbrev pub one_to_one : Plan
-one_to_one = record { takes = takes.One kind.Ordinal; leaves = leaves.One kept.Ordinal; goes = goes.Next }
+one_to_one = record { takes = takes.One kind.Ordinal; leaves = leaves.One kept.Ordinal; goes = goes.FallThrough }
 
 abbrev pub one_gone : Plan
-one_gone = record { takes = takes.One kind.Ordinal; leaves = leaves.Nothing; goes = goes.Next }
+one_gone = record { takes = takes.One kind.Ordinal; leaves = leaves.Nothing; goes = goes.FallThrough }
 
 abbrev pub two_gone : Plan
-two_gone = record { takes = takes.Two kind.Ordinal kind.Ordinal; leaves = leaves.Nothing; goes = goes.Next }
+two_gone = record { takes = takes.Two kind.Ordinal kind.Ordinal; leaves = leaves.Nothing; goes = goes.FallThrough }
 
 abbrev pub read_plan : Kept → Plan
-read_plan s = record { takes = takes.One kind.Address; leaves = leaves.One s; goes = goes.Next }
+read_plan s = record { takes = takes.One kind.Address; leaves = leaves.One s; goes = goes.FallThrough }
 
 abbrev pub fill_plan : Plan
-fill_plan = record { takes = takes.One kind.Address; leaves = leaves.Nothing; goes = goes.Next }
+fill_plan = record { takes = takes.One kind.Address; leaves = leaves.Nothing; goes = goes.FallThrough }
 
 abbrev pub pair_gone : Kind → Kind → Plan
-pair_gone k j = record { takes = takes.Two k j; leaves = leaves.Nothing; goes = goes.Next }
+pair_gone k j = record { takes = takes.Two k j; leaves = leaves.Nothing; goes = goes.FallThrough }
 
 abbrev pub compare_plan : Plan
-compare_plan = record { takes = takes.Same; leaves = leaves.One kept.Ordinal; goes = goes.Next }
+compare_plan = record { takes = takes.Same; leaves = leaves.One kept.Ordinal; goes = goes.FallThrough }
 
 abbrev pub last_plan : Plan
 last_plan = record { takes = takes.Last; leaves = leaves.Nothing; goes = goes.Nowhere }
 
-abbrev pub plan_of_parts : Takes → Leaves → Goes → Plan
+abbrev pub plan_of_parts : Takes → Leaves → Successor → Plan
 plan_of_parts t l g = record { takes = t; leaves = l; goes = g }
 
 -- an instruction that names no variable and calls no block
 abbrev pub plain_plan : Instr → Plan
 plain_plan (i.Const v) = push_plan kept.Ordinal
-plain_plan (i.Index low high size) = plan_of_parts (takes.Two kind.Ordinal kind.Address) (leaves.Inside size) goes.Next
-plain_plan (i.Field k) = plan_of_parts (takes.One kind.Address) (leaves.Further k) goes.Next
+plain_plan (i.Index low high size) = plan_of_parts (takes.Two kind.Ordinal kind.Address) (leaves.Inside size) goes.FallThrough
+plain_plan (i.Field k) = plan_of_parts (takes.One kind.Address) (leaves.Further k) goes.FallThrough
 plain_plan i.Load = read_plan kept.Ordinal
 plain_plan i.Loadc = read_plan kept.Channel
 plain_plan i.Store = pair_gone kind.Value kind.Address
@@ -134,7 +134,7 @@ address_plan (Some f) = Some (push_plan (kept.Address f.number f.cells))
 
 abbrev pub layout_call_plan : Layout → Plan
 layout_call_plan l = plan_of_parts (takes.Many (length l.formals))
-    (if l.answer then leaves.One kept.Ordinal else leaves.Nothing) goes.Next
+    (if l.answer then leaves.One kept.Ordinal else leaves.Nothing) goes.FallThrough
 
 abbrev pub call_plan : Option Layout → Option Plan
 call_plan None = None
@@ -182,18 +182,18 @@ with_top None ss = ss
 with_top (Some s) ss = shape_of s ∷ ss
 
 -- on from p, with what is left on top and with the rest alone
-abbrev pub go_on : Goes → ℕ → List Shape → List Shape → Shaped
+abbrev pub go_on : Successor → ℕ → List Shape → List Shape → Shaped
 go_on goes.Nowhere p ts ss = To []
-go_on goes.Next p ts ss = to_one (p + 1) ts
+go_on goes.FallThrough p ts ss = to_one (p + 1) ts
 go_on (goes.There to) p ts ss = to_one to ts
 go_on (goes.Either to) p ts ss = to_two (p + 1) ts to ts
 go_on (goes.Past to) p ts ss = to_two (p + 1) ts to ss
 go_on (goes.Back to) p ts ss = to_two to ts (p + 1) ss
 
 -- where that is
-abbrev pub goes_to : Goes → ℕ → List ℕ
+abbrev pub goes_to : Successor → ℕ → List ℕ
 goes_to goes.Nowhere p = []
-goes_to goes.Next p = (p + 1) ∷ []
+goes_to goes.FallThrough p = (p + 1) ∷ []
 goes_to (goes.There to) p = to ∷ []
 goes_to (goes.Either to) p = (p + 1) ∷ to ∷ []
 goes_to (goes.Past to) p = (p + 1) ∷ to ∷ []

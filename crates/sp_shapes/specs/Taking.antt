@@ -8,7 +8,7 @@ use Rattle.sp_shapes.specs.declared.stacks.Shape.TheVariants as kept
 use Rattle.sp_shapes.specs.declared.stacks.Stacks.{Stacks}
 use Rattle.sp_shapes.specs.declared.plans.Kind.{Kind}
 use Rattle.sp_shapes.specs.declared.plans.Kind.TheVariants as kind
-use Rattle.sp_shapes.specs.declared.taking.Taken.{Taken}
+use Rattle.sp_shapes.specs.declared.taking.TakeResult.{TakeResult}
 use Rattle.sp_shapes.specs.Stacks.{IsListNumber, list_of}
 
 -- a shape is of a kind
@@ -24,12 +24,12 @@ admits kind.Message (kept.Cells n) = true
 admits k s = false
 
 -- what is left where a shape was taken
-abbrev pub taken_of : Kept → ℕ → Taken
+abbrev pub taken_of : Kept → ℕ → TakeResult
 taken_of (kept.Address x n) r = record { variable = x; left = n; rest = r }
 taken_of s r = record { variable = 0; left = 0; rest = r }
 
 -- this is what goes on where something is taken, and nothing goes on where that is not there
-pub record IsTaken (st : Stacks) (take : (ℕ → ℕ → List Shape → Shaped) → Shaped) (o : Option Taken) : Type 0 where
+pub record IsTaken (st : Stacks) (take : (ℕ → ℕ → List Shape → Shaped) → Shaped) (o : Option TakeResult) : Type 0 where
   pub goes : (go : ℕ → ℕ → List Shape → Shaped) → take go
       ≡ on_option Wrong o (λ t. go t.variable t.left (list_of st t.rest))
-  pub held : (t : Taken) → o ≡ Some t → IsListNumber st t.rest
+  pub held : (t : TakeResult) → o ≡ Some t → IsListNumber st t.rest

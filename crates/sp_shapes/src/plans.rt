@@ -55,9 +55,9 @@ pub enum Leaves {
 
 /// Where it goes on.
 #[derive(Clone, Copy)]
-pub enum Goes {
+pub enum Successor {
     Nowhere,
-    Next,
+    FallThrough,
     There(u32),
     /// To the next one or there.
     Either(u32),
@@ -72,7 +72,7 @@ pub enum Goes {
 pub struct Plan {
     pub takes: Takes,
     pub leaves: Leaves,
-    pub goes: Goes,
+    pub goes: Successor,
 }
 
 fn straight() -> Plan
@@ -81,7 +81,7 @@ fn straight() -> Plan
     Plan {
         takes: Takes::Nothing,
         leaves: Leaves::Nothing,
-        goes: Goes::Next,
+        goes: Successor::FallThrough,
     }
 }
 
@@ -91,7 +91,7 @@ fn pushed(shape: Shape) -> Plan
     Plan {
         takes: Takes::Nothing,
         leaves: Leaves::One(shape),
-        goes: Goes::Next,
+        goes: Successor::FallThrough,
     }
 }
 
@@ -101,7 +101,7 @@ fn two_to_one() -> Plan
     Plan {
         takes: Takes::Two(Kind::Ordinal, Kind::Ordinal),
         leaves: Leaves::One(Shape::Ordinal),
-        goes: Goes::Next,
+        goes: Successor::FallThrough,
     }
 }
 
@@ -111,7 +111,7 @@ fn one_to_one() -> Plan
     Plan {
         takes: Takes::One(Kind::Ordinal),
         leaves: Leaves::One(Shape::Ordinal),
-        goes: Goes::Next,
+        goes: Successor::FallThrough,
     }
 }
 
@@ -121,7 +121,7 @@ fn one_gone() -> Plan
     Plan {
         takes: Takes::One(Kind::Ordinal),
         leaves: Leaves::Nothing,
-        goes: Goes::Next,
+        goes: Successor::FallThrough,
     }
 }
 
@@ -131,7 +131,7 @@ fn two_gone() -> Plan
     Plan {
         takes: Takes::Two(Kind::Ordinal, Kind::Ordinal),
         leaves: Leaves::Nothing,
-        goes: Goes::Next,
+        goes: Successor::FallThrough,
     }
 }
 
@@ -141,7 +141,7 @@ fn read(shape: Shape) -> Plan
     Plan {
         takes: Takes::One(Kind::Address),
         leaves: Leaves::One(shape),
-        goes: Goes::Next,
+        goes: Successor::FallThrough,
     }
 }
 
@@ -151,7 +151,7 @@ fn filled() -> Plan
     Plan {
         takes: Takes::One(Kind::Address),
         leaves: Leaves::Nothing,
-        goes: Goes::Next,
+        goes: Successor::FallThrough,
     }
 }
 
@@ -161,7 +161,7 @@ fn pair_gone(upper: Kind, lower: Kind) -> Plan
     Plan {
         takes: Takes::Two(upper, lower),
         leaves: Leaves::Nothing,
-        goes: Goes::Next,
+        goes: Successor::FallThrough,
     }
 }
 
@@ -171,7 +171,7 @@ fn compared() -> Plan
     Plan {
         takes: Takes::Same,
         leaves: Leaves::One(Shape::Ordinal),
-        goes: Goes::Next,
+        goes: Successor::FallThrough,
     }
 }
 
@@ -181,11 +181,11 @@ fn last() -> Plan
     Plan {
         takes: Takes::Last,
         leaves: Leaves::Nothing,
-        goes: Goes::Nowhere,
+        goes: Successor::Nowhere,
     }
 }
 
-fn led(takes: Takes, leaves: Leaves, goes: Goes) -> Plan
+fn led(takes: Takes, leaves: Leaves, goes: Successor) -> Plan
     ensures { result ≡ plan_of_parts takes leaves goes }
 {
     Plan {
@@ -208,9 +208,9 @@ fn plain(instr: Instr) -> Plan
         } => led(
             Takes::Two(Kind::Ordinal, Kind::Address),
             Leaves::Inside(size),
-            Goes::Next,
+            Successor::FallThrough,
         ),
-        Instr::Field(k) => led(Takes::One(Kind::Address), Leaves::Further(k), Goes::Next),
+        Instr::Field(k) => led(Takes::One(Kind::Address), Leaves::Further(k), Successor::FallThrough),
         Instr::Load => read(Shape::Ordinal),
         Instr::Loadc => read(Shape::Channel),
         Instr::Store => pair_gone(Kind::Value, Kind::Address),
@@ -236,12 +236,12 @@ fn plain(instr: Instr) -> Plan
         Instr::Range { low: _, high: _ } => one_to_one(),
         Instr::Succ(_) => one_to_one(),
         Instr::Pred(_) => one_to_one(),
-        Instr::Jump(to) => led(Takes::Nothing, Leaves::Nothing, Goes::There(to)),
-        Instr::Jumpf(to) => led(Takes::One(Kind::Ordinal), Leaves::Nothing, Goes::Either(to)),
+        Instr::Jump(to) => led(Takes::Nothing, Leaves::Nothing, Successor::There(to)),
+        Instr::Jumpf(to) => led(Takes::One(Kind::Ordinal), Leaves::Nothing, Successor::Either(to)),
         Instr::Casej { value: _, to } => led(
             Takes::One(Kind::Ordinal),
             Leaves::One(Shape::Ordinal),
-            Goes::Past(to),
+            Successor::Past(to),
         ),
         Instr::Nocase => one_gone(),
         Instr::Tick => straight(),
@@ -249,22 +249,22 @@ fn plain(instr: Instr) -> Plan
         Instr::Forup { var: _, to } => led(
             Takes::Two(Kind::Ordinal, Kind::Ordinal),
             Leaves::One(Shape::Ordinal),
-            Goes::Past(to),
+            Successor::Past(to),
         ),
         Instr::Fordown { var: _, to } => led(
             Takes::Two(Kind::Ordinal, Kind::Ordinal),
             Leaves::One(Shape::Ordinal),
-            Goes::Past(to),
+            Successor::Past(to),
         ),
         Instr::Nextup { var: _, to } => led(
             Takes::One(Kind::Ordinal),
             Leaves::One(Shape::Ordinal),
-            Goes::Back(to),
+            Successor::Back(to),
         ),
         Instr::Nextdown { var: _, to } => led(
             Takes::One(Kind::Ordinal),
             Leaves::One(Shape::Ordinal),
-            Goes::Back(to),
+            Successor::Back(to),
         ),
         Instr::Return => last(),
         Instr::ReadInt => filled(),
@@ -314,7 +314,7 @@ fn calling(l: &Layout) -> Plan
     } else {
         Leaves::Nothing
     };
-    led(Takes::Many(l.formals.len()), leaves, Goes::Next)
+    led(Takes::Many(l.formals.len()), leaves, Successor::FallThrough)
 }
 
 /// What an instruction does that stands at p in one area alone; None where what it names is not there.

@@ -11,9 +11,9 @@ ghost use Rattle.sp_shapes.specs.Plans.{by_plan, go_on, goes_with, left, with_to
 ghost use Rattle.sp_shapes.specs.Stacks.{Extends, IsListNumber, IsStacks, list_of};
 ghost use Rattle.sp_shapes.specs.Steps.{IsStep};
 
-use crate::plans::{Goes, Leaves, Plan, planned};
+use crate::plans::{Successor, Leaves, Plan, planned};
 use crate::stacks::{Shape, Stacks};
-use crate::taking::{Taken, take};
+use crate::taking::{TakeResult, take};
 use sp_areas::blocks::Blocks;
 use sp_areas::homes::Homes;
 use sp_base::Memory;
@@ -39,7 +39,7 @@ pub enum Step {
 }
 
 // Where it goes on, with what is left on top and with the rest alone.
-fn go_on(goes: Goes, p: u32, top: u32, rest: u32) -> Step
+fn go_on(goes: Successor, p: u32, top: u32, rest: u32) -> Step
     requires { p < 1048576 }
     ensures { (st : Stacks) → IsListNumber st top → IsListNumber st rest
         → IsStep st result (go_on goes p (list_of st top) (list_of st rest)) }
@@ -49,27 +49,27 @@ fn go_on(goes: Goes, p: u32, top: u32, rest: u32) -> Step
         list: top,
     };
     match goes {
-        Goes::Nowhere => Step::To {
+        Successor::Nowhere => Step::To {
             first: None,
             second: None,
         },
-        Goes::Next => Step::To {
+        Successor::FallThrough => Step::To {
             first: Some(next),
             second: None,
         },
-        Goes::There(to) => Step::To {
+        Successor::There(to) => Step::To {
             first: Some(Arrival { at: to, list: top }),
             second: None,
         },
-        Goes::Either(to) => Step::To {
+        Successor::Either(to) => Step::To {
             first: Some(next),
             second: Some(Arrival { at: to, list: top }),
         },
-        Goes::Past(to) => Step::To {
+        Successor::Past(to) => Step::To {
             first: Some(next),
             second: Some(Arrival { at: to, list: rest }),
         },
-        Goes::Back(to) => Step::To {
+        Successor::Back(to) => Step::To {
             first: Some(Arrival { at: to, list: top }),
             second: Some(Arrival {
                 at: p + 1,
@@ -80,7 +80,7 @@ fn go_on(goes: Goes, p: u32, top: u32, rest: u32) -> Step
 }
 
 // The shape that is left.
-fn left(leaves: Leaves, t: Taken) -> Option<Shape>
+fn left(leaves: Leaves, t: TakeResult) -> Option<Shape>
     ensures { result ≡ left leaves t.variable t.left }
 {
     match leaves {
@@ -113,7 +113,7 @@ fn top(stacks: &mut Stacks, shape: Option<Shape>, rest: u32) -> Result<u32, Memo
 }
 
 // Leaves what is left, and goes on.
-fn leave(stacks: &mut Stacks, plan: Plan, p: u32, t: Taken) -> Result<Step, Memory>
+fn leave(stacks: &mut Stacks, plan: Plan, p: u32, t: TakeResult) -> Result<Step, Memory>
     requires stacks { IsStacks stacks.old }
     requires there { IsListNumber stacks.old t.rest }
     requires small { p < 1048576 }

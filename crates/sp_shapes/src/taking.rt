@@ -12,7 +12,7 @@ use crate::stacks::{Shape, Stacks};
 /// What was taken: the variable and the cells left of the last operand, if that was an address, and the number of the
 /// rest.
 #[derive(Clone, Copy)]
-pub(crate) struct Taken {
+pub(crate) struct TakeResult {
     pub variable: u32,
     pub left: u32,
     pub rest: u32,
@@ -45,16 +45,16 @@ fn admits(kind: Kind, shape: Shape) -> bool
     }
 }
 
-fn taken_of(shape: Shape, rest: u32) -> Taken
+fn taken_of(shape: Shape, rest: u32) -> TakeResult
     ensures { result ≡ taken_of shape rest }
 {
     match shape {
-        Shape::Address { variable, left } => Taken {
+        Shape::Address { variable, left } => TakeResult {
             variable,
             left,
             rest,
         },
-        _ => Taken {
+        _ => TakeResult {
             variable: 0,
             left: 0,
             rest,
@@ -62,7 +62,7 @@ fn taken_of(shape: Shape, rest: u32) -> Taken
     }
 }
 
-fn take_one(stacks: &Stacks, kind: Kind, s: u32) -> Option<Taken>
+fn take_one(stacks: &Stacks, kind: Kind, s: u32) -> Option<TakeResult>
     requires stacks { IsStacks stacks.now }
     requires there { IsListNumber stacks.now s }
     ensures { IsTaken stacks.now (take_one kind (list_of stacks.now s)) result }
@@ -79,7 +79,7 @@ fn take_one(stacks: &Stacks, kind: Kind, s: u32) -> Option<Taken>
     }
 }
 
-fn take_two(stacks: &Stacks, upper: Kind, lower: Kind, s: u32) -> Option<Taken>
+fn take_two(stacks: &Stacks, upper: Kind, lower: Kind, s: u32) -> Option<TakeResult>
     requires stacks { IsStacks stacks.now }
     requires there { IsListNumber stacks.now s }
     ensures { IsTaken stacks.now (take (takes_of.Two upper lower) (list_of stacks.now s)) result }
@@ -90,7 +90,7 @@ fn take_two(stacks: &Stacks, upper: Kind, lower: Kind, s: u32) -> Option<Taken>
     }
 }
 
-fn take_same(stacks: &Stacks, s: u32) -> Option<Taken>
+fn take_same(stacks: &Stacks, s: u32) -> Option<TakeResult>
     requires stacks { IsStacks stacks.now }
     requires there { IsListNumber stacks.now s }
     ensures { IsTaken stacks.now (take takes_of.Same (list_of stacks.now s)) result }
@@ -105,7 +105,7 @@ fn take_same(stacks: &Stacks, s: u32) -> Option<Taken>
     }
 }
 
-fn take_many(stacks: &Stacks, count: usize, s: u32) -> Option<Taken>
+fn take_many(stacks: &Stacks, count: usize, s: u32) -> Option<TakeResult>
     requires stacks { IsStacks stacks.now }
     requires there { IsListNumber stacks.now s }
     ensures { IsTaken stacks.now (take (takes_of.Many count) (list_of stacks.now s)) result }
@@ -117,20 +117,20 @@ fn take_many(stacks: &Stacks, count: usize, s: u32) -> Option<Taken>
             Some((_shape, below)) => rest = below,
         }
     }
-    Some(Taken {
+    Some(TakeResult {
         variable: 0,
         left: 0,
         rest,
     })
 }
 
-fn take_last(stacks: &Stacks, s: u32) -> Option<Taken>
+fn take_last(stacks: &Stacks, s: u32) -> Option<TakeResult>
     requires stacks { IsStacks stacks.now }
     requires there { IsListNumber stacks.now s }
     ensures { IsTaken stacks.now (take takes_of.Last (list_of stacks.now s)) result }
 {
     match stacks.top(s) {
-        None => Some(Taken {
+        None => Some(TakeResult {
             variable: 0,
             left: 0,
             rest: s,
@@ -140,13 +140,13 @@ fn take_last(stacks: &Stacks, s: u32) -> Option<Taken>
 }
 
 /// What is left of a list where an instruction takes what it takes; None where that is not there.
-pub(crate) fn take(stacks: &Stacks, takes: Takes, s: u32) -> Option<Taken>
+pub(crate) fn take(stacks: &Stacks, takes: Takes, s: u32) -> Option<TakeResult>
     requires stacks { IsStacks stacks.now }
     requires there { IsListNumber stacks.now s }
     ensures { IsTaken stacks.now (take takes (list_of stacks.now s)) result }
 {
     match takes {
-        Takes::Nothing => Some(Taken {
+        Takes::Nothing => Some(TakeResult {
             variable: 0,
             left: 0,
             rest: s,

@@ -12,7 +12,7 @@ use Rattle.sp_tree.specs.Plain.{Actuals, Program, Variable, Block, Stmts, No, An
 use Rattle.sp_tree.specs.Uses.{Use, Target, Seen, CallOf, ParallelOf, ForallOf, Stop, In_stmt, In_stmts}
 use Rattle.sp_tree.specs.Sets.{IsBelow, IsFree, Reach, IsTarget, IsSeen, IsUsed, Implicit}
 use Rattle.sp_tree.specs.Formed.{is_answer}
-use Rattle.sp_tree.specs.Interference.{refs, IsMember, AllDifferent, KeepsI1, KeepsRules, IsFreeOfInterference}
+use Rattle.sp_tree.specs.Interference.{refs, IsMember, AllDifferent, KeepsI1, IsFreeUse, IsFreeOfInterference}
 use Rattle.sp_tree.proofs.UsesOf.{Among, stmt_uses, stmts_uses, stmt_among, stmts_among}
 
 abbrev pub has : List ℕ → ℕ → Bool
@@ -403,7 +403,7 @@ module _ (p : Program) (claims : List Claim) where
     none_here : (xs : List ℕ) (x : ℕ) → each (λ y. false) xs ≡ true → has xs x ≡ true → ⊥
     none_here xs x h a = let e = each_has (λ y. false) xs x h a in absurd (cc e)
 
-    pub use_kept : (u : Use) → keeps u ≡ true → KeepsRules p u
+    pub use_kept : (u : Use) → keeps u ≡ true → IsFreeUse p u
     use_kept (Target x) h = tt
     use_kept (Seen x) h = tt
     use_kept (CallOf c args) h =
@@ -433,7 +433,7 @@ module _ (p : Program) (claims : List Claim) where
     use_kept Stop h = tt
 
     pub blocks_kept : (b : ℕ) (k : Block) → slice_get p.blocks b ≡ Some k → (u : Use) → In_stmt k.body u
-        → KeepsRules p u
+        → IsFreeUse p u
     blocks_kept b k e u h = use_kept u (use_passes keeps (stmt_uses k.body) u
         (second_true (all_uses (is_closed b) (stmt_uses k.body)) _ (body_of b k e)) (stmt_among k.body u h))
 

@@ -9,7 +9,7 @@ use Rattle.sp_tree.specs.Plain.{Program, Block}
 use Rattle.sp_tree.specs.Bare.{bare_statement, bare_statements, bare_actuals, bare_block, without_places}
 use Rattle.sp_tree.specs.Uses.{Use, Target, Seen, In_stmt, In_stmts}
 use Rattle.sp_tree.specs.Sets.{Reach, IsTarget, IsUsed, Implicit}
-use Rattle.sp_tree.specs.Interference.{refs, IsMember, AllDifferent, KeepsI1, KeepsI5, IsIndexOf, KeepsRules}
+use Rattle.sp_tree.specs.Interference.{refs, IsMember, AllDifferent, KeepsI1, KeepsI5, IsIndexOf, IsFreeUse}
 use Rattle.sp_tree.specs.Sites.{Site, SplitsAt, SpreadsAt, LoopsAt, CallsAt, StopsAt, statement_sites}
 use Rattle.sp_tree.specs.Interferes.{IsSite, place_of, ClashesIn, SplitBreaks, Repeats, CallRepeats, PassesImplicit}
 use Rattle.sp_tree.specs.Interferes.{Interferes}
@@ -143,7 +143,7 @@ module _ (c : p.Program) (calm : (r : Rule) (at : Place) → Interferes c r at �
   pub blocks_kept : ((b : ℕ) (k : p.Block) → slice_get c.blocks b ≡ Some k → (site : Site)
       → IsSite site (statement_sites k.body) → HasIndex (without_places c) site)
       → (b : ℕ) (k : Block) → slice_get (without_places c).blocks b ≡ Some k → (u : Use) → In_stmt k.body u
-      → KeepsRules (without_places c) u
+      → IsFreeUse (without_places c) u
   blocks_kept indices b k e u i =
       let m = block_at c.blocks b k e in
       statement_kept (without_places c) m.0.body u (all_kept (statement_sites m.0.body)

@@ -6,7 +6,7 @@ use Rattle.sp_tree.specs.Bare.{bare_expression, bare_form, bare_variable, bare_s
 use Rattle.sp_tree.specs.Bare.{bare_statement, bare_statements, bare_arms}
 use Rattle.sp_tree.specs.Uses.{Use, Target, Stop, In_expr, In_form, In_read, In_target, In_selectors, In_actuals}
 use Rattle.sp_tree.specs.Uses.{In_width, In_stmt, In_stmts, In_arms}
-use Rattle.sp_tree.specs.Interference.{KeepsI1, KeepsI2, KeepsI4, KeepsI5, IsIndexOf, KeepsRules}
+use Rattle.sp_tree.specs.Interference.{KeepsI1, KeepsI2, KeepsI4, KeepsI5, IsIndexOf, IsFreeUse}
 use Rattle.sp_tree.specs.Sites.{Site, SplitsAt, SpreadsAt, LoopsAt, CallsAt, StopsAt, expression_sites, form_sites}
 use Rattle.sp_tree.specs.Sites.{variable_sites, selectors_sites, actuals_sites, width_sites, statement_sites}
 use Rattle.sp_tree.specs.Sites.{statements_sites, arms_sites}
@@ -33,31 +33,31 @@ module _ (g : Program) where
 
   mutual
     pub expression_kept : (e : p.Expression) (u : Use) → AllKeep (expression_sites e) → In_expr (bare_expression e) u
-        → KeepsRules g u
+        → IsFreeUse g u
     expression_kept (p.ExpressionAt at k form) u h i = form_kept form u h i
 
-    form_kept : (e : p.ExpressionForm) (u : Use) → AllKeep (form_sites e) → In_form (bare_form e) u → KeepsRules g u
+    form_kept : (e : p.ExpressionForm) (u : Use) → AllKeep (form_sites e) → In_form (bare_form e) u → IsFreeUse g u
     form_kept (p.Number n) u h i = absurd i
     form_kept (p.Read v) u h i = read_kept v u h i
     form_kept (p.Unary op a) u h i = expression_kept a u h i
     form_kept (p.Binary op a b) u h (inl i) = expression_kept a u (left (expression_sites a) (expression_sites b) h) i
     form_kept (p.Binary op a b) u h (inr i) = expression_kept b u (right (expression_sites a) (expression_sites b) h) i
-    form_kept (p.Apply f at args) u h (inl e) = subst (KeepsRules g) (sym e) h.0
+    form_kept (p.Apply f at args) u h (inl e) = subst (IsFreeUse g) (sym e) h.0
     form_kept (p.Apply f at args) u h (inr i) = actuals_kept args u h.1 i
-    form_kept (p.Standard f p.NoExpression) u h e = subst (KeepsRules g) (sym e) tt
+    form_kept (p.Standard f p.NoExpression) u h e = subst (IsFreeUse g) (sym e) tt
     form_kept (p.Standard f (p.AndExpression a rest)) u h i = expression_kept a u h i
 
-    read_kept : (v : p.Variable) (u : Use) → AllKeep (variable_sites v) → In_read (bare_variable v) u → KeepsRules g u
-    read_kept (p.Entire x at ss) u h (inl e) = subst (KeepsRules g) (sym e) tt
+    read_kept : (v : p.Variable) (u : Use) → AllKeep (variable_sites v) → In_read (bare_variable v) u → IsFreeUse g u
+    read_kept (p.Entire x at ss) u h (inl e) = subst (IsFreeUse g) (sym e) tt
     read_kept (p.Entire x at ss) u h (inr i) = selectors_kept ss u h i
 
     target_kept : (v : p.Variable) (u : Use) → AllKeep (variable_sites v) → In_target (bare_variable v) u
-        → KeepsRules g u
-    target_kept (p.Entire x at ss) u h (inl e) = subst (KeepsRules g) (sym e) tt
+        → IsFreeUse g u
+    target_kept (p.Entire x at ss) u h (inl e) = subst (IsFreeUse g) (sym e) tt
     target_kept (p.Entire x at ss) u h (inr i) = selectors_kept ss u h i
 
     selectors_kept : (ss : p.Selectors) (u : Use) → AllKeep (selectors_sites ss) → In_selectors (bare_selectors ss) u
-        → KeepsRules g u
+        → IsFreeUse g u
     selectors_kept p.Whole u h i = absurd i
     selectors_kept (p.Select (p.Index e) rest) u h (inl i) =
         expression_kept e u (left (expression_sites e) (selectors_sites rest) h) i
@@ -66,7 +66,7 @@ module _ (g : Program) where
     selectors_kept (p.Select (p.Field f) rest) u h i = selectors_kept rest u h i
 
     actuals_kept : (args : p.Actuals) (u : Use) → AllKeep (actuals_sites args) → In_actuals (bare_actuals args) u
-        → KeepsRules g u
+        → IsFreeUse g u
     actuals_kept p.Nothing u h i = absurd i
     actuals_kept (p.Pass (p.ByValue e) rest) u h (inl i) =
         expression_kept e u (left (expression_sites e) (actuals_sites rest) h) i
@@ -78,25 +78,25 @@ module _ (g : Program) where
         actuals_kept rest u (right (variable_sites v) (actuals_sites rest) h) i
 
   width_kept : (w : Option p.Expression) (u : Use) → AllKeep (width_sites w) → In_width (bare_width w) u
-      → KeepsRules g u
+      → IsFreeUse g u
   width_kept None u h i = absurd i
   width_kept (Some e) u h i = expression_kept e u h i
 
-  aim : (x : ℕ) (u : Use) → (e : u ≡ Target x) → KeepsRules g u
-  aim x u e = subst (KeepsRules g) (sym e) tt
+  aim : (x : ℕ) (u : Use) → (e : u ≡ Target x) → IsFreeUse g u
+  aim x u e = subst (IsFreeUse g) (sym e) tt
 
-  stop : (u : Use) → (e : u ≡ Stop) → KeepsRules g u
-  stop u e = subst (KeepsRules g) (sym e) tt
+  stop : (u : Use) → (e : u ≡ Stop) → IsFreeUse g u
+  stop u e = subst (IsFreeUse g) (sym e) tt
 
   mutual
     pub statement_kept : (s : p.Statement) (u : Use) → AllKeep (statement_sites s) → In_stmt (bare_statement s) u
-        → KeepsRules g u
+        → IsFreeUse g u
     statement_kept (p.Does n at p.Empty) u h i = absurd i
     statement_kept (p.Does n at (p.Assign v e)) u h (inl i) =
         target_kept v u (left (variable_sites v) (expression_sites e) h) i
     statement_kept (p.Does n at (p.Assign v e)) u h (inr i) =
         expression_kept e u (right (variable_sites v) (expression_sites e) h) i
-    statement_kept (p.Does n at (p.Call f args)) u h (inl e) = subst (KeepsRules g) (sym e) h.0
+    statement_kept (p.Does n at (p.Call f args)) u h (inl e) = subst (IsFreeUse g) (sym e) h.0
     statement_kept (p.Does n at (p.Call f args)) u h (inr i) = actuals_kept args u h.1 i
     statement_kept (p.Does n at (p.Sequence ss)) u h i = statements_kept ss u h i
     statement_kept (p.Does n at (p.If e s p.NoElse)) u h (inl i) =
@@ -128,10 +128,10 @@ module _ (g : Program) where
         expression_kept e u (left (expression_sites e) (arms_sites arms) h) i
     statement_kept (p.Does n at (p.Case e arms)) u h (inr i) =
         arms_kept arms u (right (expression_sites e) (arms_sites arms) h) i
-    statement_kept (p.Does n at (p.Parallel ss)) u h (inl e) = subst (KeepsRules g) (sym e) h.0
+    statement_kept (p.Does n at (p.Parallel ss)) u h (inl e) = subst (IsFreeUse g) (sym e) h.0
     statement_kept (p.Does n at (p.Parallel ss)) u h (inr (inl i)) = statements_kept ss u h.1.1 i
     statement_kept (p.Does n at (p.Parallel ss)) u h (inr (inr e)) = stop u e
-    statement_kept (p.Does n at (p.Forall x from to s)) u h (inl e) = subst (KeepsRules g) (sym e) h.0
+    statement_kept (p.Does n at (p.Forall x from to s)) u h (inl e) = subst (IsFreeUse g) (sym e) h.0
     statement_kept (p.Does n at (p.Forall x from to s)) u h (inr (inl i)) =
         expression_kept from u (left (expression_sites from) _ h.1.1) i
     statement_kept (p.Does n at (p.Forall x from to s)) u h (inr (inr (inl i))) =
@@ -170,14 +170,14 @@ module _ (g : Program) where
     statement_kept (p.Does n at (p.Receive c v)) u h (inr (inr e)) = stop u e
 
     statements_kept : (ss : p.Statements) (u : Use) → AllKeep (statements_sites ss) → In_stmts (bare_statements ss) u
-        → KeepsRules g u
+        → IsFreeUse g u
     statements_kept p.NoStatement u h i = absurd i
     statements_kept (p.AndThen s rest) u h (inl i) =
         statement_kept s u (left (statement_sites s) (statements_sites rest) h) i
     statements_kept (p.AndThen s rest) u h (inr i) =
         statements_kept rest u (right (statement_sites s) (statements_sites rest) h) i
 
-    arms_kept : (arms : p.Arms) (u : Use) → AllKeep (arms_sites arms) → In_arms (bare_arms arms) u → KeepsRules g u
+    arms_kept : (arms : p.Arms) (u : Use) → AllKeep (arms_sites arms) → In_arms (bare_arms arms) u → IsFreeUse g u
     arms_kept p.NoArm u h i = absurd i
     arms_kept (p.Or (p.On cs s) rest) u h (inl i) = statement_kept s u (left (statement_sites s) (arms_sites rest) h) i
     arms_kept (p.Or (p.On cs s) rest) u h (inr i) = arms_kept rest u (right (statement_sites s) (arms_sites rest) h) i

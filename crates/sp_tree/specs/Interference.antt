@@ -57,17 +57,17 @@ module _ (p : Program) where
   IsIndexOf x = (i : Variable) × (slice_get p.variables x ≡ Some i) × (i.role ≡ role.Index)
 
   -- what the rules say of what stands in a statement
-  abbrev pub KeepsRules : Use → Type 0
-  KeepsRules (Target x) = Unit
-  KeepsRules (Seen x) = Unit
-  KeepsRules (CallOf b args) = KeepsI4 args × KeepsI5 b args
-  KeepsRules (ParallelOf ss) = KeepsI1 ss
-  KeepsRules (ForallOf x s) = IsIndexOf x × KeepsI2 s
-  KeepsRules Stop = Unit
+  abbrev pub IsFreeUse : Use → Type 0
+  IsFreeUse (Target x) = Unit
+  IsFreeUse (Seen x) = Unit
+  IsFreeUse (CallOf b args) = KeepsI4 args × KeepsI5 b args
+  IsFreeUse (ParallelOf ss) = KeepsI1 ss
+  IsFreeUse (ForallOf x s) = IsIndexOf x × KeepsI2 s
+  IsFreeUse Stop = Unit
 
   -- the rules of interference on which disjointness rests, and what names and types give of the tree
   pub record IsFreeOfInterference : Type 0 where
-    pub blocks : (b : ℕ) (k : Block) → slice_get p.blocks b ≡ Some k → (u : Use) → In_stmt k.body u → KeepsRules u
+    pub blocks : (b : ℕ) (k : Block) → slice_get p.blocks b ≡ Some k → (u : Use) → In_stmt k.body u → IsFreeUse u
     pub parents : (b : ℕ) (k : Block) (q : ℕ) → slice_get p.blocks b ≡ Some k → k.parent ≡ Some q → q < b
     pub consoles : (x : ℕ) (i : Variable) → slice_get p.variables x ≡ Some i → i.role ≡ role.Console → (i.block ≡ 0)
         × (x < 2)

@@ -14,13 +14,13 @@ use std::marker::Model;
 /// A type, which is what contracts see. A record may have very many fields, and a channel very many message types, so
 /// these are looked up in ordered tables.
 #[derive(Drop)]
-pub struct KindEntry {
+pub struct KindWithFields {
     kind: KindOf,
     fields: BTreeMap<Text, (usize, u32)>,
     messages: BTreeSet<u32>,
 }
 
-impl Model for KindEntry {
+impl Model for KindWithFields {
     ghost use Rattle.sp_tree.specs.declared.checked.KindOf.{KindOf};
     ghost use Rattle.sp_types.specs.FieldTable.{IsIndex, IsNumbers, fields_in, message_types};
 
@@ -90,13 +90,13 @@ fn numbers_of(alloc: Global, kinds: &[u32]) -> Result<BTreeSet<u32>, Memory>
     Ok(numbers)
 }
 
-impl KindEntry {
-    pub fn of(alloc: Global, kind: KindOf) -> Result<KindEntry, Halt>
+impl KindWithFields {
+    pub fn of(alloc: Global, kind: KindOf) -> Result<KindWithFields, Halt>
         ensures { Answers result (Ok kind) }
     {
         let fields = index_of(alloc, fields_in(&kind))?;
         let messages = numbers_of(alloc, message_types(&kind))?;
-        Ok(KindEntry {
+        Ok(KindWithFields {
             kind,
             fields,
             messages,
@@ -114,7 +114,7 @@ impl KindEntry {
     pub fn into_kind(self) -> KindOf
         ensures { result ≡ self }
     {
-        let KindEntry {
+        let KindWithFields {
             kind,
             fields: _,
             messages: _,

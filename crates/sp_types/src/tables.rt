@@ -10,7 +10,7 @@ ghost use Rattle.sp_types.specs.Tables.{formals_of, answer_kind};
 ghost use Rattle.sp_types.specs.Tables.{ordinal_kind};
 ghost use Rattle.sp_types.specs.TypeWalk.{formal_role, formal_kind, with_more_numbers};
 
-use crate::field_table::KindEntry;
+use crate::field_table::KindWithFields;
 use sp_base::{Halt, List, Text};
 use sp_tree::{KindOf, Role};
 use std::mem::replace;
@@ -35,7 +35,7 @@ pub struct Signature {
 #[derive(Drop)]
 pub struct Tables {
     pub constants: List<Option<Ordinal>>,
-    pub kinds: List<KindEntry>,
+    pub kinds: List<KindWithFields>,
     pub variables: List<Option<u32>>,
     pub roles: List<Role>,
     pub blocks: List<Signature>,

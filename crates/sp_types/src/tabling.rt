@@ -5,7 +5,7 @@ ghost use Rattle.sp_tree.specs.PhaseResults.{Answers};
 ghost use Rattle.sp_tree.specs.NamedOf.{block_of};
 ghost use Rattle.sp_types.specs.Tables.{answer_variable, type_of, types_of, roles_of, signatures};
 
-use crate::field_table::KindEntry;
+use crate::field_table::KindWithFields;
 use crate::numbers::type_number;
 use crate::tables::{Ordinal, Signature, Tables};
 use crate::take;
@@ -71,18 +71,18 @@ fn signatures(alloc: Global, blocks: &[NamedBlock]) -> Result<List<Signature>, H
 }
 
 /// The types, each with what is looked up in it.
-fn entries_of(alloc: Global, kinds: List<KindOf>) -> Result<List<KindEntry>, Halt>
+fn entries_of(alloc: Global, kinds: List<KindOf>) -> Result<List<KindWithFields>, Halt>
     ensures { Answers result (Ok kinds) }
 {
     let mut out = Vec::new(alloc);
     for k in kinds.into_vec() {
-        out.push(take!(KindEntry::of(alloc, k)))?;
+        out.push(take!(KindWithFields::of(alloc, k)))?;
     }
     Ok(List::of(out))
 }
 
 /// The types alone.
-pub fn kinds_in(alloc: Global, entries: List<KindEntry>) -> Result<List<KindOf>, Halt>
+pub fn kinds_in(alloc: Global, entries: List<KindWithFields>) -> Result<List<KindOf>, Halt>
     ensures { Answers result (Ok entries) }
 {
     let mut out = Vec::new(alloc);

@@ -12,9 +12,9 @@ use sp_base::{Fault, MAXINT};
 
 /// What reading gives: a value and how many bytes it took, or a fault.
 #[derive(Clone, Copy)]
-pub enum Taken {
-    Takes(i64, usize),
-    Fails(Fault),
+pub enum ReadResult {
+    ReadItem(i64, usize),
+    ReadFault(Fault),
 }
 
 fn is_blank(b: u8) -> bool
@@ -87,27 +87,27 @@ fn signed(minus: bool, n: u64) -> i64
 }
 
 /// The number of the digits that stand first, after so many bytes: F17 without a digit, F2 outside the integers.
-fn digits_after(before: usize, minus: bool, bytes: &[u8]) -> Taken
+fn digits_after(before: usize, minus: bool, bytes: &[u8]) -> ReadResult
     requires { before + length bytes.now < 2 ^ 64 }
     ensures { read_result_of result ≡ digits_after before minus bytes.now }
 {
     let count = digits(bytes);
     if count == 0 {
-        return Taken::Fails(Fault::F17);
+        return ReadResult::ReadFault(Fault::F17);
     }
     match number_of(&bytes[..count]) {
-        Some(n) => Taken::Takes(signed(minus, n), before + count),
-        None => Taken::Fails(Fault::F2),
+        Some(n) => ReadResult::ReadItem(signed(minus, n), before + count),
+        None => ReadResult::ReadFault(Fault::F2),
     }
 }
 
 /// A number after so many blanks, F18 where nothing is left.
-fn number_after(before: usize, bytes: &[u8]) -> Taken
+fn number_after(before: usize, bytes: &[u8]) -> ReadResult
     requires { before + length bytes.now < 2 ^ 64 }
     ensures { read_result_of result ≡ number_after before bytes.now }
 {
     let Some((first, _rest)) = bytes.split_first() else {
-        return Taken::Fails(Fault::F18);
+        return ReadResult::ReadFault(Fault::F18);
     };
     let minus = *first == 45;
     let sign = if minus || *first == 43 { 1 } else { 0 };
@@ -115,7 +115,7 @@ fn number_after(before: usize, bytes: &[u8]) -> Taken
 }
 
 /// An integer: blanks, a sign, and as many digits as there are.
-pub fn number_in(bytes: &[u8]) -> Taken
+pub fn number_in(bytes: &[u8]) -> ReadResult
     ensures { read_result_of result ≡ number_in bytes.now }
 {
     let before = blanks(bytes);
@@ -123,12 +123,12 @@ pub fn number_in(bytes: &[u8]) -> Taken
 }
 
 /// A char: the next byte, a space for a line feed.
-pub fn char_in(bytes: &[u8]) -> Taken
+pub fn char_in(bytes: &[u8]) -> ReadResult
     ensures { read_result_of result ≡ char_in bytes.now }
 {
     match bytes.split_first() {
-        Some((b, _rest)) => Taken::Takes(if *b == 10 { 32 } else { *b as i64 }, 1),
-        None => Taken::Fails(Fault::F18),
+        Some((b, _rest)) => ReadResult::ReadItem(if *b == 10 { 32 } else { *b as i64 }, 1),
+        None => ReadResult::ReadFault(Fault::F18),
     }
 }
 

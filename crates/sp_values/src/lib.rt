@@ -19,13 +19,13 @@
 //! - `truth_text`: `false` for a number that is not above 0, else `true`. `byte_of`: the absolute value of the ordinal
 //!   modulo 256.
 //! - `cut_to`: the text as far as the width goes, where it is to be cut, else all of it.
-//! - `Taken`: what reading gives, a value and how many bytes it took, or a fault.
+//! - `ReadResult`: what reading gives, a value and how many bytes it took, or a fault.
 //!
 //! To know:
 //! - Each call of arithmetic gives exactly what its definition in `sp_tree`'s `specs/Operators.antt` gives;
 //!   `specs/OperatorResults.antt` leads from a result in memory to what is defined.
 //! - All calls of items but `cut_to` give exactly what their definitions in `sp_tree`'s `specs/Items.antt` give;
-//!   `specs/ReadResults.antt` leads from a `Taken` in memory to what is defined.
+//!   `specs/ReadResults.antt` leads from a `ReadResult` in memory to what is defined.
 //!
 //! To change:
 //! - An operator: `src/arithmetic.rt`, and `sp_tree`'s `specs/Operators.antt`.
@@ -40,5 +40,5 @@ pub use arithmetic::{
     square_of, truth_of, unary, within,
 };
 pub use items::{
-    Taken, byte_of, char_in, cut_to, is_at_line_end, line_length, number_in, truth_text,
+    ReadResult, byte_of, char_in, cut_to, is_at_line_end, line_length, number_in, truth_text,
 };

@@ -42,7 +42,7 @@ use Rattle.superpascal.specs.Texts.{IsAcceptedText, Makes, command_of_run, asks_
 use Rattle.superpascal.specs.Witnessing.{IsShown}
 use Rattle.superpascal.specs.Writing.{AreWritten, Writing, WritesLine}
 use Rattle.superpascal.proofs.Laws.{Laws, disjoint_text, keeps_all, made_asks, made_once}
-use Rattle.superpascal.proofs.Asking.{asked_breaks, asked_text, breaks_asked, keeps_asked, not_gen, one_asked}
+use Rattle.superpascal.proofs.RunCommands.{asked_breaks, asked_text, breaks_asked, keeps_asked, not_gen, one_asked}
 use Rattle.superpascal.proofs.Replaying.{if_told, meant_along, not_followed, not_unfit, replay_notes_stand, same_entry}
 use Rattle.superpascal.proofs.Replaying.{told_of}
 use Rattle.superpascal.proofs.Tellable.{ends_of, replay_ends}

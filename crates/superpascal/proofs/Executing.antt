@@ -27,7 +27,7 @@ use Rattle.superpascal.specs.Executions.{IsExecutionOf, execution_answer}
 use Rattle.superpascal.specs.Runs.{Reports, ending_of}
 use Rattle.superpascal.specs.Texts.{IsCodeFile, IsSoundFile, Makes, asks_build, command_of_execution, command_of_replay}
 use Rattle.superpascal.specs.Writing.{AreWritten}
-use Rattle.superpascal.proofs.Asking.{not_exec}
+use Rattle.superpascal.proofs.RunCommands.{not_exec}
 use Rattle.superpascal.proofs.Forms.{final, no_command, not_too_long, one_command, run_notes_stand}
 use Rattle.superpascal.proofs.Calling.{due_why, ending, final_or, outside, outside_says, says, undisplaced}
 use Rattle.superpascal.proofs.CodeFiles.{not_bad, not_long, not_rejected, one_place, one_rule}

@@ -30,11 +30,11 @@ use Rattle.superpascal.specs.Replays.{IsUnfitFor}
 use Rattle.superpascal.specs.Runs.{IsRunOf, Reports}
 use Rattle.superpascal.specs.Statuses.{IsWell}
 use Rattle.superpascal.specs.Texts.{FirstBrokenFor, CanRead, HasLongCode, IsSoundFile, AcceptedFor, IsAcceptedText}
-use Rattle.superpascal.specs.Texts.{Loads, Makes, command_of_run, asks_build, asks_execution, asks_replay, asks_run}
+use Rattle.superpascal.specs.Texts.{LoadsText, Makes, command_of_run, asks_build, asks_execution, asks_replay, asks_run}
 use Rattle.superpascal.specs.Texts.{asks_text, command_of_execution, command_of_replay, text_of}
 use Rattle.superpascal.proofs.Laws.{Laws, code_text_keeps, keeps_or, kept_or, made_asks, made_keeps, one_break}
-use Rattle.superpascal.proofs.Asking.{asked_keeps, asked_makes, asked_no_build, asked_no_text, asked_text, breaks_asked}
-use Rattle.superpascal.proofs.Asking.{not_exec, not_gen, not_run}
+use Rattle.superpascal.proofs.RunCommands.{asked_keeps, asked_makes, asked_no_build, asked_no_text, asked_text, breaks_asked}
+use Rattle.superpascal.proofs.RunCommands.{not_exec, not_gen, not_run}
 use Rattle.superpascal.proofs.CodeFiles.{not_bad, not_long, not_rejected}
 use Rattle.superpascal.proofs.Parts.{if_mapped, when_told}
 use Rattle.superpascal.proofs.Replaying.{if_told, not_generated, one_followed, told_of, tree_keeps}
@@ -293,7 +293,7 @@ module _ (f : Files) (s : Stream) (reports : Reports) (w : Option Command) (a : 
 
     -- what comes of a text that is kept where nothing fails outside
     module _ (l : Laws) (kept : AcceptedFor d text)
-        (library : (name : List ℕ) → Loads f.held d name → Rose (f.before name) (f.after name)
+        (library : (name : List ℕ) → LoadsText f.held d name → Rose (f.before name) (f.after name)
         → ⊥) (source : Rose s.before s.after → ⊥)
         (fits : CanRead f.held d → (input : List ℕ) × (s.left ≡ Some input) × (length input ≤ 16777216)) where
       replay_asked : (b : Followed) → w ≡ Some (command_of_replay b) → asks_replay d
@@ -301,7 +301,7 @@ module _ (f : Files) (s : Stream) (reports : Reports) (w : Option Command) (a : 
 
       read_well : (c : Command) → w ≡ Some c → IsNotLoaded f c a ⊎ IsNotRead f s c a → ⊥
       read_well c u (inl h) = library h.name
-          (subst (λ (x : Command). Loads f.held x h.name) (one_command w d c v u) h.loads) h.rose
+          (subst (λ (x : Command). LoadsText f.held x h.name) (one_command w d c v u) h.loads) h.rose
       read_well c u (inr h) = source h.rose
 
       long_well : (c : Command) → w ≡ Some c → IsTooMuch f s c a → ⊥

@@ -36,7 +36,7 @@ use Rattle.superpascal.specs.Steps.{HasInput, IsKeptBack, IsSaidOf, IsUnready, R
 use Rattle.superpascal.specs.Steps.{TellsSets, TextCause, length_refusal}
 use Rattle.superpascal.specs.Texts.{FirstBrokenFor, FirstBroken, CanRead, HasCodeText, IsAbout, IsAcceptedText, Makes}
 use Rattle.superpascal.specs.Texts.{command_of_run, text_of}
-use Rattle.superpascal.proofs.Asking.{asked_about, asked_breaks, asked_reads}
+use Rattle.superpascal.proofs.RunCommands.{asked_about, asked_breaks, asked_reads}
 use Rattle.superpascal.proofs.Laws.{long_breaks}
 
 -- ---- what is told

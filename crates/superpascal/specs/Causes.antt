@@ -30,7 +30,7 @@ use Rattle.superpascal.specs.declared.ending.Answer.{Answer}
 use Rattle.superpascal.specs.Executions.{IsExecutionOf, execution_answer}
 use Rattle.superpascal.specs.Replays.{IsJournalOf, IsReplayOf, IsUnfitFor, numbered_answer, replay_answer}
 use Rattle.superpascal.specs.Runs.{IsRunOf, Reports, generated_answer, run_answer}
-use Rattle.superpascal.specs.Texts.{FirstBrokenFor, CanRead, HasLongCode, IsAcceptedText, Loads, Makes}
+use Rattle.superpascal.specs.Texts.{FirstBrokenFor, CanRead, HasLongCode, IsAcceptedText, LoadsText, Makes}
 use Rattle.superpascal.specs.Texts.{command_of_run, asks_build, command_of_execution, command_of_replay, text_of}
 
 -- ---- the outside
@@ -130,7 +130,7 @@ pub record IsRefusedFor (f : Files) (c : Command) (a : Answer) : Type 0 where
 -- the library failed under a name that the command loads
 pub record IsNotLoaded (f : Files) (c : Command) (a : Answer) : Type 0 where
   pub name : List ℕ
-  pub loads : Loads f.held c name
+  pub loads : LoadsText f.held c name
   pub rose : Rose (f.before name) (f.after name)
   pub answer : a ≡ silent_answer e.ReadFault
 

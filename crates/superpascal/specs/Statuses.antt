@@ -20,14 +20,14 @@ use Rattle.superpascal.specs.Causes.{IsTold, IsTooLong, IsUntouched}
 use Rattle.superpascal.specs.Runs.{IsRunOf, ending_of}
 use Rattle.superpascal.specs.Texts.{FirstBrokenFor, CanRead, HasLongCode, IsDisjointText, IsJournalText, AcceptedFor}
 use Rattle.superpascal.specs.Texts.{IsAcceptedText}
-use Rattle.superpascal.specs.Texts.{Loads, Makes, command_of_run, asks_all, asks_build, asks_execution, asks_replay}
+use Rattle.superpascal.specs.Texts.{LoadsText, Makes, command_of_run, asks_all, asks_build, asks_execution, asks_replay}
 use Rattle.superpascal.specs.Texts.{asks_run}
 use Rattle.superpascal.specs.Texts.{asks_text, text_of}
 
 -- the library failed under a name that the command loads, or the source failed where the command reads it
 abbrev pub ReadsFail : Call → Type 0
 ReadsFail c = (d : Command) × (command_of c.words ≡ Some d)
-    × (((name : List ℕ) × Loads c.files.held d name × Rose (c.files.before name) (c.files.after name))
+    × (((name : List ℕ) × LoadsText c.files.held d name × Rose (c.files.before name) (c.files.after name))
     ⊎ (CanRead c.files.held d × Rose c.source.before c.source.after))
 
 -- the words ask for a command that reads the input, and it is too long
@@ -47,7 +47,7 @@ IsRunOfWords c r =
 
 -- nothing outside fails in the call, and the input, where the command reads it, is told and no longer than is read
 pub record OutsideWorks (c : Call) (d : Command) : Type 0 where
-  pub library : (name : List ℕ) → Loads c.files.held d name → Rose (c.files.before name) (c.files.after name) → ⊥
+  pub library : (name : List ℕ) → LoadsText c.files.held d name → Rose (c.files.before name) (c.files.after name) → ⊥
   pub source : Rose c.source.before c.source.after → ⊥
   pub input : CanRead c.files.held d → (input : List ℕ) × (c.source.left ≡ Some input) × (length input ≤ 16777216)
   pub output : Failed c.output → ⊥

@@ -152,8 +152,8 @@ ExecutesUnder (command.Exec file workers limits) name = file ≡ name
 
 -- the command loads what is held under this name: its text, or the journal, where its text breaks no rule, or its code
 -- file
-abbrev pub Loads : (List ℕ → Option (List ℕ)) → Command → List ℕ → Type 0
-Loads held c name = IsAbout c name ⊎ ((FollowsUnder c name × IfSome (text_of held c) IsAcceptedText)
+abbrev pub LoadsText : (List ℕ → Option (List ℕ)) → Command → List ℕ → Type 0
+LoadsText held c name = IsAbout c name ⊎ ((FollowsUnder c name × IfSome (text_of held c) IsAcceptedText)
     ⊎ ExecutesUnder c name)
 
 -- the first rule for which the command refuses the text: of all rules, for `sets` of those of characters, grammar,

@@ -8,7 +8,7 @@ use Rattle.sp_areas.specs.Alone.{ChildFails}
 use Rattle.sp_areas.specs.LeastPlaces.{IsLeast, Upto}
 use Rattle.sp_areas.specs.Namers.{LostAt}
 use Rattle.sp_areas.proofs.Leasts.{more}
-use Rattle.sp_areas.proofs.Lost.{one_table, all_tables}
+use Rattle.sp_areas.proofs.NamedTables.{one_table, all_tables}
 use Rattle.sp_areas.proofs.naming.first_lost.Goals as goal
 
 pub namer_at-requires : goal.namer_at-requires

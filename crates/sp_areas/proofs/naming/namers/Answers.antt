@@ -1,7 +1,7 @@
 use Rattle.std.proofs.Common.{◌≡◌, ◌∙◌, length, ap, sym, subst, arith}
 use Rattle.sp_code.specs.declared.code.Parts.{Parts}
 use Rattle.sp_areas.specs.Namers.{AreNamers}
-use Rattle.sp_areas.proofs.Lost.{begun}
+use Rattle.sp_areas.proofs.NamedTables.{begun}
 use Rattle.sp_areas.proofs.naming.namers.Goals as goal
 
 pub loop-p-init : goal.loop-p-init

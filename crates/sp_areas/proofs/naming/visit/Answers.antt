@@ -4,7 +4,7 @@ use Rattle.sp_code.specs.declared.instr.Instr.{Instr}
 use Rattle.sp_rules.specs.Areas.{table_named}
 use Rattle.sp_rules.specs.Named.{Names}
 use Rattle.sp_areas.specs.Namers.{AreNamers}
-use Rattle.sp_areas.proofs.Lost.{named_none, named_one}
+use Rattle.sp_areas.proofs.NamedTables.{named_none, named_one}
 use Rattle.sp_areas.proofs.naming.visit.Goals as goal
 
 pub returns-in-None : goal.returns-in-None

@@ -12,8 +12,8 @@ pub loop-known-preserved-in-None : goal.loop-known-preserved-in-None
 loop-known-preserved-in-None c =
     let h = c.loop-known.invariant in (
       h.0,
-      none_below c.args.entries.now c.requires.tame c.args.at c.args.racer.process c.args.racer.way
-          c.args.racer.channel c.requires.here _ c.in-None.ensures,
+      none_below c.args.entries.now c.requires.tame c.args.at c.args.racing_offer.process c.args.racing_offer.way
+          c.args.racing_offer.channel c.requires.here _ c.in-None.ensures,
       h.2,
     )
 
@@ -21,8 +21,8 @@ pub bounds-entries-i : goal.bounds-entries-i
 bounds-entries-i c =
     let h = c.loop-known.invariant.0 in
     let l = c.in-Some.ensures.0 in
-    let a = inside c.args.entries.now c.requires.tame c.args.at c.args.racer.process c.args.racer.way
-    c.args.racer.channel c.requires.here in
+    let a = inside c.args.entries.now c.requires.tame c.args.at c.args.racing_offer.process c.args.racing_offer.way
+    c.args.racing_offer.channel c.requires.here in
     omega (arith, h, l, a)
 
 pub offset_bounds-entries-i : goal.offset_bounds-entries-i
@@ -32,22 +32,22 @@ pub index-requires : goal.index-requires
 index-requires c =
     let h = c.loop-known.invariant.0 in
     let l = c.in-Some.ensures.0 in
-    let p = place_there c.args.entries.now c.requires.tame c.args.at c.args.racer.process c.args.racer.way
-    c.args.racer.channel c.requires.here c.args.until.now c.args.tables.now c.requires.holds c.in-Some.i
+    let p = place_there c.args.entries.now c.requires.tame c.args.at c.args.racing_offer.process c.args.racing_offer.way
+    c.args.racing_offer.channel c.requires.here c.args.until.now c.args.tables.now c.requires.holds c.in-Some.i
     (omega (arith, h, l)) in
     subst (λ n. c.in-Some.i < n) (sym c.args.tables.now.places.ok.0) p
 
 pub knows_entry-requires-clause-inside : goal.knows_entry-requires-clause-inside
-knows_entry-requires-clause-inside c = inside c.args.entries.now c.requires.tame c.args.at c.args.racer.process
-    c.args.racer.way c.args.racer.channel c.requires.here
+knows_entry-requires-clause-inside c = inside c.args.entries.now c.requires.tame c.args.at c.args.racing_offer.process
+    c.args.racing_offer.way c.args.racing_offer.channel c.requires.here
 
 pub knows_entry-requires-clause-process : goal.knows_entry-requires-clause-process
-knows_entry-requires-clause-process c = there c.args.entries.now c.requires.tame c.args.at c.args.racer.process
-    c.args.racer.way c.args.racer.channel c.requires.here
+knows_entry-requires-clause-process c = there c.args.entries.now c.requires.tame c.args.at c.args.racing_offer.process
+    c.args.racing_offer.way c.args.racing_offer.channel c.requires.here
 
 pub knows_entry-requires-clause-other : goal.knows_entry-requires-clause-other
-knows_entry-requires-clause-other c = other_there c.args.entries.now c.requires.tame c.args.at c.args.racer.process
-    c.args.racer.way c.args.racer.channel c.requires.here c.in-Some.i c.in-Some.ensures.1 _
+knows_entry-requires-clause-other c = other_there c.args.entries.now c.requires.tame c.args.at c.args.racing_offer.process
+    c.args.racing_offer.way c.args.racing_offer.channel c.requires.here c.in-Some.i c.in-Some.ensures.1 _
 
 pub loop-known-preserved-then-branch : goal.loop-known-preserved-then-branch
 loop-known-preserved-then-branch c =
@@ -55,11 +55,11 @@ loop-known-preserved-then-branch c =
     let low : c.loop-known.first ≤ c.args.at = h.0 in
     let o = c.in-Some.ensures in
     let l : c.in-Some.i < c.loop-known.first - (c.loop-known.first - c.loop-known.known) / 2 = o.0 in
-    let says = counted c.args.entries.now c.requires.tame c.args.at c.args.racer.process c.args.racer.way
-    c.args.racer.channel c.requires.here c.args.until.now c.args.tables.now c.requires.holds c.in-Some.i
+    let says = counted c.args.entries.now c.requires.tame c.args.at c.args.racing_offer.process c.args.racing_offer.way
+    c.args.racing_offer.channel c.requires.here c.args.until.now c.args.tables.now c.requires.holds c.in-Some.i
     c.index.result.now any (omega (arith, low, l)) o.1 c.index.ensures in (
       h.0,
-      all_below c.args.entries.now c.requires.tame c.args.at c.args.racer.process c.args.racer.way c.args.racer.channel
+      all_below c.args.entries.now c.requires.tame c.args.at c.args.racing_offer.process c.args.racing_offer.way c.args.racing_offer.channel
           c.requires.here c.requires.in_order _ c.in-Some.i (omega (arith, low)) o
           (says.0 (c.in_ok-knows_entry-in-Some.ensures.0 c.if-branch.true)),
       h.2,
@@ -71,8 +71,8 @@ loop-known-preserved c =
     let low : c.loop-known.first ≤ c.args.at = h.0 in
     let o = c.in-Some.ensures in
     let l : c.in-Some.i < c.loop-known.first - (c.loop-known.first - c.loop-known.known) / 2 = o.0 in
-    let says = counted c.args.entries.now c.requires.tame c.args.at c.args.racer.process c.args.racer.way
-    c.args.racer.channel c.requires.here c.args.until.now c.args.tables.now c.requires.holds c.in-Some.i
+    let says = counted c.args.entries.now c.requires.tame c.args.at c.args.racing_offer.process c.args.racing_offer.way
+    c.args.racing_offer.channel c.requires.here c.args.until.now c.args.tables.now c.requires.holds c.in-Some.i
     c.index.result.now any (omega (arith, low, l)) o.1 c.index.ensures in (
       omega (arith, low, l),
       h.1,

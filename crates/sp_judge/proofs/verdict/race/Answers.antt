@@ -8,15 +8,15 @@ pub first_unknown-requires-clause-here : goal.first_unknown-requires-clause-here
 first_unknown-requires-clause-here c = c.requires.racing.0
 
 pub channel-requires-clause-there : goal.channel-requires-clause-there
-channel-requires-clause-there c = subst (λ es. c.args.racer.channel < (births es).channels) (sym c.requires.its_journal)
-    (channel_inside c.args.entries.now c.requires.tame c.args.at c.requires.in_order c.args.racer c.requires.racing)
+channel-requires-clause-there c = subst (λ es. c.args.racing_offer.channel < (births es).channels) (sym c.requires.its_journal)
+    (channel_inside c.args.entries.now c.requires.tame c.args.at c.requires.in_order c.args.racing_offer c.requires.racing)
 
 pub returns-in-None : goal.returns-in-None
-returns-in-None c = absurd (not_unknown c.args.entries.now c.requires.tame c.args.at c.requires.in_order c.args.racer
+returns-in-None c = absurd (not_unknown c.args.entries.now c.requires.tame c.args.at c.requires.in_order c.args.racing_offer
     c.requires.racing (rw c.in-None.is at c.in_ok-first.ensures))
 
 pub returns-in_ok-channel-in-Some : goal.returns-in_ok-channel-in-Some
 returns-in_ok-channel-in-Some c = race_judged c.args.entries.now c.requires.tame c.args.at c.requires.in_order
-    c.args.racer c.requires.racing c.in-Some.earlier (rw c.in-Some.is at c.in_ok-first.ensures)
+    c.args.racing_offer c.requires.racing c.in-Some.earlier (rw c.in-Some.is at c.in_ok-first.ensures)
     c.in_ok-channel-in-Some.field-0 (c.in_ok-channel-in-Some.ensures
-    ∙ ap (λ es. chan_name (channel (births es) c.args.racer.channel)) c.requires.its_journal)
+    ∙ ap (λ es. chan_name (channel (births es) c.args.racing_offer.channel)) c.requires.its_journal)
