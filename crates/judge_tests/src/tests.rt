@@ -7,7 +7,7 @@ ghost use Rattle.sp_judge.specs.Prefixes.{WaitersAreSilent};
 use sp_base::{ChanName, Fault, List, Memory, Pair, ProcName};
 use sp_journal::{End, Entry, Event, Journal, Verdict, Way};
 use sp_judge::{
-    Clock, clocks_say_what_is_known, runs_are_quiet, runs_without_a_fault_are_clean, verdict_of,
+    Clock, clocks_say_what_is_known, runs_are_silent, runs_without_a_fault_are_clean, verdict_of,
     verdicts_are_exact, verdicts_hold_of_runs,
 };
 use std::alloc::Global;
@@ -16,7 +16,7 @@ use std::test::Fail;
 #[test]
 fn laws(_rt: HostRuntime) {
     clocks_say_what_is_known();
-    runs_are_quiet();
+    runs_are_silent();
     runs_without_a_fault_are_clean();
     verdicts_are_exact();
     verdicts_hold_of_runs();
@@ -79,7 +79,7 @@ macro_rules! entry {
 // Whether this is the verdict on a journal and an end.
 fn is_judged(alloc: Global, journal: &Journal, end: &End, wanted: &Verdict) -> Result<bool, Memory>
     requires nameable { IsNameable journal.now }
-    requires quiet { WaitersAreSilent (occurrences journal.now) }
+    requires silent { WaitersAreSilent (occurrences journal.now) }
 {
     let verdict = verdict_of(alloc, journal, end)?;
     Ok(verdict == *wanted)
@@ -88,7 +88,7 @@ fn is_judged(alloc: Global, journal: &Journal, end: &End, wanted: &Verdict) -> R
 // Whether the journal of a run that was done is ordered.
 fn is_ordered(alloc: Global, journal: Journal) -> Result<bool, Memory>
     requires nameable { IsNameable journal }
-    requires quiet { WaitersAreSilent (occurrences journal) }
+    requires silent { WaitersAreSilent (occurrences journal) }
 {
     is_judged(alloc, &journal, &End::Done, &Verdict::Ordered)
 }
@@ -115,7 +115,7 @@ fn is_race(
     later: u64,
 ) -> Result<bool, Memory>
     requires nameable { IsNameable journal }
-    requires quiet { WaitersAreSilent (occurrences journal) }
+    requires silent { WaitersAreSilent (occurrences journal) }
 {
     let wanted = race(alloc, way, earlier, later);
     is_judged(alloc, &journal, &End::Done, &wanted)
@@ -124,7 +124,7 @@ fn is_race(
 // Whether the journal of a run that ended in a deadlock is ordered.
 fn is_ordered_in_deadlock(alloc: Global, journal: Journal) -> Result<bool, Memory>
     requires nameable { IsNameable journal }
-    requires quiet { WaitersAreSilent (occurrences journal) }
+    requires silent { WaitersAreSilent (occurrences journal) }
 {
     let waits = End::Deadlock(List::new(alloc));
     is_judged(alloc, &journal, &waits, &Verdict::Ordered)
@@ -133,7 +133,7 @@ fn is_ordered_in_deadlock(alloc: Global, journal: Journal) -> Result<bool, Memor
 // Whether the journal of a run that ended by a fault of this process is not judged.
 fn is_unjudged(alloc: Global, journal: Journal, process: &[Pair]) -> Result<bool, Memory>
     requires nameable { IsNameable journal }
-    requires quiet { WaitersAreSilent (occurrences journal) }
+    requires silent { WaitersAreSilent (occurrences journal) }
 {
     let process = ProcName {
         pairs: List::from_slice(alloc, process)?,

@@ -102,7 +102,7 @@ module _ (g : CodeRun) where
     pub configuration : Config (Memory Plain)
     pub runs : s.condition q ≡ Working configuration
     pub turn : IsTurn (memory plain g) g.code configuration (Stopped stop d)
-    pub quiet : s.faulted ≡ false
+    pub no_fault : s.faulted ≡ false
     pub fine : fault_of g.limits s (Stopped stop d) ≡ None
 
   -- all is well with the next turn of each process and with its event

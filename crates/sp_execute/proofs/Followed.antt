@@ -25,7 +25,7 @@ use Rattle.sp_code.specs.Sound.{run_of}
 use Rattle.sp_code.specs.System.{System, Condition, Absent, Working, Waits, Joins, Laid, Gone, Over, IsSystem}
 use Rattle.sp_history.specs.Agreement.{Running, phase_in}
 use Rattle.sp_link.specs.Premises.{IsReady, run_by}
-use Rattle.sp_link.proofs.Endings.{program_quiet, program_deadlock}
+use Rattle.sp_link.proofs.Endings.{program_no_fault, program_deadlock}
 use Rattle.sp_link.proofs.Programs.{program_runs, program_over}
 use Rattle.sp_replay.specs.declared.replayer.Replayed.{Replayed}
 use Rattle.sp_replay.specs.declared.replayer.ReplayError.{ReplayError}
@@ -73,7 +73,7 @@ module _ (g : RunInput) (moves shares : Stmt → List ℕ) (ready : IsReady g mo
       let runs = works (t.condition on.runs.0) on.runs.1 in
       stuck.idle on.runs.0 runs.0 runs.1
   goes_on es t h n s k on (end.Fault p f) d = none-some _
-      (sym (program_quiet g moves shares TURN_TICKS ready es t h n s k on.quiet) ∙ d.1)
+      (sym (program_no_fault g moves shares TURN_TICKS ready es t h n s k on.no_fault) ∙ d.1)
   goes_on es t h n s k on end.Memory d = absurd d
 
   ends : (es : List Entry) (t : System Plain) (h : IsSystem plain (run_by g moves shares TURN_TICKS) es t) (n : ℕ)

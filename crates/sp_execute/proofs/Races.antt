@@ -56,8 +56,8 @@ OrderedLaw = (g : RunInput) (turn : ℕ) (es : List Occurrence) (n : ℕ) (t : S
     → IsFreeOfInterference g.program → IsAlong g turn es n t → EndIs g t e → (IsFault e → ⊥) → IsVerdict es e v
     → (v ≡ verdict.Ordered) ↔ NeverContends g
 
-abbrev pub QuietLaw : Type 0
-QuietLaw = (g : RunInput) (turn : ℕ) (es : List Occurrence) (n : ℕ) (t : StateOf g) → IsAlong g turn es n t
+abbrev pub SilentWaitersLaw : Type 0
+SilentWaitersLaw = (g : RunInput) (turn : ℕ) (es : List Occurrence) (n : ℕ) (t : StateOf g) → IsAlong g turn es n t
     → WaitersAreSilent es
 
 abbrev pub OffersLaw : Type 0
@@ -66,7 +66,7 @@ OffersLaw = (j : Journal) (w : Way) (c : Channel) (earlier later : ℕ) → Race
 
 -- what the call that makes a witness asks of the journal and of the indices of its two offers
 pub record CanShow (j : Journal) (earlier later : ℕ) : Type 0 where
-  pub quiet : WaitersAreSilent (occurrences j)
+  pub silent : WaitersAreSilent (occurrences j)
   pub clean : IsClean (occurrences j)
   pub inside : later < length j.entries
   pub offer : IfSome (slice_get j.entries earlier) (λ e. IsPlain e.event)
@@ -107,9 +107,9 @@ module _ (g : RunInput) (moves shares : Stmt
         × IfSome (slice_get r.closed.journal.entries earlier) (λ e. IsPlain e.event)
     offers law = law r.closed.journal w channel earlier later least.0
 
-    pub can_show : QuietLaw → OffersLaw → CanShow r.closed.journal earlier later
-    can_show quiet law = record {
-      quiet = quiet g TURN_TICKS names x.about.steps x.about.state x.about.along;
+    pub can_show : SilentWaitersLaw → OffersLaw → CanShow r.closed.journal earlier later
+    can_show silent law = record {
+      silent = silent g TURN_TICKS names x.about.steps x.about.state x.about.along;
       clean = is_clean;
       inside = (offers law).1;
       offer = (offers law).2;
@@ -148,9 +148,9 @@ module _ (g : RunInput) (moves shares : Stmt
   }
 
 -- of a run of a program that is ready, and its journal as the call reads it
-pub can_show_of : CleanLaw → WitnessLaw → QuietLaw → OffersLaw → (r : Ran) → IsReadyRun r
+pub can_show_of : CleanLaw → WitnessLaw → SilentWaitersLaw → OffersLaw → (r : Ran) → IsReadyRun r
     → (w : Way) (c : ChanName) (earlier later : ℕ) → r.verdict ≡ verdict.Race w c earlier later
     → (j : Journal) → j ≡ r.closed.journal → CanShow j earlier later
-can_show_of clean witnesses quiet law r (g, moves, shares, workers, ready, x) w c earlier later is j same =
+can_show_of clean witnesses silent law r (g, moves, shares, workers, ready, x) w c earlier later is j same =
     subst (λ k. CanShow k earlier later) (sym same)
-    (can_show g moves shares workers r ready x clean witnesses w c earlier later is quiet law)
+    (can_show g moves shares workers r ready x clean witnesses w c earlier later is silent law)

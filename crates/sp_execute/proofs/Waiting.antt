@@ -134,7 +134,7 @@ module _ (t : System Plain) (lawful : Lawful t.births) (unborn : (q : ℕ) → t
       (subst (λ (l : List Waiter). IsPermutation l ws) (same_list 0 t.births.processes) d.all) d.sorted in (
         z.0,
         record {
-          quiet = d.quiet;
+          no_fault = d.no_fault;
           idle = λ i c x. d.idle i (ap (λ y. phase_in y) x);
           goes_on = λ c x. d.goes_on (ap (λ y. phase_in y) x);
           sorted = z.1.sorted;

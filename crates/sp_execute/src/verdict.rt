@@ -10,7 +10,7 @@ ghost use Rattle.sp_execute.specs.Runs.{IsAbout, Promises};
 use crate::conclusion::Concluded;
 use sp_base::Memory;
 use sp_journal::Verdict;
-use sp_judge::{runs_are_quiet, verdict_of, verdicts_hold_of_runs};
+use sp_judge::{runs_are_silent, verdict_of, verdicts_hold_of_runs};
 use std::alloc::Global;
 
 /// Whether the result of a run of a program depends on the schedule. The verdict is exactly that of the journal and the
@@ -25,7 +25,7 @@ pub fn judge(alloc: Global, concluded: &Concluded) -> Result<Verdict, Memory>
     ensures promise { IfOk result (λ v. (g : RunInput) → IsFreeOfInterference g.program → IsAbout g concluded.now.closed
         → Promises g concluded.now.closed v) }
 {
-    runs_are_quiet();
+    runs_are_silent();
     verdicts_hold_of_runs();
     verdict_of(alloc, concluded.closed.journal(), concluded.closed.end())
 }

@@ -7,7 +7,7 @@ ghost use Rattle.sp_execute.specs.Witnesses.{IsReadyRun, witness_of};
 use crate::execution::Ran;
 use sp_base::Memory;
 use sp_journal::{Journal, Verdict};
-use sp_judge::{runs_are_quiet, runs_without_a_fault_are_clean};
+use sp_judge::{runs_are_silent, runs_without_a_fault_are_clean};
 use sp_numbered::witnesses_are_journals;
 use sp_witness::races_have_offers;
 use std::alloc::Global;
@@ -20,7 +20,7 @@ pub fn witness(alloc: Global, ran: &Ran) -> Result<Option<Journal>, Memory>
     requires { IsReadyRun ran.now }
     ensures { IfOk result (λ w. (w ≡ witness_of ran.now) × IfSome w IsNameable) }
 {
-    runs_are_quiet();
+    runs_are_silent();
     runs_without_a_fault_are_clean();
     witnesses_are_journals();
     races_have_offers();

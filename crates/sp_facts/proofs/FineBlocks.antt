@@ -83,11 +83,11 @@ module _ (p : plain.Program) (m : ℕ) (moves shares : Stmt → List ℕ) (calla
       → (free : Bool) (i : ℕ) (c : plain.Block) → slice_get (map bare_block (checked_blocks env starts bs)) i ≡ Some c
       → KeepsRulesHere p m moves shares callable free (scopes_of p (k + i)) (In_stmt c.body)
       → StatementHasCode p m moves shares callable free (scopes_of p (k + i)) c.body
-  blocks_fine numbers cells variables k env starts [] knows here calm typed calm_use free i c e quiet = absurd (cc e)
-  blocks_fine numbers cells variables k env [] (b ∷ bs) knows here calm typed calm_use free i c e quiet = absurd (cc e)
+  blocks_fine numbers cells variables k env starts [] knows here calm typed calm_use free i c e kept = absurd (cc e)
+  blocks_fine numbers cells variables k env [] (b ∷ bs) knows here calm typed calm_use free i c e kept = absurd (cc e)
   blocks_fine numbers cells variables k env (z ∷ starts) (b ∷ bs) knows (in_b, in_bs) calm (typed_b, typed_bs) calm_use
-      free i c e quiet =
-      by i e quiet (λ j e2 q2. blocks_fine numbers cells variables (suc k) next starts bs grown.0 in_bs
+      free i c e kept =
+      by i e kept (λ j e2 q2. blocks_fine numbers cells variables (suc k) next starts bs grown.0 in_bs
       (subst (λ y. w.blocks_sites [] both_lists refusal_list numbers cells variables y next starts bs ≡ [])
       (let y : k + 1 ≡ suc k = omega arith in y) two.1) typed_bs
       (λ j d e3. subst (λ y. KeepsRulesHere p m moves shares callable true (scopes_of p y) (In_stmt d.body))
@@ -181,10 +181,10 @@ module _ (s : syntax.Program) (calm : broken_name_rules s ≡ []) (no_types : ty
       (both_lists kinds (both_lists cells rest)) no_types).1).1).1
 
   -- what may stand in a block, by the rules of interference
-  quiet_in : (free : Bool) (f : ℕ) (c : plain.Block) → slice_get p_.blocks f ≡ Some c
+  kept_in : (free : Bool) (f : ℕ) (c : plain.Block) → slice_get p_.blocks f ≡ Some c
       → IsCallable (NeverStops p_) free f
       → KeepsRulesHere p_ m_ moves shares (NeverStops p_) free (scopes_of p_ f) (In_stmt c.body)
-  quiet_in free f c at is_callable = (
+  kept_in free f c at is_callable = (
     by free is_callable,
     (λ i x h. no_forall p_ f i),
     λ x t h y k. (free_of.blocks f c at (ForallOf x t) h).1 y ([], k),
@@ -215,7 +215,7 @@ module _ (s : syntax.Program) (calm : broken_name_rules s ≡ []) (no_types : ty
           (env_of n_) (starts_of n_.blocks) n_.blocks knows (scoped s calm) none_in_blocks typed
           (λ i d e. subst (λ y. KeepsRulesHere p_ m_ moves shares (NeverStops p_) true (scopes_of p_ y)
           (In_stmt d.body))
-          (let y : i ≡ 0 + i = omega arith in y) (quiet_in true i d e tt))
+          (let y : i ≡ 0 + i = omega arith in y) (kept_in true i d e tt))
           free f c at (subst (λ y. KeepsRulesHere p_ m_ moves shares (NeverStops p_) free (scopes_of p_ y)
           (In_stmt c.body)) (sym z)
-          (quiet_in free f c at h))) q
+          (kept_in free f c at h))) q

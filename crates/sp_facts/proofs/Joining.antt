@@ -23,7 +23,7 @@ use Rattle.sp_facts.proofs.TablesKnow.{knows}
 use Rattle.sp_facts.proofs.Enumerations.{program_given}
 use Rattle.sp_facts.proofs.Results.{program_answers}
 use Rattle.sp_facts.proofs.PhaseAnswers.{names_kept, types_kept}
-use Rattle.sp_facts.proofs.Unbroken.{program_free, function_quiet}
+use Rattle.sp_facts.proofs.Unbroken.{program_free, function_is_silent}
 use Rattle.sp_facts.proofs.Grammatical.{program_full}
 use Rattle.sp_facts.proofs.SmallTypes.{types_small}
 use Rattle.sp_facts.proofs.TreeFormed.{program_formed}
@@ -46,7 +46,7 @@ module _ (s : syntax.Program) (calm : broken_name_rules s ≡ []) (no_types : ty
   fine : (moves shares : Stmt → List ℕ) (f q : ℕ) (b : plain.Block) → slice_get p_.blocks f ≡ Some b
       → IsFine p_ moves shares (NeverStops p_) f q b
   fine moves shares f q b at = block_fine s calm no_types (program_free s calm kept)
-      (λ f x b at ans. function_quiet (program_checked (program_named s)) kept f x b at ans)
+      (λ f x b at ans. function_is_silent (program_checked (program_named s)) kept f x b at ans)
       (knows s calm no_types (program_given s calm) (program_answers s calm no_types)) (indices_typed s calm) moves
       shares f q b at
 

@@ -64,21 +64,21 @@ module _ (p : Program) (m : ℕ) (moves shares : Stmt → List ℕ) (callable : 
       (In_stmts (bare_statements (of_.statements (numbered_statements k at fs)))) → (q : ℕ)
       → AllAt p moves shares AnyInstr AnyTable AnyText callable free sc q
       (bare_statements (of_.statements (numbered_statements k at fs)))
-  numbered_fine sc k at [] h quiet q = tt
-  numbered_fine sc k at (f ∷ fs) h quiet q =
+  numbered_fine sc k at [] h kept q = tt
+  numbered_fine sc k at (f ∷ fs) h kept q =
       let s_ = bare_statement_form f in
       let r_ = bare_statements (of_.statements (numbered_statements (k + 1) at fs)) in (
-        h.0 (within p m moves shares callable free sc (In_stmts (plain.And s_ r_)) (In_stmt s_) (λ u i. inl i) quiet) q,
+        h.0 (within p m moves shares callable free sc (In_stmts (plain.And s_ r_)) (In_stmt s_) (λ u i. inl i) kept) q,
         numbered_fine sc (k + 1) at fs h.1 (within p m moves shares callable free sc (In_stmts (plain.And s_ r_))
-            (In_stmts r_) (λ u i. inr i) quiet) (after_statement p q s_),
+            (In_stmts r_) (λ u i. inr i) kept) (after_statement p q s_),
       )
 
   expanded_fine : (sc : List Scope) (k : ℕ) (at : Place) (fs : List c.Form) → AllFine sc fs
       → KeepsRulesHere p m moves shares callable free sc (In_stmt (bare_statement_form (expanded_form k at fs)))
       → StatementHasCode p m moves shares callable free sc (bare_statement_form (expanded_form k at fs))
-  expanded_fine sc k at [] h quiet q = tt
-  expanded_fine sc k at (f ∷ []) h quiet q = h.0 quiet q
-  expanded_fine sc k at (f ∷ g ∷ fs) h quiet q = numbered_fine sc k at (f ∷ g ∷ fs) h quiet q
+  expanded_fine sc k at [] h kept q = tt
+  expanded_fine sc k at (f ∷ []) h kept q = h.0 kept q
+  expanded_fine sc k at (f ∷ g ∷ fs) h kept q = numbered_fine sc k at (f ∷ g ∷ fs) h kept q
 
   module _ (env : Env) (sc : List Scope) (ready : MatchesWithIndices p m env sc) where
     value : (e : n.Expression) (f : FirstRefusal) → both_lists (expression_sites [] both_lists refusal_list env e)
@@ -119,7 +119,7 @@ module _ (p : Program) (m : ℕ) (moves shares : Stmt → List ℕ) (callable : 
         (refusal_list (write_rule (place e) (expression_kind env e)))
         ≡ [] → InExpression p m sc e → InWidth p m sc wd
         → Fine sc (c.WriteValue (checked_expression env e) (checked_width env wd))
-    write_one e wd cw ce here in_w quiet q =
+    write_one e wd cw ce here in_w kept q =
         let r = value e (write_rule (place e) (expression_kind env e)) ce here in
         let e_ = bare_expression (checked_expression env e) in
         let x = writes_kind r.0.0 (takes_if_none rule.Y8 (place e) is_writable (expression_kind env e) r.0.0 r.0.1
@@ -134,8 +134,8 @@ module _ (p : Program) (m : ℕ) (moves shares : Stmt → List ℕ) (callable : 
 
     text_one : (at : Place) (t : List ℕ) (wd : n.Width) → w.width_sites [] both_lists refusal_list env at wd ≡ []
         → InWidth p m sc wd → Fine sc (write_text_form at t (char_of t) (checked_width env wd))
-    text_one at [] wd cw in_w quiet q = (0, tt, width_fine at wd cw in_w q, tt)
-    text_one at (x ∷ []) wd cw in_w quiet q = (
+    text_one at [] wd cw in_w kept q = (0, tt, width_fine at wd cw in_w q, tt)
+    text_one at (x ∷ []) wd cw in_w kept q = (
       kind.Char,
       (((tt, ap sort_by ready.0.char)), ap sort_by ready.0.char),
       ready.0.char,
@@ -143,7 +143,7 @@ module _ (p : Program) (m : ℕ) (moves shares : Stmt → List ℕ) (callable : 
       tt,
       tt,
     )
-    text_one at (x ∷ y ∷ t) wd cw in_w quiet q = (0, tt, width_fine at wd cw in_w q, tt)
+    text_one at (x ∷ y ∷ t) wd cw in_w kept q = (0, tt, width_fine at wd cw in_w q, tt)
 
     written_one : (e : n.Expression) (wd : n.Width) → w.width_sites [] both_lists refusal_list env (place e) wd ≡ []
         → w.written_sites [] both_lists refusal_list env e ≡ [] → InExpression p m sc e → InWidth p m sc wd
@@ -207,7 +207,7 @@ module _ (p : Program) (m : ℕ) (moves shares : Stmt → List ℕ) (callable : 
         let r = aimed_one at x name ss (read_rule at (selected env (n.Entire x name ss))) two.0 here.0 in
         let t = reads_kind r.0.0 (takes_if_none rule.Y8 at is_readable (selected env (n.Entire x name ss)) r.0.0 r.0.1
         r.1) in (
-          (λ quiet q. (
+          (λ kept q. (
             r.0.0,
             t.0,
             r.0.3 q,
@@ -237,13 +237,13 @@ module _ (p : Program) (m : ℕ) (moves shares : Stmt → List ℕ) (callable : 
         let is = channel_is p m moves shares callable env ready.0 sc ready.1 r.0.0
         (takes_if_none rule.Y8 at (channel env) (selected env (n.Entire x name ss)) r.0.0 r.0.1 r.1) in
         let v_ = bare_variable (checked_variable env (n.Entire x name ss)) in (
-          (λ quiet q. (
+          (λ kept q. (
             r.0.0,
             r.0.3 q,
             aims.0,
             is,
             tt,
-            free_is p m moves shares callable free sc (In_stmt (plain.Open v_)) quiet (inr refl),
+            free_is p m moves shares callable free sc (In_stmt (plain.Open v_)) kept (inr refl),
           )),
           opens_fine rest two.1 aims.1 here.2,
         )
@@ -280,12 +280,12 @@ module _ (p : Program) (m : ℕ) (moves shares : Stmt → List ℕ) (callable : 
         let r = value e (message_rule env (place e) o (expression_kind env e)) two.0 here.0 in
         let c_ = bare_expression (checked_expression env ch) in
         let e_ = bare_expression (checked_expression env e) in (
-          (λ quiet q. (
+          (λ kept q. (
             is.0 q,
             is.1,
             r.0.4 (after_value q c_),
             tt,
-            free_is p m moves shares callable free sc (In_stmt (plain.Send c_ e_)) quiet (inr (inr refl)),
+            free_is p m moves shares callable free sc (In_stmt (plain.Send c_ e_)) kept (inr (inr refl)),
           )),
           sends_fine ch o is rest two.1 here.2,
         )
@@ -303,14 +303,14 @@ module _ (p : Program) (m : ℕ) (moves shares : Stmt → List ℕ) (callable : 
         let r = aimed_one at x name ss (message_rule env at o (selected env (n.Entire x name ss))) two.0 here.0 in
         let c_ = bare_expression (checked_expression env ch) in
         let v_ = bare_variable (checked_variable env (n.Entire x name ss)) in (
-          (λ quiet q. (
+          (λ kept q. (
             r.0.0,
             is.0 q,
             is.1,
             r.0.3 (after_value q c_),
             aims.0,
             tt,
-            free_is p m moves shares callable free sc (In_stmt (plain.Receive c_ v_)) quiet (inr (inr refl)),
+            free_is p m moves shares callable free sc (In_stmt (plain.Receive c_ v_)) kept (inr (inr refl)),
           )),
           receives_fine ch o is rest two.1 aims.1 here.2,
         )
@@ -332,10 +332,10 @@ module _ (p : Program) (m : ℕ) (moves shares : Stmt → List ℕ) (callable : 
         → AimsOf p m f args → InArguments p m sc args → AllFine sc (singles env f args)
     singles_fine procedure.Read args calm aims here = reads_fine args calm aims here
     singles_fine procedure.Readln args calm aims here =
-        all_join sc (reads env args) (c.ReadLine ∷ []) (reads_fine args calm aims here) ((λ quiet q. tt), tt)
+        all_join sc (reads env args) (c.ReadLine ∷ []) (reads_fine args calm aims here) ((λ kept q. tt), tt)
     singles_fine procedure.Write args calm aims here = writes_fine args calm here
     singles_fine procedure.Writeln args calm aims here =
-        all_join sc (writes env args) (c.WriteLine ∷ []) (writes_fine args calm here) ((λ quiet q. tt), tt)
+        all_join sc (writes env args) (c.WriteLine ∷ []) (writes_fine args calm here) ((λ kept q. tt), tt)
     singles_fine procedure.Open args calm aims here = opens_fine args calm aims here
     singles_fine procedure.Send n.NoArgument calm aims here = tt
     singles_fine procedure.Send (n.AndArgument (n.Pass e wd) rest) calm aims here =
@@ -354,6 +354,6 @@ module _ (p : Program) (m : ℕ) (moves shares : Stmt → List ℕ) (callable : 
 
 pub performs : (p : Program) (m : ℕ) (moves shares : Stmt → List ℕ) (callable : ℕ → Type 0)
     → Performs p m moves shares callable
-performs p m moves shares callable free env sc at f args ready calm here quiet =
+performs p m moves shares callable free env sc at f args ready calm here kept =
     expanded_fine p m moves shares callable free sc env.next at (singles env f args)
-    (singles_fine p m moves shares callable free env sc ready f args calm here.1 here.2) quiet
+    (singles_fine p m moves shares callable free env sc ready f args calm here.1 here.2) kept

@@ -205,40 +205,40 @@ module _ (p : Program) (m : ℕ) where
 
     forall_part : (free : Bool) (sc : List Scope) (x : ℕ) (f t : Expr) (a : Stmt)
         → KeepsRulesHere free sc (In_stmt (plain.Forall x f t a)) → KeepsRulesHere free (OfIndex x ∷ sc) (In_stmt a)
-    forall_part free sc x f t a quiet = (
+    forall_part free sc x f t a kept = (
       (λ e. (
-        λ h. (quiet.0 e).0 (inr (inr (inr (inl (h, tt))))),
-        λ g args h. (quiet.0 e).1 g args (inr (inr (inr (inl (h, tt))))),
+        λ h. (kept.0 e).0 (inr (inr (inr (inl (h, tt))))),
+        λ g args h. (kept.0 e).1 g args (inr (inr (inr (inl (h, tt))))),
       )),
-      (λ i y h. quiet.2 x a (inl refl) y h),
-      λ y s h z k. quiet.2 y s (inr (inr (inr (inl (h, tt))))) z k,
+      (λ i y h. kept.2 x a (inl refl) y h),
+      λ y s h z k. kept.2 y s (inr (inr (inr (inl (h, tt))))) z k,
     )
 
     pub within : (free : Bool) (sc : List Scope) (All_ Here : Use → Type 0) → ((u : Use) → Here u → All_ u)
         → KeepsRulesHere free sc All_ → KeepsRulesHere free sc Here
-    within free sc All_ Here into quiet = (
+    within free sc All_ Here into kept = (
       (λ e.
-          (λ h. (quiet.0 e).0 (into Stop h), λ g args h. (quiet.0 e).1 g args (into (CallOf g args) h))),
-      (λ i x h. quiet.1 i x (into (Target x) h)),
-      λ x s h y k. quiet.2 x s (into (ForallOf x s) h) y k,
+          (λ h. (kept.0 e).0 (into Stop h), λ g args h. (kept.0 e).1 g args (into (CallOf g args) h))),
+      (λ i x h. kept.1 i x (into (Target x) h)),
+      λ x s h y k. kept.2 x s (into (ForallOf x s) h) y k,
     )
 
     pub free_is : (free : Bool) (sc : List Scope) (Here : Use → Type 0) → KeepsRulesHere free sc Here → Here Stop
         → free ≡ true
-    free_is true sc Here quiet h = refl
-    free_is false sc Here quiet h = absurd ((quiet.0 refl).0 h)
+    free_is true sc Here kept h = refl
+    free_is false sc Here kept h = absurd ((kept.0 refl).0 h)
 
     callable_if_called : (free : Bool) (sc : List Scope) (Here : Use → Type 0) (f : ℕ) (args : Actuals)
         → KeepsRulesHere free sc Here
         → Here (CallOf f args) → IsCallable callable free f
-    callable_if_called true sc Here f args quiet h = tt
-    callable_if_called false sc Here f args quiet h = (quiet.0 refl).1 f args h
+    callable_if_called true sc Here f args kept h = tt
+    callable_if_called false sc Here f args kept h = (kept.0 refl).1 f args h
 
     for_level : (free : Bool) (sc : List Scope) (Here : Use → Type 0) (x b : ℕ) → KeepsRulesHere free sc Here
         → Here (Target x)
         → (level (is_block b) sc ≡ Some 0) ⊎ IsInForall sc → level (is_block b) sc ≡ Some 0
-    for_level free sc Here x b quiet h (inl e) = e
-    for_level free sc Here x b quiet h (inr i) = absurd (quiet.1 i x h)
+    for_level free sc Here x b kept h (inl e) = e
+    for_level free sc Here x b kept h (inr i) = absurd (kept.1 i x h)
 
     -- of an array or record nothing but a variable has the type
     right_at : (sc : List Scope) (q k : ℕ) (s : Sort) (form : ExprForm) → sort p k ≡ s → IsKind p k
@@ -353,11 +353,11 @@ module _ (p : Program) (m : ℕ) where
             → w.statement_sites [] both_lists refusal_list env s ≡ [] → InStatement p m sc s → IsTyped p env s
             → KeepsRulesHere free sc (In_stmt (bare_statement (checked_statement env s)))
             → Fine env (statement_after env s) sc (bare_statement (checked_statement env s))
-        statement_fine env sc (n.Does at form) ready calm here typed quiet =
+        statement_fine env sc (n.Does at form) ready calm here typed kept =
             let up = by_count env ready.0 in
             let r = statement_form_fine (with_next_number env) sc at form
             (ready_after env (with_next_number env) sc ready up) calm here
-            typed quiet in
+            typed kept in
             (then_ env (with_next_number env) (form_after (with_next_number env) form) up r.0, r.1)
 
         pub statement_form_fine : (env : Env) (sc : List Scope) (at : Place) (form : n.Form) → MatchesWithIndices env sc
@@ -365,9 +365,9 @@ module _ (p : Program) (m : ℕ) where
             → IsTypedForm p env form
             → KeepsRulesHere free sc (In_stmt (bare_statement_form (checked_statement_form env at form)))
             → Fine env (form_after env form) sc (bare_statement_form (checked_statement_form env at form))
-        statement_form_fine env sc at n.Empty ready calm here typed quiet = (grown_to_itself env ready.0, λ q. tt)
+        statement_form_fine env sc at n.Empty ready calm here typed kept = (grown_to_itself env ready.0, λ q. tt)
         statement_form_fine env sc at (n.Assign (n.Entire x name ss) (n.ExpressionAt eat form)) ready calm
-            (seen, aimed, in_ss, in_e) typed quiet =
+            (seen, aimed, in_ss, in_e) typed kept =
             let parts = none_in_parts (variable_sites [] both_lists refusal_list env (n.Entire x name ss))
             (both_lists (form_sites [] both_lists refusal_list env eat form)
             (refusal_list (assign_rule eat (selected env (n.Entire x name ss)) (form_kind env form)))) calm in
@@ -388,7 +388,7 @@ module _ (p : Program) (m : ℕ) where
                         (re.3 (after_var q v)),
                   ),
             )
-        statement_form_fine env sc at (n.Call f args) ready calm (b, call, none, acts) typed quiet =
+        statement_form_fine env sc at (n.Call f args) ready calm (b, call, none, acts) typed kept =
             let formals : formals_of env f ≡ b.formals = ap formals_in (ready.0.blocks f b call.1) in
             let passes = actuals_fine p m moves shares callable env ready.0 sc ready.1 b.formals args
             (subst (λ z. actuals_sites [] both_lists refusal_list env z args ≡ []) formals calm)
@@ -401,16 +401,16 @@ module _ (p : Program) (m : ℕ) where
                     (bare_actuals (of_.actuals (checked_actuals env z args))) b.formals) (sym formals) (passes q),
                 call_at p m moves shares callable env ready.0 sc ready.1 f b call (after_actuals q args_),
                 none,
-                callable_if_called free sc (In_stmt (plain.Call f args_)) f args_ quiet (inl refl),
+                callable_if_called free sc (In_stmt (plain.Call f args_)) f args_ kept (inl refl),
               ),
             )
-        statement_form_fine env sc at (n.Perform f args) ready calm here typed quiet = (
+        statement_form_fine env sc at (n.Perform f args) ready calm here typed kept = (
           (knows_by env ready.0 (parts_count (single_count f args)), λ y v at e. e),
-          performs free env sc at f args ready calm here quiet,
+          performs free env sc at f args ready calm here kept,
         )
-        statement_form_fine env sc at (n.Sequence ss) ready calm here typed quiet =
-            statements_fine env sc ss ready calm here typed quiet
-        statement_form_fine env sc at (n.If e a n.NoElse) ready calm (in_e, in_a, in_o) (ta, to) quiet =
+        statement_form_fine env sc at (n.Sequence ss) ready calm here typed kept =
+            statements_fine env sc ss ready calm here typed kept
+        statement_form_fine env sc at (n.If e a n.NoElse) ready calm (in_e, in_a, in_o) (ta, to) kept =
             let parts = none_in_parts (w.condition_sites [] both_lists refusal_list env e)
             (both_lists (w.statement_sites [] both_lists refusal_list env a) []) calm in
             let two = none_in_parts (w.statement_sites [] both_lists refusal_list env a) [] parts.1 in
@@ -418,9 +418,9 @@ module _ (p : Program) (m : ℕ) where
             let ra = statement_fine env sc a ready two.0 in_a ta
             (within free sc (In_stmt (plain.If (bare_expression (checked_expression env e))
             (bare_statement (checked_statement env a)))) (In_stmt (bare_statement (checked_statement env a)))
-            (λ u h. inr h) quiet) in
+            (λ u h. inr h) kept) in
             (ra.0, λ q. (c1 q, tt, ra.1 (after_value q (bare_expression (checked_expression env e)) + 1)))
-        statement_form_fine env sc at (n.If e a (n.Else b)) ready calm (in_e, in_a, in_o) (ta, to) quiet =
+        statement_form_fine env sc at (n.If e a (n.Else b)) ready calm (in_e, in_a, in_o) (ta, to) kept =
             let parts = none_in_parts (w.condition_sites [] both_lists refusal_list env e)
             (both_lists (w.statement_sites [] both_lists refusal_list env a)
             (w.statement_sites [] both_lists refusal_list (statement_after env a) b)) calm in
@@ -431,23 +431,23 @@ module _ (p : Program) (m : ℕ) where
             let a_ = bare_statement (checked_statement env a) in
             let b_ = bare_statement (checked_statement (statement_after env a) b) in
             let ra = statement_fine env sc a ready two.0 in_a ta
-            (within free sc (In_stmt (plain.IfElse e_ a_ b_)) (In_stmt a_) (λ u h. inr (inl h)) quiet) in
+            (within free sc (In_stmt (plain.IfElse e_ a_ b_)) (In_stmt a_) (λ u h. inr (inl h)) kept) in
             let rb = statement_fine (statement_after env a) sc b (ready_after env (statement_after env a) sc ready ra.0)
             two.1 in_o to (within free sc (In_stmt (plain.IfElse e_ a_ b_)) (In_stmt b_) (λ u h. inr (inr h))
-            quiet) in (
+            kept) in (
               then_ env (statement_after env a) (statement_after (statement_after env a) b) ra.0 rb.0,
               λ q. (c1 q, tt, ra.1 (after_value q e_ + 1), tt, rb.1 (after_statement p (after_value q e_ + 1) a_ + 1)),
             )
-        statement_form_fine env sc at (n.While e a) ready calm (in_e, in_a) typed quiet =
+        statement_form_fine env sc at (n.While e a) ready calm (in_e, in_a) typed kept =
             let parts = none_in_parts (w.condition_sites [] both_lists refusal_list env e)
             (w.statement_sites [] both_lists refusal_list env a) calm in
             let c1 = condition env sc ready e parts.0 in_e in
             let e_ = bare_expression (checked_expression env e) in
             let a_ = bare_statement (checked_statement env a) in
             let ra = statement_fine env sc a ready parts.1 in_a typed
-            (within free sc (In_stmt (plain.While e_ a_)) (In_stmt a_) (λ u h. inr h) quiet) in
+            (within free sc (In_stmt (plain.While e_ a_)) (In_stmt a_) (λ u h. inr h) kept) in
             (ra.0, λ q. (c1 q, tt, tt, ra.1 (after_value q e_ + 1 + 1), tt))
-        statement_form_fine env sc at (n.Repeat ss e) ready calm (in_ss, in_e) typed quiet =
+        statement_form_fine env sc at (n.Repeat ss e) ready calm (in_ss, in_e) typed kept =
             let parts = none_in_parts (w.statements_sites [] both_lists refusal_list (with_next_number env) ss)
             (w.condition_sites [] both_lists refusal_list (statements_after (with_next_number env) ss) e) calm in
             let up = by_count env ready.0 in
@@ -456,12 +456,12 @@ module _ (p : Program) (m : ℕ) where
             (in_sequence env.next (first_place at ss) (checked_statements (with_next_number env) ss)) in
             let ra = statements_fine (with_next_number env) sc ss (ready_after env (with_next_number env) sc ready up)
             parts.0 in_ss typed
-            (within free sc (In_stmt (plain.Repeat a_ e_)) (In_stmt a_) (λ u h. inr h) quiet) in
+            (within free sc (In_stmt (plain.Repeat a_ e_)) (In_stmt a_) (λ u h. inr h) kept) in
             let later = then_ env (with_next_number env) (statements_after (with_next_number env) ss) up ra.0 in
             let c1 = condition (statements_after (with_next_number env) ss) sc
             (ready_after env (statements_after (with_next_number env) ss) sc ready later) e parts.1 in_e in
             (later, λ q. (tt, ra.1 (q + 1), c1 (after_statement p (q + 1) a_), tt))
-        statement_form_fine env sc at (n.Case e arms) ready calm (in_e, in_arms) typed quiet =
+        statement_form_fine env sc at (n.Case e arms) ready calm (in_e, in_arms) typed kept =
             let parts = none_in_parts (both_lists (expression_sites [] both_lists refusal_list env e)
             (refusal_list (selector_rule env (place e) (expression_kind env e))))
             (both_lists (w.lists_sites [] both_lists refusal_list env (expression_kind env e) []
@@ -473,7 +473,7 @@ module _ (p : Program) (m : ℕ) where
             let e_ = bare_expression (checked_expression env e) in
             let arms_ = bare_arms (of_.arms (checked_arms env arms)) in
             let ra = arms_fine env sc arms ready two.1 in_arms typed
-            (within free sc (In_stmt (plain.Case e_ arms_)) (In_arms arms_) (λ u h. inr h) quiet) in (
+            (within free sc (In_stmt (plain.Case e_ arms_)) (In_arms arms_) (λ u h. inr h) kept) in (
               ra.0,
               λ q. (
                 c1.3 q,
@@ -484,7 +484,7 @@ module _ (p : Program) (m : ℕ) where
               ),
             )
         statement_form_fine env sc at (n.For x name from down to a) ready calm ((v, vat, vr, vl), in_from, in_to, in_a)
-            typed quiet =
+            typed kept =
             let known = ready.0.variables x v vat (subst NoIndex (sym vr) tt) in
             let parts = none_in_parts (refusal_list (range_rule env name (variable_kind env x)))
             (both_lists (w.limit_sites [] both_lists refusal_list env (variable_kind env x) from)
@@ -504,7 +504,7 @@ module _ (p : Program) (m : ℕ) where
             let t_ = bare_expression (checked_expression env to) in
             let a_ = bare_statement (checked_statement env a) in
             let ra = statement_fine env sc a ready three.1 in_a typed
-            (within free sc (In_stmt (plain.For x f_ down t_ a_)) (In_stmt a_) (λ u h. inr (inr (inr h))) quiet) in (
+            (within free sc (In_stmt (plain.For x f_ down t_ a_)) (In_stmt a_) (λ u h. inr (inr (inr h))) kept) in (
               ra.0,
               λ q. (
                 l1 q,
@@ -514,7 +514,7 @@ module _ (p : Program) (m : ℕ) where
                     v,
                     vat,
                     vr,
-                    for_level free sc (In_stmt (plain.For x f_ down t_ a_)) x v.block quiet (inl refl) vl,
+                    for_level free sc (In_stmt (plain.For x f_ down t_ a_)) x v.block kept (inl refl) vl,
                     sorted,
                   ),
                   tt,
@@ -524,10 +524,10 @@ module _ (p : Program) (m : ℕ) where
                 ),
               ),
             )
-        statement_form_fine env sc at (n.Parallel bs) ready calm here typed quiet =
+        statement_form_fine env sc at (n.Parallel bs) ready calm here typed kept =
             let ss_ = bare_statements (of_.statements (checked_branches env at bs)) in
             let rb = branches_fine env sc at bs ready calm here typed
-            (within free sc (In_stmt (plain.Parallel ss_)) (In_stmts ss_) (λ u h. inr (inl h)) quiet) in (
+            (within free sc (In_stmt (plain.Parallel ss_)) (In_stmts ss_) (λ u h. inr (inl h)) kept) in (
               rb.0,
               λ q. (
                 0,
@@ -535,11 +535,11 @@ module _ (p : Program) (m : ℕ) where
                 tt,
                 tt,
                 rb.1 (q + 1 + 1),
-                free_is free sc (In_stmt (plain.Parallel ss_)) quiet (inr (inr refl)),
+                free_is free sc (In_stmt (plain.Parallel ss_)) kept (inr (inr refl)),
               ),
             )
         statement_form_fine env sc at (n.Forall x from to a) ready calm (is, in_from, in_to, in_a) (kinds, typed)
-            quiet =
+            kept =
             let parts = none_in_parts (both_lists (expression_sites [] both_lists refusal_list env from)
             (refusal_list (range_rule env (place from) (expression_kind env from))))
             (both_lists (w.limit_sites [] both_lists refusal_list env (expression_kind env from) to)
@@ -560,7 +560,7 @@ module _ (p : Program) (m : ℕ) where
             let ra = statement_fine inner (OfIndex x ∷ sc) a
             (up.0, more_indices env x c1.0 sc (expression_kind env from) ready.0 c1.1 c1.2 is_kind ready.1) two.1
             in_a typed
-            (forall_part free sc x f_ t_ a_ quiet) in (
+            (forall_part free sc x f_ t_ a_ kept) in (
               then_ env inner (statement_after inner a) up ra.0,
               λ q. (
                 0,
@@ -571,10 +571,10 @@ module _ (p : Program) (m : ℕ) where
                 tt,
                 ra.1 (after_value (after_value q f_) t_ + 1 + 1),
                 tt,
-                free_is free sc all_ quiet (inr (inr (inr (inr refl)))),
+                free_is free sc all_ kept (inr (inr (inr (inr refl)))),
               ),
             )
-        statement_form_fine env sc at (n.Assume e) ready calm here typed quiet = let c1 =
+        statement_form_fine env sc at (n.Assume e) ready calm here typed kept = let c1 =
             condition env sc ready e calm here in (grown_to_itself env ready.0, λ q. (c1 q, tt))
 
         pub statements_fine : (env : Env) (sc : List Scope) (ss : n.Statements) → MatchesWithIndices env sc
@@ -583,17 +583,17 @@ module _ (p : Program) (m : ℕ) where
             → Grown env (statements_after env ss)
             × ((q : ℕ) → AllAt p moves shares AnyInstr AnyTable AnyText callable free sc q
             (bare_statements (of_.statements (checked_statements env ss))))
-        statements_fine env sc n.NoStatement ready calm here typed quiet = (grown_to_itself env ready.0, λ q. tt)
-        statements_fine env sc (n.AndThen a rest) ready calm (in_a, in_rest) (ta, trest) quiet =
+        statements_fine env sc n.NoStatement ready calm here typed kept = (grown_to_itself env ready.0, λ q. tt)
+        statements_fine env sc (n.AndThen a rest) ready calm (in_a, in_rest) (ta, trest) kept =
             let parts = none_in_parts (w.statement_sites [] both_lists refusal_list env a)
             (w.statements_sites [] both_lists refusal_list (statement_after env a) rest) calm in
             let a_ = bare_statement (checked_statement env a) in
             let rest_ = bare_statements (of_.statements (checked_statements (statement_after env a) rest)) in
             let ra = statement_fine env sc a ready parts.0 in_a ta
-            (within free sc (In_stmts (plain.And a_ rest_)) (In_stmt a_) (λ u h. inl h) quiet) in
+            (within free sc (In_stmts (plain.And a_ rest_)) (In_stmt a_) (λ u h. inl h) kept) in
             let rb = statements_fine (statement_after env a) sc rest
             (ready_after env (statement_after env a) sc ready ra.0) parts.1 in_rest trest
-            (within free sc (In_stmts (plain.And a_ rest_)) (In_stmts rest_) (λ u h. inr h) quiet) in (
+            (within free sc (In_stmts (plain.And a_ rest_)) (In_stmts rest_) (λ u h. inr h) kept) in (
               then_ env (statement_after env a) (statements_after (statement_after env a) rest) ra.0 rb.0,
               λ q. (ra.1 q, rb.1 (after_statement p q a_)),
             )
@@ -604,17 +604,17 @@ module _ (p : Program) (m : ℕ) where
             → Grown env (arms_after env arms)
             × ((q end : ℕ) → ArmsAt p moves shares AnyInstr AnyTable AnyText callable free sc q
             (bare_arms (of_.arms (checked_arms env arms))) end)
-        arms_fine env sc n.NoArm ready calm here typed quiet = (grown_to_itself env ready.0, λ q end. tt)
-        arms_fine env sc (n.Or (n.On cs a) rest) ready calm (in_a, in_rest) (ta, trest) quiet =
+        arms_fine env sc n.NoArm ready calm here typed kept = (grown_to_itself env ready.0, λ q end. tt)
+        arms_fine env sc (n.Or (n.On cs a) rest) ready calm (in_a, in_rest) (ta, trest) kept =
             let parts = none_in_parts (w.statement_sites [] both_lists refusal_list env a)
             (w.arms_sites [] both_lists refusal_list (statement_after env a) rest) calm in
             let a_ = bare_statement (checked_statement env a) in
             let rest_ = bare_arms (of_.arms (checked_arms (statement_after env a) rest)) in
             let all_ = In_arms (plain.Or (plain.On (constant_numbers env cs) a_) rest_) in
             let ra = statement_fine env sc a ready parts.0 in_a ta
-            (within free sc all_ (In_stmt a_) (λ u h. inl h) quiet) in
+            (within free sc all_ (In_stmt a_) (λ u h. inl h) kept) in
             let rb = arms_fine (statement_after env a) sc rest (ready_after env (statement_after env a) sc ready ra.0)
-            parts.1 in_rest trest (within free sc all_ (In_arms rest_) (λ u h. inr h) quiet) in (
+            parts.1 in_rest trest (within free sc all_ (In_arms rest_) (λ u h. inr h) kept) in (
               then_ env (statement_after env a) (arms_after (statement_after env a) rest) ra.0 rb.0,
               λ q end. (ra.1 q, tt, rb.1 (after_statement p q a_ + 1) end),
             )
@@ -625,8 +625,8 @@ module _ (p : Program) (m : ℕ) where
             → Grown env (branches_after env bs)
             × ((q : ℕ) → ChildrenAt p moves shares AnyInstr AnyTable AnyText callable free sc q
             (bare_statements (of_.statements (checked_branches env at bs))))
-        branches_fine env sc at n.NoBranch ready calm here typed quiet = (grown_to_itself env ready.0, λ q. tt)
-        branches_fine env sc at (n.Beside ss rest) ready calm (in_ss, in_rest) (ts, trest) quiet =
+        branches_fine env sc at n.NoBranch ready calm here typed kept = (grown_to_itself env ready.0, λ q. tt)
+        branches_fine env sc at (n.Beside ss rest) ready calm (in_ss, in_rest) (ts, trest) kept =
             let parts = none_in_parts (w.statements_sites [] both_lists refusal_list (with_next_number env) ss)
             (w.branches_sites [] both_lists refusal_list (statements_after (with_next_number env) ss) rest) calm in
             let up = by_count env ready.0 in
@@ -636,11 +636,11 @@ module _ (p : Program) (m : ℕ) where
             (checked_branches (statements_after (with_next_number env) ss) at rest)) in
             let ra = statements_fine (with_next_number env) sc ss (ready_after env (with_next_number env) sc ready up)
             parts.0 in_ss ts
-            (within free sc (In_stmts (plain.And a_ rest_)) (In_stmt a_) (λ u h. inl h) quiet) in
+            (within free sc (In_stmts (plain.And a_ rest_)) (In_stmt a_) (λ u h. inl h) kept) in
             let later = then_ env (with_next_number env) (statements_after (with_next_number env) ss) up ra.0 in
             let rb = branches_fine (statements_after (with_next_number env) ss) sc at rest
             (ready_after env (statements_after (with_next_number env) ss) sc ready later) parts.1 in_rest trest
-            (within free sc (In_stmts (plain.And a_ rest_)) (In_stmts rest_) (λ u h. inr h) quiet) in (
+            (within free sc (In_stmts (plain.And a_ rest_)) (In_stmts rest_) (λ u h. inr h) kept) in (
               then_ env (statements_after (with_next_number env) ss)
                   (branches_after (statements_after (with_next_number env) ss) rest)
                   later rb.0,

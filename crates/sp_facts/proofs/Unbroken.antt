@@ -35,31 +35,32 @@ module _ (g : c.Program) (calm : KeepsInterference g) where
   IsSilent site = (at : Place) → SiteStops (without_places g) site at → ⊥
 
   -- nor is this use
-  abbrev IsQuietUse : Use → Type 0
-  IsQuietUse (Target x) = Unit {0}
-  IsQuietUse (Seen x) = Unit {0}
-  IsQuietUse (CallOf f args) = LeadsToStop (without_places g) f → ⊥
-  IsQuietUse (ParallelOf ss) = Unit {0}
-  IsQuietUse (ForallOf x s) = Unit {0}
-  IsQuietUse Stop = ⊥
+  abbrev IsSilentUse : Use → Type 0
+  IsSilentUse (Target x) = Unit {0}
+  IsSilentUse (Seen x) = Unit {0}
+  IsSilentUse (CallOf f args) = LeadsToStop (without_places g) f → ⊥
+  IsSilentUse (ParallelOf ss) = Unit {0}
+  IsSilentUse (ForallOf x s) = Unit {0}
+  IsSilentUse Stop = ⊥
 
-  quiet_use : (f : ℕ) (k : c.Block) → slice_get g.blocks f ≡ Some k → IsFunction (without_places g) f → (u : Use)
-      → In_stmt (bare_statement k.body) u → IsQuietUse u
-  quiet_use f k at function u i =
-      statement_kept IsSilent IsQuietUse (λ x. tt) (λ x. tt) (λ b here args h leads. h here (refl, leads)) (λ ss h. tt)
+  silent_use : (f : ℕ) (k : c.Block) → slice_get g.blocks f ≡ Some k → IsFunction (without_places g) f → (u : Use)
+      → In_stmt (bare_statement k.body) u → IsSilentUse u
+  silent_use f k at function u i =
+      statement_kept IsSilent IsSilentUse (λ x. tt) (λ x. tt) (λ b here args h leads. h here (refl, leads)) (λ ss h. tt)
       (λ here x s h. tt) (λ here h. h here refl) k.body u
       (fit_each IsSilent (statement_sites k.body) (λ site s here h. calm rule.I9 here (f, k, at, function, site, s, h)))
       i
 
   -- a function leads to no statement that it may not have
-  pub function_quiet : (f x : ℕ) (b : plain.Block) → slice_get (without_places g).blocks f ≡ Some b → b.answer ≡ Some x
+  pub function_is_silent : (f x : ℕ) (b : plain.Block) → slice_get (without_places g).blocks f ≡ Some b
+      → b.answer ≡ Some x
       → NeverStops (without_places g) f
-  function_quiet f x b at ans (k, kat, [], r) =
+  function_is_silent f x b at ans (k, kat, [], r) =
       let m = block_at g.blocks f k kat in
-      quiet_use f m.0 m.1 (b, x, at, ans) Stop (subst (λ (z : plain.Block). In_stmt z.body Stop) (sym m.2) r)
-  function_quiet f x b at ans (k, kat, d ∷ ds, (args, h, next, nat, passes, r)) =
+      silent_use f m.0 m.1 (b, x, at, ans) Stop (subst (λ (z : plain.Block). In_stmt z.body Stop) (sym m.2) r)
+  function_is_silent f x b at ans (k, kat, d ∷ ds, (args, h, next, nat, passes, r)) =
       let m = block_at g.blocks f k kat in
-      quiet_use f m.0 m.1 (b, x, at, ans) (CallOf d args)
+      silent_use f m.0 m.1 (b, x, at, ans) (CallOf d args)
       (subst (λ (z : plain.Block). In_stmt z.body (CallOf d args)) (sym m.2) h) (next, nat, ds, r)
 
 module _ (s : syntax.Program) (calm : broken_name_rules s ≡ [])

@@ -44,7 +44,7 @@ pub fn trees_are_free_of_interference()
 {}
 
 /// Where no rule of interference is broken, a call of a function leads to no statement that a function may not have.
-pub fn functions_are_quiet()
+pub fn functions_are_silent()
     ensures { (c : Checked) → KeepsInterference c → (f x : ℕ) (b : Block) → slice_get (without_places c).blocks f
         ≡ Some b
         → b.answer ≡ Some x → NeverStops (without_places c) f }

@@ -9,10 +9,10 @@
 //!   has an element.
 //! - `trees_are_free_of_interference`: a tree that breaks no rule of names and none of interference is free of
 //!   interference.
-//! - `functions_are_quiet`: where no rule of interference is broken, a call of a function leads to no statement that a
+//! - `functions_are_silent`: where no rule of interference is broken, a call of a function leads to no statement that a
 //!   function may not have.
 //! - `blocks_are_fine`: where no rule of names and types is broken, a tree that is free of interference and whose
-//!   functions are quiet has fine blocks.
+//!   functions are silent has fine blocks.
 //! - `accepted_trees_are_fine`: the tree of an accepted text is formed, has small types and is free of interference,
 //!   and each block of it is fine, whatever sets its forks are given.
 //!

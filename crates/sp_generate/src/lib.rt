@@ -16,8 +16,8 @@
 //!   `statements.rt`, `choices.rt` and `blocks.rt` are the pass, `handed.rt` is what a process is handed.
 //! - `specs/Written.antt` is what stands once a part was written behind what stood: the form of every contract of the
 //!   pass. `Tables` and `Handings` are the fork tables by the numbers of statements, `Numbered` the code with them.
-//! - `proofs/Forms` has a lemma for each form, `CaseTests` the jumps of a `case`. `Inside`, `Deciding` and `Telling` lead
-//!   from the numbers of statements to the sets of any statement; `OneCode` is the law.
+//! - `proofs/Forms` has a lemma for each form, `CaseTests` the jumps of a `case`. `Inside`, `Deciding` and `Telling`
+//!   lead from the numbers of statements to the sets of any statement; `OneCode` is the law.
 //!
 //! To change:
 //! - A form: `Emitted` of `sp_code`, the function of its name, its lemma in `proofs/Forms`, its clauses in `Tables`,

@@ -20,11 +20,11 @@ use Rattle.sp_grammar.specs.Table as row
 use Rattle.sp_grammar.specs.Table.{ConstantRow, PartsRow, SelectorRow, FactorRow, SimpleRow, Row, row_entry, rows, look}
 use Rattle.sp_grammar.specs.Table.{gap, build, constant_value, parts_value, selector_value, factor_value, simple_value}
 use Rattle.sp_grammar.specs.Derives.{PartMayBegin, Derives, takes, skips, DerivesAll, none, and}
-use Rattle.sp_grammar.proofs.Behind.{EndsStatement, TakesNone, EndsExpression, EndsFactor, EndsSimple, EndsTerm}
-use Rattle.sp_grammar.proofs.Behind.{ended_bar, ended_else}
-use Rattle.sp_grammar.proofs.Behind.{ended_end, ended_semicolon, ended_until, ends, quiet_adding, quiet_close}
-use Rattle.sp_grammar.proofs.Behind.{quiet_closeindex, quiet_colon, quiet_comma, quiet_do, quiet_downto}
-use Rattle.sp_grammar.proofs.Behind.{quiet_multiplying, quiet_of, quiet_relational, quiet_then, quiet_to}
+use Rattle.sp_grammar.proofs.Behind.{EndsExpression, EndsFactor, EndsSimple, EndsStatement, EndsTerm, TakesNone}
+use Rattle.sp_grammar.proofs.Behind.{ended_bar, ended_else, ended_end, ended_semicolon, ended_until, ends}
+use Rattle.sp_grammar.proofs.Behind.{ends_by_close, ends_by_closeindex, ends_by_colon, ends_by_comma, ends_by_do}
+use Rattle.sp_grammar.proofs.Behind.{ends_by_downto, ends_by_of, ends_by_then, ends_by_to, factor_ends_by_multiplying}
+use Rattle.sp_grammar.proofs.Behind.{simple_ends_by_relational, term_ends_by_adding}
 use Rattle.sp_grammar.proofs.Looks.{look_adding, look_after_constants, look_after_types, look_after_variables, look_arm}
 use Rattle.sp_grammar.proofs.Looks.{look_block, look_constant, look_expression, look_factor, look_multiplying}
 use Rattle.sp_grammar.proofs.Looks.{look_negated, look_parts, look_relation, look_simple, look_target, look_term}
@@ -218,36 +218,36 @@ module _ (text : List ℕ) (Ok : ℕ → List Token → Type 0) where
       (take (row.expression c) (look_expression d c) t p ok (join_all l (sym.ARelation (suc d) ∷ []) x (and m.is none)))
 
   -- what stands before a tail
-  pub terms_quiet : {d : ℕ} {a x : tree.Expression} {ts r : List Token} → g.IsRelation text Ok d a ts r x
+  pub simple_ends_by : {d : ℕ} {a x : tree.Expression} {ts r : List Token} → g.IsRelation text Ok d a ts r x
       → EndsExpression r
       → EndsSimple ts
-  terms_quiet g.no_relation q = q.simple
-  terms_quiet (g.relation c i s) q = quiet_relational c i
+  simple_ends_by g.no_relation q = q.simple
+  simple_ends_by (g.relation c i s) q = simple_ends_by_relational c i
 
-  pub factors_quiet : {d : ℕ} {a x : tree.Expression} {ts r : List Token} → g.IsMoreTerms text Ok d a ts r x
+  pub term_ends_by : {d : ℕ} {a x : tree.Expression} {ts r : List Token} → g.IsMoreTerms text Ok d a ts r x
       → EndsSimple r → EndsTerm ts
-  factors_quiet g.terms_end q = q.term
-  factors_quiet (g.terms_go_on c i s m) q = quiet_adding c i
+  term_ends_by g.terms_end q = q.term
+  term_ends_by (g.terms_go_on c i s m) q = term_ends_by_adding c i
 
-  pub factor_quiet : {d : ℕ} {a x : tree.Expression} {ts r : List Token} → g.IsMoreFactors text Ok d a ts r x
+  pub factor_ends_by : {d : ℕ} {a x : tree.Expression} {ts r : List Token} → g.IsMoreFactors text Ok d a ts r x
       → EndsTerm r → EndsFactor ts
-  factor_quiet g.factors_end q = q.factor
-  factor_quiet (g.factors_go_on c i s m) q = quiet_multiplying c i
+  factor_ends_by g.factors_end q = q.factor
+  factor_ends_by (g.factors_go_on c i s m) q = factor_ends_by_multiplying c i
 
-  pub width_quiet : {d : ℕ} {m : tree.Width} {ts r : List Token} → g.IsWidth text Ok d ts r m → EndsExpression r
+  pub ends_by_width : {d : ℕ} {m : tree.Width} {ts r : List Token} → g.IsWidth text Ok d ts r m → EndsExpression r
       → EndsExpression ts
-  width_quiet g.no_width q = q
-  width_quiet (g.width i x) q = quiet_colon i
+  ends_by_width g.no_width q = q
+  ends_by_width (g.width i x) q = ends_by_colon i
 
-  pub indices_quiet : {d : ℕ} {ss : tree.Selectors} {ts r : List Token} → g.IsMoreIndices text Ok d ts r ss
+  pub ends_by_indices : {d : ℕ} {ss : tree.Selectors} {ts r : List Token} → g.IsMoreIndices text Ok d ts r ss
       → EndsExpression ts
-  indices_quiet (g.indices_end i ss) = quiet_closeindex i
-  indices_quiet (g.indices_go_on i x ss) = quiet_comma i
+  ends_by_indices (g.indices_end i ss) = ends_by_closeindex i
+  ends_by_indices (g.indices_go_on i x ss) = ends_by_comma i
 
-  pub arguments_quiet : {d : ℕ} {rest : tree.Arguments} {ts r : List Token} → g.IsMoreArguments text Ok d ts r rest
+  pub ends_by_arguments : {d : ℕ} {rest : tree.Arguments} {ts r : List Token} → g.IsMoreArguments text Ok d ts r rest
       → EndsExpression ts
-  arguments_quiet (g.arguments_end i) = quiet_close i
-  arguments_quiet (g.arguments_go_on i a rest) = quiet_comma i
+  ends_by_arguments (g.arguments_end i) = ends_by_close i
+  ends_by_arguments (g.arguments_go_on i a rest) = ends_by_comma i
 
   pub arguments_width : (d : ℕ) {e : ℕ} {rest : tree.Arguments} {ts r : List Token}
       → g.IsMoreArguments text Ok e ts r rest → TakesNone (sym.AWidth d) ts
@@ -258,7 +258,7 @@ module _ (text : List ℕ) (Ok : ℕ → List Token → Type 0) where
     pub expression : {d : ℕ} {ts r : List Token} {x : tree.Expression} → g.IsExpression text Ok d ts r x
         → EndsExpression r
         → D (sym.AnExpression d) ts r x
-    expression (g.expression ok s m) q = as_expression ok (simple s (terms_quiet m q)) (relates m q)
+    expression (g.expression ok s m) q = as_expression ok (simple s (simple_ends_by m q)) (relates m q)
 
     pub relates : {d : ℕ} {a x : tree.Expression} {ts r : List Token} → g.IsRelation text Ok d a ts r x
         → EndsExpression r
@@ -274,14 +274,14 @@ module _ (text : List ℕ) (Ok : ℕ → List Token → Type 0) where
 
     pub simple : {d : ℕ} {ts r : List Token} {x : tree.Expression} → g.IsSimple text Ok d ts r x → EndsSimple r
         → Simple d ts r x
-    simple (g.simple (g.term f m) n) q = as_terms (factor f (factor_quiet m (factors_quiet n q)))
-        (multiplies m (factors_quiet n q)) (adds n q)
+    simple (g.simple (g.term f m) n) q = as_terms (factor f (factor_ends_by m (term_ends_by n q)))
+        (multiplies m (term_ends_by n q)) (adds n q)
     simple {d} {r = r} (g.after_plus {ts = ts} t p a n) q = let m = adds n q in
         subst (Simple d (t ∷ ts) r) m.gives (simple_begins row.simple_plus t p
-        (and (term a (factors_quiet n q)) (and m.is none)))
+        (and (term a (term_ends_by n q)) (and m.is none)))
     simple {d} {r = r} (g.after_minus {ts = ts} t p a n) q = let m = adds n q in
         subst (Simple d (t ∷ ts) r) m.gives (simple_begins row.simple_minus t p
-        (and (term a (factors_quiet n q)) (and m.is none)))
+        (and (term a (term_ends_by n q)) (and m.is none)))
 
     pub adds : {d : ℕ} {a x : tree.Expression} {ts r : List Token} → g.IsMoreTerms text Ok d a ts r x → EndsSimple r
         → TermsFrom d a ts r x
@@ -289,13 +289,13 @@ module _ (text : List ℕ) (Ok : ℕ → List Token → Type 0) where
     adds {d} (g.terms_go_on {b = b} {o = o} c (g.it_is t p) s n) q = let m = adds n q in let h = m.f in
         record {
           f = λ a. h (g.binary_at_left o a b);
-          is = take (row.next_term c) (look_adding d c) t p tt (and (term s (factors_quiet n q)) (and m.is none));
+          is = take (row.next_term c) (look_adding d c) t p tt (and (term s (term_ends_by n q)) (and m.is none));
           gives = m.gives;
         }
 
     pub term : {d : ℕ} {ts r : List Token} {x : tree.Expression} → g.IsTerm text Ok d ts r x → EndsTerm r
         → D (sym.ATerm d) ts r x
-    term (g.term f m) q = as_term (factor f (factor_quiet m q)) (multiplies m q)
+    term (g.term f m) q = as_term (factor f (factor_ends_by m q)) (multiplies m q)
 
     pub multiplies : {d : ℕ} {a x : tree.Expression} {ts r : List Token} → g.IsMoreFactors text Ok d a ts r x
         → EndsTerm r → FactorsFrom d a ts r x
@@ -304,7 +304,7 @@ module _ (text : List ℕ) (Ok : ℕ → List Token → Type 0) where
         record {
           f = λ a. h (g.binary_at_left o a b);
           is = take (row.next_factor c) (look_multiplying d c) t p tt
-              (and (as_factor (factor s (factor_quiet n q))) (and m.is none));
+              (and (as_factor (factor s (factor_ends_by n q))) (and m.is none));
           gives = m.gives;
         }
 
@@ -317,16 +317,16 @@ module _ (text : List ℕ) (Ok : ℕ → List Token → Type 0) where
     factor {d} (g.variable_factor (g.variable (g.name t p) (g.index (g.it_is o s) x ss))) q =
         factor_begins row.factor_name t p (and
         (take (row.reference row.selector_index) refl o s tt
-        (and (expression x (indices_quiet ss)) (and (indices ss q.selectors) none))) none)
+        (and (expression x (ends_by_indices ss)) (and (indices ss q.selectors) none))) none)
     factor {d} (g.variable_factor (g.variable (g.name t p) (g.field (g.it_is o s) n ss))) q =
         factor_begins row.factor_name t p (and
         (take (row.reference row.selector_field) refl o s tt (and (name n) (and (selectors ss q.selectors) none))) none)
     factor {d} (g.call_factor (g.name t p) (g.arguments (g.it_is o s) (g.argument x m) rest)) q =
         factor_begins row.factor_name t p (and
-        (take row.arguments refl o s tt (and (expression x (width_quiet m (arguments_quiet rest)))
-        (and (width m (arguments_quiet rest) (arguments_width d rest)) (and (arguments rest) none)))) none)
+        (take row.arguments refl o s tt (and (expression x (ends_by_width m (ends_by_arguments rest)))
+        (and (width m (ends_by_arguments rest) (arguments_width d rest)) (and (arguments rest) none)))) none)
     factor (g.in_parentheses t p x c) q = factor_begins row.factor_open t p
-        (and (expression x (quiet_close c)) (and (token refl c) none))
+        (and (expression x (ends_by_close c)) (and (token refl c) none))
     factor (g.negated t p ok x) q = factor_begins row.factor_not t p (and (as_negated ok (factor x q)) none)
 
     pub selectors : {d : ℕ} {ts r : List Token} {ss : tree.Selectors} → g.IsSelectors text Ok d ts r ss
@@ -334,7 +334,7 @@ module _ (text : List ℕ) (Ok : ℕ → List Token → Type 0) where
     selectors {d} g.selectors_end q = skip (q d) (λ t. refl)
     selectors (g.index (g.it_is o s) x ss) q =
         take (row.selector row.selector_index) refl o s tt
-        (and (expression x (indices_quiet ss)) (and (indices ss q) none))
+        (and (expression x (ends_by_indices ss)) (and (indices ss q) none))
     selectors (g.field (g.it_is o s) n ss) q =
         take (row.selector row.selector_field) refl o s tt (and (name n) (and (selectors ss q) none))
 
@@ -342,14 +342,14 @@ module _ (text : List ℕ) (Ok : ℕ → List Token → Type 0) where
         → ((d : ℕ) → TakesNone (sym.Selectors d) r) → D (sym.MoreIndices d) ts r ss
     indices (g.indices_end (g.it_is t p) ss) q = take row.indices_end refl t p tt (and (selectors ss q) none)
     indices (g.indices_go_on (g.it_is t p) x ss) q =
-        take row.next_index refl t p tt (and (expression x (indices_quiet ss)) (and (indices ss q) none))
+        take row.next_index refl t p tt (and (expression x (ends_by_indices ss)) (and (indices ss q) none))
 
     pub arguments : {d : ℕ} {ts r : List Token} {rest : tree.Arguments} → g.IsMoreArguments text Ok d ts r rest
         → D (sym.MoreArguments d) ts r rest
     arguments (g.arguments_end (g.it_is t p)) = take row.arguments_end refl t p tt none
     arguments {d} (g.arguments_go_on (g.it_is t p) (g.argument x m) rest) =
-        take row.next_argument refl t p tt (and (expression x (width_quiet m (arguments_quiet rest)))
-        (and (width m (arguments_quiet rest) (arguments_width d rest)) (and (arguments rest) none)))
+        take row.next_argument refl t p tt (and (expression x (ends_by_width m (ends_by_arguments rest)))
+        (and (width m (ends_by_arguments rest) (arguments_width d rest)) (and (arguments rest) none)))
 
     pub width : {d : ℕ} {ts r : List Token} {m : tree.Width} → g.IsWidth text Ok d ts r m → EndsExpression r
         → TakesNone (sym.AWidth d) r → D (sym.AWidth d) ts r m
@@ -366,9 +366,9 @@ module _ (text : List ℕ) (Ok : ℕ → List Token → Type 0) where
   direction (g.upward (g.it_is t p)) = take row.upward refl t p tt none
   direction (g.downward (g.it_is t p)) = take row.downward refl t p tt none
 
-  pub direction_quiet : {ts r : List Token} {b : _} → g.IsDirection text Ok ts r b → EndsExpression ts
-  direction_quiet (g.upward i) = quiet_to i
-  direction_quiet (g.downward i) = quiet_downto i
+  pub ends_by_direction : {ts r : List Token} {b : _} → g.IsDirection text Ok ts r b → EndsExpression ts
+  ends_by_direction (g.upward i) = ends_by_to i
+  ends_by_direction (g.downward i) = ends_by_downto i
 
   pub else_ended : {d : ℕ} {ts r : List Token} {o : tree.ElsePart} → g.IsElse text Ok d ts r o → EndsStatement r
       → EndsStatement ts
@@ -441,7 +441,8 @@ module _ (text : List ℕ) (Ok : ℕ → List Token → Type 0) where
     statement {d} (g.statement t ok (g.assignment (g.variable (g.name t' p) (g.index (g.it_is o s) x ss)) b e)) q =
         take (row.statement row.form_name) refl t p ok
         (and (as_target row.selector_index o s
-        (and (expression x (indices_quiet ss)) (and (indices ss (becomes_ends b)) none)) b (expression e q.expression))
+        (and (expression x (ends_by_indices ss)) (and (indices ss (becomes_ends b)) none)) b
+        (expression e q.expression))
         none)
     statement {d} (g.statement t ok (g.assignment (g.variable (g.name t' p) (g.field (g.it_is o s) n ss)) b e)) q =
         take (row.statement row.form_name) refl t p ok
@@ -451,19 +452,19 @@ module _ (text : List ℕ) (Ok : ℕ → List Token → Type 0) where
         take (row.statement row.form_name) refl t p ok (and (skip (q.name (suc d)) (λ t. refl)) none)
     statement {d} (g.statement t ok (g.call (g.name t' p) (g.arguments (g.it_is o s) (g.argument x m) rest))) q =
         take (row.statement row.form_name) refl t p ok
-        (and (take row.call refl o s tt (and (expression x (width_quiet m (arguments_quiet rest)))
-        (and (width m (arguments_quiet rest) (arguments_width (suc d) rest)) (and (arguments rest) none)))) none)
+        (and (take row.call refl o s tt (and (expression x (ends_by_width m (ends_by_arguments rest)))
+        (and (width m (ends_by_arguments rest) (arguments_width (suc d) rest)) (and (arguments rest) none)))) none)
     statement {d} (g.statement t ok (g.compound_form (g.compound (g.it_is t' p) (g.sequence s ss) e))) q =
         take (row.statement row.form_begin) refl t p ok
         (and (statement s (statements_ended ss (ended_end e)))
         (and (statements ss (ended_end e) (ends (sym.MoreStatements (suc d)) w.End refl e)) (and (token refl e) none)))
     statement {d} (g.statement t ok (g.choice (g.it_is t' p) e h s o)) q =
         take (row.statement row.form_if) refl t p ok
-        (and (expression e (quiet_then h)) (and (token refl h)
+        (and (expression e (ends_by_then h)) (and (token refl h)
         (and (statement s (else_ended o q)) (and (else_to o q) none))))
     statement {d} (g.statement t ok (g.while_loop (g.it_is t' p) e h s)) q =
         take (row.statement row.form_while) refl t p ok
-        (and (expression e (quiet_do h)) (and (token refl h) (and (statement s q) none)))
+        (and (expression e (ends_by_do h)) (and (token refl h) (and (statement s q) none)))
     statement {d} (g.statement t ok (g.repeat_loop (g.it_is t' p) (g.sequence s ss) h e)) q =
         take (row.statement row.form_repeat) refl t p ok
         (and (statement s (statements_ended ss (ended_until h)))
@@ -471,11 +472,11 @@ module _ (text : List ℕ) (Ok : ℕ → List Token → Type 0) where
         (and (token refl h) (and (expression e q.expression) none))))
     statement {d} (g.statement t ok (g.for_loop (g.it_is t' p) n b x v y h s)) q =
         take (row.statement row.form_for) refl t p ok
-        (and (name n) (and (token refl b) (and (expression x (direction_quiet v))
-        (and (direction v) (and (expression y (quiet_do h)) (and (token refl h) (and (statement s q) none)))))))
+        (and (name n) (and (token refl b) (and (expression x (ends_by_direction v))
+        (and (direction v) (and (expression y (ends_by_do h)) (and (token refl h) (and (statement s q) none)))))))
     statement {d} (g.statement t ok (g.case_choice (g.it_is t' p) e h (g.arm (g.labels c cs) s) rest)) q =
         take (row.statement row.form_case) refl t p ok
-        (and (expression e (quiet_of h)) (and (token refl h)
+        (and (expression e (ends_by_of h)) (and (token refl h)
         (and (constant c) (and (labels_to cs) (and (statement s (arms_ended rest)) (and (arms rest) none))))))
     statement {d} (g.statement t ok (g.parallel (g.it_is t' p) (g.branches (g.sequence s ss) bs))) q =
         take (row.statement row.form_parallel) refl t p ok
@@ -483,8 +484,8 @@ module _ (text : List ℕ) (Ok : ℕ → List Token → Type 0) where
         (and (statements ss (branches_ended bs) (branches_statements (suc d) bs)) (and (branches bs) none)))
     statement {d} (g.statement t ok (g.forall (g.it_is t' p) n b x v y h s)) q =
         take (row.statement row.form_forall) refl t p ok
-        (and (name n) (and (token refl b) (and (expression x (quiet_to v))
-        (and (token refl v) (and (expression y (quiet_do h)) (and (token refl h) (and (statement s q) none)))))))
+        (and (name n) (and (token refl b) (and (expression x (ends_by_to v))
+        (and (token refl v) (and (expression y (ends_by_do h)) (and (token refl h) (and (statement s q) none)))))))
     statement {d} (g.statement t ok (g.assume (g.it_is t' p) e)) q =
         take (row.statement row.form_assume) refl t p ok (and (expression e q.expression) none)
 

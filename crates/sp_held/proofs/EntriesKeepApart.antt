@@ -420,9 +420,9 @@ module _ (g : CodeRun) (k : KeepsCodeRules g.code) (e : KeepsEffects g.code (Doe
             → (o : Option Fault) → fault_of g.limits s u ≡ o
             → AreApart (apply_unless_fault plain g o q u s).condition
             (births_after_event s.births q (event_or o u)).birth
-        by_fault quiet u is (Some v) w = laid (config_of u) (anyhow u is)
-        by_fault quiet (Faulted v d) is None w = laid d (faulted v d is)
-        by_fault quiet (Stopped x d) is None w =
+        by_fault no_fault u is (Some v) w = laid (config_of u) (anyhow u is)
+        by_fault no_fault (Faulted v d) is None w = laid d (faulted v d is)
+        by_fault no_fault (Stopped x d) is None w =
             let v = stopped x d is in
             happens_apart x (process_at_entry d) (at_entry d v.0) (writes_at_entry x d v.1)
             (λ t n u o. split d t n u (record {
@@ -430,7 +430,7 @@ module _ (g : CodeRun) (k : KeepsCodeRules g.code) (e : KeepsEffects g.code (Doe
               runs = runs;
               turn = subst
                   (λ z. IsTurn (memory plain g) g.code c0 (Stopped z d)) o is;
-              quiet = quiet;
+              no_fault = no_fault;
               fine = subst
                   (λ z. fault_of g.limits s (Stopped z d) ≡ None) o w;
             }))
@@ -440,7 +440,7 @@ module _ (g : CodeRun) (k : KeepsCodeRules g.code) (e : KeepsEffects g.code (Doe
               runs = runs;
               turn = subst
                   (λ z. IsTurn (memory plain g) g.code c0 (Stopped z d)) o is;
-              quiet = quiet;
+              no_fault = no_fault;
               fine = subst
                   (λ z. fault_of g.limits s (Stopped z d) ≡ None) o w;
             }) b at))

@@ -57,7 +57,7 @@ use Rattle.sp_history.proofs.Legal.{keeps}
 use Rattle.sp_history.proofs.Outputs.{Shares, AnyChannel, any_cells, own_is, target_apart, sharing}
 use Rattle.sp_history.proofs.Holding.{store_runs, store_waits, store_joins, store_laid, store_over, store_on}
 use Rattle.sp_history.proofs.Holding.{one_change, received_change, join_lacks, join_holds, no_lender, not_held}
-use Rattle.sp_history.proofs.Splitting.{plan_in, plan_found, plan_alone, fork_quiet, fork_lends}
+use Rattle.sp_history.proofs.Splitting.{plan_in, plan_found, plan_alone, fork_shares, fork_lends}
 
 -- ---- births
 
@@ -306,12 +306,12 @@ module _ (g : CodeRun) (s : System Plain) (q : ℕ) (c0 : Config (Memory Plain))
             births =
                 births_after_event s.births q (event.Fork n);
           })
-      kept quiet = record {
+      kept output_stays = record {
         share = λ r. cond (nx r) LacksIt (h.share r);
         holder = h.holder;
-        shared = fork_quiet h.share h.holder s.births.birth s.condition h.shared nx q child H made n e (store_of c)
+        shared = fork_shares h.share h.holder s.births.birth s.condition h.shared nx q child H made n e (store_of c)
             (store_of c0) hs not_q here old (λ r. refl) was (store_is c k).0 (store_is c k).1 can
-            (store_on (λ y. plain.handed y hs) c) (λ r. refl) quiet inside;
+            (store_on (λ y. plain.handed y hs) c) (λ r. refl) output_stays inside;
       }
 
       lends : h.share q ≡ HoldsIt → In output_spot (moved_of hs)
@@ -443,7 +443,7 @@ module _ (g : CodeRun) (s : System Plain) (q : ℕ) (c0 : Config (Memory Plain))
             configuration = c0;
             runs = runs;
             turn = subst (IsTurn (memory plain g) g.code c0) is turn;
-            quiet = w;
+            no_fault = w;
             fine = ap (fault_of g.limits s) (sym is) ∙ e;
           })
 

@@ -194,22 +194,23 @@ taken_births k w (Some q) = refl
 
 module _ {S : Type 0} (stores : Stores S) (g : CodeRun) where
   -- so a worker that holds nothing makes no event any more
-  quiet_by : (w : ℕ) (give : Option ℕ) (e : Option Event) (got : Option ℕ) (ns : List Note) (k : Control)
+  no_event_by : (w : ℕ) (give : Option ℕ) (e : Option Event) (got : Option ℕ) (ns : List Note) (k : Control)
       (s u t : System S) → nat_lt 0 k.abandons ≡ true → give ≡ None → GiveIsLegal stores g k s w give e got u
       → GetIsLegal stores g (after_give give e got k) e got
       → Reaches stores g (takes w got (after_give give e got k)) u ns t → OneByOne got ns
       → ((k1 : Control) → nat_lt 0 k1.abandons ≡ true → Reaches stores g k1 u ns t → OneByOne None ns
       → entries_of ns ≡ []) → entry_of give e ++ entries_of ns ≡ []
-  quiet_by w None None None ns k s u t a e v j r x go = go (abandons None k) (some_abandon k.abandons) r x
-  quiet_by w None None (Some q) ns k s u t a e v j r x go = absurd (none_got k q a j)
-  quiet_by w None (Some d) got ns k s u t a e v j r x go = absurd v
-  quiet_by w (Some p) d got ns k s u t a e v j r x go = absurd (cc e)
+  no_event_by w None None None ns k s u t a e v j r x go = go (abandons None k) (some_abandon k.abandons) r x
+  no_event_by w None None (Some q) ns k s u t a e v j r x go = absurd (none_got k q a j)
+  no_event_by w None (Some d) got ns k s u t a e v j r x go = absurd v
+  no_event_by w (Some p) d got ns k s u t a e v j r x go = absurd (cc e)
 
-  quiet : (k : Control) (s t : System S) (ns : List Note) → nat_lt 0 k.abandons ≡ true → Reaches stores g k s ns t
+  no_event : (k : Control) (s t : System S) (ns : List Note) → nat_lt 0 k.abandons ≡ true → Reaches stores g k s ns t
       → OneByOne None ns → entries_of ns ≡ []
-  quiet k s t [] e r x = refl
-  quiet k s t (n ∷ ns) e r x = quiet_by n.worker n.given n.event n.got ns k s r.0 t e x.0 r.1.gives r.1.gets r.2 x.1
-      (λ k1 f v y. quiet k1 r.0 t ns f v y)
+  no_event k s t [] e r x = refl
+  no_event k s t (n ∷ ns) e r x = no_event_by n.worker n.given n.event n.got ns k s r.0 t e x.0 r.1.gives r.1.gets r.2
+      x.1
+      (λ k1 f v y. no_event k1 r.0 t ns f v y)
 
   by_note : (w : ℕ) (give : Option ℕ) (e : Option Event) (got : Option ℕ) (ns : List Note) (k : Control)
       (l : QueueState)
@@ -227,7 +228,7 @@ module _ {S : Type 0} (stores : Stores S) (g : CodeRun) where
       go l (children_takes k c w (Some q) f) (line_takes k l w (Some q) i f)
   by_note w None (Some e) got ns k l s u t h c i v j r x go = absurd v
   by_note w (Some p) None None ns k l s u t h c i v j r x go =
-      subst (InTurnFrom k.births l) (sym (quiet (abandons (Some p) k) u t ns (some_abandon k.abandons) r x)) (tt {0})
+      subst (InTurnFrom k.births l) (sym (no_event (abandons (Some p) k) u t ns (some_abandon k.abandons) r x)) (tt {0})
   by_note w (Some p) None (Some q) ns k l s u t h c i v j r x go = absurd (cc (v.1))
   by_note w (Some p) (Some e) got ns k l s u t h c i v j r x go =
       let out : k.doing p ≡ Out w = v.0 in

@@ -198,7 +198,7 @@ module _ (share : ℕ → Share) (holder : ℕ) (birth : ℕ → Option Birth) (
       go (Other w k) = subst AimsIn (sym (other_is r w k)) (h.aims r)
 
   -- the output is not handed on
-  module _ (quiet : IsPart (share q) → In output_spot (moved_of hs) → ⊥)
+  module _ (output_stays : IsPart (share q) → In output_spot (moved_of hs) → ⊥)
       (inside : (r : ℕ) → nx r ≡ true → In output_spot (H r).moved → In output_spot (moved_of hs)) where
     abbrev kept : ℕ → Share
     kept r = cond (nx r) LacksIt (share r)
@@ -211,7 +211,7 @@ module _ (share : ℕ → Share) (holder : ℕ) (birth : ℕ → Option Birth) (
 
     out_moved : IsPart (share q) → NotIn output_spot (moved_of hs)
     out_moved i = elim (in_or output_spot (moved_of hs)) [
-      | inl k ↦ absurd (quiet i k)
+      | inl k ↦ absurd (output_stays i k)
       | inr k ↦ k
     ]
 
@@ -234,8 +234,8 @@ module _ (share : ℕ → Share) (holder : ℕ) (birth : ℕ → Option Birth) (
     )
     self_keeps LacksIt w s = handed_lacks p.map hs s
 
-    pub fork_quiet : IsShared kept holder after_fork births_then
-    fork_quiet = record {
+    pub fork_shares : IsShared kept holder after_fork births_then
+    fork_shares = record {
       holds = kept_old holder (there holder h.here.0 h.here.1) ∙ h.holds;
       only = λ r k. only r k (who r);
       here = here (number_or q holder);
@@ -264,7 +264,7 @@ module _ (share : ℕ → Share) (holder : ℕ) (birth : ℕ → Option Birth) (
         stores r t k (New w) =
             subst (λ y. StoreIs y t) (sym (kept_new r w))
             (subst (StoreIs LacksIt) (new_store r t w k)
-            (child_lacks p.map (H r) (λ i o. quiet (output_part (share q) p is o) (inside r w i))))
+            (child_lacks p.map (H r) (λ i o. output_stays (output_part (share q) p is o) (inside r w i))))
         stores r t k (Self w v) =
             subst (λ y. StoreIs y t) (sym (kept_old r w))
             (subst (λ y. StoreIs (share y) t) v
@@ -309,7 +309,7 @@ module _ (share : ℕ → Share) (holder : ℕ) (birth : ℕ → Option Birth) (
         not_had : (r : ℕ) (d : Birth) (t : Plain) → births_then r ≡ Some d → store_in (after_fork r) ≡ Some t
             → (IsPart (kept r) → ⊥) → IsPart (kept d.parent) → In output_spot t.moved → BirthCase r → ⊥
         not_had r d t w k i j m (New v) =
-            quiet (subst IsPart (kept_old q not_q) (subst (λ y. IsPart (kept y)) (sym (new_birth r d v w)) j))
+            output_stays (subst IsPart (kept_old q not_q) (subst (λ y. IsPart (kept y)) (sym (new_birth r d v w)) j))
             (inside r v (subst (λ (y : Plain). In output_spot y.moved) (sym (new_store r t v k)) m))
         not_had r d t w k i j m (Self v z) =
             let b = old_birth r d v w in

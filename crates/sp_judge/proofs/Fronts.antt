@@ -52,12 +52,12 @@ pub counts_last : (es : List Occurrence) (e : Occurrence)
     → clocks_of (es ++ e ∷ []) ≡ clocks_after_entry (clocks_of es) (knowledge_of es) es e.who e.what
 counts_last es e = counts_from_last (λ p q. 0) no_knowledge [] es e
 
-pub quiet_front : (j : Knowledge) (n : ℕ) (xs ys : List Occurrence) → WaitersSilentFrom j n (xs ++ ys)
+pub silent_front : (j : Knowledge) (n : ℕ) (xs ys : List Occurrence) → WaitersSilentFrom j n (xs ++ ys)
     → WaitersSilentFrom j n xs
     × WaitersSilentFrom (knowledge_from j n xs) (n + length xs) ys
-quiet_front j n [] ys q = (tt, subst (λ x. WaitersSilentFrom j x ys) (is_plus_none n) q)
-quiet_front j n (x ∷ xs) ys q =
-    let r = quiet_front (knowledge_after j n x.who x.what) (suc n) xs ys q.1 in
+silent_front j n [] ys q = (tt, subst (λ x. WaitersSilentFrom j x ys) (is_plus_none n) q)
+silent_front j n (x ∷ xs) ys q =
+    let r = silent_front (knowledge_after j n x.who x.what) (suc n) xs ys q.1 in
     let l : suc n + length xs ≡ n + suc (length xs) = omega arith in (
       (q.0, r.0),
       subst (λ y. WaitersSilentFrom (knowledge_from (knowledge_after j n x.who x.what) (suc n) xs) y
@@ -147,7 +147,7 @@ module _ (t : Births) (lawful : Lawful t) where
 
 -- one entry of a nameable journal in which no process makes an entry while its own offer waits
 module _ (all : List Entry) (nameable : NameableFrom first_births all)
-    (quiet : WaitersAreSilent (entries_by_names (births all) all))
+    (silent : WaitersAreSilent (entries_by_names (births all) all))
     (lawful : Lawful (births all)) (at : ℕ) (e : Entry) (inside : slice_get all at ≡ Some e) where
   abbrev pub before : List Entry
   before = take at all
@@ -195,16 +195,16 @@ module _ (all : List Entry) (nameable : NameableFrom first_births all)
   pub grown : entries_by_names (births all) (take (at + 1) all) ≡ past ++ next ∷ []
   grown = ap (entries_by_names (births all)) (take_next all at e inside) ∙ named_more (births all) before e []
 
-  quiet_parts : WaitersSilentFrom no_knowledge 0 past
+  silent_parts : WaitersSilentFrom no_knowledge 0 past
       × WaitersSilentFrom (knowledge_of past) (0 + length past) (next ∷ entries_by_names (births all) rest)
-  quiet_parts = quiet_front no_knowledge 0 past (next ∷ entries_by_names (births all) rest)
-      (subst WaitersAreSilent (ap (entries_by_names (births all)) whole ∙ named_more (births all) before e rest) quiet)
+  silent_parts = silent_front no_knowledge 0 past (next ∷ entries_by_names (births all) rest)
+      (subst WaitersAreSilent (ap (entries_by_names (births all)) whole ∙ named_more (births all) before e rest) silent)
 
   pub waits_not : WaitsForNone (knowledge_of past) next.who
-  waits_not = quiet_parts.1.0
+  waits_not = silent_parts.1.0
 
   pub stands : Standing (knowledge_of past) past (clocks_of past)
-  stands = standing_from no_knowledge [] (λ p q. 0) past nothing_standing quiet_parts.0
+  stands = standing_from no_knowledge [] (λ p q. 0) past nothing_standing silent_parts.0
 
   pub births_more : births (take (at + 1) all) ≡ births_after_entry (births before) e
   births_more = ap births (take_next all at e inside) ∙ births_last before e

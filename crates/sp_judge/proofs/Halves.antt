@@ -56,11 +56,11 @@ module _ (all : List Entry) (t : IsNameableAndSilent all) (at : ℕ) where
     inside = get_within all at e here
 
     pub there : p < s.processes
-    there = front.there all t.nameable t.quiet law at e here
+    there = front.there all t.nameable t.silent law at e here
 
     pub other_there : (i : ℕ) → IsOfferAt all w c i → (d : Entry) → (get_or all i d).process < s.processes
     other_there i o d = subst (λ (x : Entry). x.process < s.processes) (sym (get_or_from_slice_get all i o.0 d o.1))
-        (front.there all t.nameable t.quiet law i o.0 o.1)
+        (front.there all t.nameable t.silent law i o.0 o.1)
 
     pub none_below : (middle : ℕ) → ((k : ℕ) → k < middle → IsOfferAt all w c k → ⊥) → (k : ℕ) → k < middle
         → IsUnknown s os all p w c k → ⊥
@@ -68,11 +68,11 @@ module _ (all : List Entry) (t : IsNameableAndSilent all) (at : ℕ) where
 
     pub all_below : AreKnown os → (middle i : ℕ) → middle ≤ at → IsLastOffer all middle w c i
         → (knowledge_of os).past (s.name p) i ≡ true → (k : ℕ) → k < middle → IsUnknown s os all p w c k → ⊥
-    all_below = laws.all_below all t.nameable t.quiet law at e here w c refl
+    all_below = laws.all_below all t.nameable t.silent law at e here w c refl
 
     module _ (until : List ℕ) (b : JudgeTables) (h : TablesHold s until (take at all) b) where
       pub place_there : (i : ℕ) → i < at → i < length b.places.items
-      place_there i l = let a = h.all_places in let n = front.at_length all t.nameable t.quiet law at e here in
+      place_there i l = let a = h.all_places in let n = front.at_length all t.nameable t.silent law at e here in
           omega arith
 
       -- what the count of an offer's process says of the offer
@@ -82,8 +82,8 @@ module _ (all : List Entry) (t : IsNameableAndSilent all) (at : ℕ) where
       counted i place d l o is =
           subst (λ (x : Entry). (place < clocks_of os (s.name p) (s.name x.process))
           ↔ ((knowledge_of os).past (s.name p) i ≡ true)) (sym (get_or_from_slice_get all i o.0 d o.1))
-          (laws.counted_offer all t.nameable t.quiet law at e here w c refl i place o.0 l o.1 o.2 (is ∙ place_is))
+          (laws.counted_offer all t.nameable t.silent law at e here w c refl i place o.0 l o.1 o.2 (is ∙ place_is))
         where
           place_is : get_or b.places.items i place ≡ count_of_entries (take i os) (s.name o.0.process)
           place_is = get_or_from_slice_get b.places.items i _ place
-              (h.places i o.0 (laws.into_front all t.nameable t.quiet law at e here i o.0 l o.1))
+              (h.places i o.0 (laws.into_front all t.nameable t.silent law at e here i o.0 l o.1))

@@ -86,14 +86,14 @@ module _ (s : Births) (os : List Occurrence) (e : Occurrence) (w : Way) (d : Cha
   )
 
 module _ (all : List Entry) (nameable : NameableFrom first_births all)
-    (quiet : WaitersAreSilent (entries_by_names (births all) all))
+    (silent : WaitersAreSilent (entries_by_names (births all) all))
     (lawful : Lawful (births all)) (at : ℕ) (e : Entry) (inside : slice_get all at ≡ Some e) (until : List ℕ)
     (b : JudgeTables) (h : TablesHold (births all) until (take at all) b) where
   abbrev s : Births
   s = births all
 
   abbrev os : List Occurrence
-  os = front.past all nameable quiet lawful at e inside
+  os = front.past all nameable silent lawful at e inside
 
   abbrev o : Occurrence
   o = occurrence s e
@@ -102,13 +102,13 @@ module _ (all : List Entry) (nameable : NameableFrom first_births all)
   p = e.process
 
   pub here : p < s.processes
-  here = front.there all nameable quiet lawful at e inside
+  here = front.there all nameable silent lawful at e inside
 
   pub grown : entries_by_names s (take (at + 1) all) ≡ os ++ o ∷ []
-  grown = front.grown all nameable quiet lawful at e inside
+  grown = front.grown all nameable silent lawful at e inside
 
   pub stands : Standing (knowledge_of os) os (clocks_of os)
-  stands = front.stands all nameable quiet lawful at e inside
+  stands = front.stands all nameable silent lawful at e inside
 
   pub its_made : number_at b.made.items p ≡ count_of_entries os (s.name p)
   its_made = ap (λ x. unwrap_or x 0) (h.made_is p here)
@@ -125,7 +125,7 @@ module _ (all : List Entry) (nameable : NameableFrom first_births all)
       → clock_at b'.clocks.items r q ≡ clocks_of (entries_by_names s (take (at + 1) all)) (s.name r) (s.name q)
   clocks_more b' f r q l k asked = f r q l (
     k,
-    let n = front.next_length all nameable quiet lawful at e inside in
+    let n = front.next_length all nameable silent lawful at e inside in
         omega arith,
   ) ∙ sym (ap (λ xs. clocks_of xs (s.name r) (s.name q)) grown
       ∙ ap (λ g. g (s.name r) (s.name q)) (counts_last os o))
@@ -239,7 +239,8 @@ module _ (all : List Entry) (nameable : NameableFrom first_births all)
   -- the clocks, by numbers
 
   pub clock_is : (r q : ℕ) → r < s.processes → Live q → clock_at b.clocks.items r q ≡ clocks_of os (s.name r) (s.name q)
-  clock_is r q l k = h.clocks r q l k.0 (let n = front.at_length all nameable quiet lawful at e inside in let a = k.1 in
+  clock_is r q l k = h.clocks r q l k.0 (let n = front.at_length all nameable silent lawful at e inside in
+      let a = k.1 in
       omega arith)
 
   abbrev m : ℕ
@@ -292,7 +293,7 @@ module _ (all : List Entry) (nameable : NameableFrom first_births all)
 
       after : ExtendsBirths (births_after_event (births (take at all)) p (event.Fork n)) s
       after = subst (λ v. ExtendsBirths (births_after_event (births (take at all)) p v) s) is
-          (front.stays_after all nameable quiet lawful at e inside)
+          (front.stays_after all nameable silent lawful at e inside)
 
       fits : (births (take at all)).processes + n ≤ s.processes
       fits = after.processes
@@ -301,9 +302,9 @@ module _ (all : List Entry) (nameable : NameableFrom first_births all)
           ≡ ((knowledge_of os).forks (s.name p), i)
           ∷ s.name p
       children i l =
-          let f = front.forks_named all nameable quiet lawful at e inside p here in
-          children_named (births (take at all)) s p n (front.follows all nameable quiet lawful at e inside).0
-          (front.stays_on all nameable quiet lawful at e inside) after i l
+          let f = front.forks_named all nameable silent lawful at e inside p here in
+          children_named (births (take at all)) s p n (front.follows all nameable silent lawful at e inside).0
+          (front.stays_on all nameable silent lawful at e inside) after i l
           ∙ (λ j. (sym f j, i) ∷ s.name p)
 
   pub ended_root_is : None ≡ s.birth p → (c1 : ℕ → ℕ → ℕ)

@@ -26,7 +26,7 @@ use Rattle.sp_judge.proofs.VerdictLaws.{channel_there}
 
 pub nameable_and_silent_of : (j : Journal) → IsNameable j → WaitersAreSilent (occurrences j)
     → IsNameableAndSilent j.entries
-nameable_and_silent_of j n q = record { nameable = n; quiet = subst WaitersAreSilent (all_named j.entries n) q }
+nameable_and_silent_of j n q = record { nameable = n; silent = subst WaitersAreSilent (all_named j.entries n) q }
 
 take_whole : {X : Type 0} (xs : List X) (n : ℕ) → length xs ≤ n → take n xs ≡ xs
 take_whole [] zero l = refl
@@ -70,7 +70,7 @@ module _ (all : List Entry) (t : IsNameableAndSilent all) (at : ℕ) where
       → KnowsOffers (knowledge_of (entries_by_names s (take at all))) (entries_by_names s (take at all))
       (s.name e.process) (happening s e.event)
       → AreKnown (entries_by_names s (take (at + 1) all))
-  known_next e inside known k = subst AreKnown (sym (front.grown all t.nameable t.quiet law at e inside))
+  known_next e inside known k = subst AreKnown (sym (front.grown all t.nameable t.silent law at e inside))
       (known_more (entries_by_names s (take at all)) (occurrence s e) known k)
 
   module _ (known : AreKnown (entries_by_names s (take at all))) (r : RacingOffer)
@@ -79,18 +79,18 @@ module _ (all : List Entry) (t : IsNameableAndSilent all) (at : ℕ) where
     e = record { process = r.process; event = offer_event r.way r.channel }
 
     pub channel_inside : r.channel < s.channels
-    channel_inside = channel_there all t.nameable t.quiet law at e r.way r.channel racing.0 refl
+    channel_inside = channel_there all t.nameable t.silent law at e r.way r.channel racing.0 refl
 
     pub not_unknown : ((i : ℕ) → i < at → IsUnknown s (entries_by_names s (take at all)) all r.process r.way r.channel i
         → ⊥) → ⊥
-    not_unknown none = racing.1 (nothing_unknown all t.nameable t.quiet law at e racing.0 r.way r.channel refl none)
+    not_unknown none = racing.1 (nothing_unknown all t.nameable t.silent law at e racing.0 r.way r.channel refl none)
 
     pub race_judged : (i : ℕ) → IsFirstUnknown s (entries_by_names s (take at all)) all at r.process r.way r.channel i
         → (name : ChanName) → name ≡ chan_name (channel s r.channel)
         → IsJudged (entries_by_names s all) (verdict.Race r.way name i at)
     race_judged i f name is = (
       λ o. racing.1 (in_order o),
-      (channel s r.channel, is, first_race all t.nameable t.quiet law at e racing.0 r.way r.channel refl i f known),
+      (channel s r.channel, is, first_race all t.nameable t.silent law at e racing.0 r.way r.channel refl i f known),
     )
       where
         in_order : AreOrdered (entries_by_names s all) → KnowsOffers (knowledge_of (entries_by_names s (take at all)))

@@ -76,7 +76,7 @@ met_gains c p n z m r q d = ⊎_elim
     not_same f = ⊎_elim (λ (e : p ≡ r). absurd (f e)) (λ (e : p == r ≡ false). e) (index_or_not p r)
 
 module _ (all : List Entry) (nameable : NameableFrom first_births all)
-    (quiet : WaitersAreSilent (entries_by_names (births all) all))
+    (silent : WaitersAreSilent (entries_by_names (births all) all))
     (lawful : Lawful (births all)) (at : ℕ) (e : Entry) (inside : slice_get all at ≡ Some e) (until : List ℕ)
     (b : JudgeTables) (h : TablesHold (births all) until (take at all) b)
     (w : Way) (c : ℕ) (is : happening (births all) e.event ≡ Offered w (channel (births all) c))
@@ -85,13 +85,13 @@ module _ (all : List Entry) (nameable : NameableFrom first_births all)
   s = births all
 
   abbrev os : List Occurrence
-  os = front.past all nameable quiet lawful at e inside
+  os = front.past all nameable silent lawful at e inside
 
   abbrev p : ℕ
   p = e.process
 
   abbrev Asked : ℕ → Type 0
-  Asked = Live all nameable quiet lawful at e inside until b h
+  Asked = Live all nameable silent lawful at e inside until b h
 
   abbrev d : Channel
   d = channel s c
@@ -103,14 +103,14 @@ module _ (all : List Entry) (nameable : NameableFrom first_births all)
   its_line = let x = h.lines c is_open in subst (IsChannelOffers s os d) (same_Some x.0 l (sym x.1 ∙ line)) x.2
 
   this_there : p < s.processes
-  this_there = here all nameable quiet lawful at e inside until b h
+  this_there = here all nameable silent lawful at e inside until b h
 
   occurrence_is : occurrence s e ≡ record { who = s.name p; what = Offered w d }
   occurrence_is = λ i. record { who = s.name p; what = is i }
 
   new_sent : IsLast s (os ++ occurrence s e ∷ []) w d (Some offer)
   new_sent = new_last s os (occurrence s e) w d offer this_there occurrence_is
-      (its_made all nameable quiet lawful at e inside until b h)
+      (its_made all nameable silent lawful at e inside until b h)
 
   other_way : (v : Way) → (v ≡ w → ⊥) → (o : Option Offer) → IsLast s os v d o
       → IsLast s (os ++ occurrence s e ∷ []) v d o
@@ -120,7 +120,7 @@ module _ (all : List Entry) (nameable : NameableFrom first_births all)
       ((knowledge_after (knowledge_of os) (length os) (s.name p) (Offered w d)).pending d) → (v : Way) → v ≡ w
       → IsChannelOffers s (entries_by_names s (take (at + 1) all)) d (channel_offers_with v offer waiting l)
   lines_with waiting f v same = subst (λ xs. IsChannelOffers s xs d (channel_offers_with v offer waiting l))
-      (sym (grown all nameable quiet lawful at e inside until b h)) (by v same)
+      (sym (grown all nameable silent lawful at e inside until b h)) (by v same)
     where
       wait : IsWaitingOffer s (os ++ occurrence s e ∷ []) waiting ((knowledge_of (os ++ occurrence s e ∷ [])).pending d)
       wait = subst (IsWaitingOffer s (os ++ occurrence s e ∷ []) waiting)
@@ -172,7 +172,7 @@ module _ (all : List Entry) (nameable : NameableFrom first_births all)
         x.0,
         get_set b.lines.items c (channel_offers_with w offer waiting l) k c_inside
             ∙ ap (λ y. cond y (Some (channel_offers_with w offer waiting l)) (slice_get b.lines.items k)) g ∙ x.1,
-        line_stays all nameable quiet lawful at e inside until b h (channel s k) x.0
+        line_stays all nameable silent lawful at e inside until b h (channel s k) x.0
             (λ v y. apart (ap (channel_of d) (sym is ∙ y)))
             (ap (λ y. (knowledge_after (knowledge_of os) (length os) (s.name p) y).pending (channel s k)) is
             ∙ met_same ((knowledge_of os).pending d) (channel s k)
@@ -202,7 +202,7 @@ module _ (all : List Entry) (nameable : NameableFrom first_births all)
     waits_now = subst (IsWaitingOffer s (os ++ occurrence s e ∷ []) (Some offer)) (sym pending) (
       this_there,
       refl,
-      its_made all nameable quiet lawful at e inside until b h
+      its_made all nameable silent lawful at e inside until b h
           ∙ ap (λ xs. count_of_entries xs (s.name p))
           (sym (take_low os (occurrence s e) (length os) (omega arith) ∙ take_all os)),
     )
@@ -216,7 +216,7 @@ module _ (all : List Entry) (nameable : NameableFrom first_births all)
         → clock_at b.clocks.items r q ≡ clocks_after_entry (clocks_of os) (knowledge_of os) os (s.name p)
         (happening s e.event)
         (s.name r) (s.name q)
-    clocks_wait r q a k = clock_is all nameable quiet lawful at e inside until b h r q a k
+    clocks_wait r q a k = clock_is all nameable silent lawful at e inside until b h r q a k
         ∙ sym (ap (λ f. f (s.name r) (s.name q)) (counted_is ∙ ap (clocks_after_offer (clocks_of os) os (s.name p))
         pending_none))
 
@@ -240,7 +240,7 @@ module _ (all : List Entry) (nameable : NameableFrom first_births all)
     z_there = its_pending.2
 
     pub apart : p ≢ z.process
-    apart f = front.waits_not all nameable quiet lawful at e inside d y.1
+    apart f = front.waits_not all nameable silent lawful at e inside d y.1
         (its_pending.1 ∙ (λ i. Some ((sym its_pending.3 ∙ ap s.name (sym f)) i, y.1)))
 
     pub waits_no_more : IsWaitingOffer s (os ++ occurrence s e ∷ []) None
@@ -272,7 +272,7 @@ module _ (all : List Entry) (nameable : NameableFrom first_births all)
         tp = same_process s lawful p r this_there a
 
         x : clock_at b.clocks.items r q ≡ clocks_of os (s.name r) (s.name q)
-        x = clock_is all nameable quiet lawful at e inside until b h r q a k
+        x = clock_is all nameable silent lawful at e inside until b h r q a k
 
         theirs_is : with_own (clock_at b.clocks.items) z.process (z.place + 1) q
             ≡ clock_of_waiter (clocks_of os) os y.0 y.1 (s.name q)
@@ -280,7 +280,7 @@ module _ (all : List Entry) (nameable : NameableFrom first_births all)
             let t : z.process == q ≡ same_name y.0 (s.name q) = same_process s lawful z.process q z_there k.0
             ∙ ap (λ n. same_name n (s.name q)) its_pending.3 in
             let u : clock_at b.clocks.items z.process q ≡ clocks_of os y.0 (s.name q) =
-            clock_is all nameable quiet lawful at e inside until b h z.process q z_there k
+            clock_is all nameable silent lawful at e inside until b h z.process q z_there k
             ∙ ap (λ n. clocks_of os n (s.name q)) its_pending.3 in
             let v : z.place + 1 ≡ suc (count_of_entries (take y.1 os) y.0) = next_is_suc z.place _ its_pending.4 in
             λ i. cond (t i) (max (u i) (v i)) (u i)
@@ -289,4 +289,4 @@ module _ (all : List Entry) (nameable : NameableFrom first_births all)
             (with_own (clock_at b.clocks.items) z.process (z.place + 1) q)
             ≡ merged_clock (clock_with_entry (clocks_of os) os (s.name p)) (clock_of_waiter (clocks_of os) os y.0 y.1)
             (s.name q)
-        whole = λ i. max (own_is all nameable quiet lawful at e inside until b h q k i) (theirs_is i)
+        whole = λ i. max (own_is all nameable silent lawful at e inside until b h q k i) (theirs_is i)

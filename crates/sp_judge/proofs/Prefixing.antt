@@ -137,7 +137,7 @@ at_channel c d v m x h = by (same_channel c d) (channel_is c d) h
     by false f g = inr g
 
 module _ (j : Knowledge) (es : List Occurrence) (e : Occurrence) (kept : PrefixesAreKnown j es)
-    (quiet : WaitsForNone j e.who) where
+    (silent : WaitsForNone j e.who) where
   abbrev n : ℕ
   n = length es
 
@@ -156,7 +156,8 @@ module _ (j : Knowledge) (es : List Occurrence) (e : Occurrence) (kept : Prefixe
         last q k w d l = ⊎_elim
             (λ (o : k < n). ⊎_elim
             (λ (x : j.past q k ≡ true). or_left (j.past e.who k) (n == k) (ap (λ (y : Name). j.past y k) w ∙ x))
-            (λ (x : (c : Channel) × (j.pending c ≡ Some (q, k))). absurd (quiet x.0 k (x.1 ∙ (λ i. Some (sym w i, k)))))
+            (λ (x : (c : Channel) × (j.pending c ≡ Some (q, k))). absurd (silent x.0 k (x.1 ∙ (λ i. Some
+            (sym w i, k)))))
             (low_own q k o d))
             (λ (o : k ≡ n). or_right (j.past e.who k) (n == k) (eq-eqb n k (sym o)))
             (below_or_at k n (omega arith))
@@ -222,11 +223,11 @@ module _ (j : Knowledge) (es : List Occurrence) (e : Occurrence) (kept : Prefixe
       single = λ d f z k l g h. ⊎_elim
           (λ (x : (c ≡ d) × (◌≡◌ {A = Option (Name × ℕ)} (Some (e.who, n)) (Some (z, k)))). ⊎_elim
           (λ (y : (c ≡ f) × (◌≡◌ {A = Option (Name × ℕ)} (Some (e.who, n)) (Some (z, l)))). sym x.0 ∙ y.0)
-          (λ (y : j.pending f ≡ Some (z, l)). absurd (quiet f l (y ∙ (λ i. Some (sym (pair_first _ _ x.1) i, l)))))
+          (λ (y : j.pending f ≡ Some (z, l)). absurd (silent f l (y ∙ (λ i. Some (sym (pair_first _ _ x.1) i, l)))))
           (at_channel c f (Some (e.who, n)) j.pending (z, l) h))
           (λ (x : j.pending d ≡ Some (z, k)). ⊎_elim
           (λ (y : (c ≡ f) × (◌≡◌ {A = Option (Name × ℕ)} (Some (e.who, n)) (Some (z, l)))). absurd
-          (quiet d k (x ∙ (λ i. Some (sym (pair_first _ _ y.1) i, k)))))
+          (silent d k (x ∙ (λ i. Some (sym (pair_first _ _ y.1) i, k)))))
           (λ (y : j.pending f ≡ Some (z, l)). kept.single d f z k l x y)
           (at_channel c f (Some (e.who, n)) j.pending (z, l) h))
           (at_channel c d (Some (e.who, n)) j.pending (z, k) g);
@@ -350,15 +351,15 @@ module _ (j : Knowledge) (es : List Occurrence) (e : Occurrence) (kept : Prefixe
 
 -- the new index alone, learned by its process
 own_index : (j : Knowledge) (es : List Occurrence) (e : Occurrence) (kept : PrefixesAreKnown j es)
-    (quiet : WaitsForNone j e.who)
+    (silent : WaitsForNone j e.who)
     → is_counted e.what ≡ true → (q : Name) → IsFine (es ++ e ∷ []) (learn e.who (λ i. length es == i) j.past q)
-own_index j es e kept quiet counted q = by (same_name e.who q) (name_is e.who q)
+own_index j es e kept silent counted q = by (same_name e.who q) (name_is e.who q)
   where
     by : (t : Bool) → (t ≡ true → e.who ≡ q)
         → IsFine (es ++ e ∷ []) (λ i. cond t (j.past q i || (length es == i)) (j.past q i))
     by true f = subst (λ (x : Name). IsFine (es ++ e ∷ []) (λ i. j.past x i || (length es == i))) (f refl)
-        (mine j es e kept quiet counted)
-    by false f = past_fine j es e kept quiet q
+        (mine j es e kept silent counted)
+    by false f = past_fine j es e kept silent q
 
 pub one_entry : (j : Knowledge) (es : List Occurrence) (p : Name) (h : Happening) → PrefixesAreKnown j es
     → WaitsForNone j p

@@ -204,7 +204,8 @@ module _ (g : RunInput) where
   pub clean_with_end : (turn : ℕ) (es : List Occurrence) (n : ℕ) (t : StateOf g) (e : End)
       → IsAlong g turn es n t → EndIs g t e → (IsFault e → ⊥) → IsClean es
   clean_with_end turn es n t end.Done along h sure = ends_clean turn es n t along (λ b. b.goes_on h)
-  clean_with_end turn es n t (end.Deadlock ws) along h sure = ends_clean turn es n t along (λ b. b.faulty (h.1).quiet)
+  clean_with_end turn es n t (end.Deadlock ws) along h sure = ends_clean turn es n t along (λ b. b.faulty
+      (h.1).no_fault)
   clean_with_end turn es n t (end.Fault p f) along h sure = absurd (sure tt)
   clean_with_end turn es n t end.Memory along h sure = absurd h
 
@@ -214,7 +215,8 @@ module _ (g : RunInput) where
       each_ends_alike g turn es n t (disjoint g free) along (ends_clean turn es n t along (λ b. b.goes_on h)) (inl h)
       ordered
   ordered_ends turn es n t (end.Deadlock ws) free along h sure ordered =
-      each_ends_alike g turn es n t (disjoint g free) along (ends_clean turn es n t along (λ b. b.faulty (h.1).quiet))
+      each_ends_alike g turn es n t (disjoint g free) along (ends_clean turn es n t along (λ b. b.faulty
+      (h.1).no_fault))
       (inr (h.1).idle) ordered
   ordered_ends turn es n t (end.Fault p f) free along h sure ordered = absurd (sure tt)
   ordered_ends turn es n t end.Memory free along h sure ordered = absurd h

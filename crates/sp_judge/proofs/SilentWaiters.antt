@@ -1,4 +1,4 @@
--- A run along a journal is quiet: who makes an entry is running, and whose offer is pending waits.
+-- Waiters of a run along a journal are silent: who makes an entry is running, and whose offer is pending waits.
 use Rattle.std.proofs.Common.{◌≡◌, ℕ, zero, suc, Bool, true, false, cond, ◌==◌, List, [], ◌∷◌, Option, Some, None, refl}
 use Rattle.std.proofs.Common.{sym, ap, ◌∙◌, subst}
 use Rattle.std.proofs.lemmas.Option.{none-some, same_Some}
@@ -182,16 +182,16 @@ module _ (g : RunInput) where
   entered_on left c m paused q Laid r j n A h match go = go _ m r h.1 match
   entered_on left c m paused q Paused r j n A h match go = go _ m r h.2 match
 
-  along_quiet : (turn : ℕ) (es : List Occurrence) (c : Course) (s : StateOf g) (r : ℕ) (t : StateOf g) (j : Knowledge)
+  along_silent : (turn : ℕ) (es : List Occurrence) (c : Course) (s : StateOf g) (r : ℕ) (t : StateOf g) (j : Knowledge)
       (n : ℕ) → Along g turn c s es r t → Matches s j → WaitersSilentFrom j n es
-  along_quiet turn [] c s r t j n a match = tt
-  along_quiet turn (e ∷ es) c s r t j n a match =
+  along_silent turn [] c s r t j n a match = tt
+  along_silent turn (e ∷ es) c s r t j n a match =
       let run = turn_runs turn (c.since e.who) e.who a.1 s a.3 a.4 a.6 in (
         waits_for_none s j e.who run.0 match run.1,
         entered_on _ c a.3 a.4 e.who e.what a.2 j n (WaitersSilentFrom (knowledge_after j n e.who e.what) (suc n)
             es) a.7
             (turned turn (c.since e.who) e.who a.1 s a.3 a.4 j a.6 match)
-            (λ c1 u d b more. along_quiet turn es c1 u d t (knowledge_after j n e.who e.what) (suc n) b more),
+            (λ c1 u d b more. along_silent turn es c1 u d t (knowledge_after j n e.who e.what) (suc n) b more),
       )
 
   matches_start : Matches (start g) no_knowledge
@@ -199,4 +199,4 @@ module _ (g : RunInput) where
 
   pub waiters_are_silent : (turn : ℕ) (es : List Occurrence) (n : ℕ) (t : StateOf g) → IsAlong g turn es n t
       → WaitersAreSilent es
-  waiters_are_silent turn es n t along = along_quiet turn es no_course (start g) n t no_knowledge 0 along matches_start
+  waiters_are_silent turn es n t along = along_silent turn es no_course (start g) n t no_knowledge 0 along matches_start

@@ -58,5 +58,5 @@ standing_from j done count (e ∷ es) s q =
 
 pub clocks_say : (es : List Occurrence) → WaitersAreSilent es → (p q : Name) (i k : ℕ) → PlaceOf es q i k
     → (knowledge_of es).past p i ≡ nat_lt k (clocks_of es p q)
-clocks_say es quiet p q i k o = ((standing_from no_knowledge [] (λ a b. 0) es nothing_standing quiet).says p).says q i
+clocks_say es silent p q i k o = ((standing_from no_knowledge [] (λ a b. 0) es nothing_standing silent).says p).says q i
     k o

@@ -62,10 +62,10 @@ module _ (all : List Entry) (t : IsNameableAndSilent all) (at : ℕ) (e : Entry)
   p = e.process
 
   abbrev Asked : ℕ → Type 0
-  Asked = laws.Live all t.nameable t.quiet law at e inside until b h
+  Asked = laws.Live all t.nameable t.silent law at e inside until b h
 
   there : p < s.processes
-  there = front.there all t.nameable t.quiet law at e inside
+  there = front.there all t.nameable t.silent law at e inside
 
   pub made_inside : p < length b.made.items
   made_inside = let a = there in let c = h.all_made in omega arith
@@ -74,13 +74,13 @@ module _ (all : List Entry) (t : IsNameableAndSilent all) (at : ℕ) (e : Entry)
   clocks_inside = let a = there in let c = h.all_clocks in omega arith
 
   pub before_next : p < b.next
-  before_next = let a = (front.follows all t.nameable t.quiet law at e inside).0 in let c = h.next in omega arith
+  before_next = let a = (front.follows all t.nameable t.silent law at e inside).0 in let c = h.next in omega arith
 
   children_fit : (n : ℕ) → e.event ≡ event.Fork n → b.next + n ≤ s.processes
   children_fit n is =
       let a : ExtendsBirths (births_after_event (births (take at all)) p (event.Fork n)) s =
       subst (λ v. ExtendsBirths (births_after_event (births (take at all)) p v) s) is
-      (front.stays_after all t.nameable t.quiet law at e inside) in
+      (front.stays_after all t.nameable t.silent law at e inside) in
       let f = a.processes in
       let c = h.next in
       omega arith
@@ -116,13 +116,13 @@ module _ (all : List Entry) (t : IsNameableAndSilent all) (at : ℕ) (e : Entry)
     all_clocks = len ∙ h.all_clocks;
     all_made = lm;
     all_lines = ll;
-    all_places = ap length places ∙ laws.places_length all t.nameable t.quiet law at e inside until b h;
-    clocks = laws.clocks_more all t.nameable t.quiet law at e inside until b h b' clocks;
+    all_places = ap length places ∙ laws.places_length all t.nameable t.silent law at e inside until b h;
+    clocks = laws.clocks_more all t.nameable t.silent law at e inside until b h b' clocks;
     made_is = made_is;
     lines = lines;
     places = λ i x g. ap (λ xs. slice_get xs i) places
-        ∙ laws.places_more all t.nameable t.quiet law at e inside until b h i x g;
-    next = next ∙ ap (λ (x : Births). x.processes) (sym (front.births_more all t.nameable t.quiet law at e inside));
+        ∙ laws.places_more all t.nameable t.silent law at e inside until b h i x g;
+    next = next ∙ ap (λ (x : Births). x.processes) (sym (front.births_more all t.nameable t.silent law at e inside));
   }
 
   -- where the process's count of entries was raised
@@ -141,7 +141,7 @@ module _ (all : List Entry) (t : IsNameableAndSilent all) (at : ℕ) (e : Entry)
       → TablesHold s until (take (at + 1) all) b'
   counted_then b' counted len clocks mk ll lines places next = holds_then b' len clocks
       (ap length mk ∙ length-set b.made.items p (number_at b.made.items p + 1) ∙ h.all_made)
-      (λ r l. ap (λ xs. slice_get xs r) mk ∙ laws.made_counted all t.nameable t.quiet law at e inside until b h counted
+      (λ r l. ap (λ xs. slice_get xs r) mk ∙ laws.made_counted all t.nameable t.silent law at e inside until b h counted
       r l)
       ll lines places next
 
@@ -152,7 +152,7 @@ module _ (all : List Entry) (t : IsNameableAndSilent all) (at : ℕ) (e : Entry)
       (happening s e.event)).pending ≡ (knowledge_of (entries_by_names s (take at all))).pending
       → (c : ℕ) → c < s.channels → (l : ChannelOffers) × (slice_get b'.lines.items c ≡ Some l)
       × IsChannelOffers s (entries_by_names s (take (at + 1) all)) (channel s c) l
-  old_lines b' same off pend c l = let x = laws.lines_stay all t.nameable t.quiet law at e inside until b h off pend c
+  old_lines b' same off pend c l = let x = laws.lines_stay all t.nameable t.silent law at e inside until b h off pend c
       l in (x.0, ap (λ xs. slice_get xs c) same ∙ x.1, x.2)
 
   module _ (b' : JudgeTables) (len : length b'.clocks.items ≡ length b.clocks.items)
@@ -166,7 +166,7 @@ module _ (all : List Entry) (t : IsNameableAndSilent all) (at : ℕ) (e : Entry)
             (clock_at b.clocks.items r q))
             → TablesHold s until (take (at + 1) all) b'
         opened is next clocks = counted_then b' (ap (λ v. is_counted (happening s v)) is) len
-            (λ r q l k. laws.own_raised_is all t.nameable t.quiet law at e inside until b h (clock_at b'.clocks.items)
+            (λ r q l k. laws.own_raised_is all t.nameable t.silent law at e inside until b h (clock_at b'.clocks.items)
             clocks r q l k ∙ sym (ap (λ v. clocks_after_entry (clocks_of (entries_by_names s (take at all)))
             (knowledge_of (entries_by_names s (take at all))) (entries_by_names s (take at all)) (s.name p)
             (happening s v) (s.name r)
@@ -186,7 +186,7 @@ module _ (all : List Entry) (t : IsNameableAndSilent all) (at : ℕ) (e : Entry)
             ≡ cond (nat_le b.next r && nat_lt r (b.next + n)) (max (c1 r q) (c1 p q)) (c1 r q))
             → TablesHold s until (take (at + 1) all) b'
         forked n is next c1 one two = counted_then b' (ap (λ v. is_counted (happening s v)) is) len
-            (λ r q l k. laws.forked_is all t.nameable t.quiet law at e inside until b h n is c1
+            (λ r q l k. laws.forked_is all t.nameable t.silent law at e inside until b h n is c1
             (clock_at b'.clocks.items) one two r q l k
             ∙ sym (ap (λ v. clocks_after_entry (clocks_of (entries_by_names s (take at all)))
             (knowledge_of (entries_by_names s (take at all)))
@@ -225,7 +225,7 @@ module _ (all : List Entry) (t : IsNameableAndSilent all) (at : ℕ) (e : Entry)
             (clock_at b.clocks.items r q))
             → TablesHold s until (take (at + 1) all) b'
         ended_root is next none one = ended_with is next
-            (laws.ended_root_is all t.nameable t.quiet law at e inside until b h none (clock_at b'.clocks.items) one)
+            (laws.ended_root_is all t.nameable t.silent law at e inside until b h none (clock_at b'.clocks.items) one)
 
         pub ended : e.event ≡ event.End → b'.next ≡ b.next → (u : Birth) → Some u ≡ s.birth p → (c1 : ℕ → ℕ → ℕ)
             → ((r q : ℕ) → IsAsked until (at + 1) q
@@ -234,7 +234,7 @@ module _ (all : List Entry) (t : IsNameableAndSilent all) (at : ℕ) (e : Entry)
             → ((r q : ℕ) → clock_at b'.clocks.items r q ≡ cond (u.parent == r) (max (c1 u.parent q) (c1 p q)) (c1 r q))
             → TablesHold s until (take (at + 1) all) b'
         ended is next u born c1 one two = ended_with is next
-            (laws.ended_is all t.nameable t.quiet law at e inside until b h u born
+            (laws.ended_is all t.nameable t.silent law at e inside until b h u born
             (let a = parent_older s law p there u born in let c = there in omega arith) c1 (clock_at b'.clocks.items)
             one two)
 
@@ -246,7 +246,7 @@ module _ (all : List Entry) (t : IsNameableAndSilent all) (at : ℕ) (e : Entry)
         happens = ap (happening s) is ∙ offer_happens s w c
 
         c_there : c < s.channels
-        c_there = channel_there all t.nameable t.quiet law at e w c inside is
+        c_there = channel_there all t.nameable t.silent law at e w c inside is
 
         same_next : b'.next ≡ (births_after_entry (births (take at all)) e).processes
         same_next = next ∙ h.next ∙ sym (ap (λ v. (births_after_event (births (take at all)) p v).processes) is ∙ by w)
@@ -264,11 +264,11 @@ module _ (all : List Entry) (t : IsNameableAndSilent all) (at : ℕ) (e : Entry)
             → TablesHold s until (take (at + 1) all) b'
         offer_waits free ls clocks = counted_then b' (ap is_counted happens) len
             (λ r q a k. ap (λ cs. clock_at cs r q) clocks
-            ∙ offers.clocks_wait all t.nameable t.quiet law at e inside until b h w c happens c_there l line free r
+            ∙ offers.clocks_wait all t.nameable t.silent law at e inside until b h w c happens c_there l line free r
             q a k)
             mk (ap length ls ∙ length-set b.lines.items c (channel_offers_with w offer (Some offer) l) ∙ h.all_lines)
-            (λ k a. let x = offers.offer_lines all t.nameable t.quiet law at e inside until b h w c happens c_there l
-            line (Some offer) (offers.waits_now all t.nameable t.quiet law at e inside until b h w c happens c_there
+            (λ k a. let x = offers.offer_lines all t.nameable t.silent law at e inside until b h w c happens c_there l
+            line (Some offer) (offers.waits_now all t.nameable t.silent law at e inside until b h w c happens c_there
             l line free) k a in (x.0, ap (λ xs. slice_get xs k) ls ∙ x.1, x.2))
             places same_next
 
@@ -280,11 +280,11 @@ module _ (all : List Entry) (t : IsNameableAndSilent all) (at : ℕ) (e : Entry)
             (z.place + 1) r q)
             → TablesHold s until (take (at + 1) all) b'
         offer_meets z waiting ls clocks = counted_then b' (ap is_counted happens) len
-            (offers.clocks_met all t.nameable t.quiet law at e inside until b h w c happens c_there l line z waiting
+            (offers.clocks_met all t.nameable t.silent law at e inside until b h w c happens c_there l line z waiting
             (clock_at b'.clocks.items) clocks)
             mk (ap length ls ∙ length-set b.lines.items c (channel_offers_with w offer None l) ∙ h.all_lines)
-            (λ k a. let x = offers.offer_lines all t.nameable t.quiet law at e inside until b h w c happens c_there l
-            line None (offers.waits_no_more all t.nameable t.quiet law at e inside until b h w c happens c_there l
+            (λ k a. let x = offers.offer_lines all t.nameable t.silent law at e inside until b h w c happens c_there l
+            line None (offers.waits_no_more all t.nameable t.silent law at e inside until b h w c happens c_there l
             line z waiting) k a in (x.0, ap (λ xs. slice_get xs k) ls ∙ x.1, x.2))
             places same_next
 
@@ -306,14 +306,14 @@ module _ (all : List Entry) (t : IsNameableAndSilent all) (at : ℕ) (e : Entry)
             → TablesHold s until (take (at + 1) all) b'
         all_of v is counted off same pend still = holds_then b' len
             (λ r q l k. ap (λ cs. clock_at cs r q) clocks
-            ∙ laws.clock_is all t.nameable t.quiet law at e inside until b h r q l k
+            ∙ laws.clock_is all t.nameable t.silent law at e inside until b h r q l k
             ∙ sym (ap (λ x. clocks_after_entry (clocks_of (entries_by_names s (take at all)))
             (knowledge_of (entries_by_names s (take at all)))
             (entries_by_names s (take at all)) (s.name p) (happening s x) (s.name r) (s.name q)) is
             ∙ same (s.name r) (s.name q)))
             (ap length mk ∙ h.all_made)
             (λ r l. ap (λ xs. slice_get xs r) mk
-            ∙ laws.made_kept all t.nameable t.quiet law at e inside until b h
+            ∙ laws.made_kept all t.nameable t.silent law at e inside until b h
             (ap (λ x. is_counted (happening s x)) is ∙ counted) r l)
             (ap length lines ∙ h.all_lines)
             (old_lines b' lines (λ d w f. off d w (sym (ap (happening s) is) ∙ f))
@@ -337,7 +337,7 @@ module _ (all : List Entry) (t : IsNameableAndSilent all) (at : ℕ) (e : Entry)
   -- an offer and its line
   module _ (w : Way) (c : ℕ) (is : e.event ≡ offer_event w c) where
     this_channel : c < s.channels
-    this_channel = channel_there all t.nameable t.quiet law at e w c inside is
+    this_channel = channel_there all t.nameable t.silent law at e w c inside is
 
     this_happens : happening s e.event ≡ Offered w (channel s c)
     this_happens = ap (happening s) is ∙ offer_happens s w c
@@ -348,13 +348,14 @@ module _ (all : List Entry) (t : IsNameableAndSilent all) (at : ℕ) (e : Entry)
     module _ (l : ChannelOffers) (line : slice_get b.lines.items c ≡ Some l) where
       pub waits_there : (z : Offer) → l.waiting ≡ Some z → z.process < length b.clocks.items
       waits_there z f =
-          let a = offers.z_there all t.nameable t.quiet law at e inside until b h w c this_happens this_channel l line z
+          let a = offers.z_there all t.nameable t.silent law at e inside until b h w c this_happens this_channel l
+          line z
           f in
           let d = h.all_clocks in
           omega arith
 
       pub waits_apart : (z : Offer) → l.waiting ≡ Some z → p ≢ z.process
-      waits_apart z f = offers.apart all t.nameable t.quiet law at e inside until b h w c this_happens this_channel l
+      waits_apart z f = offers.apart all t.nameable t.silent law at e inside until b h w c this_happens this_channel l
           line z f
 
       its_last : IsLast s (entries_by_names s (take at all)) w (channel s c) (last_of w l)
@@ -370,7 +371,7 @@ module _ (all : List Entry) (t : IsNameableAndSilent all) (at : ℕ) (e : Entry)
       pub knows_none : last_of w l ≡ None → KnowsOffers (knowledge_of (entries_by_names s (take at all)))
           (entries_by_names s (take at all))
           (s.name p) (Offered w (channel s c))
-      knows_none none = none_known all t.nameable t.quiet law at e inside w (channel s c)
+      knows_none none = none_known all t.nameable t.silent law at e inside w (channel s c)
           (subst (IsLast s (entries_by_names s (take at all)) w (channel s c)) none its_last)
 
       module _ (o : Offer) (some : last_of w l ≡ Some o) (known : AreKnown (entries_by_names s (take at all))) where
@@ -383,12 +384,12 @@ module _ (all : List Entry) (t : IsNameableAndSilent all) (at : ℕ) (e : Entry)
         pub knows_own : o.process ≡ p → KnowsOffers (knowledge_of (entries_by_names s (take at all)))
             (entries_by_names s (take at all)) (s.name p)
             (Offered w (channel s c))
-        knows_own same = own_known all t.nameable t.quiet law at e inside w (channel s c) o same is_last known
+        knows_own same = own_known all t.nameable t.silent law at e inside w (channel s c) o same is_last known
 
         pub knows_counted : (o.place < clocks_of (entries_by_names s (take at all)) (s.name p) (s.name o.process))
             ↔ KnowsOffers (knowledge_of (entries_by_names s (take at all))) (entries_by_names s (take at all))
             (s.name p) (Offered w (channel s c))
-        knows_counted = last_counted all t.nameable t.quiet law at e inside w (channel s c) o is_last known
+        knows_counted = last_counted all t.nameable t.silent law at e inside w (channel s c) o is_last known
 
         pub knows_last : IsAsked until at o.process → (cl : Clock) → cl ≡ get_or b.clocks.items p cl
             → (o.place < count_of cl o.process)
@@ -396,7 +397,8 @@ module _ (all : List Entry) (t : IsNameableAndSilent all) (at : ℕ) (e : Entry)
             (s.name p)
             (Offered w (channel s c))
         knows_last asked cl is_cl =
-            let f = last_known all t.nameable t.quiet law at e inside until b h w (channel s c) o asked is_last known in
+            let f = last_known all t.nameable t.silent law at e inside until b h w
+            (channel s c) o asked is_last known in
             let g : count_of cl o.process ≡ clock_at b.clocks.items p o.process = ap (λ x. count_of x o.process) is_cl
             ∙ clock_is b.clocks.items p cl o.process clocks_inside in
             (λ x. f.0 (subst (λ n. o.place < n) g x), λ x. subst (λ n. o.place < n) (sym g) (f.1 x))

@@ -276,12 +276,12 @@ module _ (j : Knowledge) (es : List Occurrence) (count : Name → Name → ℕ) 
     still : (q : Name) → CountsTellKnown longer (j.past q) (count q)
     still q = says_more es entry (j.past q) (count q) (below q) (says q)
 
-    module _ (counted : is_counted h ≡ true) (quiet : WaitsForNone j p) where
+    module _ (counted : is_counted h ≡ true) (silent : WaitsForNone j p) where
       -- each counted entry of p is known to p
       knows_own : (i k : ℕ) → PlaceOf es p i k → j.past p i ≡ true
       knows_own i k o = ⊎_elim
           (λ (x : j.past p i ≡ true). x)
-          (λ (x : (c : Channel) × (j.pending c ≡ Some (p, i))). absurd (quiet x.0 i x.1))
+          (λ (x : (c : Channel) × (j.pending c ≡ Some (p, i))). absurd (silent x.0 i x.1))
           (kept.own p i (counts_of p i k o))
 
       mine_is : (q : Name) → p ≡ q → clock_with_entry count es p q ≡ max (count p q) (suc (count_of_entries es q))

@@ -133,7 +133,7 @@ offer_given s p way.Send c g = g
 offer_given s p way.Receive c g = g
 
 module _ (all : List Entry) (nameable : NameableFrom first_births all)
-    (quiet : WaitersAreSilent (entries_by_names (births all) all))
+    (silent : WaitersAreSilent (entries_by_names (births all) all))
     (lawful : Lawful (births all)) where
   abbrev s : Births
   s = births all
@@ -142,10 +142,10 @@ module _ (all : List Entry) (nameable : NameableFrom first_births all)
   pub channel_there : (at : ℕ) (e : Entry) (w : Way) (c : ℕ) → slice_get all at ≡ Some e → e.event ≡ offer_event w c
       → c < s.channels
   channel_there at e w c inside is =
-      let f = front.follows all nameable quiet lawful at e inside in
+      let f = front.follows all nameable silent lawful at e inside in
       let a = offer_given (births (take at all)) e.process w c
       (subst (GivesNumbers (births (take at all)) e.process) is f.1) in
-      let b = (front.stays_on all nameable quiet lawful at e inside).channels in
+      let b = (front.stays_on all nameable silent lawful at e inside).channels in
       omega arith
 
   -- before entry e of index at
@@ -154,7 +154,7 @@ module _ (all : List Entry) (nameable : NameableFrom first_births all)
     os = entries_by_names s (take at all)
 
     stands : Standing (knowledge_of os) os (clocks_of os)
-    stands = front.stands all nameable quiet lawful at e inside
+    stands = front.stands all nameable silent lawful at e inside
 
     front_is : take at (entries_by_names s all) ≡ os
     front_is = sym (named_take s all at)
@@ -168,7 +168,7 @@ module _ (all : List Entry) (nameable : NameableFrom first_births all)
     knows_offer p i k = stands.paired.closed p i k.0 k.1 k.2
 
     there : e.process < s.processes
-    there = front.there all nameable quiet lawful at e inside
+    there = front.there all nameable silent lawful at e inside
 
     -- the counts say which offers are known
     pub counts_say : (p : Name) (q i k : ℕ) (w : Way) (d : Channel) → OfferIn os i (s.name q) w d
@@ -183,7 +183,7 @@ module _ (all : List Entry) (nameable : NameableFrom first_births all)
           → (knowledge_of os).past (s.name e.process) i ≡ nat_lt k (clock_at b.clocks.items e.process q)
       known_is q i k w d l asked o place = counts_say (s.name e.process) q i k w d o place
           ∙ ap (nat_lt k) (sym (h.clocks e.process q there l
-          (let n = front.at_length all nameable quiet lawful at e inside in omega arith)))
+          (let n = front.at_length all nameable silent lawful at e inside in omega arith)))
 
       pub last_known : (w : Way) (d : Channel) (o : Offer) → IsAsked until at o.process → IsLast s os w d (Some o)
           → AreKnown os → (o.place < clock_at b.clocks.items e.process o.process)
@@ -218,7 +218,7 @@ module _ (all : List Entry) (nameable : NameableFrom first_births all)
         (λ (k : (knowledge_of os).past (s.name o.process) l.0 ≡ true). subst
         (λ (x : ℕ). (knowledge_of os).past (s.name x) l.0 ≡ true) same k)
         (λ (k : (c : Channel) × ((knowledge_of os).pending c ≡ Some (s.name o.process, l.0))).
-        absurd (front.waits_not all nameable quiet lawful at e inside k.0 l.0
+        absurd (front.waits_not all nameable silent lawful at e inside k.0 l.0
         (k.1 ∙ ap (λ (x : ℕ). Some (s.name x, l.0)) same)))
         (stands.kept.own (s.name o.process) l.0 (Offered w d, l.2, refl)))
 
@@ -272,7 +272,7 @@ module _ (all : List Entry) (nameable : NameableFrom first_births all)
 
           l : i < at
           l = let a = get_within (take at all) i x found.1 in
-              let m = front.at_length all nameable quiet lawful at e inside in omega arith
+              let m = front.at_length all nameable silent lawful at e inside in omega arith
 
           its : (k : ℕ) × (x.event ≡ offer_event w k) × (channel s k ≡ channel s c)
           its = event_is s x.event w (channel s c) (ap (λ (y : Occurrence). y.what) found.2)
@@ -369,7 +369,7 @@ module _ (all : List Entry) (nameable : NameableFrom first_births all)
                   let st : Standing (knowledge_of (take n (entries_by_names s all))) (take n (entries_by_names s all))
                   (clocks_of (take n (entries_by_names s all))) =
                   subst (λ xs. Standing (knowledge_of xs) xs (clocks_of xs)) is_front
-                  (front.stands all nameable quiet lawful n later.0 later.1) in
+                  (front.stands all nameable silent lawful n later.0 later.1) in
                   let o : slice_get (take n (entries_by_names s all)) m
                   ≡ Some (record { who = r.first; what = Offered v d }) =
                   take_get (entries_by_names s all) n m _ r.before r.offered_first in

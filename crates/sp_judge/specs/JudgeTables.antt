@@ -55,7 +55,7 @@ pub record IsChannelOffers (s : Births) (os : List Occurrence) (d : Channel) (l 
 -- the entries of a journal that gives names, in which no process makes an entry while its own offer waits
 pub record IsNameableAndSilent (es : List Entry) : Type 0 where
   pub nameable : NameableFrom first_births es
-  pub quiet : WaitersAreSilent (entries_by_names (births es) es)
+  pub silent : WaitersAreSilent (entries_by_names (births es) es)
 
 -- a line with this last offer of a way, and this offer that waits
 abbrev pub channel_offers_with : Way → Offer → Option Offer → ChannelOffers → ChannelOffers

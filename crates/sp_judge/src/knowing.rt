@@ -163,8 +163,8 @@ fn last_offer(entries: &[Entry], before: usize, way: Way, channel: u32) -> Optio
     None
 }
 
-/// The first earlier offer of the racing offer's way on its channel of which its process, that of the next entry, does not
-/// know. Who knows of an offer knows of the ones before it, so the first one is found by halves.
+/// The first earlier offer of the racing offer's way on its channel of which its process, that of the next entry, does
+/// not know. Who knows of an offer knows of the ones before it, so the first one is found by halves.
 pub(crate) fn first_unknown(
     ledger: &Ledger,
     tables: &JudgeTables,
@@ -193,7 +193,14 @@ pub(crate) fn first_unknown(
                     process: entries[i].process,
                     place: tables.places[i],
                 };
-                if knows_entry(tables.alloc, ledger, entries, at, racing_offer.process, offer)? {
+                if knows_entry(
+                    tables.alloc,
+                    ledger,
+                    entries,
+                    at,
+                    racing_offer.process,
+                    offer,
+                )? {
                     known = middle;
                 } else {
                     first = i;

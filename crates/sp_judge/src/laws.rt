@@ -32,7 +32,7 @@ pub fn clocks_say_what_is_known()
 {}
 
 /// In every run along a journal, with faults or without, no process makes an entry while its own offer waits.
-pub fn runs_are_quiet()
+pub fn runs_are_silent()
     ensures { (g : RunInput) (turn : ℕ) (es : List Occurrence) (n : ℕ) (t : StateOf g) → IsAlong g turn es n t
         → WaitersAreSilent es }
 {}

@@ -49,7 +49,7 @@ mod verdict;
 
 pub use clock::Clock;
 pub use laws::{
-    clocks_say_what_is_known, knows_prefixes, runs_are_quiet, runs_without_a_fault_are_clean,
+    clocks_say_what_is_known, knows_prefixes, runs_are_silent, runs_without_a_fault_are_clean,
     verdicts_are_exact, verdicts_hold_of_runs,
 };
 pub use verdict::verdict_of;

@@ -23,7 +23,7 @@ use std::alloc::Global;
 /// journal gives names, and no process of it makes an entry while its own offer waits, as in every run.
 pub fn verdict_of(alloc: Global, journal: &Journal, end: &End) -> Result<Verdict, Memory>
     requires nameable { IsNameable journal.now }
-    requires quiet { WaitersAreSilent (occurrences journal.now) }
+    requires silent { WaitersAreSilent (occurrences journal.now) }
     ensures { IfOk result (λ verdict. IsVerdict (occurrences journal.now) end.now verdict) }
 {
     if is_fault(end) {
@@ -45,7 +45,7 @@ fn is_fault(end: &End) -> bool
 /// Ordered, or the least race, by all entries.
 fn judged_entries(alloc: Global, journal: &Journal) -> Result<Verdict, Memory>
     requires nameable { IsNameable journal.now }
-    requires quiet { WaitersAreSilent (occurrences journal.now) }
+    requires silent { WaitersAreSilent (occurrences journal.now) }
     ensures { IfOk result (λ verdict. IsJudged (occurrences journal.now) verdict) }
 {
     let ledger = Ledger::of(alloc, journal)?;

@@ -22,10 +22,10 @@ pub failed : {A E : Type 0} (r : Result A E) (x y : Kernel) (k : IsKernel x) (w 
           true;
     })
     → OnOk r (Gave x h.proc.number h y)
-failed r x y k w h i g fits quiet same is = on_map r _ _
+failed r x y k w h i g fits no_fault same is = on_map r _ _
     (λ e. subst (Gave x h.proc.number h) (sym
     (e ∙ ap (λ (j : Handed). record (kernel_after_give j.proc.number (event.Fault g) (slot.Here j.proc st.Laid) x)
-    { faulted = true }) same)) (gave_fault x k h.proc.number w fits.out h g (refl, fits.input) quiet is))
+    { faulted = true }) same)) (gave_fault x k h.proc.number w fits.out h g (refl, fits.input) no_fault is))
 
 pub is_full : (l n m : ℕ) → m ≡ l → m ≤ n → nat_lt l (n + 1) ≡ true
 is_full l n m e h = grind (arith, e, h)

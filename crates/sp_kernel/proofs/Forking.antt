@@ -44,7 +44,8 @@ use Rattle.sp_kernel.specs.Fits.{FitsHanded}
 use Rattle.sp_history.proofs.Queues.{number_or}
 use Rattle.sp_history.proofs.Orders.{next_yes, next_not, next_past}
 use Rattle.sp_kernel.proofs.Tables.{table_set}
-use Rattle.sp_kernel.proofs.Giving.{event_quiet, after_quiet, whole_after, there, no_waiter, next_births, parents_after}
+use Rattle.sp_kernel.proofs.Giving.{event_no_fault, after_no_fault, whole_after, there, no_waiter, next_births}
+use Rattle.sp_kernel.proofs.Giving.{parents_after}
 use Rattle.sp_kernel.proofs.Offering.{waiter_there}
 
 -- ---- lists
@@ -107,7 +108,7 @@ push f false true u v w = refl
 push f false false u v w = refl
 
 module _ (x : Kernel) (k : IsKernel x) (p w : ℕ) (here : (control_of x).doing p ≡ Out w) (h : Handed) (t : ℕ) (v : ℤ)
-    (n : ℕ) (is : h.stop ≡ stop.Fork t v n) (quiet : x.faulted ≡ false)
+    (n : ℕ) (is : h.stop ≡ stop.Fork t v n) (no_fault : x.faulted ≡ false)
     (fine : fault_of x.limits (system_of x) (Stopped (m.Forks t v n) (config_of h.proc)) ≡ None)
     (own : IsOwn (code_run_of x).input h.proc p) (at : IsAtFork h.proc t v n) (y : Kernel)
     (f : HasForked x h.proc n y) where
@@ -115,7 +116,7 @@ module _ (x : Kernel) (k : IsKernel x) (p w : ℕ) (here : (control_of x).doing 
   turn_is = ap (λ s. turn_by s h.proc) is
 
   event_is : event.Fork n ≡ event_of x.limits (system_of x) (turn_of h)
-  event_is = event_quiet x.limits (system_of x) (m.Forks t v n) (config_of h.proc) quiet fine
+  event_is = event_no_fault x.limits (system_of x) (m.Forks t v n) (config_of h.proc) no_fault fine
       ∙ ap (event_of x.limits (system_of x)) (sym turn_is)
 
   abbrev l : ℕ
@@ -265,7 +266,7 @@ module _ (x : Kernel) (k : IsKernel x) (p w : ℕ) (here : (control_of x).doing 
     births = next_is i;
     entries = x.entries + 1;
   })
-      ∙ after_quiet (code_run_of x) (system_of x) p (m.Forks t v n) (config_of h.proc) quiet fine
+      ∙ after_no_fault (code_run_of x) (system_of x) p (m.Forks t v n) (config_of h.proc) no_fault fine
       ∙ ap (λ t. system_after_turn plain (code_run_of x) p t (system_of x)) (sym turn_is)
 
   offers : (d : ℕ) (o : Pending) → slice_get x.channels d ≡ Some (Some o)
@@ -362,7 +363,7 @@ pub can_fork : (x : Kernel) (w : ℕ) (h : Handed) (t : ℕ) (v : ℤ) (n : ℕ)
     → fault_of x.limits (system_of x) (Stopped (m.Forks t v n) (config_of h.proc)) ≡ None → IsAtFork h.proc t v n
     → FitsHanded x w h
     → CanSplit h.proc.store (plan_by x.code.value h.proc n)
-can_fork x w h t v n is quiet fine at fits =
+can_fork x w h t v n is no_fault fine at fits =
     subst (λ (z : ℕ). CanSplit h.proc.store (plan_from x.code.value.layouts h.proc.frames
     (table_or (slice_get x.code.value.forks z)) h.proc.first 0 n)) (sym at.0)
     (subst (λ (z : ℤ). CanSplit h.proc.store
@@ -375,6 +376,6 @@ can_fork x w h t v n is quiet fine at fits =
       runs = fits.runs;
       turn = subst (λ z. IsTurn (memory plain (code_run_of x)) (code_run_of x).code fits.configuration z)
           (ap (λ s. turn_by s h.proc) is) fits.turn;
-      quiet = quiet;
+      no_fault = no_fault;
       fine = fine;
     }

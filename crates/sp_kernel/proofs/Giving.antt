@@ -65,9 +65,9 @@ module _ (lim : Limits) (s : System Plain) where
       go false e None i = absurd (cc i)
       go false e (Some h) i = let same : g ≡ h = cc i in ap event.Fault same
 
-  pub event_quiet : (stop : m.Stop) (c : m.Config (Memory Plain)) → s.faulted ≡ false
+  pub event_no_fault : (stop : m.Stop) (c : m.Config (Memory Plain)) → s.faulted ≡ false
       → fault_of lim s (Stopped stop c) ≡ None → event_at stop ≡ event_of lim s (Stopped stop c)
-  event_quiet stop c f is = go s.faulted f (fault_of lim s (Stopped stop c)) is
+  event_no_fault stop c f is = go s.faulted f (fault_of lim s (Stopped stop c)) is
     where
       go : (b : Bool) → b ≡ false → (o : Option Fault) → o ≡ None
           → event_at stop ≡ (if b then event.Laid else event_or o (Stopped stop c))
@@ -104,11 +104,11 @@ module _ (g : CodeRun) (s : System Plain) (p : ℕ) where
       go false e None i = absurd (cc i)
       go false e (Some h) i = refl
 
-  pub after_quiet : (stop : m.Stop) (c : m.Config (Memory Plain)) → s.faulted ≡ false
+  pub after_no_fault : (stop : m.Stop) (c : m.Config (Memory Plain)) → s.faulted ≡ false
       → fault_of g.limits s (Stopped stop c) ≡ None
       → ◌≡◌ {A = System Plain} (record (apply_stop plain g p stop (process_at_entry c) s)
       { births = births_after_event s.births p (event_at stop) }) (system_after_turn plain g p (Stopped stop c) s)
-  after_quiet stop c f is = go s.faulted f (fault_of g.limits s (Stopped stop c)) is
+  after_no_fault stop c f is = go s.faulted f (fault_of g.limits s (Stopped stop c)) is
     where
       go : (b : Bool) → b ≡ false → (o : Option Fault) → o ≡ None
           → ◌≡◌ {A = System Plain} (record (apply_stop plain g p stop (process_at_entry c) s)
@@ -292,7 +292,7 @@ module _ (x : Kernel) (k : IsKernel x) (p w : ℕ) (here : (control_of x).doing 
     system = system;
     code_run = (refl, refl, refl);
     entry = ap (λ e. x.journal.entries ++ record { process = p; event = e } ∷ [])
-        (event_quiet x.limits (system_of x) m.Pauses (config_of h.proc) f refl
+        (event_no_fault x.limits (system_of x) m.Pauses (config_of h.proc) f refl
         ∙ ap (event_of x.limits (system_of x)) (sym turn_is));
     whole = whole_after h _ control system
         (length-set x.slots p (slot.Here r st.Ready) ∙ k.processes
@@ -318,7 +318,7 @@ module _ (x : Kernel) (k : IsKernel x) (p w : ℕ) (here : (control_of x).doing 
         births = next_births event.Pause (slot.Here r st.Ready) i;
       })
           ∙ ap (λ e. comes_back p e (control_of x))
-          (event_quiet x.limits (system_of x) m.Pauses (config_of h.proc) f refl
+          (event_no_fault x.limits (system_of x) m.Pauses (config_of h.proc) f refl
           ∙ ap (event_of x.limits (system_of x)) (sym turn_is))
 
       system : system_of (record (kernel_after_give p event.Pause (slot.Here r st.Ready) x) {
@@ -332,5 +332,5 @@ module _ (x : Kernel) (k : IsKernel x) (p w : ℕ) (here : (control_of x).doing 
             ∙ ap (λ c. at_key ◌==◌ p (Working c) (system_of x).condition) en.0) i;
         births = next_births event.Pause (slot.Here r st.Ready) i;
       })
-          ∙ after_quiet (code_run_of x) (system_of x) p m.Pauses (config_of h.proc) f refl
+          ∙ after_no_fault (code_run_of x) (system_of x) p m.Pauses (config_of h.proc) f refl
           ∙ ap (λ t. system_after_turn plain (code_run_of x) p t (system_of x)) (sym turn_is)

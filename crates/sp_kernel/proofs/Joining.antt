@@ -36,7 +36,8 @@ use Rattle.sp_kernel.specs.Ends.{left_in, one_fewer, ends_child, IsJoiner, Joine
 use Rattle.sp_kernel.specs.Fits.{FitsHanded}
 use Rattle.sp_history.proofs.Queues.{number_or, at_other}
 use Rattle.sp_kernel.proofs.Tables.{table_set}
-use Rattle.sp_kernel.proofs.Giving.{event_quiet, after_quiet, whole_after, there, no_waiter, next_doing, next_condition}
+use Rattle.sp_kernel.proofs.Giving.{event_no_fault, after_no_fault, whole_after, there, no_waiter, next_doing}
+use Rattle.sp_kernel.proofs.Giving.{next_condition}
 use Rattle.sp_kernel.proofs.Giving.{next_births, same_offers, same_numbers, parents_after}
 
 -- ---- who joins
@@ -63,12 +64,12 @@ no_birth None e = refl
 no_birth (Some b) e = absurd (cc e)
 
 module _ (x : Kernel) (k : IsKernel x) (p w : ℕ) (here : (control_of x).doing p ≡ Out w) (h : Handed)
-    (is : h.stop ≡ stop.End) (quiet : x.faulted ≡ false) (own : IsOwn (code_run_of x).input h.proc p) where
+    (is : h.stop ≡ stop.End) (no_fault : x.faulted ≡ false) (own : IsOwn (code_run_of x).input h.proc p) where
   turn_is : turn_of h ≡ Stopped m.Ends (config_of h.proc)
   turn_is = ap (λ s. turn_by s h.proc) is
 
   event_is : event.End ≡ event_of x.limits (system_of x) (turn_of h)
-  event_is = event_quiet x.limits (system_of x) m.Ends (config_of h.proc) quiet refl
+  event_is = event_no_fault x.limits (system_of x) m.Ends (config_of h.proc) no_fault refl
       ∙ ap (event_of x.limits (system_of x)) (sym turn_is)
 
   -- ---- the first process
@@ -99,7 +100,7 @@ module _ (x : Kernel) (k : IsKernel x) (p w : ℕ) (here : (control_of x).doing 
     })
         ∙ ap (λ o. record (apply_end plain (code_run_of x) p (process_at_entry (config_of h.proc)) o (system_of x))
         { births = births x.journal.entries }) (sym first)
-        ∙ after_quiet (code_run_of x) (system_of x) p m.Ends (config_of h.proc) quiet refl
+        ∙ after_no_fault (code_run_of x) (system_of x) p m.Ends (config_of h.proc) no_fault refl
         ∙ ap (λ t. system_after_turn plain (code_run_of x) p t (system_of x)) (sym turn_is)
 
     over_gave : Gave x p h over
@@ -212,7 +213,7 @@ module _ (x : Kernel) (k : IsKernel x) (p w : ℕ) (here : (control_of x).doing 
       })
           ∙ ap (λ o. record (apply_end plain (code_run_of x) p (process_at_entry (config_of h.proc)) o (system_of x))
           { births = births x.journal.entries }) (sym born)
-          ∙ after_quiet (code_run_of x) (system_of x) p m.Ends (config_of h.proc) quiet refl
+          ∙ after_no_fault (code_run_of x) (system_of x) p m.Ends (config_of h.proc) no_fault refl
           ∙ ap (λ t. system_after_turn plain (code_run_of x) p t (system_of x)) (sym turn_is)
 
       ended_offers : (c : ℕ) (o : Pending) → slice_get x.channels c ≡ Some (Some o)
@@ -280,7 +281,7 @@ is_child x k w h fits z e =
 
 pub child_joins : (x : Kernel) (k : IsKernel x) (w : ℕ) (h : Handed) → h.stop ≡ stop.End → x.faulted ≡ false
     → FitsHanded x w h → (z : ℕ) → IsChild x h.proc.number z → IsJoiner (slice_get x.slots z) h.proc
-child_joins x k w h is quiet fits z c = subst (λ i. IsJoiner (slice_get x.slots i) h.proc) c.parent
+child_joins x k w h is no_fault fits z c = subst (λ i. IsJoiner (slice_get x.slots i) h.proc) c.parent
     (go (joiner (slice_get x.slots c.birth.parent) c.left c.joins))
   where
     stops : StopsAt (code_run_of x) (system_of x) h.proc.number m.Ends (config_of h.proc)
@@ -289,7 +290,7 @@ child_joins x k w h is quiet fits z c = subst (λ i. IsJoiner (slice_get x.slots
       runs = fits.runs;
       turn = subst (λ t. IsTurn (memory plain (code_run_of x)) (code_run_of x).code fits.configuration t)
           (ap (λ s. turn_by s h.proc) is) fits.turn;
-      quiet = quiet;
+      no_fault = no_fault;
       fine = refl;
     }
 
@@ -302,17 +303,17 @@ pub gave_end : (x : Kernel) (k : IsKernel x) (w : ℕ) (h : Handed) → h.stop �
     → FitsHanded x w h
     → (z : ℕ) → IsChild x h.proc.number z → (t : Slot) → JoinedSlot (slice_get x.slots z) h.proc t
     → Gave x h.proc.number h (ends_child h.proc.number z t x)
-gave_end x k w h is quiet fits z c t took =
+gave_end x k w h is no_fault fits z c t took =
     subst (λ i. Gave x h.proc.number h (ends_child h.proc.number i t x)) c.parent
-    (gave_child x k h.proc.number w fits.out h is quiet (refl, fits.input) c.birth c.born c.left c.joins t
+    (gave_child x k h.proc.number w fits.out h is no_fault (refl, fits.input) c.birth c.born c.left c.joins t
     (subst (λ i. JoinedSlot (slice_get x.slots i) h.proc t) (sym c.parent) took))
 
 pub child_apart : (x : Kernel) (k : IsKernel x) (w : ℕ) (h : Handed) → h.stop ≡ stop.End → x.faulted ≡ false
     → FitsHanded x w h → (z : ℕ) → IsChild x h.proc.number z → h.proc.number ≢ z
-child_apart x k w h is quiet fits z c e = apart x k h.proc.number w fits.out h is quiet (refl, fits.input) c.birth
+child_apart x k w h is no_fault fits z c e = apart x k h.proc.number w fits.out h is no_fault (refl, fits.input) c.birth
     c.born c.left c.joins (e ∙ sym c.parent)
 
 pub child_there : (x : Kernel) (k : IsKernel x) (w : ℕ) (h : Handed) → h.stop ≡ stop.End → x.faulted ≡ false
     → FitsHanded x w h → (z : ℕ) → IsChild x h.proc.number z → z < length x.slots
-child_there x k w h is quiet fits z c = subst (λ i. i < length x.slots) c.parent
-    (parent_there x k h.proc.number w fits.out h is quiet (refl, fits.input) c.birth c.born c.left c.joins)
+child_there x k w h is no_fault fits z c = subst (λ i. i < length x.slots) c.parent
+    (parent_there x k h.proc.number w fits.out h is no_fault (refl, fits.input) c.birth c.born c.left c.joins)

@@ -35,7 +35,8 @@ use Rattle.sp_kernel.specs.declared.kernel.Kernel.{Kernel}
 use Rattle.sp_kernel.specs.Procs.{config_of, turn_by, turn_of}
 use Rattle.sp_kernel.specs.Kernels.{offer_in, process_in, control_of, system_of, code_run_of, WaitsAs, IsKernel, Gave}
 use Rattle.sp_kernel.specs.Opens.{kernel_after_open, EntersAt}
-use Rattle.sp_kernel.proofs.Giving.{event_quiet, after_quiet, whole_after, next_doing, next_condition, next_births}
+use Rattle.sp_kernel.proofs.Giving.{event_no_fault, after_no_fault, whole_after, next_doing, next_condition}
+use Rattle.sp_kernel.proofs.Giving.{next_births}
 use Rattle.sp_kernel.proofs.Giving.{same_offers, same_numbers, parents_after}
 
 -- ---- where the channel goes is a piece of the process's own
@@ -151,7 +152,7 @@ is_pending None p e = absurd (cc e)
 is_pending (Some o) p e = ap (λ q. Some q) e
 
 module _ (x : Kernel) (k : IsKernel x) (p w : ℕ) (here : (control_of x).doing p ≡ Out w) (h : Handed)
-    (is : h.stop ≡ stop.Open) (quiet : x.faulted ≡ false)
+    (is : h.stop ≡ stop.Open) (no_fault : x.faulted ≡ false)
     (fine : fault_of x.limits (system_of x) (Stopped (m.Opens h.proc.target) (config_of h.proc)) ≡ None) (r : Proc)
     (en : EntersAt h.proc (length x.channels) r) (number : h.proc.number ≡ p)
     (reads : h.proc.input.value ≡ (code_run_of x).input) where
@@ -159,7 +160,7 @@ module _ (x : Kernel) (k : IsKernel x) (p w : ℕ) (here : (control_of x).doing 
   turn_is = ap (λ s. turn_by s h.proc) is
 
   event_is : event.Open ≡ event_of x.limits (system_of x) (turn_of h)
-  event_is = event_quiet x.limits (system_of x) (m.Opens h.proc.target) (config_of h.proc) quiet fine
+  event_is = event_no_fault x.limits (system_of x) (m.Opens h.proc.target) (config_of h.proc) no_fault fine
       ∙ ap (event_of x.limits (system_of x)) (sym turn_is)
 
   own : r.number ≡ p
@@ -198,7 +199,7 @@ module _ (x : Kernel) (k : IsKernel x) (p w : ℕ) (here : (control_of x).doing 
     births = next_births x k p w here event.Open (slot.Here r st.Ready) i;
     entries = x.entries + 1;
   })
-      ∙ after_quiet (code_run_of x) (system_of x) p (m.Opens h.proc.target) (config_of h.proc) quiet fine
+      ∙ after_no_fault (code_run_of x) (system_of x) p (m.Opens h.proc.target) (config_of h.proc) no_fault fine
       ∙ ap (λ t. system_after_turn plain (code_run_of x) p t (system_of x)) (sym turn_is)
 
   offers : (c : ℕ) (o : Pending) → slice_get (x.channels ++ None ∷ []) c ≡ Some (Some o)

@@ -36,7 +36,8 @@ use Rattle.sp_kernel.specs.Kernels.{WaitsAs, IsOwn, NumberIn, IsKernel, Gave}
 use Rattle.sp_kernel.specs.Receives.{waits_to_receive, meets_receiving, IsSender, IsSenderWith, EntersWith}
 use Rattle.sp_kernel.specs.Fits.{FitsHanded}
 use Rattle.sp_kernel.proofs.Tables.{table_set}
-use Rattle.sp_kernel.proofs.Giving.{event_quiet, after_quiet, whole_after, next_doing, next_condition, next_births}
+use Rattle.sp_kernel.proofs.Giving.{event_no_fault, after_no_fault, whole_after, next_doing, next_condition}
+use Rattle.sp_kernel.proofs.Giving.{next_births}
 use Rattle.sp_kernel.proofs.Giving.{same_numbers, parents_after}
 use Rattle.sp_kernel.proofs.Offering.{offers_with, both_set, met_offers, met_numbers}
 
@@ -52,14 +53,14 @@ module _ (lim : Limits) (s : System Plain) (c k : ℕ) (a : Address) (d : m.Conf
   clash_fault e = rw e refl
 
 module _ (x : Kernel) (k : IsKernel x) (p w : ℕ) (here : (control_of x).doing p ≡ Out w) (h : Handed) (c j : ℕ)
-    (is : h.stop ≡ stop.Receive c j) (quiet : x.faulted ≡ false)
+    (is : h.stop ≡ stop.Receive c j) (no_fault : x.faulted ≡ false)
     (fine : fault_of x.limits (system_of x) (Stopped (m.Receives c j h.proc.target) (config_of h.proc)) ≡ None)
     (number : h.proc.number ≡ p) (reads : h.proc.input.value ≡ (code_run_of x).input) where
   turn_is : turn_of h ≡ Stopped (m.Receives c j h.proc.target) (config_of h.proc)
   turn_is = ap (λ s. turn_by s h.proc) is
 
   event_is : event.Receive c ≡ event_of x.limits (system_of x) (turn_of h)
-  event_is = event_quiet x.limits (system_of x) (m.Receives c j h.proc.target) (config_of h.proc) quiet fine
+  event_is = event_no_fault x.limits (system_of x) (m.Receives c j h.proc.target) (config_of h.proc) no_fault fine
       ∙ ap (event_of x.limits (system_of x)) (sym turn_is)
 
   -- nothing is pending: it waits
@@ -105,7 +106,7 @@ module _ (x : Kernel) (k : IsKernel x) (p w : ℕ) (here : (control_of x).doing 
         (apply_receive plain (code_run_of x) p (m.Receives c j h.proc.target) c h.proc.target
         (process_at_entry (config_of h.proc)) o (system_of x))) { births = births x.journal.entries })
         (sym (ap process_in free))
-        ∙ after_quiet (code_run_of x) (system_of x) p (m.Receives c j h.proc.target) (config_of h.proc) quiet fine
+        ∙ after_no_fault (code_run_of x) (system_of x) p (m.Receives c j h.proc.target) (config_of h.proc) no_fault fine
         ∙ ap (λ t. system_after_turn plain (code_run_of x) p t (system_of x)) (sym turn_is)
 
     first_gave : Gave x p h first
@@ -227,7 +228,7 @@ module _ (x : Kernel) (k : IsKernel x) (p w : ℕ) (here : (control_of x).doing 
         (apply_receive plain (code_run_of x) p (m.Receives c j h.proc.target) c h.proc.target
         (process_at_entry (config_of h.proc)) o (system_of x))) { births = births x.journal.entries })
         (sym (ap process_in pending))
-        ∙ after_quiet (code_run_of x) (system_of x) p (m.Receives c j h.proc.target) (config_of h.proc) quiet fine
+        ∙ after_no_fault (code_run_of x) (system_of x) p (m.Receives c j h.proc.target) (config_of h.proc) no_fault fine
         ∙ ap (λ t. system_after_turn plain (code_run_of x) p t (system_of x)) (sym turn_is)
 
     got_number : IsOwn (code_run_of x).input t z
@@ -332,7 +333,7 @@ pub sender_fits : (x : Kernel) (k : IsKernel x) (w : ℕ) (h : Handed) (c j : �
     ≡ None
     → FitsHanded x w h → (q : Pending) → slice_get x.channels c ≡ Some (Some q) → q.way ≡ way.Send
     → IsSender (slice_get x.slots q.process) h.proc
-sender_fits x k w h c j is quiet fine fits q e f = go (slice_get x.slots q.process) refl (k.offers c q e)
+sender_fits x k w h c j is no_fault fine fits q e f = go (slice_get x.slots q.process) refl (k.offers c q e)
   where
     stops : StopsAt (code_run_of x) (system_of x) h.proc.number (m.Receives c j h.proc.target) (config_of h.proc)
     stops = record {
@@ -340,7 +341,7 @@ sender_fits x k w h c j is quiet fine fits q e f = go (slice_get x.slots q.proce
       runs = fits.runs;
       turn = subst (λ t. IsTurn (memory plain (code_run_of x)) (code_run_of x).code fits.configuration t)
           (ap (λ s. turn_by s h.proc) is) fits.turn;
-      quiet = quiet;
+      no_fault = no_fault;
       fine = fine;
     }
 

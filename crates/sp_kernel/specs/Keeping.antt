@@ -181,8 +181,8 @@ module _ (x : Kernel) (fine : IsOpening x) (log : List Note) (y : Kernel) (told 
         (sym (notes_append w seen starts.0) ∙ ap (notes_by (λ (n : Note). n.worker) w) (sym starts.1) ∙ by ∙ sym mine)
 
     -- so its worker left no note since
-    quiet : NoneBy w starts.0
-    quiet = none_by w starts.0 no_more
+    no_note : NoneBy w starts.0
+    no_note = none_by w starts.0 no_more
 
     -- what is out with the worker is as it was
     as_before : (s : System Plain) (p : ℕ) (at : Config (Memory Plain))
@@ -199,7 +199,8 @@ module _ (x : Kernel) (fine : IsOpening x) (log : List Note) (y : Kernel) (told 
         seen r f.1 in
         let kept = reaches_keeps plain (code_run_of x) control_at_start (opening_system plain (code_run_of x)) f.0 seen
         orderly_start (agrees_start plain (code_run_of x)) f.1 in
-        let o = stays plain (code_run_of x) (control seen) f.0 (system_of y) starts.0 kept.0 kept.1 f.2 p w at quiet out
+        let o = stays plain (code_run_of x) (control seen) f.0
+        (system_of y) starts.0 kept.0 kept.1 f.2 p w at no_note out
         (ap (λ (z : System Plain). z.condition p) (sym same) ∙ runs) in
         (ap (λ (c : Control). c.doing p) (ap control starts.1 ∙ noted_append seen starts.0 control_at_start) ∙ o.0, o.1)
 

@@ -123,7 +123,7 @@ impl Kernel {
     // An end.
     pub(crate) fn end_of(&mut self, _worker: u32, proc: Proc) -> Result<(), Handed>
         requires whole { IsKernel self.old }
-        requires quiet { self.old.faulted ≡ false }
+        requires no_fault { self.old.faulted ≡ false }
         requires fits { FitsHanded self.old _worker (record { proc = proc; stop = stop.End }) }
         ensures ok { OnOk result (Gave self.old proc.number (record { proc = proc; stop = stop.End }) self.new) }
         ensures err { OnErr result (self.new ≡ self.old) }

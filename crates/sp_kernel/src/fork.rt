@@ -111,7 +111,7 @@ impl Kernel {
         count: u64,
     ) -> Result<(), Handed>
         requires whole { IsKernel self.old }
-        requires quiet { self.old.faulted ≡ false }
+        requires no_fault { self.old.faulted ≡ false }
         requires forks { IsForkOf stop count }
         requires fits { FitsHanded self.old _worker (record { proc = proc; stop = stop }) }
         ensures ok { OnOk result (Gave self.old proc.number (record { proc = proc; stop = stop }) self.new) }

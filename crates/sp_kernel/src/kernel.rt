@@ -317,7 +317,7 @@ impl Kernel {
     // A pause.
     fn pause(&mut self, _worker: u32, proc: Proc) -> Result<(), Handed>
         requires whole { IsKernel self.old }
-        requires quiet { self.old.faulted ≡ false }
+        requires no_fault { self.old.faulted ≡ false }
         requires fits { FitsHanded self.old _worker (record { proc = proc; stop = stop.Pause }) }
         ensures ok { OnOk result (Gave self.old proc.number (record { proc = proc; stop = stop.Pause }) self.new) }
         ensures err { OnErr result (self.new ≡ self.old) }

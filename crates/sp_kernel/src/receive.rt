@@ -106,7 +106,7 @@ impl Kernel {
         message: u32,
     ) -> Result<(), Handed>
         requires whole { IsKernel self.old }
-        requires quiet { self.old.faulted ≡ false }
+        requires no_fault { self.old.faulted ≡ false }
         requires fits { FitsHanded self.old _worker (record { proc = proc; stop = stop.Receive channel message }) }
         ensures ok { OnOk result (Gave self.old proc.number
             (record { proc = proc; stop = stop.Receive channel message }) self.new) }

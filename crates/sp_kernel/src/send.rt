@@ -109,7 +109,7 @@ impl Kernel {
         cells: List<Cell>,
     ) -> Result<(), Handed>
         requires whole { IsKernel self.old }
-        requires quiet { self.old.faulted ≡ false }
+        requires no_fault { self.old.faulted ≡ false }
         requires fits { FitsHanded self.old _worker (record { proc = proc; stop = stop.Send channel message cells }) }
         ensures ok { OnOk result (Gave self.old proc.number
             (record { proc = proc; stop = stop.Send channel message cells }) self.new) }

@@ -17,7 +17,8 @@ use Rattle.sp_meaning.proofs.Keys.{name_test}
 use Rattle.sp_meaning.proofs.Maps.{same_or_not}
 use Rattle.sp_meaning.proofs.Owned.{Inv, Keeps_to}
 use Rattle.sp_meaning.proofs.Parallel.{IsAlone}
-use Rattle.sp_meaning.proofs.SilentActions.{IsStop, IsDead, IsSameButOne, actions_are_silent, quiet_opens, quiet_faults}
+use Rattle.sp_meaning.proofs.SilentActions.{IsStop, IsDead, IsSameButOne, actions_are_silent, silent_opens}
+use Rattle.sp_meaning.proofs.SilentActions.{silent_faults}
 use Rattle.sp_meaning.proofs.Reached.{StateKeeps}
 use Rattle.sp_meaning.proofs.Status.{working_lives, lives_ended}
 use Rattle.sp_code.specs.Machine.{Config}
@@ -65,14 +66,14 @@ module _ (G : RunContext) (lv : RightsOfAll G) (c : Course) (s : StateOf G.g) (u
 
     pub same_but_one : (todo : List Item) (o : LocalState) (m : Store) (x : Stopped_at (Computed (Opened todo) o, m))
         → IsSameButOne (length x.left.own.frames) x.state.store m
-    same_but_one todo o m x = quiet_opens G.g G.free G.pure (pure_blocks G)
+    same_but_one todo o m x = silent_opens G.g G.free G.pure (pure_blocks G)
         (Wr G (lv w) (kids G lv c s u l i d at_i) w (c.since w))
         (Rd G (lv w) (kids G lv c s u l i d at_i) w
         (c.since w)) kt.last x.left x.good.fit x.good.pure x.state.store todo o
         m x.does
 
     pub same_output : (f : Fault) (m : Store) (x : Stopped_at (EndsInFault f, m)) → x.state.store Output ≡ m Output
-    same_output f m x = quiet_faults G.g G.free G.pure (pure_blocks G)
+    same_output f m x = silent_faults G.g G.free G.pure (pure_blocks G)
         (Wr G (lv w) (kids G lv c s u l i d at_i) w (c.since w))
         (Rd G (lv w) (kids G lv c s u l i d at_i) w (c.since w)) kt.last x.left x.good.fit x.good.pure x.state.store f m
         x.does

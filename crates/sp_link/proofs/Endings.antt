@@ -65,8 +65,8 @@ module _ (g : RunInput) (moves shares : Stmt → List ℕ) (pause : ℕ) (ready 
 
   -- ---- the fault
 
-  pub program_quiet : t.faulted ≡ false → s.fault ≡ None
-  program_quiet e = linked.quiet e
+  pub program_no_fault : t.faulted ≡ false → s.fault ≡ None
+  program_no_fault e = linked.no_fault e
 
   pub program_fault : (p : ℕ) (f : Fault) → HasFaultEntry es p f → HasFault g s ((births_from first_births es).name p) f
   program_fault p f i = fault_told g pause es first_births lawful_start named no_course (start g) s n k p f i
@@ -88,4 +88,4 @@ module _ (g : RunInput) (moves shares : Stmt → List ℕ) (pause : ℕ) (ready 
   program_stuck ws i = stuck_means G along.lives along.course s t linked ws i
 
   pub program_deadlock : (ws : List Waiting) → IsDeadlock g s ws → IsStuck t ws
-  program_deadlock ws i = stuck_runs G along.lives along.course s t linked ws (fault_both t.faulted refl i.quiet) i
+  program_deadlock ws i = stuck_runs G along.lives along.course s t linked ws (fault_both t.faulted refl i.no_fault) i

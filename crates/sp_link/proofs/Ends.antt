@@ -39,7 +39,7 @@ use Rattle.sp_code.specs.System as sys
 use Rattle.sp_link.proofs.Journal.{IsOpen, now_by}
 use Rattle.sp_link.proofs.KernelSteps.{kernel_next, kernel_says, stand_dead}
 use Rattle.sp_link.proofs.OneChanges.{here, inv_local, since_other}
-use Rattle.sp_link.proofs.Pauses.{Entry_of, Meant, Machined, kids, turn_is, after_quiet, way_of_step}
+use Rattle.sp_link.proofs.Pauses.{Entry_of, Meant, Machined, kids, turn_is, after_no_fault, way_of_step}
 use Rattle.sp_link.proofs.Rejoins.{memory_after, joins_on, runs_on, one_fewer, all_over}
 use Rattle.sp_link.proofs.Relation.{RunContext, RightsOfAll, W_of, R_of, St, ProcessMatches, Joined, Performs_all}
 use Rattle.sp_link.proofs.Relation.{Linked, Began, run_is}
@@ -55,7 +55,7 @@ module _ (G : RunContext) (lv : RightsOfAll G) (c : Course) (s : StateOf G.g) (u
     (c.since (w G lv c s u l i d at_i)) (p1 G lv c s u l i d at_i) s.store d)
     (o : LocalState) (m : Store) (x : Meant G lv c s u l i d at_i z (Computed (source.Stops actions.Ended) o, m))
     (t : Machined G lv c s u l i d at_i z (Computed (source.Stops actions.Ended) o, m))
-    (quiet : u.faulted ≡ false) where
+    (no_fault : u.faulted ≡ false) where
   abbrev v : Name
   v = w G lv c s u l i d at_i
 
@@ -181,7 +181,7 @@ module _ (G : RunContext) (lv : RightsOfAll G) (c : Course) (s : StateOf G.g) (u
         (λ (y : a ≢ v). since_other c v (ticks_of G.g t1 v) a y
         ∙ l.fresh_since a (sym (x.elsewhere.condition a y) ∙ sym (same a y) ∙ e))
         (same_or_not name_test a v);
-    quiet = λ e. x.elsewhere.fault ∙ l.quiet (sym ef ∙ e);
+    no_fault = λ e. x.elsewhere.fault ∙ l.no_fault (sym ef ∙ e);
     unlaid = λ e. l.unlaid (sym ef ∙ e);
     does = λ j lt. subst (λ (y : Rattle.sp_journal.specs.Births.Births). Performs_all G lv (G.births.name j) c1 t1
         (y.opens j) (u1.condition j)) (sym eb)
@@ -431,12 +431,12 @@ module _ (G : RunContext) (lv : RightsOfAll G) (c : Course) (s : StateOf G.g) (u
     turn = tn;
     is_turn = tn_is;
     way = way_of_step G lv c s u l i d at_i x.steps x.state (x.turn happenings.Ended said) happenings.Ended t1
-        (λ left n k. (l.faulted ∙ quiet, refl, t1, n, one-add n, (x.left, x.runs, said, goes_next), k)) _ (sym told);
-    speaks = subst (λ a. IsOpen u.births (if a then event.Laid else event.End)) (sym quiet) tt;
+        (λ left n k. (l.faulted ∙ no_fault, refl, t1, n, one-add n, (x.left, x.runs, said, goes_next), k)) _ (sym told);
+    speaks = subst (λ a. IsOpen u.births (if a then event.Laid else event.End)) (sym no_fault) tt;
     lives = lv;
     linked = λ began. now_by G lv c1 t1 (system_after_turn plain (run_is G) i tn u)
-        (subst (λ y. Linked G lv c1 t1 y) (sym (after_quiet G i tn u quiet)) (by_birth (u.births.birth i) refl));
+        (subst (λ y. Linked G lv c1 t1 y) (sym (after_no_fault G i tn u no_fault)) (by_birth (u.births.birth i) refl));
   }
     where
       told : happening u.births (event_of G.g.limits u tn) ≡ happenings.Ended
-      told = ap (λ a. happening u.births (if a then event.Laid else event.End)) quiet
+      told = ap (λ a. happening u.births (if a then event.Laid else event.End)) no_fault

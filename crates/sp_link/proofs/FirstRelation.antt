@@ -201,7 +201,7 @@ module _ (G : RunContext) (b : Block) (eb : slice_get G.g.program.blocks 0 ≡ S
     pending = λ j lt. absurd (omega (arith, lt));
     none_pending = λ j le. refl;
     faulted = refl;
-    quiet = λ e. refl;
+    no_fault = λ e. refl;
     unlaid = λ e q. refl;
     does = λ i lt. does_by i lt;
     unborn = λ i le. absent i le;

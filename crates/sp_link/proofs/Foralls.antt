@@ -83,7 +83,7 @@ module _ (G : RunContext) (lv : RightsOfAll G) (c : Course) (s : StateOf G.g) (u
     (bs : List Birth) (todo : List Item) (o : LocalState) (m : Store)
     (x : Meant G lv c s u l i d at_i z (Computed (source.Stops (Forked bs todo)) o, m))
     (t : Machined G lv c s u l i d at_i z (Computed (source.Stops (Forked bs todo)) o, m))
-    (y : Kept_to G lv c s u l i d at_i z (Computed (source.Stops (Forked bs todo)) o, m)) (quiet : u.faulted ≡ false)
+    (y : Kept_to G lv c s u l i d at_i z (Computed (source.Stops (Forked bs todo)) o, m)) (no_fault : u.faulted ≡ false)
     (h : ForallIs (execution G (lv (q G lv c s u l i d at_i)) (kids G lv c s u l i d at_i) (q G lv c s u l i d at_i)
     z.fresh (pr G lv c s u l i d at_i).who z.named (c.since (q G lv c s u l i d at_i))) true t.3 bs t.5) where
   abbrev v : Name
@@ -239,7 +239,7 @@ module _ (G : RunContext) (lv : RightsOfAll G) (c : Course) (s : StateOf G.g) (u
 
   -- its parent's memory
   stood : St G (lv v) (λ a b. lv ((a, b) ∷ v)) v w1 (t.2).ticks t.3 o x.state.store n1
-  stood = fk.parent_stand G lv c s u l i d at_i z bs todo o m x t y quiet h.6 lo n h.9 some (t.2).ticks refl
+  stood = fk.parent_stand G lv c s u l i d at_i z bs todo o m x t y no_fault h.6 lo n h.9 some (t.2).ticks refl
 
   longer : (j : ℕ) → suc (length w1.name) ≤ length ((k, j) ∷ v)
   longer j = let a = ap (λ (a : Name). length a) x.good.named in omega (arith, a)
@@ -294,7 +294,7 @@ module _ (G : RunContext) (lv : RightsOfAll G) (c : Course) (s : StateOf G.g) (u
             };
           })
           (ap (λ a. cons (a, j) x.left.who.name)
-          (fk.counted G lv c s u l i d at_i z bs todo o m x t y quiet h.6 lo n h.9 some)
+          (fk.counted G lv c s u l i d at_i z bs todo o m x t y no_fault h.6 lo n h.9 some)
           ∙ ap (λ a. cons (k, j) a) x.good.named)
           ∙ ap (λ (f : List Frame). with_frames f (length f)) frames_are
           ∙ ap (λ a. with_frames (sources t.3) a) (sources_length t.3)
@@ -342,7 +342,7 @@ module _ (G : RunContext) (lv : RightsOfAll G) (c : Course) (s : StateOf G.g) (u
   none a b = lv ((a, b) ∷ v)
 
   abbrev pub hs : List Handing
-  hs = fk.hs G lv c s u l i d at_i z bs todo o m x t y quiet h.6 lo n h.9 some
+  hs = fk.hs G lv c s u l i d at_i z bs todo o m x t y no_fault h.6 lo n h.9 some
 
   -- nothing moves
   unmoved : (a : Spot) → In a (moved_of hs) → ⊥
@@ -415,10 +415,10 @@ module _ (G : RunContext) (lv : RightsOfAll G) (c : Course) (s : StateOf G.g) (u
 
       by : (e1 e2 : Bool) → nat_lt G.g.limits.entries (u.entries + 1) ≡ e1
           → nat_lt G.g.limits.processes (u.births.processes + n) ≡ e2 → Entry_of G c s u i d
-      by true e2 h1 h2 = fk.over_entry G lv c s u l i d at_i z bs todo o m x t y quiet h.6 lo n h.9 some h1
-      by false true h1 h2 = fk.many_entry G lv c s u l i d at_i z bs todo o m x t y quiet h.6 lo n h.9 some h1
+      by true e2 h1 h2 = fk.over_entry G lv c s u l i d at_i z bs todo o m x t y no_fault h.6 lo n h.9 some h1
+      by false true h1 h2 = fk.many_entry G lv c s u l i d at_i z bs todo o m x t y no_fault h.6 lo n h.9 some h1
           (both_many h2) h2
-      by false false h1 h2 = fk.fork_entry G lv c s u l i d at_i z bs todo o m x t y quiet h.6 lo n h.9 some h1 h2
+      by false false h1 h2 = fk.fork_entry G lv c s u l i d at_i z bs todo o m x t y no_fault h.6 lo n h.9 some h1 h2
           (count_is h2) (copies range st) born new_life to_w from_w to_r from_r known dry (λ a g. absurd (unmoved a g))
           (λ j lt a g. absurd (unmoving (count_is h2) j lt a g)) (λ a g. absurd (unmoved a g))
           (λ a b la lb ne e g k1. unmoving (count_is h2) a la e g)

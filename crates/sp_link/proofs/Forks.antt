@@ -66,7 +66,7 @@ use Rattle.sp_link.proofs.KernelSteps.{kernel_next, kernel_says, stand_dead}
 use Rattle.sp_link.proofs.NewRights.{does_lives, inv_same}
 use Rattle.sp_link.proofs.OneChanges.{q, pr, its, alone, here, present, not_ended, keeps_to, since_other}
 use Rattle.sp_link.proofs.OthersStay.{does_stay}
-use Rattle.sp_link.proofs.Pauses.{Entry_of, Meant, Machined, Kept_to, kids, turn_is, after_quiet, way_of_step}
+use Rattle.sp_link.proofs.Pauses.{Entry_of, Meant, Machined, Kept_to, kids, turn_is, after_no_fault, way_of_step}
 use Rattle.sp_link.proofs.Relation.{RunContext, BirthRights, RightsOfAll, W_of, R_of, ProcessMatches, Joined, Handed}
 use Rattle.sp_link.proofs.Relation.{St, Rel, law, Performs}
 use Rattle.sp_link.proofs.Relation.{Performs_all, Linked, Began, run_is, ops}
@@ -119,7 +119,7 @@ module _ (G : RunContext) (lv : RightsOfAll G) (c : Course) (s : StateOf G.g) (u
     (bs : List Birth) (todo : List Item) (o : LocalState) (m : Store)
     (x : Meant G lv c s u l i d at_i z (Computed (source.Stops (Forked bs todo)) o, m))
     (t : Machined G lv c s u l i d at_i z (Computed (source.Stops (Forked bs todo)) o, m))
-    (y : Kept_to G lv c s u l i d at_i z (Computed (source.Stops (Forked bs todo)) o, m)) (quiet : u.faulted ≡ false)
+    (y : Kept_to G lv c s u l i d at_i z (Computed (source.Stops (Forked bs todo)) o, m)) (no_fault : u.faulted ≡ false)
     (tb : ℕ) (val : ℤ) (n : ℕ) (stop_is : t.5 ≡ machine.Forks tb val n) (some : 1 ≤ length bs) where
   abbrev pub v : Name
   v = q G lv c s u l i d at_i
@@ -191,7 +191,7 @@ module _ (G : RunContext) (lv : RightsOfAll G) (c : Course) (s : StateOf G.g) (u
       ∙ ap (λ b. happening_of {L = superpascal G.g} (Forks goes_on os) b) e)
       (kernel_next G.g v x.state x.left x.runs r x.does
       ∙ ap (λ b. Some (result_of {L = superpascal G.g} x.state v b)) e) h
-      quiet
+      no_fault
 
   -- the faults, where the two counts pass the limit alike
   pub over_entry : nat_lt G.g.limits.entries (u.entries + 1) ≡ true → Entry_of G c s u i d
@@ -563,20 +563,20 @@ module _ (G : RunContext) (lv : RightsOfAll G) (c : Course) (s : StateOf G.g) (u
     abbrev tn2 : Turn (Memory Plain)
     tn2 = Stopped (machine.Forks tb val n) (At t.0 t.1 t.2)
 
-    no_fault : fault_of G.g.limits u tn2 ≡ None
-    no_fault = sym (ap (λ b. fault_of G.g.limits u (Stopped b (At t.0 t.1 t.2))) stop_is)
+    turn_has_no_fault : fault_of G.g.limits u tn2 ≡ None
+    turn_has_no_fault = sym (ap (λ b. fault_of G.g.limits u (Stopped b (At t.0 t.1 t.2))) stop_is)
         ∙ found false false room1 room2
 
     after_is : system_after_turn plain (run_is G) i tn u ≡ u1
     after_is = ap (λ b. system_after_turn plain (run_is G) i (Stopped b (At t.0 t.1 t.2)) u) stop_is
-        ∙ after_quiet G i tn2 u quiet
+        ∙ after_no_fault G i tn2 u no_fault
         ∙ ap (λ f. record (apply_unless_fault plain (run_is G) f i tn2 u)
-        { births = births_after_event u.births i (event_or f tn2) }) no_fault
+        { births = births_after_event u.births i (event_or f tn2) }) turn_has_no_fault
 
     event_is : event_of G.g.limits u tn ≡ event.Fork n
     event_is = ap (λ b. event_of G.g.limits u (Stopped b (At t.0 t.1 t.2))) stop_is
-        ∙ ap (λ b. if b then event.Laid else event_or (fault_of G.g.limits u tn2) tn2) quiet
-        ∙ ap (λ f. event_or f tn2) no_fault
+        ∙ ap (λ b. if b then event.Laid else event_or (fault_of G.g.limits u tn2) tn2) no_fault
+        ∙ ap (λ f. event_or f tn2) turn_has_no_fault
 
     module _ (began : Began G b1) where
       forks_here : u.births.forks i ≡ k
@@ -610,7 +610,7 @@ module _ (G : RunContext) (lv : RightsOfAll G) (c : Course) (s : StateOf G.g) (u
                 (new_process x.left.who o j p.0) t1.store (child_of (P + j) j)) (sym (lv1_child j))
                 (children (λ a b. lv1 ((a, b) ∷ (k, j) ∷ v)) j lt p.0 p.1 (called j lt)))),
             sym (l.unmade (P + j) (omega arith)).1,
-            l.unlaid quiet ((k, j) ∷ v),
+            l.unlaid no_fault ((k, j) ∷ v),
           )
 
       -- by its number
@@ -700,7 +700,7 @@ module _ (G : RunContext) (lv : RightsOfAll G) (c : Course) (s : StateOf G.g) (u
             (sym x.elsewhere.pending) (l.pending a lt);
         none_pending = l.none_pending;
         faulted = l.faulted;
-        quiet = λ e. x.elsewhere.fault ∙ l.quiet e;
+        no_fault = λ e. x.elsewhere.fault ∙ l.no_fault e;
         unlaid = l.unlaid;
         does = does_all;
         unborn = λ a le. ap (λ f. cond f (at_number a (a - P)) (cond (i == a) (sys.Joins n left_it) (u.condition a)))
@@ -729,7 +729,7 @@ module _ (G : RunContext) (lv : RightsOfAll G) (c : Course) (s : StateOf G.g) (u
       turn = tn;
       is_turn = tn_is;
       way = way_of_step G lv c s u l i d at_i x.steps x.state (x.turn says_now said_now) says_now t1
-          (λ left n k. (l.faulted ∙ quiet, refl, t1, n, one-add n, (x.left, x.runs, said_now, goes_next), k)) _
+          (λ left n k. (l.faulted ∙ no_fault, refl, t1, n, one-add n, (x.left, x.runs, said_now, goes_next), k)) _
           (sym told);
       speaks = subst (λ f. IsOpen u.births f) (sym event_is) tt;
       lives = lv1;

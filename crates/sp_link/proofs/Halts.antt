@@ -48,7 +48,7 @@ use Rattle.sp_link.proofs.AtStop.{keeps_at, same_but_dead, same_but_one, same_ou
 use Rattle.sp_link.proofs.Journal.{Way_on, IsOpen, now_by}
 use Rattle.sp_link.proofs.KernelSteps.{kernel_next, kernel_says, act}
 use Rattle.sp_link.proofs.OneChanges.{its, runs_as_pr, linked_local}
-use Rattle.sp_link.proofs.Pauses.{Entry_of, Meant, Machined, kids, turn_is, after_quiet, after_laid, kt}
+use Rattle.sp_link.proofs.Pauses.{Entry_of, Meant, Machined, kids, turn_is, after_no_fault, after_laid, kt}
 use Rattle.sp_link.proofs.Pauses as at
 use Rattle.sp_link.proofs.Relation.{RunContext, BirthRights, RightsOfAll, W_of, R_of, St, Rel, ProcessMatches, TooLarge}
 use Rattle.sp_link.proofs.Relation.{OutputMatches, Linked, run_is}
@@ -188,7 +188,7 @@ module _ (G : RunContext) (lv : RightsOfAll G) (c : Course) (s : StateOf G.g) (u
       → next_state G.g h.state v ≡ Some (with_change {L = superpascal G.g} (Faults v f) h.state)
       → fault_of G.g.limits u h.turn ≡ Some f
       → u.faulted ≡ false → Entry_of G c s u i d
-  failed_entry h whole f says_it goes_next fault_is quiet =
+  failed_entry h whole f says_it goes_next fault_is no_fault =
       record {
         turn = h.turn;
         is_turn = h.is_turn;
@@ -219,7 +219,7 @@ module _ (G : RunContext) (lv : RightsOfAll G) (c : Course) (s : StateOf G.g) (u
       }
 
       event_is : event_of G.g.limits u h.turn ≡ event.Fault f
-      event_is = ap (λ b. if b then event.Laid else event_or (fault_of G.g.limits u h.turn) h.turn) quiet
+      event_is = ap (λ b. if b then event.Laid else event_or (fault_of G.g.limits u h.turn) h.turn) no_fault
           ∙ ap (λ o. event_or o h.turn) fault_is
 
       said : happening u.births (event_of G.g.limits u h.turn) ≡ happenings.Faulted f
@@ -227,7 +227,7 @@ module _ (G : RunContext) (lv : RightsOfAll G) (c : Course) (s : StateOf G.g) (u
 
       after_is : system_after_turn plain (run_is G) i h.turn u
           ≡ record u { condition = at_key ◌==◌ i (sys.Laid (config_of h.turn)) u.condition; faulted = true }
-      after_is = after_quiet G i h.turn u quiet
+      after_is = after_no_fault G i h.turn u no_fault
           ∙ ap (λ o. record (apply_unless_fault plain (run_is G) o i h.turn u)
           { births = births_after_event u.births i (event_or o h.turn) }) fault_is
 
@@ -254,7 +254,7 @@ module _ (G : RunContext) (lv : RightsOfAll G) (c : Course) (s : StateOf G.g) (u
         course = c1;
         state = t1;
         enters = λ left n y. subst (λ e. EntryStep G.g left c h.state h.paused v e (1 + n)) k
-            (l.faulted ∙ quiet, whole, t1, n, one-add n, (h.left, h.runs, says_it, goes_next), y);
+            (l.faulted ∙ no_fault, whole, t1, n, one-add n, (h.left, h.runs, says_it, goes_next), y);
       }
 
   -- ---- the first process where the frame of the program is too large
@@ -301,10 +301,10 @@ module _ (G : RunContext) (lv : RightsOfAll G) (c : Course) (s : StateOf G.g) (u
     }
 
     pub too_large_fails : u.faulted ≡ false → Entry_of G c s u i d
-    too_large_fails quiet = failed_entry too_large_halt refl fault.F12 says_it
+    too_large_fails no_fault = failed_entry too_large_halt refl fault.F12 says_it
         (kernel_next G.g v s (at.p1 G lv c s u l i d at_i) (runs_as_pr G lv c s u l i d at_i)
         (EndsInFault fault.F12, s.store) breaks)
-        refl quiet
+        refl no_fault
 
     pub too_large_laid : u.faulted ≡ true → Entry_of G c s u i d
     too_large_laid bad = laid_entry too_large_halt bad
@@ -449,9 +449,9 @@ module _ (G : RunContext) (lv : RightsOfAll G) (c : Course) (s : StateOf G.g) (u
     -- the entry of a fault of an instruction
     pub failing : (f : Fault) (m : Store) → Meant G lv c s u l i d at_i z (EndsInFault f, m)
         → Machined G lv c s u l i d at_i z (EndsInFault f, m) → u.faulted ≡ false → Entry_of G c s u i d
-    failing f m x t quiet = failed_entry (bad_halt f m x t) refl f
+    failing f m x t no_fault = failed_entry (bad_halt f m x t) refl f
         (kernel_says G.g v x.state x.left x.runs (EndsInFault f, m) x.does)
-        (kernel_next G.g v x.state x.left x.runs (EndsInFault f, m) x.does) refl quiet
+        (kernel_next G.g v x.state x.left x.runs (EndsInFault f, m) x.does) refl no_fault
 
     -- and of a process that is laid, wherever its turn ends
     pub laying : (r : WorkOutcome source.Stop × Store) → Rattle.sp_codegen.proofs.Safe.AtEnd r

@@ -361,7 +361,7 @@ module _ (g : RunInput) (moves shares : Stmt → List ℕ) (pause : ℕ) (ready 
           let still = nobody_runs (control ns) t alike.0 alike.1 outs (no_queue (control ns).ready v.0)
           (none_if_not_above (control ns).out v.1) (none_gone ns (none_if_not_above (control ns).abandons w.0)) in
           program_stuck g moves shares pause ready (entries_of ns) t journal n s k ws (record {
-            quiet = sym alike.1.faulted ∙ w.1;
+            no_fault = sym alike.1.faulted ∙ w.1;
             idle = λ i d x. still i (ap (λ y. phase_in y) x);
             goes_on = λ d x. live_phase ((control ns).doing 0) w.2 (alike.1.each 0 ∙ ap (λ y. phase_in y) x);
             sorted = q.sorted;

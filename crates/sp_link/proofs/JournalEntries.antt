@@ -35,15 +35,15 @@ module _ (G : RunContext) where
       (d : Config (Memory Plain)) (at : u.condition i ≡ Working d) where
     module _ (z : ProcessMatches G (lv (q G lv c s u l i d at)) (kids G lv c s u l i d at) (q G lv c s u l i d at)
         (c.since (q G lv c s u l i d at)) (pr G lv c s u l i d at) s.store d) where
-      by_quiet : (r : WorkOutcome source.Stop × Store) → AtEnd r → Meant G lv c s u l i d at z r
+      by_no_fault : (r : WorkOutcome source.Stop × Store) → AtEnd r → Meant G lv c s u l i d at z r
           → Machined G lv c s u l i d at z r → Kept_to G lv c s u l i d at z r → u.faulted ≡ false
           → Entry_of G c s u i d
-      by_quiet (Computed (source.Paused todo) o, m) e x t y f = pausing G lv c s u l i d at z todo o m x t f
-      by_quiet (Computed (source.Stops (Stepped todo)) o, m) e x t y f = absurd e
-      by_quiet (Computed (source.Stops (Ticked todo)) o, m) e x t y f = absurd e
-      by_quiet (Computed (source.Stops (Opened todo)) o, m) e x t y f =
+      by_no_fault (Computed (source.Paused todo) o, m) e x t y f = pausing G lv c s u l i d at z todo o m x t f
+      by_no_fault (Computed (source.Stops (Stepped todo)) o, m) e x t y f = absurd e
+      by_no_fault (Computed (source.Stops (Ticked todo)) o, m) e x t y f = absurd e
+      by_no_fault (Computed (source.Stops (Opened todo)) o, m) e x t y f =
           opening_entry G lv c s u l i d at z todo o m x t y f
-      by_quiet (Computed (source.Stops (Forked bs todo)) o, m) e x t y f =
+      by_no_fault (Computed (source.Stops (Forked bs todo)) o, m) e x t y f =
           by_form (subst (λ b. ForkIs (execution G (lv (q G lv c s u l i d at)) (kids G lv c s u l i d at)
           (q G lv c s u l i d at) z.fresh (pr G lv c s u l i d at).who z.named (c.since (q G lv c s u l i d at))) b t.3
           bs t.5) t.10 t.11)
@@ -53,18 +53,18 @@ module _ (G : RunContext) where
               → Entry_of G c s u i d
           by_form (inl h) = parallel_entry G lv c s u l i d at z bs todo o m x t y f h
           by_form (inr h) = forall_entry G lv c s u l i d at z bs todo o m x t y f h
-      by_quiet (Computed (source.Stops (Offered ch k a todo)) o, m) e x t y f =
+      by_no_fault (Computed (source.Stops (Offered ch k a todo)) o, m) e x t y f =
           offering G lv c s u l i d at z ch k a todo o m x t y f
-      by_quiet (Computed (source.Stops Ended) o, m) e x t y f = finishing G lv c s u l i d at z o m x t f
-      by_quiet (EndsInFault f, m) e x t y q = failing G lv c s u l i d at z f m x t q
-      by_quiet (IllFormed, m) e x t y f = absurd e
-      by_quiet (OutOfFuel, m) e x t y f = absurd e
+      by_no_fault (Computed (source.Stops Ended) o, m) e x t y f = finishing G lv c s u l i d at z o m x t f
+      by_no_fault (EndsInFault f, m) e x t y q = failing G lv c s u l i d at z f m x t q
+      by_no_fault (IllFormed, m) e x t y f = absurd e
+      by_no_fault (OutOfFuel, m) e x t y f = absurd e
 
       by_fault : (b : Bool) → u.faulted ≡ b → (r : WorkOutcome source.Stop × Store) → AtEnd r
           → Meant G lv c s u l i d at z r
           → Machined G lv c s u l i d at z r → Kept_to G lv c s u l i d at z r → Entry_of G c s u i d
       by_fault true f r e x t y = laying G lv c s u l i d at z r e x t f
-      by_fault false f r e x t y = by_quiet r e x t y f
+      by_fault false f r e x t y = by_no_fault r e x t y f
 
       abbrev kt : Rattle.sp_meaning.proofs.Owned.Keeps_to G.g.program (Rattle.sp_link.proofs.Relation.W_of G lv)
           (Rattle.sp_link.proofs.Relation.R_of G lv) s.forks (q G lv c s u l i d at) (pr G lv c s u l i d at)

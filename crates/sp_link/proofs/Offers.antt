@@ -44,7 +44,7 @@ module _ (G : RunContext) (lv : RightsOfAll G) (c : Course) (s : StateOf G.g) (u
     (x : Meant G lv c s u l i d at_i z (Computed (source.Stops (Offered ch kd cg todo)) o, m))
     (t : Machined G lv c s u l i d at_i z (Computed (source.Stops (Offered ch kd cg todo)) o, m))
     (y : Kept_to G lv c s u l i d at_i z (Computed (source.Stops (Offered ch kd cg todo)) o, m))
-    (quiet : u.faulted ≡ false) where
+    (no_fault : u.faulted ≡ false) where
   abbrev v : Name
   v = w G lv c s u l i d at_i
 
@@ -67,7 +67,7 @@ module _ (G : RunContext) (lv : RightsOfAll G) (c : Course) (s : StateOf G.g) (u
       faults)
       (kernel_next G.g v x.state x.left x.runs r x.does
       ∙ ap (λ b. Some (result_of {L = superpascal G.g} x.state v b)) faults)
-      (found cg refl t.9) quiet
+      (found cg refl t.9) no_fault
     where
       passes : limit_fault (total_limits G.g) x.state.totals (Some entry_cost) ≡ Some fault.F15
       passes =
@@ -116,7 +116,7 @@ module _ (G : RunContext) (lv : RightsOfAll G) (c : Course) (s : StateOf G.g) (u
     by_condition (sys.Working a) e h = absurd
         (waiting_idle x.state.condition (G.births.name zi) ch (x.state.condition (G.births.name zi)) h.0 waits_then h.1)
     by_condition (sys.Waits st2 d2) e h = meeting_entry G lv c s u l i d at_i z ch kd cg todo o m x t y said_any.0
-        said_any.1 quiet zi few pends j named pending_is enough apart st2 d2 e h.0 h.1
+        said_any.1 no_fault zi few pends j named pending_is enough apart st2 d2 e h.0 h.1
         (subst (λ b. WaitsOn ch b) h.1 waits_then) h.2 h.3 h.4 h.5
     by_condition (sys.Joins left a) e h = absurd (subst (λ b. WaitsOn ch b) h.3 waits_then)
     by_condition (sys.Laid a) e h = absurd (waiting_idle x.state.condition (G.births.name zi) ch
@@ -155,7 +155,7 @@ module _ (G : RunContext) (lv : RightsOfAll G) (c : Course) (s : StateOf G.g) (u
 
       by_offer : (b : Option Name) → s.pending ch ≡ b → nat_lt G.g.limits.entries (u.entries + 1) ≡ false
           → Entry_of G c s u i d
-      by_offer None e h = waiting_entry G lv c s u l i d at_i z ch kd cg todo o m x t y quiet e h
+      by_offer None e h = waiting_entry G lv c s u l i d at_i z ch kd cg todo o m x t y no_fault e h
       by_offer (Some zn) e h = let n = number cg t.9 in by_pending zn e n.0 n.1 h
 
       by_limit : (b : Bool) → nat_lt G.g.limits.entries (u.entries + 1) ≡ b → Entry_of G c s u i d

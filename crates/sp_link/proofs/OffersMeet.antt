@@ -60,7 +60,7 @@ use Rattle.sp_link.proofs.KernelSteps.{kernel_next, kernel_says}
 use Rattle.sp_link.proofs.Messages.{sent_flat, receiver_stands}
 use Rattle.sp_link.proofs.OneChanges.{its, here, inv_local, since_other}
 use Rattle.sp_link.proofs.OthersStay.{does_stay, stands_stay}
-use Rattle.sp_link.proofs.Pauses.{Entry_of, Meant, Machined, Kept_to, kids, after_quiet, way_of_step}
+use Rattle.sp_link.proofs.Pauses.{Entry_of, Meant, Machined, Kept_to, kids, after_no_fault, way_of_step}
 use Rattle.sp_link.proofs.Relation.{RunContext, RightsOfAll, W_of, R_of, Named, ProcessMatches, Ca, Performs_all}
 use Rattle.sp_link.proofs.Relation.{IsPending, Linked}
 use Rattle.sp_link.proofs.Relation.{run_is}
@@ -84,7 +84,7 @@ module _ (G : RunContext) (lv : RightsOfAll G) (c : Course) (s : StateOf G.g) (u
     (t : Machined G lv c s u l i d at_i z (Computed (source.Stops (Offered ch kd cg todo)) o, m))
     (y : Kept_to G lv c s u l i d at_i z (Computed (source.Stops (Offered ch kd cg todo)) o, m))
     (what : Happening) (said : happening_at G.g x.state (w G lv c s u l i d at_i) x.left ≡ Some what)
-    (quiet : u.faulted ≡ false)
+    (no_fault : u.faulted ≡ false)
     (zi : ℕ) (few : zi < u.births.processes) (pends : s.pending ch ≡ Some (G.births.name zi)) (j : ℕ)
     (named : Named G ch j) (pending_is : u.pending j ≡ Some zi)
     (enough : nat_lt G.g.limits.entries (u.entries + 1) ≡ false)
@@ -347,7 +347,7 @@ module _ (G : RunContext) (lv : RightsOfAll G) (c : Course) (s : StateOf G.g) (u
         none_pending = λ k le. ap (λ b. cond b None (u.pending k))
             (ne_eqb j k (λ e. let b = is_open in omega (arith, b, le, e))) ∙ l.none_pending k le;
         faulted = l.faulted;
-        quiet = λ e. x.elsewhere.fault ∙ l.quiet e;
+        no_fault = λ e. x.elsewhere.fault ∙ l.no_fault e;
         unlaid = l.unlaid;
         does = λ k lt. ⊎_elim
             (λ (e : i ≡ k). subst (λ b. Performs_all G lv (G.births.name b) c1 t1 (u.births.opens b) (u1.condition b)) e
@@ -379,7 +379,7 @@ module _ (G : RunContext) (lv : RightsOfAll G) (c : Course) (s : StateOf G.g) (u
         turn = Stopped t.5 (At t.0 t.1 t.2);
         is_turn = ao.tn_is G lv c s u l i d at_i z ch kd cg todo o m x t y;
         way = way_of_step G lv c s u l i d at_i x.steps x.state (x.turn says_now said_now) says_now t1
-            (λ left n k. (l.faulted ∙ quiet, refl, t1, n, one-add n, (x.left, x.runs, said_now, goes_next), k)) _
+            (λ left n k. (l.faulted ∙ no_fault, refl, t1, n, one-add n, (x.left, x.runs, said_now, goes_next), k)) _
             (sym told);
         speaks = speaks;
         lives = lv;
@@ -459,8 +459,8 @@ module _ (G : RunContext) (lv : RightsOfAll G) (c : Course) (s : StateOf G.g) (u
     abbrev tn : Turn (Memory Plain)
     tn = Stopped (Sends j kd (cells_in gives.1)) (At t.0 t.1 t.2)
 
-    no_fault : fault_of G.g.limits u tn ≡ None
-    no_fault = ap (λ b. sys.first_fault (if b then Some fault.F15 else None)
+    turn_has_no_fault : fault_of G.g.limits u tn ≡ None
+    turn_has_no_fault = ap (λ b. sys.first_fault (if b then Some fault.F15 else None)
         (sys.clash_by way.Send kd (sys.pending_stop u (u.pending j)))) enough
         ∙ ap (λ b. sys.clash_by way.Send kd (sys.pending_stop u b)) pending_is
         ∙ ap (λ b. sys.clash_by way.Send kd (sys.stop_of {S = Plain} b)) at_z
@@ -473,12 +473,12 @@ module _ (G : RunContext) (lv : RightsOfAll G) (c : Course) (s : StateOf G.g) (u
         (on_store (put_cells plain takes.1 (cells_in gives.1)) d2) sender receiver
 
     after_is : system_after_turn plain (run_is G) i tn u ≡ u1s
-    after_is = after_quiet G i tn u quiet ∙ ap
+    after_is = after_no_fault G i tn u no_fault ∙ ap
         (λ f. record (apply_unless_fault plain (run_is G) f i tn u) {
           births =
               births_after_event u.births i (event_or f tn);
         })
-        no_fault
+        turn_has_no_fault
         ∙ ap (λ b. record (sys.with_entry_counted plain (run_is G)
         (sys.apply_send plain (run_is G) i (Sends j kd (cells_in gives.1)) j (cells_in gives.1)
         (ao.there G lv c s u l i d at_i z ch kd cg todo o m x t y) b u)) { births = u.births }) pending_is
@@ -498,8 +498,8 @@ module _ (G : RunContext) (lv : RightsOfAll G) (c : Course) (s : StateOf G.g) (u
         }) takes.2
 
     event_is : event_of G.g.limits u tn ≡ event.Send j
-    event_is = ap (λ b. if b then event.Laid else event_or (fault_of G.g.limits u tn) tn) quiet
-        ∙ ap (λ f. event_or f tn) no_fault
+    event_is = ap (λ b. if b then event.Laid else event_or (fault_of G.g.limits u tn) tn) no_fault
+        ∙ ap (λ f. event_or f tn) turn_has_no_fault
 
     pub sending_meets : Entry_of G c s u i d
     sending_meets = entry_by a (Tree value) same_kind msg zn alone_z (inr refl) may_z
@@ -590,7 +590,7 @@ module _ (G : RunContext) (lv : RightsOfAll G) (c : Course) (s : StateOf G.g) (u
         (ao.there G lv c s u l i d at_i z ch kd cg todo o m x t y)) d2 receiver_v sender_z
 
     after_is_r : system_after_turn plain (run_is G) i tr u ≡ u1r
-    after_is_r = after_quiet G i tr u quiet ∙ ap
+    after_is_r = after_no_fault G i tr u no_fault ∙ ap
         (λ f. record (apply_unless_fault plain (run_is G) f i tr u) {
           births =
               births_after_event u.births i (event_or f tr);
@@ -618,7 +618,7 @@ module _ (G : RunContext) (lv : RightsOfAll G) (c : Course) (s : StateOf G.g) (u
         }) gives_z.2
 
     event_is_r : event_of G.g.limits u tr ≡ event.Receive j
-    event_is_r = ap (λ b. if b then event.Laid else event_or (fault_of G.g.limits u tr) tr) quiet
+    event_is_r = ap (λ b. if b then event.Laid else event_or (fault_of G.g.limits u tr) tr) no_fault
         ∙ ap (λ f. event_or f tr) no_fault_r
 
     pub receiving_meets : Entry_of G c s u i d
@@ -642,7 +642,7 @@ module _ (G : RunContext) (lv : RightsOfAll G) (c : Course) (s : StateOf G.g) (u
         (kernel_says G.g v x.state x.left x.runs r x.does
         ∙ ap (λ b. happening_of {L = superpascal G.g} (Offering off) b) faults)
         (kernel_next G.g v x.state x.left x.runs r x.does
-        ∙ ap (λ b. Some (result_of {L = superpascal G.g} x.state v b)) faults) fault_is quiet
+        ∙ ap (λ b. Some (result_of {L = superpascal G.g} x.state v b)) faults) fault_is no_fault
 
   -- what the machine finds at this stop against the other one
   found : (st : Stop) (w1 : Way) → t.5 ≡ st → ((e1 : Option Fault)

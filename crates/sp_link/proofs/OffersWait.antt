@@ -45,7 +45,7 @@ use Rattle.sp_link.proofs.Messages.{owned_ready}
 use Rattle.sp_link.proofs.Journal.{IsOpen, now_by}
 use Rattle.sp_link.proofs.KernelSteps.{kernel_next, kernel_says, stand_dead}
 use Rattle.sp_link.proofs.OneChanges.{its, here, inv_local, since_other}
-use Rattle.sp_link.proofs.Pauses.{Entry_of, Meant, Machined, Kept_to, kids, turn_is, after_quiet, way_of_step}
+use Rattle.sp_link.proofs.Pauses.{Entry_of, Meant, Machined, Kept_to, kids, turn_is, after_no_fault, way_of_step}
 use Rattle.sp_link.proofs.Relation.{RunContext, RightsOfAll, W_of, R_of, ProcessMatches, Performs_all, Ca, IsPending}
 use Rattle.sp_link.proofs.Relation.{Linked, run_is, ops}
 use Rattle.sp_link.proofs.OthersStay.{does_stay}
@@ -62,7 +62,7 @@ module _ (G : RunContext) (lv : RightsOfAll G) (c : Course) (s : StateOf G.g) (u
     (x : Meant G lv c s u l i d at_i z (Computed (source.Stops (Offered ch kd cg todo)) o, m))
     (t : Machined G lv c s u l i d at_i z (Computed (source.Stops (Offered ch kd cg todo)) o, m))
     (y : Kept_to G lv c s u l i d at_i z (Computed (source.Stops (Offered ch kd cg todo)) o, m))
-    (quiet : u.faulted ≡ false)
+    (no_fault : u.faulted ≡ false)
     (alone_there : s.pending ch ≡ None) (enough : nat_lt G.g.limits.entries (u.entries + 1) ≡ false) where
   abbrev v : Name
   v = w G lv c s u l i d at_i
@@ -288,7 +288,7 @@ module _ (G : RunContext) (lv : RightsOfAll G) (c : Course) (s : StateOf G.g) (u
       none_pending = λ a le. ap (λ b. cond b (Some i) (u.pending a))
           (ne_eqb j a (λ e. let b = is_open in omega (arith, b, le, e))) ∙ l.none_pending a le;
       faulted = l.faulted;
-      quiet = λ e. x.elsewhere.fault ∙ l.quiet e;
+      no_fault = λ e. x.elsewhere.fault ∙ l.no_fault e;
       unlaid = l.unlaid;
       does = λ a lt. ⊎_elim
           (λ (e : i ≡ a). subst (λ b. Performs_all G lv (G.births.name b) c1 t1 (u.births.opens b) (u1.condition b)) e
@@ -339,14 +339,14 @@ module _ (G : RunContext) (lv : RightsOfAll G) (c : Course) (s : StateOf G.g) (u
 
     sends : (cs : List Rattle.sp_cell.specs.declared.cell.Cell.Cell)
         → system_after_turn plain (run_is G) i (turn_of (machine.Sends j kd cs)) u ≡ u1_of (machine.Sends j kd cs)
-    sends cs = after_quiet G i (turn_of (machine.Sends j kd cs)) u quiet
+    sends cs = after_no_fault G i (turn_of (machine.Sends j kd cs)) u no_fault
         ∙ ap (λ f. made f (machine.Sends j kd cs)) (none_fault way.Send)
         ∙ ap (λ a. record (sys.with_entry_counted plain (run_is G)
         (sys.apply_send plain (run_is G) i (machine.Sends j kd cs) j cs there a u)) { births = u.births }) nothing_pends
 
     takes : (a : Rattle.sp_cell.specs.declared.spot.Address.Address)
         → system_after_turn plain (run_is G) i (turn_of (machine.Receives j kd a)) u ≡ u1_of (machine.Receives j kd a)
-    takes a = after_quiet G i (turn_of (machine.Receives j kd a)) u quiet
+    takes a = after_no_fault G i (turn_of (machine.Receives j kd a)) u no_fault
         ∙ ap (λ f. made f (machine.Receives j kd a)) (none_fault way.Receive)
         ∙ ap (λ b. record (sys.with_entry_counted plain (run_is G)
         (sys.apply_receive plain (run_is G) i (machine.Receives j kd a) j a there b u)) { births = u.births })
@@ -356,13 +356,13 @@ module _ (G : RunContext) (lv : RightsOfAll G) (c : Course) (s : StateOf G.g) (u
         → event_of G.g.limits u (turn_of (machine.Sends j kd cs)) ≡ event.Send j
     event_sends cs = ap (λ b. if b then event.Laid else
         sys.event_or (sys.fault_of G.g.limits u (turn_of (machine.Sends j kd cs))) (turn_of (machine.Sends j kd cs)))
-        quiet ∙ ap (λ f. sys.event_or f (turn_of (machine.Sends j kd cs))) (none_fault way.Send)
+        no_fault ∙ ap (λ f. sys.event_or f (turn_of (machine.Sends j kd cs))) (none_fault way.Send)
 
     event_takes : (a : Rattle.sp_cell.specs.declared.spot.Address.Address)
         → event_of G.g.limits u (turn_of (machine.Receives j kd a)) ≡ event.Receive j
     event_takes a = ap (λ b. if b then event.Laid else
         sys.event_or (sys.fault_of G.g.limits u (turn_of (machine.Receives j kd a)))
-        (turn_of (machine.Receives j kd a))) quiet
+        (turn_of (machine.Receives j kd a))) no_fault
         ∙ ap (λ f. sys.event_or f (turn_of (machine.Receives j kd a))) (none_fault way.Receive)
 
     name_of : channel u.births j ≡ ch
@@ -376,7 +376,8 @@ module _ (G : RunContext) (lv : RightsOfAll G) (c : Course) (s : StateOf G.g) (u
       turn = turn_of t.5;
       is_turn = tn_is;
       way = way_of_step G lv c s u l i d at_i x.steps x.state (x.turn what said) what t1
-          (λ left n k. (l.faulted ∙ quiet, refl, t1, n, one-add n, (x.left, x.runs, said, goes_next), k)) _ (sym told);
+          (λ left n k. (l.faulted ∙ no_fault, refl, t1, n, one-add n, (x.left, x.runs, said, goes_next), k)) _
+          (sym told);
       speaks = speaks;
       lives = lv;
       linked = λ began. now_by G lv c1 t1 (system_after_turn plain (run_is G) i (turn_of t.5) u)

@@ -106,7 +106,7 @@ module _ (G : RunContext) (lv : RightsOfAll G) (c : Course) (s : StateOf G.g) (u
       (works : own_part_in t.condition q (t.condition q) ≡ Some left)
       (rights : Keeps_to G.g.program (W_of G lv) (R_of G lv) s.forks q left)
       (since : (r : Name) → r ≢ q → c1.since r ≡ c.since r) (laid : (r : Name) → r ≢ q → c1.laid r ≡ c.laid r)
-      (more : c.faulted ≡ true → c1.faulted ≡ true) (faulted : c1.faulted ≡ f) (quiet : f ≡ false → t.fault ≡ None)
+      (more : c.faulted ≡ true → c1.faulted ≡ true) (faulted : c1.faulted ≡ f) (no_fault : f ≡ false → t.fault ≡ None)
       (unlaid : f ≡ false → (r : Name) → c1.laid r ≡ false)
       (does : Performs_all G lv q c1 t (u.births.opens i) x) (known_x : x ≢ sys.Absent) where
     ended_now : has_ended (t.condition q) ≡ false
@@ -176,7 +176,7 @@ module _ (G : RunContext) (lv : RightsOfAll G) (c : Course) (s : StateOf G.g) (u
           (absent_not_ended (t.condition q) (subst (λ a. t.condition a ≡ Absent) y e)))
           (λ (y : r ≢ q). since r y ∙ l.fresh_since r (sym (other r y) ∙ e)) (same_or_not name_test r q);
       faulted = faulted;
-      quiet = quiet;
+      no_fault = no_fault;
       unlaid = unlaid;
       does = all_do;
       unborn = λ j le. at_other j (λ e. let a = here in omega (arith, a, le, e)) ∙ l.unborn j le;

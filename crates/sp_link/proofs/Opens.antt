@@ -55,7 +55,7 @@ use Rattle.sp_link.proofs.KernelSteps.{kernel_next, kernel_says}
 use Rattle.sp_link.proofs.MoreChannels.{one_more, stands_more, does_more}
 use Rattle.sp_link.proofs.OneChanges.{q, pr, its, alone, here, present, not_ended, keeps_to, inv_local, since_other}
 use Rattle.sp_link.proofs.OthersStay.{does_stay}
-use Rattle.sp_link.proofs.Pauses.{Entry_of, Meant, Machined, Kept_to, kids, turn_is, after_quiet, way_of_step}
+use Rattle.sp_link.proofs.Pauses.{Entry_of, Meant, Machined, Kept_to, kids, turn_is, after_no_fault, way_of_step}
 use Rattle.sp_link.proofs.Relation.{RunContext, BirthRights, RightsOfAll, W_of, R_of, Called, Named, ProcessMatches, Ca}
 use Rattle.sp_link.proofs.Relation.{Rel, St, Performs_all}
 use Rattle.sp_link.proofs.Relation.{IsPending, Linked, Began, at_open, run_is, ops}
@@ -122,7 +122,8 @@ module _ (G : RunContext) (lv : RightsOfAll G) (c : Course) (s : StateOf G.g) (u
     (todo : List Item) (o : LocalState) (m : Store)
     (x : Meant G lv c s u l i d at_i z (Computed (source.Stops (Opened todo)) o, m))
     (t : Machined G lv c s u l i d at_i z (Computed (source.Stops (Opened todo)) o, m))
-    (y : Kept_to G lv c s u l i d at_i z (Computed (source.Stops (Opened todo)) o, m)) (quiet : u.faulted ≡ false) where
+    (y : Kept_to G lv c s u l i d at_i z (Computed (source.Stops (Opened todo)) o, m))
+    (no_fault : u.faulted ≡ false) where
   abbrev v : Name
   v = q G lv c s u l i d at_i
 
@@ -182,7 +183,7 @@ module _ (G : RunContext) (lv : RightsOfAll G) (c : Course) (s : StateOf G.g) (u
       ∙ ap (λ b. happening_of {L = superpascal G.g} (Opens goes_on ws) b) e)
       (kernel_next G.g v x.state x.left x.runs r x.does
       ∙ ap (λ b. Some (result_of {L = superpascal G.g} x.state v b)) e) h
-      quiet
+      no_fault
 
   -- ---- it opens
 
@@ -291,7 +292,7 @@ module _ (G : RunContext) (lv : RightsOfAll G) (c : Course) (s : StateOf G.g) (u
     u1 = record u { condition = at_key ◌==◌ i (sys.Working there) u.condition; entries = u.entries + 1; births = b1 }
 
     after_is : system_after_turn plain (run_is G) i tn u ≡ u1
-    after_is = after_quiet G i tn u quiet ∙ ap
+    after_is = after_no_fault G i tn u no_fault ∙ ap
         (λ f. record (apply_unless_fault plain (run_is G) f i tn u) {
           births =
               births_after_event u.births i (event_or f tn);
@@ -299,7 +300,7 @@ module _ (G : RunContext) (lv : RightsOfAll G) (c : Course) (s : StateOf G.g) (u
         (found false false room1 room2)
 
     event_is : event_of G.g.limits u tn ≡ event.Open
-    event_is = ap (λ b. if b then event.Laid else event_or (fault_of G.g.limits u tn) tn) quiet
+    event_is = ap (λ b. if b then event.Laid else event_or (fault_of G.g.limits u tn) tn) no_fault
         ∙ ap (λ f. event_or f tn) (found false false room1 room2)
 
     module _ (began : Began G b1) where
@@ -420,7 +421,7 @@ module _ (G : RunContext) (lv : RightsOfAll G) (c : Course) (s : StateOf G.g) (u
             (number_or k a);
         none_pending = λ a le. l.none_pending a (omega (arith, le));
         faulted = l.faulted;
-        quiet = λ e. x.elsewhere.fault ∙ l.quiet e;
+        no_fault = λ e. x.elsewhere.fault ∙ l.no_fault e;
         unlaid = l.unlaid;
         does = λ a lt. ⊎_elim
             (λ (e : i ≡ a). subst (λ b. Performs_all (one_more G) lv (G.births.name b) c1 t1 (b1.opens b)
@@ -453,7 +454,7 @@ module _ (G : RunContext) (lv : RightsOfAll G) (c : Course) (s : StateOf G.g) (u
       turn = tn;
       is_turn = tn_is;
       way = way_of_step G lv c s u l i d at_i x.steps x.state (x.turn Is_opened said_now) Is_opened t1
-          (λ left n k. (l.faulted ∙ quiet, refl, t1, n, one-add n, (x.left, x.runs, said_now, goes_next), k)) _
+          (λ left n k. (l.faulted ∙ no_fault, refl, t1, n, one-add n, (x.left, x.runs, said_now, goes_next), k)) _
           (sym told);
       speaks = subst (λ f. IsOpen u.births f) (sym event_is) tt;
       lives = lv;

@@ -126,7 +126,7 @@ module _ (G : RunContext) (lv : RightsOfAll G) (c : Course) (s : StateOf G.g) (u
     (bs : List Birth) (todo : List Item) (o : LocalState) (m : Store)
     (x : Meant G lv c s u l i d at_i z (Computed (source.Stops (Forked bs todo)) o, m))
     (t : Machined G lv c s u l i d at_i z (Computed (source.Stops (Forked bs todo)) o, m))
-    (y : Kept_to G lv c s u l i d at_i z (Computed (source.Stops (Forked bs todo)) o, m)) (quiet : u.faulted ≡ false)
+    (y : Kept_to G lv c s u l i d at_i z (Computed (source.Stops (Forked bs todo)) o, m)) (no_fault : u.faulted ≡ false)
     (h : ParallelIs (execution G (lv (q G lv c s u l i d at_i)) (kids G lv c s u l i d at_i) (q G lv c s u l i d at_i)
     z.fresh (pr G lv c s u l i d at_i).who z.named (c.since (q G lv c s u l i d at_i))) true t.3 bs t.5) where
   abbrev v : Name
@@ -228,7 +228,7 @@ module _ (G : RunContext) (lv : RightsOfAll G) (c : Course) (s : StateOf G.g) (u
 
   -- its parent's memory
   stood : St G (lv v) (λ a b. lv ((a, b) ∷ v)) v w1 (t.2).ticks t.3 o x.state.store n1
-  stood = fk.parent_stand G lv c s u l i d at_i z bs todo o m x t y quiet h.1 (pos 0)
+  stood = fk.parent_stand G lv c s u l i d at_i z bs todo o m x t y no_fault h.1 (pos 0)
       (length (children_tables G.g.program G.moves G.shares h.2 h.0)) h.4 some (t.2).ticks refl
 
   longer : (j : ℕ) → suc (length w1.name) ≤ length ((k, j) ∷ v)
@@ -303,7 +303,7 @@ module _ (G : RunContext) (lv : RightsOfAll G) (c : Course) (s : StateOf G.g) (u
             own = record { frames = o.frames; depth = o.depth + 1; ticks = 0; cells = 0 };
           })
           (ap (λ a. cons (a, j) x.left.who.name)
-          (fk.counted G lv c s u l i d at_i z bs todo o m x t y quiet h.1 (pos 0)
+          (fk.counted G lv c s u l i d at_i z bs todo o m x t y no_fault h.1 (pos 0)
           (length (children_tables G.g.program G.moves G.shares h.2 h.0)) h.4 some)
           ∙ ap (λ a. cons (k, j) a) x.good.named)
 
@@ -339,9 +339,9 @@ module _ (G : RunContext) (lv : RightsOfAll G) (c : Course) (s : StateOf G.g) (u
   one_of j = handing_of G.code.layouts n1.frames (pos 0) j
       (child_or (child_at (table_or (slice_get G.code.forks h.1)) j))
 
-  known : (a : Spot) → In a (moved_of (fk.hs G lv c s u l i d at_i z bs todo o m x t y quiet h.1 (pos 0)
+  known : (a : Spot) → In a (moved_of (fk.hs G lv c s u l i d at_i z bs todo o m x t y no_fault h.1 (pos 0)
       (length (children_tables G.g.program G.moves G.shares h.2 h.0)) h.4 some))
-      ⊎ In a (shared_of (fk.hs G lv c s u l i d at_i z bs todo o m x t y quiet h.1 (pos 0)
+      ⊎ In a (shared_of (fk.hs G lv c s u l i d at_i z bs todo o m x t y no_fault h.1 (pos 0)
       (length (children_tables G.g.program G.moves G.shares h.2 h.0)) h.4 some)) → IsSome (fin.get n1.store.map a)
   known a (inl g) =
       let w = moved_by G.code.layouts n1.frames (table_or (slice_get G.code.forks h.1)) (pos 0) n a g in
@@ -355,13 +355,13 @@ module _ (G : RunContext) (lv : RightsOfAll G) (c : Course) (s : StateOf G.g) (u
       (table_is none w.0 b.0 b.1) w.2)
 
   dry : OwnOrGiven (R_of G lv) v Output → NotIn output_spot
-      (shared_of (fk.hs G lv c s u l i d at_i z bs todo o m x t y quiet h.1 (pos 0)
+      (shared_of (fk.hs G lv c s u l i d at_i z bs todo o m x t y no_fault h.1 (pos 0)
       (length (children_tables G.g.program G.moves G.shares h.2 h.0)) h.4 some))
   dry may = ⊎_elim (λ g. absurd (wet g)) (λ g. g)
-      (in_or output_spot (shared_of (fk.hs G lv c s u l i d at_i z bs todo o m x t y quiet h.1 (pos 0)
+      (in_or output_spot (shared_of (fk.hs G lv c s u l i d at_i z bs todo o m x t y no_fault h.1 (pos 0)
       (length (children_tables G.g.program G.moves G.shares h.2 h.0)) h.4 some)))
     where
-      wet : In output_spot (shared_of (fk.hs G lv c s u l i d at_i z bs todo o m x t y quiet h.1 (pos 0)
+      wet : In output_spot (shared_of (fk.hs G lv c s u l i d at_i z bs todo o m x t y no_fault h.1 (pos 0)
           (length (children_tables G.g.program G.moves G.shares h.2 h.0)) h.4 some)) → ⊥
       wet g =
           let w = shared_by G.code.layouts n1.frames (table_or (slice_get G.code.forks h.1)) (pos 0) n output_spot g in
@@ -370,7 +370,7 @@ module _ (G : RunContext) (lv : RightsOfAll G) (c : Course) (s : StateOf G.g) (u
           (λ tb. In output_spot (handing_of G.code.layouts n1.frames (pos 0) w.0 tb).shared)
           (table_is none w.0 b.0 b.1) w.2)
 
-  parts : (a : Spot) → In a (moved_of (fk.hs G lv c s u l i d at_i z bs todo o m x t y quiet h.1 (pos 0)
+  parts : (a : Spot) → In a (moved_of (fk.hs G lv c s u l i d at_i z bs todo o m x t y no_fault h.1 (pos 0)
       (length (children_tables G.g.program G.moves G.shares h.2 h.0)) h.4 some)) → (j : ℕ) × (j < n)
       × In a (new_life j).moved
   parts a g =
@@ -391,7 +391,7 @@ module _ (G : RunContext) (lv : RightsOfAll G) (c : Course) (s : StateOf G.g) (u
   is_there : table_or (slice_get G.code.forks h.1) ≡ table_there
   is_there = ap (λ a. table_or a) h.5
 
-  pub can_split : CanSplit n1.store (fk.hs G lv c s u l i d at_i z bs todo o m x t y quiet h.1 (pos 0)
+  pub can_split : CanSplit n1.store (fk.hs G lv c s u l i d at_i z bs todo o m x t y no_fault h.1 (pos 0)
       (length (children_tables G.g.program G.moves G.shares h.2 h.0)) h.4 some)
   can_split = subst (λ a. CanSplit n1.store (plan_from G.code.layouts n1.frames a (pos 0) 0 n)) (sym is_there)
       (parallel_split G (lv v) none v (fresh none) stood ss h.3 h.8 h.2 h.7 (pos 0) (λ a g.
@@ -410,7 +410,7 @@ module _ (G : RunContext) (lv : RightsOfAll G) (c : Course) (s : StateOf G.g) (u
       (subst (λ (lf : BirthRights). In a lf.moved) (life_is none j b.0 b.1) g)
 
   gives : (j : ℕ) → j < n → (a : Spot) → In a (new_life j).moved
-      → In a (moved_of (fk.hs G lv c s u l i d at_i z bs todo o m x t y quiet h.1 (pos 0)
+      → In a (moved_of (fk.hs G lv c s u l i d at_i z bs todo o m x t y no_fault h.1 (pos 0)
       (length (children_tables G.g.program G.moves G.shares h.2 h.0)) h.4 some))
   gives j lt a g = moved_in G.code.layouts n1.frames (table_or (slice_get G.code.forks h.1)) (pos 0) n j a lt
       (moved_one j lt a g)
@@ -433,12 +433,12 @@ module _ (G : RunContext) (lv : RightsOfAll G) (c : Course) (s : StateOf G.g) (u
 
       by : (e1 e2 : Bool) → nat_lt G.g.limits.entries (u.entries + 1) ≡ e1
           → nat_lt G.g.limits.processes (u.births.processes + n) ≡ e2 → Entry_of G c s u i d
-      by true e2 h1 h2 = fk.over_entry G lv c s u l i d at_i z bs todo o m x t y quiet h.1 (pos 0)
+      by true e2 h1 h2 = fk.over_entry G lv c s u l i d at_i z bs todo o m x t y no_fault h.1 (pos 0)
           (length (children_tables G.g.program G.moves G.shares h.2 h.0)) h.4 some h1
-      by false true h1 h2 = fk.many_entry G lv c s u l i d at_i z bs todo o m x t y quiet h.1 (pos 0)
+      by false true h1 h2 = fk.many_entry G lv c s u l i d at_i z bs todo o m x t y no_fault h.1 (pos 0)
           (length (children_tables G.g.program G.moves G.shares h.2 h.0)) h.4 some h1
           (ap (λ a. nat_lt G.g.limits.processes (u.births.processes + a)) os_are ∙ h2) h2
-      by false false h1 h2 = fk.fork_entry G lv c s u l i d at_i z bs todo o m x t y quiet h.1 (pos 0)
+      by false false h1 h2 = fk.fork_entry G lv c s u l i d at_i z bs todo o m x t y no_fault h.1 (pos 0)
           (length (children_tables G.g.program G.moves G.shares h.2 h.0)) h.4 some h1 h2 count_is (list_of ss) born
           new_life to_w from_w to_r from_r known dry parts gives (λ a g. can_split.apart a g) parted
           (λ more j lt. (let b = at_place j lt in kept_of_it more j b.0 b.1))

@@ -35,11 +35,11 @@ use Rattle.sp_link.proofs.Relation.{RunContext, BirthRights, RightsOfAll, W_of, 
 use Rattle.sp_link.proofs.Relation.{run_is, ops}
 
 -- where no fault stands
-pub after_quiet : (G : RunContext) (i : ℕ) (t : Turn (Memory Plain)) (u : System Plain) → u.faulted ≡ false
+pub after_no_fault : (G : RunContext) (i : ℕ) (t : Turn (Memory Plain)) (u : System Plain) → u.faulted ≡ false
     → system_after_turn plain (run_is G) i t u
     ≡ record (apply_unless_fault plain (run_is G) (fault_of G.g.limits u t) i t u)
     { births = births_after_event u.births i (event_or (fault_of G.g.limits u t) t) }
-after_quiet G i t u e = ap (λ b. record (if b then lays plain (run_is G) i (config_of t) u else
+after_no_fault G i t u e = ap (λ b. record (if b then lays plain (run_is G) i (config_of t) u else
     apply_unless_fault plain (run_is G) (fault_of G.g.limits u t) i t u)
     { births = births_after_event u.births i (if b then event.Laid else event_or (fault_of G.g.limits u t) t) }) e
 
@@ -119,14 +119,14 @@ module _ (G : RunContext) (lv : RightsOfAll G) (c : Course) (s : StateOf G.g) (u
 
     pub pausing : (todo : List Item) (o : LocalState) (m : Store) → Meant (Computed (source.Paused todo) o, m)
         → Machined (Computed (source.Paused todo) o, m) → u.faulted ≡ false → Entry_of G c s u i d
-    pausing todo o m x t quiet = record {
+    pausing todo o m x t no_fault = record {
       turn = tn;
       is_turn = tn_is;
       way = way_by _ (sym said);
-      speaks = subst (λ b. IsOpen u.births (if b then event.Laid else event.Pause)) (sym quiet) tt;
+      speaks = subst (λ b. IsOpen u.births (if b then event.Laid else event.Pause)) (sym no_fault) tt;
       lives = lv;
       linked = λ began. now_by G lv c1 x.state (system_after_turn plain (run_is G) i tn u)
-          (subst (λ y. Linked G lv c1 x.state y) (sym (after_quiet G i tn u quiet)) linked);
+          (subst (λ y. Linked G lv c1 x.state y) (sym (after_no_fault G i tn u no_fault)) linked);
     }
       where
         tn : Turn (Memory Plain)
@@ -136,7 +136,8 @@ module _ (G : RunContext) (lv : RightsOfAll G) (c : Course) (s : StateOf G.g) (u
         tn_is = turn_is tn (t.4, t.5, t.6)
 
         said : Rattle.sp_journal.specs.Births.happening u.births (event_of G.g.limits u tn) ≡ Is_paused
-        said = ap (λ b. Rattle.sp_journal.specs.Births.happening u.births (if b then event.Laid else event.Pause)) quiet
+        said = ap (λ b. Rattle.sp_journal.specs.Births.happening u.births
+            (if b then event.Laid else event.Pause)) no_fault
 
         p2 : Process
         p2 = with_todo todo p1.who o
@@ -176,7 +177,7 @@ module _ (G : RunContext) (lv : RightsOfAll G) (c : Course) (s : StateOf G.g) (u
             (record { named = z.named; forked = kt.forked; last = kt.last; fit = x.good.fit })
             (λ r a. ap (λ b. cond b (ticks_of G.g x.state w) (c.since r)) (differs name_test w r (λ e. a (sym e))))
             (λ r a. refl) (λ e. e) l.faulted
-            (λ e. x.elsewhere.fault ∙ l.quiet e) l.unlaid
+            (λ e. x.elsewhere.fault ∙ l.no_fault e) l.unlaid
             (p2, x.runs, inl stands, (its G lv c s u l i d at_i).3, (its G lv c s u l i d at_i).4) (λ e. absurd (cc e))
 
         way_by : (e : Happening) → Is_paused ≡ e → Way_on G c s w e
@@ -190,5 +191,5 @@ module _ (G : RunContext) (lv : RightsOfAll G) (c : Course) (s : StateOf G.g) (u
           course = c1;
           state = x.state;
           enters = λ left n y. subst (λ f. EntryStep G.g left c x.state true w f (0 + n)) h
-              (l.faulted ∙ quiet, refl, subst (λ k. left c1 x.state k) (is_none_plus n) y);
+              (l.faulted ∙ no_fault, refl, subst (λ k. left c1 x.state k) (is_none_plus n) y);
         }

@@ -106,4 +106,4 @@ module _ (g : RunInput) (moves shares : Stmt → List ℕ) (pause : ℕ) (ready 
   pub program_idle : (t : System Plain) → IsSystem plain (code_run g code pause) es t → (n : ℕ) (s : StateOf g)
       → IsAlong g pause (occurrences_from first_births es) n s → t.faulted ≡ false
       → ((i : ℕ) (d : Config (Memory Plain)) → t.condition i ≡ Working d → ⊥) → IsIdle g s
-  program_idle t h n s k quiet none = idle_means ground ready.main ready.first es named refl t h n s k quiet none
+  program_idle t h n s k no_fault none = idle_means ground ready.main ready.first es named refl t h n s k no_fault none

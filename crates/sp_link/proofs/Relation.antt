@@ -351,7 +351,7 @@ module _ (G : RunContext) where
     pub pending : (j : ℕ) → j < u.births.channels → IsPending (s.pending (channel G.births j)) (u.pending j)
     pub none_pending : (j : ℕ) → u.births.channels ≤ j → u.pending j ≡ None
     pub faulted : c.faulted ≡ u.faulted
-    pub quiet : u.faulted ≡ false → s.fault ≡ None
+    pub no_fault : u.faulted ≡ false → s.fault ≡ None
     pub unlaid : u.faulted ≡ false → (q : Name) → c.laid q ≡ false
     pub does : (i : ℕ) → i < u.births.processes
         → Performs_all lv (G.births.name i) c s (u.births.opens i) (u.condition i)

@@ -97,7 +97,7 @@ can_put G k a e cs t m = record {
 }
 
 module _ (G : RunContext) (lv : RightsOfAll G) (c : Course) (s : StateOf G.g) (u : System Plain) (l : Linked G lv c s u)
-    (quiet : u.faulted ≡ false) where
+    (no_fault : u.faulted ≡ false) where
   -- a process that runs
   module _ (i : ℕ) (d : Config (Memory Plain)) (at : u.condition i ≡ sys.Working d) where
     abbrev v : Name
@@ -197,9 +197,9 @@ module _ (G : RunContext) (lv : RightsOfAll G) (c : Course) (s : StateOf G.g) (u
         where
           by_form : Fork_is t.3 bs t.5 → Well (Stopped t.5 (At t.0 t.1 t.2))
           by_form (inl h) = subst (λ b. Well (Stopped b (At t.0 t.1 t.2))) (sym h.4)
-              (parallel.can_split G lv c s u l i d at z bs todo o m x t y quiet h)
+              (parallel.can_split G lv c s u l i d at z bs todo o m x t y no_fault h)
           by_form (inr h) = subst (λ b. Well (Stopped b (At t.0 t.1 t.2))) (sym h.9)
-              (forall.can_split G lv c s u l i d at z bs todo o m x t y quiet h)
+              (forall.can_split G lv c s u l i d at z bs todo o m x t y no_fault h)
       by_well (Computed (source.Stops (Offered ch k a todo)) o, m) e x t y = (
         Stopped t.5 (At t.0 t.1 t.2),
         turn_is G lv c s u l i d at z (Stopped t.5 (At t.0 t.1 t.2)) (t.4, t.6, t.7),

@@ -36,11 +36,12 @@ system_well : (G : RunContext) (lv : RightsOfAll G) (c : Course) (s : StateOf G.
 system_well G lv c s u ranked l = record {
   turns = λ q d at. turn_safe G lv c s u l q d at;
   ranks = λ q d at. ranked_along (ops G) G.code ranked d;
-  forks = λ q tb n val d st. can_split G lv c s u l st.quiet q st.configuration st.runs tb val n d st.turn;
-  ends = λ q left b d e st born joins. can_join G lv c s u l st.quiet q st.configuration st.runs b born left e joins d
+  forks = λ q tb n val d st. can_split G lv c s u l st.no_fault q st.configuration st.runs tb val n d st.turn;
+  ends = λ q left b d e st born joins. can_join G lv c s u l st.no_fault q st.configuration st.runs b born left e
+      joins d
       st.turn;
-  sends = λ q w ch k j a cells d e st p waits. put_by_send G lv c s u l st.quiet q w ch k j a cells d e st p waits;
-  receives = λ q w ch k j a cells d e st p waits. put_by_receive G lv c s u l st.quiet q w ch k j a cells d e st p
+  sends = λ q w ch k j a cells d e st p waits. put_by_send G lv c s u l st.no_fault q w ch k j a cells d e st p waits;
+  receives = λ q w ch k j a cells d e st p waits. put_by_receive G lv c s u l st.no_fault q w ch k j a cells d e st p
       waits;
 }
 

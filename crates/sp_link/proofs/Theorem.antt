@@ -81,5 +81,5 @@ module _ (G : RunContext) (b : Block) (eb : slice_get G.g.program.blocks 0 ≡ S
     -- nobody runs on both sides
     pub idle_means : t.faulted ≡ false → ((i : ℕ) (d : Config (Memory Plain)) → t.condition i ≡ Working d → ⊥)
         → (q : Name) → running_process G.g s q ≡ None
-    idle_means quiet none q = subst (λ y. running_process G.g y q ≡ None) is_it
-        (nobody (at_open G t.births.channels) at_end.lives at_end.course at_end.state t at_end.linked quiet none q)
+    idle_means no_fault none q = subst (λ y. running_process G.g y q ≡ None) is_it
+        (nobody (at_open G t.births.channels) at_end.lives at_end.course at_end.state t at_end.linked no_fault none q)

@@ -125,17 +125,17 @@ module _ (G : RunContext) (lv : RightsOfAll G) (c : Course) (s : StateOf G.g) (u
 
   pub stuck_means : (ws : List Waiting) → IsStuck u ws → IsDeadlock G.g s ws
   stuck_means ws k = record {
-    idle = nobody G lv c s u l k.quiet k.idle;
+    idle = nobody G lv c s u l k.no_fault k.idle;
     goes_on = λ e. (let z = done_there G lv c s u l e in k.goes_on z.0 z.1);
-    quiet = l.quiet k.quiet;
+    no_fault = l.no_fault k.no_fault;
     sorted = k.sorted;
     only = λ w i. waits_means w (k.only w i);
     whole = λ w h. k.whole w (waits_runs w h);
   }
 
   pub stuck_runs : (ws : List Waiting) → u.faulted ≡ false → IsDeadlock G.g s ws → IsStuck u ws
-  stuck_runs ws quiet k = record {
-    quiet = quiet;
+  stuck_runs ws no_fault k = record {
+    no_fault = no_fault;
     idle = λ i d e. (let z = somebody G lv c s u l i d e in none-some _ (sym (k.idle (G.births.name i)) ∙ z.1));
     goes_on = λ d e. k.goes_on (root_over G lv c s u l d e);
     sorted = k.sorted;

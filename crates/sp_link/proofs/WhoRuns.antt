@@ -20,14 +20,14 @@ module _ (G : RunContext) (lv : RightsOfAll G) (c : Course) (s : StateOf G.g) (u
   -- nobody runs in the meaning, where nobody runs in the machine and no fault stands
   pub nobody : u.faulted ≡ false → ((i : ℕ) (d : Config (Memory Plain)) → u.condition i ≡ Working d → ⊥) → (q : Name)
       → running_process G.g s q ≡ None
-  nobody quiet none q = by (running_process G.g s q) refl
+  nobody no_fault none q = by (running_process G.g s q) refl
     where
       by : (o : Option Process) → running_process G.g s q ≡ o → o ≡ None
       by None e = refl
       by (Some own) e =
           let n = l.numbered q (λ a. subst (λ x. IsLive x) a (working_lives s.condition q (s.condition q) own e)) in
           let z = runs_there G lv c s u l n.0 n.1 own (ap (λ y. running_process G.g s y) n.2 ∙ e)
-          (l.unlaid quiet (G.births.name n.0)) in
+          (l.unlaid no_fault (G.births.name n.0)) in
           absurd (none n.0 z.0 z.1)
 
   -- and the other way round

@@ -46,7 +46,7 @@ WaitsAs t w = (i : ℕ) × (stop : Stop) × (d : Config (Memory Plain)) × (t.co
 -- nobody runs, the first process has not ended and no fault stands; the list is every process that waits, in order of
 -- names
 pub record IsStuck (t : System Plain) (ws : List Waiting) : Type 0 where
-  pub quiet : t.faulted ≡ false
+  pub no_fault : t.faulted ≡ false
   pub idle : (i : ℕ) (d : Config (Memory Plain)) → t.condition i ≡ Working d → ⊥
   pub goes_on : (d : Config (Memory Plain)) → t.condition 0 ≡ Over d → ⊥
   pub sorted : IsSorted ws

@@ -106,7 +106,7 @@ pub fn code_waits_and_faults_as_the_program_does()
     ensures faulted { (g : RunInput) (moves shares : Stmt → List ℕ) (pause : ℕ) (es : List Entry) (t : System Plain)
         (n : ℕ) (s : StateOf g)
         → AreAlong g moves shares pause es t n s → t.faulted ≡ true → (p : ℕ) × (f : Fault) × HasFaultEntry es p f }
-    ensures quiet { (g : RunInput) (moves shares : Stmt → List ℕ) (pause : ℕ) (es : List Entry) (t : System Plain)
+    ensures no_fault { (g : RunInput) (moves shares : Stmt → List ℕ) (pause : ℕ) (es : List Entry) (t : System Plain)
         (n : ℕ) (s : StateOf g)
         → AreAlong g moves shares pause es t n s → t.faulted ≡ false → s.fault ≡ None }
 {}

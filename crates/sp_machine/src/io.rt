@@ -21,7 +21,8 @@ use sp_cell::{Address, Cell, Spot};
 use sp_code::Code;
 use sp_store::Store;
 use sp_values::{
-    ReadResult, byte_of, char_in, cut_to, is_at_line_end, line_length, number_in, truth_of, truth_text,
+    ReadResult, byte_of, char_in, cut_to, is_at_line_end, line_length, number_in, truth_of,
+    truth_text,
 };
 
 /// What is read.

@@ -14,12 +14,12 @@ module _ (g : RunInput) where
   longer : (s m : StateOf g) (q : Name) (qs : List Name) (k : ℕ) (t : StateOf g) → s.fault ≡ None
       → next_state g s q ≡ Some m
       → IsLongestFront g m qs k t → IsLongestFront g s (q ∷ qs) (suc k) t
-  longer s m q qs k t quiet e f = record {
+  longer s m q qs k t no_fault e f = record {
     front = q ∷ f.front;
     rest = f.rest;
     whole = ap (λ z. q ∷ z) f.whole;
     size = ap suc f.size;
-    leads = (m, quiet, e, f.leads);
+    leads = (m, no_fault, e, f.leads);
     stops = f.stops;
   }
 

@@ -28,10 +28,10 @@ module _ (g : RunInput) where
   fine s q a (Some i) out e f h = absurd f
 
   -- a step without a fault entry sets no fault
-  pub quiet_step : (s : StateOf g) (q : Name) (own : Process) (m : StateOf g) (w : Option Happening)
+  pub no_fault_step : (s : StateOf g) (q : Name) (own : Process) (m : StateOf g) (w : Option Happening)
       → running_process g s q ≡ Some own → happening_at g s q own ≡ w → IsFine w → next_state g s q ≡ Some m
       → s.fault ≡ None → m.fault ≡ None
-  quiet_step s q own m w run e f st h =
+  no_fault_step s q own m w run e f st h =
       let a = (superpascal g).next own s.store in
       let ok : (result_of s q (step_outcome (total_limits g) s q a)).fault ≡ None =
       fine s q a (limit_fault (total_limits g) s.totals (cost a)) (act_outcome s q a) refl (subst IsFine (sym e) f) h in
@@ -51,10 +51,10 @@ module _ (g : RunInput) where
   first : (s : StateOf g) (q : Name) (m : StateOf g) (n : ℕ) (t : StateOf g) → s.fault ≡ None
       → next_state g s q ≡ Some m
       → FaultFreeSchedule m n t → FaultFreeSchedule s (suc n) t
-  first s q m n t quiet st go = record {
+  first s q m n t no_fault st go = record {
     names = q ∷ go.names;
     size = ap suc go.size;
-    leads = (m, quiet, st, go.leads);
+    leads = (m, no_fault, st, go.leads);
     still = go.still;
   }
 
@@ -69,7 +69,7 @@ module _ (g : RunInput) where
       zero_add : n ≡ 0 + n
       zero_add = omega arith
   turned turn since q (suc k) s m paused n t h f go =
-      let still = quiet_step s q h.0 h.3 None h.1 h.2 tt h.4 f in
+      let still = no_fault_step s q h.0 h.3 None h.1 h.2 tt h.4 f in
       subst (λ z. FaultFreeSchedule s z t) suc_add (first s q h.3 (k + n) t f h.4
       (rest (is_due_after g turn since s h.0 q h.3) h.5 still (λ x. turned turn since q k h.3 m paused n t x still go)))
     where
@@ -93,7 +93,7 @@ module _ (g : RunInput) where
       → m.fault ≡ None
       → FaultFreeSchedule m n t
   kernel_goes left c m paused q w n t ok h next_goes f =
-      let still = quiet_step m q h.5.0 h.2 (Some w) h.5.1 h.5.2 ok h.5.3 f in
+      let still = no_fault_step m q h.5.0 h.2 (Some w) h.5.1 h.5.2 ok h.5.3 f in
       subst (λ z. FaultFreeSchedule m z t) (sym h.4) (first m q h.2 h.3 t f h.5.3 (next_goes _ h.2 h.3 h.6 still))
 
   entered_goes : (left : Course → StateOf g → ℕ → Type 0) (c : Course) (m : StateOf g) (paused : Bool) (q : Name)

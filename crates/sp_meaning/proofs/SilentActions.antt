@@ -651,16 +651,16 @@ module _ (set : RunInput) (free : IsFreeOfInterference set.program) (pure : AreF
       subst (λ fs. IsSame (length fs) s m) (sym u.0) u.1
 
   -- a step that opens a channel changed one variable
-  pub quiet_opens : (todo : List Item) (o : LocalState) (m : Store)
+  pub silent_opens : (todo : List Item) (o : LocalState) (m : Store)
       → ◌≡◌ {A = WorkOutcome Action × Store} (run_tree same_loc (action_of set pr) s) (Computed (Opened todo) o, m)
       → IsSameButOne (length pr.own.frames) s m
-  quiet_opens todo o m e = (subst ProcessStepIsSilent e told).2 tt
+  silent_opens todo o m e = (subst ProcessStepIsSilent e told).2 tt
 
   -- a step that fails wrote nothing to the output
-  pub quiet_faults : (f : Fault) (m : Store)
+  pub silent_faults : (f : Fault) (m : Store)
       → ◌≡◌ {A = WorkOutcome Action × Store} (run_tree same_loc (action_of set pr) s) (EndsInFault f, m)
       → s Output ≡ m Output
-  quiet_faults f m e = subst ProcessStepIsSilent e told
+  silent_faults f m e = subst ProcessStepIsSilent e told
 
   -- what is left to do after a local step has pure expressions again
   pub pure_kept : (d : Action) (o : LocalState) (m : Store)

@@ -64,7 +64,7 @@ module _ (g : RunInput) where
   pub record IsDeadlock (s : StateOf g) (ws : List Waiting) : Type 0 where
     pub idle : IsIdle s
     pub goes_on : s.condition [] ≢ Ended
-    pub quiet : s.fault ≡ None
+    pub no_fault : s.fault ≡ None
     pub sorted : IsSorted ws
     pub only : (w : Waiting) → IsIn w ws → WaitsSo s w
     pub whole : (w : Waiting) → WaitsSo s w → IsIn w ws

@@ -23,7 +23,7 @@ IsStuck y t = (p : y.Name) → y.step t p ≡ None
 -- the front of a lawful one of length n that leads to t
 pub record EndsAlike (y : System) (s : y.State) (n : ℕ) (t : y.State) (qs : List y.Name) (u : y.State) : Type 0 where
   pub bounded : length qs ≤ n
-  pub quiet : y.HasNoFault u
+  pub no_fault : y.HasNoFault u
   pub rest : List y.Name
   pub full : length (qs ++ rest) ≡ n
   pub goes_on : ScheduleLeads y u rest t

@@ -37,7 +37,7 @@ module _ (g : RunInput) (u : StateOf g) (w : Way) (c : Channel) (first second : 
 
   one_end : (x : End) → EndIs g u x → x ≡ the_fault
   one_end end.Done e = absurd (none-some _ (sym (idle e second) ∙ h.runs))
-  one_end (end.Deadlock ws) e = absurd (none-some _ (sym (e.1).quiet ∙ h.fault))
+  one_end (end.Deadlock ws) e = absurd (none-some _ (sym (e.1).no_fault ∙ h.fault))
   one_end (end.Fault p f) e =
       let s = fault_is e.0 f (same_fault e.0 f e.1) in
       λ i. end.Fault ((e.2 ∙ ap proc_name s.0) i) (s.1 i)

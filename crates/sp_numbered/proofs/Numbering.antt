@@ -45,13 +45,14 @@ names_last s [] e = refl
 names_last s (x ∷ es) e = ap (λ z. occurrence s x ∷ z) (names_last (births_after_entry s x) es e)
 
 -- a clean journal has no fault
-no_fault : (s : Births) (es : List Entry) → IsClean (occurrences_from s es) → (p : ℕ) (f : Fault) → HasFaultEntry es p f
+no_fault_entry : (s : Births) (es : List Entry) → IsClean (occurrences_from s es) → (p : ℕ) (f : Fault)
+    → HasFaultEntry es p f
     → ⊥
-no_fault s [] clean p f h = h
-no_fault s (e ∷ es) clean p f h = ⊎_elim
+no_fault_entry s [] clean p f h = h
+no_fault_entry s (e ∷ es) clean p f h = ⊎_elim
     (λ (is : e ≡ record { process = p; event = event.Fault f }). subst (λ (z : Entry). IsCleanly (happening s z.event))
     is clean.0)
-    (λ (x : HasFaultEntry es p f). no_fault (births_after_entry s e) es clean.1 p f x)
+    (λ (x : HasFaultEntry es p f). no_fault_entry (births_after_entry s e) es clean.1 p f x)
     h
 
 module _ (g : RunInput) (moves shares : Stmt → List ℕ) (pause : ℕ) (ready : IsReady g moves shares) where
@@ -98,18 +99,18 @@ module _ (g : RunInput) (moves shares : Stmt → List ℕ) (pause : ℕ) (ready 
         (λ a. subst (λ x. IsLive x) a
         (working_lives before.state.condition o.who (before.state.condition o.who) before.own before.runs))
 
-    quiet : t.faulted ≡ false
-    quiet = by t.faulted refl
+    no_fault : t.faulted ≡ false
+    no_fault = by t.faulted refl
       where
         by : (b : Bool) → t.faulted ≡ b → t.faulted ≡ false
         by false e = e
         by true e = let w = fault_entry run es (opening_system plain run) t refl system.1 e in
-            absurd (no_fault first_births es (subst IsClean (sym names) clean) w.0 w.1 w.2)
+            absurd (no_fault_entry first_births es (subst IsClean (sym names) clean) w.0 w.1 w.2)
 
     works : (d : Config (Memory Plain)) × (t.condition number.0 ≡ Working d)
     works = runs_there G goes.lives goes.course before.state t linked number.0 number.1 before.own
         (ap (λ y. running_process g before.state y) number.2 ∙ before.runs)
-        (linked.unlaid quiet (G.births.name number.0))
+        (linked.unlaid no_fault (G.births.name number.0))
 
     turns : Entry_of G goes.course before.state t number.0 works.0
     turns = entry G goes.lives goes.course before.state t linked number.0 works.0 works.1

@@ -8,9 +8,9 @@ use Rattle.sp_meaning.specs.Schedules.{System, ScheduleLeads, IsStuck, EndsAlike
 -- and it sets no fault"
 pub record CommutingSteps (y : System) : Type 1 where
   pub Step : y.State → y.Name → y.State → Type 0
-  pub quiet_before : (s : y.State) (p : y.Name) (t : y.State) → Step s p t → y.HasNoFault s
+  pub no_fault_before : (s : y.State) (p : y.Name) (t : y.State) → Step s p t → y.HasNoFault s
   pub made : (s : y.State) (p : y.Name) (t : y.State) → Step s p t → y.step s p ≡ Some t
-  pub quiet_after : (s : y.State) (p : y.Name) (t : y.State) → Step s p t → y.HasNoFault t
+  pub no_fault_after : (s : y.State) (p : y.Name) (t : y.State) → Step s p t → y.HasNoFault t
   -- names are told apart
   pub same_or_not : (p q : y.Name) → (p ≡ q) ⊎ (p ≢ q)
   -- who can step still can, once another has made a good step
@@ -60,26 +60,26 @@ front {y} g (p ∷ ps) s t q m r stuck e = ⊎_elim
 leads : {y : System} (g : CommutingSteps y) (ps : List y.Name) (s t : y.State) → GoodRun g s ps t
     → ScheduleLeads y s ps t
 leads g [] s t r = r
-leads g (p ∷ ps) s t r = (r.0, g.quiet_before s p r.0 r.1, g.made s p r.0 r.1, leads g ps r.0 t r.2)
+leads g (p ∷ ps) s t r = (r.0, g.no_fault_before s p r.0 r.1, g.made s p r.0 r.1, leads g ps r.0 t r.2)
 
 -- the theorem, over any system
 pub ends_alike : {y : System} (g : CommutingSteps y) (qs ps : List y.Name) (s t u : y.State) → y.HasNoFault s
     → GoodRun g s ps t
     → IsStuck y t → ScheduleLeads y s qs u → EndsAlike y s (length ps) t qs u
-ends_alike {y} g [] ps s t u quiet r stuck l =
+ends_alike {y} g [] ps s t u no_fault r stuck l =
     record {
       bounded = omega arith;
-      quiet = subst y.HasNoFault (sym l) quiet;
+      no_fault = subst y.HasNoFault (sym l) no_fault;
       rest = ps;
       full = refl;
       goes_on = subst (λ z. ScheduleLeads y z ps t) (sym l) (leads g ps s t r);
     }
-ends_alike {y} g (q ∷ qs) ps s t u quiet r stuck l =
+ends_alike {y} g (q ∷ qs) ps s t u no_fault r stuck l =
     let f = front g ps s t q l.0 r stuck l.2 in
-    let h = ends_alike g qs f.rest l.0 t u (g.quiet_after s q l.0 f.step) f.run stuck l.3 in
+    let h = ends_alike g qs f.rest l.0 t u (g.no_fault_after s q l.0 f.step) f.run stuck l.3 in
     record {
       bounded = omega (arith, f.one_less, h.bounded);
-      quiet = h.quiet;
+      no_fault = h.no_fault;
       rest = h.rest;
       full = omega (arith, f.one_less, h.full);
       goes_on = h.goes_on;

@@ -44,15 +44,15 @@ pub record Made {L : Language} (limits : Totals) (s : State L) (p : Name) (t : S
 
 pub made_of : {L : Language} {limits : Totals} (s : State L) (p : Name) (t : State L) → step limits s p ≡ Some t
     → HasNoFault t → Made limits s p t
-made_of {L} {limits} s p t e quiet = by_own (own_part s p) refl e
+made_of {L} {limits} s p t e no_fault = by_own (own_part s p) refl e
   where
     by_acts : (own : L.Own) → own_part s p ≡ Some own → (a : ActOf L) → L.next own s.store ≡ a → (x : ActOutcome L)
         → act_outcome s p a ≡ x → (f : Option Fault) → limit_fault limits s.totals (cost a) ≡ f
         → Some (result_of s p (fault_or f x)) ≡ Some t → Made limits s p t
     by_acts own w a is x e (Some f) g h = let k : (Some (p, f)) ≡ t.fault =
-        ap (λ (z : State L). z.fault) (same_Some _ _ h) in absurd (none-some _ (sym (k ∙ quiet)))
+        ap (λ (z : State L). z.fault) (same_Some _ _ h) in absurd (none-some _ (sym (k ∙ no_fault)))
     by_acts own w a is (Faulty f) e None g h = let k : (Some (p, f)) ≡ t.fault =
-        ap (λ (z : State L). z.fault) (same_Some _ _ h) in absurd (none-some _ (sym (k ∙ quiet)))
+        ap (λ (z : State L). z.fault) (same_Some _ _ h) in absurd (none-some _ (sym (k ∙ no_fault)))
     by_acts own w a is (Advances cs) e None g h = record {
       cs = cs;
       makes = record {
@@ -138,23 +138,25 @@ pub record GoodStep {L : Language} (limits : Totals) (origin : State L) (j : Wit
   pub leads : ScheduleLeads (process_system L limits) origin way j.state
   pub sound : Sound j.state
   pub known : IsKnowledge j.notes
-  pub quiet : HasNoFault j.state
+  pub no_fault : HasNoFault j.state
   pub cs : List (Change L)
   pub makes : Makes limits j.state p cs
   pub to : k.state ≡ with_changes cs j.state
   pub noted : k.notes ≡ notes_after j.state j.notes p (L.next makes.own j.state.store)
   pub knows : KnowsBefore L j.notes p (L.next makes.own j.state.store)
 
-pub quiet_after : {L : Language} {limits : Totals} (s : State L) (p : Name) (cs : List (Change L)) → Makes limits s p cs
+pub no_fault_after : {L : Language} {limits : Totals} (s : State L) (p : Name) (cs : List (Change L))
+    → Makes limits s p cs
     → HasNoFault s → HasNoFault (with_changes cs s)
-quiet_after {L} s p cs m q = fault_frame s p (L.next m.own s.store) cs s (all_in s p (L.next m.own s.store) cs m.does)
+no_fault_after {L} s p cs m q = fault_frame s p (L.next m.own s.store) cs s (all_in s p
+    (L.next m.own s.store) cs m.does)
     ∙ q
 
 module _ {L : Language} (limits : Totals) (laws : Laws L) (origin : State L)
     (disjoint : IsDisjoint L limits origin) where
   -- what p writes in s, q does not access in the state after; and what q writes there, p does not access in s
   module _ (s : State L) (p q : Name) (cs ds : List (Change L)) (way : List Name)
-      (leads : ScheduleLeads (process_system L limits) origin way s) (sound : Sound s) (quiet : HasNoFault s)
+      (leads : ScheduleLeads (process_system L limits) origin way s) (sound : Sound s) (no_fault : HasNoFault s)
       (one : Makes limits s p cs)
       (two : Makes limits (with_changes cs s) q ds) (apart : p ≢ q) (w : own_part s q ≡ Some two.own)
       (off : (c : Channel) → IsOn (L.next one.own s.store) c → IsOn (L.next two.own (with_changes cs s).store) c
@@ -162,9 +164,15 @@ module _ {L : Language} (limits : Totals) (laws : Laws L) (origin : State L)
     full : ScheduleLeads (process_system L limits) origin (way ++ p ∷ q ∷ []) (with_changes ds (with_changes cs s))
     full = leads_on limits way (p ∷ q ∷ []) origin s (with_changes ds (with_changes cs s)) leads (
       with_changes cs s,
-      quiet,
+      no_fault,
       steps s p cs one,
-      (with_changes ds (with_changes cs s), quiet_after s p cs one quiet, steps (with_changes cs s) q ds two, refl),
+      (
+        with_changes ds (with_changes cs s),
+        no_fault_after s p cs one no_fault,
+        steps
+            (with_changes cs s) q ds two,
+        refl,
+      ),
     )
 
     at_p : (it : State L → Name → L.Own → Type 0) → it s p one.own → Happens limits it origin (way ++ p ∷ q ∷ [])
@@ -235,7 +243,7 @@ module _ {L : Language} (limits : Totals) (laws : Laws L) (origin : State L)
       (with_changes ds (with_changes cs s))
       (notes_after (with_changes cs s) (notes_after s n p (L.next one.own s.store)) q
       (L.next two.own (with_changes cs s).store))
-  exchanged s n p q cs ds way leads sound known quiet one two apart w kp kq = ⊎_elim
+  exchanged s n p q cs ds way leads sound known no_fault one two apart w kp kq = ⊎_elim
       (λ (h : (o : OfferOf L) × (r : OfferOf L) × (L.next one.own s.store ≡ Offering o)
       × (L.next two.own (with_changes cs s).store ≡ Offering r) × (o.channel ≡ r.channel)).
       let o = h.0 in
@@ -255,8 +263,8 @@ module _ {L : Language} (limits : Totals) (laws : Laws L) (origin : State L)
       (λ (off : (c : Channel) → IsOn (L.next one.own s.store) c
       → IsOn (L.next two.own (with_changes cs s).store) c → ⊥).
       let x = exchange laws s p q cs ds two.own sound one two (λ e. apart (sym e)) w off
-      (free_one s p q cs ds way leads sound quiet one two apart w off)
-      (free_two s p q cs ds way leads sound quiet one two apart w off) in
+      (free_one s p q cs ds way leads sound no_fault one two apart w off)
+      (free_two s p q cs ds way leads sound no_fault one two apart w off) in
       let a = L.next one.own s.store in
       let b = L.next two.own (with_changes cs s).store in
       let c = L.next x.first.own s.store in
@@ -361,7 +369,7 @@ module _ {L : Language} (limits : Totals) (laws : Laws L) (origin : State L)
       let w = noted_can s q m e in
       let k = keeps_working s.state p g.cs g.sound g.makes q w.0 (λ x. apart (sym x)) w.1 in
       let own : w.0 ≡ h'.makes.own = same_Some _ _ (sym k ∙ h'.makes.works) in
-      let x = exchanged s.state s.notes p q g.cs h'.cs g.way g.leads g.sound g.known g.quiet g.makes h'.makes apart
+      let x = exchanged s.state s.notes p q g.cs h'.cs g.way g.leads g.sound g.known g.no_fault g.makes h'.makes apart
       (subst (λ z. own_part s.state q ≡ Some z) own w.1) g.knows h'.knows in
       let b = L.next h'.makes.own (with_changes g.cs s.state).store in
       let c = L.next x.first.own s.state.store in
@@ -372,7 +380,7 @@ module _ {L : Language} (limits : Totals) (laws : Laws L) (origin : State L)
         leads = g.leads;
         sound = g.sound;
         known = g.known;
-        quiet = g.quiet;
+        no_fault = g.no_fault;
         cs = x.ds;
         makes =
             x.first;
@@ -389,13 +397,13 @@ module _ {L : Language} (limits : Totals) (laws : Laws L) (origin : State L)
         way = g.way ++ q ∷ [];
         leads = leads_on limits g.way (q ∷ []) origin s.state (with_changes x.ds s.state) g.leads (
           with_changes x.ds s.state,
-          g.quiet,
+          g.no_fault,
           steps s.state q x.ds x.first,
           refl,
         );
         sound = sound_kept s.state q x.ds g.sound x.first;
         known = known_kept s.notes g.known s.state q c;
-        quiet = quiet_after s.state q x.ds x.first g.quiet;
+        no_fault = no_fault_after s.state q x.ds x.first g.no_fault;
         cs = x.cs;
         makes = x.second;
         to = h'.to ∙ x.commute;
@@ -409,9 +417,9 @@ module _ {L : Language} (limits : Totals) (laws : Laws L) (origin : State L)
   good : CommutingSteps (system_with_notes L limits)
   good = record {
     Step = GoodStep limits origin;
-    quiet_before = λ s p t g. g.quiet;
+    no_fault_before = λ s p t g. g.no_fault;
     made = made_step;
-    quiet_after = λ s p t g. subst HasNoFault (sym g.to) (quiet_after s.state p g.cs g.makes g.quiet);
+    no_fault_after = λ s p t g. subst HasNoFault (sym g.to) (no_fault_after s.state p g.cs g.makes g.no_fault);
     same_or_not = same_or_not name_test;
     persists = λ s p q s1 m apart g e.
         let w = noted_can s q m e in
@@ -430,8 +438,8 @@ module _ {L : Language} (limits : Totals) (laws : Laws L) (origin : State L)
   unfolding good
   good_run [] way s t n before sound known l q o = (n, λ i. to_notes (l i) n)
   good_run (p ∷ ps) way s t n before sound known l q o =
-      let quiet_m = after_quiet ps l.0 t l.3 q in
-      let x = made_of s p l.0 l.2 quiet_m in
+      let no_fault_m = after_no_fault ps l.0 t l.3 q in
+      let x = made_of s p l.0 l.2 no_fault_m in
       let a = L.next x.makes.own s.store in
       let n1 = notes_after s n p a in
       let next : ScheduleLeads (process_system L limits) origin (way ++ p ∷ []) l.0 =
@@ -446,7 +454,7 @@ module _ {L : Language} (limits : Totals) (laws : Laws L) (origin : State L)
             leads = before;
             sound = sound;
             known = known;
-            quiet = l.1;
+            no_fault = l.1;
             cs = x.cs;
             makes = x.makes;
             to = x.to;
@@ -457,10 +465,10 @@ module _ {L : Language} (limits : Totals) (laws : Laws L) (origin : State L)
         ),
       )
     where
-      after_quiet : (ps : List Name) (m t : State L) → ScheduleLeads (process_system L limits) m ps t → HasNoFault t
+      after_no_fault : (ps : List Name) (m t : State L) → ScheduleLeads (process_system L limits) m ps t → HasNoFault t
           → HasNoFault m
-      after_quiet [] m t l q = subst HasNoFault l q
-      after_quiet (p ∷ ps) m t l q = l.1
+      after_no_fault [] m t l q = subst HasNoFault l q
+      after_no_fault (p ∷ ps) m t l q = l.1
 
 -- Every schedule of the model is one with notes, and the other way round
 
@@ -524,17 +532,17 @@ pub confluence : (L : Language) (limits : Totals) (own : L.Own) (store : L.Loc �
     → IsStuck (process_system L limits) t → IsOrderedRun limits (opening_state L own store) no_notes ps
     → (qs : List Name) (u : State L) → ScheduleLeads (process_system L limits) (opening_state L own store) qs u
     → EndsAlike (process_system L limits) (opening_state L own store) (length ps) t qs u
-confluence L limits own store laws disjoint ps t leads quiet stuck ordered qs u other =
+confluence L limits own store laws disjoint ps t leads no_fault stuck ordered qs u other =
     let origin = opening_state L own store in
     let g = good limits laws origin disjoint in
     let run = good_run limits laws origin disjoint ps [] origin t no_notes refl (sound_opening L own store)
-    knows_nothing leads quiet ordered in
+    knows_nothing leads no_fault ordered in
     let o = noted_run limits qs origin u no_notes other in
     let x = ends_alike g qs ps (record { state = origin; notes = no_notes }) (record { state = t; notes = run.0 })
     (record { state = u; notes = o.notes }) refl run.1 (λ p. noted_stuck t run.0 p (stuck p)) o.leads in
     record {
       bounded = x.bounded;
-      quiet = x.quiet;
+      no_fault = x.no_fault;
       rest = x.rest;
       full = x.full;
       goes_on = unnoted_run limits x.rest (record { state = u; notes = o.notes })

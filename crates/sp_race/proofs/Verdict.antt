@@ -21,7 +21,7 @@ use Rattle.sp_meaning.specs.Ends.{IsDone, IsIdle}
 use Rattle.sp_meaning.proofs.Status.{Makes}
 use Rattle.sp_meaning.proofs.Kept.{sound_kept}
 use Rattle.sp_meaning.proofs.Instance.{superpascal_keeps}
-use Rattle.sp_meaning.proofs.JournalSchedules.{quiet_step}
+use Rattle.sp_meaning.proofs.JournalSchedules.{no_fault_step}
 use Rattle.sp_meaning.proofs.LawProofs.{done_idle}
 use Rattle.sp_race.specs.Notes.{Event, JudgeNotes, no_notes, IsKnowledge, KnowsBefore}
 use Rattle.sp_race.specs.Noting.{notes_after}
@@ -43,7 +43,7 @@ module _ (g : RunInput) where
     pub linked : NotesMatch s v j done n label
     pub sound : Sound s
     pub known : IsKnowledge v
-    pub quiet : s.fault ≡ None
+    pub no_fault : s.fault ≡ None
 
   -- an ordered schedule of n names from s to t, without a fault at its end
   record OrderedSchedule (s : StateOf g) (v : JudgeNotes) (n : ℕ) (t : StateOf g) : Type 0 where
@@ -59,19 +59,19 @@ module _ (g : RunInput) where
     pub makes : Makes (total_limits g) s q cs
     pub process_is : makes.own ≡ own
     pub to : m ≡ with_changes cs s
-    pub quiet : m.fault ≡ None
+    pub no_fault : m.fault ≡ None
 
   pub stepped : (s : StateOf g) (q : Name) (own : Process) (m : StateOf g) → running_process g s q ≡ Some own
       → next_state g s q ≡ Some m → m.fault ≡ None → Stepped s q own m
-  stepped s q own m run st quiet =
-      let x = made_of s q m st quiet in
+  stepped s q own m run st no_fault =
+      let x = made_of s q m st no_fault in
       record {
         cs = x.cs;
         makes = x.makes;
         process_is = same_Some _ _
             (sym x.makes.works ∙ run);
         to = x.to;
-        quiet = quiet;
+        no_fault = no_fault;
       }
 
   -- what the step says
@@ -100,7 +100,7 @@ module _ (g : RunInput) where
             label1) (sym x.to) (subst (λ z. NotesMatch (with_changes x.cs s) z j1 done1 n1 label1) notes_are l);
         sound = subst (λ (z : StateOf g). Sound z) (sym x.to) (sound_kept s q x.cs at.sound x.makes);
         known = known_kept v at.known s q ((superpascal g).next own s.store);
-        quiet = x.quiet;
+        no_fault = x.no_fault;
       }
 
   -- one ordered step in front
@@ -108,10 +108,10 @@ module _ (g : RunInput) where
       → s.fault ≡ None → running_process g s q ≡ Some own → next_state g s q ≡ Some m
       → KnowsBefore (superpascal g) v q ((superpascal g).next own s.store)
       → OrderedSchedule m (notes_after s v q ((superpascal g).next own s.store)) n t → OrderedSchedule s v (suc n) t
-  first s v q own m n t quiet run st knows go = record {
+  first s v q own m n t no_fault run st knows go = record {
     names = q ∷ go.names;
     size = ap suc go.size;
-    leads = (m, quiet, st, go.leads);
+    leads = (m, no_fault, st, go.leads);
     still = go.still;
     ordered = (
       λ o w. subst (λ z. KnowsBefore (superpascal g) v q ((superpascal g).next z s.store)) (same_Some _ _ (sym run ∙ w))
@@ -169,13 +169,13 @@ module _ (g : RunInput) where
   turned turn since q (suc k) s m paused r t v j done n label h at go =
       let own = h.0 in
       let u = h.3 in
-      let x = stepped s q own u h.1 h.4 (quiet_step g s q own u None h.1 h.2 tt h.4 at.quiet) in
+      let x = stepped s q own u h.1 h.4 (no_fault_step g s q own u None h.1 h.2 tt h.4 at.no_fault) in
       let mv = local_moves s q own u x h.2 in
       let at1 = next_at s v j done n label q own u at x j done n label
       (moves_linked s v q x.cs at.sound at.known x.makes j done n label at.linked mv.next_own mv.writes mv.move_is) in
       let knows = subst (λ z. KnowsBefore (superpascal g) v q ((superpascal g).next z s.store)) x.process_is
       (moves_know s x.makes.own v q mv) in
-      subst (λ z. OrderedSchedule s v z t) suc_add (first s v q own u (k + r) t at.quiet h.1 h.4 knows
+      subst (λ z. OrderedSchedule s v z t) suc_add (first s v q own u (k + r) t at.no_fault h.1 h.4 knows
       (rest (notes_after s v q ((superpascal g).next own s.store)) u (is_due_after g turn since s own q u) h.5 at1
       (λ y a. turned turn since q k u m paused r t (notes_after s v q ((superpascal g).next own s.store)) j done n
       label y a go)))
@@ -271,9 +271,9 @@ module _ (g : RunInput) where
   kernel_goes left c m paused q w r t v j done n label ok h at knows go =
       let own = h.5.0 in
       let u = h.2 in
-      let x = stepped m q own u h.5.1 h.5.3 (quiet_step g m q own u (Some w) h.5.1 h.5.2 ok h.5.3 at.quiet) in
+      let x = stepped m q own u h.5.1 h.5.3 (no_fault_step g m q own u (Some w) h.5.1 h.5.2 ok h.5.3 at.no_fault) in
       let y = enters m v q own u j done n label w at x h.5.2 knows in
-      subst (λ z. OrderedSchedule m v z t) (sym h.4) (first m v q own u h.3 t at.quiet h.5.1 h.5.3 y.knows
+      subst (λ z. OrderedSchedule m v z t) (sym h.4) (first m v q own u h.3 t at.no_fault h.5.1 h.5.3 y.knows
       (go _ u h.3 h.6 (notes_after m v q ((superpascal g).next own m.store)) y.label y.at))
 
   entered_goes : (left : Course → StateOf g → ℕ → Type 0) (c : Course) (m : StateOf g) (paused : Bool) (q : Name)
@@ -297,7 +297,7 @@ module _ (g : RunInput) where
         linked = pause_linked m v j done n label q at.linked;
         sound = at.sound;
         known = at.known;
-        quiet = at.quiet;
+        no_fault = at.no_fault;
       })
 
   along_goes : (turn : ℕ) (es : List Occurrence) (c : Course) (s : StateOf g) (r : ℕ) (t : StateOf g) (v : JudgeNotes)
@@ -308,7 +308,7 @@ module _ (g : RunInput) where
         names = [];
         size = sym a.0;
         leads = a.1;
-        still = ap (λ (z : StateOf g). z.fault) a.1 ∙ at.quiet;
+        still = ap (λ (z : StateOf g). z.fault) a.1 ∙ at.no_fault;
         ordered = tt;
       }
   along_goes turn (e ∷ es) c s r t v j done n label a clean at k =
@@ -343,7 +343,7 @@ module _ (g : RunInput) where
         linked = linked_start;
         sound = sound_opening (superpascal g) (root g) (first_store g);
         known = knows_nothing;
-        quiet = refl;
+        no_fault = refl;
       }) (ordered_known es ordered) in
       let idle : IsIdle g t = ⊎_elim (λ (d : IsDone g t). done_idle g t (go.names, go.leads) d) (λ (i : IsIdle g t). i)
       end in

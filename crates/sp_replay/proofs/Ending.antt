@@ -67,7 +67,7 @@ module _ (x : Kernel) (c : HasCome x) (who : ℕ → Option Proc) (o : AreOut x 
       (is_ready x.ready || nat_lt 0 x.out) is in
       let outs : HasOuts (control_of x) = has_outs x c in
       record {
-        quiet = b.0;
+        no_fault = b.0;
         root = λ f. live_phase ((control_of x).doing 0) b.1 ((is_whole x c).agrees.each 0 ∙ f);
         runs = first_out outs.outs (subst (λ n. 0 < n) (sym outs.count) (some_out x.ready x.out none b.2)) outs.each;
       }

@@ -17,7 +17,7 @@ use Rattle.sp_replay.specs.declared.replayer.ReplayError.TheVariants as error
 
 -- a process runs, the root has not ended, and no fault stands
 pub record GoesOn (s : System Plain) : Type 0 where
-  pub quiet : s.faulted ≡ false
+  pub no_fault : s.faulted ≡ false
   pub root : phase_in (s.condition 0) ≢ Finished
   pub runs : (q : ℕ) × (phase_in (s.condition q) ≡ Running)
 

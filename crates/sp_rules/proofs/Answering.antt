@@ -96,11 +96,11 @@ module _ (g : CodeRun) (k : KeepsCodeRules g.code) where
     both_kept p q st s1 n m s t h ch = (kept p q st s1 n m s t h.0 ch, linked_kept p q st s1 n m s t h.1 ch)
 
     -- wherever a turn comes to an instruction that stops, no activation is of a block that answers
-    pub answers_quietly : (p q : ℕ) (st s1 : List Entry) (n m : Memory Plain) (s : StandsAt g.code p st n.frames)
+    pub answers_without_stop : (p q : ℕ) (st s1 : List Entry) (n m : Memory Plain) (s : StandsAt g.code p st n.frames)
         → Both p st n s → RunsTo (memory plain g) g.code (At p st n) (At q s1 m) → is_stop (instr_at g.code q) ≡ true
         → (t : StandsAt g.code q s1 m.frames)
         × ((f : ℕ) (l : Layout) → IsAreaAmong g.code (Body f) (areas t) → layout_of g.code.layouts f ≡ Some l
         → l.answer ≡ false)
-    answers_quietly p q st s1 n m s h way is =
+    answers_without_stop p q st s1 n m s h way is =
         let w = safe.comes_in plain g k Both both_ready both_kept way.steps (At p st n) (At q s1 m) (s, h) way.proof in
         (w.0, none_answers g.code eight w.0.area (areas_of w.0.callers) q w.0.shapes w.1.1 w.0.reached is)

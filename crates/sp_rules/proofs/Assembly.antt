@@ -7,7 +7,7 @@ use Rattle.sp_code.specs.declared.code.Parts.{Parts}
 use Rattle.sp_code.specs.Machine.{layout_of}
 use Rattle.sp_code.specs.Sizes.{IsSize, HasSmallSizes, HasChild, KeepsSizes}
 use Rattle.sp_code.specs.Sound.{IsSound, run_of}
-use Rattle.sp_rules.specs.Activations.{AnswersQuietly}
+use Rattle.sp_rules.specs.Activations.{AnswersWithoutStop}
 use Rattle.sp_rules.specs.Effects.{Does}
 use Rattle.sp_rules.specs.Forks.{KeepsEffects}
 use Rattle.sp_rules.specs.Forks as fork
@@ -62,8 +62,8 @@ module _ (c : Parts) (small : KeepsSizes c) (v : IsVerified c) where
   }
 
   -- and a process stops at nothing but a fault or a pause while a block that answers is being called
-  pub verified_quiet : AnswersQuietly c
-  verified_quiet input lim within es s is q d at p st m way stops = verified.quiet_along
+  pub verified_without_stop : AnswersWithoutStop c
+  verified_without_stop input lim within es s is q d at p st m way stops = verified.without_stop_along
       (run_of c input lim) k e known within.depth (v V9) eight es s is q d at p st m way stops
     where
       eight : (f : ℕ) (l : Layout) → layout_of c.layouts f ≡ Some l → fork.BreaksV8 c (Does c) (HasStop c) l f → ⊥

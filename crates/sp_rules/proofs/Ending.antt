@@ -28,7 +28,7 @@ use Rattle.sp_rules.specs.Forks as fork
 use Rattle.sp_rules.specs.Verdict.{is_stop, HasStop}
 use Rattle.sp_rules.specs.Running.{Base, HasActivations, Aims, ForksWell, StopsWell}
 use Rattle.sp_rules.specs.Writable.{AllWriteWell, MayWrite}
-use Rattle.sp_rules.proofs.Answering.{Linked, IsAreaAmong, linked_kept, answers_quietly}
+use Rattle.sp_rules.proofs.Answering.{Linked, IsAreaAmong, linked_kept, answers_without_stop}
 use Rattle.sp_rules.proofs.Holds.{kept, elsewhere}
 use Rattle.sp_rules.proofs.Pushes.{KeepsCalls}
 use Rattle.sp_rules.proofs.Safe as safe
@@ -263,11 +263,11 @@ module _ (g : CodeRun) where
     -- where it comes to an instruction that stops, no activation is of a block that answers
     module _ (eight : (f : ℕ) (l : Layout) → layout_of g.code.layouts f ≡ Some l
         → fork.BreaksV8 g.code (Does g.code) (HasStop g.code) l f → ⊥) where
-      pub turn_quiet : (us : List Area) (c : Config (Memory Plain)) (q : ℕ) (s1 : List Entry) (m : Memory Plain)
+      pub turn_without_stop : (us : List Area) (c : Config (Memory Plain)) (q : ℕ) (s1 : List Entry) (m : Memory Plain)
           → Lv us c → T us c → RunsTo (memory plain g) g.code c (At q s1 m) → is_stop (instr_at g.code q) ≡ true
           → (t : StandsAt g.code q s1 m.frames)
           × ((f : ℕ) (l : Layout) → IsAreaAmong g.code (Body f) (areas t) → layout_of g.code.layouts f ≡ Some l
           → l.answer ≡ false)
-      turn_quiet us (At p st n) q s1 m l t way is =
+      turn_without_stop us (At p st n) q s1 m l t way is =
           let w = known us (At p st n) l t in
-          answers_quietly g k IsHoldingAt holds_ready holds_kept eight p q st s1 n m w.0 (w.1, w.1.2) way is
+          answers_without_stop g k IsHoldingAt holds_ready holds_kept eight p q st s1 n m w.0 (w.1, w.1.2) way is

@@ -31,7 +31,7 @@ use Rattle.sp_rules.specs.Standing.{StandsAt, Caller, Under, IsBottom, Framed, F
 use Rattle.sp_rules.specs.Touched.{HasAnswer, stored_by}
 use Rattle.sp_rules.specs.Writable.{WritesWell, MayWrite}
 use Rattle.sp_rules.proofs.Ending.{T, Room, Sent, t_store, t_entered, t_deep, turn_safe, turn_well, turn_ranked}
-use Rattle.sp_rules.proofs.Ending.{turn_quiet}
+use Rattle.sp_rules.proofs.Ending.{turn_without_stop}
 use Rattle.sp_rules.proofs.Answering.{IsAreaAmong}
 use Rattle.sp_rules.specs.Forks as fork
 use Rattle.sp_rules.specs.Verdict.{is_stop, HasStop}
@@ -214,7 +214,7 @@ module _ (g : CodeRun) (k : KeepsCodeRules g.code) (e : KeepsEffects g.code (Doe
 
     -- a process that runs comes to no instruction that stops, other than by a fault or a pause, while a block that
     -- answers is being called
-    pub quiet_along : ((f : ℕ) (l : Layout) → layout_of g.code.layouts f ≡ Some l
+    pub without_stop_along : ((f : ℕ) (l : Layout) → layout_of g.code.layouts f ≡ Some l
         → fork.BreaksV8 g.code (Does g.code) (HasStop g.code) l f → ⊥)
         → (es : List JournalEntry) (s : System Plain) → IsSystem plain g es s → (q : ℕ) (c : Config (Memory Plain))
         → s.condition q ≡ Working c → (p : ℕ) (st : List Entry) (m : Memory Plain)
@@ -222,7 +222,7 @@ module _ (g : CodeRun) (k : KeepsCodeRules g.code) (e : KeepsEffects g.code (Doe
         → (t : StandsAt g.code p st m.frames)
         × ((f : ℕ) (l : Layout) → IsAreaAmong g.code (Body f) (areas t) → layout_of g.code.layouts f ≡ Some l
         → l.answer ≡ false)
-    quiet_along eight es s l q c runs p st m way is =
+    without_stop_along eight es s l q c runs p st m way is =
         let i = live_along es s l in
         let w = subst (λ y. Fine g H E (T g) (Room g) (Sent g) i.base (i.base q) (i.children q) y) runs (i.each q) in
-        turn_quiet g k E mays calls ready forks writes (i.base q) eight w.0 c p st m w.1 w.2 way is
+        turn_without_stop g k E mays calls ready forks writes (i.base q) eight w.0 c p st m w.1 w.2 way is

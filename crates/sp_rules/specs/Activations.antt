@@ -36,8 +36,8 @@ module _ (c : Parts) where
   IsAreaAmong a (d ∷ us) = (a ≡ d) ⊎ IsAreaAmong a us
 
   -- along every journal, wherever a turn comes to an instruction that stops, no activation is of a block that answers
-  abbrev pub AnswersQuietly : Type 0
-  AnswersQuietly =
+  abbrev pub AnswersWithoutStop : Type 0
+  AnswersWithoutStop =
       (input : List ℕ) (lim : Limits) → AreLimits lim → (es : List JournalEntry) (s : System Plain)
       → IsSystem plain (run_of c input lim) es s → (q : ℕ) (d : Config (Memory Plain)) → s.condition q ≡ Working d
       → (p : ℕ) (st : List Entry) (m : Memory Plain) → RunsTo (memory plain (run_of c input lim)) c d (At p st m)

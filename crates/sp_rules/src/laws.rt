@@ -4,7 +4,7 @@
 ghost use Rattle.sp_code.specs.declared.code.Parts.{Parts};
 ghost use Rattle.sp_code.specs.Sizes.{KeepsSizes};
 ghost use Rattle.sp_code.specs.Sound.{IsSound};
-ghost use Rattle.sp_rules.specs.Activations.{AnswersQuietly};
+ghost use Rattle.sp_rules.specs.Activations.{AnswersWithoutStop};
 ghost use Rattle.sp_rules.specs.Verdict.{IsVerified};
 
 /// Code that breaks no rule is sound: along every journal each turn of each process ends, lacks no operand, jumps to no
@@ -12,5 +12,5 @@ ghost use Rattle.sp_rules.specs.Verdict.{IsVerified};
 /// can be carried out. While a block that answers is being called, its process stops at nothing but a fault or a pause.
 pub fn verified_code_is_sound()
     ensures sound { (c : Parts) → KeepsSizes c → IsVerified c → IsSound c }
-    ensures quiet { (c : Parts) → KeepsSizes c → IsVerified c → AnswersQuietly c }
+    ensures without_stop { (c : Parts) → KeepsSizes c → IsVerified c → AnswersWithoutStop c }
 {}

@@ -3,7 +3,8 @@
 //!
 //! Laws:
 //! - `verified_code_is_sound` (`laws`): code of proper sizes that breaks no rule is sound (`IsSound` of `sp_code`), and
-//!   no process is in a call of a block with a result where it comes to an instruction that stops (`AnswersQuietly`).
+//!   no process is in a call of a block with a result where it comes to an instruction that stops
+//!   (`AnswersWithoutStop`).
 //!
 //! To know:
 //! - `specs/Areas.antt` divides code into areas: the code of each block and of each child of a fork. The rules are said

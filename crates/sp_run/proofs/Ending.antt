@@ -57,7 +57,7 @@ module _ (run : set.RunInput) (s : State) where
     record {
       idle = i;
       goes_on = not_ended (conditions_of s.conditions []) d;
-      quiet = f;
+      no_fault = f;
       sorted = h.sorted;
       only = h.only;
       whole = h.whole;

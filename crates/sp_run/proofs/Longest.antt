@@ -69,9 +69,9 @@ module _ (run : set.RunInput) where
       → longest_from (run_input_of run) (names_of (drop i ns)) n (state_of run s) ≡ (n, state_of run s)
   halts ns i n s h b = halted ns i n s s.fault h refl b
 
-  quiet : (f : Option (Name × Fault)) → is_some f ≡ false → f ≡ None
-  quiet None b = refl
-  quiet (Some f) b = absurd (cc b)
+  no_fault : (f : Option (Name × Fault)) → is_some f ≡ false → f ≡ None
+  no_fault None b = refl
+  no_fault (Some f) b = absurd (cc b)
 
   pub goes_further : (ns : List ProcName) (i n k : ℕ) (s t : State) (p : ProcName) (b : Bool) → i < length ns
       → p ≡ get_or ns i p → is_some s.fault ≡ false → b ≡ true → TriesStep run s (name_of p) b t → k ≡ n + 1
@@ -80,7 +80,7 @@ module _ (run : set.RunInput) where
   goes_further ns i n k s t p true h q e b x d =
       let y : suc i ≡ i + 1 = omega arith in
       let z : suc n ≡ k = omega arith in
-      goes_on (run_input_of run) ns i n (state_of run s) (state_of run t) p h q (fault_is s None (quiet s.fault e)) x
+      goes_on (run_input_of run) ns i n (state_of run s) (state_of run t) p h q (fault_is s None (no_fault s.fault e)) x
       ∙ (ap (λ (j : ℕ). longest_from (run_input_of run) (names_of (drop j ns)) (suc n) (state_of run t)) y
       ∙ ap (λ (j : ℕ). longest_from (run_input_of run) (names_of (drop (i + 1) ns)) j (state_of run t)) z)
   goes_further ns i n k s t p false h q e b x d = absurd (cc b)

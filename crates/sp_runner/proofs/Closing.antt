@@ -80,7 +80,7 @@ module _ (y : Kernel) (whole : IsKernel y) (up : y.abandons ≡ 0) (idle : stand
       record {
         idle = idle e;
         goes_on = λ f. live_phase ((control_of y).doing 0) b.1 (whole.agrees.each 0 ∙ f);
-        quiet = b.0;
+        no_fault = b.0;
         all = subst (λ (l : List Waiter). IsPermutation l ws)
             (all_wait (births y.journal.entries) (system_of y).condition 0 y.slots
             (λ k. let e : 0 + k ≡ k = omega arith in ap (system_of y).condition e)

@@ -68,7 +68,7 @@ RootHasEnded s = (phase_in (s.condition 0) ≡ Finished) × (s.faulted ≡ false
 pub record IsDeadlock (s : System Plain) (ws : List Waiter) : Type 0 where
   pub idle : (q : ℕ) → phase_in (s.condition q) ≢ Running
   pub goes_on : phase_in (s.condition 0) ≢ Finished
-  pub quiet : s.faulted ≡ false
+  pub no_fault : s.faulted ≡ false
   pub all : IsPermutation (waiters_among s.births s.condition (numbers 0 s.births.processes)) ws
   pub sorted : IsSortedByKey (λ (w : Waiter). w.process) name_cmp ws
 

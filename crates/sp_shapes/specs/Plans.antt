@@ -32,7 +32,12 @@ abbrev pub push_plan : Kept → Plan
 push_plan s = record { takes = takes.Nothing; leaves = leaves.One s; goes = goes.FallThrough }
 
 abbrev pub two_to_one : Plan
-two_to_one = record { takes = takes.Two kind.Ordinal kind.Ordinal; leaves = leaves.One kept.Ordinal; goes = goes.FallThrough }
+two_to_one = record {
+  takes = takes.Two kind.Ordinal kind.Ordinal;
+  leaves = leaves.One kept.Ordinal;
+  goes =
+      goes.FallThrough;
+}
 
 abbrev pub one_to_one : Plan
 one_to_one = record { takes = takes.One kind.Ordinal; leaves = leaves.One kept.Ordinal; goes = goes.FallThrough }
@@ -64,7 +69,8 @@ plan_of_parts t l g = record { takes = t; leaves = l; goes = g }
 -- an instruction that names no variable and calls no block
 abbrev pub plain_plan : Instr → Plan
 plain_plan (i.Const v) = push_plan kept.Ordinal
-plain_plan (i.Index low high size) = plan_of_parts (takes.Two kind.Ordinal kind.Address) (leaves.Inside size) goes.FallThrough
+plain_plan (i.Index low high size) = plan_of_parts (takes.Two kind.Ordinal kind.Address)
+    (leaves.Inside size) goes.FallThrough
 plain_plan (i.Field k) = plan_of_parts (takes.One kind.Address) (leaves.Further k) goes.FallThrough
 plain_plan i.Load = read_plan kept.Ordinal
 plain_plan i.Loadc = read_plan kept.Channel

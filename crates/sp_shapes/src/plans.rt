@@ -210,7 +210,11 @@ fn plain(instr: Instr) -> Plan
             Leaves::Inside(size),
             Successor::FallThrough,
         ),
-        Instr::Field(k) => led(Takes::One(Kind::Address), Leaves::Further(k), Successor::FallThrough),
+        Instr::Field(k) => led(
+            Takes::One(Kind::Address),
+            Leaves::Further(k),
+            Successor::FallThrough,
+        ),
         Instr::Load => read(Shape::Ordinal),
         Instr::Loadc => read(Shape::Channel),
         Instr::Store => pair_gone(Kind::Value, Kind::Address),
@@ -237,7 +241,11 @@ fn plain(instr: Instr) -> Plan
         Instr::Succ(_) => one_to_one(),
         Instr::Pred(_) => one_to_one(),
         Instr::Jump(to) => led(Takes::Nothing, Leaves::Nothing, Successor::There(to)),
-        Instr::Jumpf(to) => led(Takes::One(Kind::Ordinal), Leaves::Nothing, Successor::Either(to)),
+        Instr::Jumpf(to) => led(
+            Takes::One(Kind::Ordinal),
+            Leaves::Nothing,
+            Successor::Either(to),
+        ),
         Instr::Casej { value: _, to } => led(
             Takes::One(Kind::Ordinal),
             Leaves::One(Shape::Ordinal),

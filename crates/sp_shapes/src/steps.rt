@@ -11,7 +11,7 @@ ghost use Rattle.sp_shapes.specs.Plans.{by_plan, go_on, goes_with, left, with_to
 ghost use Rattle.sp_shapes.specs.Stacks.{Extends, IsListNumber, IsStacks, list_of};
 ghost use Rattle.sp_shapes.specs.Steps.{IsStep};
 
-use crate::plans::{Successor, Leaves, Plan, planned};
+use crate::plans::{Leaves, Plan, Successor, planned};
 use crate::stacks::{Shape, Stacks};
 use crate::taking::{TakeResult, take};
 use sp_areas::blocks::Blocks;

@@ -170,17 +170,17 @@ module _ (c : p.Program) (claims : List Claim) (stopping : List ℕ) where
   site_test (CallsAt f at args) = keeps (without_places c) claims (CallOf f (bare_actuals args))
   site_test (StopsAt at) = true
 
-  abbrev pub quiet_test : Site → Bool
-  quiet_test (SplitsAt parts) = true
-  quiet_test (SpreadsAt at x s) = true
-  quiet_test (LoopsAt x at s) = true
-  quiet_test (CallsAt f at args) = not (has stopping f)
-  quiet_test (StopsAt at) = false
+  abbrev pub silent_test : Site → Bool
+  silent_test (SplitsAt parts) = true
+  silent_test (SpreadsAt at x s) = true
+  silent_test (LoopsAt x at s) = true
+  silent_test (CallsAt f at args) = not (has stopping f)
+  silent_test (StopsAt at) = false
 
   abbrev pub function_test : ℕ → p.Block → Option ℕ → Bool
   function_test b k None = true
   function_test b k (Some x) = each (λ y. by_role (λ r. not (is_reference r)) (slice_get c.variables y)) k.formals
-      && (each (λ y. false) (T (without_places c) claims b) && all_sites quiet_test (statement_sites k.body))
+      && (each (λ y. false) (T (without_places c) claims b) && all_sites silent_test (statement_sites k.body))
 
   -- it is called only by blocks that stand in none, and not by itself
   abbrev pub outer_calls : ℕ → ℕ → List p.Block → Bool
@@ -405,7 +405,7 @@ module _ (c : p.Program) (claims : List Claim) (stopping : List ℕ) where
             go (inl n) = absurd (not_refutes (has stopping d) n k)
             go (inr y) = y
 
-    no_stop : (site : Site) (at : Place) → quiet_test site ≡ true → SiteStops (without_places c) site at → ⊥
+    no_stop : (site : Site) (at : Place) → silent_test site ≡ true → SiteStops (without_places c) site at → ⊥
     no_stop (SplitsAt parts) at h s = s
     no_stop (SpreadsAt here x t) at h s = s
     no_stop (LoopsAt x here t) at h s = s
@@ -426,7 +426,7 @@ module _ (c : p.Program) (claims : List Claim) (stopping : List ℕ) where
         reference_not i.role (subst (λ o. by_role (λ r. not (is_reference r)) o ≡ true) at one) is
 
     rest_passed : (b : ℕ) (k : p.Block) → slice_get c.blocks b ≡ Some k → IsFunction (without_places c) b
-        → each (λ y. false) (T (without_places c) claims b) && all_sites quiet_test (statement_sites k.body) ≡ true
+        → each (λ y. false) (T (without_places c) claims b) && all_sites silent_test (statement_sites k.body) ≡ true
     rest_passed b k e f = let a = is_answered b k e f in
         second_true (each (λ y. by_role (λ r. not (is_reference r)) (slice_get c.variables y)) k.formals) _
         (function_passed b k a.0 e a.1)
@@ -435,7 +435,7 @@ module _ (c : p.Program) (claims : List Claim) (stopping : List ℕ) where
         → ImplicitTarget (without_places c) b x → ⊥
     no_target b k x e f (m, at, free, (bs, r)) =
         let found : false ≡ true = each_has (λ y. false) (T (without_places c) claims b) x
-        (first_true (each (λ y. false) (T (without_places c) claims b)) (all_sites quiet_test (statement_sites k.body))
+        (first_true (each (λ y. false) (T (without_places c) claims b)) (all_sites silent_test (statement_sites k.body))
         (rest_passed b k e f)) (reached_target (without_places c) claims all bs x b m at r free) in
         cc found
 
@@ -452,8 +452,8 @@ module _ (c : p.Program) (claims : List Claim) (stopping : List ℕ) where
       I7 = λ at (b, k, e, f, x, m, i, found, is, here). no_reference b k x i e f m found is;
       I8 = λ at (b, k, e, here, f, x, t). no_target b k x e f t;
       I9 = λ at (b, k, e, f, site, i, s). no_stop site at
-          (site_passes quiet_test (statement_sites k.body) site
+          (site_passes silent_test (statement_sites k.body) site
           (second_true (each (λ y. false) (T (without_places c) claims b))
-          (all_sites quiet_test (statement_sites k.body))
+          (all_sites silent_test (statement_sites k.body))
           (rest_passed b k e f)) i) s;
     }

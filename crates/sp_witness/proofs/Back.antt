@@ -16,7 +16,7 @@ use Rattle.sp_race.specs.Noting.{WithNotes}
 use Rattle.sp_race.proofs.GoodSteps.{steps}
 use Rattle.sp_witness.proofs.Moving.{Head, Tag, Block, Does, Runs, BlockRuns}
 use Rattle.sp_witness.proofs.Ticks.{ticks_by, ticks_after, said_same}
-use Rattle.sp_witness.proofs.Blocks.{IsMove, IsLocalNotDue, AllQuiet, IsStepOfEntry, IsLast, Valid, since_after}
+use Rattle.sp_witness.proofs.Blocks.{IsMove, IsLocalNotDue, AllSilent, IsStepOfEntry, IsLast, Valid, since_after}
 use Rattle.sp_witness.proofs.Blocks.{since_all, AllValid}
 
 abbrev pub entry_of : Head → Occurrence
@@ -65,11 +65,11 @@ module _ (g : RunInput) where
     more_turn : (since : ℕ) (s m : WithNotes L) (h : Head) (x : Tag g) (k : ℕ) (t : StateOf g) (paused : Bool)
         → Does g label s h x m → IsLocalNotDue g turn since x → Turn g turn since h.who k m.state t paused
         → Turn g turn since h.who (suc k) s.state t paused
-    more_turn since s m h x k t paused does quiet go =
-        let b = due_is s h x m does since false quiet.0 quiet.1 in (
+    more_turn since s m h x k t paused does silent go =
+        let b = due_is s h x m does since false silent.0 silent.1 in (
           x.own,
           does.fits.works,
-          local_says s h x m does since false quiet.0 quiet.1,
+          local_says s h x m does since false silent.0 silent.1,
           m.state,
           next_is s h x m does,
           subst (λ z. Either z ((k ≡ 0) × (t ≡ m.state) × (paused ≡ true))
@@ -77,11 +77,11 @@ module _ (g : RunInput) where
         )
 
     -- local steps up to a kernel step
-    pub turn_quiet : (since : ℕ) (s m : WithNotes L) (h : Head) (xs : List (Tag g)) → AllQuiet g turn since xs
+    pub turn_silent : (since : ℕ) (s m : WithNotes L) (h : Head) (xs : List (Tag g)) → AllSilent g turn since xs
         → Runs g label s h xs m → (own : Process) → running_process g m.state h.who ≡ Some own → (what : Happening)
         → happening_at g m.state h.who own ≡ Some what
         → (k : ℕ) × Turn g turn since h.who k s.state m.state false
-    turn_quiet since s m h [] quiet r own w what is =
+    turn_silent since s m h [] silent r own w what is =
         let e : m.state ≡ s.state = ap (λ (z : WithNotes L). z.state) r in (
           zero,
           (
@@ -93,9 +93,9 @@ module _ (g : RunInput) where
             subst (λ (z : StateOf g). happening_at g z h.who own ≡ Some what) e is,
           ),
         )
-    turn_quiet since s m h (x ∷ xs) quiet r own w what is =
-        let t = turn_quiet since r.0 m h xs quiet.1 r.2 own w what is in
-        (suc t.0, more_turn since s r.0 h x t.0 m.state false r.1 quiet.0 t.1)
+    turn_silent since s m h (x ∷ xs) silent r own w what is =
+        let t = turn_silent since r.0 m h xs silent.1 r.2 own w what is in
+        (suc t.0, more_turn since s r.0 h x t.0 m.state false r.1 silent.0 t.1)
 
     abbrev EndsBy : StateOf g → StateOf g → Bool → Name → Happening → Type 0
     EndsBy mid u paused q Paused = (paused ≡ true) × (mid ≡ u)

@@ -27,9 +27,9 @@ module _ (g : RunInput) (turn : ℕ) where
   abbrev pub IsLocalNotDue : ℕ → Tag g → Type 0
   IsLocalNotDue since x = (n : ℕ) × IsMove since x false n
 
-  abbrev pub AllQuiet : ℕ → List (Tag g) → Type 0
-  AllQuiet since [] = Unit {0}
-  AllQuiet since (x ∷ xs) = IsLocalNotDue since x × AllQuiet since xs
+  abbrev pub AllSilent : ℕ → List (Tag g) → Type 0
+  AllSilent since [] = Unit {0}
+  AllSilent since (x ∷ xs) = IsLocalNotDue since x × AllSilent since xs
 
   -- the step of an entry
   abbrev pub IsStepOfEntry : Tag g → Happening → ℕ → Type 0

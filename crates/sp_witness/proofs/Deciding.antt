@@ -12,7 +12,7 @@ use Rattle.sp_meaning.specs.Runs.{StateOf, start, next_state, Lawful}
 use Rattle.sp_meaning.specs.Along.{Either, is_due_after, Turn, Course, no_course, EntryStep, Along, IsAlong, IsCleanly}
 use Rattle.sp_meaning.specs.Along.{IsClean}
 use Rattle.sp_meaning.specs.Laws.{IsReached}
-use Rattle.sp_meaning.proofs.JournalSchedules.{quiet_step}
+use Rattle.sp_meaning.proofs.JournalSchedules.{no_fault_step}
 use Rattle.sp_witness.specs.Witness.{who_at, entry_list, first_part, witness}
 use Rattle.sp_witness.specs.Contention.{Shows, NeverContends}
 use Rattle.sp_witness.proofs.Cleanness.{front_clean}
@@ -30,16 +30,16 @@ module _ (g : RunInput) where
 
   step_on : (s : StateOf g) (q : Name) (m t : StateOf g) → s.fault ≡ None → next_state g s q ≡ Some m → Way_on m t
       → Way_on s t
-  step_on s q m t quiet st way = (q ∷ way.0, (m, quiet, st, way.1))
+  step_on s q m t no_fault st way = (q ∷ way.0, (m, no_fault, st, way.1))
 
   -- local steps
   turn_on : (turn since : ℕ) (q : Name) (k : ℕ) (s m : StateOf g) (paused : Bool) (t : StateOf g)
       → Turn g turn since q k s m paused → s.fault ≡ None → (m.fault ≡ None → Way_on m t) → Way_on s t
-  turn_on turn since q zero s m paused t h quiet go =
-      subst (λ z. Way_on z t) h.0 (go (ap (λ (z : StateOf g). z.fault) h.0 ∙ quiet))
-  turn_on turn since q (suc k) s m paused t h quiet go =
-      let still = quiet_step g s q h.0 h.3 None h.1 h.2 tt h.4 quiet in
-      step_on s q h.3 t quiet h.4
+  turn_on turn since q zero s m paused t h no_fault go =
+      subst (λ z. Way_on z t) h.0 (go (ap (λ (z : StateOf g). z.fault) h.0 ∙ no_fault))
+  turn_on turn since q (suc k) s m paused t h no_fault go =
+      let still = no_fault_step g s q h.0 h.3 None h.1 h.2 tt h.4 no_fault in
+      step_on s q h.3 t no_fault h.4
       (rest (is_due_after g turn since s h.0 q h.3) h.5 still (λ x. turn_on turn since q k h.3 m paused t x still go))
     where
       rest : (b : Bool) → Either b ((k ≡ 0) × (m ≡ h.3) × (paused ≡ true)) (Turn g turn since q k h.3 m paused)
@@ -54,16 +54,17 @@ module _ (g : RunInput) where
         → ((c1 : Course) (u : StateOf g) (d : ℕ) → left c1 u d → u.fault ≡ None → Way_on u t) → m.fault ≡ None
         → Way_on m t
     entered_on Opened n ok h go f =
-        step_on m q h.2 t f h.5.3 (go _ h.2 h.3 h.6 (quiet_step g m q h.5.0 h.2 (Some Opened) h.5.1 h.5.2 ok h.5.3 f))
+        step_on m q h.2 t f h.5.3 (go _ h.2 h.3 h.6 (no_fault_step g m q h.5.0 h.2
+        (Some Opened) h.5.1 h.5.2 ok h.5.3 f))
     entered_on (Forked i) n ok h go f =
         step_on m q h.2 t f h.5.3
-        (go _ h.2 h.3 h.6 (quiet_step g m q h.5.0 h.2 (Some (Forked i)) h.5.1 h.5.2 ok h.5.3 f))
+        (go _ h.2 h.3 h.6 (no_fault_step g m q h.5.0 h.2 (Some (Forked i)) h.5.1 h.5.2 ok h.5.3 f))
     entered_on (Offered w d) n ok h go f =
         step_on m q h.2 t f h.5.3
-        (go _ h.2 h.3 h.6 (quiet_step g m q h.5.0 h.2 (Some (Offered w d)) h.5.1 h.5.2 ok h.5.3 f))
+        (go _ h.2 h.3 h.6 (no_fault_step g m q h.5.0 h.2 (Some (Offered w d)) h.5.1 h.5.2 ok h.5.3 f))
     entered_on happenings.Ended n ok h go f =
         step_on m q h.2 t f h.5.3
-        (go _ h.2 h.3 h.6 (quiet_step g m q h.5.0 h.2 (Some happenings.Ended) h.5.1 h.5.2 ok h.5.3 f))
+        (go _ h.2 h.3 h.6 (no_fault_step g m q h.5.0 h.2 (Some happenings.Ended) h.5.1 h.5.2 ok h.5.3 f))
     entered_on (Faulted x) n ok h go f = absurd ok
     entered_on Laid n ok h go f = absurd ok
     entered_on Paused n ok h go f = go _ m n h.2 f
@@ -73,11 +74,11 @@ module _ (g : RunInput) where
       (t : StateOf g)
       → IsClean xs → Along g turn c s (xs ++ record { who = q; what = Faulted x } ∷ []) n t → s.fault ≡ None
       → Way_on s t
-  along_on turn [] q x c s n t clean a quiet =
-      turn_on turn (c.since q) q a.1 s a.3 a.4 t a.6 quiet
+  along_on turn [] q x c s n t clean a no_fault =
+      turn_on turn (c.since q) q a.1 s a.3 a.4 t a.6 no_fault
       (λ f. step_on a.3 q a.7.2 t f a.7.5.3 ([], a.7.6.1))
-  along_on turn (e ∷ xs) q x c s n t clean a quiet =
-      turn_on turn (c.since e.who) e.who a.1 s a.3 a.4 t a.6 quiet
+  along_on turn (e ∷ xs) q x c s n t clean a no_fault =
+      turn_on turn (c.since e.who) e.who a.1 s a.3 a.4 t a.6 no_fault
       (λ f. entered_on (λ c1 u d. Along g turn c1 u (xs ++ record { who = q; what = Faulted x } ∷ []) d t) c a.3 a.4
       e.who t
       e.what a.2 clean.0 a.7 (λ c1 u d b still. along_on turn xs q x c1 u d t clean.1 b still) f)
@@ -98,7 +99,7 @@ module _ (g : RunInput) (turn : ℕ) (es : List Occurrence) (w : Way) (c : Chann
 
 -- where no schedule meets a fault, none contends
 pub alike_never : (g : RunInput) (n : ℕ) (t : StateOf g) → AllEndAlike g n t → NeverContends g
-alike_never g n t alike qs u lawful w c first second h = none-some _ (sym (alike qs u lawful).quiet ∙ h.fault)
+alike_never g n t alike qs u lawful w c first second h = none-some _ (sym (alike qs u lawful).no_fault ∙ h.fault)
 
 module _ (g : RunInput) (turn : ℕ) (es : List Occurrence) (n : ℕ) (t : StateOf g) (e : End) (sure : IsFault e → ⊥)
     (clean : IsClean es)

@@ -85,9 +85,9 @@ pub picked_part : (es : List Entry) → NameableFrom first_births es → Waiters
     → slice_get es later ≡ Some two
     → map (occurrence (births es)) (picked_first_part earlier two.process (take later es))
     ≡ first_part (occurrences_from first_births es) earlier later
-picked_part es f quiet clean earlier later lt two got =
+picked_part es f silent clean earlier later lt two got =
     let size : length (occurrences_from first_births es) ≡ length es = ap length (all_named es f)
     ∙ length_of_map (occurrence (births es)) es in
     let l = slice_get_within es later two got in
     picks_taken es f earlier later two got
-    ∙ whole_pass (occurrences_from first_births es) earlier later quiet clean lt (omega (arith, size, l))
+    ∙ whole_pass (occurrences_from first_births es) earlier later silent clean lt (omega (arith, size, l))

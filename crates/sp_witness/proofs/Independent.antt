@@ -36,7 +36,7 @@ use Rattle.sp_race.specs.Notes.{with_judge_notes, next_event_of, known_after_eve
 use Rattle.sp_race.specs.Notes.{same_event, notes_to_children, notes_to_parent, other_way, offer_notes, notes_of}
 use Rattle.sp_race.specs.Noting.{WithNotes}
 use Rattle.sp_race.proofs.NotesFrames.{event_test, both_right, both_kept}
-use Rattle.sp_race.proofs.GoodSteps.{GoodStep, steps, quiet_after, leads_on, happens_later, events_kept, past_kept}
+use Rattle.sp_race.proofs.GoodSteps.{GoodStep, steps, no_fault_after, leads_on, happens_later, events_kept, past_kept}
 use Rattle.sp_race.proofs.Partners.{TakesPart, writer, part_alone}
 
 -- what a computation asks, it asks with another one after it
@@ -374,14 +374,14 @@ module _ (g : RunInput) (disjoint : IsDisjointRun g) where
             let y = writer j.state p x.makes.own l wr in
             let u : StateOf g = result_of k.state q
             (step_outcome (total_limits g) k.state q (L.next own k.state.store)) in
-            let quiet_k : HasNoFault k.state =
-            subst (λ (z : StateOf g). HasNoFault z) (sym x.to) (quiet_after j.state p x.cs x.makes x.quiet) in
+            let no_fault_k : HasNoFault k.state =
+            subst (λ (z : StateOf g). HasNoFault z) (sym x.to) (no_fault_after j.state p x.cs x.makes x.no_fault) in
             let next : step (total_limits g) k.state q ≡ Some u = ap (step_with (total_limits g) k.state q) still in
             let leads = leads_on (total_limits g) x.way (p ∷ q ∷ []) (start g) j.state u x.leads (
               k.state,
-              x.quiet,
+              x.no_fault,
               st,
-              (u, quiet_k, next, refl),
+              (u, no_fault_k, next, refl),
             ) in
             let alone = part_alone j.state x.sound p x.makes.own (L.next x.makes.own j.state.store) y.who x.makes.works
             y.part in

@@ -17,7 +17,7 @@ use Rattle.sp_meaning.specs.Along.{IsClean}
 use Rattle.sp_judge.specs.Prefixes.{WaitersSilentFrom, WaitersAreSilent}
 use Rattle.sp_judge.proofs.Prefixing.{nothing_kept}
 use Rattle.sp_judge.proofs.Numbers.{all_named}
-use Rattle.sp_judge.proofs.Fronts.{quiet_front}
+use Rattle.sp_judge.proofs.Fronts.{silent_front}
 use Rattle.sp_witness.specs.Witness.{witness, is_member, is_among}
 use Rattle.sp_witness.specs.Numbered.{witness_journal}
 use Rattle.sp_witness.specs.Needed.{needed_marks}
@@ -121,7 +121,7 @@ pub numbers_by_tables : (j : Journal) → IsNameable j → WaitersAreSilent (occ
     ++ map (renumbered_entry (table_of first_births first_table (take later j.entries)
     (marks earlier two.process first_births (λ c. None) 0 (take later j.entries))))
     (one ∷ record { process = two.process; event = event.Fault fault.F6 } ∷ [])
-numbers_by_tables j named quiet clean earlier later lt one two got_one got_two plain named' names =
+numbers_by_tables j named silent clean earlier later lt one two got_one got_two plain named' names =
     let es = j.entries in
     let t = births es in
     let os = occurrences j in
@@ -137,18 +137,18 @@ numbers_by_tables j named quiet clean earlier later lt one two got_one got_two p
     let whole : os ≡ map (occurrence t) front ++ occurrence t two ∷ b.after = b.whole
     ∙ ap (λ z. z ++ occurrence t two ∷ b.after) front_is in
     let size_is : length (map (occurrence t) front) ≡ later = ap length (sym front_is) ∙ b.size in
-    let q = subst (WaitersSilentFrom no_knowledge 0) whole quiet in
+    let q = subst (WaitersSilentFrom no_knowledge 0) whole silent in
     let ok = clean_front (map (occurrence t) front) (occurrence t two ∷ b.after) (subst IsClean whole clean) in
     let mark = mark_in os earlier later 0 (map (occurrence t) front) in
     let say = parts.marks_are os earlier later (map (occurrence t) front) in
     let cuts = cuts_from os earlier later mark [] (map (occurrence t) front) (occurrence t two ∷ b.after) no_knowledge
     0 (record { whole = whole; knowledge_is = refl; size = refl }) nothing_kept
-    (quiet_front no_knowledge 0 (map (occurrence t) front) (occurrence t two ∷ b.after) q).0 ok say in
+    (silent_front no_knowledge 0 (map (occurrence t) front) (occurrence t two ∷ b.after) q).0 ok say in
     let same : marks earlier two.process first_births (λ c. None) 0 front
     ≡ member_marks os earlier later 0 (map (occurrence t) front) =
     marks_taken es named earlier later two got_two
     ∙ ap (needed_marks os earlier later no_knowledge 0) (ap (take later) all ∙ take_map (occurrence t) later es)
-    ∙ pass.marks_are os earlier later lt (below_at os quiet earlier) (occurrence t two) b.after []
+    ∙ pass.marks_are os earlier later lt (below_at os silent earlier) (occurrence t two) b.after []
     (map (occurrence t) front) no_knowledge 0
     (record { whole = whole; knowledge_is = refl; size = refl }) nothing_stands q
     ok (omega (arith, size_is)) in
@@ -159,4 +159,4 @@ numbers_by_tables j named quiet clean earlier later lt one two got_one got_two p
     (marks earlier two.process first_births (λ c. None) 0 front)
     (each_marked earlier two.process first_births (λ c. None) 0 front) own
     (ap (map (occurrence t)) (selects earlier two.process first_births (λ c. None) 0 front)
-    ∙ picked_part es named quiet clean earlier later lt two got_two) named' names
+    ∙ picked_part es named silent clean earlier later lt two got_two) named' names

@@ -91,7 +91,7 @@ module _ (es : List Occurrence) (earlier later : ℕ) where
       → same_name q (who_at es i) && nat_lt k i ≡ false)
       (before : List Occurrence) (target : Occurrence) (rest : List Occurrence) (ji : Knowledge)
       (stage : Stage es before (target ∷ rest) ji i) (kept_i : PrefixesAreKnown ji before)
-      (quiet_i : WaitsForNone ji target.who) (who_is : who_at es i ≡ target.who) where
+      (waits_for_none_i : WaitsForNone ji target.who) (who_is : who_at es i ≡ target.who) where
     free_at : (n : ℕ) (x : Occurrence) (f : ℕ → Bool) → n < i → slice_get before n ≡ Some x → IsCleanly x.what
         → (b : Bool) → member n x b ≡ false
         → Free (record { who = x.who; what = x.what; position = n; knows = f })
@@ -108,7 +108,8 @@ module _ (es : List Occurrence) (earlier later : ℕ) where
         own h is c e = ⊎_elim
             (λ (p : ji.past x.who n ≡ true). true_is_not_false (sym p
             ∙ subst (λ (z : Name). ji.past z n ≡ false) (sym e) not_known))
-            (λ (w : (d : Channel) × (ji.pending d ≡ Some (x.who, n))). quiet_i w.0 n (w.1 ∙ (λ i. Some (e i, n))))
+            (λ (w : (d : Channel) × (ji.pending d ≡ Some (x.who, n))). waits_for_none_i w.0 n (w.1 ∙ (λ i. Some
+            (e i, n))))
             (kept_i.own x.who n (h, got ∙ (λ i. Some (record { who = x.who; what = is i })), c))
 
         pauses : is_pause x.what ≡ true → x.who ≢ target.who

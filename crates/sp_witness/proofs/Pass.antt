@@ -59,7 +59,7 @@ module _ (es : List Occurrence) (earlier later : ℕ) where
     -- before the later offer
     at_end : (done : List Occurrence) (j : Knowledge) (n : ℕ) → Stage es done (two ∷ after) j n → n ≡ later
         → WaitsForNone j two.who → Inv j n []
-    at_end done j n st end quiet = record {
+    at_end done j n st end silent = record {
       has = λ m lt k. ⊎_elim
           (λ (x : past_before es later m ≡ true). (
             who_at es later,
@@ -77,7 +77,7 @@ module _ (es : List Occurrence) (earlier later : ℕ) where
           (λ (x : j.past s.0 m ≡ true). inl
           (subst (λ z. past_before es z m ≡ true) end (past_here es done two after j n st m
           ∙ subst (λ z. j.past z m ≡ true) p_is x)))
-          (λ (x : (c : Channel) × (j.pending c ≡ Some (s.0, m))). absurd (quiet x.0 m (x.1 ∙ (λ i. Some (p_is i, m)))))
+          (λ (x : (c : Channel) × (j.pending c ≡ Some (s.0, m))). absurd (silent x.0 m (x.1 ∙ (λ i. Some (p_is i, m)))))
           s.2;
       why = λ q h. inl (inr (sym (name_is q (who_at es later) h)));
       offers = λ q o. ⊎_elim
@@ -96,7 +96,7 @@ module _ (es : List Occurrence) (earlier later : ℕ) where
     -- one entry
     module _ (done : List Occurrence) (e : Occurrence) (mid : List Occurrence) (j : Knowledge) (n : ℕ)
         (st : Stage es done (e ∷ (mid ++ two ∷ after)) j n) (stands : KnowledgeFacts j done n)
-        (quiet : WaitsForNone j e.who)
+        (silent : WaitsForNone j e.who)
         (clean : IsCleanly e.what) (less : n < later)
         (inv : Inv (knowledge_after j n e.who e.what) (suc n) mid) where
       abbrev j' : Knowledge
@@ -135,7 +135,7 @@ module _ (es : List Occurrence) (earlier later : ℕ) where
 
       counted_member : (h : Happening) → e.what ≡ h → is_pause h ≡ false → IsCounted h → G e.who ≡ M
       counted_member h is np ok =
-          let p = passed j n e.who below bound stands.kept.single quiet F' e.what (subst IsCounted (sym is) ok) in
+          let p = passed j n e.who below bound stands.kept.single silent F' e.what (subst IsCounted (sym is) ok) in
           same_if_both_follow (G e.who) M
           (λ x. or_left (is_known es earlier later n)
           (is_pause e.what && (offers_after es earlier later e.who n || among e.who (suc n) mid))
@@ -192,12 +192,12 @@ module _ (es : List Occurrence) (earlier later : ℕ) where
           (λ (o : (among e.who (suc n) mid ≡ true) ⊎ Waits j' e.who). ⊎_elim
           (λ (a : among e.who (suc n) mid ≡ true). or_right (offers_after es earlier later e.who n)
           (among e.who (suc n) mid) a)
-          (λ (a : Waits j' e.who). absurd (quiet a.0 a.1 (ap (λ (z : Knowledge). z.pending a.0) (sym j_is) ∙ a.2)))
+          (λ (a : Waits j' e.who). absurd (silent a.0 a.1 (ap (λ (z : Knowledge). z.pending a.0) (sym j_is) ∙ a.2)))
           o)
           (inv.why e.who (sym g_is ∙ x)))))
           (λ x. g_is ∙ ⊎_elim
           (λ (y : is_known es earlier later n ≡ true). absurd
-          (none_yet j n e.who below bound stands.kept.single quiet F'
+          (none_yet j n e.who below bound stands.kept.single silent F'
           (subst (λ z. Someone F' z n) j_is (inv.has n (omega arith) (is_known_at y)))))
           (λ (y : is_pause e.what && (offers_after es earlier later e.who n || among e.who (suc n) mid) ≡ true). ⊎_elim
           (λ (o : offers_after es earlier later e.who n ≡ true). inv.offers e.who (offers_from o))
@@ -224,7 +224,7 @@ module _ (es : List Occurrence) (earlier later : ℕ) where
       back m lt s = by e.what refl clean
         where
           counted : IsCounted e.what → Someone G j m
-          counted ok = (passed j n e.who below bound stands.kept.single quiet F' e.what ok).back m lt s
+          counted ok = (passed j n e.who below bound stands.kept.single silent F' e.what ok).back m lt s
 
           by : (h : Happening) → e.what ≡ h → IsCleanly h → Someone G j m
           by Opened is ok = counted (subst IsCounted (sym is) tt)
@@ -235,7 +235,7 @@ module _ (es : List Occurrence) (earlier later : ℕ) where
           by Laid is ok = absurd ok
           by Paused is ok = (
             s.0,
-            more j n e.who below bound stands.kept.single quiet F' e.what s.0 s.1,
+            more j n e.who below bound stands.kept.single silent F' e.what s.0 s.1,
             subst (λ (z : Knowledge). HasEntry z s.0 m) (ap (knowledge_after j n e.who) is) s.2,
           )
 
@@ -243,7 +243,7 @@ module _ (es : List Occurrence) (earlier later : ℕ) where
       forth m s = by e.what refl clean
         where
           counted : IsCounted e.what → Someone F' j' m
-          counted ok = (passed j n e.who below bound stands.kept.single quiet F' e.what ok).forth m s
+          counted ok = (passed j n e.who below bound stands.kept.single silent F' e.what ok).forth m s
 
           by : (h : Happening) → e.what ≡ h → IsCleanly h → Someone F' j' m
           by Opened is ok = counted (subst IsCounted (sym is) tt)
@@ -274,7 +274,7 @@ module _ (es : List Occurrence) (earlier later : ℕ) where
           (and_from (n == earlier) (same_name e.who e.who) (eq-eqb n earlier h) (name_itself e.who))
 
       more_F : (q : Name) → F' q ≡ true → F q ≡ true
-      more_F q h = to_F q (more j n e.who below bound stands.kept.single quiet F' e.what q h)
+      more_F q h = to_F q (more j n e.who below bound stands.kept.single silent F' e.what q h)
 
       member_among : G e.who ≡ true → among e.who n (e ∷ mid) ≡ true
       member_among h = or_left (same_name e.who e.who && M) (among e.who (suc n) mid)
@@ -313,7 +313,8 @@ module _ (es : List Occurrence) (earlier later : ℕ) where
               subst (λ z. past_before es z m ≡ true) x.0 (past_here es done e (mid ++ two ∷ after) j n st m
                   ∙ subst (λ z. j.past z m ≡ true) x.1 y),
             ))
-            (λ (y : (c : Channel) × (j.pending c ≡ Some (s.0, m))). absurd (quiet y.0 m (y.1 ∙ (λ i. Some (x.1 i, m)))))
+            (λ (y : (c : Channel) × (j.pending c ≡ Some (s.0, m))). absurd (silent y.0 m (y.1 ∙ (λ i. Some
+            (x.1 i, m)))))
             s.2)
             (from_F s.0 s.1);
         why = λ q h. ⊎_elim
@@ -327,12 +328,12 @@ module _ (es : List Occurrence) (earlier later : ℕ) where
             (λ (a : Waits j' q). ⊎_elim
             (λ (b : j.pending a.0 ≡ Some (q, a.1)). inr (inr (a.0, a.1, b)))
             (λ (b : q ≡ e.who). inr (inl (its q b x)))
-            (pends_after j n e.who below bound stands.kept.single quiet F' e.what a.0 q a.1 a.2))
+            (pends_after j n e.who below bound stands.kept.single silent F' e.what a.0 q a.1 a.2))
             o)
             (inv.why q y))
             (λ (y : (q ≡ e.who) ⊎ Waits j q). ⊎_elim (λ (z : q ≡ e.who). inr (inl (its q z x)))
             (λ (z : Waits j q). inr (inr z)) y)
-            (newly j n e.who below bound stands.kept.single quiet F' e.what q x))
+            (newly j n e.who below bound stands.kept.single silent F' e.what q x))
             (λ (x : (n ≡ earlier) × (q ≡ e.who)). let i = x.0 in
             inl (inl (
               subst (λ z. who_at es z ≡ q) x.0 (who_here done e (mid ++ two ∷ after) j n st ∙ sym x.1),
@@ -366,19 +367,19 @@ module _ (es : List Occurrence) (earlier later : ℕ) where
     passes : (done mid : List Occurrence) (j : Knowledge) (n : ℕ) → Stage es done (mid ++ two ∷ after) j n
         → KnowledgeFacts j done n → WaitersSilentFrom j n (mid ++ two ∷ after) → IsClean mid → n + length mid ≡ later
         → Inv j n mid
-    passes done [] j n st stands quiet clean size = at_end done j n st (omega (arith, size)) quiet.0
-    passes done (e ∷ mid) j n st stands quiet clean size =
-        one_more done e mid j n st stands quiet.0 clean.0 (omega (arith, size))
+    passes done [] j n st stands silent clean size = at_end done j n st (omega (arith, size)) silent.0
+    passes done (e ∷ mid) j n st stands silent clean size =
+        one_more done e mid j n st stands silent.0 clean.0 (omega (arith, size))
         (passes (done ++ e ∷ []) mid (knowledge_after j n e.who e.what) (suc n)
-        (next_stage es done e (mid ++ two ∷ after) j n st) (stands_next j done n e st.size stands quiet.0) quiet.1
+        (next_stage es done e (mid ++ two ∷ after) j n st) (stands_next j done n e st.size stands silent.0) silent.1
         clean.1 (omega (arith, size)))
 
     pub taken_is : (done mid : List Occurrence) (j : Knowledge) (n : ℕ) → Stage es done (mid ++ two ∷ after) j n
         → KnowledgeFacts j done n → WaitersSilentFrom j n (mid ++ two ∷ after) → IsClean mid → n + length mid ≡ later
         → needed_entries es earlier later j n mid ≡ members es earlier later n mid
-    taken_is done mid j n st stands quiet clean size = (passes done mid j n st stands quiet clean size).same
+    taken_is done mid j n st stands silent clean size = (passes done mid j n st stands silent clean size).same
 
     pub marks_are : (done mid : List Occurrence) (j : Knowledge) (n : ℕ) → Stage es done (mid ++ two ∷ after) j n
         → KnowledgeFacts j done n → WaitersSilentFrom j n (mid ++ two ∷ after) → IsClean mid → n + length mid ≡ later
         → needed_marks es earlier later j n mid ≡ member_marks n mid
-    marks_are done mid j n st stands quiet clean size = (passes done mid j n st stands quiet clean size).marks_same
+    marks_are done mid j n st stands silent clean size = (passes done mid j n st stands silent clean size).marks_same

@@ -6,7 +6,7 @@ use Rattle.sp_journal.specs.Names.{Occurrence}
 use Rattle.sp_journal.specs.Past.{no_knowledge}
 use Rattle.sp_meaning.specs.Along.{IsClean}
 use Rattle.sp_judge.specs.Prefixes.{WaitersSilentFrom, WaitersAreSilent}
-use Rattle.sp_judge.proofs.Fronts.{quiet_front}
+use Rattle.sp_judge.proofs.Fronts.{silent_front}
 use Rattle.sp_witness.specs.Witness.{who_at, past_before, members, first_part}
 use Rattle.sp_witness.specs.Needed.{needed_entries, backward_pass}
 use Rattle.sp_witness.proofs.Standing.{nothing_stands, stands_from}
@@ -25,9 +25,9 @@ has_entry (e ∷ es) zero lt = (e, refl)
 has_entry (e ∷ es) (suc i) lt = has_entry es i (omega (arith, lt))
 
 pub below_at : (es : List Occurrence) → WaitersAreSilent es → (i k : ℕ) → past_before es i k ≡ true → k < i
-below_at es quiet i k h =
-    let q = quiet_front no_knowledge 0 (take i es) (drop i es)
-    (subst (WaitersSilentFrom no_knowledge 0) (sym (take-append-drop i es)) quiet) in
+below_at es silent i k h =
+    let q = silent_front no_knowledge 0 (take i es) (drop i es)
+    (subst (WaitersSilentFrom no_knowledge 0) (sym (take-append-drop i es)) silent) in
     let s = stands_from no_knowledge [] 0 (take i es) refl nothing_stands q.0 in
     let l = s.paired.below (who_at es i) k h in
     let m = take_short i es in
@@ -35,14 +35,14 @@ below_at es quiet i k h =
 
 pub whole_pass : (es : List Occurrence) (earlier later : ℕ) → WaitersAreSilent es → IsClean es → earlier < later
     → later < length es → backward_pass es earlier later ≡ first_part es earlier later
-whole_pass es earlier later quiet clean in_order inside =
+whole_pass es earlier later silent clean in_order inside =
     let two = has_entry es later inside in
     let b = cut_at es later two.0 two.1 in
     let front : take later es ≡ b.before = ap (take later) b.whole ∙ take_at b.before (two.0 ∷ b.after) later b.size in
     let size = b.size in
     ap (needed_entries es earlier later no_knowledge 0) front
-    ∙ taken_is es earlier later in_order (below_at es quiet earlier) two.0 b.after [] b.before no_knowledge 0
+    ∙ taken_is es earlier later in_order (below_at es silent earlier) two.0 b.after [] b.before no_knowledge 0
     (record { whole = b.whole; knowledge_is = refl; size = refl }) nothing_stands
-    (subst (WaitersSilentFrom no_knowledge 0) b.whole quiet)
+    (subst (WaitersSilentFrom no_knowledge 0) b.whole silent)
     (clean_front b.before (two.0 ∷ b.after) (subst IsClean b.whole clean)) (omega (arith, size))
     ∙ sym (ap (members es earlier later 0) front)

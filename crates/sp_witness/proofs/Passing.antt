@@ -36,7 +36,7 @@ IsCounted Paused = ⊥
 module _ (j : Knowledge) (n : ℕ) (p : Name) (below : (q : Name) (i : ℕ) → j.past q i ≡ true → i < n)
     (bound : (c : Channel) (z : Name) (o : ℕ) → j.pending c ≡ Some (z, o) → o < n)
     (single : (c d : Channel) (z : Name) (k l : ℕ) → j.pending c ≡ Some (z, k) → j.pending d ≡ Some (z, l) → c ≡ d)
-    (quiet : WaitsForNone j p) (F : Name → Bool) where
+    (silent : WaitsForNone j p) (F : Name → Bool) where
   abbrev G : Happening → Name → Bool
   G h = needed_before j p h F
 
@@ -164,7 +164,7 @@ module _ (j : Knowledge) (n : ℕ) (p : Name) (below : (q : Name) (i : ℕ) → 
         (or_left (j.past o.0 m) (o.1 == m) (subst (λ z. j.past z m ≡ true) (sym e) x)))
         w)
         (λ (x : (d : Channel) × (j.pending d ≡ Some (q, m))). ⊎_elim
-        (λ (e : p ≡ q). absurd (quiet x.0 m (x.1 ∙ (λ i. Some (sym e i, m)))))
+        (λ (e : p ≡ q). absurd (silent x.0 m (x.1 ∙ (λ i. Some (sym e i, m)))))
         (λ (e : o.0 ≡ q).
         let f : j.pending x.0 ≡ Some (o.0, m) = x.1 ∙ (λ i. Some (sym e i, m)) in
         let same : c ≡ x.0 = single c x.0 o.0 o.1 m pe f in
@@ -305,7 +305,7 @@ module _ (j : Knowledge) (n : ℕ) (p : Name) (below : (q : Name) (i : ℕ) → 
           r.1,
           inl (r.2 m (or_left (j.past p m) (n == m) (subst (λ z. j.past z m ≡ true) e x))),
         ))
-        (λ (x : (d : Channel) × (j.pending d ≡ Some (s.0, m))). absurd (quiet x.0 m (x.1 ∙ (λ i. Some (e i, m)))))
+        (λ (x : (d : Channel) × (j.pending d ≡ Some (s.0, m))). absurd (silent x.0 m (x.1 ∙ (λ i. Some (e i, m)))))
         s.2)
         (needs s.0 s.1)
 

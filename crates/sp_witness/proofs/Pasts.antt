@@ -307,8 +307,8 @@ module _ (es : List Occurrence) where
         → Stage done (mid ++ tail) j n → PrefixesAreKnown j done → WaitersSilentFrom j n mid → MarksAre mark n mid
         → a.position < n → known a.position ≡ false → Reason done n mid a.who a.position
         → MarkedFree mark a (heads_from j n mid)
-    free_from mark a done [] tail j n st kept quiet marks lt not why = tt
-    free_from mark a done (e ∷ mid) tail j n st kept quiet marks lt not why = (
+    free_from mark a done [] tail j n st kept silent marks lt not why = tt
+    free_from mark a done (e ∷ mid) tail j n st kept silent marks lt not why = (
       λ marked.
           let h : member n e (among e.who (suc n) mid) ≡ true = sym marks.0 ∙ marked in
           let unknown : j.past e.who a.position ≡ true → ⊥ =
@@ -317,7 +317,7 @@ module _ (es : List Occurrence) where
                 (λ (c : Counts done a.who a.position). ⊎_elim
                 (λ (p : j.past a.who a.position ≡ true). unknown
                 (subst (λ (z : Name). j.past z a.position ≡ true) is p))
-                (λ (w : (d : Channel) × (j.pending d ≡ Some (a.who, a.position))). quiet.0 w.0 a.position (w.1
+                (λ (w : (d : Channel) × (j.pending d ≡ Some (a.who, a.position))). silent.0 w.0 a.position (w.1
                 ∙ (λ i. Some (is i, a.position))))
                 (kept.own a.who a.position c))
                 (λ (none : among a.who n (e ∷ mid) ≡ false).
@@ -333,7 +333,7 @@ module _ (es : List Occurrence) where
       free_from mark a (done ++ e ∷ []) mid tail (knowledge_after j n e.who e.what) (suc n)
           (next_stage done e (mid ++ tail) j n st)
           (subst (λ z. PrefixesAreKnown (knowledge_after j z e.who e.what) (done ++ e ∷ [])) st.size
-          (one_entry j done e.who e.what kept quiet.0)) quiet.1 marks.1 (omega (arith, lt)) not
+          (one_entry j done e.who e.what kept silent.0)) silent.1 marks.1 (omega (arith, lt)) not
           (⊎_elim (λ (c : Counts done a.who a.position). inl (c.0, kept_entry done e _ a.position c.1, c.2))
           (λ (none : among a.who n (e ∷ mid) ≡ false). inr
           (or_parts (same_name a.who e.who && member n e (among e.who (suc n) mid)) (among a.who (suc n) mid)
@@ -345,20 +345,20 @@ module _ (es : List Occurrence) where
         → Stage done (mid ++ tail) j n → PrefixesAreKnown j done → WaitersSilentFrom j n mid → IsClean mid
         → MarksAre mark n mid
         → Cuts mark (heads_from j n mid)
-    cuts_from mark done [] tail j n st kept quiet clean marks = tt
-    cuts_from mark done (e ∷ mid) tail j n st kept quiet clean marks =
+    cuts_from mark done [] tail j n st kept silent clean marks = tt
+    cuts_from mark done (e ∷ mid) tail j n st kept silent clean marks =
         let s = next_stage done e (mid ++ tail) j n st in
         let kept' = subst (λ z. PrefixesAreKnown (knowledge_after j z e.who e.what) (done ++ e ∷ [])) st.size
-        (one_entry j done e.who e.what kept quiet.0) in (
+        (one_entry j done e.who e.what kept silent.0) in (
           λ unmarked.
               let h : member n e (among e.who (suc n) mid) ≡ false = sym marks.0 ∙ unmarked in
               let parts = or_parts (known n)
               (is_pause e.what && (offers_after es earlier later e.who n || among e.who (suc n) mid)) h in
               free_from mark (record { who = e.who; what = e.what; position = n; knows = j.past e.who })
               (done ++ e ∷ []) mid
-              tail (knowledge_after j n e.who e.what) (suc n) s kept' quiet.1 marks.1 (omega arith) parts.0
+              tail (knowledge_after j n e.who e.what) (suc n) s kept' silent.1 marks.1 (omega arith) parts.0
               (why e.what refl clean.0 parts.1),
-          cuts_from mark (done ++ e ∷ []) mid tail (knowledge_after j n e.who e.what) (suc n) s kept' quiet.1 clean.1
+          cuts_from mark (done ++ e ∷ []) mid tail (knowledge_after j n e.who e.what) (suc n) s kept' silent.1 clean.1
               marks.1,
         )
       where

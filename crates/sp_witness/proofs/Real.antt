@@ -36,7 +36,7 @@ get_low (x ∷ xs) ys (suc i) e lt h = get_low xs ys i e (omega (arith, lt)) h
 pub real : (g : RunInput) → IsDisjointRun g → (turn : ℕ) (es : List Occurrence) (n : ℕ) (t : StateOf g)
     → IsAlong g turn es n t → IsClean es → WaitersAreSilent es → (w : Way) (c : Channel) (earlier later : ℕ)
     → IsLeastRace es w c earlier later → Shows g turn es w c earlier later
-real g disjoint turn es n t along clean quiet w c earlier later least =
+real g disjoint turn es n t along clean silent w c earlier later least =
     let race = least.0 in
     let one : Occurrence = record { who = race.first; what = Offered w c } in
     let two : Occurrence = record { who = race.second; what = Offered w c } in
@@ -48,7 +48,7 @@ real g disjoint turn es n t along clean quiet w c earlier later least =
     (ap (λ xs. slice_get xs earlier) (sym b.whole) ∙ race.offered_first)) in
     let whole : es ≡ (a.before ++ one ∷ a.after) ++ two ∷ b.after = b.whole ∙ ap (λ z. z ++ two ∷ b.after) a.whole in
     let size_second : length (a.before ++ one ∷ a.after) ≡ later = ap length (sym a.whole) ∙ b.size in
-    shown g disjoint turn es n t along clean quiet w c earlier later a.before a.after b.after race.first race.second
+    shown g disjoint turn es n t along clean silent w c earlier later a.before a.after b.after race.first race.second
     whole a.size size_second
     (known_front es w c earlier later least (a.before ++ one ∷ a.after) (two ∷ b.after) whole
     (subst (λ z. z ≤ later) (sym size_second) (le_refl later)))

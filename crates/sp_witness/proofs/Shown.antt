@@ -18,7 +18,7 @@ use Rattle.sp_meaning.specs.Runs.{IsDisjointRun}
 use Rattle.sp_meaning.specs.Along.{ticks_of, no_course, Along, IsAlong, IsClean}
 use Rattle.sp_meaning.proofs.Maps.{differs}
 use Rattle.sp_meaning.proofs.Keys.{name_test}
-use Rattle.sp_meaning.proofs.JournalSchedules.{quiet_step}
+use Rattle.sp_meaning.proofs.JournalSchedules.{no_fault_step}
 use Rattle.sp_judge.specs.Prefixes.{WaitersSilentFrom, WaitersAreSilent}
 use Rattle.sp_judge.proofs.Prefixing.{nothing_kept}
 use Rattle.sp_race.specs.Notes.{Event, no_notes, next_event_of}
@@ -27,7 +27,7 @@ use Rattle.sp_race.specs.Known.{AreKnown}
 use Rattle.sp_race.proofs.GoodSteps.{sound_opening, knows_nothing}
 use Rattle.sp_race.proofs.Verdict.{KnownAfterEntries, stepped, said, linked_start}
 use Rattle.sp_judge.specs.Races.{KnowsCompletion}
-use Rattle.sp_judge.proofs.Fronts.{quiet_front}
+use Rattle.sp_judge.proofs.Fronts.{silent_front}
 use Rattle.sp_witness.specs.Witness.{who_of, who_at, entry_list, past_before, is_pause, is_known, offers_after}
 use Rattle.sp_witness.specs.Witness.{is_member}
 use Rattle.sp_witness.specs.Witness.{is_among, members, first_part, witness}
@@ -36,21 +36,21 @@ use Rattle.sp_witness.proofs.Moving.{Head, Free, MarkedFree, Cuts, Tag, Block, h
 use Rattle.sp_witness.proofs.Moving.{BlockRuns, EachFree, parted, in_front, ready_of, ready_back, ready_before}
 use Rattle.sp_witness.proofs.Pasts.{heads_from, Stage, past_here, MarksAre, cuts_from, get_at}
 use Rattle.sp_witness.proofs.Ticks.{said_same}
-use Rattle.sp_witness.proofs.Blocks.{AllQuiet, Valid, since_all, AllValid}
+use Rattle.sp_witness.proofs.Blocks.{AllSilent, Valid, since_all, AllValid}
 use Rattle.sp_witness.proofs.Walking.{beside, tag_of, knows_so, Turned, turned, Walked, walked}
-use Rattle.sp_witness.proofs.Back.{entry_of, entries, turn_quiet, rebuilt}
+use Rattle.sp_witness.proofs.Back.{entry_of, entries, turn_silent, rebuilt}
 use Rattle.sp_witness.proofs.Parts.{UnmarkedFree, mark_in, marks_are, marks_after, members_are, free_before, each_left}
 use Rattle.sp_witness.proofs.Parts.{left_append, kept_append, kept_valid, since_kept, since_stays, since_append}
 use Rattle.sp_witness.proofs.Parts.{valid_second, cuts_second, Split, split, heads_append}
 use Rattle.sp_witness.proofs.Contending.{Offers, offers_of, waits_here, blocks_fit, contends}
 use Rattle.sp_witness.proofs.Standing.{KnowledgeFacts, nothing_stands, stands_from}
 use Rattle.sp_witness.proofs.Witnessing.{clean_front, runs_split, runs_join, entries_join, valid_join}
-use Rattle.sp_witness.proofs.Witnessing.{LastStep, last_step, quiet_pending, quiet_condition, Pends, quiet_pends}
+use Rattle.sp_witness.proofs.Witnessing.{LastStep, last_step, silent_pending, silent_condition, Pends, silent_pends}
 use Rattle.sp_witness.proofs.Witnessing.{HeadsFit, blocks_pend}
 
 -- a race, with the journal cut at its two offers
 module _ (g : RunInput) (disjoint : IsDisjointRun g) (turn : ℕ) (es : List Occurrence) (n : ℕ) (t : StateOf g)
-    (along : IsAlong g turn es n t) (clean : IsClean es) (quiet : WaitersAreSilent es)
+    (along : IsAlong g turn es n t) (clean : IsClean es) (silent : WaitersAreSilent es)
     (w : Way) (c : Channel) (earlier later : ℕ) (before mid after : List Occurrence) (first second : Name)
     (whole : es ≡ (before ++ record { who = first; what = Offered w c } ∷ mid)
     ++ record { who = second; what = Offered w c } ∷ after)
@@ -92,21 +92,22 @@ module _ (g : RunInput) (disjoint : IsDisjointRun g) (turn : ℕ) (es : List Occ
   stage_second : Stage es front (two ∷ after) (knowledge_of front) later
   stage_second = record { whole = whole; knowledge_is = refl; size = size_second }
 
-  quiet_second : WaitersSilentFrom no_knowledge 0 front × WaitersSilentFrom (knowledge_of front) (0 + length front)
+  silent_second : WaitersSilentFrom no_knowledge 0 front × WaitersSilentFrom (knowledge_of front) (0 + length front)
       (two ∷ after)
-  quiet_second = quiet_front no_knowledge 0 front (two ∷ after) (subst (WaitersSilentFrom no_knowledge 0) whole quiet)
+  silent_second = silent_front no_knowledge 0 front (two ∷ after) (subst
+      (WaitersSilentFrom no_knowledge 0) whole silent)
 
-  quiet_first : WaitersSilentFrom no_knowledge 0 before × WaitersSilentFrom (knowledge_of before) (0 + length before)
+  silent_first : WaitersSilentFrom no_knowledge 0 before × WaitersSilentFrom (knowledge_of before) (0 + length before)
       (one ∷ mid)
-  quiet_first = quiet_front no_knowledge 0 before (one ∷ mid) quiet_second.0
+  silent_first = silent_front no_knowledge 0 before (one ∷ mid) silent_second.0
 
   stands_first : KnowledgeFacts (knowledge_of before) before earlier
   stands_first = subst (λ z. KnowledgeFacts (knowledge_of before) before z) zero_first
-      (stands_from no_knowledge [] 0 before refl nothing_stands quiet_first.0)
+      (stands_from no_knowledge [] 0 before refl nothing_stands silent_first.0)
 
   stands_second : KnowledgeFacts (knowledge_of front) front later
   stands_second = subst (λ z. KnowledgeFacts (knowledge_of front) front z) zero_second
-      (stands_from no_knowledge [] 0 front refl nothing_stands quiet_second.0)
+      (stands_from no_knowledge [] 0 front refl nothing_stands silent_second.0)
 
   got_first : slice_get es earlier ≡ Some one
   got_first = ap (λ xs. slice_get xs earlier) stage_first.whole
@@ -163,7 +164,7 @@ module _ (g : RunInput) (disjoint : IsDisjointRun g) (turn : ℕ) (es : List Occ
       (λ k e. (or_parts (past_before es earlier k) (past_before es later k) e).0)
       (λ q k e. (or_parts (same_name q (who_at es earlier) && nat_lt k earlier)
       (same_name q (who_at es later) && nat_lt k later) e).0)
-      before one (mid ++ two ∷ after) (knowledge_of before) stage_first stands_first.kept quiet_first.1.0 who_first
+      before one (mid ++ two ∷ after) (knowledge_of before) stage_first stands_first.kept silent_first.1.0 who_first
       mark []
       before (one ∷ mid) no_knowledge 0 refl refl (clean_front before (one ∷ mid) clean_all) marks
       (omega (arith, zero_first))
@@ -173,7 +174,7 @@ module _ (g : RunInput) (disjoint : IsDisjointRun g) (turn : ℕ) (es : List Occ
       (λ k e. (or_parts (past_before es earlier k) (past_before es later k) e).1)
       (λ q k e. (or_parts (same_name q (who_at es earlier) && nat_lt k earlier)
       (same_name q (who_at es later) && nat_lt k later) e).1)
-      front two after (knowledge_of front) stage_second stands_second.kept quiet_second.1.0 who_second mark [] front []
+      front two after (knowledge_of front) stage_second stands_second.kept silent_second.1.0 who_second mark [] front []
       no_knowledge 0 refl refl clean_all (subst (MarksAre es earlier later mark 0) (sym (append-nil front)) marks)
       (omega (arith, zero_second))
 
@@ -185,7 +186,7 @@ module _ (g : RunInput) (disjoint : IsDisjointRun g) (turn : ℕ) (es : List Occ
         linked = linked_start g;
         sound = sound_opening L (root g) (first_store g);
         known = knows_nothing;
-        quiet = refl;
+        no_fault = refl;
       }) ([], refl) known_before
 
   abbrev label : ℕ → Option Event
@@ -210,7 +211,7 @@ module _ (g : RunInput) (disjoint : IsDisjointRun g) (turn : ℕ) (es : List Occ
   cuts : Cuts mark (heads g blocks)
   cuts = subst (Cuts mark) (sym walk.heads_are)
       (cuts_from es earlier later mark [] front (two ∷ after) no_knowledge 0
-      (record { whole = whole; knowledge_is = refl; size = refl }) nothing_kept quiet_second.0 clean_all marks)
+      (record { whole = whole; knowledge_is = refl; size = refl }) nothing_kept silent_second.0 clean_all marks)
 
   -- the entries with their steps, cut at the earlier offer
   cut : Split g (heads_from no_knowledge 0 before) head_first
@@ -265,9 +266,9 @@ module _ (g : RunInput) (disjoint : IsDisjointRun g) (turn : ℕ) (es : List Occ
   abbrev end_notes : WithNotes L
   end_notes = beside g rest.3 local_steps.notes
 
-  tags_quiet : AllQuiet g turn (walk.course.since second) tags
-  tags_quiet = ⊎_elim
-      (λ (z : (rest.4 ≡ false) × AllQuiet g turn (walk.course.since second) tags × (own : Process)
+  tags_silent : AllSilent g turn (walk.course.since second) tags
+  tags_silent = ⊎_elim
+      (λ (z : (rest.4 ≡ false) × AllSilent g turn (walk.course.since second) tags × (own : Process)
       × (running_process g rest.3 second ≡ Some own) × (what : Happening)
       × (happening_at g rest.3 second own ≡ Some what)). z.1)
       (λ (z : (rest.4 ≡ true) × Valid g turn (walk.course.since second) Paused tags (ticks_of g rest.3 second)).
@@ -282,7 +283,7 @@ module _ (g : RunInput) (disjoint : IsDisjointRun g) (turn : ℕ) (es : List Occ
   its_offer =
       let h = rest.7.5 in
       let x = stepped g rest.3 second own rest.7.2 h.1 h.3
-      (quiet_step g rest.3 second own rest.7.2 (Some (Offered w c)) h.1 h.2 tt h.3 local_steps.known.quiet) in
+      (no_fault_step g rest.3 second own rest.7.2 (Some (Offered w c)) h.1 h.2 tt h.3 local_steps.known.no_fault) in
       let is : happening_of {L = L} (L.next own rest.3.store) (Advances []) ≡ Some (Offered w c) =
       said_same {L = L} (L.next own rest.3.store) [] x.cs
       ∙ ap (λ z. happening_of {L = L} (L.next z rest.3.store) (Advances x.cs)) (sym x.process_is)
@@ -414,8 +415,8 @@ module _ (g : RunInput) (disjoint : IsDisjointRun g) (turn : ℕ) (es : List Occ
       ] refl
 
   pends_last : Pends g label turn known last.before
-  pends_last = quiet_pends g label turn known (since_all g turn no_since cut.front block.head.who) after_part
-      last.before block.head last.locals last.quiet last.runs
+  pends_last = silent_pends g label turn known (since_all g turn no_since cut.front block.head.who) after_part
+      last.before block.head last.locals last.silent last.runs
       (blocks_pend g label turn known no_since start_notes after_part (kept g mark blocks)
       (all_fit no_knowledge 0 front blocks walk.heads_are marks) valid_kept parts.1 (λ d z e. absurd (none-some _ e)))
 
@@ -461,12 +462,12 @@ module _ (g : RunInput) (disjoint : IsDisjointRun g) (turn : ℕ) (es : List Occ
   first_second e = free_cut.1.0 (who_block ∙ e)
 
   pends_end : at_end.state.pending c ≡ Some first
-  pends_end = quiet_pending g label turn (walk.course.since second) after_first at_end head_second tags c tags_quiet
+  pends_end = silent_pending g label turn (walk.course.since second) after_first at_end head_second tags c tags_silent
       second_first.1 ∙ waits.0 ∙ ap (λ z. Some z) who_block
 
   waits_end : at_end.state.condition first ≡ Waits last.offers.offer
-  waits_end = quiet_condition g label turn (walk.course.since second) after_first at_end head_second tags first
-      first_second tags_quiet second_first.1
+  waits_end = silent_condition g label turn (walk.course.since second) after_first at_end head_second tags first
+      first_second tags_silent second_first.1
       ∙ subst (λ (z : Name). after_first.state.condition z ≡ Waits last.offers.offer) who_block waits.1
 
   offers_end : Offers L (L.next own at_end.state.store) w c
@@ -514,8 +515,8 @@ module _ (g : RunInput) (disjoint : IsDisjointRun g) (turn : ℕ) (es : List Occ
         refl,
       )) valid_all (refl, λ q. refl)
       (λ c1 e f.
-      let q = turn_quiet g turn label (c1.since second) after_first at_end head_second tags
-      (subst (λ z. AllQuiet g turn z tags) (sym (ap (λ h. h second) e ∙ since_second)) tags_quiet) second_first.1
+      let q = turn_silent g turn label (c1.since second) after_first at_end head_second tags
+      (subst (λ z. AllSilent g turn z tags) (sym (ap (λ h. h second) e ∙ since_second)) tags_silent) second_first.1
       own ready_at_end.works (Faulted fault.F6) faulty.0 in (
         q.0 + 1,
         (

@@ -16,7 +16,7 @@ use Rattle.sp_meaning.specs.Runs.{StateOf, start, total_limits, running_process,
 use Rattle.sp_meaning.specs.Along.{Either, ticks_of, is_due_after, Turn, Course, with_ticks, course_after, KernelStep}
 use Rattle.sp_meaning.specs.Along.{EntryStep, Along}
 use Rattle.sp_meaning.specs.Along.{IsCleanly, IsClean}
-use Rattle.sp_meaning.proofs.JournalSchedules.{quiet_step}
+use Rattle.sp_meaning.proofs.JournalSchedules.{no_fault_step}
 use Rattle.sp_race.specs.Notes.{Event, JudgeNotes, next_event_of, KnowsBefore}
 use Rattle.sp_race.specs.Noting.{WithNotes, notes_after}
 use Rattle.sp_race.specs.Known.{KnowsOffers, KnownFrom}
@@ -30,7 +30,7 @@ use Rattle.sp_witness.proofs.Independent.{IsLocal}
 use Rattle.sp_witness.proofs.Moving.{Head, Tag, Block, heads, Does, Runs, BlockRuns}
 use Rattle.sp_witness.proofs.Pasts.{heads_from}
 use Rattle.sp_witness.proofs.Ticks.{ticks_by, ticks_after, said_same}
-use Rattle.sp_witness.proofs.Blocks.{AllQuiet, IsLast, Valid, since_all, AllValid}
+use Rattle.sp_witness.proofs.Blocks.{AllSilent, IsLast, Valid, since_all, AllValid}
 use Rattle.sp_witness.proofs.Blocks as blocks
 
 module _ (g : RunInput) where
@@ -53,11 +53,11 @@ module _ (g : RunInput) where
 
   before_step : (s : StateOf g) (q : Name) (own : Process) (m : StateOf g) → Before s → s.fault ≡ None
       → Stepped g s q own m → Before m
-  before_step s q own m way quiet x = (
+  before_step s q own m way no_fault x = (
     way.0 ++ q ∷ [],
     leads_on (total_limits g) way.0 (q ∷ []) (start g) s m way.1 (
       m,
-      quiet,
+      no_fault,
       steps s q x.cs x.makes
           ∙ ap (λ (z : StateOf g). Some z) (sym x.to),
       refl,
@@ -76,7 +76,7 @@ module _ (g : RunInput) where
     leads = way.1;
     sound = at.sound;
     known = at.known;
-    quiet = at.quiet;
+    no_fault = at.no_fault;
     cs = x.cs;
     makes = x.makes;
     to = x.to;
@@ -102,7 +102,7 @@ module _ (g : RunInput) where
     pub way : Before m
     pub tags : List (Tag g)
     pub runs : (lf : ℕ → Option Event) → LabelsAgree lf label n → Runs g lf (beside s v) h tags (beside m notes)
-    pub kind : ((paused ≡ false) × AllQuiet g turn since tags × (own : Process) × (running_process g m q ≡ Some own)
+    pub kind : ((paused ≡ false) × AllSilent g turn since tags × (own : Process) × (running_process g m q ≡ Some own)
         × (what : Happening) × (happening_at g m q own ≡ Some what))
         ⊎ ((paused ≡ true) × Valid g turn since Paused tags (ticks_of g m q))
 
@@ -129,7 +129,7 @@ module _ (g : RunInput) where
   turned turn since q (suc k) s m v j done n label h paused hw ha hk t at way =
       let own = t.0 in
       let u = t.3 in
-      let x = stepped g s q own u t.1 t.4 (quiet_step g s q own u None t.1 t.2 tt t.4 at.quiet) in
+      let x = stepped g s q own u t.1 t.4 (no_fault_step g s q own u None t.1 t.2 tt t.4 at.no_fault) in
       let mv = local_moves g s q own u x t.2 in
       let at1 = next_at g s v j done n label q own u at x j done n label
       (moves_linked s v q x.cs at.sound at.known x.makes j done n label at.linked mv.next_own mv.writes mv.move_is) in
@@ -153,9 +153,9 @@ module _ (g : RunInput) where
         };
         good = subst (λ z. GoodStep (total_limits g) (start g) (beside s v) z (beside u w)) (sym hw) good;
       } in
-      rest own u w at1 (before_step s q own u way at.quiet x) does (is_due_after g turn since s own q u) refl t.5
+      rest own u w at1 (before_step s q own u way at.no_fault x) does (is_due_after g turn since s own q u) refl t.5
       (λ y. turned turn since q k u m w j done n label h paused hw ha hk y at1
-      (before_step s q own u way at.quiet x))
+      (before_step s q own u way at.no_fault x))
       (λ b e. record {
         to = mv.next_own;
         writes = mv.writes;
@@ -197,7 +197,7 @@ module _ (g : RunInput) where
             tags = tag_of s own ∷ r.tags;
             runs = λ lf agree. (beside u w, does lf agree, r.runs lf agree);
             kind = ⊎_elim
-                (λ (z : (paused ≡ false) × AllQuiet g turn since r.tags × (own : Process)
+                (λ (z : (paused ≡ false) × AllSilent g turn since r.tags × (own : Process)
                 × (running_process g m q ≡ Some own)
                 × (what : Happening) × (happening_at g m q own ≡ Some what)). inl
                 (z.0, ((ticks_of g u q, move false e), z.1), z.2, z.3, z.4, z.5))
@@ -299,7 +299,8 @@ module _ (g : RunInput) where
   kernel_entry turn left c s m paused v j done n label q what r ok last since_is h t knows =
       let own = h.5.0 in
       let u = h.2 in
-      let x = stepped g m q own u h.5.1 h.5.3 (quiet_step g m q own u (Some what) h.5.1 h.5.2 ok h.5.3 t.known.quiet) in
+      let x = stepped g m q own u h.5.1 h.5.3 (no_fault_step g m q own u
+      (Some what) h.5.1 h.5.2 ok h.5.3 t.known.no_fault) in
       let y = enters m t.notes q own u j done n label what t.known x h.5.2 knows in
       let w : JudgeNotes = notes_after m t.notes q (L.next own m.store) in
       let lab = grown n t.notes q label in
@@ -311,8 +312,8 @@ module _ (g : RunInput) where
       said_same {L = L} (L.next own m.store) [] x.cs
       ∙ ap (λ z. happening_of {L = L} (L.next z m.store) (Advances x.cs)) (sym x.process_is) ∙ sym (said g m q own u x)
       ∙ h.5.2 in
-      let quiet : AllQuiet g turn (c.since q) t.tags =
-      ⊎_elim (λ (z : (paused ≡ false) × AllQuiet g turn (c.since q) t.tags × (own : Process)
+      let silent : AllSilent g turn (c.since q) t.tags =
+      ⊎_elim (λ (z : (paused ≡ false) × AllSilent g turn (c.since q) t.tags × (own : Process)
       × (running_process g m q ≡ Some own) × (what : Happening) × (happening_at g m q own ≡ Some what)). z.1)
       (λ (z : (paused ≡ true) × Valid g turn (c.since q) Paused t.tags (ticks_of g m q)). absurd
       (false≢true (sym h.1 ∙ z.0))) t.kind in
@@ -324,7 +325,7 @@ module _ (g : RunInput) where
         notes = w;
         label_after = lab;
         at = y.at;
-        way = before_step m q own u t.way t.known.quiet x;
+        way = before_step m q own u t.way t.known.no_fault x;
         tags = t.tags ++ tag_of m own ∷ [];
         runs = λ lf ag. run_on lf (HeadOf j n q what) t.tags (tag_of m own) (beside s v) (beside m t.notes) (beside u w)
             (t.runs lf (λ k lt. ag k (omega (arith, lt)) ∙ agree k lt)) (record {
@@ -339,7 +340,7 @@ module _ (g : RunInput) where
               good = good;
             });
         agree = agree;
-        valid = valid_on (c.since q) t.tags (tag_of m own) (ticks_of g u q) quiet
+        valid = valid_on (c.since q) t.tags (tag_of m own) (ticks_of g u q) silent
             (last (tag_of m own) (ticks_of g u q) (says_it, ticks));
         since = since_is (ticks_of g u q);
       }
@@ -349,10 +350,10 @@ module _ (g : RunInput) where
       run_on lf h [] x a b d r y = (d, subst (λ z. Does g lf z h x d) r y, refl)
       run_on lf h (z ∷ xs) x a b d r y = (r.0, r.1, run_on lf h xs x r.0 b d r.2 y)
 
-      valid_on : (since : ℕ) (xs : List (Tag g)) (x : Tag g) (ticks : ℕ) → AllQuiet g turn since xs
+      valid_on : (since : ℕ) (xs : List (Tag g)) (x : Tag g) (ticks : ℕ) → AllSilent g turn since xs
           → IsLast g turn since what x ticks → Valid g turn since what (xs ++ x ∷ []) ticks
-      valid_on since [] x ticks quiet l = inr (refl, l)
-      valid_on since (z ∷ xs) x ticks quiet l = inl (quiet.0, valid_on since xs x ticks quiet.1 l)
+      valid_on since [] x ticks silent l = inr (refl, l)
+      valid_on since (z ∷ xs) x ticks silent l = inl (silent.0, valid_on since xs x ticks silent.1 l)
 
   entry : (turn : ℕ) (left : Course → StateOf g → ℕ → Type 0) (c : Course) (s m : StateOf g) (paused : Bool)
       (v : JudgeNotes)
@@ -381,13 +382,13 @@ module _ (g : RunInput) where
       linked = pause_linked m t.notes j done n label q t.known.linked;
       sound = t.known.sound;
       known = t.known.known;
-      quiet = t.known.quiet;
+      no_fault = t.known.no_fault;
     };
     way = t.way;
     tags = t.tags;
     runs = λ lf ag. t.runs lf (λ k lt. ag k (omega (arith, lt)) ∙ rw (ne_eqb n k (λ e. omega (arith, e, lt))));
     agree = λ k lt. rw (ne_eqb n k (λ e. omega (arith, e, lt)));
-    valid = ⊎_elim (λ (z : (paused ≡ false) × AllQuiet g turn (c.since q) t.tags × (own : Process)
+    valid = ⊎_elim (λ (z : (paused ≡ false) × AllSilent g turn (c.since q) t.tags × (own : Process)
         × (running_process g m q ≡ Some own) × (what : Happening) × (happening_at g m q own ≡ Some what)). absurd
         (false≢true (sym z.0 ∙ h.1))) (λ (z : (paused ≡ true)
         × Valid g turn (c.since q) Paused t.tags (ticks_of g m q)). z.1) t.kind;

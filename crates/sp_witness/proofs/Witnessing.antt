@@ -14,7 +14,7 @@ use Rattle.sp_race.specs.Noting.{WithNotes}
 use Rattle.sp_witness.specs.Witness.{is_pause}
 use Rattle.sp_witness.proofs.Independent.{IsLocal}
 use Rattle.sp_witness.proofs.Moving.{Head, Tag, Block, Does, Runs, BlockRuns}
-use Rattle.sp_witness.proofs.Blocks.{IsMove, IsLocalNotDue, AllQuiet, IsLast, Valid, since_after, since_all, AllValid}
+use Rattle.sp_witness.proofs.Blocks.{IsMove, IsLocalNotDue, AllSilent, IsLast, Valid, since_after, since_all, AllValid}
 use Rattle.sp_witness.proofs.Back.{entry_of, entries}
 use Rattle.sp_witness.proofs.Contending.{Offers, offers_of, local_pending, local_condition, pends_next}
 
@@ -50,7 +50,7 @@ module _ (g : RunInput) (label : ℕ → Option Event) where
     pub record LastStep (w : Way) (c : Channel) (since : ℕ) (s t : WithNotes L) (h : Head) : Type 0 where
       pub before : WithNotes L
       pub locals : List (Tag g)
-      pub quiet : AllQuiet g turn since locals
+      pub silent : AllSilent g turn since locals
       pub runs : Runs g label s h locals before
       pub tag : Tag g
       pub does : Does g label before h tag t
@@ -65,7 +65,7 @@ module _ (g : RunInput) (label : ℕ → Option Event) where
         record {
           before = k.before;
           locals = x ∷ k.locals;
-          quiet = (y.0, k.quiet);
+          silent = (y.0, k.silent);
           runs = (r.0, r.1, k.runs);
           tag =
               k.tag;
@@ -77,7 +77,7 @@ module _ (g : RunInput) (label : ℕ → Option Event) where
         record {
           before = s;
           locals = [];
-          quiet = tt;
+          silent = tt;
           runs = refl;
           tag = x;
           does =
@@ -89,16 +89,16 @@ module _ (g : RunInput) (label : ℕ → Option Event) where
     local_is : (since : ℕ) (x : Tag g) (b : Bool) (ticks : ℕ) → IsMove g turn since x b ticks → IsLocal x.act
     local_is since x b ticks v = subst IsLocal (sym v.move_is) tt
 
-    pub quiet_pending : (since : ℕ) (s t : WithNotes L) (h : Head) (xs : List (Tag g)) (c : Channel)
-        → AllQuiet g turn since xs → Runs g label s h xs t → t.state.pending c ≡ s.state.pending c
-    quiet_pending since s t h [] c q r = ap (λ (z : WithNotes L). z.state.pending c) r
-    quiet_pending since s t h (x ∷ xs) c q r = quiet_pending since r.0 t h xs c q.1 r.2
+    pub silent_pending : (since : ℕ) (s t : WithNotes L) (h : Head) (xs : List (Tag g)) (c : Channel)
+        → AllSilent g turn since xs → Runs g label s h xs t → t.state.pending c ≡ s.state.pending c
+    silent_pending since s t h [] c q r = ap (λ (z : WithNotes L). z.state.pending c) r
+    silent_pending since s t h (x ∷ xs) c q r = silent_pending since r.0 t h xs c q.1 r.2
         ∙ local_pending g label s h x r.0 r.1 (local_is since x false q.0.0 q.0.1) c
 
-    pub quiet_condition : (since : ℕ) (s t : WithNotes L) (h : Head) (xs : List (Tag g)) (p : Name) → p ≢ h.who
-        → AllQuiet g turn since xs → Runs g label s h xs t → t.state.condition p ≡ s.state.condition p
-    quiet_condition since s t h [] p apart q r = ap (λ (z : WithNotes L). z.state.condition p) r
-    quiet_condition since s t h (x ∷ xs) p apart q r = quiet_condition since r.0 t h xs p apart q.1 r.2
+    pub silent_condition : (since : ℕ) (s t : WithNotes L) (h : Head) (xs : List (Tag g)) (p : Name) → p ≢ h.who
+        → AllSilent g turn since xs → Runs g label s h xs t → t.state.condition p ≡ s.state.condition p
+    silent_condition since s t h [] p apart q r = ap (λ (z : WithNotes L). z.state.condition p) r
+    silent_condition since s t h (x ∷ xs) p apart q r = silent_condition since r.0 t h xs p apart q.1 r.2
         ∙ local_condition g label s h x r.0 r.1 (local_is since x false q.0.0 q.0.1) p apart
 
     -- pending offers are known ones
@@ -107,11 +107,11 @@ module _ (g : RunInput) (label : ℕ → Option Event) where
       Pends u = (c : Channel) (z : Name) → u.state.pending c ≡ Some z
           → (k : ℕ) × (label k ≡ Some (next_event_of u.notes z)) × (known k ≡ true)
 
-      pub quiet_pends : (since : ℕ) (s t : WithNotes L) (h : Head) (xs : List (Tag g)) → AllQuiet g turn since xs
+      pub silent_pends : (since : ℕ) (s t : WithNotes L) (h : Head) (xs : List (Tag g)) → AllSilent g turn since xs
           → Runs g label s h xs t → Pends s → Pends t
-      quiet_pends since s t h [] q r p = subst Pends (sym r) p
-      quiet_pends since s t h (x ∷ xs) q r p =
-          quiet_pends since r.0 t h xs q.1 r.2
+      silent_pends since s t h [] q r p = subst Pends (sym r) p
+      silent_pends since s t h (x ∷ xs) q r p =
+          silent_pends since r.0 t h xs q.1 r.2
           (pends_next g label s h x r.0 r.1 known (inl (local_is since x false q.0.0 q.0.1)) p)
 
       -- a pause, or an entry that is known

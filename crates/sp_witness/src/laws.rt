@@ -27,7 +27,7 @@ ghost use Rattle.sp_witness.specs.Flags.{picked_first_part, marks};
 ghost use Rattle.sp_witness.specs.Numbered.{entries_by_numbers, witness_journal};
 ghost use Rattle.sp_witness.specs.Moved.{first_table, renumbered_entry, renumbered_entries, table_of, IsPlain};
 
-use sp_judge::{runs_are_quiet, runs_without_a_fault_are_clean, verdicts_hold_of_runs};
+use sp_judge::{runs_are_silent, runs_without_a_fault_are_clean, verdicts_hold_of_runs};
 
 /// The race is real. A program keeps the rules of interference; a run of it, along a journal without a fault, has a
 /// race, and this is its least pair. Then the witness of the two offers is the journal of a run of the same program,
@@ -39,7 +39,7 @@ pub fn races_are_real()
         → (w : Way) (c : Channel) (earlier later : ℕ)
         → IsLeastRace es w c earlier later → Shows g turn es w c earlier later }
 {
-    runs_are_quiet();
+    runs_are_silent();
 }
 
 /// A verdict is `ordered` exactly where no schedule contends. A program keeps the rules of interference, and a run of

@@ -28,7 +28,7 @@ pub fn witness(
     later: u64,
 ) -> Result<Journal, Memory>
     requires nameable { IsNameable journal.now }
-    requires quiet { WaitersAreSilent (occurrences journal.now) }
+    requires silent { WaitersAreSilent (occurrences journal.now) }
     requires clean { IsClean (occurrences journal.now) }
     requires order { earlier < later }
     requires inside { later < length journal.now.entries }

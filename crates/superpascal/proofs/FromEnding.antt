@@ -33,7 +33,8 @@ use Rattle.superpascal.specs.Texts.{FirstBrokenFor, CanRead, HasLongCode, IsSoun
 use Rattle.superpascal.specs.Texts.{LoadsText, Makes, command_of_run, asks_build, asks_execution, asks_replay, asks_run}
 use Rattle.superpascal.specs.Texts.{asks_text, command_of_execution, command_of_replay, text_of}
 use Rattle.superpascal.proofs.Laws.{Laws, code_text_keeps, keeps_or, kept_or, made_asks, made_keeps, one_break}
-use Rattle.superpascal.proofs.RunCommands.{asked_keeps, asked_makes, asked_no_build, asked_no_text, asked_text, breaks_asked}
+use Rattle.superpascal.proofs.RunCommands.{asked_keeps, asked_makes, asked_no_build, asked_no_text, asked_text}
+use Rattle.superpascal.proofs.RunCommands.{breaks_asked}
 use Rattle.superpascal.proofs.RunCommands.{not_exec, not_gen, not_run}
 use Rattle.superpascal.proofs.CodeFiles.{not_bad, not_long, not_rejected}
 use Rattle.superpascal.proofs.Parts.{if_mapped, when_told}

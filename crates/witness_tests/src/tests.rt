@@ -45,7 +45,7 @@ fn is_witness(
     wanted: Vec<Entry>,
 ) -> Result<bool, Memory>
     requires nameable { IsNameable run }
-    requires quiet { WaitersAreSilent (occurrences run) }
+    requires silent { WaitersAreSilent (occurrences run) }
     requires clean { IsClean (occurrences run) }
     requires order { earlier < later }
     requires inside { later < length run.entries }

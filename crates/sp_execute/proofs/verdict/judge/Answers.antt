@@ -11,11 +11,11 @@ use Rattle.sp_execute.specs.Runs.{IsAbout, Promises}
 use Rattle.sp_execute.proofs.Judged.{if_judged}
 use Rattle.sp_execute.proofs.verdict.judge.Goals as goal
 
-pub verdict_of-requires-clause-quiet : goal.verdict_of-requires-clause-quiet
-verdict_of-requires-clause-quiet c =
+pub verdict_of-requires-clause-silent : goal.verdict_of-requires-clause-silent
+verdict_of-requires-clause-silent c =
     let a = c.requires.about in
     subst (λ (j : Journal). WaitersAreSilent (occurrences j)) (sym c.journal.ensures)
-    (c.runs_are_quiet.ensures a.0 TURN_TICKS
+    (c.runs_are_silent.ensures a.0 TURN_TICKS
     (occurrences c.args.concluded.now.closed.journal) a.1.steps a.1.state a.1.along)
 
 pub returns-clause-exact : goal.returns-clause-exact

@@ -46,7 +46,8 @@ knows_entry-requires-clause-process c = there c.args.entries.now c.requires.tame
     c.args.racing_offer.way c.args.racing_offer.channel c.requires.here
 
 pub knows_entry-requires-clause-other : goal.knows_entry-requires-clause-other
-knows_entry-requires-clause-other c = other_there c.args.entries.now c.requires.tame c.args.at c.args.racing_offer.process
+knows_entry-requires-clause-other c = other_there c.args.entries.now c.requires.tame c.args.at
+    c.args.racing_offer.process
     c.args.racing_offer.way c.args.racing_offer.channel c.requires.here c.in-Some.i c.in-Some.ensures.1 _
 
 pub loop-known-preserved-then-branch : goal.loop-known-preserved-then-branch
@@ -59,7 +60,8 @@ loop-known-preserved-then-branch c =
     c.args.racing_offer.channel c.requires.here c.args.until.now c.args.tables.now c.requires.holds c.in-Some.i
     c.index.result.now any (omega (arith, low, l)) o.1 c.index.ensures in (
       h.0,
-      all_below c.args.entries.now c.requires.tame c.args.at c.args.racing_offer.process c.args.racing_offer.way c.args.racing_offer.channel
+      all_below c.args.entries.now c.requires.tame c.args.at c.args.racing_offer.process c.args.racing_offer.way
+          c.args.racing_offer.channel
           c.requires.here c.requires.in_order _ c.in-Some.i (omega (arith, low)) o
           (says.0 (c.in_ok-knows_entry-in-Some.ensures.0 c.if-branch.true)),
       h.2,

@@ -6,7 +6,8 @@ use Rattle.sp_judge.proofs.knowing.first_unknown.Given as goal
 abbrev pub invariant-loop-known : goal.invariant-loop-known
 invariant-loop-known l =
     (l.first ≤ l.at) × ((k : ℕ) → k < l.known
-    → IsUnknown (births l.entries) (entries_by_names (births l.entries) (take l.at l.entries)) l.entries l.racing_offer.process
+    → IsUnknown (births l.entries) (entries_by_names (births l.entries)
+    (take l.at l.entries)) l.entries l.racing_offer.process
     l.racing_offer.way l.racing_offer.channel k → ⊥)
     × (l.first < l.at → IsUnknown (births l.entries) (entries_by_names (births l.entries) (take l.at l.entries))
     l.entries

@@ -29,15 +29,15 @@ loop-at-init c =
 
 pub racing-requires-clause-tame : goal.racing-requires-clause-tame
 racing-requires-clause-tame c = subst IsNameableAndSilent (sym c.items-entries.ensures)
-    (nameable_and_silent_of c.args.journal.now c.requires.nameable c.requires.quiet)
+    (nameable_and_silent_of c.args.journal.now c.requires.nameable c.requires.silent)
 
 pub race-requires-clause-tame : goal.race-requires-clause-tame
 race-requires-clause-tame c = subst IsNameableAndSilent (sym c.items-entries.ensures)
-    (nameable_and_silent_of c.args.journal.now c.requires.nameable c.requires.quiet)
+    (nameable_and_silent_of c.args.journal.now c.requires.nameable c.requires.silent)
 
 pub see-requires-clause-tame : goal.see-requires-clause-tame
 see-requires-clause-tame c = subst IsNameableAndSilent (sym c.items-entries.ensures)
-    (nameable_and_silent_of c.args.journal.now c.requires.nameable c.requires.quiet)
+    (nameable_and_silent_of c.args.journal.now c.requires.nameable c.requires.silent)
 
 pub returns-in-Some : goal.returns-in-Some
 returns-in-Some c =
@@ -54,7 +54,7 @@ loop-at-preserved c =
     let e = get_or es at any_entry in
     let inside : slice_get es at ≡ Some e = slice_get-get_or es at any_entry c.loop-at-test.true in
     let tame = subst IsNameableAndSilent (sym c.items-entries.ensures)
-    (nameable_and_silent_of c.args.journal.now c.requires.nameable c.requires.quiet) in (
+    (nameable_and_silent_of c.args.journal.now c.requires.nameable c.requires.silent) in (
       subst (λ u. TablesHold (births es) u (take (at + 1) es) c.see.new.self) c.deref-in-loop-at.ensures.value
           c.in_ok-see.ensures,
       known_next es tame at e inside c.loop-at.invariant.1

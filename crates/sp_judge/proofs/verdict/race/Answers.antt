@@ -8,11 +8,14 @@ pub first_unknown-requires-clause-here : goal.first_unknown-requires-clause-here
 first_unknown-requires-clause-here c = c.requires.racing.0
 
 pub channel-requires-clause-there : goal.channel-requires-clause-there
-channel-requires-clause-there c = subst (λ es. c.args.racing_offer.channel < (births es).channels) (sym c.requires.its_journal)
-    (channel_inside c.args.entries.now c.requires.tame c.args.at c.requires.in_order c.args.racing_offer c.requires.racing)
+channel-requires-clause-there c = subst (λ es. c.args.racing_offer.channel < (births es).channels)
+    (sym c.requires.its_journal)
+    (channel_inside c.args.entries.now c.requires.tame c.args.at c.requires.in_order c.args.racing_offer
+    c.requires.racing)
 
 pub returns-in-None : goal.returns-in-None
-returns-in-None c = absurd (not_unknown c.args.entries.now c.requires.tame c.args.at c.requires.in_order c.args.racing_offer
+returns-in-None c = absurd
+    (not_unknown c.args.entries.now c.requires.tame c.args.at c.requires.in_order c.args.racing_offer
     c.requires.racing (rw c.in-None.is at c.in_ok-first.ensures))
 
 pub returns-in_ok-channel-in-Some : goal.returns-in_ok-channel-in-Some

@@ -15,5 +15,5 @@ returns-clause-over k = λ g moves shares pause es t n s a e. program_over g mov
     (names_on g moves shares pause a.ready es t a.system) t a.system n s a.program e
 
 pub returns-clause-idle : goal.returns-clause-idle
-returns-clause-idle k = λ g moves shares pause es t n s a quiet none. program_idle g moves shares pause a.ready es
-    (names_on g moves shares pause a.ready es t a.system) t a.system n s a.program quiet none
+returns-clause-idle k = λ g moves shares pause es t n s a no_fault none. program_idle g moves shares pause a.ready es
+    (names_on g moves shares pause a.ready es t a.system) t a.system n s a.program no_fault none

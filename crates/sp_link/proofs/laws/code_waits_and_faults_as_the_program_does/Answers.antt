@@ -1,5 +1,5 @@
 use Rattle.sp_link.proofs.Endings.{program_waits_means, program_waits_runs, program_stuck, program_deadlock}
-use Rattle.sp_link.proofs.Endings.{program_fault, program_faulted, program_quiet}
+use Rattle.sp_link.proofs.Endings.{program_fault, program_faulted, program_no_fault}
 use Rattle.sp_link.proofs.laws.code_waits_and_faults_as_the_program_does.Goals as goal
 
 pub returns-clause-waits : goal.returns-clause-waits
@@ -26,6 +26,7 @@ pub returns-clause-faulted : goal.returns-clause-faulted
 returns-clause-faulted k = λ g moves shares pause es t n s a e.
     (let w = program_faulted g moves shares pause a.ready es t a.system n s a.program e in (w.0, w.1, w.2))
 
-pub returns-clause-quiet : goal.returns-clause-quiet
-returns-clause-quiet k = λ g moves shares pause es t n s a e. program_quiet g moves shares pause a.ready es t a.system n
+pub returns-clause-no_fault : goal.returns-clause-no_fault
+returns-clause-no_fault k = λ g moves shares pause es t n s a e. program_no_fault g moves shares pause a.ready es t
+    a.system n
     s a.program e

@@ -59,7 +59,7 @@ returns c =
     (subst (λ xs. IfSome (slice_get xs c.args.earlier) (λ (e : Entry). IsPlain e.event)) (sym is)
     c.requires.offer) in
     let law =
-    c.tables_number_the_witness.ensures j c.requires.nameable c.requires.quiet c.requires.clean c.args.earlier
+    c.tables_number_the_witness.ensures j c.requires.nameable c.requires.silent c.requires.clean c.args.earlier
     c.args.later order
     one two got_one got_two plain c.requires.a_journal c.requires.its_names in
     IfOk-weaker c.renumbered.result _ _ (λ it h.

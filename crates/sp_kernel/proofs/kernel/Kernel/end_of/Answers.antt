@@ -25,20 +25,21 @@ child x k w p fits n z o e f g = is_child x k w (at_end p) fits z
 pub end_child-requires-clause-there : goal.end_child-requires-clause-there
 end_child-requires-clause-there c = (
   there c.args.self.now c.requires.whole c.args.proc.number c.args._worker c.requires.fits.out,
-  child_there c.args.self.now c.requires.whole c.args._worker (at_end c.args.proc) refl c.requires.quiet c.requires.fits
+  child_there c.args.self.now c.requires.whole c.args._worker
+      (at_end c.args.proc) refl c.requires.no_fault c.requires.fits
       c.in-Some.parent (child c.args.self.now c.requires.whole c.args._worker c.args.proc c.requires.fits
       c.number.result c.in-Some.parent c.parent.result c.number.ensures c.parent.ensures c.in-Some.is),
 )
 
 pub end_child-requires-clause-apart : goal.end_child-requires-clause-apart
 end_child-requires-clause-apart c =
-    child_apart c.args.self.now c.requires.whole c.args._worker (at_end c.args.proc) refl c.requires.quiet
+    child_apart c.args.self.now c.requires.whole c.args._worker (at_end c.args.proc) refl c.requires.no_fault
     c.requires.fits c.in-Some.parent (child c.args.self.now c.requires.whole c.args._worker c.args.proc
     c.requires.fits c.number.result c.in-Some.parent c.parent.result c.number.ensures c.parent.ensures c.in-Some.is)
 
 pub end_child-requires-clause-joiner : goal.end_child-requires-clause-joiner
 end_child-requires-clause-joiner c =
-    child_joins c.args.self.now c.requires.whole c.args._worker (at_end c.args.proc) refl c.requires.quiet
+    child_joins c.args.self.now c.requires.whole c.args._worker (at_end c.args.proc) refl c.requires.no_fault
     c.requires.fits c.in-Some.parent (child c.args.self.now c.requires.whole c.args._worker c.args.proc
     c.requires.fits c.number.result c.in-Some.parent c.parent.result c.number.ensures c.parent.ensures c.in-Some.is)
 
@@ -54,13 +55,13 @@ returns-in-Ok-clause-ok c =
     (subst (λ n. Gave x c.args.proc.number (at_end c.args.proc)
     (kernel_after_give n event.End (slot.Here done.0 st.Over) x))
     done.1.1 (gave_root x c.requires.whole c.args.proc.number c.args._worker c.requires.fits.out
-    (at_end c.args.proc) refl c.requires.quiet (refl, c.requires.fits.input) done.0 done.1 none))
+    (at_end c.args.proc) refl c.requires.no_fault (refl, c.requires.fits.input) done.0 done.1 none))
 
 pub returns-in-Ok-end_child-clause-ok : goal.returns-in-Ok-end_child-clause-ok
 returns-in-Ok-end_child-clause-ok c =
     let x : Kernel = c.args.self.now in
     let done = c.in-Ok-end_child.ensures.ok in
     subst (Gave x c.args.proc.number (at_end c.args.proc)) (sym done.2)
-    (gave_end x c.requires.whole c.args._worker (at_end c.args.proc) refl c.requires.quiet c.requires.fits
+    (gave_end x c.requires.whole c.args._worker (at_end c.args.proc) refl c.requires.no_fault c.requires.fits
     c.in-Some.parent (child x c.requires.whole c.args._worker c.args.proc c.requires.fits c.number.result
     c.in-Some.parent c.parent.result c.number.ensures c.parent.ensures c.in-Some.is) done.0 done.1)

@@ -38,7 +38,7 @@ returns-then-self-from-clause-ok c =
     let x : Kernel = c.args.self.now in
     let f = c.requires.forks in
     failed c.fail.result x c.fail.new.self c.requires.whole c.args._worker (at_fork c.args.proc c.args.stop)
-    (at_fork c.args.proc c.args.stop) fault.F15 c.requires.fits c.requires.quiet refl
+    (at_fork c.args.proc c.args.stop) fault.F15 c.requires.fits c.requires.no_fault refl
     (fault_at x c.args.proc c.args.stop c.args.count f (Some fault.F15)
     (fork_full x.limits (system_of x) f.0 f.1 c.args.count (config_of c.args.proc)
     (is_full x.limits.entries x.entries c.from.result c.from.ensures c.if-self-from.true))) c.fail.ensures.ok
@@ -48,7 +48,7 @@ returns-in-None-clause-ok c =
     let x : Kernel = c.args.self.now in
     let f = c.requires.forks in
     failed c.fail-in-None.result x c.fail-in-None.new.self c.requires.whole c.args._worker
-    (at_fork c.args.proc c.args.stop) (at_fork c.args.proc c.args.stop) fault.F13 c.requires.fits c.requires.quiet
+    (at_fork c.args.proc c.args.stop) (at_fork c.args.proc c.args.stop) fault.F13 c.requires.fits c.requires.no_fault
     refl
     (fault_at x c.args.proc c.args.stop c.args.count f (Some fault.F13)
     (fork_many x.limits (system_of x) f.0 f.1 c.args.count (config_of c.args.proc)
@@ -75,7 +75,7 @@ fork_now-requires-clause-can c =
     let x : Kernel = c.args.self.now in
     let f = c.requires.forks in
     subst (λ n. CanSplit c.args.proc.store (plan_by x.code.value c.args.proc n)) (sym c.in-Some.ensures.fits.0)
-    (can_fork x c.args._worker (at_fork c.args.proc c.args.stop) f.0 f.1 c.args.count f.2 c.requires.quiet
+    (can_fork x c.args._worker (at_fork c.args.proc c.args.stop) f.0 f.1 c.args.count f.2 c.requires.no_fault
     (fine x c.requires.whole c.args.proc f.0 f.1 c.args.count
     (not_full x.limits.entries x.entries c.from.result c.from.ensures c.if-self-from.false) c.in-Some.ensures.room)
     (at_that c.args.proc c.args.stop c.args.count f c.requires.fits.fork) c.requires.fits)
@@ -85,7 +85,7 @@ returns-in-Ok-clause-ok c =
     let x : Kernel = c.args.self.now in
     let f = c.requires.forks in
     gave_fork x c.requires.whole c.args.proc.number c.args._worker c.requires.fits.out (at_fork c.args.proc c.args.stop)
-    f.0 f.1 c.args.count f.2 c.requires.quiet
+    f.0 f.1 c.args.count f.2 c.requires.no_fault
     (fine x c.requires.whole c.args.proc f.0 f.1 c.args.count
     (not_full x.limits.entries x.entries c.from.result c.from.ensures c.if-self-from.false) c.in-Some.ensures.room)
     (refl, c.requires.fits.input) (at_that c.args.proc c.args.stop c.args.count f c.requires.fits.fork)

@@ -21,7 +21,7 @@ pub returns-then-self-from-clause-ok : goal.returns-then-self-from-clause-ok
 returns-then-self-from-clause-ok c =
     let x : Kernel = c.args.self.now in
     failed c.fail.result x c.fail.new.self c.requires.whole c.args._worker (at_open c.args.proc) (at_open c.args.proc)
-    fault.F15 c.requires.fits c.requires.quiet refl
+    fault.F15 c.requires.fits c.requires.no_fault refl
     (open_full x.limits (system_of x) c.args.proc.target (config_of c.args.proc)
     (is_full x.limits.entries x.entries c.from.result c.from.ensures c.if-self-from.true)) c.fail.ensures.ok
 
@@ -37,7 +37,7 @@ pub returns-then-count-self-clause-ok : goal.returns-then-count-self-clause-ok
 returns-then-count-self-clause-ok c =
     let x : Kernel = c.args.self.now in
     failed c.fail-then-count-self.result x c.fail-then-count-self.new.self c.requires.whole c.args._worker
-    (at_open c.args.proc) (at_open c.args.proc) fault.F14 c.requires.fits c.requires.quiet refl
+    (at_open c.args.proc) (at_open c.args.proc) fault.F14 c.requires.fits c.requires.no_fault refl
     (open_many x.limits (system_of x) c.args.proc.target (config_of c.args.proc)
     (not_full x.limits.entries x.entries c.from.result c.from.ensures c.if-self-from.false)
     (many x c.requires.whole c.count.result c.count.ensures c.if-count-self.true)) c.fail-then-count-self.ensures.ok
@@ -56,5 +56,5 @@ returns-in-Ok-clause-ok c =
     (few x c.requires.whole c.count.result c.count.ensures c.if-count-self.false) in
     let done = c.in-Ok.ensures.ok in
     subst (Gave x c.args.proc.number h) (sym done.2)
-    (gave_open x c.requires.whole c.args.proc.number c.args._worker c.requires.fits.out h refl c.requires.quiet fine
+    (gave_open x c.requires.whole c.args.proc.number c.args._worker c.requires.fits.out h refl c.requires.no_fault fine
     done.0 done.1 refl c.requires.fits.input)

@@ -11,4 +11,4 @@ returns-in-Ok-clause-ok c =
     let h : Handed = record { proc = c.args.proc; stop = stop.Pause } in
     subst (Gave c.args.self.now c.args.proc.number h) (sym done.2)
     (gave_pause c.args.self.now c.requires.whole c.args.proc.number c.args._worker c.requires.fits.out h done.0
-    (refl, c.requires.fits.input) refl done.1 c.requires.quiet)
+    (refl, c.requires.fits.input) refl done.1 c.requires.no_fault)

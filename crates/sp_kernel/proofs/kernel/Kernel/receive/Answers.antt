@@ -26,7 +26,7 @@ returns-then-self-from-clause-ok c =
     let x : Kernel = c.args.self.now in
     failed c.fail.result x c.fail.new.self c.requires.whole c.args._worker
     (receives c.args.proc c.args.channel c.args.message) c.receiving.result fault.F15 c.requires.fits
-    c.requires.quiet c.receiving.ensures
+    c.requires.no_fault c.receiving.ensures
     (full_fault x.limits (system_of x) c.args.channel c.args.message c.args.proc.target (config_of c.args.proc)
     (is_full x.limits.entries x.entries c.from.result c.from.ensures c.if-self-from.true)) c.fail.ensures.ok
 
@@ -38,7 +38,7 @@ returns-in-Receive-clause-ok c =
     (sym c.pending.ensures ∙ c.in-Some.is) in
     failed c.fail-in-Receive.result x c.fail-in-Receive.new.self c.requires.whole c.args._worker
     (receives c.args.proc c.args.channel c.args.message) c.receiving-in-Receive.result fault.F6 c.requires.fits
-    c.requires.quiet c.receiving-in-Receive.ensures
+    c.requires.no_fault c.receiving-in-Receive.ensures
     (fault_same x c.requires.whole c.args.channel c.args.message c.args.proc.target (config_of c.args.proc)
     (not_full x.limits.entries x.entries c.from.result c.from.ensures c.if-self-from.false) c.in-Some.first here
     c.in-Receive.is) c.fail-in-Receive.ensures.ok
@@ -54,7 +54,7 @@ returns-then-first-message-clause-ok c =
     (sym c.pending.ensures ∙ c.in-Some.is) in
     failed c.fail-then-first-message.result x c.fail-then-first-message.new.self c.requires.whole c.args._worker
     (receives c.args.proc c.args.channel c.args.message) c.receiving-then-first-message.result fault.F7
-    c.requires.fits c.requires.quiet c.receiving-then-first-message.ensures
+    c.requires.fits c.requires.no_fault c.receiving-then-first-message.ensures
     (fault_other x c.requires.whole c.args.channel c.args.message c.args.proc.target (config_of c.args.proc)
     (not_full x.limits.entries x.entries c.from.result c.from.ensures c.if-self-from.false) c.in-Some.first here
     c.in-Send.is
@@ -92,7 +92,7 @@ receive_second-requires-clause-sender c =
     ∙ none_if (c.in-Some.first.message == c.args.message)
     (same_message c.in-Some.first.message c.args.message c.if-first-message.false) in
     sender_fits x c.requires.whole c.args._worker (receives c.args.proc c.args.channel c.args.message) c.args.channel
-    c.args.message refl c.requires.quiet fine c.requires.fits c.in-Some.first here c.in-Send.is
+    c.args.message refl c.requires.no_fault fine c.requires.fits c.in-Some.first here c.in-Send.is
 
 pub returns-in-Ok-clause-ok : goal.returns-in-Ok-clause-ok
 returns-in-Ok-clause-ok c =
@@ -105,7 +105,7 @@ returns-in-Ok-clause-ok c =
     let done = c.in-Ok.ensures.ok in
     subst (Gave x c.args.proc.number h) (sym done.2)
     (gave_first x c.requires.whole c.args.proc.number c.args._worker c.requires.fits.out h c.args.channel
-    c.args.message refl c.requires.quiet fine refl c.requires.fits.input done.0 done.1 here)
+    c.args.message refl c.requires.no_fault fine refl c.requires.fits.input done.0 done.1 here)
 
 pub returns-in-Ok-receive_second-clause-ok : goal.returns-in-Ok-receive_second-clause-ok
 returns-in-Ok-receive_second-clause-ok c =
@@ -125,5 +125,5 @@ returns-in-Ok-receive_second-clause-ok c =
     let done = c.in-Ok-receive_second.ensures.ok in
     subst (Gave x c.args.proc.number h) (sym done.5)
     (gave_met x c.requires.whole c.args.proc.number c.args._worker c.requires.fits.out h c.args.channel
-    c.args.message refl c.requires.quiet fine refl c.requires.fits.input c.in-Some.first.process
+    c.args.message refl c.requires.no_fault fine refl c.requires.fits.input c.in-Some.first.process
     (here ∙ ap (λ (o : Pending). Some (Some o)) first_is) done.1 done.0 done.2 done.3 done.4)

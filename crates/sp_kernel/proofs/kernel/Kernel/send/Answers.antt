@@ -27,7 +27,7 @@ returns-then-self-from-clause-ok c =
     let x : Kernel = c.args.self.now in
     failed c.fail.result x c.fail.new.self c.requires.whole c.args._worker
     (sends c.args.proc c.args.channel c.args.message c.args.cells) c.sending.result fault.F15 c.requires.fits
-    c.requires.quiet c.sending.ensures
+    c.requires.no_fault c.sending.ensures
     (full_fault x.limits (system_of x) c.args.channel c.args.message c.args.cells (config_of c.args.proc)
     (is_full x.limits.entries x.entries c.from.result c.from.ensures c.if-self-from.true)) c.fail.ensures.ok
 
@@ -39,7 +39,7 @@ returns-in-Send-clause-ok c =
     (sym c.pending.ensures ∙ c.in-Some.is) in
     failed c.fail-in-Send.result x c.fail-in-Send.new.self c.requires.whole c.args._worker
     (sends c.args.proc c.args.channel c.args.message c.args.cells) c.sending-in-Send.result fault.F6 c.requires.fits
-    c.requires.quiet c.sending-in-Send.ensures
+    c.requires.no_fault c.sending-in-Send.ensures
     (fault_same x c.requires.whole c.args.channel c.args.message c.args.cells (config_of c.args.proc)
     (not_full x.limits.entries x.entries c.from.result c.from.ensures c.if-self-from.false) c.in-Some.first here
     c.in-Send.is) c.fail-in-Send.ensures.ok
@@ -55,7 +55,7 @@ returns-then-first-message-clause-ok c =
     (sym c.pending.ensures ∙ c.in-Some.is) in
     failed c.fail-then-first-message.result x c.fail-then-first-message.new.self c.requires.whole c.args._worker
     (sends c.args.proc c.args.channel c.args.message c.args.cells) c.sending-then-first-message.result fault.F7
-    c.requires.fits c.requires.quiet c.sending-then-first-message.ensures
+    c.requires.fits c.requires.no_fault c.sending-then-first-message.ensures
     (fault_other x c.requires.whole c.args.channel c.args.message c.args.cells (config_of c.args.proc)
     (not_full x.limits.entries x.entries c.from.result c.from.ensures c.if-self-from.false) c.in-Some.first here
     c.in-Receive.is
@@ -93,7 +93,7 @@ send_second-requires-clause-receiver c =
     ∙ none_if (c.in-Some.first.message == c.args.message)
     (same_message c.in-Some.first.message c.args.message c.if-first-message.false) in
     receiver_takes x c.requires.whole c.args._worker (sends c.args.proc c.args.channel c.args.message c.args.cells)
-    c.args.channel c.args.message c.args.cells refl c.requires.quiet fine c.requires.fits c.in-Some.first here
+    c.args.channel c.args.message c.args.cells refl c.requires.no_fault fine c.requires.fits c.in-Some.first here
     c.in-Receive.is
 
 pub returns-in-Ok-clause-ok : goal.returns-in-Ok-clause-ok
@@ -107,7 +107,7 @@ returns-in-Ok-clause-ok c =
     let done = c.in-Ok.ensures.ok in
     subst (Gave x c.args.proc.number h) (sym done.2)
     (gave_first x c.requires.whole c.args.proc.number c.args._worker c.requires.fits.out h c.args.channel
-    c.args.message c.args.cells refl c.requires.quiet fine done.0 done.1 refl c.requires.fits.input here)
+    c.args.message c.args.cells refl c.requires.no_fault fine done.0 done.1 refl c.requires.fits.input here)
 
 pub returns-in-Ok-send_second-clause-ok : goal.returns-in-Ok-send_second-clause-ok
 returns-in-Ok-send_second-clause-ok c =
@@ -131,5 +131,5 @@ returns-in-Ok-send_second-clause-ok c =
     let done = c.in-Ok-send_second.ensures.ok in
     subst (Gave x c.args.proc.number h) (sym done.4)
     (gave_met x c.requires.whole c.args.proc.number c.args._worker c.requires.fits.out h c.args.channel
-    c.args.message c.args.cells refl c.requires.quiet fine done.0 done.2 refl c.requires.fits.input
+    c.args.message c.args.cells refl c.requires.no_fault fine done.0 done.2 refl c.requires.fits.input
     c.in-Some.first.process (here ∙ ap (λ (o : Pending). Some (Some o)) first_is) done.1 done.3)
