@@ -199,8 +199,8 @@ module _ (p : Program) (m : ℕ) (moves shares : Stmt → List ℕ) (callable : 
     reads_fine : (args : n.Arguments)
         → w.each_sites [] both_lists refusal_list env (w.read_sites [] both_lists refusal_list env) args
         ≡ [] → AreAimed p m args → InArguments p m sc args → AllFine sc (reads env args)
-    reads_fine n.NoArgument calm aims here = tt
-    reads_fine (n.AndArgument (n.Pass (n.ExpressionAt at (n.Read (n.Entire x name ss))) wd) rest) calm aims here =
+    reads_fine n.NoArgument calm targets here = tt
+    reads_fine (n.AndArgument (n.Pass (n.ExpressionAt at (n.Read (n.Entire x name ss))) wd) rest) calm targets here =
         let two = none_in_parts
         (w.read_sites [] both_lists refusal_list env (n.Pass (n.ExpressionAt at (n.Read (n.Entire x name ss))) wd))
         (w.each_sites [] both_lists refusal_list env (w.read_sites [] both_lists refusal_list env) rest) calm in
@@ -211,25 +211,27 @@ module _ (p : Program) (m : ℕ) (moves shares : Stmt → List ℕ) (callable : 
             r.0.0,
             t.0,
             r.0.3 q,
-            aims.0,
+            targets.0,
             t.1,
             t.2 (after_var q (bare_variable (checked_variable env (n.Entire x name ss)))),
           )),
-          reads_fine rest two.1 aims.1 here.2,
+          reads_fine rest two.1 targets.1 here.2,
         )
-    reads_fine (n.AndArgument (n.Pass (n.ExpressionAt at (n.Number k)) wd) rest) calm aims here = absurd aims
-    reads_fine (n.AndArgument (n.Pass (n.ExpressionAt at (n.Quoted t)) wd) rest) calm aims here = absurd aims
-    reads_fine (n.AndArgument (n.Pass (n.ExpressionAt at (n.Constant k)) wd) rest) calm aims here = absurd aims
-    reads_fine (n.AndArgument (n.Pass (n.ExpressionAt at (n.Apply f name args)) wd) rest) calm aims here = absurd aims
-    reads_fine (n.AndArgument (n.Pass (n.ExpressionAt at (n.Standard f args)) wd) rest) calm aims here = absurd aims
-    reads_fine (n.AndArgument (n.Pass (n.ExpressionAt at (n.Unary op a)) wd) rest) calm aims here = absurd aims
-    reads_fine (n.AndArgument (n.Pass (n.ExpressionAt at (n.Binary op a b)) wd) rest) calm aims here = absurd aims
+    reads_fine (n.AndArgument (n.Pass (n.ExpressionAt at (n.Number k)) wd) rest) calm targets here = absurd targets
+    reads_fine (n.AndArgument (n.Pass (n.ExpressionAt at (n.Quoted t)) wd) rest) calm targets here = absurd targets
+    reads_fine (n.AndArgument (n.Pass (n.ExpressionAt at (n.Constant k)) wd) rest) calm targets here = absurd targets
+    reads_fine (n.AndArgument (n.Pass (n.ExpressionAt at
+        (n.Apply f name args)) wd) rest) calm targets here = absurd targets
+    reads_fine (n.AndArgument (n.Pass (n.ExpressionAt at
+        (n.Standard f args)) wd) rest) calm targets here = absurd targets
+    reads_fine (n.AndArgument (n.Pass (n.ExpressionAt at (n.Unary op a)) wd) rest) calm targets here = absurd targets
+    reads_fine (n.AndArgument (n.Pass (n.ExpressionAt at (n.Binary op a b)) wd) rest) calm targets here = absurd targets
 
     opens_fine : (args : n.Arguments)
         → w.each_sites [] both_lists refusal_list env (w.channel_sites [] both_lists refusal_list env)
         args ≡ [] → AreAimed p m args → InArguments p m sc args → AllFine sc (opens env args)
-    opens_fine n.NoArgument calm aims here = tt
-    opens_fine (n.AndArgument (n.Pass (n.ExpressionAt at (n.Read (n.Entire x name ss))) wd) rest) calm aims here =
+    opens_fine n.NoArgument calm targets here = tt
+    opens_fine (n.AndArgument (n.Pass (n.ExpressionAt at (n.Read (n.Entire x name ss))) wd) rest) calm targets here =
         let two = none_in_parts (w.channel_sites [] both_lists refusal_list env
         (n.Pass (n.ExpressionAt at (n.Read (n.Entire x name ss))) wd))
         (w.each_sites [] both_lists refusal_list env (w.channel_sites [] both_lists refusal_list env) rest) calm in
@@ -240,20 +242,22 @@ module _ (p : Program) (m : ℕ) (moves shares : Stmt → List ℕ) (callable : 
           (λ kept q. (
             r.0.0,
             r.0.3 q,
-            aims.0,
+            targets.0,
             is,
             tt,
             free_is p m moves shares callable free sc (In_stmt (plain.Open v_)) kept (inr refl),
           )),
-          opens_fine rest two.1 aims.1 here.2,
+          opens_fine rest two.1 targets.1 here.2,
         )
-    opens_fine (n.AndArgument (n.Pass (n.ExpressionAt at (n.Number k)) wd) rest) calm aims here = absurd aims
-    opens_fine (n.AndArgument (n.Pass (n.ExpressionAt at (n.Quoted t)) wd) rest) calm aims here = absurd aims
-    opens_fine (n.AndArgument (n.Pass (n.ExpressionAt at (n.Constant k)) wd) rest) calm aims here = absurd aims
-    opens_fine (n.AndArgument (n.Pass (n.ExpressionAt at (n.Apply f name args)) wd) rest) calm aims here = absurd aims
-    opens_fine (n.AndArgument (n.Pass (n.ExpressionAt at (n.Standard f args)) wd) rest) calm aims here = absurd aims
-    opens_fine (n.AndArgument (n.Pass (n.ExpressionAt at (n.Unary op a)) wd) rest) calm aims here = absurd aims
-    opens_fine (n.AndArgument (n.Pass (n.ExpressionAt at (n.Binary op a b)) wd) rest) calm aims here = absurd aims
+    opens_fine (n.AndArgument (n.Pass (n.ExpressionAt at (n.Number k)) wd) rest) calm targets here = absurd targets
+    opens_fine (n.AndArgument (n.Pass (n.ExpressionAt at (n.Quoted t)) wd) rest) calm targets here = absurd targets
+    opens_fine (n.AndArgument (n.Pass (n.ExpressionAt at (n.Constant k)) wd) rest) calm targets here = absurd targets
+    opens_fine (n.AndArgument (n.Pass (n.ExpressionAt at
+        (n.Apply f name args)) wd) rest) calm targets here = absurd targets
+    opens_fine (n.AndArgument (n.Pass (n.ExpressionAt at
+        (n.Standard f args)) wd) rest) calm targets here = absurd targets
+    opens_fine (n.AndArgument (n.Pass (n.ExpressionAt at (n.Unary op a)) wd) rest) calm targets here = absurd targets
+    opens_fine (n.AndArgument (n.Pass (n.ExpressionAt at (n.Binary op a b)) wd) rest) calm targets here = absurd targets
 
     -- a channel, and what is sent or received
     abbrev ChannelIs : n.Expression → Type 0
@@ -294,9 +298,9 @@ module _ (p : Program) (m : ℕ) (moves shares : Stmt → List ℕ) (callable : 
         → w.each_sites [] both_lists refusal_list env (w.message_sites [] both_lists refusal_list env o) args ≡ []
         → AreAimed p m args
         → InArguments p m sc args → AllFine sc (receives env (checked_expression env ch) args)
-    receives_fine ch o is n.NoArgument calm aims here = tt
+    receives_fine ch o is n.NoArgument calm targets here = tt
     receives_fine ch o is (n.AndArgument (n.Pass (n.ExpressionAt at (n.Read (n.Entire x name ss))) wd) rest) calm
-        aims here =
+        targets here =
         let two = none_in_parts (w.message_sites [] both_lists refusal_list env o
         (n.Pass (n.ExpressionAt at (n.Read (n.Entire x name ss))) wd))
         (w.each_sites [] both_lists refusal_list env (w.message_sites [] both_lists refusal_list env o) rest) calm in
@@ -308,49 +312,51 @@ module _ (p : Program) (m : ℕ) (moves shares : Stmt → List ℕ) (callable : 
             is.0 q,
             is.1,
             r.0.3 (after_value q c_),
-            aims.0,
+            targets.0,
             tt,
             free_is p m moves shares callable free sc (In_stmt (plain.Receive c_ v_)) kept (inr (inr refl)),
           )),
-          receives_fine ch o is rest two.1 aims.1 here.2,
+          receives_fine ch o is rest two.1 targets.1 here.2,
         )
-    receives_fine ch o is (n.AndArgument (n.Pass (n.ExpressionAt at (n.Number k)) wd) rest) calm aims here = absurd aims
-    receives_fine ch o is (n.AndArgument (n.Pass (n.ExpressionAt at (n.Quoted t)) wd) rest) calm aims here = absurd aims
-    receives_fine ch o is (n.AndArgument (n.Pass (n.ExpressionAt at (n.Constant k)) wd) rest) calm aims here =
-        absurd aims
-    receives_fine ch o is (n.AndArgument (n.Pass (n.ExpressionAt at (n.Apply f name args)) wd) rest) calm aims here =
-        absurd aims
-    receives_fine ch o is (n.AndArgument (n.Pass (n.ExpressionAt at (n.Standard f args)) wd) rest) calm aims here =
-        absurd aims
-    receives_fine ch o is (n.AndArgument (n.Pass (n.ExpressionAt at (n.Unary op a)) wd) rest) calm aims here =
-        absurd aims
-    receives_fine ch o is (n.AndArgument (n.Pass (n.ExpressionAt at (n.Binary op a b)) wd) rest) calm aims here =
-        absurd aims
+    receives_fine ch o is (n.AndArgument (n.Pass (n.ExpressionAt at
+        (n.Number k)) wd) rest) calm targets here = absurd targets
+    receives_fine ch o is (n.AndArgument (n.Pass (n.ExpressionAt at
+        (n.Quoted t)) wd) rest) calm targets here = absurd targets
+    receives_fine ch o is (n.AndArgument (n.Pass (n.ExpressionAt at (n.Constant k)) wd) rest) calm targets here =
+        absurd targets
+    receives_fine ch o is (n.AndArgument (n.Pass (n.ExpressionAt at (n.Apply f name args)) wd) rest) calm targets here =
+        absurd targets
+    receives_fine ch o is (n.AndArgument (n.Pass (n.ExpressionAt at (n.Standard f args)) wd) rest) calm targets here =
+        absurd targets
+    receives_fine ch o is (n.AndArgument (n.Pass (n.ExpressionAt at (n.Unary op a)) wd) rest) calm targets here =
+        absurd targets
+    receives_fine ch o is (n.AndArgument (n.Pass (n.ExpressionAt at (n.Binary op a b)) wd) rest) calm targets here =
+        absurd targets
 
     singles_fine : (f : StandardProcedure) (args : n.Arguments) → w.perform_sites [] both_lists refusal_list env f
         args ≡ []
         → AimsOf p m f args → InArguments p m sc args → AllFine sc (singles env f args)
-    singles_fine procedure.Read args calm aims here = reads_fine args calm aims here
-    singles_fine procedure.Readln args calm aims here =
-        all_join sc (reads env args) (c.ReadLine ∷ []) (reads_fine args calm aims here) ((λ kept q. tt), tt)
-    singles_fine procedure.Write args calm aims here = writes_fine args calm here
-    singles_fine procedure.Writeln args calm aims here =
+    singles_fine procedure.Read args calm targets here = reads_fine args calm targets here
+    singles_fine procedure.Readln args calm targets here =
+        all_join sc (reads env args) (c.ReadLine ∷ []) (reads_fine args calm targets here) ((λ kept q. tt), tt)
+    singles_fine procedure.Write args calm targets here = writes_fine args calm here
+    singles_fine procedure.Writeln args calm targets here =
         all_join sc (writes env args) (c.WriteLine ∷ []) (writes_fine args calm here) ((λ kept q. tt), tt)
-    singles_fine procedure.Open args calm aims here = opens_fine args calm aims here
-    singles_fine procedure.Send n.NoArgument calm aims here = tt
-    singles_fine procedure.Send (n.AndArgument (n.Pass e wd) rest) calm aims here =
+    singles_fine procedure.Open args calm targets here = opens_fine args calm targets here
+    singles_fine procedure.Send n.NoArgument calm targets here = tt
+    singles_fine procedure.Send (n.AndArgument (n.Pass e wd) rest) calm targets here =
         let two = none_in_parts (w.channel_sites [] both_lists refusal_list env (n.Pass e wd))
         (w.each_sites [] both_lists refusal_list env
         (w.message_sites [] both_lists refusal_list env (expression_kind env e)) rest)
         calm in
         sends_fine e (expression_kind env e) (channel_one e wd two.0 here.0) rest two.1 here.2
-    singles_fine procedure.Receive n.NoArgument calm aims here = tt
-    singles_fine procedure.Receive (n.AndArgument (n.Pass e wd) rest) calm aims here =
+    singles_fine procedure.Receive n.NoArgument calm targets here = tt
+    singles_fine procedure.Receive (n.AndArgument (n.Pass e wd) rest) calm targets here =
         let two = none_in_parts (w.channel_sites [] both_lists refusal_list env (n.Pass e wd))
         (w.each_sites [] both_lists refusal_list env
         (w.message_sites [] both_lists refusal_list env (expression_kind env e)) rest)
         calm in
-        receives_fine e (expression_kind env e) (channel_one e wd two.0 here.0) rest two.1 aims here.2
+        receives_fine e (expression_kind env e) (channel_one e wd two.0 here.0) rest two.1 targets here.2
 
 pub performs : (p : Program) (m : ℕ) (moves shares : Stmt → List ℕ) (callable : ℕ → Type 0)
     → Performs p m moves shares callable

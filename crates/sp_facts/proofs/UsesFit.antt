@@ -19,8 +19,8 @@ fit_right : (Fits : Site → Type 0) (xs ys : List Site) → HoldsOfEach Fits (x
 fit_right Fits [] ys h = h
 fit_right Fits (x ∷ xs) ys h = fit_right Fits xs ys h.1
 
-module _ (Fits : Site → Type 0) (Fine : Use → Type 0) (aims : (x : ℕ) → Fine (Target x))
-    (sees : (x : ℕ) → Fine (Seen x)) (runs : (f : ℕ) (at : Place) (args : p.Actuals) → Fits (CallsAt f at args)
+module _ (Fits : Site → Type 0) (Fine : Use → Type 0) (targets : (x : ℕ) → Fine (Target x))
+    (expressions : (x : ℕ) → Fine (Seen x)) (calls : (f : ℕ) (at : Place) (args : p.Actuals) → Fits (CallsAt f at args)
     → Fine (CallOf f (bare_actuals args)))
     (splits : (ss : p.Statements) → Fits (SplitsAt ss) → Fine (ParallelOf (bare_statements ss)))
     (spreads : (at : Place) (x : ℕ) (s : p.Statement) → Fits (SpreadsAt at x s)
@@ -39,18 +39,18 @@ module _ (Fits : Site → Type 0) (Fine : Use → Type 0) (aims : (x : ℕ) → 
         expression_kept a u (fit_left Fits (expression_sites a) (expression_sites b) h) i
     form_kept (p.Binary op a b) u h (inr i) =
         expression_kept b u (fit_right Fits (expression_sites a) (expression_sites b) h) i
-    form_kept (p.Apply f at args) u h (inl e) = subst Fine (sym e) (runs f at args h.0)
+    form_kept (p.Apply f at args) u h (inl e) = subst Fine (sym e) (calls f at args h.0)
     form_kept (p.Apply f at args) u h (inr i) = actuals_kept args u h.1 i
-    form_kept (p.Standard f p.NoExpression) u h e = subst Fine (sym e) (sees 0)
+    form_kept (p.Standard f p.NoExpression) u h e = subst Fine (sym e) (expressions 0)
     form_kept (p.Standard f (p.AndExpression a rest)) u h i = expression_kept a u h i
 
     read_kept : (v : p.Variable) (u : Use) → HoldsOfEach Fits (variable_sites v) → In_read (bare_variable v) u → Fine u
-    read_kept (p.Entire x at ss) u h (inl e) = subst Fine (sym e) (sees x)
+    read_kept (p.Entire x at ss) u h (inl e) = subst Fine (sym e) (expressions x)
     read_kept (p.Entire x at ss) u h (inr i) = selectors_kept ss u h i
 
     target_kept : (v : p.Variable) (u : Use) → HoldsOfEach Fits (variable_sites v) → In_target (bare_variable v) u
         → Fine u
-    target_kept (p.Entire x at ss) u h (inl e) = subst Fine (sym e) (aims x)
+    target_kept (p.Entire x at ss) u h (inl e) = subst Fine (sym e) (targets x)
     target_kept (p.Entire x at ss) u h (inr i) = selectors_kept ss u h i
 
     selectors_kept : (ss : p.Selectors) (u : Use) → HoldsOfEach Fits (selectors_sites ss)
@@ -82,7 +82,7 @@ module _ (Fits : Site → Type 0) (Fine : Use → Type 0) (aims : (x : ℕ) → 
   width_kept (Some e) u h i = expression_kept e u h i
 
   aim : (x : ℕ) (u : Use) → u ≡ Target x → Fine u
-  aim x u e = subst Fine (sym e) (aims x)
+  aim x u e = subst Fine (sym e) (targets x)
 
   stop : (at : Place) (u : Use) → Fits (StopsAt at) → u ≡ Stop → Fine u
   stop at u h e = subst Fine (sym e) (stops at h)
@@ -96,7 +96,7 @@ module _ (Fits : Site → Type 0) (Fine : Use → Type 0) (aims : (x : ℕ) → 
         target_kept v u (fit_left Fits (variable_sites v) (expression_sites e) h) i
     statement_kept (p.Does n at (p.Assign v e)) u h (inr i) =
         expression_kept e u (fit_right Fits (variable_sites v) (expression_sites e) h) i
-    statement_kept (p.Does n at (p.Call f args)) u h (inl e) = subst Fine (sym e) (runs f at args h.0)
+    statement_kept (p.Does n at (p.Call f args)) u h (inl e) = subst Fine (sym e) (calls f at args h.0)
     statement_kept (p.Does n at (p.Call f args)) u h (inr i) = actuals_kept args u h.1 i
     statement_kept (p.Does n at (p.Sequence ss)) u h i = statements_kept ss u h i
     statement_kept (p.Does n at (p.If e s p.NoElse)) u h (inl i) =

@@ -82,27 +82,27 @@ given_block tree b k h = go (slice_get tree.blocks b) refl
 
 module _ (tree : c.Program) (sets : Sets) where
   -- a use makes the variable a target, itself or by the block that it calls
-  aims : ℕ → Use → Bool
-  aims x (Target y) = x == y
-  aims x (Seen y) = false
-  aims x (CallOf b args) = is_given (slice_get tree.blocks b) && has (implicit_targets_of sets b) x
-  aims x (ParallelOf ss) = false
-  aims x (ForallOf y s) = false
-  aims x Stop = false
+  use_targets : ℕ → Use → Bool
+  use_targets x (Target y) = x == y
+  use_targets x (Seen y) = false
+  use_targets x (CallOf b args) = is_given (slice_get tree.blocks b) && has (implicit_targets_of sets b) x
+  use_targets x (ParallelOf ss) = false
+  use_targets x (ForallOf y s) = false
+  use_targets x Stop = false
 
-  sees : ℕ → Use → Bool
-  sees x (Target y) = false
-  sees x (Seen y) = x == y
-  sees x (CallOf b args) = is_given (slice_get tree.blocks b) && has (implicit_expressions_of sets b) x
-  sees x (ParallelOf ss) = false
-  sees x (ForallOf y s) = false
-  sees x Stop = false
+  use_reads : ℕ → Use → Bool
+  use_reads x (Target y) = false
+  use_reads x (Seen y) = x == y
+  use_reads x (CallOf b args) = is_given (slice_get tree.blocks b) && has (implicit_expressions_of sets b) x
+  use_reads x (ParallelOf ss) = false
+  use_reads x (ForallOf y s) = false
+  use_reads x Stop = false
 
   pub is_target : Stmt → ℕ → Bool
-  is_target s x = some_use (aims x) (stmt_uses s)
+  is_target s x = some_use (use_targets x) (stmt_uses s)
 
   pub is_seen : Stmt → ℕ → Bool
-  is_seen s x = some_use (sees x) (stmt_uses s)
+  is_seen s x = some_use (use_reads x) (stmt_uses s)
 
   -- where all variables of a use are below
   limit : Use → ℕ
@@ -117,29 +117,29 @@ module _ (tree : c.Program) (sets : Sets) where
   pub limit_of : Stmt → ℕ
   limit_of s = total limit (stmt_uses s)
 
-  aims_below : (x : ℕ) (u : Use) → limit u ≤ x → aims x u ≡ false
-  unfolding aims limit
-  aims_below x (Target y) h = ne_eqb x y (λ e. omega (arith, e, h))
-  aims_below x (Seen y) h = refl
-  aims_below x (CallOf b args) h =
+  use_targets_below : (x : ℕ) (u : Use) → limit u ≤ x → use_targets x u ≡ false
+  unfolding use_targets limit
+  use_targets_below x (Target y) h = ne_eqb x y (λ e. omega (arith, e, h))
+  use_targets_below x (Seen y) h = refl
+  use_targets_below x (CallOf b args) h =
       false_from_ne_true _ (λ k. let low = below_words (implicit_targets_of sets b).words x
       (and_parts (is_given (slice_get tree.blocks b)) (has (implicit_targets_of sets b) x) k).1 in
       omega (arith, low, h))
-  aims_below x (ParallelOf ss) h = refl
-  aims_below x (ForallOf y s) h = refl
-  aims_below x Stop h = refl
+  use_targets_below x (ParallelOf ss) h = refl
+  use_targets_below x (ForallOf y s) h = refl
+  use_targets_below x Stop h = refl
 
-  sees_below : (x : ℕ) (u : Use) → limit u ≤ x → sees x u ≡ false
-  unfolding sees limit
-  sees_below x (Target y) h = refl
-  sees_below x (Seen y) h = ne_eqb x y (λ e. omega (arith, e, h))
-  sees_below x (CallOf b args) h =
+  use_reads_below : (x : ℕ) (u : Use) → limit u ≤ x → use_reads x u ≡ false
+  unfolding use_reads limit
+  use_reads_below x (Target y) h = refl
+  use_reads_below x (Seen y) h = ne_eqb x y (λ e. omega (arith, e, h))
+  use_reads_below x (CallOf b args) h =
       false_from_ne_true _ (λ k. let low = below_words (implicit_expressions_of sets b).words x
       (and_parts (is_given (slice_get tree.blocks b)) (has (implicit_expressions_of sets b) x) k).1 in
       omega (arith, low, h))
-  sees_below x (ParallelOf ss) h = refl
-  sees_below x (ForallOf y s) h = refl
-  sees_below x Stop h = refl
+  use_reads_below x (ParallelOf ss) h = refl
+  use_reads_below x (ForallOf y s) h = refl
+  use_reads_below x Stop h = refl
 
   over : (s : Stmt) (x : ℕ) (u : Use) → limit_of s ≤ x → Among u (stmt_uses s) → limit u ≤ x
   unfolding limit_of
@@ -147,63 +147,67 @@ module _ (tree : c.Program) (sets : Sets) where
 
   pub target_below : (s : Stmt) (x : ℕ) → limit_of s ≤ x → is_target s x ≡ false
   unfolding is_target
-  target_below s x h = no_use (aims x) (stmt_uses s) (λ u a. aims_below x u (over s x u h a))
+  target_below s x h = no_use (use_targets x) (stmt_uses s) (λ u a. use_targets_below x u (over s x u h a))
 
   pub seen_below : (s : Stmt) (x : ℕ) → limit_of s ≤ x → is_seen s x ≡ false
   unfolding is_seen
-  seen_below s x h = no_use (sees x) (stmt_uses s) (λ u a. sees_below x u (over s x u h a))
+  seen_below s x h = no_use (use_reads x) (stmt_uses s) (λ u a. use_reads_below x u (over s x u h a))
 
   module _ (are : AreSets tree sets) where
-    aims_is : (s : Stmt) (x : ℕ) (u : Use) → In_stmt s u → aims x u ≡ true
+    use_targets_is : (s : Stmt) (x : ℕ) (u : Use) → In_stmt s u → use_targets x u ≡ true
         → IsTarget (without_places tree) (In_stmt s) x
-    unfolding aims
-    aims_is s x (Target y) h e = ([], subst (λ (z : ℕ). In_stmt s (Target z)) (sym (eqb-true x y e)) h)
-    aims_is s x (Seen y) h e = absurd (true≢false (sym e))
-    aims_is s x (CallOf b args) h e =
+    unfolding use_targets
+    use_targets_is s x (Target y) h e = ([], subst (λ (z : ℕ). In_stmt s (Target z)) (sym (eqb-true x y e)) h)
+    use_targets_is s x (Seen y) h e = absurd (true≢false (sym e))
+    use_targets_is s x (CallOf b args) h e =
         let two = and_parts (is_given (slice_get tree.blocks b)) (has (implicit_targets_of sets b) x) e in
         let k = block_given tree b two.0 in
         let i = ((are.blocks b k.0 k.1).targets x).0 two.1 in
         (b ∷ i.3.0, (args, h, i.0, i.1, i.2, i.3.1))
-    aims_is s x (ParallelOf ss) h e = absurd (true≢false (sym e))
-    aims_is s x (ForallOf y t) h e = absurd (true≢false (sym e))
-    aims_is s x Stop h e = absurd (true≢false (sym e))
+    use_targets_is s x (ParallelOf ss) h e = absurd (true≢false (sym e))
+    use_targets_is s x (ForallOf y t) h e = absurd (true≢false (sym e))
+    use_targets_is s x Stop h e = absurd (true≢false (sym e))
 
     pub target_told : (s : Stmt) (x : ℕ) → is_target s x ≡ true → IsTarget (without_places tree) (In_stmt s) x
     unfolding is_target
-    target_told s x h = let r = use_found (aims x) (stmt_uses s) h in aims_is s x r.0 (stmt_inside s r.0 r.1) r.2
+    target_told s x h = let r = use_found (use_targets x) (stmt_uses s) h in use_targets_is s x r.0
+        (stmt_inside s r.0 r.1) r.2
 
     pub target_tells : (s : Stmt) (x : ℕ) → IsTarget (without_places tree) (In_stmt s) x → is_target s x ≡ true
-    unfolding is_target aims
-    target_tells s x ([], h) = use_finds (aims x) (stmt_uses s) (Target x) (stmt_among s (Target x) h) (eq-eqb x x refl)
+    unfolding is_target use_targets
+    target_tells s x ([], h) = use_finds (use_targets x) (stmt_uses s) (Target x) (stmt_among s (Target x) h)
+        (eq-eqb x x refl)
     target_tells s x (b ∷ bs, (args, h, k, e, free, reach)) =
         let m = given_block tree b k e in
-        use_finds (aims x) (stmt_uses s) (CallOf b args) (stmt_among s (CallOf b args) h)
+        use_finds (use_targets x) (stmt_uses s) (CallOf b args) (stmt_among s (CallOf b args) h)
         (ap (λ (g : Bool). g && has (implicit_targets_of sets b) x) (ap is_given m.1)
         ∙ ((are.blocks b m.0 m.1).targets x).1 (k, e, free, (bs, reach)))
 
-    sees_is : (s : Stmt) (x : ℕ) (u : Use) → In_stmt s u → sees x u ≡ true → IsSeen (without_places tree) (In_stmt s) x
-    unfolding sees
-    sees_is s x (Target y) h e = absurd (true≢false (sym e))
-    sees_is s x (Seen y) h e = ([], subst (λ (z : ℕ). In_stmt s (Seen z)) (sym (eqb-true x y e)) h)
-    sees_is s x (CallOf b args) h e =
+    use_reads_is : (s : Stmt) (x : ℕ) (u : Use) → In_stmt s u → use_reads x u ≡ true → IsSeen (without_places tree)
+        (In_stmt s) x
+    unfolding use_reads
+    use_reads_is s x (Target y) h e = absurd (true≢false (sym e))
+    use_reads_is s x (Seen y) h e = ([], subst (λ (z : ℕ). In_stmt s (Seen z)) (sym (eqb-true x y e)) h)
+    use_reads_is s x (CallOf b args) h e =
         let two = and_parts (is_given (slice_get tree.blocks b)) (has (implicit_expressions_of sets b) x) e in
         let k = block_given tree b two.0 in
         let i = ((are.blocks b k.0 k.1).expressions x).0 two.1 in
         (b ∷ i.3.0, (args, h, i.0, i.1, i.2, i.3.1))
-    sees_is s x (ParallelOf ss) h e = absurd (true≢false (sym e))
-    sees_is s x (ForallOf y t) h e = absurd (true≢false (sym e))
-    sees_is s x Stop h e = absurd (true≢false (sym e))
+    use_reads_is s x (ParallelOf ss) h e = absurd (true≢false (sym e))
+    use_reads_is s x (ForallOf y t) h e = absurd (true≢false (sym e))
+    use_reads_is s x Stop h e = absurd (true≢false (sym e))
 
     pub seen_told : (s : Stmt) (x : ℕ) → is_seen s x ≡ true → IsSeen (without_places tree) (In_stmt s) x
     unfolding is_seen
-    seen_told s x h = let r = use_found (sees x) (stmt_uses s) h in sees_is s x r.0 (stmt_inside s r.0 r.1) r.2
+    seen_told s x h = let r = use_found (use_reads x) (stmt_uses s) h in use_reads_is s x r.0
+        (stmt_inside s r.0 r.1) r.2
 
     pub seen_tells : (s : Stmt) (x : ℕ) → IsSeen (without_places tree) (In_stmt s) x → is_seen s x ≡ true
-    unfolding is_seen sees
-    seen_tells s x ([], h) = use_finds (sees x) (stmt_uses s) (Seen x) (stmt_among s (Seen x) h) (eq-eqb x x refl)
+    unfolding is_seen use_reads
+    seen_tells s x ([], h) = use_finds (use_reads x) (stmt_uses s) (Seen x) (stmt_among s (Seen x) h) (eq-eqb x x refl)
     seen_tells s x (b ∷ bs, (args, h, k, e, free, reach)) =
         let m = given_block tree b k e in
-        use_finds (sees x) (stmt_uses s) (CallOf b args) (stmt_among s (CallOf b args) h)
+        use_finds (use_reads x) (stmt_uses s) (CallOf b args) (stmt_among s (CallOf b args) h)
         (ap (λ (g : Bool). g && has (implicit_expressions_of sets b) x) (ap is_given m.1)
         ∙ ((are.blocks b m.0 m.1).expressions x).1 (k, e, free, (bs, reach)))
 

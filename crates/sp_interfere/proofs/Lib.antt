@@ -9,4 +9,4 @@ pub mod FindsFirst
 pub mod Means
 pub mod SetTests
 pub mod Standing
-pub mod Taken
+pub mod MoreItems

@@ -21,7 +21,9 @@ ghost use Rattle.sp_tree.specs.PlainSyntax.{ExpressionAt, Read, Apply, Unary};
 ghost use Rattle.sp_tree.specs.declared.syntax.Name.{Name};
 
 use crate::calls::{count, is_whole, next_passing, others, references_of, rest_of};
-use crate::rules::{aims, bare_rule, function_rule, operand_rule, target_rule, width_rule};
+use crate::rules::{
+    bare_rule, function_rule, needs_variable, operand_rule, target_rule, width_rule,
+};
 use crate::scopes::Scopes;
 use crate::walked::Walked;
 use sp_base::{Boxed, Halt, List, Place};
@@ -418,7 +420,7 @@ fn passed_name<'s>(
     ensures first { result.1 ≡ passed_name_first scopes.now p at x.now whole first }
 {
     let m = scopes.find(&x.text);
-    if aims(p) && at == x.at {
+    if needs_variable(p) && at == x.at {
         (m, lesser(first, target_rule(x.at, m)))
     } else {
         let first = lesser(first, bare_rule(at, p));

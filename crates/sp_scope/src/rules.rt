@@ -174,7 +174,7 @@ pub fn bare_rule(at: Place, p: Passing) -> Found
 }
 
 /// Whether an argument is passed to something that it has to be a variable for.
-pub fn aims(p: Passing) -> bool
+pub fn needs_variable(p: Passing) -> bool
     ensures { result ≡ needs_variable p }
 {
     matches!(p, Passing::Reference | Passing::Target)

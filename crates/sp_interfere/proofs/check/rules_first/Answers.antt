@@ -1,6 +1,6 @@
 use Rattle.std.proofs.Common.{◌≡◌, ◌<◌, length, get_or, subst, ◌∙◌}
 use Rattle.sp_tree.specs.CheckedOf.{program_of}
-use Rattle.sp_interfere.proofs.Taken.{more_blocks}
+use Rattle.sp_interfere.proofs.MoreItems.{more_blocks}
 use Rattle.sp_interfere.proofs.check.rules_first.Goals as goal
 
 pub each-preserved : goal.each-preserved

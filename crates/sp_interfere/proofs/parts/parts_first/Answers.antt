@@ -3,7 +3,7 @@ use Rattle.sp_tree.specs.CheckedOf.{statement_of, statements}
 use Rattle.sp_tree.specs.PhaseResults.{earlier_refusal}
 use Rattle.sp_interfere.specs.Rules.{numbers_of, parts_first}
 use Rattle.sp_interfere.specs.Tests.{Joins, is_target, is_used}
-use Rattle.sp_interfere.proofs.Taken.{more_numbers, more_parts}
+use Rattle.sp_interfere.proofs.MoreItems.{more_numbers, more_parts}
 use Rattle.sp_interfere.proofs.parts.parts_first.Goals as goal
 
 pub each-preserved : goal.each-preserved

@@ -1,5 +1,5 @@
 use Rattle.std.proofs.Common.{◌∙◌}
-use Rattle.sp_interfere.proofs.Taken.{more_repeats}
+use Rattle.sp_interfere.proofs.MoreItems.{more_repeats}
 use Rattle.sp_interfere.proofs.sites.repeats_first.Goals as goal
 
 pub each-preserved : goal.each-preserved
