@@ -14,9 +14,6 @@ pub drop_none : {T : Type 0} (xs : List T) → drop 0 xs ≡ xs
 drop_none [] = refl
 drop_none (x ∷ xs) = refl
 
-pub drop_more : {T : Type 0} (n : ℕ) (x : T) (xs : List T) → drop (suc n) (x ∷ xs) ≡ drop n xs
-drop_more n x xs = refl
-
 pub first_left : {T : Type 0} (n : ℕ) (xs : List T) → slice_get xs n ≡ slice_get (drop n xs) 0
 first_left zero [] = refl
 first_left zero (x ∷ xs) = refl

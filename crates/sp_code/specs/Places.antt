@@ -1,4 +1,4 @@
--- Some of this belongs to what the program promises (docs/promise.txt).
+-- All of this belongs to what the program promises (docs/promise.txt).
 -- Where the code of each part of a tree ends, from where it begins. Jumps and fork tables are said by it, here and in
 -- the generator's contracts.
 use Rattle.std.specs.Prelude.{ℕ, ◌+◌, ℤ, List, [], ◌∷◌, Option, Some, None}
@@ -128,8 +128,3 @@ module _ (p : Program) where
   -- behind a block: its `return` or `end`
   abbrev pub after_block : ℕ → Block → ℕ
   after_block q b = after_statement q b.body + 1
-
-  -- behind the code of all these blocks
-  abbrev pub after_blocks : ℕ → List Block → ℕ
-  after_blocks q [] = q
-  after_blocks q (b ∷ bs) = after_blocks (after_block q b) bs

@@ -1,7 +1,7 @@
 -- Reading a line by its kind.
 use Rattle.std.proofs.Common.{◌≡◌, ℕ, ◌+◌, ◌*◌, ◌-◌, ◌/◌, ◌%◌, ◌^◌, ◌<◌, ◌≤◌, ◌==◌, nat_lt, Bool, true, false, cond}
-use Rattle.std.proofs.Common.{List, [], ◌∷◌, ◌++◌, length, drop, Some, None, Result, Ok, Err, refl, sym, ap}
-use Rattle.std.proofs.Common.{◌∙◌, subst, arith, append_assoc, codes, decimal, All}
+use Rattle.std.proofs.Common.{List, [], ◌∷◌, ◌++◌, length, drop, Result, Ok, Err, refl, sym, ap}
+use Rattle.std.proofs.Common.{◌∙◌, arith, append_assoc, codes, decimal, All}
 use Rattle.std.specs.List.{flat_map}
 use Rattle.std.specs.Result.{IfOk}
 use Rattle.std.specs.Fmt.{digit_glyph}
@@ -24,7 +24,7 @@ use Rattle.sp_codefile.specs.declared.reading.Kind.TheVariants as kind
 use Rattle.sp_codefile.specs.CodeText.{byte_text, child_text, index_text, IsByte, IsCode, LayoutFits, ChildFits}
 use Rattle.sp_codefile.specs.CodeText.{InstrFits}
 use Rattle.sp_codefile.specs.Cuts.{blank_cut}
-use Rattle.sp_codefile.specs.Items.{item_text, last_children, HasRoom, ItemFits, CanFollow, IsNextItem}
+use Rattle.sp_codefile.specs.Items.{item_text, last_children, CanFollow}
 use Rattle.sp_codefile.specs.Lines.{layout_words, child_words, digit_value, bytes_of, kind_of}
 use Rattle.sp_codefile.proofs.Printing.{child_body}
 use Rattle.sp_codefile.proofs.WordLaws.{blank_at, digits_no_blank}
@@ -173,8 +173,3 @@ says_child_of line (Err e) k f g = λ p y c h d. tt
 
 -- what is next, by what the line says
 module _ (p : Parts) (line : List ℕ) (x : Item) (c : IsCode p) (says : LineSays line x) where
-  pub no_room : (HasRoom p x → ⊥) → IsNextItem p line None
-  no_room n y h e = n (subst (HasRoom p) (sym (says p y c h e)) h.0)
-
-  pub is_next : HasRoom p x → ItemFits x → line ≡ item_text p x → IsNextItem p line (Some x)
-  is_next room fits e = ((room, fits), e, λ y h g. sym (says p y c h g))

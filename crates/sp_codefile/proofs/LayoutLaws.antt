@@ -292,10 +292,6 @@ child_back t k c st few f x r0 r1 w2 r2 r3 w4 r4 r5 m r6 r7 s r8 e b0 b1 a2 b2 b
 
 -- the index of a forall
 
-pub no_index : (i : Option ℕ) (t : List ℕ) → t ≡ [] → t ≡ index_text i → None ≡ i
-no_index None t z e = refl
-no_index (Some v) t z e = let a : [] ≡ index_text (Some v) = sym z ∙ e in absurd (cc a)
-
 pub index_back : (i : Option ℕ) → MayBeNumber i → (t r w : List ℕ) (n : ℕ) → t ≢ [] → t ≡ index_text i
     → r ≡ (word_of t).1 → w ≡ (word_of r).0 → ((m : ℕ) → IsNumber m → w ≡ decimal m → n ≡ m) → Some n ≡ i
 index_back None l t r w n some e b a num = absurd (some e)

@@ -30,7 +30,7 @@ use Rattle.sp_code.specs.Places.{after_statement}
 use Rattle.sp_code.specs.Scopes.{Scope, level, one_more, is_index, as_list, is_local, frame_of}
 use Rattle.sp_code.specs.Scopes as s
 use Rattle.sp_code.specs.Emitted.{children_tables}
-use Rattle.sp_code.specs.CodeOfTree.{CodeAt, HasFork, HasWords, StandsAt, ChildrenAt}
+use Rattle.sp_code.specs.CodeOfTree.{CodeAt, HasFork, HasWords, StandsAt}
 use Rattle.sp_codegen.specs.FramePairs.{FramePair, sources, machines, pairs_from, up_at, HomeIs, Chain}
 use Rattle.sp_tree.specs.Formed.{IsFormed, IsFormedUse, is_parameter, is_answer, numbers_with_role}
 use Rattle.sp_tree.proofs.Members.{member_either}
@@ -50,32 +50,6 @@ use Rattle.sp_codegen.proofs.Follows.{slides, CodeFollows, push_follows}
 
 module _ (p : Program) (moves shares : Stmt → List ℕ) (code : Code) (callable : ℕ → Type 0) (free : Bool)
     (sc : List Scope) where
-  abbrev Is : Stmts → ℕ → ℕ → Birth → Type 0
-  Is ss q k b = ChildIs p moves shares code callable free sc ss q k b
-
-  pub child_is : (ss : Stmts) (q k : ℕ) (b : Birth) → slice_get (children ss) k ≡ Some b
-      → ChildrenAt p moves shares (CodeAt code) (HasFork code) (HasWords code) callable free sc q ss → Is ss q k b
-  child_is No q k b e h = absurd (cc e)
-  child_is (And st rest) q zero b e h = record {
-    statement = st;
-    entry = q;
-    table = refl;
-    birth = sym (cc e);
-    body = h.0;
-    end = h.1;
-    inside = λ u. inl;
-  }
-  child_is (And st rest) q (suc k) b e h =
-      let z = child_is rest (after_statement p q st + 1) k b e h.2 in
-      record {
-        statement = z.statement;
-        entry = z.entry;
-        table = z.table;
-        birth = z.birth;
-        body = z.body;
-        end = z.end;
-        inside = λ u a. inr (z.inside u a);
-      }
 
 -- the table of a child of a parallel
 pub table_at : (p : Program) (moves shares : Stmt → List ℕ) (ss : Stmts) (q k : ℕ)

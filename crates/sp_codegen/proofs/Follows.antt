@@ -62,9 +62,6 @@ module _ {M : Type 0} (ex : Execution M) where
   pub jumps : (q to : ℕ) (stack : List Entry) → slice_get code.instrs q ≡ Some (i.Jump to) → Slides q to stack
   jumps q to stack h = record { proof = λ n. goes ops rel w code (ap (λ o. instruction ops code o q stack n) h) }
 
-  abbrev pub Turns : Bool → List Scope → ℕ → ℕ → Bool → Stmt → Type 0
-  Turns free sc q x down s = following.Turns ex free sc q x down s
-
   abbrev pub CodeFollows : ℕ → List Entry → List FramePair → ℕ → List Entry → List FramePair → List Item → Type 0
   CodeFollows end base below pc stack fs todo = following.CodeFollows ex end base below pc stack fs todo
 
@@ -140,12 +137,6 @@ module _ {M : Type 0} (ex : Execution M) where
 
   abbrev pub CargoIs : List FramePair → Channel → ℕ → Cargo LocationContent Address → Stop → Type 0
   CargoIs fs c k x z = following.CargoIs ex fs c k x z
-
-  abbrev pub ParallelIs : Bool → List FramePair → List Birth → Stop → Type 0
-  ParallelIs free fs bs z = following.ParallelIs ex free fs bs z
-
-  abbrev pub ForallIs : Bool → List FramePair → List Birth → Stop → Type 0
-  ForallIs free fs bs z = following.ForallIs ex free fs bs z
 
   abbrev pub ForkIs : Bool → List FramePair → List Birth → Stop → Type 0
   ForkIs free fs bs z = following.ForkIs ex free fs bs z

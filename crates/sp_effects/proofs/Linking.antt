@@ -277,14 +277,6 @@ module _ (c : Parts) (p : ℕ) where
         (λ m g w. let k = are.all w.0 p w.3 (w.5, w.6.reached) in none-some k.0 (sym e
         ∙ reached_there shapes p k.0 k.1))
 
-  pub no_call : (a : List (List Edge)) → called_block (instr_at c p) ≡ None → Links a a (CalledAt c p)
-  no_call a e = links_none a (CalledAt c p) (λ m g w. none-some w.1 (sym e ∙ ap called_block w.6.call))
-
-  pub no_layout : (a : List (List Edge)) (f : ℕ) → called_block (instr_at c p) ≡ Some f → layout_of c.layouts f ≡ None
-      → Links a a (CalledAt c p)
-  no_layout a f e h = links_none a (CalledAt c p) (λ m g w. let s : f ≡ w.1 = same_Some f w.1 (sym e
-      ∙ ap called_block w.6.call) in none-some w.4 (sym h ∙ ap (layout_of c.layouts) s ∙ w.6.layout))
-
   module _ (a : Area) (n : ℕ) (only : LiesOnlyIn c p a) (at : entry c a ≡ n) where
     pub call_at : (x y : List (List Edge)) (shapes : Shapes) (s f : ℕ) (l : Layout) → AreShapes c shapes
         → reached_at shapes p ≡ Some s → called_block (instr_at c p) ≡ Some f → layout_of c.layouts f ≡ Some l

@@ -100,9 +100,6 @@ stop_told a n o e =
     (λ f p. of_one n effect.Stops (fact n effect.Stops) (IsStop (Some o)) f refl p (e, refl))
     (λ f h. fact_is n effect.Stops f h.area h.does.1) (tells_one a (fact n effect.Stops))
 
-pub no_stop : (a : List Fact) (n : ℕ) (o : Instr) → is_stop (Some o) ≡ false → Tells a a (IsOf n (IsStop (Some o)))
-no_stop a n o e = tells_none a (IsOf n (IsStop (Some o))) (λ f h. absurd (let z = sym e ∙ h.does.0 in cc (z)))
-
 -- ---- an instruction
 
 module _ (c : Parts) (a : Area) (p : ℕ) (ss : List Shape) where
@@ -276,9 +273,6 @@ module _ (c : Parts) (p : ℕ) where
 -- ---- at all
 
 module _ (c : Parts) where
-  pub none_before : (f : List Fact) → Tells f f (OwnBefore c 0)
-  none_before f = tells_none f (OwnBefore c 0) (λ z w. absurd (let l : w.0 < 0 = w.1 in omega (arith, l)))
-
   pub before_more : (f g h : List Fact) (p : ℕ) → Tells f g (OwnBefore c p) → Tells g h (OwnAt c p)
       → Tells f h (OwnBefore c (p + 1))
   before_more f g h p u v = tells_as f h (λ z. OwnBefore c p z

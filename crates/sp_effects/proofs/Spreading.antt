@@ -12,7 +12,7 @@ use Rattle.sp_effects.specs.declared.edges.Edge.{Edge}
 use Rattle.sp_effects.specs.declared.facts.Fact.{Fact}
 use Rattle.sp_effects.specs.declared.facts.Effect.{Effect}
 use Rattle.sp_effects.specs.Facts.{has_fact, with_fact, pair_cmp, has_pair, Tells}
-use Rattle.sp_effects.specs.Closing.{AlongOne, Closes, ClosesTo, FollowsFrom, FactLeads, fact_along, is_own}
+use Rattle.sp_effects.specs.Closing.{AlongOne, Closes, ClosesTo, FollowsFrom, FactLeads, fact_along}
 use Rattle.sp_effects.specs.Variables.{AddsPairs, AreOwn, IsOwnIn, IsOwnOf}
 use Rattle.sp_effects.proofs.Telling.{told_place, place_told, told_on, tells_as, tells_then, tells_one}
 use Rattle.sp_effects.proofs.Telling.{pair_put}
@@ -45,10 +45,6 @@ pair_more old now new m i y xs e h u q = (to, from)
     from (inr o) = ⊎_elim (λ z. now_new ((h q).1 (inr (o.0, z)))) (λ z. put
         ∙ or_left ((q.0 == m) && (q.1 == y)) (has_pair now q)
         (and_from (q.0 == m) (q.1 == y) (eq-eqb q.0 m o.0) (eq-eqb q.1 y z))) (in_taken xs i q.1 y e o.1)
-
-pub pairs_same : (ks : List (ℕ × ℕ)) (m : ℕ) (xs : List ℕ) → AddsPairs ks ks (IsOwnOf m (take 0 xs))
-pairs_same ks m [] q = (λ w. inl w, λ w. ⊎_elim (λ z. z) (λ z. absurd z.1) w)
-pairs_same ks m (x ∷ xs) q = (λ w. inl w, λ w. ⊎_elim (λ z. z) (λ z. absurd z.1) w)
 
 -- those of the first layouts
 abbrev pub OwnFirst : ℕ → List Layout → ℕ × ℕ → Type 0
@@ -109,33 +105,6 @@ along_more a b x row own d k e h u v = tells_as a x (λ g. AlongOne row own d k 
         ∙ h)) w.4)) (below_or_last w.0 k w.2)
 
 module _ (rows : List (List Edge)) (own : List (ℕ × ℕ)) where
-  pub row_leads : (a b : List Fact) (f : Fact) (r row : List Edge) (mine : Bool) → slice_get rows f.area ≡ Some r
-      → row ≡ r → mine ≡ is_own own f.area f.effect → Tells a b (AlongOne row mine f.effect (length row))
-      → Tells a b (FactLeads rows own f)
-  row_leads a b f r row mine e s m t = tells_as a b (AlongOne row mine f.effect (length row)) (FactLeads rows own f)
-      to from t
-    where
-      to : (g : Fact) → AlongOne row mine f.effect (length row) g → FactLeads rows own f g
-      to g (k, x, l, h, w) = (
-        x,
-        (
-          r,
-          e,
-          (
-            k,
-            ap (λ (z : List Edge). slice_get z k) (sym s)
-                ∙ h,
-          ),
-        ),
-        ap (λ (z : Bool). fact_along x z f.effect) (sym m) ∙ w,
-      )
-
-      from : (g : Fact) → FactLeads rows own f g → AlongOne row mine f.effect (length row) g
-      from g (x, (q, h, (k, i)), w) =
-          let z : q ≡ row = same_Some q r (sym h ∙ e) ∙ sym s in
-          let at : slice_get row k ≡ Some x = ap (λ (y : List Edge). slice_get y k) (sym z) ∙ i in
-          (k, x, slice_get_within row k x at, at, ap (λ (y : Bool). fact_along x y f.effect) m ∙ w)
-
   -- ---- until nothing is left
 
   there : (fs : List Fact) (i j : ℕ) (f : Fact) → slice_get fs i ≡ Some f → j < i → (g : Fact)

@@ -125,14 +125,6 @@ pub adds_effect : (old new : Sets) (g e : Effect) → g ≡ e → PutsIn old new
     → in_sets new d ≡ (same_effect d g || in_sets old d)
 adds_effect old new g e s h d = h d ∙ ap (λ (x : Effect). same_effect d x || in_sets old d) (sym s)
 
--- one area more, that does nothing
-pub noted_more : (areas : List Sets) (none : Sets) → ((d : Effect) → in_sets none d ≡ false)
-    → (p : ℕ) (d : Effect) → sets_have (areas ++ none ∷ []) p d ≡ sets_have areas p d
-noted_more [] none h zero d = h d
-noted_more [] none h (suc p) d = refl
-noted_more (s ∷ areas) none h zero d = refl
-noted_more (s ∷ areas) none h (suc p) d = noted_more areas none h p d
-
 -- one place is changed
 pub noted_put : (areas : List Sets) (none old new : Sets) (g : Fact) → slice_get areas g.area ≡ Some old
     → PutsIn old new g.effect

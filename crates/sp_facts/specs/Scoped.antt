@@ -1,7 +1,7 @@
 -- None of this belongs to what the program promises: it is for contracts between crates.
 -- What the phase of names gives of a tree with numbers for names: each name in it is of a declaration that is visible
 -- there. The facts of code are led from it, part by part.
-use Rattle.std.specs.Prelude.{◌≡◌, ◌⊎◌, ℕ, suc, ◌≤◌, List, [], ◌∷◌, Option, Some, None, Bool, true, false, slice_get}
+use Rattle.std.specs.Prelude.{◌≡◌, ◌⊎◌, ℕ, suc, ◌≤◌, List, [], ◌∷◌, Option, Some, None, true, slice_get}
 use Rattle.std.specs.Prelude.{drop}
 use Rattle.sp_tree.specs.declared.checked.Role.{Role}
 use Rattle.sp_tree.specs.declared.checked.Role.TheVariants as role
@@ -13,20 +13,6 @@ use Rattle.sp_tree.specs.PlainNamed as n
 use Rattle.sp_code.specs.Scopes.{Scope, OfBlock, OfIndex, is_block, is_index, level, scopes_of}
 use Rattle.sp_types.specs.TypeWalk.{count, is_variable}
 use Rattle.sp_code.specs.CodeOfTree.{NoIndex}
-
--- a condition that is asked for only where a test says so
-abbrev pub Where : Bool → Type 0 → Type 0
-Where true A = A
-Where false A = Unit {0}
-
--- the role of a parameter that stands for a variable
-abbrev pub is_reference : Role → Bool
-is_reference role.Console = false
-is_reference role.Local = false
-is_reference role.Value = false
-is_reference role.Reference = true
-is_reference role.Index = false
-is_reference role.Answer = false
 
 abbrev pub IsInForall : List Scope → Type 0
 IsInForall [] = ⊥

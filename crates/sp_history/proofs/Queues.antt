@@ -1,6 +1,6 @@
 -- Lists of numbers: each, different, among.
 use Rattle.std.proofs.Common.{◌≡◌, ◌≢◌, ◌⊎◌, ℕ, zero, suc, ◌+◌, ◌≤◌, ◌<◌, ◌==◌, inl, inr, Bool, true, false, cond, List}
-use Rattle.std.proofs.Common.{[], ◌∷◌, ◌++◌, refl, sym, subst, arith, length, ap}
+use Rattle.std.proofs.Common.{[], ◌∷◌, ◌++◌, refl, subst, arith, length, ap}
 use Rattle.std.proofs.lemmas.Bool.{eqb-false}
 use borrow.Author.Tests.{eqb-true}
 use Rattle.sp_base.proofs.Facts.{equals_itself}
@@ -15,11 +15,6 @@ each_of P Q (x ∷ xs) h e = (h x e.0, each_of P Q xs h e.1)
 pub each_append : (P : ℕ → Type 0) (xs ys : List ℕ) → EachNumber P xs → EachNumber P ys → EachNumber P (xs ++ ys)
 each_append P [] ys a b = b
 each_append P (x ∷ xs) ys a b = (a.0, each_append P xs ys a.1 b)
-
-pub each_at : (P : ℕ → Type 0) (xs : List ℕ) (q : ℕ) → Among q xs → EachNumber P xs → P q
-each_at P [] q i e = absurd i
-each_at P (x ∷ xs) q (inl is) e = subst P (sym is) e.0
-each_at P (x ∷ xs) q (inr i) e = each_at P xs q i e.1
 
 pub differ_append : (xs ys : List ℕ) → Differ xs → Differ ys → EachNumber (λ x. EachNumber (λ y. y ≢ x) ys) xs
     → Differ (xs ++ ys)

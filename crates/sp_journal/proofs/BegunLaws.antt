@@ -86,19 +86,6 @@ module _ (bytes : List ℕ) (v : Version) (es : List Entry) (rest : List ℕ) (b
   s_lawful : Lawful (births es)
   s_lawful = lawful es begun.whole.nameable
 
-  -- all has been read
-  pub read_whole : rest ≡ [] → (w : Version) × IsTextOf w (record { entries = es }) bytes
-  read_whole e = (
-    v,
-    record {
-      nameable = begun.whole.nameable;
-      held = begun.whole.held;
-      text = begun.joined
-          ∙ ap (λ (x : List ℕ). journal_text v (record { entries = es }) ++ x) e
-          ∙ append-nil (journal_text v (record { entries = es }));
-    },
-  )
-
   pub read_alone : rest ≡ [] → (w : Version) (k : Journal) → IsTextOf w k bytes → k ≡ record { entries = es }
   read_alone e w k t =
       let b = begun.begins w k t in

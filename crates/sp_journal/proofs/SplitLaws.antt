@@ -33,10 +33,6 @@ pub first_at : (c : ℕ) (xs ys : List ℕ) → HasNone c xs → first_split c (
 first_at c [] ys w = rw (here c c refl) refl
 first_at c (x ∷ xs) ys w = rw (ne_eqb x c w.0) (rw (first_at c xs ys w.1) refl)
 
-pub first_none : (c : ℕ) (xs : List ℕ) → HasNone c xs → first_split c xs ≡ None
-first_none c [] w = refl
-first_none c (x ∷ xs) w = rw (ne_eqb x c w.0) (rw (first_none c xs w.1) refl)
-
 pub last_none : (c : ℕ) (xs : List ℕ) → HasNone c xs → last_split c xs ≡ None
 last_none c [] w = refl
 last_none c (x ∷ xs) w = rw (last_none c xs w.1) (rw (ne_eqb x c w.0) refl)

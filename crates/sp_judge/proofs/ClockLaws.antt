@@ -1,6 +1,6 @@
 -- A clock while the pairs of another one are taken in.
 use Rattle.std.proofs.Common.{◌≡◌, ◌≢◌, ⊎_elim, ℕ, Bool, true, false, cond, max, ◌==◌, List, [], ◌∷◌, Some}
-use Rattle.std.proofs.Common.{Option, ◌⊎◌, is_some, filter, unwrap_or, refl, sym, ap, ◌∙◌, subst, eqb-true}
+use Rattle.std.proofs.Common.{◌⊎◌, is_some, filter, unwrap_or, refl, sym, ap, ◌∙◌, subst, eqb-true}
 use Rattle.std.proofs.Common.{eq-eqb, length, arith}
 use Rattle.std.specs.Ordering.{nat_cmp, eq_by_cmp, is_eq}
 use Rattle.std.specs.Cmp.{nat_cmp_total, tied_itself}
@@ -88,11 +88,6 @@ more_pairs q e es h = by (is_at (nat_cmp q) e.0)
 
 pub first_pair : (q : ℕ) (v : ℕ) (es : List (ℕ × ℕ)) → IsSome (lookup (is_at (nat_cmp q)) ((q, v) ∷ es))
 first_pair q v es = ap (λ b. is_some (cond b (Some v) (lookup (is_at (nat_cmp q)) es))) (same_test q)
-
-pub pair_put : (f g : ℕ → Option ℕ) (p v : ℕ) → ((q : ℕ) → g q ≡ cond (is_at (nat_cmp p) q) (Some v) (f q)) → (q : ℕ)
-    → q ≡ p → IsSome (g q)
-pair_put f g p v is q e =
-    ap is_some (is q ∙ ap (λ b. cond b (Some v) (f q)) (subst (λ x. is_at (nat_cmp p) x ≡ true) (sym e) (same_test p)))
 
 -- a row of pairs, of which those of this process were kept
 pub kept_count : (p : ℕ × ℕ → Bool) (q : ℕ) → ((v : ℕ) → p (q, v) ≡ true) → (es : List (ℕ × ℕ))

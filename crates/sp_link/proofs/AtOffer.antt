@@ -4,8 +4,8 @@ use Rattle.std.proofs.Common.{◌≡◌, ◌⊎◌, ℕ, List, ◌∷◌, length
 use Rattle.sp_cell.specs.Map.{Plain}
 use Rattle.sp_meaning.specs.Model.{Name, Channel, Cargo}
 use Rattle.sp_meaning.specs.Steps.{OfferOf}
-use Rattle.sp_meaning.specs.LocalWork.{LocationContent, Address, LocalState, WorkOutcome, Computed, Item, Identity}
-use Rattle.sp_meaning.specs.Actions.{Action, Offered}
+use Rattle.sp_meaning.specs.LocalWork.{LocationContent, Address, LocalState, Computed, Item, Identity}
+use Rattle.sp_meaning.specs.Actions.{Offered}
 use Rattle.sp_meaning.specs.SuperPascal.{superpascal, with_todo}
 use Rattle.sp_meaning.specs.Run.{Store}
 use Rattle.sp_meaning.specs.Runs.{StateOf}
@@ -37,9 +37,6 @@ module _ (G : RunContext) (lv : RightsOfAll G) (c : Course) (s : StateOf G.g) (u
     (y : Kept_to G lv c s u l i d at_i z (Computed (source.Stops (Offered ch kd cg todo)) o, m)) where
   abbrev pub v : Name
   v = w G lv c s u l i d at_i
-
-  abbrev pub r : WorkOutcome Action × Store
-  r = (Computed (Offered ch kd cg todo) o, m)
 
   abbrev pub off : OfferOf (superpascal G.g)
   off = record { channel = ch; kind = kd; cargo = cg; next = with_todo todo x.left.who o }

@@ -1,18 +1,15 @@
 -- No turn of a system that is linked lacks what it needs (`turn_safe`), and each has an entry (`goes_on`).
-use Rattle.std.proofs.Common.{◌≡◌, ⊎_elim, ℕ, ◌∷◌, true, false, refl, sym, ◌∙◌}
+use Rattle.std.proofs.Common.{◌≡◌, ⊎_elim, ℕ, ◌∷◌, true, false, sym, ◌∙◌}
 use Rattle.sp_cell.specs.Map.{Plain}
 use Rattle.sp_meaning.specs.Runs.{StateOf}
 use Rattle.sp_meaning.specs.Along.{Course}
-use Rattle.sp_journal.specs.declared.entry.Event.{Event}
 use Rattle.sp_code.specs.Machine.{Config}
 use Rattle.sp_code.specs.Turns.{IsSafe}
 use Rattle.sp_code.specs.Memory.{Memory}
-use Rattle.sp_code.specs.PlainStore.{plain}
-use Rattle.sp_code.specs.System.{System, Working, EntryLeads}
+use Rattle.sp_code.specs.System.{System, Working}
 use Rattle.sp_link.proofs.TurnsMeet.{safe}
-use Rattle.sp_link.proofs.JournalEntries.{entry}
 use Rattle.sp_link.proofs.OneChanges.{q, pr, its, runs_as_pr, light, keeps_to}
-use Rattle.sp_link.proofs.Relation.{RunContext, RightsOfAll, Linked, run_is, ops}
+use Rattle.sp_link.proofs.Relation.{RunContext, RightsOfAll, Linked, ops}
 
 module _ (G : RunContext) (lv : RightsOfAll G) (c : Course) (s : StateOf G.g) (u : System Plain) (l : Linked G lv c s u)
     (i : ℕ)
@@ -24,12 +21,3 @@ module _ (G : RunContext) (lv : RightsOfAll G) (c : Course) (s : StateOf G.g) (u
       (light G lv c s u l i d at) (keeps_to G lv c s u l i d at).last (keeps_to G lv c s u l i d at).fit)
       (λ z b. absurd (let a : false ≡ true = sym z.4 ∙ b in cc a))
       (its G lv c s u l i d at).2
-
-  -- and the system goes on with it
-  pub goes_on : (e : Event) × (t : System Plain) × EntryLeads plain (run_is G) u i e t
-  goes_on =
-      let en = entry G lv c s u l i d at in (
-        Rattle.sp_code.specs.System.event_of G.g.limits u en.turn,
-        Rattle.sp_code.specs.System.system_after_turn plain (run_is G) i en.turn u,
-        (d, at, en.turn, en.is_turn, refl, refl),
-      )

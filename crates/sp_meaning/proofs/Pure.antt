@@ -10,7 +10,7 @@ use Rattle.sp_tree.specs.Plain.{Pass, Program, Variable, Block, Stmt, Empty, Ass
 use Rattle.sp_tree.specs.Plain.{Repeat, For, Case, Parallel, Forall, Assume, ReadValue, ReadLine, WriteValue, WriteText}
 use Rattle.sp_tree.specs.Plain.{WriteLine, Open, Send, Receive, Stmts, No, And, On, Arms, NoArm, Or}
 use Rattle.sp_tree.specs.Uses.{Use, Target, Seen, CallOf, ParallelOf, ForallOf, Stop, In_expr, In_form, In_selectors}
-use Rattle.sp_tree.specs.Uses.{In_actuals, In_width}
+use Rattle.sp_tree.specs.Uses.{In_actuals}
 use Rattle.sp_tree.specs.Sets.{Reach, ImplicitTarget}
 use Rattle.sp_tree.specs.Interference.{IsMember, IsFunction}
 use Rattle.sp_meaning.specs.LocalWork.{Item, Do, First, Again, Test, Leave, Break}
@@ -148,10 +148,6 @@ module _ (p : Program) where
     values_uses (Pass (ByValue e) rest) h u (inl i) = expr_uses e h.0 u i
     values_uses (Pass (ByValue e) rest) h u (inr i) = values_uses rest h.1 u i
     values_uses (Pass (ByReference v) rest) h u i = absurd h
-
-  pub width_uses : (w : Option Expr) → PureWidth w → (u : Use) → In_width w u → PureUse u
-  width_uses None h u i = absurd i
-  width_uses (Some e) h u i = expr_uses e h u i
 
   -- no target is reached from it
   pub no_target : AreFunctionsPure → {Here : Use → Type 0} → ((u : Use) → Here u → PureUse u) → (bs : List ℕ) (x : ℕ)

@@ -1,9 +1,6 @@
 -- From the parts of the parser to the tree of a text.
-use Rattle.std.proofs.Common.{◌≡◌, ℕ, ◌+◌, ◌≤◌, List, [], ◌∷◌, length, take, Some, Result, Ok, Err, refl}
+use Rattle.std.proofs.Common.{◌≡◌, ℕ, ◌+◌, ◌≤◌, List, [], ◌∷◌, length, Some, Result, Ok, Err, refl}
 use Rattle.std.proofs.Common.{sym as back_of, ap, ◌∙◌, subst}
-use Rattle.std.proofs.Math.Seq.{take-append_seam}
-use Rattle.std.proofs.lemmas.List.{append-nil}
-use Rattle.sp_base.specs.declared.place.Place.{Place}
 use Rattle.sp_base.specs.declared.halt.Halt.{Halt}
 use Rattle.sp_base.specs.declared.halt.Halt.TheVariants as halt
 use Rattle.sp_base.specs.declared.halt.Refusal.{Refusal}
@@ -35,12 +32,6 @@ pub record PlaceSoFar (text rest : List ℕ) (line column : ℕ) : Type 0 where
   pub place_is : place_behind (record { line = line; column = column }) rest ≡ place_behind start text
   pub low : line + length rest ≤ 1 + length text
   pub left : column + length rest ≤ 1 + length text
-
-pub whole_text : (text : List ℕ) → take (length text) text ≡ text
-whole_text text = ap (take (length text)) (back_of (append-nil text)) ∙ take-append_seam text []
-
-pub at_end : (text : List ℕ) (p : Place) → p ≡ place_behind start text → p ≡ place_at text (length text)
-at_end text p h = h ∙ ap (place_behind start) (back_of (whole_text text))
 
 pub is_ready : (source : Source) (ts : List Token) → source.end ≡ place_at source.text.now (length source.text.now)
     → IsTokens source.text.now ts → HasTokens source ts

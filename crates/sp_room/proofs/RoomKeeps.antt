@@ -443,17 +443,3 @@ module _ {O A G N : Type 0} (opens : O → Type 0) (steps : O → ℕ → A → 
       (returns_turn slots id (view_after_last_note me.0 (note ∷ []), (0, Some d) ∷ []) d active holding refl items runs
       reserve
       (omega (arith, ap (λ (l : List N). length l) items, space)))
-
-pub given_on : {O N : Type 0} (me me' me'' me''' : SeatPart O N) (d : SlotBox O N) (note : N)
-    → me ≡ (me.0, (0, None) ∷ [])
-    → me' ≡ (me.0, (0, Some d) ∷ Rattle.atomic_table.specs.Table.rest me.1)
-    → d.value.notes.items ≡ me.0.seen ++ note ∷ []
-    → me'' ≡ (view_after_note me'.0 (drop (length me'.0.seen) (in_hand me'.1)), me'.1)
-    → me''' ≡ (view_after_return me''.0, [])
-    → me''' ≡ (view_after_return (view_after_note me.0 (note ∷ [])), [])
-given_on {O} {N} me me' me'' me''' d note bare is items up back = back
-    ∙ ap (λ (m : SeatPart O N). (view_after_return m.0, []))
-    (up ∙ (ap (λ (m : SeatPart O N). (view_after_note m.0 (drop (length m.0.seen) (in_hand m.1)), m.1))
-    (is ∙ ap (λ (m : SeatPart O N). (me.0, (0, Some d) ∷ Rattle.atomic_table.specs.Table.rest m.1)) bare)
-    ∙ ap (λ (l : List N). (view_after_note me.0 l, (0, Some d) ∷ []))
-    (ap (drop (length me.0.seen)) items ∙ drop-append_seam me.0.seen (note ∷ []))))

@@ -1,7 +1,6 @@
 -- What a call of a seat tells: from the steps of its turn to the clauses of `serve`.
-use Rattle.std.proofs.Common.{◌-◌, ◌≡◌, ℕ, ◌+◌, List, [], ◌∷◌, ◌++◌, refl, sym}
-use Rattle.std.proofs.Common.{ap, ◌∙◌, subst, Option, Some, None}
-use mathlib.Core.List.{append-nil}
+use Rattle.std.proofs.Common.{◌≡◌, ℕ, ◌+◌, List, [], ◌∷◌, ◌++◌, refl, sym}
+use Rattle.std.proofs.Common.{ap, ◌∙◌, subst, Option, Some}
 use Rattle.sp_room.specs.History.{StartsWith, notes_by, LeadsTo}
 use Rattle.sp_room.specs.RoomRule.{SlotBox, SeatPart, holder, view_after_note, view_after_last_note, view_after_return}
 use Rattle.sp_room.specs.RoomRule.{HoldsSlot, Called, Declined}
@@ -97,33 +96,6 @@ module _ {O A G N : Type 0} (opens : O → Type 0) (steps : O → ℕ → A → 
         appended = refl;
         own = refl;
         legal_after = runs_on steps x d.value.notes.items d.value.object y m.0.number a g n ((holds.2 x from).1) here;
-      }
-
-  -- the call with no note, which leaves the object as it was
-  pub looked : (m m' m'' : SeatPart O N) (cs : List (ℕ × Option (SlotBox O N))) (d : SlotBox O N) (y : O) (number : ℕ)
-      (a : A)
-      (g : G) (o : Option N)
-      → m' ≡ (holder m.0 d.value.notes.items d.value.reserved, cs) → HoldsSlot opens steps author m.0 d
-      → m'' ≡ (view_after_return m'.0, []) → m.0.opening ≡ Some x → number ≡ m.0.number
-      → steps d.value.object number a y g o
-      → o ≡ None → y ≡ d.value.object
-      → Called steps x m.0 a g m''.0
-  looked m m' m'' cs d y number a g o won holds end from is call none same =
-      let here : steps d.value.object m.0.number a y g None =
-      subst (λ (z : ℕ × Option N). steps d.value.object z.0 a y g z.1) (λ i. (is i, none i)) call in
-      subst (λ (z : SeatPart O N). Called steps x m.0 a g z.0)
-      (sym (end ∙ ap (λ (z : SeatPart O N). (view_after_return z.0, [])) won))
-      record {
-        before = d.value.notes.items;
-        met = d.value.object;
-        left = y;
-        note = None;
-        begins = holds.0;
-        legal = (holds.2 x from).1;
-        answer = here;
-        appended = sym (append-nil d.value.notes.items);
-        own = sym (append-nil m.0.own);
-        legal_after = subst (λ z. LeadsTo steps x d.value.notes.items z) (sym same) (holds.2 x from).1;
       }
 
   -- no call, for want of memory

@@ -34,9 +34,6 @@ module _ {W K X : Type 0} (same : K → K → Bool) (key : W → K) (held : W �
   elsewhere m ws (suc i) w q h n e b = rw sub-one
       (rw (logged_take m ws i w (omega arith) (rw sub-one at e)) (rw b refl))
 
-  pub none : (m : K → X) (ws : List W) (i : ℕ) (q : K) → i ≡ 0 → map_of_log same key held m (take i ws) q ≡ m q
-  none m ws i q z = rw z refl
-
 pub condition_here : (bs : List Became) (i : ℕ) (b : Became) (q : Name) → 0 < i → i ≤ length bs
     → b ≡ get_or bs (i - 1) b → same_name b.name q ≡ true → conditions_of (take i bs) q ≡ plain_condition b.condition
 condition_here bs i b q h n e t = here same_name (λ (b : Became). b.name) (λ (b : Became). plain_condition b.condition)

@@ -47,10 +47,6 @@ pub more_left : (g : RunInput) (k : ℕ) (todo rest : List Item) (w : Identity) 
     ≡ run_items g k todo w o s
 more_left g k todo rest w o o1 s s1 h e = sym (all_back g k todo w o s (Computed (Some rest) o1 s1) h e)
 
-pub none_left : (g : RunInput) (k : ℕ) (todo : List Item) (w : Identity) (o o1 : LocalState) (s s1 : Store) → 0 < k
-    → body_step g (k - 1) todo w o s ≡ Computed None o1 s1 → run_items g k todo w o s ≡ Computed [] o1 s1
-none_left g k todo w o o1 s s1 h e = all_back g k todo w o s (Computed None o1 s1) h e
-
 pub not_left : (g : RunInput) (k : ℕ) (todo : List Item) (w : Identity) (o : LocalState) (s : Store) (x : Halted)
     → 0 < k
     → body_step g (k - 1) todo w o s ≡ NoResult x → run_items g k todo w o s ≡ NoResult x

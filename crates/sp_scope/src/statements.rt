@@ -16,7 +16,7 @@ ghost use Rattle.sp_tree.specs.SyntaxOf.{expression_of, variable_of, arguments_o
 ghost use Rattle.sp_tree.specs.SyntaxOf.{else_part, statements, statements_of, arms, arm_of, branches, branch_of};
 ghost use Rattle.sp_tree.specs.SyntaxOf.{selectors, selector_of};
 ghost use Rattle.sp_scope.specs.Firsts.{expression_first, selectors_first, assigned_first, call_first, statement_first};
-ghost use Rattle.sp_scope.specs.Firsts.{statement_form_first, other_first, statements_first, arms_first, arm_first};
+ghost use Rattle.sp_scope.specs.Firsts.{statement_form_first, statements_first, arms_first, arm_first};
 ghost use Rattle.sp_scope.specs.Firsts.{branches_first, indexed_first, element_first};
 
 use crate::calls::{count, is_whole, references_of, rest_of};

@@ -1,5 +1,5 @@
 -- Texts that are joined one after the other.
-use Rattle.std.proofs.Common.{◌≡◌, ℕ, zero, suc, ◌+◌, ◌<◌, List, [], ◌∷◌, ◌++◌, Option, Some, None, slice_get, refl}
+use Rattle.std.proofs.Common.{◌≡◌, ℕ, zero, suc, ◌+◌, ◌<◌, List, [], ◌∷◌, ◌++◌, Some, slice_get, refl}
 use Rattle.std.proofs.Common.{sym, ap, ap₂, ◌∙◌, subst, append_assoc, arith}
 use Rattle.std.specs.Prelude.{◌≢◌, codes, length, get_or}
 use Rattle.sp_sets.specs.Forks.{tree_lines}
@@ -104,10 +104,6 @@ pub at_default : {X : Type 0} (xs : List X) (i : ℕ) (d : X) → i < length xs 
 at_default [] i d low = absurd (omega arith)
 at_default (y ∷ ys) zero d low = refl
 at_default (y ∷ ys) (suc i) d low = at_default ys i d (omega arith)
-
-abbrev mapped : {X Y : Type 0} → (X → Y) → Option X → Option Y
-mapped f None = None
-mapped f (Some z) = Some (f z)
 
 pub put_sets_is : (p : Program) (s : Sets) (vs : List Variable) (ks : List Block) (n : ℕ) (ls : List SetsLine)
     (o o1 o2 : List ℕ) → vs ≡ p.variables → ks ≡ p.blocks → n ≡ length p.blocks → o ≡ []

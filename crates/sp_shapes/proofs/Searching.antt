@@ -15,7 +15,7 @@ use Rattle.sp_shapes.specs.Stacks.{Extends, IsListNumber, list_of}
 use Rattle.sp_shapes.specs.Search.{IsOneOf, HasAt, IsMarked, InTable, KnowsShapes, BrokenBy, LacksBy, DiffersBy}
 use Rattle.sp_shapes.specs.Search.{IsStepped}
 use Rattle.sp_shapes.specs.Search.{IsClosedSearch, Covers, CoversTable, WhileComparing, WhileStepping, AreCompared}
-use Rattle.sp_shapes.specs.Search.{AreStepped, IsDoneSearch}
+use Rattle.sp_shapes.specs.Search.{AreStepped}
 use Rattle.sp_shapes.specs.Search.{KeepsV1, free_count, room}
 use Rattle.sp_shapes.proofs.Ways.{one_area, lies}
 
@@ -179,10 +179,6 @@ module _ (c : Parts) where
     }
 
 -- ---- rounds
-
--- all compared, and nothing waits: done
-pub done : (c : Parts) (s : Search) → AreCompared c s → s.arrivals ≡ [] → s.frontier ≡ [] → IsDoneSearch c s
-done c s h a b = record { true_so_far = h; none = a; still = b }
 
 pub then_steps : (c : Parts) → KeepsV1 c → (s : Search) → AreCompared c s → s.arrivals ≡ [] → AreStepped c s
 then_steps c v1 s h e = (h.0, begin_steps c v1 h.0 s h.1 e)

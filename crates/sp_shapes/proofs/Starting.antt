@@ -107,9 +107,6 @@ module _ (c : Parts) where
       pub made_is : (q : ℕ) → IsMadeAt c p q → IsOfChildren tb.children (length tb.children) q
       made_is q (k, ch, w, at, a) = let z = sym (child_is k) ∙ w in (k, ch, slice_get_within tb.children k ch z, z, at)
 
-  pub none_made : (q : ℕ) → IsMade c 0 q → ⊥
-  none_made q h = let l = h.1 in omega (arith, l)
-
   pub more_made : (n q : ℕ) → IsMade c (n + 1) q → IsMade c n q ⊎ IsMadeAt c n q
   more_made n q (p, l, m) = ⊎_elim (λ a. inl (p, a, m)) (λ s. inr (subst (λ z. IsMadeAt c z q) s m))
       (below_or_last p n l)

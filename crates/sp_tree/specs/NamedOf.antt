@@ -84,9 +84,6 @@ argument_of = named_arg.fold-NamedArg ExpressionForm Selector Argument Expressio
 abbrev pub arguments_of : List named_arg.NamedArg → Arguments
 arguments_of args = arguments (map argument_of args)
 
-abbrev pub selectors_of : List named_selector.NamedSelector → Selectors
-selectors_of xs = selectors (map selector_of xs)
-
 -- lists of statements
 abbrev pub statements : List Statement → Statements
 statements [] = NoStatement

@@ -1,5 +1,5 @@
 -- A table of fields by name grows with the fields, and a set of numbers with the numbers.
-use Rattle.std.proofs.Common.{◌≡◌, refl, ap, sym, ◌∙◌, rules, ℕ, ◌+◌, nat_eq, Bool, true, false, cond, ◌||◌}
+use Rattle.std.proofs.Common.{◌≡◌, refl, ap, sym, ◌∙◌, rules, ℕ, nat_eq, Bool, true, false, cond, ◌||◌}
 use Rattle.std.proofs.Common.{if◌then◌else◌, List, ◌∷◌, Option, Some, None}
 use Rattle.std.specs.List.{list_any}
 use Rattle.std.specs.Option.{option_or, is_some}
@@ -10,26 +10,7 @@ use Rattle.std.proofs.lemmas.Map.Text.{is_eq-slice_cmp}
 use Rattle.std.proofs.lemmas.Slice.Eq.{bytes_eq-Decides}
 use Rattle.std.proofs.lemmas.Bool.{true≢false}
 use Rattle.sp_base.proofs.Facts.{tie_is_equal, same_if_bytes_eq}
-use Rattle.sp_types.specs.FieldTable.{Index, field_under, AddsField, field_from}
-
-by_test : (b : Bool) (x : ℕ × ℕ) (rest : Option (ℕ × ℕ))
-    → option_or (if b then Some x else None) rest ≡ (if b then Some x else rest)
-by_test true x rest = refl
-by_test false x rest = refl
-
-one_field : (found : Option (ℕ × ℕ)) (n : ℕ) (f : List ℕ × ℕ) (rest : List (List ℕ × ℕ)) (name : List ℕ)
-    → option_or (option_or found (if bytes_eq name f.0 then Some (n, f.1) else None)) (field_from (n + 1) name rest)
-    ≡ option_or found (field_from n name (f ∷ rest))
-one_field (Some x) n f rest name = refl
-one_field None n f rest name = by_test (bytes_eq name f.0) (n, f.1) (field_from (n + 1) name rest)
-
--- a field that is noted is no longer ahead
-pub noted : (old new : Index) (n : ℕ) (f : List ℕ × ℕ) (rest : List (List ℕ × ℕ)) → AddsField old new n f
-    → (name : List ℕ)
-    → option_or (field_under new name) (field_from (n + 1) name rest)
-    ≡ option_or (field_under old name) (field_from n name (f ∷ rest))
-noted old new n f rest h name = ap (λ u. option_or u (field_from (n + 1) name rest)) (h name)
-    ∙ one_field (field_under old name) n f rest name
+use Rattle.sp_types.specs.FieldTable.{Index, field_under, AddsField}
 
 swapped : (name other : List ℕ) → bytes_eq name other ≡ bytes_eq other name
 swapped name other = search (rules, bytes_eq-Decides)
