@@ -1,6 +1,5 @@
 //! Tests of clocks, and of the verdicts on journals written by hand.
 
-ghost use Rattle.std.specs.Prelude.{◌≡◌};
 ghost use Rattle.sp_journal.specs.Births.{occurrences, IsNameable};
 ghost use Rattle.sp_judge.specs.Prefixes.{WaitersAreSilent};
 

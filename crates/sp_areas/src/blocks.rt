@@ -1,7 +1,7 @@
 //! The layouts by the numbers of their blocks.
 
 ghost use Rattle.std.specs.Prelude.{◌≡◌, ◌+◌, ◌≤◌, IfOk, OnOk, length};
-ghost use Rattle.sp_areas.specs.Blocks.{IsNumbered, NotesLayout, number_from, number_of};
+ghost use Rattle.sp_areas.specs.Blocks.{IsNumbered, NotesLayout, number_of};
 ghost use Rattle.sp_areas.specs.Owners.{entry_at};
 ghost use Rattle.std.specs.Option.{is_some, option_copied};
 ghost use Rattle.sp_code.specs.Machine.{layout_of};

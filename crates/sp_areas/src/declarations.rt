@@ -1,7 +1,6 @@
 //! Variables that are declared a second time: a point of rule V1.
 
-ghost use Rattle.std.specs.Prelude.{◌≡◌, ◌+◌, ◌<◌, [], Some, IfOk, length, slice_get};
-ghost use Rattle.sp_rules.specs.Areas.{child_of};
+ghost use Rattle.std.specs.Prelude.{◌≡◌, ◌+◌, ◌<◌, [], Some, IfOk, length};
 ghost use Rattle.sp_rules.specs.Named.{DeclaredTwice, InLayout, IsChild, OfChild};
 ghost use Rattle.sp_areas.specs.LeastPlaces.{IsLeast};
 ghost use Rattle.sp_areas.specs.Twice.{SeenBefore, NotesVariable};

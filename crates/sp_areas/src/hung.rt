@@ -1,8 +1,7 @@
 //! The children of forks, as nodes of a tree: each inside what is around its fork. They are put in the order of
 //! `order`.
 
-ghost use Rattle.std.specs.Prelude.{◌≡◌, ℕ, ◌+◌, ◌<◌, Some, None, IfOk, OnOk, length, slice_get};
-ghost use Rattle.sp_rules.specs.Areas.{instr_at, table_named};
+ghost use Rattle.std.specs.Prelude.{◌≡◌, ◌+◌, ◌<◌, Some, None, IfOk, OnOk, length, slice_get};
 ghost use Rattle.sp_areas.specs.Around.{AreHung, Hangs, IsHungBy, PutsChild, PutsChildren, child_node, node_of};
 ghost use Rattle.sp_areas.specs.Around.{owner_in};
 ghost use Rattle.sp_areas.specs.Around.{AreAllHung, AreNodes};

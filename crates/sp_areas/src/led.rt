@@ -1,6 +1,6 @@
 //! The layouts whose parents lead to block 0, as nodes of a tree.
 
-ghost use Rattle.std.specs.Prelude.{◌≡◌, ℕ, List, [], None, IfOk, OnOk, length, replicate};
+ghost use Rattle.std.specs.Prelude.{◌≡◌, List, [], None, IfOk, OnOk, length, replicate};
 ghost use Rattle.sp_code.specs.declared.code.Layout.{Layout};
 ghost use Rattle.sp_areas.specs.Blocks.{IsNumbered};
 ghost use Rattle.sp_areas.specs.Grown.{AreAllLed, AreLed, EachItem, IsTried, GrowthStep, inside_of, parent_node};

@@ -3,7 +3,7 @@
 
 ghost use Rattle.std.specs.Prelude.{◌≡◌, ◌<◌, Some, length, slice_get};
 ghost use Rattle.sp_areas.specs.LeastPlaces.{IsLeast};
-ghost use Rattle.sp_areas.specs.Owners.{AreOwners, list_of_ways};
+ghost use Rattle.sp_areas.specs.Owners.{AreOwners};
 ghost use Rattle.sp_areas.specs.Placed.{IsMisplaced, ends_as, fails_placed, leads, runs_past};
 
 use crate::owners::Owner;

@@ -1,7 +1,7 @@
 //! What instructions name by what is around them: the level of a call, and variables. Both are points of rule V1.
 
 ghost use Rattle.std.specs.Prelude.{◌≡◌, ◌<◌, Some, false, length, slice_get};
-ghost use Rattle.sp_rules.specs.Areas.{Area, on_option, instr_at};
+ghost use Rattle.sp_rules.specs.Areas.{Area, on_option};
 ghost use Rattle.sp_rules.specs.Named.{is_loop_variable, is_plain, is_reference, level_fits};
 ghost use Rattle.sp_areas.specs.Blocks.{IsNumbered};
 ghost use Rattle.sp_areas.specs.Homes.{AreHomes, found_of};

@@ -1,7 +1,7 @@
 //! Rule V9: ways of an instruction back to itself with no tick and no call. The numbers that `components` guesses are
 //! checked by a loop.
 
-ghost use Rattle.std.specs.Prelude.{◌≡◌, ◌↔◌, ◌<◌, ◌≤◌, ℕ, IfOk, IsTrue, MatchOption, OnOk, Some, false, length, true};
+ghost use Rattle.std.specs.Prelude.{◌≡◌, ◌↔◌, ◌<◌, ℕ, IfOk, IsTrue, MatchOption, OnOk, Some, false, length, true};
 ghost use Rattle.sp_rules.specs.Areas.{Area, instr_at};
 ghost use Rattle.sp_rules.specs.Named.{LiesIn};
 ghost use Rattle.sp_rules.specs.Reach.{IsIn};
@@ -9,7 +9,7 @@ ghost use Rattle.sp_rules.specs.Rules.{BreaksV9, free_nexts};
 ghost use Rattle.sp_areas.specs.Alone.{flag_at};
 ghost use Rattle.sp_areas.specs.LeastPlaces.{IsLeast};
 ghost use Rattle.sp_areas.specs.Owners.{AreOwners};
-ghost use Rattle.sp_areas.specs.Rounds.{AreFlagged, AreLed, BreaksAt, Falls, FallsFrom, IsAt, HasGoneOn, Strays};
+ghost use Rattle.sp_areas.specs.Rounds.{AreFlagged, AreLed, BreaksAt, Falls, FallsFrom, HasGoneOn, Strays};
 ghost use Rattle.sp_areas.specs.Rounds.{Widens};
 ghost use Rattle.sp_areas.specs.Rounds.{instrs_before, gaps, with_flag};
 

@@ -2,7 +2,7 @@
 
 ghost use Rattle.std.specs.Prelude.{◌≡◌, Some, length, IfOk};
 ghost use Rattle.sp_areas.specs.Alone.{AreFlags, ChildFails, ChildrenFail, TableFails, child_fails, first_fails};
-ghost use Rattle.sp_areas.specs.Alone.{flag_at, named_in, table_by};
+ghost use Rattle.sp_areas.specs.Alone.{flag_at, table_by};
 ghost use Rattle.sp_areas.specs.LeastPlaces.{IsLeast, Upto};
 
 use crate::flags::{flag_at, mark, no_flags};

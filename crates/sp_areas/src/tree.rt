@@ -1,6 +1,6 @@
 //! A tree of what is around code, in which one finds who is so many levels outward.
 
-ghost use Rattle.std.specs.Prelude.{◌≡◌, ℕ, ◌+◌, ◌<◌, ◌≤◌, ◌∷◌, ◌++◌, List, Some, None, [], IfOk, OnOk, MatchOption};
+ghost use Rattle.std.specs.Prelude.{◌≡◌, ℕ, ◌+◌, ◌<◌, ◌≤◌, ◌∷◌, List, Some, None, IfOk, OnOk, MatchOption};
 ghost use Rattle.std.specs.Prelude.{length, replicate, slice_get};
 ghost use Rattle.sp_code.specs.declared.code.Layout.{Layout};
 ghost use Rattle.sp_code.specs.Memory.{Home};

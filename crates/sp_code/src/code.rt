@@ -1,6 +1,6 @@
 //! Code as data: instructions, the frames of blocks, what forks hand to their children, and texts.
 
-ghost use Rattle.std.specs.Prelude.{◌≡◌, ◌↔◌, All, IsTrue, MatchOption, None, Some, length, slice_get};
+ghost use Rattle.std.specs.Prelude.{◌≡◌, ◌↔◌, All, IsTrue, None, Some, slice_get};
 ghost use Rattle.std.specs.Option.{option_copied};
 ghost use Rattle.sp_code.specs.Sizes.{KeepsSizes, HasNumbers, HasSmallSizes, IsSize};
 ghost use Rattle.sp_code.specs.Tables.{child_at, index_of};

@@ -1,6 +1,6 @@
 //! The listing of code (`listing`), a line for each instruction and each child of a fork table.
 
-ghost use Rattle.std.specs.Prelude.{◌≡◌, ◌++◌, IfOk, OnOk, codes};
+ghost use Rattle.std.specs.Prelude.{◌≡◌, ◌++◌, IfOk, OnOk};
 ghost use Rattle.std.specs.List.{flat_map};
 ghost use Rattle.sp_code.specs.Listing.{number_text, instr_line, child_line, table_lines, numbered_texts, listing_text};
 

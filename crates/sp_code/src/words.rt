@@ -1,7 +1,6 @@
 //! How instructions are printed: the word of each, and the numbers after it.
 
 ghost use Rattle.std.specs.Prelude.{◌≡◌, ◌++◌, OnOk};
-ghost use Rattle.std.specs.Fmt.{signed_decimal};
 ghost use Rattle.sp_code.specs.Listing.{word, operands, operand_text, instr_text};
 ghost use Rattle.sp_code.specs.Operands.{operand_list};
 

@@ -1,7 +1,7 @@
 //! Reading a code file, line by line (`decode`). A line is taken only where the item that was read, written again, is
 //! the line.
 
-ghost use Rattle.std.specs.Prelude.{◌≡◌, ◌++◌, ◌∷◌, [], ◌<◌, ◌↔◌, IsTrue, IfOk, OnOk, length};
+ghost use Rattle.std.specs.Prelude.{◌≡◌, ◌++◌, ◌∷◌, [], ◌<◌, ◌↔◌, IsTrue, IfOk, OnOk};
 ghost use Rattle.sp_codefile.specs.declared.decoding.DecodeError.TheVariants.{Memory as OutOfMemory};
 ghost use Rattle.sp_codefile.specs.CodeText.{IsCode};
 ghost use Rattle.sp_codefile.specs.Decoding.{Decodes};

@@ -1,9 +1,7 @@
 //! Cutting a line into words, and reading numbers. Bytes that no code is written with may give any answer: whoever
 //! reads a line writes it again, and compares.
 
-ghost use Rattle.std.specs.Prelude.{◌≡◌, ◌<◌, ℕ, ℤ, IfOk, decimal, length, drop};
-ghost use Rattle.std.specs.Option.{option_map};
-ghost use Rattle.std.specs.List.{flat_map};
+ghost use Rattle.std.specs.Prelude.{◌≡◌, ◌<◌, ℕ, ℤ, decimal, drop};
 ghost use Rattle.std.specs.Fmt.{signed_decimal};
 ghost use Rattle.sp_codefile.specs.Cuts.{begins, blank_cut, class_cut, word_of};
 ghost use Rattle.sp_codefile.specs.CodeText.{IsNumber, IsInteger};

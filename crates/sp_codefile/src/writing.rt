@@ -5,7 +5,7 @@ ghost use Rattle.std.specs.List.{flat_map};
 ghost use Rattle.std.specs.Fmt.{digit_glyph};
 ghost use Rattle.sp_code.specs.Listing.{number_text, numbered_texts, instr_text, instr_line};
 ghost use Rattle.sp_codefile.specs.CodeText.{parent_text, answer_text, formal_text, layout_text, byte_text, text_text};
-ghost use Rattle.sp_codefile.specs.CodeText.{index_text, child_text, line, child_of, table_text, code_text};
+ghost use Rattle.sp_codefile.specs.CodeText.{index_text, child_text, line, child_of, table_text};
 ghost use Rattle.sp_codefile.specs.CodeText.{IsNumber, MayBeNumber, FormalFits, LayoutFits, ChildFits, TableFits};
 ghost use Rattle.sp_codefile.specs.CodeText.{IsByte, InstrFits, IsTextOf};
 

@@ -1,7 +1,7 @@
 //! The call `conclude`: what a run of code says of the program that the code is of.
 
 ghost use Rattle.std.specs.Prelude.{◌≡◌, ℕ, List};
-ghost use Rattle.sp_tree.specs.Plain.{Program, Stmt};
+ghost use Rattle.sp_tree.specs.Plain.{Stmt};
 ghost use Rattle.sp_meaning.specs.LocalWork.{RunInput};
 ghost use Rattle.sp_execute.specs.Runs.{IsRunOfCode, IsAbout};
 

@@ -1,7 +1,7 @@
 //! The cells of types, and where the fields of a record begin. A count that is no `u32` is answered as want of memory.
 
-ghost use Rattle.std.specs.Prelude.{◌≡◌, ◌+◌, ◌*◌, ◌∷◌, ℕ, List, [], map, sum, slice_get, IfOk};
-ghost use Rattle.sp_tree.specs.Cells.{count, fields_size, first_or, size_by, sizes};
+ghost use Rattle.std.specs.Prelude.{◌≡◌, ◌+◌, ◌*◌, List, map, sum, IfOk};
+ghost use Rattle.sp_tree.specs.Cells.{count, fields_size, size_by, sizes};
 ghost use Rattle.sp_generate.specs.Tabled.{offsets_from, offsets_by};
 
 use crate::numbers::sum;

@@ -1,6 +1,6 @@
 //! Code as far as it is written, and how a part of it is mended.
 
-ghost use Rattle.std.specs.Prelude.{◌≡◌, ◌++◌, ◌∷◌, length, OnOk, List};
+ghost use Rattle.std.specs.Prelude.{◌≡◌, ◌++◌, ◌∷◌, length, List};
 ghost use Rattle.sp_code.specs.declared.instr.Instr.{Instr as AnInstr};
 ghost use Rattle.sp_code.specs.declared.code.ForkTable.{ForkTable as ATable};
 

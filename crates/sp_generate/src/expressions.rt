@@ -1,6 +1,6 @@
 //! The code of expressions: each function puts the code of a part behind what stands there.
 
-ghost use Rattle.std.specs.Prelude.{◌≡◌, ◌++◌, ◌∷◌, [], map, option_map, IfOk, OnOk};
+ghost use Rattle.std.specs.Prelude.{◌≡◌, ◌++◌, ◌∷◌, [], map, IfOk, OnOk};
 ghost use Rattle.sp_tree.specs.CheckedOf.{expression_of, expression_form_of, variable_of, selectors, selector_of};
 ghost use Rattle.sp_tree.specs.CheckedOf.{actuals, actual_of, expressions, width_of};
 ghost use Rattle.sp_tree.specs.PlainChecked as c;

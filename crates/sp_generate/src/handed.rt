@@ -1,9 +1,7 @@
 //! What the processes of a fork are handed.
 
-ghost use Rattle.std.specs.Prelude.{◌≡◌, ◌++◌, ◌∷◌, [], length, if◌then◌else◌, Some, IfOk, OnOk};
+ghost use Rattle.std.specs.Prelude.{◌≡◌, Some, IfOk};
 ghost use Rattle.sp_code.specs.Emitted.{but_index};
-ghost use Rattle.sp_varsets.specs.AreSets.{targets_of, expressions_of};
-ghost use Rattle.sp_varsets.specs.Members.{has};
 ghost use Rattle.sp_generate.specs.Handings.{members, is_shared, moved_of, shared_of};
 
 use crate::numbers::sum;

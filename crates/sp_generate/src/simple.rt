@@ -5,7 +5,7 @@ ghost use Rattle.sp_tree.specs.CheckedOf.{expression_of, expression_form_of, var
 ghost use Rattle.sp_tree.specs.Bare.{bare_expression, bare_form, bare_variable, bare_width};
 ghost use Rattle.sp_code.specs.declared.instr.Instr.TheVariants as i;
 ghost use Rattle.sp_code.specs.Scopes.{Many, kind_at, kind_of, type_of, is_given};
-ghost use Rattle.sp_code.specs.Emitted.{value_code, form_code, var_code, width_code, right_code, write_instr};
+ghost use Rattle.sp_code.specs.Emitted.{value_code, var_code, width_code, right_code, write_instr};
 ghost use Rattle.sp_code.specs.Emitted.{reading_instr};
 ghost use Rattle.sp_generate.specs.Views.{plain_program, scopes};
 ghost use Rattle.sp_generate.specs.Written.{assign_code, right_side, sends_code, receives_code};

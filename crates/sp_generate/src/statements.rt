@@ -1,8 +1,8 @@
 //! The code of statements: each function writes a part behind what is written.
 
-ghost use Rattle.std.specs.Prelude.{◌≡◌, ◌+◌, ◌++◌, ◌∷◌, [], map, option_map, length, IfOk, OnOk};
+ghost use Rattle.std.specs.Prelude.{◌≡◌, ◌+◌, ◌∷◌, [], map, length, IfOk, OnOk};
 ghost use Rattle.sp_tree.specs.CheckedOf.{expression_of, variable_of, width_of, statement_of, statement_form_of};
-ghost use Rattle.sp_tree.specs.CheckedOf.{statements, sends, receives, arms, arm_of, else_part};
+ghost use Rattle.sp_tree.specs.CheckedOf.{statements, sends, receives, arms, arm_of};
 ghost use Rattle.sp_tree.specs.PlainChecked as c;
 ghost use Rattle.sp_tree.specs.Bare.{bare_arms, bare_expression, bare_statement};
 ghost use Rattle.sp_code.specs.Emitted.{value_code};

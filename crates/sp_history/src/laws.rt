@@ -1,7 +1,7 @@
 //! What follows from the definitions of legal histories of the kernel, for every code, input and limits. These
 //! functions do nothing: each one's contract is a law, and whoever rests on the law cites it.
 
-ghost use Rattle.std.specs.Prelude.{◌≡◌, ◌≢◌, ◌<◌, ℕ, List, [], ◌++◌, None, Some, slice_get};
+ghost use Rattle.std.specs.Prelude.{◌≡◌, ◌≢◌, ℕ, List, [], ◌++◌, None, Some, slice_get};
 ghost use Rattle.sp_cell.specs.Map.{Plain};
 ghost use Rattle.sp_journal.specs.declared.entry.Note.{Note};
 ghost use Rattle.sp_journal.specs.declared.entry.Birth.{Birth};
@@ -13,7 +13,7 @@ ghost use Rattle.sp_code.specs.Turns.{Stopped, IsTurn};
 ghost use Rattle.sp_code.specs.Sound.{AreLimits, IsSafeSystem};
 ghost use Rattle.sp_code.specs.Memory.{CodeRun, Memory, memory};
 ghost use Rattle.sp_code.specs.PlainStore.{plain};
-ghost use Rattle.sp_code.specs.Control.{Out, Joining, Gone, control, control_at_start, after_notes, entries_of};
+ghost use Rattle.sp_code.specs.Control.{Out, Joining, Gone, control, control_at_start, entries_of};
 ghost use Rattle.sp_code.specs.System.{System, Working, IsSystem, IsLegal, opening_system};
 ghost use Rattle.sp_history.specs.Agreement.{IsOrderly, AgreesWithSystem, Reaches, NoneBy, HasOuts, IsOver, Running};
 ghost use Rattle.sp_history.specs.Agreement.{phase_in};

@@ -2,7 +2,6 @@
 
 ghost use Rattle.std.specs.Prelude.{◌≡◌};
 ghost use Rattle.sp_varsets.specs.Members.{has};
-ghost use Rattle.sp_varsets.specs.AreSets.{targets_of};
 ghost use Rattle.sp_interfere.specs.Tests.{some_in, is_any, is_declared, meets, clash, has_implicit, has_declared};
 
 use sp_varsets::{Sets, VarSet};

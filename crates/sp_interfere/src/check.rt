@@ -1,11 +1,11 @@
 //! The phase of interference as one call: all blocks of a program, and the rules at the headings of functions.
 
-ghost use Rattle.std.specs.Prelude.{◌≡◌, ◌∷◌, [], ◌≤◌, ◌^◌, None, map, length, slice_get, Ok};
-ghost use Rattle.std.specs.Option.{option_copied, option_map};
+ghost use Rattle.std.specs.Prelude.{◌≡◌, ◌∷◌, [], ◌≤◌, ◌^◌, None, length, Ok};
+ghost use Rattle.std.specs.Option.{option_copied};
 ghost use Rattle.sp_tree.specs.CheckedOf.{block_of, program_of};
 ghost use Rattle.sp_tree.specs.PhaseResults.{phase_result};
-ghost use Rattle.sp_varsets.specs.AreSets.{AreSets, HaveEarlierParents, implicit_targets_of};
-ghost use Rattle.sp_interfere.specs.Tests.{some_in, is_any};
+ghost use Rattle.sp_varsets.specs.AreSets.{AreSets, HaveEarlierParents};
+ghost use Rattle.sp_interfere.specs.Tests.{is_any};
 ghost use Rattle.sp_interfere.specs.Rules.{is_reference, is_function, formal_rule, formals_first, heading_first};
 ghost use Rattle.sp_interfere.specs.Rules.{blocks_first, rules_first};
 ghost use Rattle.sp_interfere.specs.Verdict.{IsVerdict};

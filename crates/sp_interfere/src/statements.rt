@@ -3,7 +3,6 @@
 ghost use Rattle.std.specs.Prelude.{◌≡◌, map, option_map};
 ghost use Rattle.sp_tree.specs.CheckedOf.{expression_of, variable_of, width_of, statement_of, statement_form_of};
 ghost use Rattle.sp_tree.specs.CheckedOf.{statements, arms, arm_of, else_part, sends, receives, program_of};
-ghost use Rattle.sp_tree.specs.Sites.{StopsAt};
 ghost use Rattle.sp_interfere.specs.Rules.{site_first};
 ghost use Rattle.sp_interfere.specs.Walk.{statement_first, statement_form_first, statements_first, arms_first};
 ghost use Rattle.sp_interfere.specs.Walk.{other_first, width_first, each_first, expression_first, variable_first};

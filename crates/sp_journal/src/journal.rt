@@ -1,6 +1,6 @@
 //! A journal as it grows, and the births and names that it gives.
 
-ghost use Rattle.std.specs.Prelude.{◌≡◌, ◌++◌, ◌∷◌, [], ◌<◌, ◌≤◌, ◌^◌, ◌⊎◌, ◌↔◌, ℕ, IsNone, IfOk, OnOk, OnErr, length};
+ghost use Rattle.std.specs.Prelude.{◌≡◌, ◌++◌, ◌∷◌, [], ◌<◌, ◌≤◌, ◌^◌, ◌⊎◌, ◌↔◌, ℕ, IsNone, IfOk, OnOk, OnErr};
 ghost use Rattle.sp_journal.specs.Births.{births, IsNameable};
 ghost use Rattle.sp_journal.specs.Names.{proc_name};
 

@@ -1,7 +1,7 @@
 //! The text of a journal, and of one entry of a ledger.
 
-ghost use Rattle.std.specs.Prelude.{◌≡◌, ◌++◌, ◌<◌, IfOk, OnErr, OnOk, codes, decimal, length, take};
-ghost use Rattle.sp_journal.specs.Births.{births, CanFollow, GivesNumbers, IsNameable};
+ghost use Rattle.std.specs.Prelude.{◌≡◌, ◌++◌, ◌<◌, IfOk, OnErr, OnOk, length, take};
+ghost use Rattle.sp_journal.specs.Births.{births, CanFollow, IsNameable};
 ghost use Rattle.sp_journal.specs.Texts.{entry_text, event_text, offer_text, way_text, journal_text};
 ghost use Rattle.sp_journal.specs.Ledger.{IsLedger};
 ghost use Rattle.sp_journal.specs.declared.version.Version.TheVariants as version;

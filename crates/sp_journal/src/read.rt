@@ -1,6 +1,6 @@
 //! Reading a journal's text: the journal, or the first bad line.
 
-ghost use Rattle.std.specs.Prelude.{◌≡◌, ◌++◌};
+ghost use Rattle.std.specs.Prelude.{◌≡◌};
 ghost use Rattle.sp_journal.specs.Reading.{ReadsJournal, ReadsAlone, IsVersionOf};
 ghost use Rattle.sp_journal.specs.declared.read.ReadError.TheVariants.{Memory as OutOfMemory};
 

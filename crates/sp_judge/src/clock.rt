@@ -1,6 +1,6 @@
 //! What a process knows of the others, as a count for each process that it knows of.
 
-ghost use Rattle.std.specs.Prelude.{◌≡◌, ◌<◌, ◌↔◌, ◌==◌, cond, max, nat_lt, ℕ, IsTrue, IfOk, OnErr, OnOk};
+ghost use Rattle.std.specs.Prelude.{◌≡◌, ◌<◌, ◌↔◌, ◌==◌, cond, max, nat_lt, ℕ, IsTrue, OnErr, OnOk};
 ghost use Rattle.sp_judge.specs.Clocks.{count_of, clock_with_raised, number_at, HasPair, IsAsked};
 
 use sp_base::Memory;

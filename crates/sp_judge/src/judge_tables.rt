@@ -1,16 +1,12 @@
 //! The judge's tables, and what each entry does to them. They have a clock and a count of counted entries for each
 //! process, a line for each channel (the offer that waits, the last offer of each way), and a place for each entry.
 
-ghost use Rattle.std.specs.Prelude.{◌≡◌, ◌<◌, ◌≤◌, ◌+◌, ◌++◌, ◌∷◌, ◌↔◌, ℕ, [], Some, IsTrue, OnOk, IfOk, MatchOption};
+ghost use Rattle.std.specs.Prelude.{◌≡◌, ◌<◌, ◌+◌, ◌++◌, ◌∷◌, ◌↔◌, [], Some, IsTrue, OnOk, IfOk};
 ghost use Rattle.std.specs.Prelude.{length, slice_get, slice_set, take};
 ghost use Rattle.sp_journal.specs.Births.{births};
 ghost use Rattle.sp_journal.specs.Ledger.{IsLedger};
-ghost use Rattle.sp_journal.specs.Births.{channel as channel_named};
-ghost use Rattle.sp_journal.specs.Names.{Offered};
-ghost use Rattle.sp_journal.specs.Past.{knowledge_of};
-ghost use Rattle.sp_race.specs.Known.{KnowsOffers, AreKnown};
 ghost use Rattle.sp_judge.specs.Clocks.{number_at};
-ghost use Rattle.sp_judge.specs.JudgeTables.{entries_by_names, last_of, channel_offers_with, offer_event};
+ghost use Rattle.sp_judge.specs.JudgeTables.{last_of, channel_offers_with, offer_event};
 ghost use Rattle.sp_judge.specs.JudgeTables.{IsNameableAndSilent, IsPlain, IsBlank, TablesHold};
 
 use crate::clock::Clock;

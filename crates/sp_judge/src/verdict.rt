@@ -1,12 +1,10 @@
 //! The verdict on a run, by its journal and its end.
 
 ghost use Rattle.std.specs.Prelude.{◌≡◌, ◌<◌, ◌↔◌, Some, IsTrue, IfOk, length, slice_get, take};
-ghost use Rattle.sp_journal.specs.Births.{births, occurrences, IsNameable, channel as channel_named};
+ghost use Rattle.sp_journal.specs.Births.{births, occurrences, IsNameable};
 ghost use Rattle.sp_journal.specs.Ledger.{IsLedger};
-ghost use Rattle.sp_journal.specs.Names.{Offered};
-ghost use Rattle.sp_journal.specs.Past.{knowledge_of};
 ghost use Rattle.sp_judge.specs.Prefixes.{WaitersAreSilent};
-ghost use Rattle.sp_race.specs.Known.{KnowsOffers, AreKnown};
+ghost use Rattle.sp_race.specs.Known.{AreKnown};
 ghost use Rattle.sp_judge.specs.JudgeTables.{entries_by_names, offer_event, IsNameableAndSilent, TablesHold, IsRacing};
 ghost use Rattle.sp_judge.specs.Races.{IsFault, IsJudged, IsVerdict};
 

@@ -1,6 +1,6 @@
 //! The event of an offer to receive: it waits, it meets an offer to send, or it is a fault.
 
-ghost use Rattle.std.specs.Prelude.{◌≡◌, ◌+◌, ◌<◌, false, Some, None, length, slice_get, slice_index_or, slice_set};
+ghost use Rattle.std.specs.Prelude.{◌≡◌, ◌+◌, ◌<◌, false, Some, None, length, slice_get, slice_index_or};
 ghost use Rattle.std.specs.Prelude.{OnOk, OnErr, IfErr};
 ghost use Rattle.sp_journal.specs.declared.entry.Way.TheVariants as way;
 ghost use Rattle.sp_kernel.specs.declared.slot.Slot.TheVariants as slot;

@@ -1,6 +1,6 @@
 //! The lengths of expressions. Each function adds a part's length to what is given.
 
-ghost use Rattle.std.specs.Prelude.{◌≡◌, ◌+◌, map, option_map};
+ghost use Rattle.std.specs.Prelude.{◌≡◌, ◌+◌};
 ghost use Rattle.sp_tree.specs.PlainOf.{expr_of, form_of, var_of, selector_of, actuals_of, actual_of, width_of};
 ghost use Rattle.sp_tree.specs.PlainOf.{standard_of, selectors_of};
 ghost use Rattle.sp_tree.specs.Plain.{Pass, Nothing, Select, Whole};

@@ -1,6 +1,6 @@
 //! The length of a whole tree.
 
-ghost use Rattle.std.specs.Prelude.{◌≡◌, map};
+ghost use Rattle.std.specs.Prelude.{◌≡◌};
 ghost use Rattle.sp_tree.specs.PlainOf.{program_of};
 ghost use Rattle.sp_code.specs.Lengths.{tree_length};
 ghost use Rattle.sp_length.specs.CappedLength.{capped_length};

@@ -1,9 +1,9 @@
 //! The lengths of statements. Each function adds a part's length to what is given.
 
-ghost use Rattle.std.specs.Prelude.{◌≡◌, ◌+◌, ◌∷◌, [], length, map, option_map, slice_get};
+ghost use Rattle.std.specs.Prelude.{◌≡◌, ◌+◌, length, map, option_map, slice_get};
 ghost use Rattle.sp_tree.specs.PlainOf.{expr_of, form_of, var_of, stmt_of, sends, receives, arms_of, program_of};
 ghost use Rattle.sp_tree.specs.PlainOf.{stmt_form_of, stmts_of};
-ghost use Rattle.sp_tree.specs.Plain.{Send, Receive, And, No, Or, NoArm, Case, Parallel, Sequence};
+ghost use Rattle.sp_tree.specs.Plain.{Send, Receive, Case, Parallel, Sequence};
 ghost use Rattle.sp_code.specs.Scopes.{sort_by, Many};
 ghost use Rattle.sp_code.specs.Lengths.{right_length, stmt_length, all_length, children_length, arms_length};
 ghost use Rattle.sp_code.specs.Lengths.{tests_length};

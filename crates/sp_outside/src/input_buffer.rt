@@ -1,6 +1,6 @@
 //! Bytes that are given out from the first to the last.
 
-ghost use Rattle.std.specs.Prelude.{◌≡◌, ◌≤◌, ◌++◌, Some, take, drop, length, min, vec_len};
+ghost use Rattle.std.specs.Prelude.{◌≡◌, ◌≤◌, ◌++◌, take, drop, length, min, vec_len};
 
 /// The bytes, and how many of them were given.
 #[derive(Debug, Drop)]

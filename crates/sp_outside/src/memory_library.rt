@@ -1,7 +1,7 @@
 //! Libraries in memory: one whose calls may be made to fail, and one whose calls never fail.
 
 ghost use Rattle.std.specs.Prelude.{◌≡◌, ◌≢◌, ◌↔◌, ◌||◌, ℕ, List, [], Some, None, is_none, ◌<◌, ◌≤◌, length, IfOk};
-ghost use Rattle.std.specs.Prelude.{IfSome, IsTrue, vec_len, unwrap_or, drop};
+ghost use Rattle.std.specs.Prelude.{IfSome, IsTrue, vec_len, unwrap_or};
 ghost use Rattle.std.specs.Option.{option_copied};
 ghost use Rattle.sp_outside.specs.Counts.{Rose};
 ghost use Rattle.sp_outside.specs.Plans.{fails_next, plan_after_call, first_plan};

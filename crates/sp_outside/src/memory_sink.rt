@@ -1,6 +1,6 @@
 //! Sinks in memory: one whose calls may be made to fail, and one whose calls never fail.
 
-ghost use Rattle.std.specs.Prelude.{◌≡◌, ◌↔◌, ◌<◌, ◌≤◌, ◌++◌, Ok, min, take, length, IfOk, OnErr, IsErr, IsTrue};
+ghost use Rattle.std.specs.Prelude.{◌≡◌, ◌↔◌, ◌<◌, ◌≤◌, Ok, min, take, length, IfOk, OnErr, IsErr, IsTrue};
 ghost use Rattle.std.specs.Prelude.{vec_len};
 ghost use Rattle.sp_outside.specs.Counts.{Rose};
 ghost use Rattle.sp_outside.specs.Visible.{Grows};

@@ -1,6 +1,6 @@
 //! Where bytes go: the trait `Sink`, and putting all bytes of a text.
 
-ghost use Rattle.std.specs.Prelude.{◌≡◌, ℕ, List, Option, ◌<◌, ◌≤◌, ◌++◌, take, length, IfOk, OnErr, OnOk};
+ghost use Rattle.std.specs.Prelude.{◌≡◌, ℕ, List, Option, ◌<◌, ◌≤◌, take, length, IfOk, OnErr, OnOk};
 ghost use Rattle.sp_outside.specs.Counts.{Rose};
 ghost use Rattle.sp_outside.specs.Visible.{Grows};
 

@@ -1,6 +1,6 @@
 //! The text whose tokens are read, and its tokens one by one.
 
-ghost use Rattle.std.specs.Prelude.{◌≡◌, [], ◌∷◌};
+ghost use Rattle.std.specs.Prelude.{◌≡◌, []};
 ghost use Rattle.sp_base.specs.declared.halt.Halt.TheVariants.{Refused};
 ghost use Rattle.sp_base.specs.declared.rule.Rule.TheVariants.{G1};
 ghost use Rattle.sp_parse.specs.Reads.{HasTokens, CutsToken, PassesToken, Expects};

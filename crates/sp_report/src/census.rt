@@ -1,8 +1,7 @@
 //! The watcher `Census`: how many entries of each kind a journal has.
 
-ghost use Rattle.std.specs.Prelude.{◌≡◌, ◌++◌, ◌∷◌, [], IfOk, OnErr, OnOk, codes};
-ghost use Rattle.std.specs.List.{flat_map};
-ghost use Rattle.sp_report.specs.Census.{census_text, count_line, count_of, is_counted, kind_name, kinds};
+ghost use Rattle.std.specs.Prelude.{◌≡◌, ◌++◌, [], IfOk, OnOk, codes};
+ghost use Rattle.sp_report.specs.Census.{census_text, count_line, count_of, is_counted, kind_name};
 
 use crate::watcher::Watcher;
 use sp_base::{List, Memory, put_decimal};

@@ -1,6 +1,6 @@
 //! What each process of a journal does after its entries, followed entry by entry for `Waiting`.
 
-ghost use Rattle.std.specs.Prelude.{◌≡◌, ◌∷◌, [], IfOk, OnOk};
+ghost use Rattle.std.specs.Prelude.{◌≡◌, IfOk, OnOk};
 ghost use Rattle.sp_journal.specs.Births.{CanFollow, births};
 ghost use Rattle.sp_journal.specs.Ledger.{IsLedger};
 ghost use Rattle.sp_report.specs.Conditions.{conditions_after, with_condition, conditions_after_event};

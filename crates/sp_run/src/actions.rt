@@ -1,6 +1,6 @@
 //! What a step of a process does, to itself and to others.
 
-ghost use Rattle.std.specs.Prelude.{◌≡◌, ◌+◌, ◌++◌, IfOk, map, drop, length, nat_lt, replicate};
+ghost use Rattle.std.specs.Prelude.{◌≡◌, ◌+◌, ◌++◌, IfOk, drop, length, nat_lt, replicate};
 ghost use Rattle.std.specs.Option.{option_copied, option_map};
 ghost use Rattle.sp_tree.specs.PlainOf.{stmt_of, arms_of};
 ghost use Rattle.sp_meaning.specs.Actions.{is_before, goes_on, has_constant, arm_for};

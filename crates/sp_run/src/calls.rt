@@ -1,18 +1,17 @@
 //! Calls of procedures and functions: their frames.
 
-ghost use Rattle.std.specs.Prelude.{◌≡◌, ◌∷◌, drop, IfOk, OnOk, map, length, Option, Some, None};
+ghost use Rattle.std.specs.Prelude.{◌≡◌, ◌∷◌, drop, IfOk, OnOk, map, Some, None};
 ghost use Rattle.sp_tree.specs.PlainOf.{block_of};
 ghost use Rattle.sp_tree.specs.Bare.{variable_of};
 ghost use Rattle.sp_tree.specs.Cells.{variables_of};
-ghost use Rattle.sp_meaning.specs.LocalWork.{is_block};
-ghost use Rattle.sp_meaning.specs.Actions.{first_value_by, references, pushed_frame, without_frame, cells_of_home};
+ghost use Rattle.sp_meaning.specs.Actions.{references, cells_of_home};
 ghost use Rattle.sp_meaning.specs.Values.{initials};
-ghost use Rattle.sp_run.specs.Machines.{run_input_of, plain_references, plain_local_state, plain_home, plain_identity};
-ghost use Rattle.sp_run.specs.Implements.{Implements, as_plain, pointee};
+ghost use Rattle.sp_run.specs.Machines.{run_input_of, plain_references, plain_home};
+ghost use Rattle.sp_run.specs.Implements.{Implements, as_plain};
 ghost use Rattle.sp_run.specs.ImplementsNext.{ImplementsNext};
 ghost use Rattle.sp_run.specs.ActionViews.{plain_arguments, block_in};
 ghost use Rattle.sp_run.specs.Views.{plain_value};
-ghost use Rattle.sp_run.specs.Direct.{tick, deepen, widen, link_to, or_ill_formed};
+ghost use Rattle.sp_run.specs.Direct.{tick, deepen, widen};
 ghost use Rattle.sp_run.specs.DirectEval.{read_at};
 ghost use Rattle.std.specs.Option.{option_copied, option_map};
 ghost use Rattle.sp_run.specs.Calling.{laid, callee_frame};

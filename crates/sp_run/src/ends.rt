@@ -1,8 +1,8 @@
 //! How a run ends, read off its state.
 
-ghost use Rattle.std.specs.Prelude.{◌≡◌, ◌++◌, ℕ, IfOk, OnOk, reverse, map, []};
+ghost use Rattle.std.specs.Prelude.{◌≡◌, ◌++◌, IfOk, OnOk, reverse, map, []};
 ghost use Rattle.sp_journal.specs.Names.{pairs_of, proc_name, chan_name};
-ghost use Rattle.sp_meaning.specs.Ends.{name_before, pairs_before, waiter_of, EndsSo, IsDone, Waiting};
+ghost use Rattle.sp_meaning.specs.Ends.{name_before, pairs_before, waiter_of, EndsSo};
 ghost use Rattle.sp_meaning.specs.Steps.{has_ended, way_of};
 ghost use Rattle.sp_run.specs.Machines.{run_input_of};
 ghost use Rattle.sp_run.specs.Views.{plain_channel};

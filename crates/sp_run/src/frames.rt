@@ -1,14 +1,14 @@
 //! Frames: which one is visible, and where a variable stands.
 
-ghost use Rattle.std.specs.Prelude.{◌≡◌, IfOk, map, length};
+ghost use Rattle.std.specs.Prelude.{◌≡◌};
 ghost use Rattle.std.specs.Option.{option_copied};
-ghost use Rattle.sp_meaning.specs.LocalWork.{seek, reference_target, is_block, is_index};
+ghost use Rattle.sp_meaning.specs.LocalWork.{seek, reference_target};
 ghost use Rattle.sp_run.specs.Machines.{address_in, run_input_of, plain_frames, plain_references, plain_home};
 ghost use Rattle.sp_run.specs.Implements.{Implements, as_plain};
 ghost use Rattle.sp_run.specs.ImplementsNext.{ImplementsNext};
 ghost use Rattle.sp_run.specs.Places.{plain_place, is_home_wanted};
 ghost use Rattle.sp_run.specs.Views.{plain_address};
-ghost use Rattle.sp_run.specs.Direct.{visible_frame, link_to};
+ghost use Rattle.sp_run.specs.Direct.{link_to};
 ghost use Rattle.sp_run.specs.DirectEval.{place_by, place_of, address_of};
 ghost use Rattle.sp_tree.specs.Bare.{variable_of};
 ghost use Rattle.sp_run.specs.Framing.{in_visible, referred_in, index_of};

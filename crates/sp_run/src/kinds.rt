@@ -1,7 +1,7 @@
 //! Types: their cells and their first values, and the variables of blocks.
 
 ghost use Rattle.std.specs.Prelude.{◌≡◌, ℕ, ◌+◌, ◌*◌, ◌+ℤ◌, ◌-ℤ◌, pos, IfOk, map, replicate, slice_get};
-ghost use Rattle.sp_tree.specs.Cells.{count, first_or, table, sizes, size_by, variables_of, cells_by, cells_of_frame};
+ghost use Rattle.sp_tree.specs.Cells.{count, first_or, sizes, size_by, variables_of, cells_by, cells_of_frame};
 ghost use Rattle.sp_run.specs.Cells.{cells_in};
 ghost use Rattle.sp_tree.specs.PlainOf.{program_of};
 ghost use Rattle.sp_tree.specs.Bare.{variable_of};

@@ -1,6 +1,6 @@
 //! The longest lawful front of a schedule: its length, its output and its end.
 
-ghost use Rattle.std.specs.Prelude.{◌≡◌, ℕ, IfOk, map};
+ghost use Rattle.std.specs.Prelude.{◌≡◌, IfOk};
 ghost use Rattle.sp_tree.specs.PlainOf.{program_of};
 ghost use Rattle.sp_meaning.specs.SuperPascal.{weight_of};
 ghost use Rattle.sp_meaning.specs.Fronts.{longest_from};

@@ -1,10 +1,9 @@
 //! The state of a run: what each process is doing, the store, the offers that are pending, totals and a fault. Each
 //! part is a log of what happened.
 
-ghost use Rattle.std.specs.Prelude.{◌≡◌, ◌∷◌, [], List, IfOk, OnOk, Option, Some, None, length};
+ghost use Rattle.std.specs.Prelude.{◌≡◌, ◌∷◌, [], List, IfOk, OnOk, Some, None};
 ghost use Rattle.std.specs.Option.{option_copied, option_map};
 ghost use Rattle.sp_meaning.specs.Model.{Becomes, Forked, WritesLocation, Pends as PendsIn, AddsTotals, Faults};
-ghost use Rattle.sp_meaning.specs.Model.{with_change};
 ghost use Rattle.sp_meaning.specs.Steps.{has_ended, all_ended, is_limit_passed, limit_fault};
 ghost use Rattle.sp_meaning.specs.SuperPascal.{main_items, root};
 ghost use Rattle.sp_meaning.specs.Actions.{size_of_frame};

@@ -1,13 +1,12 @@
 //! One step of one process in a state. A step that cannot be made changes nothing, and a faulting step keeps neither
 //! its writes nor its output.
 
-ghost use Rattle.std.specs.Prelude.{◌≡◌, ◌+◌, ◌+ℤ◌, ◌∷◌, [], IfOk, OnOk, Option, Some, None, length, map, pos};
-ghost use Rattle.std.specs.Prelude.{replicate};
+ghost use Rattle.std.specs.Prelude.{◌≡◌, ◌+◌, ◌+ℤ◌, ◌∷◌, [], IfOk, OnOk, Some, None, length, pos};
 ghost use Rattle.sp_tree.specs.PlainOf.{stmt_of, program_of, stmts_of};
-ghost use Rattle.sp_meaning.specs.Model.{WritesLocation, Pends as PendsIn, AddsTotals, Faults, Becomes, Works, Forks};
+ghost use Rattle.sp_meaning.specs.Model.{WritesLocation, Pends as PendsIn, AddsTotals, Becomes, Works, Forks};
 ghost use Rattle.sp_meaning.specs.Model.{Offering};
 ghost use Rattle.sp_meaning.specs.Model.{with_change};
-ghost use Rattle.sp_meaning.specs.Steps.{message, meeting_changes, waiting_changes, handover_outcome, meeting_outcome};
+ghost use Rattle.sp_meaning.specs.Steps.{message, waiting_changes, handover_outcome, meeting_outcome};
 ghost use Rattle.sp_meaning.specs.Steps.{birth_changes as births_in, act_outcome, result_of};
 ghost use Rattle.sp_meaning.specs.Steps.{step_outcome};
 ghost use Rattle.sp_meaning.specs.LocalWork.{Identity as WhoIn, LocalState as OwnIn, Tree, content_with};

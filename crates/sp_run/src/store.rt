@@ -1,10 +1,9 @@
 //! The store: what stands at a location, and what is written there.
 
-ghost use Rattle.std.specs.Prelude.{◌≡◌, IfOk, OnOk, map};
-ghost use Rattle.sp_meaning.specs.Values.{initials};
+ghost use Rattle.std.specs.Prelude.{◌≡◌, IfOk};
 ghost use Rattle.sp_meaning.specs.SuperPascal.{first_store};
 ghost use Rattle.sp_meaning.specs.LocalWork.{value_in, content_with, Tree};
-ghost use Rattle.sp_run.specs.Machines.{run_input_of, plain_content, store_of, plain_local_state};
+ghost use Rattle.sp_run.specs.Machines.{run_input_of, plain_content, store_of};
 ghost use Rattle.sp_run.specs.Implements.{Implements, as_plain};
 ghost use Rattle.sp_run.specs.Views.{plain_value, plain_loc, plain_address};
 ghost use Rattle.sp_run.specs.Direct.{read_location, write_location, fetch, assign};

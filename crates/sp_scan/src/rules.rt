@@ -1,6 +1,6 @@
 //! The rules of characters at one place: what stands first there, or the first rule that is broken.
 
-ghost use Rattle.std.specs.Prelude.{◌≡◌, ◌≢◌, ◌<◌, ◌↔◌, ◌∷◌, IsTrue, true, false, map};
+ghost use Rattle.std.specs.Prelude.{◌≡◌, ◌<◌, ◌↔◌, ◌∷◌, IsTrue, true, false, map};
 ghost use Rattle.sp_tree.specs.declared.token.Kind.TheVariants.{Number, Name};
 ghost use Rattle.sp_tree.specs.Characters.{lower_case_letter, is_blank as is_a_blank};
 ghost use Rattle.sp_tree.specs.Spelling.{digits_value};

@@ -3,7 +3,7 @@
 ghost use Rattle.std.specs.Prelude.{◌≡◌};
 ghost use Rattle.std.specs.Option.{option_copied};
 ghost use Rattle.sp_tree.specs.Scopes.{find};
-ghost use Rattle.sp_tree.specs.NameRules.{broken_rule, use_rule, declare_rule, AsConstant, AsKind, Declares, Uses};
+ghost use Rattle.sp_tree.specs.NameRules.{broken_rule, use_rule, AsConstant, AsKind, Declares, Uses};
 ghost use Rattle.sp_tree.specs.NameRules.{UsesIn};
 ghost use Rattle.sp_tree.specs.NamedTree.{constant_number, kind_number};
 

@@ -1,6 +1,6 @@
 //! The walk through headings of procedures and functions.
 
-ghost use Rattle.std.specs.Prelude.{◌≡◌, ◌++◌, ◌∷◌, [], map, Ok, OnOk};
+ghost use Rattle.std.specs.Prelude.{◌≡◌, ◌++◌, Ok, OnOk};
 ghost use Rattle.sp_tree.specs.PhaseResults.{Answers, AnswersAs};
 ghost use Rattle.sp_tree.specs.Scopes.{inner_env};
 ghost use Rattle.sp_tree.specs.NameWalk.{references, block_meaning, title_local};

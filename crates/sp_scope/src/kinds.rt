@@ -1,6 +1,6 @@
 //! The walk through definitions of types: their rules, and their forms with numbers for names.
 
-ghost use Rattle.std.specs.Prelude.{◌≡◌, ◌++◌, [], map, Ok, OnOk};
+ghost use Rattle.std.specs.Prelude.{◌≡◌, ◌++◌, [], Ok, OnOk};
 ghost use Rattle.std.specs.Ordering.{nat_cmp};
 ghost use Rattle.std.specs.Cmp.Lexicographic.{slice_cmp};
 ghost use Rattle.std.specs.BTreeSet.{insert_key};

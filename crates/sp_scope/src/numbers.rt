@@ -1,7 +1,7 @@
 //! The next numbers of constants, types, variables and blocks. One that would not fit 32 bits is answered as want of
 //! memory.
 
-ghost use Rattle.std.specs.Prelude.{◌≡◌, ◌+◌, Ok};
+ghost use Rattle.std.specs.Prelude.{◌+◌, Ok};
 ghost use Rattle.sp_tree.specs.PhaseResults.{Answers};
 ghost use Rattle.sp_tree.specs.Scopes.{next_constant, next_kind, next_variable, next_block};
 

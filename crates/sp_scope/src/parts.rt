@@ -1,6 +1,6 @@
 //! The walk through parts that declare constants, types and variables.
 
-ghost use Rattle.std.specs.Prelude.{◌≡◌, ◌++◌, ◌∷◌, [], Ok, OnOk};
+ghost use Rattle.std.specs.Prelude.{◌≡◌, Ok, OnOk};
 ghost use Rattle.sp_tree.specs.PhaseResults.{Answers, AnswersAs};
 ghost use Rattle.sp_tree.specs.Scopes.{inner_env, with_declaration, next_constant};
 ghost use Rattle.sp_tree.specs.declared.meaning.Meaning.TheVariants as meaning;

@@ -1,7 +1,7 @@
 //! The phase of names as one call: a program's heading, its standard declarations, and the tables of all that it
 //! declares.
 
-ghost use Rattle.std.specs.Prelude.{◌≡◌, ◌++◌, ◌∷◌, [], true, false, None, Some, Ok, codes};
+ghost use Rattle.std.specs.Prelude.{◌≡◌, ◌∷◌, [], true, false, None, Some, Ok};
 ghost use Rattle.sp_tree.specs.PhaseResults.{Answers, AnswersAs};
 ghost use Rattle.sp_tree.specs.NamedTree.{standard_constants, standard_kinds, consoles, program_tables, inside_named};
 ghost use Rattle.sp_tree.specs.Scopes.{standard_scope, empty_local};

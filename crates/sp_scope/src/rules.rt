@@ -2,7 +2,6 @@
 
 ghost use Rattle.std.specs.Prelude.{◌≡◌};
 ghost use Rattle.std.specs.Option.{option_copied};
-ghost use Rattle.sp_tree.specs.PhaseResults.{refusal_at, refusal_if};
 ghost use Rattle.sp_tree.specs.NameRules.{function_takes, procedure_takes, function_rule, procedure_rule, operand_rule};
 ghost use Rattle.sp_tree.specs.NameRules.{alone_rule, selects_rule, variable_rule, target_rule, assign_rule, is_local};
 ghost use Rattle.sp_tree.specs.NameRules.{loop_rule, width_rule, bare_rule, needs_variable};

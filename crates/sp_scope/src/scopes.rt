@@ -2,10 +2,10 @@
 //!
 //! The hash of the tables has a fixed seed, so names can be made that collide.
 
-ghost use Rattle.std.specs.Prelude.{◌≡◌, ◌+◌, nat_le, ◌++◌, ◌∷◌, [], map, None, Ok, OnOk};
+ghost use Rattle.std.specs.Prelude.{◌≡◌, nat_le, ◌∷◌, [], map, None, Ok, OnOk};
 ghost use Rattle.std.specs.Option.{option_copied, is_some};
 ghost use Rattle.sp_tree.specs.PhaseResults.{Answers};
-ghost use Rattle.sp_tree.specs.Scopes.{find_in, look, find, or_else, put, count, with_one_more, declaration_limit};
+ghost use Rattle.sp_tree.specs.Scopes.{find_in, look, find, put, count, with_one_more, declaration_limit};
 ghost use Rattle.sp_tree.specs.Scopes.{empty_local, standard_scope, with_declaration};
 ghost use Rattle.sp_tree.specs.Scopes.{local_of_inner, inner_env};
 ghost use Rattle.sp_tree.specs.NameWalk.{blocks_around, answer_local};

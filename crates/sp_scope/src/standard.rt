@@ -1,6 +1,6 @@
 //! The standard names, declared in a block of their own.
 
-ghost use Rattle.std.specs.Prelude.{◌≡◌, [], Ok, OnOk, codes};
+ghost use Rattle.std.specs.Prelude.{◌≡◌, Ok, OnOk};
 ghost use Rattle.sp_tree.specs.PhaseResults.{Answers, AnswersAs};
 ghost use Rattle.sp_tree.specs.Scopes.{put, standard_scope};
 ghost use Rattle.sp_tree.specs.declared.meaning.Meaning.TheVariants as meaning;

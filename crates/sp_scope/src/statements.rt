@@ -1,21 +1,21 @@
 //! The walk through statements, with numbers for names.
 
-ghost use Rattle.std.specs.Prelude.{◌≡◌, map, option_map, None, Ok, OnOk, Some};
+ghost use Rattle.std.specs.Prelude.{◌≡◌, map, None, Ok, OnOk, Some};
 ghost use Rattle.std.specs.Option.{option_copied};
 ghost use Rattle.sp_scope.specs.Walks.{WalksTo};
 ghost use Rattle.sp_tree.specs.Scopes.{find, inner_env, local_of_outer, next_variable};
-ghost use Rattle.sp_tree.specs.NameWalk.{statement_local, form_local, other_local, statements_local, arms_local};
+ghost use Rattle.sp_tree.specs.NameWalk.{statement_local, form_local, statements_local, arms_local};
 ghost use Rattle.sp_tree.specs.NameWalk.{arm_local, branches_local, index_local, local_of_index, blocks_around};
 ghost use Rattle.sp_tree.specs.NamedTree.{named_expression, named_target, named_statement, named_statement_form};
-ghost use Rattle.sp_tree.specs.NamedTree.{named_other, named_statements, named_arms, named_arm, named_branches};
+ghost use Rattle.sp_tree.specs.NamedTree.{named_statements, named_arms, named_arm, named_branches};
 ghost use Rattle.sp_tree.specs.NamedTree.{named_arguments, procedure_named, assigned_number};
 ghost use Rattle.sp_tree.specs.NamedOf as named;
 ghost use Rattle.sp_tree.specs.PlainSyntax.{For, Forall, Repeat};
 ghost use Rattle.sp_tree.specs.PlainNamed as n;
 ghost use Rattle.sp_tree.specs.SyntaxOf.{expression_of, variable_of, arguments_of, statement_of, statement_form_of};
-ghost use Rattle.sp_tree.specs.SyntaxOf.{else_part, statements, statements_of, arms, arm_of, branches, branch_of};
-ghost use Rattle.sp_tree.specs.SyntaxOf.{selectors, selector_of};
-ghost use Rattle.sp_scope.specs.Firsts.{expression_first, selectors_first, assigned_first, call_first, statement_first};
+ghost use Rattle.sp_tree.specs.SyntaxOf.{statements, statements_of, arms, arm_of, branches, branch_of};
+ghost use Rattle.sp_tree.specs.SyntaxOf.{selectors};
+ghost use Rattle.sp_scope.specs.Firsts.{expression_first, assigned_first, call_first, statement_first};
 ghost use Rattle.sp_scope.specs.Firsts.{statement_form_first, statements_first, arms_first, arm_first};
 ghost use Rattle.sp_scope.specs.Firsts.{branches_first, indexed_first, element_first};
 

@@ -1,6 +1,6 @@
 //! Variables in the table and in the innermost block.
 
-ghost use Rattle.std.specs.Prelude.{◌≡◌, ◌++◌, map, Ok, OnOk};
+ghost use Rattle.std.specs.Prelude.{◌≡◌, ◌++◌, Ok, OnOk};
 ghost use Rattle.sp_tree.specs.PhaseResults.{Answers};
 ghost use Rattle.sp_tree.specs.Scopes.{inner_env, with_declaration, variable};
 ghost use Rattle.sp_tree.specs.declared.meaning.Sort.TheVariants as sort;

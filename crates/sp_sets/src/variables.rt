@@ -3,7 +3,7 @@
 ghost use Rattle.std.specs.Prelude.{◌≡◌, ℕ, ◌≤◌, ◌-◌, ◌^◌, ◌++◌, List, length, IfOk, OnOk};
 ghost use Rattle.std.specs.List.{flat_map};
 ghost use Rattle.sp_sets.specs.Orders.{IsInOrder, place_of_variable, variable_cmp};
-ghost use Rattle.sp_sets.specs.SetsText.{IsBoth, IsVariables, members, name_in, name_text};
+ghost use Rattle.sp_sets.specs.SetsText.{IsBoth, IsVariables, members, name_text};
 
 use crate::sets_line::place_cmp;
 use sp_base::{Memory, Place};

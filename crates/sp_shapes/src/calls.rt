@@ -4,7 +4,7 @@ ghost use Rattle.std.specs.Prelude.{◌≡◌, [], length, true, Some};
 ghost use Rattle.sp_areas.specs.Alone.{LayoutFails};
 ghost use Rattle.sp_areas.specs.Blocks.{IsNumbered};
 ghost use Rattle.sp_areas.specs.LeastPlaces.{IsLeast, Upto};
-ghost use Rattle.sp_rules.specs.Rules.{BreaksV5, call_fits, fit_formals, fits_formal, is_by_reference};
+ghost use Rattle.sp_rules.specs.Rules.{BreaksV5, call_fits, fit_formals, fits_formal};
 ghost use Rattle.sp_rules.specs.Rules.{lowest_first, some_reference};
 ghost use Rattle.sp_shapes.specs.Reached.{answers_by_reference, fails_at};
 ghost use Rattle.sp_shapes.specs.Shapes.{AreShapes};

@@ -1,10 +1,9 @@
 //! Lengths of messages: rule V4.
 
-ghost use Rattle.std.specs.Prelude.{◌≡◌, ◌≤◌, IfOk, OnOk, Some, length, true};
+ghost use Rattle.std.specs.Prelude.{◌≡◌, ◌≤◌, IfOk, OnOk, Some, length};
 ghost use Rattle.sp_areas.specs.LeastPlaces.{IsLeast};
 ghost use Rattle.sp_rules.specs.Rules.{BreaksV4};
 ghost use Rattle.sp_shapes.specs.Lengths.{AreLengths, Differs, LacksRoom, PutsLength, PutsGreatest, is_longer};
-ghost use Rattle.sp_shapes.specs.Lengths.{length_of};
 ghost use Rattle.sp_shapes.specs.Lengths.{of_kind, received_at, sent_at};
 ghost use Rattle.sp_rules.specs.Standing.{cells_left, message_cells};
 ghost use Rattle.sp_shapes.specs.Shapes.{AreShapes};

@@ -1,6 +1,6 @@
 //! Following all ways level by level, the shorter ones first.
 
-ghost use Rattle.std.specs.Prelude.{◌≡◌, ℕ, ◌+◌, ◌++◌, ◌<◌, IfOk, OnOk, [], length, slice_get, slice_set, true};
+ghost use Rattle.std.specs.Prelude.{◌≡◌, ◌<◌, IfOk, OnOk, [], length, slice_get, slice_set, true};
 ghost use Rattle.sp_areas.specs.Blocks.{IsNumbered};
 ghost use Rattle.sp_areas.specs.Homes.{AreHomes};
 ghost use Rattle.sp_shapes.specs.Search.{AreCompared, AreStepped, ComparesAll, ComparesOne, IsDoneSearch, IsSane};

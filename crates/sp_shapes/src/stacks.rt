@@ -1,6 +1,6 @@
 //! Lists of shapes, each kept once: equal lists have equal numbers, and a deep one is not copied.
 
-ghost use Rattle.std.specs.Prelude.{◌≡◌, ◌∷◌, [], ◌<◌, IfOk, MatchOption, slice_get, Some, length};
+ghost use Rattle.std.specs.Prelude.{◌≡◌, ◌∷◌, [], ◌<◌, IfOk, MatchOption, Some};
 ghost use Rattle.sp_shapes.specs.Stacks.{Extends, IsListNumber, IsSmall, IsStacks, key_of, list_of, number_at};
 ghost use Rattle.sp_shapes.specs.Stacks.{shape_of};
 

@@ -1,6 +1,6 @@
 //! What a fork makes ready before it changes anything.
 
-ghost use Rattle.std.specs.Prelude.{◌≡◌, ◌+◌, ◌<◌, IfOk, OnOk, length};
+ghost use Rattle.std.specs.Prelude.{◌≡◌, ◌+◌, ◌<◌, IfOk, OnOk};
 ghost use Rattle.std.specs.FinMap as map;
 ghost use Rattle.sp_cell.specs.Map.{Shared, IsPiece, cells_at};
 ghost use Rattle.sp_cell.specs.Fork.{with_shared, with_away, IsLentAt};

@@ -1,7 +1,6 @@
 //! The moving of entries from one store to another.
 
-ghost use Rattle.std.specs.Prelude.{◌≡◌, ◌<◌, IsSome, length, slice_index_or, ℕ};
-ghost use Rattle.std.specs.FinMap as map;
+ghost use Rattle.std.specs.Prelude.{◌≡◌};
 ghost use Rattle.sp_cell.specs.Fork.{with_contents, with_away};
 ghost use Rattle.sp_cell.specs.Spots.{DistinctByIndex};
 ghost use Rattle.sp_store.specs.Layout.{AllKnown};

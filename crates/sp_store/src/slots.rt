@@ -1,7 +1,7 @@
 //! The map of a store in memory: entries by their spots, in the order of the spots.
 
 ghost use Rattle.std.specs.Prelude.{◌≡◌, ◌<◌, ◌++◌, IsSome, IfSome, Some, None, IfOk, IfErr, OnOk, OnErr, MatchOption};
-ghost use Rattle.std.specs.Prelude.{length, ℕ, ◌-◌, ◌≤◌, ◌==◌, ◌≢◌, if◌then◌else◌, take, drop, vec_len, slice_index_or};
+ghost use Rattle.std.specs.Prelude.{length, ℕ, ◌-◌, ◌≤◌, ◌==◌, ◌≢◌, take, drop, vec_len, slice_index_or};
 ghost use Rattle.std.specs.Prelude.{vec_capacity, IsTrue};
 ghost use Rattle.std.specs.Borrow.{sem};
 ghost use Rattle.std.specs.FinMap as map;

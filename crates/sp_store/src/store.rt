@@ -1,7 +1,7 @@
 //! The variables of one process, and its calls.
 
 ghost use Rattle.std.specs.Prelude.{◌≡◌, ◌≢◌, ◌+◌, ◌<◌, ◌≤◌, IfOk, IsSome, Some, None, MatchOption, OnOk, OnErr, IsOk};
-ghost use Rattle.std.specs.Prelude.{length, List, [], ◌∷◌, slice_index_or};
+ghost use Rattle.std.specs.Prelude.{length, List, [], slice_index_or};
 ghost use Rattle.std.specs.FinMap as map;
 ghost use Rattle.sp_cell.specs.declared.cell.Cell.TheVariants.{Undefined};
 ghost use Rattle.sp_cell.specs.Fork.{children_of, map_after_fork, with_away, map_after_join, with_shared, moved_of};

@@ -1,6 +1,5 @@
 //! Expressions at the places of statements, each with the rule of its place.
 
-ghost use Rattle.std.specs.Prelude.{◌≡◌};
 ghost use Rattle.sp_tree.specs.NamedOf.{expression_of};
 ghost use Rattle.sp_types.specs.Types.{ChecksTo};
 ghost use Rattle.sp_tree.specs.CheckedOf as checked;

@@ -1,9 +1,9 @@
 //! The pass over expressions, which consumes the tree and gives tree, type and first broken rule at once.
 
-ghost use Rattle.std.specs.Prelude.{◌≡◌, ℕ, map, pos, None, Some, Ok};
+ghost use Rattle.std.specs.Prelude.{◌≡◌, map, None, Some, Ok};
 ghost use Rattle.sp_tree.specs.NamedOf.{expression_of, expression_form_of, variable_of, selector_of, argument_of};
 ghost use Rattle.sp_tree.specs.NamedOf.{arguments, selectors};
-ghost use Rattle.sp_tree.specs.PlainNamed.{Unary, Binary, Quoted, Standard, Apply, Expression};
+ghost use Rattle.sp_tree.specs.PlainNamed.{Unary, Binary, Quoted, Standard};
 ghost use Rattle.sp_types.specs.Types.{ChecksTo, WalksTo};
 ghost use Rattle.sp_tree.specs.CheckedOf as checked;
 ghost use Rattle.sp_tree.specs.PlainChecked as c;

@@ -1,6 +1,6 @@
 //! The declared types, in order of declaration, from their definitions.
 
-ghost use Rattle.std.specs.Prelude.{◌≡◌, ◌++◌, ◌∷◌, [], map, ℕ, List, Ok, OnOk};
+ghost use Rattle.std.specs.Prelude.{◌≡◌, ◌++◌, ◌∷◌, [], map, List, Ok, OnOk};
 ghost use Rattle.sp_tree.specs.PhaseResults.{Answers};
 ghost use Rattle.sp_types.specs.Tables.{are_wrong, are_bounds, fields_by, type_or, array_of, type_number, kinds_by};
 ghost use Rattle.sp_types.specs.Tables.{kinds_from};

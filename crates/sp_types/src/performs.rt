@@ -6,7 +6,6 @@ ghost use Rattle.sp_tree.specs.NamedOf.{variable_of, expression_of, argument_of,
 ghost use Rattle.sp_tree.specs.PlainNamed.{Assign, Call, Perform};
 ghost use Rattle.sp_types.specs.Types.{ChecksTo, WalksTo};
 ghost use Rattle.sp_tree.specs.CheckedOf as checked;
-ghost use Rattle.sp_tree.specs.PlainChecked as c;
 ghost use Rattle.sp_types.specs.Firsts.{channel_first, statement_form_first, perform_first, each_first, message_first};
 ghost use Rattle.sp_types.specs.Firsts.{messages_first};
 ghost use Rattle.sp_types.specs.Kinds.{argument_kind};

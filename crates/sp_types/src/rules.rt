@@ -2,7 +2,6 @@
 
 ghost use Rattle.std.specs.Prelude.{◌≡◌};
 ghost use Rattle.std.specs.Option.{option_copied};
-ghost use Rattle.sp_tree.specs.PhaseResults.{refusal_at, refusal_if};
 ghost use Rattle.sp_types.specs.Tables.{kind_at};
 ghost use Rattle.sp_types.specs.TypeRules.{is_ordinal, is_channel, ordinal, differ, unary_takes, binary_takes};
 ghost use Rattle.sp_types.specs.TypeRules.{binary_gives, unary_rule, left_rule, right_rule, index_kind_rule};

@@ -1,6 +1,6 @@
 //! The cells of types and frames, counted up to just above the limit (`specs/Capped.antt`).
 
-ghost use Rattle.std.specs.Prelude.{◌≡◌, ◌+◌, ◌*◌, ◌∷◌, ℕ, List, [], map, sum, slice_get, Ok};
+ghost use Rattle.std.specs.Prelude.{◌≡◌, ◌+◌, ◌*◌, ◌∷◌, List, [], slice_get, Ok};
 ghost use Rattle.sp_tree.specs.PhaseResults.{Answers};
 ghost use Rattle.sp_tree.specs.Cells.{count, fields_size, first_or, cells_by};
 ghost use Rattle.sp_types.specs.Tables.{type_number};

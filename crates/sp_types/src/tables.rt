@@ -5,7 +5,7 @@ ghost use Rattle.sp_tree.specs.PhaseResults.{Answers};
 ghost use Rattle.std.specs.Option.{option_copied, option_map};
 ghost use Rattle.std.specs.List.{list_any};
 ghost use Rattle.sp_types.specs.TypeRules.{field_in, messages_in};
-ghost use Rattle.sp_types.specs.Tables.{with_index_type, kind_at, variable_kind, table_entry, constant_kind};
+ghost use Rattle.sp_types.specs.Tables.{with_index_type, kind_at, variable_kind, table_entry};
 ghost use Rattle.sp_types.specs.Tables.{formals_of, answer_kind};
 ghost use Rattle.sp_types.specs.Tables.{ordinal_kind};
 ghost use Rattle.sp_types.specs.TypeWalk.{formal_role, formal_kind, with_more_numbers};

@@ -1,6 +1,6 @@
 //! The tables of a program, before its statements are read.
 
-ghost use Rattle.std.specs.Prelude.{◌≡◌, ℕ, Option, List, map, Ok};
+ghost use Rattle.std.specs.Prelude.{◌≡◌, List, map, Ok};
 ghost use Rattle.sp_tree.specs.PhaseResults.{Answers};
 ghost use Rattle.sp_tree.specs.NamedOf.{block_of};
 ghost use Rattle.sp_types.specs.Tables.{answer_variable, type_of, types_of, roles_of, signatures};

@@ -1,6 +1,6 @@
 //! What stands in the statement parts of blocks, and the variables that blocks declare.
 
-ghost use Rattle.std.specs.Prelude.{◌≡◌, ℕ, ◌<◌, ◌≤◌, ◌^◌, false, ◌||◌, ◌&&◌, ◌==◌, not, [], ◌∷◌, ◌++◌, OnOk, IfOk};
+ghost use Rattle.std.specs.Prelude.{◌≡◌, ℕ, ◌<◌, ◌≤◌, ◌^◌, false, ◌||◌, ◌&&◌, ◌==◌, not, OnOk, IfOk};
 ghost use Rattle.std.specs.Prelude.{map, length};
 ghost use Rattle.sp_tree.specs.Bare.{without_places};
 ghost use Rattle.sp_tree.specs.CheckedOf.{block_of, program_of};

@@ -1,6 +1,6 @@
 //! What stands in the statements that have no others inside them.
 
-ghost use Rattle.std.specs.Prelude.{◌≡◌, ℕ, List, OnOk, map};
+ghost use Rattle.std.specs.Prelude.{ℕ, List, OnOk, map};
 ghost use Rattle.sp_tree.specs.Bare.{bare_expression, bare_variable, bare_actuals, bare_width};
 ghost use Rattle.sp_tree.specs.CheckedOf.{expression_of, variable_of, actual_of, actuals, width_of};
 ghost use Rattle.sp_tree.specs.Plain.{Assign, Call, ReadValue, ReadLine, WriteValue, WriteText, WriteLine, Open, Send};

@@ -1,6 +1,6 @@
 //! Unions of sets without memory (`VarUnion`).
 
-ghost use Rattle.std.specs.Prelude.{◌≡◌, ◌↔◌, ℕ, true, false, ◌||◌, IsTrue, length};
+ghost use Rattle.std.specs.Prelude.{◌≡◌, ◌↔◌, ℕ, true, false, ◌||◌, IsTrue};
 ghost use Rattle.sp_varsets.specs.Members.{has, InWindow, union_has};
 
 use crate::var_set::VarSet;

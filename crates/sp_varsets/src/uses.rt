@@ -1,6 +1,6 @@
 //! What stands in expressions, variables and arguments: variables, and blocks that are called.
 
-ghost use Rattle.std.specs.Prelude.{◌≡◌, ℕ, false, OnOk, map};
+ghost use Rattle.std.specs.Prelude.{◌≡◌, OnOk, map};
 ghost use Rattle.sp_tree.specs.Bare.{bare_expression, bare_form, bare_variable, bare_selectors, bare_actuals};
 ghost use Rattle.sp_tree.specs.Bare.{bare_width};
 ghost use Rattle.sp_tree.specs.CheckedOf.{expression_of, expression_form_of, variable_of, selector_of, selectors};

@@ -1,6 +1,6 @@
 //! The pass over statements: what stands in each of them.
 
-ghost use Rattle.std.specs.Prelude.{◌≡◌, ℕ, ◌+◌, ◌<◌, ◌≤◌, true, false, Some, OnOk, IfOk, map, length};
+ghost use Rattle.std.specs.Prelude.{◌≡◌, ℕ, ◌+◌, ◌<◌, true, Some, OnOk, IfOk, map, length};
 ghost use Rattle.sp_base.specs.declared.place.Place.{Place as APlace};
 ghost use Rattle.sp_tree.specs.PlainChecked as c;
 ghost use Rattle.sp_tree.specs.CheckedOf.{expression_of, variable_of, statement_of, statement_form_of, statements};

@@ -1,6 +1,6 @@
 //! The dash rule, by one pass: which words before `--` may begin with a dash.
 
-ghost use Rattle.std.specs.Prelude.{◌≡◌, IsTrue, ◌↔◌, None, is_some, map, string_bytes};
+ghost use Rattle.std.specs.Prelude.{◌≡◌, None, is_some, map, string_bytes};
 ghost use Rattle.sp_words.specs.Dashes.{after_dash, form_of, form_of_option, form_of_text, items, name_and_value};
 ghost use Rattle.sp_words.specs.Dashes.{text_in, texts_of};
 

@@ -1,6 +1,6 @@
 //! From what a parse found to the command that it asks for.
 
-ghost use Rattle.std.specs.Prelude.{◌≡◌, ◌^◌, IfErr, IfOk, List, None, Some, codes, ℕ};
+ghost use Rattle.std.specs.Prelude.{◌≡◌, ◌^◌, IfErr, IfOk, None, Some, codes};
 ghost use Rattle.clap.specs.Words.{first_value, found_of};
 ghost use Rattle.sp_words.specs.Options.{number_below, number_or, show_named, show_or_end, size_named};
 ghost use Rattle.sp_words.specs.Words.{command_from, command_with, limits_from, values_given};

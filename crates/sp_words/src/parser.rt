@@ -1,7 +1,7 @@
 //! The parser of command lines: one command with one level of subcommands, and neither help nor a version.
 
 ghost use Rattle.std.specs.List.{fold};
-ghost use Rattle.std.specs.Prelude.{◌≡◌, ◌∷◌, ◌++◌, [], IfOk, codes, false, map};
+ghost use Rattle.std.specs.Prelude.{◌≡◌, [], IfOk, codes, false, map};
 ghost use Rattle.clap.specs.Words.{app_of, rule_of, shape_of, with_rule, with_subcommand};
 ghost use Rattle.clap.specs.declared.builder.value_parser.ValueParser.{ValueParser as Parser};
 ghost use Rattle.clap.specs.declared.builder.value_parser.ValueParser.TheVariants.{Unsigned};
