@@ -1,5 +1,5 @@
 -- Tests on numbers as statements: what a test that is true says.
-use Rattle.std.proofs.Common.{◌≡◌, ◌≢◌, ℕ, ◌<◌, ◌≤◌, Bool, true, false, ◌&&◌, ◌==◌, nat_lt, nat_le}
+use Rattle.std.proofs.Common.{◌≡◌, ℕ, ◌<◌, ◌≤◌, Bool, true, false, ◌&&◌, ◌==◌, nat_lt, nat_le}
 use Rattle.std.proofs.Common.{is_err, sym, ◌∙◌, arith, Result, Ok, Err, ap, suc, zero, ◌++◌, ◌+◌, ◌∷◌, []}
 use Rattle.std.specs.Result.{OnOk}
 use Rattle.std.proofs.lemmas.Bool.Decides.{nat_tests}
