@@ -1,6 +1,6 @@
 //! Each rule of names with a text that breaks it, beside a near one that breaks none.
 
-use crate::rows::{Row, is_given, is_refused};
+use crate::rows::Row;
 use sp_base::{Halt, Rule};
 use sp_front::read_text;
 use sp_scope::resolve;
@@ -105,22 +105,14 @@ const ROWS: [Row; 15] = [
     },
 ];
 
-fn refuses(alloc: Global, text: &[u8], rule: Rule, column: u32) -> bool {
-    is_refused(named(alloc, text), rule, 1, column)
-}
-
-fn accepts(alloc: Global, text: &[u8]) -> bool {
-    is_given(named(alloc, text))
+fn holds(alloc: Global, row: &Row) -> bool {
+    row.holds(named(alloc, row.refused), named(alloc, row.accepted))
 }
 
 #[test]
 fn rules_of_names(rt: HostRuntime) {
     for row in &ROWS {
         let column = row.column;
-        assert!(rt;
-            refuses(rt.alloc(), row.refused, row.rule, column),
-            "{column}"
-        );
-        assert!(rt; accepts(rt.alloc(), row.accepted), "{column}");
+        assert!(rt; holds(rt.alloc(), row), "{column}");
     }
 }

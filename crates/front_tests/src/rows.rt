@@ -37,6 +37,19 @@ pub(crate) fn is_given<T: Drop>(answer: Result<T, Halt>) -> bool {
     }
 }
 
+impl Row<'_> {
+    /// Whether these are the answers that its texts want.
+    pub(crate) fn holds<T: Drop>(
+        &self,
+        refused: Result<T, Halt>,
+        accepted: Result<T, Halt>,
+    ) -> bool {
+        let refuses = is_refused(refused, self.rule, 1, self.column);
+        let accepts = is_given(accepted);
+        refuses && accepts
+    }
+}
+
 /// Adds bytes to a text. Where no memory is left they are not there, and what is looked at fails.
 pub(crate) fn add(text: &mut Vec<u8>, bytes: &[u8]) {
     let _ = text.extend_from_slice(bytes);

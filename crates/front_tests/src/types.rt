@@ -1,6 +1,6 @@
 //! Each rule of types with a text that breaks it, beside a near one that breaks none.
 
-use crate::rows::{Row, is_given, is_refused};
+use crate::rows::Row;
 use sp_base::Rule;
 use sp_front::typed;
 use std::alloc::Global;
@@ -134,22 +134,14 @@ const ROWS: [Row; 21] = [
     },
 ];
 
-fn refuses(alloc: Global, text: &[u8], rule: Rule, column: u32) -> bool {
-    is_refused(typed(alloc, text), rule, 1, column)
-}
-
-fn accepts(alloc: Global, text: &[u8]) -> bool {
-    is_given(typed(alloc, text))
+fn holds(alloc: Global, row: &Row) -> bool {
+    row.holds(typed(alloc, row.refused), typed(alloc, row.accepted))
 }
 
 #[test]
 fn rules_of_types(rt: HostRuntime) {
     for row in &ROWS {
         let column = row.column;
-        assert!(rt;
-            refuses(rt.alloc(), row.refused, row.rule, column),
-            "{column}"
-        );
-        assert!(rt; accepts(rt.alloc(), row.accepted), "{column}");
+        assert!(rt; holds(rt.alloc(), row), "{column}");
     }
 }
