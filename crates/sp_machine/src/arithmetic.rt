@@ -196,7 +196,7 @@ impl State {
             Some(n) => match self.stack.top_number() {
                 Some(m) => match binary(op, m, n) {
                     Ok(value) => {
-                        self.stack.put_number(value);
+                        self.stack.put(Operand::Number(value));
                         self.pc += 1;
                         Ok(None)
                     }

@@ -173,30 +173,18 @@ impl Stack {
         }
     }
 
-    /// Puts a number in place of the top, which is no cells and not where the caller of a function goes on.
+    /// Puts an entry in place of the top. Neither is cells, nor where the caller of a function goes on.
     #[inline(always)]
-    pub(crate) fn put_number(&mut self, value: i64)
-        requires { (o : Operand) × (os : List Operand) × (one_if_reply o ≡ 0) × (self.old ≡ o ∷ os) }
-        ensures { (o : Operand) (os : List Operand) → self.old ≡ o ∷ os → self.new ≡ Number value ∷ os }
+    pub(crate) fn put(&mut self, entry: Operand)
+        requires plain { one_if_reply entry ≡ 0 }
+        requires top { (o : Operand) × (os : List Operand) × (one_if_reply o ≡ 0) × (self.old ≡ o ∷ os) }
+        ensures { (o : Operand) (os : List Operand) → self.old ≡ o ∷ os → self.new ≡ entry ∷ os }
     {
         match self.entries.pop() {
-            Some(entry) => mem::forget(entry),
+            Some(below) => mem::forget(below),
             None => unreachable!(),
         }
-        self.entries.push_reserved(Operand::Number(value));
-    }
-
-    /// Puts an address in place of the top, which is no cells and not where the caller of a function goes on.
-    #[inline(always)]
-    pub(crate) fn put_pointer(&mut self, at: Address)
-        requires { (o : Operand) × (os : List Operand) × (one_if_reply o ≡ 0) × (self.old ≡ o ∷ os) }
-        ensures { (o : Operand) (os : List Operand) → self.old ≡ o ∷ os → self.new ≡ Pointer at ∷ os }
-    {
-        match self.entries.pop() {
-            Some(entry) => mem::forget(entry),
-            None => unreachable!(),
-        }
-        self.entries.push_reserved(Operand::Pointer(at));
+        self.entries.push_reserved(entry);
     }
 
     /// So many entries from the top, the lowest first.

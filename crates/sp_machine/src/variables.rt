@@ -95,7 +95,7 @@ impl State {
                     match beyond(at.offset, n.abs_diff(low), size) {
                         Some(offset) => {
                             let spot = at.spot;
-                            self.stack.put_pointer(Address { spot, offset });
+                            self.stack.put(Operand::Pointer(Address { spot, offset }));
                             self.pc += 1;
                             Ok(None)
                         }
@@ -145,7 +145,7 @@ impl State {
         match self.stack.top_pointer() {
             Some(at) => match self.store.load(at) {
                 Cell::Ordinal(value) => {
-                    self.stack.put_number(value);
+                    self.stack.put(Operand::Number(value));
                     self.pc += 1;
                     Ok(None)
                 }
