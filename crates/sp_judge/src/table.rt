@@ -33,18 +33,6 @@ pub(crate) fn learn(
     if clocks[teacher as usize].is_empty() {
         return Ok(());
     }
-    take_in(alloc, clocks, learner, teacher)
-}
-
-// The same, whatever the teacher's clock has.
-fn take_in(alloc: Global, clocks: &mut Vec<Clock>, learner: u32, teacher: u32) -> Result<(), Memory>
-    requires learner { learner < length clocks.old.items }
-    requires teacher { teacher < length clocks.old.items }
-    ensures len { OnOk result (length clocks.new.items ≡ length clocks.old.items) }
-    ensures clocks { OnOk result ((p q : ℕ) → clock_at clocks.new.items p q
-        ≡ cond (learner == p) (max (clock_at clocks.old.items learner q) (clock_at clocks.old.items teacher q))
-        (clock_at clocks.old.items p q)) }
-{
     let mut clock = mem::replace(&mut clocks[learner as usize], Clock::new(alloc));
     let merged = clock.merge(&clocks[teacher as usize]);
     clocks[learner as usize] = clock;
