@@ -66,14 +66,3 @@ impl From<Memory> for Halt {
         Halt::Memory
     }
 }
-
-/// The value of a result; where there is none, the function around ends with its error.
-#[macro_export]
-macro_rules! take {
-    ($result:expr) => {
-        match $result {
-            Ok(value) => value,
-            Err(halt) => return Err(halt),
-        }
-    };
-}

@@ -17,7 +17,6 @@
 //! - `Fault::name`, `Rule::name`: exactly the names in `specs/Faults.antt` and `specs/Rules.antt`.
 //! - Types that all crates share: `Place`, `Rule`, `Refusal`, `Fault`, `Halt` (a broken rule, or want of memory),
 //!   `Memory`, `Limits`, `Show` (what is told of a run); and the numbers `MAXINT` and `TURN_TICKS`.
-//! - `take!`: the value of a `Result`, in place of `?` where the error needs no other type.
 //!
 //! To know:
 //! - No contract says when memory is refused.

@@ -4,7 +4,7 @@ ghost use Rattle.std.specs.Prelude.{◌≡◌, ◌≤◌, ◌++◌, IfOk, OnOk};
 ghost use Rattle.std.specs.List.{flat_map};
 ghost use Rattle.sp_gen.specs.Generated.{generated_text, lent_line_text, line_text, size_line};
 
-use sp_base::{Memory, put_decimal, take};
+use sp_base::{Memory, put_decimal};
 use std::alloc::Global;
 
 /// The lines below that of the size.
@@ -33,9 +33,9 @@ pub fn generated(alloc: Global, size: u32) -> Result<Vec<u8>, Memory>
     ensures { IfOk result (λ text. text.items ≡ generated_text size) }
 {
     let mut out = Vec::new(alloc);
-    take!(put_line(&mut out, "program gen;"));
-    take!(put_size(&mut out, size));
-    take!(put_lines(&mut out, LINES_BELOW.as_slice()));
+    put_line(&mut out, "program gen;")?;
+    put_size(&mut out, size)?;
+    put_lines(&mut out, LINES_BELOW.as_slice())?;
     Ok(out)
 }
 
@@ -61,7 +61,7 @@ fn put_lines(out: &mut Vec<u8>, lines: &[&str]) -> Result<(), Memory>
         ≡ out.old.items ++ flat_map lent_line_text lines.now) }
 {
     for line in lines {
-        take!(put_line(out, line));
+        put_line(out, line)?;
     }
     Ok(())
 }
