@@ -246,9 +246,6 @@ module _ (p : plain.Program) (m : ℕ) where
           (w.passed_name_sites [] both_lists all_at env passing.Target at x (w.is_whole ss))
           (w.selectors_sites [] both_lists all_at env ss) calm).0
         where
-          ss_ : n.Selectors
-          ss_ = of_.selectors (named_selectors env ss)
-
           go : (s : Bool) → (if s then all_at env (Targets x) else
               both_lists (all_at env (Bare at passing.Target)) (all_at env (Operand x (w.is_whole ss)))) ≡ []
               → AreAimed p m (n.AndArgument (n.Pass

@@ -3,14 +3,13 @@ use Rattle.std.proofs.Common.{◌≡◌, ◌≢◌, ◌≤◌, ◌<◌, ◌⊎�
 use Rattle.std.proofs.Common.{replicate, Option, None, Some, IsSome, sym, ap, subst, ◌∙◌, arith, inl, inr}
 use mathlib.Core.Bool.{false≢true}
 use Rattle.std.specs.FinMap as map
-use Rattle.sp_cell.specs.declared.cell.Cell.TheVariants.{Undefined}
 use Rattle.sp_cell.specs.declared.spot.Spot.{Spot}
 use Rattle.sp_cell.specs.declared.spot.Handing.{Handing}
 use Rattle.sp_cell.specs.Fork.{moved_of, shared_of, HasIndex}
 use Rattle.sp_cell.specs.Frame.{next_frame, root_map, without_spots_of}
 use Rattle.sp_cell.proofs.FrameLaws.{above_known, known_pieces, without_here, without_other}
 use Rattle.sp_cell.proofs.Laws.{get_here, get_other, same_or, pieces_not_away}
-use Rattle.sp_cell.specs.Map.{Map, Content, Own, Output, Away, Plain, spot_cmp}
+use Rattle.sp_cell.specs.Map.{Map, Content, Output, Away, Plain, spot_cmp}
 use Rattle.sp_cell.specs.Spots.{In}
 use Rattle.std.proofs.lemmas.Bool.{cases_eq}
 
@@ -46,9 +45,6 @@ none_insert m s h n f q e = elim (same_or q s) [
   | inr d ↦ f q
       (sym (get_other m s h q d) ∙ e)
 ]
-
-own_here : (cs : List ℕ) (n : ℕ) → Some (Own (replicate n Undefined)) ≢ Some Away
-own_here cs n e = cc
 
 none_here : (o : Option Content) → o ≡ None → o ≢ Some Away
 none_here o e f = let z = sym e ∙ f in absurd (false≢true (ap is_some_of z))
