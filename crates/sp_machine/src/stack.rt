@@ -173,7 +173,7 @@ impl Stack {
         }
     }
 
-    /// Puts an entry in place of the top. Neither is cells, nor where the caller of a function goes on.
+    /// Puts an entry in place of the top, which is no cells. Neither is where the caller of a function goes on.
     #[inline(always)]
     pub(crate) fn put(&mut self, entry: Operand)
         requires plain { one_if_reply entry ≡ 0 }
