@@ -1,6 +1,6 @@
 -- A clock while the pairs of another one are taken in.
 use Rattle.std.proofs.Common.{◌≡◌, ◌≢◌, ⊎_elim, ℕ, Bool, true, false, cond, max, ◌==◌, List, [], ◌∷◌, Some}
-use Rattle.std.proofs.Common.{◌⊎◌, is_some, filter, unwrap_or, refl, sym, ap, ◌∙◌, subst, eqb-true}
+use Rattle.std.proofs.Common.{is_some, filter, unwrap_or, refl, sym, ap, ◌∙◌, subst, eqb-true}
 use Rattle.std.proofs.Common.{eq-eqb, length, arith}
 use Rattle.std.specs.Ordering.{nat_cmp, eq_by_cmp, is_eq}
 use Rattle.std.specs.Cmp.{nat_cmp_total, tied_itself}

@@ -1,5 +1,5 @@
 -- The tests of names and channels, as equalities.
-use Rattle.std.proofs.Common.{◌≡◌, true, ◌==◌, [], refl, eqb-true, eq-eqb}
+use Rattle.std.proofs.Common.{◌≡◌, true, ◌==◌, refl, eqb-true, eq-eqb}
 use Rattle.std.proofs.lemmas.Bool.{and_from}
 use Rattle.sp_base.proofs.Facts.{first_true, second_true}
 use Rattle.sp_journal.specs.Names.{Channel, same_name, same_channel}

@@ -1,5 +1,5 @@
 -- What is sound of a statement is so of its parts, of what it leaves to do and of the children that it begins.
-use Rattle.std.proofs.Common.{◌≡◌, ◌≢◌, ◌⊎◌, inl, inr, ⊎_elim, sym, ap, ◌∙◌, subst, arith, ℕ, zero, suc, ◌+◌, ◌≤◌, Bool}
+use Rattle.std.proofs.Common.{◌≡◌, ◌≢◌, ◌⊎◌, inl, inr, ⊎_elim, sym, ap, ◌∙◌, subst, arith, ℕ, zero, suc, ◌≤◌, Bool}
 use Rattle.std.proofs.Common.{true, false, List, [], ◌∷◌, length, Option, Some, None, refl, if◌then◌else◌}
 use Rattle.std.specs.Prelude.{◌+ℤ◌, ℤ, pos}
 use Rattle.sp_tree.specs.Plain.{Expr, Program, Stmt, Empty, Assign, Call, Sequence, If, IfElse, While, Repeat, For}

@@ -1,6 +1,6 @@
 -- Where V1 is kept, ways stay within the code, and each instruction lies in one area alone.
 use Rattle.std.proofs.Common.{◌≡◌, ◌⊎◌, ◌≢◌, inl, inr, ⊎_elim, refl, ap, sym, ◌∙◌, subst, ℕ, zero, suc, ◌+◌, ◌<◌, ◌≤◌}
-use Rattle.std.proofs.Common.{List, [], length, Option, Some, None, Bool, true, false, arith}
+use Rattle.std.proofs.Common.{List, length, Option, Some, None, Bool, true, false, arith}
 use Rattle.std.specs.Prelude.{nat_lt}
 use Rattle.std.proofs.lemmas.Bool.{cases_eq}
 use Rattle.std.proofs.lemmas.Option.{none-some}
