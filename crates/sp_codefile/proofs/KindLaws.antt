@@ -170,6 +170,3 @@ pub says_child_of : {E : Type 0} (line : List ℕ) (r : Result Item E) → kind_
     → (p : Parts) (y : Item) → IsCode p → CanFollow p y → line ≡ item_text p y → IfOk r (λ x. x ≡ y)
 says_child_of line (Ok x) k f g = says_child line x k f g
 says_child_of line (Err e) k f g = λ p y c h d. tt
-
--- what is next, by what the line says
-module _ (p : Parts) (line : List ℕ) (x : Item) (c : IsCode p) (says : LineSays line x) where

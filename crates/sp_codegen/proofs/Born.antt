@@ -46,11 +46,6 @@ use Rattle.sp_codegen.proofs.Closing.{Laid}
 use Rattle.sp_codegen.proofs.Handing.{spot_no_frame, from_all}
 use Rattle.sp_codegen.proofs.Follows.{slides, CodeFollows, push_follows}
 
--- ---- the code of each child
-
-module _ (p : Program) (moves shares : Stmt → List ℕ) (code : Code) (callable : ℕ → Type 0) (free : Bool)
-    (sc : List Scope) where
-
 -- the table of a child of a parallel
 pub table_at : (p : Program) (moves shares : Stmt → List ℕ) (ss : Stmts) (q k : ℕ)
     → child_at (record { children = children_tables p moves shares q ss }) k
