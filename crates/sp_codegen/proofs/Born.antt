@@ -21,7 +21,6 @@ use Rattle.sp_meaning.proofs.Within.{part}
 use Rattle.sp_meaning.proofs.Children.{child_sound, index_linked}
 use Rattle.sp_meaning.proofs.SoundParts.{element_sound}
 use Rattle.sp_code.specs.declared.code.Layout.{Layout}
-use Rattle.sp_code.specs.declared.code.Parts.{Parts as Code}
 use Rattle.sp_code.specs.Memory.{last_frames}
 use Rattle.sp_code.specs.Memory as m
 use Rattle.sp_code.specs.System.{or_outward, spot_in, spot_from}
