@@ -1,6 +1,6 @@
 //! Each rule of names with a text that breaks it, beside a near one that breaks none.
 
-use crate::rows::Row;
+use crate::rows::{Row, is_given};
 use sp_base::{Halt, Rule};
 use sp_front::read_text;
 use sp_scope::resolve;
@@ -105,14 +105,11 @@ const ROWS: [Row; 15] = [
     },
 ];
 
-fn holds(alloc: Global, row: &Row) -> bool {
-    row.holds(named(alloc, row.refused), named(alloc, row.accepted))
-}
-
 #[test]
 fn rules_of_names(rt: HostRuntime) {
     for row in &ROWS {
         let column = row.column;
-        assert!(rt; holds(rt.alloc(), row), "{column}");
+        assert!(rt; row.refuses(named(rt.alloc(), row.refused)), "{column}");
+        assert!(rt; is_given(named(rt.alloc(), row.accepted)), "{column}");
     }
 }

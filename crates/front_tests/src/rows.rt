@@ -38,15 +38,9 @@ pub(crate) fn is_given<T: Drop>(answer: Result<T, Halt>) -> bool {
 }
 
 impl Row<'_> {
-    /// Whether these are the answers that its texts want.
-    pub(crate) fn holds<T: Drop>(
-        &self,
-        refused: Result<T, Halt>,
-        accepted: Result<T, Halt>,
-    ) -> bool {
-        let refuses = is_refused(refused, self.rule, 1, self.column);
-        let accepts = is_given(accepted);
-        refuses && accepts
+    /// Whether the answer for its refused text is that the text breaks its rule first, in its column.
+    pub(crate) fn refuses<T: Drop>(&self, answer: Result<T, Halt>) -> bool {
+        is_refused(answer, self.rule, 1, self.column)
     }
 }
 
