@@ -3,10 +3,8 @@
 //! To know:
 //! - `src/tests.rt` has code files that are read and written again, and the bad line of others: lines left out, doubled
 //!   and cut, and files with one byte changed.
-//! - `src/verified.rt` has code files that are verified, and the nearest ones that are rejected.
+//! - Code files that are verified or rejected are tested in `rules_tests`.
 #![tactic(auto)]
 
 #[cfg(test)]
 mod tests;
-#[cfg(test)]
-mod verified;

@@ -1,102 +1,91 @@
-//! V1 of instructions, layouts and tables in themselves: what is wrong, beside the nearest code with which nothing is.
+//! V1 of instructions, layouts and tables in themselves.
 
-use crate::made::{answer, blocks_of, code_of, plain, procedure, program, table};
-use sp_areas::parts::first_wrong_alone;
-use sp_base::{List, Memory};
-use sp_code::{Instr, Parts};
-use std::alloc::Global;
-use std::test::Fail;
-
-/// The least instruction at which the code is wrong in itself; 99 where it is too large.
-fn first(parts: Parts) -> Result<Option<u32>, Memory> {
-    match code_of(parts) {
-        Some(code) => {
-            let blocks = blocks_of(&code)?;
-            first_wrong_alone(&code, &blocks)
-        }
-        None => Ok(Some(99)),
-    }
-}
-
-/// The same, of the worked code with another second instruction.
-fn second(alloc: Global, instr: Instr) -> Result<Option<u32>, Fail> {
-    let parts = answer(alloc, instr)?;
-    Ok(first(parts)?)
-}
+use crate::verdict::{Says, expect, v1};
 
 #[test]
-fn jumps_lead_somewhere(rt: HostRuntime) -> Result<(), Fail> {
-    assert_eq!(rt; second(rt.alloc(), Instr::Jump(8))?, None);
-    assert_eq!(rt; second(rt.alloc(), Instr::Jump(9))?, Some(1));
-    Ok(())
-}
-
-#[test]
-fn names_lead_somewhere(rt: HostRuntime) -> Result<(), Fail> {
-    assert_eq!(rt; second(rt.alloc(), Instr::Call { block: 0, up: 0 })?, None);
-    assert_eq!(rt;
-        second(rt.alloc(), Instr::Call { block: 1, up: 0 })?,
-        Some(1)
+fn jumps_lead_somewhere(rt: HostRuntime) {
+    let lines = "layout 0 0 - none sizes variables formals\n0 jump ~\n1 end\n";
+    expect(
+        &rt,
+        rt.alloc(),
+        lines,
+        &[("1", Says::Verified), ("2", v1(0))],
     );
-    assert_eq!(rt; second(rt.alloc(), Instr::WriteText(0))?, Some(1));
-    assert_eq!(rt; second(rt.alloc(), Instr::Fork(0))?, Some(1));
-    Ok(())
-}
-
-/// The same, of a call of a procedure whose parameter has two cells, by an entry and a size of its own.
-fn called(alloc: Global, entry: u32, size: u32) -> Result<Option<u32>, Fail> {
-    let instrs = vec![in alloc; Instr::Call { block: 1, up: 0 }, Instr::End, Instr::Return]?;
-    let mut parts = plain(alloc, instrs)?;
-    let layout = procedure(alloc, entry, size)?;
-    parts.layouts.push(layout)?;
-    Ok(first(parts)?)
 }
 
 #[test]
-fn layouts_fit(rt: HostRuntime) -> Result<(), Fail> {
-    assert_eq!(rt; called(rt.alloc(), 2, 2)?, None);
-    assert_eq!(rt; called(rt.alloc(), 3, 2)?, Some(3));
-    assert_eq!(rt; called(rt.alloc(), 2, 1)?, Some(2));
-    Ok(())
-}
-
-/// The same, of a program whose layout has a parent.
-fn inside(alloc: Global, parent: Option<u32>) -> Result<Option<u32>, Fail> {
-    let mut main = program(alloc)?;
-    main.parent = parent;
-    let instrs = vec![in alloc; Instr::End]?;
-    let mut parts = plain(alloc, instrs)?;
-    parts.layouts = List::of(vec![in alloc; main]?);
-    Ok(first(parts)?)
+fn names_lead_somewhere(rt: HostRuntime) {
+    let lines =
+        "layout 0 0 - none sizes variables formals\nlayout 1 2 0 none sizes variables formals\ntext 6f6b\n0 ~\n1 end\n2 return\n";
+    let rows = [
+        ("call 1 0", Says::Verified),
+        ("call 2 0", v1(0)),
+        ("write text 0", Says::Verified),
+        ("write text 1", v1(0)),
+        ("fork 0", v1(0)),
+    ];
+    expect(&rt, rt.alloc(), lines, &rows);
 }
 
 #[test]
-fn the_program_stands_alone(rt: HostRuntime) -> Result<(), Fail> {
-    assert_eq!(rt; inside(rt.alloc(), None)?, None);
-    assert_eq!(rt; inside(rt.alloc(), Some(0))?, Some(0));
-    Ok(())
-}
-
-/// The same, of a fork, or a forall, of a table with one child.
-fn forked(alloc: Global, by: Instr, entry: u32, index: Option<u32>) -> Result<Option<u32>, Fail> {
-    let instrs = vec![in alloc; by, Instr::End, Instr::End]?;
-    let mut parts = plain(alloc, instrs)?;
-    let only = table(alloc, entry, index)?;
-    parts.forks = List::of(vec![in alloc; only]?);
-    Ok(first(parts)?)
+fn layouts_fit(rt: HostRuntime) {
+    let lines =
+        "layout 0 0 - none sizes 2 variables 2 formals\nlayout 1 ~ 0 none sizes ~ variables 3 formals value 2\n0 addr 0 2\n1 pack 2\n2 call 1 0\n3 end\n4 return\n";
+    expect(
+        &rt,
+        rt.alloc(),
+        lines,
+        &[("4/2", Says::Verified), ("5/2", v1(5)), ("4/1", v1(4))],
+    );
 }
 
 #[test]
-fn forks_fit(rt: HostRuntime) -> Result<(), Fail> {
-    assert_eq!(rt; forked(rt.alloc(), Instr::Fork(0), 2, None)?, None);
-    assert_eq!(rt; forked(rt.alloc(), Instr::Fork(0), 2, Some(3))?, Some(2));
-    assert_eq!(rt; forked(rt.alloc(), Instr::Fork(0), 3, None)?, Some(3));
-    Ok(())
+fn the_program_stands_alone(rt: HostRuntime) {
+    let lines = "layout 0 0 ~ none sizes variables formals\n0 end\n";
+    expect(
+        &rt,
+        rt.alloc(),
+        lines,
+        &[("-", Says::Verified), ("0", v1(0))],
+    );
 }
 
 #[test]
-fn foralls_fit(rt: HostRuntime) -> Result<(), Fail> {
-    assert_eq!(rt; forked(rt.alloc(), Instr::Forall(0), 2, Some(3))?, None);
-    assert_eq!(rt; forked(rt.alloc(), Instr::Forall(0), 2, None)?, Some(2));
-    Ok(())
+fn forks_fit(rt: HostRuntime) {
+    let lines =
+        "layout 0 0 - none sizes variables formals\n0 fork 0\n1 end\n2 end\ntable 0 child 0 entry ~ moves shares~\n";
+    expect(
+        &rt,
+        rt.alloc(),
+        lines,
+        &[("2", Says::Verified), ("2/ index 3", v1(2)), ("3", v1(3))],
+    );
+}
+
+#[test]
+fn foralls_fit(rt: HostRuntime) {
+    let lines =
+        "layout 0 0 - none sizes variables formals\n0 const 1\n1 const 2\n2 forall 0\n3 end\n4 end\ntable 0 child 0 entry 4 moves shares~\n";
+    expect(
+        &rt,
+        rt.alloc(),
+        lines,
+        &[(" index 3", Says::Verified), ("", v1(4))],
+    );
+}
+
+#[test]
+fn a_variable_is_declared_once(rt: HostRuntime) {
+    let lines =
+        "layout 0 0 - none sizes 1 variables 2 formals\nlayout 1 6 0 none sizes 1 variables ~ formals value 1\n0 const 5\n1 call 1 0\n2 const 1\n3 const 2\n4 forall 0\n5 end\n6 return\n7 end\ntable 0 child 0 entry 7 moves shares index ~\n";
+    let rows = [
+        ("3/4", Says::Verified),
+        ("2/4", v1(6)),
+        ("3/3", v1(7)),
+        ("3/2", v1(7)),
+        // (the input and the output)
+        ("1/4", v1(6)),
+        ("3/0", v1(7)),
+    ];
+    expect(&rt, rt.alloc(), lines, &rows);
 }

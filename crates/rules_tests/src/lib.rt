@@ -1,12 +1,12 @@
-//! Tests of the rules of code files: a code that breaks a point of a rule, beside the nearest one that keeps it. They
+//! Tests of the rules of code files: files that `verify` rejects, each beside the nearest one that it lets pass. They
 //! stand here, so that the crates of the rules are proved once.
 //!
 //! To know:
-//! - `made.rt` has the small codes that the tests begin with.
-//! - Of V1, `alone.rt` has what is wrong in itself, `around.rt` what instructions name and what forks hand on,
-//!   `declarations.rt` variables that are declared twice, `naming.rt` tables and who names them, `placed.rt` where
-//!   instructions stand.
-//! - `shaped.rt` has V2 to V5, `rounds.rt` V9. Code files that break V6, V7 and V8 stand in `superpascal_tests`.
+//! - `verdict.rt` says what is asked of a file, and has rows: a file in which parts are open, and what is said of it
+//!   with each of several parts.
+//! - `alone.rt`, `around.rt` and `placed.rt` have V1: instructions, layouts and tables in themselves; levels,
+//!   variables and what forks hand on; where instructions stand, and who names a table.
+//! - `operands.rt` has V2 to V5, `effects.rt` V6 to V8, `rounds.rt` V9.
 #![tactic(auto)]
 
 #[cfg(test)]
@@ -14,14 +14,12 @@ mod alone;
 #[cfg(test)]
 mod around;
 #[cfg(test)]
-mod declarations;
+mod effects;
 #[cfg(test)]
-mod made;
-#[cfg(test)]
-mod naming;
+mod operands;
 #[cfg(test)]
 mod placed;
 #[cfg(test)]
 mod rounds;
 #[cfg(test)]
-mod shaped;
+mod verdict;
