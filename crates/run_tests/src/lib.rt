@@ -6,7 +6,7 @@
 //! - `src/channels.rt`: forks, joins, rendezvous, contention and a deadlock.
 //! - `src/depth.rt`: a function that calls itself without end, on a thread with a large stack.
 //! - `src/arithmetic.rt`: the calls of `sp_values`.
-//! - `src/maker.rt`: makes the programs and schedules.
+//! - `src/programs.rt`: texts and schedules, and what is asked of their runs.
 #![tactic(auto)]
 
 #[cfg(test)]
@@ -16,6 +16,6 @@ mod channels;
 #[cfg(test)]
 mod depth;
 #[cfg(test)]
-mod maker;
+mod programs;
 #[cfg(test)]
 mod values;

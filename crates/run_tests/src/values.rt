@@ -1,69 +1,50 @@
 //! Tests of one process: what it writes, and the faults of its steps.
 
-use crate::maker::{Ended, LIMITS, Maker, X, Y, is_run};
-use sp_base::{Boxed, Fault, Limits, MAXINT, Memory, Text};
-use sp_run::Meant;
-use sp_tree::{BinaryOp, ExprForm, Form, Stmt};
-use std::alloc::Global;
-
-const NO_TICKS: Limits = Limits { ticks: 0, ..LIMITS };
-
-// X becomes 6, and X * 7 is written.
-fn product_written(alloc: Global, names: &[u32]) -> Result<Meant, Memory> {
-    let m = Maker { alloc };
-    let product = m.expr(m.binary(BinaryOp::Mul, m.read(0, X), m.number(7)));
-    let written = m.stmt(Form::WriteValue(product, None));
-    m.run_all(m.both(m.assign(X, ExprForm::Number(6)), written), names)
-}
+use crate::programs::{Ended, LIMITS, expect, first_fault};
+use sp_base::{Fault, Limits};
 
 #[test]
 fn schedules_before_the_end_and_to_it(rt: HostRuntime) {
-    let two = product_written(rt.alloc(), &[0, 0]);
-    assert!(rt; is_run(two, 2, b"42", Ended::NotYet));
-    for names in [[0, 0, 0].as_slice(), &[0, 0, 0, 0]] {
-        let all = product_written(rt.alloc(), names);
-        assert!(rt; is_run(all, 3, b"42", Ended::Done));
-    }
+    let text = "program a; var x: integer; begin x := 6; write(x * 7) end.";
+    let runs = [
+        ([0, 0].as_slice(), 2, "42", Ended::NotYet),
+        (&[0, 0, 0], 3, "42", Ended::Done),
+        (&[0, 0, 0, 0], 3, "42", Ended::Done),
+    ];
+    expect(&rt, rt.alloc(), text, &runs);
 }
 
-// The fault of `X := e`.
-fn fault_of_value(m: &Maker, e: ExprForm) -> Option<Fault> {
-    m.fault(&LIMITS, m.assign(X, e))
-}
+const NO_TICKS: Limits = Limits { ticks: 0, ..LIMITS };
 
 #[test]
-fn faults_of_expressions(rt: HostRuntime) {
-    let m = Maker { alloc: rt.alloc() };
-    let undefined = fault_of_value(&m, ExprForm::Read(m.var(Y)));
-    assert!(rt; undefined == Some(Fault::F4));
-    let outside = fault_of_value(&m, ExprForm::Read(m.element(4)));
-    assert!(rt; outside == Some(Fault::F1));
-    let by_zero = fault_of_value(&m, m.binary(BinaryOp::Div, m.number(1), m.number(0)));
-    assert!(rt; by_zero == Some(Fault::F3));
-}
-
-/// `while 1 do`, whose turn is a tick.
-fn endless(m: &Maker) -> Stmt {
-    match Boxed::new(m.alloc, m.stmt(Form::Empty)) {
-        Ok(body) => m.stmt(Form::While(m.number(1), body)),
-        Err(_) => m.stmt(Form::Empty),
+fn faults_of_first_steps(rt: HostRuntime) {
+    let rows = [
+        ("program f; var x, y: integer; begin x := y end.", Fault::F4),
+        (
+            "program f; type row = array [1..3] of integer; var a: row; x: integer; begin x := a[4] end.",
+            Fault::F1,
+        ),
+        (
+            "program f; var x: integer; begin x := 1 div 0 end.",
+            Fault::F3,
+        ),
+        ("program f; begin write('a': 0) end.", Fault::F1),
+        ("program f; begin write('a': maxint) end.", Fault::F16),
+        (
+            "program f; begin forall i := -maxint to maxint do end.",
+            Fault::F13,
+        ),
+    ];
+    for (text, fault) in rows {
+        assert_eq!(rt;
+            first_fault(rt.alloc(), &LIMITS, text),
+            Some(fault),
+            "{text}"
+        );
     }
-}
-
-/// A text of no bytes in so many places.
-fn wide(m: &Maker, width: i64) -> Stmt {
-    m.stmt(Form::WriteText(Text::of(Vec::new(m.alloc)), Some(m.number(width))))
-}
-
-#[test]
-fn faults_of_widths_and_limits(rt: HostRuntime) {
-    let m = Maker { alloc: rt.alloc() };
-    let narrow = m.fault(&LIMITS, wide(&m, 0));
-    assert!(rt; narrow == Some(Fault::F1));
-    let far_too_wide = m.fault(&LIMITS, wide(&m, MAXINT));
-    assert!(rt; far_too_wide == Some(Fault::F16));
-    let ticked = m.fault(&NO_TICKS, endless(&m));
-    assert!(rt; ticked == Some(Fault::F10));
-    let far_too_many = m.fault(&LIMITS, m.forall(-MAXINT, MAXINT));
-    assert!(rt; far_too_many == Some(Fault::F13));
+    let endless = "program f; begin while true do end.";
+    assert_eq!(rt;
+        first_fault(rt.alloc(), &NO_TICKS, endless),
+        Some(Fault::F10)
+    );
 }
