@@ -15,10 +15,13 @@ fn jumps_lead_somewhere(rt: HostRuntime) {
 
 #[test]
 fn names_lead_somewhere(rt: HostRuntime) {
-    let lines =
-        "layout 0 0 - none sizes variables formals\nlayout 1 2 0 none sizes variables formals\ntext 6f6b\n0 ~\n1 end\n2 return\n";
+    let lines = "layout 0 0 - none sizes variables formals\n\
+        layout 1 2 0 none sizes variables formals\n\
+        text 6f6b\n\
+        0 ~\n1 end\n2 return\n";
     let rows = [
         ("call 1 0", Says::Verified),
+        ("call 0 0", v1(0)),
         ("call 2 0", v1(0)),
         ("write text 0", Says::Verified),
         ("write text 1", v1(0)),
@@ -29,8 +32,9 @@ fn names_lead_somewhere(rt: HostRuntime) {
 
 #[test]
 fn layouts_fit(rt: HostRuntime) {
-    let lines =
-        "layout 0 0 - none sizes 2 variables 2 formals\nlayout 1 ~ 0 none sizes ~ variables 3 formals value 2\n0 addr 0 2\n1 pack 2\n2 call 1 0\n3 end\n4 return\n";
+    let lines = "layout 0 0 - none sizes 2 variables 2 formals\n\
+        layout 1 ~ 0 none sizes ~ variables 3 formals value 2\n\
+        0 addr 0 2\n1 pack 2\n2 call 1 0\n3 end\n4 return\n";
     expect(
         &rt,
         rt.alloc(),
@@ -52,8 +56,9 @@ fn the_program_stands_alone(rt: HostRuntime) {
 
 #[test]
 fn forks_fit(rt: HostRuntime) {
-    let lines =
-        "layout 0 0 - none sizes variables formals\n0 fork 0\n1 end\n2 end\ntable 0 child 0 entry ~ moves shares~\n";
+    let lines = "layout 0 0 - none sizes variables formals\n\
+        0 fork 0\n1 end\n2 end\n\
+        table 0 child 0 entry ~ moves shares~\n";
     expect(
         &rt,
         rt.alloc(),
@@ -64,8 +69,9 @@ fn forks_fit(rt: HostRuntime) {
 
 #[test]
 fn foralls_fit(rt: HostRuntime) {
-    let lines =
-        "layout 0 0 - none sizes variables formals\n0 const 1\n1 const 2\n2 forall 0\n3 end\n4 end\ntable 0 child 0 entry 4 moves shares~\n";
+    let lines = "layout 0 0 - none sizes variables formals\n\
+        0 const 1\n1 const 2\n2 forall 0\n3 end\n4 end\n\
+        table 0 child 0 entry 4 moves shares~\n";
     expect(
         &rt,
         rt.alloc(),
@@ -76,8 +82,10 @@ fn foralls_fit(rt: HostRuntime) {
 
 #[test]
 fn a_variable_is_declared_once(rt: HostRuntime) {
-    let lines =
-        "layout 0 0 - none sizes 1 variables 2 formals\nlayout 1 6 0 none sizes 1 variables ~ formals value 1\n0 const 5\n1 call 1 0\n2 const 1\n3 const 2\n4 forall 0\n5 end\n6 return\n7 end\ntable 0 child 0 entry 7 moves shares index ~\n";
+    let lines = "layout 0 0 - none sizes 1 variables 2 formals\n\
+        layout 1 6 0 none sizes 1 variables ~ formals value 1\n\
+        0 const 5\n1 call 1 0\n2 const 1\n3 const 2\n4 forall 0\n5 end\n6 return\n7 end\n\
+        table 0 child 0 entry 7 moves shares index ~\n";
     let rows = [
         ("3/4", Says::Verified),
         ("2/4", v1(6)),

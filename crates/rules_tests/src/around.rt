@@ -17,8 +17,8 @@ fn variables_are_named_as_they_may(rt: HostRuntime) {
 
 #[test]
 fn loops_have_variables(rt: HostRuntime) {
-    let lines =
-        "layout 0 0 - none sizes 1 variables 2 formals\n0 const 1\n1 const 3\n2 forup ~ 5\n3 tick\n4 ~ 3\n5 end\n";
+    let lines = "layout 0 0 - none sizes 1 variables 2 formals\n\
+        0 const 1\n1 const 3\n2 forup ~ 5\n3 tick\n4 ~ 3\n5 end\n";
     let rows = [
         ("2/nextup 2", Says::Verified),
         ("1/nextup 2", v1(2)),
@@ -30,8 +30,9 @@ fn loops_have_variables(rt: HostRuntime) {
 
 #[test]
 fn calls_are_at_their_level(rt: HostRuntime) {
-    let lines =
-        "layout 0 0 - none sizes 1 variables 2 formals\nlayout 1 3 0 none sizes 1 variables 3 formals value 1\n0 const 5\n1 call 1 ~\n2 end\n3 const 4\n4 call 1 ~\n5 return\n";
+    let lines = "layout 0 0 - none sizes 1 variables 2 formals\n\
+        layout 1 3 0 none sizes 1 variables 3 formals value 1\n\
+        0 const 5\n1 call 1 ~\n2 end\n3 const 4\n4 call 1 ~\n5 return\n";
     expect(
         &rt,
         rt.alloc(),
@@ -42,8 +43,9 @@ fn calls_are_at_their_level(rt: HostRuntime) {
 
 #[test]
 fn a_procedure_names_its_own_and_those_around(rt: HostRuntime) {
-    let lines =
-        "layout 0 0 - none sizes 1 variables 2 formals\nlayout 1 3 0 none sizes 1 variables 3 formals value 1\n0 const 5\n1 call 1 0\n2 end\n3 addr ~\n4 const 2\n5 store\n6 return\n";
+    let lines = "layout 0 0 - none sizes 1 variables 2 formals\n\
+        layout 1 3 0 none sizes 1 variables 3 formals value 1\n\
+        0 const 5\n1 call 1 0\n2 end\n3 addr ~\n4 const 2\n5 store\n6 return\n";
     let rows = [
         ("0 0", Says::Verified),
         ("0 1", v1(3)),
@@ -55,8 +57,9 @@ fn a_procedure_names_its_own_and_those_around(rt: HostRuntime) {
 
 #[test]
 fn parents_lead_to_the_program(rt: HostRuntime) {
-    let lines =
-        "layout 0 0 - none sizes variables formals\nlayout 1 1 ~ none sizes variables formals\n0 end\n1 return\n";
+    let lines = "layout 0 0 - none sizes variables formals\n\
+        layout 1 1 ~ none sizes variables formals\n\
+        0 end\n1 return\n";
     let rows = [
         ("0", Says::Verified),
         ("-", v1(1)),
@@ -68,8 +71,9 @@ fn parents_lead_to_the_program(rt: HostRuntime) {
 
 #[test]
 fn blocks_have_one_layout(rt: HostRuntime) {
-    let lines =
-        "layout 0 0 - none sizes variables formals\nlayout ~ 1 0 none sizes variables formals\n0 end\n1 return\n";
+    let lines = "layout 0 0 - none sizes variables formals\n\
+        layout ~ 1 0 none sizes variables formals\n\
+        0 end\n1 return\n";
     expect(
         &rt,
         rt.alloc(),
@@ -80,8 +84,9 @@ fn blocks_have_one_layout(rt: HostRuntime) {
 
 #[test]
 fn a_child_names_its_index_and_those_around(rt: HostRuntime) {
-    let lines =
-        "layout 0 0 - none sizes 1 variables 2 formals\n0 const 1\n1 const 2\n2 forall 0\n3 end\n4 addr ~\n5 load\n6 assume\n7 end\ntable 0 child 0 entry 4 moves shares 2 index 9\n";
+    let lines = "layout 0 0 - none sizes 1 variables 2 formals\n\
+        0 const 1\n1 const 2\n2 forall 0\n3 end\n4 addr ~\n5 load\n6 assume\n7 end\n\
+        table 0 child 0 entry 4 moves shares 2 index 9\n";
     let rows = [
         ("0 0", Says::Verified),
         ("0 1", v1(4)),
@@ -93,8 +98,10 @@ fn a_child_names_its_index_and_those_around(rt: HostRuntime) {
 
 #[test]
 fn forks_hand_on_what_is_around(rt: HostRuntime) {
-    let lines =
-        "layout 0 0 - none sizes 1 variables 2 formals\n0 const 1\n1 const 2\n2 forall 0\n3 end\n4 fork 1\n5 end\n6 end\ntable 0 child 0 entry 4 moves shares ~ index 9\ntable 1 child 0 entry 6 moves shares ~\n";
+    let lines = "layout 0 0 - none sizes 1 variables 2 formals\n\
+        0 const 1\n1 const 2\n2 forall 0\n3 end\n4 fork 1\n5 end\n6 end\n\
+        table 0 child 0 entry 4 moves shares ~ index 9\n\
+        table 1 child 0 entry 6 moves shares ~\n";
     let rows = [
         ("2/9", Says::Verified),
         ("2/2", Says::Verified),

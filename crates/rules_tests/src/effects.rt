@@ -6,8 +6,11 @@ use sp_codefile::VRule;
 
 #[test]
 fn children_write_what_moved_to_them(rt: HostRuntime) {
-    let lines =
-        "layout 0 0 - none sizes 1 1 variables 2 3 formals\n0 fork 0\n1 jump 10\n2 addr 0 2\n3 const 1\n4 store\n5 end\n6 addr 0 3\n7 const 2\n8 store\n9 end\n10 end\ntable 0 child 0 entry 2 moves~ shares~\ntable 0 child 1 entry 6 moves~ shares~\n";
+    let lines = "layout 0 0 - none sizes 1 1 variables 2 3 formals\n\
+        0 fork 0\n1 jump 10\n2 addr 0 2\n3 const 1\n4 store\n5 end\n6 addr 0 3\n7 const 2\n8 store\n9 end\n\
+        10 end\n\
+        table 0 child 0 entry 2 moves~ shares~\n\
+        table 0 child 1 entry 6 moves~ shares~\n";
     let rows = [
         (" 2// 3/", Says::Verified),
         ("/ 2/ 3/", Says::Broken(VRule::V6, 2)),
@@ -19,8 +22,10 @@ fn children_write_what_moved_to_them(rt: HostRuntime) {
 
 #[test]
 fn two_references_stand_for_two_variables(rt: HostRuntime) {
-    let lines =
-        "layout 0 0 - none sizes 1 1 variables 2 3 formals\nlayout 1 4 0 none sizes 1 1 variables 4 5 formals reference 1 reference 1\n0 addr 0 2\n1 addr 0 ~\n2 call 1 0\n3 end\n4 deref 0 0\n5 const 1\n6 store\n7 deref 0 1\n8 const 2\n9 store\n10 return\n";
+    let lines = "layout 0 0 - none sizes 1 1 variables 2 3 formals\n\
+        layout 1 4 0 none sizes 1 1 variables 4 5 formals reference 1 reference 1\n\
+        0 addr 0 2\n1 addr 0 ~\n2 call 1 0\n3 end\n4 deref 0 0\n5 const 1\n6 store\n7 deref 0 1\n8 const 2\n\
+        9 store\n10 return\n";
     expect(
         &rt,
         rt.alloc(),
@@ -31,8 +36,9 @@ fn two_references_stand_for_two_variables(rt: HostRuntime) {
 
 #[test]
 fn a_block_does_not_use_what_its_reference_stands_for(rt: HostRuntime) {
-    let lines =
-        "layout 0 0 - none sizes 1 1 variables 2 3 formals\nlayout 1 3 0 none sizes 1 variables 4 formals reference 1\n0 addr 0 2\n1 call 1 0\n2 end\n3 addr 1 ~\n4 const 1\n5 store\n6 return\n";
+    let lines = "layout 0 0 - none sizes 1 1 variables 2 3 formals\n\
+        layout 1 3 0 none sizes 1 variables 4 formals reference 1\n\
+        0 addr 0 2\n1 call 1 0\n2 end\n3 addr 1 ~\n4 const 1\n5 store\n6 return\n";
     expect(
         &rt,
         rt.alloc(),
@@ -43,8 +49,9 @@ fn a_block_does_not_use_what_its_reference_stands_for(rt: HostRuntime) {
 
 #[test]
 fn a_block_inside_itself_keeps_to_its_own(rt: HostRuntime) {
-    let lines =
-        "layout 0 0 - none sizes 1 variables 2 formals\nlayout 1 2 0 none sizes 1 variables 3 formals\n0 call 1 0\n1 end\n2 addr ~\n3 const 1\n4 store\n5 call 1 1\n6 return\n";
+    let lines = "layout 0 0 - none sizes 1 variables 2 formals\n\
+        layout 1 2 0 none sizes 1 variables 3 formals\n\
+        0 call 1 0\n1 end\n2 addr ~\n3 const 1\n4 store\n5 call 1 1\n6 return\n";
     expect(
         &rt,
         rt.alloc(),
@@ -55,8 +62,10 @@ fn a_block_inside_itself_keeps_to_its_own(rt: HostRuntime) {
 
 #[test]
 fn a_block_with_a_result_stores_its_own(rt: HostRuntime) {
-    let lines =
-        "layout 0 0 - none sizes 1 variables 2 formals\nlayout 1 4 0 answer sizes 1 1 variables 3 4 formals\n0 addr 0 2\n1 call 1 0\n2 store\n3 end\n4 addr ~\n5 const 1\n6 store\n7 addr 0 0\n8 const 2\n9 store\n10 return\n";
+    let lines = "layout 0 0 - none sizes 1 variables 2 formals\n\
+        layout 1 4 0 answer sizes 1 1 variables 3 4 formals\n\
+        0 addr 0 2\n1 call 1 0\n2 store\n3 end\n4 addr ~\n5 const 1\n6 store\n7 addr 0 0\n8 const 2\n\
+        9 store\n10 return\n";
     expect(
         &rt,
         rt.alloc(),
@@ -67,8 +76,10 @@ fn a_block_with_a_result_stores_its_own(rt: HostRuntime) {
 
 #[test]
 fn a_block_with_a_result_stops_at_nothing(rt: HostRuntime) {
-    let lines =
-        "layout 0 0 - none sizes 1 variables 2 formals\nlayout 1 4 0 answer sizes 1 1 variables 3 4 formals\n0 addr 0 2\n1 call 1 0\n2 store\n3 end\n4 addr 0 1\n5 ~\n6 ~\n7 addr 0 0\n8 const 2\n9 store\n10 return\n";
+    let lines = "layout 0 0 - none sizes 1 variables 2 formals\n\
+        layout 1 4 0 answer sizes 1 1 variables 3 4 formals\n\
+        0 addr 0 2\n1 call 1 0\n2 store\n3 end\n4 addr 0 1\n5 ~\n6 ~\n7 addr 0 0\n8 const 2\n9 store\n\
+        10 return\n";
     let rows = [
         ("const 1/store", Says::Verified),
         ("open/tick", Says::Broken(VRule::V8, 4)),

@@ -15,8 +15,9 @@ fn the_program_ends_as_it_may(rt: HostRuntime) {
 
 #[test]
 fn a_procedure_ends_as_it_may(rt: HostRuntime) {
-    let lines =
-        "layout 0 0 - none sizes variables formals\nlayout 1 ~ 0 none sizes variables formals\n0 call 1 0\n1 end\n2 tick\n3 ~\n";
+    let lines = "layout 0 0 - none sizes variables formals\n\
+        layout 1 ~ 0 none sizes variables formals\n\
+        0 call 1 0\n1 end\n2 tick\n3 ~\n";
     let rows = [
         ("2/return", Says::Verified),
         ("2/end", v1(3)),
@@ -28,8 +29,9 @@ fn a_procedure_ends_as_it_may(rt: HostRuntime) {
 
 #[test]
 fn a_child_stands_by_itself(rt: HostRuntime) {
-    let lines =
-        "layout 0 0 - none sizes variables formals\n0 fork 0\n1 end\n2 tick\n3 ~\ntable 0 child 0 entry ~ moves shares\n";
+    let lines = "layout 0 0 - none sizes variables formals\n\
+        0 fork 0\n1 end\n2 tick\n3 ~\n\
+        table 0 child 0 entry ~ moves shares\n";
     let rows = [
         ("end/2", Says::Verified),
         ("end/3", Says::Verified),
@@ -42,8 +44,9 @@ fn a_child_stands_by_itself(rt: HostRuntime) {
 
 #[test]
 fn one_instruction_of_an_area_names_a_table(rt: HostRuntime) {
-    let lines =
-        "layout 0 0 - none sizes variables formals\n0 ~\n1 ~\n2 end\n3 end\ntable 0 child 0 entry 3 moves shares\n";
+    let lines = "layout 0 0 - none sizes variables formals\n\
+        0 ~\n1 ~\n2 end\n3 end\n\
+        table 0 child 0 entry 3 moves shares\n";
     let rows = [
         ("tick/fork 0", Says::Verified),
         ("tick/tick", v1(3)),

@@ -14,8 +14,8 @@ pub(crate) enum Says {
     Nothing,
 }
 
-/// What stands for `~` in a file, part by part with `/` between them, and what is said of the file with it.
-pub(crate) type Row<'a> = (&'a str, Says);
+// What stands for `~` in a file, part by part with `/` between them, and what is said of the file with it.
+type Row<'a> = (&'a str, Says);
 
 /// That V1 is broken at this instruction.
 pub(crate) const fn v1(at: u32) -> Says {
@@ -24,7 +24,7 @@ pub(crate) const fn v1(at: u32) -> Says {
 
 // The file whose lines behind the first are these, with these parts. Where no memory is left the end is missing, and it
 // is no code file.
-fn filled(alloc: Global, lines: &str, parts: &str) -> String {
+fn file_with(alloc: Global, lines: &str, parts: &str) -> String {
     let mut text = String::new(alloc);
     let _ = text.push_str("superpascal code 1\n");
     let mut rest = parts.chars();
@@ -44,7 +44,7 @@ fn filled(alloc: Global, lines: &str, parts: &str) -> String {
 }
 
 // What is said of the code in a text.
-fn said(alloc: Global, text: &str) -> Says {
+fn answer_to(alloc: Global, text: &str) -> Says {
     let code = match decode(alloc, text.as_bytes()) {
         Ok(code) => code,
         Err(_) => return Says::Nothing,
@@ -59,7 +59,7 @@ fn said(alloc: Global, text: &str) -> Says {
 /// Asserts what is said of the file with these lines behind its first one, with the parts of each row.
 pub(crate) fn expect(rt: &impl Abort, alloc: Global, lines: &str, rows: &[Row]) {
     for (parts, says) in rows {
-        let text = filled(alloc, lines, parts);
-        assert_eq!(rt; said(alloc, text.as_str()), *says, "{parts}");
+        let text = file_with(alloc, lines, parts);
+        assert_eq!(rt; answer_to(alloc, text.as_str()), *says, "{parts}");
     }
 }

@@ -1,6 +1,6 @@
 //! The test of a function that calls itself without end, on a thread with a large stack.
 
-use crate::programs::{LIMITS, first_fault};
+use crate::programs::{Ended, LIMITS, is_run};
 use sp_base::{Fault, Limits};
 use std::test::Fail;
 use std::thread::Builder;
@@ -18,10 +18,10 @@ const AGAIN: &str =
 #[test]
 fn a_function_that_calls_itself_without_end(rt: HostRuntime) -> Result<(), Fail> {
     let alloc = rt.alloc();
-    let thread = Builder::new()
-        .stack_size(0x1000_0000)
-        .spawn(&rt, move || first_fault(alloc, &DEEP, AGAIN))?;
-    let fault = thread.join(&rt);
-    assert!(rt; fault == Some(Fault::F11));
+    let thread = Builder::new().stack_size(0x1000_0000).spawn(
+        &rt,
+        move || is_run(alloc, &DEEP, AGAIN, (&[0], 1, "", Ended::Fault(Fault::F11))),
+    )?;
+    assert!(rt; thread.join(&rt));
     Ok(())
 }

@@ -5,7 +5,6 @@ use sp_base::{Fault, Limits, List, Pair, ProcName};
 use sp_front::typed;
 use sp_journal::End;
 use sp_run::{Meant, meaning_run};
-use sp_tree::Checked;
 use std::alloc::Global;
 use std::process::Abort;
 
@@ -54,33 +53,17 @@ fn schedule(alloc: Global, numbers: &[u32]) -> List<ProcName> {
     out
 }
 
-fn given<T: Drop, E: Drop>(answer: Result<T, E>) -> Option<T> {
-    match answer {
-        Ok(value) => Some(value),
-        Err(_) => None,
-    }
-}
-
-fn meant(alloc: Global, limits: &Limits, program: &Checked, numbers: &[u32]) -> Option<Meant> {
+// What the schedule means of the text, if its names and types break no rule.
+fn meaning_of(alloc: Global, limits: &Limits, text: &str, numbers: &[u32]) -> Option<Meant> {
+    let program = typed(alloc, text.as_bytes()).ok()?;
     let schedule = schedule(alloc, numbers);
-    let meant = given(meaning_run(program, b"", limits, &schedule));
+    let meant = meaning_run(&program, b"", limits, &schedule).ok();
+    drop(program);
     drop(schedule);
     meant
 }
 
-// What the schedule means of the text, if its names and types break no rule.
-fn meant_by(alloc: Global, limits: &Limits, text: &str, numbers: &[u32]) -> Option<Meant> {
-    match given(typed(alloc, text.as_bytes())) {
-        Some(program) => {
-            let meant = meant(alloc, limits, &program, numbers);
-            drop(program);
-            meant
-        }
-        None => None,
-    }
-}
-
-fn how_it_ended(meant: &Meant) -> Ended {
+fn end_of(meant: &Meant) -> Ended {
     match &meant.end {
         None => Ended::NotYet,
         Some(End::Done) => Ended::Done,
@@ -90,12 +73,14 @@ fn how_it_ended(meant: &Meant) -> Ended {
     }
 }
 
-fn is_run(meant: Option<Meant>, steps: u64, output: &str, end: Ended) -> bool {
-    match meant {
+/// Whether this is a run of a text under these limits.
+pub fn is_run(alloc: Global, limits: &Limits, text: &str, run: Run) -> bool {
+    let (numbers, steps, output, end) = run;
+    match meaning_of(alloc, limits, text, numbers) {
         Some(meant) => {
             let is_so = meant.steps == steps
                 && meant.output.bytes() == output.as_bytes()
-                && how_it_ended(&meant) == end;
+                && end_of(&meant) == end;
             drop(meant);
             is_so
         }
@@ -103,25 +88,9 @@ fn is_run(meant: Option<Meant>, steps: u64, output: &str, end: Ended) -> bool {
     }
 }
 
-/// Asserts each of these runs of a text.
-pub fn expect(rt: &impl Abort, alloc: Global, text: &str, runs: &[Run]) {
-    for &(numbers, steps, output, end) in runs {
-        let meant = meant_by(alloc, &LIMITS, text, numbers);
-        assert!(rt; is_run(meant, steps, output, end), "{text}");
-    }
-}
-
-/// The fault of the first step of a text, if it has one.
-pub fn first_fault(alloc: Global, limits: &Limits, text: &str) -> Option<Fault> {
-    match meant_by(alloc, limits, text, &[0]) {
-        Some(meant) => {
-            let end = how_it_ended(&meant);
-            drop(meant);
-            match end {
-                Ended::Fault(fault) => Some(fault),
-                _ => None,
-            }
-        }
-        None => None,
+/// Asserts each of these runs of a text under these limits.
+pub fn expect(rt: &impl Abort, alloc: Global, limits: &Limits, text: &str, runs: &[Run]) {
+    for run in runs {
+        assert!(rt; is_run(alloc, limits, text, *run), "{text}");
     }
 }

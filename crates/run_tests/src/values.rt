@@ -1,6 +1,6 @@
 //! Tests of one process: what it writes, and the faults of its steps.
 
-use crate::programs::{Ended, LIMITS, expect, first_fault};
+use crate::programs::{Ended, LIMITS, expect};
 use sp_base::{Fault, Limits};
 
 #[test]
@@ -11,7 +11,7 @@ fn schedules_before_the_end_and_to_it(rt: HostRuntime) {
         (&[0, 0, 0], 3, "42", Ended::Done),
         (&[0, 0, 0, 0], 3, "42", Ended::Done),
     ];
-    expect(&rt, rt.alloc(), text, &runs);
+    expect(&rt, rt.alloc(), &LIMITS, text, &runs);
 }
 
 const NO_TICKS: Limits = Limits { ticks: 0, ..LIMITS };
@@ -36,15 +36,10 @@ fn faults_of_first_steps(rt: HostRuntime) {
         ),
     ];
     for (text, fault) in rows {
-        assert_eq!(rt;
-            first_fault(rt.alloc(), &LIMITS, text),
-            Some(fault),
-            "{text}"
-        );
+        let run = ([0].as_slice(), 1, "", Ended::Fault(fault));
+        expect(&rt, rt.alloc(), &LIMITS, text, &[run]);
     }
     let endless = "program f; begin while true do end.";
-    assert_eq!(rt;
-        first_fault(rt.alloc(), &NO_TICKS, endless),
-        Some(Fault::F10)
-    );
+    let run = ([0].as_slice(), 1, "", Ended::Fault(Fault::F10));
+    expect(&rt, rt.alloc(), &NO_TICKS, endless, &[run]);
 }
