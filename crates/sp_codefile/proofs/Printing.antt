@@ -1,13 +1,14 @@
 -- Laws of the text of code as it is written, item by item.
-use Rattle.std.proofs.Common.{◌≡◌, ℕ, suc, ◌+◌, ◌-◌, ◌<◌, List, [], ◌∷◌, ◌++◌, length, take, get_or, refl, sym, ap, ◌∙◌}
-use Rattle.std.proofs.Common.{arith, append_assoc, append-nil, length-append, codes, decimal, All, subst}
+use Rattle.std.proofs.Common.{◌≡◌, ℕ, suc, ◌+◌, ◌-◌, ◌<◌, ◌≤◌, List, [], ◌∷◌, ◌++◌, length, take, get_or, refl, sym, ap}
+use Rattle.std.proofs.Common.{◌∙◌, arith, append_assoc, append-nil, length-append, codes, decimal, All, subst}
 use Rattle.sp_code.specs.declared.instr.Instr.{Instr}
+use Rattle.std.proofs.lemmas.List.{take_all}
 use Rattle.std.proofs.lemmas.List.Elements.{All-more}
 use Rattle.std.specs.List.{flat_map}
 use Rattle.std.proofs.Math.Seq.{take-suc, take-append_seam}
 use Rattle.std.proofs.lemmas.Grind.{flat_map-append}
 use Rattle.sp_code.specs.declared.code.ChildTable.{ChildTable}
-use Rattle.sp_code.specs.Listing.{number_text, child_line, instr_line, instr_text}
+use Rattle.sp_code.specs.Listing.{number_text, numbered_texts, child_line, instr_line, instr_text}
 use Rattle.sp_codefile.specs.CodeText.{body, line, index_text, child_text}
 
 -- the text of one item more
@@ -39,6 +40,12 @@ child_lists c = codes " moves" ++ flat_map number_text c.moved ++ codes " shares
 
 regrouped : (e m f s g : List ℕ) → e ++ (m ++ f ++ s ++ g) ≡ e ++ m ++ f ++ s ++ g
 regrouped e m f s g = simp append_assoc refl
+
+-- a layout's line, part by part
+pub regrouped_line : (a b c d e f g h i j k : List ℕ)
+    → (((((((((a ++ b) ++ c) ++ d) ++ e) ++ f) ++ g) ++ h) ++ i) ++ j) ++ k
+    ≡ a ++ b ++ c ++ d ++ e ++ f ++ g ++ h ++ i ++ j ++ k
+regrouped_line a b c d e f g h i j k = simp append_assoc refl
 
 pub child_body : (t k : ℕ) (c : ChildTable) → body (child_line t k c) ≡ child_entry t k c ++ child_lists c
 child_body t k c =
@@ -78,3 +85,20 @@ instr_is_line n x = regroup (decimal n) (codes " ") (instr_text x) (codes "\n")
   where
     regroup : (a b c d : List ℕ) → (a ++ b ++ c) ++ d ≡ a ++ b ++ c ++ d
     regroup a b c d = simp append_assoc refl
+
+-- what stands after a call, and then after another one, if memory was refused in neither
+pub both_put : {L M N P Q R : Type 0} → (M → L × P) → (N → M × Q) → (P → Q → R) → N → L × R
+both_put f g h n = let m = g n in let l = f m.0 in (l.0, h l.1 m.1)
+
+-- what follows from what stands after a call, if memory was not refused
+pub so_put : {L N P Q : Type 0} → (N → L × P) → (P → Q) → N → L × Q
+so_put f h n = let l = f n in (l.0, h l.1)
+
+-- the texts of all items
+pub text_whole : {X : Type 0} (text : X → List ℕ) (xs : List X) (i : ℕ) (old new : List ℕ) → length xs ≤ i
+    → new ≡ old ++ flat_map text (take i xs) → new ≡ old ++ flat_map text xs
+text_whole text xs i old new l e = e ∙ ap (λ (ys : List _). old ++ flat_map text ys) (take_all i xs l)
+
+pub numbered_whole : {X : Type 0} (text : ℕ → X → List ℕ) (xs : List X) (i : ℕ) (old new : List ℕ) → length xs ≤ i
+    → new ≡ old ++ numbered_texts text 0 (take i xs) → new ≡ old ++ numbered_texts text 0 xs
+numbered_whole text xs i old new l e = e ∙ ap (λ (ys : List _). old ++ numbered_texts text 0 ys) (take_all i xs l)

@@ -7,13 +7,16 @@ ghost use Rattle.sp_codefile.specs.CodeText.{IsCode};
 ghost use Rattle.sp_codefile.specs.Decoding.{Decodes};
 ghost use Rattle.sp_codefile.specs.Items.{last_children, with_child, item_text, ItemFits, HasRoom, after_item};
 ghost use Rattle.sp_codefile.specs.Items.{IsNextItem};
+ghost use Rattle.sp_writer.specs.Adds.{Adds};
 
+use crate::have;
 use crate::item::Item;
 use crate::reading::read_line;
 use crate::writing::{put_child, put_instr, put_layout, put_text};
 use sp_base::{List, Memory};
 use sp_code::{ChildTable, Code, ForkTable, MAX_CODE, MAX_FRAME, Parts};
 use sp_journal::split_first;
+use sp_writer::Writer;
 use std::alloc::Global;
 use thiserror::Error;
 
@@ -48,10 +51,10 @@ fn last_children(forks: &List<ForkTable>) -> usize
 }
 
 /// Puts the line of the item that comes next, without its line feed.
-fn put_item(out: &mut Vec<u8>, parts: &Parts, item: &Item) -> Result<(), Memory>
+fn put_item(out: &mut Writer<u8>, parts: &Parts, item: &Item)
     requires { HasRoom parts.now item.now }
-    ensures text { OnOk result (out.new.items ≡ out.old.items ++ item_text parts.now item.now) }
-    ensures fits { OnOk result (ItemFits item.now) }
+    ensures text { Adds out.old out.new (item_text parts.now item.now) }
+    ensures fits { ItemFits item.now }
 {
     match item {
         Item::Layout(layout) => put_layout(out, layout),
@@ -93,12 +96,13 @@ fn next(alloc: Global, parts: &Parts, line: &[u8]) -> Result<Option<Item>, Memor
     requires { IsCode parts.now }
     ensures { IfOk result (IsNextItem parts.now line.now) }
 {
-    let item = read_line(alloc, line)?;
+    let item = have!(read_line(alloc, line));
     if !has_room(parts, &item) {
         return Ok(None);
     }
-    let mut text = Vec::new(alloc);
-    put_item(&mut text, parts, &item)?;
+    let mut text = Writer::new(alloc);
+    put_item(&mut text, parts, &item);
+    let text = have!(text.finish());
     if text.as_slice() == line {
         Ok(Some(item))
     } else {
@@ -110,8 +114,8 @@ fn add_table(forks: &mut List<ForkTable>, child: ChildTable) -> Result<(), Memor
     ensures { OnOk result (forks.new ≡ forks.old ++ record { children = child ∷ [] } ∷ []) }
 {
     let mut children = List::new(forks.alloc());
-    children.push(child)?;
-    forks.push(ForkTable { children })?;
+    have!(children.push(child));
+    have!(forks.push(ForkTable { children }));
     Ok(())
 }
 
@@ -119,8 +123,8 @@ fn add_child(forks: &mut List<ForkTable>, child: ChildTable) -> Result<(), Memor
     ensures { OnOk result (forks.new ≡ with_child forks.old child) }
 {
     if let Some(mut table) = forks.pop() {
-        table.children.push(child)?;
-        forks.push(table)?;
+        have!(table.children.push(child));
+        have!(forks.push(table));
     }
     Ok(())
 }
@@ -130,11 +134,11 @@ fn add(parts: &mut Parts, item: Item) -> Result<(), Memory>
     ensures { OnOk result (parts.new ≡ after_item parts.old item) }
 {
     match item {
-        Item::Layout(layout) => parts.layouts.push(layout)?,
-        Item::Text(text) => parts.texts.push(text)?,
-        Item::Instr(instr) => parts.instrs.push(instr)?,
-        Item::Table(child) => add_table(&mut parts.forks, child)?,
-        Item::Child(child) => add_child(&mut parts.forks, child)?,
+        Item::Layout(layout) => have!(parts.layouts.push(layout)),
+        Item::Text(text) => have!(parts.texts.push(text)),
+        Item::Instr(instr) => have!(parts.instrs.push(instr)),
+        Item::Table(child) => have!(add_table(&mut parts.forks, child)),
+        Item::Child(child) => have!(add_child(&mut parts.forks, child)),
     }
     Ok(())
 }
@@ -160,10 +164,10 @@ pub fn decode(alloc: Global, bytes: &[u8]) -> Result<Code, DecodeError>
         let Some((text, behind)) = split_first(rest, b'\n') else {
             return Err(DecodeError::BadLine(line)); // it has no line feed
         };
-        let Some(item) = next(alloc, &parts, text)? else {
+        let Some(item) = have!(next(alloc, &parts, text), DecodeError::Memory) else {
             return Err(DecodeError::BadLine(line));
         };
-        add(&mut parts, item)?;
+        have!(add(&mut parts, item), DecodeError::Memory);
         rest = behind;
         line += 1;
     }

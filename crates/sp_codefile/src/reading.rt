@@ -16,6 +16,7 @@ ghost use Rattle.sp_codefile.specs.CodeText.{LayoutFits, ChildFits};
 ghost use Rattle.sp_codefile.specs.Items.{item_text, CanFollow};
 ghost use Rattle.sp_codefile.specs.Lines.{layout_words, child_words, digit_value, bytes_of, kind_of};
 
+use crate::have;
 use crate::item::Item;
 use crate::opcodes::read_instr;
 use crate::words::{after, blank_cut, class_cut, next_word, number};
@@ -31,7 +32,7 @@ fn numbers(alloc: Global, text: &[u8]) -> Result<List<u32>, Memory>
     let mut rest = text;
     while !rest.is_empty() {
         let (word, behind) = next_word(rest);
-        numbers.push(number(word))?;
+        have!(numbers.push(number(word)));
         rest = behind;
     }
     Ok(numbers)
@@ -58,7 +59,7 @@ fn formals(alloc: Global, text: &[u8]) -> Result<List<Formal>, Memory>
     while !rest.is_empty() {
         let (name, behind) = next_word(rest);
         let (cells, behind) = next_word(behind);
-        formals.push(formal(name, number(cells)))?;
+        have!(formals.push(formal(name, number(cells))));
         rest = behind;
     }
     Ok(formals)
@@ -97,9 +98,9 @@ fn read_layout(alloc: Global, text: &[u8]) -> Result<Layout, Memory>
     let (_, rest) = next_word(rest);
     let (variables, rest) = class_cut(rest, b'a', b'z');
     let (_, parameters) = next_word(rest);
-    let sizes = numbers(alloc, sizes)?;
-    let variables = numbers(alloc, variables)?;
-    let formals = formals(alloc, parameters)?;
+    let sizes = have!(numbers(alloc, sizes));
+    let variables = have!(numbers(alloc, variables));
+    let formals = have!(formals(alloc, parameters));
     Ok(Layout {
         block: number(block),
         entry: number(entry),
@@ -130,7 +131,7 @@ fn read_bytes(alloc: Global, text: &[u8]) -> Result<Vec<u8>, Memory>
     let mut out = Vec::new(alloc);
     let mut rest = text;
     while rest.len() >= 2 {
-        out.push(value(rest[0]) * 16 + value(rest[1]))?;
+        have!(out.push(value(rest[0]) * 16 + value(rest[1])));
         rest = &rest[2..];
     }
     Ok(out)
@@ -165,8 +166,8 @@ fn read_child(alloc: Global, text: &[u8]) -> Result<Item, Memory>
     let (moved, rest) = class_cut(rest, b'a', b'z');
     let (_, rest) = next_word(rest);
     let (shared, rest) = class_cut(rest, b'a', b'z');
-    let moved = numbers(alloc, moved)?;
-    let shared = numbers(alloc, shared)?;
+    let moved = have!(numbers(alloc, moved));
+    let shared = have!(numbers(alloc, shared));
     let child = ChildTable {
         entry: number(entry),
         moved,
@@ -213,8 +214,8 @@ pub(crate) fn read_line(alloc: Global, line: &[u8]) -> Result<Item, Memory>
         → IfOk result (λ it. it ≡ x) }
 {
     match kind_of(line) {
-        Kind::Layout => Ok(Item::Layout(read_layout(alloc, after(line, 6))?)),
-        Kind::Text => Ok(Item::Text(Text::of(read_bytes(alloc, after(line, 5))?))),
+        Kind::Layout => Ok(Item::Layout(have!(read_layout(alloc, after(line, 6))))),
+        Kind::Text => Ok(Item::Text(Text::of(have!(read_bytes(alloc, after(line, 5)))))),
         Kind::Child => read_child(alloc, after(line, 5)),
         Kind::Instr => {
             let (_, rest) = blank_cut(line);

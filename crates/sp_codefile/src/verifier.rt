@@ -15,6 +15,7 @@ ghost use Rattle.sp_effects.specs.PassContexts.{IsPassContext};
 ghost use Rattle.sp_codefile.specs.declared.verifier.Rejected.TheVariants.{Memory as OutOfMemory};
 ghost use Rattle.sp_codefile.specs.Verifying.{IsRefused, KeepsBefore, Verifies, rule_of};
 
+use crate::have;
 use sp_areas::around::homes;
 use sp_areas::blocks::Blocks;
 use sp_areas::homeless::first_homeless;
@@ -149,7 +150,7 @@ fn keep_shapes(
     ensures ok { IfOk result (λ s. KeepsBefore code.now 3 × AreShapes code.now s) }
     ensures err { IfErr result (λ e. IsRefused code.now e) }
 {
-    match shapes_of(code, blocks, owners, homes)? {
+    match have!(shapes_of(code, blocks, owners, homes), Rejected::Memory) {
         Outcome::Broken(p) => Err(Rejected::Rule(VRule::V2, p)),
         Outcome::Kept(shapes) => Ok(shapes),
     }
@@ -164,7 +165,7 @@ fn keep_cells(code: &Code, blocks: &Blocks, shapes: &Shapes) -> Result<(), Rejec
     ensures err { IfErr result (λ e. IsRefused code.now e) }
 {
     keep(code, VRule::V3, first_passing(code, shapes))?;
-    let length = first_length(code, shapes)?;
+    let length = have!(first_length(code, shapes), Rejected::Memory);
     keep(code, VRule::V4, length)?;
     keep(code, VRule::V5, first_unfit(code, blocks, shapes))
 }
@@ -177,9 +178,9 @@ fn keep_effects(g: &PassContext, effects: &Effects) -> Result<(), Rejected>
     ensures ok { OnOk result (KeepsBefore g.now.code.now 9) }
     ensures err { IfErr result (λ e. IsRefused g.now.code.now e) }
 {
-    let handed = first_ill_handed(g, effects)?;
+    let handed = have!(first_ill_handed(g, effects), Rejected::Memory);
     keep(g.code, VRule::V6, handed)?;
-    let clash = first_clash(g, effects)?;
+    let clash = have!(first_clash(g, effects), Rejected::Memory);
     keep(g.code, VRule::V7, clash)?;
     keep(g.code, VRule::V8, first_loud(g, effects))
 }
@@ -192,7 +193,7 @@ fn keep_shaped(g: &PassContext) -> Result<(), Rejected>
     ensures err { IfErr result (λ e. IsRefused g.now.code.now e) }
 {
     keep_cells(g.code, g.blocks, g.shapes)?;
-    let effects = find_effects(g)?;
+    let effects = have!(find_effects(g), Rejected::Memory);
     keep_effects(g, &effects)
 }
 
@@ -235,10 +236,13 @@ fn keep_all(
     ensures ok { OnOk result (IsVerified code.now) }
     ensures err { IfErr result (λ e. IsRefused code.now e) }
 {
-    let first = first_v1(code, blocks, owners, homes, homeless)?;
+    let first = have!(
+        first_v1(code, blocks, owners, homes, homeless),
+        Rejected::Memory
+    );
     keep(code, VRule::V1, first)?;
     keep_between(code, blocks, owners, homes)?;
-    let round = first_round(code, owners)?;
+    let round = have!(first_round(code, owners), Rejected::Memory);
     keep(code, VRule::V9, round)
 }
 
@@ -249,9 +253,9 @@ fn keep_owned(code: &Code, blocks: &Blocks, owners: &List<Owner>) -> Result<(), 
     ensures ok { OnOk result (IsVerified code.now) }
     ensures err { IfErr result (λ e. IsRefused code.now e) }
 {
-    let led = led(code, blocks)?;
-    let homeless = first_homeless(code, blocks, &led)?;
-    let homes = homes(code, blocks, owners, led)?;
+    let led = have!(led(code, blocks), Rejected::Memory);
+    let homeless = have!(first_homeless(code, blocks, &led), Rejected::Memory);
+    let homes = have!(homes(code, blocks, owners, led), Rejected::Memory);
     keep_all(code, blocks, owners, &homes, homeless)
 }
 
@@ -261,7 +265,7 @@ fn keep_numbered(code: &Code, blocks: &Blocks) -> Result<(), Rejected>
     ensures ok { OnOk result (IsVerified code.now) }
     ensures err { IfErr result (λ e. IsRefused code.now e) }
 {
-    let owners = owners(code, blocks)?;
+    let owners = have!(owners(code, blocks), Rejected::Memory);
     keep_owned(code, blocks, &owners)
 }
 
@@ -271,7 +275,10 @@ fn judge(code: &Code) -> Result<(), Rejected>
     ensures err { IfErr result (λ e. IsRefused code.now e) }
 {
     let parts = code.parts();
-    let blocks = Blocks::of(parts.instrs.alloc(), parts.layouts.items())?;
+    let blocks = have!(
+        Blocks::of(parts.instrs.alloc(), parts.layouts.items()),
+        Rejected::Memory
+    );
     keep_numbered(code, &blocks)
 }
 

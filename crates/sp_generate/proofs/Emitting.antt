@@ -1,6 +1,6 @@
 -- The code of the first of several parts, and of the rest.
 use Rattle.std.proofs.Common.{◌≡◌, ℕ, List, [], ◌∷◌, ◌++◌, true, false, true≢false, refl, sym, ap, ◌∙◌, append_assoc}
-use Rattle.std.proofs.Common.{append-nil, Result, Ok, Err, OnOk}
+use Rattle.std.proofs.Common.{append-nil}
 use Rattle.sp_tree.specs.PlainChecked as c
 use Rattle.sp_tree.specs.Plain.{Program, ExprForm}
 use Rattle.sp_tree.specs.Bare.{bare_expression, bare_variable, bare_selectors, bare_actuals}
@@ -20,16 +20,6 @@ select_type p k (c.Field f) rest = refl
 -- behind what stands there
 behind : (base a b whole : List Instr) → a ++ b ≡ whole → (base ++ a) ++ b ≡ base ++ whole
 behind base a b whole e = append_assoc base a b ∙ ap (λ (xs : List Instr). base ++ xs) e
-
--- code behind code, where all went well
-pub added : {T E : Type 0} (r : Result T E) (old mid new a b whole : List Instr) → mid ≡ old ++ a
-    → OnOk r (new ≡ mid ++ b) → a ++ b ≡ whole → OnOk r (new ≡ old ++ whole)
-added (Ok v) old mid new a b whole e h k = h ∙ (ap (λ (xs : List Instr). xs ++ b) e ∙ behind old a b whole k)
-added (Err x) old mid new a b whole e h k = h
-
--- two parts, one behind the other
-pub both : (old mid new a b : List Instr) → mid ≡ old ++ a → new ≡ mid ++ b → new ≡ old ++ (a ++ b)
-both old mid new a b e h = h ∙ (ap (λ (xs : List Instr). xs ++ b) e ∙ append_assoc old a b)
 
 pub select_code : (p : Program) (sc : List Scope) (base : List Instr) (k : ℕ) (s : c.Selector) (rest : c.Selectors)
     → (base ++ selectors_code p sc k (bare_selectors (c.Select s c.Whole)))

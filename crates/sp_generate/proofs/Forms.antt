@@ -1,6 +1,6 @@
 -- What is written for the parts of a statement is what is to be written for the statement.
-use Rattle.std.proofs.Common.{◌≡◌, ℕ, suc, ◌+◌, ℤ, List, [], ◌∷◌, ◌++◌, Bool, if◌then◌else◌, Option, Some, Result}
-use Rattle.std.proofs.Common.{Ok, Err, OnOk, length, refl, sym, ap, ◌∙◌, arith, append_assoc, length-append, append-nil}
+use Rattle.std.proofs.Common.{◌≡◌, ℕ, suc, ◌+◌, ℤ, List, [], ◌∷◌, ◌++◌, Bool, if◌then◌else◌, Option, Some}
+use Rattle.std.proofs.Common.{length, refl, sym, ap, ◌∙◌, arith, append_assoc, length-append, append-nil}
 use Rattle.sp_base.specs.declared.place.Place.{Place}
 use Rattle.sp_tree.specs.PlainChecked as c
 use Rattle.sp_tree.specs.CheckedOf.{sends, receives}
@@ -19,7 +19,7 @@ use Rattle.sp_code.specs.Emitted.{code_all, code_children, code_arms, tables_in,
 use Rattle.sp_code.specs.Emitted.{texts_in, texts_of, texts_of_all, texts_of_arms}
 use Rattle.sp_code.proofs.Counts.{value_after, value_count, stmt_after, code_count, children_after, children_count}
 use Rattle.sp_code.proofs.Counts.{arms_after, arms_count, tests_after, tests_count, texts_count}
-use Rattle.sp_generate.specs.declared.code_buffer.CodeBuffer.{CodeBuffer}
+use Rattle.sp_generate.specs.Written.{WrittenCode}
 use Rattle.sp_generate.specs.Views.{call_code}
 use Rattle.sp_generate.specs.Steps.{for_instr, next_instr}
 use Rattle.sp_generate.specs.Tables.{child, children, tables, form_tables, tables_all, tables_children, tables_arms}
@@ -32,44 +32,42 @@ use Rattle.sp_generate.specs.Written.{receives_code}
 use Rattle.sp_generate.proofs.CaseTests.{ends_filled, tests_filled, blank_length}
 
 -- instructions alone
-abbrev alone : CodeBuffer → List Instr → CodeBuffer
+abbrev alone : WrittenCode → List Instr → WrittenCode
 alone d xs = record { instrs = d.instrs ++ xs; forks = d.forks ++ []; texts = d.texts ++ [] }
 
-plain_is : (d : CodeBuffer) (xs : List Instr) → with_code d xs ≡ alone d xs
+plain_is : (d : WrittenCode) (xs : List Instr) → with_code d xs ≡ alone d xs
 plain_is d xs = λ k. record {
   instrs = d.instrs ++ xs;
   forks = sym (append-nil d.forks) k;
   texts = sym (append-nil d.texts) k;
 }
 
--- instructions that were written, where all went well
-pub wrote : {T E : Type 0} (r : Result T E) (d e : CodeBuffer) (ys xs : List Instr) → OnOk r (ys ≡ d.instrs ++ xs)
-    → with_code d xs ≡ e → OnOk r (buffer_of ys (d.forks) (d.texts) ≡ e)
-wrote (Ok v) d e ys xs h k = ap (λ (zs : List Instr). buffer_of zs (d.forks) (d.texts)) h ∙ k
-wrote (Err x) d e ys xs h k = h
+-- a buffer in which instructions were put last
+pub wrote : {K L : Type 0} (d : WrittenCode) (xs : List Instr) {e : WrittenCode} {ys : List Instr}
+    → (K → L × (ys ≡ d.instrs ++ xs)) → with_code d xs ≡ e → K → L × (buffer_of ys d.forks d.texts ≡ e)
+wrote d xs h s k = let r = h k in (r.0, ap (λ (zs : List Instr). buffer_of zs d.forks d.texts) r.1 ∙ s)
 
--- a buffer that was made, where all went well
-pub went : {T E : Type 0} (r : Result T E) (x y z : CodeBuffer) → OnOk r (x ≡ y) → y ≡ z → OnOk r (x ≡ z)
-went (Ok v) x y z h k = h ∙ k
-went (Err e) x y z h k = h
+-- a buffer that was made
+pub went : {K L : Type 0} {x y z : WrittenCode} → (K → L × (x ≡ y)) → y ≡ z → K → L × (x ≡ z)
+went h e k = let r = h k in (r.0, r.1 ∙ e)
 
 two_of : {A : Type 0} (xs ys : List A) (m : ℕ) → length ys ≡ m → length (xs ++ ys) ≡ length xs + m
 two_of xs ys m e = omega (arith, length-append xs ys, e)
 
 module _ (p : b.Program) (mv sh : ℕ → List ℕ) (sc : List Scope) where
-  pub statement_is : (d : CodeBuffer) (m : ℕ) (at : Place) (form : c.Form)
+  pub statement_is : (d : WrittenCode) (m : ℕ) (at : Place) (form : c.Form)
       → buffer_after_form p mv sh d sc form ≡ buffer_after p mv sh d sc (c.Does m at form)
   unfolding buffer_after buffer_after_form
   statement_is d m at form = refl
 
-  pub sequence_is : (d : CodeBuffer) (ss : c.Statements)
+  pub sequence_is : (d : WrittenCode) (ss : c.Statements)
       → buffer_after_all p mv sh d sc ss ≡ buffer_after_form p mv sh d sc (c.Sequence ss)
   unfolding buffer_after_all buffer_after_form
   sequence_is d ss = refl
 
   -- ---- statements with no statement inside
 
-  pub empty_is : (d : CodeBuffer) → d ≡ buffer_after_form p mv sh d sc c.Empty
+  pub empty_is : (d : WrittenCode) → d ≡ buffer_after_form p mv sh d sc c.Empty
   unfolding buffer_after_form
   empty_is d = λ k. record {
     instrs = sym (append-nil d.instrs) k;
@@ -80,7 +78,7 @@ module _ (p : b.Program) (mv sh : ℕ → List ℕ) (sc : List Scope) where
   assigned : (t n q : ℕ) (v : b.Var) (e : b.Expr) → assign_code p sc v e ≡ code p sc t n q (b.Assign v e)
   assigned t n q v (b.Typed k form) = refl
 
-  pub assign_is : (d : CodeBuffer) (v : c.Variable) (e : c.Expression)
+  pub assign_is : (d : WrittenCode) (v : c.Variable) (e : c.Expression)
       → with_code d (assign_code p sc (bare_variable v) (bare_expression e)) ≡ buffer_after_form p mv sh d sc
       (c.Assign v e)
   unfolding buffer_after_form
@@ -89,27 +87,27 @@ module _ (p : b.Program) (mv sh : ℕ → List ℕ) (sc : List Scope) where
       ∙ ap (alone d) (assigned (length d.forks) (length d.texts) (length d.instrs) (bare_variable v)
       (bare_expression e))
 
-  pub call_is : (d : CodeBuffer) (f : ℕ) (args : c.Actuals)
+  pub call_is : (d : WrittenCode) (f : ℕ) (args : c.Actuals)
       → with_code d (call_code p sc f (bare_actuals args)) ≡ buffer_after_form p mv sh d sc (c.Call f args)
   unfolding buffer_after_form
   call_is d f args = plain_is d _
 
-  pub assume_is : (d : CodeBuffer) (e : c.Expression)
+  pub assume_is : (d : WrittenCode) (e : c.Expression)
       → with_code d (value_code p sc (bare_expression e) ++ i.Assume ∷ []) ≡ buffer_after_form p mv sh d sc (c.Assume e)
   unfolding buffer_after_form
   assume_is d e = plain_is d _
 
-  pub read_is : (d : CodeBuffer) (v : c.Variable)
+  pub read_is : (d : WrittenCode) (v : c.Variable)
       → with_code d (var_code p sc (bare_variable v) ++ reading_instr (kind_at p (type_of p (bare_variable v))) ∷ [])
       ≡ buffer_after_form p mv sh d sc (c.ReadValue v)
   unfolding buffer_after_form
   read_is d v = plain_is d _
 
-  pub readln_is : (d : CodeBuffer) → with_code d (i.Readln ∷ []) ≡ buffer_after_form p mv sh d sc c.ReadLine
+  pub readln_is : (d : WrittenCode) → with_code d (i.Readln ∷ []) ≡ buffer_after_form p mv sh d sc c.ReadLine
   unfolding buffer_after_form
   readln_is d = plain_is d _
 
-  pub write_is : (d : CodeBuffer) (e : c.Expression) (w : Option c.Expression)
+  pub write_is : (d : WrittenCode) (e : c.Expression) (w : Option c.Expression)
       → with_code d (value_code p sc (bare_expression e)
       ++ (width_code p sc (bare_width w)
       ++ write_instr (kind_at p (kind_of (bare_expression e))) (is_given (bare_width w)) ∷ []))
@@ -117,30 +115,30 @@ module _ (p : b.Program) (mv sh : ℕ → List ℕ) (sc : List Scope) where
   unfolding buffer_after_form
   write_is d e w = plain_is d _
 
-  pub writeln_is : (d : CodeBuffer) → with_code d (i.Writeln ∷ []) ≡ buffer_after_form p mv sh d sc c.WriteLine
+  pub writeln_is : (d : WrittenCode) → with_code d (i.Writeln ∷ []) ≡ buffer_after_form p mv sh d sc c.WriteLine
   unfolding buffer_after_form
   writeln_is d = plain_is d _
 
-  pub open_is : (d : CodeBuffer) (v : c.Variable)
+  pub open_is : (d : WrittenCode) (v : c.Variable)
       → with_code d (var_code p sc (bare_variable v) ++ i.Open ∷ []) ≡ buffer_after_form p mv sh d sc (c.Open v)
   unfolding buffer_after_form
   open_is d v = plain_is d _
 
-  pub send_is : (d : CodeBuffer) (ch e : c.Expression)
+  pub send_is : (d : WrittenCode) (ch e : c.Expression)
       → with_code d (value_code p sc (bare_expression ch)
       ++ (value_code p sc (bare_expression e) ++ i.Send (kind_of (bare_expression e)) ∷ []))
       ≡ buffer_after_form p mv sh d sc (c.Send ch e)
   unfolding buffer_after_form
   send_is d ch e = plain_is d _
 
-  pub receive_is : (d : CodeBuffer) (ch : c.Expression) (v : c.Variable)
+  pub receive_is : (d : WrittenCode) (ch : c.Expression) (v : c.Variable)
       → with_code d (value_code p sc (bare_expression ch)
       ++ (var_code p sc (bare_variable v) ++ i.Receive (type_of p (bare_variable v)) ∷ []))
       ≡ buffer_after_form p mv sh d sc (c.Receive ch v)
   unfolding buffer_after_form
   receive_is d ch v = plain_is d _
 
-  pub text_is : (d : CodeBuffer) (t : List ℕ) (w : Option c.Expression) (xs : List Instr)
+  pub text_is : (d : WrittenCode) (t : List ℕ) (w : Option c.Expression) (xs : List Instr)
       → xs ≡ d.instrs ++ (width_code p sc (bare_width w)
       ++ (if is_given (bare_width w) then i.WritewText (length d.texts) else i.WriteText (length d.texts)) ∷ [])
       → buffer_of xs (d.forks) (d.texts ++ t ∷ []) ≡ buffer_after_form p mv sh d sc (c.WriteText t w)
@@ -169,7 +167,7 @@ module _ (p : b.Program) (mv sh : ℕ → List ℕ) (sc : List Scope) where
   sends_texts m at ch [] = refl
   sends_texts m at ch (e ∷ es) = sends_texts (m + 1) at ch es
 
-  pub sends_are : (d : CodeBuffer) (m : ℕ) (at : Place) (ch : c.Expression) (es : List c.Expression)
+  pub sends_are : (d : WrittenCode) (m : ℕ) (at : Place) (ch : c.Expression) (es : List c.Expression)
       → with_code d (sends_code p sc (bare_expression ch) es)
       ≡ buffer_after_form p mv sh d sc (c.Sequence (sends m at ch es))
   unfolding buffer_after_form
@@ -205,7 +203,7 @@ module _ (p : b.Program) (mv sh : ℕ → List ℕ) (sc : List Scope) where
   receives_texts m at ch [] = refl
   receives_texts m at ch (v ∷ vs) = receives_texts (m + 1) at ch vs
 
-  pub receives_are : (d : CodeBuffer) (m : ℕ) (at : Place) (ch : c.Expression) (vs : List c.Variable)
+  pub receives_are : (d : WrittenCode) (m : ℕ) (at : Place) (ch : c.Expression) (vs : List c.Variable)
       → with_code d (receives_code p sc (bare_expression ch) vs)
       ≡ buffer_after_form p mv sh d sc (c.Sequence (receives m at ch vs))
   unfolding buffer_after_form
@@ -283,7 +281,7 @@ module _ (p : b.Program) (mv sh : ℕ → List ℕ) (sc : List Scope) where
 
   -- ---- sequences
 
-  pub all_none : (d : CodeBuffer) → buffer_after_all p mv sh d sc c.NoStatement ≡ d
+  pub all_none : (d : WrittenCode) → buffer_after_all p mv sh d sc c.NoStatement ≡ d
   unfolding buffer_after_all
   all_none d = λ k. record {
     instrs = append-nil d.instrs k;
@@ -291,7 +289,7 @@ module _ (p : b.Program) (mv sh : ℕ → List ℕ) (sc : List Scope) where
     texts = append-nil d.texts k;
   }
 
-  pub all_step : (d : CodeBuffer) (s : c.Statement) (rest : c.Statements)
+  pub all_step : (d : WrittenCode) (s : c.Statement) (rest : c.Statements)
       → buffer_after_all p mv sh (buffer_after p mv sh d sc s) sc rest ≡ buffer_after_all p mv sh d sc
       (c.AndThen s rest)
   unfolding buffer_after buffer_after_all
@@ -314,7 +312,7 @@ module _ (p : b.Program) (mv sh : ℕ → List ℕ) (sc : List Scope) where
 
   -- ---- conditions
 
-  pub if_is : (d : CodeBuffer) (e : c.Expression) (s : c.Statement)
+  pub if_is : (d : WrittenCode) (e : c.Expression) (s : c.Statement)
       → buffer_after_branch p mv sh (with_code d (value_code p sc (bare_expression e))) sc s 0
       ≡ buffer_after_form p mv sh d sc (c.If e s c.NoElse)
   unfolding buffer_after_form buffer_after_branch
@@ -347,7 +345,7 @@ module _ (p : b.Program) (mv sh : ℕ → List ℕ) (sc : List Scope) where
     stmt_after p (q + 1) s,
   )
 
-  pub if_else_is : (d : CodeBuffer) (e : c.Expression) (s o : c.Statement)
+  pub if_else_is : (d : WrittenCode) (e : c.Expression) (s o : c.Statement)
       → buffer_after_passed p mv sh (buffer_after_branch p mv sh (with_code d (value_code p sc (bare_expression e))) sc
       s 1) sc o
       ≡ buffer_after_form p mv sh d sc (c.If e s (c.Else o))
@@ -389,7 +387,7 @@ module _ (p : b.Program) (mv sh : ℕ → List ℕ) (sc : List Scope) where
 
   -- ---- loops
 
-  pub while_is : (d : CodeBuffer) (e : c.Expression) (s : c.Statement)
+  pub while_is : (d : WrittenCode) (e : c.Expression) (s : c.Statement)
       → buffer_after_loop p mv sh (with_code d (value_code p sc (bare_expression e))) sc s i.Jumpf
       (i.Jump (length d.instrs))
       ≡ buffer_after_form p mv sh d sc (c.While e s)
@@ -406,7 +404,7 @@ module _ (p : b.Program) (mv sh : ℕ → List ℕ) (sc : List Scope) where
         texts = d.texts ++ texts_of st;
       }
 
-  pub repeat_is : (d : CodeBuffer) (s : c.Statement) (e : c.Expression)
+  pub repeat_is : (d : WrittenCode) (s : c.Statement) (e : c.Expression)
       → with_code (with_code (buffer_after p mv sh (with_code d (i.Tick ∷ [])) sc s)
       (value_code p sc (bare_expression e)))
       (i.Jumpf (length d.instrs) ∷ []) ≡ buffer_after_form p mv sh d sc (c.Repeat s e)
@@ -426,7 +424,7 @@ module _ (p : b.Program) (mv sh : ℕ → List ℕ) (sc : List Scope) where
         texts = d.texts ++ texts_of st;
       }
 
-  pub for_is : (d : CodeBuffer) (x : ℕ) (at : Place) (from : c.Expression) (down : Bool) (to : c.Expression)
+  pub for_is : (d : WrittenCode) (x : ℕ) (at : Place) (from : c.Expression) (down : Bool) (to : c.Expression)
       (s : c.Statement)
       → buffer_after_loop p mv sh (with_code (with_code d (value_code p sc (bare_expression from)))
       (value_code p sc (bare_expression to))) sc s (for_instr down (slot p x))
@@ -454,7 +452,7 @@ module _ (p : b.Program) (mv sh : ℕ → List ℕ) (sc : List Scope) where
 
   -- ---- processes
 
-  pub children_none : (d : CodeBuffer) → buffer_after_children p mv sh d sc c.NoStatement ≡ d
+  pub children_none : (d : WrittenCode) → buffer_after_children p mv sh d sc c.NoStatement ≡ d
   unfolding buffer_after_children
   children_none d = λ k. record {
     instrs = append-nil d.instrs k;
@@ -462,7 +460,7 @@ module _ (p : b.Program) (mv sh : ℕ → List ℕ) (sc : List Scope) where
     texts = append-nil d.texts k;
   }
 
-  pub child_is : (d : CodeBuffer) (s : c.Statement)
+  pub child_is : (d : WrittenCode) (s : c.Statement)
       → with_code (buffer_after p mv sh d sc s) (i.End ∷ []) ≡ buffer_after_children p mv sh d sc
       (c.AndThen s c.NoStatement)
   unfolding buffer_after buffer_after_children
@@ -484,7 +482,7 @@ module _ (p : b.Program) (mv sh : ℕ → List ℕ) (sc : List Scope) where
     stmt_after p q s,
   )
 
-  pub child_place : (d : CodeBuffer) (s : c.Statement)
+  pub child_place : (d : WrittenCode) (s : c.Statement)
       → length (buffer_after_children p mv sh d sc (c.AndThen s c.NoStatement)).instrs
       ≡ after_statement p (length d.instrs) (bare_statement s) + 1
   unfolding buffer_after_children
@@ -498,7 +496,7 @@ module _ (p : b.Program) (mv sh : ℕ → List ℕ) (sc : List Scope) where
   nil_texts : (xs : List (List ℕ)) (s : b.Stmt) → length (xs ++ (texts_of s ++ [])) ≡ length xs + texts_in s
   nil_texts xs s = (λ j. length (xs ++ append-nil (texts_of s) j)) ∙ texts_place xs s
 
-  pub children_step : (d : CodeBuffer) (s : c.Statement) (rest : c.Statements)
+  pub children_step : (d : WrittenCode) (s : c.Statement) (rest : c.Statements)
       → buffer_after_children p mv sh (buffer_after_children p mv sh d sc (c.AndThen s c.NoStatement)) sc rest
       ≡ buffer_after_children p mv sh d sc (c.AndThen s rest)
   unfolding buffer_after_children
@@ -528,7 +526,7 @@ module _ (p : b.Program) (mv sh : ℕ → List ℕ) (sc : List Scope) where
 
   -- ---- the statements of a `case`
 
-  pub arms_none : (d : CodeBuffer) (end : ℕ) → buffer_after_arms p mv sh d sc c.NoArm end ≡ d
+  pub arms_none : (d : WrittenCode) (end : ℕ) → buffer_after_arms p mv sh d sc c.NoArm end ≡ d
   unfolding buffer_after_arms
   arms_none d end = λ k. record {
     instrs = append-nil d.instrs k;
@@ -536,7 +534,7 @@ module _ (p : b.Program) (mv sh : ℕ → List ℕ) (sc : List Scope) where
     texts = append-nil d.texts k;
   }
 
-  pub arm_is : (d : CodeBuffer) (ms : List ℤ) (s : c.Statement) (end : ℕ)
+  pub arm_is : (d : WrittenCode) (ms : List ℤ) (s : c.Statement) (end : ℕ)
       → with_code (buffer_after p mv sh d sc s) (i.Jump end ∷ []) ≡ buffer_after_arms p mv sh d sc
       (c.Or (c.On ms s) c.NoArm) end
   unfolding buffer_after buffer_after_arms
@@ -547,14 +545,14 @@ module _ (p : b.Program) (mv sh : ℕ → List ℕ) (sc : List Scope) where
     texts = d.texts ++ sym (append-nil (texts_of (bare_statement s))) k;
   }
 
-  pub arm_place : (d : CodeBuffer) (ms : List ℤ) (s : c.Statement) (end : ℕ)
+  pub arm_place : (d : WrittenCode) (ms : List ℤ) (s : c.Statement) (end : ℕ)
       → length (buffer_after_arms p mv sh d sc (c.Or (c.On ms s) c.NoArm) end).instrs
       ≡ after_statement p (length d.instrs) (bare_statement s) + 1
   unfolding buffer_after_arms
   arm_place d ms s end = ended_place d.instrs (i.Jump end) (length d.forks) (length d.texts) (length d.instrs)
       (bare_statement s) refl
 
-  pub arms_step : (d : CodeBuffer) (ms : List ℤ) (s : c.Statement) (rest : c.Arms) (end : ℕ)
+  pub arms_step : (d : WrittenCode) (ms : List ℤ) (s : c.Statement) (rest : c.Arms) (end : ℕ)
       → buffer_after_arms p mv sh (buffer_after_arms p mv sh d sc (c.Or (c.On ms s) c.NoArm) end) sc rest end
       ≡ buffer_after_arms p mv sh d sc (c.Or (c.On ms s) rest) end
   unfolding buffer_after_arms
@@ -582,7 +580,7 @@ module _ (p : b.Program) (mv sh : ℕ → List ℕ) (sc : List Scope) where
             ∙ (λ j. d.texts ++ (append-nil xs j ++ texts_of_arms (bare_arms rest)))) k;
       }
 
-  pub case_is : (d : CodeBuffer) (e : c.Expression) (arms : c.Arms)
+  pub case_is : (d : WrittenCode) (e : c.Expression) (arms : c.Arms)
       → buffer_after_case p mv sh (with_code d (value_code p sc (bare_expression e))) sc arms
       ≡ buffer_after_form p mv sh d sc (c.Case e arms)
   unfolding buffer_after_form buffer_after_case
@@ -599,7 +597,7 @@ module _ (p : b.Program) (mv sh : ℕ → List ℕ) (sc : List Scope) where
         texts = d.texts ++ texts_of_arms bs;
       }
 
-  pub forall_is : (d : CodeBuffer) (x : ℕ) (from to : c.Expression) (s : c.Statement)
+  pub forall_is : (d : WrittenCode) (x : ℕ) (from to : c.Expression) (s : c.Statement)
       → buffer_after_forall p mv sh (with_code (with_code d (value_code p sc (bare_expression from)))
       (value_code p sc (bare_expression to))) sc x s ≡ buffer_after_form p mv sh d sc (c.Forall x from to s)
   unfolding buffer_after_form buffer_after_forall
@@ -633,7 +631,7 @@ module _ (p : b.Program) (mv sh : ℕ → List ℕ) (sc : List Scope) where
   one_more xs ys x e = omega (arith, ap length e, length-append xs (x ∷ []))
 
   -- a statement behind an instruction that is mended
-  holed : (d d2 : CodeBuffer) (s : c.Statement) (i1 xs : List Instr) (h y : Instr) (at : ℕ)
+  holed : (d d2 : WrittenCode) (s : c.Statement) (i1 xs : List Instr) (h y : Instr) (at : ℕ)
       → at ≡ length d.instrs → i1 ≡ d.instrs ++ h ∷ []
       → d2 ≡ buffer_after p mv sh (record { instrs = i1; forks = d.forks; texts = d.texts }) sc s
       → Mends d2.instrs at y xs
@@ -649,25 +647,25 @@ module _ (p : b.Program) (mv sh : ℕ → List ℕ) (sc : List Scope) where
   holed d d2 s i1 xs h y at ea e1 e2 mends =
       let cs = λ (u : ℕ). code p sc (length d.forks) (length d.texts) u (bare_statement s) in
       let eq = one_more d.instrs i1 h e1 in
-      let there : d2.instrs ≡ d.instrs ++ h ∷ cs (length i1) = ap (λ (x : CodeBuffer). x.instrs) e2
+      let there : d2.instrs ≡ d.instrs ++ h ∷ cs (length i1) = ap (λ (x : WrittenCode). x.instrs) e2
       ∙ ap (λ xs. xs ++ cs (length i1)) e1 ∙ append_assoc d.instrs (h ∷ []) (cs (length i1)) in
       let is = mends d.instrs (cs (length i1)) h there ea ∙ (λ j. d.instrs ++ (y ∷ cs (eq j))) in
-      let fs : d2.forks ≡ d.forks ++ tables p mv sh (length d.instrs + 1) s = ap (λ (x : CodeBuffer). x.forks) e2
+      let fs : d2.forks ≡ d.forks ++ tables p mv sh (length d.instrs + 1) s = ap (λ (x : WrittenCode). x.forks) e2
       ∙ (λ j. d.forks ++ tables p mv sh (eq j) s) in
-      let ts : d2.texts ≡ d.texts ++ texts_of (bare_statement s) = ap (λ (x : CodeBuffer). x.texts) e2 in
+      let ts : d2.texts ≡ d.texts ++ texts_of (bare_statement s) = ap (λ (x : WrittenCode). x.texts) e2 in
       λ k. record { instrs = is k; forks = fs k; texts = ts k }
 
   -- where the code of such a statement ends
-  holed_end : (d d2 : CodeBuffer) (s : c.Statement) (i1 : List Instr) (h : Instr) → i1 ≡ d.instrs ++ h ∷ []
+  holed_end : (d d2 : WrittenCode) (s : c.Statement) (i1 : List Instr) (h : Instr) → i1 ≡ d.instrs ++ h ∷ []
       → d2 ≡ buffer_after p mv sh (record { instrs = i1; forks = d.forks; texts = d.texts }) sc s
       → length d2.instrs ≡ after_statement p (length d.instrs + 1) (bare_statement s)
   unfolding buffer_after
   holed_end d d2 s i1 h e1 e2 =
-      ap (λ (x : CodeBuffer). length x.instrs) e2
+      ap (λ (x : WrittenCode). length x.instrs) e2
       ∙ code_place i1 (length d.forks) (length d.texts) (length i1) (bare_statement s)
       ∙ ap (λ (m : ℕ). after_statement p m (bare_statement s)) (one_more d.instrs i1 h e1)
 
-  pub branch_is : (d d2 : CodeBuffer) (s : c.Statement) (i1 xs : List Instr) (at end to beyond : ℕ)
+  pub branch_is : (d d2 : WrittenCode) (s : c.Statement) (i1 xs : List Instr) (at end to beyond : ℕ)
       → at ≡ length d.instrs → i1 ≡ d.instrs ++ i.Jumpf 0 ∷ []
       → d2 ≡ buffer_after p mv sh (record { instrs = i1; forks = d.forks; texts = d.texts }) sc s
       → end ≡ length d2.instrs → to ≡ end + beyond → Mends d2.instrs at (i.Jumpf to) xs
@@ -686,7 +684,7 @@ module _ (p : b.Program) (mv sh : ℕ → List ℕ) (sc : List Scope) where
         texts = d.texts ++ texts_of (bare_statement s);
       }
 
-  pub passed_is : (d d2 : CodeBuffer) (s : c.Statement) (i1 xs : List Instr) (at end : ℕ)
+  pub passed_is : (d d2 : WrittenCode) (s : c.Statement) (i1 xs : List Instr) (at end : ℕ)
       → at ≡ length d.instrs → i1 ≡ d.instrs ++ i.Jump 0 ∷ []
       → d2 ≡ buffer_after p mv sh (record { instrs = i1; forks = d.forks; texts = d.texts }) sc s
       → end ≡ length d2.instrs → Mends d2.instrs at (i.Jump end) xs
@@ -704,7 +702,7 @@ module _ (p : b.Program) (mv sh : ℕ → List ℕ) (sc : List Scope) where
         texts = d.texts ++ texts_of (bare_statement s);
       }
 
-  pub loop_is : (d d2 : CodeBuffer) (s : c.Statement) (i0 i1 i3 xs : List Instr) (leave : ℕ → Instr) (again : Instr)
+  pub loop_is : (d d2 : WrittenCode) (s : c.Statement) (i0 i1 i3 xs : List Instr) (leave : ℕ → Instr) (again : Instr)
       (at end : ℕ)
       → at ≡ length d.instrs → i0 ≡ d.instrs ++ leave 0 ∷ [] → i1 ≡ i0 ++ i.Tick ∷ []
       → d2 ≡ buffer_after p mv sh (record { instrs = i1; forks = d.forks; texts = d.texts }) sc s
@@ -716,7 +714,7 @@ module _ (p : b.Program) (mv sh : ℕ → List ℕ) (sc : List Scope) where
       let cs = λ (u : ℕ). code p sc (length d.forks) (length d.texts) u st in
       let eq : length i1 ≡ length d.instrs + 1 + 1 = one_more i0 i1 i.Tick e1
       ∙ ap (λ (m : ℕ). m + 1) (one_more d.instrs i0 (leave 0) e0) in
-      let body : d2.instrs ≡ i1 ++ cs (length i1) = ap (λ (x : CodeBuffer). x.instrs) e2 in
+      let body : d2.instrs ≡ i1 ++ cs (length i1) = ap (λ (x : WrittenCode). x.instrs) e2 in
       let two : i1 ≡ d.instrs ++ leave 0 ∷ i.Tick ∷ [] = e1 ∙ ap (λ xs. xs ++ i.Tick ∷ []) e0
       ∙ append_assoc d.instrs (leave 0 ∷ []) (i.Tick ∷ []) in
       let there : i3 ≡ d.instrs ++ leave 0 ∷ (i.Tick ∷ (cs (length i1) ++ again ∷ [])) =
@@ -729,12 +727,12 @@ module _ (p : b.Program) (mv sh : ℕ → List ℕ) (sc : List Scope) where
       ∙ ap (λ (m : ℕ). after_statement p m st) eq) in
       let is = mends d.instrs (i.Tick ∷ (cs (length i1) ++ again ∷ [])) (leave 0) there ea
       ∙ (λ j. d.instrs ++ (leave (lead j) ∷ (i.Tick ∷ (cs (eq j) ++ again ∷ [])))) in
-      let fs : d2.forks ≡ d.forks ++ tables p mv sh (length d.instrs + 1 + 1) s = ap (λ (x : CodeBuffer). x.forks) e2
+      let fs : d2.forks ≡ d.forks ++ tables p mv sh (length d.instrs + 1 + 1) s = ap (λ (x : WrittenCode). x.forks) e2
       ∙ (λ j. d.forks ++ tables p mv sh (eq j) s) in
-      let ts : d2.texts ≡ d.texts ++ texts_of st = ap (λ (x : CodeBuffer). x.texts) e2 in
+      let ts : d2.texts ≡ d.texts ++ texts_of st = ap (λ (x : WrittenCode). x.texts) e2 in
       λ k. record { instrs = is k; forks = fs k; texts = ts k }
 
-  pub spread_is : (d d2 : CodeBuffer) (x : ℕ) (s : c.Statement) (f1 : List ForkTable) (i0 i1 i3 xs : List Instr)
+  pub spread_is : (d d2 : WrittenCode) (x : ℕ) (s : c.Statement) (f1 : List ForkTable) (i0 i1 i3 xs : List Instr)
       (table : ForkTable) (number entry at end : ℕ)
       → number ≡ length d.forks → entry ≡ length d.instrs + 2 → table.children ≡ child p mv sh entry (Some x) s ∷ []
       → f1 ≡ d.forks ++ table ∷ [] → i0 ≡ d.instrs ++ i.Forall number ∷ [] → at ≡ length i0
@@ -750,7 +748,7 @@ module _ (p : b.Program) (mv sh : ℕ → List ℕ) (sc : List Scope) where
       let eq : length i1 ≡ q + 1 + 1 = one_more i0 i1 (i.Jump 0) e1
       ∙ ap (λ (m : ℕ). m + 1) (one_more d.instrs i0 (i.Forall number) e0) in
       let count : length f1 ≡ length d.forks + 1 = omega (arith, ap length ef, length-append d.forks (table ∷ [])) in
-      let body : d2.instrs ≡ i1 ++ cs (length f1) (length i1) = ap (λ (y : CodeBuffer). y.instrs) e2 in
+      let body : d2.instrs ≡ i1 ++ cs (length f1) (length i1) = ap (λ (y : WrittenCode). y.instrs) e2 in
       let there : i3 ≡ i0 ++ i.Jump 0 ∷ (cs (length f1) (length i1) ++ i.End ∷ []) =
       e3 ∙ ap (λ xs. xs ++ i.End ∷ []) (body ∙ ap (λ xs. xs ++ cs (length f1) (length i1)) e1)
       ∙ append_assoc (i0 ++ i.Jump 0 ∷ []) (cs (length f1) (length i1)) (i.End ∷ [])
@@ -777,16 +775,16 @@ module _ (p : b.Program) (mv sh : ℕ → List ℕ) (sc : List Scope) where
       ∙ (λ j. child p mv sh (here j) (Some x) s ∷ []) in
       let fs : d2.forks ≡ d.forks ++ (record { children = child p mv sh (q + 1 + 1) (Some x) s ∷ [] }
       ∷ tables p mv sh (q + 1 + 1) s) =
-      ap (λ (y : CodeBuffer). y.forks) e2 ∙ ap (λ ys. ys ++ tables p mv sh (length i1) s) ef
+      ap (λ (y : WrittenCode). y.forks) e2 ∙ ap (λ ys. ys ++ tables p mv sh (length i1) s) ef
       ∙ append_assoc d.forks (table ∷ []) (tables p mv sh (length i1) s)
       ∙ (λ j. d.forks ++ (record { children = lines j } ∷ tables p mv sh (eq j) s)) in
-      let ts : d2.texts ≡ d.texts ++ texts_of st = ap (λ (y : CodeBuffer). y.texts) e2 in
+      let ts : d2.texts ≡ d.texts ++ texts_of st = ap (λ (y : WrittenCode). y.texts) e2 in
       λ k. record { instrs = is k; forks = fs k; texts = ts k }
 
   abbrev MendsTable : List ForkTable → ℕ → ForkTable → List ForkTable → Type 0
   MendsTable xs at y ys = (a c : List ForkTable) (x : ForkTable) → xs ≡ a ++ x ∷ c → at ≡ length a → ys ≡ a ++ y ∷ c
 
-  pub parallel_is : (d d2 : CodeBuffer) (ss : c.Statements) (f1 f3 : List ForkTable) (i0 i1 xs : List Instr)
+  pub parallel_is : (d d2 : WrittenCode) (ss : c.Statements) (f1 f3 : List ForkTable) (i0 i1 xs : List Instr)
       (blank : ForkTable) (lines : List ChildTable) (first number at end : ℕ)
       → first ≡ length d.forks → number ≡ first → f1 ≡ d.forks ++ blank ∷ [] → i0 ≡ d.instrs ++ i.Fork number ∷ []
       → at ≡ length i0 → i1 ≡ i0 ++ i.Jump 0 ∷ []
@@ -802,7 +800,7 @@ module _ (p : b.Program) (mv sh : ℕ → List ℕ) (sc : List Scope) where
       let eq : length i1 ≡ q + 1 + 1 = one_more i0 i1 (i.Jump 0) ei
       ∙ ap (λ (m : ℕ). m + 1) (one_more d.instrs i0 (i.Fork number) e0) in
       let count : length f1 ≡ length d.forks + 1 = omega (arith, ap length e1, length-append d.forks (blank ∷ [])) in
-      let body : d2.instrs ≡ i1 ++ cs (length f1) (length i1) = ap (λ (y : CodeBuffer). y.instrs) e2 in
+      let body : d2.instrs ≡ i1 ++ cs (length f1) (length i1) = ap (λ (y : WrittenCode). y.instrs) e2 in
       let there : d2.instrs ≡ i0 ++ i.Jump 0 ∷ cs (length f1) (length i1) = body
       ∙ ap (λ xs. xs ++ cs (length f1) (length i1)) ei
       ∙ append_assoc i0 (i.Jump 0 ∷ []) (cs (length f1) (length i1)) in
@@ -822,16 +820,16 @@ module _ (p : b.Program) (mv sh : ℕ → List ℕ) (sc : List Scope) where
       ∙ append_assoc d.instrs (i.Fork number ∷ []) (i.Jump end ∷ cs (length f1) (length i1))
       ∙ (λ j. d.instrs ++ (i.Fork ((en ∙ ef) j) ∷ i.Jump (lead j) ∷ cs (count j) (eq j))) in
       let inner = tables_children p mv sh (length i1) ss in
-      let held : d2.forks ≡ d.forks ++ blank ∷ inner = ap (λ (y : CodeBuffer). y.forks) e2 ∙ ap (λ ys. ys ++ inner) e1
+      let held : d2.forks ≡ d.forks ++ blank ∷ inner = ap (λ (y : WrittenCode). y.forks) e2 ∙ ap (λ ys. ys ++ inner) e1
       ∙ append_assoc d.forks (blank ∷ []) inner in
       let fs : f3 ≡ d.forks ++ (record { children = children p mv sh (q + 1 + 1) ss }
       ∷ tables_children p mv sh (q + 1 + 1) ss) =
       mends_table d.forks inner blank held ef ∙ (λ j. d.forks ++ (record { children = el j } ∷ inner))
       ∙ (λ j. d.forks ++ (record { children = children p mv sh (eq j) ss } ∷ tables_children p mv sh (eq j) ss)) in
-      let ts : d2.texts ≡ d.texts ++ texts_of_all bs = ap (λ (y : CodeBuffer). y.texts) e2 in
+      let ts : d2.texts ≡ d.texts ++ texts_of_all bs = ap (λ (y : WrittenCode). y.texts) e2 in
       λ k. record { instrs = is k; forks = fs k; texts = ts k }
 
-  pub choices_are : (d d2 : CodeBuffer) (arms : c.Arms) (i1 i2 i4 i5 : List Instr) (starts ends : List ℕ)
+  pub choices_are : (d d2 : WrittenCode) (arms : c.Arms) (i1 i2 i4 i5 : List Instr) (starts ends : List ℕ)
       (first end : ℕ)
       → first ≡ length d.instrs → i1 ≡ d.instrs ++ blank_tests (bare_arms arms) → i2 ≡ i1 ++ i.Nocase ∷ []
       → d2 ≡ buffer_after_arms p mv sh (record { instrs = i2; forks = d.forks; texts = d.texts }) sc arms 0
@@ -855,7 +853,7 @@ module _ (p : b.Program) (mv sh : ℕ → List ℕ) (sc : List Scope) where
         tests_count p bs 0,
         tests_after q bs,
       )) in
-      let body : d2.instrs ≡ i2 ++ cs u 0 = ap (λ (y : CodeBuffer). y.instrs) ed in
+      let body : d2.instrs ≡ i2 ++ cs u 0 = ap (λ (y : WrittenCode). y.instrs) ed in
       let lead : end ≡ after_arms p (b + 1) bs =
       ee ∙ omega (
         arith,
@@ -872,41 +870,41 @@ module _ (p : b.Program) (mv sh : ℕ → List ℕ) (sc : List Scope) where
       let is : i5 ≡ d.instrs ++ (tests_code p bs (b + 1) ++ (i.Nocase ∷ cs (b + 1) (after_arms p (b + 1) bs))) =
       e5 ∙ (λ j. filled_tests (is4 j) first bs (es j)) ∙ tests_filled p d.instrs (i.Nocase ∷ cs u end) first u bs ef
       ∙ (λ j. d.instrs ++ (tests_code p bs (eq j) ++ (i.Nocase ∷ cs (eq j) (lead j)))) in
-      let fs : d2.forks ≡ d.forks ++ tables_arms p mv sh (b + 1) arms = ap (λ (y : CodeBuffer). y.forks) ed
+      let fs : d2.forks ≡ d.forks ++ tables_arms p mv sh (b + 1) arms = ap (λ (y : WrittenCode). y.forks) ed
       ∙ (λ j. d.forks ++ tables_arms p mv sh (eq j) arms) in
-      let ts : d2.texts ≡ d.texts ++ texts_of_arms bs = ap (λ (y : CodeBuffer). y.texts) ed in
+      let ts : d2.texts ≡ d.texts ++ texts_of_arms bs = ap (λ (y : WrittenCode). y.texts) ed in
       λ k. record { instrs = is k; forks = fs k; texts = ts k }
 
   -- ---- one more part
 
-  pub written_place : (d : CodeBuffer) (s : c.Statement)
+  pub written_place : (d : WrittenCode) (s : c.Statement)
       → length (buffer_after p mv sh d sc s).instrs ≡ after_statement p (length d.instrs) (bare_statement s)
   unfolding buffer_after
   written_place d s = code_place d.instrs (length d.forks) (length d.texts) (length d.instrs) (bare_statement s)
 
-  pub child_next : (d : CodeBuffer) (s : c.Statement) (rest : c.Statements)
+  pub child_next : (d : WrittenCode) (s : c.Statement) (rest : c.Statements)
       → buffer_after_children p mv sh (with_code (buffer_after p mv sh d sc s) (i.End ∷ [])) sc rest
       ≡ buffer_after_children p mv sh d sc (c.AndThen s rest)
-  child_next d s rest = ap (λ (x : CodeBuffer). buffer_after_children p mv sh x sc rest) (child_is d s)
+  child_next d s rest = ap (λ (x : WrittenCode). buffer_after_children p mv sh x sc rest) (child_is d s)
       ∙ children_step d s rest
 
-  pub ended_by : (d : CodeBuffer) (s : c.Statement) (x : Instr)
+  pub ended_by : (d : WrittenCode) (s : c.Statement) (x : Instr)
       → length ((buffer_after p mv sh d sc s).instrs ++ x ∷ []) ≡ after_statement p (length d.instrs)
       (bare_statement s) + 1
   ended_by d s x = one_more (buffer_after p mv sh d sc s).instrs _ x refl ∙ ap (λ (m : ℕ). m + 1) (written_place d s)
 
-  pub arm_next : (d : CodeBuffer) (ms : List ℤ) (s : c.Statement) (rest : c.Arms)
+  pub arm_next : (d : WrittenCode) (ms : List ℤ) (s : c.Statement) (rest : c.Arms)
       → buffer_after_arms p mv sh (with_code (buffer_after p mv sh d sc s) (i.Jump 0 ∷ [])) sc rest 0
       ≡ buffer_after_arms p mv sh d sc (c.Or (c.On ms s) rest) 0
-  arm_next d ms s rest = ap (λ (x : CodeBuffer). buffer_after_arms p mv sh x sc rest 0) (arm_is d ms s 0)
+  arm_next d ms s rest = ap (λ (x : WrittenCode). buffer_after_arms p mv sh x sc rest 0) (arm_is d ms s 0)
       ∙ arms_step d ms s rest 0
 
-  pub sequence_done : (d e : CodeBuffer) (ss : c.Statements)
+  pub sequence_done : (d e : WrittenCode) (ss : c.Statements)
       → buffer_after_all p mv sh e sc c.NoStatement ≡ buffer_after_all p mv sh d sc ss
       → e ≡ buffer_after_form p mv sh d sc (c.Sequence ss)
   sequence_done d e ss h = sym (all_none e) ∙ h ∙ sequence_is d ss
 
-  pub else_is : (d e : CodeBuffer) (x : c.Expression) (s o : c.Statement)
+  pub else_is : (d e : WrittenCode) (x : c.Expression) (s o : c.Statement)
       → e ≡ buffer_after_branch p mv sh (with_code d (value_code p sc (bare_expression x))) sc s 1
       → buffer_after_passed p mv sh e sc o ≡ buffer_after_form p mv sh d sc (c.If x s (c.Else o))
-  else_is d e x s o h = ap (λ (y : CodeBuffer). buffer_after_passed p mv sh y sc o) h ∙ if_else_is d x s o
+  else_is d e x s o h = ap (λ (y : WrittenCode). buffer_after_passed p mv sh y sc o) h ∙ if_else_is d x s o

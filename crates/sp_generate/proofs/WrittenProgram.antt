@@ -16,7 +16,7 @@ use Rattle.sp_code.specs.declared.code.Parts.{Parts}
 use Rattle.sp_code.specs.declared.instr.Instr.{Instr}
 use Rattle.sp_code.specs.Places.{after_block}
 use Rattle.sp_code.specs.Emitted.{code, end_instr, blocks_code, blocks_texts, texts_of, layout_of, layouts_from}
-use Rattle.sp_generate.specs.declared.code_buffer.CodeBuffer.{CodeBuffer}
+use Rattle.sp_generate.specs.Written.{WrittenCode}
 use Rattle.sp_varsets.specs.declared.sets.Sets.{Sets}
 use Rattle.sp_generate.specs.Handings.{moved_of, shared_of}
 use Rattle.sp_generate.specs.Numbered.{numbered_code}
@@ -36,7 +36,7 @@ pub blocks_end : (xs ys : List checked.Block) (i : ℕ) → ys ≡ xs → length
 blocks_end xs ys i same l = sym (drop_all i ys l) ∙ ap (drop i) same
 
 module _ (p : Program) (mv sh : ℕ → List ℕ) where
-  pub block_is : (d : CodeBuffer) (b : ℕ) (k : c.Block)
+  pub block_is : (d : WrittenCode) (b : ℕ) (k : c.Block)
       → with_code (buffer_after p mv sh d (scopes_of p b) k.body) (end_instr b ∷ []) ≡ written_block p mv sh d b k
   unfolding buffer_after written_block
   block_is d b k = λ j. record {
@@ -46,7 +46,7 @@ module _ (p : Program) (mv sh : ℕ → List ℕ) where
     texts = d.texts ++ texts_of (bare_statement k.body);
   }
 
-  pub blocks_none : (d : CodeBuffer) (b : ℕ) → written_blocks p mv sh d b [] ≡ d
+  pub blocks_none : (d : WrittenCode) (b : ℕ) → written_blocks p mv sh d b [] ≡ d
   unfolding written_blocks
   blocks_none d b = λ j. record {
     instrs = append-nil d.instrs j;
@@ -54,13 +54,13 @@ module _ (p : Program) (mv sh : ℕ → List ℕ) where
     texts = append-nil d.texts j;
   }
 
-  place : (d : CodeBuffer) (b : ℕ) (k : c.Block) → length (written_block p mv sh d b k).instrs
+  place : (d : WrittenCode) (b : ℕ) (k : c.Block) → length (written_block p mv sh d b k).instrs
       ≡ after_block p (length d.instrs) (bare_block k)
   unfolding written_block
   place d b k = ended_place p mv sh (scopes_of p b) d.instrs (end_instr b) (length d.forks) (length d.texts)
       (length d.instrs) (bare_statement k.body) refl
 
-  pub block_step : (d : CodeBuffer) (b : ℕ) (k : c.Block) (ks : List c.Block)
+  pub block_step : (d : WrittenCode) (b : ℕ) (k : c.Block) (ks : List c.Block)
       → written_blocks p mv sh (written_block p mv sh d b k) (suc b) ks ≡ written_blocks p mv sh d b (k ∷ ks)
   unfolding written_block written_blocks
   block_step d b k ks =
@@ -81,7 +81,7 @@ module _ (p : Program) (mv sh : ℕ → List ℕ) where
         texts = append_assoc d.texts (texts_of (bare_statement k.body)) (blocks_texts (map bare_block ks)) i;
       }
 
-  pub layout_step : (out : List Layout) (d : CodeBuffer) (b : ℕ) (k : c.Block) (ks : List c.Block)
+  pub layout_step : (out : List Layout) (d : WrittenCode) (b : ℕ) (k : c.Block) (ks : List c.Block)
       → (out ++ layout_of p b (length d.instrs) (bare_block k) ∷ [])
       ++ layouts_from p (suc b) (length (written_block p mv sh d b k).instrs) (map bare_block ks) ≡ out
       ++ layouts_from p b (length d.instrs) (map bare_block (k ∷ ks))
@@ -91,14 +91,14 @@ module _ (p : Program) (mv sh : ℕ → List ℕ) where
       ∙ (λ j. out ++ (layout_of p b (length d.instrs) (bare_block k)
       ∷ layouts_from p (suc b) (place d b k j) (map bare_block ks)))
 
-  pub block_next : (d d2 : CodeBuffer) (b n : ℕ) (k : c.Block) (ks : List c.Block) → n ≡ b
+  pub block_next : (d d2 : WrittenCode) (b n : ℕ) (k : c.Block) (ks : List c.Block) → n ≡ b
       → d2 ≡ written_block p mv sh d n k
       → written_blocks p mv sh d2 (b + 1) ks ≡ written_blocks p mv sh d b (k ∷ ks)
   block_next d d2 b n k ks en ed =
       (λ i. written_blocks p mv sh (ed i) (add-one b i) ks)
       ∙ (λ i. written_blocks p mv sh (written_block p mv sh d (en i) k) (suc b) ks) ∙ block_step d b k ks
 
-  pub layout_next : (out out2 : List Layout) (d d2 : CodeBuffer) (b n q : ℕ) (l : Layout) (k : c.Block)
+  pub layout_next : (out out2 : List Layout) (d d2 : WrittenCode) (b n q : ℕ) (l : Layout) (k : c.Block)
       (ks : List c.Block)
       → n ≡ b → q ≡ length d.instrs → l ≡ layout_of p n q (bare_block k) → out2 ≡ out ++ l ∷ []
       → d2 ≡ written_block p mv sh d n k
@@ -113,7 +113,7 @@ module _ (p : Program) (mv sh : ℕ → List ℕ) where
       ∙ layout_step out d b k ks
 
 -- all blocks, where nothing stood before
-pub written_program : (tree other : Checked) (sets : Sets) (d : CodeBuffer) (ls : List Layout) (xs : List Instr)
+pub written_program : (tree other : Checked) (sets : Sets) (d : WrittenCode) (ls : List Layout) (xs : List Instr)
     (fs : List ForkTable) (ts : List (List ℕ))
     → other ≡ tree → xs ≡ [] → fs ≡ [] → ts ≡ []
     → d ≡ written_blocks (without_places (program_of other)) (moved_of sets) (shared_of sets)

@@ -15,9 +15,14 @@ use Rattle.sp_code.specs.Places.{after_statement, after_tests, after_arms}
 use Rattle.sp_code.specs.Emitted.{value_code, var_code, right_code, assign_instr, code, code_all, code_children}
 use Rattle.sp_code.specs.Emitted.{code_arms, test_code, tests_code, texts_of, texts_of_all, texts_of_arms, end_instr}
 use Rattle.sp_code.specs.Emitted.{blocks_code, blocks_texts}
-use Rattle.sp_generate.specs.declared.code_buffer.CodeBuffer.{CodeBuffer}
 use Rattle.sp_generate.specs.Tables.{child, tables, form_tables, tables_all, tables_children, tables_arms}
 use Rattle.sp_generate.specs.Tables.{tables_blocks}
+
+-- instructions, fork tables and texts that are written
+pub record WrittenCode : Type 0 where
+  pub instrs : List Instr
+  pub forks : List ForkTable
+  pub texts : List (List ℕ)
 
 -- an assignment
 abbrev pub assign_code : b.Program → List Scope → b.Var → b.Expr → List Instr
@@ -28,29 +33,29 @@ abbrev pub right_side : b.Program → List Scope → b.Expr → List Instr
 right_side p sc (b.Typed k form) = right_code p sc k (sort p k) form
 
 -- these parts
-abbrev pub buffer_of : List Instr → List ForkTable → List (List ℕ) → CodeBuffer
+abbrev pub buffer_of : List Instr → List ForkTable → List (List ℕ) → WrittenCode
 buffer_of xs fs ts = record { instrs = xs; forks = fs; texts = ts }
 
 -- instructions alone
-abbrev pub with_code : CodeBuffer → List Instr → CodeBuffer
+abbrev pub with_code : WrittenCode → List Instr → WrittenCode
 with_code d xs = record { instrs = d.instrs ++ xs; forks = d.forks; texts = d.texts }
 
 module _ (p : b.Program) (moved shared : ℕ → List ℕ) where
-  unfoldable pub buffer_after : CodeBuffer → List Scope → c.Statement → CodeBuffer
+  unfoldable pub buffer_after : WrittenCode → List Scope → c.Statement → WrittenCode
   buffer_after d sc s = record {
     instrs = d.instrs ++ code p sc (length d.forks) (length d.texts) (length d.instrs) (bare_statement s);
     forks = d.forks ++ tables p moved shared (length d.instrs) s;
     texts = d.texts ++ texts_of (bare_statement s);
   }
 
-  unfoldable pub buffer_after_form : CodeBuffer → List Scope → c.Form → CodeBuffer
+  unfoldable pub buffer_after_form : WrittenCode → List Scope → c.Form → WrittenCode
   buffer_after_form d sc form = record {
     instrs = d.instrs ++ code p sc (length d.forks) (length d.texts) (length d.instrs) (bare_statement_form form);
     forks = d.forks ++ form_tables p moved shared (length d.instrs) form;
     texts = d.texts ++ texts_of (bare_statement_form form);
   }
 
-  unfoldable pub buffer_after_all : CodeBuffer → List Scope → c.Statements → CodeBuffer
+  unfoldable pub buffer_after_all : WrittenCode → List Scope → c.Statements → WrittenCode
   buffer_after_all d sc ss = record {
     instrs = d.instrs ++ code_all p sc (length d.forks) (length d.texts) (length d.instrs) (bare_statements ss);
     forks = d.forks ++ tables_all p moved shared (length d.instrs) ss;
@@ -58,7 +63,7 @@ module _ (p : b.Program) (moved shared : ℕ → List ℕ) where
   }
 
   -- the processes of a `parallel`, with an `end` behind each
-  unfoldable pub buffer_after_children : CodeBuffer → List Scope → c.Statements → CodeBuffer
+  unfoldable pub buffer_after_children : WrittenCode → List Scope → c.Statements → WrittenCode
   buffer_after_children d sc ss = record {
     instrs = d.instrs ++ code_children p sc (length d.forks) (length d.texts) (length d.instrs) (bare_statements ss);
     forks = d.forks ++ tables_children p moved shared (length d.instrs) ss;
@@ -66,7 +71,7 @@ module _ (p : b.Program) (moved shared : ℕ → List ℕ) where
   }
 
   -- the statements of a `case`, with a jump behind each
-  unfoldable pub buffer_after_arms : CodeBuffer → List Scope → c.Arms → (end : ℕ) → CodeBuffer
+  unfoldable pub buffer_after_arms : WrittenCode → List Scope → c.Arms → (end : ℕ) → WrittenCode
   buffer_after_arms d sc arms end = record {
     instrs = d.instrs ++ code_arms p sc (length d.forks) (length d.texts) (length d.instrs) (bare_arms arms) end;
     forks = d.forks ++ tables_arms p moved shared (length d.instrs) arms;
@@ -74,7 +79,7 @@ module _ (p : b.Program) (moved shared : ℕ → List ℕ) where
   }
 
   -- a statement that is left out where the condition is false: the jump goes so many instructions beyond it
-  unfoldable pub buffer_after_branch : CodeBuffer → List Scope → c.Statement → (beyond : ℕ) → CodeBuffer
+  unfoldable pub buffer_after_branch : WrittenCode → List Scope → c.Statement → (beyond : ℕ) → WrittenCode
   buffer_after_branch d sc s beyond =
       let q = length d.instrs in
       record {
@@ -85,7 +90,7 @@ module _ (p : b.Program) (moved shared : ℕ → List ℕ) where
       }
 
   -- a statement that is passed over by a jump
-  unfoldable pub buffer_after_passed : CodeBuffer → List Scope → c.Statement → CodeBuffer
+  unfoldable pub buffer_after_passed : WrittenCode → List Scope → c.Statement → WrittenCode
   buffer_after_passed d sc s =
       let q = length d.instrs in
       record {
@@ -97,7 +102,7 @@ module _ (p : b.Program) (moved shared : ℕ → List ℕ) where
 
   -- a loop's first instruction, which leaves to behind the last, then a tick and the statement, then the loop's last
   -- instruction
-  unfoldable pub buffer_after_loop : CodeBuffer → List Scope → c.Statement → (ℕ → Instr) → Instr → CodeBuffer
+  unfoldable pub buffer_after_loop : WrittenCode → List Scope → c.Statement → (ℕ → Instr) → Instr → WrittenCode
   buffer_after_loop d sc s leave again =
       let q = length d.instrs in
       record {
@@ -108,7 +113,7 @@ module _ (p : b.Program) (moved shared : ℕ → List ℕ) where
       }
 
   -- a forall behind its limits
-  unfoldable pub buffer_after_forall : CodeBuffer → List Scope → (index : ℕ) → c.Statement → CodeBuffer
+  unfoldable pub buffer_after_forall : WrittenCode → List Scope → (index : ℕ) → c.Statement → WrittenCode
   buffer_after_forall d sc x s =
       let q = length d.instrs in
       let t = length d.forks in
@@ -121,7 +126,7 @@ module _ (p : b.Program) (moved shared : ℕ → List ℕ) where
       }
 
   -- a `case` behind its selector
-  unfoldable pub buffer_after_case : CodeBuffer → List Scope → c.Arms → CodeBuffer
+  unfoldable pub buffer_after_case : WrittenCode → List Scope → c.Arms → WrittenCode
   buffer_after_case d sc arms =
       let b = after_tests (length d.instrs) (bare_arms arms) in
       record {
@@ -133,7 +138,7 @@ module _ (p : b.Program) (moved shared : ℕ → List ℕ) where
       }
 
   -- a block in its own scopes, with its end behind it
-  unfoldable pub written_block : CodeBuffer → ℕ → c.Block → CodeBuffer
+  unfoldable pub written_block : WrittenCode → ℕ → c.Block → WrittenCode
   written_block d b k = record {
     instrs = d.instrs ++ (code p (scopes_of p b) (length d.forks) (length d.texts) (length d.instrs)
         (bare_statement k.body) ++ end_instr b ∷ []);
@@ -142,7 +147,7 @@ module _ (p : b.Program) (moved shared : ℕ → List ℕ) where
   }
 
   -- the blocks in order, from block b on
-  unfoldable pub written_blocks : CodeBuffer → ℕ → List c.Block → CodeBuffer
+  unfoldable pub written_blocks : WrittenCode → ℕ → List c.Block → WrittenCode
   written_blocks d b ks = record {
     instrs = d.instrs ++ blocks_code p b (length d.forks) (length d.texts) (length d.instrs) (map bare_block ks);
     forks = d.forks ++ tables_blocks p moved shared (length d.instrs) ks;

@@ -1,16 +1,15 @@
 //! The code of blocks and their layouts.
 
-ghost use Rattle.std.specs.Prelude.{◌≡◌, slice_get, IfOk, OnOk};
+ghost use Rattle.std.specs.Prelude.{◌≡◌, slice_get, IfOk};
 ghost use Rattle.sp_tree.specs.CheckedOf.{block_of, program_of};
 ghost use Rattle.sp_tree.specs.Bare.{without_places, bare_block};
 ghost use Rattle.sp_tree.specs.Around.{parent_of, scopes_of};
 ghost use Rattle.sp_code.specs.Emitted.{cells_of, formal_by, formal_of, end_instr, layout_of};
 ghost use Rattle.sp_generate.specs.Views.{plain_program, scopes, cells_in, formals_in};
-ghost use Rattle.sp_generate.specs.BuffersAfter.{with_block};
+ghost use Rattle.sp_generate.specs.BuffersAfter.{Wrote, with_block};
 
 use crate::code_buffer::CodeBuffer;
 use crate::code_context::CodeContext;
-use crate::expressions::put;
 use crate::frames::frame;
 use crate::levels::Scope;
 use crate::single::size;
@@ -133,17 +132,14 @@ fn end_instr(b: u32) -> Instr
 }
 
 /// The code of a block.
-pub fn put_block(
-    g: &CodeContext,
-    sets: &Sets,
-    d: &mut CodeBuffer,
-    b: u32,
-    k: &Block,
-) -> Result<(), Memory>
-    ensures { OnOk result (d.new ≡ with_block g.now sets.now d.old b (block_of k.now)) }
+pub fn put_block(g: &CodeContext, sets: &Sets, d: &mut CodeBuffer, b: u32, k: &Block)
+    ensures { Wrote d.old d.new (with_block g.now sets.now d.old b (block_of k.now)) }
 {
-    let scopes = scopes_of(g.alloc, g.checked, b)?;
-    put_statement(g, sets, scopes.as_slice(), d, &k.body)?;
-    put(&mut d.instrs, end_instr(b))?;
-    Ok(())
+    match scopes_of(g.alloc, g.checked, b) {
+        Err(Memory) => d.instrs.lose(),
+        Ok(scopes) => {
+            put_statement(g, sets, scopes.as_slice(), d, &k.body);
+            d.instrs.put(end_instr(b));
+        }
+    }
 }

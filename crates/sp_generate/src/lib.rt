@@ -14,6 +14,8 @@
 //!   of memory. Neither is in the code of a text, which has at most 1,048,576 bytes.
 //! - `code_context.rt` is what is kept of the tree, `single.rt` has single instructions, `expressions.rt`, `simple.rt`,
 //!   `statements.rt`, `choices.rt` and `blocks.rt` are the pass, `handed.rt` is what a process is handed.
+//! - The writer of the instructions keeps in mind whether memory was refused, for tables and texts too, so the pass has
+//!   no `?`. Its contracts say `Adds` of `sp_writer`, and `Wrote` of `specs/BuffersAfter.antt`.
 //! - `specs/Written.antt` is what stands once a part was written behind what stood: the form of every contract of the
 //!   pass. `Tables` and `Handings` are the fork tables by the numbers of statements, `Numbered` the code with them.
 //! - `proofs/Forms` has a lemma for each form, `CaseTests` the jumps of a `case`. `Inside`, `Deciding` and `Telling`

@@ -1,15 +1,16 @@
 //! The code of a whole program (`generate`), and why there is none.
 
-ghost use Rattle.std.specs.Prelude.{◌≡◌, ◌<◌, ◌↔◌, IsTrue, IfOk, OnOk, length, map};
+ghost use Rattle.std.specs.Prelude.{◌≡◌, ◌<◌, ◌↔◌, IsTrue, IfOk, length, map};
 ghost use Rattle.sp_tree.specs.CheckedOf.{program_of, block_of};
-ghost use Rattle.sp_generate.specs.BuffersAfter.{with_blocks, layouts_in};
+ghost use Rattle.sp_writer.specs.Adds.{Keeps};
+ghost use Rattle.sp_generate.specs.BuffersAfter.{written, with_blocks, layouts_in};
 ghost use Rattle.sp_generate.specs.declared.program.GenError.TheVariants.{Memory as OutOfMemory};
 ghost use Rattle.sp_varsets.specs.AreSets.{AreSets};
 ghost use Rattle.sp_generate.specs.Numbered.{numbered_code};
 ghost use Rattle.sp_generate.specs.Generated.{Answered};
 
 use crate::blocks::{layout_of, put_block};
-use crate::code_buffer::CodeBuffer;
+use crate::code_buffer::{CodeBuffer, place};
 use crate::code_context::CodeContext;
 use crate::numbers::narrow;
 use crate::tabling::survey;
@@ -18,6 +19,7 @@ use sp_code::{Code, Layout, MAX_CODE, Parts};
 use sp_length::length;
 use sp_tree::Checked;
 use sp_varsets::Sets;
+use sp_writer::Writer;
 use std::alloc::Global;
 use thiserror::Error;
 
@@ -41,20 +43,20 @@ impl From<Memory> for GenError {
 }
 
 /// All blocks, in order, and their layouts.
-fn put_blocks(g: &CodeContext, sets: &Sets, d: &mut CodeBuffer) -> Result<List<Layout>, Memory>
-    ensures code { OnOk result (d.new ≡ with_blocks g.now sets.now d.old 0 (map block_of g.now.checked.now.blocks)) }
-    ensures layouts { IfOk result (λ xs. xs ≡ layouts_in g.now 0 (length d.old.instrs)
-        (map block_of g.now.checked.now.blocks)) }
+fn put_blocks(g: &CodeContext, sets: &Sets, d: &mut CodeBuffer) -> List<Layout>
+    ensures { Keeps d.old.instrs d.new.instrs
+        ((written d.new ≡ with_blocks g.now sets.now d.old 0 (map block_of g.now.checked.now.blocks))
+        × (result ≡ layouts_in g.now 0 (length d.old.instrs.items.items) (map block_of g.now.checked.now.blocks))) }
 {
-    let mut out = Vec::new(g.alloc);
+    let mut layouts = List::new(g.alloc);
     for (b, k) in g.checked.blocks.items().iter().enumerate() {
-        let number = narrow(b)?;
-        let entry = narrow(d.instrs.len())?;
-        let layout = layout_of(g, number, k, entry)?;
-        out.push(layout)?;
-        put_block(g, sets, d, number, k)?;
+        let number = d.instrs.number(narrow(b));
+        let entry = place(&mut d.instrs);
+        d.instrs
+            .push_to(&mut layouts, layout_of(g, number, k, entry));
+        put_block(g, sets, d, number, k);
     }
-    Ok(List::of(out))
+    layouts
 }
 
 /// The parts of a program's code.
@@ -63,18 +65,19 @@ fn parts(alloc: Global, checked: &Checked, sets: &Sets) -> Result<Parts, Memory>
 {
     let g = survey(alloc, checked)?;
     let mut d = CodeBuffer {
-        instrs: List::new(alloc),
+        instrs: Writer::new(alloc),
         forks: List::new(alloc),
         texts: List::new(alloc),
     };
-    let layouts = put_blocks(&g, sets, &mut d)?;
+    let layouts = put_blocks(&g, sets, &mut d);
     let CodeBuffer {
         instrs,
         forks,
         texts,
     } = d;
+    let instrs = instrs.finish()?;
     Ok(Parts {
-        instrs,
+        instrs: List::of(instrs),
         layouts,
         forks,
         texts,

@@ -1,26 +1,26 @@
 //! The code of statements: each function writes a part behind what is written.
 
-ghost use Rattle.std.specs.Prelude.{◌≡◌, ◌+◌, ◌∷◌, [], map, length, IfOk, OnOk};
+ghost use Rattle.std.specs.Prelude.{◌≡◌, ◌+◌, ◌∷◌, map, length, IfOk};
 ghost use Rattle.sp_tree.specs.CheckedOf.{expression_of, variable_of, width_of, statement_of, statement_form_of};
 ghost use Rattle.sp_tree.specs.CheckedOf.{statements, sends, receives, arms, arm_of};
 ghost use Rattle.sp_tree.specs.PlainChecked as c;
-ghost use Rattle.sp_tree.specs.Bare.{bare_arms, bare_expression, bare_statement};
-ghost use Rattle.sp_code.specs.Emitted.{value_code};
-ghost use Rattle.sp_generate.specs.declared.code_buffer.CodeBuffer.{CodeBuffer as ADraft};
-ghost use Rattle.sp_code.specs.Places.{after_statement};
+ghost use Rattle.sp_tree.specs.Bare.{bare_arms};
 ghost use Rattle.sp_code.specs.declared.instr.Instr.TheVariants as i;
 ghost use Rattle.sp_generate.specs.declared.levels.Scope.TheVariants as scope;
 ghost use Rattle.sp_generate.specs.Steps.{for_instr, next_instr};
-ghost use Rattle.sp_generate.specs.Views.{plain_program, scopes};
-ghost use Rattle.sp_generate.specs.Written.{with_code, starts_of, ends_of};
-ghost use Rattle.sp_generate.specs.BuffersAfter.{with_statement, with_form, with_all, with_children, with_arms};
+ghost use Rattle.sp_generate.specs.Views.{plain_program};
+ghost use Rattle.sp_generate.specs.Written.{starts_of, ends_of};
+ghost use Rattle.sp_writer.specs.Adds.{Keeps};
+ghost use Rattle.sp_generate.specs.BuffersAfter.{Wrote, written, with_statement, with_form, with_children, with_arms};
 ghost use Rattle.sp_generate.specs.BuffersAfter.{with_branch, with_passed, with_loop, with_spread, with_choices};
-ghost use Rattle.sp_generate.specs.BuffersAfter.{child_of, index_child, children_of};
+ghost use Rattle.sp_generate.specs.BuffersAfter.{child_of, children_of, index_table};
 
 use crate::choices::{fill_ends, fill_tests, put_blanks};
-use crate::code_buffer::{CodeBuffer, patch, patch_table};
+use crate::code_buffer::{
+    CodeBuffer, count, mark, mend_branch, mend_jump, patch_table, place, set,
+};
 use crate::code_context::CodeContext;
-use crate::expressions::{put, put_call, put_value};
+use crate::expressions::{put_call, put_value};
 use crate::handed::{but_index, moved, shared};
 use crate::levels::Scope;
 use crate::numbers::{narrow, sum};
@@ -36,39 +36,26 @@ use sp_varsets::Sets;
 
 /// A statement.
 #[cycle(statement)]
-pub fn put_statement(
-    g: &CodeContext,
-    sets: &Sets,
-    sc: &[Scope],
-    d: &mut CodeBuffer,
-    s: &Stmt,
-) -> Result<(), Memory>
-    ensures { OnOk result (d.new ≡ with_statement g.now sets.now sc.now d.old (statement_of s.now)) }
+pub fn put_statement(g: &CodeContext, sets: &Sets, sc: &[Scope], d: &mut CodeBuffer, s: &Stmt)
+    ensures { Wrote d.old d.new (with_statement g.now sets.now sc.now d.old (statement_of s.now)) }
 {
     put_statement_form(g, sets, sc, d, &s.form)
 }
 
 #[cycle(statement)]
-#[tactic(auto, using(crate::proofs::Forms::empty_is), unfolding(crate::specs::Written::buffer_after_form))]
-fn put_statement_form(
-    g: &CodeContext,
-    sets: &Sets,
-    sc: &[Scope],
-    d: &mut CodeBuffer,
-    form: &Form,
-) -> Result<(), Memory>
-    ensures { OnOk result (d.new ≡ with_form g.now sets.now sc.now d.old (statement_form_of form.now)) }
+fn put_statement_form(g: &CodeContext, sets: &Sets, sc: &[Scope], d: &mut CodeBuffer, form: &Form)
+    ensures { Wrote d.old d.new (with_form g.now sets.now sc.now d.old (statement_form_of form.now)) }
 {
     match form {
-        Form::Empty => Ok(()),
+        Form::Empty => {}
         Form::Assign(v, e) => put_assign(g, sc, &mut d.instrs, v, e),
         Form::Call(f, args) => put_call(g, sc, &mut d.instrs, *f, args),
         Form::Sequence(ss) => put_sequence(g, sets, sc, d, ss),
         Form::If(e, a, None) => put_if(g, sets, sc, d, a.get(), e),
         Form::If(e, a, Some(b)) => {
-            put_value(g, sc, &mut d.instrs, e)?;
-            put_branch(g, sets, sc, d, a.get(), 1)?;
-            put_else(g, sets, sc, d, b.get(), e, a.get())
+            put_value(g, sc, &mut d.instrs, e);
+            put_branch(g, sets, sc, d, a.get(), 1);
+            put_passed(g, sets, sc, d, b.get());
         }
         Form::While(e, s) => put_while(g, sets, sc, d, s.get(), e),
         Form::Repeat(s, e) => put_repeat(g, sets, sc, d, s.get(), e),
@@ -90,10 +77,10 @@ fn put_statement_form(
         } => put_forall(g, sets, sc, d, body.get(), *index, from, to),
         Form::Assume(e) => put_assume(g, sc, &mut d.instrs, e),
         Form::ReadValue(v) => put_read(g, sc, &mut d.instrs, v),
-        Form::ReadLine => put(&mut d.instrs, Instr::Readln),
+        Form::ReadLine => d.instrs.put(Instr::Readln),
         Form::WriteValue(e, w) => put_write(g, sc, &mut d.instrs, e, w),
         Form::WriteText(text, w) => put_written(g, sets, sc, d, text, w),
-        Form::WriteLine => put(&mut d.instrs, Instr::Writeln),
+        Form::WriteLine => d.instrs.put(Instr::Writeln),
         Form::Open(v) => put_open(g, sc, &mut d.instrs, v),
         Form::Send(channel, e) => put_send(g, sc, &mut d.instrs, channel, e),
         Form::Receive(channel, v) => put_receive(g, sc, &mut d.instrs, channel, v),
@@ -113,7 +100,6 @@ fn put_statement_form(
 }
 
 /// Several values on one channel: single statements at one place, numbered from a number on.
-#[tactic(auto, using(crate::proofs::Forms::sends_are))]
 fn put_send_each(
     g: &CodeContext,
     sets: &Sets,
@@ -123,16 +109,14 @@ fn put_send_each(
     number: u32,
     channel: &Expr,
     values: &List<Expr>,
-) -> Result<(), Memory>
-    ensures { OnOk result (d.new ≡ with_form g.now sets.now sc.now d.old
+)
+    ensures { Wrote d.old d.new (with_form g.now sets.now sc.now d.old
         (c.Sequence (sends number at (expression_of channel.now) (map expression_of values.now)))) }
 {
-    put_sends(g, sc, &mut d.instrs, channel, values)?;
-    Ok(())
+    put_sends(g, sc, &mut d.instrs, channel, values);
 }
 
 /// Several variables from one channel: single statements at one place, numbered from a number on.
-#[tactic(auto, using(crate::proofs::Forms::receives_are))]
 fn put_receive_each(
     g: &CodeContext,
     sets: &Sets,
@@ -142,16 +126,14 @@ fn put_receive_each(
     number: u32,
     channel: &Expr,
     variables: &List<Var>,
-) -> Result<(), Memory>
-    ensures { OnOk result (d.new ≡ with_form g.now sets.now sc.now d.old
+)
+    ensures { Wrote d.old d.new (with_form g.now sets.now sc.now d.old
         (c.Sequence (receives number at (expression_of channel.now) (map variable_of variables.now)))) }
 {
-    put_receives(g, sc, &mut d.instrs, channel, variables)?;
-    Ok(())
+    put_receives(g, sc, &mut d.instrs, channel, variables);
 }
 
 /// A text that is written gets the next number.
-#[tactic(auto, using(crate::proofs::Forms::text_is))]
 fn put_written(
     g: &CodeContext,
     sets: &Sets,
@@ -159,140 +141,53 @@ fn put_written(
     d: &mut CodeBuffer,
     text: &Text,
     w: &Option<Expr>,
-) -> Result<(), Memory>
-    ensures { OnOk result (d.new ≡ with_form g.now sets.now sc.now d.old (c.WriteText text.now (width_of w.now))) }
+)
+    ensures { Wrote d.old d.new (with_form g.now sets.now sc.now d.old (c.WriteText text.now (width_of w.now))) }
 {
-    let number = narrow(d.texts.len())?;
-    put_text(g, sc, &mut d.instrs, number, w)?;
-    let text = text.duplicate(g.alloc)?;
-    d.texts.push(text)?;
-    Ok(())
+    let number = d.instrs.number(narrow(d.texts.len()));
+    put_text(g, sc, &mut d.instrs, number, w);
+    d.instrs.push_to(&mut d.texts, text.duplicate(g.alloc));
 }
 
-/// The first of several statements.
+/// Several statements.
 #[cycle(statement)]
-fn put_next(
-    g: &CodeContext,
-    sets: &Sets,
-    sc: &[Scope],
-    d: &mut CodeBuffer,
-    s: &Stmt,
-) -> Result<(), Memory>
-    ensures { (rest : c.Statements)
-        → OnOk result (with_all g.now sets.now sc.now d.new rest
-        ≡ with_all g.now sets.now sc.now d.old (c.AndThen (statement_of s.now) rest)) }
-{
-    put_statement(g, sets, sc, d, s)?;
-    Ok(())
-}
-
-#[cycle(statement)]
-fn put_sequence(
-    g: &CodeContext,
-    sets: &Sets,
-    sc: &[Scope],
-    d: &mut CodeBuffer,
-    ss: &List<Stmt>,
-) -> Result<(), Memory>
-    ensures { OnOk result (d.new ≡ with_form g.now sets.now sc.now d.old
+fn put_sequence(g: &CodeContext, sets: &Sets, sc: &[Scope], d: &mut CodeBuffer, ss: &List<Stmt>)
+    ensures { Wrote d.old d.new (with_form g.now sets.now sc.now d.old
         (c.Sequence (statements (map statement_of ss.now)))) }
 {
-    put_all(g, sets, sc, d, ss)?;
-    Ok(())
-}
-
-#[cycle(statement)]
-fn put_all(
-    g: &CodeContext,
-    sets: &Sets,
-    sc: &[Scope],
-    d: &mut CodeBuffer,
-    ss: &List<Stmt>,
-) -> Result<(), Memory>
-    ensures { OnOk result (with_all g.now sets.now sc.now d.new c.NoStatement
-        ≡ with_all g.now sets.now sc.now d.old (statements (map statement_of ss.now))) }
-{
     for s in ss.items() {
-        put_next(g, sets, sc, d, s)?;
+        put_statement(g, sets, sc, d, s);
     }
-    Ok(())
 }
 
 /// A statement that is left out where the condition on the stack is false. The jump goes so many instructions beyond.
 #[cycle(statement)]
-fn put_branch(
-    g: &CodeContext,
-    sets: &Sets,
-    sc: &[Scope],
-    d: &mut CodeBuffer,
-    s: &Stmt,
-    beyond: u32,
-) -> Result<(), Memory>
-    ensures { OnOk result (d.new ≡ with_branch g.now sets.now sc.now d.old (statement_of s.now) beyond) }
+fn put_branch(g: &CodeContext, sets: &Sets, sc: &[Scope], d: &mut CodeBuffer, s: &Stmt, beyond: u32)
+    ensures { Wrote d.old d.new (with_branch g.now sets.now sc.now d.old (statement_of s.now) beyond) }
 {
-    let at = d.instrs.len();
-    put(&mut d.instrs, Instr::Jumpf(0))?;
-    put_statement(g, sets, sc, d, s)?;
-    let end = narrow(d.instrs.len())?;
-    let to = sum(end, beyond)?;
-    patch(&mut d.instrs, at, Instr::Jumpf(to));
-    Ok(())
+    let at = count(&d.instrs);
+    d.instrs.put(Instr::Jumpf(0));
+    put_statement(g, sets, sc, d, s);
+    mend_branch(&mut d.instrs, at, beyond);
 }
 
 /// A statement that is passed over by a jump.
 #[cycle(statement)]
-fn put_passed(
-    g: &CodeContext,
-    sets: &Sets,
-    sc: &[Scope],
-    d: &mut CodeBuffer,
-    s: &Stmt,
-) -> Result<(), Memory>
-    ensures { OnOk result (d.new ≡ with_passed g.now sets.now sc.now d.old (statement_of s.now)) }
+fn put_passed(g: &CodeContext, sets: &Sets, sc: &[Scope], d: &mut CodeBuffer, s: &Stmt)
+    ensures { Wrote d.old d.new (with_passed g.now sets.now sc.now d.old (statement_of s.now)) }
 {
-    let at = d.instrs.len();
-    put(&mut d.instrs, Instr::Jump(0))?;
-    put_statement(g, sets, sc, d, s)?;
-    let end = narrow(d.instrs.len())?;
-    patch(&mut d.instrs, at, Instr::Jump(end));
-    Ok(())
-}
-
-/// The statement behind `else`, where the condition and the first statement stand.
-#[cycle(statement)]
-fn put_else(
-    g: &CodeContext,
-    sets: &Sets,
-    sc: &[Scope],
-    d: &mut CodeBuffer,
-    b: &Stmt,
-    e: &Expr,
-    a: &Stmt,
-) -> Result<(), Memory>
-    ensures { (start : ADraft) → d.old
-        ≡ with_branch g.now sets.now sc.now
-        (with_code start (value_code (plain_program g.now) (scopes sc.now) (bare_expression (expression_of e.now))))
-        (statement_of a.now) 1
-        → OnOk result (d.new ≡ with_form g.now sets.now sc.now start
-        (c.If (expression_of e.now) (statement_of a.now) (c.Else (statement_of b.now)))) }
-{
-    put_passed(g, sets, sc, d, b)?;
-    Ok(())
+    let at = count(&d.instrs);
+    d.instrs.put(Instr::Jump(0));
+    put_statement(g, sets, sc, d, s);
+    mend_jump(&mut d.instrs, at);
 }
 
 #[cycle(statement)]
-fn put_if(
-    g: &CodeContext,
-    sets: &Sets,
-    sc: &[Scope],
-    d: &mut CodeBuffer,
-    a: &Stmt,
-    e: &Expr,
-) -> Result<(), Memory>
-    ensures { OnOk result (d.new ≡ with_form g.now sets.now sc.now d.old
+fn put_if(g: &CodeContext, sets: &Sets, sc: &[Scope], d: &mut CodeBuffer, a: &Stmt, e: &Expr)
+    ensures { Wrote d.old d.new (with_form g.now sets.now sc.now d.old
         (c.If (expression_of e.now) (statement_of a.now) c.NoElse)) }
 {
-    put_value(g, sc, &mut d.instrs, e)?;
+    put_value(g, sc, &mut d.instrs, e);
     put_branch(g, sets, sc, d, a, 0)
 }
 
@@ -305,53 +200,37 @@ fn put_while_body(
     d: &mut CodeBuffer,
     s: &Stmt,
     start: u32,
-) -> Result<(), Memory>
-    ensures { OnOk result (d.new ≡ with_loop g.now sets.now sc.now d.old (statement_of s.now) i.Jumpf (i.Jump start)) }
+)
+    ensures { Wrote d.old d.new (with_loop g.now sets.now sc.now d.old (statement_of s.now) i.Jumpf (i.Jump start)) }
 {
-    let at = d.instrs.len();
-    put(&mut d.instrs, Instr::Jumpf(0))?;
-    put(&mut d.instrs, Instr::Tick)?;
-    put_statement(g, sets, sc, d, s)?;
-    put(&mut d.instrs, Instr::Jump(start))?;
-    let end = narrow(d.instrs.len())?;
-    patch(&mut d.instrs, at, Instr::Jumpf(end));
-    Ok(())
+    let at = count(&d.instrs);
+    d.instrs.put(Instr::Jumpf(0));
+    d.instrs.put(Instr::Tick);
+    put_statement(g, sets, sc, d, s);
+    d.instrs.put(Instr::Jump(start));
+    mend_branch(&mut d.instrs, at, 0);
 }
 
 #[cycle(statement)]
-fn put_while(
-    g: &CodeContext,
-    sets: &Sets,
-    sc: &[Scope],
-    d: &mut CodeBuffer,
-    s: &Stmt,
-    e: &Expr,
-) -> Result<(), Memory>
-    ensures { OnOk result (d.new ≡ with_form g.now sets.now sc.now d.old
+fn put_while(g: &CodeContext, sets: &Sets, sc: &[Scope], d: &mut CodeBuffer, s: &Stmt, e: &Expr)
+    ensures { Wrote d.old d.new (with_form g.now sets.now sc.now d.old
         (c.While (expression_of e.now) (statement_of s.now))) }
 {
-    let start = narrow(d.instrs.len())?;
-    put_value(g, sc, &mut d.instrs, e)?;
+    let start = place(&mut d.instrs);
+    put_value(g, sc, &mut d.instrs, e);
     put_while_body(g, sets, sc, d, s, start)
 }
 
 #[cycle(statement)]
-fn put_repeat(
-    g: &CodeContext,
-    sets: &Sets,
-    sc: &[Scope],
-    d: &mut CodeBuffer,
-    s: &Stmt,
-    e: &Expr,
-) -> Result<(), Memory>
-    ensures { OnOk result (d.new ≡ with_form g.now sets.now sc.now d.old
+fn put_repeat(g: &CodeContext, sets: &Sets, sc: &[Scope], d: &mut CodeBuffer, s: &Stmt, e: &Expr)
+    ensures { Wrote d.old d.new (with_form g.now sets.now sc.now d.old
         (c.Repeat (statement_of s.now) (expression_of e.now))) }
 {
-    let start = narrow(d.instrs.len())?;
-    put(&mut d.instrs, Instr::Tick)?;
-    put_statement(g, sets, sc, d, s)?;
-    put_value(g, sc, &mut d.instrs, e)?;
-    put(&mut d.instrs, Instr::Jumpf(start))
+    let start = place(&mut d.instrs);
+    d.instrs.put(Instr::Tick);
+    put_statement(g, sets, sc, d, s);
+    put_value(g, sc, &mut d.instrs, e);
+    d.instrs.put(Instr::Jumpf(start))
 }
 
 fn for_instr(down: bool, var: u32, to: u32) -> Instr
@@ -384,19 +263,18 @@ fn put_for_body(
     s: &Stmt,
     down: bool,
     var: u32,
-) -> Result<(), Memory>
-    ensures { OnOk result (d.new ≡ with_loop g.now sets.now sc.now d.old (statement_of s.now) (for_instr down var)
-        (next_instr down var (length d.old.instrs + 1))) }
+)
+    ensures { Wrote d.old d.new (with_loop g.now sets.now sc.now d.old (statement_of s.now) (for_instr down var)
+        (next_instr down var (length d.old.instrs.items.items + 1))) }
 {
-    let at = d.instrs.len();
-    put(&mut d.instrs, for_instr(down, var, 0))?;
-    let tick = narrow(d.instrs.len())?;
-    put(&mut d.instrs, Instr::Tick)?;
-    put_statement(g, sets, sc, d, s)?;
-    put(&mut d.instrs, next_instr(down, var, tick))?;
-    let end = narrow(d.instrs.len())?;
-    patch(&mut d.instrs, at, for_instr(down, var, end));
-    Ok(())
+    let at = count(&d.instrs);
+    d.instrs.put(for_instr(down, var, 0));
+    let tick = place(&mut d.instrs);
+    d.instrs.put(Instr::Tick);
+    put_statement(g, sets, sc, d, s);
+    d.instrs.put(next_instr(down, var, tick));
+    let end = place(&mut d.instrs);
+    set(&mut d.instrs.items, at, for_instr(down, var, end));
 }
 
 #[cycle(statement)]
@@ -411,12 +289,12 @@ fn put_for(
     from: &Expr,
     down: bool,
     to: &Expr,
-) -> Result<(), Memory>
-    ensures { OnOk result (d.new ≡ with_form g.now sets.now sc.now d.old
+)
+    ensures { Wrote d.old d.new (with_form g.now sets.now sc.now d.old
         (c.For x at (expression_of from.now) down (expression_of to.now) (statement_of s.now))) }
 {
-    put_value(g, sc, &mut d.instrs, from)?;
-    put_value(g, sc, &mut d.instrs, to)?;
+    put_value(g, sc, &mut d.instrs, from);
+    put_value(g, sc, &mut d.instrs, to);
     put_for_body(g, sets, sc, d, s, down, slot(g, x))
 }
 
@@ -428,20 +306,20 @@ fn put_children(
     sc: &[Scope],
     d: &mut CodeBuffer,
     ss: &List<Stmt>,
-) -> Result<List<ChildTable>, Memory>
-    ensures code { OnOk result (with_children g.now sets.now sc.now d.new c.NoStatement
-        ≡ with_children g.now sets.now sc.now d.old (statements (map statement_of ss.now))) }
-    ensures lines { IfOk result (λ xs. xs ≡ children_of g.now sets.now (length d.old.instrs)
-        (statements (map statement_of ss.now))) }
+) -> List<ChildTable>
+    ensures { Keeps d.old.instrs d.new.instrs
+        ((written d.new ≡ with_children g.now sets.now sc.now d.old (statements (map statement_of ss.now)))
+        × (result ≡ children_of g.now sets.now (length d.old.instrs.items.items)
+        (statements (map statement_of ss.now)))) }
 {
-    let mut out = Vec::new(g.alloc);
+    let mut lines = List::new(g.alloc);
     for s in ss.items() {
-        let entry = narrow(d.instrs.len())?;
-        let line = child_line(g, sets, s, entry)?;
-        out.push(line)?;
-        put_child(g, sets, sc, d, s)?;
+        let entry = place(&mut d.instrs);
+        d.instrs.push_to(&mut lines, child_line(g, sets, s, entry));
+        put_statement(g, sets, sc, d, s);
+        d.instrs.put(Instr::End);
     }
-    Ok(List::of(out))
+    lines
 }
 
 /// The line of a fork table for a process that begins at `entry`.
@@ -458,50 +336,23 @@ fn child_line(g: &CodeContext, sets: &Sets, s: &Stmt, entry: u32) -> Result<Chil
     })
 }
 
-/// A process statement with an `end` behind.
 #[cycle(statement)]
-fn put_child(
-    g: &CodeContext,
-    sets: &Sets,
-    sc: &[Scope],
-    d: &mut CodeBuffer,
-    s: &Stmt,
-) -> Result<(), Memory>
-    ensures code { (rest : c.Statements)
-        → OnOk result (with_children g.now sets.now sc.now d.new rest
-        ≡ with_children g.now sets.now sc.now d.old (c.AndThen (statement_of s.now) rest)) }
-    ensures place { OnOk result (length d.new.instrs
-        ≡ after_statement (plain_program g.now) (length d.old.instrs) (bare_statement (statement_of s.now)) + 1) }
-{
-    put_statement(g, sets, sc, d, s)?;
-    put(&mut d.instrs, Instr::End)?;
-    Ok(())
-}
-
-#[cycle(statement)]
-fn put_parallel(
-    g: &CodeContext,
-    sets: &Sets,
-    sc: &[Scope],
-    d: &mut CodeBuffer,
-    ss: &List<Stmt>,
-) -> Result<(), Memory>
-    ensures { OnOk result (d.new ≡ with_form g.now sets.now sc.now d.old
+fn put_parallel(g: &CodeContext, sets: &Sets, sc: &[Scope], d: &mut CodeBuffer, ss: &List<Stmt>)
+    ensures { Wrote d.old d.new (with_form g.now sets.now sc.now d.old
         (c.Parallel (statements (map statement_of ss.now)))) }
 {
     let table = d.forks.len();
-    let number = narrow(table)?;
-    d.forks.push(ForkTable {
+    let number = d.instrs.number(narrow(table));
+    let blank = ForkTable {
         children: List::new(g.alloc),
-    })?;
-    put(&mut d.instrs, Instr::Fork(number))?;
-    let at = d.instrs.len();
-    put(&mut d.instrs, Instr::Jump(0))?;
-    let children = put_children(g, sets, sc, d, ss)?;
-    let end = narrow(d.instrs.len())?;
-    patch(&mut d.instrs, at, Instr::Jump(end));
+    };
+    d.instrs.push_to(&mut d.forks, Ok(blank));
+    d.instrs.put(Instr::Fork(number));
+    let at = count(&d.instrs);
+    d.instrs.put(Instr::Jump(0));
+    let children = put_children(g, sets, sc, d, ss);
+    mend_jump(&mut d.instrs, at);
     patch_table(&mut d.forks, table, ForkTable { children });
-    Ok(())
 }
 
 /// The fork table of a forall whose element statement begins at `entry`.
@@ -512,7 +363,7 @@ fn index_table(
     s: &Stmt,
     entry: u32,
 ) -> Result<ForkTable, Memory>
-    ensures { IfOk result (λ t. t.children ≡ index_child g.now sets.now x entry (statement_of s.now) ∷ []) }
+    ensures { IfOk result (λ t. t ≡ index_table g.now sets.now x entry (statement_of s.now)) }
 {
     let moved = moved(g.alloc, sets, s.number)?;
     let seen = shared(g.alloc, sets, s.number)?;
@@ -537,32 +388,33 @@ fn inside(g: &CodeContext, sc: &[Scope], x: u32) -> Result<Vec<Scope>, Memory>
     Ok(inner)
 }
 
+/// The element statement of a forall, inside the scope of its index.
+#[cycle(statement)]
+fn put_inside(g: &CodeContext, sets: &Sets, sc: &[Scope], d: &mut CodeBuffer, s: &Stmt, x: u32)
+    ensures { Wrote d.old d.new (with_statement g.now sets.now (scope.Index x ∷ sc.now) d.old (statement_of s.now)) }
+{
+    match inside(g, sc, x) {
+        Err(Memory) => d.instrs.lose(),
+        Ok(inner) => put_statement(g, sets, inner.as_slice(), d, s),
+    }
+}
+
 /// A forall behind its limits.
 #[cycle(statement)]
-fn put_spread(
-    g: &CodeContext,
-    sets: &Sets,
-    sc: &[Scope],
-    d: &mut CodeBuffer,
-    s: &Stmt,
-    x: u32,
-) -> Result<(), Memory>
-    ensures { OnOk result (d.new ≡ with_spread g.now sets.now sc.now d.old x (statement_of s.now)) }
+fn put_spread(g: &CodeContext, sets: &Sets, sc: &[Scope], d: &mut CodeBuffer, s: &Stmt, x: u32)
+    ensures { Wrote d.old d.new (with_spread g.now sets.now sc.now d.old x (statement_of s.now)) }
 {
-    let number = narrow(d.forks.len())?;
-    let first = narrow(d.instrs.len())?;
-    let entry = sum(first, 2)?;
-    let table = index_table(g, sets, x, s, entry)?;
-    d.forks.push(table)?;
-    put(&mut d.instrs, Instr::Forall(number))?;
-    let at = d.instrs.len();
-    put(&mut d.instrs, Instr::Jump(0))?;
-    let inner = inside(g, sc, x)?;
-    put_statement(g, sets, inner.as_slice(), d, s)?;
-    put(&mut d.instrs, Instr::End)?;
-    let end = narrow(d.instrs.len())?;
-    patch(&mut d.instrs, at, Instr::Jump(end));
-    Ok(())
+    let number = d.instrs.number(narrow(d.forks.len()));
+    let first = place(&mut d.instrs);
+    let entry = d.instrs.number(sum(first, 2));
+    d.instrs
+        .push_to(&mut d.forks, index_table(g, sets, x, s, entry));
+    d.instrs.put(Instr::Forall(number));
+    let at = count(&d.instrs);
+    d.instrs.put(Instr::Jump(0));
+    put_inside(g, sets, sc, d, s, x);
+    d.instrs.put(Instr::End);
+    mend_jump(&mut d.instrs, at);
 }
 
 #[cycle(statement)]
@@ -575,40 +427,17 @@ fn put_forall(
     x: u32,
     from: &Expr,
     to: &Expr,
-) -> Result<(), Memory>
-    ensures { OnOk result (d.new ≡ with_form g.now sets.now sc.now d.old
+)
+    ensures { Wrote d.old d.new (with_form g.now sets.now sc.now d.old
         (c.Forall x (expression_of from.now) (expression_of to.now) (statement_of s.now))) }
 {
-    put_value(g, sc, &mut d.instrs, from)?;
-    put_value(g, sc, &mut d.instrs, to)?;
+    put_value(g, sc, &mut d.instrs, from);
+    put_value(g, sc, &mut d.instrs, to);
     put_spread(g, sets, sc, d, s, x)
 }
 
-/// A choice of a `case`, with a jump behind that is mended later.
-#[cycle(statement)]
-#[tactic(auto, using(crate::proofs::Forms::arm_next, crate::proofs::Forms::ended_by, crate::proofs::Forms::written_place))]
-fn put_arm(
-    g: &CodeContext,
-    sets: &Sets,
-    sc: &[Scope],
-    d: &mut CodeBuffer,
-    a: &Arm,
-) -> Result<u32, Memory>
-    ensures code { (rest : c.Arms) → OnOk result
-        (with_arms g.now sets.now sc.now d.new rest 0
-        ≡ with_arms g.now sets.now sc.now d.old (c.Or (c.On a.now.constants (statement_of a.now.body)) rest) 0) }
-    ensures place { OnOk result (length d.new.instrs
-        ≡ after_statement (plain_program g.now) (length d.old.instrs) (bare_statement (statement_of a.now.body)) + 1) }
-    ensures end { IfOk result (λ n. n ≡ after_statement (plain_program g.now) (length d.old.instrs)
-        (bare_statement (statement_of a.now.body))) }
-{
-    put_statement(g, sets, sc, d, &a.body)?;
-    let end = narrow(d.instrs.len())?;
-    put(&mut d.instrs, Instr::Jump(0))?;
-    Ok(end)
-}
-
-/// The statements of a `case`. The answer is where each begins, and where the jumps behind them stand.
+/// The statements of a `case`, with a jump behind each that is mended later. The answer is where each begins, and where
+/// the jumps stand.
 #[cycle(statement)]
 fn put_arms(
     g: &CodeContext,
@@ -616,44 +445,38 @@ fn put_arms(
     sc: &[Scope],
     d: &mut CodeBuffer,
     xs: &List<Arm>,
-) -> Result<(Vec<u32>, Vec<u32>), Memory>
-    ensures code { OnOk result (with_arms g.now sets.now sc.now d.new c.NoArm 0
-        ≡ with_arms g.now sets.now sc.now d.old (arms (map arm_of xs.now)) 0) }
-    ensures starts { IfOk result (λ y. y.0.items
-        ≡ starts_of (plain_program g.now) (length d.old.instrs) (bare_arms (arms (map arm_of xs.now)))) }
-    ensures ends { IfOk result (λ y. y.1.items
-        ≡ ends_of (plain_program g.now) (length d.old.instrs) (bare_arms (arms (map arm_of xs.now)))) }
+) -> (List<u32>, List<u32>)
+    ensures { Keeps d.old.instrs d.new.instrs
+        ((written d.new ≡ with_arms g.now sets.now sc.now d.old (arms (map arm_of xs.now)) 0)
+        × (result.0 ≡ starts_of (plain_program g.now) (length d.old.instrs.items.items)
+        (bare_arms (arms (map arm_of xs.now))))
+        × (result.1 ≡ ends_of (plain_program g.now) (length d.old.instrs.items.items)
+        (bare_arms (arms (map arm_of xs.now))))) }
 {
-    let mut starts = Vec::new(g.alloc);
-    let mut ends = Vec::new(g.alloc);
+    let mut starts = List::new(g.alloc);
+    let mut ends = List::new(g.alloc);
     for a in xs.items() {
-        let start = narrow(d.instrs.len())?;
-        starts.push(start)?;
-        let end = put_arm(g, sets, sc, d, a)?;
-        ends.push(end)?;
+        mark(&mut d.instrs, &mut starts);
+        put_statement(g, sets, sc, d, &a.body);
+        mark(&mut d.instrs, &mut ends);
+        d.instrs.put(Instr::Jump(0));
     }
-    Ok((starts, ends))
+    (starts, ends)
 }
 
 /// The tests and the statements of a `case` behind its selector.
 #[cycle(statement)]
-fn put_choices(
-    g: &CodeContext,
-    sets: &Sets,
-    sc: &[Scope],
-    d: &mut CodeBuffer,
-    xs: &List<Arm>,
-) -> Result<(), Memory>
-    ensures { OnOk result (d.new ≡ with_choices g.now sets.now sc.now d.old (arms (map arm_of xs.now))) }
+fn put_choices(g: &CodeContext, sets: &Sets, sc: &[Scope], d: &mut CodeBuffer, xs: &List<Arm>)
+    ensures { Wrote d.old d.new (with_choices g.now sets.now sc.now d.old (arms (map arm_of xs.now))) }
 {
-    let first = d.instrs.len();
-    put_blanks(&mut d.instrs, xs)?;
-    put(&mut d.instrs, Instr::Nocase)?;
-    let (starts, ends) = put_arms(g, sets, sc, d, xs)?;
-    let end = narrow(d.instrs.len())?;
-    fill_ends(&mut d.instrs, ends.as_slice(), end);
-    fill_tests(&mut d.instrs, first, xs, starts.as_slice())?;
-    Ok(())
+    let first = count(&d.instrs);
+    put_blanks(&mut d.instrs, xs);
+    d.instrs.put(Instr::Nocase);
+    let (starts, ends) = put_arms(g, sets, sc, d, xs);
+    let end = place(&mut d.instrs);
+    fill_ends(&mut d.instrs.items, ends.items(), end);
+    let filled = fill_tests(&mut d.instrs.items, first, xs, starts.items());
+    d.instrs.note(filled);
 }
 
 #[cycle(statement)]
@@ -664,10 +487,10 @@ fn put_case(
     d: &mut CodeBuffer,
     xs: &List<Arm>,
     e: &Expr,
-) -> Result<(), Memory>
-    ensures { OnOk result (d.new ≡ with_form g.now sets.now sc.now d.old
+)
+    ensures { Wrote d.old d.new (with_form g.now sets.now sc.now d.old
         (c.Case (expression_of e.now) (arms (map arm_of xs.now)))) }
 {
-    put_value(g, sc, &mut d.instrs, e)?;
+    put_value(g, sc, &mut d.instrs, e);
     put_choices(g, sets, sc, d, xs)
 }

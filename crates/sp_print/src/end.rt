@@ -1,11 +1,13 @@
 //! The lines of an end of a run.
 
-ghost use Rattle.std.specs.Prelude.{◌≡◌, ◌++◌, IfOk, OnOk};
+ghost use Rattle.std.specs.Prelude.{◌≡◌, IfOk};
 ghost use Rattle.std.specs.List.{flat_map};
 ghost use Rattle.sp_print.specs.OutcomeLines.{waiter_line, end_text, HasLines};
+ghost use Rattle.sp_writer.specs.Adds.{Adds};
 
 use sp_base::Memory;
 use sp_journal::{End, Waiter};
+use sp_writer::Writer;
 use std::alloc::Global;
 
 /// The lines of an end that is not `Memory`: `done`; or `deadlock` and then `waits NAME send CHANNEL` or
@@ -14,43 +16,41 @@ pub fn end_lines(alloc: Global, end: &End) -> Result<Vec<u8>, Memory>
     requires { HasLines end.now }
     ensures { IfOk result (λ text. text.items ≡ end_text end.now) }
 {
-    let mut out = Vec::new(alloc);
+    let mut out = Writer::new(alloc);
     match end {
-        End::Done => out.extend_from_slice(b"done\n")?,
+        End::Done => out.extend(b"done\n"),
         End::Deadlock(waiters) => {
-            out.extend_from_slice(b"deadlock\n")?;
-            put_waiters(&mut out, waiters.items())?;
+            out.extend(b"deadlock\n");
+            put_waiters(&mut out, waiters.items());
         }
         End::Fault { process, fault } => {
-            out.extend_from_slice(b"fault ")?;
-            out.extend_from_slice(fault.name().as_bytes())?;
-            out.extend_from_slice(b" ")?;
-            process.put(&mut out)?;
-            out.extend_from_slice(b"\n")?;
+            out.extend(b"fault ");
+            out.extend(fault.name().as_bytes());
+            out.extend(b" ");
+            out.name(process);
+            out.extend(b"\n");
         }
         End::Memory => {}
     }
-    Ok(out)
+    out.finish()
 }
 
-fn put_waiters(out: &mut Vec<u8>, waiters: &[Waiter]) -> Result<(), Memory>
-    ensures { OnOk result (out.new.items ≡ out.old.items ++ flat_map waiter_line waiters.now) }
+fn put_waiters(out: &mut Writer<u8>, waiters: &[Waiter])
+    ensures { Adds out.old out.new (flat_map waiter_line waiters.now) }
 {
     for waiter in waiters {
-        put_waiter(out, waiter)?;
+        put_waiter(out, waiter);
     }
-    Ok(())
 }
 
-fn put_waiter(out: &mut Vec<u8>, waiter: &Waiter) -> Result<(), Memory>
-    ensures { OnOk result (out.new.items ≡ out.old.items ++ waiter_line waiter.now) }
+fn put_waiter(out: &mut Writer<u8>, waiter: &Waiter)
+    ensures { Adds out.old out.new (waiter_line waiter.now) }
 {
-    out.extend_from_slice(b"waits ")?;
-    waiter.process.put(out)?;
-    out.extend_from_slice(b" ")?;
-    out.extend_from_slice(waiter.way.word().as_bytes())?;
-    out.extend_from_slice(b" ")?;
-    waiter.channel.put(out)?;
-    out.extend_from_slice(b"\n")?;
-    Ok(())
+    out.extend(b"waits ");
+    out.name(&waiter.process);
+    out.extend(b" ");
+    out.extend(waiter.way.word().as_bytes());
+    out.extend(b" ");
+    out.channel(&waiter.channel);
+    out.extend(b"\n");
 }

@@ -1,11 +1,15 @@
 //! The watcher `Census`: how many entries of each kind a journal has.
 
-ghost use Rattle.std.specs.Prelude.{◌≡◌, ◌++◌, [], IfOk, OnOk, codes};
-ghost use Rattle.sp_report.specs.Census.{census_text, count_line, count_of, is_counted, kind_name};
+ghost use Rattle.std.specs.Prelude.{◌≡◌, [], IfOk, codes};
+ghost use Rattle.std.specs.List.{flat_map};
+ghost use Rattle.sp_report.specs.Census.{census_text, count_line, count_of, is_counted, kind_name, kinds};
+ghost use Rattle.sp_writer.specs.Adds.{Adds};
 
+use crate::have;
 use crate::watcher::Watcher;
-use sp_base::{List, Memory, put_decimal};
+use sp_base::{List, Memory};
 use sp_journal::{Entry, Event};
+use sp_writer::Writer;
 use std::alloc::Global;
 
 /// What is counted.
@@ -59,14 +63,13 @@ impl Kind {
             .count()
     }
 
-    fn put(self, out: &mut Vec<u8>, entries: &[Entry]) -> Result<(), Memory>
-        ensures { OnOk result (out.new.items ≡ out.old.items ++ count_line entries.now self) }
+    fn put(self, out: &mut Writer<u8>, entries: &[Entry])
+        ensures { Adds out.old out.new (count_line entries.now self) }
     {
-        out.extend_from_slice(self.name().as_bytes())?;
-        out.extend_from_slice(b" ")?;
-        put_decimal(out, self.count(entries) as u64)?;
-        out.extend_from_slice(b"\n")?;
-        Ok(())
+        out.extend(self.name().as_bytes());
+        out.extend(b" ");
+        out.decimal(self.count(entries) as u64);
+        out.extend(b"\n");
     }
 }
 
@@ -89,18 +92,26 @@ impl Census {
     }
 }
 
+/// Puts a line for each kind.
+fn put_kinds(out: &mut Writer<u8>, entries: &[Entry])
+    ensures { Adds out.old out.new (flat_map (count_line entries.now) kinds) }
+{
+    Kind::Forks.put(out, entries);
+    Kind::Opens.put(out, entries);
+    Kind::Sends.put(out, entries);
+    Kind::Receives.put(out, entries);
+    Kind::Ends.put(out, entries);
+    Kind::Faults.put(out, entries);
+    Kind::Laid.put(out, entries);
+}
+
 fn census_text(alloc: Global, entries: &[Entry]) -> Result<Vec<u8>, Memory>
     ensures { IfOk result (λ text. text.items ≡ census_text entries.now) }
 {
-    let mut text = Vec::from_slice(alloc, b"census\n")?;
-    Kind::Forks.put(&mut text, entries)?;
-    Kind::Opens.put(&mut text, entries)?;
-    Kind::Sends.put(&mut text, entries)?;
-    Kind::Receives.put(&mut text, entries)?;
-    Kind::Ends.put(&mut text, entries)?;
-    Kind::Faults.put(&mut text, entries)?;
-    Kind::Laid.put(&mut text, entries)?;
-    Ok(text)
+    let mut text = Writer::new(alloc);
+    text.extend(b"census\n");
+    put_kinds(&mut text, entries);
+    text.finish()
 }
 
 impl Watcher for Census {
@@ -115,13 +126,13 @@ impl Watcher for Census {
     }
 
     fn see(&mut self, entry: &Entry) -> Result<(), Memory> {
-        self.entries.push(*entry)?;
+        have!(self.entries.push(*entry));
         Ok(())
     }
 
     fn finish(&mut self, out: &mut Vec<u8>) -> Result<(), Memory> {
-        let text = census_text(self.alloc, self.entries.items())?;
-        out.extend_from_slice(text.as_slice())?;
+        let text = have!(census_text(self.alloc, self.entries.items()));
+        have!(out.extend_from_slice(text.as_slice()));
         Ok(())
     }
 }

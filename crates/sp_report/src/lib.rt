@@ -27,6 +27,7 @@
 
 mod census;
 mod condition;
+mod have;
 mod order;
 mod table;
 mod telling;

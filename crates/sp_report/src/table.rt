@@ -10,6 +10,7 @@ ghost use Rattle.sp_report.specs.Conditions.{conditions_after_end};
 ghost use Rattle.sp_report.specs.Fits.{table_conditions};
 
 use crate::condition::{Condition, Pending, is_fault, is_timely};
+use crate::have;
 use sp_base::Memory;
 use sp_journal::{Birth, Entry, Event, Ledger, Way};
 use std::alloc::Global;
@@ -29,7 +30,7 @@ impl Table {
         ensures { IfOk result (λ t. table_conditions t ≡ first_conditions) }
     {
         let mut of = HashMap::new(alloc);
-        of.insert(0, Condition::Running)?;
+        have!(of.insert(0, Condition::Running));
         Ok(Table {
             of,
             pending: HashMap::new(alloc),
@@ -51,7 +52,7 @@ impl Table {
         ensures { OnOk result (table_conditions self.new ≡ with_condition (table_conditions self.old) process
             condition) }
     {
-        self.of.insert(process, condition)?;
+        have!(self.of.insert(process, condition));
         Ok(())
     }
 
@@ -68,9 +69,9 @@ impl Table {
             count,
             left: count,
         };
-        self.of.insert(process, joining)?;
+        have!(self.of.insert(process, joining));
         for child in first..first + u64::from(count) {
-            self.of.insert(child as u32, Condition::Running)?;
+            have!(self.of.insert(child as u32, Condition::Running));
         }
         Ok(())
     }
@@ -82,7 +83,7 @@ impl Table {
     {
         match self.pending.get(&channel).copied() {
             None => {
-                self.pending.insert(channel, Pending { way, process })?;
+                have!(self.pending.insert(channel, Pending { way, process }));
                 self.becomes(process, Condition::Offering { way, channel })
             }
             Some(other) => {
@@ -128,7 +129,7 @@ impl Table {
             Event::Send(channel) => self.offer(process, Way::Send, channel),
             Event::Receive(channel) => self.offer(process, Way::Receive, channel),
             Event::End => {
-                self.becomes(process, Condition::Ended)?;
+                have!(self.becomes(process, Condition::Ended));
                 self.report(ledger.birth(process))
             }
             Event::Fault(_) | Event::Laid => self.becomes(process, Condition::Laid),
@@ -144,7 +145,7 @@ impl Table {
             ≡ conditions_after (births ledger.now.journal.entries) (table_conditions self.old) entry) }
     {
         if self.of(entry.process).is_running() && is_timely(self.faulted, entry.event) {
-            self.change(ledger, entry)?;
+            have!(self.change(ledger, entry));
         }
         if is_fault(entry.event) {
             self.faulted = true;

@@ -4,6 +4,7 @@ ghost use Rattle.std.specs.Prelude.{◌≡◌, ◌++◌, [], All, IfOk, OnOk};
 ghost use Rattle.sp_journal.specs.Births.{IsNameable};
 ghost use Rattle.sp_report.specs.Telling.{AreFresh, is_chosen, reports};
 
+use crate::have;
 use crate::watcher::Watcher;
 use sp_base::{Memory, Show};
 use sp_journal::Journal;
@@ -29,7 +30,7 @@ fn tell_one(watcher: &mut dyn Watcher, journal: &Journal, out: &mut Vec<u8>) -> 
     ensures { OnOk result (out.new.items ≡ out.old.items ++ text watcher.old journal.now.entries) }
 {
     for entry in journal.entries.items() {
-        watcher.see(entry)?;
+        have!(watcher.see(entry));
     }
     watcher.finish(out)
 }
@@ -50,7 +51,7 @@ pub fn tell(
     for watcher in watchers {
         let mut watcher = watcher;
         if is_chosen(show, watcher.name()) {
-            tell_one(&mut *watcher, journal, &mut out)?;
+            have!(tell_one(&mut *watcher, journal, &mut out));
         }
     }
     Ok(out)

@@ -1,13 +1,16 @@
 //! The watcher `Timeline`: the entries of a journal with their indices.
 
-ghost use Rattle.std.specs.Prelude.{◌≡◌, ◌++◌, [], IfOk, OnOk, codes, decimal, true};
+ghost use Rattle.std.specs.Prelude.{◌≡◌, ◌++◌, [], IfOk, codes, decimal, true};
 ghost use Rattle.sp_journal.specs.Births.{IsNameable, first_births};
 ghost use Rattle.sp_report.specs.Nameable.{nameable_prop};
 ghost use Rattle.sp_report.specs.Timeline.{numbered_lines, timeline_text};
+ghost use Rattle.sp_writer.specs.Adds.{Adds};
 
+use crate::have;
 use crate::watcher::Watcher;
-use sp_base::{List, Memory, put_decimal};
+use sp_base::{List, Memory};
 use sp_journal::{Entry, Journal, print_journal};
+use sp_writer::Writer;
 use std::alloc::Global;
 
 /// Tells the entries in their order, each after its index.
@@ -32,39 +35,39 @@ impl Timeline {
     }
 }
 
-fn put_number(out: &mut Vec<u8>, number: u64) -> Result<(), Memory>
-    ensures { OnOk result (out.new.items ≡ out.old.items ++ (decimal number ++ codes " ")) }
+fn put_number(out: &mut Writer<u8>, number: u64)
+    ensures { Adds out.old out.new (decimal number ++ codes " ") }
 {
-    put_decimal(out, number)?;
-    out.extend_from_slice(b" ")?;
-    Ok(())
+    out.decimal(number);
+    out.extend(b" ");
 }
 
 /// Puts the lines last into `out`, each after its number, which counts from 0.
-fn put_numbered(out: &mut Vec<u8>, lines: &[u8]) -> Result<(), Memory>
-    ensures { OnOk result (out.new.items ≡ out.old.items ++ numbered_lines true 0 lines.now) }
+fn put_numbered(out: &mut Writer<u8>, lines: &[u8])
+    ensures { Adds out.old out.new (numbered_lines true 0 lines.now) }
 {
     let mut next = 0u64;
     let mut begins = true;
     for byte in lines {
         if begins {
-            put_number(out, next)?;
+            put_number(out, next);
             next += 1;
         }
-        out.push(*byte)?;
+        out.put(*byte);
         begins = *byte == b'\n';
     }
-    Ok(())
 }
 
 fn timeline_text(alloc: Global, journal: &Journal) -> Result<Vec<u8>, Memory>
     requires { IsNameable journal.now }
     ensures { IfOk result (λ text. text.items ≡ timeline_text journal.now.entries) }
 {
-    let printed = print_journal(alloc, journal)?;
+    let printed = have!(print_journal(alloc, journal));
     let lines = &printed.as_slice()[b"superpascal journal 2\n".len()..];
-    let mut text = Vec::from_slice(alloc, b"timeline\n")?;
-    put_numbered(&mut text, lines)?;
+    let mut text = Writer::new(alloc);
+    text.extend(b"timeline\n");
+    put_numbered(&mut text, lines);
+    let text = have!(text.finish());
     Ok(text)
 }
 
@@ -84,8 +87,8 @@ impl Watcher for Timeline {
     }
 
     fn finish(&mut self, out: &mut Vec<u8>) -> Result<(), Memory> {
-        let text = timeline_text(self.alloc, &self.journal)?;
-        out.extend_from_slice(text.as_slice())?;
+        let text = have!(timeline_text(self.alloc, &self.journal));
+        have!(out.extend_from_slice(text.as_slice()));
         Ok(())
     }
 }

@@ -1,16 +1,19 @@
 //! The watcher `ProcessTree`: the processes of a journal as a tree. They are put in order by an ordered map under their
 //! names.
 
-ghost use Rattle.std.specs.Prelude.{◌≡◌, ◌++◌, [], IfOk, OnOk, codes, decimal};
+ghost use Rattle.std.specs.Prelude.{◌≡◌, ◌++◌, [], IfOk, codes, decimal};
 ghost use Rattle.sp_journal.specs.Births.{IsNameable, first_births, births};
 ghost use Rattle.sp_journal.specs.Ledger.{IsLedger};
 ghost use Rattle.sp_report.specs.InOrder.{sorted_by_name};
 ghost use Rattle.sp_report.specs.Nameable.{nameable_prop};
 ghost use Rattle.sp_report.specs.Tree.{forked_processes, last_pair, tree_line, tree_lines, tree_text};
+ghost use Rattle.sp_writer.specs.Adds.{Adds};
 
+use crate::have;
 use crate::watcher::Watcher;
-use sp_base::{List, Memory, Pair, ProcName, put_decimal};
+use sp_base::{List, Memory, Pair, ProcName};
 use sp_journal::{Entry, Journal, Ledger};
+use sp_writer::Writer;
 use std::alloc::Global;
 use std::collections::BTreeMap;
 
@@ -45,59 +48,59 @@ fn forked(alloc: Global, ledger: &Ledger) -> Result<BTreeMap<ProcName, u32>, Mem
     let mut names = BTreeMap::new(alloc);
     for process in 1..ledger.processes() {
         let process = process as u32;
-        names.insert(ledger.name(process)?, process)?;
+        let name = have!(ledger.name(process));
+        have!(names.insert(name, process));
     }
     Ok(names)
 }
 
-fn put_pair(out: &mut Vec<u8>, pair: Pair) -> Result<(), Memory>
-    ensures { OnOk result (out.new.items ≡ out.old.items ++ (decimal pair.fork ++ codes "." ++ decimal pair.child)) }
+fn put_pair(out: &mut Writer<u8>, pair: Pair)
+    ensures { Adds out.old out.new (decimal pair.fork ++ codes "." ++ decimal pair.child) }
 {
-    put_decimal(out, u64::from(pair.fork))?;
-    out.extend_from_slice(b".")?;
-    put_decimal(out, u64::from(pair.child))
+    out.decimal(u64::from(pair.fork));
+    out.extend(b".");
+    out.decimal(u64::from(pair.child));
 }
 
 /// Puts the last pair, where there is one.
-fn put_last(out: &mut Vec<u8>, pairs: &[Pair]) -> Result<(), Memory>
-    ensures { OnOk result (out.new.items ≡ out.old.items ++ last_pair pairs.now) }
+fn put_last(out: &mut Writer<u8>, pairs: &[Pair])
+    ensures { Adds out.old out.new (last_pair pairs.now) }
 {
     match pairs.last() {
         Some(pair) => put_pair(out, *pair),
-        None => Ok(()),
+        None => {}
     }
 }
 
-fn put_line(out: &mut Vec<u8>, name: &ProcName) -> Result<(), Memory>
-    ensures { OnOk result (out.new.items ≡ out.old.items ++ tree_line name.now) }
+fn put_line(out: &mut Writer<u8>, name: &ProcName)
+    ensures { Adds out.old out.new (tree_line name.now) }
 {
     let pairs = name.pairs.items();
     for _pair in pairs {
-        out.extend_from_slice(b"  ")?;
+        out.extend(b"  ");
     }
-    put_last(out, pairs)?;
-    out.extend_from_slice(b"\n")?;
-    Ok(())
+    put_last(out, pairs);
+    out.extend(b"\n");
 }
 
-fn put_lines(out: &mut Vec<u8>, names: &BTreeMap<ProcName, u32>) -> Result<(), Memory>
-    ensures { OnOk result (out.new.items ≡ out.old.items ++ tree_lines names.now.entries) }
+fn put_lines(out: &mut Writer<u8>, names: &BTreeMap<ProcName, u32>)
+    ensures { Adds out.old out.new (tree_lines names.now.entries) }
 {
     for (name, _number) in names {
-        put_line(out, name)?;
+        put_line(out, name);
     }
-    Ok(())
 }
 
 fn tree_text(alloc: Global, journal: &Journal) -> Result<Vec<u8>, Memory>
     requires { IsNameable journal.now }
     ensures { IfOk result (λ text. text.items ≡ tree_text journal.now.entries) }
 {
-    let ledger = Ledger::of(alloc, journal)?;
-    let names = forked(alloc, &ledger)?;
-    let mut text = Vec::from_slice(alloc, b"tree\n0\n")?;
-    put_lines(&mut text, &names)?;
-    Ok(text)
+    let ledger = have!(Ledger::of(alloc, journal));
+    let names = have!(forked(alloc, &ledger));
+    let mut text = Writer::new(alloc);
+    text.extend(b"tree\n0\n");
+    put_lines(&mut text, &names);
+    text.finish()
 }
 
 impl Watcher for ProcessTree {
@@ -116,8 +119,8 @@ impl Watcher for ProcessTree {
     }
 
     fn finish(&mut self, out: &mut Vec<u8>) -> Result<(), Memory> {
-        let text = tree_text(self.alloc, &self.journal)?;
-        out.extend_from_slice(text.as_slice())?;
+        let text = have!(tree_text(self.alloc, &self.journal));
+        have!(out.extend_from_slice(text.as_slice()));
         Ok(())
     }
 }

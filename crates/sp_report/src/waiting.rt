@@ -1,7 +1,7 @@
 //! The watcher `Waiting`: the processes of a journal that wait at its end. They are put in order by an ordered map
 //! under their names.
 
-ghost use Rattle.std.specs.Prelude.{◌≡◌, ◌++◌, ◌+◌, ◌≤◌, [], IfOk, OnOk, codes};
+ghost use Rattle.std.specs.Prelude.{◌≡◌, ◌+◌, ◌<◌, ◌≤◌, [], IfOk, codes};
 ghost use Rattle.sp_journal.specs.Births.{IsNameable, first_births, births};
 ghost use Rattle.sp_journal.specs.Ledger.{IsLedger};
 ghost use Rattle.sp_report.specs.Conditions.{conditions};
@@ -11,12 +11,17 @@ ghost use Rattle.sp_report.specs.Nameable.{nameable_prop};
 ghost use Rattle.sp_report.specs.Waiting.{children_text, unended_children, wait_text, processes_waiting, waiting_line};
 ghost use Rattle.sp_report.specs.Waiting.{waiting_lines};
 ghost use Rattle.sp_report.specs.Waiting.{waiting_text};
+ghost use Rattle.sp_base.specs.Names.{name_text};
+ghost use Rattle.sp_journal.specs.Names.{proc_name};
+ghost use Rattle.sp_writer.specs.Adds.{Adds};
 
 use crate::condition::Condition;
+use crate::have;
 use crate::table::Table;
 use crate::watcher::Watcher;
 use sp_base::{List, Memory, ProcName};
 use sp_journal::{Entry, Journal, Ledger};
+use sp_writer::Writer;
 use std::alloc::Global;
 use std::collections::BTreeMap;
 
@@ -57,10 +62,10 @@ fn after_all(alloc: Global, journal: &Journal) -> Result<Last, Memory>
     ensures fit { IfOk result (λ e. ConditionsFit (births journal.now.entries) (conditions journal.now.entries)) }
 {
     let mut ledger = Ledger::new(alloc);
-    let mut table = Table::new(alloc)?;
+    let mut table = have!(Table::new(alloc));
     for entry in journal.entries.items() {
-        table.tell(&ledger, *entry)?;
-        ledger.add(*entry)?;
+        have!(table.tell(&ledger, *entry));
+        have!(ledger.add(*entry));
     }
     Ok(Last { ledger, table })
 }
@@ -79,99 +84,99 @@ fn waiting_processes(
     for process in 0..ledger.processes() {
         let process = process as u32;
         if table.of(process).is_waiting() {
-            names.insert(ledger.name(process)?, process)?;
+            let name = have!(ledger.name(process));
+            have!(names.insert(name, process));
         }
     }
     Ok(names)
 }
 
+fn put_name(out: &mut Writer<u8>, ledger: &Ledger, process: u32)
+    requires ledger { IsLedger ledger.now }
+    requires there { process < (births ledger.now.journal.entries).processes }
+    ensures { Adds out.old out.new (name_text (proc_name ((births ledger.now.journal.entries).name process))) }
+{
+    match ledger.name(process) {
+        Ok(name) => out.name(&name),
+        Err(Memory) => out.lose(),
+    }
+}
+
 /// Puts the children that have not ended, of `count` from number `first` on.
-fn put_children(
-    out: &mut Vec<u8>,
-    ledger: &Ledger,
-    table: &Table,
-    first: u64,
-    count: u32,
-) -> Result<(), Memory>
+fn put_children(out: &mut Writer<u8>, ledger: &Ledger, table: &Table, first: u64, count: u32)
     requires ledger { IsLedger ledger.now }
     requires there { first + count ≤ (births ledger.now.journal.entries).processes }
-    ensures { OnOk result (out.new.items ≡ out.old.items
-        ++ children_text (births ledger.now.journal.entries)
+    ensures { Adds out.old out.new (children_text (births ledger.now.journal.entries)
         (unended_children (table_conditions table.now) first count)) }
 {
     let _processes = ledger.processes();
     for child in first..first + u64::from(count) {
         let child = child as u32;
         if !table.of(child).has_ended() {
-            out.extend_from_slice(b" ")?;
-            ledger.name(child)?.put(out)?;
+            out.extend(b" ");
+            put_name(out, ledger, child);
         }
     }
-    Ok(())
 }
 
 /// Puts what a process in this condition waits for.
-fn put_wait(
-    out: &mut Vec<u8>,
-    ledger: &Ledger,
-    table: &Table,
-    condition: Condition,
-) -> Result<(), Memory>
+fn put_wait(out: &mut Writer<u8>, ledger: &Ledger, table: &Table, condition: Condition)
     requires ledger { IsLedger ledger.now }
     requires fits { ConditionFits (births ledger.now.journal.entries) condition }
-    ensures { OnOk result (out.new.items ≡ out.old.items
-        ++ wait_text (births ledger.now.journal.entries) (table_conditions table.now) condition) }
+    ensures { Adds out.old out.new
+        (wait_text (births ledger.now.journal.entries) (table_conditions table.now) condition) }
 {
     match condition {
         Condition::Offering { way, channel } => {
-            out.extend_from_slice(way.word().as_bytes())?;
-            out.extend_from_slice(b" ")?;
-            ledger.channel(channel)?.put(out)
+            out.extend(way.word().as_bytes());
+            out.extend(b" ");
+            match ledger.channel(channel) {
+                Ok(name) => out.channel(&name),
+                Err(Memory) => out.lose(),
+            }
         }
         Condition::Joining { first, count, .. } => {
-            out.extend_from_slice(b"join")?;
+            out.extend(b"join");
             put_children(out, ledger, table, first, count)
         }
-        Condition::Unstarted | Condition::Running | Condition::Ended | Condition::Laid => Ok(()),
+        Condition::Unstarted | Condition::Running | Condition::Ended | Condition::Laid => {}
     }
 }
 
-fn put_line(out: &mut Vec<u8>, last: &Last, name: &ProcName, process: u32) -> Result<(), Memory>
+fn put_line(out: &mut Writer<u8>, last: &Last, name: &ProcName, process: u32)
     requires ledger { IsLedger last.now.ledger }
     requires fit { ConditionsFit (births last.now.ledger.journal.entries) (table_conditions last.now.table) }
-    ensures { OnOk result (out.new.items ≡ out.old.items
-        ++ waiting_line (births last.now.ledger.journal.entries) (table_conditions last.now.table)
-        (name.now, process)) }
+    ensures { Adds out.old out.new (waiting_line (births last.now.ledger.journal.entries)
+        (table_conditions last.now.table) (name.now, process)) }
 {
-    name.put(out)?;
-    out.extend_from_slice(b" ")?;
+    out.name(name);
+    out.extend(b" ");
     let condition = last.table.of(process);
-    put_wait(out, &last.ledger, &last.table, condition)?;
-    out.extend_from_slice(b"\n")?;
-    Ok(())
+    put_wait(out, &last.ledger, &last.table, condition);
+    out.extend(b"\n");
 }
 
-fn put_lines(out: &mut Vec<u8>, last: &Last, names: &BTreeMap<ProcName, u32>) -> Result<(), Memory>
+fn put_lines(out: &mut Writer<u8>, last: &Last, names: &BTreeMap<ProcName, u32>)
     requires ledger { IsLedger last.now.ledger }
     requires fit { ConditionsFit (births last.now.ledger.journal.entries) (table_conditions last.now.table) }
-    ensures { OnOk result (out.new.items ≡ out.old.items
-        ++ waiting_lines (births last.now.ledger.journal.entries) (table_conditions last.now.table) names.now.entries) }
+    ensures { Adds out.old out.new (waiting_lines (births last.now.ledger.journal.entries)
+        (table_conditions last.now.table) names.now.entries) }
 {
     for (name, process) in names {
-        put_line(out, last, name, *process)?;
+        put_line(out, last, name, *process);
     }
-    Ok(())
 }
 
 fn waiting_text(alloc: Global, journal: &Journal) -> Result<Vec<u8>, Memory>
     requires { IsNameable journal.now }
     ensures { IfOk result (λ text. text.items ≡ waiting_text journal.now.entries) }
 {
-    let last = after_all(alloc, journal)?;
-    let names = waiting_processes(alloc, &last.ledger, &last.table)?;
-    let mut text = Vec::from_slice(alloc, b"waiting\n")?;
-    put_lines(&mut text, &last, &names)?;
-    Ok(text)
+    let last = have!(after_all(alloc, journal));
+    let names = have!(waiting_processes(alloc, &last.ledger, &last.table));
+    let mut text = Writer::new(alloc);
+    text.extend(b"waiting\n");
+    put_lines(&mut text, &last, &names);
+    text.finish()
 }
 
 impl Watcher for Waiting {
@@ -190,8 +195,8 @@ impl Watcher for Waiting {
     }
 
     fn finish(&mut self, out: &mut Vec<u8>) -> Result<(), Memory> {
-        let text = waiting_text(self.alloc, &self.journal)?;
-        out.extend_from_slice(text.as_slice())?;
+        let text = have!(waiting_text(self.alloc, &self.journal));
+        have!(out.extend_from_slice(text.as_slice()));
         Ok(())
     }
 }

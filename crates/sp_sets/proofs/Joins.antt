@@ -1,7 +1,7 @@
 -- Texts that are joined one after the other.
 use Rattle.std.proofs.Common.{◌≡◌, ℕ, zero, suc, ◌+◌, ◌<◌, List, [], ◌∷◌, ◌++◌, Some, slice_get, refl}
 use Rattle.std.proofs.Common.{sym, ap, ap₂, ◌∙◌, subst, append_assoc, arith}
-use Rattle.std.specs.Prelude.{◌≢◌, codes, length, get_or}
+use Rattle.std.specs.Prelude.{◌≢◌, codes, length, get_or, Result, Ok, Err, IfOk, OnOk}
 use Rattle.sp_sets.specs.Forks.{tree_lines}
 use Rattle.sp_sets.specs.Orders.{IsInOrder, line_cmp}
 use Rattle.sp_sets.specs.SetsText.{IsBoth, IsImplicit, IsLine, IsLineAt, IsOfBlock, IsSetsText, IsVariables, Joined}
@@ -118,3 +118,9 @@ put_sets_is p s vs ks n ls o o1 o2 ev ek en eo up h k =
     by : IsAppended (Joined (IsOfBlock p.variables s p.blocks) (length p.blocks)) o o1
         → IsAppended (Joined (IsLineAt p.variables s ls) (length ls)) o1 o2 → IsSetsText p s o2
     by (a, x, e) (b, y, f) = (ls, up, a, b, x, y, f ∙ ap (λ q. q ++ b) (e ∙ ap (λ q. q ++ a) eo))
+
+-- what is written, if memory was not refused
+pub finished : {T E K : Type 0} {written : T} (r : Result T E) (P : T → Type 0) → OnOk r K
+    → IfOk r (λ x. x ≡ written) → (K → P written) → IfOk r P
+finished (Ok x) P kept is h = subst P (sym is) (h kept)
+finished (Err e) P kept is h = tt

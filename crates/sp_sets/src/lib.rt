@@ -28,6 +28,7 @@
 //! - What has a line: `specs/Forks.antt`, `src/walk.rt`.
 #![tactic(auto)]
 
+mod have;
 mod law;
 mod print;
 mod sets_line;

@@ -1,14 +1,17 @@
 //! The variables of a set, put in order.
 
-ghost use Rattle.std.specs.Prelude.{◌≡◌, ℕ, ◌≤◌, ◌-◌, ◌^◌, ◌++◌, List, length, IfOk, OnOk};
+ghost use Rattle.std.specs.Prelude.{◌≡◌, ℕ, ◌≤◌, ◌-◌, ◌^◌, ◌++◌, List, length, IfOk};
 ghost use Rattle.std.specs.List.{flat_map};
 ghost use Rattle.sp_sets.specs.Orders.{IsInOrder, place_of_variable, variable_cmp};
 ghost use Rattle.sp_sets.specs.SetsText.{IsBoth, IsVariables, members, name_text};
+ghost use Rattle.sp_writer.specs.Adds.{Adds, Keeps};
 
+use crate::have;
 use crate::sets_line::place_cmp;
 use sp_base::{Memory, Place};
 use sp_tree::Variable;
 use sp_varsets::VarSet;
+use sp_writer::Writer;
 use std::alloc::Global;
 use std::cmp::Ordering;
 
@@ -25,7 +28,7 @@ fn members(alloc: Global, set: &VarSet, count: u32) -> Result<Vec<u32>, Memory>
                 if x >= count {
                     return Ok(xs);
                 }
-                xs.push(x)?;
+                have!(xs.push(x));
                 from = x + 1;
             }
             None => return Ok(xs),
@@ -59,61 +62,56 @@ fn in_order(alloc: Global, variables: &[Variable], set: &VarSet) -> Result<Vec<u
     ensures { IfOk result (λ xs. IsInOrder (variable_cmp variables.now) (members set.now (length variables.now))
         xs.items) }
 {
-    let mut xs = members(alloc, set, variables.len() as u32)?;
+    let mut xs = have!(members(alloc, set, variables.len() as u32));
     xs.sort_unstable_by(|x, y| variable_cmp(variables, *x, *y));
     Ok(xs)
 }
 
 /// Puts the name of a variable after a space.
-fn put_name(out: &mut Vec<u8>, variables: &[Variable], x: u32) -> Result<(), Memory>
-    ensures { OnOk result (out.new.items ≡ out.old.items ++ name_text variables.now x) }
+fn put_name(out: &mut Writer<u8>, variables: &[Variable], x: u32)
+    ensures { Adds out.old out.new (name_text variables.now x) }
 {
-    out.extend_from_slice(b" ")?;
+    out.extend(b" ");
     if let Some(variable) = variables.get(x as usize) {
-        out.extend_from_slice(variable.name.bytes())?;
+        out.extend(variable.name.bytes());
     }
-    Ok(())
 }
 
-fn put_names(out: &mut Vec<u8>, variables: &[Variable], xs: &[u32]) -> Result<(), Memory>
-    ensures { OnOk result (out.new.items ≡ out.old.items ++ flat_map (name_text variables.now) xs.now) }
+fn put_names(out: &mut Writer<u8>, variables: &[Variable], xs: &[u32])
+    ensures { Adds out.old out.new (flat_map (name_text variables.now) xs.now) }
 {
     for x in xs {
-        put_name(out, variables, *x)?;
+        put_name(out, variables, *x);
     }
-    Ok(())
 }
 
 /// Puts the variables of the set, in order.
-fn put_variables(
-    alloc: Global,
-    out: &mut Vec<u8>,
-    variables: &[Variable],
-    set: &VarSet,
-) -> Result<(), Memory>
+fn put_variables(alloc: Global, out: &mut Writer<u8>, variables: &[Variable], set: &VarSet)
     requires { length variables.now ≤ 2 ^ 32 - 1 }
-    ensures { OnOk result ((t : List ℕ) × IsVariables variables.now set.now t × (out.new.items ≡ out.old.items ++ t)) }
+    ensures { Keeps out.old out.new ((t : List ℕ) × IsVariables variables.now set.now t
+        × (out.new.items.items ≡ out.old.items.items ++ t)) }
 {
-    let xs = in_order(alloc, variables, set)?;
-    put_names(out, variables, xs.as_slice())
+    match in_order(alloc, variables, set) {
+        Ok(xs) => put_names(out, variables, xs.as_slice()),
+        Err(Memory) => out.lose(),
+    }
 }
 
 /// Puts the end of a line, from two sets.
 pub(crate) fn put_both(
     alloc: Global,
-    out: &mut Vec<u8>,
+    out: &mut Writer<u8>,
     variables: &[Variable],
     targets: &VarSet,
     expressions: &VarSet,
-) -> Result<(), Memory>
+)
     requires { length variables.now ≤ 2 ^ 32 - 1 }
-    ensures { OnOk result ((t : List ℕ) × IsBoth variables.now targets.now expressions.now t
-        × (out.new.items ≡ out.old.items ++ t)) }
+    ensures { Keeps out.old out.new ((t : List ℕ) × IsBoth variables.now targets.now expressions.now t
+        × (out.new.items.items ≡ out.old.items.items ++ t)) }
 {
-    out.extend_from_slice(b" targets")?;
-    put_variables(alloc, out, variables, targets)?;
-    out.extend_from_slice(b" expressions")?;
-    put_variables(alloc, out, variables, expressions)?;
-    out.extend_from_slice(b"\n")?;
-    Ok(())
+    out.extend(b" targets");
+    put_variables(alloc, out, variables, targets);
+    out.extend(b" expressions");
+    put_variables(alloc, out, variables, expressions);
+    out.extend(b"\n");
 }

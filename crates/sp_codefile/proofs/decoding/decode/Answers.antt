@@ -49,7 +49,7 @@ returns-in_default-2 c =
     let rest = c.loop-rest.rest.now in
     let i = c.loop-rest.invariant in
     let none : IsNextItem c.loop-rest.parts c.in-Some-split_first.text.now None = subst
-    (IsNextItem c.loop-rest.parts c.in-Some-split_first.text.now) c.in_default-2.is c.in_ok-item.ensures in
+    (IsNextItem c.loop-rest.parts c.in-Some-split_first.text.now) c.in_default-2.is c.in-Ok.ensures in
     bad_line c.args.bytes.now i.0 c.loop-rest.line c.loop-rest.parts rest i.1 i.2
     (not_empty rest c.is_empty.result c.is_empty.ensures c.loop-rest-test.true)
     (λ x more h f. none x h (parts_first _ _ _ _ (c.in-Some-split_first.ensures ∙ f)))
@@ -67,14 +67,14 @@ loop-rest-preserved c =
     let behind = c.in-Some-split_first.behind.now in
     let i = c.loop-rest.invariant in
     let next : IsNextItem p text (Some c.in-Some-2.item) =
-    subst (IsNextItem p text) c.in-Some-2.is c.in_ok-item.ensures in
+    subst (IsNextItem p text) c.in-Some-2.is c.in-Ok.ensures in
     let short = shorter rest text behind c.in-Some-split_first.ensures in
     let line = i.1 in
     let fits = i.3 in (
       suc i.0,
       omega arith,
       begun_next bytes i.0 p rest text behind c.in-Some-2.item c.add.new.parts i.2 c.in-Some-split_first.ensures next
-          c.in_ok-add.ensures,
+          c.in-Ok-add.ensures,
       omega arith,
     )
 

@@ -22,7 +22,7 @@ loop-rest-preserved c =
     let rest = c.loop-rest.rest.now in
     let behind = c.next_word-in-loop-rest.result.1.now in
     subst (λ (fs : List Formal). LeavesRest formal_text FormalFits c.args.text.now fs behind)
-    (sym c.in_ok-push.ensures.ok)
+    (sym c.in-Ok.ensures.ok)
     (left_next formal_text FormalFits c.args.text.now c.loop-rest.formals rest c.formal.result behind
     (not_empty rest c.is_empty.result c.is_empty.ensures c.loop-rest-test.true)
     (λ f fs g gs e. formal_read f fs g rest _ _ _ behind c.number.result c.formal.result e c.next_word.ensures.before

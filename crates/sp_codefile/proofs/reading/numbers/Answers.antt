@@ -23,7 +23,7 @@ pub loop-rest-preserved : goal.loop-rest-preserved
 loop-rest-preserved c =
     let rest = c.loop-rest.rest.now in
     let behind = c.next_word.result.1.now in
-    subst (λ (ns : List ℕ). LeavesRest number_text IsNumber c.args.text.now ns behind) (sym c.in_ok-push.ensures.ok)
+    subst (λ (ns : List ℕ). LeavesRest number_text IsNumber c.args.text.now ns behind) (sym c.in-Ok.ensures.ok)
     (left_next number_text IsNumber c.args.text.now c.loop-rest.numbers rest c.number.result behind
     (not_empty rest c.is_empty.result c.is_empty.ensures c.loop-rest-test.true)
     (λ n ns f fs e.

@@ -14,8 +14,8 @@ returns-then-eq-clause-first c = λ t c' s0 f e.
     c.next_word-5.ensures.before c.next_word-5.ensures.rest c.next_word-6.ensures.rest c.class_cut.ensures.before
     c.class_cut.ensures.rest c.next_word-7.ensures.rest c.class_cut-2.ensures.before c.class_cut-2.ensures.rest in
     let entry = c.number.ensures c'.entry f.entry k.entry in
-    let moved = c.in_ok-moved.ensures c'.moved f.moved k.moved in
-    let shared = c.in_ok-shared.ensures c'.shared f.shared k.shared in
+    let moved = c.in-Ok.ensures c'.moved f.moved k.moved in
+    let shared = c.in-Ok-numbers.ensures c'.shared f.shared k.shared in
     let index = c.index.ensures c'.index f.index k.index in
     λ j. item.Table (record { entry = entry j; moved = moved j; shared = shared j; index = index j })
 
@@ -46,7 +46,7 @@ returns-else-eq-clause-further c = λ t n c' s0 some few f e.
     c.next_word-5.ensures.before c.next_word-5.ensures.rest c.next_word-6.ensures.rest c.class_cut.ensures.before
     c.class_cut.ensures.rest c.next_word-7.ensures.rest c.class_cut-2.ensures.before c.class_cut-2.ensures.rest in
     let entry = c.number.ensures c'.entry f.entry k.entry in
-    let moved = c.in_ok-moved.ensures c'.moved f.moved k.moved in
-    let shared = c.in_ok-shared.ensures c'.shared f.shared k.shared in
+    let moved = c.in-Ok.ensures c'.moved f.moved k.moved in
+    let shared = c.in-Ok-numbers.ensures c'.shared f.shared k.shared in
     let index = c.index.ensures c'.index f.index k.index in
     λ j. item.Child (record { entry = entry j; moved = moved j; shared = shared j; index = index j })

@@ -18,9 +18,9 @@ returns c = λ l f e.
     let entry = c.number-2.ensures l.entry f.entry k.entry in
     let around = parent_read l.parent f.parent _ c.parent.result k.parent c.parent.ensures.none c.parent.ensures.some in
     let answer = answer_read l.answer _ c.has_answer.result k.answer c.has_answer.ensures.yes c.has_answer.ensures.no in
-    let sizes = c.in_ok-sizes.ensures l.sizes f.sizes k.sizes in
-    let variables = c.in_ok-variables.ensures l.variables f.variables k.variables in
-    let formals = c.in_ok-formals.ensures l.formals f.formals k.formals in
+    let sizes = c.in-Ok.ensures l.sizes f.sizes k.sizes in
+    let variables = c.in-Ok-numbers.ensures l.variables f.variables k.variables in
+    let formals = c.in-Ok-formals.ensures l.formals f.formals k.formals in
     λ j. record {
       block = block j;
       entry = entry j;

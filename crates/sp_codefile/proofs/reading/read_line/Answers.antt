@@ -3,15 +3,15 @@ use Rattle.sp_codefile.specs.Lines.{bytes_of}
 use Rattle.sp_codefile.proofs.KindLaws.{says_layout, says_text, says_instr, says_child_of}
 use Rattle.sp_codefile.proofs.reading.read_line.Goals as goal
 
-pub returns-in_ok-read_layout-in-Layout : goal.returns-in_ok-read_layout-in-Layout
-returns-in_ok-read_layout-in-Layout c =
-    says_layout c.args.line.now c.in_ok-read_layout-in-Layout.field-0 (sym c.kind_of.ensures
-    ∙ c.in-Layout.is) (λ m f e. c.in_ok-read_layout-in-Layout.ensures m f (c.after.ensures ∙ e))
+pub returns-in-Ok : goal.returns-in-Ok
+returns-in-Ok c =
+    says_layout c.args.line.now c.in-Ok.value (sym c.kind_of.ensures
+    ∙ c.in-Layout.is) (λ m f e. c.in-Ok.ensures m f (c.after.ensures ∙ e))
 
-pub returns-in_ok-read_bytes-in-Text : goal.returns-in_ok-read_bytes-in-Text
-returns-in_ok-read_bytes-in-Text c =
+pub returns-in-Ok-read_bytes : goal.returns-in-Ok-read_bytes
+returns-in-Ok-read_bytes c =
     says_text c.args.line.now c.of.result (sym c.kind_of.ensures ∙ c.in-Text.is) (c.of.ensures
-    ∙ c.in_ok-read_bytes-in-Text.ensures ∙ ap bytes_of c.after-in-Text.ensures)
+    ∙ c.in-Ok-read_bytes.ensures ∙ ap bytes_of c.after-in-Text.ensures)
 
 pub returns-in-Child : goal.returns-in-Child
 returns-in-Child c =

@@ -7,8 +7,8 @@ shapes_of-requires-clause-kept c = no_v1 c.args.code.now 2 (omega arith) c.requi
 
 pub returns-in-Broken-clause-err : goal.returns-in-Broken-clause-err
 returns-in-Broken-clause-err c =
-    refused c.args.code.now c.requires.kept c.in_ok-p.field-0 c.in-Broken.p c.in-Broken.is c.in_ok-p.ensures
+    refused c.args.code.now c.requires.kept c.in-Ok.value c.in-Broken.p c.in-Broken.is c.in-Ok.ensures
 
 pub returns-in-Kept-clause-ok : goal.returns-in-Kept-clause-ok
 returns-in-Kept-clause-ok c =
-    shaped c.args.code.now c.requires.kept c.in_ok-p.field-0 c.in-Kept.shapes c.in-Kept.is c.in_ok-p.ensures
+    shaped c.args.code.now c.requires.kept c.in-Ok.value c.in-Kept.shapes c.in-Kept.is c.in-Ok.ensures

@@ -3,4 +3,4 @@ use Rattle.sp_generate.specs.Written.{filled_ends}
 use Rattle.sp_generate.proofs.choices.fill_ends.Given as goal
 
 abbrev pub invariant-loop-at : goal.invariant-loop-at
-invariant-loop-at l = filled_ends l.code (drop l.at-index l.ends) l.end ≡ filled_ends l.fn.code l.ends l.end
+invariant-loop-at l = filled_ends l.code.items (drop l.at-index l.ends) l.end ≡ filled_ends l.fn.code.items l.ends l.end

@@ -5,5 +5,5 @@ use Rattle.sp_generate.specs.Written.{filled_tests}
 use Rattle.sp_generate.proofs.choices.fill_tests.Given as goal
 
 abbrev pub invariant-loop-n : goal.invariant-loop-n
-invariant-loop-n l = filled_tests l.code l.k (bare_arms (arms (map arm_of (drop l.n l.xs)))) (drop l.n l.starts)
-    ≡ filled_tests l.fn.code l.fn.k (bare_arms (arms (map arm_of l.xs))) l.starts
+invariant-loop-n l = filled_tests l.code.items l.k (bare_arms (arms (map arm_of (drop l.n l.xs)))) (drop l.n l.starts)
+    ≡ filled_tests l.fn.code.items l.fn.k (bare_arms (arms (map arm_of l.xs))) l.starts

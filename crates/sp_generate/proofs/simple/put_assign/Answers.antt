@@ -1,4 +1,4 @@
-use Rattle.std.proofs.Common.{rules, ◌≡◌, [], ◌∷◌, ◌++◌, ◌∙◌, ap, append_assoc}
+use Rattle.std.proofs.Common.{rules, ◌≡◌, [], ◌∷◌, ◌++◌, ◌∙◌, ap, refl}
 use Rattle.sp_tree.specs.declared.checked.Expr.{out-Expr, fold_out-Expr}
 use Rattle.sp_tree.specs.PlainChecked.{ExpressionAt}
 use Rattle.sp_tree.specs.Bare.{bare_form, bare_variable}
@@ -6,12 +6,12 @@ use Rattle.sp_tree.specs.CheckedOf.{expression_of, expression_form_of, variable_
 use Rattle.sp_code.specs.declared.instr.Instr.{Instr}
 use Rattle.sp_code.specs.Scopes.{sort}
 use Rattle.sp_code.specs.Emitted.{var_code, right_code}
+use Rattle.sp_writer.proofs.Adding.{joined}
 use Rattle.sp_generate.specs.Views.{plain_program, scopes}
-use Rattle.sp_generate.proofs.Emitting.{added, both}
 use Rattle.sp_generate.proofs.simple.put_assign.Goals as goal
 
 pub returns : goal.returns
-returns c =
+returns c k =
     let p = plain_program c.args.g.now in
     let sc = scopes c.args.sc.now in
     let e = out-Expr c.args.e.now in
@@ -19,7 +19,11 @@ returns c =
     search (rules, fold_out-Expr) in
     let va = var_code p sc (bare_variable (variable_of c.args.v.now)) in
     let ra = right_code p sc e.kind (sort p e.kind) (bare_form (expression_form_of e.form)) in
-    rw i (added c.put.result c.args.code.now c.put_right.new.code c.put.new.code (va ++ ra) _ _
-    (both c.args.code.now c.put_var.new.code c.put_right.new.code va ra c.in_ok-put_var.ensures.code
-    (rw i at c.in_ok-put_right.ensures)) c.put.ensures
-    (append_assoc va ra _ ∙ ap (λ (x : Instr). va ++ (ra ++ x ∷ [])) c.assign_instr.ensures))
+    let x = c.put.ensures k in
+    let b = c.put_right.ensures x.0 in
+    let a = c.put_var.ensures.code b.0 in
+    rw i (
+      a.0,
+      joined c.args.code.now.items.items va _ a.1 (joined c.put_var.new.code.items.items ra _ (rw i at b.1)
+          (x.1 ∙ ap (λ (x : Instr). c.put_right.new.code.items.items ++ x ∷ []) c.assign_instr.ensures) refl) refl,
+    )

@@ -1,9 +1,9 @@
-use Rattle.std.proofs.Common.{◌≡◌, ◌++◌, ◌≤◌, drop, true}
+use Rattle.std.proofs.Common.{◌≤◌, drop, true}
 use Rattle.sp_report.specs.Timeline.{numbered_lines}
+use Rattle.sp_writer.specs.Adds.{Covers}
 use Rattle.sp_report.proofs.timeline.put_numbered.Given as goal
 
 -- what was put, and what the lines from here on come to
 abbrev pub invariant-loop-byte : goal.invariant-loop-byte
-invariant-loop-byte l = (l.out.items ++ numbered_lines l.begins l.next (drop l.byte-index l.lines) ≡ l.initial.out.items
-    ++ numbered_lines true 0 l.fn.lines)
-    × (l.next ≤ l.byte-index)
+invariant-loop-byte l = Covers l.initial.out l.out (numbered_lines l.begins l.next (drop l.byte-index l.lines))
+    (numbered_lines true 0 l.fn.lines) × (l.next ≤ l.byte-index)

@@ -5,4 +5,4 @@ use Rattle.sp_report.proofs.tree.forked.Goals as goal
 pub loop-process-preserved : goal.loop-process-preserved
 loop-process-preserved c =
     one_forked (births c.args.ledger.now.journal.entries) _ _ c.loop-process.process _ c.loop-process.auto.process
-    c.loop-process.invariant c.in_ok-name.ensures c.in_ok-insert.ensures.entries
+    c.loop-process.invariant c.in-Ok.ensures c.in-Ok-insert.ensures.entries

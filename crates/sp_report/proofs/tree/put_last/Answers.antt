@@ -1,8 +1,8 @@
 use Rattle.std.proofs.Common.{◌≡◌, ◌∙◌, ◌++◌, ◌-◌, ◌∷◌, [], ℕ, suc, List, Option, Some, None, length, slice_get, codes}
 use Rattle.std.proofs.Common.{decimal, ap, subst, arith}
-use Rattle.std.specs.Result.{OnOk}
 use Rattle.sp_base.specs.declared.name.Pair.{Pair}
 use Rattle.sp_report.specs.Tree.{last_pair}
+use Rattle.sp_writer.specs.Adds.{Adds}
 use Rattle.sp_report.proofs.tree.put_last.Goals as goal
 
 some_is : (x y : Pair) → ◌≡◌ {A = Option Pair} (Some x) (Some y) → x ≡ y
@@ -21,5 +21,5 @@ last_is (p ∷ (q ∷ ps)) x e =
 
 pub returns-in-Some : goal.returns-in-Some
 returns-in-Some c =
-    subst (λ (xs : List ℕ). OnOk c.put_pair.result (c.put_pair.new.out.items ≡ c.args.out.now.items ++ xs))
+    subst (λ (xs : List ℕ). Adds c.args.out.now c.put_pair.new.out xs)
     (last_is c.args.pairs.now c.in-Some.pair.now c.in-Some.ensures.value) c.put_pair.ensures

@@ -12,9 +12,13 @@ indent_more ps i l =
     ap indent (take_more ps i d l) ∙ flat_map-append (λ p. codes "  ") (take i ps) (get_or ps i d ∷ [])
 
 pub loop-pair-preserved : goal.loop-pair-preserved
-loop-pair-preserved c =
+loop-pair-preserved c = λ kept.
     let ps = c.items-pairs.result.now in
     let i = c.loop-pair._pair-index in
-    c.in_ok-extend_from_slice.ensures.items ∙ ap (λ (xs : List ℕ). xs ++ codes "  ") c.loop-pair.invariant
-    ∙ append_assoc c.args.out.now.items (indent (take i ps)) (codes "  ")
-    ∙ ap (λ (xs : List ℕ). c.args.out.now.items ++ xs) (sym (indent_more ps i c.loop-pair-test.true))
+    let one = c.extend.ensures kept in
+    let all = c.loop-pair.invariant one.0 in (
+      all.0,
+      one.1 ∙ ap (λ (xs : List ℕ). xs ++ codes "  ") all.1
+          ∙ append_assoc c.args.out.now.items.items (indent (take i ps)) (codes "  ")
+          ∙ ap (λ (xs : List ℕ). c.args.out.now.items.items ++ xs) (sym (indent_more ps i c.loop-pair-test.true)),
+    )

@@ -1,7 +1,7 @@
-use Rattle.std.proofs.Common.{◌≡◌, ◌++◌}
 use Rattle.sp_report.specs.Tree.{tree_lines}
+use Rattle.sp_writer.specs.Adds.{Covers}
 use Rattle.sp_report.proofs.tree.put_lines.Given as goal
 
 -- what was put, and the lines of the names that are left
 abbrev pub invariant-loop-name : goal.invariant-loop-name
-invariant-loop-name l = l.out.items ++ tree_lines l.name-iterator ≡ l.initial.out.items ++ tree_lines l.names.entries
+invariant-loop-name l = Covers l.initial.out l.out (tree_lines l.name-iterator) (tree_lines l.names.entries)

@@ -14,8 +14,8 @@ loop-entry-init c =
       c.new-ledger.ensures.ledger,
       c.new-ledger.ensures.empty,
       subst (NameableFrom first_births) (sym c.items-entry-items.ensures) c.requires,
-      ap (λ (t : Conditions). conditions_after_all first_births t es) c.in_ok-table.ensures,
-      subst (ConditionsFit first_births) (sym c.in_ok-table.ensures) first_fit,
+      ap (λ (t : Conditions). conditions_after_all first_births t es) c.in-Ok.ensures,
+      subst (ConditionsFit first_births) (sym c.in-Ok.ensures) first_fit,
     )
 
 pub tell-requires-clause-next : goal.tell-requires-clause-next
@@ -38,12 +38,12 @@ loop-entry-preserved c =
     let i = c.loop-entry.entry-index in
     let l = c.loop-entry-test.true in
     let h = c.loop-entry.invariant in (
-      c.in_ok-add.ensures.ledger,
+      c.in-Ok-add.ensures.ledger,
       kept_whole es i l c.loop-entry.ledger.journal.entries c.add.new.self.journal.entries h.1
-          c.in_ok-add.ensures.added,
+          c.in-Ok-add.ensures.added,
       still_nameable es i any_entry l h.2,
-      one_told es i l _ _ _ h.1 c.in_ok-tell.ensures h.3,
-      one_fits es i l _ _ _ h.1 c.in_ok-tell.ensures h.2 h.4,
+      one_told es i l _ _ _ h.1 c.in-Ok-tell.ensures h.3,
+      one_fits es i l _ _ _ h.1 c.in-Ok-tell.ensures h.2 h.4,
     )
 
 pub returns-clause-ledger : goal.returns-clause-ledger

@@ -1,11 +1,12 @@
-use Rattle.std.proofs.Common.{◌≡◌, ◌∙◌, ℕ, Vec, Global, sym, ap}
+use Rattle.std.proofs.Common.{◌≡◌, ◌∙◌, ℕ, refl, sym, ap}
 use Rattle.sp_journal.specs.Births.{births}
+use Rattle.sp_journal.specs.Names.{proc_name}
 use Rattle.sp_report.specs.Fits.{table_conditions}
 use Rattle.sp_report.specs.Waiting.{has_ended}
+use Rattle.sp_writer.specs.declared.writer.Writer.{Writer}
 use Rattle.sp_report.proofs.Children.{none_left, one_left}
 use Rattle.sp_report.proofs.waiting.put_children.Goals as goal
-use Rattle.sp_report.proofs.waiting.put_children.Goals.{then-not-has_ended+in_ok-extend_from_slice+in_ok-name+in_ok-put}
-use Rattle.sp_report.proofs.waiting.put_children.Goals.{else-not-has_ended}
+use Rattle.sp_report.proofs.waiting.put_children.Goals.{then-not-has_ended, else-not-has_ended}
 
 pub loop-child-preserved : goal.loop-child-preserved
 loop-child-preserved c =
@@ -15,14 +16,21 @@ loop-child-preserved c =
     ap has_ended (sym c.of.ensures)
     ∙ sym c.has_ended.ensures in
     elim c.if-not-has_ended.branch [
-      | then-not-has_ended+in_ok-extend_from_slice+in_ok-name+in_ok-put w ↦ one_left s
-          (table_conditions c.args.table.now)
-          c.args.first child c.loop-child.auto.child _ c.loop-child.out.items w.extend_from_slice.new.self.items
-          c.if-not-has_ended.out.items w.in_ok-name.field-0 c.loop-child.invariant (is ∙ w.if-not-has_ended.true)
-          w.in_ok-name.ensures w.in_ok-extend_from_slice.ensures.items
-          (ap (λ (v : Vec ℕ Global). v.items) w.out-is ∙ w.in_ok-put.ensures.ok)
-      | else-not-has_ended w ↦ none_left s (table_conditions c.args.table.now) c.args.first child
-          c.loop-child.auto.child _
-          c.loop-child.out.items c.if-not-has_ended.out.items c.loop-child.invariant (is ∙ w.if-not-has_ended.false)
-          (ap (λ (v : Vec ℕ Global). v.items) w.out-is)
+      | then-not-has_ended w ↦ λ kept.
+          let name = w.put_name.ensures (sym (ap (λ (v : Writer ℕ). v.is_lost) w.out-is) ∙ kept) in
+          let blank = w.extend.ensures name.0 in
+          let all = c.loop-child.invariant blank.0 in (
+            all.0,
+            one_left s (table_conditions c.args.table.now) c.args.first child c.loop-child.auto.child _
+                c.loop-child.out.items.items w.extend.new.self.items.items c.if-not-has_ended.out.items.items
+                (proc_name (s.name child)) all.1 (is ∙ w.if-not-has_ended.true) refl blank.1
+                (ap (λ (v : Writer ℕ). v.items.items) w.out-is ∙ name.1),
+          )
+      | else-not-has_ended w ↦ λ kept.
+          let all = c.loop-child.invariant (sym (ap (λ (v : Writer ℕ). v.is_lost) w.out-is) ∙ kept) in (
+            all.0,
+            none_left s (table_conditions c.args.table.now) c.args.first child c.loop-child.auto.child _
+                c.loop-child.out.items.items c.if-not-has_ended.out.items.items all.1
+                (is ∙ w.if-not-has_ended.false) (ap (λ (v : Writer ℕ). v.items.items) w.out-is),
+          )
     ]

@@ -6,7 +6,7 @@ use Rattle.sp_report.proofs.waiting.waiting_text.Goals as goal
 
 pub put_lines-requires-clause-fit : goal.put_lines-requires-clause-fit
 put_lines-requires-clause-fit c =
-    subst (λ (es : List Entry). ConditionsFit (births es) (table_conditions c.in_ok-last.last.table))
-    (sym c.in_ok-last.ensures.journal)
-    (subst (ConditionsFit (births c.args.journal.now.entries)) (sym c.in_ok-last.ensures.table)
-    c.in_ok-last.ensures.fit)
+    subst (λ (es : List Entry). ConditionsFit (births es) (table_conditions c.in-Ok.value.table))
+    (sym c.in-Ok.ensures.journal)
+    (subst (ConditionsFit (births c.args.journal.now.entries)) (sym c.in-Ok.ensures.table)
+    c.in-Ok.ensures.fit)

@@ -5,13 +5,18 @@ use Rattle.sp_sets.proofs.Joins.{put_block_is, put_no_block}
 use Rattle.sp_sets.proofs.print.put_block.Goals as goal
 
 pub returns-then-b-eq0 : goal.returns-then-b-eq0
-returns-then-b-eq0 c = put_no_block c.args.variables.now c.args.sets.now (map block_of c.args.blocks.now) c.args.b
-    c.args.out.now.items (search rules)
+returns-then-b-eq0 c = λ kept. (
+  kept,
+  put_no_block c.args.variables.now c.args.sets.now (map block_of c.args.blocks.now) c.args.b
+      c.args.out.now.items.items (search rules),
+)
 
 pub returns : goal.returns
-returns c =
-    put_block_is c.args.variables.now c.args.sets.now (map block_of c.args.blocks.now) c.args.b
-    (block_of c.index-blocks-b.result) c.args.out.now.items _ (search rules)
-    (get_of_map block_of c.args.blocks.now c.args.b c.index-blocks-b.result
-    (item_is c.args.blocks.now c.args.b c.index-blocks-b.result c.requires.there c.index-blocks-b.is))
-    c.in_ok-put_implicit.ensures
+returns c = λ kept.
+    let put = c.put_implicit.ensures kept in (
+      put.0,
+      put_block_is c.args.variables.now c.args.sets.now (map block_of c.args.blocks.now) c.args.b
+          (block_of c.index-blocks-b.result) c.args.out.now.items.items _ (search rules)
+          (get_of_map block_of c.args.blocks.now c.args.b c.index-blocks-b.result
+          (item_is c.args.blocks.now c.args.b c.index-blocks-b.result c.requires.there c.index-blocks-b.is)) put.1,
+    )

@@ -5,5 +5,10 @@ use Rattle.sp_sets.proofs.Joins.{joined_more}
 use Rattle.sp_sets.proofs.print.put_blocks.Goals as goal
 
 pub each-preserved : goal.each-preserved
-each-preserved c = joined_more (IsOfBlock c.args.variables.now c.args.sets.now (map block_of c.args.blocks.now))
-    c.each.b c.args.out.now.items _ _ c.each.invariant c.in_ok-put_block.ensures
+each-preserved c = λ kept.
+    let one = c.put_block.ensures kept in
+    let all = c.each.invariant one.0 in (
+      all.0,
+      joined_more (IsOfBlock c.args.variables.now c.args.sets.now (map block_of c.args.blocks.now)) c.each.b
+          c.args.out.now.items.items _ _ all.1 one.1,
+    )

@@ -2,5 +2,10 @@ use Rattle.sp_sets.proofs.Joins.{put_line_is}
 use Rattle.sp_sets.proofs.print.put_line.Goals as goal
 
 pub returns : goal.returns
-returns c = put_line_is c.args.variables.now c.args.sets.now c.args.line.now _ _ c.args.out.now.items _ _
-    c.targets.ensures c.expressions.ensures c.in_ok-put_head.ensures c.in_ok-put_both.ensures
+returns c = λ kept.
+    let both = c.put_both.ensures kept in
+    let head = c.put_head.ensures both.0 in (
+      head.0,
+      put_line_is c.args.variables.now c.args.sets.now c.args.line.now _ _ c.args.out.now.items.items _ _
+          c.targets.ensures c.expressions.ensures head.1 both.1,
+    )

@@ -4,8 +4,11 @@ use Rattle.sp_sets.proofs.Joins.{at_default, joined_more, put_line_at}
 use Rattle.sp_sets.proofs.print.put_lines.Goals as goal
 
 pub each-preserved : goal.each-preserved
-each-preserved c =
-    joined_more (IsLineAt c.args.variables.now c.args.sets.now c.args.lines.now) c.each.i c.args.out.now.items _ _
-    c.each.invariant
-    (put_line_at c.args.variables.now c.args.sets.now c.args.lines.now c.each.i _ _ _
-    (at_default c.args.lines.now c.each.i _ (search rules)) c.in_ok-put_line.ensures)
+each-preserved c = λ kept.
+    let one = c.put_line.ensures kept in
+    let all = c.each.invariant one.0 in (
+      all.0,
+      joined_more (IsLineAt c.args.variables.now c.args.sets.now c.args.lines.now) c.each.i c.args.out.now.items.items
+          _ _ all.1 (put_line_at c.args.variables.now c.args.sets.now c.args.lines.now c.each.i _ _ _
+          (at_default c.args.lines.now c.each.i _ (search rules)) one.1),
+    )

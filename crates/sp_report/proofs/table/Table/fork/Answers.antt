@@ -35,7 +35,7 @@ loop-child-preserved c =
     let h = c.loop-child.invariant in
     let k = c.loop-child.child in λ i. record {
       of = λ (q : ℕ).
-          (ap (λ (o : Option Condition). unwrap_or o condition.Unstarted) (c.in_ok-insert-2.ensures.updates.0 q)
+          (ap (λ (o : Option Condition). unwrap_or o condition.Unstarted) (c.in-Ok-insert.ensures.updates.0 q)
           ∙ put_in (k == q) condition.Running condition.Unstarted _
           ∙ one_runs _ k q _ _ c.loop-child.auto.child (ap (λ (t : Conditions). t.of q) h)) i;
       pending = (h i).pending;

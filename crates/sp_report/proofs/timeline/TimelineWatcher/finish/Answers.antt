@@ -2,5 +2,5 @@ use Rattle.std.proofs.Common.{◌∙◌, ◌++◌, ℕ, List, ap}
 use Rattle.sp_report.proofs.timeline.TimelineWatcher.finish.Goals as goal
 
 pub returns-clause-ok : goal.returns-clause-ok
-returns-clause-ok c = c.in_ok-extend_from_slice.ensures.items
-    ∙ ap (λ (t : List ℕ). c.args.out.now.items ++ t) (c.as_slice.ensures.value ∙ c.in_ok-text.ensures)
+returns-clause-ok c = c.in-Ok-extend_from_slice.ensures.items
+    ∙ ap (λ (t : List ℕ). c.args.out.now.items ++ t) (c.as_slice.ensures.value ∙ c.in-Ok.ensures)

@@ -1,0 +1,12 @@
+use Rattle.std.proofs.Common.{◌∷◌, ◌++◌, ap, ◌∙◌, ℕ}
+use Rattle.sp_code.specs.declared.instr.Instr.TheVariants as i
+use Rattle.sp_generate.proofs.Patched.{patched}
+use Rattle.sp_generate.proofs.code_buffer.mend_jump.Goals as goal
+
+pub returns : goal.returns
+returns c k =
+    let e = c.place-end.ensures k in (
+      e.0,
+      λ a b x h m. c.set.ensures ∙ patched a b c.place-end.new.code.items.items x _ c.args.at (e.1.0 ∙ h) m
+          ∙ ap (λ (n : ℕ). a ++ i.Jump n ∷ b) e.1.1,
+    )

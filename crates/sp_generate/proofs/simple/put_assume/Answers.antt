@@ -1,7 +1,0 @@
-use Rattle.std.proofs.Common.{refl}
-use Rattle.sp_generate.proofs.Emitting.{added}
-use Rattle.sp_generate.proofs.simple.put_assume.Goals as goal
-
-pub returns : goal.returns
-returns c = added c.put.result c.args.code.now c.put_value.new.code c.put.new.code _ _ _ c.in_ok-put_value.ensures
-    c.put.ensures refl

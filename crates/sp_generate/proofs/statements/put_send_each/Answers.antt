@@ -1,0 +1,14 @@
+use Rattle.std.proofs.Common.{map}
+use Rattle.sp_tree.specs.CheckedOf.{expression_of}
+use Rattle.sp_generate.specs.BuffersAfter.{written}
+use Rattle.sp_generate.specs.Handings.{moved_of, shared_of}
+use Rattle.sp_generate.specs.Views.{plain_program, scopes}
+use Rattle.sp_generate.proofs.Forms.{wrote, sends_are}
+use Rattle.sp_generate.proofs.statements.put_send_each.Goals as goal
+
+pub returns : goal.returns
+returns c =
+    let d = written c.args.d.now in
+    wrote d _ c.put_sends.ensures (sends_are (plain_program c.args.g.now) (moved_of c.args.sets.now)
+    (shared_of c.args.sets.now) (scopes c.args.sc.now) d c.args.number c.args.at (expression_of c.args.channel.now)
+    (map expression_of c.args.values.now))

@@ -1,0 +1,31 @@
+use Rattle.std.proofs.Common.{[], ◌∷◌, ◌++◌, ◌∙◌, if◌then◌else◌}
+use Rattle.sp_tree.specs.CheckedOf.{width_of}
+use Rattle.sp_tree.specs.Bare.{bare_width}
+use Rattle.sp_code.specs.declared.instr.Instr.TheVariants as i
+use Rattle.sp_code.specs.Scopes.{is_given}
+use Rattle.sp_code.specs.Emitted.{width_code}
+use Rattle.sp_generate.specs.BuffersAfter.{written}
+use Rattle.sp_generate.specs.Handings.{moved_of, shared_of}
+use Rattle.sp_generate.specs.Views.{plain_program, scopes}
+use Rattle.sp_generate.specs.Written.{buffer_of}
+use Rattle.sp_generate.proofs.Forms.{text_is}
+use Rattle.sp_generate.proofs.statements.put_written.Goals as goal
+
+pub returns : goal.returns
+returns c k =
+    let p = plain_program c.args.g.now in
+    let sc = scopes c.args.sc.now in
+    let d = written c.args.d.now in
+    let w = bare_width (width_of c.args.w.now) in
+    let f = c.push_to.ensures _ c.duplicate.ensures k in
+    let x = c.put_text.ensures f.0 in
+    let n = c.number-number.ensures _ c.narrow.ensures x.0 in
+    let number = n.1.1 ∙ c.len.ensures in (
+      n.0,
+      (λ j. buffer_of (f.1.0 j) d.forks (f.1.1 j))
+          ∙ text_is p (moved_of c.args.sets.now) (shared_of c.args.sets.now) sc d c.args.text.now (width_of
+          c.args.w.now)
+          c.put_text.new.code.items.items
+          (x.1 ∙ (λ j. n.1.0 j ++ (width_code p sc w
+          ++ (if is_given w then i.WritewText (number j) else i.WriteText (number j)) ∷ []))),
+    )
