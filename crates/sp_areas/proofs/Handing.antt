@@ -282,12 +282,6 @@ entry_true c b q e l = go (layout_of c.layouts b) refl e
         let s = same_Some m.entry q e in
         subst (λ z. IsTrueOf c z (owner.Block b)) s (true_begin c b m f (subst (λ z. z < length c.instrs) (sym s) l))
 
--- whatever is closed
-pub any_ok : {E : Type 0} (c : Parts) (a b : List Owner) (P : List Owner → Type 0) (r : Result Bool E)
-    → IfOk r (λ s. Spreads c a b P s) → IfOk r (λ s. Spreads c a b (λ os. Unit {0}) s)
-any_ok c a b P r h = ok_map r (λ s. Spreads c a b P s) (λ s. Spreads c a b (λ os. Unit {0}) s)
-    (λ s k. any c P a b s k) h
-
 -- a sweep that found something new leaves less to be found, also after what follows it
 pub room_falls : (c : Parts) (a b d : List Owner) (P Q : List Owner → Type 0) (s t : Bool) → Spreads c a b P s
     → s ≡ true → Spreads c b d Q t → room d < room a

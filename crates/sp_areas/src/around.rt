@@ -9,6 +9,7 @@ ghost use Rattle.sp_areas.specs.Owners.{AreOwners};
 
 use crate::blocks::Blocks;
 use crate::filled::filled;
+use crate::have;
 use crate::homes::Homes;
 use crate::hung::{hang_all, nodes_of};
 use crate::owners::Owner;
@@ -31,12 +32,12 @@ pub fn homes(
     let Grown {
         nodes,
         of: of_blocks,
-    } = filled(code, blocks, led)?;
+    } = have!(filled(code, blocks, led));
     let parts = code.parts();
-    let of = no_nodes(parts.instrs.alloc(), parts.forks.len())?;
+    let of = have!(no_nodes(parts.instrs.alloc(), parts.forks.len()));
     let mut grown = Grown { nodes, of };
-    hang_all(code, blocks, owners, &of_blocks, &mut grown)?;
-    let at = nodes_of(code, blocks, owners, &of_blocks, &grown)?;
+    have!(hang_all(code, blocks, owners, &of_blocks, &mut grown));
+    let at = have!(nodes_of(code, blocks, owners, &of_blocks, &grown));
     let Grown { nodes, of: _ } = grown;
     Ok(Homes { nodes, at })
 }

@@ -6,6 +6,7 @@ ghost use Rattle.sp_areas.specs.Owners.{entry_at};
 ghost use Rattle.std.specs.Option.{is_some, option_copied};
 ghost use Rattle.sp_code.specs.Machine.{layout_of};
 
+use crate::have;
 use sp_base::{List, Memory};
 use sp_code::Layout;
 use std::alloc::Global;
@@ -22,7 +23,7 @@ fn note(first: &mut BTreeMap<u32, u32>, place: u32, block: u32) -> Result<(), Me
     ensures { OnOk result (NotesLayout first.old first.new place block) }
 {
     if !first.contains_key(&block) {
-        first.insert(block, place)?;
+        have!(first.insert(block, place));
     }
     Ok(())
 }
@@ -34,7 +35,7 @@ fn numbered(alloc: Global, layouts: &[Layout]) -> Result<BTreeMap<u32, u32>, Mem
     let mut first = BTreeMap::new(alloc);
     let mut place = 0;
     for l in layouts {
-        note(&mut first, place, l.block)?;
+        have!(note(&mut first, place, l.block));
         place += 1;
     }
     Ok(first)
@@ -46,7 +47,7 @@ impl Blocks {
         requires { length layouts.now ≤ 1048576 }
         ensures { IfOk result (λ blocks. IsNumbered blocks.first layouts.now) }
     {
-        let first = numbered(alloc, layouts)?;
+        let first = have!(numbered(alloc, layouts));
         Ok(Blocks { first })
     }
 

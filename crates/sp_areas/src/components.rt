@@ -4,10 +4,12 @@
 ghost use Rattle.std.specs.Prelude.{◌≡◌};
 ghost use Rattle.sp_areas.specs.Rounds.{has_owner, number_at};
 
+use crate::have;
 use crate::owners::Owner;
 use crate::ways::free_ways;
 use sp_base::{List, Memory};
 use sp_code::Code;
+use sp_writer::Writer;
 use std::alloc::Global;
 
 /// Whether an instruction has an owner.
@@ -51,35 +53,34 @@ struct Search {
     entry: List<u32>,
     back: List<u32>,
     component: List<u32>,
-    open: List<u32>,
-    path: List<Step>,
+    open: Writer<u32>,
+    path: Writer<Step>,
     last_entry: u32,
     last_component: u32,
 }
 
 impl Search {
     fn new(alloc: Global, count: usize) -> Result<Search, Memory> {
-        let entry = List::of(vec![in alloc; 0; count]?);
-        let back = List::of(vec![in alloc; 0; count]?);
-        let component = List::of(vec![in alloc; 0; count]?);
+        let entry = have!(vec![in alloc; 0; count]);
+        let back = have!(vec![in alloc; 0; count]);
+        let component = have!(vec![in alloc; 0; count]);
         Ok(Search {
-            entry,
-            back,
-            component,
-            open: List::new(alloc),
-            path: List::new(alloc),
+            entry: List::of(entry),
+            back: List::of(back),
+            component: List::of(component),
+            open: Writer::new(alloc),
+            path: Writer::new(alloc),
             last_entry: 0,
             last_component: 0,
         })
     }
 
-    fn enter(&mut self, p: u32) -> Result<(), Memory> {
+    fn enter(&mut self, p: u32) {
         self.last_entry = self.last_entry.saturating_add(1);
         put(&mut self.entry, p, self.last_entry);
         put(&mut self.back, p, self.last_entry);
-        self.open.push(p)?;
-        self.path.push(Step { at: p, turn: 0 })?;
-        Ok(())
+        self.open.put(p);
+        self.path.put(Step { at: p, turn: 0 });
     }
 
     // It leads back to what was entered then.
@@ -89,29 +90,27 @@ impl Search {
         }
     }
 
-    fn follow(&mut self, p: u32, way: Option<u32>) -> Result<(), Memory> {
+    fn follow(&mut self, p: u32, way: Option<u32>) {
         let q = match way {
-            None => return Ok(()),
+            None => return,
             Some(q) => q,
         };
         if self.entry.len() <= q as usize {
-            return Ok(());
+            return;
         }
         let then = number_at(&self.entry, q);
         if then == 0 {
-            return self.enter(q);
-        }
-        if number_at(&self.component, q) == 0 {
+            self.enter(q);
+        } else if number_at(&self.component, q) == 0 {
             self.lead_back(p, then);
         }
-        Ok(())
     }
 
     // Closes the component that was opened with an instruction.
     fn close(&mut self, p: u32) {
         self.last_component = self.last_component.saturating_add(1);
         for _member in 0..1_048_576 {
-            match self.open.pop() {
+            match self.open.items.pop() {
                 None => return,
                 Some(q) => {
                     put(&mut self.component, q, self.last_component);
@@ -128,40 +127,33 @@ impl Search {
         if then == number_at(&self.entry, p) {
             self.close(p);
         }
-        let depth = self.path.len();
-        if depth != 0 {
-            if let Some(around) = self.path.get(depth - 1).copied() {
-                self.lead_back(around.at, then);
-            }
+        if let Some(around) = self.path.items.last().copied() {
+            self.lead_back(around.at, then);
         }
     }
 
-    // One step, if one is left.
-    fn step(&mut self, code: &Code) -> Result<bool, Memory> {
-        let Step { at, turn } = match self.path.pop() {
-            None => return Ok(false),
-            Some(step) => step,
-        };
+    // Takes the step that was put last.
+    fn step(&mut self, code: &Code, last: Step) {
+        let Step { at, turn } = last;
         if turn >= 2 {
             self.leave(at);
-            return Ok(true);
+            return;
         }
         let ways = free_ways(code, at);
         let way = if turn == 0 { ways.first } else { ways.second };
-        self.path.push(Step { at, turn: turn + 1 })?;
-        self.follow(at, way)?;
-        Ok(true)
+        self.path.put(Step { at, turn: turn + 1 });
+        self.follow(at, way);
     }
 
     // All that an instruction leads to: each of at most 1,048,576 instructions takes three steps.
-    fn explore(&mut self, code: &Code, start: u32) -> Result<(), Memory> {
-        self.enter(start)?;
+    fn explore(&mut self, code: &Code, start: u32) {
+        self.enter(start);
         for _step in 0..4_194_304 {
-            if !self.step(code)? {
-                return Ok(());
+            match self.path.items.pop() {
+                None => return,
+                Some(last) => self.step(code, last),
             }
         }
-        Ok(())
     }
 }
 
@@ -170,12 +162,15 @@ impl Search {
 pub(crate) fn components(code: &Code, owners: &List<Owner>) -> Result<List<u32>, Memory> {
     let instrs = &code.parts().instrs;
     let count = instrs.len();
-    let mut search = Search::new(instrs.alloc(), count)?;
+    let mut search = have!(Search::new(instrs.alloc(), count));
     for start in 0..count {
         let p = start as u32;
         if has_owner(owners, p) && number_at(&search.entry, p) == 0 {
-            search.explore(code, p)?;
+            search.explore(code, p);
         }
+    }
+    if search.open.is_lost || search.path.is_lost {
+        return Err(Memory);
     }
     let Search { component, .. } = search;
     Ok(component)

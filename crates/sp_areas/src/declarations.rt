@@ -5,6 +5,7 @@ ghost use Rattle.sp_rules.specs.Named.{DeclaredTwice, InLayout, IsChild, OfChild
 ghost use Rattle.sp_areas.specs.LeastPlaces.{IsLeast};
 ghost use Rattle.sp_areas.specs.Twice.{SeenBefore, NotesVariable};
 
+use crate::have;
 use crate::least::{least, place_if};
 use sp_base::Memory;
 use sp_code::{ChildTable, Code};
@@ -20,7 +21,7 @@ fn note(
     ensures { IfOk result (λ now. NotesVariable seen.old seen.new first now variable entry) }
 {
     let late = variable < 2 || seen.contains(&variable);
-    seen.insert(variable)?;
+    have!(seen.insert(variable));
     Ok(least(first, place_if(late, entry)))
 }
 
@@ -38,7 +39,7 @@ fn note_layout(
     let layout = &code.parts().layouts.items()[place];
     let mut first = before;
     for x in layout.variables.items() {
-        first = note(seen, first, *x, layout.entry)?;
+        first = have!(note(seen, first, *x, layout.entry));
     }
     Ok(first)
 }
@@ -51,7 +52,7 @@ fn note_layouts(code: &Code, seen: &mut BTreeSet<u32>) -> Result<Option<u32>, Me
     let count = code.parts().layouts.len();
     let mut first = None;
     for place in 0..count {
-        first = note_layout(code, seen, first, place)?;
+        first = have!(note_layout(code, seen, first, place));
     }
     Ok(first)
 }
@@ -89,7 +90,7 @@ fn note_table(
     let children = code.parts().forks.items()[table].children.items();
     let mut first = before;
     for k in 0..children.len() {
-        first = note_child(code, seen, first, table, k, &children[k])?;
+        first = have!(note_child(code, seen, first, table, k, &children[k]));
     }
     Ok(first)
 }
@@ -106,7 +107,7 @@ fn note_tables(
     let count = code.parts().forks.len();
     let mut first = before;
     for table in 0..count {
-        first = note_table(code, seen, first, table)?;
+        first = have!(note_table(code, seen, first, table));
     }
     Ok(first)
 }
@@ -118,6 +119,6 @@ pub fn first_twice(code: &Code) -> Result<Option<u32>, Memory>
     ensures { IfOk result (λ first. IsLeast (DeclaredTwice code.now) first) }
 {
     let mut seen = BTreeSet::new(code.parts().instrs.alloc());
-    let first = note_layouts(code, &mut seen)?;
+    let first = have!(note_layouts(code, &mut seen));
     note_tables(code, &mut seen, first)
 }

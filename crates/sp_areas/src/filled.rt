@@ -8,6 +8,7 @@ ghost use Rattle.sp_areas.specs.Blocks.{IsNumbered};
 ghost use Rattle.sp_areas.specs.Grown.{AreAllLed};
 
 use crate::blocks::Blocks;
+use crate::have;
 use crate::led::nothing;
 use crate::tree::{Frame, Grown, give_node, node_at};
 use sp_base::Memory;
@@ -31,7 +32,7 @@ fn fill_one(code: &Code, blocks: &Blocks, grown: &mut Grown, item: usize) -> Res
         None => return Ok(()),
         Some(place) => place,
     };
-    give_node(grown, item, Frame::Block { block, place }, None)?;
+    have!(give_node(grown, item, Frame::Block { block, place }, None));
     Ok(())
 }
 
@@ -42,7 +43,7 @@ fn fill(code: &Code, blocks: &Blocks, grown: &mut Grown) -> Result<(), Memory>
 {
     let count = code.parts().layouts.len();
     for item in 0..count {
-        fill_one(code, blocks, grown, item)?;
+        have!(fill_one(code, blocks, grown, item));
     }
     Ok(())
 }
@@ -77,7 +78,7 @@ pub(crate) fn filled(code: &Code, blocks: &Blocks, led: Grown) -> Result<Grown, 
     requires led { AreAllLed code.now.layouts led }
     ensures { IfOk result (λ grown. AreFilled code.now (length code.now.layouts) grown) }
 {
-    let mut grown = begun(code, blocks, led)?;
-    fill(code, blocks, &mut grown)?;
+    let mut grown = have!(begun(code, blocks, led));
+    have!(fill(code, blocks, &mut grown));
     Ok(grown)
 }

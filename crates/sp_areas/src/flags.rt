@@ -3,6 +3,7 @@
 ghost use Rattle.std.specs.Prelude.{◌≡◌, IfOk, false, replicate};
 ghost use Rattle.sp_areas.specs.Alone.{Marks, flag_at};
 
+use crate::have;
 use sp_base::{List, Memory};
 use std::alloc::Global;
 
@@ -10,7 +11,7 @@ use std::alloc::Global;
 pub fn no_flags(alloc: Global, count: usize) -> Result<List<bool>, Memory>
     ensures { IfOk result (λ flags. flags ≡ replicate count false) }
 {
-    Ok(List::of(vec![in alloc; false; count]?))
+    Ok(List::of(have!(vec![in alloc; false; count])))
 }
 
 /// Whether the flag of this number is there and set.

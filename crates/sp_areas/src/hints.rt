@@ -1,9 +1,11 @@
 //! Where variables are likely to be found. It only saves time: whoever uses a hint looks whether it is right.
 
 use crate::flags::{flag_at, mark, no_flags};
+use crate::have;
 use crate::tree::{Frame, Node};
 use sp_base::{List, Memory};
 use sp_code::{Code, Layout};
+use sp_writer::Writer;
 use std::collections::BTreeMap;
 
 /// How many frames there are from the outermost one to that of a variable, and its place in the frame; and the hint
@@ -19,7 +21,7 @@ pub(crate) struct Hint {
 #[derive(Drop)]
 pub(crate) struct Hints {
     pub depths: List<usize>,
-    hints: List<Hint>,
+    hints: Writer<Hint>,
     last: BTreeMap<u32, usize>,
 }
 
@@ -30,19 +32,20 @@ impl Hints {
     }
 
     pub(crate) fn hint(&self, number: usize) -> Option<Hint> {
-        self.hints.get(number).copied()
+        self.hints.items.get(number).copied()
     }
 
-    fn note(&mut self, x: u32, depth: usize, place: usize) -> Result<(), Memory> {
+    fn note(&mut self, x: u32, depth: usize, place: usize) {
         let before = self.last(x);
-        let number = self.hints.len();
-        self.hints.push(Hint {
+        let number = self.hints.items.len();
+        self.hints.put(Hint {
             depth,
             place,
             before,
-        })?;
-        self.last.insert(x, number)?;
-        Ok(())
+        });
+        if self.last.insert(x, number).is_err() {
+            self.hints.is_lost = true;
+        }
     }
 }
 
@@ -71,16 +74,15 @@ fn depths(nodes: &List<Node>) -> Result<List<usize>, Memory> {
     let mut depths = List::new(nodes.alloc());
     for n in nodes.items() {
         let depth = depth_inside(&depths, n.around);
-        depths.push(depth)?;
+        have!(depths.push(depth));
     }
     Ok(depths)
 }
 
-fn note_layout(hints: &mut Hints, l: &Layout, depth: usize) -> Result<(), Memory> {
+fn note_layout(hints: &mut Hints, l: &Layout, depth: usize) {
     for (place, x) in l.variables.items().iter().enumerate() {
-        hints.note(*x, depth, place)?;
+        hints.note(*x, depth, place);
     }
-    Ok(())
 }
 
 fn note_frame(
@@ -89,16 +91,16 @@ fn note_frame(
     hints: &mut Hints,
     frame: Frame,
     depth: usize,
-) -> Result<(), Memory> {
+) {
     match frame {
         Frame::Index(x) => hints.note(x, depth, 0),
         Frame::Block { block: _, place } => {
             if flag_at(seen, place as usize) {
-                return Ok(());
+                return;
             }
             mark(seen, place as usize);
             match layouts.get(place as usize) {
-                None => Ok(()),
+                None => {}
                 Some(l) => note_layout(hints, l, depth),
             }
         }
@@ -109,16 +111,19 @@ fn note_frame(
 pub(crate) fn find_hints(code: &Code, nodes: &List<Node>) -> Result<Hints, Memory> {
     let layouts = &code.parts().layouts;
     let alloc = nodes.alloc();
-    let depths = depths(nodes)?;
-    let mut seen = no_flags(alloc, layouts.len())?;
+    let depths = have!(depths(nodes));
+    let mut seen = have!(no_flags(alloc, layouts.len()));
     let mut hints = Hints {
         depths,
-        hints: List::new(alloc),
+        hints: Writer::new(alloc),
         last: BTreeMap::new(alloc),
     };
     for (k, n) in nodes.items().iter().enumerate() {
         let depth = depth_of(&hints.depths, k);
-        note_frame(layouts, &mut seen, &mut hints, n.frame, depth)?;
+        note_frame(layouts, &mut seen, &mut hints, n.frame, depth);
+    }
+    if hints.hints.is_lost {
+        return Err(Memory);
     }
     Ok(hints)
 }

@@ -11,6 +11,7 @@ ghost use Rattle.sp_areas.specs.Misnamed.{Decides};
 
 use crate::blocks::Blocks;
 use crate::flags::{flag_at, mark, no_flags};
+use crate::have;
 use crate::least::{least, place_if};
 use crate::tree::{Grown, node_at};
 use sp_base::{List, Memory};
@@ -48,7 +49,7 @@ fn doubled(code: &Code, blocks: &Blocks) -> Result<List<bool>, Memory>
 {
     let parts = code.parts();
     let count = parts.layouts.len();
-    let mut flags = no_flags(parts.instrs.alloc(), count)?;
+    let mut flags = have!(no_flags(parts.instrs.alloc(), count));
     for (item, l) in parts.layouts.items().iter().enumerate() {
         note(blocks, &mut flags, item, l.block);
     }
@@ -95,6 +96,6 @@ pub fn first_homeless(code: &Code, blocks: &Blocks, led: &Grown) -> Result<Optio
     requires led { AreAllLed code.now.layouts led.now }
     ensures { IfOk result (λ first. IsLeast (Homeless code.now) first) }
 {
-    let flags = doubled(code, blocks)?;
+    let flags = have!(doubled(code, blocks));
     Ok(first_lacking(code, blocks, &flags, led))
 }

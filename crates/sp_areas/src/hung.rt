@@ -11,6 +11,7 @@ ghost use Rattle.sp_areas.specs.Owners.{AreOwners};
 ghost use Rattle.sp_areas.specs.declared.tree.Node.{Node};
 
 use crate::blocks::Blocks;
+use crate::have;
 use crate::order::order;
 use crate::owners::{Owner, table_number};
 use crate::tree::{Frame, Grown, Jump, Node, node_at, put};
@@ -36,7 +37,7 @@ fn put_again(nodes: &mut List<Node>, number: usize) -> Result<(), Memory>
     ensures { OnOk result (PutsChild nodes.old nodes.new number None) }
 {
     let again = node(nodes, number);
-    nodes.push(again)?;
+    have!(nodes.push(again));
     Ok(())
 }
 
@@ -58,7 +59,7 @@ fn put_children(
     ensures { OnOk result (PutsChildren nodes.old nodes.new around children.now (length children.now)) }
 {
     for child in children {
-        put_child(nodes, around, child.index)?;
+        have!(put_child(nodes, around, child.index));
     }
     Ok(())
 }
@@ -74,7 +75,7 @@ fn give_nodes(
     ensures { OnOk result (Hangs grown.old grown.new t around children.now) }
 {
     let base = grown.nodes.len();
-    put_children(&mut grown.nodes, around, children)?;
+    have!(put_children(&mut grown.nodes, around, children));
     let _none = grown.of.replace(t, Some(base));
     Ok(())
 }
@@ -158,7 +159,7 @@ fn hang(
         None => return Ok(false),
         Some(table) => table,
     };
-    give_nodes(grown, t, around, table.children.items())?;
+    have!(give_nodes(grown, t, around, table.children.items()));
     Ok(true)
 }
 
@@ -178,7 +179,7 @@ fn sweep(
     let count = code.parts().instrs.len();
     let mut changed = false;
     for q in 0..count {
-        let new = hang(code, blocks, owners, of_blocks, grown, q as u32)?;
+        let new = have!(hang(code, blocks, owners, of_blocks, grown, q as u32));
         changed |= new;
     }
     Ok(changed)
@@ -201,7 +202,7 @@ fn hurry(
     for q in order.items() {
         let q = *q;
         if q < 1_048_576 {
-            let _new = hang(code, blocks, owners, of_blocks, grown, q as u32)?;
+            let _new = have!(hang(code, blocks, owners, of_blocks, grown, q as u32));
         }
     }
     Ok(())
@@ -221,7 +222,7 @@ fn search(
     ensures { OnOk result (AreAllHung code.now owners.now of_blocks.now grown.new) }
 {
     'sweeps: loop {
-        let found = sweep(code, blocks, owners, of_blocks, grown)?;
+        let found = have!(sweep(code, blocks, owners, of_blocks, grown));
         if !found {
             return Ok(());
         }
@@ -236,7 +237,7 @@ fn forks(owners: &List<Owner>) -> Result<List<Option<usize>>, Memory> {
             Owner::Child { at, child: _ } => Some(at as usize),
             _ => None,
         };
-        up.push(fork)?;
+        have!(up.push(fork));
     }
     Ok(up)
 }
@@ -254,13 +255,13 @@ pub(crate) fn hang_all(
     requires just { AreHung code.now of_blocks.now grown.old }
     ensures { OnOk result (AreAllHung code.now owners.now of_blocks.now grown.new) }
 {
-    let up = forks(owners)?;
+    let up = have!(forks(owners));
     let order = order(&up);
     drop(up);
-    let order = order?;
+    let order = have!(order);
     let hurried = hurry(code, blocks, owners, of_blocks, grown, &order);
     drop(order);
-    hurried?;
+    have!(hurried);
     search(code, blocks, owners, of_blocks, grown)
 }
 
@@ -279,7 +280,7 @@ pub(crate) fn nodes_of(
     for p in 0..owners.len() {
         let owner = owner_in(owners, p);
         let node = node_of(code, blocks, of_blocks, grown, owner);
-        at.push(node)?;
+        have!(at.push(node));
     }
     Ok(at)
 }

@@ -6,6 +6,7 @@ ghost use Rattle.sp_areas.specs.Blocks.{IsNumbered};
 ghost use Rattle.sp_areas.specs.Grown.{AreAllLed, AreLed, EachItem, IsTried, GrowthStep, inside_of, parent_node};
 
 use crate::blocks::Blocks;
+use crate::have;
 use crate::order::order;
 use crate::tree::{Frame, Grown, give_node, no_nodes, node_at};
 use sp_base::{List, Memory};
@@ -63,7 +64,7 @@ fn settle(code: &Code, blocks: &Blocks, grown: &mut Grown, item: usize) -> Resul
         block: l.block,
         place,
     };
-    give_node(grown, item, frame, around)?;
+    have!(give_node(grown, item, frame, around));
     Ok(true)
 }
 
@@ -77,7 +78,7 @@ fn sweep(code: &Code, blocks: &Blocks, grown: &mut Grown) -> Result<bool, Memory
     let count = code.parts().layouts.len();
     let mut changed = false;
     for item in 0..count {
-        let new = settle(code, blocks, grown, item)?;
+        let new = have!(settle(code, blocks, grown, item));
         changed |= new;
     }
     Ok(changed)
@@ -90,7 +91,7 @@ fn hurry(code: &Code, blocks: &Blocks, grown: &mut Grown, order: &List<usize>) -
     ensures { OnOk result (AreLed code.now.layouts grown.new) }
 {
     for item in order.items() {
-        let _new = settle(code, blocks, grown, *item)?;
+        let _new = have!(settle(code, blocks, grown, *item));
     }
     Ok(())
 }
@@ -102,7 +103,7 @@ fn search(code: &Code, blocks: &Blocks, grown: &mut Grown) -> Result<(), Memory>
     ensures { OnOk result (AreAllLed code.now.layouts grown.new) }
 {
     'sweeps: loop {
-        let found = sweep(code, blocks, grown)?;
+        let found = have!(sweep(code, blocks, grown));
         if !found {
             return Ok(());
         }
@@ -117,7 +118,7 @@ fn parents(code: &Code, blocks: &Blocks) -> Result<List<Option<usize>>, Memory> 
             None => None,
             Some(parent) => blocks.place(parent),
         };
-        up.push(place.map(|place| place as usize))?;
+        have!(up.push(place.map(|place| place as usize)));
     }
     Ok(up)
 }
@@ -127,7 +128,7 @@ pub(crate) fn nothing(code: &Code, count: usize) -> Result<Grown, Memory>
     ensures { IfOk result (λ grown. (grown.nodes ≡ []) × (grown.of ≡ replicate count None)) }
 {
     let alloc = code.parts().instrs.alloc();
-    let of = no_nodes(alloc, count)?;
+    let of = have!(no_nodes(alloc, count));
     Ok(Grown {
         nodes: List::new(alloc),
         of,
@@ -139,14 +140,14 @@ pub fn led(code: &Code, blocks: &Blocks) -> Result<Grown, Memory>
     requires { IsNumbered blocks.now.first code.now.layouts }
     ensures { IfOk result (λ grown. AreAllLed code.now.layouts grown) }
 {
-    let up = parents(code, blocks)?;
+    let up = have!(parents(code, blocks));
     let order = order(&up);
     drop(up);
-    let order = order?;
-    let mut grown = nothing(code, code.parts().layouts.len())?;
+    let order = have!(order);
+    let mut grown = have!(nothing(code, code.parts().layouts.len()));
     let hurried = hurry(code, blocks, &mut grown, &order);
     drop(order);
-    hurried?;
-    search(code, blocks, &mut grown)?;
+    have!(hurried);
+    have!(search(code, blocks, &mut grown));
     Ok(grown)
 }

@@ -49,6 +49,7 @@ pub mod components;
 pub mod declarations;
 pub mod filled;
 pub mod flags;
+pub mod have;
 pub mod hints;
 pub mod homeless;
 pub mod homes;

@@ -7,6 +7,7 @@ ghost use Rattle.sp_areas.specs.LeastPlaces.{IsLeast};
 ghost use Rattle.sp_areas.specs.Namers.{AreNamers, is_lost, none_yet, with_namer_of, with_namer};
 ghost use Rattle.sp_areas.specs.Owners.{AreOwners};
 
+use crate::have;
 use crate::least::{least, place_if};
 use crate::owners::{Owner, is_same, table_named};
 use crate::placed::instr_of;
@@ -65,7 +66,7 @@ fn visit(code: &Code, namers: &mut List<Namer>, p: usize)
 fn none_yet(alloc: Global, count: usize) -> Result<List<Namer>, Memory>
     ensures { IfOk result (λ ws. ws ≡ none_yet count) }
 {
-    let none = vec![in alloc; Namer::Nothing; count]?;
+    let none = have!(vec![in alloc; Namer::Nothing; count]);
     Ok(List::of(none))
 }
 
@@ -75,7 +76,7 @@ fn namers(code: &Code) -> Result<List<Namer>, Memory>
 {
     let parts = code.parts();
     let count = parts.instrs.len();
-    let mut namers = none_yet(parts.instrs.alloc(), parts.forks.len())?;
+    let mut namers = have!(none_yet(parts.instrs.alloc(), parts.forks.len()));
     for p in 0..count {
         visit(code, &mut namers, p);
     }
@@ -135,6 +136,6 @@ pub fn first_unnamed(code: &Code, owners: &List<Owner>) -> Result<Option<u32>, M
     requires { AreOwners code.now owners.now }
     ensures { IfOk result (λ first. IsLeast (Unnamed code.now) first) }
 {
-    let namers = namers(code)?;
+    let namers = have!(namers(code));
     Ok(first_lost(code, owners, &namers))
 }

@@ -1,7 +1,9 @@
 //! An order in which what others stand on comes first. It only saves time: no proof rests on it.
 
 use crate::flags::{flag_at, mark, no_flags};
+use crate::have;
 use sp_base::{List, Memory};
+use sp_writer::Writer;
 
 fn next(up: &List<Option<usize>>, item: usize) -> Option<usize> {
     match up.get(item) {
@@ -11,48 +13,44 @@ fn next(up: &List<Option<usize>>, item: usize) -> Option<usize> {
 }
 
 // Goes from an item to the one that it stands on, and so on, as far as those that were not seen.
-fn climb(
-    up: &List<Option<usize>>,
-    seen: &mut List<bool>,
-    way: &mut List<usize>,
-    item: usize,
-) -> Result<(), Memory> {
+fn climb(up: &List<Option<usize>>, seen: &mut List<bool>, way: &mut Writer<usize>, item: usize) {
     let mut at = item;
     for _step in 0..up.len() {
         if seen.len() <= at || flag_at(seen, at) {
-            return Ok(());
+            return;
         }
         mark(seen, at);
-        way.push(at)?;
+        way.put(at);
         match next(up, at) {
-            None => return Ok(()),
+            None => return,
             Some(to) => at = to,
         }
     }
-    Ok(())
 }
 
 // The way back.
-fn come_back(way: &mut List<usize>, order: &mut List<usize>) -> Result<(), Memory> {
-    for _step in 0..way.len() {
-        match way.pop() {
-            None => return Ok(()),
-            Some(item) => order.push(item)?,
+fn come_back(way: &mut Writer<usize>, order: &mut Writer<usize>) {
+    for _step in 0..way.items.len() {
+        match way.items.pop() {
+            None => return,
+            Some(item) => order.put(item),
         }
     }
-    Ok(())
 }
 
 /// All items, each behind the one that it stands on, unless they stand on each other in a circle.
 pub(crate) fn order(up: &List<Option<usize>>) -> Result<List<usize>, Memory> {
     let alloc = up.alloc();
     let count = up.len();
-    let mut seen = no_flags(alloc, count)?;
-    let mut way = List::new(alloc);
-    let mut order = List::new(alloc);
+    let mut seen = have!(no_flags(alloc, count));
+    let mut way = Writer::new(alloc);
+    let mut order = Writer::new(alloc);
     for item in 0..count {
-        climb(up, &mut seen, &mut way, item)?;
-        come_back(&mut way, &mut order)?;
+        climb(up, &mut seen, &mut way, item);
+        come_back(&mut way, &mut order);
     }
-    Ok(order)
+    if way.is_lost {
+        return Err(Memory);
+    }
+    Ok(List::of(have!(order.finish())))
 }

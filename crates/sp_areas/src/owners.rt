@@ -12,9 +12,11 @@ ghost use Rattle.sp_areas.specs.Owners.{IsSpread, IsSpreadBy, IsTrueOf, KnowsOwn
 ghost use Rattle.sp_areas.specs.Owners.{is_same, common_owner, of_child};
 
 use crate::blocks::Blocks;
+use crate::have;
 use crate::ways::ways_on;
 use sp_base::{List, Memory};
 use sp_code::{ChildTable, Code, Instr};
+use sp_writer::Writer;
 
 /// Whose code an instruction is: the area in whose code it lies, by the area's last step.
 #[derive(Clone, Copy, Debug, PartialEq, Eq)]
@@ -89,25 +91,20 @@ fn of_child(child: usize, o: Owner) -> Owner
 }
 
 // Hands an owner on, and says whether that was new.
-fn give(
-    owners: &mut List<Owner>,
-    waiting: &mut List<usize>,
-    x: usize,
-    o: Owner,
-) -> Result<bool, Memory>
-    ensures { IfOk result (λ changed. HandsOwner owners.old owners.new x o changed) }
+fn give(owners: &mut List<Owner>, waiting: &mut Writer<usize>, x: usize, o: Owner) -> bool
+    ensures { HandsOwner owners.old owners.new x o result }
 {
     let w = match owners.get(x) {
-        None => return Ok(false),
+        None => return false,
         Some(w) => *w,
     };
     let both = join(w, o);
     if is_same(w, both) {
-        return Ok(false);
+        return false;
     }
     let _old = owners.replace(x, both);
-    waiting.push(x)?;
-    Ok(true)
+    waiting.put(x);
+    true
 }
 
 /// The number of the table that an instruction names.
@@ -135,22 +132,22 @@ pub fn table_number(code: &Code, p: u32) -> Option<u32>
 fn hand(
     code: &Code,
     owners: &mut List<Owner>,
-    waiting: &mut List<usize>,
+    waiting: &mut Writer<usize>,
     to: Option<u32>,
     o: Owner,
-) -> Result<bool, Memory>
+) -> bool
     requires just { AreTrue code.now owners.old }
     requires some { IsOwner o }
     requires owner { (q : ℕ) → to ≡ Some q → q < length code.now.instrs → IsTrueOf code.now q o }
-    ensures { IfOk result (λ changed. Spreads code.now owners.old owners.new (KnowsAt code.now to o) changed) }
+    ensures { Spreads code.now owners.old owners.new (KnowsAt code.now to o) result }
 {
     match to {
-        None => Ok(false),
+        None => false,
         Some(q) => {
             if (q as usize) < code.parts().instrs.len() {
                 give(owners, waiting, q as usize, o)
             } else {
-                Ok(false)
+                false
             }
         }
     }
@@ -160,106 +157,94 @@ fn hand(
 fn hand_table(
     code: &Code,
     owners: &mut List<Owner>,
-    waiting: &mut List<usize>,
+    waiting: &mut Writer<usize>,
     p: u32,
     instr: Instr,
     o: Owner,
-) -> Result<bool, Memory>
+) -> bool
     requires just { AreTrue code.now owners.old }
     requires there { instr_at code.now p ≡ Some instr }
     requires some { IsOwner o }
     requires owner { (p < length code.now.instrs) × IsTrueOf code.now p o }
-    ensures { IfOk result (λ changed. Spreads code.now owners.old owners.new (λ os. (t : ℕ) → Names code.now t p
-        → t < length code.now.forks → KnowsOwner os (length code.now.instrs + t) (as_child p o)) changed) }
+    ensures { Spreads code.now owners.old owners.new (λ os. (t : ℕ) → Names code.now t p
+        → t < length code.now.forks → KnowsOwner os (length code.now.instrs + t) (as_child p o)) result }
 {
     match table_named(instr) {
-        None => Ok(false),
+        None => false,
         Some(t) => {
             let parts = code.parts();
             if (t as usize) < parts.forks.len() {
                 let x = parts.instrs.len() + t as usize;
                 give(owners, waiting, x, as_child(p, o))
             } else {
-                Ok(false)
+                false
             }
         }
     }
 }
 
 // Hands the owner of an instruction on.
-fn visit(
-    code: &Code,
-    owners: &mut List<Owner>,
-    waiting: &mut List<usize>,
-    p: u32,
-) -> Result<bool, Memory>
+fn visit(code: &Code, owners: &mut List<Owner>, waiting: &mut Writer<usize>, p: u32) -> bool
     requires just { AreTrue code.now owners.old }
     requires there { p < length code.now.instrs }
     requires small { p < 1048576 }
-    ensures { IfOk result (λ changed. Spreads code.now owners.old owners.new (IsSpread code.now p) changed) }
+    ensures { Spreads code.now owners.old owners.new (IsSpread code.now p) result }
 {
     let o = match owners.get(p as usize) {
-        None => return Ok(false),
+        None => return false,
         Some(o) => *o,
     };
     let instr = match code.instr(p) {
-        None => return Ok(false),
+        None => return false,
         Some(instr) => instr,
     };
     if is_same(o, Owner::Nobody) {
-        return Ok(false);
+        return false;
     }
     let ways = ways_on(p, instr);
-    let first = hand(code, owners, waiting, ways.first, o)?;
-    let second = hand(code, owners, waiting, ways.second, o)?;
-    let third = hand_table(code, owners, waiting, p, instr, o)?;
-    Ok(first | second | third)
+    let first = hand(code, owners, waiting, ways.first, o);
+    let second = hand(code, owners, waiting, ways.second, o);
+    let third = hand_table(code, owners, waiting, p, instr, o);
+    first | second | third
 }
 
 // Hands the owner of a table on to its children.
 fn visit_children(
     code: &Code,
     owners: &mut List<Owner>,
-    waiting: &mut List<usize>,
+    waiting: &mut Writer<usize>,
     children: &[ChildTable],
     o: Owner,
-) -> Result<bool, Memory>
+) -> bool
     requires just { AreTrue code.now owners.old }
     requires some { IsOwner o }
     requires owner { (k : ℕ) (ch : ChildTable) → slice_get children.now k ≡ Some ch
         → ch.entry < length code.now.instrs → IsTrueOf code.now ch.entry (of_child k o) }
-    ensures { IfOk result (λ changed. Spreads code.now owners.old owners.new
-        (IsHanded code.now o children.now (length children.now)) changed) }
+    ensures { Spreads code.now owners.old owners.new (IsHanded code.now o children.now (length children.now)) result }
 {
     let mut changed = false;
     for (k, child) in children.iter().enumerate() {
-        let new = hand(code, owners, waiting, Some(child.entry), of_child(k, o))?;
-        changed |= new;
+        changed |= hand(code, owners, waiting, Some(child.entry), of_child(k, o));
     }
-    Ok(changed)
+    changed
 }
 
-fn visit_table(
-    code: &Code,
-    owners: &mut List<Owner>,
-    waiting: &mut List<usize>,
-    t: usize,
-) -> Result<bool, Memory>
+fn visit_table(code: &Code, owners: &mut List<Owner>, waiting: &mut Writer<usize>, t: usize) -> bool
     requires just { AreTrue code.now owners.old }
     requires there { t < length code.now.forks }
-    ensures { IfOk result (λ changed. Spreads code.now owners.old owners.new (IsSpreadBy code.now t) changed) }
+    ensures { Spreads code.now owners.old owners.new (IsSpreadBy code.now t) result }
 {
     let parts = code.parts();
     let o = match owners.get(parts.instrs.len() + t) {
-        None => return Ok(false),
+        None => return false,
         Some(o) => *o,
     };
     let table = match parts.forks.get(t) {
-        None => return Ok(false),
+        None => return false,
         Some(table) => table,
     };
     if is_same(o, Owner::Nobody) {
-        return Ok(false);
+        return false;
     }
     visit_children(code, owners, waiting, table.children.items(), o)
 }
@@ -269,59 +254,45 @@ fn begin(
     code: &Code,
     blocks: &Blocks,
     owners: &mut List<Owner>,
-    waiting: &mut List<usize>,
-) -> Result<bool, Memory>
+    waiting: &mut Writer<usize>,
+) -> bool
     requires just { AreTrue code.now owners.old }
     requires blocks { IsNumbered blocks.now.first code.now.layouts }
-    ensures { IfOk result (λ changed. Spreads code.now owners.old owners.new
-        (AreBegun code.now (length code.now.layouts)) changed) }
+    ensures { Spreads code.now owners.old owners.new (AreBegun code.now (length code.now.layouts)) result }
 {
     let layouts = &code.parts().layouts;
     let mut changed = false;
     for l in layouts.items() {
         let entry = blocks.entry_of(layouts, l.block);
-        let new = hand(code, owners, waiting, entry, Owner::Block(l.block))?;
-        changed |= new;
+        changed |= hand(code, owners, waiting, entry, Owner::Block(l.block));
     }
-    Ok(changed)
+    changed
 }
 
 // Visits all instructions.
-fn visit_all(
-    code: &Code,
-    owners: &mut List<Owner>,
-    waiting: &mut List<usize>,
-) -> Result<bool, Memory>
+fn visit_all(code: &Code, owners: &mut List<Owner>, waiting: &mut Writer<usize>) -> bool
     requires just { AreTrue code.now owners.old }
-    ensures { IfOk result (λ changed. Spreads code.now owners.old owners.new
-        (EachFirst (IsSpread code.now) (length code.now.instrs)) changed) }
+    ensures { Spreads code.now owners.old owners.new (EachFirst (IsSpread code.now) (length code.now.instrs)) result }
 {
     let count = code.parts().instrs.len();
     let mut changed = false;
     for p in 0..count {
-        let new = visit(code, owners, waiting, p as u32)?;
-        changed |= new;
+        changed |= visit(code, owners, waiting, p as u32);
     }
-    Ok(changed)
+    changed
 }
 
 // Visits all tables.
-fn visit_tables(
-    code: &Code,
-    owners: &mut List<Owner>,
-    waiting: &mut List<usize>,
-) -> Result<bool, Memory>
+fn visit_tables(code: &Code, owners: &mut List<Owner>, waiting: &mut Writer<usize>) -> bool
     requires just { AreTrue code.now owners.old }
-    ensures { IfOk result (λ changed. Spreads code.now owners.old owners.new
-        (EachFirst (IsSpreadBy code.now) (length code.now.forks)) changed) }
+    ensures { Spreads code.now owners.old owners.new (EachFirst (IsSpreadBy code.now) (length code.now.forks)) result }
 {
     let count = code.parts().forks.len();
     let mut changed = false;
     for t in 0..count {
-        let new = visit_table(code, owners, waiting, t)?;
-        changed |= new;
+        changed |= visit_table(code, owners, waiting, t);
     }
-    Ok(changed)
+    changed
 }
 
 // Visits everything once, and says whether anything was new.
@@ -329,28 +300,23 @@ fn sweep(
     code: &Code,
     blocks: &Blocks,
     owners: &mut List<Owner>,
-    waiting: &mut List<usize>,
-) -> Result<bool, Memory>
+    waiting: &mut Writer<usize>,
+) -> bool
     requires just { AreTrue code.now owners.old }
     requires blocks { IsNumbered blocks.now.first code.now.layouts }
-    ensures { IfOk result (λ changed. Spreads code.now owners.old owners.new (IsAllSpread code.now) changed) }
+    ensures { Spreads code.now owners.old owners.new (IsAllSpread code.now) result }
 {
-    let first = begin(code, blocks, owners, waiting)?;
-    let second = visit_all(code, owners, waiting)?;
-    let third = visit_tables(code, owners, waiting)?;
-    Ok(first | second | third)
+    let first = begin(code, blocks, owners, waiting);
+    let second = visit_all(code, owners, waiting);
+    let third = visit_tables(code, owners, waiting);
+    first | second | third
 }
 
 // Visits one instruction or table.
-#[tactic(auto, using(crate::proofs::Handing::any_ok))]
-fn visit_one(
-    code: &Code,
-    owners: &mut List<Owner>,
-    waiting: &mut List<usize>,
-    x: usize,
-) -> Result<bool, Memory>
+#[tactic(auto, using(crate::proofs::Handing::any))]
+fn visit_one(code: &Code, owners: &mut List<Owner>, waiting: &mut Writer<usize>, x: usize) -> bool
     requires just { AreTrue code.now owners.old }
-    ensures { IfOk result (λ changed. Spreads code.now owners.old owners.new (λ os. Unit {0}) changed) }
+    ensures { Spreads code.now owners.old owners.new (λ os. Unit {0}) result }
 {
     let parts = code.parts();
     let count = parts.instrs.len();
@@ -359,25 +325,24 @@ fn visit_one(
     } else if x - count < parts.forks.len() {
         visit_table(code, owners, waiting, x - count)
     } else {
-        Ok(false)
+        false
     }
 }
 
 // Visits what waits, which is what was handed something new: so a sweep after it finds little or nothing.
-fn hurry(code: &Code, owners: &mut List<Owner>, waiting: &mut List<usize>) -> Result<bool, Memory>
+fn hurry(code: &Code, owners: &mut List<Owner>, waiting: &mut Writer<usize>) -> bool
     requires just { AreTrue code.now owners.old }
-    ensures { IfOk result (λ changed. Spreads code.now owners.old owners.new (λ os. Unit {0}) changed) }
+    ensures { Spreads code.now owners.old owners.new (λ os. Unit {0}) result }
 {
     let mut changed = false;
     for _step in 0..8_388_608 {
-        let x = match waiting.pop() {
-            None => return Ok(changed),
+        let x = match waiting.items.pop() {
+            None => return changed,
             Some(x) => x,
         };
-        let new = visit_one(code, owners, waiting, x)?;
-        changed |= new;
+        changed |= visit_one(code, owners, waiting, x);
     }
-    Ok(changed)
+    changed
 }
 
 // Goes on until nothing is left to be handed on.
@@ -387,13 +352,16 @@ fn search(code: &Code, blocks: &Blocks, owners: &mut List<Owner>) -> Result<(), 
     requires blocks { IsNumbered blocks.now.first code.now.layouts }
     ensures { OnOk result (AreTrue code.now owners.new × IsAllSpread code.now owners.new) }
 {
-    let mut waiting = List::new(owners.alloc());
+    let mut waiting = Writer::new(owners.alloc());
     'sweeps: loop {
-        let found = sweep(code, blocks, owners, &mut waiting)?;
+        let found = sweep(code, blocks, owners, &mut waiting);
+        if waiting.is_lost {
+            return Err(Memory);
+        }
         if !found {
             return Ok(());
         }
-        let _later = hurry(code, owners, &mut waiting)?;
+        let _later = hurry(code, owners, &mut waiting);
     }
 }
 
@@ -405,8 +373,9 @@ pub fn owners(code: &Code, blocks: &Blocks) -> Result<List<Owner>, Memory>
     let parts = code.parts();
     let alloc = parts.instrs.alloc();
     let count = parts.instrs.len();
-    let mut owners = List::of(vec![in alloc; Owner::Nobody; count + parts.forks.len()]?);
-    search(code, blocks, &mut owners)?;
+    let nobody = have!(vec![in alloc; Owner::Nobody; count + parts.forks.len()]);
+    let mut owners = List::of(nobody);
+    have!(search(code, blocks, &mut owners));
     owners.truncate(count);
     Ok(owners)
 }

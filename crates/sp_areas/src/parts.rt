@@ -6,6 +6,7 @@ ghost use Rattle.sp_areas.specs.Blocks.{IsNumbered};
 ghost use Rattle.sp_areas.specs.LeastPlaces.{IsLeast};
 
 use crate::blocks::Blocks;
+use crate::have;
 use crate::layouts::first_layout;
 use crate::least::{least, place_if};
 use crate::names::first_misnaming;
@@ -27,8 +28,8 @@ pub fn first_wrong_alone(code: &Code, blocks: &Blocks) -> Result<Option<u32>, Me
     let instrs = parts.instrs.items();
     let layouts = parts.layouts.items();
     let tables = parts.forks.items();
-    let forked = flags(alloc, false, instrs, tables.len())?;
-    let foralled = flags(alloc, true, instrs, tables.len())?;
+    let forked = have!(flags(alloc, false, instrs, tables.len()));
+    let foralled = have!(flags(alloc, true, instrs, tables.len()));
     let named = first_misnaming(code, blocks);
     let program = place_if(!blocks.has(0), 0);
     let layout = first_layout(layouts, instrs.len());

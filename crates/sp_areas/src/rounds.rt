@@ -1,7 +1,7 @@
 //! Rule V9: ways of an instruction back to itself with no tick and no call. The numbers that `components` guesses are
 //! checked by a loop.
 
-ghost use Rattle.std.specs.Prelude.{◌≡◌, ◌↔◌, ◌<◌, ℕ, IfOk, IsTrue, MatchOption, OnOk, Some, false, length, true};
+ghost use Rattle.std.specs.Prelude.{◌≡◌, ◌↔◌, ◌<◌, ℕ, IfOk, IsTrue, MatchOption, Some, false, length, true};
 ghost use Rattle.sp_rules.specs.Areas.{Area, instr_at};
 ghost use Rattle.sp_rules.specs.Named.{LiesIn};
 ghost use Rattle.sp_rules.specs.Reach.{IsIn};
@@ -15,10 +15,12 @@ ghost use Rattle.sp_areas.specs.Rounds.{instrs_before, gaps, with_flag};
 
 use crate::components::{components, has_owner, number_at};
 use crate::flags::{flag_at, no_flags};
+use crate::have;
 use crate::owners::Owner;
 use crate::ways::free_ways;
 use sp_base::{List, Memory};
 use sp_code::Code;
+use sp_writer::Writer;
 
 // ---- numbers that fall
 
@@ -129,60 +131,57 @@ fn open_end(code: &Code, start: u32, flags: &List<bool>) -> Option<u32>
 }
 
 // Flags the instruction at the end of a way, if there is one. What is new waits to be gone on from.
-fn flag(flags: &mut List<bool>, waiting: &mut List<u32>, to: Option<u32>) -> Result<(), Memory>
-    ensures { OnOk result (flags.new ≡ with_flag flags.old to) }
+fn flag(flags: &mut List<bool>, waiting: &mut Writer<u32>, to: Option<u32>)
+    ensures { flags.new ≡ with_flag flags.old to }
 {
     let q = match to {
-        None => return Ok(()),
+        None => return,
         Some(q) => q,
     };
     if flags.len() <= q as usize {
-        return Ok(());
+        return;
     }
     if flag_at(flags, q as usize) {
-        return Ok(());
+        return;
     }
     let _old = flags.replace(q as usize, true);
-    waiting.push(q)?;
-    Ok(())
+    waiting.put(q);
 }
 
 // Goes on from an instruction that has a flag.
-fn visit(code: &Code, flags: &mut List<bool>, waiting: &mut List<u32>, p: u32) -> Result<(), Memory>
-    ensures { (s : ℕ) → AreLed code.now s flags.old → OnOk result (Widens code.now s flags.old flags.new) }
+fn visit(code: &Code, flags: &mut List<bool>, waiting: &mut Writer<u32>, p: u32)
+    ensures { (s : ℕ) → AreLed code.now s flags.old → Widens code.now s flags.old flags.new }
 {
     if !flag_at(flags, p as usize) {
-        return Ok(());
+        return;
     }
     let ways = free_ways(code, p);
-    flag(flags, waiting, ways.first)?;
-    flag(flags, waiting, ways.second)?;
-    Ok(())
+    flag(flags, waiting, ways.first);
+    flag(flags, waiting, ways.second);
 }
 
 // Goes on from all that wait.
-fn hurry(code: &Code, flags: &mut List<bool>, waiting: &mut List<u32>) -> Result<(), Memory>
-    ensures { (s : ℕ) → AreLed code.now s flags.old → OnOk result (Widens code.now s flags.old flags.new) }
+fn hurry(code: &Code, flags: &mut List<bool>, waiting: &mut Writer<u32>)
+    ensures { (s : ℕ) → AreLed code.now s flags.old → Widens code.now s flags.old flags.new }
 {
     for _step in 0..2_097_152 {
-        let p = match waiting.pop() {
-            None => return Ok(()),
+        let p = match waiting.items.pop() {
+            None => return,
             Some(p) => p,
         };
-        visit(code, flags, waiting, p)?;
+        visit(code, flags, waiting, p);
     }
-    Ok(())
 }
 
 // Flags an instruction, and what it leads to.
-fn go_on(code: &Code, flags: &mut List<bool>, waiting: &mut List<u32>, q: u32) -> Result<(), Memory>
+fn go_on(code: &Code, flags: &mut List<bool>, waiting: &mut Writer<u32>, q: u32)
     requires there { q < length flags.old }
     requires new { flag_at flags.old q ≡ false }
     ensures { (s : ℕ) → AreLed code.now s flags.old → Strays code.now s q
-        → OnOk result (AreLed code.now s flags.new × (gaps flags.new < gaps flags.old)) }
+        → AreLed code.now s flags.new × (gaps flags.new < gaps flags.old) }
 {
-    flag(flags, waiting, Some(q))?;
-    hurry(code, flags, waiting)
+    flag(flags, waiting, Some(q));
+    hurry(code, flags, waiting);
 }
 
 // What an instruction leads to in one or more steps.
@@ -191,14 +190,17 @@ fn reach(code: &Code, start: u32) -> Result<List<bool>, Memory>
 {
     let instrs = &code.parts().instrs;
     let alloc = instrs.alloc();
-    let mut flags = no_flags(alloc, instrs.len())?;
-    let mut waiting = List::new(alloc);
+    let mut flags = have!(no_flags(alloc, instrs.len()));
+    let mut waiting = Writer::new(alloc);
     'rounds: loop {
         let q = match open_end(code, start, &flags) {
             None => return Ok(flags),
             Some(q) => q,
         };
-        go_on(code, &mut flags, &mut waiting, q)?;
+        go_on(code, &mut flags, &mut waiting, q);
+        if waiting.is_lost {
+            return Err(Memory);
+        }
     }
 }
 
@@ -210,7 +212,7 @@ fn breaks(code: &Code, owners: &List<Owner>, p: u32) -> Result<bool, Memory>
     if !has_owner(owners, p) {
         return Ok(false);
     }
-    let flags = reach(code, p)?;
+    let flags = have!(reach(code, p));
     Ok(flag_at(&flags, p as usize))
 }
 
@@ -231,7 +233,7 @@ fn first_broken(code: &Code, owners: &List<Owner>) -> Result<Option<u32>, Memory
 {
     let count = code.parts().instrs.len();
     for p in 0..count {
-        let broken = breaks(code, owners, p as u32)?;
+        let broken = have!(breaks(code, owners, p as u32));
         if broken {
             return Ok(Some(p as u32));
         }
@@ -248,10 +250,10 @@ pub fn first_round(code: &Code, owners: &List<Owner>) -> Result<Option<u32>, Mem
 {
     // By components the answer takes a few passes. It is checked: should it not hold, a search from each instruction
     // answers.
-    let numbers = components(code, owners)?;
+    let numbers = have!(components(code, owners));
     let first = first_staying(code, owners, &numbers);
     let falls = fall(code, owners, &numbers, first);
-    let broken = breaks_at(code, owners, first)?;
+    let broken = have!(breaks_at(code, owners, first));
     if falls && broken {
         Ok(first)
     } else {

@@ -6,6 +6,7 @@ ghost use Rattle.sp_areas.specs.Alone.{flag_at, table_by};
 ghost use Rattle.sp_areas.specs.LeastPlaces.{IsLeast, Upto};
 
 use crate::flags::{flag_at, mark, no_flags};
+use crate::have;
 use crate::least::{least, place_if};
 use sp_base::{List, Memory};
 use sp_code::{ChildTable, ForkTable, Instr};
@@ -31,7 +32,7 @@ pub(crate) fn flags(
 ) -> Result<List<bool>, Memory>
     ensures { IfOk result (λ flags. AreFlags forall instrs.now count flags) }
 {
-    let mut flags = no_flags(alloc, count)?;
+    let mut flags = have!(no_flags(alloc, count));
     for instr in instrs {
         if let Some(t) = table_by(forall, *instr) {
             mark(&mut flags, t as usize);

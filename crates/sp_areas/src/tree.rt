@@ -8,6 +8,7 @@ ghost use Rattle.sp_areas.specs.Grown.{GetsNode, PutsNode, node_at};
 ghost use Rattle.sp_areas.specs.Tree.{AreLists, IsAround, IsFrameOfHome, IsFrame, IsJump, IsNode, around_list, home_of};
 ghost use Rattle.sp_areas.specs.Tree.{with_list};
 
+use crate::have;
 use sp_base::{List, Memory};
 use std::alloc::Global;
 
@@ -116,7 +117,7 @@ pub struct Grown {
 pub(crate) fn no_nodes(alloc: Global, count: usize) -> Result<List<Option<usize>>, Memory>
     ensures { IfOk result (λ of. of ≡ replicate count None) }
 {
-    Ok(List::of(vec![in alloc; None; count]?))
+    Ok(List::of(have!(vec![in alloc; None; count])))
 }
 
 /// The node of an item.
@@ -158,7 +159,7 @@ pub(crate) fn put(tree: &mut List<Node>, frame: Frame, around: Option<usize>) ->
     ensures { OnOk result (PutsNode tree.old tree.new frame around) }
 {
     let node = node_inside(tree, frame, around);
-    tree.push(node)?;
+    have!(tree.push(node));
     Ok(())
 }
 
@@ -173,7 +174,7 @@ pub(crate) fn give_node(
     ensures { OnOk result (GetsNode grown.old grown.new item frame around) }
 {
     let node = grown.nodes.len();
-    put(&mut grown.nodes, frame, around)?;
+    have!(put(&mut grown.nodes, frame, around));
     let _none = grown.of.replace(item, Some(node));
     Ok(())
 }

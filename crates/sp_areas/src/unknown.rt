@@ -11,6 +11,7 @@ ghost use Rattle.sp_areas.specs.Owners.{AreOwners, Owns};
 ghost use Rattle.sp_areas.specs.Tree.{IsFrame, home_of};
 ghost use Rattle.sp_areas.specs.Unknown.{ChildUnknown, HasUnknown, IsBelow, IsBetter, OneUnknown, UnknownBy};
 
+use crate::have;
 use crate::hints::{Hint, Hints, find_hints};
 use crate::homes::Homes;
 use crate::owners::{Owner, table_number};
@@ -298,6 +299,6 @@ pub fn first_unknown(
     requires homes { AreHomes code.now homes.now }
     ensures { IfOk result (λ first. IsLeast (UnknownOnly code.now) first) }
 {
-    let hints = find_hints(code, &homes.nodes)?;
+    let hints = have!(find_hints(code, &homes.nodes));
     Ok(first_by(code, owners, homes, &hints))
 }

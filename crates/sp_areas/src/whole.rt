@@ -13,6 +13,7 @@ ghost use Rattle.sp_areas.specs.Placed.{IsMisplaced};
 
 use crate::blocks::Blocks;
 use crate::declarations::first_twice;
+use crate::have;
 use crate::homes::Homes;
 use crate::least::least;
 use crate::naming::first_unnamed;
@@ -69,11 +70,11 @@ pub fn first_v1(
     ensures { IfOk result (λ first. IsLeast (BreaksV1 code.now) first) }
 {
     let firsts = Firsts {
-        alone: first_wrong_alone(code, blocks)?,
+        alone: have!(first_wrong_alone(code, blocks)),
         homeless,
-        twice: first_twice(code)?,
-        unnamed: first_unnamed(code, owners)?,
-        unknown: first_unknown(code, owners, homes)?,
+        twice: have!(first_twice(code)),
+        unnamed: have!(first_unnamed(code, owners)),
+        unknown: have!(first_unknown(code, owners, homes)),
         range: first_out_of_range(code, blocks, owners, homes),
         misplaced: first_misplaced(code, owners),
     };

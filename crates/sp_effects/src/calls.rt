@@ -10,6 +10,7 @@ ghost use Rattle.sp_effects.specs.Calls.{meets_outer};
 
 use crate::areas::called_block;
 use crate::effects::Effects;
+use crate::have;
 use crate::pass_context::PassContext;
 use crate::sets::add_all;
 use crate::variables::owns;
@@ -47,7 +48,7 @@ fn put(xs: &mut List<u32>, x: Option<u32>) -> Result<(), Memory>
     ensures { OnOk result (xs.new ≡ xs.old ++ list_of_option x) }
 {
     if let Some(x) = x {
-        xs.push(x)?;
+        have!(xs.push(x));
     }
     Ok(())
 }
@@ -71,7 +72,7 @@ fn actuals(
             None => return Ok(xs),
             Some((shape, rest)) => {
                 let formal = formal_at(formals, count - 1 - i);
-                put(&mut xs, actual_of(formal, shape))?;
+                have!(put(&mut xs, actual_of(formal, shape)));
                 below = rest;
             }
         }
@@ -110,9 +111,9 @@ fn call_clashes(
     requires there { IsListNumber stacks.now stack }
     ensures { IfOk result (λ clashes. clashes ≡ call_clashes effects.now l.now (list_of stacks.now stack)) }
 {
-    let xs = actuals(alloc, stacks, stack, l.formals.items())?;
+    let xs = have!(actuals(alloc, stacks, stack, l.formals.items()));
     let mut seen = BTreeSet::new(alloc);
-    let new = add_all(&mut seen, xs.items())?;
+    let new = have!(add_all(&mut seen, xs.items()));
     Ok(!new || meets_outer(effects, l.entry, xs.items()))
 }
 
@@ -143,7 +144,7 @@ pub(crate) fn first_call(g: &PassContext, effects: &Effects) -> Result<Option<u3
 {
     let count = g.code.parts().instrs.len();
     for p in 0..count {
-        let fails = fails_at(g, effects, p as u32)?;
+        let fails = have!(fails_at(g, effects, p as u32));
         if fails {
             return Ok(Some(p as u32));
         }

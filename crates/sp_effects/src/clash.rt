@@ -10,6 +10,7 @@ ghost use Rattle.sp_effects.specs.Turns.{LayoutTurns, turns};
 
 use crate::calls::first_call;
 use crate::effects::{EffectRow, Effects};
+use crate::have;
 use crate::inside::called_inside;
 use crate::pass_context::PassContext;
 use crate::variables::goes_out;
@@ -66,8 +67,8 @@ pub fn first_clash(g: &PassContext, effects: &Effects) -> Result<Option<u32>, Me
     ensures { IfOk result (λ first. IsLeast (BreaksV7 g.now.code.now) first) }
 {
     let _parts = g.code.parts();
-    let flags = called_inside(g)?;
-    let call = first_call(g, effects)?;
+    let flags = have!(called_inside(g));
+    let call = have!(first_call(g, effects));
     let turn = first_turn(g, effects, &flags);
     Ok(least(call, turn))
 }

@@ -10,6 +10,7 @@ ghost use Rattle.sp_effects.specs.Variables.{AreOwn};
 
 use crate::edges::{Edge, edges_of};
 use crate::facts::{Effect, Fact, Facts};
+use crate::have;
 use crate::own::tell_own;
 use crate::pass_context::PassContext;
 use crate::variables::owns;
@@ -125,7 +126,7 @@ fn spread_row(facts: &mut Facts, row: &[Edge], own: bool, effect: Effect) -> Res
 {
     for k in 0..row.len() {
         let edge = edge_at(row, k);
-        spread_one(facts, edge, own, effect)?;
+        have!(spread_one(facts, edge, own, effect));
     }
     Ok(())
 }
@@ -161,7 +162,7 @@ fn close(
             None => return Ok(()),
             Some(fact) => fact,
         };
-        spread(facts, rows, own, fact)?;
+        have!(spread(facts, rows, own, fact));
     }
     Err(Memory)
 }
@@ -172,7 +173,7 @@ fn close_by(g: &PassContext, own: &BTreeSet<(u32, u32)>, facts: &mut Facts) -> R
     requires own { AreOwn g.now.code.now own.now.keys }
     ensures { OnOk result (ClosesBy g.now.code.now facts.old facts.new) }
 {
-    let rows = edges_of(g)?;
+    let rows = have!(edges_of(g));
     close(facts, &rows, own)
 }
 
@@ -183,7 +184,7 @@ pub fn facts_of(g: &PassContext, own: &BTreeSet<(u32, u32)>) -> Result<Facts, Me
     ensures { IfOk result (AreFacts g.now.code.now) }
 {
     let mut facts = Facts::new(g.code.parts().instrs.alloc());
-    tell_own(g, &mut facts)?;
-    close_by(g, own, &mut facts)?;
+    have!(tell_own(g, &mut facts));
+    have!(close_by(g, own, &mut facts));
     Ok(facts)
 }

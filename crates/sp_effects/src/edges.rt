@@ -13,6 +13,7 @@ ghost use Rattle.sp_rules.specs.Areas.{Area, entry};
 ghost use Rattle.sp_shapes.specs.Stacks.{IsListNumber, IsStacks, list_of, shape_of};
 
 use crate::areas::{area_at, called_block, table_of};
+use crate::have;
 use crate::pass_context::PassContext;
 use sp_base::{List, Memory};
 use sp_code::{ChildTable, Code, Formal, Layout};
@@ -55,7 +56,7 @@ fn put(row: &mut List<Edge>, edge: Edge) -> Result<(), Memory>
             }
         }
     }
-    row.push(edge)?;
+    have!(row.push(edge));
     Ok(())
 }
 
@@ -66,7 +67,7 @@ fn link(rows: &mut List<List<Edge>>, from: u32, edge: Edge) -> Result<(), Memory
 {
     let none = List::new(rows.alloc());
     let mut row = rows.replace(from as usize, none);
-    put(&mut row, edge)?;
+    have!(put(&mut row, edge));
     let _none = rows.replace(from as usize, row);
     Ok(())
 }
@@ -144,7 +145,7 @@ fn link_operands(
             None => return Ok(()),
             Some(top) => top,
         };
-        link_deep(rows, layout, to, depth, shape)?;
+        have!(link_deep(rows, layout, to, depth, shape));
         at = rest;
     }
     Ok(())
@@ -163,7 +164,7 @@ fn link_call(
     requires held { IsListNumber stacks.now stack }
     ensures { OnOk result (Links rows.old rows.new (IsCall layout.now to (list_of stacks.now stack))) }
 {
-    link(rows, layout.entry, Edge::Called { to })?;
+    have!(link(rows, layout.entry, Edge::Called { to }));
     link_operands(rows, layout, to, stacks, stack)
 }
 
@@ -200,7 +201,7 @@ fn link_children(
     for k in 0..children.len() {
         let child = &children[k];
         let index = child.index;
-        link(rows, child.entry, Edge::Started { to, index })?;
+        have!(link(rows, child.entry, Edge::Started { to, index }));
     }
     Ok(())
 }
@@ -228,7 +229,7 @@ fn link_at(g: &PassContext, rows: &mut List<List<Edge>>, p: u32) -> Result<(), M
         None => return Ok(()),
         Some(to) => to,
     };
-    link_called(g, rows, to, p)?;
+    have!(link_called(g, rows, to, p));
     link_started(g.code, rows, to, p)
 }
 
@@ -250,9 +251,9 @@ pub fn edges_of(g: &PassContext) -> Result<List<List<Edge>>, Memory>
 {
     let instrs = &g.code.parts().instrs;
     let count = instrs.len();
-    let mut rows = empty_rows(instrs.alloc(), count)?;
+    let mut rows = have!(empty_rows(instrs.alloc(), count));
     for p in 0..count {
-        link_at(g, &mut rows, p as u32)?;
+        have!(link_at(g, &mut rows, p as u32));
     }
     Ok(rows)
 }

@@ -8,6 +8,7 @@ ghost use Rattle.std.specs.Option.{option_copied};
 
 use crate::closing::facts_of;
 use crate::facts::{Effect, Fact, Facts};
+use crate::have;
 use crate::pass_context::PassContext;
 use crate::variables::own_of;
 use sp_base::{List, Memory};
@@ -81,10 +82,10 @@ fn put(row: &mut EffectRow, effect: Effect) -> Result<(), Memory>
 {
     match effect {
         Effect::Stores(x) => {
-            row.stored.push(x)?;
+            have!(row.stored.push(x));
         }
         Effect::Loads(x) => {
-            row.loaded.push(x)?;
+            have!(row.loaded.push(x));
         }
         Effect::Stops => {
             row.stops = true;
@@ -107,7 +108,7 @@ fn write(alloc: Global, rows: &mut List<EffectRow>, fact: Fact) -> Result<(), Me
         stops: false,
     };
     let mut row = rows.replace(at, none);
-    put(&mut row, fact.effect)?;
+    have!(put(&mut row, fact.effect));
     let _none = rows.replace(at, row);
     Ok(())
 }
@@ -116,13 +117,13 @@ fn write(alloc: Global, rows: &mut List<EffectRow>, fact: Fact) -> Result<(), Me
 fn rows_of(alloc: Global, facts: &Facts, count: usize) -> Result<List<EffectRow>, Memory>
     ensures { IfOk result (AreRows facts.now (length facts.now) count) }
 {
-    let mut rows = empty_rows(alloc, count)?;
+    let mut rows = have!(empty_rows(alloc, count));
     for i in 0..facts.len() {
         let fact = match facts.at(i) {
             None => return Ok(rows),
             Some(fact) => fact,
         };
-        write(alloc, &mut rows, fact)?;
+        have!(write(alloc, &mut rows, fact));
     }
     Ok(rows)
 }
@@ -132,9 +133,9 @@ pub fn find_effects(g: &PassContext) -> Result<Effects, Memory>
     requires known { IsPassContext g.now }
     ensures { IfOk result (λ effects. AreEffects g.now.code.now effects) }
 {
-    let own = own_of(g.code)?;
-    let facts = facts_of(g, &own)?;
+    let own = have!(own_of(g.code));
+    let facts = have!(facts_of(g, &own));
     let instrs = &g.code.parts().instrs;
-    let rows = rows_of(instrs.alloc(), &facts, instrs.len())?;
+    let rows = have!(rows_of(instrs.alloc(), &facts, instrs.len()));
     Ok(Effects { rows, facts, own })
 }

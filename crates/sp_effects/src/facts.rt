@@ -5,6 +5,7 @@ ghost use Rattle.sp_effects.specs.declared.facts.Effect.{Effect as EffectOf};
 ghost use Rattle.sp_effects.specs.declared.facts.Fact.{Fact as FactOf};
 ghost use Rattle.sp_effects.specs.Facts.{in_sets, index_has, sets_have, same_fact, same_effect, has_fact, with_fact};
 
+use crate::have;
 use sp_base::{List, Memory};
 use std::alloc::Global;
 use std::collections::BTreeSet;
@@ -63,10 +64,10 @@ fn put_effect(sets: &mut Sets, effect: Effect) -> Result<(), Memory>
 {
     match effect {
         Effect::Stores(x) => {
-            sets.stored.insert(x)?;
+            have!(sets.stored.insert(x));
         }
         Effect::Loads(x) => {
-            sets.loaded.insert(x)?;
+            have!(sets.loaded.insert(x));
         }
         Effect::Stops => {
             sets.stops = true;
@@ -95,7 +96,7 @@ fn put_at(areas: &mut List<Sets>, fact: Fact) -> Result<(), Memory>
 {
     let none = no_sets(areas.alloc());
     let mut sets = areas.replace(fact.area as usize, none);
-    put_effect(&mut sets, fact.effect)?;
+    have!(put_effect(&mut sets, fact.effect));
     let _none = areas.replace(fact.area as usize, sets);
     Ok(())
 }
@@ -128,7 +129,7 @@ impl Index {
         ensures { OnOk result ((f : FactOf) → index_has self.new f.area f.effect
             ≡ same_fact f fact || index_has self.old f.area f.effect) }
     {
-        reach(&mut self.areas, fact.area)?;
+        have!(reach(&mut self.areas, fact.area));
         put_at(&mut self.areas, fact)
     }
 }
@@ -190,8 +191,8 @@ impl Facts {
         let Facts { all, index } = self;
         let mut all = all;
         let mut index = index;
-        all.push(fact)?;
-        index.put(fact)?;
+        have!(all.push(fact));
+        have!(index.put(fact));
         Ok(Facts { all, index })
     }
 
@@ -204,7 +205,7 @@ impl Facts {
         }
         let none = Facts::new(self.all.alloc());
         let facts = mem::replace(self, none);
-        *self = facts.with_new(fact)?;
+        *self = have!(facts.with_new(fact));
         Ok(())
     }
 }

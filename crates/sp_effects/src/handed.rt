@@ -10,6 +10,7 @@ ghost use Rattle.sp_effects.specs.Handed.{fails_alone, is_loose};
 ghost use Rattle.sp_effects.specs.Sets.{with_all};
 
 use crate::effects::{EffectRow, Effects};
+use crate::have;
 use crate::pass_context::PassContext;
 use crate::sets::{add_all, add_index, goes_beyond, meets};
 use sp_areas::least::{least, place_if};
@@ -35,10 +36,10 @@ fn fails_alone(
     ensures { IfOk result (λ fails. fails ≡ fails_alone stored.now loaded.now child.now) }
 {
     let mut handed = BTreeSet::new(alloc);
-    let moved = add_all(&mut handed, child.moved.items())?;
+    let moved = have!(add_all(&mut handed, child.moved.items()));
     let stores = goes_beyond(&handed, stored);
-    let shared = add_all(&mut handed, child.shared.items())?;
-    add_index(&mut handed, child.index)?;
+    let shared = have!(add_all(&mut handed, child.shared.items()));
+    have!(add_index(&mut handed, child.index));
     let loads = goes_beyond(&handed, loaded);
     Ok(stores || (loads || (!moved || (!shared || is_loose(child)))))
 }
@@ -64,9 +65,9 @@ fn note(before: &mut Before, child: &ChildTable) -> Result<(), Memory>
         ≡ with_all (with_all before.old.handed.keys child.now.moved) child.now.shared) }
 {
     let moved = child.moved.items();
-    let _new = add_all(&mut before.moved, moved)?;
-    let _new = add_all(&mut before.handed, moved)?;
-    let _new = add_all(&mut before.handed, child.shared.items())?;
+    let _new = have!(add_all(&mut before.moved, moved));
+    let _new = have!(add_all(&mut before.handed, moved));
+    let _new = have!(add_all(&mut before.handed, child.shared.items()));
     Ok(())
 }
 
@@ -80,7 +81,7 @@ fn fails_so(
     ensures { IfOk result (λ fails. fails
         ≡ fails_by (Some row.now) before.now.moved.keys before.now.handed.keys child.now) }
 {
-    let alone = fails_alone(alloc, child, row.stored.items(), row.loaded.items())?;
+    let alone = have!(fails_alone(alloc, child, row.stored.items(), row.loaded.items()));
     Ok(alone || clashes(before, child))
 }
 
@@ -114,9 +115,9 @@ fn first_child(
     };
     let mut first = None;
     for child in children {
-        let fails = child_fails(alloc, effects, &before, child)?;
+        let fails = have!(child_fails(alloc, effects, &before, child));
         first = least(first, place_if(fails, child.entry));
-        note(&mut before, child)?;
+        have!(note(&mut before, child));
     }
     Ok(first)
 }
@@ -127,7 +128,7 @@ fn first_in(alloc: Global, effects: &Effects, tables: &[ForkTable]) -> Result<Op
 {
     let mut first = None;
     for table in tables {
-        let here = first_child(alloc, effects, table.children.items())?;
+        let here = have!(first_child(alloc, effects, table.children.items()));
         first = least(first, here);
     }
     Ok(first)

@@ -8,6 +8,7 @@ ghost use Rattle.sp_shapes.specs.Reached.{reached_at};
 ghost use Rattle.sp_effects.specs.PassContexts.{IsPassContext};
 ghost use Rattle.sp_effects.specs.Turns.{AreInside, inside_of, is_inside};
 
+use crate::have;
 use crate::pass_context::PassContext;
 use sp_areas::flags::{mark, no_flags};
 use sp_areas::levels::is_block_outward;
@@ -84,7 +85,7 @@ pub(crate) fn called_inside(g: &PassContext) -> Result<List<bool>, Memory>
 {
     let parts = g.code.parts();
     let count = parts.instrs.len();
-    let mut flags = no_flags(parts.instrs.alloc(), parts.layouts.len())?;
+    let mut flags = have!(no_flags(parts.instrs.alloc(), parts.layouts.len()));
     for p in 0..count {
         note(g, &mut flags, p as u32);
     }

@@ -15,6 +15,7 @@ ghost use Rattle.sp_shapes.specs.Stacks.{IsListNumber, IsStacks, list_of, shape_
 
 use crate::areas::{area_at, table_of};
 use crate::facts::{Effect, Fact, Facts};
+use crate::have;
 use crate::pass_context::PassContext;
 use crate::places::{Place, is_stop, loaded_place, stored_place};
 use sp_areas::homes::Found;
@@ -27,7 +28,7 @@ use sp_shapes::stacks::{Shape, Stacks};
 fn push(list: &mut List<u32>, x: u32) -> Result<(), Memory>
     ensures { OnOk result (list.new ≡ list.old ++ x ∷ []) }
 {
-    list.push(x)?;
+    have!(list.push(x));
     Ok(())
 }
 
@@ -92,7 +93,7 @@ fn push_addresses(
             None => return Ok(()),
             Some(top) => top,
         };
-        push_shape(list, shape)?;
+        have!(push_shape(list, shape));
         at = rest;
     }
     Ok(())
@@ -130,7 +131,7 @@ fn push_placed(
         Place::Nowhere => Ok(()),
         Place::Number(x) => push(list, x),
         Place::Input => {
-            push(list, 0)?;
+            have!(push(list, 0));
             push_top(list, stacks, stack)
         }
         Place::Top => push_top(list, stacks, stack),
@@ -151,7 +152,7 @@ fn variables_at(g: &PassContext, p: u32, place: Place, stack: u32) -> Result<Lis
         → xs ≡ variables_at g.now.code.now a place (list_of g.now.shapes.now.stacks stack)) }
 {
     let mut list = List::new(g.code.parts().instrs.alloc());
-    push_placed(&mut list, g, p, place, stack)?;
+    have!(push_placed(&mut list, g, p, place, stack));
     Ok(list)
 }
 
@@ -171,7 +172,7 @@ fn tell(facts: &mut Facts, area: u32, stores: bool, variables: &[u32]) -> Result
 {
     for i in 0..variables.len() {
         let effect = effect_of(stores, variables[i]);
-        facts.add(Fact { area, effect })?;
+        have!(facts.add(Fact { area, effect }));
     }
     Ok(())
 }
@@ -181,10 +182,10 @@ fn tell_stop(facts: &mut Facts, area: u32, instr: Instr) -> Result<(), Memory>
     ensures { OnOk result (Tells facts.old facts.new (IsOf area (IsStop (Some instr)))) }
 {
     if is_stop(instr) {
-        facts.add(Fact {
+        have!(facts.add(Fact {
             area,
             effect: Effect::Stops,
-        })?;
+        }));
     }
     Ok(())
 }
@@ -205,10 +206,10 @@ fn tell_shaped(
     ensures { OnOk result ((a : Area) → LiesOnlyIn g.now.code.now p a
         → Tells facts.old facts.new (IsOf area (DoesBy g.now.code.now a p (list_of g.now.shapes.now.stacks stack)))) }
 {
-    let stored = variables_at(g, p, stored_place(instr), stack)?;
-    tell(facts, area, true, stored.items())?;
-    let loaded = variables_at(g, p, loaded_place(instr), stack)?;
-    tell(facts, area, false, loaded.items())?;
+    let stored = have!(variables_at(g, p, stored_place(instr), stack));
+    have!(tell(facts, area, true, stored.items()));
+    let loaded = have!(variables_at(g, p, loaded_place(instr), stack));
+    have!(tell(facts, area, false, loaded.items()));
     tell_stop(facts, area, instr)
 }
 
@@ -216,7 +217,7 @@ fn tell_shaped(
 fn tell_child(facts: &mut Facts, area: u32, child: &ChildTable) -> Result<(), Memory>
     ensures { OnOk result (Tells facts.old facts.new (IsOf area (IsHanded child.now))) }
 {
-    tell(facts, area, true, child.moved.items())?;
+    have!(tell(facts, area, true, child.moved.items()));
     tell(facts, area, false, child.shared.items())
 }
 
@@ -225,7 +226,7 @@ fn tell_children(facts: &mut Facts, area: u32, children: &[ChildTable]) -> Resul
     ensures { OnOk result (Tells facts.old facts.new (IsOf area (OneIsHanded children.now (length children.now)))) }
 {
     for k in 0..children.len() {
-        tell_child(facts, area, &children[k])?;
+        have!(tell_child(facts, area, &children[k]));
     }
     Ok(())
 }
@@ -268,7 +269,7 @@ fn tell_at(g: &PassContext, facts: &mut Facts, p: u32) -> Result<(), Memory>
         None => return Ok(()),
         Some(area) => area,
     };
-    tell_reached(g, facts, area, p)?;
+    have!(tell_reached(g, facts, area, p));
     tell_forked(g.code, facts, area, p)
 }
 
@@ -278,7 +279,7 @@ pub fn tell_own(g: &PassContext, facts: &mut Facts) -> Result<(), Memory>
     ensures { OnOk result (Tells facts.old facts.new (OwnBefore g.now.code.now (length g.now.code.now.instrs))) }
 {
     for p in 0..g.code.parts().instrs.len() {
-        tell_at(g, facts, p as u32)?;
+        have!(tell_at(g, facts, p as u32));
     }
     Ok(())
 }

@@ -6,6 +6,18 @@ ghost use Rattle.sp_effects.specs.Sets.{all_new, goes_beyond, meets, with_all, w
 use sp_base::Memory;
 use std::collections::BTreeSet;
 
+/// What a call gives; where memory is refused to it, the function around ends so. One match, where `?` is two generic
+/// calls, which cost the proof more.
+#[macro_export]
+macro_rules! have {
+    ($call:expr) => {
+        match $call {
+            Ok(value) => value,
+            Err(_) => return Err(Memory),
+        }
+    };
+}
+
 /// Whether a variable is in the set.
 pub(crate) fn has(set: &BTreeSet<u32>, x: u32) -> bool
     ensures { result ≡ has set.now.keys x }
@@ -18,7 +30,7 @@ fn add(set: &mut BTreeSet<u32>, x: u32) -> Result<bool, Memory>
     ensures new { IfOk result (λ new. new ≡ not (has set.old.keys x)) }
     ensures keys { OnOk result (set.new.keys ≡ with_one set.old.keys x) }
 {
-    let new = set.insert(x)?;
+    let new = have!(set.insert(x));
     Ok(new)
 }
 
@@ -29,7 +41,7 @@ pub(crate) fn add_all(set: &mut BTreeSet<u32>, xs: &[u32]) -> Result<bool, Memor
 {
     let mut new = true;
     for x in xs {
-        let one = add(set, *x)?;
+        let one = have!(add(set, *x));
         new &= one;
     }
     Ok(new)
@@ -40,7 +52,7 @@ pub(crate) fn add_index(set: &mut BTreeSet<u32>, index: Option<u32>) -> Result<(
     ensures { OnOk result (set.new.keys ≡ with_index set.old.keys index) }
 {
     if let Some(x) = index {
-        set.insert(x)?;
+        have!(set.insert(x));
     }
     Ok(())
 }

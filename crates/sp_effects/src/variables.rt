@@ -3,6 +3,7 @@
 ghost use Rattle.std.specs.Prelude.{◌≡◌, IfOk, OnOk};
 ghost use Rattle.sp_effects.specs.Variables.{AddsPairs, AreOwn, IsOwnOf, goes_out, owns};
 
+use crate::have;
 use sp_base::Memory;
 use sp_code::Code;
 use std::collections::BTreeSet;
@@ -20,7 +21,7 @@ fn put_own(own: &mut BTreeSet<(u32, u32)>, entry: u32, variables: &[u32]) -> Res
     ensures { OnOk result (AddsPairs own.old.keys own.new.keys (IsOwnOf entry variables.now)) }
 {
     for i in 0..variables.len() {
-        own.insert((entry, variables[i]))?;
+        have!(own.insert((entry, variables[i])));
     }
     Ok(())
 }
@@ -33,7 +34,7 @@ pub(crate) fn own_of(code: &Code) -> Result<BTreeSet<(u32, u32)>, Memory>
     let mut own = BTreeSet::new(code.parts().instrs.alloc());
     for j in 0..layouts.len() {
         let layout = &layouts[j];
-        put_own(&mut own, layout.entry, layout.variables.items())?;
+        have!(put_own(&mut own, layout.entry, layout.variables.items()));
     }
     Ok(own)
 }

@@ -9,7 +9,7 @@
 //!
 //! To change:
 //! - The program: `specs/Generated.antt`, the function of the same part in `src/text.rt`, and
-//!   `text_tests/src/generated.rt`.
+//!   `parts_tests/src/generated.rt`.
 #![tactic(auto)]
 
 mod text;

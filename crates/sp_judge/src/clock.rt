@@ -3,6 +3,7 @@
 ghost use Rattle.std.specs.Prelude.{◌≡◌, ◌<◌, ◌↔◌, ◌==◌, cond, max, nat_lt, ℕ, IsTrue, OnErr, OnOk};
 ghost use Rattle.sp_judge.specs.Clocks.{count_of, clock_with_raised, number_at, HasPair, IsAsked};
 
+use crate::have;
 use sp_base::Memory;
 use std::alloc::Global;
 use std::collections::BTreeMap;
@@ -58,7 +59,7 @@ impl Clock {
         ensures pairs { (q : ℕ) → HasPair self.old q → HasPair self.new q }
     {
         if self.count(process) < count {
-            self.counts.insert(process, count)?;
+            have!(self.counts.insert(process, count));
         }
         Ok(())
     }
@@ -75,9 +76,9 @@ impl Clock {
         ensures ok { OnOk result ((q : ℕ) → count_of self.new q ≡ max (count_of self.old q) (count_of other.now q)) }
         ensures err { OnErr result ((q : ℕ) → count_of self.new q ≡ count_of self.old q) }
     {
-        self.admit(other)?;
+        have!(self.admit(other));
         for (process, count) in other.counts.iter() {
-            self.raise(*process, *count)?;
+            have!(self.raise(*process, *count));
         }
         Ok(())
     }
@@ -90,7 +91,7 @@ impl Clock {
     {
         for (process, _) in other.counts.iter() {
             if !self.counts.contains_key(process) {
-                self.counts.insert(*process, 0)?;
+                have!(self.counts.insert(*process, 0));
             }
         }
         Ok(())
@@ -118,7 +119,7 @@ impl Clock {
     {
         self.forget(until, now);
         if is_asked(until, process, now) {
-            self.raise(process, count)?;
+            have!(self.raise(process, count));
         }
         Ok(())
     }

@@ -10,6 +10,7 @@ ghost use Rattle.sp_judge.specs.JudgeTables.{last_of, channel_offers_with, offer
 ghost use Rattle.sp_judge.specs.JudgeTables.{IsNameableAndSilent, IsPlain, IsBlank, TablesHold};
 
 use crate::clock::Clock;
+use crate::have;
 use crate::table::{Met, learn, meet, raise, share};
 use sp_base::Memory;
 use sp_journal::{Entry, Event, Ledger, Way};
@@ -87,16 +88,16 @@ impl JudgeTables {
         let mut clocks = Vec::new(alloc);
         let mut made = Vec::new(alloc);
         for _ in 0..processes {
-            clocks.push(Clock::new(alloc))?;
-            made.push(0)?;
+            have!(clocks.push(Clock::new(alloc)));
+            have!(made.push(0));
         }
         let mut lines = Vec::new(alloc);
         for _ in 0..channels {
-            lines.push(ChannelOffers {
+            have!(lines.push(ChannelOffers {
                 waiting: None,
                 sent: None,
                 received: None,
-            })?;
+            }));
         }
         Ok(JudgeTables {
             clocks,
@@ -121,8 +122,8 @@ impl JudgeTables {
         ensures next { self.new.next ≡ self.old.next }
     {
         let place = self.made[process as usize];
-        let after = one_more(place)?;
-        self.places.push(place)?;
+        let after = have!(one_more(place));
+        have!(self.places.push(place));
         self.made[process as usize] = after;
         Ok(after)
     }
@@ -137,7 +138,7 @@ impl JudgeTables {
         ensures lines { self.new.lines.items ≡ self.old.lines.items }
         ensures next { self.new.next ≡ self.old.next }
     {
-        self.places.push(self.made[process as usize])?;
+        have!(self.places.push(self.made[process as usize]));
         Ok(())
     }
 
@@ -153,8 +154,8 @@ impl JudgeTables {
         requires here { slice_get entries.now at ≡ Some (record { process = process; event = Event.Open }) }
         ensures { OnOk result (TablesHold (births entries.now) until.now (take (at + 1) entries.now) self.new) }
     {
-        let after = self.note(process)?;
-        raise(&mut self.clocks, until, at as u64 + 1, process, after)?;
+        let after = have!(self.note(process));
+        have!(raise(&mut self.clocks, until, at as u64 + 1, process, after));
         Ok(())
     }
 
@@ -171,9 +172,9 @@ impl JudgeTables {
         requires here { slice_get entries.now at ≡ Some (record { process = process; event = Event.Fork count }) }
         ensures { OnOk result (TablesHold (births entries.now) until.now (take (at + 1) entries.now) self.new) }
     {
-        let after = self.note(process)?;
-        raise(&mut self.clocks, until, at as u64 + 1, process, after)?;
-        share(self.alloc, &mut self.clocks, process, self.next, count)?;
+        let after = have!(self.note(process));
+        have!(raise(&mut self.clocks, until, at as u64 + 1, process, after));
+        have!(share(self.alloc, &mut self.clocks, process, self.next, count));
         self.next += u64::from(count);
         Ok(())
     }
@@ -193,8 +194,8 @@ impl JudgeTables {
         requires here { slice_get entries.now at ≡ Some (record { process = process; event = Event.End }) }
         ensures { OnOk result (TablesHold (births entries.now) until.now (take (at + 1) entries.now) self.new) }
     {
-        let after = self.note(process)?;
-        raise(&mut self.clocks, until, at as u64 + 1, process, after)?;
+        let after = have!(self.note(process));
+        have!(raise(&mut self.clocks, until, at as u64 + 1, process, after));
         match ledger.birth(process) {
             None => Ok(()),
             Some(birth) => learn(self.alloc, &mut self.clocks, birth.parent, process),
@@ -216,7 +217,7 @@ impl JudgeTables {
             ≡ Some (record { process = process; event = offer_event way channel }) }
         ensures { OnOk result (TablesHold (births entries.now) until.now (take (at + 1) entries.now) self.new) }
     {
-        let after = self.note(process)?;
+        let after = have!(self.note(process));
         let offer = Offer {
             process,
             place: after - 1,
@@ -227,8 +228,8 @@ impl JudgeTables {
                 self.lines[channel as usize] = line.then(way, offer, Some(offer));
             }
             Some(other) => {
-                let theirs = one_more(other.place)?;
-                meet(
+                let theirs = have!(one_more(other.place));
+                have!(meet(
                     self.alloc,
                     &mut self.clocks,
                     until,
@@ -241,7 +242,7 @@ impl JudgeTables {
                         process: other.process,
                         count: theirs,
                     },
-                )?;
+                ));
                 self.lines[channel as usize] = line.then(way, offer, None);
             }
         }

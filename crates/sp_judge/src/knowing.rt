@@ -11,6 +11,7 @@ ghost use Rattle.sp_judge.specs.JudgeTables.{IsLastOffer, KnowsAll};
 ghost use Rattle.sp_judge.specs.JudgeTables.{count_before, IsFirstUnknownOffer};
 
 use crate::clock::is_asked;
+use crate::have;
 use crate::judge_tables::{JudgeTables, Offer, RacingOffer, is_offer};
 use sp_base::Memory;
 use sp_journal::{Entry, Event, Ledger, Way};
@@ -35,14 +36,14 @@ pub(crate) fn questions(
 ) -> Result<Vec<u64>, Memory> {
     let mut until = Vec::new(alloc);
     for _ in 0..processes {
-        until.push(0)?;
+        have!(until.push(0));
     }
     let mut users = Vec::new(alloc);
     for _ in 0..channels {
-        users.push(Users {
+        have!(users.push(Users {
             sender: None,
             receiver: None,
-        })?;
+        }));
     }
     let mut end: u64 = 0;
     for entry in entries {
@@ -116,7 +117,7 @@ fn one_question(alloc: Global, processes: u64, process: u32, end: u64) -> Result
 {
     let mut until = Vec::new(alloc);
     for i in 0..processes {
-        until.push(if i == u64::from(process) { end } else { 0 })?;
+        have!(until.push(if i == u64::from(process) { end } else { 0 }));
     }
     Ok(until)
 }
@@ -139,10 +140,10 @@ fn knows_entry(
     requires other { offer.process < (births entries.now).processes }
     ensures { IfOk result (λ known. IsTrue known ↔ (offer.place < count_before entries.now at process offer.process)) }
 {
-    let until = one_question(alloc, ledger.processes(), offer.process, at as u64 + 1)?;
-    let mut tables = JudgeTables::new(alloc, ledger.processes(), ledger.channels())?;
+    let until = have!(one_question(alloc, ledger.processes(), offer.process, at as u64 + 1));
+    let mut tables = have!(JudgeTables::new(alloc, ledger.processes(), ledger.channels()));
     for i in 0..at {
-        tables.see(ledger, entries, &until, i)?;
+        have!(tables.see(ledger, entries, &until, i));
     }
     Ok(tables.clocks[process as usize].knows(offer.process, offer.place))
 }
@@ -193,14 +194,9 @@ pub(crate) fn first_unknown(
                     process: entries[i].process,
                     place: tables.places[i],
                 };
-                if knows_entry(
-                    tables.alloc,
-                    ledger,
-                    entries,
-                    at,
-                    racing_offer.process,
-                    offer,
-                )? {
+                let process = racing_offer.process;
+                let knows = have!(knows_entry(tables.alloc, ledger, entries, at, process, offer));
+                if knows {
                     known = middle;
                 } else {
                     first = i;

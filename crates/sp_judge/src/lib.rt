@@ -41,6 +41,7 @@
 #![tactic(auto)]
 
 mod clock;
+mod have;
 mod judge_tables;
 mod knowing;
 mod laws;

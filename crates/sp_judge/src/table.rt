@@ -5,6 +5,7 @@ ghost use Rattle.std.specs.Prelude.{length};
 ghost use Rattle.sp_judge.specs.Clocks.{clock_at, IsAsked, AreRaised, AreMet};
 
 use crate::clock::Clock;
+use crate::have;
 use sp_base::Memory;
 use std::alloc::Global;
 use std::mem;
@@ -73,7 +74,7 @@ pub(crate) fn share(
         (max (clock_at clocks.old.items p q) (clock_at clocks.old.items process q)) (clock_at clocks.old.items p q)) }
 {
     for child in 0..count {
-        learn(alloc, clocks, (first + u64::from(child)) as u32, process)?;
+        have!(learn(alloc, clocks, (first + u64::from(child)) as u32, process));
     }
     Ok(())
 }
@@ -94,9 +95,9 @@ pub(crate) fn meet(
     ensures clocks { OnOk result (AreMet (IsAsked until.now now) comes.process comes.count waits.process waits.count
         (clock_at clocks.old.items) (clock_at clocks.new.items)) }
 {
-    raise(clocks, until, now, comes.process, comes.count)?;
-    raise(clocks, until, now, waits.process, waits.count)?;
-    learn(alloc, clocks, comes.process, waits.process)?;
-    learn(alloc, clocks, waits.process, comes.process)?;
+    have!(raise(clocks, until, now, comes.process, comes.count));
+    have!(raise(clocks, until, now, waits.process, waits.count));
+    have!(learn(alloc, clocks, comes.process, waits.process));
+    have!(learn(alloc, clocks, waits.process, comes.process));
     Ok(())
 }

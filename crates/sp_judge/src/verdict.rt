@@ -8,6 +8,7 @@ ghost use Rattle.sp_race.specs.Known.{AreKnown};
 ghost use Rattle.sp_judge.specs.JudgeTables.{entries_by_names, offer_event, IsNameableAndSilent, TablesHold, IsRacing};
 ghost use Rattle.sp_judge.specs.Races.{IsFault, IsJudged, IsVerdict};
 
+use crate::have;
 use crate::judge_tables::{JudgeTables, RacingOffer};
 use crate::knowing::{first_unknown, knows_offers, questions};
 use sp_base::Memory;
@@ -46,16 +47,16 @@ fn judged_entries(alloc: Global, journal: &Journal) -> Result<Verdict, Memory>
     requires silent { WaitersAreSilent (occurrences journal.now) }
     ensures { IfOk result (λ verdict. IsJudged (occurrences journal.now) verdict) }
 {
-    let ledger = Ledger::of(alloc, journal)?;
+    let ledger = have!(Ledger::of(alloc, journal));
     let entries = journal.entries.items();
-    let until = questions(alloc, entries, ledger.processes(), ledger.channels())?;
-    let mut tables = JudgeTables::new(alloc, ledger.processes(), ledger.channels())?;
+    let until = have!(questions(alloc, entries, ledger.processes(), ledger.channels()));
+    let mut tables = have!(JudgeTables::new(alloc, ledger.processes(), ledger.channels()));
     for at in 0..entries.len() {
-        let found = racing(&tables, &ledger, entries, &until, at)?;
+        let found = have!(racing(&tables, &ledger, entries, &until, at));
         if let Some(racing_offer) = found {
             return race(&ledger, &tables, entries, &until, at, racing_offer);
         }
-        tables.see(&ledger, entries, &until, at)?;
+        have!(tables.see(&ledger, entries, &until, at));
     }
     Ok(Verdict::Ordered)
 }
@@ -125,11 +126,8 @@ fn offer_racing(
     requires in_order { AreKnown (entries_by_names (births entries.now) (take at entries.now)) }
     ensures { IfOk result (λ racing_offer. IsRacing entries.now at racing_offer) }
 {
-    if knows_offers(tables, ledger, entries, until, at, offer)? {
-        Ok(None)
-    } else {
-        Ok(Some(offer))
-    }
+    let knows = have!(knows_offers(tables, ledger, entries, until, at, offer));
+    if knows { Ok(None) } else { Ok(Some(offer)) }
 }
 
 /// The race of the next entry with the first earlier offer that its process does not know.
@@ -149,14 +147,17 @@ fn race(
     requires racing { IsRacing entries.now at (Some racing_offer) }
     ensures { IfOk result (λ verdict. IsJudged (entries_by_names (births entries.now) entries.now) verdict) }
 {
-    let first = first_unknown(ledger, tables, entries, until, at, racing_offer)?;
+    let first = have!(first_unknown(ledger, tables, entries, until, at, racing_offer));
     match first {
         None => Ok(Verdict::Ordered),
-        Some(earlier) => Ok(Verdict::Race {
-            way: racing_offer.way,
-            channel: ledger.channel(racing_offer.channel)?,
-            earlier,
-            later: at as u64,
-        }),
+        Some(earlier) => {
+            let channel = have!(ledger.channel(racing_offer.channel));
+            Ok(Verdict::Race {
+                way: racing_offer.way,
+                channel,
+                earlier,
+                later: at as u64,
+            })
+        }
     }
 }

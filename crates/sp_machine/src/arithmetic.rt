@@ -10,6 +10,7 @@ ghost use Rattle.sp_machine.specs.StackEntries.{entries_of};
 ghost use Rattle.sp_machine.specs.Procs.{equality_step, does, CameBy, KeepsNumberAndInput, code_run_of, memory_of};
 ghost use Rattle.sp_machine.specs.Conversions.{conversion_result};
 
+use crate::have;
 use crate::stack::Operand;
 use crate::state::{Interrupt, State, unpacked};
 use sp_base::{Fault, Limits, Memory};
@@ -56,7 +57,7 @@ impl State {
             self.new s) }
         ensures same { KeepsNumberAndInput self.old self.new }
     {
-        self.stack.push(Operand::Number(value))?;
+        have!(self.stack.push(Operand::Number(value)));
         self.pc += 1;
         Ok(None)
     }
@@ -82,7 +83,7 @@ impl State {
         match self.stack.pop_number() {
             Some(n) => match convert(conversion, n) {
                 Ok(value) => {
-                    self.stack.push(Operand::Number(value))?;
+                    have!(self.stack.push(Operand::Number(value)));
                     self.pc += 1;
                     Ok(None)
                 }
@@ -133,7 +134,7 @@ impl State {
             Instr::Succ(high) => match self.stack.pop_number() {
                 Some(n) => match next_of(high, n) {
                     Ok(value) => {
-                        self.stack.push(Operand::Number(value))?;
+                        have!(self.stack.push(Operand::Number(value)));
                         self.pc += 1;
                         Ok(None)
                     }
@@ -162,7 +163,7 @@ impl State {
             Instr::Pred(low) => match self.stack.pop_number() {
                 Some(n) => match previous_of(low, n) {
                     Ok(value) => {
-                        self.stack.push(Operand::Number(value))?;
+                        have!(self.stack.push(Operand::Number(value)));
                         self.pc += 1;
                         Ok(None)
                     }
@@ -234,7 +235,7 @@ impl State {
             _ => unreachable!(),
         };
         let told = if different { !equal } else { equal };
-        self.stack.push(Operand::Number(truth_of(told)))?;
+        have!(self.stack.push(Operand::Number(truth_of(told))));
         self.pc += 1;
         Ok(None)
     }

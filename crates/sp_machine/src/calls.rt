@@ -14,6 +14,7 @@ ghost use Rattle.sp_machine.specs.StackEntries.{entries_of};
 ghost use Rattle.sp_machine.specs.Procs.{does, CameBy, KeepsNumberAndInput, code_run_of, memory_of};
 
 use crate::frames::{Frame, Home};
+use crate::have;
 use crate::layouts::{answer_of, cells_of, cells_of_home, layout_of};
 use crate::stack::{Operand, pointer_in};
 use crate::state::{Interrupt, State};
@@ -33,7 +34,7 @@ fn references(alloc: Global, arguments: &[Operand]) -> Result<List<(u32, Address
     let mut k = 0u32;
     for argument in arguments {
         if let Some(at) = pointer_in(argument) {
-            found.push((k, at))?;
+            have!(found.push((k, at)));
         }
         k += 1;
     }
@@ -49,7 +50,7 @@ fn fill(store: &mut Store, frame: u64, arguments: &[Operand]) -> Result<(), Memo
 {
     let mut k = 0u32;
     for argument in arguments {
-        fill_one(store, frame, k, argument)?;
+        have!(fill_one(store, frame, k, argument));
         k += 1;
     }
     Ok(())
@@ -108,16 +109,17 @@ impl State {
         let count = layout.formals.len();
         let link = self.frames.level(up);
         let arguments = self.stack.top(count);
-        let references = references(*self.text.allocator(), arguments)?;
-        let number = self.store.push_frame(layout.sizes.items())?;
-        fill(&mut self.store, number, arguments)?;
-        self.frames.push(Frame {
+        let references = have!(references(*self.text.allocator(), arguments));
+        let number = have!(self.store.push_frame(layout.sizes.items()));
+        have!(fill(&mut self.store, number, arguments));
+        let frame = Frame {
             owner: self.number,
             number,
             home: Home::Block(layout.block),
             link,
             references,
-        })?;
+        };
+        have!(self.frames.push(frame));
         self.stack.drop_top(count);
         self.depth += 1;
         self.ticks += 1;
@@ -141,10 +143,10 @@ impl State {
     {
         self.pc = layout.entry;
         if layout.answer {
-            self.stack.push(Operand::Reply(to))?;
+            have!(self.stack.push(Operand::Reply(to)));
             return Ok(None);
         }
-        self.stack.push(Operand::Link(to))?;
+        have!(self.stack.push(Operand::Link(to)));
         if self.stack.is_outside() && self.is_due() {
             return Ok(Some(Interrupt::Pause));
         }
@@ -181,7 +183,7 @@ impl State {
         if self.cells as u128 + cells as u128 > limits.cells as u128 {
             return Ok(Some(Interrupt::Fault(Fault::F12)));
         }
-        self.open_frame(layout, up, cells, code, limits)?;
+        have!(self.open_frame(layout, up, cells, code, limits));
         let to = self.pc + 1;
         self.enter_block(layout, to, code, limits)
     }
@@ -254,7 +256,7 @@ impl State {
                     Some(at) => match self.store.load(at) {
                         Cell::Ordinal(value) => {
                             self.close_frame(code, limits);
-                            self.stack.push(Operand::Number(value))?;
+                            have!(self.stack.push(Operand::Number(value)));
                             self.pc = to;
                             Ok(None)
                         }

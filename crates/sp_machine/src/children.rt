@@ -18,6 +18,7 @@ ghost use Rattle.sp_machine.specs.declared.state.State.{State};
 ghost use Rattle.sp_machine.specs.Frames.{frame_of, home_of, plain_frames};
 
 use crate::frames::{Frame, Frames, Home, lesser, referred};
+use crate::have;
 use crate::layouts::layout_of;
 use crate::proc::Proc;
 use crate::stack::Stack;
@@ -80,7 +81,7 @@ fn spot_in(frame: &Frame, code: &Code, variable: u32) -> Result<Option<Spot>, Me
     match frame.home {
         Home::Block(block) => match layout_of(code, block) {
             Some(layout) => {
-                match place_of(variable, first_number(layout), layout.variables.items())? {
+                match have!(place_of(variable, first_number(layout), layout.variables.items())) {
                     Some(place) => {
                         let formal = layout.formals.get(place as usize).copied();
                         Ok(spot_by(frame, place, formal))
@@ -111,7 +112,7 @@ fn spot_from(frames: &Frames, code: &Code, variable: u32) -> Result<Option<Spot>
     let mut count = frames.len();
     while count > 0 {
         let frame = frames.at(count - 1);
-        let found = spot_in(frame, code, variable)?;
+        let found = have!(spot_in(frame, code, variable));
         if let Some(spot) = found {
             return Ok(Some(spot));
         }
@@ -145,9 +146,9 @@ fn spots_of(
 {
     let mut spots = List::new(alloc);
     for variable in variables {
-        let found = spot_of(frames, code, *variable)?;
+        let found = have!(spot_of(frames, code, *variable));
         if let Some(spot) = found {
-            spots.push(spot)?;
+            have!(spots.push(spot));
         }
     }
     Ok(spots)
@@ -209,8 +210,8 @@ fn handing_of(
                 None => None,
             };
             Ok(Handing {
-                moved: spots_of(alloc, frames, code, child.moved.items())?,
-                shared: spots_of(alloc, frames, code, child.shared.items())?,
+                moved: have!(spots_of(alloc, frames, code, child.moved.items())),
+                shared: have!(spots_of(alloc, frames, code, child.shared.items())),
                 index,
             })
         }
@@ -234,7 +235,8 @@ impl State {
         let mut plan = List::new(alloc);
         for k in 0..count {
             let value = self.first + i64::from(k);
-            let handing = handing_of(alloc, &self.frames, code, value, table.child(u64::from(k)))?;
+            let child = table.child(u64::from(k));
+            let handing = have!(handing_of(alloc, &self.frames, code, value, child));
             plan.push(handing)?;
         }
         Ok(plan)
@@ -256,17 +258,18 @@ impl State {
         ensures { IfOk result (λ fs. fs ≡ with_frame number handing.now index self.now.frames) }
     {
         let alloc = *self.text.allocator();
-        let mut frames = Frames::of(alloc, Arc::try_clone(shared)?, visible);
+        let mut frames = Frames::of(alloc, have!(Arc::try_clone(shared)), visible);
         match index {
             Some(variable) => {
                 let link = frames.len();
-                frames.push(Frame {
+                let frame = Frame {
                     owner: number,
                     number: index_frame(handing),
                     home: Home::Index(variable),
                     link,
                     references: List::new(alloc),
-                })?;
+                };
+                have!(frames.push(frame));
                 Ok(frames)
             }
             None => Ok(frames),
@@ -279,7 +282,7 @@ impl State {
         ensures { IfOk result (λ p. IsBornSo p number entry frames self.now) }
     {
         let alloc = *self.text.allocator();
-        let input = Arc::try_clone(&self.input)?;
+        let input = have!(Arc::try_clone(&self.input));
         let child = State {
             number,
             pc: entry,
@@ -324,8 +327,8 @@ impl State {
         let mut k = 0u32;
         for handing in plan.items() {
             let (entry, index) = beginning(table, u64::from(k));
-            let frames = self.child_frames(shared, visible, number + k, handing, index)?;
-            children.push(self.child(frames, entry, number + k)?)?;
+            let frames = have!(self.child_frames(shared, visible, number + k, handing, index));
+            children.push(have!(self.child(frames, entry, number + k)))?;
             k += 1;
         }
         Ok(children)
@@ -353,10 +356,10 @@ impl State {
             }) }
         ensures err { OnErr result (self.new ≡ self.old) }
     {
-        let plan = self.plan(code, table, count)?;
-        let (shared, visible) = self.frames.share()?;
-        let mut children = self.children(table, &plan, &shared, visible, number)?;
-        let stores = self.store.split(&plan)?;
+        let plan = have!(self.plan(code, table, count));
+        let (shared, visible) = have!(self.frames.share());
+        let mut children = have!(self.children(table, &plan, &shared, visible, number));
+        let stores = have!(self.store.split(&plan));
         give_stores(&mut children, stores);
         Ok(List::of(children))
     }

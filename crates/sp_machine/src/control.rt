@@ -10,6 +10,7 @@ ghost use Rattle.sp_code.specs.declared.instr.Instr.TheVariants as instr;
 ghost use Rattle.sp_machine.specs.StackEntries.{entries_of};
 ghost use Rattle.sp_machine.specs.Procs.{does, CameBy, KeepsNumberAndInput, code_run_of, memory_of};
 
+use crate::have;
 use crate::stack::Operand;
 use crate::state::{Interrupt, State};
 use sp_base::{Fault, Limits, Memory, TURN_TICKS};
@@ -111,7 +112,7 @@ impl State {
                     self.pc = to;
                     return Ok(None);
                 }
-                self.stack.push(Operand::Number(n))?;
+                have!(self.stack.push(Operand::Number(n)));
                 self.pc += 1;
                 Ok(None)
             }
@@ -186,7 +187,7 @@ impl State {
                 Some(first) => match self.frames.address(0, var) {
                     Some(at) => {
                         if has_range(down, first, last) {
-                            self.store.store(at, Cell::Ordinal(first))?;
+                            have!(self.store.store(at, Cell::Ordinal(first)));
                             return self.push_on(Operand::Number(last));
                         }
                         self.pc = to;
@@ -225,7 +226,7 @@ impl State {
                     Cell::Ordinal(value) => {
                         if has_next(down, value, last) {
                             let next = following(down, value, last);
-                            self.store.store(at, Cell::Ordinal(next))?;
+                            have!(self.store.store(at, Cell::Ordinal(next)));
                             self.pc = to;
                             return Ok(None);
                         }

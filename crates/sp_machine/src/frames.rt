@@ -6,6 +6,7 @@ ghost use Rattle.sp_code.specs.Memory.{Frame as PlainFrame, last_frames, frames_
 ghost use Rattle.sp_code.specs.Memory.{reference_target};
 ghost use Rattle.sp_machine.specs.Frames.{plain_frames, frame_of, home_of};
 
+use crate::have;
 use sp_base::{List, Memory};
 use sp_cell::{Address, Spot};
 use std::alloc::Global;
@@ -125,16 +126,16 @@ impl Frames {
         ensures visible { IfOk result (λ r. r.1 ≤ length r.0.value) }
     {
         if self.own.is_empty() {
-            let shared = Arc::try_clone(&self.shared)?;
+            let shared = have!(Arc::try_clone(&self.shared));
             return Ok((shared, self.visible));
         }
         let alloc = self.own.alloc();
         let mut all = List::new(alloc);
-        copy_frames(alloc, &mut all, &self.shared.items()[..self.visible])?;
-        copy_frames(alloc, &mut all, self.own.items())?;
+        have!(copy_frames(alloc, &mut all, &self.shared.items()[..self.visible]));
+        have!(copy_frames(alloc, &mut all, self.own.items()));
         let visible = all.len();
         let lent = Arc::new(alloc, all)?;
-        let kept = Arc::try_clone(&lent)?;
+        let kept = have!(Arc::try_clone(&lent));
         self.shared = kept;
         self.visible = visible;
         self.own = List::new(alloc);
@@ -260,7 +261,7 @@ fn copy_frame(alloc: Global, frame: &Frame) -> Result<Frame, Memory>
         number: frame.number,
         home: frame.home,
         link: frame.link,
-        references: List::from_slice(alloc, frame.references.items())?,
+        references: have!(List::from_slice(alloc, frame.references.items())),
     })
 }
 
@@ -270,7 +271,7 @@ fn copy_frames(alloc: Global, to: &mut List<Frame>, frames: &[Frame]) -> Result<
     ensures { OnOk result (to.new ≡ to.old ++ frames.now) }
 {
     for frame in frames {
-        let copy = copy_frame(alloc, frame)?;
+        let copy = have!(copy_frame(alloc, frame));
         to.push(copy)?;
     }
     Ok(())

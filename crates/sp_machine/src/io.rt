@@ -14,6 +14,7 @@ ghost use Rattle.sp_machine.specs.StackEntries.{entries_of};
 ghost use Rattle.sp_machine.specs.Procs.{does, CameBy, KeepsNumberAndInput, code_run_of, memory_of};
 ghost use Rattle.sp_machine.specs.Texts.{item_in, text_of, is_cut, Emits};
 
+use crate::have;
 use crate::stack::Operand;
 use crate::state::{Interrupt, State};
 use sp_base::{Fault, Limits, Memory, put_signed};
@@ -58,11 +59,11 @@ fn spell(text: &mut Vec<u8>, shown: Shown, n: i64) -> Result<(), Memory>
     match shown {
         Shown::Number => put_signed(text, n),
         Shown::Char => {
-            text.push(byte_of(n))?;
+            have!(text.push(byte_of(n)));
             Ok(())
         }
         Shown::Truth => {
-            text.extend_from_slice(truth_text(n))?;
+            have!(text.extend_from_slice(truth_text(n)));
             Ok(())
         }
     }
@@ -117,9 +118,9 @@ fn emit(store: &mut Store, blanks: u64, text: &[u8], limits: &Limits) -> Result<
         return Ok(false);
     }
     for _ in 0..blanks {
-        store.append(b" ")?;
+        have!(store.append(b" "));
     }
-    store.append(text)?;
+    have!(store.append(text));
     Ok(true)
 }
 
@@ -157,7 +158,7 @@ fn show(
         (right_justified width (if is_cut shown then take width (text_of shown n) else text_of shown n)) store.old
         store.new) }
 {
-    spell(room, shown, n)?;
+    have!(spell(room, shown, n));
     emit_wide(store, cuts(shown), width, room.as_slice(), limits)
 }
 
@@ -213,7 +214,7 @@ impl State {
             }) }
         ensures same { KeepsNumberAndInput self.old self.new }
     {
-        self.advance(bytes)?;
+        have!(self.advance(bytes));
         self.store.store(at, Cell::Ordinal(value))
     }
 
@@ -237,7 +238,7 @@ impl State {
         match self.stack.pop_pointer() {
             Some(at) => match taken(item, self.left()) {
                 ReadResult::ReadItem(value, bytes) => {
-                    self.take(at, value, bytes)?;
+                    have!(self.take(at, value, bytes));
                     self.pc += 1;
                     Ok(None)
                 }
@@ -260,7 +261,7 @@ impl State {
         ensures same { KeepsNumberAndInput self.old self.new }
     {
         let bytes = line_length(self.left());
-        self.advance(bytes)?;
+        have!(self.advance(bytes));
         self.pc += 1;
         Ok(None)
     }
@@ -278,7 +279,7 @@ impl State {
         ensures same { KeepsNumberAndInput self.old self.new }
     {
         let over = self.left().len() == 0;
-        self.stack.push(Operand::Number(truth_of(over)))?;
+        have!(self.stack.push(Operand::Number(truth_of(over))));
         self.pc += 1;
         Ok(None)
     }
@@ -296,7 +297,7 @@ impl State {
         ensures same { KeepsNumberAndInput self.old self.new }
     {
         let over = is_at_line_end(self.left());
-        self.stack.push(Operand::Number(truth_of(over)))?;
+        have!(self.stack.push(Operand::Number(truth_of(over))));
         self.pc += 1;
         Ok(None)
     }
@@ -319,8 +320,8 @@ impl State {
     {
         match self.stack.pop_number() {
             Some(n) => {
-                spell(&mut self.text, shown, n)?;
-                if !emit(&mut self.store, 0, self.text.as_slice(), limits)? {
+                have!(spell(&mut self.text, shown, n));
+                if !have!(emit(&mut self.store, 0, self.text.as_slice(), limits)) {
                     return self.fail(Operand::Number(n), Fault::F16);
                 }
                 self.pc += 1;
@@ -357,14 +358,14 @@ impl State {
                             Fault::F1,
                         );
                     }
-                    if !show(
+                    if !have!(show(
                         &mut self.store,
                         &mut self.text,
                         shown,
                         n,
                         width.unsigned_abs(),
                         limits,
-                    )? {
+                    )) {
                         return self.fail_both(
                             Operand::Number(n),
                             Operand::Number(width),
@@ -395,7 +396,7 @@ impl State {
     {
         match code.text(number) {
             Some(text) => {
-                if !emit(&mut self.store, 0, text.bytes(), limits)? {
+                if !have!(emit(&mut self.store, 0, text.bytes(), limits)) {
                     return Ok(Some(Interrupt::Fault(Fault::F16)));
                 }
                 self.pc += 1;
@@ -424,13 +425,13 @@ impl State {
                     if width <= 0 {
                         return self.fail(Operand::Number(width), Fault::F1);
                     }
-                    if !emit_wide(
+                    if !have!(emit_wide(
                         &mut self.store,
                         true,
                         width.unsigned_abs(),
                         text.bytes(),
                         limits,
-                    )? {
+                    )) {
                         return self.fail(Operand::Number(width), Fault::F16);
                     }
                     self.pc += 1;
@@ -454,7 +455,7 @@ impl State {
             self.new s) }
         ensures same { KeepsNumberAndInput self.old self.new }
     {
-        if !emit(&mut self.store, 0, b"\n", limits)? {
+        if !have!(emit(&mut self.store, 0, b"\n", limits)) {
             return Ok(Some(Interrupt::Fault(Fault::F16)));
         }
         self.pc += 1;

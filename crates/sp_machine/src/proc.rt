@@ -8,11 +8,13 @@ ghost use Rattle.sp_code.specs.Formals.{HaveFormals};
 ghost use Rattle.sp_code.specs.Sound.{HasDistinctBlocks, CanSplit, CanJoin};
 ghost use Rattle.sp_code.specs.System.{process_at_entry, table_or};
 ghost use Rattle.sp_machine.specs.Procs.{config_of, start_of, KeepsNumberAndInput, CanTurn, IsRankedFrom, IsTurnOf};
-ghost use Rattle.sp_machine.specs.Procs.{IsAtFork};
+ghost use Rattle.sp_machine.specs.Procs.{IsAtFork, turn_by};
+ghost use Rattle.sp_lines.specs.AtTurn.{at_turn};
 ghost use Rattle.sp_machine.specs.Children.{AreNewborn, plan_by};
 ghost use Rattle.sp_machine.specs.Answers.{CanResume, state_after_answer};
 
 use crate::frames::{Frame, Frames, Home};
+use crate::have;
 use crate::layouts::{cells_of, layout_of};
 use crate::stack::Stack;
 use crate::state::{State, Stop};
@@ -61,7 +63,7 @@ impl Proc {
         ensures config { IfOk result (λ p. config_of p ≡ start_of code.now input.value) }
         ensures same { IfOk result (λ p. (p.number ≡ 0) × (p.input ≡ input)) }
     {
-        let state = State::root(alloc, code, input)?;
+        let state = have!(State::root(alloc, code, input));
         match Proc::boxed(alloc, state) {
             Ok(proc) => Ok(proc),
             Err(e) => Err(e),
@@ -73,6 +75,26 @@ impl Proc {
         ensures { result ≡ self.now.number }
     {
         self.state.number
+    }
+
+    /// The number of its next instruction.
+    pub fn next(&self) -> u32
+        ensures { result ≡ self.now.pc }
+    {
+        self.state.pc
+    }
+
+    /// The instruction at which the turn ended that stopped so: at a fork, an open, a send or a receive the one that it
+    /// stepped over, else its next one.
+    pub fn at(&self, stop: &Stop) -> u32
+        ensures { result ≡ at_turn (turn_by stop.now self.now) }
+    {
+        match stop {
+            Stop::Fork { .. } | Stop::Open | Stop::Send { .. } | Stop::Receive { .. } => {
+                self.state.pc.saturating_sub(1)
+            }
+            Stop::End | Stop::Pause | Stop::Fault(_) | Stop::Memory => self.state.pc,
+        }
     }
 
     /// Its variables.
@@ -192,7 +214,7 @@ impl State {
             })) }
         ensures same { IfOk result (λ p. (p.number ≡ 0) × (p.input ≡ input)) }
     {
-        let frames = Frames::first(
+        let frames = have!(Frames::first(
             alloc,
             Frame {
                 owner: 0,
@@ -201,8 +223,8 @@ impl State {
                 link: 0,
                 references: List::new(alloc),
             },
-        )?;
-        let store = Store::root(alloc, sizes)?;
+        ));
+        let store = have!(Store::root(alloc, sizes));
         Ok(State {
             number: 0,
             pc: entry,

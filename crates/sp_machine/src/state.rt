@@ -10,6 +10,18 @@ use sp_cell::{Address, Cell};
 use sp_store::Store;
 use std::sync::Arc;
 
+/// What a call gives; where memory is refused to it, the function around ends so. One match, where `?` is two generic
+/// calls, which cost the proof more.
+#[macro_export]
+macro_rules! have {
+    ($call:expr) => {
+        match $call {
+            Ok(value) => value,
+            Err(_) => return Err(Memory),
+        }
+    };
+}
+
 /// All that a process is. Contracts speak of it by `config_of` of `specs/Procs.antt`.
 #[derive(Drop)]
 pub struct State {

@@ -7,6 +7,7 @@ ghost use Rattle.sp_machine.specs.StackEntries.{entry_of, entries_of};
 ghost use Rattle.sp_machine.specs.Outcomes.{result_of_outcome};
 ghost use Rattle.sp_machine.specs.Procs.{CameBy, KeepsNumberAndInput, config_of, memory_of};
 
+use crate::have;
 use crate::stack::Operand;
 use crate::state::{Interrupt, Outcome, State, packed};
 use sp_base::{Fault, Memory};
@@ -21,7 +22,7 @@ impl State {
             s) }
         ensures same { KeepsNumberAndInput self.old self.new }
     {
-        self.stack.push(entry)?;
+        have!(self.stack.push(entry));
         self.pc += 1;
         Ok(None)
     }
@@ -34,7 +35,7 @@ impl State {
             → IfOk result (λ s. CameBy (Fails fault) p self.new s) }
         ensures same { KeepsNumberAndInput self.old self.new }
     {
-        self.stack.push(entry)?;
+        have!(self.stack.push(entry));
         Ok(Some(Interrupt::Fault(fault)))
     }
 
@@ -63,7 +64,7 @@ impl State {
             → IfOk result (λ s. CameBy (Fails fault) p self.new s) }
         ensures same { KeepsNumberAndInput self.old self.new }
     {
-        self.stack.push(below)?;
+        have!(self.stack.push(below));
         self.fail(top, fault)
     }
 }

@@ -7,6 +7,7 @@ ghost use Rattle.sp_code.specs.declared.instr.Instr.TheVariants as instr;
 ghost use Rattle.sp_machine.specs.Procs.{does, CameBy, KeepsNumberAndInput, StopIs, config_of, memory_of};
 ghost use Rattle.sp_machine.specs.StackEntries.{entries_of};
 
+use crate::have;
 use crate::stack::Operand;
 use crate::state::{Interrupt, State, Stop};
 use sp_base::{Fault, Limits, List, Memory};
@@ -41,7 +42,7 @@ impl State {
     {
         match self.stack.pop_pointer() {
             Some(at) => {
-                self.store.make_own(at.spot)?;
+                have!(self.store.make_own(at.spot));
                 self.target = at;
                 self.pc += 1;
                 self.stopped = Stop::Open;
@@ -65,8 +66,8 @@ impl State {
         ensures same { KeepsNumberAndInput self.old self.new }
     {
         let cells = match self.stack.pop() {
-            Some(Operand::Number(value)) => self.one_cell(Cell::Ordinal(value))?,
-            Some(Operand::Channel(channel)) => self.one_cell(Cell::Channel(channel))?,
+            Some(Operand::Number(value)) => have!(self.one_cell(Cell::Ordinal(value))),
+            Some(Operand::Channel(channel)) => have!(self.one_cell(Cell::Channel(channel))),
             Some(Operand::Cells(cells)) => cells,
             _ => unreachable!(),
         };
@@ -89,7 +90,7 @@ impl State {
         ensures { IfOk result (λ cells. cells ≡ cell ∷ []) }
     {
         let mut cells = List::new(*self.text.allocator());
-        cells.push(cell)?;
+        have!(cells.push(cell));
         Ok(cells)
     }
 
@@ -109,7 +110,7 @@ impl State {
         match self.stack.pop_pointer() {
             Some(at) => match self.stack.pop_channel() {
                 Some(channel) => {
-                    self.store.make_own(at.spot)?;
+                    have!(self.store.make_own(at.spot));
                     self.target = at;
                     self.pc += 1;
                     self.stopped = Stop::Receive { channel, message };

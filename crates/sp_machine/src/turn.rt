@@ -14,6 +14,7 @@ ghost use Rattle.sp_machine.specs.Procs.{IsTurnOf};
 ghost use Rattle.sp_machine.specs.Procs.{IsSafeThen, WentTwice, Proceeded, config_of, memory_of, code_run_of};
 
 use crate::arithmetic::Conversion;
+use crate::have;
 use crate::io::{Item, Shown};
 use crate::stack::Operand;
 use crate::state::{Interrupt, Outcome, State, Stop, packed, unpacked};
@@ -193,7 +194,7 @@ impl State {
     {
         match self.store.load(at) {
             Cell::Ordinal(value) => {
-                self.stack.push(Operand::Number(value))?;
+                have!(self.stack.push(Operand::Number(value)));
                 self.pc += 1;
                 self.pc += 1;
                 Ok(true)
@@ -242,7 +243,7 @@ impl State {
     {
         match self.fetch(code) {
             Some(Instr::Addr { up, var }) => {
-                if self.push_loaded(up, var, code, limits)? {
+                if have!(self.push_loaded(up, var, code, limits)) {
                     return Ok(None);
                 }
             }

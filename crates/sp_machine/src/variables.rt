@@ -5,6 +5,7 @@ ghost use Rattle.sp_code.specs.Machine.{Stuck};
 ghost use Rattle.sp_code.specs.declared.instr.Instr.TheVariants as instr;
 ghost use Rattle.sp_machine.specs.Procs.{does, CameBy, KeepsNumberAndInput};
 
+use crate::have;
 use crate::stack::Operand;
 use crate::state::{Interrupt, State, unpacked};
 use sp_base::{Fault, Limits, Memory};
@@ -196,7 +197,7 @@ impl State {
         };
         match self.stack.pop_pointer() {
             Some(at) => {
-                self.store.store(at, cell)?;
+                have!(self.store.store(at, cell));
                 self.pc += 1;
                 Ok(None)
             }
@@ -220,7 +221,7 @@ impl State {
         match self.stack.pop_pointer() {
             Some(from) => match self.stack.pop_pointer() {
                 Some(to) => {
-                    self.store.copy(to, from, cells)?;
+                    have!(self.store.copy(to, from, cells));
                     self.pc += 1;
                     Ok(None)
                 }
@@ -245,7 +246,7 @@ impl State {
     {
         match self.stack.pop_pointer() {
             Some(at) => {
-                let taken = self.store.cells(at, cells)?;
+                let taken = have!(self.store.cells(at, cells));
                 self.push_on(Operand::Cells(taken))
             }
             None => unreachable!(),

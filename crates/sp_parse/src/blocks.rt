@@ -11,13 +11,13 @@ ghost use Rattle.sp_parse.specs.Declares.{BeginsBlock, Declares};
 
 use crate::declarations::{constants, types, variables};
 use crate::deep::too_deep;
+use crate::have;
 use crate::headings::{formals, heading};
 use crate::made_blocks::{procedure_declaration, whole_block};
 use crate::names::name;
 use crate::operators::is;
 use crate::source::{Source, cut, expect, misplaced};
 use crate::statements::compound;
-use crate::take;
 use crate::types::type_name;
 use sp_base::{Boxed, Halt, List};
 use sp_tree::{Kind, MAX_NESTING, SynBlock, SynPart, Syntax, Token, sign, word};
@@ -81,12 +81,12 @@ fn parts<'t>(
     let mut all = List::new(source.alloc);
     let mut rest = tokens;
     'more: loop {
-        let (first, after) = take!(cut(source, rest));
+        let (first, after) = have!(cut(source, rest));
         if is(first, Kind::Word(word::BEGIN)) {
-            let (statements, left) = take!(compound(source, after, depth));
+            let (statements, left) = have!(compound(source, after, depth));
             return Ok((whole_block(all, first.at, statements), left));
         }
-        let (more, left) = take!(declarations(source, rest, depth, all));
+        let (more, left) = have!(declarations(source, rest, depth, all));
         all = more;
         rest = left;
     }
@@ -105,7 +105,7 @@ fn declarations<'t>(
     requires other { BeginsOther tokens.now ABegin }
     ensures { Declares source.now depth all tokens.now result }
 {
-    let (first, rest) = take!(cut(source, tokens));
+    let (first, rest) = have!(cut(source, tokens));
     if is(first, Kind::Word(word::CONST)) {
         return constants(source, rest, all);
     }
@@ -116,12 +116,12 @@ fn declarations<'t>(
         return variables(source, rest, all);
     }
     if is(first, Kind::Word(word::PROCEDURE)) {
-        let (next, rest) = take!(procedure(source, rest, depth));
+        let (next, rest) = have!(procedure(source, rest, depth));
         all.push(next)?;
         return Ok((all, rest));
     }
     if is(first, Kind::Word(word::FUNCTION)) {
-        let (next, rest) = take!(function(source, rest, depth));
+        let (next, rest) = have!(function(source, rest, depth));
         all.push(next)?;
         return Ok((all, rest));
     }
@@ -139,9 +139,9 @@ fn procedure<'t>(
     requires { HasTokens source.now tokens.now }
     ensures { ParsesAs source.now (grammar.procedure depth) part_of tokens.now result }
 {
-    let (called, rest) = take!(name(source, tokens));
-    let (given, rest) = take!(formals(source, rest));
-    let (inner, rest) = take!(body(source, rest, depth));
+    let (called, rest) = have!(name(source, tokens));
+    let (given, rest) = have!(formals(source, rest));
+    let (inner, rest) = have!(body(source, rest, depth));
     let made = procedure_declaration(called, given, None, inner);
     Ok((made, rest))
 }
@@ -157,10 +157,10 @@ fn body<'t>(
     requires { HasTokens source.now tokens.now }
     ensures { ParsesAs source.now (grammar.body depth) block_of tokens.now result }
 {
-    let rest = take!(expect(source, tokens, Kind::Sign(sign::SEMICOLON)));
-    let (inner, rest) = take!(block(source, rest, depth));
-    let boxed = Boxed::new(source.alloc, inner)?;
-    let rest = take!(expect(source, rest, Kind::Sign(sign::SEMICOLON)));
+    let rest = have!(expect(source, tokens, Kind::Sign(sign::SEMICOLON)));
+    let (inner, rest) = have!(block(source, rest, depth));
+    let boxed = have!(Boxed::new(source.alloc, inner), Halt::Memory);
+    let rest = have!(expect(source, rest, Kind::Sign(sign::SEMICOLON)));
     Ok((boxed, rest))
 }
 
@@ -175,10 +175,10 @@ fn function<'t>(
     requires { HasTokens source.now tokens.now }
     ensures { ParsesAs source.now (grammar.function depth) part_of tokens.now result }
 {
-    let (called, rest) = take!(name(source, tokens));
-    let (given, rest) = take!(formals(source, rest));
-    let (answer, rest) = take!(type_name(source, rest));
-    let (inner, rest) = take!(body(source, rest, depth));
+    let (called, rest) = have!(name(source, tokens));
+    let (given, rest) = have!(formals(source, rest));
+    let (answer, rest) = have!(type_name(source, rest));
+    let (inner, rest) = have!(body(source, rest, depth));
     let made = procedure_declaration(called, given, Some(answer), inner);
     Ok((made, rest))
 }
@@ -189,8 +189,8 @@ fn outer_block<'t>(source: &Source, tokens: &'t [Token]) -> Result<(SynBlock, &'
     requires { HasTokens source.now tokens.now }
     ensures { ParsesAs source.now grammar.outer_block block_of tokens.now result }
 {
-    let rest = take!(expect(source, tokens, Kind::Sign(sign::SEMICOLON)));
-    let (whole, rest) = take!(block(source, rest, 0));
+    let rest = have!(expect(source, tokens, Kind::Sign(sign::SEMICOLON)));
+    let (whole, rest) = have!(block(source, rest, 0));
     match expect(source, rest, Kind::Sign(sign::DOT)) {
         Ok(rest) => Ok((whole, rest)),
         Err(e) => {
@@ -206,9 +206,9 @@ fn titled<'t>(source: &Source, tokens: &'t [Token]) -> Result<(Syntax, &'t [Toke
     requires { HasTokens source.now tokens.now }
     ensures { ParsesAs source.now grammar.program program_of tokens.now result }
 {
-    let (called, rest) = take!(name(source, tokens));
-    let (listed, rest) = take!(heading(source, rest));
-    let (whole, rest) = take!(outer_block(source, rest));
+    let (called, rest) = have!(name(source, tokens));
+    let (listed, rest) = have!(heading(source, rest));
+    let (whole, rest) = have!(outer_block(source, rest));
     Ok((
         Syntax {
             name: called,
@@ -225,7 +225,7 @@ pub fn program<'t>(source: &Source, tokens: &'t [Token]) -> Result<(Syntax, &'t 
     requires { HasTokens source.now tokens.now }
     ensures { ParsesAs source.now (single AProgram) program_of tokens.now result }
 {
-    let (first, rest) = take!(cut(source, tokens));
+    let (first, rest) = have!(cut(source, tokens));
     if is(first, Kind::Word(word::PROGRAM)) {
         return titled(source, rest);
     }

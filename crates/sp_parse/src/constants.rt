@@ -6,10 +6,10 @@ ghost use Rattle.sp_parse.specs.Productions.{itself, single};
 ghost use Rattle.sp_parse.specs.Reads.{HasTokens, ParsesAs};
 ghost use Rattle.sp_parse.specs.BlockProductions as grammar;
 
+use crate::have;
 use crate::operators::is;
 use crate::source::{Source, cut, expect, misplaced};
 use crate::spelled::{name_at, number_at, quoted_at};
-use crate::take;
 use sp_base::{Halt, Place};
 use sp_tree::{Kind, SynConst, SynValue, Token, sign};
 
@@ -19,10 +19,13 @@ fn value<'t>(source: &Source, tokens: &'t [Token]) -> Result<(SynValue, &'t [Tok
     requires { HasTokens source.now tokens.now }
     ensures { ParsesAs source.now (single AValue) itself tokens.now result }
 {
-    let (first, rest) = take!(cut(source, tokens));
+    let (first, rest) = have!(cut(source, tokens));
     match first.kind {
         Kind::Number => Ok((SynValue::Number(number_at(source, first)), rest)),
-        Kind::Name => Ok((SynValue::Named(name_at(source, first)?), rest)),
+        Kind::Name => {
+            let name = have!(name_at(source, first), Halt::Memory);
+            Ok((SynValue::Named(name), rest))
+        }
         _ => Err(misplaced(first)),
     }
 }
@@ -44,10 +47,10 @@ pub fn constant<'t>(source: &Source, tokens: &'t [Token]) -> Result<(SynConst, &
     requires { HasTokens source.now tokens.now }
     ensures { ParsesAs source.now (single AConstant) itself tokens.now result }
 {
-    let (first, rest) = take!(cut(source, tokens));
+    let (first, rest) = have!(cut(source, tokens));
     let at = first.at;
     if is(first, Kind::Sign(sign::PLUS)) {
-        let (value, rest) = take!(value(source, rest));
+        let (value, rest) = have!(value(source, rest));
         return Ok((
             SynConst {
                 at,
@@ -58,7 +61,7 @@ pub fn constant<'t>(source: &Source, tokens: &'t [Token]) -> Result<(SynConst, &
         ));
     }
     if is(first, Kind::Sign(sign::MINUS)) {
-        let (value, rest) = take!(value(source, rest));
+        let (value, rest) = have!(value(source, rest));
         return Ok((
             SynConst {
                 at,
@@ -73,11 +76,14 @@ pub fn constant<'t>(source: &Source, tokens: &'t [Token]) -> Result<(SynConst, &
             unsigned(at, SynValue::Number(number_at(source, first))),
             rest,
         )),
-        Kind::Name => Ok((unsigned(at, SynValue::Named(name_at(source, first)?)), rest)),
-        Kind::Text => Ok((
-            unsigned(at, SynValue::Quoted(quoted_at(source, first)?)),
-            rest,
-        )),
+        Kind::Name => {
+            let name = have!(name_at(source, first), Halt::Memory);
+            Ok((unsigned(at, SynValue::Named(name)), rest))
+        }
+        Kind::Text => {
+            let text = have!(quoted_at(source, first), Halt::Memory);
+            Ok((unsigned(at, SynValue::Quoted(text)), rest))
+        }
         _ => Err(misplaced(first)),
     }
 }
@@ -92,7 +98,7 @@ pub fn constant_then<'t>(
     requires { HasTokens source.now tokens.now }
     ensures { ParsesAs source.now (grammar.constant_then kind) itself tokens.now result }
 {
-    let (value, rest) = take!(constant(source, tokens));
-    let rest = take!(expect(source, rest, kind));
+    let (value, rest) = have!(constant(source, tokens));
+    let rest = have!(expect(source, rest, kind));
     Ok((value, rest))
 }

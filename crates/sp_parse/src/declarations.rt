@@ -9,10 +9,10 @@ ghost use Rattle.sp_parse.specs.BlockProductions as grammar;
 ghost use Rattle.sp_parse.specs.Declares.{and_parts};
 
 use crate::constants::constant_then;
+use crate::have;
 use crate::made_blocks::{constant_declaration, type_declaration, variable_declaration};
 use crate::names::name_then;
 use crate::source::{Source, expect, pass};
-use crate::take;
 use crate::types::{group, type_of};
 use sp_base::{Halt, List};
 use sp_tree::{Kind, SynKind, SynPart, Token, sign};
@@ -23,8 +23,8 @@ fn one_constant<'t>(source: &Source, tokens: &'t [Token]) -> Result<(SynPart, &'
     requires { HasTokens source.now tokens.now }
     ensures { ParsesAs source.now grammar.one_constant part_of tokens.now result }
 {
-    let (called, rest) = take!(name_then(source, tokens, Kind::Sign(sign::EQUAL)));
-    let (value, rest) = take!(constant_then(source, rest, Kind::Sign(sign::SEMICOLON)));
+    let (called, rest) = have!(name_then(source, tokens, Kind::Sign(sign::EQUAL)));
+    let (value, rest) = have!(constant_then(source, rest, Kind::Sign(sign::SEMICOLON)));
     Ok((constant_declaration(called, value), rest))
 }
 
@@ -34,8 +34,8 @@ fn one_type<'t>(source: &Source, tokens: &'t [Token]) -> Result<(SynPart, &'t [T
     requires { HasTokens source.now tokens.now }
     ensures { ParsesAs source.now grammar.one_type part_of tokens.now result }
 {
-    let (called, rest) = take!(name_then(source, tokens, Kind::Sign(sign::EQUAL)));
-    let (kind, rest) = take!(definition(source, rest));
+    let (called, rest) = have!(name_then(source, tokens, Kind::Sign(sign::EQUAL)));
+    let (kind, rest) = have!(definition(source, rest));
     Ok((type_declaration(called, kind), rest))
 }
 
@@ -45,7 +45,7 @@ fn definition<'t>(source: &Source, tokens: &'t [Token]) -> Result<(SynKind, &'t 
     requires { HasTokens source.now tokens.now }
     ensures { ParsesAs source.now grammar.definition itself tokens.now result }
 {
-    let (kind, rest) = take!(type_of(source, tokens));
+    let (kind, rest) = have!(type_of(source, tokens));
     match expect(source, rest, Kind::Sign(sign::SEMICOLON)) {
         Ok(rest) => Ok((kind, rest)),
         Err(e) => {
@@ -61,8 +61,8 @@ fn one_group<'t>(source: &Source, tokens: &'t [Token]) -> Result<(SynPart, &'t [
     requires { HasTokens source.now tokens.now }
     ensures { ParsesAs source.now grammar.one_group part_of tokens.now result }
 {
-    let (of, rest) = take!(group(source, tokens));
-    let rest = take!(expect(source, rest, Kind::Sign(sign::SEMICOLON)));
+    let (of, rest) = have!(group(source, tokens));
+    let rest = have!(expect(source, rest, Kind::Sign(sign::SEMICOLON)));
     Ok((variable_declaration(of), rest))
 }
 
@@ -78,9 +78,9 @@ pub fn constants<'t>(
 {
     let mut rest = tokens;
     'more: loop {
-        let (next, left) = take!(one_constant(source, rest));
+        let (next, left) = have!(one_constant(source, rest));
         all.push(next)?;
-        let Some(_) = take!(pass(source, left, Kind::Name)) else {
+        let Some(_) = have!(pass(source, left, Kind::Name)) else {
             return Ok((all, left));
         };
         rest = left;
@@ -99,9 +99,9 @@ pub fn types<'t>(
 {
     let mut rest = tokens;
     'more: loop {
-        let (next, left) = take!(one_type(source, rest));
+        let (next, left) = have!(one_type(source, rest));
         all.push(next)?;
-        let Some(_) = take!(pass(source, left, Kind::Name)) else {
+        let Some(_) = have!(pass(source, left, Kind::Name)) else {
             return Ok((all, left));
         };
         rest = left;
@@ -120,9 +120,9 @@ pub fn variables<'t>(
 {
     let mut rest = tokens;
     'more: loop {
-        let (next, left) = take!(one_group(source, rest));
+        let (next, left) = have!(one_group(source, rest));
         all.push(next)?;
-        let Some(_) = take!(pass(source, left, Kind::Name)) else {
+        let Some(_) = have!(pass(source, left, Kind::Name)) else {
             return Ok((all, left));
         };
         rest = left;

@@ -8,10 +8,10 @@ ghost use Rattle.sp_grammar.specs.Symbols.{AnExpression, ANegated, AStatement};
 ghost use Rattle.sp_parse.specs.Productions.{single};
 ghost use Rattle.sp_parse.specs.Reads.{HasTokens, Halts, ParsesAs};
 
+use crate::have;
 use crate::made_statements::empty_statement;
 use crate::operators::{begins_factor, begins_form, begins_simple};
 use crate::source::{Source, cut, misplaced};
-use crate::take;
 use sp_base::{Halt, Refusal, Rule};
 use sp_tree::{SynStmt, Token};
 
@@ -66,7 +66,7 @@ pub fn deep_statement<'t>(
     requires { HasTokens source.now tokens.now }
     ensures { (d : ℕ) → 200 ≤ d → ParsesAs source.now (single (AStatement d)) statement_of tokens.now result }
 {
-    let (first, _) = take!(cut(source, tokens));
+    let (first, _) = have!(cut(source, tokens));
     if begins_form(first) {
         return Err(too_deep(first));
     }

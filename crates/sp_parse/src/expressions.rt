@@ -8,6 +8,7 @@ ghost use Rattle.sp_parse.specs.ExpressionProductions as grammar;
 ghost use Rattle.sp_parse.specs.Trees.{selectors_of, and_selectors};
 
 use crate::deep::{deep_expression, deep_factor};
+use crate::have;
 use crate::made::{
     argument as make_argument, binary, call_expression, field, index, moved, number_expression,
     quoted_expression, read_expression, unary, variable,
@@ -16,7 +17,6 @@ use crate::names::name;
 use crate::operators::{adding, is, multiplying, relational, sign_of};
 use crate::source::{Source, cut, expect, misplaced, pass};
 use crate::spelled::{name_at, number_at, quoted_at};
-use crate::take;
 use sp_base::{Halt, List, Place};
 use sp_tree::{Kind, MAX_NESTING, Name, SynArg, SynExpr, SynSelector, Token, UnaryOp, sign, word};
 
@@ -34,12 +34,13 @@ pub fn expression<'t>(
     if depth >= MAX_NESTING {
         return Err(deep_expression(source, tokens));
     }
-    let (left, rest) = take!(simple(source, tokens, depth + 1));
-    let Some((op, after)) = take!(relational(source, rest)) else {
+    let (left, rest) = have!(simple(source, tokens, depth + 1));
+    let Some((op, after)) = have!(relational(source, rest)) else {
         return Ok((left, rest));
     };
-    let (right, rest) = take!(simple(source, after, depth + 1));
-    Ok((binary(source.alloc, op, left, right)?, rest))
+    let (right, rest) = have!(simple(source, after, depth + 1));
+    let whole = have!(binary(source.alloc, op, left, right), Halt::Memory);
+    Ok((whole, rest))
 }
 
 // expression_then = expression token
@@ -53,8 +54,8 @@ pub fn expression_then<'t>(
     requires { HasTokens source.now tokens.now }
     ensures { ParsesAs source.now (grammar.expression_then depth kind) expression_of tokens.now result }
 {
-    let (value, rest) = take!(expression(source, tokens, depth));
-    let rest = take!(expect(source, rest, kind));
+    let (value, rest) = have!(expression(source, tokens, depth));
+    let rest = have!(expect(source, rest, kind));
     Ok((value, rest))
 }
 
@@ -69,10 +70,10 @@ fn simple<'t>(
     requires { HasTokens source.now tokens.now }
     ensures { ParsesAs source.now (single (ASimple depth)) expression_of tokens.now result }
 {
-    let (mut sum, mut rest) = take!(first_term(source, tokens, depth));
-    'more: while let Some((op, after)) = take!(adding(source, rest)) {
-        let (next, left) = take!(term(source, after, depth));
-        sum = binary(source.alloc, op, sum, next)?;
+    let (mut sum, mut rest) = have!(first_term(source, tokens, depth));
+    'more: while let Some((op, after)) = have!(adding(source, rest)) {
+        let (next, left) = have!(term(source, after, depth));
+        sum = have!(binary(source.alloc, op, sum, next), Halt::Memory);
         rest = left;
     }
     Ok((sum, rest))
@@ -90,12 +91,13 @@ fn first_term<'t>(
     ensures { ReadsSoFar source.now (single (ASimple depth)) (MoreTerms depth) grammar.continued_expression tokens.now
         result }
 {
-    let (first, behind) = take!(cut(source, tokens));
+    let (first, behind) = have!(cut(source, tokens));
     let Some(op) = sign_of(first) else {
         return term(source, tokens, depth);
     };
-    let (a, rest) = take!(term(source, behind, depth));
-    Ok((unary(source.alloc, first.at, op, a)?, rest))
+    let (a, rest) = have!(term(source, behind, depth));
+    let signed = have!(unary(source.alloc, first.at, op, a), Halt::Memory);
+    Ok((signed, rest))
 }
 
 // term = factor { ( "*" | "div" | "mod" | "and" ) factor }
@@ -109,10 +111,10 @@ fn term<'t>(
     requires { HasTokens source.now tokens.now }
     ensures { ParsesAs source.now (grammar.term depth) expression_of tokens.now result }
 {
-    let (mut product, mut rest) = take!(factor(source, tokens, depth));
-    'more: while let Some((op, after)) = take!(multiplying(source, rest)) {
-        let (next, left) = take!(factor(source, after, depth));
-        product = binary(source.alloc, op, product, next)?;
+    let (mut product, mut rest) = have!(factor(source, tokens, depth));
+    'more: while let Some((op, after)) = have!(multiplying(source, rest)) {
+        let (next, left) = have!(factor(source, after, depth));
+        product = have!(binary(source.alloc, op, product, next), Halt::Memory);
         rest = left;
     }
     Ok((product, rest))
@@ -129,21 +131,22 @@ fn factor<'t>(
     requires { HasTokens source.now tokens.now }
     ensures { ParsesAs source.now (single (AFactor depth)) expression_of tokens.now result }
 {
-    let (first, rest) = take!(cut(source, tokens));
+    let (first, rest) = have!(cut(source, tokens));
     let at = first.at;
     if is(first, Kind::Number) {
         return Ok((number_expression(at, number_at(source, first)), rest));
     }
     if is(first, Kind::Text) {
-        return Ok((quoted_expression(at, quoted_at(source, first)?), rest));
+        let text = have!(quoted_at(source, first), Halt::Memory);
+        return Ok((quoted_expression(at, text), rest));
     }
     if is(first, Kind::Name) {
-        let name = name_at(source, first)?;
+        let name = have!(name_at(source, first), Halt::Memory);
         return reference(source, rest, depth, at, name);
     }
     if is(first, Kind::Sign(sign::OPEN)) {
-        let (inner, rest) = take!(expression(source, rest, depth));
-        let rest = take!(expect(source, rest, Kind::Sign(sign::CLOSE)));
+        let (inner, rest) = have!(expression(source, rest, depth));
+        let rest = have!(expect(source, rest, Kind::Sign(sign::CLOSE)));
         return Ok((moved(at, inner), rest));
     }
     if is(first, Kind::Word(word::NOT)) {
@@ -167,8 +170,9 @@ fn negation<'t>(
     if depth >= MAX_NESTING {
         return Err(deep_factor(source, tokens));
     }
-    let (a, rest) = take!(factor(source, tokens, depth + 1));
-    Ok((unary(source.alloc, at, UnaryOp::Not, a)?, rest))
+    let (a, rest) = have!(factor(source, tokens, depth + 1));
+    let whole = have!(unary(source.alloc, at, UnaryOp::Not, a), Halt::Memory);
+    Ok((whole, rest))
 }
 
 // reference = variable | call
@@ -184,11 +188,11 @@ fn reference<'t>(
     requires { HasTokens source.now tokens.now }
     ensures { ParsesAs source.now (grammar.reference depth at name) expression_of tokens.now result }
 {
-    let Some(inner) = take!(pass(source, tokens, Kind::Sign(sign::OPEN))) else {
-        let (of, rest) = take!(selectors(source, tokens, depth));
+    let Some(inner) = have!(pass(source, tokens, Kind::Sign(sign::OPEN))) else {
+        let (of, rest) = have!(selectors(source, tokens, depth));
         return Ok((read_expression(at, variable(name, of)), rest));
     };
-    let (args, rest) = take!(arguments(source, inner, depth));
+    let (args, rest) = have!(arguments(source, inner, depth));
     Ok((call_expression(at, name, args), rest))
 }
 
@@ -206,16 +210,16 @@ pub fn selectors<'t>(
     let mut all = List::new(source.alloc);
     let mut rest = tokens;
     'more: loop {
-        if let Some(inner) = take!(pass(source, rest, Kind::Sign(sign::OPEN_INDEX))) {
-            let (more, left) = take!(indices(source, inner, depth, all));
+        if let Some(inner) = have!(pass(source, rest, Kind::Sign(sign::OPEN_INDEX))) {
+            let (more, left) = have!(indices(source, inner, depth, all));
             all = more;
             rest = left;
             continue;
         }
-        let Some(after) = take!(pass(source, rest, Kind::Sign(sign::DOT))) else {
+        let Some(after) = have!(pass(source, rest, Kind::Sign(sign::DOT))) else {
             return Ok((all, rest));
         };
-        let (name, left) = take!(name(source, after));
+        let (name, left) = have!(name(source, after));
         all.push(field(name))?;
         rest = left;
     }
@@ -236,10 +240,10 @@ fn indices<'t>(
     let mut all = before;
     let mut rest = tokens;
     'more: loop {
-        let (next, left) = take!(expression(source, rest, depth));
+        let (next, left) = have!(expression(source, rest, depth));
         all.push(index(next))?;
-        let Some(after) = take!(pass(source, left, Kind::Sign(sign::COMMA))) else {
-            let rest = take!(expect(source, left, Kind::Sign(sign::CLOSE_INDEX)));
+        let Some(after) = have!(pass(source, left, Kind::Sign(sign::COMMA))) else {
+            let rest = have!(expect(source, left, Kind::Sign(sign::CLOSE_INDEX)));
             return Ok((all, rest));
         };
         rest = after;
@@ -260,10 +264,10 @@ pub fn arguments<'t>(
     let mut all = List::new(source.alloc);
     let mut rest = tokens;
     'more: loop {
-        let (next, left) = take!(argument(source, rest, depth));
+        let (next, left) = have!(argument(source, rest, depth));
         all.push(next)?;
-        let Some(after) = take!(pass(source, left, Kind::Sign(sign::COMMA))) else {
-            let rest = take!(expect(source, left, Kind::Sign(sign::CLOSE)));
+        let Some(after) = have!(pass(source, left, Kind::Sign(sign::COMMA))) else {
+            let rest = have!(expect(source, left, Kind::Sign(sign::CLOSE)));
             return Ok((all, rest));
         };
         rest = after;
@@ -281,10 +285,10 @@ fn argument<'t>(
     requires { HasTokens source.now tokens.now }
     ensures { ParsesAs source.now (grammar.argument depth) argument_of tokens.now result }
 {
-    let (value, rest) = take!(expression(source, tokens, depth));
-    let Some(after) = take!(pass(source, rest, Kind::Sign(sign::COLON))) else {
+    let (value, rest) = have!(expression(source, tokens, depth));
+    let Some(after) = have!(pass(source, rest, Kind::Sign(sign::COLON))) else {
         return Ok((make_argument(value, None), rest));
     };
-    let (width, rest) = take!(expression(source, after, depth));
+    let (width, rest) = have!(expression(source, after, depth));
     Ok((make_argument(value, Some(width)), rest))
 }

@@ -6,8 +6,8 @@ ghost use Rattle.sp_parse.specs.Productions.{itself, single};
 ghost use Rattle.sp_parse.specs.Reads.{HasTokens, ParsesAs};
 ghost use Rattle.sp_parse.specs.BlockProductions as grammar;
 
+use crate::have;
 use crate::source::{Source, expect, pass};
-use crate::take;
 use crate::types::{group, listed};
 use sp_base::{Halt, List};
 use sp_tree::{Kind, Name, SynFormal, SynGroup, Token, sign, word};
@@ -29,11 +29,11 @@ fn formal<'t>(source: &Source, tokens: &'t [Token]) -> Result<(SynFormal, &'t [T
     requires { HasTokens source.now tokens.now }
     ensures { ParsesAs source.now (single AFormal) itself tokens.now result }
 {
-    if let Some(after) = take!(pass(source, tokens, Kind::Word(word::VAR))) {
-        let (of, rest) = take!(group(source, after));
+    if let Some(after) = have!(pass(source, tokens, Kind::Word(word::VAR))) {
+        let (of, rest) = have!(group(source, after));
         return Ok((parameters(true, of), rest));
     }
-    let (of, rest) = take!(group(source, tokens));
+    let (of, rest) = have!(group(source, tokens));
     Ok((parameters(false, of), rest))
 }
 
@@ -49,10 +49,10 @@ fn some_formals<'t>(
     let mut all = List::new(source.alloc);
     let mut rest = tokens;
     'more: loop {
-        let (next, left) = take!(formal(source, rest));
+        let (next, left) = have!(formal(source, rest));
         all.push(next)?;
-        let Some(after) = take!(pass(source, left, Kind::Sign(sign::SEMICOLON))) else {
-            let rest = take!(expect(source, left, Kind::Sign(sign::CLOSE)));
+        let Some(after) = have!(pass(source, left, Kind::Sign(sign::SEMICOLON))) else {
+            let rest = have!(expect(source, left, Kind::Sign(sign::CLOSE)));
             return Ok((all, rest));
         };
         rest = after;
@@ -68,7 +68,7 @@ pub fn formals<'t>(
     requires { HasTokens source.now tokens.now }
     ensures { ParsesAs source.now (single Formals) itself tokens.now result }
 {
-    match take!(pass(source, tokens, Kind::Sign(sign::OPEN))) {
+    match have!(pass(source, tokens, Kind::Sign(sign::OPEN))) {
         Some(after) => some_formals(source, after),
         None => Ok((List::new(source.alloc), tokens)),
     }
@@ -80,7 +80,7 @@ pub fn heading<'t>(source: &Source, tokens: &'t [Token]) -> Result<(List<Name>, 
     requires { HasTokens source.now tokens.now }
     ensures { ParsesAs source.now (single AHeading) itself tokens.now result }
 {
-    match take!(pass(source, tokens, Kind::Sign(sign::OPEN))) {
+    match have!(pass(source, tokens, Kind::Sign(sign::OPEN))) {
         Some(after) => listed(source, after),
         None => Ok((List::new(source.alloc), tokens)),
     }

@@ -10,8 +10,7 @@
 //!   their symbols and what these make.
 //! - `ParsesAs` of `specs/Reads.antt` says that the tree is what the production makes, and that the machine of
 //!   `sp_grammar` goes on the same way or gets stuck at the same place.
-//! - `take!` stands for `?` where the error is `Halt` already: one match, where `?` is two generic calls that each
-//!   proof pays for. Where an error is led to `Halt`, it is `?`.
+//! - `have!` stands for `?`, which costs a proof more. `?` is left where a failure hands back what has to be dropped.
 //! - Chains, lists and selectors are loops. Only nesting is recursion, and at most 200 parts deep.
 //! - Of the proofs, `Steps` and `Behind` are the steps of the machine and what stands behind them, `SoFar` and
 //!   `Rounds` the loops (`Rounds` those that begin with an item), `Rows` the use of rows of the table. `Read*` have

@@ -5,9 +5,9 @@ ghost use Rattle.sp_parse.specs.Productions.{itself, single};
 ghost use Rattle.sp_parse.specs.Reads.{HasTokens, ParsesAs};
 ghost use Rattle.sp_parse.specs.BlockProductions as grammar;
 
+use crate::have;
 use crate::source::{Source, cut, expect, misplaced, pass};
 use crate::spelled::name_at;
-use crate::take;
 use sp_base::{Halt, List};
 use sp_tree::{Kind, Name, Token, sign};
 
@@ -17,9 +17,12 @@ pub fn name<'t>(source: &Source, tokens: &'t [Token]) -> Result<(Name, &'t [Toke
     requires { HasTokens source.now tokens.now }
     ensures { ParsesAs source.now (single AName) itself tokens.now result }
 {
-    let (first, rest) = take!(cut(source, tokens));
+    let (first, rest) = have!(cut(source, tokens));
     match first.kind {
-        Kind::Name => Ok((name_at(source, first)?, rest)),
+        Kind::Name => {
+            let name = have!(name_at(source, first), Halt::Memory);
+            Ok((name, rest))
+        }
         _ => Err(misplaced(first)),
     }
 }
@@ -34,8 +37,8 @@ pub fn name_then<'t>(
     requires { HasTokens source.now tokens.now }
     ensures { ParsesAs source.now (grammar.name_then kind) itself tokens.now result }
 {
-    let (name, rest) = take!(name(source, tokens));
-    let rest = take!(expect(source, rest, kind));
+    let (name, rest) = have!(name(source, tokens));
+    let rest = have!(expect(source, rest, kind));
     Ok((name, rest))
 }
 
@@ -48,9 +51,9 @@ pub fn names<'t>(source: &Source, tokens: &'t [Token]) -> Result<(List<Name>, &'
     let mut all = List::new(source.alloc);
     let mut rest = tokens;
     'more: loop {
-        let (next, left) = take!(name(source, rest));
+        let (next, left) = have!(name(source, rest));
         all.push(next)?;
-        let Some(after) = take!(pass(source, left, Kind::Sign(sign::COMMA))) else {
+        let Some(after) = have!(pass(source, left, Kind::Sign(sign::COMMA))) else {
             return Ok((all, left));
         };
         rest = after;

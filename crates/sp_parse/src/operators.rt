@@ -7,6 +7,7 @@ ghost use Rattle.sp_parse.specs.Operators.{IsSign, ReadsRelation, ReadsAddition,
 ghost use Rattle.sp_parse.specs.Operators.{BeginsSimple};
 ghost use Rattle.sp_parse.specs.Operators.{BeginsSelector, BeginsForm};
 
+use crate::have;
 use crate::source::{Source, cut};
 use sp_base::Halt;
 use sp_tree::{BinaryOp, Kind, Token, UnaryOp, sign, word};
@@ -41,7 +42,7 @@ pub fn relational<'t>(
     requires { HasTokens source.now tokens.now }
     ensures { ReadsRelation source.now tokens.now result }
 {
-    let (first, rest) = cut(source, tokens)?;
+    let (first, rest) = have!(cut(source, tokens));
     if is(first, Kind::Sign(sign::EQUAL)) {
         return Ok(Some((BinaryOp::Eq, rest)));
     }
@@ -72,7 +73,7 @@ pub fn adding<'t>(
     requires { HasTokens source.now tokens.now }
     ensures { ReadsAddition source.now tokens.now result }
 {
-    let (first, rest) = cut(source, tokens)?;
+    let (first, rest) = have!(cut(source, tokens));
     if is(first, Kind::Sign(sign::PLUS)) {
         return Ok(Some((BinaryOp::Add, rest)));
     }
@@ -94,7 +95,7 @@ pub fn multiplying<'t>(
     requires { HasTokens source.now tokens.now }
     ensures { ReadsMultiplication source.now tokens.now result }
 {
-    let (first, rest) = cut(source, tokens)?;
+    let (first, rest) = have!(cut(source, tokens));
     if is(first, Kind::Sign(sign::TIMES)) {
         return Ok(Some((BinaryOp::Mul, rest)));
     }

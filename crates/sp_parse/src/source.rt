@@ -9,14 +9,20 @@ use sp_base::{Halt, Place, Refusal, Rule};
 use sp_tree::{Kind, Token};
 use std::alloc::Global;
 
-/// The value; where there is none, the function around ends so: one match, where `?` is two generic calls. Each crate
-/// that uses it has its own, since proofs name the steps of another crate's macro otherwise.
+/// What a call gives; where it fails, the function around ends with the same failure, or with the one that is named.
+/// One match, where `?` is two generic calls, which cost the proof more.
 #[macro_export]
-macro_rules! take {
-    ($result:expr) => {
-        match $result {
+macro_rules! have {
+    ($call:expr) => {
+        match $call {
             Ok(value) => value,
-            Err(halt) => return Err(halt),
+            Err(failure) => return Err(failure),
+        }
+    };
+    ($call:expr, $failure:expr) => {
+        match $call {
+            Ok(value) => value,
+            Err(_) => return Err($failure),
         }
     };
 }
@@ -52,7 +58,7 @@ pub fn pass<'t>(
     requires { HasTokens source.now tokens.now }
     ensures { PassesToken source.now kind tokens.now result }
 {
-    let (first, rest) = take!(cut(source, tokens));
+    let (first, rest) = have!(cut(source, tokens));
     if first.kind == kind {
         return Ok(Some(rest));
     }
@@ -64,7 +70,7 @@ pub fn expect<'t>(source: &Source, tokens: &'t [Token], kind: Kind) -> Result<&'
     requires { HasTokens source.now tokens.now }
     ensures { Expects source.now kind tokens.now result }
 {
-    let (first, rest) = take!(cut(source, tokens));
+    let (first, rest) = have!(cut(source, tokens));
     if first.kind == kind {
         return Ok(rest);
     }

@@ -8,6 +8,7 @@ ghost use Rattle.sp_parse.specs.Productions.{itself};
 ghost use Rattle.sp_parse.specs.Reads.{TokenFits};
 ghost use Rattle.sp_parse.specs.Trees.{MakesTree};
 
+use crate::have;
 use crate::source::Source;
 use sp_base::Text;
 use sp_tree::{Name, Token, lower};
@@ -24,7 +25,7 @@ fn spelled<'a>(source: &Source<'a>, token: Token) -> &'a [u8]
 fn lowered(alloc: Global, bytes: &[u8]) -> Result<Text, AllocError>
     ensures { MakesTree itself (map lower_of bytes.now) result }
 {
-    let mut all = Vec::with_capacity(alloc, bytes.len())?;
+    let mut all = have!(Vec::with_capacity(alloc, bytes.len()));
     let mut rest = bytes;
     'more: while let [byte, after @ ..] = rest {
         all.push(lower(*byte))?;
@@ -38,7 +39,7 @@ pub fn name_at(source: &Source, token: Token) -> Result<Name, AllocError>
     requires { TokenFits source.now.text.now token }
     ensures { MakesTree itself (name_of source.now.text.now token) result }
 {
-    let text = lowered(source.alloc, spelled(source, token))?;
+    let text = have!(lowered(source.alloc, spelled(source, token)));
     Ok(Name { text, at: token.at })
 }
 

@@ -11,6 +11,7 @@ ghost use Rattle.sp_parse.specs.Trees.{other_of, arms_of, branches_of, bounds_of
 use crate::constants::constant;
 use crate::deep::deep_statement;
 use crate::expressions::{arguments, expression, expression_then, selectors};
+use crate::have;
 use crate::made::variable;
 use crate::made_statements::{
     Bounds, arm as make_arm, assign_statement, assume_statement, call_statement, case_statement,
@@ -21,7 +22,6 @@ use crate::names::name_then;
 use crate::operators::{begins_selector, is};
 use crate::source::{Source, cut, expect, misplaced, pass};
 use crate::spelled::name_at;
-use crate::take;
 use sp_base::{Boxed, Halt, List, Place};
 use sp_tree::{Kind, MAX_NESTING, Name, SynArm, SynBranch, SynConst, SynStmt, Token, sign, word};
 
@@ -40,10 +40,10 @@ fn statement<'t>(
     if depth >= MAX_NESTING {
         return deep_statement(source, tokens);
     }
-    let (first, rest) = take!(cut(source, tokens));
+    let (first, rest) = have!(cut(source, tokens));
     let at = first.at;
     if is(first, Kind::Name) {
-        let name = name_at(source, first)?;
+        let name = have!(name_at(source, first), Halt::Memory);
         return after_name(source, rest, depth + 1, at, name);
     }
     if is(first, Kind::Word(word::BEGIN)) {
@@ -87,8 +87,9 @@ fn boxed_statement<'t>(
     requires { HasTokens source.now tokens.now }
     ensures { ParsesAs source.now (single (AStatement depth)) statement_of tokens.now result }
 {
-    let (body, rest) = take!(statement(source, tokens, depth));
-    Ok((Boxed::new(source.alloc, body)?, rest))
+    let (body, rest) = have!(statement(source, tokens, depth));
+    let boxed = have!(Boxed::new(source.alloc, body), Halt::Memory);
+    Ok((boxed, rest))
 }
 
 // after_name = selectors ":=" expression | [ "(" argument { "," argument } ")" ]
@@ -103,13 +104,13 @@ fn after_name<'t>(
     requires { HasTokens source.now tokens.now }
     ensures { ParsesAs source.now (grammar.after_name depth at name) statement_of tokens.now result }
 {
-    let (first, rest) = take!(cut(source, tokens));
+    let (first, rest) = have!(cut(source, tokens));
     if is(first, Kind::Sign(sign::OPEN)) {
-        let (args, rest) = take!(arguments(source, rest, depth));
+        let (args, rest) = have!(arguments(source, rest, depth));
         return Ok((call_statement(at, name, args), rest));
     }
     if is(first, Kind::Sign(sign::BECOMES)) {
-        let (value, rest) = take!(expression(source, rest, depth));
+        let (value, rest) = have!(expression(source, rest, depth));
         let to = variable(name, List::new(source.alloc));
         return Ok((assign_statement(at, to, value), rest));
     }
@@ -131,9 +132,9 @@ fn target<'t>(
     requires { HasTokens source.now tokens.now }
     ensures { ParsesAs source.now (grammar.assignment depth at name) statement_of tokens.now result }
 {
-    let (of, rest) = take!(selectors(source, tokens, depth));
-    let rest = take!(expect(source, rest, Kind::Sign(sign::BECOMES)));
-    let (value, rest) = take!(expression(source, rest, depth));
+    let (of, rest) = have!(selectors(source, tokens, depth));
+    let rest = have!(expect(source, rest, Kind::Sign(sign::BECOMES)));
+    let (value, rest) = have!(expression(source, rest, depth));
     Ok((assign_statement(at, variable(name, of), value), rest))
 }
 
@@ -148,8 +149,8 @@ pub fn compound<'t>(
     requires { HasTokens source.now tokens.now }
     ensures { ParsesAs source.now (grammar.compound depth) statements_of tokens.now result }
 {
-    let (all, rest) = take!(statements(source, tokens, depth));
-    let rest = take!(expect(source, rest, Kind::Word(word::END)));
+    let (all, rest) = have!(statements(source, tokens, depth));
+    let rest = have!(expect(source, rest, Kind::Word(word::END)));
     Ok((all, rest))
 }
 
@@ -167,9 +168,9 @@ fn statements<'t>(
     let mut all = List::new(source.alloc);
     let mut rest = tokens;
     'more: loop {
-        let (next, left) = take!(statement(source, rest, depth));
+        let (next, left) = have!(statement(source, rest, depth));
         all.push(next)?;
-        let Some(after) = take!(pass(source, left, Kind::Sign(sign::SEMICOLON))) else {
+        let Some(after) = have!(pass(source, left, Kind::Sign(sign::SEMICOLON))) else {
             return Ok((all, left));
         };
         rest = after;
@@ -188,7 +189,7 @@ fn sequence<'t>(
     requires { HasTokens source.now tokens.now }
     ensures { ParsesAs source.now (grammar.compound_statement depth at) statement_of tokens.now result }
 {
-    let (all, rest) = take!(compound(source, tokens, depth));
+    let (all, rest) = have!(compound(source, tokens, depth));
     Ok((sequence_statement(at, all), rest))
 }
 
@@ -204,9 +205,9 @@ fn choice<'t>(
     requires { HasTokens source.now tokens.now }
     ensures { ParsesAs source.now (grammar.if_statement depth at) statement_of tokens.now result }
 {
-    let (test, rest) = take!(expression_then(source, tokens, depth, Kind::Word(word::THEN)));
-    let (body, rest) = take!(boxed_statement(source, rest, depth));
-    let (other, rest) = take!(otherwise(source, rest, depth));
+    let (test, rest) = have!(expression_then(source, tokens, depth, Kind::Word(word::THEN)));
+    let (body, rest) = have!(boxed_statement(source, rest, depth));
+    let (other, rest) = have!(otherwise(source, rest, depth));
     Ok((if_statement(at, test, body, other), rest))
 }
 
@@ -221,10 +222,10 @@ fn otherwise<'t>(
     requires { HasTokens source.now tokens.now }
     ensures { ParsesAs source.now (single (AnElse depth)) other_of tokens.now result }
 {
-    let Some(after) = take!(pass(source, tokens, Kind::Word(word::ELSE))) else {
+    let Some(after) = have!(pass(source, tokens, Kind::Word(word::ELSE))) else {
         return Ok((None, tokens));
     };
-    let (body, rest) = take!(boxed_statement(source, after, depth));
+    let (body, rest) = have!(boxed_statement(source, after, depth));
     Ok((Some(body), rest))
 }
 
@@ -240,8 +241,8 @@ fn while_loop<'t>(
     requires { HasTokens source.now tokens.now }
     ensures { ParsesAs source.now (grammar.while_statement depth at) statement_of tokens.now result }
 {
-    let (test, rest) = take!(expression_then(source, tokens, depth, Kind::Word(word::DO)));
-    let (body, rest) = take!(boxed_statement(source, rest, depth));
+    let (test, rest) = have!(expression_then(source, tokens, depth, Kind::Word(word::DO)));
+    let (body, rest) = have!(boxed_statement(source, rest, depth));
     Ok((while_statement(at, test, body), rest))
 }
 
@@ -257,9 +258,9 @@ fn repeat_loop<'t>(
     requires { HasTokens source.now tokens.now }
     ensures { ParsesAs source.now (grammar.repeat_statement depth at) statement_of tokens.now result }
 {
-    let (body, rest) = take!(statements(source, tokens, depth));
-    let rest = take!(expect(source, rest, Kind::Word(word::UNTIL)));
-    let (test, rest) = take!(expression(source, rest, depth));
+    let (body, rest) = have!(statements(source, tokens, depth));
+    let rest = have!(expect(source, rest, Kind::Word(word::UNTIL)));
+    let (test, rest) = have!(expression(source, rest, depth));
     Ok((repeat_statement(at, body, test), rest))
 }
 
@@ -275,9 +276,9 @@ fn for_loop<'t>(
     requires { HasTokens source.now tokens.now }
     ensures { ParsesAs source.now (grammar.for_statement depth at) statement_of tokens.now result }
 {
-    let (name, rest) = take!(name_then(source, tokens, Kind::Sign(sign::BECOMES)));
-    let (bounds, rest) = take!(bounds(source, rest, depth));
-    let (body, rest) = take!(boxed_statement(source, rest, depth));
+    let (name, rest) = have!(name_then(source, tokens, Kind::Sign(sign::BECOMES)));
+    let (bounds, rest) = have!(bounds(source, rest, depth));
+    let (body, rest) = have!(boxed_statement(source, rest, depth));
     Ok((for_statement(at, name, bounds, body), rest))
 }
 
@@ -291,9 +292,9 @@ fn bounds<'t>(
     requires { HasTokens source.now tokens.now }
     ensures { ParsesAs source.now (grammar.bounds depth) bounds_of tokens.now result }
 {
-    let (from, rest) = take!(expression(source, tokens, depth));
-    let (down, rest) = take!(direction(source, rest));
-    let (to, rest) = take!(expression_then(source, rest, depth, Kind::Word(word::DO)));
+    let (from, rest) = have!(expression(source, tokens, depth));
+    let (down, rest) = have!(direction(source, rest));
+    let (to, rest) = have!(expression_then(source, rest, depth, Kind::Word(word::DO)));
     Ok((Bounds { from, down, to }, rest))
 }
 
@@ -303,7 +304,7 @@ fn direction<'t>(source: &Source, tokens: &'t [Token]) -> Result<(bool, &'t [Tok
     requires { HasTokens source.now tokens.now }
     ensures { ParsesAs source.now (single ADirection) itself tokens.now result }
 {
-    let (first, rest) = take!(cut(source, tokens));
+    let (first, rest) = have!(cut(source, tokens));
     if is(first, Kind::Word(word::TO)) {
         return Ok((false, rest));
     }
@@ -325,10 +326,10 @@ fn forall<'t>(
     requires { HasTokens source.now tokens.now }
     ensures { ParsesAs source.now (grammar.forall_statement depth at) statement_of tokens.now result }
 {
-    let (name, rest) = take!(name_then(source, tokens, Kind::Sign(sign::BECOMES)));
-    let (from, rest) = take!(expression_then(source, rest, depth, Kind::Word(word::TO)));
-    let (to, rest) = take!(expression_then(source, rest, depth, Kind::Word(word::DO)));
-    let (body, rest) = take!(boxed_statement(source, rest, depth));
+    let (name, rest) = have!(name_then(source, tokens, Kind::Sign(sign::BECOMES)));
+    let (from, rest) = have!(expression_then(source, rest, depth, Kind::Word(word::TO)));
+    let (to, rest) = have!(expression_then(source, rest, depth, Kind::Word(word::DO)));
+    let (body, rest) = have!(boxed_statement(source, rest, depth));
     Ok((forall_statement(at, name, from, to, body), rest))
 }
 
@@ -344,8 +345,8 @@ fn case_choice<'t>(
     requires { HasTokens source.now tokens.now }
     ensures { ParsesAs source.now (grammar.case_statement depth at) statement_of tokens.now result }
 {
-    let (test, rest) = take!(expression_then(source, tokens, depth, Kind::Word(word::OF)));
-    let (all, rest) = take!(arms(source, rest, depth));
+    let (test, rest) = have!(expression_then(source, tokens, depth, Kind::Word(word::OF)));
+    let (all, rest) = have!(arms(source, rest, depth));
     Ok((case_statement(at, test, all), rest))
 }
 
@@ -363,13 +364,13 @@ fn arms<'t>(
     let mut all = List::new(source.alloc);
     let mut rest = tokens;
     'more: loop {
-        let (next, left) = take!(arm(source, rest, depth));
+        let (next, left) = have!(arm(source, rest, depth));
         all.push(next)?;
-        let Some(after) = take!(pass(source, left, Kind::Sign(sign::SEMICOLON))) else {
-            let rest = take!(expect(source, left, Kind::Word(word::END)));
+        let Some(after) = have!(pass(source, left, Kind::Sign(sign::SEMICOLON))) else {
+            let rest = have!(expect(source, left, Kind::Word(word::END)));
             return Ok((all, rest));
         };
-        if let Some(behind) = take!(pass(source, after, Kind::Word(word::END))) {
+        if let Some(behind) = have!(pass(source, after, Kind::Word(word::END))) {
             return Ok((all, behind));
         }
         rest = after;
@@ -383,8 +384,8 @@ fn arm<'t>(source: &Source, tokens: &'t [Token], depth: u32) -> Result<(SynArm, 
     requires { HasTokens source.now tokens.now }
     ensures { ParsesAs source.now (grammar.arm depth) arm_of tokens.now result }
 {
-    let (constants, rest) = take!(labels(source, tokens));
-    let (body, rest) = take!(statement(source, rest, depth));
+    let (constants, rest) = have!(labels(source, tokens));
+    let (body, rest) = have!(statement(source, rest, depth));
     Ok((make_arm(constants, body), rest))
 }
 
@@ -397,10 +398,10 @@ fn labels<'t>(source: &Source, tokens: &'t [Token]) -> Result<(List<SynConst>, &
     let mut all = List::new(source.alloc);
     let mut rest = tokens;
     'more: loop {
-        let (next, left) = take!(constant(source, rest));
+        let (next, left) = have!(constant(source, rest));
         all.push(next)?;
-        let Some(after) = take!(pass(source, left, Kind::Sign(sign::COMMA))) else {
-            let rest = take!(expect(source, left, Kind::Sign(sign::COLON)));
+        let Some(after) = have!(pass(source, left, Kind::Sign(sign::COMMA))) else {
+            let rest = have!(expect(source, left, Kind::Sign(sign::COLON)));
             return Ok((all, rest));
         };
         rest = after;
@@ -419,7 +420,7 @@ fn parallel<'t>(
     requires { HasTokens source.now tokens.now }
     ensures { ParsesAs source.now (grammar.parallel_statement depth at) statement_of tokens.now result }
 {
-    let (all, rest) = take!(branches(source, tokens, depth));
+    let (all, rest) = have!(branches(source, tokens, depth));
     Ok((parallel_statement(at, all), rest))
 }
 
@@ -437,10 +438,10 @@ fn branches<'t>(
     let mut all = List::new(source.alloc);
     let mut rest = tokens;
     'more: loop {
-        let (next, left) = take!(statements(source, rest, depth));
+        let (next, left) = have!(statements(source, rest, depth));
         all.push(process(next))?;
-        let Some(after) = take!(pass(source, left, Kind::Sign(sign::BAR))) else {
-            let rest = take!(expect(source, left, Kind::Word(word::END)));
+        let Some(after) = have!(pass(source, left, Kind::Sign(sign::BAR))) else {
+            let rest = have!(expect(source, left, Kind::Word(word::END)));
             return Ok((all, rest));
         };
         rest = after;
@@ -458,6 +459,6 @@ fn assume<'t>(
     requires { HasTokens source.now tokens.now }
     ensures { ParsesAs source.now (grammar.assume_statement depth at) statement_of tokens.now result }
 {
-    let (test, rest) = take!(expression(source, tokens, depth));
+    let (test, rest) = have!(expression(source, tokens, depth));
     Ok((assume_statement(at, test), rest))
 }

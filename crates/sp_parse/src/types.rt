@@ -6,11 +6,11 @@ ghost use Rattle.sp_parse.specs.Reads.{HasTokens, ParsesAs};
 ghost use Rattle.sp_parse.specs.BlockProductions as grammar;
 
 use crate::constants::constant_then;
+use crate::have;
 use crate::names::{name, names};
 use crate::operators::is;
 use crate::source::{Source, cut, expect, misplaced, pass};
 use crate::spelled::name_at;
-use crate::take;
 use sp_base::{Halt, List};
 use sp_tree::{Kind, Name, SynGroup, SynKind, Token, sign, word};
 
@@ -20,8 +20,8 @@ pub fn group<'t>(source: &Source, tokens: &'t [Token]) -> Result<(SynGroup, &'t 
     requires { HasTokens source.now tokens.now }
     ensures { ParsesAs source.now grammar.group itself tokens.now result }
 {
-    let (all, rest) = take!(names(source, tokens));
-    let (kind, rest) = take!(type_name(source, rest));
+    let (all, rest) = have!(names(source, tokens));
+    let (kind, rest) = have!(type_name(source, rest));
     Ok((SynGroup { names: all, kind }, rest))
 }
 
@@ -31,7 +31,7 @@ pub fn type_name<'t>(source: &Source, tokens: &'t [Token]) -> Result<(Name, &'t 
     requires { HasTokens source.now tokens.now }
     ensures { ParsesAs source.now grammar.type_name itself tokens.now result }
 {
-    let rest = take!(expect(source, tokens, Kind::Sign(sign::COLON)));
+    let rest = have!(expect(source, tokens, Kind::Sign(sign::COLON)));
     name(source, rest)
 }
 
@@ -44,13 +44,13 @@ fn fields<'t>(source: &Source, tokens: &'t [Token]) -> Result<(List<SynGroup>, &
     let mut all = List::new(source.alloc);
     let mut rest = tokens;
     'more: loop {
-        let (next, left) = take!(group(source, rest));
+        let (next, left) = have!(group(source, rest));
         all.push(next)?;
-        let Some(after) = take!(pass(source, left, Kind::Sign(sign::SEMICOLON))) else {
-            let rest = take!(expect(source, left, Kind::Word(word::END)));
+        let Some(after) = have!(pass(source, left, Kind::Sign(sign::SEMICOLON))) else {
+            let rest = have!(expect(source, left, Kind::Word(word::END)));
             return Ok((all, rest));
         };
-        if let Some(behind) = take!(pass(source, after, Kind::Word(word::END))) {
+        if let Some(behind) = have!(pass(source, after, Kind::Word(word::END))) {
             return Ok((all, behind));
         }
         rest = after;
@@ -63,8 +63,8 @@ pub fn listed<'t>(source: &Source, tokens: &'t [Token]) -> Result<(List<Name>, &
     requires { HasTokens source.now tokens.now }
     ensures { ParsesAs source.now grammar.listed_names itself tokens.now result }
 {
-    let (all, rest) = take!(names(source, tokens));
-    let rest = take!(expect(source, rest, Kind::Sign(sign::CLOSE)));
+    let (all, rest) = have!(names(source, tokens));
+    let rest = have!(expect(source, rest, Kind::Sign(sign::CLOSE)));
     Ok((all, rest))
 }
 
@@ -74,10 +74,10 @@ fn array<'t>(source: &Source, tokens: &'t [Token]) -> Result<(SynKind, &'t [Toke
     requires { HasTokens source.now tokens.now }
     ensures { ParsesAs source.now grammar.array_type itself tokens.now result }
 {
-    let rest = take!(expect(source, tokens, Kind::Sign(sign::OPEN_INDEX)));
-    let (low, rest) = take!(constant_then(source, rest, Kind::Sign(sign::RANGE)));
-    let (high, rest) = take!(constant_then(source, rest, Kind::Sign(sign::CLOSE_INDEX)));
-    let (of, rest) = take!(elements(source, rest));
+    let rest = have!(expect(source, tokens, Kind::Sign(sign::OPEN_INDEX)));
+    let (low, rest) = have!(constant_then(source, rest, Kind::Sign(sign::RANGE)));
+    let (high, rest) = have!(constant_then(source, rest, Kind::Sign(sign::CLOSE_INDEX)));
+    let (of, rest) = have!(elements(source, rest));
     Ok((SynKind::Array(low, high, of), rest))
 }
 
@@ -87,7 +87,7 @@ fn elements<'t>(source: &Source, tokens: &'t [Token]) -> Result<(Name, &'t [Toke
     requires { HasTokens source.now tokens.now }
     ensures { ParsesAs source.now grammar.elements itself tokens.now result }
 {
-    let rest = take!(expect(source, tokens, Kind::Word(word::OF)));
+    let rest = have!(expect(source, tokens, Kind::Word(word::OF)));
     name(source, rest)
 }
 
@@ -97,8 +97,8 @@ fn channel<'t>(source: &Source, tokens: &'t [Token]) -> Result<(SynKind, &'t [To
     requires { HasTokens source.now tokens.now }
     ensures { ParsesAs source.now grammar.channel_type itself tokens.now result }
 {
-    let rest = take!(expect(source, tokens, Kind::Sign(sign::OPEN)));
-    let (all, rest) = take!(listed(source, rest));
+    let rest = have!(expect(source, tokens, Kind::Sign(sign::OPEN)));
+    let (all, rest) = have!(listed(source, rest));
     Ok((SynKind::Channel(all), rest))
 }
 
@@ -109,19 +109,20 @@ pub fn type_of<'t>(source: &Source, tokens: &'t [Token]) -> Result<(SynKind, &'t
     requires { HasTokens source.now tokens.now }
     ensures { ParsesAs source.now (single AType) itself tokens.now result }
 {
-    let (first, rest) = take!(cut(source, tokens));
+    let (first, rest) = have!(cut(source, tokens));
     if is(first, Kind::Name) {
-        return Ok((SynKind::Alias(name_at(source, first)?), rest));
+        let name = have!(name_at(source, first), Halt::Memory);
+        return Ok((SynKind::Alias(name), rest));
     }
     if is(first, Kind::Sign(sign::OPEN)) {
-        let (all, rest) = take!(listed(source, rest));
+        let (all, rest) = have!(listed(source, rest));
         return Ok((SynKind::Enumeration(all), rest));
     }
     if is(first, Kind::Word(word::ARRAY)) {
         return array(source, rest);
     }
     if is(first, Kind::Word(word::RECORD)) {
-        let (all, rest) = take!(fields(source, rest));
+        let (all, rest) = have!(fields(source, rest));
         return Ok((SynKind::Record(all), rest));
     }
     if is(first, Kind::Sign(sign::TIMES)) {

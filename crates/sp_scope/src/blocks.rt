@@ -12,6 +12,7 @@ ghost use Rattle.sp_scope.specs.Walks.{WalksTo, seen_block, declared_by};
 ghost use Rattle.sp_scope.specs.Firsts.{parts_first, part_first, block_first, block_local, inner_first, inner_local};
 ghost use Rattle.sp_scope.specs.Firsts.{opened_first, opened_local, opened_named, inner_named};
 
+use crate::have;
 use crate::headings::{declare_title, name_heading, procedure_part};
 use crate::indices::indices;
 use crate::parts::{name_constant, name_type, name_variables};
@@ -69,8 +70,8 @@ fn beside_blocks(
 pub fn beside(a: Named, b: Named) -> Result<Named, Halt>
     ensures { AnswersAs named.program_of result (Ok (appended_tables (named.program_of a) (named.program_of b))) }
 {
-    let (constants, kinds) = beside_types(a.constants, a.kinds, b.constants, b.kinds)?;
-    let (variables, blocks) = beside_blocks(a.variables, a.blocks, b.variables, b.blocks)?;
+    let (constants, kinds) = have!(beside_types(a.constants, a.kinds, b.constants, b.kinds));
+    let (variables, blocks) = have!(beside_blocks(a.variables, a.blocks, b.variables, b.blocks));
     Ok(Named {
         constants,
         kinds,
@@ -111,7 +112,7 @@ pub fn block_in_front(
           at = x.now.at;
         } ∷ blocks)) }
 {
-    let name = x.text.duplicate(alloc)?;
+    let name = have!(x.text.duplicate(alloc));
     let own = NamedBlock {
         name,
         parent,
@@ -138,11 +139,11 @@ pub fn name_block(
         (block_local scopes.old.local (block_of b).parts (block_of b).body)) }
 {
     let SynBlock { parts, body } = b;
-    let body = Boxed::new(alloc, body)?;
+    let body = have!(Boxed::new(alloc, body));
     let answer = scopes.answer();
-    let indices = indices(alloc, body.get(), scopes.block())?;
-    let parts = name_parts(parts, alloc, scopes, first)?;
-    let body = name_boxed_statement(alloc, scopes, body, parts.first)?;
+    let indices = have!(indices(alloc, body.get(), scopes.block()));
+    let parts = have!(name_parts(parts, alloc, scopes, first));
+    let body = have!(name_boxed_statement(alloc, scopes, body, parts.first));
     Ok(Walked {
         tree: BlockParts {
             answer,
@@ -171,9 +172,9 @@ fn name_parts(
     let mut out = nothing(alloc);
     let mut first = first;
     for p in ps.into_vec() {
-        let t = name_part(p, alloc, scopes, first)?;
+        let t = have!(name_part(p, alloc, scopes, first));
         first = t.first;
-        out = beside(out, t.tree)?;
+        out = have!(beside(out, t.tree));
     }
     Ok(Walked { tree: out, first })
 }
@@ -229,7 +230,7 @@ fn name_procedure(
         ≡ inner_env scopes.old.around (part_local scopes.old.local
         (Proc x.now fs.now answer.now (block_of b).parts (block_of b).body))) }
 {
-    let heading = name_heading(alloc, scopes, x, fs, answer, first)?;
+    let heading = have!(name_heading(alloc, scopes, x, fs, answer, first));
     name_titled(b, alloc, scopes, heading.tree, x, fs, answer, heading.first)
 }
 
@@ -257,9 +258,9 @@ fn name_titled(
         answer.now
         (block_of b).parts (block_of b).body)) }
 {
-    declare_title(alloc, scopes, x, fs, answer)?;
-    let inner = name_opened(b, alloc, scopes, h.block, fs, answer, first)?;
-    let tree = procedure_part(alloc, h, x, answer, inner.tree)?;
+    have!(declare_title(alloc, scopes, x, fs, answer));
+    let inner = have!(name_opened(b, alloc, scopes, h.block, fs, answer, first));
+    let tree = have!(procedure_part(alloc, h, x, answer, inner.tree));
     Ok(Walked {
         tree,
         first: inner.first,
@@ -287,8 +288,8 @@ fn name_opened(
 {
     let outer = scopes.block();
     let outer_answer = scopes.answer();
-    scopes.open(alloc, block, 0)?;
-    let inner = name_inner(b, alloc, scopes, fs, answer, first)?;
+    have!(scopes.open(alloc, block, 0));
+    let inner = have!(name_inner(b, alloc, scopes, fs, answer, first));
     scopes.leave(outer, outer_answer);
     Ok(inner)
 }
@@ -309,7 +310,7 @@ fn name_inner(
     ensures after { OnOk result (scopes.new ≡ inner_env scopes.old.around
         (inner_local scopes.old.local fs.now answer.now (block_of b).parts (block_of b).body)) }
 {
-    let first = declare_formals(alloc, scopes, fs, first)?;
-    scopes.number_answer(answer)?;
+    let first = have!(declare_formals(alloc, scopes, fs, first));
+    have!(scopes.number_answer(answer));
     name_block(b.into_inner(), alloc, scopes, first)
 }

@@ -21,6 +21,7 @@ ghost use Rattle.sp_tree.specs.PlainSyntax.{ExpressionAt, Read, Apply, Unary};
 ghost use Rattle.sp_tree.specs.declared.syntax.Name.{Name};
 
 use crate::calls::{count, is_whole, next_passing, others, references_of, rest_of};
+use crate::have;
 use crate::rules::{
     bare_rule, function_rule, needs_variable, operand_rule, target_rule, width_rule,
 };
@@ -45,7 +46,7 @@ pub fn name_expression(
         (expression_first scopes.now (expression_of e) first) }
 {
     let (at, form) = e.parts();
-    let Walked { tree, first } = name_form(alloc, scopes, form, first)?;
+    let Walked { tree, first } = have!(name_form(alloc, scopes, form, first));
     Ok(Walked {
         tree: NamedExpr { at, form: tree },
         first,
@@ -62,8 +63,8 @@ fn name_boxed(
     ensures { WalksTo named.expression_of result (named_expression scopes.now (expression_of e))
         (expression_first scopes.now (expression_of e) first) }
 {
-    let Walked { tree, first } = name_expression(alloc, scopes, e.into_inner(), first)?;
-    let tree = Boxed::new(alloc, tree)?;
+    let Walked { tree, first } = have!(name_expression(alloc, scopes, e.into_inner(), first));
+    let tree = have!(Boxed::new(alloc, tree));
     Ok(Walked { tree, first })
 }
 
@@ -90,7 +91,7 @@ fn name_form(
         SynExprForm::Call(f, args) => name_function(alloc, scopes, args, f, first),
         SynExprForm::Unary(op, a) => name_unary(alloc, scopes, a, op, first),
         SynExprForm::Binary(op, a, b) => {
-            let a = name_boxed(alloc, scopes, a, first)?;
+            let a = have!(name_boxed(alloc, scopes, a, first));
             name_right(alloc, scopes, b, a.tree, op, a.first)
         }
     }
@@ -107,7 +108,7 @@ fn name_unary(
     ensures { WalksTo named.expression_form_of result (named_form scopes.now (Unary op (expression_of a)))
         (form_first scopes.now (Unary op (expression_of a)) first) }
 {
-    let Walked { tree, first } = name_boxed(alloc, scopes, a, first)?;
+    let Walked { tree, first } = have!(name_boxed(alloc, scopes, a, first));
     Ok(Walked {
         tree: NamedExprForm::Unary(op, tree),
         first,
@@ -128,7 +129,7 @@ fn name_right(
         (n.Binary op (named.expression_of a) (named_expression scopes.now (expression_of b)))
         (expression_first scopes.now (expression_of b) first) }
 {
-    let Walked { tree, first } = name_boxed(alloc, scopes, b, first)?;
+    let Walked { tree, first } = have!(name_boxed(alloc, scopes, b, first));
     Ok(Walked {
         tree: NamedExprForm::Binary(op, a, tree),
         first,
@@ -180,7 +181,7 @@ fn name_read(
         (named.selectors (named_selectors scopes.now (selectors (map selector_of xs)))))
         (selectors_first scopes.now (selectors (map selector_of xs)) first) }
 {
-    let Walked { tree, first } = name_selectors(alloc, scopes, xs, first)?;
+    let Walked { tree, first } = have!(name_selectors(alloc, scopes, xs, first));
     Ok(Walked {
         tree: operand_form(alloc, m, x, tree),
         first,
@@ -242,7 +243,7 @@ fn name_function(
     let m = scopes.find(&f.text);
     let broken = function_rule(f.at, count(args.items()), m);
     let first = lesser(first, broken);
-    let args = name_arguments(alloc, scopes, args, references_of(m), rest_of(m), first)?;
+    let args = have!(name_arguments(alloc, scopes, args, references_of(m), rest_of(m), first));
     Ok(Walked {
         tree: function_form(m, f.at, args.tree),
         first: args.first,
@@ -277,7 +278,7 @@ pub fn name_arguments(
     let mut first = first;
     let mut flags = flags;
     for x in xs.into_vec() {
-        let y = name_argument(alloc, scopes, x, next_passing(flags, rest), first)?;
+        let y = have!(name_argument(alloc, scopes, x, next_passing(flags, rest), first));
         first = y.first;
         flags = others(flags);
         out.push(y.tree)?;
@@ -301,8 +302,8 @@ fn name_argument(
 {
     let SynArg { value, width } = a;
     let at = value.at;
-    let width = name_width(alloc, scopes, width, at, p, first)?;
-    let value = name_passed(alloc, scopes, value, p, width.first)?;
+    let width = have!(name_width(alloc, scopes, width, at, p, first));
+    let value = have!(name_passed(alloc, scopes, value, p, width.first));
     Ok(Walked {
         tree: NamedArg {
             value: value.tree,
@@ -329,7 +330,7 @@ fn name_width(
         None => Ok(Walked { tree: None, first }),
         Some(e) => {
             let first = lesser(first, width_rule(at, p));
-            let Walked { tree, first } = name_expression(alloc, scopes, e, first)?;
+            let Walked { tree, first } = have!(name_expression(alloc, scopes, e, first));
             Ok(Walked {
                 tree: Some(tree),
                 first,
@@ -350,7 +351,7 @@ fn name_passed(
         (passed_first scopes.now p (expression_of e) first) }
 {
     let (at, form) = e.parts();
-    let Walked { tree, first } = name_passed_form(alloc, scopes, form, at, p, first)?;
+    let Walked { tree, first } = have!(name_passed_form(alloc, scopes, form, at, p, first));
     Ok(Walked {
         tree: NamedExpr { at, form: tree },
         first,
@@ -383,7 +384,7 @@ fn name_passed_form(
         SynExprForm::Call(f, args) => name_function(alloc, scopes, args, f, bare),
         SynExprForm::Unary(op, a) => name_unary(alloc, scopes, a, op, bare),
         SynExprForm::Binary(op, a, b) => {
-            let a = name_boxed(alloc, scopes, a, bare)?;
+            let a = have!(name_boxed(alloc, scopes, a, bare));
             name_right(alloc, scopes, b, a.tree, op, a.first)
         }
     }
@@ -440,7 +441,7 @@ fn name_selector(
 {
     match s {
         SynSelector::Index(e) => {
-            let Walked { tree, first } = name_expression(alloc, scopes, e, first)?;
+            let Walked { tree, first } = have!(name_expression(alloc, scopes, e, first));
             Ok(Walked {
                 tree: NamedSelector::Index(tree),
                 first,
@@ -467,7 +468,7 @@ pub fn name_selectors(
     let mut out = Vec::new(alloc);
     let mut first = first;
     for x in xs.into_vec() {
-        let y = name_selector(alloc, scopes, x, first)?;
+        let y = have!(name_selector(alloc, scopes, x, first));
         first = y.first;
         out.push(y.tree)?;
     }

@@ -12,6 +12,7 @@ ghost use Rattle.sp_scope.specs.Firsts.{answer_first, title_first};
 
 use crate::blocks::block_in_front;
 use crate::declarations::{check_declares, check_kind, kind_number};
+use crate::have;
 use crate::numbers::{next_block, next_variable};
 use crate::scopes::Scopes;
 use crate::variables::{name_formals, numbers};
@@ -42,7 +43,7 @@ fn name_answer(
     match answer {
         None => Ok(List::of(out)),
         Some(t) => {
-            let name = x.text.duplicate(alloc)?;
+            let name = have!(x.text.duplicate(alloc));
             let kind = kind_number(scopes.find(&t.text));
             out.push(Variable {
                 name,
@@ -69,12 +70,12 @@ pub fn name_heading(
         (title_first scopes.now x.now fs.now answer.now first) }
 {
     let first = lesser(first, check_declares(scopes, x, Sort::Block));
-    let block = next_block(scopes.counts())?;
-    let formals = name_formals(alloc, scopes, fs, block, first)?;
+    let block = have!(next_block(scopes.counts()));
+    let formals = have!(name_formals(alloc, scopes, fs, block, first));
     let first = check_answer(scopes, answer, formals.first);
-    let results = name_answer(alloc, scopes, block, x, answer)?;
-    let number = next_variable(scopes.counts())?;
-    let numbers = numbers(alloc, number, formals.tree.items())?;
+    let results = have!(name_answer(alloc, scopes, block, x, answer));
+    let number = have!(next_variable(scopes.counts()));
+    let numbers = have!(numbers(alloc, number, formals.tree.items()));
     Ok(Walked {
         tree: Heading {
             block,
@@ -92,7 +93,7 @@ fn push_flags(out: &mut Vec<bool>, xs: &[Name], by_reference: bool) -> Result<()
     ensures after { OnOk result (out.new.items ≡ out.old.items ++ flags by_reference xs.now) }
 {
     for _x in xs {
-        out.push(by_reference)?;
+        have!(out.push(by_reference));
     }
     Ok(())
 }
@@ -102,7 +103,7 @@ fn all_flags(alloc: Global, fs: &[SynFormal]) -> Result<List<bool>, Halt>
 {
     let mut out = Vec::new(alloc);
     for f in fs {
-        push_flags(&mut out, f.names.items(), f.by_reference)?;
+        have!(push_flags(&mut out, f.names.items(), f.by_reference));
     }
     Ok(List::of(out))
 }
@@ -123,8 +124,8 @@ fn block_meaning(
 ) -> Result<Meaning, Halt>
     ensures { Answers result (Ok (block_meaning scopes.now.local fs.now answer.now)) }
 {
-    let block = next_block(scopes.counts())?;
-    let references = references(alloc, fs)?;
+    let block = have!(next_block(scopes.counts()));
+    let references = have!(references(alloc, fs));
     match answer {
         None => Ok(Meaning::Procedure { block, references }),
         Some(_) => Ok(Meaning::Function { block, references }),
@@ -143,7 +144,7 @@ pub fn declare_title(
     ensures after { OnOk result (scopes.new ≡ inner_env scopes.old.around
         (title_local scopes.old.local x.now fs.now answer.now)) }
 {
-    let m = block_meaning(alloc, scopes, fs, answer)?;
+    let m = have!(block_meaning(alloc, scopes, fs, answer));
     scopes.declare(alloc, &x.text, Sort::Block, m)
 }
 
@@ -186,8 +187,8 @@ pub fn procedure_part(
         indices,
         parts,
     } = b;
-    let variables = all_variables(h.formals, h.results, parts.variables, indices)?;
-    let blocks = block_in_front(
+    let variables = have!(all_variables(h.formals, h.results, parts.variables, indices));
+    let blocks = have!(block_in_front(
         alloc,
         x,
         Some(h.parent),
@@ -195,7 +196,7 @@ pub fn procedure_part(
         answer_of(variable, answer),
         body,
         parts.blocks,
-    )?;
+    ));
     Ok(Named {
         constants: parts.constants,
         kinds: parts.kinds,

@@ -7,6 +7,7 @@ ghost use Rattle.sp_tree.specs.NamedTree.{branches_indices};
 ghost use Rattle.sp_tree.specs.SyntaxOf.{statement_of, statement_form_of, statements, arms, arm_of, branches};
 ghost use Rattle.sp_tree.specs.SyntaxOf.{branch_of};
 
+use crate::have;
 use sp_base::{Halt, List};
 use sp_tree::{Role, SynArm, SynBranch, SynForm, SynStmt, Variable};
 use std::alloc::Global;
@@ -16,7 +17,7 @@ pub fn indices(alloc: Global, s: &SynStmt, block: u32) -> Result<List<Variable>,
     ensures { Answers result (Ok (indices block (statement_of s.now))) }
 {
     let mut out = Vec::new(alloc);
-    push_indices(alloc, s, block, &mut out)?;
+    have!(push_indices(alloc, s, block, &mut out));
     Ok(List::of(out))
 }
 
@@ -40,7 +41,7 @@ fn push_form(alloc: Global, form: &SynForm, block: u32, out: &mut Vec<Variable>)
         SynForm::Call(_, _) => Ok(()),
         SynForm::Sequence(ss) => push_statements(alloc, ss.items(), block, out),
         SynForm::If(_, a, b) => {
-            push_indices(alloc, a.get(), block, out)?;
+            have!(push_indices(alloc, a.get(), block, out));
             match b {
                 None => Ok(()),
                 Some(b) => push_indices(alloc, b.get(), block, out),
@@ -52,7 +53,7 @@ fn push_form(alloc: Global, form: &SynForm, block: u32, out: &mut Vec<Variable>)
         SynForm::For { body, .. } => push_indices(alloc, body.get(), block, out),
         SynForm::Parallel(bs) => push_branches(alloc, bs.items(), block, out),
         SynForm::Forall { name, body, .. } => {
-            let text = name.text.duplicate(alloc)?;
+            let text = have!(name.text.duplicate(alloc));
             out.push(Variable {
                 name: text,
                 kind: 0,
@@ -78,7 +79,7 @@ fn push_statements(
         ++ statements_indices block (statements (map statement_of ss.now))) }
 {
     for s in ss {
-        push_indices(alloc, s, block, out)?;
+        have!(push_indices(alloc, s, block, out));
     }
     Ok(())
 }
@@ -102,7 +103,7 @@ fn push_arms(
     ensures after { OnOk result (out.new.items ≡ out.old.items ++ arms_indices block (arms (map arm_of choices.now))) }
 {
     for a in choices {
-        push_arm(alloc, a, block, out)?;
+        have!(push_arm(alloc, a, block, out));
     }
     Ok(())
 }
@@ -132,7 +133,7 @@ fn push_branches(
         ++ branches_indices block (branches (map branch_of bs.now))) }
 {
     for b in bs {
-        push_branch(alloc, b, block, out)?;
+        have!(push_branch(alloc, b, block, out));
     }
     Ok(())
 }

@@ -12,6 +12,7 @@ ghost use Rattle.sp_scope.specs.Firsts.{groups_first, messages_first, kind_first
 
 use crate::constants::check_bound;
 use crate::declarations::{check_own_kind, constant_number, kind_number};
+use crate::have;
 use crate::numbers::{count_of, more};
 use crate::scopes::Scopes;
 use sp_base::{Halt, List, Rule, Text};
@@ -28,7 +29,7 @@ fn note(alloc: Global, names: &mut BTreeSet<Text>, x: &Text) -> Result<bool, Hal
     ensures after { OnOk result (names.new.keys ≡ insert_key (slice_cmp nat_cmp) names.old.keys x.now) }
 {
     let again = names.contains(x);
-    let text = x.duplicate(alloc)?;
+    let text = have!(x.duplicate(alloc));
     names.insert(text)?;
     Ok(again)
 }
@@ -45,7 +46,7 @@ fn check_fields(
 {
     let mut first = first;
     for x in xs {
-        let again = note(alloc, names, &x.text)?;
+        let again = have!(note(alloc, names, &x.text));
         first = lesser(first, breaks_if(Rule::N2, x.at, again));
     }
     Ok(first)
@@ -64,7 +65,7 @@ fn check_groups(
     let mut names = BTreeSet::new(alloc);
     let mut first = first;
     for g in gs {
-        first = check_fields(alloc, &mut names, g.names.items(), first)?;
+        first = have!(check_fields(alloc, &mut names, g.names.items(), first));
         first = lesser(first, check_own_kind(scopes, own, &g.kind));
     }
     Ok(first)
@@ -123,7 +124,7 @@ fn copy_value(alloc: Global, scopes: &Scopes, v: &SynValue) -> Result<NamedValue
     match v {
         SynValue::Number(n) => Ok(NamedValue::Number(*n)),
         SynValue::Quoted(t) => {
-            let t = t.duplicate(alloc)?;
+            let t = have!(t.duplicate(alloc));
             Ok(NamedValue::Quoted(t))
         }
         SynValue::Named(x) => Ok(NamedValue::Constant(constant_number(scopes.find(&x.text)))),
@@ -134,7 +135,7 @@ fn copy_value(alloc: Global, scopes: &Scopes, v: &SynValue) -> Result<NamedValue
 pub fn copy_const(alloc: Global, scopes: &Scopes, c: &SynConst) -> Result<NamedConst, Halt>
     ensures { Answers result (Ok (named_const scopes.now c.now)) }
 {
-    let value = copy_value(alloc, scopes, &c.value)?;
+    let value = have!(copy_value(alloc, scopes, &c.value));
     Ok(NamedConst {
         at: c.at,
         negative: c.negative,
@@ -152,7 +153,7 @@ fn push_fields(
     ensures after { OnOk result (out.new.items ≡ out.old.items ++ fields_named kind xs.now) }
 {
     for x in xs {
-        let text = x.text.duplicate(alloc)?;
+        let text = have!(x.text.duplicate(alloc));
         out.push((text, kind))?;
     }
     Ok(())
@@ -164,7 +165,7 @@ fn name_groups(alloc: Global, scopes: &Scopes, gs: &[SynGroup]) -> Result<List<(
     let mut out = Vec::new(alloc);
     for g in gs {
         let kind = kind_number(scopes.find(&g.kind.text));
-        push_fields(alloc, &mut out, g.names.items(), kind)?;
+        have!(push_fields(alloc, &mut out, g.names.items(), kind));
     }
     Ok(List::of(out))
 }
@@ -174,7 +175,7 @@ fn name_messages(alloc: Global, scopes: &Scopes, ts: &[Name]) -> Result<List<u32
 {
     let mut out = Vec::new(alloc);
     for t in ts {
-        out.push(kind_number(scopes.find(&t.text)))?;
+        have!(out.push(kind_number(scopes.find(&t.text))));
     }
     Ok(List::of(out))
 }
@@ -186,21 +187,21 @@ pub fn name_kind(alloc: Global, scopes: &Scopes, k: &SynKind) -> Result<NamedKin
     match k {
         SynKind::Alias(t) => Ok(NamedKindForm::Alias(kind_number(scopes.find(&t.text)))),
         SynKind::Enumeration(xs) => {
-            let n = count_of(xs.items().len())?;
+            let n = have!(count_of(xs.items().len()));
             Ok(NamedKindForm::Enumeration(n))
         }
         SynKind::Array(a, b, t) => {
-            let a = copy_const(alloc, scopes, a)?;
-            let b = copy_const(alloc, scopes, b)?;
+            let a = have!(copy_const(alloc, scopes, a));
+            let b = have!(copy_const(alloc, scopes, b));
             let kind = kind_number(scopes.find(&t.text));
             Ok(NamedKindForm::Array(a, b, kind))
         }
         SynKind::Record(gs) => {
-            let fields = name_groups(alloc, scopes, gs.items())?;
+            let fields = have!(name_groups(alloc, scopes, gs.items()));
             Ok(NamedKindForm::Fields(fields))
         }
         SynKind::Channel(ts) => {
-            let kinds = name_messages(alloc, scopes, ts.items())?;
+            let kinds = have!(name_messages(alloc, scopes, ts.items()));
             Ok(NamedKindForm::Channel(kinds))
         }
     }
@@ -213,7 +214,7 @@ fn enumerate(alloc: Global, kind: u32, xs: &[Name]) -> Result<List<NamedConstant
     let mut ordinal = 0u32;
     for _x in xs {
         out.push(NamedConstant::Enumerated { kind, ordinal })?;
-        ordinal = more(ordinal)?;
+        ordinal = have!(more(ordinal));
     }
     Ok(List::of(out))
 }

@@ -5,6 +5,7 @@ ghost use Rattle.std.specs.Prelude.{◌+◌, Ok};
 ghost use Rattle.sp_tree.specs.PhaseResults.{Answers};
 ghost use Rattle.sp_tree.specs.Scopes.{next_constant, next_kind, next_variable, next_block};
 
+use crate::have;
 use sp_base::Halt;
 use sp_tree::Counts;
 
@@ -53,7 +54,7 @@ pub fn next_kind(counts: Counts) -> Result<u32, Halt>
 pub fn next_variable(counts: Counts) -> Result<u32, Halt>
     ensures { Answers result (Ok (next_variable counts)) }
 {
-    let n = behind(counts.variables, counts.results)?;
+    let n = have!(behind(counts.variables, counts.results));
     behind(n, 2)
 }
 

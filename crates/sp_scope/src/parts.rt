@@ -16,6 +16,7 @@ ghost use Rattle.sp_scope.specs.Firsts.{part_first, enumerated_first, kind_first
 
 use crate::constants::check_value;
 use crate::declarations::{check_declares, check_kind, kind_number};
+use crate::have;
 use crate::kinds::{check_kind_form, copy_const, name_enumerated, name_kind};
 use crate::numbers::{next_constant, next_kind};
 use crate::scopes::Scopes;
@@ -34,7 +35,7 @@ fn declare_constant(alloc: Global, scopes: &mut Scopes, x: &Name) -> Result<(), 
         ≡ inner_env scopes.old.around (with_declaration scopes.old.local x.now.text sort.Constant
         (meaning.Constant (next_constant scopes.old.local.counts)))) }
 {
-    let number = next_constant(scopes.counts())?;
+    let number = have!(next_constant(scopes.counts()));
     scopes.declare(alloc, &x.text, Sort::Constant, Meaning::Constant(number))
 }
 
@@ -43,14 +44,14 @@ fn declare_type(alloc: Global, scopes: &mut Scopes, x: &Name) -> Result<(), Halt
     ensures memory { Answers result (Ok tt) }
     ensures after { OnOk result (scopes.new ≡ inner_env scopes.old.around (type_local scopes.old.local x.now)) }
 {
-    let number = next_kind(scopes.counts())?;
+    let number = have!(next_kind(scopes.counts()));
     scopes.declare(alloc, &x.text, Sort::Kind, Meaning::Kind(number))
 }
 
 fn constant_part(alloc: Global, scopes: &Scopes, c: &SynConst) -> Result<Named, Halt>
     ensures { AnswersAs named.program_of result (Ok (constant_part scopes.now c.now)) }
 {
-    let value = copy_const(alloc, scopes, c)?;
+    let value = have!(copy_const(alloc, scopes, c));
     let mut constants = Vec::new(alloc);
     constants.push(NamedConstant::Value(value))?;
     Ok(Named {
@@ -76,17 +77,17 @@ pub fn name_constant(
 {
     let first = lesser(first, check_declares(scopes, x, Sort::Constant));
     let first = check_value(scopes, &c.value, first);
-    let tree = constant_part(alloc, scopes, c)?;
-    declare_constant(alloc, scopes, x)?;
+    let tree = have!(constant_part(alloc, scopes, c));
+    have!(declare_constant(alloc, scopes, x));
     Ok(Walked { tree, first })
 }
 
 fn kind_part(alloc: Global, scopes: &Scopes, x: &Name, k: &SynKind) -> Result<Named, Halt>
     ensures { AnswersAs named.program_of result (Ok (kind_part scopes.now x.now k.now)) }
 {
-    let number = next_kind(scopes.counts())?;
-    let constants = name_enumerated(alloc, number, k)?;
-    let form = name_kind(alloc, scopes, k)?;
+    let number = have!(next_kind(scopes.counts()));
+    let constants = have!(name_enumerated(alloc, number, k));
+    let form = have!(name_kind(alloc, scopes, k));
     let mut kinds = Vec::new(alloc);
     kinds.push(NamedKind { at: x.at, form })?;
     Ok(Named {
@@ -109,7 +110,7 @@ fn declare_constants(
     let mut first = first;
     for x in xs {
         first = lesser(first, check_declares(scopes, x, Sort::Constant));
-        declare_constant(alloc, scopes, x)?;
+        have!(declare_constant(alloc, scopes, x));
     }
     Ok(first)
 }
@@ -144,8 +145,8 @@ pub fn name_type(
     ensures after { OnOk result (scopes.new ≡ inner_env scopes.old.around
         (part_local scopes.old.local (Kind x.now k.now))) }
 {
-    let t = name_definition(alloc, scopes, x, k, first)?;
-    let first = declare_kind(alloc, scopes, x, k, t.first)?;
+    let t = have!(name_definition(alloc, scopes, x, k, first));
+    let first = have!(declare_kind(alloc, scopes, x, k, t.first));
     Ok(Walked {
         tree: t.tree,
         first,
@@ -164,8 +165,8 @@ fn name_definition(
         (kind_first scopes.now x.now k.now (at_site scopes.now (Declares x.now sort.Kind) first)) }
 {
     let first = lesser(first, check_declares(scopes, x, Sort::Kind));
-    let first = check_kind_form(alloc, scopes, x, k, first)?;
-    let tree = kind_part(alloc, scopes, x, k)?;
+    let first = have!(check_kind_form(alloc, scopes, x, k, first));
+    let tree = have!(kind_part(alloc, scopes, x, k));
     Ok(Walked { tree, first })
 }
 
@@ -182,7 +183,7 @@ fn declare_kind(
     ensures after { OnOk result (scopes.new ≡ inner_env scopes.old.around
         (kind_local (type_local scopes.old.local x.now) k.now)) }
 {
-    declare_type(alloc, scopes, x)?;
+    have!(declare_type(alloc, scopes, x));
     declare_enumerated(alloc, scopes, k, first)
 }
 
@@ -191,7 +192,7 @@ fn variables_part(alloc: Global, scopes: &Scopes, xs: &[Name], t: &Name) -> Resu
 {
     let kind = kind_number(scopes.find(&t.text));
     let mut variables = Vec::new(alloc);
-    push_variables(alloc, &mut variables, xs, scopes.block(), Role::Local, kind)?;
+    have!(push_variables(alloc, &mut variables, xs, scopes.block(), Role::Local, kind));
     Ok(Named {
         constants: List::new(alloc),
         kinds: List::new(alloc),
@@ -215,7 +216,7 @@ pub fn name_variables(
         (part_local scopes.old.local (Var xs.now t.now))) }
 {
     let first = lesser(first, check_kind(scopes, t));
-    let tree = variables_part(alloc, scopes, xs, t)?;
-    let first = declare_variables(alloc, scopes, xs, Role::Local, first)?;
+    let tree = have!(variables_part(alloc, scopes, xs, t));
+    let first = have!(declare_variables(alloc, scopes, xs, Role::Local, first));
     Ok(Walked { tree, first })
 }

@@ -15,6 +15,7 @@ ghost use Rattle.sp_scope.specs.Firsts.{files_first, block_first};
 ghost use Rattle.sp_scope.specs.Walks.{WalksTo, seen_block, standard_tables, own_tables};
 
 use crate::blocks::{beside, block_in_front, name_block};
+use crate::have;
 use crate::scopes::Scopes;
 use crate::walked::{BlockParts, Walked};
 use sp_base::{Boxed, Halt, List, MAXINT, Place, Rule, Text};
@@ -93,7 +94,7 @@ fn standard_kinds(alloc: Global, at: Place) -> Result<List<NamedKind>, Halt>
 fn console(alloc: Global, name: &str, at: Place) -> Result<Variable, Halt>
     ensures { Answers result (Ok (record { name = name.now; kind = 2; block = 0; role = role.Console; at = at })) }
 {
-    let bytes = Vec::from_slice(alloc, name.as_bytes())?;
+    let bytes = have!(Vec::from_slice(alloc, name.as_bytes()));
     Ok(Variable {
         name: Text::of(bytes),
         kind: 2,
@@ -106,8 +107,8 @@ fn console(alloc: Global, name: &str, at: Place) -> Result<Variable, Halt>
 fn consoles(alloc: Global, at: Place) -> Result<List<Variable>, Halt>
     ensures { Answers result (Ok (consoles at)) }
 {
-    let input = console(alloc, "input", at)?;
-    let output = console(alloc, "output", at)?;
+    let input = have!(console(alloc, "input", at));
+    let output = have!(console(alloc, "output", at));
     let mut out = Vec::new(alloc);
     out.push(input)?;
     out.push(output)?;
@@ -118,9 +119,9 @@ fn consoles(alloc: Global, at: Place) -> Result<List<Variable>, Halt>
 fn standard_tables(alloc: Global, at: Place) -> Result<Named, Halt>
     ensures { AnswersAs named.program_of result (Ok (standard_tables at)) }
 {
-    let constants = standard_constants(alloc, at)?;
-    let kinds = standard_kinds(alloc, at)?;
-    let variables = consoles(alloc, at)?;
+    let constants = have!(standard_constants(alloc, at));
+    let kinds = have!(standard_kinds(alloc, at));
+    let variables = have!(consoles(alloc, at));
     Ok(Named {
         constants,
         kinds,
@@ -140,7 +141,7 @@ fn own_tables(alloc: Global, x: &Name, b: BlockParts) -> Result<Named, Halt>
         parts,
     } = b;
     let variables = parts.variables.join(indices)?;
-    let blocks = block_in_front(alloc, x, None, List::new(alloc), None, body, parts.blocks)?;
+    let blocks = have!(block_in_front(alloc, x, None, List::new(alloc), None, body, parts.blocks));
     Ok(Named {
         constants: parts.constants,
         kinds: parts.kinds,
@@ -153,8 +154,8 @@ fn own_tables(alloc: Global, x: &Name, b: BlockParts) -> Result<Named, Halt>
 fn program_tables(alloc: Global, x: &Name, b: BlockParts) -> Result<Named, Halt>
     ensures { AnswersAs named.program_of result (Ok (program_tables x.now (seen_block b))) }
 {
-    let own = own_tables(alloc, x, b)?;
-    let standard = standard_tables(alloc, x.at)?;
+    let own = have!(own_tables(alloc, x, b));
+    let standard = have!(standard_tables(alloc, x.at));
     beside(standard, own)
 }
 
@@ -164,8 +165,8 @@ fn name_program(alloc: Global, block: SynBlock, first: Found) -> Result<Walked<B
         (block_of block).body)
         (block_first (standard_scope ∷ []) empty_local (block_of block).parts (block_of block).body first) }
 {
-    let block = Boxed::new(alloc, block)?;
-    let mut scopes = Scopes::new(alloc)?;
+    let block = have!(Boxed::new(alloc, block));
+    let mut scopes = have!(Scopes::new(alloc));
     name_block(block.into_inner(), alloc, &mut scopes, first)
 }
 
@@ -180,7 +181,7 @@ pub fn resolve(alloc: Global, syntax: Syntax) -> Result<Named, Halt>
         block,
     } = syntax;
     let first = check_files(heading.items(), None);
-    let inner = name_program(alloc, block, first)?;
+    let inner = have!(name_program(alloc, block, first));
     match inner.first {
         Some(r) => Err(Halt::Refused(r)),
         None => program_tables(alloc, &name, inner.tree),

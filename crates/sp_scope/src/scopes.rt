@@ -12,6 +12,7 @@ ghost use Rattle.sp_tree.specs.NameWalk.{blocks_around, answer_local};
 ghost use Rattle.sp_scope.specs.Firsts.{Leaves};
 ghost use Rattle.sp_scope.specs.Walks.{entries_of};
 
+use crate::have;
 use crate::numbers::{more, next_variable};
 use crate::standard::standard;
 use indexmap::IndexMap;
@@ -92,16 +93,16 @@ fn one_more(sort: Sort, counts: Counts) -> Result<Counts, Halt>
     let mut counts = counts;
     match sort {
         Sort::Constant => {
-            counts.constants = more(counts.constants)?;
+            counts.constants = have!(more(counts.constants));
         }
         Sort::Kind => {
-            counts.kinds = more(counts.kinds)?;
+            counts.kinds = have!(more(counts.kinds));
         }
         Sort::Variable => {
-            counts.variables = more(counts.variables)?;
+            counts.variables = have!(more(counts.variables));
         }
         Sort::Block => {
-            counts.blocks = more(counts.blocks)?;
+            counts.blocks = have!(more(counts.blocks));
         }
     }
     Ok(counts)
@@ -115,7 +116,7 @@ impl Scopes {
     pub fn new(alloc: Global) -> Result<Scopes, Halt>
         ensures { Answers result (Ok (inner_env (standard_scope ∷ []) empty_local)) }
     {
-        let standard = standard(alloc)?;
+        let standard = have!(standard(alloc));
         let mut around = Vec::new(alloc);
         around.push(standard)?;
         Ok(Scopes {
@@ -176,9 +177,9 @@ impl Scopes {
         if self.is_full(sort) {
             return Ok(());
         }
-        let counts = one_more(sort, self.counts)?;
-        let name = Text::of(Vec::from_slice(alloc, name.bytes())?);
-        put(&mut self.here, name, m)?;
+        let counts = have!(one_more(sort, self.counts));
+        let name = Text::of(have!(Vec::from_slice(alloc, name.bytes())));
+        have!(put(&mut self.here, name, m));
         self.counts = counts;
         Ok(())
     }
@@ -191,8 +192,8 @@ impl Scopes {
         match answer {
             None => Ok(()),
             Some(_) => {
-                let number = next_variable(self.counts)?;
-                let results = more(self.counts.results)?;
+                let number = have!(next_variable(self.counts));
+                let results = have!(more(self.counts.results));
                 self.answer = number;
                 self.counts.results = results;
                 Ok(())

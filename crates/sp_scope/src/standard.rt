@@ -7,6 +7,7 @@ ghost use Rattle.sp_tree.specs.declared.meaning.Meaning.TheVariants as meaning;
 ghost use Rattle.sp_scope.specs.Standard.{with_types, with_functions, with_procedures};
 ghost use Rattle.sp_scope.specs.Walks.{entries_of};
 
+use crate::have;
 use crate::scopes::put;
 use indexmap::IndexMap;
 use sp_base::{Halt, Text};
@@ -18,7 +19,7 @@ fn enter(alloc: Global, b: &mut IndexMap<Text, Meaning>, name: &str, m: Meaning)
     ensures memory { Answers result (Ok tt) }
     ensures after { OnOk result (b.new.entries ≡ put b.old.entries name.now m) }
 {
-    let bytes = Vec::from_slice(alloc, name.as_bytes())?;
+    let bytes = have!(Vec::from_slice(alloc, name.as_bytes()));
     put(b, Text::of(bytes), m)
 }
 
@@ -26,11 +27,11 @@ fn enter_types(alloc: Global, b: &mut IndexMap<Text, Meaning>) -> Result<(), Hal
     ensures memory { Answers result (Ok tt) }
     ensures after { OnOk result (b.new.entries ≡ with_types b.old.entries) }
 {
-    enter(alloc, b, "integer", Meaning::Kind(0))?;
-    enter(alloc, b, "boolean", Meaning::Kind(1))?;
-    enter(alloc, b, "char", Meaning::Kind(2))?;
-    enter(alloc, b, "false", Meaning::Constant(0))?;
-    enter(alloc, b, "true", Meaning::Constant(1))?;
+    have!(enter(alloc, b, "integer", Meaning::Kind(0)));
+    have!(enter(alloc, b, "boolean", Meaning::Kind(1)));
+    have!(enter(alloc, b, "char", Meaning::Kind(2)));
+    have!(enter(alloc, b, "false", Meaning::Constant(0)));
+    have!(enter(alloc, b, "true", Meaning::Constant(1)));
     enter(alloc, b, "maxint", Meaning::Constant(2))
 }
 
@@ -44,14 +45,14 @@ fn enter_functions(alloc: Global, b: &mut IndexMap<Text, Meaning>) -> Result<(),
     ensures memory { Answers result (Ok tt) }
     ensures after { OnOk result (b.new.entries ≡ with_functions b.old.entries) }
 {
-    enter(alloc, b, "abs", function(StandardFn::Abs))?;
-    enter(alloc, b, "sqr", function(StandardFn::Sqr))?;
-    enter(alloc, b, "odd", function(StandardFn::Odd))?;
-    enter(alloc, b, "ord", function(StandardFn::Ord))?;
-    enter(alloc, b, "chr", function(StandardFn::Chr))?;
-    enter(alloc, b, "succ", function(StandardFn::Succ))?;
-    enter(alloc, b, "pred", function(StandardFn::Pred))?;
-    enter(alloc, b, "eof", function(StandardFn::Eof))?;
+    have!(enter(alloc, b, "abs", function(StandardFn::Abs)));
+    have!(enter(alloc, b, "sqr", function(StandardFn::Sqr)));
+    have!(enter(alloc, b, "odd", function(StandardFn::Odd)));
+    have!(enter(alloc, b, "ord", function(StandardFn::Ord)));
+    have!(enter(alloc, b, "chr", function(StandardFn::Chr)));
+    have!(enter(alloc, b, "succ", function(StandardFn::Succ)));
+    have!(enter(alloc, b, "pred", function(StandardFn::Pred)));
+    have!(enter(alloc, b, "eof", function(StandardFn::Eof)));
     enter(alloc, b, "eoln", function(StandardFn::Eoln))
 }
 
@@ -65,12 +66,12 @@ fn enter_procedures(alloc: Global, b: &mut IndexMap<Text, Meaning>) -> Result<()
     ensures memory { Answers result (Ok tt) }
     ensures after { OnOk result (b.new.entries ≡ with_procedures b.old.entries) }
 {
-    enter(alloc, b, "read", procedure(StandardProcedure::Read))?;
-    enter(alloc, b, "readln", procedure(StandardProcedure::Readln))?;
-    enter(alloc, b, "write", procedure(StandardProcedure::Write))?;
-    enter(alloc, b, "writeln", procedure(StandardProcedure::Writeln))?;
-    enter(alloc, b, "open", procedure(StandardProcedure::Open))?;
-    enter(alloc, b, "send", procedure(StandardProcedure::Send))?;
+    have!(enter(alloc, b, "read", procedure(StandardProcedure::Read)));
+    have!(enter(alloc, b, "readln", procedure(StandardProcedure::Readln)));
+    have!(enter(alloc, b, "write", procedure(StandardProcedure::Write)));
+    have!(enter(alloc, b, "writeln", procedure(StandardProcedure::Writeln)));
+    have!(enter(alloc, b, "open", procedure(StandardProcedure::Open)));
+    have!(enter(alloc, b, "send", procedure(StandardProcedure::Send)));
     enter(alloc, b, "receive", procedure(StandardProcedure::Receive))
 }
 
@@ -80,8 +81,8 @@ pub fn standard(alloc: Global) -> Result<IndexMap<Text, Meaning>, Halt>
     ensures { AnswersAs entries_of result (Ok standard_scope) }
 {
     let mut b = IndexMap::new(alloc);
-    enter_types(alloc, &mut b)?;
-    enter_functions(alloc, &mut b)?;
-    enter_procedures(alloc, &mut b)?;
+    have!(enter_types(alloc, &mut b));
+    have!(enter_functions(alloc, &mut b));
+    have!(enter_procedures(alloc, &mut b));
     Ok(b)
 }

@@ -23,6 +23,7 @@ use crate::calls::{count, is_whole, references_of, rest_of};
 use crate::constants::name_constants;
 use crate::declarations::check_declares;
 use crate::expressions::{name_arguments, name_expression, name_selectors, variable_number};
+use crate::have;
 use crate::numbers::next_variable;
 use crate::rules::{assign_rule, loop_rule, procedure_rule};
 use crate::scopes::Scopes;
@@ -60,7 +61,7 @@ fn name_assigned(
     let whole = is_whole(selectors.items());
     let broken = assign_rule(scopes.block(), name.at, whole, m);
     let variable = assigned_number(scopes.answer(), m);
-    let selectors = name_selectors(alloc, scopes, selectors, lesser(first, broken))?;
+    let selectors = have!(name_selectors(alloc, scopes, selectors, lesser(first, broken)));
     Ok(Walked {
         tree: NamedVar {
             variable,
@@ -82,8 +83,8 @@ fn name_assignment(
         (n.Assign (named_target scopes.now (variable_of v)) (named_expression scopes.now (expression_of e)))
         (expression_first scopes.now (expression_of e) (assigned_first scopes.now (variable_of v) first)) }
 {
-    let v = name_assigned(alloc, scopes, v, first)?;
-    let e = name_expression(alloc, scopes, e, v.first)?;
+    let v = have!(name_assigned(alloc, scopes, v, first));
+    let e = have!(name_expression(alloc, scopes, e, v.first));
     Ok(Walked {
         tree: NamedForm::Assign(v.tree, e.tree),
         first: e.first,
@@ -115,7 +116,7 @@ fn name_call(
     let m = scopes.find(&f.text);
     let broken = procedure_rule(f.at, count(args.items()), m);
     let first = lesser(first, broken);
-    let args = name_arguments(alloc, scopes, args, references_of(m), rest_of(m), first)?;
+    let args = have!(name_arguments(alloc, scopes, args, references_of(m), rest_of(m), first));
     Ok(Walked {
         tree: procedure_form(m, args.tree),
         first: args.first,
@@ -137,7 +138,7 @@ fn name_statement(
         (statement_local scopes.old.local (statement_of s))) }
 {
     let SynStmt { at, form } = s;
-    let Walked { tree, first } = name_statement_form(alloc, scopes, form, first)?;
+    let Walked { tree, first } = have!(name_statement_form(alloc, scopes, form, first));
     Ok(Walked {
         tree: NamedStmt { at, form: tree },
         first,
@@ -157,8 +158,8 @@ pub fn name_boxed_statement(
     ensures after { OnOk result (scopes.new ≡ inner_env scopes.old.around
         (statement_local scopes.old.local (statement_of s))) }
 {
-    let Walked { tree, first } = name_statement(alloc, scopes, s.into_inner(), first)?;
-    let tree = Boxed::new(alloc, tree)?;
+    let Walked { tree, first } = have!(name_statement(alloc, scopes, s.into_inner(), first));
+    let tree = have!(Boxed::new(alloc, tree));
     Ok(Walked { tree, first })
 }
 
@@ -183,15 +184,15 @@ fn name_statement_form(
         SynForm::Assign(v, e) => name_assignment(alloc, scopes, v, e, first),
         SynForm::Call(f, args) => name_call(alloc, scopes, f, args, first),
         SynForm::Sequence(ss) => {
-            let ss = name_statements(alloc, scopes, ss, first)?;
+            let ss = have!(name_statements(alloc, scopes, ss, first));
             Ok(Walked {
                 tree: NamedForm::Sequence(ss.tree),
                 first: ss.first,
             })
         }
         SynForm::If(e, a, b) => {
-            let e = name_expression(alloc, scopes, e, first)?;
-            let a = name_boxed_statement(alloc, scopes, a, e.first)?;
+            let e = have!(name_expression(alloc, scopes, e, first));
+            let a = have!(name_boxed_statement(alloc, scopes, a, e.first));
             match b {
                 None => Ok(Walked {
                     tree: NamedForm::If(e.tree, a.tree, None),
@@ -201,8 +202,8 @@ fn name_statement_form(
             }
         }
         SynForm::While(e, a) => {
-            let e = name_expression(alloc, scopes, e, first)?;
-            let a = name_boxed_statement(alloc, scopes, a, e.first)?;
+            let e = have!(name_expression(alloc, scopes, e, first));
+            let a = have!(name_boxed_statement(alloc, scopes, a, e.first));
             Ok(Walked {
                 tree: NamedForm::While(e.tree, a.tree),
                 first: a.first,
@@ -210,8 +211,8 @@ fn name_statement_form(
         }
         SynForm::Repeat(ss, e) => name_repeat(alloc, scopes, ss, e, first),
         SynForm::Case(e, arms) => {
-            let e = name_expression(alloc, scopes, e, first)?;
-            let arms = name_arms(alloc, scopes, arms, e.first)?;
+            let e = have!(name_expression(alloc, scopes, e, first));
+            let arms = have!(name_arms(alloc, scopes, arms, e.first));
             Ok(Walked {
                 tree: NamedForm::Case(e.tree, arms.tree),
                 first: arms.first,
@@ -225,7 +226,7 @@ fn name_statement_form(
             body,
         } => name_for(alloc, scopes, body, name, from, down, to, first),
         SynForm::Parallel(bs) => {
-            let bs = name_branches(alloc, scopes, bs, first)?;
+            let bs = have!(name_branches(alloc, scopes, bs, first));
             Ok(Walked {
                 tree: NamedForm::Parallel(bs.tree),
                 first: bs.first,
@@ -238,7 +239,7 @@ fn name_statement_form(
             body,
         } => name_forall(alloc, scopes, body, name, from, to, first),
         SynForm::Assume(e) => {
-            let e = name_expression(alloc, scopes, e, first)?;
+            let e = have!(name_expression(alloc, scopes, e, first));
             Ok(Walked {
                 tree: NamedForm::Assume(e.tree),
                 first: e.first,
@@ -264,7 +265,7 @@ fn name_else(
     ensures after { OnOk result (scopes.new ≡ inner_env scopes.old.around
         (statement_local scopes.old.local (statement_of b))) }
 {
-    let b = name_boxed_statement(alloc, scopes, b, first)?;
+    let b = have!(name_boxed_statement(alloc, scopes, b, first));
     Ok(Walked {
         tree: else_form(e, a, b.tree),
         first: b.first,
@@ -298,8 +299,8 @@ fn name_repeat(
     ensures after { OnOk result (scopes.new ≡ inner_env scopes.old.around
         (statements_local scopes.old.local (statements_of ss))) }
 {
-    let ss = name_statements(alloc, scopes, ss, first)?;
-    let e = name_expression(alloc, scopes, e, ss.first)?;
+    let ss = have!(name_statements(alloc, scopes, ss, first));
+    let e = have!(name_expression(alloc, scopes, e, ss.first));
     Ok(Walked {
         tree: repeat_form(ss.tree, e.tree),
         first: e.first,
@@ -328,9 +329,9 @@ fn name_for(
     let m = scopes.find(&name.text);
     let broken = loop_rule(scopes.block(), name.at, m);
     let variable = variable_number(m);
-    let from = name_expression(alloc, scopes, from, lesser(first, broken))?;
-    let to = name_expression(alloc, scopes, to, from.first)?;
-    let body = name_boxed_statement(alloc, scopes, body, to.first)?;
+    let from = have!(name_expression(alloc, scopes, from, lesser(first, broken)));
+    let to = have!(name_expression(alloc, scopes, to, from.first));
+    let body = have!(name_boxed_statement(alloc, scopes, body, to.first));
     Ok(Walked {
         tree: NamedForm::For {
             variable,
@@ -363,10 +364,10 @@ fn name_forall(
         ≡ inner_env scopes.old.around (local_of_outer scopes.old.local
         (statement_local (local_of_index scopes.old.local name) (statement_of body)))) }
 {
-    let index = next_variable(scopes.counts())?;
-    let from = name_expression(alloc, scopes, from, first)?;
-    let to = name_expression(alloc, scopes, to, from.first)?;
-    let body = name_element(alloc, scopes, body, &name, to.first)?;
+    let index = have!(next_variable(scopes.counts()));
+    let from = have!(name_expression(alloc, scopes, from, first));
+    let to = have!(name_expression(alloc, scopes, to, from.first));
+    let body = have!(name_element(alloc, scopes, body, &name, to.first));
     Ok(Walked {
         tree: NamedForm::Forall {
             index,
@@ -397,8 +398,8 @@ fn name_element(
 {
     let block = scopes.block();
     let answer = scopes.answer();
-    scopes.open(alloc, block, answer)?;
-    let body = name_indexed(alloc, scopes, body, x, first)?;
+    have!(scopes.open(alloc, block, answer));
+    let body = have!(name_indexed(alloc, scopes, body, x, first));
     scopes.leave(block, answer);
     Ok(body)
 }
@@ -418,7 +419,7 @@ fn name_indexed(
         (statement_local (index_local scopes.old.local x.now) (statement_of body))) }
 {
     let first = lesser(first, check_declares(scopes, x, Sort::Variable));
-    declare_variable(alloc, scopes, x, Role::Index)?;
+    have!(declare_variable(alloc, scopes, x, Role::Index));
     name_boxed_statement(alloc, scopes, body, first)
 }
 
@@ -438,7 +439,7 @@ fn name_statements(
     let mut out = Vec::new(alloc);
     let mut first = first;
     for s in ss.into_vec() {
-        let t = name_statement(alloc, scopes, s, first)?;
+        let t = have!(name_statement(alloc, scopes, s, first));
         first = t.first;
         out.push(t.tree)?;
     }
@@ -464,7 +465,7 @@ fn name_arm(
         drop(body);
         return Err(Halt::Memory);
     };
-    let body = name_statement(alloc, scopes, body, constants.first)?;
+    let body = have!(name_statement(alloc, scopes, body, constants.first));
     Ok(Walked {
         tree: NamedArm {
             constants: constants.tree,
@@ -490,7 +491,7 @@ fn name_arms(
     let mut out = Vec::new(alloc);
     let mut first = first;
     for a in choices.into_vec() {
-        let t = name_arm(alloc, scopes, a, first)?;
+        let t = have!(name_arm(alloc, scopes, a, first));
         first = t.first;
         out.push(t.tree)?;
     }
@@ -514,7 +515,7 @@ fn name_branch(
         (statements_local scopes.old.local (branch_of b))) }
 {
     let SynBranch { statements } = b;
-    let ss = name_statements(alloc, scopes, statements, first)?;
+    let ss = have!(name_statements(alloc, scopes, statements, first));
     Ok(Walked {
         tree: NamedBranch {
             statements: ss.tree,
@@ -539,7 +540,7 @@ fn name_branches(
     let mut out = Vec::new(alloc);
     let mut first = first;
     for b in bs.into_vec() {
-        let t = name_branch(alloc, scopes, b, first)?;
+        let t = have!(name_branch(alloc, scopes, b, first));
         first = t.first;
         out.push(t.tree)?;
     }

@@ -10,6 +10,7 @@ ghost use Rattle.sp_scope.specs.Walks.{WalksTo, itself};
 ghost use Rattle.sp_scope.specs.Firsts.{names_first, formals_first, heading_first};
 
 use crate::declarations::{check_declares, check_kind, kind_number};
+use crate::have;
 use crate::numbers::{more, next_variable};
 use crate::scopes::Scopes;
 use crate::walked::Walked;
@@ -28,7 +29,7 @@ pub fn declare_variable(
     ensures after { OnOk result (scopes.new ≡ inner_env scopes.old.around
         (with_declaration scopes.old.local x.now.text sort.Variable (variable scopes.old.local role))) }
 {
-    let number = next_variable(scopes.counts())?;
+    let number = have!(next_variable(scopes.counts()));
     let block = scopes.block();
     scopes.declare(
         alloc,
@@ -56,7 +57,7 @@ pub fn declare_variables(
     let mut first = first;
     for x in xs {
         first = lesser(first, check_declares(scopes, x, Sort::Variable));
-        declare_variable(alloc, scopes, x, role)?;
+        have!(declare_variable(alloc, scopes, x, role));
     }
     Ok(first)
 }
@@ -83,13 +84,13 @@ pub fn declare_formals(
 {
     let mut first = first;
     for f in fs {
-        first = declare_variables(
+        first = have!(declare_variables(
             alloc,
             scopes,
             f.names.items(),
             role_of(f.by_reference),
             first,
-        )?;
+        ));
     }
     Ok(first)
 }
@@ -107,7 +108,7 @@ pub fn push_variables(
     ensures after { OnOk result (out.new.items ≡ out.old.items ++ variables_named block role kind xs.now) }
 {
     for x in xs {
-        let name = x.text.duplicate(alloc)?;
+        let name = have!(x.text.duplicate(alloc));
         out.push(Variable {
             name,
             kind,
@@ -134,14 +135,14 @@ pub fn name_formals(
     for f in fs {
         first = lesser(first, check_kind(scopes, &f.kind));
         let kind = kind_number(scopes.find(&f.kind.text));
-        push_variables(
+        have!(push_variables(
             alloc,
             &mut out,
             f.names.items(),
             block,
             role_of(f.by_reference),
             kind,
-        )?;
+        ));
     }
     Ok(Walked {
         tree: List::of(out),
@@ -156,8 +157,8 @@ pub fn numbers(alloc: Global, n: u32, xs: &[Variable]) -> Result<List<u32>, Halt
     let mut out = Vec::new(alloc);
     let mut n = n;
     for _x in xs {
-        out.push(n)?;
-        n = more(n)?;
+        have!(out.push(n));
+        n = have!(more(n));
     }
     Ok(List::of(out))
 }

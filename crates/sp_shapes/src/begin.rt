@@ -7,6 +7,7 @@ ghost use Rattle.sp_code.specs.declared.code.ChildTable.{ChildTable};
 ghost use Rattle.sp_shapes.specs.Search.{AreCompared};
 ghost use Rattle.sp_shapes.specs.Starts.{AddsStarts, AreAll, IsEntry, IsMade, IsMadeAt, IsOfChildren, IsOfLayouts};
 
+use crate::have;
 use crate::search::Search;
 use crate::stacks::Stacks;
 use crate::steps::Arrival;
@@ -20,7 +21,7 @@ fn start(code: &Code, arrivals: &mut List<Arrival>, at: u32) -> Result<(), Memor
     requires { IsEntry code.now at }
     ensures { OnOk result (AddsStarts code.now (λ q. q ≡ at) arrivals.old arrivals.new) }
 {
-    arrivals.push(Arrival { at, list: 0 })?;
+    have!(arrivals.push(Arrival { at, list: 0 }));
     Ok(())
 }
 
@@ -34,7 +35,7 @@ fn begin_blocks(code: &Code, blocks: &Blocks, arrivals: &mut List<Arrival>) -> R
     for l in layouts.items() {
         match blocks.find(layouts, l.block) {
             None => {}
-            Some(m) => start(code, arrivals, m.entry)?,
+            Some(m) => have!(start(code, arrivals, m.entry)),
         }
     }
     Ok(())
@@ -51,7 +52,7 @@ fn begin_children(
         arrivals.new) }
 {
     for child in children {
-        start(code, arrivals, child.entry)?;
+        have!(start(code, arrivals, child.entry));
     }
     Ok(())
 }
@@ -86,7 +87,7 @@ fn begin_forks(
     let count = code.parts().instrs.len();
     for p in 0..count {
         let o = owners.items()[p];
-        begin_at(code, arrivals, p as u32, o)?;
+        have!(begin_at(code, arrivals, p as u32, o));
     }
     Ok(())
 }
@@ -94,13 +95,13 @@ fn begin_forks(
 fn no_lists(alloc: Global, count: usize) -> Result<List<Option<u32>>, Memory>
     ensures { IfOk result (λ xs. AreAll None count xs) }
 {
-    Ok(List::of(vec![in alloc; None; count]?))
+    Ok(List::of(have!(vec![in alloc; None; count])))
 }
 
 fn no_marks(alloc: Global, count: usize) -> Result<List<bool>, Memory>
     ensures { IfOk result (λ xs. AreAll false count xs) }
 {
-    Ok(List::of(vec![in alloc; false; count]?))
+    Ok(List::of(have!(vec![in alloc; false; count])))
 }
 
 /// What is kept at first: that ways begin at the entry of each area, with no operands.
@@ -113,10 +114,10 @@ pub(crate) fn begin(code: &Code, blocks: &Blocks, owners: &List<Owner>) -> Resul
     let alloc = parts.instrs.alloc();
     let count = parts.instrs.len();
     let mut arrivals = List::new(alloc);
-    begin_blocks(code, blocks, &mut arrivals)?;
-    begin_forks(code, owners, &mut arrivals)?;
-    let at = no_lists(alloc, count)?;
-    let broken = no_marks(alloc, count)?;
+    have!(begin_blocks(code, blocks, &mut arrivals));
+    have!(begin_forks(code, owners, &mut arrivals));
+    let at = have!(no_lists(alloc, count));
+    let broken = have!(no_marks(alloc, count));
     Ok(Search {
         stacks: Stacks::new(alloc),
         at,

@@ -26,6 +26,7 @@
 pub mod begin;
 pub mod calls;
 pub mod cells;
+pub mod have;
 pub mod messages;
 pub mod plans;
 pub mod reached;

@@ -9,6 +9,7 @@ ghost use Rattle.sp_rules.specs.Standing.{cells_left, message_cells};
 ghost use Rattle.sp_shapes.specs.Shapes.{AreShapes};
 ghost use Rattle.sp_shapes.specs.Stacks.{IsListNumber, IsStacks, list_of};
 
+use crate::have;
 use crate::reached::reached;
 use crate::shapes::Shapes;
 use crate::stacks::{Shape, Stacks};
@@ -104,7 +105,7 @@ fn received(code: &Code, shapes: &Shapes, p: u32) -> Option<Message>
 fn put(lengths: &mut BTreeMap<u32, u32>, sent: Message) -> Result<(), Memory>
     ensures { OnOk result (PutsLength lengths.old lengths.new sent) }
 {
-    lengths.insert(sent.kind, sent.cells)?;
+    have!(lengths.insert(sent.kind, sent.cells));
     Ok(())
 }
 
@@ -117,7 +118,7 @@ fn first_other(alloc: Global, code: &Code, shapes: &Shapes) -> Result<Option<u32
     for p in 0..code.parts().instrs.len() {
         if let Some(w) = sent(code, shapes, p as u32) {
             match lengths.get(&w.kind).copied() {
-                None => put(&mut lengths, w)?,
+                None => have!(put(&mut lengths, w)),
                 Some(cells) => {
                     if cells != w.cells {
                         return Ok(Some(p as u32));
@@ -153,7 +154,7 @@ fn greatest(alloc: Global, code: &Code, shapes: &Shapes) -> Result<BTreeMap<u32,
     let mut lengths = BTreeMap::new(alloc);
     for p in 0..code.parts().instrs.len() {
         if let Some(w) = sent(code, shapes, p as u32) {
-            put_greatest(&mut lengths, w)?;
+            have!(put_greatest(&mut lengths, w));
         }
     }
     Ok(lengths)
@@ -196,8 +197,8 @@ pub fn first_length(code: &Code, shapes: &Shapes) -> Result<Option<u32>, Memory>
     ensures { IfOk result (λ first. IsLeast (BreaksV4 code.now) first) }
 {
     let alloc = code.parts().instrs.alloc();
-    let other = first_other(alloc, code, shapes)?;
-    let lengths = greatest(alloc, code, shapes)?;
+    let other = have!(first_other(alloc, code, shapes));
+    let lengths = have!(greatest(alloc, code, shapes));
     let lacking = first_lacking(code, shapes, &lengths);
     Ok(least(other, lacking))
 }

@@ -6,6 +6,7 @@ ghost use Rattle.sp_areas.specs.Homes.{AreHomes};
 ghost use Rattle.sp_shapes.specs.Search.{AreCompared, AreStepped, ComparesAll, ComparesOne, IsDoneSearch, IsSane};
 ghost use Rattle.sp_shapes.specs.Search.{KeepsV1, Places, WalkOutcome, WalksAll, WalksOne, is_set, with_arrival};
 
+use crate::have;
 use crate::stacks::Stacks;
 use crate::steps::{Arrival, Step, step_from};
 use sp_areas::blocks::Blocks;
@@ -63,7 +64,7 @@ fn place(search: &mut Search, x: Arrival) -> Result<(), Memory>
         None => Ok(()),
         Some(None) => {
             let _none = search.at.replace(x.at as usize, Some(x.list));
-            search.frontier.push(x.at)?;
+            have!(search.frontier.push(x.at));
             Ok(())
         }
         Some(Some(k)) => {
@@ -82,7 +83,7 @@ fn compare_one(search: &mut Search) -> Result<bool, Memory>
     match search.arrivals.pop() {
         None => Ok(false),
         Some(x) => {
-            place(search, x)?;
+            have!(place(search, x));
             Ok(true)
         }
     }
@@ -93,7 +94,7 @@ fn compare_all(search: &mut Search) -> Result<(), Memory>
     ensures { OnOk result (ComparesAll search.old search.new) }
 {
     'arrivals: loop {
-        let more = compare_one(search)?;
+        let more = have!(compare_one(search));
         if !more {
             return Ok(());
         }
@@ -107,7 +108,7 @@ fn wait(arrivals: &mut List<Arrival>, x: Option<Arrival>) -> Result<(), Memory>
     match x {
         None => Ok(()),
         Some(x) => {
-            arrivals.push(x)?;
+            have!(arrivals.push(x));
             Ok(())
         }
     }
@@ -136,13 +137,13 @@ fn walk(
         Some(None) => return Ok(()),
         Some(Some(k)) => k,
     };
-    match step_from(code, blocks, homes, &mut search.stacks, p, k)? {
+    match have!(step_from(code, blocks, homes, &mut search.stacks, p, k)) {
         Step::Wrong => {
             mark(&mut search.broken, p);
             Ok(())
         }
         Step::To { first, second } => {
-            wait(&mut search.arrivals, first)?;
+            have!(wait(&mut search.arrivals, first));
             wait(&mut search.arrivals, second)
         }
     }
@@ -166,7 +167,7 @@ fn walk_one(
         None => Ok(false),
         Some(p) => {
             if (p as usize) < count {
-                walk(code, blocks, homes, search, p)?;
+                have!(walk(code, blocks, homes, search, p));
             }
             Ok(true)
         }
@@ -182,7 +183,7 @@ fn walk_all(code: &Code, blocks: &Blocks, homes: &Homes, search: &mut Search) ->
     ensures { OnOk result (WalksAll code.now search.old search.new) }
 {
     'frontier: loop {
-        let more = walk_one(code, blocks, homes, search)?;
+        let more = have!(walk_one(code, blocks, homes, search));
         if !more {
             return Ok(());
         }
@@ -204,10 +205,10 @@ pub(crate) fn follow(
     ensures { OnOk result (IsDoneSearch code.now search.new) }
 {
     'levels: loop {
-        compare_all(search)?;
+        have!(compare_all(search));
         if search.frontier.is_empty() {
             return Ok(());
         }
-        walk_all(code, blocks, homes, search)?;
+        have!(walk_all(code, blocks, homes, search));
     }
 }

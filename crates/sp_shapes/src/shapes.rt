@@ -10,6 +10,7 @@ ghost use Rattle.sp_shapes.specs.Search.{IsDoneSearch, KeepsV1};
 ghost use Rattle.sp_shapes.specs.Shapes.{IsOutcome};
 
 use crate::begin::begin;
+use crate::have;
 use crate::search::{Search, follow};
 use crate::stacks::Stacks;
 use sp_areas::blocks::Blocks;
@@ -86,7 +87,7 @@ pub fn shapes_of(
     requires homes { AreHomes code.now homes.now }
     ensures { IfOk result (λ outcome. IsOutcome code.now outcome) }
 {
-    let mut search = begin(code, blocks, owners)?;
-    follow(code, blocks, homes, &mut search)?;
+    let mut search = have!(begin(code, blocks, owners));
+    have!(follow(code, blocks, homes, &mut search));
     Ok(conclude(code, search))
 }

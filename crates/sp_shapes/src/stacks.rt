@@ -4,6 +4,7 @@ ghost use Rattle.std.specs.Prelude.{◌≡◌, ◌∷◌, [], ◌<◌, IfOk, Mat
 ghost use Rattle.sp_shapes.specs.Stacks.{Extends, IsListNumber, IsSmall, IsStacks, key_of, list_of, number_at};
 ghost use Rattle.sp_shapes.specs.Stacks.{shape_of};
 
+use crate::have;
 use sp_base::{List, Memory};
 use std::alloc::Global;
 use std::collections::BTreeMap;
@@ -76,7 +77,7 @@ impl Stacks {
         if n > 4_294_967_295 {
             return Err(Memory);
         }
-        self.cells.push(Cell { shape, below })?;
+        have!(self.cells.push(Cell { shape, below }));
         match self.known.insert(key, n as u32) {
             Ok(_) => Ok(n as u32),
             Err(_) => {

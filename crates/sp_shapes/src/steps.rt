@@ -11,6 +11,7 @@ ghost use Rattle.sp_shapes.specs.Plans.{by_plan, go_on, goes_with, left, with_to
 ghost use Rattle.sp_shapes.specs.Stacks.{Extends, IsListNumber, IsStacks, list_of};
 ghost use Rattle.sp_shapes.specs.Steps.{IsStep};
 
+use crate::have;
 use crate::plans::{Leaves, Plan, Successor, planned};
 use crate::stacks::{Shape, Stacks};
 use crate::taking::{TakeResult, take};
@@ -122,7 +123,7 @@ fn leave(stacks: &mut Stacks, plan: Plan, p: u32, t: TakeResult) -> Result<Step,
     ensures goes { IfOk result (λ step. IsStep stacks.new step
         (goes_with plan p t.variable t.left (list_of stacks.old t.rest))) }
 {
-    let n = top(stacks, left(plan.leaves, t), t.rest)?;
+    let n = have!(top(stacks, left(plan.leaves, t), t.rest));
     Ok(go_on(plan.goes, p, n, t.rest))
 }
 

@@ -13,11 +13,11 @@ ghost use Rattle.sp_types.specs.AfterTables.{starts_in};
 use crate::bodies::count_before;
 use crate::counting::sum;
 use crate::declarations::check_frame;
+use crate::have;
 use crate::rules::answer_rule;
 use crate::statements::type_statement;
 use crate::tables::Tables;
 use crate::tabling::answer_variable;
-use crate::take;
 use crate::typed::Walked;
 use sp_base::{Halt, List, Place};
 use sp_tree::{Block, Found, NamedAnswer, NamedBlock, Variable, lesser};
@@ -56,7 +56,7 @@ fn type_block(
         at,
     } = b;
     let first = check_answer(t, answer, first);
-    let body = take!(type_statement(body, alloc, t, first));
+    let body = have!(type_statement(body, alloc, t, first));
     Ok(Walked {
         tree: Block {
             name,
@@ -97,10 +97,10 @@ pub fn type_blocks(
             return Err(Halt::Memory);
         };
         let framed = lesser(first, check_frame(b.at, numbers, cells, n, variables));
-        let w = take!(type_block(b, alloc, t, start, framed));
+        let w = have!(type_block(b, alloc, t, start, framed));
         out.push(w.tree)?;
         first = w.first;
-        n = take!(sum(n, 1));
+        n = have!(sum(n, 1));
     }
     Ok(Walked {
         tree: List::of(out),

@@ -6,7 +6,7 @@ ghost use Rattle.sp_tree.specs.NamedOf.{block_of};
 ghost use Rattle.sp_types.specs.TypeWalk.{bodies, is_earlier, count_before};
 
 use crate::counting::{statement_counted, sum};
-use crate::take;
+use crate::have;
 use sp_base::{Halt, List, Place};
 use sp_tree::NamedBlock;
 use std::alloc::Global;
@@ -17,8 +17,8 @@ pub fn bodies(alloc: Global, blocks: &[NamedBlock]) -> Result<List<(Place, u32)>
 {
     let mut out = Vec::new(alloc);
     for b in blocks {
-        let n = take!(statement_counted(&b.body, 0));
-        out.push((b.body.at, n))?;
+        let n = have!(statement_counted(&b.body, 0));
+        have!(out.push((b.body.at, n)));
     }
     Ok(List::of(out))
 }
@@ -42,7 +42,7 @@ pub fn count_before(at: Place, bodies: &[(Place, u32)]) -> Result<u32, Halt>
 {
     let mut k = 0;
     for b in bodies {
-        k = take!(count_with(k, at, b));
+        k = have!(count_with(k, at, b));
     }
     Ok(k)
 }

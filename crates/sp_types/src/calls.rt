@@ -18,9 +18,9 @@ ghost use Rattle.sp_types.specs.Wanted.{part_form, part_forms, part_first};
 
 use crate::checks::{type_wanted, type_width};
 use crate::expressions::place_of;
+use crate::have;
 use crate::rules::Wanted;
 use crate::tables::Tables;
-use crate::take;
 use crate::typed::Walked;
 use crate::values::char_of;
 use sp_base::{Halt, List, Place, Text};
@@ -57,7 +57,7 @@ fn type_read(alloc: Global, t: &Tables, a: NamedArg, first: Found) -> Result<Wal
         (read_first t.now (argument_of a) first) }
 {
     let NamedArg { value, width: _ } = a;
-    let e = take!(type_wanted(alloc, t, value, Wanted::Read, first));
+    let e = have!(type_wanted(alloc, t, value, Wanted::Read, first));
     Ok(Walked {
         first: e.first,
         tree: Form::ReadValue(target(alloc, e.tree)),
@@ -69,7 +69,7 @@ fn type_open(alloc: Global, t: &Tables, a: NamedArg, first: Found) -> Result<Wal
         (channel_first t.now (argument_of a) first) }
 {
     let NamedArg { value, width: _ } = a;
-    let e = take!(type_wanted(alloc, t, value, Wanted::Channel, first));
+    let e = have!(type_wanted(alloc, t, value, Wanted::Channel, first));
     Ok(Walked {
         first: e.first,
         tree: Form::Open(target(alloc, e.tree)),
@@ -89,7 +89,7 @@ fn type_width_of(
     match w {
         None => Ok(Walked { tree: None, first }),
         Some(e) => {
-            let e = take!(type_width(alloc, t, e, at, first));
+            let e = have!(type_width(alloc, t, e, at, first));
             Ok(Walked {
                 first: e.first,
                 tree: Some(e.tree),
@@ -126,7 +126,7 @@ fn written_value(
         (at_node (write_rule (place (expression_of e)) (expression_kind t.now (expression_of e)))
         (expression_first t.now (expression_of e) first)) }
 {
-    let e = take!(type_wanted(alloc, t, e, Wanted::Written, first));
+    let e = have!(type_wanted(alloc, t, e, Wanted::Written, first));
     Ok(Walked {
         first: e.first,
         tree: Form::WriteValue(e.tree, w),
@@ -210,7 +210,7 @@ fn type_write(alloc: Global, t: &Tables, a: NamedArg, first: Found) -> Result<Wa
 {
     let NamedArg { value, width } = a;
     let at = place_of(&value);
-    let w = take!(type_width_of(alloc, t, width, at, first));
+    let w = have!(type_width_of(alloc, t, width, at, first));
     type_written(alloc, t, value, w.tree, w.first)
 }
 
@@ -253,7 +253,7 @@ pub fn type_parts(
     let mut out = Vec::new(alloc);
     let mut first = first;
     for x in xs.into_vec() {
-        let y = take!(type_part(alloc, t, part, x, first));
+        let y = have!(type_part(alloc, t, part, x, first));
         first = y.first;
         out.push(y.tree)?;
     }

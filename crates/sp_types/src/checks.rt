@@ -12,9 +12,9 @@ ghost use Rattle.sp_types.specs.TypeWalk.{place};
 ghost use Rattle.sp_types.specs.Wanted.{wanted_rule};
 
 use crate::expressions::{place_of, type_expression};
+use crate::have;
 use crate::rules::{Wanted, wanted_rule, width_rule};
 use crate::tables::Tables;
-use crate::take;
 use crate::typed::Typed;
 use sp_base::{Halt, Place};
 use sp_tree::{Expr, Found, NamedExpr, lesser};
@@ -34,7 +34,7 @@ pub fn type_wanted(
         (expression_first t.now (expression_of e) first)) }
 {
     let at = place_of(&e);
-    let e = take!(type_expression(alloc, t, e, first));
+    let e = have!(type_expression(alloc, t, e, first));
     Ok(Typed {
         first: lesser(e.first, wanted_rule(t, wanted, at, e.kind)),
         kind: e.kind,
@@ -55,7 +55,7 @@ pub fn type_width(
         (at_node (width_rule at (expression_kind t.now (expression_of e)))
         (expression_first t.now (expression_of e) first)) }
 {
-    let e = take!(type_expression(alloc, t, e, first));
+    let e = have!(type_expression(alloc, t, e, first));
     Ok(Typed {
         first: lesser(e.first, width_rule(at, e.kind)),
         kind: e.kind,

@@ -8,10 +8,10 @@ ghost use Rattle.sp_types.specs.TypeWalk.{with_constant, with_constants, constan
 ghost use Rattle.sp_types.specs.Firsts.{choice_first, choices_first, lists_first};
 ghost use Rattle.sp_types.specs.CheckedTree.{constant_numbers};
 
+use crate::have;
 use crate::rules::choice_rule;
 use crate::seen::Seen;
 use crate::tables::{Ordinal, Tables, ordinal_kind};
-use crate::take;
 use crate::values::number_or;
 use crate::written::{const_rule, const_value};
 use sp_base::{Halt, List, Place, Rule};
@@ -49,8 +49,8 @@ fn check_choice(
     ensures { Answers result (Ok (choice_first t.now k before.now c.now first)) }
 {
     let known = t.constants.items();
-    let long = take!(const_rule(known, c));
-    let o = take!(const_value(known, c));
+    let long = have!(const_rule(known, c));
+    let o = have!(const_value(known, c));
     let other = choice_rule(c.at, k, ordinal_kind(o));
     let first = lesser(lesser(first, long), other);
     Ok(lesser(first, repeat_rule(c.at, before, o)))
@@ -69,9 +69,9 @@ fn check_constants(
     let mut before = before;
     let mut first = first;
     for c in cs {
-        first = take!(check_choice(t, k, &before, c, first));
-        let o = take!(const_value(t.constants.items(), c));
-        before = take!(with_constant(o, before));
+        first = have!(check_choice(t, k, &before, c, first));
+        let o = have!(const_value(t.constants.items(), c));
+        before = have!(with_constant(o, before));
     }
     Ok((before, first))
 }
@@ -89,7 +89,7 @@ pub fn check_choices(
     let mut before = Seen::new(alloc);
     let mut first = first;
     for x in xs {
-        let (seen, found) = take!(check_constants(t, k, before, x.constants.items(), first));
+        let (seen, found) = have!(check_constants(t, k, before, x.constants.items(), first));
         before = seen;
         first = found;
     }
@@ -102,8 +102,8 @@ pub fn constant_numbers(alloc: Global, t: &Tables, cs: &[NamedConst]) -> Result<
 {
     let mut out = Vec::new(alloc);
     for c in cs {
-        let o = take!(const_value(t.constants.items(), c));
-        out.push(number_or(0, o))?;
+        let o = have!(const_value(t.constants.items(), c));
+        have!(out.push(number_or(0, o)));
     }
     Ok(List::of(out))
 }

@@ -4,9 +4,9 @@ ghost use Rattle.std.specs.Prelude.{[], Ok};
 ghost use Rattle.sp_tree.specs.PhaseResults.{Answers};
 ghost use Rattle.sp_types.specs.Tables.{constant_by, constants_from};
 
+use crate::have;
 use crate::numbers::type_number;
 use crate::tables::Ordinal;
-use crate::take;
 use crate::written::const_value;
 use sp_base::{Halt, List};
 use sp_tree::NamedConstant;
@@ -38,8 +38,8 @@ pub fn constants_of(
 {
     let mut known = Vec::new(alloc);
     for c in constants {
-        let o = take!(constant_by(numbers, known.as_slice(), c));
-        known.push(o)?;
+        let o = have!(constant_by(numbers, known.as_slice(), c));
+        have!(known.push(o));
     }
     Ok(List::of(known))
 }

@@ -7,7 +7,7 @@ ghost use Rattle.sp_tree.specs.NamedOf.{else_part, argument_of, arguments};
 ghost use Rattle.sp_types.specs.TypeWalk.{statement_counted, form_counted, other_counted, statements_counted};
 ghost use Rattle.sp_types.specs.TypeWalk.{arms_counted, branches_counted, single_count, parts_count};
 
-use crate::take;
+use crate::have;
 use sp_base::{Boxed, Halt, List};
 use sp_tree::{NamedArg, NamedArm, NamedBranch, NamedForm, NamedStmt, StandardProcedure};
 
@@ -57,7 +57,7 @@ pub fn parts_count(p: StandardProcedure, args: &[NamedArg]) -> Result<u32, Halt>
 pub fn statement_counted(s: &NamedStmt, k: u32) -> Result<u32, Halt>
     ensures { Answers result (Ok (statement_counted k (statement_of s.now))) }
 {
-    let k = take!(sum(k, 1));
+    let k = have!(sum(k, 1));
     form_counted(&s.form, k)
 }
 
@@ -70,17 +70,17 @@ fn form_counted(form: &NamedForm, k: u32) -> Result<u32, Halt>
         NamedForm::Assign(_, _) => Ok(k),
         NamedForm::Call(_, _) => Ok(k),
         NamedForm::Standard(p, args) => {
-            let n = take!(parts_count(*p, args.items()));
+            let n = have!(parts_count(*p, args.items()));
             sum(k, n)
         }
         NamedForm::Sequence(ss) => statements_counted(ss, k),
         NamedForm::If(_, s, o) => {
-            let k = take!(boxed_counted(s, k));
+            let k = have!(boxed_counted(s, k));
             other_counted(o, k)
         }
         NamedForm::While(_, s) => boxed_counted(s, k),
         NamedForm::Repeat(ss, _) => {
-            let k = take!(sum(k, 1));
+            let k = have!(sum(k, 1));
             statements_counted(ss, k)
         }
         NamedForm::Case(_, choices) => arms_counted(choices, k),
@@ -114,7 +114,7 @@ fn statements_counted(ss: &List<NamedStmt>, k: u32) -> Result<u32, Halt>
 {
     let mut k = k;
     for s in ss.items() {
-        k = take!(statement_counted(s, k));
+        k = have!(statement_counted(s, k));
     }
     Ok(k)
 }
@@ -125,7 +125,7 @@ fn arms_counted(xs: &List<NamedArm>, k: u32) -> Result<u32, Halt>
 {
     let mut k = k;
     for x in xs.items() {
-        k = take!(statement_counted(&x.body, k));
+        k = have!(statement_counted(&x.body, k));
     }
     Ok(k)
 }
@@ -136,8 +136,8 @@ fn branches_counted(xs: &List<NamedBranch>, k: u32) -> Result<u32, Halt>
 {
     let mut k = k;
     for x in xs.items() {
-        k = take!(sum(k, 1));
-        k = take!(statements_counted(&x.statements, k));
+        k = have!(sum(k, 1));
+        k = have!(statements_counted(&x.statements, k));
     }
     Ok(k)
 }

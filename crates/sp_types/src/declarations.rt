@@ -7,10 +7,10 @@ ghost use Rattle.sp_types.specs.Tables.{const_value};
 ghost use Rattle.sp_types.specs.TypeWalk.{place_by, places_of};
 ghost use Rattle.sp_types.specs.DeclarationFirsts.{constants_first, bounds_first, kinds_first, cells_first};
 
+use crate::have;
 use crate::kinds::are_wrong;
 use crate::sizes::frame_cells;
 use crate::tables::Ordinal;
-use crate::take;
 use crate::written::{const_rule, const_value};
 use sp_base::{Halt, List, Place, Rule};
 use sp_tree::{
@@ -25,7 +25,7 @@ const MOST_CELLS: u32 = 1_048_576;
 fn check_written(known: &[Option<Ordinal>], c: &NamedConst, first: Found) -> Result<Found, Halt>
     ensures { Answers result (Ok (earlier_refusal first (const_rule known.now c.now))) }
 {
-    let broken = take!(const_rule(known, c));
+    let broken = have!(const_rule(known, c));
     Ok(lesser(first, broken))
 }
 
@@ -49,7 +49,7 @@ pub fn check_constants(
 {
     let mut first = first;
     for c in constants {
-        first = take!(check_constant(known, c, first));
+        first = have!(check_constant(known, c, first));
     }
     Ok(first)
 }
@@ -58,8 +58,8 @@ pub fn check_constants(
 fn bounds_rule(known: &[Option<Ordinal>], a: &NamedConst, b: &NamedConst) -> Result<Found, Halt>
     ensures { Answers result (Ok (bounds_rule b.now.at (const_value known.now a.now) (const_value known.now b.now))) }
 {
-    let low = take!(const_value(known, a));
-    let high = take!(const_value(known, b));
+    let low = have!(const_value(known, a));
+    let high = have!(const_value(known, b));
     Ok(breaks_if(Rule::Y13, b.at, are_wrong(low, high)))
 }
 
@@ -73,9 +73,9 @@ fn check_array(
         (const_rule known.now b.now))
         (bounds_rule b.now.at (const_value known.now a.now) (const_value known.now b.now)))) }
 {
-    let first = take!(check_written(known, a, first));
-    let first = take!(check_written(known, b, first));
-    let broken = take!(bounds_rule(known, a, b));
+    let first = have!(check_written(known, a, first));
+    let first = have!(check_written(known, b, first));
+    let broken = have!(bounds_rule(known, a, b));
     Ok(lesser(first, broken))
 }
 
@@ -102,7 +102,7 @@ pub fn check_kinds(
 {
     let mut first = first;
     for k in kinds {
-        first = take!(check_bounds(known, &k.form, first));
+        first = have!(check_bounds(known, &k.form, first));
     }
     Ok(first)
 }
@@ -115,7 +115,7 @@ fn push_place(out: &mut Vec<Place>, k: &NamedKind) -> Result<(), Halt>
     match &k.form {
         NamedKindForm::Alias(_) => Ok(()),
         _ => {
-            out.push(k.at)?;
+            have!(out.push(k.at));
             Ok(())
         }
     }
@@ -127,7 +127,7 @@ pub fn places_of(alloc: Global, kinds: &[NamedKind]) -> Result<List<Place>, Halt
 {
     let mut out = Vec::new(alloc);
     for k in kinds {
-        take!(push_place(&mut out, k));
+        have!(push_place(&mut out, k));
     }
     Ok(List::of(out))
 }

@@ -18,12 +18,12 @@ ghost use Rattle.sp_types.specs.CheckedTree.{checked_selector, checked_actuals, 
 ghost use Rattle.sp_types.specs.CheckedTree.{checked_argument, variable_actual, actual_for_role};
 ghost use Rattle.sp_types.specs.TypeWalk.{is_variable, place, formal, formals_behind, formal_role};
 
+use crate::have;
 use crate::rules::{
     actual_rule, binary_gives, element, index_rule, left_rule, right_rule, standard_gives,
     standard_rule, text_rule, unary_rule, unary_takes,
 };
 use crate::tables::{Tables, ordinal_kind};
-use crate::take;
 use crate::typed::{Typed, Walked};
 use crate::values::{char_of, field, field_rule, integer, number_or, numbered_field, or_zero};
 use sp_base::{Boxed, Halt, List, Place, Text};
@@ -45,7 +45,7 @@ pub fn type_expression(
         (expression_kind t.now (expression_of e)) (expression_first t.now (expression_of e) first) }
 {
     let (at, form) = e.parts();
-    let Typed { tree, kind, first } = take!(type_form(alloc, t, form, at, first));
+    let Typed { tree, kind, first } = have!(type_form(alloc, t, form, at, first));
     Ok(Typed {
         tree: Expr {
             at,
@@ -67,8 +67,8 @@ fn type_boxed(
     ensures { ChecksTo checked.expression_of result (checked_expression t.now (expression_of e))
         (expression_kind t.now (expression_of e)) (expression_first t.now (expression_of e) first) }
 {
-    let Typed { tree, kind, first } = take!(type_expression(alloc, t, e.into_inner(), first));
-    let tree = Boxed::new(alloc, tree)?;
+    let Typed { tree, kind, first } = have!(type_expression(alloc, t, e.into_inner(), first));
+    let tree = have!(Boxed::new(alloc, tree));
     Ok(Typed { tree, kind, first })
 }
 
@@ -85,7 +85,7 @@ fn type_form(
 {
     match form {
         NamedExprForm::Number(n) => Ok(Typed {
-            tree: ExprForm::Number(take!(integer(n))),
+            tree: ExprForm::Number(have!(integer(n))),
             kind: Some(0),
             first,
         }),
@@ -99,7 +99,7 @@ fn type_form(
             })
         }
         NamedExprForm::Read(v) => {
-            let Typed { tree, kind, first } = take!(type_variable(alloc, t, v, first));
+            let Typed { tree, kind, first } = have!(type_variable(alloc, t, v, first));
             Ok(Typed {
                 tree: ExprForm::Read(tree),
                 kind,
@@ -107,7 +107,7 @@ fn type_form(
             })
         }
         NamedExprForm::Call(f, name, args) => {
-            let Walked { tree, first } = take!(type_actuals(alloc, t, args, t.formals(f), first));
+            let Walked { tree, first } = have!(type_actuals(alloc, t, args, t.formals(f), first));
             Ok(Typed {
                 tree: ExprForm::Call(f, name, tree),
                 kind: t.answer_kind(f),
@@ -115,7 +115,7 @@ fn type_form(
             })
         }
         NamedExprForm::Standard(f, args) => {
-            let Typed { tree, kind, first } = take!(type_standard(alloc, t, args, f, first));
+            let Typed { tree, kind, first } = have!(type_standard(alloc, t, args, f, first));
             Ok(Typed {
                 tree: ExprForm::Standard(f, tree),
                 kind: standard_gives(t, f, kind),
@@ -124,7 +124,7 @@ fn type_form(
         }
         NamedExprForm::Unary(op, a) => type_unary(alloc, t, a, op, first),
         NamedExprForm::Binary(op, a, b) => {
-            let a = take!(type_left(alloc, t, a, op, first));
+            let a = have!(type_left(alloc, t, a, op, first));
             type_right(alloc, t, b, a.tree, a.kind, op, a.first)
         }
     }
@@ -175,7 +175,7 @@ fn type_unary(
         (expression_first t.now (expression_of a) first)) }
 {
     let at = place_of(a.get());
-    let e = take!(type_boxed(alloc, t, a, first));
+    let e = have!(type_boxed(alloc, t, a, first));
     Ok(Typed {
         first: lesser(e.first, unary_rule(op, at, e.kind)),
         kind: Some(unary_takes(op)),
@@ -198,7 +198,7 @@ fn type_left(
         (expression_first t.now (expression_of a) first)) }
 {
     let at = place_of(a.get());
-    let e = take!(type_boxed(alloc, t, a, first));
+    let e = have!(type_boxed(alloc, t, a, first));
     Ok(Typed {
         first: lesser(e.first, left_rule(t, op, at, e.kind)),
         kind: e.kind,
@@ -223,7 +223,7 @@ fn type_right(
         (expression_first t.now (expression_of b) first)) }
 {
     let at = place_of(b.get());
-    let e = take!(type_boxed(alloc, t, b, first));
+    let e = have!(type_boxed(alloc, t, b, first));
     Ok(Typed {
         first: lesser(e.first, right_rule(t, op, at, left, e.kind)),
         kind: Some(binary_gives(op)),
@@ -249,7 +249,7 @@ pub fn type_variable(
         selectors,
     } = v;
     let kind = t.variable_kind(variable);
-    let Typed { tree, kind, first } = take!(type_selectors(alloc, t, selectors, at, kind, first));
+    let Typed { tree, kind, first } = have!(type_selectors(alloc, t, selectors, at, kind, first));
     Ok(Typed {
         tree: Var {
             variable,
@@ -278,7 +278,7 @@ fn type_selectors(
     let mut kind = kind;
     let mut first = first;
     for x in xs.into_vec() {
-        let y = take!(type_selector(alloc, t, x, at, kind, first));
+        let y = have!(type_selector(alloc, t, x, at, kind, first));
         kind = y.kind;
         first = y.first;
         out.push(y.tree)?;
@@ -307,7 +307,7 @@ fn type_selector(
     match s {
         NamedSelector::Index(e) => {
             let e_at = e.at;
-            let e = take!(type_expression(alloc, t, e, first));
+            let e = have!(type_expression(alloc, t, e, first));
             Ok(Typed {
                 first: lesser(e.first, index_rule(t, at, kind, e_at, e.kind)),
                 kind: element(t, kind, e.kind),
@@ -315,7 +315,7 @@ fn type_selector(
             })
         }
         NamedSelector::Field(name) => Ok(Typed {
-            tree: Selector::Field(take!(numbered_field(t, kind, &name))),
+            tree: Selector::Field(have!(numbered_field(t, kind, &name))),
             kind: field(t, kind, &name),
             first: lesser(first, field_rule(t, at, kind, &name)),
         }),
@@ -357,7 +357,7 @@ pub fn type_actuals(
     let mut first = first;
     let mut formals = formals;
     for x in xs.into_vec() {
-        let y = take!(type_actual(alloc, t, x, formal(formals), first));
+        let y = have!(type_actual(alloc, t, x, formal(formals), first));
         first = y.first;
         formals = others(formals);
         out.push(y.tree)?;
@@ -429,7 +429,7 @@ fn type_actual(
     let at = value.at;
     let written = is_variable(&value);
     let role = t.formal_role(x);
-    let e = take!(type_expression(alloc, t, value, first));
+    let e = have!(type_expression(alloc, t, value, first));
     let broken = actual_rule(role, at, written, t.formal_kind(x), e.kind);
     Ok(Walked {
         first: lesser(e.first, broken),
@@ -454,7 +454,7 @@ fn type_standard(
     let mut kind = None;
     let mut first = first;
     for x in xs.into_vec() {
-        let y = take!(type_parameter(alloc, t, x, f, first));
+        let y = have!(type_parameter(alloc, t, x, f, first));
         kind = y.kind;
         first = y.first;
         out.push(y.tree)?;
@@ -496,7 +496,7 @@ fn type_operand(
         (expression_first t.now (expression_of e) first)) }
 {
     let at = place_of(&e);
-    let e = take!(type_expression(alloc, t, e, first));
+    let e = have!(type_expression(alloc, t, e, first));
     Ok(Typed {
         first: lesser(e.first, standard_rule(t, f, at, e.kind)),
         kind: e.kind,

@@ -5,7 +5,8 @@ ghost use Rattle.std.specs.List.{list_any};
 ghost use Rattle.sp_tree.specs.PhaseResults.{Answers};
 ghost use Rattle.sp_types.specs.FieldTable.{AddsField, IsIndex, IsNumbers, field_from, fields_in, message_types};
 
-use sp_base::{Halt, Memory, Text};
+use crate::have;
+use sp_base::{Halt, Text};
 use sp_tree::KindOf;
 use std::alloc::Global;
 use std::collections::{BTreeMap, BTreeSet};
@@ -58,34 +59,34 @@ fn note(
     index: &mut BTreeMap<Text, (usize, u32)>,
     n: usize,
     field: &(Text, u32),
-) -> Result<(), Memory>
+) -> Result<(), Halt>
     ensures { OnOk result (AddsField index.old index.new n field.now) }
 {
     if !index.contains_key(&field.0) {
-        let name = Vec::from_slice(alloc, field.0.bytes())?;
+        let name = have!(Vec::from_slice(alloc, field.0.bytes()));
         index.insert(Text::of(name), (n, field.1))?;
     }
     Ok(())
 }
 
-fn index_of(alloc: Global, fields: &[(Text, u32)]) -> Result<BTreeMap<Text, (usize, u32)>, Memory>
+fn index_of(alloc: Global, fields: &[(Text, u32)]) -> Result<BTreeMap<Text, (usize, u32)>, Halt>
     ensures { IfOk result (λ it. IsIndex it fields.now) }
 {
     let mut index = BTreeMap::new(alloc);
     let mut n = 0;
     for f in fields {
-        note(alloc, &mut index, n, f)?;
+        have!(note(alloc, &mut index, n, f));
         n += 1;
     }
     Ok(index)
 }
 
-fn numbers_of(alloc: Global, kinds: &[u32]) -> Result<BTreeSet<u32>, Memory>
+fn numbers_of(alloc: Global, kinds: &[u32]) -> Result<BTreeSet<u32>, Halt>
     ensures { IfOk result (λ it. IsNumbers it.keys kinds.now) }
 {
     let mut numbers = BTreeSet::new(alloc);
     for k in kinds {
-        numbers.insert(*k)?;
+        have!(numbers.insert(*k));
     }
     Ok(numbers)
 }
@@ -94,8 +95,8 @@ impl KindWithFields {
     pub fn of(alloc: Global, kind: KindOf) -> Result<KindWithFields, Halt>
         ensures { Answers result (Ok kind) }
     {
-        let fields = index_of(alloc, fields_in(&kind))?;
-        let messages = numbers_of(alloc, message_types(&kind))?;
+        let fields = have!(index_of(alloc, fields_in(&kind)));
+        let messages = have!(numbers_of(alloc, message_types(&kind)));
         Ok(KindWithFields {
             kind,
             fields,

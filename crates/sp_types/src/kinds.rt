@@ -5,9 +5,9 @@ ghost use Rattle.sp_tree.specs.PhaseResults.{Answers};
 ghost use Rattle.sp_types.specs.Tables.{are_wrong, are_bounds, fields_by, type_or, array_of, type_number, kinds_by};
 ghost use Rattle.sp_types.specs.Tables.{kinds_from};
 
+use crate::have;
 use crate::numbers::type_number;
 use crate::tables::Ordinal;
-use crate::take;
 use crate::values::number_or;
 use crate::written::{const_value, has_wrong_sign, is_long, value_by};
 use sp_base::{Halt, List, Text};
@@ -31,10 +31,10 @@ pub fn are_wrong(a: Option<Ordinal>, b: Option<Ordinal>) -> bool
 fn are_bounds(known: &[Option<Ordinal>], a: &NamedConst, b: &NamedConst) -> Result<bool, Halt>
     ensures { Answers result (Ok (are_bounds known.now a.now b.now)) }
 {
-    let bare_low = take!(value_by(known, &a.value));
-    let bare_high = take!(value_by(known, &b.value));
-    let low = take!(const_value(known, a));
-    let high = take!(const_value(known, b));
+    let bare_low = have!(value_by(known, &a.value));
+    let bare_high = have!(value_by(known, &b.value));
+    let low = have!(const_value(known, a));
+    let high = have!(const_value(known, b));
     Ok(
         !is_long(&a.value)
             && (!is_long(&b.value)
@@ -61,10 +61,10 @@ fn array_of(
 ) -> Result<KindOf, Halt>
     ensures { Answers result (Ok (array_of known.now a.now b.now element)) }
 {
-    let low = take!(const_value(known, a));
-    let high = take!(const_value(known, b));
+    let low = have!(const_value(known, a));
+    let high = have!(const_value(known, b));
     let index = type_or(0, low);
-    if take!(are_bounds(known, a, b)) {
+    if have!(are_bounds(known, a, b)) {
         Ok(KindOf::Array {
             low: number_or(1, low),
             high: number_or(0, high),
@@ -101,7 +101,7 @@ fn messages_of(alloc: Global, numbers: &[u32], kinds: &[u32]) -> Result<List<u32
 {
     let mut out = Vec::new(alloc);
     for k in kinds {
-        out.push(type_number(numbers, *k))?;
+        have!(out.push(type_number(numbers, *k)));
     }
     Ok(List::of(out))
 }
@@ -132,15 +132,15 @@ fn push_kind(
         NamedKindForm::Alias(_) => Ok(()),
         NamedKindForm::Enumeration(n) => push(out, KindOf::Enumeration(n)),
         NamedKindForm::Array(a, b, e) => {
-            let array = take!(array_of(known, &a, &b, type_number(numbers, e)));
+            let array = have!(array_of(known, &a, &b, type_number(numbers, e)));
             push(out, array)
         }
         NamedKindForm::Fields(fields) => {
-            let fields = take!(fields_of(alloc, numbers, fields));
+            let fields = have!(fields_of(alloc, numbers, fields));
             push(out, KindOf::Fields(fields))
         }
         NamedKindForm::Channel(kinds) => {
-            let kinds = take!(messages_of(alloc, numbers, kinds.items()));
+            let kinds = have!(messages_of(alloc, numbers, kinds.items()));
             push(out, KindOf::Channel(kinds))
         }
     }
@@ -157,7 +157,7 @@ pub fn kinds_of(
 {
     let mut out = Vec::new(alloc);
     for k in kinds.into_vec() {
-        take!(push_kind(alloc, numbers, known, k.form, &mut out));
+        have!(push_kind(alloc, numbers, known, k.form, &mut out));
     }
     Ok(List::of(out))
 }

@@ -35,8 +35,7 @@
 //! - A repeated statement and each process statement are one sequence at the place of the first, also where it is
 //!   alone. A sequence has no length and takes no step.
 //! - The program's own statements have the last numbers. The place of the statement part tells which comes first.
-//! - `take!` stands for `?` where the error is `Halt` already: one match, where `?` is two generic calls that each
-//!   proof pays for. Where an error is led to `Halt`, it is `?`.
+//! - `have!` stands for `?`, which costs a proof more. `?` is left where a failure hands back what has to be dropped.
 //! - A type stands in the tables with what is looked up in it: the fields of a record in an ordered map by name, the
 //!   message types of a channel in an ordered set. Contracts see the type alone.
 //! - A number above the 64-bit range of integers, and a number of a statement, a field or a type that is no 32-bit

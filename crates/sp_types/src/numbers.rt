@@ -5,7 +5,7 @@ ghost use Rattle.sp_tree.specs.PhaseResults.{Answers};
 ghost use Rattle.sp_types.specs.Tables.{number_by, next_by, numbers_from, type_number};
 
 use crate::counting::sum;
-use crate::take;
+use crate::have;
 use sp_base::{Halt, List};
 use sp_tree::{NamedKind, NamedKindForm};
 use std::alloc::Global;
@@ -47,8 +47,8 @@ pub fn numbers_of(alloc: Global, kinds: &[NamedKind]) -> Result<List<u32>, Halt>
     let mut next = 0;
     for k in kinds {
         let number = number_by(known.as_slice(), next, &k.form);
-        known.push(number)?;
-        next = take!(next_by(next, &k.form));
+        have!(known.push(number));
+        next = have!(next_by(next, &k.form));
     }
     Ok(List::of(known))
 }

@@ -21,9 +21,9 @@ use crate::calls::{Part, target, type_parts};
 use crate::checks::type_wanted;
 use crate::counting::{parts_count, sum};
 use crate::expressions::{type_actuals, type_variable};
+use crate::have;
 use crate::rules::Wanted;
 use crate::tables::Tables;
-use crate::take;
 use crate::typed::{Typed, Walked};
 use sp_base::{Halt, List, Place};
 use sp_tree::{Expr, Form, Found, NamedArg, NamedExpr, NamedVar, StandardProcedure, Stmt, Var};
@@ -43,8 +43,8 @@ pub fn type_assign(
         (checked_statement_form t.now at (Assign (variable_of v) (expression_of e)))
         (statement_form_first t.now (Assign (variable_of v) (expression_of e)) first) }
 {
-    let v = take!(type_variable(alloc, t, v, first));
-    let e = take!(type_wanted(alloc, t, e, Wanted::Assigned(v.kind), v.first));
+    let v = have!(type_variable(alloc, t, v, first));
+    let e = have!(type_wanted(alloc, t, e, Wanted::Assigned(v.kind), v.first));
     Ok(Walked {
         first: e.first,
         tree: Form::Assign(v.tree, e.tree),
@@ -64,7 +64,7 @@ pub fn type_call(
         (checked_statement_form t.now at (Call f (arguments (map argument_of args))))
         (statement_form_first t.now (Call f (arguments (map argument_of args))) first) }
 {
-    let args = take!(type_actuals(alloc, t, args, t.formals(f), first));
+    let args = have!(type_actuals(alloc, t, args, t.formals(f), first));
     Ok(Walked {
         first: args.first,
         tree: Form::Call(f, args.tree),
@@ -83,7 +83,7 @@ fn type_value(
         (message_first t.now kind (argument_of a) first) }
 {
     let NamedArg { value, width: _ } = a;
-    let e = take!(type_wanted(alloc, t, value, Wanted::Message(kind), first));
+    let e = have!(type_wanted(alloc, t, value, Wanted::Message(kind), first));
     Ok(Walked {
         first: e.first,
         tree: e.tree,
@@ -102,7 +102,7 @@ fn type_received(
         (message_first t.now kind (argument_of a) first) }
 {
     let NamedArg { value, width: _ } = a;
-    let e = take!(type_wanted(alloc, t, value, Wanted::Message(kind), first));
+    let e = have!(type_wanted(alloc, t, value, Wanted::Message(kind), first));
     Ok(Walked {
         first: e.first,
         tree: target(alloc, e.tree),
@@ -124,7 +124,7 @@ fn type_values(
     let mut out = Vec::new(alloc);
     let mut first = first;
     for x in xs {
-        let y = take!(type_value(alloc, t, x, kind, first));
+        let y = have!(type_value(alloc, t, x, kind, first));
         first = y.first;
         out.push(y.tree)?;
     }
@@ -149,7 +149,7 @@ fn type_variables(
     let mut out = Vec::new(alloc);
     let mut first = first;
     for x in xs {
-        let y = take!(type_received(alloc, t, x, kind, first));
+        let y = have!(type_received(alloc, t, x, kind, first));
         first = y.first;
         out.push(y.tree)?;
     }
@@ -248,10 +248,10 @@ fn type_send(
             first,
         }),
         Some(a) => {
-            let channel = take!(type_channel(alloc, t, a, first));
-            let values = take!(type_values(alloc, t, xs, channel.kind, channel.first));
+            let channel = have!(type_channel(alloc, t, a, first));
+            let values = have!(type_values(alloc, t, xs, channel.kind, channel.first));
             Ok(Walked {
-                tree: take!(sent(t.next, at, channel.tree, values.tree)),
+                tree: have!(sent(t.next, at, channel.tree, values.tree)),
                 first: values.first,
             })
         }
@@ -277,10 +277,10 @@ fn type_receive(
             first,
         }),
         Some(a) => {
-            let channel = take!(type_channel(alloc, t, a, first));
-            let variables = take!(type_variables(alloc, t, xs, channel.kind, channel.first));
+            let channel = have!(type_channel(alloc, t, a, first));
+            let variables = have!(type_variables(alloc, t, xs, channel.kind, channel.first));
             Ok(Walked {
-                tree: take!(received(t.next, at, channel.tree, variables.tree)),
+                tree: have!(received(t.next, at, channel.tree, variables.tree)),
                 first: variables.first,
             })
         }
@@ -310,7 +310,7 @@ fn numbered(alloc: Global, n: u32, at: Place, forms: List<Form>) -> Result<List<
             at,
             form,
         })?;
-        n = take!(sum(n, 1));
+        n = have!(sum(n, 1));
     }
     Ok(List::of(out))
 }
@@ -328,7 +328,7 @@ fn expanded(alloc: Global, n: u32, at: Place, forms: List<Form>) -> Result<Form,
                 Ok(last)
             } else {
                 forms.push(last)?;
-                let ss = take!(numbered(alloc, n, at, List::of(forms)));
+                let ss = have!(numbered(alloc, n, at, List::of(forms)));
                 Ok(Form::Sequence(ss))
             }
         }
@@ -348,9 +348,9 @@ fn type_each(
         (expanded_form t.now.next at (part_forms t.now part (arguments (map argument_of args))))
         (each_first t.now (part_first t.now part) (arguments (map argument_of args)) first) }
 {
-    let forms = take!(type_parts(alloc, t, part, args, first));
+    let forms = have!(type_parts(alloc, t, part, args, first));
     Ok(Walked {
-        tree: take!(expanded(alloc, t.next, at, forms.tree)),
+        tree: have!(expanded(alloc, t.next, at, forms.tree)),
         first: forms.first,
     })
 }
@@ -367,10 +367,10 @@ fn type_readln(
         (expanded_form t.now.next at (singles t.now procedure.Readln (arguments (map argument_of args))))
         (perform_first t.now procedure.Readln (arguments (map argument_of args)) first) }
 {
-    let forms = take!(type_parts(alloc, t, Part::Read, args, first));
-    let all = take!(behind(forms.tree, Form::ReadLine));
+    let forms = have!(type_parts(alloc, t, Part::Read, args, first));
+    let all = have!(behind(forms.tree, Form::ReadLine));
     Ok(Walked {
-        tree: take!(expanded(alloc, t.next, at, all)),
+        tree: have!(expanded(alloc, t.next, at, all)),
         first: forms.first,
     })
 }
@@ -387,10 +387,10 @@ fn type_writeln(
         (expanded_form t.now.next at (singles t.now procedure.Writeln (arguments (map argument_of args))))
         (perform_first t.now procedure.Writeln (arguments (map argument_of args)) first) }
 {
-    let forms = take!(type_parts(alloc, t, Part::Write, args, first));
-    let all = take!(behind(forms.tree, Form::WriteLine));
+    let forms = have!(type_parts(alloc, t, Part::Write, args, first));
+    let all = have!(behind(forms.tree, Form::WriteLine));
     Ok(Walked {
-        tree: take!(expanded(alloc, t.next, at, all)),
+        tree: have!(expanded(alloc, t.next, at, all)),
         first: forms.first,
     })
 }
@@ -433,8 +433,8 @@ pub fn type_perform(
         (statement_form_first t.old (Perform p (arguments (map argument_of args))) first) }
     ensures after { OnOk result (t.new ≡ form_after t.old (Perform p (arguments (map argument_of args)))) }
 {
-    let count = take!(parts_count(p, args.items()));
-    let form = take!(type_call_of_standard(alloc, t, p, args, at, first));
+    let count = have!(parts_count(p, args.items()));
+    let form = have!(type_call_of_standard(alloc, t, p, args, at, first));
     let Ok(()) = t.count(count) else {
         drop(form.tree);
         return Err(Halt::Memory);

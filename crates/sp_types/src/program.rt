@@ -17,12 +17,12 @@ use crate::bodies::bodies;
 use crate::constants::constants_of;
 use crate::counting::sum;
 use crate::declarations::{check_cells, check_constants, check_kinds, places_of};
+use crate::have;
 use crate::kinds::kinds_of;
 use crate::numbers::numbers_of;
 use crate::sizes::sizes_of;
 use crate::tables::{Ordinal, Tables};
 use crate::tabling::{kinds_in, tables_of};
-use crate::take;
 use crate::typed::Walked;
 use crate::values::or_zero;
 use sp_base::{Halt, List, Place};
@@ -74,8 +74,8 @@ fn typed_variables(
     let mut out = Vec::new(alloc);
     let mut i = 0;
     for x in variables.into_vec() {
-        take!(push_variable(&mut out, kinds, i, x));
-        i = take!(sum(i, 1));
+        have!(push_variable(&mut out, kinds, i, x));
+        i = have!(sum(i, 1));
     }
     Ok(List::of(out))
 }
@@ -88,7 +88,7 @@ fn check_declared(
 ) -> Result<Found, Halt>
     ensures { Answers result (Ok (kinds_first known.now kinds.now (constants_first known.now constants.now None))) }
 {
-    let first = take!(check_constants(known, constants, None));
+    let first = have!(check_constants(known, constants, None));
     check_kinds(known, kinds, first)
 }
 
@@ -109,7 +109,7 @@ fn type_bodies(
     ensures after { OnOk result (t.new ≡ blocks_after t.old (starts_of (map plain.block_of blocks))
         (map plain.block_of blocks)) }
 {
-    let bodies = take!(bodies(alloc, blocks.items()));
+    let bodies = have!(bodies(alloc, blocks.items()));
     type_blocks(
         blocks,
         alloc,
@@ -136,8 +136,8 @@ fn checked_tables(
           blocks = map checked.block_of blocks;
         })) }
 {
-    let variables = take!(typed_variables(alloc, t.variables.items(), variables));
-    let kinds = take!(kinds_in(alloc, t.kinds));
+    let variables = have!(typed_variables(alloc, t.variables.items(), variables));
+    let kinds = have!(kinds_in(alloc, t.kinds));
     Ok(Checked {
         kinds,
         variables,
@@ -160,7 +160,7 @@ fn type_tabled(
         (blocks_outcome numbers.now cells.now t variables (map plain.block_of blocks) first) }
 {
     let mut t = t;
-    let w = take!(type_bodies(
+    let w = have!(type_bodies(
         alloc,
         &mut t,
         numbers,
@@ -191,9 +191,9 @@ fn type_kinds(
         (tables_by_names numbers.now known kinds variables (map plain.block_of blocks))
         variables (map plain.block_of blocks) first) }
 {
-    let cells = take!(sizes_of(alloc, kinds.items()));
+    let cells = have!(sizes_of(alloc, kinds.items()));
     let first = check_cells(places, cells.items(), first);
-    let t = take!(tables_of(
+    let t = have!(tables_of(
         alloc,
         numbers,
         known,
@@ -215,11 +215,11 @@ pub fn type_check(alloc: Global, named: Named) -> Result<Checked, Halt>
         variables,
         blocks,
     } = named;
-    let numbers = take!(numbers_of(alloc, kinds.items()));
-    let known = take!(constants_of(alloc, numbers.items(), constants.items()));
-    let first = take!(check_declared(known.items(), constants.items(), kinds.items()));
-    let places = take!(places_of(alloc, kinds.items()));
-    let kinds = take!(kinds_of(alloc, numbers.items(), known.items(), kinds));
+    let numbers = have!(numbers_of(alloc, kinds.items()));
+    let known = have!(constants_of(alloc, numbers.items(), constants.items()));
+    let first = have!(check_declared(known.items(), constants.items(), kinds.items()));
+    let places = have!(places_of(alloc, kinds.items()));
+    let kinds = have!(kinds_of(alloc, numbers.items(), known.items(), kinds));
     type_kinds(
         alloc,
         numbers.items(),

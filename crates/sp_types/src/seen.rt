@@ -5,6 +5,7 @@ ghost use Rattle.std.specs.List.{list_any};
 ghost use Rattle.sp_tree.specs.PhaseResults.{Answers};
 ghost use Rattle.sp_types.specs.TypeRules.{is_same_ordinal};
 
+use crate::have;
 use crate::tables::Ordinal;
 use sp_base::Halt;
 use std::alloc::Global;
@@ -63,8 +64,8 @@ impl Seen {
         let mut list = list;
         let mut set = set;
         let key = key_of(o);
-        list.push(o)?;
-        set.insert(key)?;
+        have!(list.push(o));
+        have!(set.insert(key));
         Ok(Seen { list, set })
     }
 }

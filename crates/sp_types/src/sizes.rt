@@ -7,6 +7,7 @@ ghost use Rattle.sp_types.specs.Tables.{type_number};
 ghost use Rattle.sp_types.specs.TypeRules.{frame_cells};
 ghost use Rattle.sp_types.specs.Capped.{capped_count, capped_by, capped_sizes};
 
+use crate::have;
 use crate::numbers::type_number;
 use sp_base::{Halt, List, Text};
 use sp_tree::{KindOf, Role, Variable};
@@ -104,7 +105,7 @@ pub fn sizes_of(alloc: Global, kinds: &[KindOf]) -> Result<List<u32>, Halt>
     let mut known = Vec::new(alloc);
     for k in kinds {
         let n = size_by(known.as_slice(), k);
-        known.push(n)?;
+        have!(known.push(n));
     }
     Ok(List::of(known))
 }

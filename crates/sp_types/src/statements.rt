@@ -19,10 +19,10 @@ ghost use Rattle.sp_types.specs.CheckedTree.{first_place, in_sequence};
 
 use crate::checks::type_wanted;
 use crate::choices::{check_choices, constant_numbers};
+use crate::have;
 use crate::performs::{type_assign, type_call, type_perform};
 use crate::rules::{Wanted, wanted_rule};
 use crate::tables::Tables;
-use crate::take;
 use crate::typed::Walked;
 use sp_base::{Boxed, Halt, List, Place};
 use sp_tree::{
@@ -49,7 +49,7 @@ pub fn type_statement(
         drop(form);
         return Err(Halt::Memory);
     };
-    let Walked { tree, first } = take!(type_statement_form(form, alloc, t, at, first));
+    let Walked { tree, first } = have!(type_statement_form(form, alloc, t, at, first));
     Ok(Walked {
         tree: Stmt {
             number,
@@ -71,8 +71,8 @@ fn type_boxed(
         (statement_first t.old (statement_of s) first) }
     ensures after { OnOk result (t.new ≡ statement_after t.old (statement_of s)) }
 {
-    let Walked { tree, first } = take!(type_statement(s.into_inner(), alloc, t, first));
-    let tree = Boxed::new(alloc, tree)?;
+    let Walked { tree, first } = have!(type_statement(s.into_inner(), alloc, t, first));
+    let tree = have!(Boxed::new(alloc, tree));
     Ok(Walked { tree, first })
 }
 
@@ -97,15 +97,15 @@ fn type_statement_form(
         NamedForm::Call(f, args) => type_call(alloc, t, f, args, at, first),
         NamedForm::Standard(p, args) => type_perform(alloc, t, p, args, at, first),
         NamedForm::Sequence(ss) => {
-            let Walked { tree, first } = take!(type_statements(ss, alloc, t, first));
+            let Walked { tree, first } = have!(type_statements(ss, alloc, t, first));
             Ok(Walked {
                 tree: Form::Sequence(tree),
                 first,
             })
         }
         NamedForm::If(e, s, o) => {
-            let e = take!(type_wanted(alloc, t, e, Wanted::Condition, first));
-            let s = take!(type_boxed(s, alloc, t, e.first));
+            let e = have!(type_wanted(alloc, t, e, Wanted::Condition, first));
+            let s = have!(type_boxed(s, alloc, t, e.first));
             match o {
                 None => Ok(Walked {
                     tree: Form::If(e.tree, s.tree, None),
@@ -115,8 +115,8 @@ fn type_statement_form(
             }
         }
         NamedForm::While(e, s) => {
-            let e = take!(type_wanted(alloc, t, e, Wanted::Condition, first));
-            let s = take!(type_boxed(s, alloc, t, e.first));
+            let e = have!(type_wanted(alloc, t, e, Wanted::Condition, first));
+            let s = have!(type_boxed(s, alloc, t, e.first));
             Ok(Walked {
                 tree: Form::While(e.tree, s.tree),
                 first: s.first,
@@ -133,7 +133,7 @@ fn type_statement_form(
             body,
         } => type_for(body, alloc, t, variable, at, from, down, to, first),
         NamedForm::Parallel(bs) => {
-            let Walked { tree, first } = take!(type_branches(bs, alloc, t, at, first));
+            let Walked { tree, first } = have!(type_branches(bs, alloc, t, at, first));
             Ok(Walked {
                 tree: Form::Parallel(tree),
                 first,
@@ -146,7 +146,7 @@ fn type_statement_form(
             body,
         } => type_forall(body, alloc, t, index, from, to, first),
         NamedForm::Assume(e) => {
-            let e = take!(type_wanted(alloc, t, e, Wanted::Condition, first));
+            let e = have!(type_wanted(alloc, t, e, Wanted::Condition, first));
             Ok(Walked {
                 tree: Form::Assume(e.tree),
                 first: e.first,
@@ -170,9 +170,9 @@ fn type_repeat(
         (statement_form_first t.old (Repeat (statements (map statement_of ss)) (expression_of e)) first) }
     ensures after { OnOk result (t.new ≡ statements_after (with_next_number t.old) (statements (map statement_of ss))) }
 {
-    let ss = take!(type_sequence(ss, alloc, t, at, first));
-    let s = Boxed::new(alloc, ss.tree)?;
-    let e = take!(type_wanted(alloc, t, e, Wanted::Condition, ss.first));
+    let ss = have!(type_sequence(ss, alloc, t, at, first));
+    let s = have!(Boxed::new(alloc, ss.tree));
+    let e = have!(type_wanted(alloc, t, e, Wanted::Condition, ss.first));
     Ok(Walked {
         tree: Form::Repeat(s, e.tree),
         first: e.first,
@@ -194,9 +194,9 @@ fn type_choices(
         (statement_form_first t.old (Case (expression_of e) (arms (map arm_of choices))) first) }
     ensures after { OnOk result (t.new ≡ arms_after t.old (arms (map arm_of choices))) }
 {
-    let e = take!(type_wanted(alloc, t, e, Wanted::Selector, first));
-    let first = take!(check_choices(alloc, t, e.kind, choices.items(), e.first));
-    let choices = take!(type_arms(choices, alloc, t, first));
+    let e = have!(type_wanted(alloc, t, e, Wanted::Selector, first));
+    let first = have!(check_choices(alloc, t, e.kind, choices.items(), e.first));
+    let choices = have!(type_arms(choices, alloc, t, first));
     Ok(Walked {
         first: choices.first,
         tree: Form::Case(e.tree, choices.tree),
@@ -222,10 +222,10 @@ fn type_forall(
     ensures after { OnOk result (t.new ≡ form_after t.old
         (Forall index (expression_of from) (expression_of to) (statement_of body))) }
 {
-    let from = take!(type_wanted(alloc, t, from, Wanted::Range, first));
-    let to = take!(type_wanted(alloc, t, to, Wanted::Limit(from.kind), from.first));
+    let from = have!(type_wanted(alloc, t, from, Wanted::Range, first));
+    let to = have!(type_wanted(alloc, t, to, Wanted::Limit(from.kind), from.first));
     t.index(index, from.kind);
-    let body = take!(type_boxed(body, alloc, t, to.first));
+    let body = have!(type_boxed(body, alloc, t, to.first));
     Ok(Walked {
         first: body.first,
         tree: Form::Forall {
@@ -252,7 +252,7 @@ fn type_else(
         (statement_first t.old (statement_of o) first) }
     ensures after { OnOk result (t.new ≡ statement_after t.old (statement_of o)) }
 {
-    let o = take!(type_boxed(o, alloc, t, first));
+    let o = have!(type_boxed(o, alloc, t, first));
     Ok(Walked {
         tree: else_form(e, s, o.tree),
         first: o.first,
@@ -289,9 +289,9 @@ fn type_for(
 {
     let kind = t.variable_kind(variable);
     let broken = wanted_rule(t, Wanted::Range, at, kind);
-    let from = take!(type_wanted(alloc, t, from, Wanted::Limit(kind), lesser(first, broken)));
-    let to = take!(type_wanted(alloc, t, to, Wanted::Limit(kind), from.first));
-    let body = take!(type_boxed(body, alloc, t, to.first));
+    let from = have!(type_wanted(alloc, t, from, Wanted::Limit(kind), lesser(first, broken)));
+    let to = have!(type_wanted(alloc, t, to, Wanted::Limit(kind), from.first));
+    let body = have!(type_boxed(body, alloc, t, to.first));
     Ok(Walked {
         first: body.first,
         tree: Form::For {
@@ -320,7 +320,7 @@ fn type_statements(
     let mut out = Vec::new(alloc);
     let mut first = first;
     for s in ss.into_vec() {
-        let y = take!(type_statement(s, alloc, t, first));
+        let y = have!(type_statement(s, alloc, t, first));
         first = y.first;
         out.push(y.tree)?;
     }
@@ -357,8 +357,8 @@ fn type_sequence(
 {
     let number = t.next;
     let at = first_place(at, ss.items());
-    take!(t.count(1));
-    let Walked { tree, first } = take!(type_statements(ss, alloc, t, first));
+    have!(t.count(1));
+    let Walked { tree, first } = have!(type_statements(ss, alloc, t, first));
     Ok(Walked {
         tree: Stmt {
             number,
@@ -385,7 +385,7 @@ fn type_branches(
     let mut first = first;
     for b in bs.into_vec() {
         let NamedBranch { statements } = b;
-        let y = take!(type_sequence(statements, alloc, t, at, first));
+        let y = have!(type_sequence(statements, alloc, t, at, first));
         first = y.first;
         out.push(y.tree)?;
     }
@@ -409,7 +409,7 @@ fn type_arms(
     let mut out = Vec::new(alloc);
     let mut first = first;
     for x in xs.into_vec() {
-        let y = take!(type_arm(x, alloc, t, first));
+        let y = have!(type_arm(x, alloc, t, first));
         first = y.first;
         out.push(y.tree)?;
     }
@@ -429,7 +429,7 @@ fn type_arm(a: NamedArm, alloc: Global, t: &mut Tables, first: Found) -> Result<
         drop(body);
         return Err(Halt::Memory);
     };
-    let Walked { tree, first } = take!(type_statement(body, alloc, t, first));
+    let Walked { tree, first } = have!(type_statement(body, alloc, t, first));
     Ok(Walked {
         tree: Arm {
             constants,

@@ -6,9 +6,9 @@ ghost use Rattle.sp_tree.specs.NamedOf.{block_of};
 ghost use Rattle.sp_types.specs.Tables.{answer_variable, type_of, types_of, roles_of, signatures};
 
 use crate::field_table::KindWithFields;
+use crate::have;
 use crate::numbers::type_number;
 use crate::tables::{Ordinal, Signature, Tables};
-use crate::take;
 use sp_base::{Halt, List};
 use sp_tree::{KindOf, NamedAnswer, NamedBlock, Role, Variable};
 use std::alloc::Global;
@@ -32,7 +32,7 @@ fn types_of(
 {
     let mut out = Vec::new(alloc);
     for x in variables {
-        out.push(type_of(numbers, x.role, x.kind))?;
+        have!(out.push(type_of(numbers, x.role, x.kind)));
     }
     Ok(List::of(out))
 }
@@ -42,7 +42,7 @@ fn roles_of(alloc: Global, variables: &[Variable]) -> Result<List<Role>, Halt>
 {
     let mut out = Vec::new(alloc);
     for x in variables {
-        out.push(x.role)?;
+        have!(out.push(x.role));
     }
     Ok(List::of(out))
 }
@@ -63,7 +63,7 @@ fn signatures(alloc: Global, blocks: &[NamedBlock]) -> Result<List<Signature>, H
 {
     let mut out = Vec::new(alloc);
     for b in blocks {
-        let formals = List::from_slice(alloc, b.formals.items())?;
+        let formals = have!(List::from_slice(alloc, b.formals.items()));
         let answer = answer_variable(b.answer);
         out.push(Signature { formals, answer })?;
     }
@@ -76,7 +76,7 @@ fn entries_of(alloc: Global, kinds: List<KindOf>) -> Result<List<KindWithFields>
 {
     let mut out = Vec::new(alloc);
     for k in kinds.into_vec() {
-        out.push(take!(KindWithFields::of(alloc, k)))?;
+        out.push(have!(KindWithFields::of(alloc, k)))?;
     }
     Ok(List::of(out))
 }
@@ -110,10 +110,10 @@ pub fn tables_of(
       next = 0;
     })) }
 {
-    let kinds = take!(entries_of(alloc, kinds));
-    let types = take!(types_of(alloc, numbers, variables));
-    let roles = take!(roles_of(alloc, variables));
-    let blocks = take!(signatures(alloc, blocks));
+    let kinds = have!(entries_of(alloc, kinds));
+    let types = have!(types_of(alloc, numbers, variables));
+    let roles = have!(roles_of(alloc, variables));
+    let blocks = have!(signatures(alloc, blocks));
     Ok(Tables {
         constants,
         kinds,

@@ -4,14 +4,14 @@
 use sp_tree::Found;
 pub use sp_tree::Walked;
 
-/// The value; where there is none, the function around ends so: one match, where `?` is two generic calls. Each crate
-/// that uses it has its own, since proofs name the steps of another crate's macro otherwise.
+/// What a call gives; where memory is refused to it, the function around ends so. One match, where `?` is two generic
+/// calls, which cost the proof more.
 #[macro_export]
-macro_rules! take {
-    ($result:expr) => {
-        match $result {
+macro_rules! have {
+    ($call:expr) => {
+        match $call {
             Ok(value) => value,
-            Err(halt) => return Err(halt),
+            Err(_) => return Err(Halt::Memory),
         }
     };
 }

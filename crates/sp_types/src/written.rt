@@ -6,8 +6,8 @@ ghost use Rattle.sp_tree.specs.declared.named.NamedValue.TheVariants as given;
 ghost use Rattle.sp_types.specs.Tables.{value_by, signed_value, const_value, is_long, has_wrong_sign};
 ghost use Rattle.sp_types.specs.TypeRules.{const_rule};
 
+use crate::have;
 use crate::tables::Ordinal;
-use crate::take;
 use crate::values::{char_of, integer};
 use sp_base::{Halt, Rule};
 use sp_tree::{Found, NamedConst, NamedValue, breaks_if};
@@ -27,7 +27,7 @@ pub fn value_by(known: &[Option<Ordinal>], v: &NamedValue) -> Result<Option<Ordi
 {
     match v {
         NamedValue::Number(n) => {
-            let number = take!(integer(*n));
+            let number = have!(integer(*n));
             Ok(Some(Ordinal { kind: 0, number }))
         }
         NamedValue::Quoted(t) => Ok(char_of(t)),
@@ -51,7 +51,7 @@ fn minus(o: Ordinal) -> Result<Option<Ordinal>, Halt>
     ensures { Answers result (Ok (signed_value (Some true) (Some o))) }
 {
     if o.kind == 0 {
-        let number = take!(negated(o.number));
+        let number = have!(negated(o.number));
         Ok(Some(Ordinal {
             kind: o.kind,
             number,
@@ -79,7 +79,7 @@ fn signed(sign: Option<bool>, o: Option<Ordinal>) -> Result<Option<Ordinal>, Hal
 pub fn const_value(known: &[Option<Ordinal>], c: &NamedConst) -> Result<Option<Ordinal>, Halt>
     ensures { Answers result (Ok (const_value known.now c.now)) }
 {
-    let o = take!(value_by(known, &c.value));
+    let o = have!(value_by(known, &c.value));
     signed(c.negative, o)
 }
 
@@ -111,7 +111,7 @@ pub fn has_wrong_sign(sign: Option<bool>, o: Option<Ordinal>) -> bool
 pub fn const_rule(known: &[Option<Ordinal>], c: &NamedConst) -> Result<Found, Halt>
     ensures { Answers result (Ok (const_rule known.now c.now)) }
 {
-    let o = take!(value_by(known, &c.value));
+    let o = have!(value_by(known, &c.value));
     let broken = is_long(&c.value) || has_wrong_sign(c.negative, o);
     Ok(breaks_if(Rule::Y14, c.at, broken))
 }

@@ -9,6 +9,7 @@ ghost use Rattle.superpascal.specs.Causes.{accepted_answer, silent_answer};
 ghost use Rattle.superpascal.specs.declared.ending.Ending.TheVariants as variants;
 
 use crate::ending::{Answer, Ending};
+use crate::have;
 use sp_base::{Memory, Text, put_decimal};
 use sp_codefile::VRule;
 use sp_print::refusal_line;
@@ -44,9 +45,9 @@ pub(crate) fn accepted(output: Vec<u8>, notes: Vec<u8>) -> Answer
 fn number_line(alloc: Global, words: &[u8], number: u64) -> Result<Vec<u8>, Memory>
     ensures { IfOk result (λ line. line.items ≡ words.now ++ decimal number ++ codes "\n") }
 {
-    let mut line = Vec::from_slice(alloc, words)?;
-    put_decimal(&mut line, number)?;
-    line.extend_from_slice(b"\n")?;
+    let mut line = have!(Vec::from_slice(alloc, words));
+    have!(put_decimal(&mut line, number));
+    have!(line.extend_from_slice(b"\n"));
     Ok(line)
 }
 
@@ -71,11 +72,11 @@ fn rule_number(rule: VRule) -> u64
 fn rejection_line(alloc: Global, rule: VRule, instruction: u32) -> Result<Vec<u8>, Memory>
     ensures { IfOk result (λ line. line.items ≡ line_of (variants.Rejected rule instruction)) }
 {
-    let mut line = Vec::from_slice(alloc, b"rejected V")?;
-    put_decimal(&mut line, rule_number(rule))?;
-    line.extend_from_slice(b" ")?;
-    put_decimal(&mut line, instruction as u64)?;
-    line.extend_from_slice(b"\n")?;
+    let mut line = have!(Vec::from_slice(alloc, b"rejected V"));
+    have!(put_decimal(&mut line, rule_number(rule)));
+    have!(line.extend_from_slice(b" "));
+    have!(put_decimal(&mut line, instruction as u64));
+    have!(line.extend_from_slice(b"\n"));
     Ok(line)
 }
 

@@ -11,6 +11,18 @@ use sp_execute::Ran;
 use sp_kernel::Closed;
 use std::alloc::{AllocError, AllocFailed};
 
+/// What a call gives; where memory is refused to it, the function around ends so. One match, where `?` is two generic
+/// calls, which cost the proof more.
+#[macro_export]
+macro_rules! have {
+    ($call:expr) => {
+        match $call {
+            Ok(value) => value,
+            Err(_) => return Err(Memory),
+        }
+    };
+}
+
 /// How a call ends.
 #[derive(Clone, Copy)]
 pub enum Ending {

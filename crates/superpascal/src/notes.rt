@@ -9,6 +9,7 @@ ghost use Rattle.superpascal.specs.Replays.{ending_of_replay, lines_of_replay};
 ghost use Rattle.superpascal.specs.Runs.{end_lines, ending_of, generated_output, is_journal, run_notes, witness_text};
 
 use crate::ending::Ending;
+use crate::have;
 use sp_base::{Memory, Show, put_decimal};
 use sp_execute::{Ran, witness};
 use sp_journal::{End, print_journal};
@@ -39,9 +40,9 @@ pub(crate) fn end_lines(alloc: Global, ran: &Ran) -> Result<Vec<u8>, Memory>
     requires { HasLines ran.now.closed.end }
     ensures { IfOk result (λ text. text.items ≡ end_lines ran.now) }
 {
-    let mut text = sp_print::end_lines(alloc, ran.closed.end())?;
-    let verdict = verdict_line(alloc, &ran.verdict)?;
-    text.extend_from_slice(verdict.as_slice())?;
+    let mut text = have!(sp_print::end_lines(alloc, ran.closed.end()));
+    let verdict = have!(verdict_line(alloc, &ran.verdict));
+    have!(text.extend_from_slice(verdict.as_slice()));
     Ok(text)
 }
 
@@ -57,9 +58,9 @@ fn told_notes(
     ensures { IfOk result (λ notes. notes.items
         ≡ end_lines ran.now ++ reports text title watchers.items show ran.now.closed.journal.entries) }
 {
-    let mut notes = end_lines(alloc, ran)?;
-    let reports = tell(alloc, watchers, ran.closed.journal(), show)?;
-    notes.extend_from_slice(reports.as_slice())?;
+    let mut notes = have!(end_lines(alloc, ran));
+    let reports = have!(tell(alloc, watchers, ran.closed.journal(), show));
+    have!(notes.extend_from_slice(reports.as_slice()));
     Ok(notes)
 }
 
@@ -86,7 +87,7 @@ pub(crate) fn witness_text(alloc: Global, ran: &Ran) -> Result<Vec<u8>, Memory>
     requires { IsReadyRun ran.now }
     ensures { IfOk result (λ text. text.items ≡ witness_text ran.now) }
 {
-    match witness(alloc, ran)? {
+    match have!(witness(alloc, ran)) {
         Some(journal) => print_journal(alloc, &journal),
         None => Ok(Vec::new(alloc)),
     }
@@ -97,15 +98,15 @@ pub(crate) fn generated_output(alloc: Global, size: u32, ran: &Ran) -> Result<Ve
     requires { IsTellable ran.now }
     ensures { IfOk result (λ text. text.items ≡ generated_output size ran.now) }
 {
-    let mut text = Vec::from_slice(alloc, b"size ")?;
-    put_decimal(&mut text, size as u64)?;
-    text.extend_from_slice(b"\noutput ")?;
-    text.extend_from_slice(ran.closed.output().bytes())?;
-    text.extend_from_slice(b"\nentries ")?;
-    put_decimal(&mut text, ran.closed.journal().entries.len() as u64)?;
-    text.extend_from_slice(b"\n")?;
-    let lines = end_lines(alloc, ran)?;
-    text.extend_from_slice(lines.as_slice())?;
+    let mut text = have!(Vec::from_slice(alloc, b"size "));
+    have!(put_decimal(&mut text, size as u64));
+    have!(text.extend_from_slice(b"\noutput "));
+    have!(text.extend_from_slice(ran.closed.output().bytes()));
+    have!(text.extend_from_slice(b"\nentries "));
+    have!(put_decimal(&mut text, ran.closed.journal().entries.len() as u64));
+    have!(text.extend_from_slice(b"\n"));
+    let lines = have!(end_lines(alloc, ran));
+    have!(text.extend_from_slice(lines.as_slice()));
     Ok(text)
 }
 
@@ -125,7 +126,7 @@ fn lines_of_replay(alloc: Global, end: &Option<End>) -> Result<Vec<u8>, Memory>
     ensures { IfOk result (λ text. text.items ≡ lines_of_replay end.now) }
 {
     match end {
-        None => Ok(Vec::from_slice(alloc, b"no end\n")?),
+        None => Ok(have!(Vec::from_slice(alloc, b"no end\n"))),
         Some(end) => sp_print::end_lines(alloc, end),
     }
 }
@@ -135,8 +136,8 @@ pub(crate) fn replay_notes(alloc: Global, end: &Option<End>) -> Result<Vec<u8>, 
     requires { HasEndLines end.now }
     ensures { IfOk result (λ text. text.items ≡ codes "replayed\n" ++ lines_of_replay end.now) }
 {
-    let mut text = Vec::from_slice(alloc, b"replayed\n")?;
-    let lines = lines_of_replay(alloc, end)?;
-    text.extend_from_slice(lines.as_slice())?;
+    let mut text = have!(Vec::from_slice(alloc, b"replayed\n"));
+    let lines = have!(lines_of_replay(alloc, end));
+    have!(text.extend_from_slice(lines.as_slice()));
     Ok(text)
 }

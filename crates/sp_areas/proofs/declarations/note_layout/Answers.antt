@@ -23,7 +23,7 @@ loop-x-preserved c =
     let at : slice_get l.variables k ≡ Some x = subst (λ (zs : List ℕ). slice_get zs k ≡ Some x) c.items-x-items.ensures
     (slice_get-get_or xs k 0 c.loop-x-test.true) in
     noted code (InLayout j k) (InLayout j (k + 1)) (next_layout code j k) c.loop-x.seen c.note.new.seen c.loop-x.first
-    c.in_ok-first.first x l.entry (variable_of code j k x l there at) c.loop-x.invariant c.in_ok-first.ensures
+    c.in-Ok.value x l.entry (variable_of code j k x l there at) c.loop-x.invariant c.in-Ok.ensures
 
 pub returns : goal.returns
 returns c =

@@ -40,4 +40,4 @@ returns c =
     let p : number_from 0 ls l.block ≡ Some c.in-Some-place.place = sym (c.requires.blocks l.block)
     ∙ sym c.place.ensures ∙ c.in-Some-place.is in
     filled_more c.args.code.now c.args.item c.in-Some-place.place c.args.grown.now c.give_node.new.grown l
-    c.requires.just e n p c.in_ok-give_node.ensures
+    c.requires.just e n p c.in-Ok.ensures

@@ -62,6 +62,6 @@ returns c =
     (owner_there code c.args.owners.now c.args.q c.requires.owners (named_within code t c.args.q names)) in
     let hangs : Hangs g c.give_nodes.new.grown t c.in-Some-node_of.around tb.children =
     subst (λ (ts : List ChildTable).
-    Hangs g c.give_nodes.new.grown t c.in-Some-node_of.around ts) c.items.ensures c.in_ok-give_nodes.ensures in
+    Hangs g c.give_nodes.new.grown t c.in-Some-node_of.around ts) c.items.ensures c.in-Ok.ensures in
     hung_step code c.args.of_blocks.now g c.give_nodes.new.grown c.requires.just t c.args.q c.in-Some-node_of.around tb
     c.owner_in-owner.result names owns node none there hangs c.args.owners.now

@@ -7,5 +7,5 @@ use Rattle.sp_areas.proofs.hung.put_again.Goals as goal
 pub returns : goal.returns
 returns c =
     let old = c.args.nodes.now in
-    subst (λ (ns : List Node). PutsChild old ns c.args.number None) (sym c.in_ok-push.ensures.ok)
+    subst (λ (ns : List Node). PutsChild old ns c.args.number None) (sym c.in-Ok.ensures.ok)
     (puts_again old c.args.number c.node-again.result c.node-again.ensures)

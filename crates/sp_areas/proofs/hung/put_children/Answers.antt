@@ -14,7 +14,7 @@ loop-child-preserved c =
     let ch = c.child-item.result in
     let g = slice_get_read ts (length ts) n ch refl c.loop-child-test.true c.child-item.is in
     puts_more c.args.around ts c.args.nodes.now c.loop-child.nodes c.put_child.new.nodes n ch g c.loop-child.invariant
-    c.in_ok-put_child.ensures
+    c.in-Ok.ensures
 
 pub returns : goal.returns
 returns c =

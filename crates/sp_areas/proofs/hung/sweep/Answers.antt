@@ -6,5 +6,5 @@ pub loop-q-preserved : goal.loop-q-preserved
 loop-q-preserved c =
     items_more (AreHung c.args.code.now c.args.of_blocks.now)
     (IsHungBy c.args.code.now c.args.owners.now c.args.of_blocks.now)
-    c.args.grown.now c.loop-q.grown c.hang.new.grown c.loop-q.q c.loop-q.changed c.in_ok-new.new c.loop-q.invariant
-    c.in_ok-new.ensures
+    c.args.grown.now c.loop-q.grown c.hang.new.grown c.loop-q.q c.loop-q.changed c.in-Ok.value c.loop-q.invariant
+    c.in-Ok.ensures

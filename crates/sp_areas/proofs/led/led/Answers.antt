@@ -7,5 +7,5 @@ pub hurry-hurried-requires-clause-just : goal.hurry-hurried-requires-clause-just
 hurry-hurried-requires-clause-just c =
     let count : c.len.result ≡ length c.args.code.now.layouts = c.len.ensures
     ∙ ap (λ (z : Parts). length z.layouts) c.parts.ensures.same in
-    none_led c.args.code.now.layouts c.in_ok-grown.grown c.in_ok-grown.ensures.0 (c.in_ok-grown.ensures.1
+    none_led c.args.code.now.layouts c.in-Ok-nothing.value c.in-Ok-nothing.ensures.0 (c.in-Ok-nothing.ensures.1
     ∙ ap (λ n. replicate n None) count)

@@ -39,7 +39,7 @@ returns c =
     let i : inside_of ls c.args.grown.now.of l ≡ Some c.in-Some-inside_of.around = sym
     (c.inside_of.ensures ls c.requires.blocks) ∙ c.in-Some-inside_of.is in
     led_step ls c.args.grown.now c.give_node.new.grown c.args.item c.in-Some-place.place l c.in-Some-inside_of.around
-    c.requires.just e n p i c.in_ok-give_node.ensures
+    c.requires.just e n p i c.in-Ok.ensures
 
 pub returns-in-None : goal.returns-in-None
 returns-in-None c = grind (arith, common_steps)

@@ -5,4 +5,4 @@ use Rattle.sp_areas.proofs.led.sweep.Goals as goal
 pub loop-item-preserved : goal.loop-item-preserved
 loop-item-preserved c =
     items_more (AreLed c.args.code.now.layouts) (IsTried c.args.code.now.layouts) c.args.grown.now c.loop-item.grown
-    c.settle.new.grown c.loop-item.item c.loop-item.changed c.in_ok-new.new c.loop-item.invariant c.in_ok-new.ensures
+    c.settle.new.grown c.loop-item.item c.loop-item.changed c.in-Ok.value c.loop-item.invariant c.in-Ok.ensures

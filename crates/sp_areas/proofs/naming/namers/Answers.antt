@@ -9,7 +9,7 @@ loop-p-init c =
     let code = c.args.code.now in
     let n = c.len.result in
     let e : n ≡ length code.forks = c.len.ensures ∙ ap (λ (z : Parts). length z.forks) c.parts-parts.ensures.same in
-    subst (AreNamers code 0) (sym c.in_ok-namers.ensures) (begun code n e)
+    subst (AreNamers code 0) (sym c.in-Ok.ensures) (begun code n e)
 
 pub returns : goal.returns
 returns c =

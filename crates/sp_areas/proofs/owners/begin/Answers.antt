@@ -8,8 +8,8 @@ use Rattle.sp_areas.specs.Owners.{entry_at}
 use Rattle.sp_areas.proofs.Handing.{begun_more, entry_true}
 use Rattle.sp_areas.proofs.owners.begin.Goals as goal
 
-pub hand-requires-clause-owner : goal.hand-requires-clause-owner
-hand-requires-clause-owner c = λ q e l.
+pub hand-changed-requires-clause-owner : goal.hand-changed-requires-clause-owner
+hand-changed-requires-clause-owner c = λ q e l.
     let code = c.args.code.now in
     let b = c.l-item.result.block in
     let s : c.entry_of-entry.result ≡ entry_at (layout_of code.layouts b) = subst
@@ -29,5 +29,5 @@ loop-l-preserved c =
     let g : slice_get ls j ≡ Some l = slice_get_read ls (length ls) j l refl c.loop-l-test.true c.l-item.is in
     let e : slice_get code.layouts j ≡ Some l = subst (λ (zs : List Layout). slice_get zs j ≡ Some l)
     (c.items-l-items.ensures ∙ ap (λ (z : Parts). z.layouts) c.parts.ensures.same) g in
-    begun_more code c.args.owners.now c.loop-l.owners c.hand.new.owners j l c.entry_of-entry.result c.loop-l.changed
-    c.in_ok-new.new e (λ m f. s ∙ ap entry_at f) c.loop-l.invariant c.in_ok-new.ensures
+    begun_more code c.args.owners.now c.loop-l.owners c.hand-changed.new.owners j l c.entry_of-entry.result
+    c.loop-l.changed c.hand-changed.result e (λ m f. s ∙ ap entry_at f) c.loop-l.invariant c.hand-changed.ensures

@@ -1,7 +1,7 @@
 use Rattle.std.proofs.Common.{◌<◌, ℕ, length, Option, ap, sym, ◌∙◌, subst}
 use Rattle.sp_code.specs.declared.code.Parts.{Parts}
-use Rattle.sp_areas.specs.Owners.{HandsOwner, KnowsAt, Spreads}
-use Rattle.sp_areas.proofs.Handing.{hand_given, ok_map}
+use Rattle.sp_areas.specs.Owners.{KnowsAt, Spreads}
+use Rattle.sp_areas.proofs.Handing.{hand_given}
 use Rattle.sp_areas.proofs.owners.hand.Goals as goal
 
 pub returns-then-q-len : goal.returns-then-q-len
@@ -12,7 +12,6 @@ returns-then-q-len c =
     let q = c.in-Some.q in
     let l : q < length code.instrs = subst (λ n. q < n) (c.len.ensures
     ∙ ap (λ (z : Parts). length z.instrs) c.parts.ensures.same) c.if-q-len.true in
-    ok_map c.give.result (λ s. HandsOwner a b q c.args.o s) (λ s. Spreads code a b (KnowsAt code c.args.to c.args.o) s)
-    (λ s g. subst (λ (z : Option ℕ). Spreads code a b (KnowsAt code z c.args.o) s) (sym c.in-Some.is)
-    (hand_given code a b q c.args.o s c.requires.just c.requires.some l (c.requires.owner q c.in-Some.is l) g))
-    c.give.ensures
+    subst (λ (z : Option ℕ). Spreads code a b (KnowsAt code z c.args.o) c.give.result) (sym c.in-Some.is)
+    (hand_given code a b q c.args.o c.give.result c.requires.just c.requires.some l
+    (c.requires.owner q c.in-Some.is l) c.give.ensures)

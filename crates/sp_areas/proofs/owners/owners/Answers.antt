@@ -11,4 +11,4 @@ returns c =
     let m : c.len-count.result ≡ length code.instrs = c.len-count.ensures
     ∙ ap (λ (z : Parts). length z.instrs) c.parts-parts.ensures.same in
     subst (AreOwners code) (sym (c.truncate.ensures
-    ∙ ap (λ n. take n os) m)) (are_owners code os c.in_ok-search.ensures.0 c.in_ok-search.ensures.1)
+    ∙ ap (λ n. take n os) m)) (are_owners code os c.in-Ok-search.ensures.0 c.in-Ok-search.ensures.1)

@@ -3,6 +3,7 @@ use Rattle.sp_areas.proofs.owners.sweep.Goals as goal
 
 pub returns : goal.returns
 returns c =
-    swept c.args.code.now c.args.owners.now c.begin.new.owners c.visit_all.new.owners c.visit_tables.new.owners
-    c.in_ok-first.first c.in_ok-second.second c.in_ok-third.third
-    c.in_ok-first.ensures c.in_ok-second.ensures c.in_ok-third.ensures
+    swept c.args.code.now c.args.owners.now c.begin-first.new.owners c.visit_all-second.new.owners
+    c.visit_tables-third.new.owners
+    c.begin-first.result c.visit_all-second.result c.visit_tables-third.result
+    c.begin-first.ensures c.visit_all-second.ensures c.visit_tables-third.ensures

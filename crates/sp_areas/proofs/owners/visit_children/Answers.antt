@@ -4,14 +4,15 @@ use Rattle.sp_areas.specs.Owners.{IsHanded, IsOwner, IsTrueOf, Spreads}
 use Rattle.sp_areas.proofs.Handing.{handed_more, some_of_child}
 use Rattle.sp_areas.proofs.owners.visit_children.Goals as goal
 
-pub hand-requires-clause-just : goal.hand-requires-clause-just
-hand-requires-clause-just c = c.loop-k.invariant.just
+pub hand-changed-requires-clause-just : goal.hand-changed-requires-clause-just
+hand-changed-requires-clause-just c = c.loop-k.invariant.just
 
-pub hand-requires-clause-some : goal.hand-requires-clause-some
-hand-requires-clause-some c = subst IsOwner (sym c.of_child.ensures) (some_of_child c.loop-k.k c.args.o c.requires.some)
+pub hand-changed-requires-clause-some : goal.hand-changed-requires-clause-some
+hand-changed-requires-clause-some c =
+    subst IsOwner (sym c.of_child.ensures) (some_of_child c.loop-k.k c.args.o c.requires.some)
 
-pub hand-requires-clause-owner : goal.hand-requires-clause-owner
-hand-requires-clause-owner c = λ q e l.
+pub hand-changed-requires-clause-owner : goal.hand-changed-requires-clause-owner
+hand-changed-requires-clause-owner c = λ q e l.
     let code = c.args.code.now in
     let ts = c.args.children.now in
     let ch = c.index-children-k.result in
@@ -26,8 +27,9 @@ loop-k-preserved c =
     let ts = c.args.children.now in
     let ch = c.index-children-k.result in
     let g = slice_get_read ts (length ts) c.loop-k.k ch refl c.loop-k-test.true c.index-children-k.is in
-    handed_more c.args.code.now c.args.owners.now c.loop-k.owners c.hand.new.owners c.args.o c.of_child.result ts
-    c.loop-k.k ch c.loop-k.changed c.in_ok-new.new g c.of_child.ensures c.loop-k.invariant c.in_ok-new.ensures
+    handed_more c.args.code.now c.args.owners.now c.loop-k.owners c.hand-changed.new.owners c.args.o c.of_child.result
+    ts c.loop-k.k ch c.loop-k.changed c.hand-changed.result g c.of_child.ensures c.loop-k.invariant
+    c.hand-changed.ensures
 
 pub returns : goal.returns
 returns c =

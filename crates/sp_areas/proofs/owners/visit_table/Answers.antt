@@ -1,8 +1,7 @@
 use Rattle.std.proofs.Common.{◌≡◌, ◌+◌, length, Some, ap, sym, ◌∙◌, subst, arith}
 use Rattle.std.specs.Prelude.{slice_get}
 use Rattle.sp_code.specs.declared.code.Parts.{Parts}
-use Rattle.sp_areas.specs.Owners.{IsHanded, IsSpreadBy, Spreads}
-use Rattle.sp_areas.proofs.Handing.{child_true, ok_map, spread_by}
+use Rattle.sp_areas.proofs.Handing.{child_true, spread_by}
 use Rattle.std.proofs.lemmas.Grind.{common_steps}
 use Rattle.sp_areas.proofs.owners.visit_table.Goals as goal
 
@@ -33,9 +32,7 @@ returns c =
     (sym c.in-Some.ensures) in
     let g : slice_get code.forks c.args.t ≡ Some tb = subst
     (λ (z : Parts). slice_get z.forks c.args.t ≡ Some tb) c.parts-parts.ensures.same (sym c.in-Some-get.ensures) in
-    ok_map c.visit_children.result (λ s. Spreads code a b (IsHanded code o ts (length ts)) s)
-    (λ s. Spreads code a b (IsSpreadBy code c.args.t) s)
-    (λ s h. spread_by code a b c.args.t o tb ts s e g c.items.ensures h) c.visit_children.ensures
+    spread_by code a b c.args.t o tb ts c.visit_children.result e g c.items.ensures c.visit_children.ensures
 
 pub returns-in-None : goal.returns-in-None
 returns-in-None c = grind (arith, common_steps)

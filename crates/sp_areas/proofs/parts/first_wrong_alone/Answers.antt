@@ -18,7 +18,7 @@ returns c =
     let numbered = subst (λ (ls : List Layout). IsNumbered first ls) (sym same) c.requires in
     let whole : c.least-3.result ≡ earlier_of (earlier_of a b) (earlier_of d e) = cc in
     subst (IsLeast (BreaksAlone code)) (sym whole)
-    (passed code first c.in_ok-forked.forked c.in_ok-foralled.foralled a b d e
+    (passed code first c.in-Ok.value c.in-Ok-flags.value a b d e
     c.items-instrs.result.now c.items-layouts.result.now c.items-tables.result.now c.has.result
-    (cc) same (cc) c.has.ensures numbered c.in_ok-forked.ensures c.in_ok-foralled.ensures
+    (cc) same (cc) c.has.ensures numbered c.in-Ok.ensures c.in-Ok-flags.ensures
     c.first_misnaming-named.ensures c.place_if-program.ensures c.first_layout-layout.ensures c.first_in-child.ensures)

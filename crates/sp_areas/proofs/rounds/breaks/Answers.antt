@@ -11,6 +11,6 @@ returns-then-not-has_owner c = (
 
 pub returns : goal.returns
 returns c =
-    broken_is c.args.code.now c.args.owners.now c.requires c.args.p c.in_ok-flags.flags c.flag_at.result
+    broken_is c.args.code.now c.args.owners.now c.requires c.args.p c.in-Ok.value c.flag_at.result
     (sym c.has_owner.ensures ∙ c.if-not-has_owner.false)
-    c.in_ok-flags.ensures.0 c.in_ok-flags.ensures.1 c.flag_at.ensures
+    c.in-Ok.ensures.0 c.in-Ok.ensures.1 c.flag_at.ensures

@@ -6,14 +6,14 @@ use Rattle.sp_areas.proofs.Rounding.{lies_back}
 use Rattle.sp_areas.proofs.rounds.first_broken.Goals as goal
 
 pub returns-then-broken : goal.returns-then-broken
-returns-then-broken c = (c.in_ok-broken.ensures.0 c.if-broken.true, c.loop-p.invariant)
+returns-then-broken c = (c.in-Ok.ensures.0 c.if-broken.true, c.loop-p.invariant)
 
 pub loop-p-preserved : goal.loop-p-preserved
 loop-p-preserved c = λ k l b.
     let p = c.loop-p.p in
     ⊎_elim (λ (y : k < p). c.loop-p.invariant k y b)
-    (λ (e : k ≡ p). not_true_and_false c.in_ok-broken.broken
-    (c.in_ok-broken.ensures.1 (subst (BreaksV9 c.args.code.now) e b)) c.if-broken.false)
+    (λ (e : k ≡ p). not_true_and_false c.in-Ok.value
+    (c.in-Ok.ensures.1 (subst (BreaksV9 c.args.code.now) e b)) c.if-broken.false)
     (below_or_last k p l)
 
 pub returns : goal.returns

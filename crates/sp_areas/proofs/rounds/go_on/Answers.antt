@@ -1,6 +1,5 @@
-use Rattle.std.proofs.Common.{◌<◌, List, Bool, sym, subst}
-use Rattle.sp_base.proofs.Facts.{on_map}
-use Rattle.sp_areas.specs.Rounds.{AreLed, Widens, gaps}
+use Rattle.std.proofs.Common.{List, Bool, sym, subst}
+use Rattle.sp_areas.specs.Rounds.{AreLed, Widens}
 use Rattle.sp_areas.proofs.Rounding.{led_flag, less_flag}
 use Rattle.sp_areas.proofs.rounds.go_on.Goals as goal
 
@@ -11,8 +10,6 @@ returns c = λ s led way.
     let gs = c.hurry.new.flags in
     let q = c.args.q in
     let next : AreLed code s c.flag.new.flags =
-    subst (λ (hs : List Bool). AreLed code s hs) (sym c.in_ok-flag.ensures) (led_flag code s fs q led way) in
-    on_map c.hurry.result (Widens code s c.flag.new.flags gs) (AreLed code s gs × (gaps gs < gaps fs))
-    (λ w. less_flag code s fs gs q c.requires.there c.requires.new
-    (subst (λ (hs : List Bool). Widens code s hs gs) c.in_ok-flag.ensures w))
-    (c.hurry.ensures s next)
+    subst (λ (hs : List Bool). AreLed code s hs) (sym c.flag.ensures) (led_flag code s fs q led way) in
+    less_flag code s fs gs q c.requires.there c.requires.new
+    (subst (λ (hs : List Bool). Widens code s hs gs) c.flag.ensures (c.hurry.ensures s next))

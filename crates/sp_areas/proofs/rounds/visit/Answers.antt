@@ -8,7 +8,7 @@ returns c = λ s led.
     let code = c.args.code.now in
     let fs = c.args.flags.now in
     let ways = c.free_ways-ways.result in
-    subst (λ (gs : List Bool). Widens code s fs gs) (sym (c.in_ok-flag-2.ensures
-    ∙ ap (λ (gs : List Bool). with_flag gs ways.second) c.in_ok-flag.ensures))
+    subst (λ (gs : List Bool). Widens code s fs gs) (sym (c.flag-2.ensures
+    ∙ ap (λ (gs : List Bool). with_flag gs ways.second) c.flag.ensures))
     (widens_ways code s fs c.args.p ways.first ways.second led (sym c.flag_at.ensures
     ∙ c.if-not-flag_at.false) c.free_ways-ways.ensures)

@@ -10,7 +10,7 @@ pub returns : goal.returns
 returns c =
     let old = c.args.tree.now in
     let n = c.node_inside-node.result in
-    subst (λ (ns : List Node). PutsNode old ns c.args.frame c.args.around) (sym c.in_ok-push.ensures.ok)
+    subst (λ (ns : List Node). PutsNode old ns c.args.frame c.args.around) (sym c.in-Ok.ensures.ok)
     (record {
       more = length-append old (n ∷ []);
       lists = λ ls lists are f i. put_lists ls lists old n

@@ -22,7 +22,7 @@ loop-i-preserved c =
     record {
       there = h.1;
       left = sym r.1;
-      so_far = c.in_ok-put-in-Some.ensures
+      so_far = c.in-Ok.ensures
           ∙ ap (λ (ys : List ℕ). ys ++ list_of_option c.actual_of.result) c.loop-i.invariant.so_far
           ∙ ap (λ (o : Option ℕ). actuals fs ss i ++ list_of_option o) c.actual_of.ensures ∙ r.0;
     }

@@ -12,7 +12,7 @@ loop-p-preserved c = λ q l.
     let s = c.args.g.now.shapes.now in
     let p = c.loop-p.p in
     ⊎_elim (λ (y : q < p). c.loop-p.invariant q y)
-    (λ (z : q ≡ p). subst (λ n. fails_at code e s n ≡ false) (sym z) (sym c.in_ok-fails.ensures ∙ c.if-fails.false))
+    (λ (z : q ≡ p). subst (λ n. fails_at code e s n ≡ false) (sym z) (sym c.in-Ok.ensures ∙ c.if-fails.false))
     (below_or_last q p l)
 
 pub returns : goal.returns

@@ -17,5 +17,5 @@ returns c =
     c.requires.v5 in
     subst (IsLeast (BreaksV7 code)) (sym c.least.ensures)
     (v7_least code keeps known.kept c.args.effects.now c.requires.effects g.blocks.now.first known.blocks g.shapes.now
-    known.shapes c.in_ok-flags.flags c.in_ok-flags.ensures c.in_ok-call.call c.first_turn-turn.result
-    c.in_ok-call.ensures c.first_turn-turn.ensures)
+    known.shapes c.in-Ok.value c.in-Ok.ensures c.in-Ok-first_call.value c.first_turn-turn.result
+    c.in-Ok-first_call.ensures c.first_turn-turn.ensures)

@@ -9,4 +9,4 @@ returns-in-None c = closed_now c.args.rows.now c.args.own.now.keys c.args.facts.
 pub loop-i-preserved : goal.loop-i-preserved
 loop-i-preserved c =
     closes_more c.args.rows.now c.args.own.now.keys c.args.facts.now c.loop-i.facts c.spread.new.facts c.loop-i.i
-    c.in-Some.fact (sym c.at.ensures ∙ c.in-Some.is) c.loop-i.invariant c.in_ok-spread.ensures
+    c.in-Some.fact (sym c.at.ensures ∙ c.in-Some.is) c.loop-i.invariant c.in-Ok.ensures

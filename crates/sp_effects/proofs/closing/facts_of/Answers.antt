@@ -6,4 +6,4 @@ returns c =
     let g = c.args.g.now in
     let known = c.requires.known in
     facts_closed g.code.now known.kept g.owners.now known.owners c.new-facts.result c.tell_own.new.facts
-    c.close_by.new.facts c.new-facts.ensures c.in_ok-tell_own.ensures c.in_ok-close_by.ensures
+    c.close_by.new.facts c.new-facts.ensures c.in-Ok.ensures c.in-Ok-close_by.ensures

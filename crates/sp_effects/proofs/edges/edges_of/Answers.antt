@@ -9,11 +9,11 @@ loop-p-init c =
     let code = c.args.g.now.code.now in
     let m : c.len-count.result ≡ length code.instrs = c.len-count.ensures
     ∙ ap (λ (z : Parts). length z.instrs) c.parts.ensures.same in
-    no_edges code c.in_ok-rows.rows (c.in_ok-rows.ensures.0 ∙ m) c.in_ok-rows.ensures.1
+    no_edges code c.in-Ok.value (c.in-Ok.ensures.0 ∙ m) c.in-Ok.ensures.1
 
 pub loop-p-preserved : goal.loop-p-preserved
 loop-p-preserved c = more_edges c.args.g.now.code.now c.loop-p.rows c.link_at.new.rows c.loop-p.p c.loop-p.invariant
-    c.in_ok-link_at.ensures
+    c.in-Ok-link_at.ensures
 
 pub returns : goal.returns
 returns c =

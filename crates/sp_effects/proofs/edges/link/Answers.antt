@@ -13,4 +13,4 @@ returns c =
     (sym (c.replace-none.ensures.list
     ∙ ap (λ (x : List (List Edge)). slice_set x m c.put.new.row) c.replace-row.ensures.list))
     (links_one rows m c.args.edge c.replace-row.result c.put.new.row c.new-none.result c.replace-row.ensures.replaced
-    c.in_ok-put.ensures)
+    c.in-Ok.ensures)

@@ -13,7 +13,7 @@ link_called-requires-clause-there c = λ b l e. subst (λ n. l.entry < n) (sym c
 
 pub link_started-requires-clause-within : goal.link_started-requires-clause-within
 link_started-requires-clause-within c = λ k t e.
-    subst (λ n. t.entry < n) (sym (c.in_ok-link_called.ensures.size
+    subst (λ n. t.entry < n) (sym (c.in-Ok.ensures.size
     ∙ c.requires.size)) (child_within c.args.g.now.code.now c.requires.known.kept c.args.p k t e)
 
 pub returns : goal.returns
@@ -24,5 +24,5 @@ returns c =
     let b = c.link_called.new.rows in
     let d = c.link_started.new.rows in
     ok_on c.link_started.result (Links b d (StartedAt code p)) (Links a d (EdgeAt code p))
-    (λ v. links_then a b d (CalledAt code p) (StartedAt code p) c.in_ok-link_called.ensures v)
+    (λ v. links_then a b d (CalledAt code p) (StartedAt code p) c.in-Ok.ensures v)
     c.link_started.ensures

@@ -14,5 +14,5 @@ returns c =
     let b = c.link.new.rows in
     let d = c.link_operands.new.rows in
     ok_on c.link_operands.result (Links b d (IsDeeper l n ss (length l.formals))) (Links a d (IsCall l n ss))
-    (λ v. call_linked l n ss a b d c.in_ok-link.ensures v)
+    (λ v. call_linked l n ss a b d c.in-Ok.ensures v)
     c.link_operands.ensures

@@ -9,4 +9,4 @@ loop-k-preserved c =
     let k = c.loop-k.k in
     starts_more c.args.rows.now c.loop-k.rows c.link.new.rows ts c.args.to k c.index-children-k.result
     (slice_get_read ts (length ts) k c.index-children-k.result refl c.loop-k-test.true c.index-children-k.is)
-    c.loop-k.invariant c.in_ok-link.ensures
+    c.loop-k.invariant c.in-Ok.ensures

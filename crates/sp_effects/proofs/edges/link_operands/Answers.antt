@@ -26,5 +26,5 @@ loop-depth-preserved c =
       c.in-Some.ensures.1,
       b.1,
       deeper_more l c.args.to ss c.args.rows.now c.loop-depth.rows c.link_deep.new.rows j s b.0
-          c.loop-depth.invariant.2 c.in_ok-link_deep.ensures,
+          c.loop-depth.invariant.2 c.in-Ok.ensures,
     )

@@ -7,8 +7,9 @@ use Rattle.sp_effects.proofs.effects.find_effects.Goals as goal
 pub returns : goal.returns
 returns c =
     let code = c.args.g.now.code.now in
-    let fs = c.in_ok-facts.facts in
+    let fs = c.in-Ok-facts_of.value in
     let m : c.len.result ≡ length code.instrs = c.len.ensures
     ∙ ap (λ (z : Parts). length z.instrs) c.parts.ensures.same in
-    are_effects code c.requires.known.kept fs c.in_ok-facts.ensures c.in_ok-rows.rows
-    (subst (λ n. AreRows fs (length fs) n c.in_ok-rows.rows) m c.in_ok-rows.ensures) c.in_ok-own.own c.in_ok-own.ensures
+    are_effects code c.requires.known.kept fs c.in-Ok-facts_of.ensures c.in-Ok-rows_of.value
+    (subst (λ n. AreRows fs (length fs) n c.in-Ok-rows_of.value) m c.in-Ok-rows_of.ensures) c.in-Ok.value
+    c.in-Ok.ensures

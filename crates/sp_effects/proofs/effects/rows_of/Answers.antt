@@ -3,7 +3,7 @@ use Rattle.sp_effects.proofs.Rows.{no_rows, rows_more, rows_end}
 use Rattle.sp_effects.proofs.effects.rows_of.Goals as goal
 
 pub loop-i-init : goal.loop-i-init
-loop-i-init c = no_rows c.args.facts.now c.args.count c.in_ok-rows.rows c.in_ok-rows.ensures.0 c.in_ok-rows.ensures.1
+loop-i-init c = no_rows c.args.facts.now c.args.count c.in-Ok.value c.in-Ok.ensures.0 c.in-Ok.ensures.1
 
 pub returns-in-None : goal.returns-in-None
 returns-in-None c = rows_end c.args.facts.now c.loop-i.i c.args.count c.loop-i.rows (sym c.at.ensures
@@ -11,4 +11,4 @@ returns-in-None c = rows_end c.args.facts.now c.loop-i.i c.args.count c.loop-i.r
 
 pub loop-i-preserved : goal.loop-i-preserved
 loop-i-preserved c = rows_more c.args.facts.now c.loop-i.i c.args.count c.in-Some.fact c.loop-i.rows c.write.new.rows
-    (sym c.at.ensures ∙ c.in-Some.is) c.loop-i.invariant c.in_ok-write.ensures
+    (sym c.at.ensures ∙ c.in-Some.is) c.loop-i.invariant c.in-Ok-write.ensures

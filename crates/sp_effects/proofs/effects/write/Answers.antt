@@ -17,4 +17,4 @@ returns c =
       stored = c.new.result;
       loaded = c.new-2.result;
       stops = false;
-    }) c.replace-row.ensures.replaced c.in_ok-put.ensures)
+    }) c.replace-row.ensures.replaced c.in-Ok.ensures)

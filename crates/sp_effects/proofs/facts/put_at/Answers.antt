@@ -15,4 +15,4 @@ returns c =
     (sym (c.replace-none.ensures.list
     ∙ ap (λ (x : List Sets). slice_set x g.area c.put_effect.new.sets) c.replace-sets.ensures.list))
     (noted_put old c.no_sets-none.result c.replace-sets.result c.put_effect.new.sets g c.replace-sets.ensures.replaced
-    c.in_ok-put_effect.ensures)
+    c.in-Ok.ensures)

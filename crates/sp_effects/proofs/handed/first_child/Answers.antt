@@ -20,12 +20,12 @@ loop-child-preserved c =
     let k = c.loop-child.child-index in
     let t = c.child-item.result in
     let e = slice_get_read ts (length ts) k t refl c.loop-child-test.true c.child-item.is in
-    let one = one_child c.args.effects.now ts k t c.loop-child.before c.in_ok-fails.fails c.place_if.result e
-    c.loop-child.invariant.1 c.in_ok-fails.ensures c.place_if.ensures in (
+    let one = one_child c.args.effects.now ts k t c.loop-child.before c.in-Ok.value c.place_if.result e
+    c.loop-child.invariant.1 c.in-Ok.ensures c.place_if.ensures in (
       subst (IsLeast (Upto R (k + 1))) (sym c.least-first.ensures)
           (more R k c.loop-child.first c.place_if.result c.loop-child.invariant.0 one),
-      noted ts k c.loop-child.before c.note.new.before t e c.loop-child.invariant.1 c.in_ok-note.ensures.moved
-          c.in_ok-note.ensures.handed,
+      noted ts k c.loop-child.before c.note.new.before t e c.loop-child.invariant.1 c.in-Ok-note.ensures.moved
+          c.in-Ok-note.ensures.handed,
     )
 
 pub returns : goal.returns

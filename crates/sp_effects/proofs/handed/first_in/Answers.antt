@@ -13,9 +13,9 @@ loop-table-preserved c =
     let k = c.loop-table.table-index in
     let t = c.table-item.result in
     let e = slice_get_read fs (length fs) k t refl c.loop-table-test.true c.table-item.is in
-    let one = one_table c.args.effects.now fs k t c.in_ok-here.here e (search rules) in
+    let one = one_table c.args.effects.now fs k t c.in-Ok.value e (search rules) in
     subst (IsLeast (Upto R (k + 1))) (sym c.least-first.ensures)
-    (more R k c.loop-table.first c.in_ok-here.here c.loop-table.invariant one)
+    (more R k c.loop-table.first c.in-Ok.value c.loop-table.invariant one)
 
 pub returns : goal.returns
 returns c =

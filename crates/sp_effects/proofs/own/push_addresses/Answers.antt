@@ -12,5 +12,5 @@ loop-k-preserved c =
       passed_more c.loop-k.list c.push_shape.new.list (c.args.list.now
           ++ addresses n (list_of st c.args.stack)) n c.loop-k._k c.in-Some.top.0 (list_of st c.loop-k.at)
           (list_of st c.in-Some.top.1)
-          (let t = c.loop-k-test.true in t) c.in-Some.ensures.0 c.in_ok-push_shape.ensures c.loop-k.invariant.1,
+          (let t = c.loop-k-test.true in t) c.in-Some.ensures.0 c.in-Ok.ensures c.loop-k.invariant.1,
     )

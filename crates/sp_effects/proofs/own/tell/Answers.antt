@@ -13,6 +13,6 @@ loop-i-preserved c =
     let e = read xs i c.loop-i-test.true in
     subst (λ (fs : List Fact). Tells c.args.facts.now fs
     (IsOf c.args.area (IsEffectAmong c.args.stores (take (i + 1) xs))))
-    (sym c.in_ok-add.ensures)
+    (sym c.in-Ok.ensures)
     (told_more c.args.facts.now c.loop-i.facts c.args.area i y c.args.stores xs c.effect_of-effect.result e
     c.effect_of-effect.ensures c.loop-i.invariant)

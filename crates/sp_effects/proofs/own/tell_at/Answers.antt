@@ -14,5 +14,5 @@ returns c =
     let h = c.tell_forked.new.facts in
     let a = c.in-Some.ensures in
     ok_on c.tell_forked.result (Tells g h (IsOf n (ForkedAt code p))) (Tells f h (OwnAt code p))
-    (λ v. at_told code p f g h n a.0 a.1 a.2 c.in_ok-tell_reached.ensures v)
+    (λ v. at_told code p f g h n a.0 a.1 a.2 c.in-Ok.ensures v)
     c.tell_forked.ensures

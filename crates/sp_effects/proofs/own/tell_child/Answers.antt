@@ -15,5 +15,5 @@ returns c =
     ok_on c.tell-2.result (Tells g h (IsOf n (IsEffectAmong false c.items-2.result.now)))
     (Tells f h (IsOf n (IsHanded t)))
     (λ v. child_told f g h n t c.items.result.now c.items-2.result.now c.items.ensures c.items-2.ensures
-    c.in_ok-tell.ensures v)
+    c.in-Ok.ensures v)
     c.tell-2.ensures

@@ -9,4 +9,4 @@ loop-k-preserved c =
     let k = c.loop-k.k in
     children_more c.args.facts.now c.loop-k.facts c.tell_child.new.facts c.args.area k c.index-children-k.result ts
     (slice_get_read ts (length ts) k c.index-children-k.result refl c.loop-k-test.true c.index-children-k.is)
-    c.loop-k.invariant c.in_ok-tell_child.ensures
+    c.loop-k.invariant c.in-Ok.ensures

@@ -26,7 +26,7 @@ returns c =
     (variables_at code a c.stored_place.result ss) (variables_at code a c.loaded_place.result ss)
     c.requires.instr (c.stored_place.ensures code a ss) (c.loaded_place.ensures code a ss)
     (subst (λ (xs : List ℕ). Tells f g (IsOf n (IsEffectAmong true xs))) (c.items.ensures
-    ∙ c.in_ok-stored.ensures a only) c.in_ok-tell.ensures)
+    ∙ c.in-Ok.ensures a only) c.in-Ok-tell.ensures)
     (subst (λ (xs : List ℕ). Tells g h (IsOf n (IsEffectAmong false xs))) (c.items-2.ensures
-    ∙ c.in_ok-loaded.ensures a only) c.in_ok-tell-2.ensures) v)
+    ∙ c.in-Ok-variables_at.ensures a only) c.in-Ok-tell-2.ensures) v)
     c.tell_stop.ensures

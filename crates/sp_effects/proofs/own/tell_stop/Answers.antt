@@ -6,8 +6,8 @@ use Rattle.sp_effects.specs.Own.{IsOf, IsStop}
 use Rattle.sp_effects.proofs.Owns.{stop_told}
 use Rattle.sp_effects.proofs.own.tell_stop.Goals as goal
 
-pub returns-in_ok-add : goal.returns-in_ok-add
-returns-in_ok-add c =
+pub returns-in-Ok : goal.returns-in-Ok
+returns-in-Ok c =
     subst (λ (fs : List Fact). Tells c.args.facts.now fs (IsOf c.args.area (IsStop (Some c.args.instr))))
-    (sym c.in_ok-add.ensures)
+    (sym c.in-Ok.ensures)
     (stop_told c.args.facts.now c.args.area c.args.instr (sym c.is_stop.ensures ∙ c.if-is_stop.true))

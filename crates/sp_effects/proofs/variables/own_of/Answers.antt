@@ -17,7 +17,7 @@ loop-j-preserved c =
     let b = c.put_own.new.own.keys in
     first_more ls j l a b (slice_get_read ls (length ls) j l refl c.loop-j-test.true c.index-layouts-j.is)
     c.loop-j.invariant
-    (subst (λ (xs : List ℕ). AddsPairs a b (IsOwnOf l.entry xs)) c.items.ensures c.in_ok-put_own.ensures)
+    (subst (λ (xs : List ℕ). AddsPairs a b (IsOwnOf l.entry xs)) c.items.ensures c.in-Ok.ensures)
 
 pub returns : goal.returns
 returns c =

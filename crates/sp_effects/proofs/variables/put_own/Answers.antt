@@ -8,4 +8,4 @@ loop-i-preserved c =
     let xs = c.args.variables.now in
     let i = c.loop-i.i in
     pair_more c.args.own.now.keys c.loop-i.own.keys c.insert.new.self.keys c.args.entry i (get_or xs i 0) xs
-    (slice_get-get_or xs i 0 c.loop-i-test.true) c.loop-i.invariant c.in_ok-insert.ensures.updates.0
+    (slice_get-get_or xs i 0 c.loop-i-test.true) c.loop-i.invariant c.in-Ok.ensures.updates.0

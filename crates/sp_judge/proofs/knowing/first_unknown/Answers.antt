@@ -50,8 +50,8 @@ knows_entry-requires-clause-other c = other_there c.args.entries.now c.requires.
     c.args.racing_offer.process
     c.args.racing_offer.way c.args.racing_offer.channel c.requires.here c.in-Some.i c.in-Some.ensures.1 _
 
-pub loop-known-preserved-then-branch : goal.loop-known-preserved-then-branch
-loop-known-preserved-then-branch c =
+pub loop-known-preserved-then-knows : goal.loop-known-preserved-then-knows
+loop-known-preserved-then-knows c =
     let h = c.loop-known.invariant in
     let low : c.loop-known.first ≤ c.args.at = h.0 in
     let o = c.in-Some.ensures in
@@ -63,7 +63,7 @@ loop-known-preserved-then-branch c =
       all_below c.args.entries.now c.requires.tame c.args.at c.args.racing_offer.process c.args.racing_offer.way
           c.args.racing_offer.channel
           c.requires.here c.requires.in_order _ c.in-Some.i (omega (arith, low)) o
-          (says.0 (c.in_ok-knows_entry-in-Some.ensures.0 c.if-branch.true)),
+          (says.0 (c.in-Ok.ensures.0 c.if-knows.true)),
       h.2,
     )
 
@@ -83,7 +83,7 @@ loop-known-preserved c =
         o.1.1,
         o.1.2,
         λ k. true≢false
-            (sym (c.in_ok-knows_entry-in-Some.ensures.1 (says.1 k)) ∙ c.if-branch.false),
+            (sym (c.in-Ok.ensures.1 (says.1 k)) ∙ c.if-knows.false),
       ),
     )
 

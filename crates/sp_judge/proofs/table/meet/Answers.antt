@@ -7,5 +7,5 @@ returns-clause-clocks c =
     both_met (IsAsked c.args.until.now c.args.now) c.args.comes.process c.args.comes.count c.args.waits.process
     c.args.waits.count (clock_at c.args.clocks.now.items) (clock_at c.raise.new.clocks.items)
     (clock_at c.raise-2.new.clocks.items) (clock_at c.learn.new.clocks.items) (clock_at c.learn-2.new.clocks.items)
-    c.requires.apart c.in_ok-raise.ensures.clocks c.in_ok-raise-2.ensures.clocks c.in_ok-learn.ensures.clocks
-    c.in_ok-learn-2.ensures.clocks
+    c.requires.apart c.in-Ok.ensures.clocks c.in-Ok-raise.ensures.clocks c.in-Ok-learn.ensures.clocks
+    c.in-Ok-learn-2.ensures.clocks

@@ -6,8 +6,8 @@ use Rattle.sp_judge.proofs.table.share.Goals as goal
 pub loop-child-preserved : goal.loop-child-preserved
 loop-child-preserved c =
     let h = c.loop-child.invariant in (
-      c.in_ok-learn.ensures.len ∙ h.0,
+      c.in-Ok.ensures.len ∙ h.0,
       child_learned c.args.first c.loop-child.child (c.args.first + c.from.result) c.args.count c.args.process
           (clock_at c.args.clocks.now.items) (clock_at c.loop-child.clocks.items) (clock_at c.learn.new.clocks.items)
-          (ap (λ x. c.args.first + x) c.from.ensures) c.requires.before h.1 c.in_ok-learn.ensures.clocks,
+          (ap (λ x. c.args.first + x) c.from.ensures) c.requires.before h.1 c.in-Ok.ensures.clocks,
     )

@@ -16,14 +16,14 @@ loop-at-init c =
     let es = c.items-entries.result.now in
     let is : c.args.journal.now.entries ≡ es = sym c.items-entries.ensures in
     let p : c.processes-2.result ≡ (births es).processes = c.processes-2.ensures.value
-    ∙ ap (λ (j : Journal). (births j.entries).processes) c.in_ok-ledger.ensures.1
+    ∙ ap (λ (j : Journal). (births j.entries).processes) c.in-Ok.ensures.1
     ∙ ap (λ xs. (births xs).processes) is in
     let q : c.channels-2.result ≡ (births es).channels = c.channels-2.ensures.value
-    ∙ ap (λ (j : Journal). (births j.entries).channels) c.in_ok-ledger.ensures.1
+    ∙ ap (λ (j : Journal). (births j.entries).channels) c.in-Ok.ensures.1
     ∙ ap (λ xs. (births xs).channels) is in (
-      blank_holds es c.in_ok-tables.tables (subst (λ n. IsBlank c.in_ok-tables.tables n (births es).channels) p
-          (subst (λ n. IsBlank c.in_ok-tables.tables c.processes-2.result n) q c.in_ok-tables.ensures))
-          c.in_ok-until.until.items,
+      blank_holds es c.in-Ok-new.value (subst (λ n. IsBlank c.in-Ok-new.value n (births es).channels) p
+          (subst (λ n. IsBlank c.in-Ok-new.value c.processes-2.result n) q c.in-Ok-new.ensures))
+          c.in-Ok-questions.value.items,
       tt,
     )
 
@@ -56,9 +56,9 @@ loop-at-preserved c =
     let tame = subst IsNameableAndSilent (sym c.items-entries.ensures)
     (nameable_and_silent_of c.args.journal.now c.requires.nameable c.requires.silent) in (
       subst (λ u. TablesHold (births es) u (take (at + 1) es) c.see.new.self) c.deref-in-loop-at.ensures.value
-          c.in_ok-see.ensures,
+          c.in-Ok-see.ensures,
       known_next es tame at e inside c.loop-at.invariant.1
-          (none_racing es at c.in_ok-found.found c.in_ok-found.ensures c.in_default.not-Some e inside),
+          (none_racing es at c.in-Ok-racing.value c.in-Ok-racing.ensures c.in_default.not-Some e inside),
     )
 
 pub returns : goal.returns

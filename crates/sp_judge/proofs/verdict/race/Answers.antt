@@ -16,10 +16,10 @@ channel-requires-clause-there c = subst (λ es. c.args.racing_offer.channel < (b
 pub returns-in-None : goal.returns-in-None
 returns-in-None c = absurd
     (not_unknown c.args.entries.now c.requires.tame c.args.at c.requires.in_order c.args.racing_offer
-    c.requires.racing (rw c.in-None.is at c.in_ok-first.ensures))
+    c.requires.racing (rw c.in-None.is at c.in-Ok.ensures))
 
-pub returns-in_ok-channel-in-Some : goal.returns-in_ok-channel-in-Some
-returns-in_ok-channel-in-Some c = race_judged c.args.entries.now c.requires.tame c.args.at c.requires.in_order
-    c.args.racing_offer c.requires.racing c.in-Some.earlier (rw c.in-Some.is at c.in_ok-first.ensures)
-    c.in_ok-channel-in-Some.field-0 (c.in_ok-channel-in-Some.ensures
+pub returns-in-Ok-channel : goal.returns-in-Ok-channel
+returns-in-Ok-channel c = race_judged c.args.entries.now c.requires.tame c.args.at c.requires.in_order
+    c.args.racing_offer c.requires.racing c.in-Some.earlier (rw c.in-Some.is at c.in-Ok.ensures)
+    c.in-Ok-channel.value (c.in-Ok-channel.ensures
     ∙ ap (λ es. chan_name (channel (births es) c.args.racing_offer.channel)) c.requires.its_journal)

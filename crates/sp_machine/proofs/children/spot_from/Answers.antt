@@ -8,7 +8,7 @@ use Rattle.sp_machine.proofs.children.spot_from.Goals as goal
 pub loop-count-preserved : goal.loop-count-preserved
 loop-count-preserved c =
     let none : spot_in c.args.code.now.layouts (frame_of c.at-frame.result.now) (home_of c.at-frame.result.now.home)
-    c.args.variable ≡ None = sym c.in_ok-found.ensures ∙ nothing_found c.in_ok-found.found c.in_default.not-Some in
+    c.args.variable ≡ None = sym c.in-Ok.ensures ∙ nothing_found c.in-Ok.value c.in_default.not-Some in
     let step = spot_on c.args.code.now.layouts c.args.frames.now c.loop-count.count c.args.variable
     (frame_of c.at-frame.result.now) c.loop-count-test.true c.loop-count.invariant.within c.at-frame.ensures none in
     record {

@@ -141,7 +141,7 @@ pub body-returns : goal.body-returns
 body-returns t c = has_read c.in-Ok-expect.ensures.first.ready
     (and (expected c.in-Ok.ensures)
     (and (first_derived c.in-Ok-block.ensures) (and (expected c.in-Ok-expect.ensures) none)))
-    (ap block_of c.in_ok-boxed.ensures ∙ c.in-Ok-block.ensures.value_is)
+    (ap block_of c.in-Ok-new.ensures ∙ c.in-Ok-block.ensures.value_is)
 
 pub function-returns-in-Err : goal.function-returns-in-Err
 function-returns-in-Err t c = halts_longer c.args.source.now (sym.AName ∷ [])

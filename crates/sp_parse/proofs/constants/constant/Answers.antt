@@ -33,23 +33,23 @@ returns-in-Number c = takes_alone (row.constant row.constant_number) refl (with_
     tt (c.unsigned.ensures ∙ ap (λ n. record { at = c.in-Ok.value.0.at; negative = None; value = value.Number n })
     c.number_at.ensures)
 
-pub returns-in_ok-name_at-in-Name : goal.returns-in_ok-name_at-in-Name
-returns-in_ok-name_at-in-Name c = takes_alone (row.constant row.constant_name) refl
+pub returns-in-Ok-name_at : goal.returns-in-Ok-name_at
+returns-in-Ok-name_at c = takes_alone (row.constant row.constant_name) refl
     (with_is c.in-Ok.ensures c.in-Name.is) tt
     (c.unsigned-in-Name.ensures ∙ ap (λ n. record {
       at = c.in-Ok.value.0.at;
       negative = None;
       value = value.Named n;
-    }) c.in_ok-name_at-in-Name.ensures)
+    }) c.in-Ok-name_at.ensures)
 
-pub returns-in_ok-quoted_at-in-Text : goal.returns-in_ok-quoted_at-in-Text
-returns-in_ok-quoted_at-in-Text c = takes_alone (row.constant row.constant_text) refl
+pub returns-in-Ok-quoted_at : goal.returns-in-Ok-quoted_at
+returns-in-Ok-quoted_at c = takes_alone (row.constant row.constant_text) refl
     (with_is c.in-Ok.ensures c.in-Text.is) tt
     (c.unsigned-in-Text.ensures ∙ ap (λ n. record {
       at = c.in-Ok.value.0.at;
       negative = None;
       value = value.Quoted n;
-    }) c.in_ok-quoted_at-in-Text.ensures)
+    }) c.in-Ok-quoted_at.ensures)
 
 pub returns-in_default : goal.returns-in_default
 returns-in_default c = fails AConstant c.in-Ok.ensures

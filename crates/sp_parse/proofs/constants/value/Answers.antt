@@ -10,9 +10,9 @@ pub returns-in-Number : goal.returns-in-Number
 returns-in-Number c = takes_alone row.value_number refl (with_is c.in-Ok.ensures c.in-Number.is) tt
     (ap value.Number c.number_at.ensures)
 
-pub returns-in_ok-name_at-in-Name : goal.returns-in_ok-name_at-in-Name
-returns-in_ok-name_at-in-Name c = takes_alone row.value_name refl (with_is c.in-Ok.ensures c.in-Name.is) tt
-    (ap value.Named c.in_ok-name_at-in-Name.ensures)
+pub returns-in-Ok-name_at : goal.returns-in-Ok-name_at
+returns-in-Ok-name_at c = takes_alone row.value_name refl (with_is c.in-Ok.ensures c.in-Name.is) tt
+    (ap value.Named c.in-Ok-name_at.ensures)
 
 pub returns-in_default : goal.returns-in_default
 returns-in_default c = fails AValue c.in-Ok.ensures

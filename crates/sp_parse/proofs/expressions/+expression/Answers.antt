@@ -35,10 +35,10 @@ expression-returns-in-Err-simple t c = x.relation_halts c.args.source.now c.args
 
 pub expression-returns : goal.expression-returns
 expression-returns t c = x.relation_is c.args.source.now c.args.depth _ c.in-Ok.value.0 c.in-Ok-simple.value.0
-    c.in_ok-binary.field-0 (add-one c.args.depth)
+    c.in-Ok-binary.value (add-one c.args.depth)
     (x.expression_begun c.args.source.now c.args.depth _ c.in-Ok.value.0 (add-one c.args.depth) (omega arith)
     c.in-Ok.ensures) (x.an_operator g.IsRelational sym.ARelation c.args.source.now c.in-Ok.value.1.now _ _
-    c.in-Ok-relational.ensures c.in-Some.is) c.in-Ok-simple.ensures c.in_ok-binary.ensures
+    c.in-Ok-relational.ensures c.in-Some.is) c.in-Ok-simple.ensures c.in-Ok-binary.ensures
 
 pub simple-returns-in-Err-term : goal.simple-returns-in-Err-term
 simple-returns-in-Err-term t c = x.sum_halts c.args.source.now c.args.depth c.more.sum c.more.invariant
@@ -46,9 +46,10 @@ simple-returns-in-Err-term t c = x.sum_halts c.args.source.now c.args.depth c.mo
     c.in-Err-term.ensures
 
 pub simple-more-preserved : goal.simple-more-preserved
-simple-more-preserved t c = x.sum_more c.args.source.now c.args.depth c.more.sum c.in-Ok-term.value.0 c.in_ok-sum.sum
+simple-more-preserved t c = x.sum_more c.args.source.now c.args.depth c.more.sum c.in-Ok-term.value.0
+    c.in-Ok-binary.value
     c.more.invariant (x.an_operator g.IsAdding sym.MoreTerms c.args.source.now c.more.rest.now _ _
-    c.in-Ok-adding.ensures c.in-Some.is) c.in-Ok-term.ensures c.in_ok-sum.ensures
+    c.in-Ok-adding.ensures c.in-Some.is) c.in-Ok-term.ensures c.in-Ok-binary.ensures
 
 pub simple-returns : goal.simple-returns
 simple-returns t c = x.sum_done c.args.source.now c.args.depth c.more.sum c.more.invariant
@@ -64,7 +65,7 @@ first_term-returns-in-Err-term t c = x.signed_halts c.args.source.now c.args.dep
 
 pub first_term-returns : goal.first_term-returns
 first_term-returns t c = x.signed c.args.source.now c.args.depth c.in-Ok.value.0 c.in-Some.op c.in-Ok-term.value.0
-    c.in_ok-unary.field-0 c.requires c.in-Ok.ensures c.in-Some.ensures c.in-Ok-term.ensures c.in_ok-unary.ensures
+    c.in-Ok-unary.value c.requires c.in-Ok.ensures c.in-Some.ensures c.in-Ok-term.ensures c.in-Ok-unary.ensures
 
 pub term-more-init : goal.term-more-init
 term-more-init t c = x.product_start c.args.source.now c.args.depth c.in-Ok.value.0 c.in-Ok.ensures
@@ -76,9 +77,9 @@ term-returns-in-Err-factor t c = x.product_halts c.args.source.now c.args.depth 
 
 pub term-more-preserved : goal.term-more-preserved
 term-more-preserved t c = x.product_more c.args.source.now c.args.depth c.more.product c.in-Ok-factor.value.0
-    c.in_ok-product.product c.more.invariant
+    c.in-Ok-binary.value c.more.invariant
     (x.an_operator g.IsMultiplying sym.MoreFactors c.args.source.now c.more.rest.now _ _ c.in-Ok-multiplying.ensures
-    c.in-Some.is) c.in-Ok-factor.ensures c.in_ok-product.ensures
+    c.in-Some.is) c.in-Ok-factor.ensures c.in-Ok-binary.ensures
 
 pub term-returns : goal.term-returns
 term-returns t c = x.product_done c.args.source.now c.args.depth c.more.product c.more.invariant
@@ -93,11 +94,11 @@ factor-returns-then-is t c = y.number_is c.args.source.now c.args.depth
 pub factor-returns-then-is-2 : goal.factor-returns-then-is-2
 factor-returns-then-is-2 t c = y.quoted_is c.args.source.now c.args.depth
     (with_at kind.Text c.in-Ok.ensures c.is-2.ensures c.if-is-2.true) _ c.quoted_expression.result
-    c.in_ok-quoted_at.ensures c.quoted_expression.ensures
+    c.in-Ok-quoted_at.ensures c.quoted_expression.ensures
 
 pub factor-returns-then-is-3 : goal.factor-returns-then-is-3
 factor-returns-then-is-3 t c = y.reference_result c.args.source.now c.args.depth _ _
-    (with_at kind.Name c.in-Ok.ensures c.is-3.ensures c.if-is-3.true) c.in_ok-name.name c.in_ok-name.ensures _
+    (with_at kind.Name c.in-Ok.ensures c.is-3.ensures c.if-is-3.true) c.in-Ok-name_at.value c.in-Ok-name_at.ensures _
     c.reference.ensures
 
 pub factor-returns-in-Err-expression : goal.factor-returns-in-Err-expression
@@ -130,8 +131,8 @@ negation-returns-in-Err t c = y.negated_halts c.args.source.now c.args.depth _ _
     c.in-Err.ensures
 
 pub negation-returns : goal.negation-returns
-negation-returns t c = y.negated c.args.source.now c.args.depth _ _ c.in-Ok.value.0 c.in_ok-unary.field-0
-    (add-one c.args.depth) (omega arith) c.in-Ok.ensures c.in_ok-unary.ensures
+negation-returns t c = y.negated c.args.source.now c.args.depth _ _ c.in-Ok.value.0 c.in-Ok-unary.value
+    (add-one c.args.depth) (omega arith) c.in-Ok.ensures c.in-Ok-unary.ensures
 
 pub reference-returns-in-Err-selectors : goal.reference-returns-in-Err-selectors
 reference-returns-in-Err-selectors t c = y.variable_halts c.args.source.now c.args.depth _

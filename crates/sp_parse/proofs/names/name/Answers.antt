@@ -4,8 +4,8 @@ use Rattle.sp_parse.proofs.Steps.{fails}
 use Rattle.sp_parse.proofs.ReadNames.{name_is, not_name}
 use Rattle.sp_parse.proofs.names.name.Goals as goal
 
-pub returns-in_ok-name_at-in-Name : goal.returns-in_ok-name_at-in-Name
-returns-in_ok-name_at-in-Name c = name_is c.in-Ok.ensures c.in-Name.is c.in_ok-name_at-in-Name.ensures
+pub returns-in-Ok-name_at : goal.returns-in-Ok-name_at
+returns-in-Ok-name_at c = name_is c.in-Ok.ensures c.in-Name.is c.in-Ok-name_at.ensures
 
 pub returns-in_default : goal.returns-in_default
 returns-in_default c = fails AName c.in-Ok.ensures (not_name c.in-Ok.value.0.kind c.in_default.not-Name) refl

@@ -23,7 +23,7 @@ use Rattle.sp_parse.proofs.statements.+statement.Goals as goal
 pub statement-returns-then-is : goal.statement-returns-then-is
 statement-returns-then-is t c = form_result c.args.source.now c.args.depth _ (λ n. sym.AfterName n ∷ [])
     (λ n. row.form_name) refl (with_at kind.Name c.in-Ok.ensures c.is.ensures c.if-is.true) (add-one c.args.depth)
-    (omega arith) (λ n vs. vs.0 c.in_ok-name.name) (λ n vs. ap vs.0 c.in_ok-name.ensures) _ c.after_name.ensures
+    (omega arith) (λ n vs. vs.0 c.in-Ok-name_at.value) (λ n vs. ap vs.0 c.in-Ok-name_at.ensures) _ c.after_name.ensures
 
 pub statement-returns-then-is-2 : goal.statement-returns-then-is-2
 statement-returns-then-is-2 t c = form_result c.args.source.now c.args.depth _
@@ -117,7 +117,7 @@ boxed_statement-returns-in-Err t c = c.in-Err.ensures
 
 pub boxed_statement-returns : goal.boxed_statement-returns
 boxed_statement-returns t c = has_read c.in-Ok.ensures.ready c.in-Ok.ensures.derives
-    (ap statement_of c.in_ok-new.ensures ∙ c.in-Ok.ensures.value_is)
+    (ap statement_of c.in-Ok-new.ensures ∙ c.in-Ok.ensures.value_is)
 
 pub compound-returns-in-Err : goal.compound-returns-in-Err
 compound-returns-in-Err t c = halts_longer c.args.source.now

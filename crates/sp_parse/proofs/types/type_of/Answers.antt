@@ -12,7 +12,7 @@ use Rattle.sp_parse.proofs.types.type_of.Goals as goal
 
 pub returns-then-is : goal.returns-then-is
 returns-then-is c = takes_alone row.alias refl (with_at kind.Name c.in-Ok.ensures c.is.ensures c.if-is.true) tt
-    (ap kinds.Alias c.in_ok-name_at.ensures)
+    (ap kinds.Alias c.in-Ok-name_at.ensures)
 
 pub returns-in-Err-listed : goal.returns-in-Err-listed
 returns-in-Err-listed c = row_halts row.enumeration refl (with_at w.Open c.in-Ok.ensures c.is-2.ensures c.if-is-2.true)

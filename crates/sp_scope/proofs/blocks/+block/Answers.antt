@@ -15,9 +15,9 @@ use Rattle.sp_scope.proofs.blocks.+block.Goals as goal
 pub name_procedure-returns-clause-found : goal.name_procedure-returns-clause-found
 name_procedure-returns-clause-found t c =
     titled_found _ c.args.scopes.now.around c.args.scopes.now.local c.args.x.now c.args.fs.now c.args.answer.now
-    (block_of c.args.b).parts (block_of c.args.b).body c.in_ok-heading.heading.tree c.args.first
-    c.in_ok-heading.heading.first
-    c.in_ok-heading.ensures c.name_titled.ensures.found
+    (block_of c.args.b).parts (block_of c.args.b).body c.in-Ok.value.tree c.args.first
+    c.in-Ok.value.first
+    c.in-Ok.ensures c.name_titled.ensures.found
 
 pub name_part-returns-in-Proc-clause-found : goal.name_part-returns-in-Proc-clause-found
 name_part-returns-in-Proc-clause-found t c =
@@ -31,8 +31,9 @@ name_titled-returns-clause-found t c =
     c.args.first
     _ (inner_env c.args.scopes.now.around (title_local c.args.scopes.now.local c.args.x.now c.args.fs.now
     c.args.answer.now))
-    (seen_block c.in_ok-inner.inner.tree) c.in_ok-inner.inner.first (named.program_of c.in_ok-tree.tree)
-    c.in_ok-declare_title.ensures.after c.in_ok-inner.ensures.found c.in_ok-tree.ensures
+    (seen_block c.in-Ok-name_opened.value.tree) c.in-Ok-name_opened.value.first
+    (named.program_of c.in-Ok-procedure_part.value)
+    c.in-Ok.ensures.after c.in-Ok-name_opened.ensures.found c.in-Ok-procedure_part.ensures
 
 pub name_parts-loop-p-preserved : goal.name_parts-loop-p-preserved
 name_parts-loop-p-preserved t c = grind (arith, common_steps, beside_beside, beside_nothing)

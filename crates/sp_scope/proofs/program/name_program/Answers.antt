@@ -4,5 +4,5 @@ use Rattle.sp_scope.proofs.Found.{program_found}
 use Rattle.sp_scope.proofs.program.name_program.Goals as goal
 
 pub returns : goal.returns
-returns c = program_found _ (block_of c.args.block) (block_of c.into_inner.result) c.args.first c.in_ok-scopes.scopes
-    (ap block_of (c.into_inner.ensures ∙ c.in_ok-block.ensures)) c.in_ok-scopes.ensures c.name_block.ensures.found
+returns c = program_found _ (block_of c.args.block) (block_of c.into_inner.result) c.args.first c.in-Ok-new.value
+    (ap block_of (c.into_inner.ensures ∙ c.in-Ok.ensures)) c.in-Ok-new.ensures c.name_block.ensures.found

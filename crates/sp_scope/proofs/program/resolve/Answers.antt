@@ -7,7 +7,7 @@ use Rattle.sp_scope.proofs.program.resolve.Goals as goal
 
 pub returns : goal.returns
 returns c =
-    resolved_found _ (plain.program_of c.args.syntax) c.check_files-first.result (seen_block c.in_ok-inner.inner.tree)
-    c.in_ok-inner.inner.first
-    (c.check_files-first.ensures ∙ ap (λ xs. files_first [] xs None) c.items.ensures) c.in_ok-inner.ensures c.in-None.is
+    resolved_found _ (plain.program_of c.args.syntax) c.check_files-first.result (seen_block c.in-Ok.value.tree)
+    c.in-Ok.value.first
+    (c.check_files-first.ensures ∙ ap (λ xs. files_first [] xs None) c.items.ensures) c.in-Ok.ensures c.in-None.is
     c.program_tables.ensures

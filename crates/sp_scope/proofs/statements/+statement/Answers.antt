@@ -7,9 +7,10 @@ use Rattle.sp_scope.proofs.statements.+statement.Goals as goal
 
 pub name_repeat-returns-clause-found : goal.name_repeat-returns-clause-found
 name_repeat-returns-clause-found t c =
-    repeat_found _ (map named.statement_of c.in_ok-ss.ss.tree) _ c.in_ok-ss.ss.first c.in_ok-e.e.first _ _
-    (expression_of c.args.e) (named.expression_of c.in_ok-e.e.tree) _
-    c.in_ok-ss.ensures.found c.in_ok-ss.ensures.after c.in_ok-e.ensures c.repeat_form.ensures
+    repeat_found _ (map named.statement_of c.in-Ok.value.tree) _ c.in-Ok.value.first
+    c.in-Ok-name_expression.value.first _ _
+    (expression_of c.args.e) (named.expression_of c.in-Ok-name_expression.value.tree) _
+    c.in-Ok.ensures.found c.in-Ok.ensures.after c.in-Ok-name_expression.ensures c.repeat_form.ensures
 
 pub name_statements-loop-s-preserved : goal.name_statements-loop-s-preserved
 name_statements-loop-s-preserved t c = grind (arith, common_steps)

@@ -11,8 +11,8 @@ returns c =
     ∙ ap (λ (z : Parts). length z.instrs) c.parts-parts.ensures.same in
     let s : Search = record {
       stacks = c.new.result;
-      at = c.in_ok-at.at;
-      broken = c.in_ok-broken.broken;
+      at = c.in-Ok-no_lists.value;
+      broken = c.in-Ok-no_marks.value;
       frontier =
           c.new-2.result;
       arrivals = c.begin_forks.new.arrivals;
@@ -20,9 +20,10 @@ returns c =
       (
         0,
         begun code c.new-arrivals.result c.begin_blocks.new.arrivals c.begin_forks.new.arrivals c.new-arrivals.ensures
-            c.in_ok-begin_blocks.ensures c.in_ok-begin_forks.ensures s refl c.new.ensures
-            (c.in_ok-at.ensures.0 ∙ m) (c.in_ok-broken.ensures.0 ∙ m) (bare_at s c.len-count.result c.in_ok-at.ensures)
-            (unmarked_at s c.len-count.result c.in_ok-broken.ensures),
+            c.in-Ok.ensures c.in-Ok-begin_forks.ensures s refl c.new.ensures
+            (c.in-Ok-no_lists.ensures.0 ∙ m) (c.in-Ok-no_marks.ensures.0 ∙ m)
+            (bare_at s c.len-count.result c.in-Ok-no_lists.ensures)
+            (unmarked_at s c.len-count.result c.in-Ok-no_marks.ensures),
       ),
       c.new-2.ensures,
     )

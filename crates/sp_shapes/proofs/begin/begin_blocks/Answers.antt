@@ -8,7 +8,7 @@ use Rattle.sp_shapes.specs.declared.steps.Arrival.{Arrival}
 use Rattle.sp_shapes.specs.Starts.{AddsStarts, IsOfLayouts}
 use Rattle.sp_shapes.proofs.Starting.{adds_then, adds_as, one_less, one_more, of_block}
 use Rattle.sp_shapes.proofs.begin.begin_blocks.Goals as goal
-use Rattle.sp_shapes.proofs.begin.begin_blocks.Goals.{in-None, in-Some+in_ok-start-in-Some}
+use Rattle.sp_shapes.proofs.begin.begin_blocks.Goals.{in-None, in-Some+in-Ok}
 
 pub start-requires : goal.start-requires
 start-requires c =
@@ -32,10 +32,10 @@ loop-l-preserved c =
           (adds_as code (IsOfLayouts code n) (IsOfLayouts code (n + 1)) xs c.loop-l.arrivals
           (λ q h. one_less code n q l None g (w.in-None.ensures ∙ find) h (λ m e f. absurd (none-some m e)))
           c.loop-l.invariant)
-      | in-Some+in_ok-start-in-Some w ↦ subst (λ (zs : List Arrival). AddsStarts code (IsOfLayouts code (n + 1)) xs zs)
+      | in-Some+in-Ok w ↦ subst (λ (zs : List Arrival). AddsStarts code (IsOfLayouts code (n + 1)) xs zs)
           (sym w.arrivals-is)
           (adds_then code (IsOfLayouts code n) (λ q. q ≡ w.in-Some.m.now.entry) (IsOfLayouts code (n + 1)) xs
           c.loop-l.arrivals w.start.new.arrivals
           (λ q h. one_more code n q l w.in-Some.m.now g (w.in-Some.ensures ∙ find) h) c.loop-l.invariant
-          w.in_ok-start-in-Some.ensures)
+          w.in-Ok.ensures)
     ]

@@ -13,4 +13,4 @@ loop-child-preserved c =
     adds_then c.args.code.now (IsOfChildren ts n) (λ q. q ≡ ch.entry)
     (IsOfChildren ts (Rattle.std.proofs.Common.◌+◌ n 1)) c.args.arrivals.now c.loop-child.arrivals
     c.start.new.arrivals
-    (λ q h. more_children c.args.code.now ts n q ch g h) c.loop-child.invariant c.in_ok-start.ensures
+    (λ q h. more_children c.args.code.now ts n q ch g h) c.loop-child.invariant c.in-Ok.ensures

@@ -8,4 +8,4 @@ loop-p-preserved c =
     let code = c.args.code.now in
     let n = c.loop-p.p in
     adds_then code (IsMade code n) (IsMadeAt code n) (IsMade code (n + 1)) c.args.arrivals.now c.loop-p.arrivals
-    c.begin_at.new.arrivals (λ q h. more_made code n q h) c.loop-p.invariant c.in_ok-begin_at.ensures
+    c.begin_at.new.arrivals (λ q h. more_made code n q h) c.loop-p.invariant c.in-Ok.ensures

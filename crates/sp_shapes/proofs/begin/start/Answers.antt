@@ -7,5 +7,5 @@ use Rattle.sp_shapes.proofs.begin.start.Goals as goal
 pub returns : goal.returns
 returns c =
     subst (λ (xs : List Arrival). AddsStarts c.args.code.now (λ q. Rattle.std.proofs.Common.◌≡◌ q c.args.at)
-    c.args.arrivals.now xs) (sym c.in_ok-push.ensures.ok)
+    c.args.arrivals.now xs) (sym c.in-Ok.ensures.ok)
     (adds_one c.args.code.now c.args.arrivals.now c.args.at c.requires)

@@ -7,5 +7,5 @@ use Rattle.sp_shapes.proofs.messages.first_length.Goals as goal
 pub returns : goal.returns
 returns c =
     subst (IsLeast (BreaksV4 c.args.code.now)) (sym c.least.ensures)
-    (least_length c.args.code.now c.args.shapes.now c.requires c.in_ok-other.other c.first_lacking-lacking.result
-    c.in_ok-other.ensures c.first_lacking-lacking.ensures)
+    (least_length c.args.code.now c.args.shapes.now c.requires c.in-Ok.value c.first_lacking-lacking.result
+    c.in-Ok.ensures c.first_lacking-lacking.ensures)

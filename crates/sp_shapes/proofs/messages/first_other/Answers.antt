@@ -2,7 +2,7 @@ use Rattle.std.proofs.Common.{◌≡◌, ◌+◌, ◌≤◌, sym, ◌∙◌, ap,
 use Rattle.sp_code.specs.declared.code.Parts.{Parts}
 use Rattle.sp_shapes.specs.Lengths.{AreLengths}
 use Rattle.sp_shapes.proofs.Measuring.{first_differs, none_differs, past_first, past_kept, past_none}
-use Rattle.sp_shapes.proofs.messages.first_other.Goals.{in-Some+in-None+in_ok-put-in-None}
+use Rattle.sp_shapes.proofs.messages.first_other.Goals.{in-Some+in-None+in-Ok}
 use Rattle.sp_shapes.proofs.messages.first_other.Goals.{in-Some+in-Some-copied+else-cells-w, in_default}
 use Rattle.sp_shapes.proofs.messages.first_other.Goals as goal
 
@@ -19,10 +19,10 @@ loop-p-preserved c =
     let R : ℕ → ℕ → Type 0 = λ m n. m ≡ n in
     let old = c.loop-p.lengths in
     elim c.match-sent.branch [
-      | in-Some+in-None+in_ok-put-in-None w ↦
+      | in-Some+in-None+in-Ok w ↦
           subst (AreLengths R code s (c.loop-p.p + 1)) (sym w.lengths-is)
           (past_first code s c.loop-p.p old w.put.new.lengths w.in-Some.w c.loop-p.invariant (sym w.in-Some.ensures)
-          (sym w.get.ensures.value ∙ sym w.copied.ensures ∙ w.in-None.is) w.in_ok-put-in-None.ensures)
+          (sym w.get.ensures.value ∙ sym w.copied.ensures ∙ w.in-None.is) w.in-Ok.ensures)
       | in-Some+in-Some-copied+else-cells-w w ↦
           subst (AreLengths R code s (c.loop-p.p + 1)) (sym w.lengths-is)
           (past_kept R code s c.loop-p.p old w.in-Some.w w.in-Some-copied.cells c.loop-p.invariant

@@ -7,9 +7,9 @@ pub walk-requires-clause-sane : goal.walk-requires-clause-sane
 walk-requires-clause-sane c = sane c.args.code.now c.requires.kept c.args.search.now c.pop.new.self c.in-Some.p
     c.in-Some.ensures c.requires.stepped
 
-pub returns-in_ok-walk-in-Some : goal.returns-in_ok-walk-in-Some
-returns-in_ok-walk-in-Some c = walked_one c.args.code.now c.requires.kept c.args.search.now c.pop.new.self c.in-Some.p
-    c.in-Some.ensures c.requires.stepped c.walk.new.search c.in_ok-walk-in-Some.ensures
+pub returns-in-Ok : goal.returns-in-Ok
+returns-in-Ok c = walked_one c.args.code.now c.requires.kept c.args.search.now c.pop.new.self c.in-Some.p
+    c.in-Some.ensures c.requires.stepped c.walk.new.search c.in-Ok.ensures
 
 pub returns-else-p-count : goal.returns-else-p-count
 returns-else-p-count c =

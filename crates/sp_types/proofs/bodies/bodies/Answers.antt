@@ -35,4 +35,4 @@ returns c = grind (arith, common_steps)
 pub loop-b-preserved : goal.loop-b-preserved
 loop-b-preserved c =
     bodies_step c.args.blocks.now c.loop-b.b-index c.b-item.result c.loop-b.out.items _ _ c.in-Ok.value c.b-item.is
-    c.loop-b-test.true c.loop-b.invariant c.in-Ok.ensures c.in_ok-push.ensures.items
+    c.loop-b-test.true c.loop-b.invariant c.in-Ok.ensures c.in-Ok-push.ensures.items

@@ -14,7 +14,7 @@ loop-process-init c =
     c.into_iter-process-iterator.ensures.into_iter_gives ∙ c.iter-process-items.ensures.rest in (
       λ q. ap (λ es. max (count_of c.admit.new.self q) (count_in es q)) e,
       subst Single (sym e) (ordered_single c.args.other.now.counts.entries c.iter-process-items.ensures.ordered),
-      λ q h. c.in_ok-admit.ensures.pairs q (subst (λ es. IsSome (lookup (is_at (nat_cmp q)) es)) e h),
+      λ q h. c.in-Ok.ensures.pairs q (subst (λ es. IsSome (lookup (is_at (nat_cmp q)) es)) e h),
     )
 
 pub loop-process-preserved : goal.loop-process-preserved
@@ -24,7 +24,7 @@ loop-process-preserved c =
     let h = c.loop-process.invariant in
     let single = subst Single s h.1 in (
       λ q. taken (count_of c.loop-process.self) (count_of c.raise.new.self) c.in-Some.process.now c.in-Some.count.now
-          c.next.new.self single.0 c.in_ok-raise.ensures.ok q
+          c.next.new.self single.0 c.in-Ok-raise.ensures.ok q
           ∙ ap (λ es. max (count_of c.loop-process.self q) (count_in es q)) (sym s) ∙ h.0 q,
       single.1,
       λ q k. c.raise.ensures.pairs q
@@ -33,12 +33,12 @@ loop-process-preserved c =
     )
 
 -- no memory is refused in the loop: each process that it raises has a pair
-pub returns-in_err-raise : goal.returns-in_err-raise
-returns-in_err-raise c =
+pub returns-in-Err-raise : goal.returns-in-Err-raise
+returns-in-Err-raise c =
     let s : c.loop-process.process-iterator ≡ (c.in-Some.process.now, c.in-Some.count.now) ∷ c.next.new.self =
     c.in-Some.ensures.steps in
     let p = c.in-Some.process.now in
-    absurd (c.in_err-raise.ensures.absent
+    absurd (c.in-Err-raise.ensures.absent
     (c.loop-process.invariant.2 p
     (subst (λ es. IsSome (lookup (is_at (nat_cmp p)) es)) (sym s)
     (first_pair p c.in-Some.count.now c.next.new.self))))

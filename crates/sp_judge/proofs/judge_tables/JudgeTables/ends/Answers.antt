@@ -24,14 +24,14 @@ birth-requires-clause-there c = subst (λ es. c.args.process < (births es).proce
 
 pub learn-requires-clause-learner : goal.learn-requires-clause-learner
 learn-requires-clause-learner c =
-    subst (λ n. c.in-Some.birth.parent < n) (sym (c.in_ok-raise.ensures.len ∙ ap length c.note.ensures.clocks))
+    subst (λ n. c.in-Some.birth.parent < n) (sym (c.in-Ok-raise.ensures.len ∙ ap length c.note.ensures.clocks))
     (parent_inside c.args.entries.now c.requires.tame c.args.at (record { process = c.args.process; event = event.End })
     c.requires.here c.args.until.now c.args.self.now c.requires.holds c.in-Some.birth
     (sym c.in-Some.is ∙ c.birth.ensures ∙ ap (λ es. (births es).birth c.args.process) c.requires.its_journal))
 
 pub learn-requires-clause-teacher : goal.learn-requires-clause-teacher
 learn-requires-clause-teacher c =
-    subst (λ n. c.args.process < n) (sym (c.in_ok-raise.ensures.len ∙ ap length c.note.ensures.clocks))
+    subst (λ n. c.args.process < n) (sym (c.in-Ok-raise.ensures.len ∙ ap length c.note.ensures.clocks))
     (clocks_inside c.args.entries.now c.requires.tame c.args.at (record { process = c.args.process; event = event.End })
     c.requires.here c.args.until.now c.args.self.now c.requires.holds)
 
@@ -40,23 +40,23 @@ returns-in-None c =
     let b = c.args.self.now in
     ended_root c.args.entries.now c.requires.tame c.args.at (record { process = c.args.process; event = event.End })
     c.requires.here c.args.until.now b c.requires.holds
-    _ (c.in_ok-raise.ensures.len ∙ ap length c.note.ensures.clocks) c.in_ok-after.ensures.places
-    c.in_ok-after.ensures.made c.note.ensures.lines refl c.note.ensures.next
+    _ (c.in-Ok-raise.ensures.len ∙ ap length c.note.ensures.clocks) c.in-Ok.ensures.places
+    c.in-Ok.ensures.made c.note.ensures.lines refl c.note.ensures.next
     (sym c.in-None.is ∙ c.birth.ensures ∙ ap (λ es. (births es).birth c.args.process) c.requires.its_journal)
-    (raised_over c.args.process b.clocks.items c.note.new.self.clocks.items c.note.ensures.clocks c.in_ok-after.after
-    (number_at b.made.items c.args.process + 1) c.in_ok-after.ensures.count
-    (IsAsked c.args.until.now (c.args.at + 1)) (clock_at c.raise.new.clocks.items) c.in_ok-raise.ensures.clocks)
+    (raised_over c.args.process b.clocks.items c.note.new.self.clocks.items c.note.ensures.clocks c.in-Ok.value
+    (number_at b.made.items c.args.process + 1) c.in-Ok.ensures.count
+    (IsAsked c.args.until.now (c.args.at + 1)) (clock_at c.raise.new.clocks.items) c.in-Ok-raise.ensures.clocks)
 
 pub returns-in-Some : goal.returns-in-Some
 returns-in-Some c =
     let b = c.args.self.now in
     on_ok_weaker c.learn.result (λ x. ended c.args.entries.now c.requires.tame c.args.at
     (record { process = c.args.process; event = event.End }) c.requires.here c.args.until.now b c.requires.holds
-    _ (x.0 ∙ c.in_ok-raise.ensures.len ∙ ap length c.note.ensures.clocks) c.in_ok-after.ensures.places
-    c.in_ok-after.ensures.made c.note.ensures.lines refl c.note.ensures.next
+    _ (x.0 ∙ c.in-Ok-raise.ensures.len ∙ ap length c.note.ensures.clocks) c.in-Ok.ensures.places
+    c.in-Ok.ensures.made c.note.ensures.lines refl c.note.ensures.next
     c.in-Some.birth (sym c.in-Some.is ∙ c.birth.ensures
     ∙ ap (λ es. (births es).birth c.args.process) c.requires.its_journal) (clock_at c.raise.new.clocks.items)
-    (raised_over c.args.process b.clocks.items c.note.new.self.clocks.items c.note.ensures.clocks c.in_ok-after.after
-    (number_at b.made.items c.args.process + 1) c.in_ok-after.ensures.count
-    (IsAsked c.args.until.now (c.args.at + 1)) (clock_at c.raise.new.clocks.items) c.in_ok-raise.ensures.clocks)
+    (raised_over c.args.process b.clocks.items c.note.new.self.clocks.items c.note.ensures.clocks c.in-Ok.value
+    (number_at b.made.items c.args.process + 1) c.in-Ok.ensures.count
+    (IsAsked c.args.until.now (c.args.at + 1)) (clock_at c.raise.new.clocks.items) c.in-Ok-raise.ensures.clocks)
     x.1) (ok_both _ _ c.learn.result c.learn.ensures.len c.learn.ensures.clocks)

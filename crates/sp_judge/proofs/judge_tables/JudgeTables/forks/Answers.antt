@@ -28,7 +28,7 @@ share-requires-clause-there c =
     (record { process = c.args.process; event = event.Fork c.args.count }) c.requires.here c.args.until.now
     c.args.self.now c.requires.holds c.args.count refl in
     let n = c.note.ensures.next in
-    let l = c.in_ok-raise.ensures.len ∙ ap length c.note.ensures.clocks in
+    let l = c.in-Ok-raise.ensures.len ∙ ap length c.note.ensures.clocks in
     omega (arith, a, n, l)
 
 pub share-requires-clause-few : goal.share-requires-clause-few
@@ -53,11 +53,11 @@ returns c =
     forked c.args.entries.now c.requires.tame c.args.at
     (record { process = c.args.process; event = event.Fork c.args.count }) c.requires.here c.args.until.now b
     c.requires.holds
-    _ (c.in_ok-share.ensures.len ∙ c.in_ok-raise.ensures.len ∙ ap length c.note.ensures.clocks)
-    c.in_ok-after.ensures.places c.in_ok-after.ensures.made c.note.ensures.lines c.args.count refl
+    _ (c.in-Ok-share.ensures.len ∙ c.in-Ok-raise.ensures.len ∙ ap length c.note.ensures.clocks)
+    c.in-Ok.ensures.places c.in-Ok.ensures.made c.note.ensures.lines c.args.count refl
     (λ i. c.note.ensures.next i + c.from.ensures i) (clock_at c.raise.new.clocks.items)
-    (raised_over c.args.process b.clocks.items c.note.new.self.clocks.items c.note.ensures.clocks c.in_ok-after.after
-    (number_at b.made.items c.args.process + 1) c.in_ok-after.ensures.count
-    (IsAsked c.args.until.now (c.args.at + 1)) (clock_at c.raise.new.clocks.items) c.in_ok-raise.ensures.clocks)
+    (raised_over c.args.process b.clocks.items c.note.new.self.clocks.items c.note.ensures.clocks c.in-Ok.value
+    (number_at b.made.items c.args.process + 1) c.in-Ok.ensures.count
+    (IsAsked c.args.until.now (c.args.at + 1)) (clock_at c.raise.new.clocks.items) c.in-Ok-raise.ensures.clocks)
     (shared_over c.note.new.self.next b.next c.note.ensures.next c.args.count c.args.process
-    (clock_at c.raise.new.clocks.items) (clock_at c.share.new.clocks.items) c.in_ok-share.ensures.clocks)
+    (clock_at c.raise.new.clocks.items) (clock_at c.share.new.clocks.items) c.in-Ok-share.ensures.clocks)

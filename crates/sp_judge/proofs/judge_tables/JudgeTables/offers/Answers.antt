@@ -74,7 +74,7 @@ returns-in-None c =
     c.args.until.now c.args.self.now c.requires.holds c.args.way c.args.channel refl in
     let line = item_is b.lines.items c.args.channel l i
     (c.index-line.ensures ∙ ap (λ xs. get_or xs c.args.channel l) c.note.ensures.lines) in
-    let place : c.in_ok-after.after - 1 ≡ number_at b.made.items c.args.process = let n = c.in_ok-after.ensures.count in
+    let place : c.in-Ok.value - 1 ≡ number_at b.made.items c.args.process = let n = c.in-Ok.ensures.count in
     omega (arith, n) in
     let now_is = c.then.ensures
     ∙ (λ j. channel_offers_with c.args.way (record { process = c.args.process; place = place j })
@@ -82,12 +82,12 @@ returns-in-None c =
     offer_waits c.args.entries.now c.requires.tame c.args.at
     (record { process = c.args.process; event = offer_event c.args.way c.args.channel }) c.requires.here
     c.args.until.now c.args.self.now c.requires.holds
-    _ (ap length c.note.ensures.clocks) c.in_ok-after.ensures.places c.in_ok-after.ensures.made c.args.way
+    _ (ap length c.note.ensures.clocks) c.in-Ok.ensures.places c.in-Ok.ensures.made c.args.way
     c.args.channel refl l line c.note.ensures.next
     c.in-None.is (λ j. slice_set (c.note.ensures.lines j) c.args.channel (now_is j)) c.note.ensures.clocks
 
-pub returns-in_ok-meet-in-Some : goal.returns-in_ok-meet-in-Some
-returns-in_ok-meet-in-Some c =
+pub returns-in-Ok-meet : goal.returns-in-Ok-meet
+returns-in-Ok-meet c =
     let b = c.args.self.now in
     let l = c.index-line.result.now in
     let i = channel_inside c.args.entries.now c.requires.tame c.args.at
@@ -95,16 +95,16 @@ returns-in_ok-meet-in-Some c =
     c.args.until.now c.args.self.now c.requires.holds c.args.way c.args.channel refl in
     let line = item_is b.lines.items c.args.channel l i
     (c.index-line.ensures ∙ ap (λ xs. get_or xs c.args.channel l) c.note.ensures.lines) in
-    let place : c.in_ok-after.after - 1 ≡ number_at b.made.items c.args.process = let n = c.in_ok-after.ensures.count in
+    let place : c.in-Ok.value - 1 ≡ number_at b.made.items c.args.process = let n = c.in-Ok.ensures.count in
     omega (arith, n) in
     let now_is = c.then-in-Some.ensures ∙ (λ j. channel_offers_with c.args.way
     (record { process = c.args.process; place = place j }) None l) in
     offer_meets c.args.entries.now c.requires.tame c.args.at
     (record { process = c.args.process; event = offer_event c.args.way c.args.channel }) c.requires.here
     c.args.until.now c.args.self.now c.requires.holds
-    _ (c.in_ok-meet-in-Some.ensures.len ∙ ap length c.note.ensures.clocks) c.in_ok-after.ensures.places
-    c.in_ok-after.ensures.made c.args.way c.args.channel refl l line c.note.ensures.next
+    _ (c.in-Ok-meet.ensures.len ∙ ap length c.note.ensures.clocks) c.in-Ok.ensures.places
+    c.in-Ok.ensures.made c.args.way c.args.channel refl l line c.note.ensures.next
     c.in-Some.other c.in-Some.is (λ j. slice_set (c.note.ensures.lines j) c.args.channel (now_is j))
-    (λ r q a. c.in_ok-meet-in-Some.ensures.clocks r q a
-    ∙ (λ j. clocks_after_meeting (clock_at (c.note.ensures.clocks j)) c.args.process (c.in_ok-after.ensures.count j)
-    c.in-Some.other.process (c.in_ok-theirs-in-Some.ensures j) r q))
+    (λ r q a. c.in-Ok-meet.ensures.clocks r q a
+    ∙ (λ j. clocks_after_meeting (clock_at (c.note.ensures.clocks j)) c.args.process (c.in-Ok.ensures.count j)
+    c.in-Some.other.process (c.in-Ok-one_more.ensures j) r q))

@@ -20,8 +20,8 @@ returns c =
     let b = c.args.self.now in
     opened c.args.entries.now c.requires.tame c.args.at (record { process = c.args.process; event = event.Open })
     c.requires.here c.args.until.now b c.requires.holds
-    _ (c.in_ok-raise.ensures.len ∙ ap length c.note.ensures.clocks) c.in_ok-after.ensures.places
-    c.in_ok-after.ensures.made c.note.ensures.lines refl c.note.ensures.next
-    (raised_over c.args.process b.clocks.items c.note.new.self.clocks.items c.note.ensures.clocks c.in_ok-after.after
-    (number_at b.made.items c.args.process + 1) c.in_ok-after.ensures.count
-    (IsAsked c.args.until.now (c.args.at + 1)) (clock_at c.raise.new.clocks.items) c.in_ok-raise.ensures.clocks)
+    _ (c.in-Ok-raise.ensures.len ∙ ap length c.note.ensures.clocks) c.in-Ok.ensures.places
+    c.in-Ok.ensures.made c.note.ensures.lines refl c.note.ensures.next
+    (raised_over c.args.process b.clocks.items c.note.new.self.clocks.items c.note.ensures.clocks c.in-Ok.value
+    (number_at b.made.items c.args.process + 1) c.in-Ok.ensures.count
+    (IsAsked c.args.until.now (c.args.at + 1)) (clock_at c.raise.new.clocks.items) c.in-Ok-raise.ensures.clocks)

@@ -47,5 +47,5 @@ returns-clause-came c =
     c.args.layout.now c.args.up c.requires.safe c.if-self-limits.false c.if-self-limits-2.false
     (subst (λ k. c.args.self.now.cells + k ≤ c.args.limits.now.cells)
     (c.cells_of-cells.ensures ∙ ap sum c.items.ensures) c.if-self-cells.false)
-    c.in_ok-open_frame.ensures.opened c.in_ok-open_frame.ensures.stack c.open_frame.ensures.place
+    c.in-Ok.ensures.opened c.in-Ok.ensures.stack c.open_frame.ensures.place
     c.open_frame.ensures.same c.enter_block.result c.enter_block.ensures.came

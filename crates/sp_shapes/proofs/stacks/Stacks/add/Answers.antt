@@ -2,24 +2,24 @@ use Rattle.std.proofs.Common.{ap, ◌+◌}
 use Rattle.sp_shapes.proofs.Stacking.{stacks_grow, stacks_extend, list_more}
 use Rattle.sp_shapes.proofs.stacks.Stacks.add.Goals as goal
 
-are_stacks : goal.returns-in-Ok-clause-stacks
+are_stacks : goal.returns-in-Ok-insert-clause-stacks
 are_stacks c =
     stacks_grow c.args.self.now (record { cells = c.push.new.self; known = c.insert.new.self })
     (record { shape = c.args.shape; below = c.args.below }) c.args.key (c.len-n.result + 1)
-    c.requires.stacks c.in_ok-push.ensures.ok (ap (λ m. m + 1) c.len-n.ensures) c.if-n-gt4294967295.false
+    c.requires.stacks c.in-Ok.ensures.ok (ap (λ m. m + 1) c.len-n.ensures) c.if-n-gt4294967295.false
     c.requires.below c.requires.small c.requires.key c.requires.new
-    (λ q. c.in-Ok.ensures.updates.0 q)
+    (λ q. c.in-Ok-insert.ensures.updates.0 q)
 
-pub returns-in-Ok-clause-stacks : goal.returns-in-Ok-clause-stacks
-returns-in-Ok-clause-stacks c = are_stacks c
+pub returns-in-Ok-insert-clause-stacks : goal.returns-in-Ok-insert-clause-stacks
+returns-in-Ok-insert-clause-stacks c = are_stacks c
 
-pub returns-in-Ok-clause-extends : goal.returns-in-Ok-clause-extends
-returns-in-Ok-clause-extends c =
+pub returns-in-Ok-insert-clause-extends : goal.returns-in-Ok-insert-clause-extends
+returns-in-Ok-insert-clause-extends c =
     stacks_extend c.args.self.now (record { cells = c.push.new.self; known = c.insert.new.self })
-    (record { shape = c.args.shape; below = c.args.below }) c.requires.stacks c.in_ok-push.ensures.ok
+    (record { shape = c.args.shape; below = c.args.below }) c.requires.stacks c.in-Ok.ensures.ok
 
-pub returns-in-Ok-clause-pushed : goal.returns-in-Ok-clause-pushed
-returns-in-Ok-clause-pushed c =
+pub returns-in-Ok-insert-clause-pushed : goal.returns-in-Ok-insert-clause-pushed
+returns-in-Ok-insert-clause-pushed c =
     list_more c.args.self.now (record { cells = c.push.new.self; known = c.insert.new.self })
     (record { shape = c.args.shape; below = c.args.below }) (c.len-n.result + 1)
-    c.requires.stacks (are_stacks c) c.in_ok-push.ensures.ok (ap (λ m. m + 1) c.len-n.ensures) c.requires.below
+    c.requires.stacks (are_stacks c) c.in-Ok.ensures.ok (ap (λ m. m + 1) c.len-n.ensures) c.requires.below
