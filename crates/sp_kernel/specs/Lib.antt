@@ -13,3 +13,4 @@ pub mod Keeping
 pub mod Faults
 pub mod Outputs
 pub mod Closes
+pub mod Views

@@ -13,6 +13,10 @@ ghost use Rattle.sp_kernel.specs.Kernels.{kernel_after_loss, doing_in, condition
 ghost use Rattle.sp_kernel.specs.Kernels.{IsKernel, Gave, Takes, is_over, control_of, system_of};
 ghost use Rattle.sp_kernel.specs.Kernels.{code_run_of, stands_as};
 ghost use Rattle.sp_kernel.specs.Kernels.{Abandons};
+ghost use Rattle.sp_lines.specs.Telling.{sent_by};
+ghost use Rattle.sp_kernel.specs.Views.{IsSeen, IsUnseen};
+ghost use Rattle.sp_code.specs.System.{pending_stop};
+ghost use Rattle.std.specs.Prelude.{MatchOption};
 ghost use Rattle.sp_kernel.specs.Fits.{FitsHanded};
 ghost use Rattle.sp_kernel.specs.Asks.{IsOpening};
 ghost use Rattle.sp_machine.specs.declared.state.Stop.TheVariants as stop;
@@ -22,6 +26,7 @@ use crate::handed::Handed;
 use crate::ready_queue::ReadyQueue;
 use crate::slot::{Slot, State, put, swap};
 use sp_base::{Fault, Limits, List, Memory};
+use sp_cell::Cell;
 use sp_channel::Channels;
 use sp_code::Code;
 use sp_journal::{Entry, Event, Journal};
@@ -42,6 +47,21 @@ pub enum Standing {
     Fault,
     /// A worker gave up. This stands before the others.
     Memory,
+}
+
+/// What a process does that the kernel has.
+#[derive(Clone, Copy, Debug, PartialEq, Eq)]
+pub enum Seen {
+    Running,
+    /// It waits to send, or to receive, on this channel.
+    Sending(u32),
+    Receiving(u32),
+    /// It waits for its children.
+    Joining,
+    /// It was laid down.
+    Laid,
+    /// The root has ended.
+    Over,
 }
 
 /// The processes of a run by their numbers, the queue of those that are ready, the channels and the journal.
@@ -99,6 +119,43 @@ impl Kernel {
             limits,
             root: first,
         })
+    }
+
+    /// A process that the kernel has, and what it does. None of one that is out, has ended, or was not started.
+    pub fn seen(&self, process: u32) -> Option<(&Proc, Seen)>
+        ensures { MatchOption result (IsUnseen ((system_of self.now).condition process))
+            (λ r. IsSeen ((system_of self.now).condition process) (config_of r.0.now) r.1) }
+    {
+        match self.slots.get(process as usize) {
+            Some(Slot::Here(proc, State::Ready)) => Some((proc, Seen::Running)),
+            Some(Slot::Here(proc, State::Sending(channel, _, _))) => {
+                Some((proc, Seen::Sending(*channel)))
+            }
+            Some(Slot::Here(proc, State::Receiving(channel, _))) => {
+                Some((proc, Seen::Receiving(*channel)))
+            }
+            Some(Slot::Here(proc, State::Joining(_))) => Some((proc, Seen::Joining)),
+            Some(Slot::Here(proc, State::Laid)) => Some((proc, Seen::Laid)),
+            Some(Slot::Here(proc, State::Over)) => Some((proc, Seen::Over)),
+            _ => None,
+        }
+    }
+
+    /// What waits to be taken from a channel, if something does.
+    pub fn message(&self, channel: u32) -> Option<&[Cell]>
+        requires whole { IsKernel self.now }
+        requires there { channel < length self.now.channels }
+        ensures { MatchOption result
+            (sent_by (pending_stop (system_of self.now) ((system_of self.now).pending channel)) ≡ None)
+            (λ cs. sent_by (pending_stop (system_of self.now) ((system_of self.now).pending channel)) ≡ Some cs.now) }
+    {
+        match self.channels.pending(channel) {
+            None => None,
+            Some(pending) => match self.slots.get(pending.process as usize) {
+                Some(Slot::Here(_, State::Sending(_, _, cells))) => Some(cells.items()),
+                _ => None,
+            },
+        }
     }
 
     /// How the run stands.

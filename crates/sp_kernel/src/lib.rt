@@ -65,4 +65,4 @@ mod slot;
 pub use ask::{Ask, Got};
 pub use closed::Closed;
 pub use handed::Handed;
-pub use kernel::{Kernel, Standing};
+pub use kernel::{Kernel, Seen, Standing};

@@ -5,3 +5,4 @@ pub mod Coming
 pub mod Entries
 pub mod Ending
 pub mod Holding
+pub mod TellingLaws

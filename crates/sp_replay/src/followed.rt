@@ -29,7 +29,7 @@ pub(crate) struct Followed {
 }
 
 // One turn of a process.
-fn turned(proc: Proc, code: &Code, limits: &Limits) -> Result<Handed, Memory>
+pub(crate) fn turned(proc: Proc, code: &Code, limits: &Limits) -> Result<Handed, Memory>
     requires sound { IsSound code.now }
     requires ranked { IsRankedFrom proc code.now limits.now }
     requires safe { CanTurn proc code.now limits.now }
@@ -43,7 +43,7 @@ fn turned(proc: Proc, code: &Code, limits: &Limits) -> Result<Handed, Memory>
 }
 
 // Whether two events are one.
-fn is_same(event: Event, other: Event) -> bool
+pub(crate) fn is_same(event: Event, other: Event) -> bool
     ensures { MatchBool result (event ≡ other) (event ≢ other) }
 {
     event == other
@@ -105,7 +105,12 @@ impl Followed {
     }
 
     // Hands a process in after its turn, for its event, and holds all that are ready then.
-    fn hand_in(&mut self, code: &Code, limits: &Limits, handed: Handed) -> Result<(), Memory>
+    pub(crate) fn hand_in(
+        &mut self,
+        code: &Code,
+        limits: &Limits,
+        handed: Handed,
+    ) -> Result<(), Memory>
         requires run { RunsOn self.old.kernel code.now limits.now }
         requires hand { IsInHand self.old code.now limits.now handed }
         ensures { OnOk result (HoldsAllReady self.new

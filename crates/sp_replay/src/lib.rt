@@ -7,8 +7,8 @@
 //! - `Replayed`: the end and the output. `ReplayError`: `Unfit` or `Memory`.
 //!
 //! To know:
-//! - `src/replayer.rt` is the call, `src/followed.rt` the run entry by entry, `src/held.rt` the processes by their
-//!   numbers.
+//! - `src/replayer.rt` is the call, `src/followed.rt` the run entry by entry, `src/telling.rt` the same with what is
+//!   told of each entry, `src/held.rt` the processes by their numbers.
 //! - `specs/Replays.antt` says what following a journal answers, `specs/Following.antt` what holds between two entries,
 //!   `specs/Held.antt` who is held.
 //! - All that are ready are taken out before the next turn, so after a fault all that run are held, and go on to be
@@ -19,5 +19,6 @@
 mod followed;
 mod held;
 mod replayer;
+mod telling;
 
 pub use replayer::{ReplayError, Replayed, replay};

@@ -1,7 +1,8 @@
 //! The variables of one process, and its calls.
 
 ghost use Rattle.std.specs.Prelude.{◌≡◌, ◌≢◌, ◌+◌, ◌<◌, ◌≤◌, IfOk, IsSome, Some, None, MatchOption, OnOk, OnErr, IsOk};
-ghost use Rattle.std.specs.Prelude.{length, List, [], slice_index_or};
+ghost use Rattle.std.specs.Prelude.{length, List, [], slice_index_or, IsTrue, ◌↔◌};
+ghost use Rattle.sp_cell.specs.Map.{Away};
 ghost use Rattle.std.specs.FinMap as map;
 ghost use Rattle.sp_cell.specs.declared.cell.Cell.TheVariants.{Undefined};
 ghost use Rattle.sp_cell.specs.Fork.{children_of, map_after_fork, with_away, map_after_join, with_shared, moved_of};
@@ -240,6 +241,34 @@ impl Store {
         self.make_own(to.spot)?;
         self.put(to, &taken);
         Ok(())
+    }
+
+    /// The cells of the piece at a spot, own or shared, if it is held.
+    pub fn held(&self, spot: Spot) -> Option<&[Cell]>
+        ensures { MatchOption result (IsPiece (map.get self.now.map spot) → ⊥)
+            (λ cs. IsPiece (map.get self.now.map spot) × (cells_at self.now.map spot ≡ cs.now)) }
+    {
+        match self.slots.find(spot) {
+            None | Some(Entry::Output(_) | Entry::Away) => None,
+            Some(piece) => Some(entry::cells(piece)),
+        }
+    }
+
+    /// Whether the piece at a spot is one of its own.
+    pub fn owns(&self, spot: Spot) -> bool
+        ensures { IsTrue result ↔ IsOwn (map.get self.now.map spot) }
+    {
+        matches!(
+            self.slots.find(spot),
+            Some(Entry::Single(_) | Entry::Own(_))
+        )
+    }
+
+    /// Whether the piece at a spot is away.
+    pub fn has_gone(&self, spot: Spot) -> bool
+        ensures { IsTrue result ↔ (map.get self.now.map spot ≡ Some Away) }
+    {
+        matches!(self.slots.find(spot), Some(Entry::Away))
     }
 
     /// What was written so far, or `None` where the output is not held.

@@ -1,0 +1,71 @@
+-- Of each journal along which the machine has a system one thing is told.
+use Rattle.std.proofs.Common.{◌≡◌, ℕ, List, [], ◌∷◌, ◌∙◌, refl, sym, ap, subst}
+use Rattle.sp_cell.specs.Map.{Plain}
+use Rattle.sp_journal.specs.declared.entry.Event.{Event}
+use Rattle.sp_journal.specs.declared.entry.Entry.{Entry}
+use Rattle.sp_code.specs.Machine.{Config}
+use Rattle.sp_code.specs.Memory.{CodeRun, Memory, memory}
+use Rattle.sp_code.specs.PlainStore.{plain}
+use Rattle.sp_code.specs.System.{System, Condition, Working, EntriesLead, EntryLeads}
+use Rattle.sp_code.specs.Turns.{Turn, IsTurn}
+use Rattle.sp_code.proofs.Turning.{turn_same}
+use Rattle.sp_code.proofs.Systems.{enters_same}
+use Rattle.sp_lines.specs.declared.told.Told.{Told}
+use Rattle.sp_lines.specs.Telling.{told_of, EntryTells, EntriesTell}
+
+module _ (g : CodeRun) where
+  pub told : (es : List Entry) (s t : System Plain) → EntriesLead plain g s es t
+      → (ws : List Told) × EntriesTell g s es ws t
+  told [] s t h = ([], h)
+  told (e ∷ es) s t (u, (c, works, turn, is, event, after), rest) =
+      let r = told es u t rest in
+      (told_of s turn ∷ r.0, (u, (c, works, turn, is, event, after, refl), r.1))
+
+  pub leads : (es : List Entry) (ws : List Told) (s t : System Plain) → EntriesTell g s es ws t
+      → EntriesLead plain g s es t
+  leads [] [] s t h = h
+  leads [] (w ∷ ws) s t h = absurd h
+  leads (e ∷ es) [] s t h = absurd h
+  leads (e ∷ es) (w ∷ ws) s t (u, (c, works, turn, is, event, after, it), rest) =
+      (u, (c, works, turn, is, event, after), leads es ws u t rest)
+
+  same_works : (c d : Config (Memory Plain)) → ◌≡◌ {A = Condition Plain} (Working c) (Working d) → c ≡ d
+  same_works c d e = cc
+
+  -- what is told is that of the turn that was made
+  pub of_turn : (s t : System Plain) (q : ℕ) (e : Event) → EntryLeads plain g s q e t → (c : Config (Memory Plain))
+      → s.condition q ≡ Working c → (turn : Turn (Memory Plain)) → IsTurn (memory plain g) g.code c turn
+      → EntryTells g s q e (told_of s turn) t
+  of_turn s t q e h c works turn is =
+      let w : c ≡ h.0 = same_works c h.0 (sym works ∙ h.1) in
+      let mine : IsTurn (memory plain g) g.code h.0 turn =
+      subst (λ (d : Config (Memory Plain)). IsTurn (memory plain g) g.code d turn) w is in
+      let same : turn ≡ h.2 = turn_same (memory plain g) g.code h.0 turn h.2 mine h.3 in
+      (h.0, h.1, h.2, h.3, h.4, h.5, ap (λ (x : Turn (Memory Plain)). told_of s x) same)
+
+  -- one thing is told of an entry, and of a journal
+  entry_once : (s t u : System Plain) (q : ℕ) (e : Event) (w x : Told) → EntryTells g s q e w t
+      → EntryTells g s q e x u → w ≡ x
+  entry_once s t u q e w x h k =
+      let v : k.0 ≡ h.0 = same_works k.0 h.0 (sym k.1 ∙ h.1) in
+      let turn : IsTurn (memory plain g) g.code h.0 k.2 =
+      subst (λ (c : Config (Memory Plain)). IsTurn (memory plain g) g.code c k.2) v k.3 in
+      h.6 ∙ ap (λ (y : Turn (Memory Plain)). told_of s y) (turn_same (memory plain g) g.code h.0 h.2 k.2 h.3 turn)
+      ∙ sym k.6
+
+  lead : (s t : System Plain) (q : ℕ) (e : Event) (w : Told) → EntryTells g s q e w t → EntryLeads plain g s q e t
+  lead s t q e w (c, works, turn, is, event, after, it) = (c, works, turn, is, event, after)
+
+  pub once : (es : List Entry) (ws xs : List Told) (s t u : System Plain) → EntriesTell g s es ws t
+      → EntriesTell g s es xs u → ws ≡ xs
+  once [] [] [] s t u h k = refl
+  once [] [] (x ∷ xs) s t u h k = absurd k
+  once [] (w ∷ ws) xs s t u h k = absurd h
+  once (e ∷ es) [] xs s t u h k = absurd h
+  once (e ∷ es) (w ∷ ws) [] s t u h k = absurd k
+  once (e ∷ es) (w ∷ ws) (x ∷ xs) s t u h k =
+      let same : k.0 ≡ h.0 = enters_same plain g s e.process e.event e.event k.0 h.0
+      (lead s k.0 e.process e.event x k.1) (lead s h.0 e.process e.event w h.1) in
+      let rest : EntriesTell g h.0 es xs u = subst (λ (m : System Plain). EntriesTell g m es xs u) same k.2 in
+      ap (λ (y : Told). y ∷ ws) (entry_once s h.0 k.0 e.process e.event w x h.1 k.1)
+      ∙ ap (λ (ys : List Told). x ∷ ys) (once es ws xs h.0 t u h.2 rest)

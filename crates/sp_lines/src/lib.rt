@@ -1,0 +1,45 @@
+//! Where each instruction of the code of a checked tree stands in the text.
+//!
+//! Calls:
+//! - `marks`: of a tree, a mark for each instruction of its code, in order: the place of the statement to which the
+//!   instruction belongs, and the place of its part of the statement. The one error is that memory was refused.
+//! - `Told`: what is told of an entry of a journal, the instruction and the message.
+//!
+//! Laws:
+//! - `marks_go_with_the_code`: each part of a tree has as many marks as instructions, and so has the whole program.
+//! - `marks_stand`: wherever a statement's code stands in that of the program, its marks stand in the program's marks.
+//! - `turns_end_at_their_instruction`: if a turn stops, the instruction at which it ends is that of the stop.
+//! - `stops_have_their_statements`: an instruction that stops has the mark of a statement of the text of its kind.
+//! - `journals_are_told`: one thing is told of a journal if the machine has a system along it, and else nothing.
+//! - `turns_are_told`: who follows a journal and sees each turn can tell it.
+//! - `faults_have_marks`: an instruction that faults has a mark.
+//! - `waiting_processes_are_shown`: a process that waits, or joins, is shown at a place where a statement of the text
+//!   begins that does so.
+//! - `entries_are_told_at_their_statements`: an entry of a run of a program's code that forks, opens, sends or receives
+//!   is told at a place where a statement of the text begins that does so.
+//!
+//! To know:
+//! - `specs/Marks.antt` says them clause by clause as `Emitted` of `sp_code` says the code.
+//! - It recurses as deep as the tree is.
+//! - Nothing calls it yet: it is for commands that tell a journal, and the state after it, with places of the text.
+//!
+//! To change:
+//! - A form: its clause in `specs/Marks.antt` beside that in `Emitted`, its arm in `src/statements.rt` or
+//!   `src/expressions.rt`.
+#![tactic(auto)]
+
+mod expressions;
+mod laws;
+mod mark;
+mod program;
+mod statements;
+mod told;
+
+pub use laws::{
+    entries_are_told_at_their_statements, faults_have_marks, journals_are_told,
+    marks_go_with_the_code, marks_stand, stops_have_their_statements, turns_are_told,
+    turns_end_at_their_instruction, waiting_processes_are_shown,
+};
+pub use mark::Mark;
+pub use program::marks;
+pub use told::Told;

@@ -1,0 +1,112 @@
+-- What is told of an entry that was made: that of the turn that its process made.
+use Rattle.std.proofs.lemmas.Option.{same_Some}
+use Rattle.std.proofs.Common.{List, [], ◌∷◌, ◌++◌, take, get_or, length, zero, suc, ◌+◌, ◌<◌, arith}
+use Rattle.std.proofs.Common.{◌≡◌, ℕ, Bool, true, false, Option, Some, None, MatchBool, refl, sym, ap, ◌∙◌, subst}
+use Rattle.std.specs.Prelude.{MatchOption, if◌then◌else◌}
+use Rattle.sp_base.specs.declared.limits.Limits.{Limits}
+use Rattle.sp_cell.specs.Map.{Plain}
+use Rattle.sp_journal.specs.declared.entry.Entry.{Entry}
+use Rattle.sp_code.specs.declared.code.Parts.{Parts}
+use Rattle.sp_code.specs.Memory.{CodeRun, Memory, memory}
+use Rattle.sp_code.specs.PlainStore.{plain}
+use Rattle.sp_code.specs.Sound.{run_of}
+use Rattle.sp_code.specs.System.{System, IsSystem, opening_system}
+use Rattle.sp_code.specs.Turns.{IsTurn}
+use Rattle.sp_lines.specs.declared.told.Told.{Told}
+use Rattle.sp_lines.specs.Telling.{told_of, EntryTells, EntriesTell, IsTold}
+use Rattle.sp_lines.proofs.Tellings.{of_turn}
+use Rattle.sp_machine.specs.declared.state.State.{State as Proc}
+use Rattle.sp_machine.specs.declared.state.Stop.{Stop}
+use Rattle.sp_machine.specs.declared.state.Stop.TheVariants as stop
+use Rattle.sp_machine.specs.Procs.{config_of, turn_by, IsTurnOf}
+use Rattle.sp_kernel.specs.declared.handed.Handed.{Handed}
+use Rattle.sp_kernel.specs.declared.kernel.Kernel.{Kernel}
+use Rattle.sp_kernel.specs.Kernels.{system_of, code_run_of}
+use Rattle.sp_replay.specs.declared.followed.Followed.{Followed}
+use Rattle.sp_replay.specs.Following.{HasCome, IsOutAs, RunsOn, WasTurned, HoldsAllReady, EventMade, CannotCome}
+use Rattle.sp_replay.specs.Tellings.{AreTold, ToldMade}
+use Rattle.sp_replay.proofs.Coming.{is_system}
+
+is_turn : (p : Proc) (code : Parts) (lim : Limits) (q : Proc) (s : Stop) → IsTurnOf p code lim q s
+    → (s ≡ stop.Memory → ⊥)
+    → IsTurn (memory plain (run_of code p.input.value lim)) code (config_of p) (turn_by s q)
+is_turn p code lim q (stop.Fork t v n) h w = h.0
+is_turn p code lim q stop.Open h w = h.0
+is_turn p code lim q (stop.Send c k cs) h w = h.0
+is_turn p code lim q (stop.Receive c k) h w = h.0
+is_turn p code lim q stop.End h w = h.0
+is_turn p code lim q stop.Pause h w = h.0
+is_turn p code lim q (stop.Fault f) h w = h.0
+is_turn p code lim q stop.Memory h w = absurd (w refl)
+
+module _ (x : Kernel) (code : Parts) (lim : Limits) (runs : RunsOn x code lim) (e : Entry) (p : Proc)
+    (out : IsOutAs x e.process p) (h : Handed) (turned : WasTurned p code lim h) where
+  same_run : run_of code p.input.value lim ≡ code_run_of x
+  same_run = λ j. run_of (sym runs.code j) (out.input j) (sym runs.limits j)
+
+  here : IsTurn (memory plain (code_run_of x)) (code_run_of x).code (config_of p) (turn_by h.stop h.proc)
+  here = subst (λ (g : CodeRun). IsTurn (memory plain g) g.code (config_of p) (turn_by h.stop h.proc)) same_run
+      (is_turn p code lim h.proc h.stop turned.turn turned.whole)
+
+  told_made : (y : Kernel) (w : Told) → w ≡ told_of (system_of x) (turn_by h.stop h.proc)
+      → EventMade x e.process e.event y → ToldMade x e w y
+  told_made y w is made = record {
+    made = made;
+    tells = subst (λ (v : Told). EntryTells (code_run_of x) (system_of x) e.process e.event v (system_of y)) (sym is)
+        (of_turn (code_run_of x) (system_of x) (system_of y) e.process e.event made.enters (config_of p) out.runs
+        (turn_by h.stop h.proc) here);
+  }
+
+  pub told_if_same : (b : Bool) (w : Told) (g : Followed) → w ≡ told_of (system_of x) (turn_by h.stop h.proc)
+      → MatchBool b (HoldsAllReady g × EventMade x e.process e.event g.kernel) (CannotCome x e)
+      → MatchOption (if b then Some w else None) (CannotCome x e)
+      (λ v. HoldsAllReady g × ToldMade x e v g.kernel)
+  told_if_same true w g is m = (m.0, told_made g.kernel w is m.1)
+  told_if_same false w g is m = m
+
+-- one entry more
+snoc : (g : CodeRun) (es : List Entry) (ws : List Told) (s t u : System Plain) (e : Entry) (w : Told)
+    → EntriesTell g s es ws t → EntryTells g t e.process e.event w u
+    → EntriesTell g s (es ++ e ∷ []) (ws ++ w ∷ []) u
+snoc g [] [] s t u e w h k = (u, subst (λ (z : System Plain). EntryTells g z e.process e.event w u) h k, refl)
+snoc g [] (x ∷ ws) s t u e w h k = absurd h
+snoc g (d ∷ es) [] s t u e w h k = absurd h
+snoc g (d ∷ es) (x ∷ ws) s t u e w h k = (h.0, h.1, snoc g es ws h.0 t u e w h.2 k)
+
+pub told_more : (g : CodeRun) (x y : Kernel) (e : Entry) (w : Told) (ws : List Told) → code_run_of x ≡ g
+    → ToldMade x e w y → AreTold g x.journal.entries (system_of x) ws
+    → AreTold g y.journal.entries (system_of y) (ws ++ w ∷ [])
+told_more g x y e w ws same m told =
+    subst (λ (es : List Entry). IsTold g es (ws ++ w ∷ []) (system_of y)) (sym m.made.entries)
+    (snoc g x.journal.entries ws (opening_system plain g) (system_of x) (system_of y) e w told
+    (subst (λ (z : CodeRun). EntryTells z (system_of x) e.process e.event w (system_of y)) same m.tells))
+
+pub told_none : (x : Kernel) → HasCome x → x.journal.entries ≡ [] → (ws : List Told) → ws ≡ []
+    → AreTold (code_run_of x) x.journal.entries (system_of x) ws
+told_none x come none ws empty =
+    let w : system_of x ≡ opening_system plain (code_run_of x) =
+    subst (λ (es : List Entry). IsSystem plain (code_run_of x) es (system_of x)) none (is_system x come) in
+    let start : IsTold (code_run_of x) [] [] (system_of x) = w in
+    subst (λ (es : List Entry). AreTold (code_run_of x) es (system_of x) ws) (sym none)
+    (subst (λ (vs : List Told). IsTold (code_run_of x) [] vs (system_of x)) (sym empty) start)
+
+pub of_some : (o : Option Told) (P : Type 0) (Q : Told → Type 0) (w : Told) → MatchOption o P Q → o ≡ Some w → Q w
+of_some None P Q w m e = absurd cc
+of_some (Some r) P Q w m e = subst Q (same_Some r w e) m
+
+pub of_none : (o : Option Told) (P : Type 0) (Q : Told → Type 0) → MatchOption o P Q → o ≡ None → P
+of_none None P Q m e = m
+of_none (Some r) P Q m e = absurd cc
+
+take_one_more : (es : List Entry) (n : ℕ) (d : Entry) → n < length es
+    → take (n + 1) es ≡ take n es ++ get_or es n d ∷ []
+take_one_more [] n d l = absurd (omega (arith, l))
+take_one_more (x ∷ es) zero d l = refl
+take_one_more (x ∷ es) (suc n) d l =
+    let w : suc n + 1 ≡ suc (n + 1) = omega arith in
+    ap (λ (m : ℕ). take m (x ∷ es)) w ∙ ap (λ (ys : List Entry). x ∷ ys) (take_one_more es n d (omega (arith, l)))
+
+pub entries_more : (x y : Kernel) (w : Told) (es : List Entry) (n : ℕ) (d : Entry) → ToldMade x (get_or es n d) w y
+    → x.journal.entries ≡ take n es → n < length es → y.journal.entries ≡ take (n + 1) es
+entries_more x y w es n d m i l =
+    m.made.entries ∙ ap (λ (z : List Entry). z ++ get_or es n d ∷ []) i ∙ sym (take_one_more es n d l)
