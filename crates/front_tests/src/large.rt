@@ -118,7 +118,7 @@ fn nesting(rt: HostRuntime) {
 const LONG: [(Nest, u32); 3] = [
     (SUMMANDS, 400_000),
     (ARGUMENTS, 300_000),
-    (STATEMENTS, 500_000),
+    (STATEMENTS, 1_000_000),
 ];
 
 #[test]

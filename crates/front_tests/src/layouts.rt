@@ -24,7 +24,7 @@ fn refuses(alloc: Global, text: &[u8], rule: Rule, column: u32) -> bool {
 }
 
 // Texts with their canonical texts.
-const LAID_OUT: [(&[u8], &[u8]); 6] = [
+const LAID_OUT: [(&[u8], &[u8]); 8] = [
     (
         b"program a; var x: integer; begin x := 6; write(x * 7) end.",
         b"program a;\nvar x: integer;\nbegin\n  x := 6;\n  write(x * 7)\nend.\n",
@@ -50,6 +50,14 @@ const LAID_OUT: [(&[u8], &[u8]); 6] = [
     (
         b"{a}program(*B*)g{c}({d}x{e});{f}begin{g}write{h}({i}1{j}){k}end{l}.{m}",
         b"{a}\nprogram\n(*B*)\ng\n{c}\n(\n{d}\nx\n{e}\n);\n{f}\nbegin\n  {g}\n  write\n  {h}\n  (\n  {i}\n  1\n  {j}\n  )\n  {k}\nend\n{l}\n.\n{m}\n",
+    ),
+    (
+        b"program P(Input, output); const a = 1; b = +A; c = -2; d = 'x''y'; type t = integer; e = (one, two); v = array [-1 .. 'z'] of t; r = record x, y: t; z: t end; s = record x: t; end; ch = *(t, r); var i, j: t; k: ch; procedure q(var a, b: t; c: t); const l = 3; begin end; function f: t; begin end; const m = 4; begin end.",
+        b"program p(input, output);\nconst a = 1;\nb = + a;\nc = - 2;\nd = 'x''y';\ntype t = integer;\ne = (one, two);\nv = array [- 1..'z'] of t;\nr = record\n  x, y: t;\n  z: t\nend;\ns = record\n  x: t;\nend;\nch = * (t, r);\nvar i, j: t;\nk: ch;\nprocedure q(var a, b: t; c: t);\nconst l = 3;\nbegin\nend;\nfunction f: t;\nbegin\nend;\nconst m = 4;\nbegin\nend.\n",
+    ),
+    (
+        b"program g; begin p(1, x: 2, y); x := not (f(1, 2: 3) + 'a''b') and not g end.",
+        b"program g;\nbegin\n  p(1, x: 2, y);\n  x := not (f(1, 2: 3) + 'a''b') and not g\nend.\n",
     ),
 ];
 

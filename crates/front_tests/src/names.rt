@@ -1,5 +1,6 @@
-//! Each rule of names with a text that breaks it, beside a near one that breaks none.
+//! Each rule of names with a text that breaks it, beside a near one that breaks none; and how many names there are.
 
+use crate::phases::chain;
 use crate::rows::{Row, is_given};
 use sp_base::{Halt, Rule};
 use sp_front::read_text;
@@ -112,4 +113,30 @@ fn rules_of_names(rt: HostRuntime) {
         assert!(rt; row.refuses(named(rt.alloc(), row.refused)), "{column}");
         assert!(rt; is_given(named(rt.alloc(), row.accepted)), "{column}");
     }
+}
+
+// How many constants, types, variables and blocks there are.
+fn counts(answer: Result<Named, Halt>) -> [usize; 4] {
+    match answer {
+        Ok(named) => {
+            let counts = [
+                named.constants.len(),
+                named.kinds.len(),
+                named.variables.len(),
+                named.blocks.len(),
+            ];
+            drop(named);
+            counts
+        }
+        Err(_) => [0; 4],
+    }
+}
+
+// Beside those of the language.
+#[test]
+fn a_constant_and_4096_types(rt: HostRuntime) {
+    let constant = counts(named(rt.alloc(), b"program g; const a = maxint; begin end."));
+    assert_eq!(rt; constant, [4, 3, 2, 1]);
+    let types = counts(named(rt.alloc(), &chain(rt.alloc(), 4096, b"1..1")));
+    assert_eq!(rt; types, [3, 4099, 2, 1]);
 }

@@ -81,8 +81,8 @@ fn put_array_type(text: &mut Vec<u8>, n: u32, bounds: &[u8]) {
     put_element(text, n);
 }
 
-// A chain of array types, each of arrays of the one before.
-fn chain(alloc: Global, count: u32, bounds: &[u8]) -> Vec<u8> {
+/// A chain of array types, each of arrays of the one before.
+pub(crate) fn chain(alloc: Global, count: u32, bounds: &[u8]) -> Vec<u8> {
     let mut text = Vec::new(alloc);
     add(&mut text, b"program p; type ");
     for n in 0..count {

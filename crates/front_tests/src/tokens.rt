@@ -1,9 +1,9 @@
-//! Tokens, and the rules of characters.
+//! Tokens, the rules of characters, and the lesser of two broken rules.
 
 use crate::rows::{is_refused, repeated};
 use sp_base::{Place, Refusal, Rule};
 use sp_scan::{first_breach, scan, spelling};
-use sp_tree::{Kind, MAX_TEXT, Token, sign, word};
+use sp_tree::{Kind, MAX_TEXT, Token, lesser, sign, word};
 use std::alloc::Global;
 
 fn refuses(alloc: Global, text: &[u8], rule: Rule, line: u32, column: u32) -> bool {
@@ -159,4 +159,20 @@ fn parts_many_times(rt: HostRuntime) {
     }
     assert!(rt; refuses_many(alloc, b"1", 65536, Rule::S4));
     assert!(rt; refuses_many(alloc, b" ", MAX_TEXT as u32 + 1, Rule::L1));
+}
+
+#[test]
+fn takes_the_earlier_place_and_then_the_earlier_row(rt: HostRuntime) {
+    let at = Place { line: 1, column: 5 };
+    let later = Place { line: 1, column: 6 };
+    let n3 = Refusal { rule: Rule::N3, at };
+    let n5 = Refusal { rule: Rule::N5, at };
+    let n1 = Refusal {
+        rule: Rule::N1,
+        at: later,
+    };
+    assert!(rt; lesser(Some(n5), Some(n3)) == Some(n3));
+    assert!(rt; lesser(Some(n5), Some(n1)) == Some(n5));
+    assert!(rt; lesser(None, Some(n1)) == Some(n1));
+    assert!(rt; lesser(Some(n1), None) == Some(n1));
 }

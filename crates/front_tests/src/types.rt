@@ -1,10 +1,12 @@
-//! Each rule of types with a text that breaks it, beside a near one that breaks none.
+//! Each rule of types with a text that breaks it, beside a near one that breaks none; and the numbers of single
+//! statements.
 
 use crate::rows::{Row, is_given};
-use sp_base::Rule;
+use sp_base::{Halt, Rule};
 use sp_front::typed;
+use sp_tree::{Checked, Form, Stmt};
 
-const ROWS: [Row; 21] = [
+const ROWS: [Row; 26] = [
     Row {
         rule: Rule::Y1,
         column: 28,
@@ -131,6 +133,37 @@ const ROWS: [Row; 21] = [
         refused: b"program e; type t = array [1..1048576] of char; var x, y: t; begin end.",
         accepted: b"program e; type t = array [1..1048576] of char; var x: t; begin end.",
     },
+    // Operators of one level go from left to right, and an expression begins at its outermost parenthesis.
+    Row {
+        rule: Rule::Y1,
+        column: 43,
+        refused: b"program e; var x: integer; begin x := 1 + 'a' end.",
+        accepted: b"program e; var x: integer; begin x := 1 + ord('a') end.",
+    },
+    Row {
+        rule: Rule::Y5,
+        column: 39,
+        refused: b"program e; var x: integer; begin x := 'a' end.",
+        accepted: b"program e; var x: integer; begin x := ord('a') end.",
+    },
+    Row {
+        rule: Rule::Y1,
+        column: 60,
+        refused: b"program e; var x, d: boolean; a, b, c: integer; begin x := +a + b - c or d end.",
+        accepted: b"program e; var x, d: boolean; a, b, c: integer; begin x := (+a + b - c = 0) or d end.",
+    },
+    Row {
+        rule: Rule::Y1,
+        column: 63,
+        refused: b"program e; var x, e: boolean; a, b, c, d: integer; begin x := a * b div c mod d and e end.",
+        accepted: b"program e; var x, e: boolean; a, b, c, d: integer; begin x := (a * b div c mod d = 0) and e end.",
+    },
+    Row {
+        rule: Rule::Y5,
+        column: 54,
+        refused: b"program e; var x: boolean; a, b: integer; begin x := ((a) + b) end.",
+        accepted: b"program e; var x: boolean; a, b: integer; begin x := ((a) = b) end.",
+    },
 ];
 
 #[test]
@@ -140,4 +173,61 @@ fn rules_of_types(rt: HostRuntime) {
         assert!(rt; row.refuses(typed(rt.alloc(), row.refused)), "{column}");
         assert!(rt; is_given(typed(rt.alloc(), row.accepted)), "{column}");
     }
+}
+
+// Whether each of these writes a value, and has one of the two numbers behind that of the call.
+fn are_numbered_writes(statements: &[Stmt]) -> bool {
+    for s in statements {
+        if s.number != 2 && s.number != 3 {
+            return false;
+        }
+        if !matches!(&s.form, Form::WriteValue(_, None)) {
+            return false;
+        }
+    }
+    true
+}
+
+// How many single statements of a body are in calls that write two values each.
+fn written(body: &Stmt) -> usize {
+    let Form::Sequence(calls) = &body.form else {
+        return 0;
+    };
+    let mut count = 0usize;
+    for call in calls.items() {
+        if let Form::Sequence(all) = &call.form {
+            if call.number == 1 && are_numbered_writes(all.items()) {
+                count = count.saturating_add(all.len());
+            }
+        }
+    }
+    count
+}
+
+// How many types, variables and blocks a program has, and of how many single statements a block writes values.
+fn counts(answer: Result<Checked, Halt>) -> [usize; 4] {
+    match answer {
+        Ok(checked) => {
+            let writes = match checked.blocks.get(0) {
+                Some(block) => written(&block.body),
+                None => 0,
+            };
+            let counts = [
+                checked.kinds.len(),
+                checked.variables.len(),
+                checked.blocks.len(),
+                writes,
+            ];
+            drop(checked);
+            counts
+        }
+        Err(_) => [0; 4],
+    }
+}
+
+// Types and variables stay, statements are numbered, and a call with two arguments is two.
+#[test]
+fn a_call_with_two_arguments_is_two(rt: HostRuntime) {
+    let text = b"program p(input, output); var x: integer; begin write(x, 'a') end.";
+    assert_eq!(rt; counts(typed(rt.alloc(), text)), [3, 3, 1, 2]);
 }

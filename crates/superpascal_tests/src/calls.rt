@@ -28,23 +28,12 @@ pub fn copy(alloc: Global, bytes: &[u8]) -> Vec<u8> {
     all
 }
 
-/// So many of this byte. Where no memory is left there are none.
-pub fn filled(alloc: Global, byte: u8, count: usize) -> Vec<u8> {
-    match vec![in alloc; byte; count] {
+// So many zeros. Where no memory is left there are none.
+fn zeros(alloc: Global, count: usize) -> Vec<u8> {
+    match vec![in alloc; 0u8; count] {
         Ok(bytes) => bytes,
         Err(_) => Vec::new(alloc),
     }
-}
-
-/// What stands before, a part so many times, and what stands behind. Where no memory is left a part is missing.
-pub fn repeated(alloc: Global, front: &str, part: &str, count: usize, end: &str) -> String {
-    let mut text = String::new(alloc);
-    let _ = text.push_str(front);
-    for _ in 0..count {
-        let _ = text.push_str(part);
-    }
-    let _ = text.push_str(end);
-    text
 }
 
 // A file of this name.
@@ -86,7 +75,7 @@ pub fn source(alloc: Global, input: Vec<u8>) -> MemorySource {
 
 // A sink that takes a byte a call, of which these calls fail.
 fn sink(alloc: Global, failing: &[u32]) -> MemorySink {
-    MemorySink::new(filled(alloc, 0, 1024), 1, calls(alloc, failing))
+    MemorySink::new(zeros(alloc, 1024), 1, calls(alloc, failing))
 }
 
 fn words_of(alloc: Global, words: &[&str]) -> Vec<String> {
@@ -304,79 +293,4 @@ pub fn expect_given(
     expect_written(rt, &given, output, notes, message);
     assert_eq!(rt; (given.status, given.ran), (status, ran), "{message}");
     drop(given);
-}
-
-// Whether a call with these words and this status tells of the run of a program.
-fn tells_of_a_run(words: &[&str], status: u8) -> bool {
-    let runs =
-        matches!(words.first(), Some(command) if ["run", "gen", "witness"].contains(command));
-    runs && (status == 0 || status == 3 || status == 4)
-}
-
-/// Asserts what a call gives on this text and this input.
-pub fn expect_on<R: Threads + Wait + Sync + Abort>(
-    rt: &R,
-    alloc: Global,
-    words: &[&str],
-    text: &str,
-    input: Vec<u8>,
-    status: u8,
-    output: &str,
-    notes: &str,
-) {
-    let mut input = source(alloc, input);
-    let given = call(rt, alloc, words, text, &mut input, NONE, &OpenGate);
-    drop(input);
-    let ran = tells_of_a_run(words, status);
-    expect_given(rt, given, status, ran, output, notes, text);
-}
-
-/// Asserts what a call gives on this text without input.
-pub fn expect<R: Threads + Wait + Sync + Abort>(
-    rt: &R,
-    alloc: Global,
-    words: &[&str],
-    text: &str,
-    status: u8,
-    output: &str,
-    notes: &str,
-) {
-    let input = Vec::new(alloc);
-    expect_on(rt, alloc, words, text, input, status, output, notes);
-}
-
-/// Asserts that each call on these texts ends with this status. A row has the text, the output and the notes.
-pub fn expect_texts<R: Threads + Wait + Sync + Abort>(
-    rt: &R,
-    alloc: Global,
-    words: &[&str],
-    status: u8,
-    rows: &[(&str, &str, &str)],
-) {
-    for &(text, output, notes) in rows {
-        expect(rt, alloc, words, text, status, output, notes);
-    }
-}
-
-/// Words, a text, and the output and the notes of the call.
-#[derive(Clone, Copy)]
-pub struct Asked<'a> {
-    pub words: &'a [&'a str],
-    pub text: &'a str,
-    pub output: &'a str,
-    pub notes: &'a str,
-}
-
-/// Asserts that each of these calls ends with this status.
-pub fn expect_words<R: Threads + Wait + Sync + Abort>(
-    rt: &R,
-    alloc: Global,
-    status: u8,
-    rows: &[Asked],
-) {
-    for row in rows {
-        expect(
-            rt, alloc, row.words, row.text, status, row.output, row.notes,
-        );
-    }
 }

@@ -1,14 +1,17 @@
 //! Texts that are cut or have a byte that no text has, and outputs that fail at each byte.
 
 use crate::calls::{
-    ANSWER, Failing, NONE, ORDERED, RUN, call, call_failing, copy, expect, expect_given, source_of,
+    ANSWER, Failing, NONE, ORDERED, RUN, call, call_failing, copy, expect_given, source_of,
 };
-use crate::workers::PIPE;
 use sp_outside::OpenGate;
 use std::alloc::Global;
 use std::process::Abort;
 use std::sync::Wait;
 use std::thread::Threads;
+
+// A pipeline of three processes.
+const PIPE: &str =
+    "program pipe;\ntype chan = *(integer); net = array [0..3] of chan;\nvar c: net; r: integer;\nprocedure node(a, b: chan);\nvar x: integer;\nbegin receive(a, x); send(b, x + 1) end;\nbegin\n  open(c[0], c[1], c[2], c[3]);\n  parallel send(c[0], 10)\n  | forall i := 1 to 3 do node(c[i-1], c[i])\n  | receive(c[3], r)\n  end;\n  write(r)\nend.";
 
 // The line and the column behind this text.
 fn place_behind(text: &str) -> (u32, u32) {
@@ -41,7 +44,8 @@ const MARKED: &str =
 // Asserts that this first part of a text is refused at its end.
 fn expect_cut<R: Threads + Wait + Sync + Abort>(rt: &R, alloc: Global, text: &str) {
     let notes = refusal_behind(alloc, "G2", text);
-    expect(rt, alloc, &RUN, text, 1, "", &notes);
+    let given = call_failing(rt, alloc, &RUN, text, NONE);
+    expect_given(rt, given, 1, false, "", &notes, text);
 }
 
 #[test]

@@ -1,10 +1,9 @@
-//! Libraries, sources and sinks that fail, long inputs, and what is left of the input.
+//! Libraries, sources and sinks that fail, and what is left of the input.
 
 ghost use Rattle.std.specs.Prelude.{◌≤◌};
 
 use crate::calls::{
-    ANSWER, Failing, NONE, ORDERED, RUN, call, call_failing, copy, expect, expect_given, expect_on,
-    filled, source, source_of,
+    ANSWER, Failing, NONE, ORDERED, RUN, call, call_failing, copy, expect_given, source, source_of,
 };
 use sp_outside::{MemorySource, OpenGate, Source};
 use std::alloc::Global;
@@ -40,14 +39,6 @@ const NO_NOTES: Failing<'static> = Failing {
 fn a_library_that_fails(rt: HostRuntime) {
     let input = source(rt.alloc(), Vec::new(rt.alloc()));
     expect_end(&rt, rt.alloc(), input, NO_LIBRARY, 5, "read fault\n");
-}
-
-#[test]
-fn a_file_that_is_absent(rt: HostRuntime) {
-    for command in ["run", "check", "code", "sets", "format", "exec"] {
-        let words = [command, "absent"];
-        expect(&rt, rt.alloc(), &words, ANSWER, 5, "", "read fault\n");
-    }
 }
 
 // Asserts that a source of which this call fails ends the run.
@@ -184,17 +175,4 @@ const ENDED: [(&[&str], &str); 3] = [
 fn inputs_that_are_not_touched_or_read_to_their_end(rt: HostRuntime) {
     expect_left(&rt, rt.alloc(), &UNTOUCHED, 4);
     expect_left(&rt, rt.alloc(), &ENDED, 0);
-}
-
-const LONG: [(usize, u8, &str, &str); 2] = [
-    (16_777_216, 0, "42", ORDERED),
-    (16_777_217, 7, "", "input too long\n"),
-];
-
-#[test]
-fn long_inputs(rt: HostRuntime) {
-    for (count, status, output, notes) in LONG {
-        let input = filled(rt.alloc(), b'a', count);
-        expect_on(&rt, rt.alloc(), &RUN, ANSWER, input, status, output, notes);
-    }
 }

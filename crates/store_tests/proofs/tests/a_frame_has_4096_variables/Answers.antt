@@ -1,7 +1,0 @@
-use Rattle.std.proofs.Common.{[], arith}
-use Rattle.store_tests.proofs.Rooted.{next_root}
-use Rattle.store_tests.proofs.tests.a_frame_has_4096_variables.Goals as goal
-
-pub push_frame-requires-clause-number : goal.push_frame-requires-clause-number
-push_frame-requires-clause-number g c = let n = next_root c.in_ok-store.store [] c.in_ok-store.ensures in
-    omega (arith, n)

@@ -1,9 +1,0 @@
-use Rattle.std.proofs.Common.{[], ◌∷◌}
-use Rattle.store_tests.proofs.Rooted.{next_root, none_root}
-use Rattle.store_tests.proofs.tests.ten_thousand_frames_are_pushed_and_popped.Goals as goal
-
-pub push_all-requires-clause-number : goal.push_all-requires-clause-number
-push_all-requires-clause-number c = next_root c.in_ok-store.store (1 ∷ []) c.in_ok-store.ensures
-
-pub push_all-requires-clause-here : goal.push_all-requires-clause-here
-push_all-requires-clause-here c = none_root c.in_ok-store.store (1 ∷ []) c.in_ok-store.ensures
