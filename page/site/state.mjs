@@ -1,0 +1,27 @@
+// What all parts of the page share: the data that the build put in, what the page is at, and the line of the verdict.
+import { $, inCode, paragraph, element } from "./elements.mjs";
+import { rowOf } from "./sentences.mjs";
+
+/** Examples, rules and faults, options, steps of the tutorial, the grammar of the editor. */
+export const data = JSON.parse($("data").textContent);
+
+/** Of which commit the program is, and its digests. */
+export const about = JSON.parse($("about").textContent);
+
+/** The parts that are made at the start (editor, options, views, tutorial; caller for the commands, checker for the
+ * check while one writes, teller for places in the text), and what the page is at. */
+export const page = { name: "program", code: "", linked: null, output: "", isBusy: false, isShown: false };
+
+/** Says one line above the result; `look` is good, bad, warning or nothing. */
+export function say(look, text) {
+  $("verdict").className = look;
+  $("verdict").textContent = text;
+}
+
+/** What the language says of a rule or a fault. */
+export function handbookWords(name) {
+  const row = rowOf(data.handbook, name);
+  if (!row) return [];
+  const title = element("b", { textContent: row.title });
+  return [paragraph(title, `. ${row.says}`), paragraph("An example: ", inCode(row.example))];
+}

@@ -1,0 +1,524 @@
+#!/usr/bin/env python3
+"""Opens page/superpascal.html in a browser from its file, and does what a user does.
+
+    tests/page/in_browser.py [--firefox] [--pictures FOLDER]
+
+In Firefox, which is tried by hand at a release, all but what needs keys or the browser's own tools. Prints what is
+wrong, and how many checks were made.
+"""
+import json
+import os
+import sys
+import time
+
+from browser import Chromium, Firefox, Trouble
+
+HERE = os.path.dirname(os.path.abspath(__file__))
+TOP = os.path.join(HERE, "..", "..")
+PAGE = "file://" + os.path.realpath(os.path.join(TOP, "page", "superpascal.html"))
+DATA = os.path.join(TOP, "crates", "gallery", "data")
+READY_IN = 3000  # milliseconds on a machine that has nothing else to do; seen there: 400
+STOPPED_IN = 2  # seconds, there too
+ESCAPE, TAB, ENTER, CONTROL, RIGHT = "\ue00c", "\ue004", "\ue007", "\ue009", "\ue014"
+MIRROR = "document.querySelector('.CodeMirror').CodeMirror"
+CHOOSE_STEP = "const it = document.querySelector('#lesson select'); it.selectedIndex = given[0]; it.onchange()"
+# The buttons of the tutorial's commands; what the page prints below one of them, which is pressed.
+DEEDS = """const deeds = [...document.querySelectorAll('#lesson button')]
+    .filter((it) => it.textContent.startsWith('\u25b6'));"""
+DO_DEED = """const next = deeds[given[0]].parentNode.nextSibling; deeds[given[0]].click();
+    return next && next.tagName == 'PRE' ? next.textContent : ''"""
+
+
+def slowness():
+    """How many times longer things may take than on a machine that has nothing else to do."""
+    return max(1, 2 * os.getloadavg()[0] / os.cpu_count())
+
+
+def read(name):
+    path = os.path.join(DATA, name)
+    return open(path, encoding="utf-8").read() if os.path.exists(path) else ""
+
+
+class Test:
+    """The page in a browser, and the checks that are made."""
+
+    def __init__(self, browser, pictures):
+        self.browser, self.pictures = browser, pictures
+        self.checks, self.wrong = 0, 0
+
+    def expect(self, found, wanted, what):
+        self.checks += 1
+        if found != wanted:
+            self.wrong += 1
+            print("%s: found %r, wanted %r" % (what, found, wanted))
+
+    def expect_that(self, holds, what, found=""):
+        self.checks += 1
+        if not holds:
+            self.wrong += 1
+            print("%s: not so %s" % (what, found))
+
+    def picture(self, name):
+        if self.pictures:
+            self.browser.shot(os.path.join(self.pictures, name + ".png"))
+
+    def wait(self, condition, what, seconds=60):
+        """Waits until a script says so."""
+        script = """for (let n = 0; n < given[0] * 20; n++) {
+            if (%s) return true;
+            await new Promise((go) => setTimeout(go, 50));
+        } return false;""" % condition
+        self.expect_that(self.browser.run(script, seconds), what)
+
+    def open(self, hash_part="", is_first=False):
+        self.browser.go("about:blank")
+        self.browser.go(PAGE + hash_part)
+        self.wait("document.body && document.body.dataset.ready", "the page is ready")
+        if is_first:
+            self.browser.run("localStorage.clear()")
+            self.open(hash_part)
+
+    def text(self, name):
+        return self.browser.run("return document.getElementById(given[0]).textContent", name)
+
+    def put(self, text, given="", options=()):
+        """Puts a text, an input and options into the page, as if they were typed."""
+        self.browser.run("""%s.setValue(given[0]); document.getElementById('input').value = given[1];
+            for (const it of document.querySelectorAll('#options input')) it.value = '';
+            for (const [name, value] of given[2]) document.getElementById('option-' + name).value = value;""" % MIRROR,
+                         text, given, list(options))
+
+    def is_there(self, selector):
+        return self.browser.run("return !!document.querySelector(given[0])", selector)
+
+    def click(self, selector):
+        """A click on a part of the page, also of a picture."""
+        self.browser.run("""document.querySelector(given[0])
+            .dispatchEvent(new MouseEvent('click', {bubbles: true}))""", selector)
+
+    def command(self, name):
+        """Presses the button of a command and waits for its end."""
+        self.browser.run("document.querySelector('[data-command=' + given[0] + ']').click()", name)
+        self.wait("document.getElementById('stop').disabled", name + " ends")
+
+    def code_file(self, text):
+        """Opens a text as a code file, through the field of files."""
+        self.browser.run("""const field = document.getElementById('file'), files = new DataTransfer();
+            files.items.add(new File([given[0]], 'text.code')); field.files = files.files;
+            field.dispatchEvent(new Event('change')); await new Promise((go) => setTimeout(go, 300));""", text)
+
+
+def whole_notes(test):
+    """The notes of a call as the program printed them."""
+    head, reports = test.text("notes"), test.text("reports")
+    return head + "\n" + reports if head else ""
+
+
+def run_example(test, name, words):
+    """Makes the run of a line of the examples' table in the page: its output and its notes."""
+    command, file = words[0], words[1]
+    if command == "exec":
+        test.code_file(read(file))
+    else:
+        test.put(read(file), read(name + ".in"))
+    if command == "replay":
+        test.browser.run("document.getElementById('journal').value = given[0]", read(words[2]))
+    test.command(command)
+    if command == "witness":
+        return test.browser.run("return document.getElementById('journal').value"), None
+    return test.text("output"), whole_notes(test)
+
+
+def test_examples(test):
+    """Each line of the examples' table."""
+    for line in open(os.path.join(DATA, "table.txt")):
+        if line.startswith("#"):
+            continue
+        name, _, *words = line.split()
+        output, notes = run_example(test, name, words)
+        test.expect(output, read(name + ".out"), "output of " + name)
+        if notes is None:
+            continue
+        wanted = read(name + ".notes")
+        if words[0] != "run" or "timeline\n" in wanted and "census" in wanted or wanted.startswith("refused"):
+            test.expect(notes, wanted, "notes of " + name)
+        else:
+            test.expect_that((notes + "\n").startswith(wanted), "notes of " + name, notes[:200])
+
+
+def test_commands(test):
+    """The commands that no line of the table has, and options."""
+    test.put(read("answer.sp"))
+    test.command("check")
+    test.expect(test.text("notes"), "accepted", "check")
+    test.command("build")
+    test.expect_that(test.text("output").startswith("superpascal code 1\n"), "build")
+    test.command("code")
+    test.expect_that(test.text("output").startswith("0 "), "code")
+    test.put("program a;begin write(1)end.")
+    test.command("format")
+    test.expect(test.browser.run("return %s.getValue()" % MIRROR), "program a;\nbegin\n  write(1)\nend.\n", "format")
+    test.browser.run("document.getElementById('nodes').value = '5'")
+    test.command("gen")
+    test.expect_that(test.text("output").startswith("size 5\n"), "gen", test.text("output")[:80])
+    test.put("program e; begin while true do end.", options=[["ticks", "1000"]])
+    test.command("run")
+    test.expect(test.text("notes"), "fault F10 0\nunjudged", "a run of 1,000 ticks")
+    test.expect_that("F10, ticks" in test.text("details"), "the fault is told", test.text("details"))
+    test.put("program e; begin end.", options=[["workers", "65"]])
+    test.command("run")
+    test.expect(test.text("verdict"), "The option workers takes a whole number from 1 to 64.", "a wrong option")
+    test.put(read("race.sp"))
+    test.browser.run("document.getElementById('journal').value = 'superpascal journal 2\\n0 open\\n0 end\\n'")
+    test.command("replay")
+    test.expect(test.text("notes"), "journal unfit 1", "a journal that does not fit")
+
+
+def test_live_check(test):
+    """A refused place is underlined a moment after the last key, with its rule beside it."""
+    test.put("program a;\nvar x: integer;\nbegin\n  y := 1\nend.\n")
+    test.wait("document.getElementById('problem').textContent.includes('N1')", "the rule is told", 10)
+    found = test.browser.run("return document.querySelector('.problem').textContent")
+    test.expect(found, "y", "what is underlined")
+    test.expect_that(test.text("problem").startswith("4:3"), "its place", test.text("problem"))
+    test.put("program a;\n{ \u00e4\u00f6 } begin y end.\n")
+    test.wait("document.getElementById('problem').textContent.startsWith('2:')", "a place behind other letters", 10)
+    test.put(read("answer.sp"))
+    test.wait("document.getElementById('problem').textContent.includes('keeps all rules')", "no rule is broken", 10)
+
+
+def slider(test, view="view"):
+    return test.browser.run("""const it = document.querySelector('#' + given[0] + ' input[type=range]');
+        return [it.valueAsNumber, +it.max]""", view)
+
+
+def step(test, label, view="view"):
+    test.click("#%s [aria-label='%s']" % (view, label))
+
+
+def test_philosophers(test):
+    """A deadlock opens at its end; stepping back and forward; the offers that wait are marked."""
+    test.put(read("philosophers.sp"))
+    test.command("run")
+    test.expect_that(test.text("verdict").startswith("Deadlock: 3 processes wait"), "deadlock", test.text("verdict"))
+    now, most = slider(test)
+    test.expect(now, most, "it opens at its end")
+    marked = "return document.querySelectorAll('#view .event.marked').length"
+    test.expect(test.browser.run(marked), 3, "three offers are marked")
+    rows = "return [...document.querySelectorAll('#view tr td.receive')].map((it) => it.textContent)"
+    test.expect(len(test.browser.run(rows)), 3, "three processes wait to receive")
+    test.picture("philosophers")
+    step(test, "one entry back")
+    test.expect(slider(test), [most - 1, most], "a step back")
+    test.expect(len(test.browser.run(rows)), 2, "two processes wait")
+    step(test, "to the start")
+    sentence = "return document.querySelector('#view .sentence').textContent"
+    test.expect(test.browser.run(sentence), "The start: the root runs.", "the start")
+    for _ in range(4):
+        step(test, "one entry on")
+    test.expect_that("0 starts 3 processes" in test.browser.run(sentence), "the fork", test.browser.run(sentence))
+    test.click("#view .event[data-at='5']")
+    test.expect(slider(test)[0], 6, "a click on an event")
+
+
+def test_race(test):
+    """A race opens at its later offer; the witness stands beside the run."""
+    test.put(read("race.sp"), options=[["workers", "1"]])
+    test.command("run")
+    test.expect(slider(test), [5, 10], "it opens behind the later offer")
+    test.expect_that("two sends on the channel 0#0" in test.text("verdict"), "the race", test.text("verdict"))
+    found = test.browser.run("return [...document.querySelectorAll('#view .marked')].map((it) => it.dataset.at)")
+    test.expect(found, ["3", "4"], "the two offers")
+    test.command("witness")
+    test.expect_that(test.browser.run("return !document.getElementById('other-view').hidden"), "the witness is drawn")
+    test.expect(slider(test, "other-view"), [4, 4], "it opens at its end")
+    test.expect_that(test.is_there("#other-view .event.fault"), "the clash is drawn")
+    test.picture("race")
+    test.command("replay")
+    test.expect(test.text("notes"), "replayed\nfault F6 0/0.2", "the witness is replayed")
+    test.put(read("sieve.sp"))
+    test.command("run")
+    test.picture("sieve")
+    many = test.browser.run("return document.querySelectorAll('#view [data-fold]').length")
+    test.expect_that(many > 0, "processes that can be folded")
+    test.click("#view [data-fold]")
+    fewer = test.browser.run("return document.querySelectorAll('#view [data-fold]').length")
+    test.expect_that(fewer < many, "folding", (many, fewer))
+    wide = "return document.querySelector('#view svg').getBoundingClientRect().width"
+    before = test.browser.run(wide)
+    step(test, "smaller")
+    test.expect_that(test.browser.run(wide) < before, "smaller")
+    step(test, "an entry right below those that had to come before it, or a row for each")
+    test.expect_that(test.is_there("#view svg .event"), "by cause")
+
+
+def test_link_and_storage(test):
+    """A link carries text, input and options; the storage keeps them."""
+    text = "program mine;\n{ \u00e4 \u20ac }\nbegin\n  write('it''s')\nend.\n"
+    test.put(text, "1 2 3\n", [["ticks", "77"]])
+    test.browser.run("document.getElementById('link').click()")
+    test.wait("location.hash.startsWith('#s=')", "a link", 10)
+    address = test.browser.run("return location.hash")
+    test.put("program other; begin end.")
+    time.sleep(0.6)
+    fields = "['input', 'option-ticks'].map((it) => document.getElementById(it).value)"
+    state = "return [%s.getValue(), ...%s]" % (MIRROR, fields)
+    test.open(address)
+    test.expect(test.browser.run(state), [text, "1 2 3\n", "77"], "what a link carries")
+    test.put("program kept; begin end.", "9")
+    time.sleep(0.6)
+    test.open()
+    test.expect(test.browser.run(state)[:2], ["program kept; begin end.", "9"], "what the storage keeps")
+    test.open("#s=AAAA")
+    test.expect(test.browser.run(state)[0], "program kept; begin end.", "a link that carries nothing")
+
+
+def test_stop(test):
+    """A run without end is stopped at once, and the page goes on."""
+    test.put("program e; begin while true do end.", options=[["ticks", "1000000000"]])
+    test.browser.run("document.querySelector('[data-command=run]').click()")
+    test.wait("/ [1-9]\\d* s/.test(document.getElementById('verdict').textContent)", "progress", 20)
+    begun = time.time()
+    test.browser.run("document.getElementById('stop').click()")
+    test.wait("document.getElementById('verdict').textContent == 'Stopped.'", "stopped", 10)
+    test.expect_that(time.time() - begun < STOPPED_IN * slowness(), "at once", time.time() - begun)
+    test.put(read("answer.sp"))
+    test.command("run")
+    test.expect(test.text("output"), "42\n", "a run behind it")
+
+
+def test_troubles(test):
+    """What a browser cannot do, and files that are none: one clear line, and the page goes on."""
+    test.put("program d;\nvar x: integer;\nbegin\n  x := 1" + "+1" * 60000 + ";\n  writeln(x)\nend.\n")
+    test.command("run")
+    test.expect_that("too deep for the browser's stack" in test.text("verdict"), "a deep text", test.text("verdict"))
+    test.browser.run("""%s.replaceRange('x'.repeat(64 << 20), {line: 0, ch: 0})""" % MIRROR)
+    test.expect_that(test.text("verdict").startswith("A text may have 1,048,576 bytes"), "64 MB", test.text("verdict"))
+    drop = """const files = new DataTransfer(); files.items.add(new File([Uint8Array.from(given[1])], given[0]));
+        window.dispatchEvent(new DragEvent('drop', {dataTransfer: files, cancelable: true}));
+        await new Promise((go) => setTimeout(go, 300));"""
+    test.browser.run(drop, "a.sp", [0xff, 0xfe, 0x00])
+    test.expect(test.text("verdict"), "a.sp is no text: its bytes are no UTF-8.", "a file that is no text")
+    test.browser.run(drop, "b.sp", list(b"program dropped; begin write(7) end.\n"))
+    test.command("run")
+    test.expect(test.text("output"), "7", "a file that was dropped")
+    test.browser.run(drop, "c.in", list(b"5 6\n"))
+    test.expect(test.browser.run("return document.getElementById('input').value"), "5 6\n", "an input that was dropped")
+    test.put("program e;\nvar i: integer;\nbegin\n  for i := 1 to 90000 do write('abcdefgh')\nend.\n")
+    test.command("run")
+    test.expect(len(test.text("output")), 720000, "a long output")
+
+
+def test_tutorial(test):
+    """Each step has its text, its commands and its task; tasks are seen to be done."""
+    test.browser.run("document.getElementById('tutorial').click()")
+    steps = test.browser.run("return document.querySelectorAll('#lesson option').length")
+    test.expect(steps, 10, "ten steps")
+    deeds = 0
+    for at in range(steps):
+        test.browser.run(CHOOSE_STEP, at)
+        test.expect_that(test.is_there("#lesson .task"), "a task")
+        for which in range(test.browser.run(DEEDS + "return deeds.length")):
+            deeds += 1
+            printed = test.browser.run(DEEDS + DO_DEED, which)
+            test.wait("document.getElementById('stop').disabled", "a command of the tutorial ends")
+            notes = test.text("notes")
+            is_printed = not notes or notes.split("\n")[0] in printed or test.text("output") == printed
+            test.expect_that(is_printed, "what the tutorial prints", (at, which, notes))
+    test.expect_that(deeds >= 20, "commands of the tutorial", deeds)
+    test.browser.run(CHOOSE_STEP, 0)
+    test.put("program first;\nbegin\n  writeln(43)\nend.\n")
+    test.command("run")
+    test.expect_that(test.is_there("#lesson .task.is-done"), "a task is done")
+    test.picture("tutorial")
+    test.browser.run("document.getElementById('tutorial').click()")
+
+
+def test_looks(test):
+    """Dark and light; a phone; names of all fields and buttons."""
+    colour = "return getComputedStyle(document.body).backgroundColor"
+    light = test.browser.run(colour)
+    test.browser.run("document.getElementById('theme').click()")
+    test.expect_that(test.browser.run(colour) != light, "dark")
+    test.put(read("pipeline_sort.sp"), read("pipeline_sort.in"))
+    test.command("run")
+    test.picture("dark")
+    test.browser.run("document.getElementById('theme').click()")
+    test.expect(test.browser.run(colour), light, "light again")
+    nameless = """return [...document.querySelectorAll('button, input:not([hidden]), select, textarea')].filter((it) =>
+        !it.closest('[hidden]') && !it.closest('.CodeMirror') && !it.textContent.trim()
+        && !it.getAttribute('aria-label') && !(it.labels && it.labels.length)).map((it) => it.outerHTML)"""
+    test.expect(test.browser.run(nameless), [], "fields and buttons without a name")
+
+
+def test_phone(test):
+    """On a small screen nothing is wider than it."""
+    test.browser.tool("Emulation.setDeviceMetricsOverride", width=390, height=800, deviceScaleFactor=2, mobile=True)
+    test.open()
+    test.put(read("race.sp"))
+    test.command("run")
+    wide = "return [document.documentElement.scrollWidth, innerWidth]"
+    found = test.browser.run(wide)
+    test.expect_that(found[0] <= found[1], "nothing is wider than the screen", found)
+    test.picture("phone")
+    test.browser.tool("Emulation.clearDeviceMetricsOverride")
+    test.browser.tool("Emulation.setEmulatedMedia", features=[{"name": "prefers-color-scheme", "value": "dark"}])
+    test.browser.run("localStorage.clear()")
+    test.open()
+    test.expect(test.browser.run("return document.documentElement.dataset.theme"), "dark", "dark where the system is")
+    test.browser.tool("Emulation.setEmulatedMedia", features=[])
+
+
+def test_keys(test):
+    """By the keyboard alone: a run, the way out of the editor, steps in the picture; and saving a file."""
+    test.open()
+    test.browser.run("%s.setValue(given[0]); %s.focus()" % (MIRROR, MIRROR), read("race.sp"))
+    test.browser.keys((CONTROL, ENTER))
+    test.wait("document.getElementById('output').textContent == '12\\n'", "Ctrl-Enter runs", 20)
+    test.browser.run("%s.setValue('begin'); %s.focus(); %s.setCursor(0, 5)" % (MIRROR, MIRROR, MIRROR))
+    test.browser.keys("x", TAB, "y")
+    test.expect(test.browser.run("return %s.getValue()" % MIRROR), "beginx  y", "keys and Tab")
+    test.browser.keys((CONTROL, "z"))
+    test.browser.keys((CONTROL, "z"))
+    test.expect_that(test.browser.run("return %s.getValue()" % MIRROR) != "beginx  y", "Ctrl-Z takes back")
+    test.browser.run("%s.setValue(given[0]); %s.focus()" % (MIRROR, MIRROR), read("race.sp"))
+    test.browser.keys((CONTROL, "f"))
+    test.wait("document.querySelector('.CodeMirror-dialog input')", "Ctrl-F opens the search", 5)
+    test.browser.keys(*"c, 2", ENTER, ESCAPE)
+    test.expect(test.browser.run("return %s.getSelection()" % MIRROR), "c, 2", "what is searched is found")
+    test.browser.run("%s.focus()" % MIRROR)
+    test.browser.keys(ESCAPE, TAB)
+    inside = "return !!document.activeElement.closest('.CodeMirror')"
+    test.expect(test.browser.run(inside), False, "Escape and Tab leave the editor")
+    test.browser.run("document.querySelector('#view .picture').focus()")
+    before = slider(test)[0]
+    test.browser.keys(RIGHT)
+    test.expect(slider(test)[0], before + 1, "an arrow key steps")
+    test.browser.move_to("#view .event circle")
+    test.expect_that(test.is_there("#view .tooltip:not([hidden])"), "what the pointer is on is told")
+    test.browser.press("#save")
+    names = []
+    for _ in range(100):
+        names = [name for name in os.listdir(test.browser.downloads) if not name.startswith(".")]
+        if names and not names[0].endswith(".crdownload"):
+            break
+        time.sleep(0.1)
+    test.expect([name[-3:] for name in names], [".sp"], "the text is saved")
+    with open(os.path.join(test.browser.downloads, names[0]), encoding="utf-8") as file:
+        test.expect(file.read(), read("race.sp"), "what is saved")
+
+
+def test_print(test):
+    """Printing has the text with its lines, and no buttons."""
+    test.put(read("answer.sp"))
+    test.command("run")
+    got = test.browser.tool("Page.printToPDF")
+    test.expect_that(len(got["data"]) > 10000, "a printed page", len(got["data"]))
+    test.expect_that("1  program answer;" in test.text("printed"), "the text is printed", test.text("printed")[:60])
+
+
+def test_quiet(test):
+    """No error on the console, and no request to a host."""
+    said = [it for it in test.browser.log() if it["level"] in ("SEVERE", "WARNING")]
+    test.expect(said, [], "what the console says")
+    asked = set()
+    for it in test.browser.log("performance"):
+        message = json.loads(it["message"])["message"]
+        if message["method"] == "Network.requestWillBeSent":
+            asked.add(message["params"]["request"]["url"].split(":")[0])
+    test.expect_that(asked <= {"file", "blob", "data", "about"}, "no request to a host", asked)
+
+
+# What `trace` and `where` would say of the philosophers; a worker that answers so in place of the program.
+TRACE = "trace\n0 24:22 0 open\n1 24:22 0 open\n2 24:22 0 open\n3 25:3 0 fork 3\n" + "".join(
+    "%d 18:3 0/0.%d receive 0#%d\n" % (4 + k, k, (k + 1) % 3) for k in range(3))
+WHERE = "where\n0 25:3 join\n  philosophers\n    i = 3\n" + "".join(
+    "0/0.%d 18:3 receive 0#%d\n  philosopher 26:5\n    k = %d\n    left = 0#%d\n    right = 0#%d\n"
+    "    borrowed = undefined\n" % (k, (k + 1) % 3, k + 1, k, (k + 1) % 3) for k in range(3))
+ANSWERS = """const Real = Worker, answers = %s;
+window.Worker = class extends Real {
+  postMessage(data, ...more) {
+    const text = data.words && answers[data.words[0]];
+    if (!text) return super.postMessage(data, ...more);
+    const result = {id: data.id, status: 4, output: new TextEncoder().encode(text), notes: new Uint8Array()};
+    setTimeout(() => this.onmessage({data: result}));
+  }
+};"""
+
+
+def test_places(test):
+    """Lines, calls and variables, where the program knows `trace` and `where`."""
+    script = ANSWERS % json.dumps({"trace": TRACE, "where": WHERE})
+    added = test.browser.tool("Page.addScriptToEvaluateOnNewDocument", source=script)
+    test.open()
+    test.put(read("philosophers.sp"))
+    test.command("run")
+    circle = "0/0.0 \u2192 0/0.1 \u2192 0/0.2 \u2192 0/0.0"
+    test.wait("document.getElementById('details').textContent.includes('%s')" % circle, "the circle is told", 10)
+    test.wait("document.querySelector('#view table').textContent.includes('borrowed = undefined')", "variables", 10)
+    test.expect_that("philosopher (called at line 26)" in test.text("view"), "calls", test.text("view")[-300:])
+    line = "return [...document.querySelectorAll('.place-current')].map((it) => it.parentNode.textContent.trim())"
+    test.expect_that("receive(right, borrowed)" in str(test.browser.run(line)), "its line", test.browser.run(line))
+    test.click("#view .event[data-at='3']")
+    test.expect_that("forall" in str(test.browser.run(line)), "the line of an event", test.browser.run(line))
+    test.expect_that("(line 25)" in test.text("view"), "the line in words")
+    test.browser.run("CodeMirror.signal(%s, 'gutterClick', %s, 17)" % (MIRROR, MIRROR))
+    test.expect(slider(test)[0], 5, "a click on a line steps to its next entry")
+    test.picture("places")
+    test.browser.tool("Page.removeScriptToEvaluateOnNewDocument", identifier=added["identifier"])
+
+
+def refused_memory():
+    """A browser that gives a page 100 MB: a run that wants more ends out of memory, and the page goes on."""
+    browser = Chromium(more=["--js-flags=--wasm-max-mem-pages=1600"])
+    test = Test(browser, "")
+    try:
+        test.open()
+        test.put("program m;\ntype row = array [1..1000000] of integer;\nvar x: integer;\n"
+                 "procedure p(k: integer);\nvar a: row;\nbegin\n  a[k] := k;\n  if k < 40 then p(k + 1)\nend;\n"
+                 "begin\n  p(1);\n  writeln(1)\nend.\n", options=[["cells", "67108864"]])
+        test.command("run")
+        test.expect(test.text("notes"), "out of memory", "a run that wants more than the browser gives")
+        test.expect_that(test.text("verdict").startswith("Out of memory"), "it is told", test.text("verdict"))
+        test.put(read("answer.sp"))
+        test.command("run")
+        test.expect(test.text("output"), "42\n", "a run behind it")
+    finally:
+        browser.close()
+    return test
+
+
+EVERYWHERE = (test_examples, test_commands, test_live_check, test_philosophers, test_race, test_stop, test_troubles,
+              test_tutorial, test_link_and_storage, test_looks)
+IN_CHROMIUM = (test_places, test_phone, test_keys, test_print, test_quiet)
+
+
+def main(words):
+    is_firefox = "--firefox" in words
+    pictures = words[words.index("--pictures") + 1] if "--pictures" in words else ""
+    browser = Firefox() if is_firefox else Chromium()
+    test = Test(browser, pictures)
+    try:
+        test.open(is_first=True)
+        ready = int("".join(filter(str.isdigit, test.text("verdict"))) or 0)
+        test.expect_that(ready <= READY_IN * slowness(), "ready soon", "%d ms" % ready)
+        for part in EVERYWHERE + (() if is_firefox else IN_CHROMIUM):
+            try:
+                begun = time.time()
+                part(test)
+                if "--times" in words:
+                    print("%5.1f s  %s" % (time.time() - begun, part.__name__))
+            except Trouble as trouble:
+                test.expect_that(False, part.__name__, str(trouble)[:300])
+        if not is_firefox:
+            other = refused_memory()
+            test.checks, test.wrong = test.checks + other.checks, test.wrong + other.wrong
+        name = "Firefox" if is_firefox else "Chromium"
+        print("%s %s: ready in %d ms, %d checks, %d wrong" % (name, browser.version, ready, test.checks, test.wrong))
+    finally:
+        browser.close()
+    return 1 if test.wrong else 0
+
+
+if __name__ == "__main__":
+    sys.exit(main(sys.argv[1:]))
