@@ -91,9 +91,9 @@ def of(case, words, data=b"", whole=False):
     if whole:
         return said
     said = said[len(notes):]
-    for name in re.findall(r"\A[^|]*\|.*\n *\^\n  ([A-Z]\d+) is", said):
+    for name in re.findall(r"\n  ([A-Z]\d+) is broken", said):
         said = said.replace("  " + handbook.sentence(name), "  (what the language says of %s)\n" % name)
-    said = re.sub(r"(F\d+ comes exactly where): .*", r"\1: (as the language says)\n", said, flags=re.S)
+    said = re.sub(r"(F\d+ comes exactly if) .*", r"\1 (as the language says)\n", said, flags=re.S)
     return "== %s\n%s%s" % (" ".join(words), notes, said)
 
 

@@ -4,7 +4,7 @@ import re
 
 from cases import gallery, read
 
-from superpascal_tools.language import Program
+from superpascal_tools.outline import Outline
 from superpascal_tools.uses import Uses
 
 LINE = re.compile(r"(?:implicit (\w+)|(parallel|forall) (\d+:\d+) ?(\d*)) targets(.*) expressions(.*)$")
@@ -46,7 +46,7 @@ def test(case):
     for name, text in texts.items():
         status, told, _ = case.run(["sets", case.file("sets.sp", text)])
         if status == 0:
-            case.same("\n".join(found(Program(text), told.decode())), told.decode().rstrip("\n"), name + ": the sets")
+            case.same("\n".join(found(Outline(text), told.decode())), told.decode().rstrip("\n"), name + ": the sets")
 
 
 def found(program, told):

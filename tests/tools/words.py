@@ -37,7 +37,7 @@ def test(case):
     case.each(lambda it: refused(case, *it), table)
     for tool in ("explain", "picture", "schedules"):
         status, told, _ = case.tool(tool, ["--help"])
-        case.check(status == 0 and told.count(b"proved of nothing") == 1 and b"\n  24  " in told, tool + " --help")
+        case.check(status == 0 and told.count(b"Nothing is proved about this tool") == 1 and b"\n  24  " in told, tool + " --help")
     handed_on(case)
     schedules(case)
 
@@ -50,16 +50,22 @@ def refused(case, tool, words, wanted):
 
 
 def handed_on(case):
-    """What the program refuses keeps its notes and status; what is said behind them names what is wrong."""
+    """What the program refuses keeps its notes and status; what is said after them names what is wrong."""
     case.file("chain.sp", CHAIN)
+    code = case.run(["build", copy(os.path.join(EXAMPLES, "answer.sp"), case.folder)])[1].decode()
+    case.file("word.code", code.replace("const", "konst"))
+    case.file("cut.code", code[:-1])
+    case.file("rule.code", code.replace("const 6", "neg"))
     for words, wanted in ((["rnu", "race.sp"], "near: run"), (["run", "race.sp", "--tick", "3"], "near: --ticks"),
                           (["run"], "a word is missing"), (["run", "nothing.sp"], "no file: nothing.sp"),
-                          (["replay", "race.sp", "cut.journal"], "is cut off"),
+                          (["replay", "race.sp", "cut.journal"], "cut.journal:11:1: the line is cut off"),
                           (["replay", "race.sp", "none.journal"], "first line"),
                           (["replay", "philosophers.sp", "good.journal"], "does not fit this text and input"),
                           (["replay", "race.sp", "short.journal"], "stops before an end"),
                           (["run", "quicksort.sp"], "The input is empty"), (["check", "bytes.sp"], "S1 is broken"),
-                          (["run", "chain.sp"], "F2, overflow")):
+                          (["run", "chain.sp"], "(F2)"), (["exec", "cut.code"], "cut.code:12:1: the line is cut off"),
+                          (["exec", "word.code"], "word.code:4:1: konst is not an instruction (bad code)"),
+                          (["exec", "rule.code"], "rule.code:4:1: instruction 1, neg, breaks a rule of code (V2)")):
         status, _, notes = case.run(words)
         got, _, said = case.tool("explain", words)
         case.check(got == status and said.startswith(notes) and wanted in said and "Traceback" not in said,
@@ -69,7 +75,8 @@ def handed_on(case):
         words = ["run", "--workers", "1"] + words
         status, output, notes = case.run(words)
         got, written, said = case.tool("explain", words)
-        case.check((status, output) == (got, written) and said.startswith(notes + "race: which"), "explain %s" % words)
+        right = said.startswith(notes + "race.sp:21:5: race: ")
+        case.check(right and (status, output) == (got, written), "explain %s" % words)
 
 
 def schedules(case):

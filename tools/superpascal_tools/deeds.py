@@ -1,13 +1,13 @@
 """The operations of statements: assignments, jumps, loops, calls, input and output, and what enters the journal.
 
-What happens is told as a tuple whose first part is its word: `due`, `fork`, `open`, `send`, `receive` or `end`.
+What happens is a tuple whose first part is its word: `due`, `fork`, `open`, `send`, `receive` or `end`.
 """
 from __future__ import annotations
 
 from typing import Any, Optional
 
-from .kinds import BOOLEAN, CHAR, INTEGER, Block, Frame, Ordinal
-from .operations import Fault, Operation, frame_at, whole
+from .kinds import BOOLEAN, CHAR, INTEGER, Block, ChannelType, Frame, Ordinal, shown
+from .operations import Fault, Operation, absent_value, frame_at, place_in_input, whole
 
 DUE = ("due",)
 BLANKS = b" \t\f\r\n"
@@ -37,7 +37,7 @@ def jump(target: int) -> Operation:
 
 
 def jump_unless(target: int) -> Operation:
-    """Goes on there where the last value is false."""
+    """Goes on there if the last value is false."""
     def work(_process: Any, stack: list) -> Optional[int]:
         return None if stack.pop() else target
     return work
@@ -62,7 +62,7 @@ def tick(here: int) -> Operation:
 
 
 def while_test(here: int, after: int) -> Operation:
-    """Leaves the loop where the last value is false; else a tick."""
+    """Leaves the loop if the last value is false; else a tick."""
     def work(process: Any, stack: list) -> Any:
         return ticked(process, here + 1) if stack.pop() else after
     return work
@@ -92,7 +92,7 @@ def for_again(place: tuple[int, int], by: int, body: int) -> Operation:
         frame = frame_at(process.frame, up)
         value = frame[offset]
         if value is None:
-            raise Fault("F4")
+            raise absent_value("F4", frame, offset)
         if value * by >= stack[-1] * by:
             stack.pop()
             return None
@@ -102,12 +102,13 @@ def for_again(place: tuple[int, int], by: int, body: int) -> Operation:
     return work
 
 
-def choose(arms: dict[int, int]) -> Operation:
+def choose(arms: dict[int, int], kind: Any) -> Operation:
     """`case`: goes on at the arm of the last value."""
     def work(_process: Any, stack: list) -> int:
-        target = arms.get(stack.pop())
+        value = stack.pop()
+        target = arms.get(value)
         if target is None:
-            raise Fault("F9")
+            raise Fault("F9", "the selector is %s, and no constant of this case is" % shown(value, kind))
         return target
     return work
 
@@ -152,17 +153,20 @@ def call(block: Block, up: int, here: int) -> Operation:
 
 
 def give_back(block: Block) -> Operation:
-    """The end of a procedure or function: the caller goes on behind the call."""
+    """The end of a procedure or function: the caller goes on after the call."""
     answer = block.answer
+    channels = [at for at, it in enumerate(block.formals) if it.what == "var" and isinstance(it.kind, ChannelType)]
 
     def work(process: Any, stack: list) -> int:
         if answer is not None:
             value = process.frame[answer]
             if value is None:
-                raise Fault("F4")
+                raise Fault("F4", "the function %s ends without a result" % block.name)
             stack.append(value)
             process.inner -= 1
-        _, here, frame, _ = process.calls.pop()
+        _, here, frame, arguments = process.calls.pop()
+        for number in channels:
+            process.knew[arguments[number]] = block.name
         process.frame = frame
         process.depth -= 1
         process.cells -= block.cells
@@ -175,17 +179,14 @@ def write(kind: Any, has_width: bool) -> Operation:
     def work(process: Any, stack: list) -> None:
         width = stack.pop() if has_width else None
         value = stack.pop()
-        if kind is INTEGER:
-            text = b"%d" % value
-        elif kind is CHAR:
-            text = bytes((value,))
-        else:
-            text = value if kind is not BOOLEAN else b"true" if value else b"false"
+        if kind is BOOLEAN:
+            value = b"true" if value else b"false"
+        text = b"%d" % value if kind is INTEGER else bytes((value,)) if kind is CHAR else value
         machine = process.machine
         if width is None:
             size = len(text)
         elif width < 1:
-            raise Fault("F1")
+            raise Fault("F1", "the width is %d, and a width is at least 1" % width)
         else:
             size = max(width, len(text)) if kind is INTEGER else width
         if len(machine.output) + size > machine.limits.output:
@@ -206,7 +207,7 @@ def read_char(process: Any, stack: list) -> None:
     """Reads a char into the cell that is led to."""
     machine = process.machine
     if machine.position >= len(machine.data):
-        raise Fault("F18")
+        raise Fault("F18", "the input is at its end: no char is left to read")
     byte = machine.data[machine.position]
     machine.position += 1
     offset = stack.pop()
@@ -220,14 +221,14 @@ def read_integer(process: Any, stack: list) -> None:
     while at < len(data) and data[at] in BLANKS:
         at += 1
     if at >= len(data):
-        raise Fault("F18")
+        raise Fault("F18", "the input is at its end: no integer is left to read")
     sign = -1 if data[at] == 45 else 1
     at += data[at] in b"+-"
     begun = at
     while at < len(data) and 48 <= data[at] <= 57:
         at += 1
     if at == begun:
-        raise Fault("F17")
+        raise Fault("F17", "no integer begins " + place_in_input(data, begun))
     digits = data[begun:at].lstrip(b"0") or b"0"
     value = whole(sign * int(digits) if len(digits) <= 20 else 10 ** 20)
     machine.position = at

@@ -170,7 +170,7 @@ class Drawing:
         return self.paper.svg(size, "%s: a run as a space-time diagram" % self.view.title, told)
 
     def name(self, lane: str) -> None:
-        """The name of a lane and the call of its process, where it begins."""
+        """The name of a lane and the call of its process, at its beginning."""
         born = self.moments.born.get(lane)
         x = self.x(lane)
         y = self.y(born[0]) + 12 if born and self.is_born(lane) and lane != "0" else HEAD - 26

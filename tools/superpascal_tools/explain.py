@@ -10,7 +10,8 @@ from typing import Optional, Sequence
 from . import handbook, refusals
 from .ends import Ends
 from .following import Run
-from .journal import Record, entry_of, read_record
+from .file_words import bad_code, bad_journal, unfit_journal
+from .journal import Record, read_record
 from .language import Program
 from .program import Answer, Caller, Words, limits_of, split_words, take_option
 from .source import Source
@@ -22,14 +23,15 @@ HELP = """usage: tools/explain [--program PROGRAM] COMMAND ..
   tools/explain witness FILE [..] <INPUT           as `superpascal witness`, and then the clash that it shows
   tools/explain check FILE                         as `superpascal check`, and then why the text is refused; so with
                                                    code, build, sets and format
+  tools/explain exec FILE                          as `superpascal exec`, and then why the code file is not accepted
   tools/explain RULE, tools/explain FAULT          what the language says of a rule or a fault, as I1 or F6
 
-The output, the notes and the status of the program stay as they are; what is added goes to standard error behind them.
+The output, the notes and the status of the program stay as they are; what is added goes to standard error after them.
 The program is PROGRAM, else the one that SUPERPASCAL names, else ./superpascal of this repository.
 
 """
 SHOWS = ("end", "timeline", "census", "tree", "waiting", "all", "journal")
-RUNS = ("run", "replay", "witness")
+RUNS = ("run", "replay", "witness", "exec")
 
 
 def main(given: Sequence[str]) -> int:
@@ -51,7 +53,7 @@ def main(given: Sequence[str]) -> int:
 
 
 def explain(words: list[str], caller: Caller) -> int:
-    """The program's own answer, and behind it what it means."""
+    """The program's own answer, and after it what it means."""
     asked = split_words(words)
     data = input_of(asked, caller)
     show, told = shown_as(words, asked)
@@ -70,18 +72,18 @@ def explain(words: list[str], caller: Caller) -> int:
 
 
 def input_of(asked: Words, caller: Caller) -> bytes:
-    """The standard input, where the command reads it; none is read for a text that is refused."""
+    """The standard input, if the command reads it; none is read for a text that is refused."""
     if asked.command not in RUNS or not asked.plain:
         return b""
     if sys.stdin is not None and not sys.stdin.closed and sys.stdin.isatty():
-        if caller(["check", "--", asked.plain[0]]).status:
+        if asked.command != "exec" and caller(["check", "--", asked.plain[0]]).status:
             return b""
         say("explain: reading the input: Ctrl-D ends it\n")
     return read_input()
 
 
 def shown_as(words: list[str], asked: Words) -> tuple[Optional[str], list[str]]:
-    """For `run`: what --show asks for, and the words with which the timeline is told as well."""
+    """For `run`: what --show asks for, and the words with which the timeline is reported as well."""
     if asked.command != "run":
         return None, words
     before = words[:words.index("--")] if "--" in words else words
@@ -98,7 +100,7 @@ def shown_as(words: list[str], asked: Words) -> tuple[Optional[str], list[str]]:
 
 
 def as_asked(notes: str, show: str) -> str:
-    """The notes as the program would have written them; these have the timeline, and all reports where one is asked."""
+    """The notes as the program would have written them; these have the timeline, and all reports if one is asked for."""
     if show in ("timeline", "all"):
         return notes
     head, _, rest = notes.partition("\ntimeline\n")
@@ -130,6 +132,10 @@ def meaning(asked: Words, answer: Answer, timeline: str, data: bytes, caller: Ca
         return followed(asked, read_record(answer.output.decode("latin1")), data, None)
     if asked.command == "replay" and len(asked.plain) == 2:
         return replay_told(asked, answer, data)
+    if asked.command == "exec" and answer.status == 10 and asked.plain:
+        said = bad_code(asked.plain[0], read_file(asked.plain[0]), notes)
+        if said:
+            return said
     found = handbook.status_sentence(notes.rstrip("\n")) if answer.status > 4 else None
     return "  %s\n" % found if found else ""
 
@@ -147,7 +153,7 @@ def bad_words(asked: Words) -> str:
             near = difflib.get_close_matches(name[2:], options, 1)
             said += "  no option: %s%s\n" % (name, "; near: --" + near[0] if near else "")
     if not asked.plain:
-        said += "  a word is missing behind %s\n" % asked.command
+        said += "  a word is missing after %s\n" % asked.command
     return said
 
 
@@ -183,17 +189,14 @@ def followed(asked: Words, record: Record, data: bytes, output: Optional[bytes])
 
 def replay_told(asked: Words, answer: Answer, data: bytes) -> str:
     """A journal that is followed, or why it is not."""
-    text = read_file(asked.plain[1]).decode("latin1")
+    text = read_file(asked.plain[1])
     got = re.match(r"bad journal (\d+)\n", answer.notes)
     if got:
-        lines = text.split("\n")
-        line = lines[int(got[1]) - 1] if int(got[1]) <= len(lines) else ""
-        why = "it is cut off" if int(got[1]) == len(lines) and line else \
-            "no entry is spelled so" if entry_of(line) is None and int(got[1]) > 1 else \
-            "the first line is `superpascal journal 2`" if int(got[1]) == 1 else \
-            "no entry before it makes its process or its channel"
-        return "  line %d is `%s`: %s\n" % (int(got[1]), line[:80], why)
+        return bad_journal(asked.plain[1], text, int(got[1]))
     if answer.notes.startswith(("replayed", "journal unfit")):
-        return followed(asked, read_record(text), data, None)
+        try:
+            return followed(asked, read_record(text.decode("latin1")), data, None)
+        except Unfit as unfit:
+            return unfit_journal(asked.plain[1], text, unfit)
     found = handbook.status_sentence(answer.notes.rstrip("\n"))
     return "  %s\n" % found if found else ""

@@ -69,6 +69,11 @@ class Expressions:
             block = block.outer
         self.refuse()
 
+    def joined(self, first: int, last: int) -> str:
+        """The tokens from `first` to before `last` in one word."""
+        whole = "".join(token.word for token in self.tokens[first:min(last, first + 20)])
+        return whole + "]" * (whole.count("[") - whole.count("]"))
+
     # Code.
     def emit(self, operation: Any, place: Place) -> int:
         """Appends an operation; gives its number."""
@@ -93,8 +98,8 @@ class Expressions:
 
     # Variables.
     def lead(self, target: bool) -> tuple[Any, Optional[Declared]]:
-        """A variable: operations that lead to it and its type; without operations, where it is a plain one, itself."""
-        place, declared = self.place, self.look_up(self.tokens[self.at].word)
+        """A variable: operations that lead to it and its type; without operations, if it is a plain one, itself."""
+        place, declared, begun = self.place, self.look_up(self.tokens[self.at].word), self.at
         self.note(declared, target)
         self.next()
         kind = declared.kind
@@ -112,9 +117,9 @@ class Expressions:
             while True:
                 if not isinstance(kind, Array):
                     self.refuse()
-                here = self.place
+                here, before = self.place, self.joined(begun, self.at - 1)
                 self.expression()
-                self.emit(op.index(kind.low, kind.high, kind.element.cells), here)
+                self.emit(op.index(kind, before), here)
                 kind = kind.element
                 if not self.take(","):
                     break

@@ -80,7 +80,7 @@ class Run:
             raise Unfit(at, "%s, and %s" % (entry, "there is no process %s" % name if process is None else
                                             "%s %s" % (name, states[process.state])))
         if kind != "laid" and self.met is not None:
-            raise Unfit(at, str(entry) + ", behind a fault")
+            raise Unfit(at, str(entry) + ", after a fault")
         if kind == "laid" and self.met is None:
             raise Unfit(at, str(entry) + ", and there is no fault before it")
         event = process.advance()
@@ -180,7 +180,7 @@ class Run:
         self.running += count - 1
 
     def finish(self, process: Process) -> None:
-        """The end of a process; its parent goes on where no other child is left."""
+        """The end of a process; its parent goes on if no other child is left."""
         process.state = ENDED
         self.running -= 1
         parent = process.parent

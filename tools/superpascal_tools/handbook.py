@@ -45,12 +45,12 @@ def fault_name(fault: str) -> str:
 
 
 def wrapped(text: str, indent: str = "  ") -> str:
-    """A text in lines that a terminal can show, the later ones behind this indent."""
+    """A text in lines that a terminal can show, the later ones after this indent."""
     return textwrap.fill(text, WIDE, subsequent_indent=indent, break_on_hyphens=False, break_long_words=False) + "\n"
 
 
 def fault_sentence(fault: str) -> str:
-    """Where exactly a fault comes."""
+    """When exactly a fault comes."""
     return plain(rules_and_faults()[fault][1])
 
 
@@ -62,11 +62,11 @@ def sentence(name: str) -> Optional[str]:
     first, second, shown = map(plain, row)
     if name.startswith("F"):
         return wrapped("%s, %s: %s." % (name, first, second)) + "  A smallest program: %s\n" % shown
-    return wrapped("%s is broken where %s. Its place: %s." % (name, first, second)) + "  An example: %s\n" % shown
+    return wrapped("%s is broken if %s. Its place: %s." % (name, first, second)) + "  An example: %s\n" % shown
 
 
 def example(name: str) -> tuple[str, str]:
-    """The text of the example of a rule or a fault, and what is said behind it; no text where none is whole."""
+    """The text of the example of a rule or a fault, and what is said after it; no text if none is whole."""
     cell = rules_and_faults()[name][2]
     got = re.match(r"`(program [^`]*)`((?: at|, in| with| on the input).*|)$", cell)
     return (got[1].replace("\\|", "|"), got[2]) if got else ("", cell)
@@ -104,3 +104,18 @@ def status_sentence(notes: str) -> Optional[str]:
             if re.fullmatch(line, notes):
                 return "status %s comes %s" % (cells[0], plain(cells[1]))
     return None
+
+
+def code_rule(name: str) -> Optional[str]:
+    """When a rule of code is broken."""
+    return next((plain(cells[1]) for cells in rows("CODE.md") if cells[0] == name), None)
+
+
+@lru_cache(maxsize=None)
+def instructions() -> frozenset[str]:
+    """The words with which instructions begin."""
+    found: set[str] = set()
+    for cells in rows("CODE.md"):
+        for part in re.findall(r"`([^`]*)`", cells[0]):
+            found.update(re.findall(r"\b[a-z]+\b", part))
+    return frozenset(found)

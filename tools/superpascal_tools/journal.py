@@ -25,7 +25,7 @@ class Entry(NamedTuple):
 
 
 class Record(NamedTuple):
-    """What was told of a run: the lines of its end and verdict, where they are there, and its entries."""
+    """What was reported of a run: the lines of its end and verdict, if they are there, and its entries."""
 
     head: list[str]
     entries: list[Entry]

@@ -118,14 +118,14 @@ class Frame(list):
         self.block, self.static = block, static
 
 
-def variable_name(frame: Frame, offset: int) -> str:
-    """What the cell of a frame is called in the text, as `askr[3]`."""
+def variable_name(frame: Frame, offset: int, whole: Any = None) -> str:
+    """What the cell of a frame, or the variable of the type `whole` there, is called in the text, as `askr[3]`."""
     at = bisect_right(frame.block.offsets, offset) - 1
     if at < 0:
         return "?"
     declared = frame.block.variables[at]
     name, kind, rest = declared.name, declared.kind, offset - declared.offset
-    while isinstance(kind, (Array, Record)) and len(name) < 200:
+    while isinstance(kind, (Array, Record)) and kind is not whole and len(name) < 200:
         if isinstance(kind, Array):
             name += "[%s]" % shown(kind.low + rest // kind.element.cells, kind.index)
             rest, kind = rest % kind.element.cells, kind.element
@@ -138,7 +138,7 @@ def variable_name(frame: Frame, offset: int) -> str:
 
 
 def shown(value: Any, kind: Any) -> str:
-    """A value as it is written in a text; `?` where it is undefined."""
+    """A value as it is written in a text; `?` if it is undefined."""
     if value is None:
         return "?"
     if isinstance(value, Channel):

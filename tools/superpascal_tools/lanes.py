@@ -1,4 +1,4 @@
-"""Lanes: a place across for each process that is shown. Where there would be too many, subtrees are folded."""
+"""Lanes: a place across for each process that is shown. If there would be too many, subtrees are folded."""
 from __future__ import annotations
 
 from typing import Iterable, Optional
@@ -34,7 +34,7 @@ class Lanes:
         self.place()
 
     def width(self, deep: int, most: Optional[int]) -> int:
-        """How many lanes there are where children are shown down to this depth, and at the last one only so many."""
+        """The number of lanes if children are shown down to this depth, and at the last one only this many."""
         wide: dict[str, int] = {}
         todo = [(self.top, 0, False)]
         while todo:

@@ -152,7 +152,7 @@ class Program(Statements):
         return found
 
     def type_of(self, name: str) -> Any:
-        """A type behind its name and `=`."""
+        """A type after its name and `=`."""
         if self.take("("):
             those = self.names()
             self.need(")")

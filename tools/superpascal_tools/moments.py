@@ -71,7 +71,7 @@ class Moments:
         self.row[at] = self.opening[name]
 
     def offer(self, at: int, name: str, channel: str) -> None:
-        """An offer; where it meets another one, both are in one row."""
+        """An offer; if it meets another one, both are in one row."""
         other = self.pending.get(channel)
         if other is None or self.entries[other].kind == self.entries[at].kind:
             self.pending[channel] = at

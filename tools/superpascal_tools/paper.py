@@ -1,4 +1,4 @@
-"""An SVG under way: lines, marks, and labels that are only put where none stands."""
+"""An SVG under way: lines, marks, and labels that are put only at free places."""
 from __future__ import annotations
 
 import html
@@ -64,7 +64,7 @@ class Paper:
 
     def label(self, text: str, places: Sequence[tuple[float, float]], kind: str = "", tip: str = "",
               size: float = 9) -> bool:
-        """A text at the first of these places where it crosses no other one; nowhere, if there is none."""
+        """A text at the first of these places at which it crosses no other one; nowhere, if there is none."""
         for left, base in places:
             box = (left - 1, base - size, left + wide(text, size) + 1, base + 2)
             if left >= 2 and not self.crosses(box):
@@ -90,8 +90,8 @@ class Paper:
     def svg(self, size: tuple[float, float], title: str, told: str) -> str:
         """The whole picture, with a title and a description for readers of screens."""
         marks = ARROW % ("blue", 8, 8, "#0072b2") + ARROW % ("brown", 10, 10, "#a03c00")
-        return ('<svg xmlns="http://www.w3.org/2000/svg" role="img" aria-labelledby="title told" width="%s" '
-                'height="%s" viewBox="0 0 %s %s">\n<title id="title">%s</title>\n<desc id="told">%s</desc>\n'
+        return ('<svg xmlns="http://www.w3.org/2000/svg" role="img" aria-labelledby="title text" width="%s" '
+                'height="%s" viewBox="0 0 %s %s">\n<title id="title">%s</title>\n<desc id="text">%s</desc>\n'
                 '<style>%s</style>\n'
                 '<defs>%s</defs>\n<rect width="100%%" height="100%%" fill="#fff"/>\n%s\n</svg>\n' % (
                     (number(size[0]), number(size[1])) * 2 + (html.escape(title), html.escape(told), STYLE, marks,

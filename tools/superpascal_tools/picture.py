@@ -28,13 +28,13 @@ cross. An entry stands right below what had to come before it, so an ordered run
   --text FILE      the text of the run: messages get values, processes their calls, and who waits for whom is shown
   --input FILE     the input of the run (none: empty); limits of the run as for `superpascal run`, as --ticks 5
   --order          each entry has a row of its own, in the order of the journal
-  --from N, --to N the first and the last entry that is drawn (a part of 400, where there are more)
+  --from N, --to N the first and the last entry that is drawn (a part of 400, if there are more)
   --process NAME   this process and all below it; the others are one lane
   --title TEXT     what stands above
-  --out FILE       where the picture goes (standard output)
+  --out FILE       the file for the picture (standard output)
   --program FILE   the program that runs the text, else that of SUPERPASCAL, else ./superpascal of this repository
 
-Where a run has more than 60 processes side by side, subtrees are folded: into their parent, or into one lane.
+If a run has more than 60 processes side by side, subtrees are folded: into their parent, or into one lane.
 
 """
 PART = 400
@@ -177,7 +177,7 @@ def touched(view: View, entries: list[Entry]) -> set[str]:
 
 
 def race_of(record: Record) -> Optional[tuple[int, int]]:
-    """The pair that races: that of the verdict, or where none is told, as it follows from the entries."""
+    """The pair that races: that of the verdict, or if there is none, as it follows from the entries."""
     for line in record.head:
         parts = line.split(" ")
         if parts[0] == "race" and len(parts) == 5:

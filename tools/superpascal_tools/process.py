@@ -11,10 +11,10 @@ RUNS, WAITS, JOINS, ENDED, LAID = range(5)
 
 
 class Process:
-    """A process: where it stands in the code, its frame and operands, its calls, and what it has counted."""
+    """A process: its place in the code, its frame and operands, its calls, and what it has counted."""
 
     __slots__ = ("name", "machine", "parent", "frame", "pc", "stack", "calls", "depth", "cells", "inner", "ticks",
-                 "until", "state", "forks", "opens", "left", "what", "stands", "offer", "entry")
+                 "until", "state", "forks", "opens", "left", "what", "stands", "offer", "entry", "cause", "knew")
 
     def __init__(self, name: str, machine: Any, parent: Optional["Process"], frame: Frame, pc: int) -> None:
         self.name, self.machine, self.parent, self.frame, self.pc = name, machine, parent, frame, pc
@@ -24,7 +24,8 @@ class Process:
         self.cells = self.inner = self.ticks = self.forks = self.opens = self.left = 0
         self.until = TURN_TICKS
         self.state = RUNS
-        self.what = ""
+        self.what = self.cause = ""
+        self.knew: dict[Any, str] = {}
         self.stands = pc
         self.offer: Optional[tuple] = None
         self.entry = -1
@@ -47,6 +48,7 @@ class Process:
                     return happened
         except Fault as met:
             self.pc = self.stands = at
+            self.cause = met.cause
             return ("fault", str(met))
 
     def enter(self) -> None:
@@ -72,7 +74,7 @@ def called(block: Block, arguments: list[Any]) -> str:
     words = []
     for formal, value in zip(block.formals, arguments):
         if formal.what == "byvar":
-            words.append("var " + variable_name(*value))
+            words.append("var " + variable_name(*value, formal.kind))
         else:
             words.append(shown(value, formal.kind))
     return "%s(%s)" % (block.name, ", ".join(words)) if words else block.name

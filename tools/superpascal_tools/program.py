@@ -25,7 +25,7 @@ class Answer(NamedTuple):
 class Caller:
     """Calls the program: the one that is named, else that of SUPERPASCAL, else ./superpascal of this repository.
 
-    What that script says for itself, in lines that begin with its name, is handed on at once and is no part of notes.
+    What that script says for itself, in lines that begin with its name, is passed on at once and is not part of the notes.
     """
 
     def __init__(self, path: Optional[str] = None) -> None:
@@ -70,7 +70,7 @@ class Words(NamedTuple):
 
 
 def split_words(words: Sequence[str]) -> Words:
-    """Takes words apart as the program does, where it accepts them."""
+    """Takes words apart as the program does, if it accepts them."""
     plain, options, left = [], {}, list(words[1:])
     while left:
         word = left.pop(0)

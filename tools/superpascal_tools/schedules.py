@@ -10,9 +10,9 @@ from .trouble import BAD_WORDS, REFUSED, STATUSES, UNPROVED, Trouble, put_out, r
 
 HELP = """usage: tools/schedules [--program PROGRAM] [--journals FOLDER] FILE N [OPTIONS of `superpascal run`] <INPUT
 
-Runs the text N times, with 2, 4 and 8 workers in turn where --workers says nothing, and prints a table: the different
+Runs the text N times, with 2, 4 and 8 workers in turn if --workers is not given, and prints a table: the different
 ends, verdicts and outputs, with how often each came. Of each kind one journal is kept in FOLDER (the current one) as
-NAME.1.journal and so on, which `superpascal replay` takes. Where a verdict is a race, the schedule in which its two
+NAME.1.journal and so on, which `superpascal replay` takes. If a verdict is a race, the schedule in which its two
 offers clash is one more row: that of `superpascal witness`. What did not come in N runs may still come: a verdict
 `ordered` says that nothing else can.
 

@@ -28,6 +28,11 @@ class Source:
         return "%s%s%s%s\n%s%s^\n" % (margin, cut, whole[first:first + WIDE], more, " " * len(margin),
                                      " " * (len(before) - first + len(cut)))
 
+    def message(self, place: Place, words: str, name: str = "", indent: str = "") -> str:
+        """One line as compilers have it, and the line of the program below it."""
+        head = "%s%s:%d:%d: %s" % ((indent, self.file) + place + (words,))
+        return "%s%s\n%s" % (head, " (%s)" % name if name else "", self.line(place, indent))
+
     def named(self, place: Place, indent: str = "") -> str:
         """The line of a place, with the file and the place above it."""
         return "%s%s:%d:%d\n%s" % ((indent, self.file) + place + (self.line(place, indent),))

@@ -138,7 +138,7 @@ class Statements(Expressions):
 
     def case(self, place: Place) -> None:
         """`case`."""
-        self.expression()
+        kind = self.expression()
         self.need("of")
         test, leaves = self.hole(place), []
         arms: dict[int, int] = {}
@@ -152,7 +152,7 @@ class Statements(Expressions):
             if not self.take(";"):
                 break
         self.need("end")
-        self.code[test] = deeds.choose(arms)
+        self.code[test] = deeds.choose(arms, kind)
         for leave in leaves:
             self.code[leave] = deeds.jump(len(self.code))
 
@@ -254,7 +254,7 @@ class Statements(Expressions):
         self.emit(deeds.open_channel, place)
 
     def messages(self, name: str, place: Place) -> None:
-        """The messages of `send` or `receive`: each evaluates the channel anew."""
+        """The messages of `send` or `receive`: each evaluates the channel again."""
         self.need("(")
         begun = self.at
         self.expression()

@@ -1,4 +1,4 @@
-"""Tokens of a text that the program accepts, with their places."""
+"""Tokens of a program, with their places."""
 from __future__ import annotations
 
 import re
@@ -20,21 +20,28 @@ Place = tuple[int, int]
 
 
 class Token(NamedTuple):
-    """A token: its kind (word, sign, name, number, text or end), its spelling in lower case, and its place."""
+    """A token: its kind (word, sign, name, number, text, bad or end), its spelling in lower case, and its place."""
 
     kind: str
     word: str
     place: Place
 
 
-def tokens_of(text: str) -> list[Token]:
-    """The tokens of a text, whose characters are its bytes; the last one has the kind `end`."""
+def tokens_of(text: str, strict: bool = True) -> list[Token]:
+    """The tokens of a text, whose characters are its bytes; the last one has the kind `end`.
+
+    A byte that begins no token is refused, or has the kind `bad` if the reader is not strict.
+    """
     found: list[Token] = []
     at, line, begun = 0, 1, 0
     while at < len(text):
         got = TOKEN.match(text, at)
         if got is None:
-            raise Trouble(REFUSED, "the text breaks a rule at %d:%d" % (line, at - begun + 1))
+            if strict:
+                raise Trouble(REFUSED, "the text breaks a rule at %d:%d" % (line, at - begun + 1))
+            found.append(Token("bad", text[at], (line, at - begun + 1)))
+            at += 1
+            continue
         kind, word = got.lastgroup or "", got.group()
         if kind != "blank":
             if kind == "name":
@@ -51,7 +58,7 @@ def tokens_of(text: str) -> list[Token]:
 
 
 def number_of(digits: str) -> int:
-    """The value of decimal digits; one above all integers where there are too many of them."""
+    """The value of decimal digits; one above all integers if there are too many of them."""
     digits = digits.lstrip("0") or "0"
     return int(digits) if len(digits) <= 20 else 10 ** 20
 

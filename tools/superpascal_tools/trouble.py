@@ -15,7 +15,7 @@ NO_MEMORY = 26
 STOPPED = 27
 UNFORESEEN = 28
 
-STATUSES = """statuses of the tool itself (those of the program are 0 to 9, and are handed on):
+STATUSES = """statuses of the tool itself (those of the program, 0 to 10, are passed on):
   20  the words ask for nothing that the tool does
   21  the program is missing, or cannot be run
   22  a file cannot be read or written
@@ -27,7 +27,7 @@ STATUSES = """statuses of the tool itself (those of the program are 0 to 9, and 
   28  the tool cannot do it, and this is a mistake in the tool
 """
 
-UNPROVED = """This tool is proved of nothing: it explains with an interpreter of its own, and where it differs from the
+UNPROVED = """Nothing is proved about this tool: it explains with an interpreter of its own, and if it differs from the
 program, the program is right.
 """
 
@@ -45,7 +45,7 @@ class Unfit(Trouble):
 
     def __init__(self, index: int, why: str) -> None:
         super().__init__(UNFIT, "the journal does not fit this text and input: entry %d: %s" % (index, why))
-        self.index = index
+        self.index, self.why = index, why
 
 
 def read_file(path: str) -> bytes:
@@ -58,7 +58,7 @@ def read_file(path: str) -> bytes:
 
 
 def write_file(path: str, text: bytes) -> None:
-    """Writes a file, or standard output where the path is `-`."""
+    """Writes a file, or standard output if the path is `-`."""
     if path == "-":
         put_out(text)
         return
@@ -82,7 +82,7 @@ def put_out(text: bytes) -> None:
 
 
 def read_input() -> bytes:
-    """The standard input to its end; nothing where it is closed."""
+    """The standard input to its end; nothing if it is closed."""
     if sys.stdin is None or sys.stdin.closed:
         return b""
     try:
@@ -107,7 +107,7 @@ def say(text: str) -> None:
 
 
 def ended(name: str, main: Callable[[Sequence[str]], int]) -> int:
-    """The status of a tool: its own or the program's where it went well, else that of the trouble, told in one line."""
+    """The status of a tool: its own or the program's if it went well, else that of the trouble, reported in one line."""
     sys.setrecursionlimit(10_000)
     try:
         return main(sys.argv[1:])

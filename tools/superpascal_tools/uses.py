@@ -4,8 +4,8 @@ from __future__ import annotations
 from bisect import bisect_left
 from typing import Iterator, NamedTuple, Optional
 
-from .kinds import Block, Declared
-from .language import Program
+from .outline import Outline
+from .scopes import Name, Scope
 from .tokens import Place
 
 
@@ -13,21 +13,21 @@ class Way(NamedTuple):
     """How a variable is reached: a position of it, or a call of a block that reaches it."""
 
     place: Place
-    block: Optional[Block]
+    block: Optional[Scope]
 
 
-Reached = dict[tuple[Declared, bool], Way]
+Reached = dict[tuple[Name, bool], Way]
 
 
 class Uses:
     """The variables of statements of a program, each with one way to it."""
 
-    def __init__(self, program: Program) -> None:
+    def __init__(self, program: Outline) -> None:
         self.program = program
         self.positions = [at for at, _, _ in program.uses]
         self.calls = [at for at, _ in program.called]
-        self.implicit: dict[Block, Reached] = {block: {} for block in program.blocks}
-        self.callers: dict[Block, list[tuple[Block, Place]]] = {}
+        self.implicit: dict[Scope, Reached] = {block: {} for block in program.blocks}
+        self.callers: dict[Scope, list[tuple[Scope, Place]]] = {}
         todo = []
         for block in program.blocks:
             for place, callee in self.calls_in(block.first, block.last):
@@ -43,7 +43,7 @@ class Uses:
                     self.implicit[block][key] = Way(place, callee)
                     todo.append((block, key))
 
-    def calls_in(self, first: int, last: int) -> Iterator[tuple[Place, Block]]:
+    def calls_in(self, first: int, last: int) -> Iterator[tuple[Place, Scope]]:
         """The calls in these tokens."""
         for at, callee in self.program.called[bisect_left(self.calls, first):bisect_left(self.calls, last)]:
             yield self.program.tokens[at].place, callee
@@ -66,12 +66,22 @@ class Uses:
                 found.setdefault(key, Way(place, callee))
         return found
 
-    def told(self, key: tuple[Declared, bool], way: Way) -> str:
+    def verb(self, key: tuple[Name, bool]) -> str:
+        """What is done to a variable, as `changes x`."""
+        word = "reads" if key[0] is self.program.input and key[1] else \
+            "writes" if key[0] is self.program.output else "changes" if key[1] else "uses"
+        return "%s %s" % (word, key[0].name)
+
+    def short(self, key: tuple[Name, bool], reached: Reached) -> str:
+        """A way in few words: `changes x at 5:3`, or by which call."""
+        way = reached[key]
+        call = "by calling %s " % way.block.name if way.block is not None else ""
+        return "%s %sat %d:%d" % ((self.verb(key), call) + way.place)
+
+    def told(self, key: tuple[Name, bool], way: Way) -> str:
         """A way in words: `changes x at 5:3, in show, called at 12:5`."""
         calls = []
         while way.block is not None and len(calls) < 5:
             calls.append("in %s, called at %d:%d" % ((way.block.name,) + way.place))
             way = self.implicit[way.block][key]
-        verb = "reads" if key[0] is self.program.input and key[1] else \
-            "writes" if key[0] is self.program.output else "changes" if key[1] else "uses"
-        return ", ".join(["%s %s at %d:%d" % ((verb, key[0].name) + way.place)] + calls[::-1])
+        return ", ".join(["%s at %d:%d" % ((self.verb(key),) + way.place)] + calls[::-1])

@@ -14,7 +14,7 @@ def waiting(run: Run) -> list[Process]:
 
 
 def who_would_come(run: Run) -> dict[str, list[tuple[str, int]]]:
-    """For a process that waits: which others that wait would meet it later, and the operation with which they would.
+    """For a process that waits: which ones that wait, also itself, would meet it later, and the operation of each.
 
     A guess: what a process would have received is taken to be what its variable holds, or else 0 or the least value. It
     changes the variables of the run, so nothing is asked of the run after it.
@@ -26,7 +26,7 @@ def who_would_come(run: Run) -> dict[str, list[tuple[str, int]]]:
     found: dict[str, list[tuple[str, int]]] = {}
     for process in waiting(run):
         for met, stands in onward(run, process, wanted):
-            if met != process.name and all(who != process.name for who, _ in found.get(met, [])):
+            if all(who != process.name for who, _ in found.get(met, [])):
                 found.setdefault(met, []).append((process.name, stands))
     return found
 
@@ -73,7 +73,7 @@ def children(run: Run, process: Process, event: tuple) -> list[Process]:
 
 
 def guess(event: tuple) -> None:
-    """What a receive may bring: a value where its variable has none."""
+    """What a receive may bring: a value if its variable has none."""
     kind = event[3]
     if event[0] == "receive" and isinstance(kind, Ordinal):
         frame, offset = event[2]
