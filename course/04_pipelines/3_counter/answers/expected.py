@@ -1,0 +1,4 @@
+"""The expected output, from the task."""
+import sys
+
+print(format(int(sys.stdin.read()) % 256, "08b"))

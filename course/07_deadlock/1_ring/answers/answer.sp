@@ -1,0 +1,48 @@
+{ Neighbours in a ring exchange numbers.
+  Each node sends to its right neighbour and receives from its left one. If all sent
+  first, each would wait for the next one, all round the ring. So each node does both
+  at once. }
+program ring(input, output);
+const n = 5;
+type
+  chan = *(integer);
+  net = array [1..n] of chan;
+  row = array [1..n] of integer;
+var links, results: net; numbers: row; rounds, i, x: integer;
+
+procedure node(mine, rounds: integer; left, right, result: chan);
+var round, passing, other: integer;
+begin
+  passing := mine;
+  for round := 1 to rounds do
+    begin
+      parallel
+        send(right, passing)
+      |
+        receive(left, other)
+      end;
+      mine := mine + other;
+      passing := other
+    end;
+  send(result, mine)
+end;
+
+begin
+  read(rounds);
+  for i := 1 to n do
+    begin
+      read(numbers[i]);
+      open(links[i], results[i])
+    end;
+  parallel
+    forall k := 1 to n do
+      node(numbers[k], rounds, links[k], links[k mod n + 1], results[k])
+  |
+    for i := 1 to n do
+      begin
+        receive(results[i], x);
+        write(x: 5)
+      end;
+    writeln
+  end
+end.

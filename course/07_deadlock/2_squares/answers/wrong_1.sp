@@ -1,0 +1,47 @@
+{ Mistake: the master first collects and then deals. Now it waits for an answer before it has
+  sent a number (deadlock). }
+program squares(input, output);
+const most = 20;
+type
+  chan = *(integer);
+  row = array [1..most] of integer;
+var tasks, answers: chan; numbers: row; n, i: integer;
+
+procedure worker(count: integer; tasks, answers: chan);
+var i, x: integer;
+begin
+  for i := 1 to count do
+    begin
+      receive(tasks, x);
+      send(answers, x * x)
+    end
+end;
+
+procedure deal(count: integer; numbers: row; tasks: chan);
+var i: integer;
+begin
+  for i := 1 to count do send(tasks, numbers[i])
+end;
+
+procedure collect(count: integer; answers: chan);
+var i, x: integer;
+begin
+  for i := 1 to count do
+    begin
+      receive(answers, x);
+      write(x: 6)
+    end;
+  writeln
+end;
+
+begin
+  read(n);
+  for i := 1 to n do read(numbers[i]);
+  open(tasks, answers);
+  parallel
+    worker(n, tasks, answers)
+  |
+    collect(n, answers);
+    deal(n, numbers, tasks)
+  end
+end.

@@ -1,0 +1,46 @@
+{ A token goes round a ring, and everybody ends.
+  Here all nodes are alike and wait for the token, and nobody has it. Let node 1 make
+  it, and write it at the end of each round. }
+program token(input, output);
+const n = 4;
+type
+  chan = *(integer);
+  net = array [1..n] of chan;
+  row = array [1..n] of integer;
+var links: net; numbers: row; rounds, i: integer;
+
+procedure first(mine, rounds: integer; left, right: chan);
+var round, token: integer;
+begin
+  for round := 1 to rounds do
+    begin
+      receive(left, token);
+      send(right, token + mine);
+      writeln('round', round: 3, ':', token: 6)
+    end
+end;
+
+procedure node(mine, rounds: integer; left, right: chan);
+var round, token: integer;
+begin
+  for round := 1 to rounds do
+    begin
+      receive(left, token);
+      send(right, token + mine)
+    end
+end;
+
+begin
+  read(rounds);
+  for i := 1 to n do
+    begin
+      read(numbers[i]);
+      open(links[i])
+    end;
+  parallel
+    first(numbers[1], rounds, links[1], links[2])
+  |
+    forall k := 2 to n do
+      node(numbers[k], rounds, links[k], links[k mod n + 1])
+  end
+end.

@@ -1,0 +1,44 @@
+{ Mistake: a runner gives the baton away before it writes. The next one may write at the same
+  time (fault F6, or a race). }
+program relay(input, output);
+const n = 4;
+type
+  chan = *(integer);
+  net = array [1..n] of chan;
+  row = array [1..n] of integer;
+var log: chan; batons: net; laps: row; i: integer;
+
+procedure runner(k, laps: integer);
+var i, baton: integer;
+begin
+  if k > 1 then receive(batons[k], baton);
+  if k < n then send(batons[k mod n + 1], 0);
+  for i := 1 to laps do send(log, 10 * k + i);
+  if k = n then send(log, 0)
+end;
+
+procedure writer;
+var x: integer;
+begin
+  receive(log, x);
+  while x <> 0 do
+    begin
+      write(x: 4);
+      receive(log, x)
+    end;
+  writeln
+end;
+
+begin
+  open(log);
+  for i := 1 to n do
+    begin
+      read(laps[i]);
+      open(batons[i])
+    end;
+  parallel
+    writer
+  |
+    forall k := 1 to n do runner(k, laps[k])
+  end
+end.
