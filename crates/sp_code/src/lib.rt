@@ -37,10 +37,12 @@
 //!   above.
 //! - `call BLOCK` names a layout by its block and not by its place in the list, since code that was not generated may
 //!   have layouts in any order.
-//! - `index` and `field` are stuck where no cell of the variable is behind the address that they select. So an address
-//!   never leaves its variable, also one that is not used.
+//! - `index` and `field` ask for no cell behind the address that they select, only for an offset below 2^32: what uses
+//!   the address asks for the cells.
 //! - A value parameter takes exactly the cells of its type, tested when the block is called.
-//! - `write char` writes the number modulo 256. Code that no tree stands behind may write any ordinal as a char.
+//! - `write char` writes the number modulo 256, 0 to 255 also of a negative one. Code that no tree stands behind may
+//!   write any ordinal as a char.
+//! - `and`, `or`, `not`, `jumpf`, `assume` and `write bool` take each number above 0 as true.
 //! - `forall` counts at most 2^64 - 1 children, since `const` may push -2^63.
 //! - Where the first frame is too large, F12 is the root's turn before its first instruction: nothing in the table of
 //!   instructions can say it.

@@ -1,7 +1,7 @@
 -- What is written: each item is a stretch of the code.
 use Rattle.std.proofs.Common.{◌≡◌, ℕ, ◌+◌, ℤ, List, [], ◌∷◌, Option, Some, None, Bool, true, false, if◌then◌else◌, take}
 use Rattle.std.proofs.Common.{refl, ap, ◌∙◌}
-use Rattle.std.specs.Prelude.{pos, nat_abs, int_le, slice_get, ◌%◌}
+use Rattle.std.specs.Prelude.{pos, nat_abs, int_le, slice_get}
 use Rattle.std.specs.Fmt.{signed_decimal}
 use Rattle.sp_base.specs.declared.fault.Fault.TheVariants as fault
 use Rattle.sp_tree.specs.declared.checked.KindOf.{KindOf}
@@ -10,7 +10,7 @@ use Rattle.sp_tree.specs.Plain.{Expr, Number, Program, WriteText}
 use Rattle.sp_tree.specs.Uses.{In_width}
 use Rattle.sp_meaning.specs.Model.{Channel}
 use Rattle.sp_meaning.specs.LocalWork.{Output, LocalState, Item, bind, give, fail, who}
-use Rattle.sp_meaning.specs.Texts.{right_justified, truth_text}
+use Rattle.sp_meaning.specs.Texts.{right_justified, truth_text, byte}
 use Rattle.sp_meaning.specs.Eval.{Calls, kind_at, ordinal_of}
 use Rattle.sp_meaning.specs.Actions.{Stepped, in_width, ordinal_text, write, width}
 use Rattle.sp_meaning.specs.Run.{Store}
@@ -120,7 +120,7 @@ module _ {M : Type 0} (ex : Execution M) where
       plain_makes Q fs (q + 1) (truth_text v) stack todo (m.At q (m.Number v ∷ stack) n) o s n t (fs, o, t) ro
       (at_one ex q (m.Number v ∷ stack) n e) k
   item_plain Q kind.Char v fs q stack todo o s n t ro e h k =
-      plain_makes Q fs (q + 1) (nat_abs v % 256 ∷ []) stack todo (m.At q (m.Number v ∷ stack) n) o s n t (fs, o, t) ro
+      plain_makes Q fs (q + 1) (byte v ∷ []) stack todo (m.At q (m.Number v ∷ stack) n) o s n t (fs, o, t) ro
       (at_one ex q (m.Number v ∷ stack) n e) k
   item_plain Q (kind.Enumeration x) v fs q stack todo o s n t ro e h k = absurd h
   item_plain Q (kind.Array a b c d) v fs q stack todo o s n t ro e h k = absurd h
@@ -141,7 +141,7 @@ module _ {M : Type 0} (ex : Execution M) where
       wide_makes Q fs (q + 1) true (truth_text v) mm stack todo (m.At q (m.Number mm ∷ m.Number v ∷ stack) n) o s n t
       (fs, o, t) ro (at_one ex q _ n e) k
   item_wide Q kind.Char v mm fs q stack todo o s n t ro e h k =
-      wide_makes Q fs (q + 1) false (nat_abs v % 256 ∷ []) mm stack todo (m.At q (m.Number mm ∷ m.Number v ∷ stack) n) o
+      wide_makes Q fs (q + 1) false (byte v ∷ []) mm stack todo (m.At q (m.Number mm ∷ m.Number v ∷ stack) n) o
       s n t (fs, o, t) ro (at_one ex q _ n e) k
   item_wide Q (kind.Enumeration x) v mm fs q stack todo o s n t ro e h k = absurd h
   item_wide Q (kind.Array a b c d) v mm fs q stack todo o s n t ro e h k = absurd h

@@ -84,8 +84,8 @@ module _ (c : Parts) where
 -- ---- of code
 
 module _ (c : Parts) where
-  -- what the instruction at p does to variables. Selecting within a variable counts as loading it: the machine asks for
-  -- a cell there
+  -- what the instruction at p does to variables. Selecting within a variable counts as loading it, though the machine
+  -- asks for no cell there: what uses the address does
   abbrev pub does_at : Kind → Area → ℕ → List Shape → List ℕ
   does_at Stored a p ss = stored_by c a (instr_at c p) ss
   does_at Loaded a p ss = loaded_by c a (instr_at c p) ss

@@ -1,12 +1,12 @@
 -- All of this belongs to what the program promises (docs/promise.txt).
 -- Numbers read from the input, and items as they are written. The meaning and the machine's definition share it, so
 -- that both read and write the same bytes; `sp_values` promises it.
-use Rattle.std.specs.Prelude.{ℕ, suc, ◌+◌, ◌-◌, ◌*◌, ◌%◌, ◌==◌, nat_abs, ℤ, pos, neg_ℤ, List, [], ◌∷◌, ◌++◌, Bool, true}
+use Rattle.std.specs.Prelude.{ℕ, suc, ◌+◌, ◌-◌, ◌*◌, ◌==◌, nat_abs, ℤ, pos, neg_ℤ, List, [], ◌∷◌, ◌++◌, Bool, true}
 use Rattle.std.specs.Prelude.{false, ◌||◌, if◌then◌else◌, int_le, length, take, drop, replicate, codes}
 use Rattle.sp_base.specs.declared.fault.Fault.{Fault}
 use Rattle.sp_base.specs.declared.fault.Fault.TheVariants as fault
 pub use Rattle.sp_tree.specs.Characters.{is_blank, is_digit}
-use Rattle.sp_tree.specs.Operators.{is_integer}
+use Rattle.sp_tree.specs.Operators.{is_integer, modulo}
 
 -- how many blanks stand first
 abbrev pub blanks : List ℕ → ℕ
@@ -80,6 +80,7 @@ right_justified m t = replicate (m - length t) 32 ++ t
 abbrev pub truth_text : ℤ → List ℕ
 truth_text n = if int_le n (pos 0) then codes "false" else codes "true"
 
--- the byte of a char, which is its ordinal modulo 256: only code from a file can have a greater one
+-- the byte of a char, which is its ordinal modulo 256, as `mod` has it: that of -1 is 255. Only code from a file can
+-- have an ordinal below 0 or above 255 there
 abbrev pub byte : ℤ → ℕ
-byte n = nat_abs n % 256
+byte n = nat_abs (modulo n (pos 256))

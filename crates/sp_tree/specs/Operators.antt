@@ -3,7 +3,7 @@
 -- them, and `sp_values` promises them, so that no operator is said twice. `succ` tests the greatest number of its
 -- type alone and `pred` the least, since a value in range is what either is given.
 use Rattle.std.specs.Prelude.{ℤ, pos, ◌+ℤ◌, ◌-ℤ◌, ◌*ℤ◌, neg_ℤ, nat_abs, int_lt, int_le, int_div, int_rem, Bool, ◌&&◌}
-use Rattle.std.specs.Prelude.{not, if◌then◌else◌}
+use Rattle.std.specs.Prelude.{◌||◌, not, if◌then◌else◌}
 use Rattle.sp_base.specs.declared.fault.Fault.{Fault}
 use Rattle.sp_base.specs.declared.fault.Fault.TheVariants as fault
 use Rattle.sp_base.specs.declared.limits.TheConstants.{MAXINT}
@@ -26,6 +26,10 @@ is_integer n = int_le (neg_ℤ MAXINT) n && int_le n MAXINT
 -- an integer that stays in their range, or F2
 abbrev pub integer : ℤ → OperatorResult
 integer n = if is_integer n then Yields n else OperatorFault fault.F2
+
+-- what a condition takes as true: in code of a tree 1, and in code from a file any number above 0
+abbrev pub is_true : ℤ → Bool
+is_true n = not (int_le n (pos 0))
 
 -- false is 0, and true is 1
 abbrev pub truth : Bool → OperatorResult
@@ -84,11 +88,11 @@ binary_op binary.Gt m n = truth (int_lt n m)
 binary_op binary.Ge m n = truth (int_le n m)
 binary_op binary.Add m n = integer (m +ℤ n)
 binary_op binary.Sub m n = integer (m -ℤ n)
-binary_op binary.Or m n = truth (not (int_le (m +ℤ n) (pos 0)))
+binary_op binary.Or m n = truth (is_true m || is_true n)
 binary_op binary.Mul m n = integer (m *ℤ n)
 binary_op binary.Div m n = if same_ordinal n (pos 0) then OperatorFault fault.F3 else integer (int_div m n)
 binary_op binary.Mod m n = if int_le n (pos 0) then OperatorFault fault.F3 else integer (modulo m n)
-binary_op binary.And m n = truth (int_le (pos 2) (m +ℤ n))
+binary_op binary.And m n = truth (is_true m && is_true n)
 
 -- an ordinal type's least and greatest number
 abbrev pub least_ordinal : KindOf → ℤ

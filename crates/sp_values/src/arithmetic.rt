@@ -153,10 +153,10 @@ pub fn binary(op: BinaryOp, m: i64, n: i64) -> Result<i64, Fault>
         BinaryOp::Ge => Ok(truth_of(n <= m)),
         BinaryOp::Add => in_range(m as i128 + n as i128),
         BinaryOp::Sub => in_range(m as i128 - n as i128),
-        BinaryOp::Or => Ok(truth_of(m as i128 + n as i128 > 0)),
+        BinaryOp::Or => Ok(truth_of(m > 0 || n > 0)),
         BinaryOp::Mul => product(m, n),
         BinaryOp::Div => quotient(m, n),
         BinaryOp::Mod => modulus(m, n),
-        BinaryOp::And => Ok(truth_of(m as i128 + n as i128 >= 2)),
+        BinaryOp::And => Ok(truth_of(m > 0 && n > 0)),
     }
 }

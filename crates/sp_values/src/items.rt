@@ -164,11 +164,16 @@ pub fn truth_text(n: i64) -> &'static [u8]
     if n <= 0 { b"false" } else { b"true" }
 }
 
-/// The byte of a char: its ordinal modulo 256.
+/// The byte of a char: its ordinal modulo 256, 255 for -1.
 pub fn byte_of(n: i64) -> u8
     ensures { result ≡ byte n }
 {
-    (n.unsigned_abs() % 256) as u8
+    let rest = n % 256;
+    if rest < 0 {
+        (rest + 256) as u8
+    } else {
+        rest as u8
+    }
 }
 
 /// The text as far as a width goes, where the width cuts it.

@@ -16,8 +16,8 @@
 //! - `char_in`: the next byte, a space for a line feed, and that one byte was taken; F18 where nothing is left.
 //! - `line_length`, `is_at_line_end`: how many bytes the line has yet, with its line feed; whether nothing is left of
 //!   it.
-//! - `truth_text`: `false` for a number that is not above 0, else `true`. `byte_of`: the absolute value of the ordinal
-//!   modulo 256.
+//! - `truth_text`: `false` for a number that is not above 0, else `true`. `byte_of`: the ordinal modulo 256, 0 to 255
+//!   also of a negative one.
 //! - `cut_to`: the text as far as the width goes, where it is to be cut, else all of it.
 //! - `ReadResult`: what reading gives, a value and how many bytes it took, or a fault.
 //!
