@@ -3,7 +3,7 @@
 use crate::verified::{File, Says, expect};
 use sp_codefile::VRule;
 
-const FILES: [File; 8] = [
+const FILES: [File; 9] = [
     // variables are named as they may
     File {
         lines: "layout 0 0 - none sizes 1 variables 2 formals\n0 ~\n1 const 6\n2 store\n3 end\n",
@@ -59,6 +59,17 @@ const FILES: [File; 8] = [
             ("-", Says::Broken(VRule::V1, 1)),
             ("1", Says::Broken(VRule::V1, 1)),
             ("7", Says::Broken(VRule::V1, 1)),
+        ],
+    },
+    // the program is outermost, whatever parent it has
+    File {
+        lines: "layout 0 3 ~ none sizes 1 variables 2 formals\n\
+        layout 1 0 0 none sizes variables formals\n\
+        0 addr 1 2\n1 load\n2 return\n3 end\n",
+        rows: &[
+            ("-", Says::Broken(VRule::V2, 2)),
+            ("1", Says::Broken(VRule::V1, 3)),
+            ("7", Says::Broken(VRule::V1, 3)),
         ],
     },
     // blocks have one layout

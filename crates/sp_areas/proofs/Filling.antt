@@ -1,17 +1,17 @@
 -- Nodes for all layouts: those that are led to the program have theirs, and each other one gets one that stands for it
 -- alone.
 use Rattle.std.proofs.Common.{◌≡◌, ◌≢◌, ⊎_elim, refl, ap, sym, ◌∙◌, subst, ℕ, ◌+◌, ◌<◌, if◌then◌else◌, List}
-use Rattle.std.proofs.Common.{[], ◌∷◌, length, replicate, Option, Some, None, Bool, true, false, ◌&&◌, arith}
+use Rattle.std.proofs.Common.{[], ◌∷◌, length, Option, Some, None, Bool, true, false, arith}
 use Rattle.std.specs.Prelude.{slice_get}
 use Rattle.std.proofs.lemmas.List.{length-set}
 use Rattle.std.proofs.lemmas.Option.{slice_get_within, none-some, same_Some}
-use Rattle.std.proofs.lemmas.Bool.{and_from, and_parts, cases_eq}
+use Rattle.std.proofs.lemmas.Bool.{cases_eq}
 use Rattle.sp_base.proofs.Facts.{below_or_last}
 use Rattle.sp_code.specs.declared.code.Layout.{Layout}
 use Rattle.sp_code.specs.declared.code.Parts.{Parts}
 use Rattle.sp_code.specs.Machine.{layout_of}
 use Rattle.sp_code.specs.Memory.{Home, OfBlock}
-use Rattle.sp_rules.specs.Areas.{is_root, is_led, leads_by, homes_by, single_home, block_homes}
+use Rattle.sp_rules.specs.Areas.{is_led, leads_by, homes_by, single_home, block_homes}
 use Rattle.sp_areas.specs.declared.tree.Frame.TheVariants as frame
 use Rattle.sp_areas.specs.declared.tree.Grown.{Grown}
 use Rattle.sp_areas.specs.Around.{AreFilled}
@@ -20,7 +20,7 @@ use Rattle.sp_areas.specs.Grown.{node_at, GetsNode, AreAllLed}
 use Rattle.sp_areas.specs.Tree.{with_list}
 use Rattle.sp_areas.proofs.BlockLaws.{place_some}
 use Rattle.sp_areas.proofs.Growing.{at_last, before_last}
-use Rattle.sp_areas.proofs.Leading.{node_new, node_old, none_led}
+use Rattle.sp_areas.proofs.Leading.{node_new, node_old}
 
 module _ (c : Parts) where
   led_homes : (b : ℕ) → is_led c b ≡ true
@@ -34,8 +34,8 @@ module _ (c : Parts) where
       single_home
       (layout_of c.layouts b)) e
 
-  pub filled_led : (g : Grown) → is_root (layout_of c.layouts 0) ≡ true → AreAllLed c.layouts g → AreFilled c 0 g
-  filled_led g root are = record {
+  pub filled_led : (g : Grown) → AreAllLed c.layouts g → AreFilled c 0 g
+  filled_led g are = record {
     lists = are.led.lists;
     tree = are.led.tree;
     long = are.led.long;
@@ -52,34 +52,16 @@ module _ (c : Parts) where
           let count = are.led.count in
           let fuel = led.1 (length c.layouts) (omega (arith, a, count)) in (
             a,
-            λ f. fuel.1 root f ∙ ap (homes_by (length c.layouts) c.layouts) (sym f)
-                ∙ sym (led_homes l.block (and_from (is_root (layout_of c.layouts 0))
-                (leads_by (length c.layouts) c.layouts (layout_of c.layouts l.block)) root
-                (ap (leads_by (length c.layouts) c.layouts) f ∙ fuel.0))),
+            λ f. fuel.1 ∙ ap (homes_by (length c.layouts) c.layouts) (sym f)
+                ∙ sym (led_homes l.block (ap (leads_by (length c.layouts) c.layouts) f ∙ fuel.0)),
           )
 
       lonely : (j : ℕ) (l : Layout) → node_at g.of j ≡ None → slice_get c.layouts j ≡ Some l
           → layout_of c.layouts l.block ≡ Some l → (t : Bool) → is_led c l.block ≡ t → is_led c l.block ≡ false
       lonely j l n e f false s = s
       lonely j l n e f true s =
-          let b = and_parts (is_root (layout_of c.layouts 0))
-          (leads_by (length c.layouts) c.layouts (layout_of c.layouts l.block)) s in
-          let has = are.all j (length c.layouts) l e (ap (leads_by (length c.layouts) c.layouts) (sym f) ∙ b.1) in
+          let has = are.all j (length c.layouts) l e (ap (leads_by (length c.layouts) c.layouts) (sym f) ∙ s) in
           absurd (none-some has.0 (sym n ∙ has.1))
-
-  pub filled_none : (g : Grown) → is_root (layout_of c.layouts 0) ≡ false → g.nodes ≡ []
-      → g.of ≡ replicate (length c.layouts) None → AreFilled c 0 g
-  filled_none g root en eo =
-      let are = none_led c.layouts g en eo in
-      record {
-        lists = are.lists;
-        tree = are.tree;
-        long = are.long;
-        each = λ j k l n e. (let z = (are.each j k l n e).0 in let y = ap length en in absurd (omega (arith, z, y)));
-        alone = λ j l n e f. ap (λ (t : Bool). t
-            && leads_by (length c.layouts) c.layouts (layout_of c.layouts l.block)) root;
-        full = λ j h. absurd (omega (arith, h));
-      }
 
   fuller : (n : ℕ) (os : List (Option ℕ)) → ((j : ℕ) → j < n → (k : ℕ) × (node_at os j ≡ Some k)) → (k : ℕ)
       × (node_at os n ≡ Some k) → (j : ℕ) → j < n + 1 → (k : ℕ) × (node_at os j ≡ Some k)

@@ -13,7 +13,7 @@ use Rattle.sp_base.proofs.Facts.{get_beside_set, get_where_set, item_is_not_none
 use Rattle.sp_code.specs.declared.code.Layout.{Layout}
 use Rattle.sp_code.specs.Machine.{layout_of}
 use Rattle.sp_code.specs.Memory.{Home, OfBlock}
-use Rattle.sp_rules.specs.Areas.{on_option, parent_of, is_root, leads_by, homes_by}
+use Rattle.sp_rules.specs.Areas.{on_option, parent_of, leads_by, homes_by}
 use Rattle.sp_rules.specs.Named as named
 use Rattle.sp_rules.proofs.Scoping.{none_homes}
 use Rattle.sp_areas.specs.declared.tree.Frame.TheVariants as frame
@@ -113,30 +113,20 @@ is_inside ls os l o e = go (l.block == 0) refl e
     go true z e = AsRoot z (sym (same_Some None o e))
     go false z e = at z (parent_node ls os l) refl e
 
-no_parent : (l : Layout) → is_root (Some l) ≡ true → l.parent ≡ None
-no_parent l e = go l.parent refl e
-  where
-    go : (o : Option ℕ) → l.parent ≡ o → on_option true o (λ b. false) ≡ true → l.parent ≡ None
-    go None s e = s
-    go (Some b) s e = absurd (cc e)
-
 module _ (ls : List Layout) (os : List (Option ℕ)) (lists : ℕ → List Home) (size : ℕ) (l : Layout) (o : Option ℕ) where
   -- the new node's layout is led
   led_new : ((j n : ℕ) (m : Layout) → node_at os j ≡ Some n → slice_get ls j ≡ Some m → (n < size) × IsLed ls lists m n)
       → IsInside ls os l o
       → (new : List Home) → new ≡ OfBlock l.block ∷ around_list lists o → (k : ℕ) → size < k
       → (leads_by k ls (Some l) ≡ true)
-      × (is_root (layout_of ls 0) ≡ true → layout_of ls l.block ≡ Some l → new ≡ homes_by k ls (Some l))
+      × (new ≡ homes_by k ls (Some l))
   led_new each i new en zero h = absurd (omega (arith, h))
-  led_new each (AsRoot z e) new en (suc k) h =
-      (ap (λ (t : Bool). if t then true else leads_by k ls (parent_of ls l.parent)) z, homes)
-    where
-      homes : is_root (layout_of ls 0) ≡ true → layout_of ls l.block ≡ Some l → new ≡ homes_by (suc k) ls (Some l)
-      homes r f =
-          let none = no_parent l (sym (ap is_root (ap (layout_of ls) (sym (eqb-true l.block 0 z)) ∙ f)) ∙ r) in
-          en ∙ ap (λ u. OfBlock l.block ∷ around_list lists u) e
-          ∙ sym (ap (λ (hs : List Home). OfBlock l.block ∷ hs) (ap (λ u. homes_by k ls (parent_of ls u)) none
-          ∙ none_homes k ls))
+  led_new each (AsRoot z e) new en (suc k) h = (
+    ap (λ (t : Bool). if t then true else leads_by k ls (parent_of ls l.parent)) z,
+    en ∙ ap (λ u. OfBlock l.block ∷ around_list lists u) e
+        ∙ sym (ap (λ (hs : List Home). OfBlock l.block ∷ hs)
+        (ap (λ (t : Bool). homes_by k ls (if t then None else parent_of ls l.parent)) z ∙ none_homes k ls)),
+  )
   led_new each (InParent z n e p) new en (suc k) h = (
     ap (λ (t : Bool). if t then true else leads_by k ls (parent_of ls l.parent)) z ∙ ap (leads_by k ls) up
         ∙ before.0,
@@ -152,17 +142,14 @@ module _ (ls : List Layout) (os : List (Option ℕ)) (lists : ℕ → List Home)
       below : n < k
       below = let a = led.0 in omega (arith, a, h)
 
-      before : (leads_by k ls (Some p.layout) ≡ true)
-          × (is_root (layout_of ls 0) ≡ true → layout_of ls p.layout.block ≡ Some p.layout
-          → lists n ≡ homes_by k ls (Some p.layout))
+      before : (leads_by k ls (Some p.layout) ≡ true) × (lists n ≡ homes_by k ls (Some p.layout))
       before = led.1 k below
 
-      homes : is_root (layout_of ls 0) ≡ true → layout_of ls l.block ≡ Some l → new ≡ homes_by (suc k) ls (Some l)
-      homes r f =
+      homes : new ≡ homes_by (suc k) ls (Some l)
+      homes =
           en ∙ ap (λ u. OfBlock l.block ∷ around_list lists u) e
-          ∙ ap (λ (hs : List Home). OfBlock l.block ∷ hs)
-          (before.1 r (ap (layout_of ls) (layout_block ls p.block p.layout p.first) ∙ p.first)
-          ∙ ap (homes_by k ls) (sym up))
+          ∙ ap (λ (hs : List Home). OfBlock l.block ∷ hs) (before.1 ∙ ap (homes_by k ls) (sym up)
+          ∙ sym (ap (λ (t : Bool). homes_by k ls (if t then None else parent_of ls l.parent)) z))
 
   is_around : ((j n : ℕ) (m : Layout) → node_at os j ≡ Some n → slice_get ls j ≡ Some m → (n < size)
       × IsLed ls lists m n) → IsInside ls os l o → IsAround size o
@@ -260,7 +247,7 @@ module _ (ls : List Layout) where
               let a = was.0 in (
                 omega (arith, a, more),
                 λ k b. let led = was.1 k b in
-                    (led.0, λ r f. before_last are.lists size new_list m a ∙ led.1 r f),
+                    (led.0, before_last are.lists size new_list m a ∙ led.1),
               )
 
   pub led_step : (old new : Grown) (j place : ℕ) (l : Layout) (o : Option ℕ) → AreLed ls old → slice_get ls j ≡ Some l

@@ -3,9 +3,8 @@
 use Rattle.std.specs.Prelude.{◌≡◌, ℕ, ◌+◌, ◌<◌, ◌==◌, if◌then◌else◌, List, ◌∷◌, Option, Some, None, Bool}
 use Rattle.std.specs.Prelude.{true, false, slice_get, slice_set, length, sum_by}
 use Rattle.sp_code.specs.declared.code.Layout.{Layout}
-use Rattle.sp_code.specs.Machine.{layout_of}
 use Rattle.sp_code.specs.Memory.{Home}
-use Rattle.sp_rules.specs.Areas.{on_option, is_root, leads_by, homes_by}
+use Rattle.sp_rules.specs.Areas.{on_option, leads_by, homes_by}
 use Rattle.sp_areas.specs.declared.tree.Frame.{Frame}
 use Rattle.sp_areas.specs.declared.tree.Grown.{Grown}
 use Rattle.sp_areas.specs.declared.tree.Node.{Node}
@@ -53,7 +52,7 @@ EachItem P n g = (j : ℕ) → j < n → P j g
 -- many
 abbrev pub IsLed : List Layout → (ℕ → List Home) → Layout → ℕ → Type 0
 IsLed ls lists l n = (k : ℕ) → n < k → (leads_by k ls (Some l) ≡ true)
-    × (is_root (layout_of ls 0) ≡ true → layout_of ls l.block ≡ Some l → lists n ≡ homes_by k ls (Some l))
+    × (lists n ≡ homes_by k ls (Some l))
 
 -- layouts that have a node are led, and no fewer nodes are left than layouts
 pub record AreLed (ls : List Layout) (g : Grown) : Type 0 where

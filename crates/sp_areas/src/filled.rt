@@ -1,15 +1,12 @@
 //! All blocks as nodes of a tree: each inside its parent, or alone where it is not led to the program.
 
-ghost use Rattle.std.specs.Prelude.{◌≡◌, ◌+◌, ◌<◌, Some, IfOk, OnOk, length};
-ghost use Rattle.sp_code.specs.Machine.{layout_of};
-ghost use Rattle.sp_rules.specs.Areas.{is_root};
+ghost use Rattle.std.specs.Prelude.{◌+◌, ◌<◌, Some, IfOk, OnOk, length};
 ghost use Rattle.sp_areas.specs.Around.{AreFilled};
 ghost use Rattle.sp_areas.specs.Blocks.{IsNumbered};
 ghost use Rattle.sp_areas.specs.Grown.{AreAllLed};
 
 use crate::blocks::Blocks;
 use crate::have;
-use crate::led::nothing;
 use crate::tree::{Frame, Grown, give_node, node_at};
 use sp_base::Memory;
 use sp_code::Code;
@@ -48,37 +45,14 @@ fn fill(code: &Code, blocks: &Blocks, grown: &mut Grown) -> Result<(), Memory>
     Ok(())
 }
 
-// Whether the program is there and has no parent.
-fn is_root(code: &Code, blocks: &Blocks) -> bool
-    requires { IsNumbered blocks.now.first code.now.layouts }
-    ensures { result ≡ is_root (layout_of code.now.layouts 0) }
-{
-    match blocks.find(&code.parts().layouts, 0) {
-        None => false,
-        Some(l) => l.parent.is_none(),
-    }
-}
-
-// What is led to the program, if there is one.
-fn begun(code: &Code, blocks: &Blocks, led: Grown) -> Result<Grown, Memory>
-    requires blocks { IsNumbered blocks.now.first code.now.layouts }
-    requires led { AreAllLed code.now.layouts led }
-    ensures { IfOk result (λ grown. AreFilled code.now 0 grown) }
-{
-    if is_root(code, blocks) {
-        Ok(led)
-    } else {
-        nothing(code, code.parts().layouts.len())
-    }
-}
-
 /// Nodes for all layouts, with those that are led to the program. The only other answer is want of memory.
+#[tactic(auto, using(crate::proofs::Filling::filled_led))]
 pub(crate) fn filled(code: &Code, blocks: &Blocks, led: Grown) -> Result<Grown, Memory>
     requires blocks { IsNumbered blocks.now.first code.now.layouts }
     requires led { AreAllLed code.now.layouts led }
     ensures { IfOk result (λ grown. AreFilled code.now (length code.now.layouts) grown) }
 {
-    let mut grown = have!(begun(code, blocks, led));
+    let mut grown = led;
     have!(fill(code, blocks, &mut grown));
     Ok(grown)
 }

@@ -123,8 +123,8 @@ fn parents(code: &Code, blocks: &Blocks) -> Result<List<Option<usize>>, Memory> 
     Ok(up)
 }
 
-/// A tree with no node, for so many items.
-pub(crate) fn nothing(code: &Code, count: usize) -> Result<Grown, Memory>
+// A tree with no node, for so many items.
+fn nothing(code: &Code, count: usize) -> Result<Grown, Memory>
     ensures { IfOk result (λ grown. (grown.nodes ≡ []) × (grown.of ≡ replicate count None)) }
 {
     let alloc = code.parts().instrs.alloc();

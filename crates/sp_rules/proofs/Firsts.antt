@@ -1,6 +1,6 @@
 -- A process begins where it stands: the first one, and each child of a fork.
 use Rattle.std.proofs.Common.{◌≡◌, inl, inr, ℕ, zero, suc, ◌<◌, ◌==◌, List, [], ◌∷◌, length, Option, Some, None, true}
-use Rattle.std.proofs.Common.{refl, sym, ap, ◌∙◌, subst, arith}
+use Rattle.std.proofs.Common.{refl, sym, ap, ◌∙◌, subst, arith, Bool, if◌then◌else◌}
 use Rattle.std.specs.Prelude.{slice_get}
 use Rattle.std.proofs.lemmas.Option.{slice_get-get_or, same_Some}
 use Rattle.std.proofs.lemmas.Bool.{eq-eqb}
@@ -14,6 +14,7 @@ use Rattle.sp_code.specs.Tables.{child_at as table_child, index_of, child_by}
 use Rattle.sp_code.specs.Memory.{OfBlock, CodeRun, Stores, Frame, last_frames, first_process, entry_of}
 use Rattle.sp_code.specs.System.{with_index_frame, child_or, table_or}
 use Rattle.sp_rules.specs.Areas.{Area, Body, Child, homes, entry_of_layout, homes_by, with_home, parent_of, child_at}
+use Rattle.sp_rules.specs.Areas.{around_layout}
 use Rattle.sp_rules.specs.Areas.{child_of, table_at, table_named, index_of_child, entry_of_child, leads_by}
 use Rattle.sp_rules.specs.Reach.{IsArea, IsInCodeOf}
 use Rattle.sp_rules.specs.Standing.{Framed, RefersWell, StandsAt, ProcessStands, ForksAt}
@@ -48,9 +49,10 @@ module _ (c : Parts) (k : KeepsCodeRules c) where
           → Framed c.layouts (homes_by n c.layouts (layout_of c.layouts 0)) (root_frame ∷ [])
       go zero h = absurd (cc h)
       go (suc n) h =
-          let p : parent_of c.layouts l.parent ≡ None = ap (parent_of c.layouts) (programs c k 0 l e zero_block).0 in
+          let p : around_layout c.layouts l ≡ None = ap (λ (t : Bool). if t then None else parent_of c.layouts l.parent)
+          zero_block in
           subst (λ hs. Framed c.layouts hs (root_frame ∷ [])) (sym (ap (λ o. homes_by (suc n) c.layouts o) e
-          ∙ (ap (λ b. OfBlock b ∷ homes_by n c.layouts (parent_of c.layouts l.parent))
+          ∙ (ap (λ b. OfBlock b ∷ homes_by n c.layouts (around_layout c.layouts l))
           (found_layout c.layouts 0 l e).0
           ∙ (ap (λ o. OfBlock 0 ∷ homes_by n c.layouts o) p ∙ ap (λ hs. OfBlock 0 ∷ hs) (none_homes n c.layouts)))))
           (refl, omega arith, refers, tt)

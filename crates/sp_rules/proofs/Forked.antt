@@ -11,7 +11,7 @@ use Rattle.sp_cell.specs.declared.cell.Cell.TheVariants as cell
 use Rattle.sp_cell.specs.declared.spot.Spot.{Spot}
 use Rattle.sp_cell.specs.declared.spot.Handing.{Handing}
 use Rattle.sp_cell.specs.Fork.{with_shared, with_away, with_index, index_frame, child_map, moved_of, shared_of}
-use Rattle.sp_cell.specs.Frame.{frames, HasNextFrame}
+use Rattle.sp_cell.specs.Frame.{HasNextFrame}
 use Rattle.sp_cell.proofs.FrameLaws.{known_below}
 use Rattle.sp_cell.proofs.Laws.{known_of_held, known_of_piece, get_here, get_other, same_or, own_away, held_not_away}
 use Rattle.sp_cell.specs.Map.{Map, Content, Own, Shared, Output, Away, Plain, IsHeld, IsPiece, IsOutput, output_spot}

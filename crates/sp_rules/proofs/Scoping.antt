@@ -26,7 +26,7 @@ use Rattle.sp_rules.specs.Areas.{Area, Body, Child, VariableInfo, Naming, Plainl
 use Rattle.sp_rules.specs.Areas.{console}
 use Rattle.sp_rules.specs.Areas.{found_by, found_in, found_of, found_at, parent_of, homes_by, with_home, block_homes}
 use Rattle.sp_rules.specs.Areas.{homes, variable_at, instr_at, child_at, child_of, table_at, table_named}
-use Rattle.sp_rules.specs.Areas.{index_of_child, leads_by, is_root, single_home}
+use Rattle.sp_rules.specs.Areas.{index_of_child, leads_by, around_layout, single_home}
 use Rattle.sp_rules.specs.Reach.{IsArea}
 use Rattle.sp_rules.specs.Extents.{size_of, size_at, size_behind, extent_by, extent_at, extent_of_layout, extent_in}
 use Rattle.sp_rules.specs.Extents.{or_further}
@@ -118,21 +118,36 @@ module _ (c : Parts) (k : KeepsCodeRules c) where
   found_at_number : (b : ℕ) → IsFoundLayout (layout_of c.layouts b)
   found_at_number b l e = (b, e)
 
+  -- what is around a block, its parent says
+  around_is : (l : Layout) → IsFoundLayout (Some l) → around_layout c.layouts l ≡ parent_of c.layouts l.parent
+  around_is l f = go (l.block == 0) refl
+    where
+      go : (t : Bool) → (l.block == 0) ≡ t → (if t then None else parent_of c.layouts l.parent)
+          ≡ parent_of c.layouts l.parent
+      go true t = let w = f l refl in sym (ap (parent_of c.layouts) (programs w.0 l w.1 t).0)
+      go false t = refl
+
+  pub homes_more : (n : ℕ) (l : Layout) → IsFoundLayout (Some l)
+      → homes_by (suc n) c.layouts (Some l) ≡ OfBlock l.block ∷ homes_by n c.layouts (parent_of c.layouts l.parent)
+  homes_more n l f = ap (λ o. OfBlock l.block ∷ homes_by n c.layouts o) (around_is l f)
+
   -- more steps find no more blocks
   pub stable : (n m : ℕ) (o : Option Layout) → IsFoundLayout o → leads_by n c.layouts o ≡ true → n ≤ m
       → homes_by m c.layouts o ≡ homes_by n c.layouts o
   stable zero m o f e h = absurd (cc e)
   stable (suc n) zero o f e h = absurd (omega (arith, h))
   stable (suc n) (suc m) None f e h = refl
-  stable (suc n) (suc m) (Some l) f e h = go (l.block == 0) refl e
-      (stable n m (parent_of c.layouts l.parent) (found_parent l.parent))
+  stable (suc n) (suc m) (Some l) f e h = homes_more m l f
+      ∙ (go (l.block == 0) refl e (stable n m (parent_of c.layouts l.parent) (found_parent l.parent))
+      ∙ sym (homes_more n l f))
     where
       go : (t : Bool) → (l.block == 0) ≡ t
           → (if t then true else leads_by n c.layouts (parent_of c.layouts l.parent)) ≡ true
           → (leads_by n c.layouts (parent_of c.layouts l.parent) ≡ true → n ≤ m
           → homes_by m c.layouts (parent_of c.layouts l.parent) ≡ homes_by n c.layouts
           (parent_of c.layouts l.parent))
-          → homes_by (suc m) c.layouts (Some l) ≡ homes_by (suc n) c.layouts (Some l)
+          → OfBlock l.block ∷ homes_by m c.layouts (parent_of c.layouts l.parent) ≡ OfBlock l.block
+          ∷ homes_by n c.layouts (parent_of c.layouts l.parent)
       go true t e on =
           let w = f l refl in
           let p : parent_of c.layouts l.parent ≡ None = ap (parent_of c.layouts) (programs w.0 l w.1 t).0 in
@@ -166,6 +181,9 @@ module _ (c : Parts) (k : KeepsCodeRules c) where
   chain_drop (suc n) (Some l) (suc up) d f e s = go (l.block == 0) refl e
       (chain_drop n (parent_of c.layouts l.parent) up d (found_parent l.parent))
     where
+      s1 : slice_get (homes_by n c.layouts (parent_of c.layouts l.parent)) up ≡ Some (OfBlock d)
+      s1 = ap (λ hs. slice_get hs (suc up)) (sym (homes_more n l f)) ∙ s
+
       go : (t : Bool) → (l.block == 0) ≡ t
           → (if t then true else leads_by n c.layouts (parent_of c.layouts l.parent)) ≡ true
           → (leads_by n c.layouts (parent_of c.layouts l.parent) ≡ true
@@ -179,8 +197,9 @@ module _ (c : Parts) (k : KeepsCodeRules c) where
           let w = f l refl in
           let p : homes_by n c.layouts (parent_of c.layouts l.parent) ≡ [] = ap
           (λ o. homes_by n c.layouts (parent_of c.layouts o)) (programs w.0 l w.1 t).0 ∙ none_homes n c.layouts in
-          absurd (cc (subst (λ hs. slice_get hs up ≡ Some (OfBlock d)) p s))
-      go false t e on = let r = on e s in (r.0, r.1, omega (arith, r.2), r.3)
+          absurd (cc (subst (λ hs. slice_get hs up ≡ Some (OfBlock d)) p s1))
+      go false t e on = let r = on e s1 in
+          (r.0, r.1, omega (arith, r.2), ap (λ hs. drop (suc up) hs) (homes_more n l f) ∙ r.3)
 
   pub leads_of : (b : ℕ) (l : Layout) → layout_of c.layouts b ≡ Some l
       → leads_by (length c.layouts) c.layouts (layout_of c.layouts b) ≡ true
@@ -190,11 +209,6 @@ module _ (c : Parts) (k : KeepsCodeRules c) where
   pub homes_led : (b : ℕ) → block_homes c b ≡ homes_by (length c.layouts) c.layouts (layout_of c.layouts b)
   homes_led b = go (layout_of c.layouts b) refl
     where
-      root : is_root (layout_of c.layouts 0) ≡ true
-      root = let l = k.main in
-          ap is_root l.1 ∙ ap (λ o. on_option true o (λ b. false))
-          (programs 0 l.0 l.1 (eq-eqb l.0.block 0 (found_layout c.layouts 0 l.0 l.1).0)).0
-
       none : (t : Bool) (hs : List Home) → hs ≡ [] → (if t then hs else []) ≡ hs
       none true hs e = refl
       none false hs e = sym e
@@ -203,15 +217,12 @@ module _ (c : Parts) (k : KeepsCodeRules c) where
           → block_homes c b ≡ homes_by (length c.layouts) c.layouts (layout_of c.layouts b)
       go None e =
           let n = length c.layouts in
-          ap (λ o. if is_root (layout_of c.layouts 0)
-          && leads_by n c.layouts o then homes_by n c.layouts o else single_home o) e
-          ∙ (none (is_root (layout_of c.layouts 0)
-          && leads_by n c.layouts None) (homes_by n c.layouts None) (none_homes n c.layouts)
+          ap (λ o. if leads_by n c.layouts o then homes_by n c.layouts o else single_home o) e
+          ∙ (none (leads_by n c.layouts None) (homes_by n c.layouts None) (none_homes n c.layouts)
           ∙ ap (λ o. homes_by n c.layouts o) (sym e))
       go (Some l) e =
           let n = length c.layouts in let o = layout_of c.layouts b in
-          ap (λ t. if t && leads_by n c.layouts o then homes_by n c.layouts o else single_home o) root
-          ∙ ap (λ t. if t then homes_by n c.layouts o else single_home o) (leads_of b l e)
+          ap (λ t. if t then homes_by n c.layouts o else single_home o) (leads_of b l e)
 
   pub block_drop : (b : ℕ) (l : Layout) (up d : ℕ) → layout_of c.layouts b ≡ Some l
       → slice_get (block_homes c b) up ≡ Some (OfBlock d) → drop up (block_homes c b) ≡ block_homes c d
@@ -294,11 +305,11 @@ module _ (c : Parts) (k : KeepsCodeRules c) where
           let l3 : leads_by n c.layouts (layout_of c.layouts d) ≡ true = subst
           (λ o. leads_by n c.layouts (parent_of c.layouts o) ≡ true) pd l2 in
           homes_led b ∙ (ap (λ o. homes_by (length c.layouts) c.layouts o) e
-          ∙ (ap (λ n. homes_by n c.layouts (Some l)) s
+          ∙ (ap (λ n. homes_by n c.layouts (Some l)) s ∙ (homes_more n l (λ m q. (b, e ∙ q))
           ∙ (ap (λ z. OfBlock z ∷ homes_by n c.layouts (parent_of c.layouts l.parent)) named
           ∙ (ap (λ o. OfBlock b ∷ homes_by n c.layouts (parent_of c.layouts o)) pd
           ∙ ap (λ hs. OfBlock b ∷ hs) (sym (homes_led d
-          ∙ stable n (length c.layouts) (layout_of c.layouts d) (found_at_number d) l3 (omega (arith, s))))))))
+          ∙ stable n (length c.layouts) (layout_of c.layouts d) (found_at_number d) l3 (omega (arith, s)))))))))
 
   pub outward : (a : Area) (fs : List Frame) (up b : ℕ) (l : Layout) → IsArea c a → Framed c.layouts (homes c a) fs
       → layout_of c.layouts b ≡ Some l → is_block l.parent (slice_get (homes c a) up) ≡ true
@@ -411,7 +422,7 @@ module _ (c : Parts) (k : KeepsCodeRules c) where
   no_index zero o up x e = cc e
   no_index (suc n) None up x e = cc e
   no_index (suc n) (Some l) zero x e = cc e
-  no_index (suc n) (Some l) (suc up) x e = no_index n (parent_of c.layouts l.parent) up x e
+  no_index (suc n) (Some l) (suc up) x e = no_index n (around_layout c.layouts l) up x e
 
   longer : (n : ℕ) (hs : List Home) (h : Home) → length (drop n hs) ≡ length (h ∷ hs) → ⊥
   longer n hs h e = omega (arith, length-drop n hs, e)
@@ -420,8 +431,9 @@ module _ (c : Parts) (k : KeepsCodeRules c) where
       → AllDifferent (all_variables c.layouts (homes_by n c.layouts o))
   chain_different zero o f e = tt
   chain_different (suc n) None f e = tt
-  chain_different (suc n) (Some l) f e = go (l.block == 0) refl e
-      (chain_different n (parent_of c.layouts l.parent) (found_parent l.parent))
+  chain_different (suc n) (Some l) f e = subst (λ hs. AllDifferent (all_variables c.layouts hs))
+      (sym (homes_more n l f))
+      (go (l.block == 0) refl e (chain_different n (parent_of c.layouts l.parent) (found_parent l.parent)))
     where
       H : List Home
       H = homes_by n c.layouts (parent_of c.layouts l.parent)
@@ -460,7 +472,7 @@ module _ (c : Parts) (k : KeepsCodeRules c) where
               let lead : leads_by r.0 c.layouts (Some l) ≡ true = subst (λ o. leads_by r.0 c.layouts o ≡ true) at r.1 in
               let st = stable r.0 (suc n) (Some l) f lead (omega (arith, r.2)) in
               longer up (homes_by n c.layouts (parent_of c.layouts l.parent)) (OfBlock l.block) (ap length (r.3
-              ∙ (ap (λ o. homes_by r.0 c.layouts o) at ∙ sym st)))
+              ∙ (ap (λ o. homes_by r.0 c.layouts o) at ∙ (sym st ∙ homes_more n l f))))
 
   -- how deep an area lies
   abbrev pub depth : Area → ℕ

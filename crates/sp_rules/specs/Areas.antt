@@ -2,7 +2,7 @@
 -- Areas of code: the code of a block, or of a child of a fork that lies in an area. Each has its first instruction, and
 -- the blocks and forall indices around it, whose frames its instructions count by levels. The rules of code files are
 -- said of areas.
-use Rattle.std.specs.Prelude.{ℕ, zero, suc, ◌-◌, ◌==◌, List, [], ◌∷◌, Option, Some, None, Bool, true, false, ◌&&◌}
+use Rattle.std.specs.Prelude.{ℕ, zero, suc, ◌-◌, ◌==◌, List, [], ◌∷◌, Option, Some, None, Bool, true, false}
 use Rattle.std.specs.Prelude.{if◌then◌else◌, slice_get, length, nat_lt}
 use Rattle.sp_code.specs.declared.instr.Instr.{Instr}
 use Rattle.sp_code.specs.declared.instr.Instr.TheVariants as i
@@ -68,10 +68,9 @@ leads_by zero ls o = false
 leads_by (suc n) ls None = false
 leads_by (suc n) ls (Some l) = if l.block == 0 then true else leads_by n ls (parent_of ls l.parent)
 
--- the program is there and has no parent
-abbrev pub is_root : Option Layout → Bool
-is_root None = false
-is_root (Some l) = on_option true l.parent (λ b. false)
+-- the layout of the block around that of a layout. Around the program is none, whatever parent it has
+abbrev pub around_layout : List Layout → Layout → Option Layout
+around_layout ls l = if l.block == 0 then None else parent_of ls l.parent
 
 -- a layout's block alone
 abbrev pub single_home : Option Layout → List Home
@@ -82,7 +81,7 @@ single_home (Some l) = OfBlock l.block ∷ []
 abbrev pub homes_by : ℕ → List Layout → Option Layout → List Home
 homes_by zero ls l = []
 homes_by (suc n) ls None = []
-homes_by (suc n) ls (Some l) = OfBlock l.block ∷ homes_by n ls (parent_of ls l.parent)
+homes_by (suc n) ls (Some l) = OfBlock l.block ∷ homes_by n ls (around_layout ls l)
 
 -- with the index of a forall, if it is one's child
 abbrev pub with_home : Option ℕ → List Home → List Home
@@ -143,9 +142,9 @@ module _ (c : Parts) where
   entry (Body b) = entry_of_layout (layout_of c.layouts b)
   entry (Child a p k) = entry_of_child (child_at p k)
 
-  -- the parents of a block lead to the program, which has none
+  -- the parents of a block lead to the program
   abbrev pub is_led : ℕ → Bool
-  is_led b = is_root (layout_of c.layouts 0) && leads_by (length c.layouts) c.layouts (layout_of c.layouts b)
+  is_led b = leads_by (length c.layouts) c.layouts (layout_of c.layouts b)
 
   -- the blocks around a block, the innermost first; a block that is not led to the program is alone
   abbrev pub block_homes : ℕ → List Home
