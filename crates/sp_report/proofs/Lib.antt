@@ -3,3 +3,4 @@ mod FitLaws
 mod LineLemmas
 mod Orders
 mod Prefixes
+mod Rising

@@ -11,7 +11,7 @@ use Rattle.sp_journal.specs.Queue.{numbers}
 use Rattle.sp_journal.proofs.Facts.{numbers_last}
 use Rattle.sp_report.specs.InOrder.{NamedProcess, sorted_by_name, sorted_onto}
 
-placed_last : (s : Births) (es : List NamedProcess) (qs : List ℕ) (q : ℕ)
+pub placed_last : (s : Births) (es : List NamedProcess) (qs : List ℕ) (q : ℕ)
     → sorted_onto s es (qs ++ q ∷ []) ≡ insert_entry name_cmp (sorted_onto s es qs) (proc_name (s.name q)) q
 placed_last s es [] q = refl
 placed_last s es (x ∷ qs) q = placed_last s (insert_entry name_cmp es (proc_name (s.name x)) x) qs q

@@ -3,6 +3,7 @@ pub mod Conditions
 pub mod Fits
 pub mod InOrder
 pub mod Nameable
+pub mod Rising
 pub mod Telling
 pub mod Timeline
 pub mod Tree

@@ -14,9 +14,10 @@
 //! - `src/watcher.rt` is what every watcher promises; each watcher has a file of its own. `src/telling.rt` has `tell`,
 //!   over boxed watchers that are handed in, and `src/order.rt` puts the watchers of the program in their order.
 //! - `src/table.rt` follows what each process does, entry by entry, for `Waiting`.
-//! - Processes are put in order by an ordered map under their names.
+//! - Those that wait are put in order by an ordered map under their names.
 //! - A name chooses a watcher, so several watchers of one name are all told.
-//! - A tree of a million processes takes as long as a million insertions into the map.
+//! - The processes of a tree are put in order by a walk through it (`src/preorder.rt`): no two names are compared but
+//!   neighbours, so the text takes time near linear in its bytes.
 //! - In `waiting` a fault counts from its entry on, whoever made it.
 //!
 //! To change:
@@ -29,6 +30,7 @@ mod census;
 mod condition;
 mod have;
 mod order;
+mod preorder;
 mod table;
 mod telling;
 mod timeline;

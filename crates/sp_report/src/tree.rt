@@ -1,7 +1,8 @@
-//! The watcher `ProcessTree`: the processes of a journal as a tree. They are put in order by an ordered map under their
-//! names.
+//! The watcher `ProcessTree`: the processes of a journal as a tree, in the order of their names. That is the order that
+//! `preorder.rt` finds; where it finds none, an ordered map under the names makes it.
 
-ghost use Rattle.std.specs.Prelude.{◌≡◌, ◌++◌, [], IfOk, codes, decimal};
+ghost use Rattle.std.specs.Prelude.{◌≡◌, ◌++◌, [], IfOk, OnOk, codes, decimal};
+ghost use Rattle.std.specs.List.{flat_map};
 ghost use Rattle.sp_journal.specs.Births.{IsNameable, first_births, births};
 ghost use Rattle.sp_journal.specs.Ledger.{IsLedger};
 ghost use Rattle.sp_report.specs.InOrder.{sorted_by_name};
@@ -10,6 +11,7 @@ ghost use Rattle.sp_report.specs.Tree.{forked_processes, last_pair, tree_line, t
 ghost use Rattle.sp_writer.specs.Adds.{Adds};
 
 use crate::have;
+use crate::preorder::rising_names;
 use crate::watcher::Watcher;
 use sp_base::{List, Memory, Pair, ProcName};
 use sp_journal::{Entry, Journal, Ledger};
@@ -91,15 +93,40 @@ fn put_lines(out: &mut Writer<u8>, names: &BTreeMap<ProcName, u32>)
     }
 }
 
+/// Puts the lines of names that are in order.
+fn put_names(out: &mut Writer<u8>, names: &List<ProcName>)
+    ensures { Adds out.old out.new (flat_map tree_line names.now) }
+{
+    for name in names.items() {
+        put_line(out, name);
+    }
+}
+
+/// Puts the lines of the processes but the root.
+fn put_forked(out: &mut Writer<u8>, alloc: Global, ledger: &Ledger) -> Result<(), Memory>
+    requires { IsLedger ledger.now }
+    ensures { OnOk result (Adds out.old out.new
+        (tree_lines (sorted_by_name (births ledger.now.journal.entries)
+        (forked_processes (births ledger.now.journal.entries))))) }
+{
+    match have!(rising_names(alloc, ledger)) {
+        Some(names) => put_names(out, &names),
+        None => {
+            let names = have!(forked(alloc, ledger));
+            put_lines(out, &names);
+        }
+    }
+    Ok(())
+}
+
 fn tree_text(alloc: Global, journal: &Journal) -> Result<Vec<u8>, Memory>
     requires { IsNameable journal.now }
     ensures { IfOk result (λ text. text.items ≡ tree_text journal.now.entries) }
 {
     let ledger = have!(Ledger::of(alloc, journal));
-    let names = have!(forked(alloc, &ledger));
     let mut text = Writer::new(alloc);
     text.extend(b"tree\n0\n");
-    put_lines(&mut text, &names);
+    have!(put_forked(&mut text, alloc, &ledger));
     text.finish()
 }
 
