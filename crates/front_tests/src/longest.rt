@@ -1,9 +1,9 @@
 //! Texts whose code is as long as code may be, and longer.
 
 use crate::made::instructions;
-use crate::rows::{is_refused, repeated};
+use crate::rows::{is_given, is_refused, repeated};
 use sp_base::Rule;
-use sp_front::{compiled, compiled_apart};
+use sp_front::{accepts, accepts_apart, compiled, compiled_apart};
 use std::alloc::Global;
 
 /// A text that writes so many arguments, one more than the parts.
@@ -22,6 +22,18 @@ fn as_long_as_code_may_be(rt: HostRuntime) {
 fn longer_than_code_may_be(rt: HostRuntime) {
     let text = arguments(rt.alloc(), 349_524);
     assert!(rt; is_refused(compiled(rt.alloc(), &text), Rule::L5, 1, 1));
+}
+
+#[test]
+fn as_long_as_it_may_be_without_its_code(rt: HostRuntime) {
+    let text = arguments(rt.alloc(), 349_523);
+    assert!(rt; is_given(accepts(rt.alloc(), &text)));
+}
+
+#[test]
+fn longer_than_it_may_be_without_its_code(rt: HostRuntime) {
+    let text = arguments(rt.alloc(), 349_524);
+    assert!(rt; is_refused(accepts_apart(&rt, rt.alloc(), &text), Rule::L5, 1, 1));
 }
 
 #[test]

@@ -19,6 +19,8 @@ use Rattle.sp_tree.specs.contracts.checked.Checked as Checked
 use Rattle.sp_varsets.proofs.sets.Sets.TheSendSync as sets
 use Rattle.sp_code.proofs.code.Code.TheSendSync as code
 use Rattle.sp_front.specs.contracts.compiling.Accepted as Accepted
+use Rattle.sp_lines.proofs.mark.Mark.TheSendSync as mark
+use Rattle.sp_front.specs.contracts.marking.MarkedText as MarkedText
 use Rattle.sp_front.specs.contracts.to_code.CompiledText as CompiledText
 
 checked_send : IsSend Checked.the_field.row
@@ -47,3 +49,8 @@ accepted_send = struct_send (s.shape Accepted.the_type) (checked_send, (sets.the
 pub compiled_send : IsSend CompiledText.the_row
 compiled_send = recorded_send CompiledText.the_field.row _ _ CompiledText.the_type.to_one
     (struct_send (s.shape CompiledText.the_type) (accepted_send, (code.the_send, tt)))
+
+pub marked_send : IsSend MarkedText.the_row
+marked_send = recorded_send MarkedText.the_field.row _ _ MarkedText.the_type.to_one
+    (search (code.the_send, checked_send, list.the_send, text.the_send, mark.the_field_send, crosses, sendable)
+    depth 30 fits 4000)

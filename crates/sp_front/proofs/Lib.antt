@@ -1,5 +1,7 @@
 pub mod Accepting
 pub mod BodyPlaces
+pub mod ConstantNames
+pub mod TextMarked
 pub mod Existence
 pub mod Joining
 pub mod Numbered

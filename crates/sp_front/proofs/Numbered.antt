@@ -49,7 +49,7 @@ program_same p = ap₂ (λ (x : Place) (y : List Place). x ∷ y) (same_place _ 
     (parts_same _ _ p.block.parts)
 
 -- what a phase gives is its tree
-given : {A : Type 0} (f : FirstRefusal) (x y : A) → phase_result f x ≡ Ok y → x ≡ y
+pub given : {A : Type 0} (f : FirstRefusal) (x y : A) → phase_result f x ≡ Ok y → x ≡ y
 given None x y e = cc
 given (Some r) x y e = absurd (never x r y e)
   where

@@ -47,6 +47,12 @@ Codes text (Ok r) = IsCompiled text r
 Codes text (Err (halt.Refused r)) = FirstBrokenOfPhases text r ⊎ BreaksLength text r
 Codes text (Err halt.Memory) = Unit {0}
 
+-- the answer that a text breaks no rule, for which no code is made; want of memory is free
+abbrev pub Accepts : List ℕ → Result (Unit {0}) Halt → Type 0
+Accepts text (Ok x) = (p : c.Program) × IsAccepted text p × (tree_length (without_places p) ≤ 1048576)
+Accepts text (Err (halt.Refused r)) = FirstBrokenOfPhases text r ⊎ BreaksLength text r
+Accepts text (Err halt.Memory) = Unit {0}
+
 -- the text breaks no rule, and this is the listing of its code
 abbrev pub HasListing : List ℕ → List ℕ → Type 0
 HasListing text out = (p : c.Program) × IsAccepted text p × (tree_length (without_places p) ≤ 1048576) × (code : Parts)

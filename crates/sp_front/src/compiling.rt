@@ -42,6 +42,13 @@ impl Accepted {
     {
         &self.sets
     }
+
+    /// The tree alone.
+    pub(crate) fn into_checked(self) -> Checked
+        ensures { result ≡ self.checked }
+    {
+        self.checked
+    }
 }
 
 /// As many blocks as there are numbers for.

@@ -16,7 +16,13 @@
 //!   of the code.
 //! - `compiled_apart`: the same, on a thread with a stack for the longest text. Where no thread can be made it answers
 //!   want of memory.
-//! - `CompiledText`: `checked`, `sets`, `code` are the tree, its sets, its code; `into_code` is the code alone.
+//! - `accepts`: that a text breaks no rule of `compiled`, or the first one that it breaks; it makes no code.
+//! - `accepts_apart`: the same on a thread with a large stack, as `compiled_apart`.
+//! - `CompiledText`: `checked`, `sets`, `code` are the tree, its sets, its code; `into_code` is the code alone,
+//!   `into_parts` tree and code.
+//! - `marked`, `marked_apart`: as `compiled` and `compiled_apart`, for commands that tell places and names: of a text
+//!   that breaks no rule its code, its tree, the mark of each instruction, and the names of the constants of each type
+//!   (`MarkedText`).
 //!
 //! Laws:
 //! - `one_answer`: a text has at most one first broken rule up to types, one checked tree and one program, and never a
@@ -30,15 +36,17 @@
 //! - `accepted_texts_are_disjoint`: on no input, with no limits and in no lawful schedule does a process of an
 //!   accepted text write what a parallel one reads or writes.
 //! - `one_listing`: the code of a text has one listing.
+//! - `constants_go_with_the_types`: an enumeration among the types of a text has as many constants as names.
 //!
 //! To know:
 //! - `src/reader.rt` has characters and grammar, `src/phases.rt` goes on up to types, `src/compiling.rt` to sets and
-//!   interference, `src/to_code.rt` to code. `specs/Texts.antt`, `Checks.antt`, `Compiles.antt` and `Codes.antt` say
-//!   what each of them answers; `Codes.antt` says what the listing of a text is, too.
+//!   interference, `src/acceptance.rt` to the length of the code, `src/to_code.rt` to code, `src/marking.rt` to marks
+//!   and names. `specs/Texts.antt`, `Checks.antt`, `Compiles.antt`, `Codes.antt` and `Marked.antt` say what each of
+//!   them answers; `Codes.antt` says what the listing of a text is, too.
 //! - Each call may answer want of memory too.
-//! - `typed`, `analyse`, `compile` and `compiled` recurse as deep as the longest chain of operators is long. For
-//!   `analyse` and `compiled` there is a call that brings the stack for it, by `src/apart.rt`; who calls the others
-//!   has to.
+//! - `typed`, `analyse`, `compile`, `accepts`, `compiled` and `marked` recurse as deep as the longest chain of
+//!   operators is long. For `analyse`, `accepts`, `compiled` and `marked` there is a call that brings the stack for
+//!   it, by `src/apart.rt`; who calls the others has to.
 //! - `IsProgramOf` of `specs/Checks.antt` is the program of a text.
 //!
 //! To change:
@@ -46,18 +54,22 @@
 //!   one after the code: `src/to_code.rt` with `CompiledText`, and `IsCompiled` of `specs/Codes.antt`.
 #![tactic(auto)]
 
+mod acceptance;
 mod apart;
 mod compiling;
 mod law;
+mod marking;
 mod phases;
 mod reader;
 mod to_code;
 
+pub use acceptance::{accepts, accepts_apart};
 pub use compiling::{Accepted, analyse, analyse_apart, compile};
 pub use law::{
     accepted_texts_are_disjoint, numbered_trees, numbers_differ, one_answer, one_compilation,
     one_listing, some_answer,
 };
+pub use marking::{MarkedText, constants_go_with_the_types, marked, marked_apart};
 pub use phases::typed;
 pub use reader::read_text;
 pub use to_code::{CompiledText, compiled, compiled_apart};

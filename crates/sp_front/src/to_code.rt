@@ -49,10 +49,19 @@ impl CompiledText {
     {
         self.code
     }
+
+    /// The tree and its code, which are no longer kept with the sets.
+    pub fn into_parts(self) -> (Checked, Code)
+        ensures tree { result.0 ≡ self.accepted.checked }
+        ensures code { result.1 ≡ self.code }
+    {
+        let CompiledText { accepted, code } = self;
+        (accepted.into_checked(), code)
+    }
 }
 
 /// What a text breaks whose code would be longer than code may be.
-const LONG_CODE: Refusal = Refusal {
+pub(crate) const LONG_CODE: Refusal = Refusal {
     rule: Rule::L5,
     at: Place { line: 1, column: 1 },
 };

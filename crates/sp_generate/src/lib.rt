@@ -3,6 +3,7 @@
 //! Calls:
 //! - `generate`: of a tree with its sets, its code (`IsCodeOf`), or want of memory, where the code has at most
 //!   1,048,576 instructions; else `GenError::TooLong` with its length as `length` of `sp_length` tells it.
+//! - `is_too_long`: whether code of this length, as `length` tells it, is longer than code may be.
 //!
 //! Laws:
 //! - `one_code`: a program has one code.
@@ -11,7 +12,9 @@
 //! - The code is instruction by instruction that of the definitions of `sp_code` (`specs/Generated.antt`). Processes
 //!   are handed variables in order of their numbers, so that a program has one code (`src/law.rt`).
 //! - A number that is no `u32`, and code with more fork tables, texts or layouts than it may have, are answered as want
-//!   of memory. Neither is in the code of a text, which has at most 1,048,576 bytes.
+//!   of memory. Neither is in the code of a text, which has at most 1,048,576 bytes. So is code whose forks would hand
+//!   over 33,554,432 variables or more (`room.rt`): a `parallel` of as many calls as a text has room for, of a
+//!   procedure with as many implicit variables, would take gigabytes, and no code file could hold it.
 //! - `code_context.rt` is what is kept of the tree, `single.rt` has single instructions, `expressions.rt`, `simple.rt`,
 //!   `statements.rt`, `choices.rt` and `blocks.rt` are the pass, `handed.rt` is what a process is handed.
 //! - The writer of the instructions keeps in mind whether memory was refused, for tables and texts too, so the pass has
@@ -38,10 +41,11 @@ mod law;
 mod levels;
 mod numbers;
 mod program;
+mod room;
 mod simple;
 mod single;
 mod statements;
 mod tabling;
 
 pub use law::one_code;
-pub use program::{GenError, generate};
+pub use program::{GenError, generate, is_too_long};

@@ -13,6 +13,7 @@ use crate::blocks::{layout_of, put_block};
 use crate::code_buffer::{CodeBuffer, place};
 use crate::code_context::CodeContext;
 use crate::numbers::narrow;
+use crate::room::hands_too_much;
 use crate::tabling::survey;
 use sp_base::{List, Memory};
 use sp_code::{Code, Layout, MAX_CODE, Parts};
@@ -29,7 +30,7 @@ pub enum GenError {
     /// The code would have more than 1,048,576 instructions: so many, or 4,294,967,295 where they are more.
     #[error("code too long")]
     TooLong(u32),
-    /// Memory was refused.
+    /// Memory was refused, or the forks would hand too much over.
     #[error("out of memory")]
     Memory,
 }
@@ -103,7 +104,7 @@ fn code_of(alloc: Global, checked: &Checked, sets: &Sets) -> Result<Code, Memory
 }
 
 /// Whether code has more instructions than it may have.
-fn is_too_long(instructions: u32) -> bool
+pub fn is_too_long(instructions: u32) -> bool
     ensures { IsTrue result ↔ (1048576 < instructions) }
 {
     instructions as usize > MAX_CODE
@@ -113,8 +114,8 @@ fn is_too_long(instructions: u32) -> bool
 ///
 /// A block's code stands behind that of the block before it, and has the tree's forms in order. Each process of a fork
 /// is handed the variables that its statement may change, and shares those that it only reads, but for the index of its
-/// own forall. Where the code would have more than 1,048,576 instructions nothing is built. It recurses as deep as the
-/// tree is.
+/// own forall. Where the code would have more than 1,048,576 instructions nothing is built. Where its forks would hand
+/// over 33,554,432 variables or more in all, that is want of memory. It recurses as deep as the tree is.
 #[tactic(auto, using(crate::proofs::Limits::told_within, crate::proofs::Limits::told_beyond))]
 pub fn generate(alloc: Global, checked: &Checked, sets: &Sets) -> Result<Code, GenError>
     requires { AreSets (program_of checked.now) sets.now }
@@ -123,6 +124,9 @@ pub fn generate(alloc: Global, checked: &Checked, sets: &Sets) -> Result<Code, G
     let n = length(checked);
     if is_too_long(n) {
         return Err(GenError::TooLong(n));
+    }
+    if hands_too_much(checked, sets) {
+        return Err(GenError::Memory);
     }
     let code = code_of(alloc, checked, sets)?;
     Ok(code)

@@ -21,7 +21,9 @@
 //! - Lines go by place, those of one parallel statement by its process statements; where all that were the same the
 //!   number of the statement would decide. So the order is total whatever the tree, and one text follows without a
 //!   fact on places.
-//! - A set is gone through from member to member, so a line costs what it prints.
+//! - A set is gone through from member to member, so a line costs what it prints. A text that goes on behind
+//!   134,217,728 bytes is answered as want of memory: as many lines as a text has characters may name as many variables
+//!   as it declares.
 //!
 //! To change:
 //! - A line: `specs/SetsText.antt` and its function in `src/print.rt`.

@@ -133,7 +133,8 @@ fn put_blocks(
     }
 }
 
-/// The text of these sets of the tree. The only other answer is want of memory.
+/// The text of these sets of the tree. The only other answer is want of memory, also for a text of more than
+/// 134,217,728 bytes before its last variables.
 pub fn print_sets(alloc: Global, checked: &Checked, sets: &Sets) -> Result<Vec<u8>, Memory>
     ensures { IfOk result (λ out. IsSetsText (program_of checked.now) sets.now out.items) }
 {

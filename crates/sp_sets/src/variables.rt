@@ -85,12 +85,19 @@ fn put_names(out: &mut Writer<u8>, variables: &[Variable], xs: &[u32])
     }
 }
 
-/// Puts the variables of the set, in order.
+/// The longest text, in bytes, behind which variables are put.
+const LONGEST: usize = 134_217_728;
+
+/// Puts the variables of the set, in order. Behind too long a text that is answered as want of memory.
 fn put_variables(alloc: Global, out: &mut Writer<u8>, variables: &[Variable], set: &VarSet)
     requires { length variables.now ≤ 2 ^ 32 - 1 }
     ensures { Keeps out.old out.new ((t : List ℕ) × IsVariables variables.now set.now t
         × (out.new.items.items ≡ out.old.items.items ++ t)) }
 {
+    if out.items.len() > LONGEST {
+        out.lose();
+        return;
+    }
     match in_order(alloc, variables, set) {
         Ok(xs) => put_names(out, variables, xs.as_slice()),
         Err(Memory) => out.lose(),

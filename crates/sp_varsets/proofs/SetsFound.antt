@@ -182,8 +182,9 @@ pub if_found : (c : p.Program) (start walk : Walk) (bodies : Bodies) (reach : Re
 if_found c start walk bodies reach numbers slots writes are reaches (Err e) h = h
 if_found c start walk bodies reach numbers slots writes are reaches (Ok s) h =
     let t = reaches.declared.2 in
-    are_sets c start walk (record { alloc = walk.alloc; pool = h.entries.0; slots = walk.slots })
-    (record { alloc = walk.alloc; pool = s.pool; slots = walk.slots }) bodies reaches.declared.0 reaches.free.0
+    are_sets c start walk (record { alloc = walk.alloc; pool = h.entries.0; slots = walk.slots; known = walk.known })
+    (record { alloc = walk.alloc; pool = s.pool; slots = walk.slots; known = walk.known }) bodies reaches.declared.0
+    reaches.free.0
     t.closes.0 reach.targets reaches.declared.3.closes.0 reach.seen reaches.free.2.closes.0 reach.stops s.statements
     s.blocks s.stops s.nothing
     (record {

@@ -19,7 +19,7 @@
 //! To know:
 //! - `specs/AreSets.antt` says what the sets of a tree are.
 //! - `src/uses.rt` and `walk.rt` gather what stands in each part, `closure.rt` what calls carry, `totals.rt` joins
-//!   both in a pool.
+//!   both. `pool.rt` keeps equal sets once.
 //! - `proofs/Reaching` leads to paths.
 //! - `VarSet::words` says how far a set goes, so that a few unions, each over its window of variables, see it whole.
 //!
@@ -33,6 +33,7 @@ mod closure;
 mod find;
 mod from;
 mod order;
+mod pool;
 mod sets;
 mod simple;
 mod totals;

@@ -1,6 +1,6 @@
 //! The pass over statements: what stands in each of them.
 
-ghost use Rattle.std.specs.Prelude.{◌≡◌, ℕ, ◌+◌, ◌<◌, true, Some, OnOk, IfOk, map, length};
+ghost use Rattle.std.specs.Prelude.{◌≡◌, ℕ, ◌+◌, ◌<◌, Some, OnOk, IfOk, map, length};
 ghost use Rattle.sp_base.specs.declared.place.Place.{Place as APlace};
 ghost use Rattle.sp_tree.specs.PlainChecked as c;
 ghost use Rattle.sp_tree.specs.CheckedOf.{expression_of, variable_of, statement_of, statement_form_of, statements};
@@ -9,10 +9,10 @@ ghost use Rattle.sp_tree.specs.Bare.{bare_expression};
 ghost use Rattle.sp_tree.specs.Uses.{In_expr};
 ghost use Rattle.sp_varsets.specs.declared.uses.Uses.{Uses as AUses};
 ghost use Rattle.sp_varsets.specs.AddedUses.{AddsUses, AreEmpty};
-ghost use Rattle.sp_varsets.specs.Members.{has};
-ghost use Rattle.sp_varsets.specs.Records.{Extends, IsSetOfIndex, RecordsSets, slot_at};
+ghost use Rattle.sp_varsets.specs.Records.{RecordsSets, slot_at};
 ghost use Rattle.sp_varsets.specs.Walks.{WalksStatement, WalksForm, WalksStatements, WalksArms, WalksElement};
 
+use crate::pool::Known;
 use crate::take;
 use crate::uses::Uses;
 use crate::var_set::VarSet;
@@ -29,22 +29,13 @@ pub(crate) struct StatementSets {
     pub calls: u32,
 }
 
-/// The sets so far, and what is recorded of each statement, by its number.
+/// The sets so far, each of them once, and what is recorded of each statement, by its number.
 #[derive(Drop)]
 pub(crate) struct Walk {
     pub alloc: Global,
     pub pool: List<VarSet>,
     pub slots: List<Option<StatementSets>>,
-}
-
-// So many sets, as the index of the last one.
-fn index_of(count: usize) -> Result<u32, Memory>
-    ensures { IfOk result (λ i. i ≡ count) }
-{
-    match u32::try_from(count) {
-        Ok(index) => Ok(index),
-        Err(_) => Err(Memory),
-    }
+    pub known: Known,
 }
 
 // The statement's number behind a first one.
@@ -63,20 +54,8 @@ impl Walk {
             alloc,
             pool: List::new(alloc),
             slots: List::new(alloc),
+            known: Known::new(alloc),
         }
-    }
-
-    // Puts a set into the pool.
-    pub(crate) fn put(&mut self, set: VarSet) -> Result<u32, Memory>
-        ensures slots { self.new.slots ≡ self.old.slots }
-        ensures pool { OnOk result (Extends self.old.pool self.new.pool) }
-        ensures set { IfOk result (λ i. IsSetOfIndex self.new.pool i (λ x. has set x ≡ true)) }
-    {
-        if set.is_empty() {
-            return Ok(0);
-        }
-        self.pool.push(set)?;
-        index_of(self.pool.len())
     }
 
     // Makes room for what is recorded under this number.

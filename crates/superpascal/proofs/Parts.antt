@@ -9,7 +9,7 @@ use Rattle.sp_base.specs.declared.halt.Refusal.{Refusal}
 use Rattle.sp_base.specs.declared.limits.Limits.{Limits}
 use Rattle.sp_code.specs.declared.code.Parts.{Parts}
 use Rattle.sp_codefile.specs.CodeText.{IsTextOf}
-use Rattle.sp_front.specs.Codes.{IsCompiled}
+use Rattle.sp_front.specs.Codes.{Accepts, IsCompiled}
 use Rattle.sp_front.specs.declared.to_code.CompiledText.{CompiledText}
 use Rattle.sp_execute.specs.declared.execution.Ran.{Ran}
 use Rattle.sp_format.specs.Formats.{Formats}
@@ -163,7 +163,12 @@ module _ (f : Files) (d : Command) (name : List ℕ) (about : IsAbout d name) wh
     answer = h;
   })
 
--- a text of which no sets, or no layout, are made
+-- a text that is not accepted, or of which no sets, or no layout, are made
+pub check_halted : (f : Files) (file text : List ℕ) → IsTold (f.held file) text → (h : Halt) → Accepts text (Err h)
+    → TextCause f (command.Check file) (ending_answer (ending_of_halt h))
+check_halted f file text t (halt.Refused r) b = text_refused f (command.Check file) file refl text t r b
+check_halted f file text t halt.Memory b = inr (inr (inr (inr refl)))
+
 pub sets_halted : (f : Files) (file text : List ℕ) → IsTold (f.held file) text → (h : Halt) → TellsSets text (Err h)
     → TextCause f (command.Sets file) (ending_answer (ending_of_halt h))
 sets_halted f file text t (halt.Refused r) b = text_refused f (command.Sets file) file refl text t r b

@@ -13,7 +13,7 @@ use sp_base::{Halt, Word};
 use sp_code::listing;
 use sp_codefile::encode;
 use sp_format::format;
-use sp_front::{analyse_apart, compiled_apart, one_answer};
+use sp_front::{accepts_apart, analyse_apart, one_answer};
 use sp_generate::one_code;
 use sp_outside::Library;
 use sp_sets::print_sets;
@@ -33,8 +33,8 @@ pub(crate) fn check<L: Library>(
     ensures { AnswersText (files_of L.held L.faults library.old library.new) (Check file.now)
         result }
 {
-    let code = prepare(rt, alloc, library, file)?;
-    drop(code);
+    let text = load_text(alloc, library, file)?;
+    accepts_apart(rt, alloc, text.as_slice())?;
     let line = Vec::from_slice(alloc, b"accepted\n")?;
     Ok(accepted(Vec::new(alloc), line))
 }

@@ -18,6 +18,7 @@ returns c =
       alloc = c.grow.new.self.alloc;
       pool = c.grow.new.self.pool;
       slots = c.replace-old.new.self;
+      known = c.grow.new.self.known;
     })
     c.put.new.self.pool c.put-2.new.self.pool c.put-3.new.self.pool c.grow.new.self.slots c.args.number
     c.in-Ok.value c.in-Ok-put.value c.in-Ok-put-2.value c.args.uses.now

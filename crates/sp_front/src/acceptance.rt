@@ -1,0 +1,48 @@
+//! All phases over a text and the length of its code, without the code (`accepts`), and the same on a thread with a
+//! large stack (`accepts_apart`).
+
+ghost use Rattle.sp_front.specs.Codes.{Accepts};
+
+use crate::apart::apart;
+use crate::compiling::compile;
+use crate::to_code::LONG_CODE;
+use sp_base::Halt;
+use sp_generate::is_too_long;
+use sp_length::length;
+use std::alloc::Global;
+use std::snapshot::Snapshot;
+use std::thread::{Promise, Threads};
+
+/// That a text breaks no rule, or the first rule that it breaks, as `compiled` says it. No code is made for it, and so
+/// no memory is taken for what the forks of the code hand over.
+///
+/// It recurses as deep as the longest chain of operators is long: `accepts_apart` gives it the stack for that.
+pub fn accepts(alloc: Global, text: &[u8]) -> Result<(), Halt>
+    ensures { Accepts text.now result }
+{
+    let accepted = compile(alloc, text)?;
+    let n = length(accepted.checked());
+    if is_too_long(n) {
+        return Err(Halt::Refused(LONG_CODE));
+    }
+    Ok(())
+}
+
+/// What the thread of these phases promises of its answer about this text.
+#[derive(Drop)]
+struct AcceptsOf(Snapshot<Vec<u8>>);
+
+impl Promise<Result<(), Halt>> for AcceptsOf {
+    ghost kept_by = { λ p r. Accepts p.0.value.items r };
+}
+
+/// `accepts`, on a thread of its own with a stack for the longest text. Where no thread can be made the answer is want
+/// of memory: the caller's own stack would not hold a long chain of operators.
+pub fn accepts_apart(rt: &impl Threads, alloc: Global, text: &[u8]) -> Result<(), Halt>
+    ensures { Accepts text.now result }
+{
+    let mut copy = Vec::new(alloc);
+    copy.extend_from_slice(text)?;
+    let promise = AcceptsOf(Snapshot::of(&copy));
+    apart(rt, promise, move || accepts(alloc, copy.as_slice()))
+}

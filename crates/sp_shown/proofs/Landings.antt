@@ -1,0 +1,138 @@
+-- Jumps lead to an instruction that has a mark.
+use Rattle.std.proofs.Common.{◌≡◌, ℕ, zero, suc, List, Option, Some, None, true, refl, ap, subst, length}
+use Rattle.std.specs.Prelude.{slice_get}
+use Rattle.std.proofs.lemmas.Option.{same_Some}
+use Rattle.sp_tree.specs.PlainChecked.{Program}
+use Rattle.sp_tree.specs.Plain as plain
+use Rattle.sp_tree.specs.Bare.{without_places}
+use Rattle.sp_code.specs.declared.instr.Instr.{Instr}
+use Rattle.sp_code.specs.declared.instr.Instr.TheVariants as i
+use Rattle.sp_code.specs.declared.code.Parts.{Parts}
+use Rattle.sp_code.specs.Emitted.{program_code}
+use Rattle.sp_code.specs.Machine.{Entry, Ops, Config, At, Goes, Stuck, instruction, next_step}
+use Rattle.sp_code.specs.Turns.{RunsTo, IsSafe, frames_fit}
+use Rattle.sp_lines.specs.declared.mark.Mark.{Mark}
+use Rattle.sp_lines.specs.Marks.{marks}
+use Rattle.sp_lines.specs.AtTurn.{next_of}
+use Rattle.sp_lines.proofs.Shown.{at_mark}
+use Rattle.sp_shown.specs.Landing.{jump_at, jump_of, landing, landing_within, led}
+
+is_jump : (o : Instr) (q : ℕ) → jump_of o ≡ Some q → o ≡ i.Jump q
+is_jump (i.Jump to) q e = ap i.Jump (same_Some to q e)
+is_jump (i.Send k) q e = absurd (cc e)
+is_jump (i.Receive k) q e = absurd (cc e)
+is_jump i.Open q e = absurd (cc e)
+is_jump (i.Fork t) q e = absurd (cc e)
+is_jump (i.Forall t) q e = absurd (cc e)
+is_jump (i.Const n) q e = absurd (cc e)
+is_jump (i.Addr up var) q e = absurd (cc e)
+is_jump (i.Deref up var) q e = absurd (cc e)
+is_jump (i.Index low high size) q e = absurd (cc e)
+is_jump (i.Field n) q e = absurd (cc e)
+is_jump i.Load q e = absurd (cc e)
+is_jump i.Loadc q e = absurd (cc e)
+is_jump i.Store q e = absurd (cc e)
+is_jump (i.Copy n) q e = absurd (cc e)
+is_jump i.Add q e = absurd (cc e)
+is_jump i.Sub q e = absurd (cc e)
+is_jump i.Mul q e = absurd (cc e)
+is_jump i.Div q e = absurd (cc e)
+is_jump i.Mod q e = absurd (cc e)
+is_jump i.Neg q e = absurd (cc e)
+is_jump i.Abs q e = absurd (cc e)
+is_jump i.Sqr q e = absurd (cc e)
+is_jump i.Odd q e = absurd (cc e)
+is_jump i.And q e = absurd (cc e)
+is_jump i.Or q e = absurd (cc e)
+is_jump i.Not q e = absurd (cc e)
+is_jump i.Eq q e = absurd (cc e)
+is_jump i.Ne q e = absurd (cc e)
+is_jump i.Lt q e = absurd (cc e)
+is_jump i.Le q e = absurd (cc e)
+is_jump i.Gt q e = absurd (cc e)
+is_jump i.Ge q e = absurd (cc e)
+is_jump (i.Range low high) q e = absurd (cc e)
+is_jump (i.Succ n) q e = absurd (cc e)
+is_jump (i.Pred n) q e = absurd (cc e)
+is_jump (i.Jumpf to) q e = absurd (cc e)
+is_jump (i.Casej v to) q e = absurd (cc e)
+is_jump i.Nocase q e = absurd (cc e)
+is_jump i.Tick q e = absurd (cc e)
+is_jump i.Assume q e = absurd (cc e)
+is_jump (i.Forup var to) q e = absurd (cc e)
+is_jump (i.Fordown var to) q e = absurd (cc e)
+is_jump (i.Nextup var to) q e = absurd (cc e)
+is_jump (i.Nextdown var to) q e = absurd (cc e)
+is_jump (i.Call b up) q e = absurd (cc e)
+is_jump i.Return q e = absurd (cc e)
+is_jump i.ReadInt q e = absurd (cc e)
+is_jump i.ReadChar q e = absurd (cc e)
+is_jump i.Readln q e = absurd (cc e)
+is_jump i.Eof q e = absurd (cc e)
+is_jump i.Eoln q e = absurd (cc e)
+is_jump i.WriteInt q e = absurd (cc e)
+is_jump i.WriteChar q e = absurd (cc e)
+is_jump i.WriteBool q e = absurd (cc e)
+is_jump (i.WriteText n) q e = absurd (cc e)
+is_jump i.WritewInt q e = absurd (cc e)
+is_jump i.WritewChar q e = absurd (cc e)
+is_jump i.WritewBool q e = absurd (cc e)
+is_jump (i.WritewText n) q e = absurd (cc e)
+is_jump i.Writeln q e = absurd (cc e)
+is_jump (i.Pack n) q e = absurd (cc e)
+is_jump i.End q e = absurd (cc e)
+
+module _ (p : Program) (moves shares : plain.Stmt → List ℕ) {M : Type 0} (ops : Ops M) where
+  abbrev code : Parts
+  code = program_code (without_places p) moves shares
+
+  abbrev HasMark : ℕ → Type 0
+  HasMark q = (m : Mark) × (slice_get (marks p) q ≡ Some m)
+
+  -- no instruction from here on lacks what it needs
+  abbrev Fine : Config M → Type 0
+  Fine c = (d : Config M) → RunsTo ops code c d → next_step ops code d ≡ Stuck → ⊥
+
+  here : (x : Option Instr) (q : ℕ) (st : List Entry) (n : M) → slice_get code.instrs q ≡ x
+      → (instruction ops code x q st n ≡ Stuck → ⊥) → HasMark q
+  here None q st n e fine = absurd (fine refl)
+  here (Some o) q st n e fine = let r = at_mark p moves shares q o e in (r.0, r.1)
+
+  stands : (q : ℕ) (st : List Entry) (n : M) → Fine (At q st n) → HasMark q
+  stands q st n fine = here (slice_get code.instrs q) q st n refl
+      (λ s. fine (At q st n) (record { steps = 0; proof = refl }) s)
+
+  -- a jump is one step
+  jumps : (q to : ℕ) (st : List Entry) (n : M) → slice_get code.instrs q ≡ Some (i.Jump to)
+      → next_step ops code (At q st n) ≡ Goes (At to st n)
+  jumps q to st n e = ap (λ (x : Option Instr). instruction ops code x q st n) e
+
+  on : (q to : ℕ) (st : List Entry) (n : M) → slice_get code.instrs q ≡ Some (i.Jump to) → Fine (At q st n)
+      → Fine (At to st n)
+  on q to st n e fine d r = fine d (record { steps = suc r.steps; proof = (At to st n, jumps q to st n e, r.proof) })
+
+  -- from each instruction on, k jumps lead to one with a mark
+  abbrev Lands : ℕ → Type 0
+  Lands k = (q : ℕ) (st : List Entry) (n : M) → Fine (At q st n) → HasMark (landing_within k code.instrs q)
+
+  lands_at : (k : ℕ) → Lands k → (q : ℕ) (st : List Entry) (n : M) → Fine (At q st n) → (o : Instr)
+      → slice_get code.instrs q ≡ Some o → (y : Option ℕ) → jump_of o ≡ y
+      → HasMark (led (landing_within k code.instrs) q y)
+  lands_at k lands q st n fine o e None f = stands q st n fine
+  lands_at k lands q st n fine o e (Some to) f =
+      let is : slice_get code.instrs q ≡ Some (i.Jump to) =
+      subst (λ (x : Instr). slice_get code.instrs q ≡ Some x) (is_jump o to f) e in
+      lands to st n (on q to st n is fine)
+
+  lands_by : (k : ℕ) → Lands k → (q : ℕ) (st : List Entry) (n : M) → Fine (At q st n) → (x : Option Instr)
+      → slice_get code.instrs q ≡ x → HasMark (led (landing_within k code.instrs) q (jump_at x))
+  lands_by k lands q st n fine None e = stands q st n fine
+  lands_by k lands q st n fine (Some o) e = lands_at k lands q st n fine o e (jump_of o) refl
+
+  lands : (k : ℕ) → Lands k
+  lands zero q st n fine = stands q st n fine
+  lands (suc k) q st n fine = lands_by k (lands k) q st n fine (slice_get code.instrs q) refl
+
+  pub landing_marked : (c : Config M) → IsSafe ops code c → frames_fit ops code c ≡ true
+      → HasMark (landing code.instrs (next_of c))
+  landing_marked (At q st n) safe fits = lands (length code.instrs) q st n (λ d r s. safe fits d r s)

@@ -1,0 +1,275 @@
+"""Code files of two growing sizes, up to the length that a code file may have: the module of tests/hostile for codes.
+
+`FILES` has for each name what makes the bytes of its code file. Each one has sizes that multiply if the verifier keeps
+something for each pair: blocks and the variables that they come to store, calls and operands, children and lists, and
+so on. The first line of each generator says whether the file is accepted.
+"""
+LIMIT = 67_108_864
+MOST = 1_048_576
+HEAD = "superpascal code 1\n"
+
+
+def layout(block, entry, parent, sizes=(), variables=(), formals=(), answer=False):
+    """The line of a layout."""
+    words = ["layout", block, entry, parent, "answer" if answer else "none", "sizes", *sizes, "variables", *variables,
+             "formals", *formals]
+    return " ".join(map(str, words)) + "\n"
+
+
+def child(table, number, entry, moves=(), shares=(), index=None):
+    """The line of a child of a table."""
+    words = ["table", table, "child", number, "entry", entry, "moves", *moves, "shares", *shares]
+    if index is not None:
+        words += ["index", index]
+    return " ".join(map(str, words)) + "\n"
+
+
+def code(layouts, instrs, tables=(), texts=()):
+    """The bytes of a code file."""
+    lines = [f"{at} {instr}\n" for at, instr in enumerate(instrs)]
+    return "".join([HEAD, *layouts, *lines, *tables, *texts]).encode()
+
+
+def blocks_and_outer(blocks=4_096, variables=4_096, calls=250_000):
+    """Accepted: blocks that all come to store all of these variables of the program, by so many calls of blocks behind
+    them; the last block stores them itself, one call to the next one begins each block."""
+    layouts = [None]
+    instrs, entries = ["call 1 0", "end"], []
+    each = calls // blocks
+    for block in range(1, blocks + 1):
+        entries.append(len(instrs))
+        if block == blocks:
+            for x in range(variables):
+                instrs += [f"addr 1 {x + 2}", "const 1", "store"]
+        else:
+            instrs += [f"call {block + 1 + k * 61 % (blocks - block)} 1" for k in range(each)]
+        instrs.append("return")
+    layouts = [layout(0, 0, "-", [1] * variables, range(2, variables + 2))]
+    layouts += [layout(block + 1, entry, 0) for block, entry in enumerate(entries)]
+    return code(layouts, instrs)
+
+
+def chain_of_blocks(blocks=190_000):
+    """Accepted: each block stores a variable of the program of its own, and calls the next block."""
+    instrs, entries = ["call 1 0", "end"], []
+    for block in range(1, blocks + 1):
+        entries.append(len(instrs))
+        instrs += [f"addr 1 {block + 1}", "const 1", "store", f"call {block % blocks + 1} 1", "return"]
+    layouts = [layout(0, 0, "-", [1] * blocks, range(2, blocks + 2))]
+    layouts += [layout(block + 1, entry, 0) for block, entry in enumerate(entries)]
+    return code(layouts, instrs)
+
+
+def ring_of_blocks(blocks=4_096, variables=4_096):
+    """Accepted: as the chain, where each block calls the ones before and behind it, so all store all."""
+    instrs, entries = ["call 1 0", "end"], []
+    for block in range(1, blocks + 1):
+        entries.append(len(instrs))
+        instrs += [f"addr 1 {block % variables + 2}", "const 1", "store", f"call {block % blocks + 1} 1",
+                   f"call {(block - 2) % blocks + 1} 1", "return"]
+    layouts = [layout(0, 0, "-", [1] * variables, range(2, variables + 2))]
+    layouts += [layout(block + 1, entry, 0) for block, entry in enumerate(entries)]
+    return code(layouts, instrs)
+
+
+def operands_of_calls(operands, calls, kinds, by_reference=False):
+    """Accepted: so many operands are pushed once, and one of so many calls, of these many blocks, takes them."""
+    instrs = [f"addr 0 {k + 2}" if by_reference else "const 1" for k in range(operands)]
+    instrs.append("const 0")
+    base = len(instrs)
+    after = base + calls + 1
+    for k in range(calls):
+        instrs.append(f"casej {k} {after + 2 * k}")
+    instrs.append(f"jump {after + 2 * calls}")
+    done = after + 2 * calls + 2
+    for k in range(calls):
+        instrs += [f"call {k % kinds + 1} 0", f"jump {done}"]
+    instrs += ["nocase", "call 1 0"]
+    instrs.append("end")
+    entries = []
+    for _ in range(kinds):
+        entries.append(len(instrs))
+        instrs.append("return")
+    assert len(instrs) <= MOST, len(instrs)
+    width = "reference 1" if by_reference else "value 1"
+    count = operands if by_reference else 0
+    layouts = [layout(0, 0, "-", [1] * count, range(2, 2 + count))]
+    new = 2 + count
+    for block, entry in enumerate(entries):
+        layouts.append(layout(block + 1, entry, 0, [1] * operands, range(new, new + operands), [width] * operands))
+        new += operands
+    return code(layouts, instrs)
+
+
+def forks_in_forks(depth=2_000, variables=4_000):
+    """Accepted: a fork in the child of a fork and so on, each of which moves the same variables."""
+    instrs, tables = [], []
+    for level in range(depth):
+        tables.append(child(level, 0, 2 * level + 2, range(2, variables + 2)))
+        instrs += [f"fork {level}", "end"]
+    instrs += ["addr 0 2", "const 1", "store", "end"]
+    return code([layout(0, 0, "-", [1] * variables, range(2, variables + 2))], instrs, tables)
+
+
+def forks_and_calls(depth=2_000, variables=4_000, calls=400_000):
+    """Accepted: the same, and each child calls blocks that store nothing."""
+    instrs, tables, entries = [], [], []
+    each = calls // depth
+    for level in range(depth):
+        instrs += [f"call {level % 100 + 1} 0"] * each
+        instrs += [f"fork {level}", "end"]
+        tables.append(child(level, 0, len(instrs), range(2, variables + 2)))
+    instrs += ["addr 0 2", "const 1", "store", "end"]
+    for _ in range(100):
+        entries.append(len(instrs))
+        instrs.append("return")
+    layouts = [layout(0, 0, "-", [1] * variables, range(2, variables + 2))]
+    layouts += [layout(block + 1, entry, 0) for block, entry in enumerate(entries)]
+    return code(layouts, instrs, tables)
+
+
+def lists_and_callers(variables=3_000_000, callers=180_000):
+    """Accepted: a fork moves very many variables, and its block is called along a chain of blocks."""
+    instrs, entries = ["call 1 0", "end"], []
+    for block in range(1, callers + 1):
+        entries.append(len(instrs))
+        instrs += [f"call {block + 1} 1", "return"]
+    entries.append(len(instrs))
+    instrs += ["fork 0", "return", "end"]
+    layouts = [layout(0, 0, "-", [1] * variables, range(2, variables + 2))]
+    layouts += [layout(block + 1, entry, 0) for block, entry in enumerate(entries)]
+    return code(layouts, instrs, [child(0, 0, len(instrs) - 1, range(2, variables + 2))])
+
+
+def wide_frame(variables=6_300_000):
+    """Accepted: as many variables as a file has room for. Its run is F12."""
+    return code([layout(0, 0, "-", [1] * variables, range(2, variables + 2))], ["end"])
+
+
+def nested_blocks(blocks=500_000):
+    """Accepted: each block is inside the one before, and calls the next one."""
+    instrs = ["call 1 0", "end"]
+    layouts = [layout(0, 0, "-", [1], [2])]
+    for block in range(1, blocks + 1):
+        layouts.append(layout(block, len(instrs), block - 1))
+        if block < blocks:
+            instrs.append(f"call {block + 1} 0")
+        instrs.append("return")
+    return code(layouts, instrs)
+
+
+def far_outward(blocks=200_000):
+    """Accepted: each block, inside the one before, loads a variable of the program."""
+    instrs = ["call 1 0", "end"]
+    layouts = [layout(0, 0, "-", [1], [2])]
+    for block in range(1, blocks + 1):
+        layouts.append(layout(block, len(instrs), block - 1))
+        instrs += [f"addr {block} 2", "load", "write int", "return"]
+    return code(layouts, instrs)
+
+
+def joins_of_stacks(operands=300_000, jumps=300_000):
+    """Accepted: a deep stack that many jumps bring to one instruction."""
+    instrs = ["const 1"] * operands
+    end = operands + 2 * jumps
+    for k in range(jumps):
+        instrs += ["const 1", f"jumpf {end}"]
+    # the operands go
+    for _ in range(operands - 1):
+        instrs.append("and")
+    instrs += ["write int", "end"]
+    return code([layout(0, 0, "-", [1], [2])], instrs)
+
+
+def messages_of_types(kinds=250_000):
+    """Accepted: sends of many message types."""
+    instrs = []
+    for k in range(kinds):
+        instrs += ["addr 0 2", "loadc", "const 1", f"send {k}"]
+    instrs.append("end")
+    return code([layout(0, 0, "-", [1], [2])], instrs)
+
+
+def many_children(children=1_000_000):
+    """Accepted: a fork with as many children as there is code for."""
+    instrs = ["fork 0", "end"] + ["end"] * children
+    return code([layout(0, 0, "-", [1], [2])], instrs, [child(0, k, k + 2) for k in range(children)])
+
+
+def many_tables(tables=500_000):
+    """Accepted: forks one after another."""
+    instrs = [f"fork {k}" for k in range(tables)] + ["end"] + ["end"] * tables
+    return code([layout(0, 0, "-", [1], [2])], instrs, [child(k, 0, tables + 1 + k) for k in range(tables)])
+
+
+def long_loops():
+    """Refused by V9: jumps back over all of the code that pass no tick."""
+    half = MOST // 2 - 1
+    instrs = ["const 1", "jumpf 0"] * half + ["end"]
+    return code([layout(0, 0, "-", [1], [2])], instrs)
+
+
+def ticked_loops():
+    """Accepted: loops in loops, each with its tick."""
+    third = MOST // 3 - 1
+    instrs = []
+    for k in range(third):
+        instrs += ["tick", "const 1", f"jumpf {max(0, len(instrs) - 6)}"]
+    return code([layout(0, 0, "-", [1], [2])], instrs + ["end"])
+
+
+def long_text():
+    """Accepted: one string as long as a file may be."""
+    return code([layout(0, 0, "-", [1], [2])], ["end"], [], ["text " + "61" * ((LIMIT - 200) // 2) + "\n"])
+
+
+def many_texts():
+    """Accepted: strings one by one."""
+    return code([layout(0, 0, "-", [1], [2])], ["end"], [], ["text " + "61" * 28 + "\n"] * 1_000_000)
+
+
+def large_root():
+    """The run is F12: the frame of the program has 60,000,000 cells."""
+    return code([layout(0, 0, "-", [60_000_000], [2])], ["end"])
+
+
+def passed_along(blocks=2_000, formals=200):
+    """Accepted: each block passes its variable parameters on to the next one, and the last one loads them."""
+    instrs = [f"addr 0 {k + 2}" for k in range(formals)] + ["call 1 0", "end"]
+    layouts, new = [layout(0, 0, "-", [1] * formals, range(2, formals + 2))], formals + 2
+    for block in range(1, blocks + 1):
+        layouts.append(layout(block, len(instrs), 0, [1] * formals, range(new, new + formals),
+                              ["reference 1"] * formals))
+        new += formals
+        if block < blocks:
+            instrs += [f"deref 0 {k}" for k in range(formals)] + [f"call {block + 1} 1", "return"]
+        else:
+            instrs += [word for k in range(formals) for word in (f"deref 0 {k}", "load", "write int")] + ["return"]
+    return code(layouts, instrs)
+
+
+FILES = {
+    "blocks_and_outer": blocks_and_outer,
+    "chain_of_blocks": chain_of_blocks,
+    "ring_of_blocks": ring_of_blocks,
+    "operands_one_block": lambda: operands_of_calls(200_000, 280_000, 1),
+    "operands_of_blocks": lambda: operands_of_calls(4_000, 3_000, 900),
+    "references_one_block": lambda: operands_of_calls(200_000, 280_000, 1, True),
+    "references_of_blocks": lambda: operands_of_calls(3_000, 1_000, 700, True),
+    "forks_in_forks": forks_in_forks,
+    "forks_and_calls": forks_and_calls,
+    "lists_and_callers": lists_and_callers,
+    "wide_frame": wide_frame,
+    "nested_blocks": nested_blocks,
+    "far_outward": far_outward,
+    "joins_of_stacks": joins_of_stacks,
+    "messages_of_types": messages_of_types,
+    "many_children": many_children,
+    "many_tables": many_tables,
+    "long_loops": long_loops,
+    "ticked_loops": ticked_loops,
+    "long_text": long_text,
+    "many_texts": many_texts,
+    "large_root": large_root,
+    "passed_along": passed_along,
+}
