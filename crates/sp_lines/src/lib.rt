@@ -21,7 +21,6 @@
 //! To know:
 //! - `specs/Marks.antt` says them clause by clause as `Emitted` of `sp_code` says the code.
 //! - It recurses as deep as the tree is.
-//! - Nothing calls it yet: it is for commands that tell a journal, and the state after it, with places of the text.
 //!
 //! To change:
 //! - A form: its clause in `specs/Marks.antt` beside that in `Emitted`, its arm in `src/statements.rt` or

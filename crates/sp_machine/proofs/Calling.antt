@@ -240,7 +240,7 @@ take_all s l es e h = take_from s.map (next_frame s) 0 l.formals es l.sizes e h
 
 -- ---- what the definition makes of a call
 
-entries_append : (os ps : List Operand) → entries_of (os ++ ps) ≡ entries_of os ++ entries_of ps
+pub entries_append : (os ps : List Operand) → entries_of (os ++ ps) ≡ entries_of os ++ entries_of ps
 entries_append [] ps = refl
 entries_append (o ∷ os) ps = ap (λ (es : List m.Entry). entry_of o ∷ es) (entries_append os ps)
 

@@ -9,3 +9,4 @@ pub mod Resuming
 pub mod Placing
 pub mod Planning
 pub mod Giving
+pub mod Returning

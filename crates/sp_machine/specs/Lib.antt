@@ -8,3 +8,4 @@ pub mod Arguments
 pub mod Answers
 pub mod Codes
 pub mod Children
+pub mod Calls

@@ -26,14 +26,14 @@ pub enum Home {
 #[derive(Drop)]
 pub struct Frame {
     /// The process that made it.
-    pub(crate) owner: u32,
+    pub owner: u32,
     /// Its number in that one's store.
-    pub(crate) number: u64,
-    pub(crate) home: Home,
+    pub number: u64,
+    pub home: Home,
     /// How many frames there are from the enclosing one on.
     pub(crate) link: usize,
     /// What the variable parameters stand for, by their numbers.
-    pub(crate) references: List<(u32, Address)>,
+    pub references: List<(u32, Address)>,
 }
 
 /// The live frames of a process, the newest last in memory: the visible ones of those that it shares with others, and
@@ -143,7 +143,7 @@ impl Frames {
     }
 
     /// How many there are.
-    pub(crate) fn len(&self) -> usize
+    pub fn len(&self) -> usize
         ensures { result ≡ length self.now }
     {
         count_in(self.shared.items(), self.visible, self.own.items())
@@ -151,7 +151,7 @@ impl Frames {
 
     /// The frame at a place, counted from the oldest.
     #[tactic(auto, using(crate::proofs::Framing::within_parts))]
-    pub(crate) fn at(&self, place: usize) -> &Frame
+    pub fn at(&self, place: usize) -> &Frame
         requires { place < length self.now }
         ensures { last_frames (place + 1) self.now ≡ frame_of result.now ∷ last_frames place self.now }
     {
@@ -279,7 +279,7 @@ fn copy_frames(alloc: Global, to: &mut List<Frame>, frames: &[Frame]) -> Result<
 
 // What the variable parameter of this number stands for.
 #[tactic(auto, using(crate::proofs::Framing::referred_on, crate::proofs::Framing::referred_here, crate::proofs::Framing::referred_end))]
-pub(crate) fn referred(variable: u32, references: &[(u32, Address)]) -> Option<Address>
+pub fn referred(variable: u32, references: &[(u32, Address)]) -> Option<Address>
     ensures { result ≡ reference_target variable references.now }
 {
     for r in references {

@@ -28,7 +28,7 @@ fn search(layouts: &[Layout], block: u32) -> Option<&Layout>
 
 /// The layout of a block. In most code it stands at the block's number.
 #[tactic(auto, using(crate::proofs::Finding::layout_found))]
-pub(crate) fn layout_of(code: &Code, block: u32) -> Option<&Layout>
+pub fn layout_of(code: &Code, block: u32) -> Option<&Layout>
     requires { HasDistinctBlocks code.now.layouts }
     ensures { option_copied result ≡ layout_of code.now.layouts block }
 {

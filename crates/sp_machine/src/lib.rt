@@ -4,6 +4,9 @@
 //! Calls:
 //! - `Proc::root`: process 0 of a run of code on an input, with the frame of the program, at its first instruction.
 //! - `Proc::number`, `store`: its number in the run, and its variables.
+//! - `Proc::next`, `at`: its next instruction, and the one at which its last turn ended. `frames`, `returns`: its live
+//!   frames, and where its live calls return. `layout_of`, `referred`: the layout of a frame's block, and what a
+//!   variable parameter of a frame stands for.
 //! - `Proc::turn`: runs it to its next stop, or until it is due: exactly the turn that `sp_code` defines (`IsTurnOf`),
 //!   of code that is ranked from there and a turn that lacks nothing (`CanTurn`).
 //! - `Proc::enter`: at its entry in the journal, from which on its ticks count for the next pause.
@@ -45,8 +48,10 @@ mod steps;
 mod stops;
 mod turn;
 mod variables;
+mod views;
 
-pub use frames::{Frame, Frames, Home};
+pub use frames::{Frame, Frames, Home, referred};
+pub use layouts::layout_of;
 pub use proc::{Answer, Proc};
 pub use stack::{Operand, Stack};
 pub use state::{State, Stop};

@@ -174,6 +174,13 @@ impl Proc {
 }
 
 impl Proc {
+    /// All that it is.
+    pub(crate) fn state(&self) -> &State
+        ensures { result.now ≡ self.now }
+    {
+        &self.state
+    }
+
     /// Puts another store in place of its own.
     pub(crate) fn put_store(&mut self, store: Store)
         ensures { self.new ≡ record self.old { store = store } }

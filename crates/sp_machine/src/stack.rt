@@ -197,6 +197,13 @@ impl Stack {
         &entries[entries.len() - count..]
     }
 
+    /// All entries, the lowest first.
+    pub(crate) fn entries(&self) -> &[Operand]
+        ensures { result.now ≡ reverse self.now }
+    {
+        self.entries.as_slice()
+    }
+
     /// So many entries from the top go.
     #[tactic(auto, using(crate::proofs::Stacking::drop_more, crate::proofs::Stacking::some_left))]
     pub(crate) fn drop_top(&mut self, count: usize)

@@ -271,6 +271,13 @@ impl Store {
         matches!(self.slots.find(spot), Some(Entry::Away))
     }
 
+    /// The spots that were moved here when the store was made.
+    pub fn moved(&self) -> &[Spot]
+        ensures { result.now ≡ self.now.moved }
+    {
+        self.moved.items()
+    }
+
     /// What was written so far, or `None` where the output is not held.
     pub fn output(&self) -> Option<&[u8]>
         ensures { MatchOption result (output_of (map.get self.now.map output_spot) ≡ None)
