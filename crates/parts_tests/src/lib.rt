@@ -11,6 +11,7 @@
 //! - `journals` has worked journals and their texts, and long ones. `verdicts` has clocks (what a new, a raised and a
 //!   merged one knows), and the verdicts on journals written by hand; `witnesses` has the witness of a race. Both call
 //!   the laws of their crates once.
+//! - `traces` has the trace of a worked journal, and in it a value of each type.
 //! - `code` has the code that code files hold, `code_files` files that are read and written again, and the bad line of
 //!   others: lines left out, doubled and cut, and files with one byte changed.
 //! - `verified` says what `verify` says of a file, and has rows: a file in which parts are open, and what is said of it
@@ -59,6 +60,8 @@ mod reports;
 mod rounds;
 #[cfg(test)]
 mod stores;
+#[cfg(test)]
+mod traces;
 #[cfg(test)]
 mod verdicts;
 #[cfg(test)]

@@ -1,0 +1,4 @@
+pub mod Forms
+pub mod Filling
+pub mod Cutting
+pub mod Tracing
