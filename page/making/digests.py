@@ -2,15 +2,15 @@
 from __future__ import annotations
 
 import hashlib
-import json
 import os
-import re
+
+from kept import about_of
 
 PAGE = os.path.dirname(os.path.dirname(os.path.realpath(__file__)))
 TOP = os.path.dirname(PAGE)
 OWN_FOLDERS = ("page/system", "page/making", "page/site", "examples")
 OWN_FILES = ("page/build", "docs/LANGUAGE.md", "docs/COMMANDS.md", "docs/TUTORIAL.md",
-             "editors/superpascal.tmLanguage.json")
+             "editors/vscode/superpascal.tmLanguage.json")
 
 
 def crates_of_the_program() -> list[str]:
@@ -74,14 +74,12 @@ def newer_parts(page: str) -> list[str]:
     """What has changed since the page was made, a line for each part."""
     if not os.path.exists(page):
         return ["page/superpascal.html is not there: page/build makes it"]
-    with open(page, encoding="utf-8") as file:
-        got = re.search(r'<script id="about" type="application/json">(.*?)</script>', file.read(), flags=re.S)
-    about = json.loads(got[1]) if got else {}
+    about = about_of(page)
     wrong = []
     if about.get("program") != program_digest():
-        wrong.append("the sources of the program are not those of page/superpascal.html: page/build makes it anew")
+        wrong.append("the sources of the program are not those of page/superpascal.html: page/build makes it again")
     if about.get("page") != page_digest():
-        wrong.append("the sources of the page are not those of page/superpascal.html: page/build makes it anew")
+        wrong.append("the sources of the page are not those of page/superpascal.html: page/build --site takes them in")
     if not about.get("proved"):
         wrong.append("the program in page/superpascal.html is not proved")
     return wrong

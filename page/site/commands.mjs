@@ -128,6 +128,13 @@ const COMMANDS = {
   gen: generate,
 };
 
+/** Brings the result into view, where it stands below the text or was scrolled away. */
+function bringIntoView() {
+  const { top, bottom } = $("verdict").getBoundingClientRect();
+  const isTwo = !$("other-view").hidden;
+  if (!isTwo && (top < 0 || bottom > innerHeight)) $("result").scrollIntoView({ block: "start" });
+}
+
 /** Performs a command, where none is at work. */
 export async function perform(command) {
   if (page.isBusy) return;
@@ -136,9 +143,11 @@ export async function perform(command) {
   if (wrong) {
     $("options-part").open = true;
     say("bad", wrong);
+    bringIntoView();
     return;
   }
   setBusy(true);
+  bringIntoView();
   try {
     const result = await COMMANDS[command]();
     if (result) page.tutorial.look(result);
@@ -146,5 +155,6 @@ export async function perform(command) {
     say("bad", failureWords(String(error)));
   } finally {
     setBusy(false);
+    bringIntoView();
   }
 }

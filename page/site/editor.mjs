@@ -104,6 +104,14 @@ export class Editor {
     return [{ line: from.line, ch: Math.max(0, from.ch - 1) }, from];
   }
 
+  /** The word or the sign at a place, in quotes where there is one and it is short enough to be told. */
+  wordIn(line, column) {
+    const from = this.position(line, column);
+    const [start, end] = this.wordAt(from);
+    const word = this.mirror.getRange(start, end);
+    return start === from && word.length <= 40 ? `\u201c${word}\u201d` : "";
+  }
+
   /** Underlines the word at a place, with a mark beside its line and this message. */
   showProblem(line, column, message) {
     this.clearProblem();

@@ -143,7 +143,9 @@ function tellAbout() {
 async function begin() {
   beginTheme();
   tellAbout();
-  for (const name of ["", ...Object.keys(data.examples)]) $("examples").add(new Option(name));
+  Object.assign(data, JSON.parse(new TextDecoder().decode(await unpack($("packed-data").textContent))));
+  $("examples").add(new Option("your own text", ""));
+  for (const name of Object.keys(data.examples)) $("examples").add(new Option(name));
   page.options = new Options($("options"), data.options, keep);
   page.view = new RunView($("view"), data.handbook, onStep);
   page.otherView = new RunView($("other-view"), data.handbook, onStep);
@@ -159,8 +161,9 @@ async function begin() {
   page.editor.begin();
   await page.ready;
   if (!page.caller) return;
-  say("", `Ready, ${Math.round(performance.now())} ms after the page began to load.`);
-  document.body.dataset.ready = "yes";
+  say("", "Ready. Press Run, choose an example, or begin with the tutorial.");
+  document.body.dataset.ready = Math.round(performance.now());
+  $("figures").textContent = `Ready ${document.body.dataset.ready} ms after the page began to load.`;
   check();
 }
 

@@ -1,5 +1,6 @@
 // Showing what a call came to: the verdict in words, output and notes, the picture of the run.
 import { input } from "./calling.mjs";
+import { MOST_ENTRIES } from "./diagram.mjs";
 import { $, encode, inCode, paragraph } from "./elements.mjs";
 import { History } from "./history.mjs";
 import { readNotes } from "./notes.mjs";
@@ -60,7 +61,9 @@ export function show(result, title = "Output", file = "output.txt") {
   showNotes(outcome, result);
   if (outcome.refused) {
     const { rule, line, column } = outcome.refused;
-    say("bad", `Refused: the rule ${rule} is broken at line ${line}, column ${column}.`);
+    const word = page.editor.wordIn(line, column);
+    const there = word ? `, at ${word}` : "";
+    say("bad", `Refused: the rule ${rule} is broken at line ${line}, column ${column}${there}.`);
     $("details").replaceChildren(...handbookWords(rule));
     page.editor.goTo(line, column, false);
   } else if (outcome.end) {
@@ -84,7 +87,9 @@ function opening(outcome, history) {
   }
   const fault = history.entries.findIndex((entry) => entry.kind === "fault");
   if (fault >= 0) return { at: fault + 1, marks: [fault] };
-  return { at: all, marks: outcome.end && outcome.end.kind === "deadlock" ? history.pendingAfter(all) : [] };
+  if (outcome.end && outcome.end.kind === "deadlock") return { at: all, marks: history.pendingAfter(all) };
+  // (of a long run that went well the first part, as it is drawn)
+  return { at: Math.min(all, MOST_ENTRIES), marks: [] };
 }
 
 /** Shows the picture of a run whose entries are known, and asks for its places. `words` are its options. */

@@ -2,8 +2,8 @@
 import { $, inCode, paragraph, element } from "./elements.mjs";
 import { rowOf } from "./sentences.mjs";
 
-/** Examples, rules and faults, options, steps of the tutorial, the grammar of the editor. */
-export const data = JSON.parse($("data").textContent);
+/** Examples, rules and faults, options, steps of the tutorial, the grammar of the editor: unpacked at the start. */
+export const data = {};
 
 /** Of which commit the program is, and its digests. */
 export const about = JSON.parse($("about").textContent);
@@ -23,5 +23,6 @@ export function handbookWords(name) {
   const row = rowOf(data.handbook, name);
   if (!row) return [];
   const title = element("b", { textContent: row.title });
-  return [paragraph(title, `. ${row.says}`), paragraph("An example: ", inCode(row.example))];
+  const does = name.startsWith("F") ? "meets" : "breaks";
+  return [paragraph(title, `. ${row.says}`), paragraph(`A program that ${does} it: `, inCode(row.example))];
 }

@@ -2,6 +2,7 @@
 import base64
 import json
 import os
+import shutil
 import socket
 import subprocess
 import tempfile
@@ -27,13 +28,26 @@ class Chromium:
         self.downloads = tempfile.mkdtemp()
         quiet = {"stdout": subprocess.DEVNULL, "stderr": subprocess.DEVNULL}
         self.process = subprocess.Popen(["chromedriver", "--port=%d" % port], **quiet)
-        for _ in range(200):
+        try:
+            self.begin(wide, high, more)
+        except (Trouble, OSError):
+            self.process.kill()
+            self.process.wait()
+            raise
+
+    def begin(self, wide, high, more):
+        """Waits for the driver, a minute at most, and has it start the browser."""
+        last = time.time() + 60
+        while True:
             try:
                 self.call("GET", "/status")
                 break
             except OSError:
+                if time.time() > last or self.process.poll() is not None:
+                    raise
                 time.sleep(0.1)
-        words = ["--headless=new", "--no-sandbox", "--disable-gpu", "--window-size=%d,%d" % (wide, high), *more]
+        words = ["--headless=new", "--no-sandbox", "--disable-gpu", "--disable-dev-shm-usage", "--window-size=%d,%d" % (wide, high),
+                 *more]
         prefs = {"download.default_directory": self.downloads}
         wanted = {"goog:loggingPrefs": {"browser": "ALL", "performance": "ALL"},
                   "timeouts": {"script": 120000, "pageLoad": 120000},
@@ -46,7 +60,7 @@ class Chromium:
         data = None if body is None else json.dumps(body).encode()
         asked = urllib.request.Request(self.base + path, data, {"Content-Type": "application/json"}, method=method)
         try:
-            with urllib.request.urlopen(asked, timeout=150) as answer:
+            with urllib.request.urlopen(asked, timeout=300) as answer:
                 return json.load(answer)["value"]
         except urllib.error.HTTPError as error:
             raise Trouble(error.read().decode()[:1000]) from error
@@ -102,9 +116,12 @@ class Chromium:
     def close(self):
         try:
             self.call("DELETE", self.session)
-        finally:
-            self.process.terminate()
-            self.process.wait()
+        except (Trouble, OSError):
+            # (it has ended already)
+            pass
+        self.process.terminate()
+        self.process.wait()
+        shutil.rmtree(self.downloads, ignore_errors=True)
 
 
 class Firefox:

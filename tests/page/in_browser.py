@@ -1,10 +1,10 @@
 #!/usr/bin/env python3
 """Opens page/superpascal.html in a browser from its file, and does what a user does.
 
-    tests/page/in_browser.py [--firefox] [--pictures FOLDER]
+    tests/page/in_browser.py [--firefox] [--page FILE] [--pictures FOLDER] [--without-examples] [--times]
 
 In Firefox, which is tried by hand at a release, all but what needs keys or the browser's own tools. Prints what is
-wrong, and how many checks were made.
+wrong, and how many checks were made. If Chromium does not start, that is said, and nothing is wrong.
 """
 import json
 import os
@@ -15,12 +15,14 @@ from browser import Chromium, Firefox, Trouble
 
 HERE = os.path.dirname(os.path.abspath(__file__))
 TOP = os.path.join(HERE, "..", "..")
-PAGE = "file://" + os.path.realpath(os.path.join(TOP, "page", "superpascal.html"))
+PAGE = os.path.join(TOP, "page", "superpascal.html")
 DATA = os.path.join(TOP, "crates", "gallery", "data")
-READY_IN = 3000  # milliseconds on a machine that has nothing else to do; seen there: 400
-STOPPED_IN = 2  # seconds, there too
+# What is far too long on a machine that has nothing else to do.
+READY_IN = 5000  # milliseconds; seen: 400
+STOPPED_IN = 5  # seconds; seen: 0.1
 ESCAPE, TAB, ENTER, CONTROL, RIGHT = "\ue00c", "\ue004", "\ue007", "\ue009", "\ue014"
 MIRROR = "document.querySelector('.CodeMirror').CodeMirror"
+STORED = "(JSON.parse(localStorage.getItem('superpascal')) || {}).text == given[1]"
 CHOOSE_STEP = "const it = document.querySelector('#lesson select'); it.selectedIndex = given[0]; it.onchange()"
 # The buttons of the tutorial's commands; what the page prints below one of them, which is pressed.
 DEEDS = """const deeds = [...document.querySelectorAll('#lesson button')]
@@ -42,8 +44,9 @@ def read(name):
 class Test:
     """The page in a browser, and the checks that are made."""
 
-    def __init__(self, browser, pictures):
+    def __init__(self, browser, page, pictures=""):
         self.browser, self.pictures = browser, pictures
+        self.address = "file://" + os.path.realpath(page)
         self.checks, self.wrong = 0, 0
 
     def expect(self, found, wanted, what):
@@ -62,17 +65,17 @@ class Test:
         if self.pictures:
             self.browser.shot(os.path.join(self.pictures, name + ".png"))
 
-    def wait(self, condition, what, seconds=60):
-        """Waits until a script says so."""
-        script = """for (let n = 0; n < given[0] * 20; n++) {
+    def wait(self, condition, what, *values):
+        """Waits until a script says so, a minute at most; the values are given[1] and so on in it."""
+        script = """for (const begun = Date.now(); Date.now() - begun < given[0];) {
             if (%s) return true;
-            await new Promise((go) => setTimeout(go, 50));
+            await new Promise((go) => setTimeout(go, 20));
         } return false;""" % condition
-        self.expect_that(self.browser.run(script, seconds), what)
+        self.expect_that(self.browser.run(script, 60000, *values), what)
 
     def open(self, hash_part="", is_first=False):
         self.browser.go("about:blank")
-        self.browser.go(PAGE + hash_part)
+        self.browser.go(self.address + hash_part)
         self.wait("document.body && document.body.dataset.ready", "the page is ready")
         if is_first:
             self.browser.run("localStorage.clear()")
@@ -105,7 +108,9 @@ class Test:
         """Opens a text as a code file, through the field of files."""
         self.browser.run("""const field = document.getElementById('file'), files = new DataTransfer();
             files.items.add(new File([given[0]], 'text.code')); field.files = files.files;
-            field.dispatchEvent(new Event('change')); await new Promise((go) => setTimeout(go, 300));""", text)
+            document.getElementById('verdict').textContent = '';
+            field.dispatchEvent(new Event('change'));""", text)
+        self.wait("document.getElementById('verdict').textContent", "the code file is opened")
 
 
 def whole_notes(test):
@@ -135,6 +140,9 @@ def test_examples(test):
         if line.startswith("#"):
             continue
         name, _, *words = line.split()
+        if not test.is_there("[data-command=%s]" % words[0]):
+            # (trace and where have no button: the page calls them itself)
+            continue
         output, notes = run_example(test, name, words)
         test.expect(output, read(name + ".out"), "output of " + name)
         if notes is None:
@@ -177,14 +185,17 @@ def test_commands(test):
 def test_live_check(test):
     """A refused place is underlined a moment after the last key, with its rule beside it."""
     test.put("program a;\nvar x: integer;\nbegin\n  y := 1\nend.\n")
-    test.wait("document.getElementById('problem').textContent.includes('N1')", "the rule is told", 10)
+    test.wait("document.getElementById('problem').textContent.includes('N1')", "the rule is told")
     found = test.browser.run("return document.querySelector('.problem').textContent")
     test.expect(found, "y", "what is underlined")
     test.expect_that(test.text("problem").startswith("4:3"), "its place", test.text("problem"))
+    test.command("run")
+    said = "Refused: the rule N1 is broken at line 4, column 3, at \u201cy\u201d."
+    test.expect(test.text("verdict"), said, "a run that is refused")
     test.put("program a;\n{ \u00e4\u00f6 } begin y end.\n")
-    test.wait("document.getElementById('problem').textContent.startsWith('2:')", "a place behind other letters", 10)
+    test.wait("document.getElementById('problem').textContent.startsWith('2:')", "a place behind other letters")
     test.put(read("answer.sp"))
-    test.wait("document.getElementById('problem').textContent.includes('keeps all rules')", "no rule is broken", 10)
+    test.wait("document.getElementById('problem').textContent.includes('keeps all rules')", "no rule is broken")
 
 
 def slider(test, view="view"):
@@ -239,6 +250,7 @@ def test_race(test):
     test.put(read("sieve.sp"))
     test.command("run")
     test.picture("sieve")
+    test.expect(slider(test), [400, 433], "a long run opens at the end of the first part that is drawn")
     many = test.browser.run("return document.querySelectorAll('#view [data-fold]').length")
     test.expect_that(many > 0, "processes that can be folded")
     test.click("#view [data-fold]")
@@ -257,16 +269,16 @@ def test_link_and_storage(test):
     text = "program mine;\n{ \u00e4 \u20ac }\nbegin\n  write('it''s')\nend.\n"
     test.put(text, "1 2 3\n", [["ticks", "77"]])
     test.browser.run("document.getElementById('link').click()")
-    test.wait("location.hash.startsWith('#s=')", "a link", 10)
+    test.wait("location.hash.startsWith('#s=')", "a link")
     address = test.browser.run("return location.hash")
     test.put("program other; begin end.")
-    time.sleep(0.6)
+    test.wait(STORED, "the storage has another text", "program other; begin end.")
     fields = "['input', 'option-ticks'].map((it) => document.getElementById(it).value)"
     state = "return [%s.getValue(), ...%s]" % (MIRROR, fields)
     test.open(address)
     test.expect(test.browser.run(state), [text, "1 2 3\n", "77"], "what a link carries")
     test.put("program kept; begin end.", "9")
-    time.sleep(0.6)
+    test.wait(STORED, "the storage has the text", "program kept; begin end.")
     test.open()
     test.expect(test.browser.run(state)[:2], ["program kept; begin end.", "9"], "what the storage keeps")
     test.open("#s=AAAA")
@@ -277,14 +289,23 @@ def test_stop(test):
     """A run without end is stopped at once, and the page goes on."""
     test.put("program e; begin while true do end.", options=[["ticks", "1000000000"]])
     test.browser.run("document.querySelector('[data-command=run]').click()")
-    test.wait("/ [1-9]\\d* s/.test(document.getElementById('verdict').textContent)", "progress", 20)
+    test.wait("/ [1-9]\\d* s/.test(document.getElementById('verdict').textContent)", "progress")
     begun = time.time()
     test.browser.run("document.getElementById('stop').click()")
-    test.wait("document.getElementById('verdict').textContent == 'Stopped.'", "stopped", 10)
+    test.wait("document.getElementById('verdict').textContent == 'Stopped.'", "stopped")
     test.expect_that(time.time() - begun < STOPPED_IN * slowness(), "at once", time.time() - begun)
     test.put(read("answer.sp"))
     test.command("run")
     test.expect(test.text("output"), "42\n", "a run behind it")
+
+
+def drop(test, name, data):
+    """Drops a file onto the page, and waits until the page has said what it made of it."""
+    test.browser.run("""const files = new DataTransfer();
+        files.items.add(new File([Uint8Array.from(given[1])], given[0]));
+        document.getElementById('verdict').textContent = '';
+        window.dispatchEvent(new DragEvent('drop', {dataTransfer: files, cancelable: true}));""", name, list(data))
+    test.wait("document.getElementById('verdict').textContent", "the page takes " + name)
 
 
 def test_troubles(test):
@@ -294,15 +315,12 @@ def test_troubles(test):
     test.expect_that("too deep for the browser's stack" in test.text("verdict"), "a deep text", test.text("verdict"))
     test.browser.run("""%s.replaceRange('x'.repeat(64 << 20), {line: 0, ch: 0})""" % MIRROR)
     test.expect_that(test.text("verdict").startswith("A text may have 1,048,576 bytes"), "64 MB", test.text("verdict"))
-    drop = """const files = new DataTransfer(); files.items.add(new File([Uint8Array.from(given[1])], given[0]));
-        window.dispatchEvent(new DragEvent('drop', {dataTransfer: files, cancelable: true}));
-        await new Promise((go) => setTimeout(go, 300));"""
-    test.browser.run(drop, "a.sp", [0xff, 0xfe, 0x00])
+    drop(test, "a.sp", [0xff, 0xfe, 0x00])
     test.expect(test.text("verdict"), "a.sp is no text: its bytes are no UTF-8.", "a file that is no text")
-    test.browser.run(drop, "b.sp", list(b"program dropped; begin write(7) end.\n"))
+    drop(test, "b.sp", b"program dropped; begin write(7) end.\n")
     test.command("run")
     test.expect(test.text("output"), "7", "a file that was dropped")
-    test.browser.run(drop, "c.in", list(b"5 6\n"))
+    drop(test, "c.in", b"5 6\n")
     test.expect(test.browser.run("return document.getElementById('input').value"), "5 6\n", "an input that was dropped")
     test.put("program e;\nvar i: integer;\nbegin\n  for i := 1 to 90000 do write('abcdefgh')\nend.\n")
     test.command("run")
@@ -360,6 +378,9 @@ def test_phone(test):
     wide = "return [document.documentElement.scrollWidth, innerWidth]"
     found = test.browser.run(wide)
     test.expect_that(found[0] <= found[1], "nothing is wider than the screen", found)
+    seen = "const it = document.getElementById('verdict').getBoundingClientRect(); return [it.top, it.bottom, innerHeight]"
+    top, bottom, high = test.browser.run(seen)
+    test.expect_that(0 <= top < bottom <= high, "a run brings its result into view", (top, bottom, high))
     test.picture("phone")
     test.browser.tool("Emulation.clearDeviceMetricsOverride")
     test.browser.tool("Emulation.setEmulatedMedia", features=[{"name": "prefers-color-scheme", "value": "dark"}])
@@ -374,7 +395,7 @@ def test_keys(test):
     test.open()
     test.browser.run("%s.setValue(given[0]); %s.focus()" % (MIRROR, MIRROR), read("race.sp"))
     test.browser.keys((CONTROL, ENTER))
-    test.wait("document.getElementById('output').textContent == '12\\n'", "Ctrl-Enter runs", 20)
+    test.wait("document.getElementById('output').textContent == '12\\n'", "Ctrl-Enter runs")
     test.browser.run("%s.setValue('begin'); %s.focus(); %s.setCursor(0, 5)" % (MIRROR, MIRROR, MIRROR))
     test.browser.keys("x", TAB, "y")
     test.expect(test.browser.run("return %s.getValue()" % MIRROR), "beginx  y", "keys and Tab")
@@ -383,7 +404,7 @@ def test_keys(test):
     test.expect_that(test.browser.run("return %s.getValue()" % MIRROR) != "beginx  y", "Ctrl-Z takes back")
     test.browser.run("%s.setValue(given[0]); %s.focus()" % (MIRROR, MIRROR), read("race.sp"))
     test.browser.keys((CONTROL, "f"))
-    test.wait("document.querySelector('.CodeMirror-dialog input')", "Ctrl-F opens the search", 5)
+    test.wait("document.querySelector('.CodeMirror-dialog input')", "Ctrl-F opens the search")
     test.browser.keys(*"c, 2", ENTER, ESCAPE)
     test.expect(test.browser.run("return %s.getSelection()" % MIRROR), "c, 2", "what is searched is found")
     test.browser.run("%s.focus()" % MIRROR)
@@ -397,12 +418,10 @@ def test_keys(test):
     test.browser.move_to("#view .event circle")
     test.expect_that(test.is_there("#view .tooltip:not([hidden])"), "what the pointer is on is told")
     test.browser.press("#save")
-    names = []
-    for _ in range(100):
-        names = [name for name in os.listdir(test.browser.downloads) if not name.startswith(".")]
-        if names and not names[0].endswith(".crdownload"):
-            break
+    names, last = [], time.time() + 60
+    while time.time() < last and (not names or names[0].endswith(".crdownload")):
         time.sleep(0.1)
+        names = [name for name in os.listdir(test.browser.downloads) if not name.startswith(".")]
     test.expect([name[-3:] for name in names], [".sp"], "the text is saved")
     with open(os.path.join(test.browser.downloads, names[0]), encoding="utf-8") as file:
         test.expect(file.read(), read("race.sp"), "what is saved")
@@ -454,8 +473,8 @@ def test_places(test):
     test.put(read("philosophers.sp"))
     test.command("run")
     circle = "0/0.0 \u2192 0/0.1 \u2192 0/0.2 \u2192 0/0.0"
-    test.wait("document.getElementById('details').textContent.includes('%s')" % circle, "the circle is told", 10)
-    test.wait("document.querySelector('#view table').textContent.includes('borrowed = undefined')", "variables", 10)
+    test.wait("document.getElementById('details').textContent.includes('%s')" % circle, "the circle is told")
+    test.wait("document.querySelector('#view table').textContent.includes('borrowed = undefined')", "variables")
     test.expect_that("philosopher (called at line 26)" in test.text("view"), "calls", test.text("view")[-300:])
     line = "return [...document.querySelectorAll('.place-current')].map((it) => it.parentNode.textContent.trim())"
     test.expect_that("receive(right, borrowed)" in str(test.browser.run(line)), "its line", test.browser.run(line))
@@ -468,10 +487,10 @@ def test_places(test):
     test.browser.tool("Page.removeScriptToEvaluateOnNewDocument", identifier=added["identifier"])
 
 
-def refused_memory():
+def refused_memory(page):
     """A browser that gives a page 100 MB: a run that wants more ends out of memory, and the page goes on."""
     browser = Chromium(more=["--js-flags=--wasm-max-mem-pages=1600"])
-    test = Test(browser, "")
+    test = Test(browser, page)
     try:
         test.open()
         test.put("program m;\ntype row = array [1..1000000] of integer;\nvar x: integer;\n"
@@ -493,30 +512,51 @@ EVERYWHERE = (test_examples, test_commands, test_live_check, test_philosophers, 
 IN_CHROMIUM = (test_places, test_phone, test_keys, test_print, test_quiet)
 
 
-def main(words):
-    is_firefox = "--firefox" in words
-    pictures = words[words.index("--pictures") + 1] if "--pictures" in words else ""
-    browser = Firefox() if is_firefox else Chromium()
-    test = Test(browser, pictures)
+def all_parts(test, parts, has_times):
+    """Makes these parts of the test; what a browser cannot do is wrong, and the next part begins."""
+    test.open(is_first=True)
+    ready = int(test.browser.run("return document.body.dataset.ready"))
+    test.expect_that(ready <= READY_IN * slowness(), "ready soon", "%d ms" % ready)
+    for part in parts:
+        begun = time.time()
+        try:
+            part(test)
+        except Trouble as trouble:
+            test.expect_that(False, part.__name__, str(trouble)[:300])
+        if has_times:
+            print("%5.1f s  %s" % (time.time() - begun, part.__name__))
+    return ready
+
+
+def start(is_firefox):
+    """The browser, or nothing if it does not start."""
     try:
-        test.open(is_first=True)
-        ready = int("".join(filter(str.isdigit, test.text("verdict"))) or 0)
-        test.expect_that(ready <= READY_IN * slowness(), "ready soon", "%d ms" % ready)
-        for part in EVERYWHERE + (() if is_firefox else IN_CHROMIUM):
-            try:
-                begun = time.time()
-                part(test)
-                if "--times" in words:
-                    print("%5.1f s  %s" % (time.time() - begun, part.__name__))
-            except Trouble as trouble:
-                test.expect_that(False, part.__name__, str(trouble)[:300])
-        if not is_firefox:
-            other = refused_memory()
-            test.checks, test.wrong = test.checks + other.checks, test.wrong + other.wrong
-        name = "Firefox" if is_firefox else "Chromium"
-        print("%s %s: ready in %d ms, %d checks, %d wrong" % (name, browser.version, ready, test.checks, test.wrong))
+        return Firefox() if is_firefox else Chromium()
+    except (Trouble, OSError) as trouble:
+        print("skipped: the page in a browser, as none starts here: " + str(trouble).split("\n", maxsplit=1)[0][:200])
+        return None
+
+
+def main(words):
+    named = {name: words[words.index(name) + 1] for name in ("--page", "--pictures") if name in words}
+    is_firefox, page = "--firefox" in words, named.get("--page", PAGE)
+    parts = EVERYWHERE + (() if is_firefox else IN_CHROMIUM)
+    if "--without-examples" in words:
+        print("skipped: what the examples print in the page, since its program was made of other sources")
+        parts = tuple(part for part in parts if part is not test_examples)
+    browser = start(is_firefox)
+    if not browser:
+        return 0
+    test = Test(browser, page, named.get("--pictures", ""))
+    try:
+        ready = all_parts(test, parts, "--times" in words)
     finally:
         browser.close()
+    if not is_firefox:
+        other = refused_memory(page)
+        test.checks, test.wrong = test.checks + other.checks, test.wrong + other.wrong
+    name = "Firefox" if is_firefox else "Chromium"
+    print("%s %s: ready in %d ms, %d checks, %d wrong" % (name, browser.version, ready, test.checks, test.wrong))
     return 1 if test.wrong else 0
 
 
