@@ -33,9 +33,19 @@ def test(case):
         ("schedules", [], 20), ("schedules", ["race.sp", "0"], 20), ("schedules", ["nothing.sp", "3"], 22),
         ("schedules", ["mistyped.sp", "3"], 25), ("schedules", ["--journals", "no", "race.sp", "1"], 22),
         ("schedules", ["race.sp", "3", "--show", "all"], 20),
+        ("speedup", [], 20), ("speedup", ["race.sp", "3"], 20), ("speedup", ["nothing.sp"], 22),
+        ("speedup", ["--workers", "2,4", "race.sp"], 20), ("speedup", ["--workers", "1,x", "race.sp"], 20),
+        ("speedup", ["--times", "0", "race.sp"], 20), ("speedup", ["race.sp", "--workers", "2"], 20),
+        ("speedup", ["mistyped.sp"], 25), ("speedup", ["--times", "1", "--svg", "no/folder.svg", "race.sp"], 22),
+        ("speedup", ["--program", "./nothing", "race.sp"], 21),
+        ("compare", [], 20), ("compare", ["race.sp"], 20), ("compare", ["race.sp", "nothing.sp"], 22),
+        ("compare", ["race.sp", "mistyped.sp"], 25), ("compare", ["race.sp", "good.journal", "nothing.journal"], 22),
+        ("compare", ["race.sp", "good.journal", "cut.journal"], 23),
+        ("compare", ["race.sp", "good.journal", "none.journal"], 23),
+        ("compare", ["race.sp", "race.sp", "--show", "all"], 20),
     ]
     case.each(lambda it: refused(case, *it), table)
-    for tool in ("explain", "picture", "schedules"):
+    for tool in ("explain", "picture", "schedules", "speedup", "compare"):
         status, told, _ = case.tool(tool, ["--help"])
         case.check(status == 0 and told.count(b"Nothing is proved about this tool") == 1 and b"\n  24  " in told, tool + " --help")
     handed_on(case)

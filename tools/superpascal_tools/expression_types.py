@@ -36,6 +36,8 @@ class ExpressionTypes:
             self.starts.append(self.starts[-1] + len(line) + 1)
         self.block: Scope = standard_scope()
         self.findings: dict[tuple[str, Place], str] = {}
+        self.named: dict[int, Name] = {}
+        self.selected_of: Optional[Type] = None
         self.uses: list[tuple[int, Name, bool]] = []
         self.called: list[tuple[int, Scope]] = []
         self.actuals: list[tuple[Scope, list[tuple[Place, Name]]]] = []
@@ -72,6 +74,18 @@ class ExpressionTypes:
         self.at += 1
         return self.tokens[self.at - 1].word
 
+    def known(self) -> Optional[Name]:
+        """Takes a name, which has to be next: what it means here."""
+        self.name()
+        return self.look_up(self.at - 1)
+
+    def look_up(self, at: int) -> Optional[Name]:
+        """What the name at this token means here; the token is noted as one of its occurrences."""
+        declared = self.block.look_up(self.tokens[at].word)
+        if declared is not None:
+            self.named[at] = declared
+        return declared
+
     def stop(self) -> NoReturn:
         """The next token cannot stand there."""
         raise Stop()
@@ -100,8 +114,7 @@ class ExpressionTypes:
     # Variables.
     def target(self, purpose: str) -> Part:
         """A variable that is changed."""
-        first = self.at
-        declared = self.block.look_up(self.name())
+        first, declared = self.at, self.known()
         if declared is None:
             self.tell("N1", first, "")
         elif is_fixed(declared):
@@ -133,7 +146,9 @@ class ExpressionTypes:
 
     def field(self, record: Part) -> Optional[Type]:
         """The type of the field of a record."""
-        name, kind = self.name(), record.kind
+        self.selected_of = kind = record.kind
+        name = self.name()
+        self.selected_of = None
         if kind is None:
             return None
         if kind.form != "record":
@@ -142,7 +157,9 @@ class ExpressionTypes:
         if name not in kind.fields:
             self.tell("Y3", record.first, "%s has no field %s; the record %s has %s" % (
                 self.spelled(record.first, record.last), name, kind.name, ", ".join(kind.fields)))
-        return kind.fields.get(name)
+            return None
+        field = self.named[self.at - 1] = kind.fields[name]
+        return field.kind
 
     def element(self, array: Part) -> Optional[Type]:
         """The type of the element of an array; its index is next."""
@@ -225,7 +242,7 @@ class ExpressionTypes:
             part = self.factor()
             self.wanted(part, BOOLEAN, "not")
             return Part(BOOLEAN, first, self.at)
-        declared = self.block.look_up(self.name())
+        declared = self.known()
         if declared is None:
             self.tell("N1", first, "")
             return self.unknown(first)

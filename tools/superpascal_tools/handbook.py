@@ -5,6 +5,7 @@ import os
 import re
 import textwrap
 from functools import lru_cache
+from pathlib import Path
 from typing import Optional
 
 from .trouble import read_file
@@ -37,6 +38,13 @@ def rows(name: str) -> list[list[str]]:
 def rules_and_faults() -> dict[str, list[str]]:
     """The row of each rule and each fault, without its name."""
     return {cells[0]: cells[1:] for cells in rows("LANGUAGE.md") if re.fullmatch(r"[A-Z]\d+", cells[0])}
+
+
+@lru_cache(maxsize=None)
+def link(name: str) -> str:
+    """The address of the row of a rule or a fault."""
+    row = next((at for at, line in enumerate(page("LANGUAGE.md").split("\n"), 1) if line.startswith("| %s |" % name)), 1)
+    return "%s#L%d" % (Path(TOP, "docs", "LANGUAGE.md").as_uri(), row)
 
 
 def fault_name(fault: str) -> str:

@@ -10,10 +10,11 @@ from .uses import Reached, Uses
 
 
 class Said(NamedTuple):
-    """The words of the first line, and the lines of help after the line of the program."""
+    """The words of the first line, the lines of help after the line of the program, and what is at other places."""
 
     words: str
     more: list[str]
+    others: tuple[tuple[Place, str], ...] = ()
 
 
 OWN = ["Give each process statement a variable of its own, or let one own it and send its value to the others."]
@@ -46,7 +47,7 @@ def between_processes(outline: Outline, uses: Uses, place: Place) -> Said | None
                 for earlier in range(later):
                     said = clashes(outline, uses, (earlier, uses.reached(*parts[earlier])), (later, mine))
                     if said:
-                        return Said(said.words, ["In the parallel at %s:" % at(parallel)] + said.more)
+                        return said._replace(more=["In the parallel at %s:" % at(parallel)] + said.more)
     return None
 
 
@@ -67,13 +68,20 @@ def clashes(outline: Outline, uses: Uses, one: tuple[int, Reached], other: tuple
     ways = [uses.short((first, (first, True) in reached), reached) for _, reached in (one, other)]
     words = "process statements %d and %d share %s: %d %s, %d %s" % (
         one[0] + 1, other[0] + 1, first.name, one[0] + 1, ways[0], other[0] + 1, ways[1])
+    others = [elsewhere("process statement %d" % (number + 1), uses, (first, (first, True) in reached), reached)
+              for number, reached in (one, other)]
     streams = (outline.input, outline.output)
     if any(it in streams for it in those):
         lines.append(ONE_READS)
     if any(it not in streams for it in those):
         arrays = any(it.kind is not None and it.kind.form == "array" for it in those)
         lines.extend(OWN + [WHOLE] if arrays else OWN)
-    return Said(words, lines)
+    return Said(words, lines, tuple(others))
+
+
+def elsewhere(who: str, uses: Uses, key: tuple[Name, bool], reached: Reached) -> tuple[Place, str]:
+    """A place, and what is done there."""
+    return reached[key].place, "%s %s" % (who, uses.brief(key, reached))
 
 
 def of_forall(outline: Outline, uses: Uses, place: Place) -> Said | None:
@@ -87,7 +95,7 @@ def of_forall(outline: Outline, uses: Uses, place: Place) -> Said | None:
                 lines = ["The element statement %s." % uses.told((it, True), reached[it, True]) for it in those]
                 return Said("each process of this forall %s" % uses.short(key, reached), lines + [
                     "Let each process send its result on a channel of its own, to a process beside the forall that "
-                    "puts them together."])
+                    "puts them together."], (elsewhere("each process", uses, key, reached),))
     return None
 
 
@@ -96,8 +104,9 @@ def of_loop(outline: Outline, uses: Uses, place: Place) -> Said | None:
     for begun, variable, tokens in outline.loops:
         reached = uses.reached(*tokens)
         if begun == place and (variable, True) in reached:
-            told = uses.told((variable, True), reached[variable, True])
-            return Said("the body of this for %s" % uses.short((variable, True), reached), ["The body %s." % told])
+            key = (variable, True)
+            return Said("the body of this for %s" % uses.short(key, reached), [
+                "The body %s." % uses.told(key, reached[key])], (elsewhere("the body", uses, key, reached),))
     return None
 
 
@@ -109,7 +118,7 @@ def of_parameters(outline: Outline, _uses: Uses, place: Place) -> Said | None:
                 if here == place and other is variable:
                     return Said("%s is given to two variable parameters of %s: at %s and here" % (
                         variable.name, block.name, at(earlier)), ["Its heading, line %d: %s" % (
-                            block.place[0], block.heading)])
+                            block.place[0], block.heading)], ((earlier, "the same variable"),))
     return None
 
 
@@ -122,7 +131,8 @@ def of_implicit(outline: Outline, uses: Uses, place: Place) -> Said | None:
                 if here == place and way is not None:
                     return Said("%s is given to %s, which itself %s" % (
                         variable.name, block.name, uses.told((variable, target), way)),
-                        ["A procedure uses a variable by its own name or by a parameter, not by both."])
+                        ["A procedure uses a variable by its own name or by a parameter, not by both."],
+                        (elsewhere(block.name, uses, (variable, target), uses.implicit[block]),))
     return None
 
 
@@ -148,7 +158,8 @@ def implied(outline: Outline, uses: Uses, place: Place, wanted: Callable[[Name, 
         if block.place == place and those:
             keys = [(it, (it, True) in reached) for it in those]
             lines = ["It %s." % uses.told(key, reached[key]) for key in keys]
-            return Said(words % (block.name, uses.short(keys[0], reached)), lines + more)
+            return Said(words % (block.name, uses.short(keys[0], reached)), lines + more,
+                        (elsewhere(block.name, uses, keys[0], reached),))
     return None
 
 

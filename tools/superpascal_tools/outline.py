@@ -36,6 +36,7 @@ class Outline(StatementTypes):
         self.need("program")
         place, name = self.place, self.name()
         self.block = self.main = Scope(self.block, "program", name, place)
+        self.named[self.at - 1] = Name("program", name, self.main, place)
         self.main.first = self.at
         self.input = Name("var", "the input", self.main, place)
         self.output = Name("var", "the output", self.main, place)
@@ -69,17 +70,17 @@ class Outline(StatementTypes):
         old = self.block.names.get(name)
         if old is not None:
             self.tell("N2", at, "%s is already declared in %s, at line %d" % (name, self.block.name, old.place[0]))
-        declared = self.block.names[name] = Name(what, name, self.block, self.tokens[at].place)
+        declared = self.named[at] = self.block.names[name] = Name(what, name, self.block, self.tokens[at].place)
         declared.kind = kind
         return declared
 
     def type_named(self, own: str = "") -> Optional[Type]:
         """The type that a name stands for."""
         at, name = self.at, self.name()
-        declared = self.block.look_up(name)
         if name == own:
             self.tell("N4", at, "the definition of %s uses %s itself" % (name, name))
             return None
+        declared = self.look_up(at)
         if declared is None:
             self.tell("N1", at, "")
         elif declared.what != "type":
@@ -114,14 +115,15 @@ class Outline(StatementTypes):
         """One constant."""
         name, at = self.name(), self.at - 1
         self.need("=")
-        self.declare("const", name, at, self.constant().kind)
+        kind = self.constant().kind
+        self.declare("const", name, at, kind).defined = self.spelled(at, self.at, HEADING)
 
     def types(self) -> None:
         """One type."""
         name, at = self.name(), self.at - 1
         self.need("=")
         kind = self.type_of(name)
-        self.declare("type", name, at, kind)
+        self.declare("type", name, at, kind).defined = self.spelled(at, self.at, HEADING)
         for word, place in self.enumerated:
             self.declare("const", word, place, kind)
 
@@ -190,7 +192,8 @@ class Outline(StatementTypes):
             for field, at in those:
                 if field in kind.fields:
                     self.tell("N2", at, "the record %s already has a field %s" % (name, field))
-                kind.fields[field] = inner
+                declared = self.named[at] = kind.fields[field] = Name("field", field, self.block, self.tokens[at].place)
+                declared.kind = inner
             if not self.take(";") or self.word == "end":
                 break
         self.need("end")

@@ -45,20 +45,24 @@ class Caller:
         except OSError as error:
             raise Trouble(NO_PROGRAM, "cannot run %s: %s" % (self.path, error.strerror)) from None
 
+    def run(self, words: Sequence[str], data: bytes) -> tuple[int, bytes, str]:
+        """Runs the program once: its status (negative: the signal that ended it), its output and its notes."""
+        got = subprocess.run([self.path, *words], input=data, capture_output=True, check=False)
+        return got.returncode, got.stdout, got.stderr.decode("utf-8", "replace")
+
     def __call__(self, words: Sequence[str], data: bytes = b"") -> Answer:
         try:
-            got = subprocess.run([self.path, *words], input=data, capture_output=True, check=False)
+            status, output, notes = self.run(words, data)
         except (OSError, ValueError) as error:
             why = error.strerror if isinstance(error, OSError) else str(error)
             raise Trouble(NO_PROGRAM, "cannot run the program %s: %s" % (self.path, why)) from None
-        if got.returncode < 0:
-            raise Trouble(NO_PROGRAM, "the program was ended by signal %d" % -got.returncode)
-        notes = got.stderr.decode("utf-8", "replace")
+        if status < 0:
+            raise Trouble(NO_PROGRAM, "the program was ended by signal %d" % -status)
         if CHATTER in notes:
             lines = notes.splitlines(keepends=True)
             say("".join(line for line in lines if line.startswith(CHATTER)))
             notes = "".join(line for line in lines if not line.startswith(CHATTER))
-        return Answer(got.returncode, got.stdout, notes)
+        return Answer(status, output, notes)
 
 
 class Words(NamedTuple):

@@ -1,10 +1,12 @@
 """A refusal in words: its cause in one line, the line of the program, and then what else helps."""
 from __future__ import annotations
 
+from typing import Callable
+
 from . import handbook
 from .byte_words import bytes_words
 from .grammar_words import grammar
-from .interference import interference
+from .interference import Said, interference
 from .name_words import undeclared
 from .outline import Outline
 from .program import Caller
@@ -23,9 +25,9 @@ LIMITS = {
 
 def explained(source: Source, text: bytes, rule: str, place: Place, caller: Caller) -> str:
     """Why a text is refused with this rule at this place."""
-    words, more = cause(text, rule, place, caller)
-    said = source.message(place, words or summary(rule), rule)
-    said += "".join(handbook.wrapped("  " + line, "    ") for line in more)
+    found = cause(text, rule, place, caller)
+    said = source.message(place, found.words or summary(rule), rule)
+    said += "".join(handbook.wrapped("  " + line, "    ") for line in found.more)
     return said + "  " + (handbook.sentence(rule) or rule + "\n")
 
 
@@ -35,25 +37,24 @@ def summary(rule: str) -> str:
     return handbook.plain(row[0]) if row else "a rule is broken"
 
 
-def cause(text: bytes, rule: str, place: Place, caller: Caller) -> tuple[str, list[str]]:
-    """The cause in words, if it is known, and lines of help."""
+def cause(text: bytes, rule: str, place: Place, caller: Caller, read: Callable[[str], Outline] = Outline) -> Said:
+    """The cause, with no words if it is not known; `read` gives the outline of a text."""
     at = place_in(text, place)
     if rule == "L1":
-        return "the program has %d bytes, and at most %d are accepted" % (len(text), LARGEST), []
+        return Said("the program has %d bytes, and at most %d are accepted" % (len(text), LARGEST), [])
     if rule[0] in "SU":
-        return bytes_words(text, at, rule)
-    outline = Outline(text.decode("latin1"))
+        return Said(*bytes_words(text, at, rule))
+    outline = read(text.decode("latin1"))
     name = next((it.word for it in outline.tokens if it.place == place), "it")
     if rule in ("G1", "G2"):
-        return grammar(outline, text, at, caller)
+        return Said(*grammar(outline, text, at, caller))
     if rule in LIMITS:
-        return LIMITS[rule] % name if "%s" in LIMITS[rule] else LIMITS[rule], []
+        return Said(LIMITS[rule] % name if "%s" in LIMITS[rule] else LIMITS[rule], [])
     if rule == "N1":
-        return undeclared(outline, place)
+        return Said(*undeclared(outline, place))
     if rule[0] == "I":
-        said = interference(outline, rule, place)
-        return said.words, said.more
-    return outline.findings.get((rule, place), ""), []
+        return interference(outline, rule, place)
+    return Said(outline.findings.get((rule, place), ""), [])
 
 
 def place_in(text: bytes, place: Place) -> int:

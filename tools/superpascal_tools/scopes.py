@@ -16,7 +16,7 @@ class Type:
         self.index: Optional[Type] = None
         self.bounds = ("", "")
         self.element: Optional[Type] = None
-        self.fields: dict[str, Optional[Type]] = {}
+        self.fields: dict[str, Name] = {}
         self.messages: list[Optional[Type]] = []
 
     def __str__(self) -> str:
@@ -45,17 +45,20 @@ def named(kind: Optional[Type]) -> str:
 
 
 class Name:
-    """A declared name. `what` is const, type, var, byvar, index, procedure, function or standard."""
+    """A declared name. `what` is program, const, type, field, var, byvar, index, procedure, function or standard;
+    `defined` is the definition of a constant or a type as it is written."""
 
     def __init__(self, what: str, name: str, block: "Scope", place: Place) -> None:
         self.what, self.name, self.block, self.place = what, name, block, place
         self.kind: Optional[Type] = None
+        self.defined = ""
         self.inner: Optional[Scope] = None
 
     def described(self) -> str:
         """What the name is and where it is declared, as `a constant (line 2)`."""
         words = {"const": "a constant", "type": "a type", "var": "a variable", "byvar": "a variable parameter",
-                 "index": "the index of a forall", "procedure": "a procedure", "function": "a function"}
+                 "index": "the index of a forall", "procedure": "a procedure", "function": "a function",
+                 "program": "the program", "field": "a field"}
         if self.what == "standard":
             return "a standard %s" % ("function" if self.name in FUNCTIONS else "procedure")
         return words[self.what] + (" (line %d)" % self.place[0] if self.block.outer else " of the language")

@@ -34,7 +34,7 @@ class StatementTypes(CallTypes):
             if token.kind == "text" and part.kind is not CHAR:
                 self.tell("Y14", first, "%s is not a string of length 1; no other string is a constant" % token.word)
             return Part(part.kind, first, self.at)
-        at, declared = self.at, self.block.look_up(self.name())
+        at, declared = self.at, self.known()
         if declared is None:
             self.tell("N1", at, "")
         elif declared.what != "const":
@@ -80,7 +80,7 @@ class StatementTypes(CallTypes):
 
     def named_statement(self, first: int) -> None:
         """An assignment or a call; its name is next."""
-        declared = self.block.look_up(self.tokens[first].word)
+        declared = self.look_up(first)
         if self.tokens[first + 1].word in (":=", "[", "."):
             self.assignment(declared)
             return
@@ -147,8 +147,7 @@ class StatementTypes(CallTypes):
 
     def for_loop(self) -> None:
         """`for`."""
-        first = self.at
-        declared = self.block.look_up(self.name())
+        first, declared = self.at, self.known()
         scope = self.block.innermost()
         kind = declared.kind if declared is not None else None
         if declared is None:
@@ -235,7 +234,7 @@ class StatementTypes(CallTypes):
         self.need("do")
         inner = Scope(self.block, "forall", name, self.tokens[first].place)
         inner.first = first
-        index = inner.names[name] = Name("index", name, inner, self.tokens[first].place)
+        index = self.named[first] = inner.names[name] = Name("index", name, inner, self.tokens[first].place)
         index.kind = low.kind
         outer, self.block, begun = self.block, inner, self.at
         self.statement()

@@ -72,11 +72,14 @@ class Uses:
             "writes" if key[0] is self.program.output else "changes" if key[1] else "uses"
         return "%s %s" % (word, key[0].name)
 
-    def short(self, key: tuple[Name, bool], reached: Reached) -> str:
-        """A way in few words: `changes x at 5:3`, or by which call."""
+    def brief(self, key: tuple[Name, bool], reached: Reached) -> str:
+        """What is done to a variable, and by which call."""
         way = reached[key]
-        call = "by calling %s " % way.block.name if way.block is not None else ""
-        return "%s %sat %d:%d" % ((self.verb(key), call) + way.place)
+        return self.verb(key) + (" by calling %s" % way.block.name if way.block is not None else "")
+
+    def short(self, key: tuple[Name, bool], reached: Reached) -> str:
+        """The same with its place: `changes x at 5:3`."""
+        return "%s at %d:%d" % ((self.brief(key, reached),) + reached[key].place)
 
     def told(self, key: tuple[Name, bool], way: Way) -> str:
         """A way in words: `changes x at 5:3, in show, called at 12:5`."""
