@@ -11,6 +11,10 @@ links='bin/superpascal superpascal
 bin/superpascal-explain launcher/tool
 bin/superpascal-picture launcher/tool
 bin/superpascal-schedules launcher/tool
+bin/superpascal-speedup launcher/tool
+bin/superpascal-compare launcher/tool
+bin/superpascal-grade launcher/tool
+bin/superpascal-language-server launcher/tool
 share/man/man1/superpascal.1 launcher/superpascal.1
 share/bash-completion/completions/superpascal launcher/completions/superpascal.bash
 share/zsh/site-functions/_superpascal launcher/completions/_superpascal
