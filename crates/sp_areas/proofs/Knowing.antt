@@ -42,11 +42,6 @@ drop_past [] (suc k) l = refl
 drop_past (x ∷ xs) zero l = absurd (omega (arith, l))
 drop_past (x ∷ xs) (suc k) l = drop_past xs k (omega (arith, l))
 
-pub get_none : {T : Type 0} (xs : List T) (k : ℕ) → slice_get xs k ≡ None → length xs ≤ k
-get_none [] k e = omega arith
-get_none (x ∷ xs) zero e = absurd (cc e)
-get_none (x ∷ xs) (suc k) e = let r = get_none xs k e in omega (arith, r)
-
 -- ---- in a list
 
 -- the first items are others: it is among the rest, or is the next

@@ -316,3 +316,23 @@ no_get_of_map p (v ∷ vs) (suc i) e = no_get_of_map p vs i e
 -- two texts of the same bytes are one
 pub same_if_bytes_eq : (x y : List ℕ) → bytes_eq x y ≡ true → x ≡ y
 same_if_bytes_eq x y e = (bytes_eq-Decides x y).0 e
+
+-- ---- items of a list
+
+-- where there is no item, the list has ended
+pub get_none : {T : Type 0} (xs : List T) (k : ℕ) → slice_get xs k ≡ None → length xs ≤ k
+get_none [] k e = omega arith
+get_none (x ∷ xs) zero e = absurd (cc e)
+get_none (x ∷ xs) (suc k) e = let r = get_none xs k e in omega (arith, r)
+
+-- the item behind a list is the first of what stands there
+pub get_front : {A : Type 0} (xs ys : List A) (x : A) → slice_get (xs ++ x ∷ ys) (length xs) ≡ Some x
+get_front [] ys x = refl
+get_front (y ∷ xs) ys x = get_front xs ys x
+
+-- an item before the n-th is among the first n
+pub get_take : {A : Type 0} (xs : List A) (n i : ℕ) → i < n → slice_get (take n xs) i ≡ slice_get xs i
+get_take xs zero i l = absurd (omega (arith, l))
+get_take [] (suc n) i l = refl
+get_take (x ∷ xs) (suc n) zero l = refl
+get_take (x ∷ xs) (suc n) (suc i) l = get_take xs n i (omega (arith, l))

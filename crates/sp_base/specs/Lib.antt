@@ -3,4 +3,5 @@ pub mod Faults
 pub mod Lends
 pub mod Names
 pub mod Order
+pub mod Places
 pub mod Rules

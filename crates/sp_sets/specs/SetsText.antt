@@ -4,6 +4,7 @@
 use Rattle.std.specs.Prelude.{◌≡◌, ℕ, zero, suc, if◌then◌else◌, List, [], ◌∷◌, ◌++◌, length, codes, decimal, Option}
 use Rattle.std.specs.Prelude.{Some, None, slice_get}
 use Rattle.std.specs.List.{flat_map}
+use Rattle.sp_base.specs.Places.{place_text}
 use Rattle.sp_base.specs.declared.place.Place.{Place}
 use Rattle.sp_sets.specs.declared.sets_line.SetsLine.{SetsLine}
 use Rattle.sp_sets.specs.Forks.{tree_lines}
@@ -42,9 +43,6 @@ IsBoth vs t e out = (a b : List ℕ) × IsVariables vs t a × IsVariables vs e b
     × (out ≡ codes " targets" ++ a ++ codes " expressions" ++ b ++ codes "\n")
 
 -- ---- lines
-
-abbrev pub place_text : Place → List ℕ
-place_text at = decimal at.line ++ codes ":" ++ decimal at.column
 
 abbrev pub head_by : Place → Option ℕ → List ℕ
 head_by at None = codes "forall " ++ place_text at

@@ -2,7 +2,6 @@
 
 ghost use Rattle.std.specs.Prelude.{◌≡◌, ℕ, ◌<◌, ◌≤◌, ◌-◌, ◌^◌, ◌++◌, List, IfOk, length, map};
 ghost use Rattle.sp_sets.specs.SetsText.{IsImplicit, IsLine, IsLineAt, IsOfBlock, IsSetsText, Joined, head_by};
-ghost use Rattle.sp_sets.specs.SetsText.{place_text};
 ghost use Rattle.sp_tree.specs.CheckedOf.{block_of, program_of};
 ghost use Rattle.sp_writer.specs.Adds.{Adds, Keeps};
 
@@ -16,14 +15,6 @@ use sp_varsets::Sets;
 use sp_writer::Writer;
 use std::alloc::Global;
 
-fn put_place(out: &mut Writer<u8>, at: Place)
-    ensures { Adds out.old out.new (place_text at) }
-{
-    out.decimal(u64::from(at.line));
-    out.extend(b":");
-    out.decimal(u64::from(at.column));
-}
-
 /// Puts the beginning of a line.
 fn put_head(out: &mut Writer<u8>, at: Place, part: Option<u32>)
     ensures { Adds out.old out.new (head_by at part) }
@@ -31,11 +22,11 @@ fn put_head(out: &mut Writer<u8>, at: Place, part: Option<u32>)
     match part {
         None => {
             out.extend(b"forall ");
-            put_place(out, at);
+            out.place(at);
         }
         Some(k) => {
             out.extend(b"parallel ");
-            put_place(out, at);
+            out.place(at);
             out.extend(b" ");
             out.decimal(u64::from(k));
         }

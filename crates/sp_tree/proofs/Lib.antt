@@ -12,3 +12,4 @@ pub mod Reached
 pub mod Unbroken
 pub mod BreachRows
 pub mod FormedRows
+pub mod Tables

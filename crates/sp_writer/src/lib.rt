@@ -5,7 +5,7 @@
 //! - `Writer::new`, `Writer::behind`: a writer that has nothing, or these items; `Writer::finish`: what it has, or want
 //!   of memory.
 //! - `put` one item, `extend` by a slice, `put_found` an item or want of memory; for bytes also `decimal`, `signed`,
-//!   `name`, `channel`: each adds exactly its items (`Adds` of `specs/Adds.antt`), or loses the writer.
+//!   `name`, `channel`, `place`: each adds exactly its items (`Adds` of `specs/Adds.antt`), or loses the writer.
 //! - `note`: of a call that was made on `items`, whether it was refused memory. `number`, `push_to`: the same for a
 //!   number that may be missing, and for an item that goes into another list. `lose`: loses the writer.
 //!

@@ -3,10 +3,11 @@
 ghost use Rattle.std.specs.Prelude.{decimal};
 ghost use Rattle.std.specs.Fmt.{signed_decimal};
 ghost use Rattle.sp_base.specs.Names.{name_text, channel_text};
+ghost use Rattle.sp_base.specs.Places.{place_text};
 ghost use Rattle.sp_writer.specs.Adds.{Adds};
 
 use crate::writer::Writer;
-use sp_base::{ChanName, ProcName, put_decimal, put_signed};
+use sp_base::{ChanName, Place, ProcName, put_decimal, put_signed};
 
 impl Writer<u8> {
     /// Puts the number in decimal last, as `0` or `42`.
@@ -43,5 +44,14 @@ impl Writer<u8> {
         if !self.is_lost && name.put(&mut self.items).is_err() {
             self.is_lost = true;
         }
+    }
+
+    /// Puts the place's line and column last, as `25:3`.
+    pub fn place(&mut self, at: Place)
+        ensures { Adds self.old self.new (place_text at) }
+    {
+        self.decimal(u64::from(at.line));
+        self.extend(b":");
+        self.decimal(u64::from(at.column));
     }
 }

@@ -3,7 +3,8 @@ use Rattle.sp_code.specs.declared.code.Parts.{Parts}
 use Rattle.sp_rules.specs.Areas.{homes}
 use Rattle.sp_rules.specs.Named.{has_variable}
 use Rattle.sp_areas.specs.Tree.{IsFrame, home_of}
-use Rattle.sp_areas.proofs.Knowing.{around_here, around_next, around_none, get_none, homes_short}
+use Rattle.sp_base.proofs.Facts.{get_none}
+use Rattle.sp_areas.proofs.Knowing.{around_here, around_next, around_none, homes_short}
 use Rattle.sp_areas.proofs.unknown.is_around.Goals as goal
 
 pub returns : goal.returns
