@@ -11,6 +11,7 @@ pub mod Fits
 pub mod Asks
 pub mod Keeping
 pub mod Faults
+pub mod FirstFaults
 pub mod Outputs
 pub mod Closes
 pub mod Views

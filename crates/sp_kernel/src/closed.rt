@@ -1,6 +1,6 @@
 //! A run that is over: its end, its journal and its output.
 
-ghost use Rattle.std.specs.Prelude.{◌≡◌, ◌≢◌, ◌<◌, ◌++◌, ℕ, List, [], Some, None, MatchOption, IfOk, OnOk, length};
+ghost use Rattle.std.specs.Prelude.{◌≡◌, ◌≢◌, ◌<◌, ◌++◌, ◌∷◌, ℕ, List, [], Some, None, MatchOption, IfOk, OnOk, length};
 ghost use Rattle.std.specs.Prelude.{slice_get};
 ghost use Rattle.std.specs.List.Sorted.{IsPermutation};
 ghost use Rattle.sp_journal.specs.Births.{births};
@@ -11,12 +11,14 @@ ghost use Rattle.sp_history.specs.Agreement.{phase_in, Running};
 ghost use Rattle.sp_history.specs.Holding.{IsOutputOf};
 ghost use Rattle.sp_room.specs.Ends.{object_of, notes_of};
 ghost use Rattle.sp_kernel.specs.Faults.{fault_in};
+ghost use Rattle.sp_kernel.specs.FirstFaults.{first_fault as first_fault_entry, first_fault_end as end_of_first_fault};
 ghost use Rattle.sp_kernel.specs.Outputs.{first_output};
 ghost use Rattle.sp_kernel.specs.Kernels.{control_of, system_of};
 ghost use Rattle.sp_kernel.specs.Closes.{AreByName, waiter_of, waiters_from, with_waiter, SpeaksBelow, EndIs};
 ghost use Rattle.sp_kernel.specs.Closes.{KernelEndsAs};
 ghost use Rattle.sp_kernel.specs.Closes.{IsNameableKernel, HeldHere, RanFrom, or_empty};
 
+use crate::first_fault::{first_fault, first_fault_end};
 use crate::kernel::{Kernel, Standing};
 use crate::slot::{Slot, State};
 use sp_base::{Fault, List, Memory, Text};
@@ -24,7 +26,7 @@ use sp_journal::{End, Entry, Event, Journal, Ledger, Waiter, Way};
 use sp_room::Settled;
 use std::alloc::Global;
 
-/// A run that came to its end. `Kernel::close` alone makes one.
+/// A run that came to its end. `Kernel::close` makes one, and `Closed::too_large` that of a program which never begins.
 #[derive(Drop)]
 pub struct Closed {
     end: End,
@@ -33,6 +35,24 @@ pub struct Closed {
 }
 
 impl Closed {
+    /// The run of a program whose frame has more cells than the limit: process 0 has F12 before its first instruction,
+    /// and nothing is written. The only error is want of memory.
+    pub fn too_large(alloc: Global) -> Result<Closed, Memory>
+        ensures end { IfOk result (λ c. c.end ≡ end_of_first_fault) }
+        ensures journal { IfOk result (λ c. c.journal.entries ≡ first_fault_entry ∷ []) }
+        ensures output { IfOk result (λ c. c.output ≡ []) }
+    {
+        let mut journal = Journal {
+            entries: List::new(alloc),
+        };
+        journal.push(first_fault())?;
+        Ok(Closed {
+            end: first_fault_end(alloc),
+            journal,
+            output: Text::of(Vec::new(alloc)),
+        })
+    }
+
     /// How the run came to its end.
     pub fn end(&self) -> &End
         ensures { result.now ≡ self.now.end }

@@ -52,6 +52,7 @@
 mod ask;
 mod closed;
 mod end;
+mod first_fault;
 mod fork;
 mod handed;
 mod kernel;
@@ -64,5 +65,6 @@ mod slot;
 
 pub use ask::{Ask, Got};
 pub use closed::Closed;
+pub use first_fault::{first_fault_end, is_first_fault};
 pub use handed::Handed;
 pub use kernel::{Kernel, Seen, Standing};

@@ -1,4 +1,4 @@
--- None of this belongs to what the program promises: it is for contracts between crates.
+-- All of this belongs to what the program promises (docs/promise.txt).
 -- The live calls of a process, by its stack. `where` shows each with the place of the call.
 use Rattle.std.specs.Prelude.{ℕ, List, [], ◌∷◌}
 use Rattle.sp_code.specs.Machine.{Entry, Number, Chan, Pointer, Cells, Link, Reply}

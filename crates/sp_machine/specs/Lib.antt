@@ -1,5 +1,6 @@
 pub mod StackEntries
 pub mod Frames
+pub mod FirstFrames
 pub mod Outcomes
 pub mod Procs
 pub mod Conversions

@@ -2,6 +2,7 @@
 //! code that is sound.
 //!
 //! Calls:
+//! - `first_fits`: whether the frame of the program has no more cells than the limit. It is asked before `Proc::root`.
 //! - `Proc::root`: process 0 of a run of code on an input, with the frame of the program, at its first instruction.
 //! - `Proc::number`, `store`: its number in the run, and its variables.
 //! - `Proc::next`, `at`: its next instruction, and the one at which its last turn ended. `frames`, `returns`: its live
@@ -37,6 +38,7 @@ mod arithmetic;
 mod calls;
 mod children;
 mod control;
+mod first;
 mod frames;
 mod io;
 mod layouts;
@@ -50,6 +52,7 @@ mod turn;
 mod variables;
 mod views;
 
+pub use first::first_fits;
 pub use frames::{Frame, Frames, Home, referred};
 pub use layouts::layout_of;
 pub use proc::{Answer, Proc};

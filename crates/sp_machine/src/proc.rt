@@ -58,6 +58,7 @@ pub enum Answer {
 
 impl Proc {
     /// Process 0 of a run of the code on an input. It has the frame of the program, and is at its first instruction.
+    /// All cells of that frame are taken here: who calls it asks `first_fits` before.
     pub fn root(alloc: Global, code: &Code, input: Arc<Text>) -> Result<Proc, Memory>
         requires { HasDistinctBlocks code.now.layouts }
         ensures config { IfOk result (λ p. config_of p ≡ start_of code.now input.value) }

@@ -12,7 +12,7 @@ use crate::worker::work;
 use sp_base::{Limits, List, Memory, Text};
 use sp_code::Code;
 use sp_kernel::{Closed, Kernel};
-use sp_machine::Proc;
+use sp_machine::{Proc, first_fits};
 use sp_outside::Gate;
 use sp_room::{Room, RoomSeat, Settled};
 use std::alloc::Global;
@@ -56,14 +56,8 @@ fn run_all<R: Threads + Wait + Sync, G: Gate>(
     Ok(settled)
 }
 
-/// Runs the code on an input with so many workers, to the end of the run: it is done, in a deadlock, or it met a fault.
-/// What is made in this call takes its memory from `alloc`. `workers` is from 1 to 64, and the code is sound.
-///
-/// Each worker serves the room with what it holds, enters the gate and runs one turn. It rests where nothing can be
-/// taken. The journal depends on the workers; the end and the output are those of the machine along that journal.
-///
-/// The error is want of memory alone.
-pub fn run<R: Threads + Wait + Sync, G: Gate>(
+// Runs it from its first process on.
+fn run_fitting<R: Threads + Wait + Sync, G: Gate>(
     rt: &R,
     alloc: Global,
     code: Arc<Code>,
@@ -81,4 +75,33 @@ pub fn run<R: Threads + Wait + Sync, G: Gate>(
     let kernel = Kernel::new(alloc, root, Arc::try_clone(&code)?, *limits)?;
     let settled = run_all(rt, alloc, kernel, workers, &code, limits, gate)?;
     Kernel::close(alloc, settled)
+}
+
+/// Runs the code on an input with so many workers, to the end of the run: it is done, in a deadlock, or it met a fault.
+/// What is made in this call takes its memory from `alloc`. `workers` is from 1 to 64, and the code is sound.
+///
+/// Each worker serves the room with what it holds, enters the gate and runs one turn. It rests where nothing can be
+/// taken. The journal depends on the workers; the end and the output are those of the machine along that journal.
+///
+/// Cells of the program's frame are taken only if all fit the limit. If they do not, the run is F12 alone.
+///
+/// The error is want of memory alone.
+pub fn run<R: Threads + Wait + Sync, G: Gate>(
+    rt: &R,
+    alloc: Global,
+    code: Arc<Code>,
+    input: Arc<Text>,
+    workers: u32,
+    limits: &Limits,
+    gate: &G,
+) -> Result<Closed, Memory>
+    requires workers { (0 < workers) × (workers ≤ 64) }
+    requires sound { IsSound code.value }
+    requires limits { AreLimits limits.now }
+    ensures { IfOk result (λ c. IsRun (run_of code.value input.value limits.now) workers c) }
+{
+    if first_fits(&code, limits) {
+        return run_fitting(rt, alloc, code, input, workers, limits, gate);
+    }
+    Closed::too_large(alloc)
 }
