@@ -2,7 +2,8 @@ pub mod Waiting
 pub mod Races
 pub mod Concluding
 pub mod Executing
-pub mod Followed
+pub mod FollowedRuns
 pub mod Judged
 pub mod Prefixes
 mod Readiness
+pub mod TextTold

@@ -6,19 +6,25 @@ ghost use Rattle.sp_base.specs.declared.limits.Limits.{Limits};
 ghost use Rattle.sp_tree.specs.Bare.{without_places};
 ghost use Rattle.sp_tree.specs.PlainChecked.{Program as Checked};
 ghost use Rattle.sp_code.specs.Shares.{SetsAre};
-ghost use Rattle.sp_code.specs.Sound.{AreLimits};
+ghost use Rattle.sp_code.specs.declared.code.Parts.{Parts};
+ghost use Rattle.sp_code.specs.Sound.{AreLimits, run_of};
 ghost use Rattle.sp_facts.specs.AcceptedTree.{IsAccepted};
 ghost use Rattle.sp_journal.specs.declared.entry.Entry.{Entry};
 ghost use Rattle.sp_meaning.specs.LocalWork.{RunInput};
 ghost use Rattle.sp_execute.specs.declared.execution.Ran.{Ran as ARan};
 ghost use Rattle.sp_execute.specs.Follows.{IsMeant, IsUnfitAt};
-ghost use Rattle.sp_execute.specs.Runs.{Executes};
+ghost use Rattle.sp_execute.specs.Runs.{Executes, IsCodeOf, run_input};
+ghost use Rattle.sp_execute.specs.TextTold.{IsToldInText};
+ghost use Rattle.sp_replay.specs.declared.tracing.Traced.{Traced as ATraced};
+ghost use Rattle.sp_replay.specs.Tracing.{TracedTo};
 ghost use Rattle.sp_execute.specs.Witnesses.{ShowsRace};
 ghost use Rattle.sp_link.specs.Premises.{IsReady};
 ghost use Rattle.sp_tree.specs.Plain.{Stmt};
 
 use sp_judge::runs_without_a_fault_are_clean;
+use sp_lines::waiting_processes_are_shown;
 use sp_numbered::{witnesses_are_journals, witnesses_end_in_contention};
+use sp_shown::landings_have_marks;
 use sp_witness::ordered_runs_never_contend;
 
 /// The program of a text that breaks no rule is ready: where its forks take over and share exactly what the sets of its
@@ -29,6 +35,19 @@ pub fn accepted_programs_are_ready()
         → (input : List ℕ) (lim : Limits) → AreLimits lim
         → IsReady (record { program = without_places c; input = input; limits = lim }) moves shares }
 {}
+
+/// What is told of a journal that was followed with the code of a text's tree, and the state behind it, is of the text:
+/// an entry that forks, opens, sends or receives is told where a statement of the text begins that does so, and a
+/// process that waits, or joins, is shown where one begins that does so; a fault, and a process that runs, have a mark.
+pub fn journals_are_told_in_the_text()
+    ensures { (p : Checked) (moves shares : Stmt → List ℕ) (input : List ℕ) (lim : Limits) (code : Parts)
+        → IsCodeOf (run_input (without_places p) input lim) moves shares code
+        → (es : List Entry) (r : ATraced) → TracedTo (run_of code input lim) es r
+        → IsToldInText p (run_of code input lim) es r }
+{
+    landings_have_marks();
+    waiting_processes_are_shown();
+}
 
 /// A journal along which the meaning is defined is unfit at no entry, and any other one at one entry alone.
 pub fn one_unfit_entry()

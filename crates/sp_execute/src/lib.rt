@@ -10,12 +10,14 @@
 //!   of interference: where it is ordered, all lawful schedules end alike.
 //! - `follow`: for each program with this code: where the meaning is defined along the journal, its output and end, or
 //!   none where the run goes on; else the first entry with which it is not. Or want of memory.
+//! - `follow_told`: the same, with what is told of each entry, and the state after the last one (`Traces` of
+//!   `sp_replay`).
 //! - `witness`: the witness of a run's race, a journal that gives names (`witness_of`); none exactly where the verdict
 //!   names no race.
 //! - `run_code`: a run of sound code by 1 to 64 workers, without a verdict; end and output are the machine's along the
 //!   journal, and the meaning's for each ready program with this code (`RunsCode`).
 //! - `Ran`: a run with its verdict, as `execute` makes one. `Concluded`: a run of a program, as `conclude` makes one.
-//!   `Replayed`, `ReplayError`: those of `sp_replay`.
+//!   `Replayed`, `Traced`, `Followed`, `ReplayError`, `lasts`: those of `sp_replay`.
 //!
 //! Laws:
 //! - `accepted_programs_are_ready`: the program of a text that breaks no rule is ready (`IsReady` of `sp_link`), on
@@ -23,6 +25,8 @@
 //!   sets say.
 //! - `one_unfit_entry`: a journal along which the meaning is defined is unfit at no entry, and any other one at one
 //!   entry alone.
+//! - `journals_are_told_in_the_text`: what `follow_told` tells of a journal with the code of a text's tree, and the
+//!   state that it gives, stand at statements of the text.
 //! - `races_are_shown`: along the witness of a run's race the meaning is defined, to the fault F6 of the later offer;
 //!   and a run without a fault is ordered exactly where no lawful schedule meets contention.
 //!
@@ -32,10 +36,10 @@
 //!   (`witness` of `sp_witness`). `run_code` runs code that need have no program, and judges nothing.
 //! - `specs/Runs.antt` says what is asked (`IsCodeOf`), what a run says of the program (`IsAbout`) and what is promised
 //!   (`Executes`); `Follows.antt`, `Witnesses.antt` and `Machines.antt` have the contracts of `follow`, `witness` and
-//!   `run_code`.
+//!   `run_code`, `TextTold.antt` what it means that a journal is told in a text.
 //! - `proofs/Concluding.antt` leads from the machine's end and output along a journal to the program's, with
-//!   `proofs/Waiting.antt` for those that wait; `proofs/Followed.antt` leads from `replay` to the program,
-//!   `proofs/Races.antt` from a run's verdict to its witness.
+//!   `proofs/Waiting.antt` for those that wait; `proofs/FollowedRuns.antt` leads from `replay` to the
+//!   program, `proofs/Races.antt` from a run's verdict to its witness.
 //! - No call takes the tree: a program is named in the contracts alone, and each clause holds of every program that has
 //!   the code.
 //!
@@ -56,9 +60,11 @@ mod witnessing;
 
 pub use conclusion::{Concluded, conclude};
 pub use execution::{Ran, execute};
-pub use following::follow;
-pub use law::{accepted_programs_are_ready, one_unfit_entry, races_are_shown};
+pub use following::{follow, follow_told};
+pub use law::{
+    accepted_programs_are_ready, journals_are_told_in_the_text, one_unfit_entry, races_are_shown,
+};
 pub use machine::run_code;
-pub use sp_replay::{ReplayError, Replayed};
+pub use sp_replay::{Followed, ReplayError, Replayed, Traced, lasts};
 pub use verdict::judge;
 pub use witnessing::witness;

@@ -1,4 +1,4 @@
--- None of this belongs to what the program promises: it is for contracts between crates.
+-- Some of this belongs to what the program promises (docs/promise.txt).
 -- At which instruction a turn ends: the one whose mark says where the process is. A process that stops at a fork, open,
 -- send or receive has stepped over it; one that faults, ends or is due stands at it.
 use Rattle.std.specs.Prelude.{◌≡◌, ◌⊎◌, ℕ, ◌-◌, Some, slice_get}

@@ -1,4 +1,4 @@
--- None of this belongs to what the program promises: it is for contracts between crates.
+-- Some of this belongs to what the program promises (docs/promise.txt).
 -- Which statements a statement has in it, and that the marks and the code of a part stand beside each other in those of
 -- a whole. The laws of this crate promise it of every statement of a program.
 use Rattle.std.specs.Prelude.{◌≡◌, ◌⊎◌, ℕ, List, ◌++◌, length}

@@ -1,4 +1,4 @@
--- None of this belongs to what the program promises: it is for contracts between crates.
+-- Some of this belongs to what the program promises (docs/promise.txt).
 -- To which statement of the text an instruction that stops belongs, by its mark.
 use Rattle.std.specs.Prelude.{◌≡◌, ◌⊎◌, ℕ, Some, slice_get}
 use Rattle.sp_tree.specs.PlainChecked.{Expression, Variable, Statement, Does, Parallel, Forall, Open, Send, Receive}

@@ -1,4 +1,4 @@
--- None of this belongs to what the program promises: it is for contracts between crates.
+-- All of this belongs to what the program promises (docs/promise.txt).
 -- Where each instruction of the code of a tree stands in the text. Clause by clause it is the definition of the code
 -- (`Emitted` of `sp_code`), with a mark instead of each instruction: so the two lists go side by side.
 use Rattle.std.specs.Prelude.{ℤ, List, [], ◌∷◌, ◌++◌, Option, Some, None, Bool, true, false, slice_get}

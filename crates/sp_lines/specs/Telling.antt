@@ -1,4 +1,4 @@
--- None of this belongs to what the program promises: it is for contracts between crates.
+-- All of this belongs to what the program promises (docs/promise.txt).
 -- The system of all processes along a journal, with what is told of each entry: at which instruction its turn ended,
 -- and the message that passes there.
 use Rattle.std.specs.Prelude.{◌≡◌, ℕ, ◌==◌, List, [], ◌∷◌, Option, Some, None}

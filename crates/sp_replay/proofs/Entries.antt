@@ -66,17 +66,20 @@ run_away Laid e n = absurd (cc e)
 run_away Ended e n = absurd (cc e)
 
 -- who is not held does not run
+pub not_running : (x : Kernel) (c : HasCome x) (who : ℕ → Option Proc) → AreOut x who → x.ready ≡ [] → (q : ℕ)
+    → who q ≡ None → phase_in ((system_of x).condition q) ≡ Running → ⊥
+not_running x c who o none q free runs = absurd (cc (sym free ∙ w.1))
+  where
+    not_ready : (control_of x).doing q ≡ Ready → ⊥
+    not_ready is = let i : Among q [] = subst (Among q) none ((is_whole x c).orderly.queue.all q is) in i
+
+    w : (p : Proc) × (who q ≡ Some p)
+    w = o.all q (run_away ((control_of x).doing q) ((is_whole x c).agrees.each q ∙ runs) not_ready)
+
+-- so no entry of it can come
 pub not_held : (x : Kernel) (c : HasCome x) (who : ℕ → Option Proc) → AreOut x who → x.ready ≡ [] → (e : Entry)
     → who e.process ≡ None → CannotCome x e
-not_held x c who o none e free t enters = absurd (cc (sym free ∙ w.1))
-  where
-    not_ready : (control_of x).doing e.process ≡ Ready → ⊥
-    not_ready is = let i : Among e.process [] =
-        subst (Among e.process) none ((is_whole x c).orderly.queue.all e.process is) in i
-
-    w : (p : Proc) × (who e.process ≡ Some p)
-    w = o.all e.process (run_away ((control_of x).doing e.process)
-        ((is_whole x c).agrees.each e.process ∙ ap phase_in enters.1) not_ready)
+not_held x c who o none e free t enters = not_running x c who o none e.process free (ap phase_in enters.1)
 
 -- a turn makes no other event
 other_event : (x y : Kernel) (e : Entry) (f : Event) → EventMade x e.process f y → f ≢ e.event → CannotCome x e

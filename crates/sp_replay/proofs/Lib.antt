@@ -6,3 +6,5 @@ pub mod Entries
 pub mod Ending
 pub mod Holding
 pub mod TellingLaws
+pub mod Showing
+pub mod TooLarge

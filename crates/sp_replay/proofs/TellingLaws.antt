@@ -1,13 +1,13 @@
 -- What is told of an entry that was made: that of the turn that its process made.
 use Rattle.std.proofs.lemmas.Option.{same_Some}
-use Rattle.std.proofs.Common.{List, [], ◌∷◌, ◌++◌, take, get_or, length, zero, suc, ◌+◌, ◌<◌, arith}
+use Rattle.std.proofs.Common.{List, [], ◌∷◌, ◌++◌, take, get_or, length, suc, ◌+◌, ◌<◌, arith}
 use Rattle.std.proofs.Common.{◌≡◌, ℕ, Bool, true, false, Option, Some, None, MatchBool, refl, sym, ap, ◌∙◌, subst}
 use Rattle.std.specs.Prelude.{MatchOption, if◌then◌else◌}
 use Rattle.sp_base.specs.declared.limits.Limits.{Limits}
 use Rattle.sp_cell.specs.Map.{Plain}
 use Rattle.sp_journal.specs.declared.entry.Entry.{Entry}
 use Rattle.sp_code.specs.declared.code.Parts.{Parts}
-use Rattle.sp_code.specs.Memory.{CodeRun, Memory, memory}
+use Rattle.sp_code.specs.Memory.{CodeRun, memory}
 use Rattle.sp_code.specs.PlainStore.{plain}
 use Rattle.sp_code.specs.Sound.{run_of}
 use Rattle.sp_code.specs.System.{System, IsSystem, opening_system}
@@ -23,9 +23,12 @@ use Rattle.sp_kernel.specs.declared.handed.Handed.{Handed}
 use Rattle.sp_kernel.specs.declared.kernel.Kernel.{Kernel}
 use Rattle.sp_kernel.specs.Kernels.{system_of, code_run_of}
 use Rattle.sp_replay.specs.declared.followed.Followed.{Followed}
+use Rattle.sp_replay.specs.declared.replayer.Replayed.{Replayed}
 use Rattle.sp_replay.specs.Following.{HasCome, IsOutAs, RunsOn, WasTurned, HoldsAllReady, EventMade, CannotCome}
-use Rattle.sp_replay.specs.Tellings.{AreTold, ToldMade}
+use Rattle.sp_replay.specs.Tellings.{ToldMade}
+use Rattle.sp_replay.specs.Tracing.{IsAt, TracedTo}
 use Rattle.sp_replay.proofs.Coming.{is_system}
+use Rattle.sp_replay.proofs.Entries.{at_or, one_more}
 
 is_turn : (p : Proc) (code : Parts) (lim : Limits) (q : Proc) (s : Stop) → IsTurnOf p code lim q s
     → (s ≡ stop.Memory → ⊥)
@@ -74,39 +77,50 @@ snoc g (d ∷ es) [] s t u e w h k = absurd h
 snoc g (d ∷ es) (x ∷ ws) s t u e w h k = (h.0, h.1, snoc g es ws h.0 t u e w h.2 k)
 
 pub told_more : (g : CodeRun) (x y : Kernel) (e : Entry) (w : Told) (ws : List Told) → code_run_of x ≡ g
-    → ToldMade x e w y → AreTold g x.journal.entries (system_of x) ws
-    → AreTold g y.journal.entries (system_of y) (ws ++ w ∷ [])
+    → ToldMade x e w y → IsTold g x.journal.entries ws (system_of x)
+    → IsTold g y.journal.entries (ws ++ w ∷ []) (system_of y)
 told_more g x y e w ws same m told =
     subst (λ (es : List Entry). IsTold g es (ws ++ w ∷ []) (system_of y)) (sym m.made.entries)
     (snoc g x.journal.entries ws (opening_system plain g) (system_of x) (system_of y) e w told
     (subst (λ (z : CodeRun). EntryTells z (system_of x) e.process e.event w (system_of y)) same m.tells))
 
 pub told_none : (x : Kernel) → HasCome x → x.journal.entries ≡ [] → (ws : List Told) → ws ≡ []
-    → AreTold (code_run_of x) x.journal.entries (system_of x) ws
+    → IsTold (code_run_of x) x.journal.entries ws (system_of x)
 told_none x come none ws empty =
     let w : system_of x ≡ opening_system plain (code_run_of x) =
     subst (λ (es : List Entry). IsSystem plain (code_run_of x) es (system_of x)) none (is_system x come) in
     let start : IsTold (code_run_of x) [] [] (system_of x) = w in
-    subst (λ (es : List Entry). AreTold (code_run_of x) es (system_of x) ws) (sym none)
+    subst (λ (es : List Entry). IsTold (code_run_of x) es ws (system_of x)) (sym none)
     (subst (λ (vs : List Told). IsTold (code_run_of x) [] vs (system_of x)) (sym empty) start)
 
-pub of_some : (o : Option Told) (P : Type 0) (Q : Told → Type 0) (w : Told) → MatchOption o P Q → o ≡ Some w → Q w
+pub of_some : {X : Type 0} (o : Option X) (P : Type 0) (Q : X → Type 0) (w : X) → MatchOption o P Q → o ≡ Some w
+    → Q w
 of_some None P Q w m e = absurd cc
 of_some (Some r) P Q w m e = subst Q (same_Some r w e) m
 
-pub of_none : (o : Option Told) (P : Type 0) (Q : Told → Type 0) → MatchOption o P Q → o ≡ None → P
+pub of_none : {X : Type 0} (o : Option X) (P : Type 0) (Q : X → Type 0) → MatchOption o P Q → o ≡ None → P
 of_none None P Q m e = m
 of_none (Some r) P Q m e = absurd cc
-
-take_one_more : (es : List Entry) (n : ℕ) (d : Entry) → n < length es
-    → take (n + 1) es ≡ take n es ++ get_or es n d ∷ []
-take_one_more [] n d l = absurd (omega (arith, l))
-take_one_more (x ∷ es) zero d l = refl
-take_one_more (x ∷ es) (suc n) d l =
-    let w : suc n + 1 ≡ suc (n + 1) = omega arith in
-    ap (λ (m : ℕ). take m (x ∷ es)) w ∙ ap (λ (ys : List Entry). x ∷ ys) (take_one_more es n d (omega (arith, l)))
 
 pub entries_more : (x y : Kernel) (w : Told) (es : List Entry) (n : ℕ) (d : Entry) → ToldMade x (get_or es n d) w y
     → x.journal.entries ≡ take n es → n < length es → y.journal.entries ≡ take (n + 1) es
 entries_more x y w es n d m i l =
-    m.made.entries ∙ ap (λ (z : List Entry). z ++ get_or es n d ∷ []) i ∙ sym (take_one_more es n d l)
+    let next : n + 1 ≡ suc n = omega arith in
+    m.made.entries ∙ ap (λ (z : List Entry). z ++ get_or es n d ∷ []) i
+    ∙ sym (ap (λ (k : ℕ). take k es) next ∙ one_more es n (get_or es n d) (at_or es n d l))
+
+-- a run that has followed a journal, of which this was told, with its end and output
+pub traced : (g : CodeRun) (es : List Entry) (f : Followed) (ws : List Told) (r : Replayed) → code_run_of f.kernel ≡ g
+    → f.kernel.journal.entries ≡ es → IsTold g f.kernel.journal.entries ws (system_of f.kernel)
+    → IsAt f.kernel.journal.entries (system_of f.kernel) r → HoldsAllReady f
+    → TracedTo g es (record { replayed = r; told = ws; state = f })
+traced g es f ws r run entries told there stands =
+    let along : IsSystem plain g f.kernel.journal.entries (system_of f.kernel) =
+    subst (λ (x : CodeRun). IsSystem plain x f.kernel.journal.entries (system_of f.kernel)) run
+    (is_system f.kernel stands.follows.come) in
+    record {
+      along = subst (λ (l : List Entry). IsSystem plain g l (system_of f.kernel)) entries along;
+      told = subst (λ (l : List Entry). IsTold g l ws (system_of f.kernel)) entries told;
+      replayed = subst (λ (l : List Entry). IsAt l (system_of f.kernel) r) entries there;
+      state = stands;
+    }

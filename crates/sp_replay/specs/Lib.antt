@@ -2,3 +2,4 @@ pub mod Held
 pub mod Following
 pub mod Replays
 pub mod Tellings
+pub mod Tracing

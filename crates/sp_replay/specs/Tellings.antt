@@ -1,12 +1,8 @@
 -- None of this belongs to what the program promises: it is for contracts between crates.
 -- What is told while a journal is followed.
-use Rattle.std.specs.Prelude.{List}
-use Rattle.sp_cell.specs.Map.{Plain}
 use Rattle.sp_journal.specs.declared.entry.Entry.{Entry}
-use Rattle.sp_code.specs.Memory.{CodeRun}
-use Rattle.sp_code.specs.System.{System}
 use Rattle.sp_lines.specs.declared.told.Told.{Told}
-use Rattle.sp_lines.specs.Telling.{EntryTells, IsTold}
+use Rattle.sp_lines.specs.Telling.{EntryTells}
 use Rattle.sp_kernel.specs.declared.kernel.Kernel.{Kernel}
 use Rattle.sp_kernel.specs.Kernels.{system_of, code_run_of}
 use Rattle.sp_replay.specs.Following.{EventMade}
@@ -15,7 +11,3 @@ use Rattle.sp_replay.specs.Following.{EventMade}
 pub record ToldMade (x : Kernel) (e : Entry) (w : Told) (y : Kernel) : Type 0 where
   pub made : EventMade x e.process e.event y
   pub tells : EntryTells (code_run_of x) (system_of x) e.process e.event w (system_of y)
-
--- this is told of the entries, along which the system is t
-abbrev pub AreTold : CodeRun → List Entry → System Plain → List Told → Type 0
-AreTold g es t ws = IsTold g es ws t

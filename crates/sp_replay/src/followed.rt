@@ -1,29 +1,31 @@
 //! A run that follows a journal, entry by entry.
 
-ghost use Rattle.std.specs.Prelude.{◌≡◌, ◌≢◌, ℕ, [], Err, MatchBool, IfOk, IfErr, OnOk};
+ghost use Rattle.std.specs.Prelude.{◌≡◌, ◌≢◌, ℕ, [], Err, MatchBool, MatchOption, IfOk, IfErr, OnOk};
 ghost use Rattle.sp_code.specs.Sound.{IsSound};
 ghost use Rattle.sp_history.specs.Holding.{IsOutputOf};
 ghost use Rattle.sp_kernel.specs.Asks.{IsOpening};
 ghost use Rattle.sp_kernel.specs.Kernels.{code_run_of, system_of};
-ghost use Rattle.sp_machine.specs.Procs.{CanTurn, IsRankedFrom};
+ghost use Rattle.sp_kernel.specs.Views.{IsSeen};
+ghost use Rattle.sp_machine.specs.Procs.{CanTurn, IsRankedFrom, config_of};
 ghost use Rattle.sp_replay.specs.Held.{held_at};
 ghost use Rattle.sp_replay.specs.Following.{IsReplayKernel, HoldsAllReady, SameRun, RunsOn, WasTurned, IsInHand};
 ghost use Rattle.sp_replay.specs.Following.{Exchanged, EventMade};
 ghost use Rattle.sp_replay.specs.Following.{CannotCome, with_taken};
 ghost use Rattle.sp_replay.specs.Replays.{Replays, ReplayLeadsTo};
+ghost use Rattle.sp_replay.specs.Tracing.{IsAt, IsNowhere};
 
-use crate::held::{hold, output, pick};
+use crate::held::{find, hold, output, pick};
 use crate::replayer::{ReplayError, Replayed};
 use sp_base::{Limits, List, Memory, Text};
 use sp_code::Code;
 use sp_journal::{Entry, Event};
-use sp_kernel::{Handed, Kernel};
+use sp_kernel::{Handed, Kernel, Seen};
 use sp_machine::{Proc, Stop};
 use std::alloc::Global;
 
-/// The kernel of the run, and by its number each process that can run.
+/// A run that has followed a journal up to here: the kernel, and by its number each process that can run.
 #[derive(Drop)]
-pub(crate) struct Followed {
+pub struct Followed {
     pub(crate) kernel: Kernel,
     pub(crate) held: List<Option<Proc>>,
 }
@@ -162,6 +164,19 @@ impl Followed {
         Ok(())
     }
 
+    /// A process that was started and has not ended, or the root, and what it does: who runs is held here, and the
+    /// kernel has the others.
+    pub fn seen(&self, process: u32) -> Option<(&Proc, Seen)>
+        requires { HoldsAllReady self.now }
+        ensures { MatchOption result (IsNowhere ((system_of self.now.kernel).condition process))
+            (λ r. IsSeen ((system_of self.now.kernel).condition process) (config_of r.0.now) r.1) }
+    {
+        match find(self.held.items(), process) {
+            Some(proc) => Some((proc, Seen::Running)),
+            None => self.kernel.seen(process),
+        }
+    }
+
     // What was written so far.
     fn output(&self) -> &[u8]
         requires { HoldsAllReady self.now }
@@ -179,7 +194,9 @@ impl Followed {
     /// The end and the output after the entries that were followed.
     pub(crate) fn finish(&self, alloc: Global) -> Result<Replayed, Memory>
         requires { HoldsAllReady self.now }
-        ensures { IfOk result (λ r. ReplayLeadsTo (code_run_of self.now.kernel) self.now.kernel.journal.entries r) }
+        ensures leads { IfOk result
+            (λ r. ReplayLeadsTo (code_run_of self.now.kernel) self.now.kernel.journal.entries r) }
+        ensures at { IfOk result (λ r. IsAt self.now.kernel.journal.entries (system_of self.now.kernel) r) }
     {
         let end = self.kernel.end()?;
         let output = Vec::from_slice(alloc, self.output())?;

@@ -38,6 +38,16 @@ pub(crate) fn pick(held: &mut List<Option<Proc>>, number: u32) -> Option<Proc>
     held.replace(number as usize, None)
 }
 
+/// The process that is held under this number, if there is one.
+pub(crate) fn find(held: &[Option<Proc>], number: u32) -> Option<&Proc>
+    ensures { MatchOption result (held_at held.now number ≡ None) (λ p. held_at held.now number ≡ Some p.now) }
+{
+    match held.get(number as usize) {
+        Some(Some(proc)) => Some(proc),
+        _ => None,
+    }
+}
+
 /// The first output that one of these processes has.
 pub(crate) fn output(held: &[Option<Proc>]) -> Option<&[u8]>
     ensures { MatchOption result (outputs held.now ≡ None) (λ bs. outputs held.now ≡ Some bs.now) }

@@ -4,13 +4,17 @@
 //! Calls:
 //! - `replay`: where the machine with sound code is defined along the journal, its end, if any, and its output; else
 //!   `Unfit` with the index, from 0, of the first entry with which it is not. Or want of memory.
-//! - `Replayed`: the end and the output. `ReplayError`: `Unfit` or `Memory`.
+//! - `replay_told`: the same, with what is told of each entry (`Told` of `sp_lines`) and the state after the last one.
+//! - `lasts`: by what is told, for each process the instruction at which its last turn ended.
+//! - `Replayed`: the end and the output. `Traced`: these, what is told, and the state. `ReplayError`: `Unfit` or
+//!   `Memory`.
+//! - `Followed::seen`: in the state a process that was started and has not ended, and what it does.
 //!
 //! To know:
 //! - `src/replayer.rt` is the call, `src/followed.rt` the run entry by entry, `src/telling.rt` the same with what is
-//!   told of each entry, `src/held.rt` the processes by their numbers.
-//! - `specs/Replays.antt` says what following a journal answers, `specs/Following.antt` what holds between two entries,
-//!   `specs/Held.antt` who is held.
+//!   told of each entry, of which `src/tracing.rt` is the call, `src/held.rt` the processes by their numbers.
+//! - `specs/Replays.antt` says what following a journal answers, `specs/Tracing.antt` what it tells,
+//!   `specs/Following.antt` what holds between two entries, `specs/Held.antt` who is held.
 //! - All that are ready are taken out before the next turn, so after a fault all that run are held, and go on to be
 //!   laid down.
 //! - The module is named `replayer`, since no module may have the name of a function of the crate.
@@ -20,5 +24,8 @@ mod followed;
 mod held;
 mod replayer;
 mod telling;
+mod tracing;
 
+pub use followed::Followed;
 pub use replayer::{ReplayError, Replayed, replay};
+pub use tracing::{Traced, lasts, replay_told};

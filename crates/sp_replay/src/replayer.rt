@@ -1,8 +1,11 @@
 //! The call `replay`: a run along a given journal, and what it answers.
 
-ghost use Rattle.std.specs.Prelude.{◌≡◌, [], IfOk};
+ghost use Rattle.std.specs.Prelude.{◌≡◌, ℕ, List, [], false, IfOk};
+ghost use Rattle.sp_base.specs.declared.limits.Limits.{Limits as AllLimits};
+ghost use Rattle.sp_code.specs.declared.code.Parts.{Parts};
 ghost use Rattle.sp_code.specs.Sound.{IsSound, AreLimits, run_of};
 ghost use Rattle.sp_kernel.specs.Kernels.{code_run_of};
+ghost use Rattle.sp_machine.specs.FirstFrames.{first_fits as fits_first};
 ghost use Rattle.sp_replay.specs.declared.replayer.ReplayError.TheVariants.{Memory as OutOfMemory};
 ghost use Rattle.sp_replay.specs.Following.{HoldsAllReady, RunsOn};
 ghost use Rattle.sp_replay.specs.Replays.{Replays};
@@ -10,9 +13,9 @@ ghost use Rattle.sp_replay.specs.Replays.{Replays};
 use crate::followed::Followed;
 use sp_base::{Limits, Memory, Text};
 use sp_code::Code;
-use sp_journal::{End, Journal};
-use sp_kernel::Kernel;
-use sp_machine::Proc;
+use sp_journal::{End, Entry, Journal};
+use sp_kernel::{Kernel, first_fault_end, is_first_fault};
+use sp_machine::{Proc, first_fits};
 use std::alloc::Global;
 use std::sync::Arc;
 use thiserror::Error;
@@ -47,7 +50,7 @@ impl From<Memory> for ReplayError {
 }
 
 // The run at its start.
-fn begin(
+pub(crate) fn begin(
     alloc: Global,
     code: &Arc<Code>,
     input: Arc<Text>,
@@ -65,13 +68,28 @@ fn begin(
     Followed::start(alloc, kernel)
 }
 
-/// Runs the code on an input along a journal: each entry is the event of the next turn of its process. Each process
-/// that can run is held here, and is turned only when an entry names it. What is made in this call takes its memory
-/// from `alloc`. The code is sound.
-///
-/// The end and the output are those of the machine after the whole journal. `Unfit` comes only where the machine is not
-/// defined along it, with the first entry that does not fit; there nothing else comes, but where memory is refused.
-pub fn replay(
+// What is answered where the program's frame is larger than the limit: only F12 of the first process can come.
+#[tactic(auto, using(crate::proofs::TooLarge::no_first))]
+fn follow_too_large(alloc: Global, entries: &[Entry]) -> Result<Replayed, ReplayError>
+    ensures { (code : Parts) (input : List ℕ) (lim : AllLimits) → fits_first code lim ≡ false
+        → Replays (run_of code input lim) entries.now result }
+{
+    let output = Text::of(Vec::new(alloc));
+    let Some((first, rest)) = entries.split_first() else {
+        return Ok(Replayed { end: None, output });
+    };
+    if !is_first_fault(*first) {
+        return Err(ReplayError::Unfit(0));
+    }
+    if !rest.is_empty() {
+        return Err(ReplayError::Unfit(1));
+    }
+    let end = Some(first_fault_end(alloc));
+    Ok(Replayed { end, output })
+}
+
+// Follows a journal from the first process on.
+fn replay_fitting(
     alloc: Global,
     code: Arc<Code>,
     input: Arc<Text>,
@@ -85,4 +103,29 @@ pub fn replay(
     let mut followed = begin(alloc, &code, input, limits)?;
     followed.follow_all(&code, limits, journal.entries.items())?;
     Ok(followed.finish(alloc)?)
+}
+
+/// Runs the code on an input along a journal: each entry is the event of the next turn of its process. Each process
+/// that can run is held here, and is turned only when an entry names it. What is made in this call takes its memory
+/// from `alloc`. The code is sound.
+///
+/// The end and the output are those of the machine after the whole journal. `Unfit` comes only where the machine is not
+/// defined along it, with the first entry that does not fit; there nothing else comes, but where memory is refused.
+///
+/// Cells of the program's frame are taken only if all fit the limit.
+pub fn replay(
+    alloc: Global,
+    code: Arc<Code>,
+    input: Arc<Text>,
+    limits: &Limits,
+    journal: &Journal,
+) -> Result<Replayed, ReplayError>
+    requires sound { IsSound code.value }
+    requires limits { AreLimits limits.now }
+    ensures { Replays (run_of code.value input.value limits.now) journal.now.entries result }
+{
+    if first_fits(&code, limits) {
+        return replay_fitting(alloc, code, input, limits, journal);
+    }
+    follow_too_large(alloc, journal.entries.items())
 }

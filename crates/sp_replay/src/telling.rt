@@ -4,10 +4,10 @@ ghost use Rattle.std.specs.Prelude.{◌≡◌, [], ◌++◌, ◌∷◌, Err, Non
 ghost use Rattle.std.specs.Prelude.{if◌then◌else◌};
 ghost use Rattle.sp_code.specs.Sound.{IsSound};
 ghost use Rattle.sp_kernel.specs.Kernels.{code_run_of, system_of};
-ghost use Rattle.sp_lines.specs.Telling.{told_of, passes};
+ghost use Rattle.sp_lines.specs.Telling.{IsTold, told_of, passes};
 ghost use Rattle.sp_machine.specs.Procs.{turn_by};
 ghost use Rattle.sp_replay.specs.Following.{CannotCome, HoldsAllReady, IsInHand, RunsOn};
-ghost use Rattle.sp_replay.specs.Tellings.{AreTold, ToldMade};
+ghost use Rattle.sp_replay.specs.Tellings.{ToldMade};
 ghost use Rattle.sp_replay.specs.Replays.{Replays};
 
 use crate::followed::{Followed, is_same, turned};
@@ -132,8 +132,8 @@ impl Followed {
         ensures stands { OnOk result (HoldsAllReady self.new) }
         ensures code_run { OnOk result (code_run_of self.new.kernel ≡ code_run_of self.old.kernel) }
         ensures entries { OnOk result (self.new.kernel.journal.entries ≡ entries.now) }
-        ensures told { OnOk result (AreTold (code_run_of self.old.kernel) self.new.kernel.journal.entries
-            (system_of self.new.kernel) out.new) }
+        ensures told { OnOk result (IsTold (code_run_of self.old.kernel) self.new.kernel.journal.entries out.new
+            (system_of self.new.kernel)) }
         ensures err { IfErr result (λ e. Replays (code_run_of self.old.kernel) entries.now (Err e)) }
     {
         for (index, entry) in entries.iter().enumerate() {

@@ -1,4 +1,4 @@
--- None of this belongs to what the program promises: it is for contracts between crates.
+-- Some of this belongs to what the program promises (docs/promise.txt).
 -- The names of the constants of enumerations. The trees behind the grammar have only how many there are: the k-th
 -- enumeration among a program's types is the k-th one that the text declares.
 use Rattle.std.specs.Prelude.{ℕ, List, [], ◌∷◌, ◌++◌, Option, Some, None, slice_get}

@@ -1,4 +1,4 @@
--- None of this belongs to what the program promises: it is for contracts between crates.
+-- All of this belongs to what the program promises (docs/promise.txt).
 -- Where a process is shown that goes on at an instruction. A jump there is of a statement that it has left (behind the
 -- first branch of an `if`, at the end of a `while`), so it is shown where the jumps lead.
 use Rattle.std.specs.Prelude.{ℕ, zero, suc, List, Option, Some, None, length, slice_get}

@@ -3,7 +3,7 @@ use Rattle.sp_code.specs.declared.code.Parts.{Parts}
 use Rattle.sp_code.specs.Sound.{IsSound}
 use Rattle.sp_link.proofs.Soundness.{program_sound}
 use Rattle.sp_execute.specs.Runs.{run_input}
-use Rattle.sp_execute.proofs.Followed.{followed}
+use Rattle.sp_execute.proofs.FollowedRuns.{followed}
 use Rattle.sp_execute.proofs.following.follow.Goals as goal
 
 pub replay-requires-clause-sound : goal.replay-requires-clause-sound

@@ -12,14 +12,16 @@ end-requires c = is_named c.args.self.now.kernel c.requires.follows.come
 pub returns : goal.returns
 returns c =
     let f = c.args.self.now in
+    let end = ends_so f.kernel c.requires.follows.come (held_at f.held) c.requires.follows.held c.requires.none_ready
+    c.in_ok-end.end c.in_ok-end.ensures in
+    let written = subst (IsOutputOf (system_of f.kernel) c.output.ensures.0)
+    (sym (c.of.ensures ∙ c.in_ok-output.ensures.items)) c.output.ensures.1 in
     record {
-      system = system_of f.kernel;
-      along = is_system f.kernel c.requires.follows.come;
-      end = ends_so f.kernel c.requires.follows.come (held_at f.held) c.requires.follows.held c.requires.none_ready
-          c.in_ok-end.end c.in_ok-end.ensures;
-      output = (
-        c.output.ensures.0,
-        subst (IsOutputOf (system_of f.kernel) c.output.ensures.0)
-            (sym (c.of.ensures ∙ c.in_ok-output.ensures.items)) c.output.ensures.1,
-      );
+      leads = record {
+        system = system_of f.kernel;
+        along = is_system f.kernel c.requires.follows.come;
+        end = end;
+        output = (c.output.ensures.0, written);
+      };
+      at = record { end = end; output = (c.output.ensures.0, written) };
     }

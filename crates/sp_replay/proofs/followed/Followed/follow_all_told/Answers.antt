@@ -4,7 +4,7 @@ use Rattle.sp_code.specs.PlainStore.{plain}
 use Rattle.sp_code.specs.System.{IsSystem}
 use Rattle.sp_lines.specs.declared.told.Told.{Told}
 use Rattle.sp_kernel.specs.Kernels.{code_run_of, system_of}
-use Rattle.sp_replay.specs.Tellings.{AreTold}
+use Rattle.sp_lines.specs.Telling.{IsTold}
 use Rattle.sp_replay.specs.Replays.{IsUnfitAt}
 use Rattle.sp_replay.proofs.Coming.{is_system, none_of}
 use Rattle.sp_replay.proofs.Entries.{unfit, at_or}
@@ -41,7 +41,7 @@ loop-index-preserved c =
       code_run = r.1.made.code_run ∙ i.code_run;
       entries = entries_more x y c.in-Some.told c.args.entries.now c.loop-index.index _ r.1 i.entries
           c.loop-index-test.true;
-      told = subst (λ (ws : List Told). AreTold (code_run_of c.args.self.now.kernel) y.journal.entries (system_of y) ws)
+      told = subst (λ (ws : List Told). IsTold (code_run_of c.args.self.now.kernel) y.journal.entries ws (system_of y))
           (sym c.in_ok-keep.ensures)
           (told_more (code_run_of c.args.self.now.kernel) x y _ c.in-Some.told c.loop-index.out i.code_run r.1 i.told);
     }

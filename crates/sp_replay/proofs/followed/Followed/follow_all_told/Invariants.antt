@@ -1,7 +1,7 @@
 use Rattle.std.proofs.Common.{◌≡◌, take}
 use Rattle.sp_kernel.specs.Kernels.{code_run_of, system_of}
 use Rattle.sp_replay.specs.Following.{HoldsAllReady}
-use Rattle.sp_replay.specs.Tellings.{AreTold}
+use Rattle.sp_lines.specs.Telling.{IsTold}
 use Rattle.sp_replay.proofs.followed.Followed.follow_all_told.Given as goal
 
 abbrev pub invariant-loop-index : goal.invariant-loop-index
@@ -9,5 +9,5 @@ invariant-loop-index l = record {
   stands : HoldsAllReady l.self;
   code_run : code_run_of l.self.kernel ≡ code_run_of l.initial.self.kernel;
   entries : l.self.kernel.journal.entries ≡ take l.index l.entries;
-  told : AreTold (code_run_of l.initial.self.kernel) l.self.kernel.journal.entries (system_of l.self.kernel) l.out;
+  told : IsTold (code_run_of l.initial.self.kernel) l.self.kernel.journal.entries l.out (system_of l.self.kernel);
 }
