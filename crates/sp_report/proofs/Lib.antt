@@ -1,6 +1,6 @@
 mod Children
 mod FitLaws
 mod LineLemmas
-mod Orders
+pub mod Orders
 mod Prefixes
 mod Rising

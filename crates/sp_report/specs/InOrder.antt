@@ -1,4 +1,4 @@
--- None of this belongs to what the program promises: it is for contracts between crates.
+-- All of this belongs to what the program promises (docs/promise.txt).
 -- Processes in the order of their names. The reports of trees and of those that wait are said by it; a name is put in
 -- its place, so that no sort has to be spoken of.
 use Rattle.std.specs.Prelude.{ℕ, List, [], ◌∷◌}

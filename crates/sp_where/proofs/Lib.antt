@@ -1,4 +1,6 @@
-pub mod Forms
-pub mod Filling
 pub mod Cutting
+pub mod Filling
+pub mod Forms
+pub mod Moving
+pub mod StateLines
 pub mod Tracing

@@ -1,10 +1,8 @@
--- None of this belongs to what the program promises: it is for contracts between crates.
--- All of this belongs to what the program promises.
--- Places as texts, and the places of an instruction. The lines of `trace` and `where` show them.
+-- All of this belongs to what the program promises (docs/promise.txt).
+-- The places of an instruction. The lines of `trace` and `where` show them.
 use Rattle.std.specs.Prelude.{ℕ, List, Option, Some, None, slice_get}
 use Rattle.sp_base.specs.declared.place.Place.{Place}
 use Rattle.sp_lines.specs.declared.mark.Mark.{Mark}
-pub use Rattle.sp_sets.specs.SetsText.{place_text}
 
 -- line 0 stands in no text
 abbrev pub no_place : Place

@@ -1,10 +1,11 @@
 -- None of this belongs to what the program promises: it is for contracts between crates.
 -- Writing a text of which only the first bytes count: what is added may end wherever these are full.
-use Rattle.std.specs.Prelude.{◌≡◌, ℕ, List, ◌++◌, take}
+use Rattle.std.specs.Prelude.{◌≡◌, ℕ, List, [], ◌++◌, take}
+use Rattle.sp_tree.specs.Cells.{table}
 use Rattle.sp_journal.specs.Births.{births}
 use Rattle.sp_cell.specs.declared.cell.Cell.{Cell}
 use Rattle.sp_where.specs.declared.values.Shown.{Shown}
-use Rattle.sp_where.specs.Values.{Piece, filled, form_within}
+use Rattle.sp_where.specs.Values.{Piece, filled, form_by}
 use Rattle.sp_writer.specs.declared.writer.Writer.{Writer}
 use Rattle.sp_writer.specs.Adds.{Keeps}
 
@@ -14,9 +15,9 @@ AddsShort most old new t = Keeps old new ((rest : List ℕ)
     → take most (new.items.items ++ rest) ≡ take most (old.items.items ++ (t ++ rest)))
 
 module _ (shown : Shown) where
-  -- how a value of type k is written, where types nest at most d deep
-  abbrev pub form_in : (d k : ℕ) → List Piece
-  form_in d k = form_within shown.symbols.now.checked.kinds d k
+  -- how the values of each type are written
+  abbrev pub forms : List (List Piece)
+  forms = table form_by [] shown.symbols.now.checked.kinds
 
   -- the pieces with these cells in their places
   abbrev pub filled_by : List Piece → List Cell → List ℕ

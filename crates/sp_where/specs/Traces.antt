@@ -1,5 +1,4 @@
--- None of this belongs to what the program promises: it is for contracts between crates.
--- All of this belongs to what the program promises.
+-- All of this belongs to what the program promises (docs/promise.txt).
 -- The text of `trace`: each entry of a journal on a line of its own, with the place in the text of what made it, and
 -- the value that passes there. Processes and channels have their names as in the journal.
 use Rattle.std.specs.Prelude.{ℕ, ◌+◌, List, [], ◌∷◌, ◌++◌, Option, Some, None, codes, decimal}
@@ -13,7 +12,8 @@ use Rattle.sp_journal.specs.Texts.{entry_text}
 use Rattle.sp_cell.specs.declared.cell.Cell.{Cell}
 use Rattle.sp_lines.specs.declared.mark.Mark.{Mark}
 use Rattle.sp_lines.specs.declared.told.Told.{Told}
-use Rattle.sp_where.specs.Places.{place_text, statement_at, part_at}
+use Rattle.sp_base.specs.Places.{place_text}
+use Rattle.sp_where.specs.Places.{statement_at, part_at}
 use Rattle.sp_where.specs.Values.{value_text}
 
 -- the place that an event has whose turn ended at instruction q: for a fault that of the part which met it, else that

@@ -1,5 +1,4 @@
--- None of this belongs to what the program promises: it is for contracts between crates.
--- All of this belongs to what the program promises.
+-- All of this belongs to what the program promises (docs/promise.txt).
 -- Values as texts, by their types and cells. A type says how its values are written: brackets, commas, the names of
 -- fields, and places for cells. The cells of a value fill these in order, and then the text is cut. kinds are the types
 -- of the program, constants the names of the constants of each enumeration, by the number of the type.
@@ -10,7 +9,7 @@ use Rattle.std.specs.Fmt.{signed_decimal}
 use Rattle.sp_base.specs.Names.{channel_text}
 use Rattle.sp_tree.specs.declared.checked.KindOf.{KindOf}
 use Rattle.sp_tree.specs.declared.checked.KindOf.TheVariants as kind
-use Rattle.sp_tree.specs.Cells.{count, first_or}
+use Rattle.sp_tree.specs.Cells.{count, first_or, table}
 use Rattle.sp_tree.specs.Items.{truth_text}
 use Rattle.sp_journal.specs.Births.{Births, channel}
 use Rattle.sp_journal.specs.Names.{chan_name}
@@ -64,31 +63,29 @@ abbrev pub parts_from : ℕ → List (List Piece) → List Piece
 parts_from i [] = []
 parts_from i (x ∷ xs) = Fixed (comma i) ∷ x ++ parts_from (i + 1) xs
 
+-- a value of a type before this one, where the forms of these are known
+abbrev pub form_in : List (List Piece) → ℕ → List Piece
+form_in known k = first_or [] (slice_get known k)
+
 -- as `x: ` and the value
-abbrev pub field_by : (ℕ → List Piece) → List ℕ × ℕ → List Piece
-field_by part f = Fixed f.0 ∷ Fixed (codes ": ") ∷ part f.1
+abbrev pub field_in : List (List Piece) → List ℕ × ℕ → List Piece
+field_in known f = Fixed f.0 ∷ Fixed (codes ": ") ∷ form_in known f.1
 
--- a value of type k, with its parts: as `[1, 2, 3]`, `(x: 1, y: 2)`, or one cell
-abbrev pub form_by : (ℕ → List Piece) → ℕ → Option KindOf → List Piece
-form_by part k None = []
-form_by part k (Some (kind.Array low high index element)) = Fixed (codes "[")
-    ∷ parts_from 0 (replicate (count low high) (part element)) ++ Fixed (codes "]") ∷ []
-form_by part k (Some (kind.Fields fs)) = Fixed (codes "(")
-    ∷ parts_from 0 (map (field_by part) fs) ++ Fixed (codes ")") ∷ []
-form_by part k (Some kind.Integer) = CellOf k ∷ []
-form_by part k (Some kind.Boolean) = CellOf k ∷ []
-form_by part k (Some kind.Char) = CellOf k ∷ []
-form_by part k (Some (kind.Enumeration m)) = CellOf k ∷ []
-form_by part k (Some (kind.Channel ks)) = CellOf k ∷ []
+-- as `[1, 2, 3]`, `(x: 1, y: 2)`, or one cell
+abbrev pub form_by : List (List Piece) → KindOf → List Piece
+form_by known (kind.Array low high index element) = Fixed (codes "[")
+    ∷ parts_from 0 (replicate (count low high) (form_in known element)) ++ Fixed (codes "]") ∷ []
+form_by known (kind.Fields fs) = Fixed (codes "(")
+    ∷ parts_from 0 (map (field_in known) fs) ++ Fixed (codes ")") ∷ []
+form_by known kind.Integer = CellOf (length known) ∷ []
+form_by known kind.Boolean = CellOf (length known) ∷ []
+form_by known kind.Char = CellOf (length known) ∷ []
+form_by known (kind.Enumeration m) = CellOf (length known) ∷ []
+form_by known (kind.Channel ks) = CellOf (length known) ∷ []
 
--- where types nest at most d deep
-abbrev pub form_within : List KindOf → (d k : ℕ) → List Piece
-form_within kinds zero k = []
-form_within kinds (suc d) k = form_by (form_within kinds d) k (slice_get kinds k)
-
--- types nest no deeper than there are types, since each rests on types before it alone
+-- a value of this type
 abbrev pub form : List KindOf → ℕ → List Piece
-form kinds k = form_within kinds (length kinds) k
+form kinds k = form_in (table form_by [] kinds) k
 
 -- ---- values
 

@@ -1,14 +1,12 @@
 //! What is known of a text beside its code.
 
 ghost use Rattle.std.specs.Prelude.{◌≡◌, None, Some, MatchOption};
-ghost use Rattle.sp_where.specs.Places.{place_text, statement_at, part_at};
+ghost use Rattle.sp_where.specs.Places.{statement_at, part_at};
 ghost use Rattle.sp_where.specs.Values.{constant_in, names_of};
-ghost use Rattle.sp_writer.specs.Adds.{Adds};
 
 use sp_base::{List, Place, Text};
 use sp_lines::Mark;
 use sp_tree::Checked;
-use sp_writer::Writer;
 
 /// What a text's tree tells of its code: types, names and places.
 #[derive(Drop)]
@@ -58,13 +56,4 @@ impl Symbols {
             None => None,
         }
     }
-}
-
-/// Puts the place, as `25:3`.
-pub(crate) fn put_place(out: &mut Writer<u8>, at: Place)
-    ensures { Adds out.old out.new (place_text at) }
-{
-    out.decimal(u64::from(at.line));
-    out.extend(b":");
-    out.decimal(u64::from(at.column));
 }

@@ -4,11 +4,11 @@ ghost use Rattle.std.specs.Prelude.{◌≡◌, IfOk};
 ghost use Rattle.sp_journal.specs.Births.{births, CanFollow, IsNameable};
 ghost use Rattle.sp_journal.specs.Ledger.{IsLedger};
 ghost use Rattle.sp_journal.specs.Texts.{entry_text};
-ghost use Rattle.sp_where.specs.Places.{place_text};
+ghost use Rattle.sp_base.specs.Places.{place_text};
 ghost use Rattle.sp_where.specs.Traces.{message_text, passed, place_of_event, trace_line, trace_text};
 ghost use Rattle.sp_writer.specs.Adds.{Adds};
 
-use crate::symbols::{Symbols, put_place};
+use crate::symbols::Symbols;
 use crate::values::put_value;
 use sp_base::{List, Memory};
 use sp_cell::Cell;
@@ -22,14 +22,14 @@ fn put_event_place(out: &mut Writer<u8>, symbols: &Symbols, event: Event, instru
     ensures { Adds out.old out.new (place_text (place_of_event symbols.now.marks event instruction)) }
 {
     match event {
-        Event::Fault(_) => put_place(out, symbols.part(instruction)),
+        Event::Fault(_) => out.place(symbols.part(instruction)),
         Event::Fork(_)
         | Event::Open
         | Event::Send(_)
         | Event::Receive(_)
         | Event::End
         | Event::Laid
-        | Event::Pause => put_place(out, symbols.statement(instruction)),
+        | Event::Pause => out.place(symbols.statement(instruction)),
     }
 }
 

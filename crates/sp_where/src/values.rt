@@ -4,8 +4,8 @@ ghost use Rattle.std.specs.Prelude.{◌≡◌, ◌≤◌, ◌+◌, ◌^◌, ◌+
 ghost use Rattle.sp_journal.specs.Births.{births};
 ghost use Rattle.sp_journal.specs.Ledger.{IsLedger};
 ghost use Rattle.sp_tree.specs.Cells.{count};
-ghost use Rattle.sp_where.specs.Shorts.{Fills, form_in};
-ghost use Rattle.sp_where.specs.Values.{CellOf, comma, cut, field_by, parts_from, value_text};
+ghost use Rattle.sp_where.specs.Shorts.{Fills, forms};
+ghost use Rattle.sp_where.specs.Values.{CellOf, comma, cut, field_in, form, form_in, parts_from, value_text};
 ghost use Rattle.sp_writer.specs.Adds.{Adds, Keeps};
 
 use crate::cells::{put_cell, put_short};
@@ -69,21 +69,12 @@ fn put_next<'c>(out: &mut Writer<u8>, shown: &Shown, kind: u32, cells: &'c [Cell
     }
 }
 
-/// Puts a value of this type, where types nest at most so deep. The answer is the cells that are left.
+/// Puts a value of this type. The answer is the cells that are left.
 #[cycle(form)]
-fn put_form<'c>(
-    out: &mut Writer<u8>,
-    shown: &Shown,
-    depth: usize,
-    kind: u32,
-    cells: &'c [Cell],
-) -> &'c [Cell]
+fn put_form<'c>(out: &mut Writer<u8>, shown: &Shown, kind: u32, cells: &'c [Cell]) -> &'c [Cell]
     requires { IsLedger shown.now.ledger.now }
-    ensures { Fills shown.now out.old cells.now out.new result.now (form_in shown.now depth kind) }
+    ensures { Fills shown.now out.old cells.now out.new result.now (form_in (forms shown.now) kind) }
 {
-    if depth == 0 {
-        return cells;
-    }
     match shown.symbols.checked.kinds.get(kind as usize) {
         None => cells,
         Some(
@@ -95,13 +86,13 @@ fn put_form<'c>(
             },
         ) => {
             out.extend(b"[");
-            let left = put_elements(out, shown, depth - 1, *element, count(*low, *high), cells);
+            let left = put_elements(out, shown, kind, *element, count(*low, *high), cells);
             out.extend(b"]");
             left
         }
         Some(KindOf::Fields(fields)) => {
             out.extend(b"(");
-            let left = put_fields(out, shown, depth - 1, fields.items(), cells);
+            let left = put_fields(out, shown, kind, fields.items(), cells);
             out.extend(b")");
             left
         }
@@ -113,19 +104,38 @@ fn put_form<'c>(
     }
 }
 
-/// Puts so many elements of an array. The answer is the cells that are left.
+/// Puts a value of this type, if it is a type before `bound`. The answer is the cells that are left.
+#[cycle(form)]
+fn put_before<'c>(
+    out: &mut Writer<u8>,
+    shown: &Shown,
+    bound: u32,
+    kind: u32,
+    cells: &'c [Cell],
+) -> &'c [Cell]
+    requires { IsLedger shown.now.ledger.now }
+    ensures { Fills shown.now out.old cells.now out.new result.now (form_in (take bound (forms shown.now)) kind) }
+{
+    if kind < bound {
+        put_form(out, shown, kind, cells)
+    } else {
+        cells
+    }
+}
+
+/// Puts so many elements of an array whose type is `bound`. The answer is the cells that are left.
 #[cycle(form)]
 fn put_elements<'c>(
     out: &mut Writer<u8>,
     shown: &Shown,
-    depth: usize,
+    bound: u32,
     element: u32,
     count: u128,
     cells: &'c [Cell],
 ) -> &'c [Cell]
     requires { IsLedger shown.now.ledger.now }
     ensures { Fills shown.now out.old cells.now out.new result.now
-        (parts_from 0 (replicate count (form_in shown.now depth element))) }
+        (parts_from 0 (replicate count (form_in (take bound (forms shown.now)) element))) }
 {
     let mut left = cells;
     'elements: for i in 0..count {
@@ -133,23 +143,23 @@ fn put_elements<'c>(
             return left;
         }
         put_comma(out, i);
-        left = put_form(out, shown, depth, element, left);
+        left = put_before(out, shown, bound, element, left);
     }
     left
 }
 
-/// Puts the fields of a record. The answer is the cells that are left.
+/// Puts the fields of a record whose type is `bound`. The answer is the cells that are left.
 #[cycle(form)]
 fn put_fields<'c>(
     out: &mut Writer<u8>,
     shown: &Shown,
-    depth: usize,
+    bound: u32,
     fields: &[(Text, u32)],
     cells: &'c [Cell],
 ) -> &'c [Cell]
     requires { IsLedger shown.now.ledger.now }
     ensures { Fills shown.now out.old cells.now out.new result.now
-        (parts_from 0 (map (field_by (form_in shown.now depth)) fields.now)) }
+        (parts_from 0 (map (field_in (take bound (forms shown.now))) fields.now)) }
 {
     let mut left = cells;
     'fields: for (i, field) in fields.iter().enumerate() {
@@ -159,7 +169,7 @@ fn put_fields<'c>(
         put_comma(out, i as u128);
         put_short(out, shown.most, field.0.bytes());
         out.extend(b": ");
-        left = put_form(out, shown, depth, field.1, left);
+        left = put_before(out, shown, bound, field.1, left);
     }
     left
 }
@@ -195,7 +205,6 @@ pub(crate) fn put_value(
         symbols,
         most: start + COUNTED,
     };
-    let depth = symbols.checked.kinds.len();
-    let _left = put_form(out, &shown, depth, kind, cells);
+    let _left = put_form(out, &shown, kind, cells);
     cut_from(out, start);
 }

@@ -1,6 +1,6 @@
 use Rattle.std.proofs.Common.{◌+◌, ◌++◌, [], ap, ◌∙◌, sym, append-nil, arith, take}
 use Rattle.sp_journal.specs.Births.{births}
-use Rattle.sp_where.specs.Values.{filled, form_within}
+use Rattle.sp_where.specs.Values.{filled, form}
 use Rattle.sp_where.proofs.values.put_value.Goals as goal
 
 pub returns : goal.returns
@@ -13,6 +13,5 @@ returns c = λ kept.
           ∙ ap (λ ps. take (c.len-start.result + 121) (c.args.out.now.items.items
           ++ filled c.args.symbols.now.checked.kinds c.args.symbols.now.constants
           (births c.args.ledger.now.journal.entries) ps c.args.cells.now))
-          (append-nil (form_within c.args.symbols.now.checked.kinds c.len-depth.result c.args.kind)
-          ∙ ap (λ d. form_within c.args.symbols.now.checked.kinds d c.args.kind) c.len-depth.ensures)),
+          (append-nil (form c.args.symbols.now.checked.kinds c.args.kind))),
     )
