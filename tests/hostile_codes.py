@@ -27,7 +27,7 @@ def child(table, number, entry, moves=(), shares=(), index=None):
 def code(layouts, instrs, tables=(), texts=()):
     """The bytes of a code file."""
     lines = [f"{at} {instr}\n" for at, instr in enumerate(instrs)]
-    return "".join([HEAD, *layouts, *lines, *tables, *texts]).encode()
+    return "".join([HEAD, *layouts, *texts, *lines, *tables]).encode()
 
 
 def blocks_and_outer(blocks=4_096, variables=4_096, calls=250_000):
@@ -58,6 +58,18 @@ def chain_of_blocks(blocks=190_000):
     layouts = [layout(0, 0, "-", [1] * blocks, range(2, blocks + 2))]
     layouts += [layout(block + 1, entry, 0) for block, entry in enumerate(entries)]
     return code(layouts, instrs)
+
+
+def chain_in_child(blocks=190_000):
+    """Accepted: the chain is called from a child that is handed all these variables, so a rule asks what each block
+    does."""
+    instrs, entries = ["fork 0", "end", "call 1 0", "end"], []
+    for block in range(1, blocks + 1):
+        entries.append(len(instrs))
+        instrs += [f"addr 1 {block + 1}", "const 1", "store", f"call {block % blocks + 1} 1", "return"]
+    layouts = [layout(0, 0, "-", [1] * blocks, range(2, blocks + 2))]
+    layouts += [layout(block + 1, entry, 0) for block, entry in enumerate(entries)]
+    return code(layouts, instrs, [child(0, 0, 2, range(2, blocks + 2))])
 
 
 def ring_of_blocks(blocks=4_096, variables=4_096):
@@ -168,7 +180,7 @@ def far_outward(blocks=200_000):
     return code(layouts, instrs)
 
 
-def joins_of_stacks(operands=300_000, jumps=300_000):
+def joins_of_stacks(operands=250_000, jumps=270_000):
     """Accepted: a deep stack that many jumps bring to one instruction."""
     instrs = ["const 1"] * operands
     end = operands + 2 * jumps
@@ -251,6 +263,7 @@ def passed_along(blocks=2_000, formals=200):
 FILES = {
     "blocks_and_outer": blocks_and_outer,
     "chain_of_blocks": chain_of_blocks,
+    "chain_in_child": chain_in_child,
     "ring_of_blocks": ring_of_blocks,
     "operands_one_block": lambda: operands_of_calls(200_000, 280_000, 1),
     "operands_of_blocks": lambda: operands_of_calls(4_000, 3_000, 900),

@@ -1,5 +1,5 @@
 -- What the passes find is broken, and what is broken they find.
-use Rattle.std.proofs.Common.{◌≡◌, inl, inr, ap, sym, ◌∙◌, subst, ℕ, List, length, Option, Some}
+use Rattle.std.proofs.Common.{◌≡◌, inl, inr, ap, sym, ◌∙◌, subst, ℕ, List, length, Option, Some, true}
 use Rattle.std.specs.Prelude.{slice_get}
 use Rattle.std.proofs.lemmas.Option.{slice_get_within}
 use Rattle.sp_code.specs.declared.code.ChildTable.{ChildTable}
@@ -17,6 +17,7 @@ use Rattle.sp_areas.specs.Owners.{AreOwners}
 use Rattle.sp_areas.proofs.Leasts.{all}
 use Rattle.sp_effects.specs.declared.effects.EffectRow.{EffectRow}
 use Rattle.sp_effects.specs.declared.effects.Effects.{Effects}
+use Rattle.sp_effects.specs.Asked.{is_asked}
 use Rattle.sp_effects.specs.Effects.{AreEffects, IsRowOf}
 use Rattle.sp_effects.specs.Handed.{ChildFails, FailsAs, TableFails}
 use Rattle.sp_effects.proofs.Children.{child_area, child_by, name_there, table_there}
@@ -28,7 +29,11 @@ module _ (c : Parts) (e : Effects) (are : AreEffects c e) where
   row : (a : Area) (q k : ℕ) (ch : ChildTable) → IsArea c (Child a q k) → child_at c q k ≡ Some ch → (d : EffectRow)
       × (slice_get e.rows ch.entry ≡ Some d) × IsRowOf c (Child a q k) d
   row a q k ch there is =
-      let r = are.rows (Child a q k) there in
+      let n = name_there c.forks (table_named (instr_at c q)) k ch is in
+      let tb = table_there c.forks n.0 k ch (sym (ap (λ (o : Option ℕ). child_of (table_at c.forks o) k) n.1) ∙ is) in
+      let asks = are.asks.tables n.0 tb.0 tb.1 k ch tb.2 in
+      let r = are.rows (Child a q k) there
+      (subst (λ m. is_asked e.asked m ≡ true) (sym (ap entry_of_child is)) asks) in
       (r.0, ap (slice_get e.rows) (sym (ap entry_of_child is)) ∙ r.1, r.2)
 
   module _ (a : Area) (t q k : ℕ) (ch : ChildTable) (tb : ForkTable) (is : slice_get c.forks t ≡ Some tb)

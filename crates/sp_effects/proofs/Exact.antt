@@ -26,6 +26,7 @@ use Rattle.sp_areas.specs.Owners.{AreOwners, Owns}
 use Rattle.sp_rules.proofs.Walking.{passes}
 use Rattle.sp_rules.proofs.EffectLaws.{does_effect, child_effect, called_effect, effects_within, stops_within}
 use Rattle.sp_areas.proofs.Owned.{name_of}
+use Rattle.sp_effects.specs.declared.asked.Asked.{Asked}
 use Rattle.sp_effects.specs.declared.edges.Edge.{Edge}
 use Rattle.sp_effects.specs.declared.edges.Edge.TheVariants as edge
 use Rattle.sp_effects.specs.declared.facts.Fact.{Fact}
@@ -35,8 +36,8 @@ use Rattle.sp_effects.specs.Facts.{has_fact, fact, Tells}
 use Rattle.sp_effects.specs.Own.{DoesAt, OwnBefore}
 use Rattle.sp_effects.specs.Edges.{EdgeAt, AreEdges}
 use Rattle.sp_effects.specs.Effects.{ComesToStop}
-use Rattle.sp_effects.specs.Closing.{is_own, is_index, fact_along, FactLeads, FollowsBy, Closes, ClosesBy, IsEffectOf}
-use Rattle.sp_effects.specs.Closing.{AreFacts}
+use Rattle.sp_effects.specs.Asked.{FollowsEdges, is_asked, target}
+use Rattle.sp_effects.specs.Closing.{is_own, is_index, fact_along, FactLeads, FollowsBy, Closes, IsEffectOf, AreFacts}
 use Rattle.sp_effects.specs.Variables.{AreOwn, owns}
 use Rattle.sp_effects.proofs.Linking.{entry_within}
 use Rattle.sp_effects.proofs.Owned.{begins, in_own, own_in}
@@ -150,9 +151,9 @@ module _ (c : Parts) (kept : (p : ℕ) → BreaksV1 c p → ⊥) (os : List Owne
             go false z e = absurd (none-some g e)
         by_pass k y x own effect.Stops num act h e = absurd (none-some g e)
 
-    module _ (rows : List (List Edge)) (edges : AreEdges c rows) where
-      true_led : (f g : Fact) → IsTrue f → FactLeads rows ks f g → IsTrue g
-      true_led f g (b, ib, at, h) (e, has, w) = go (edges.only f.area e has)
+    module _ (k : Asked) (rows : List (List Edge)) (follows : FollowsEdges rows k) (edges : AreEdges c rows) where
+      true_led : (f g : Fact) → IsTrue f → FactLeads k rows ks f g → IsTrue g
+      true_led f g (b, ib, at, h) (e, has, (w, q)) = go (edges.only f.area e has)
         where
           own : Bool
           own = is_own ks f.area f.effect
@@ -161,32 +162,33 @@ module _ (c : Parts) (kept : (p : ℕ) → BreaksV1 c p → ⊥) (os : List Owne
           as_edge x s = ap (λ z. fact_along z own f.effect) (sym s) ∙ w
 
           go : (p : ℕ) × EdgeAt c p f.area e → IsTrue g
-          go (p, inr (a, k, t, ia, st, (m, s))) =
-              let child : IsArea c (Child a p k) = (ia, st.0, (t, st.1)) in
-              let same : b ≡ Child a p k = one_area b (Child a p k) ib child (sym at ∙ m
+          go (p, inr (a, j, t, ia, st, (m, s))) =
+              let child : IsArea c (Child a p j) = (ia, st.0, (t, st.1)) in
+              let same : b ≡ Child a p j = one_area b (Child a p j) ib child (sym at ∙ m
               ∙ sym (ap entry_of_child st.1)) in
-              by_start a ia p g k t own f.effect st (subst (λ (z : Area). IsEffectOf c z f.effect) same h)
+              by_start a ia p g j t own f.effect st (subst (λ (z : Area). IsEffectOf c z f.effect) same h)
               (as_edge (edge.Started (entry c a) t.index) s)
           go (p, inl (a, d, up, ss, l, ia, call, (m, inl s))) =
               let same : b ≡ Body d = one_area b (Body d) ib (l, call.layout) (sym at ∙ m
               ∙ sym (ap entry_of_layout call.layout)) in
               by_call a ia p g d up ss l call own f.effect (ap (λ n. is_own ks n f.effect) m)
               (subst (λ (z : Area). IsEffectOf c z f.effect) same h) (as_edge (edge.Called (entry c a)) s)
-          go (p, inl (a, d, up, ss, l, ia, call, (m, inr (k, y, x, num, act, s)))) =
+          go (p, inl (a, d, up, ss, l, ia, call, (m, inr (j, y, x, num, act, s)))) =
               let same : b ≡ Body d = one_area b (Body d) ib (l, call.layout) (sym at ∙ m
               ∙ sym (ap entry_of_layout call.layout)) in
-              by_pass a ia p g d up ss l call k y x own f.effect num act
+              by_pass a ia p g d up ss l call j y x own f.effect num act
               (subst (λ (z : Area). IsEffectOf c z f.effect) same h)
               (as_edge (edge.Passed (entry c a) y x) s)
 
-      module _ (old new : List Fact) (start : Tells [] old (OwnBefore c (length c.instrs)))
-          (closes : Closes rows ks old new) where
+      module _ (old new : List Fact) (start : Tells [] old (OwnBefore c k (length c.instrs)))
+          (closes : Closes k rows ks old new) where
         first_true : (g : Fact) → has_fact old g ≡ true → IsTrue g
         first_true g h = ⊎_elim (λ z. absurd (cc z))
-            (λ (w : OwnBefore c (length c.instrs) g). (w.2.0, w.2.1.0, w.2.2, does_effect_of w.2.0 w.0 g.effect w.2.3))
+            (λ (w : OwnBefore c k (length c.instrs) g).
+            (w.2.0.0, w.2.0.1.0, w.2.0.2, does_effect_of w.2.0.0 w.0 g.effect w.2.0.3))
             (start.only g h)
 
-        all_true : (n : ℕ) (g : Fact) → FollowsBy rows ks old n g → IsTrue g
+        all_true : (n : ℕ) (g : Fact) → FollowsBy k rows ks old n g → IsTrue g
         all_true zero g h = first_true g h
         all_true (suc n) g (f, h, l) = true_led f g (all_true n f h) l
 
@@ -203,13 +205,12 @@ module _ (c : Parts) (kept : (p : ℕ) → BreaksV1 c p → ⊥) (os : List Owne
         effect_by Loaded x = effect.Loads x
 
         abbrev HasFactOf : Area → Effect → Type 0
-        HasFactOf a d = IsArea c a → has_fact new (fact (entry c a) d) ≡ true
+        HasFactOf a d = IsArea c a → is_asked k (entry c a) ≡ true → has_fact new (fact (entry c a) d) ≡ true
 
-        own_there : (a : Area) (p : ℕ) (d : Effect) → IsArea c a → IsInCodeOf c a p → p < length c.instrs
-            → DoesAt c a p d
-            → has_fact new (fact (entry c a) d) ≡ true
-        own_there a p d ia w l h = closes.kept (fact (entry c a) d)
-            (start.has (fact (entry c a) d) (p, l, (a, (ia, w), refl, h)))
+        own_there : (a : Area) (p : ℕ) (d : Effect) → IsArea c a → is_asked k (entry c a) ≡ true → IsInCodeOf c a p
+            → p < length c.instrs → DoesAt c a p d → has_fact new (fact (entry c a) d) ≡ true
+        own_there a p d ia q w l h = closes.kept (fact (entry c a) d)
+            (start.has (fact (entry c a) d) (p, l, ((a, (ia, w), refl, h), q)))
 
         stored_within : (a : Area) (p x : ℕ) (ss : List Shape) → IsIn x (stored_by c a (instr_at c p) ss)
             → p < length c.instrs
@@ -248,32 +249,41 @@ module _ (c : Parts) (kept : (p : ℕ) → BreaksV1 c p → ⊥) (os : List Owne
         call_within p f up e = slice_get_within c.instrs p (i.Call f up) e
 
         does_has : (u : Kind) (a : Area) (x : ℕ) → Does c u a x → HasFactOf a (effect_by u x)
-        does_has Stored a x (inl (p, ss, r, h)) ia = own_there a p (effect.Stores x) ia (passes c a p ss r)
+        does_has Stored a x (inl (p, ss, r, h)) ia q = own_there a p (effect.Stores x) ia q (passes c a p ss r)
             (stored_within a p x ss h) (inl (ss, r, h))
-        does_has Stored a x (inr (p, k, t, s, h)) ia = own_there a p (effect.Stores x) ia s.0 (table_within p k t s.1)
-            (inr (k, t, s, h))
-        does_has Loaded a x (inl (p, ss, r, h)) ia = own_there a p (effect.Loads x) ia (passes c a p ss r)
+        does_has Stored a x (inr (p, j, t, s, h)) ia q = own_there a p (effect.Stores x) ia q s.0
+            (table_within p j t s.1) (inr (j, t, s, h))
+        does_has Loaded a x (inl (p, ss, r, h)) ia q = own_there a p (effect.Loads x) ia q (passes c a p ss r)
             (loaded_within a p x ss h) (inl (ss, r, h))
-        does_has Loaded a x (inr (p, k, t, s, h)) ia = own_there a p (effect.Loads x) ia s.0 (table_within p k t s.1)
-            (inr (k, t, s, h))
+        does_has Loaded a x (inr (p, j, t, s, h)) ia q = own_there a p (effect.Loads x) ia q s.0
+            (table_within p j t s.1) (inr (j, t, s, h))
 
         stop_has : (a : Area) → HasStop c a → HasFactOf a effect.Stops
-        stop_has a (p, ss, r, h) ia = own_there a p effect.Stops ia (passes c a p ss r) (stop_within p h)
+        stop_has a (p, ss, r, h) ia q = own_there a p effect.Stops ia q (passes c a p ss r) (stop_within p h)
             (inl (ss, r, h))
 
         -- along an edge
-        goes : (p m n : ℕ) (e : Edge) (d x : Effect) → p < length c.instrs → EdgeAt c p m e
+        goes : (p m n : ℕ) (e : Edge) (d x : Effect) → p < length c.instrs → EdgeAt c p m e → is_asked k n ≡ true
             → has_fact new (fact m d) ≡ true
             → fact_along e (is_own ks m d) d ≡ Some (fact n x) → has_fact new (fact n x) ≡ true
-        goes p m n e d x l w h s = closes.closed (fact m d) (fact n x) h (e, edges.has p m e l w, s)
+        goes p m n e d x l w q h s = closes.closed (fact m d) (fact n x) h (e, edges.has p m e l w, (s, q))
 
-        from_child : (a : Area) (p k : ℕ) (t : ChildTable) (d : Effect) → IsStarted c a p k t
+        -- what leads to what is asked about is asked about
+        followed : (p m n : ℕ) (e : Edge) → p < length c.instrs → EdgeAt c p m e → target e ≡ n → is_asked k n ≡ true
+            → is_asked k m ≡ true
+        followed p m n e l w t q = follows m e (edges.has p m e l w) (ap (is_asked k) t ∙ q)
+
+        from_child : (a : Area) (p j : ℕ) (t : ChildTable) (d : Effect) → IsStarted c a p j t
             → ((own : Bool) → fact_along (edge.Started (entry c a) t.index) own d ≡ Some (fact (entry c a) d))
-            → HasFactOf (Child a p k) d → HasFactOf a d
-        from_child a p k t d s z h ia =
-            goes p t.entry (entry c a) (edge.Started (entry c a) t.index) d d (table_within p k t s.1)
-            (inr (a, k, t, ia, s, (refl, refl)))
-            (subst (λ n. has_fact new (fact n d) ≡ true) (ap entry_of_child s.1) (h (ia, s.0, (t, s.1))))
+            → HasFactOf (Child a p j) d → HasFactOf a d
+        from_child a p j t d s z h ia q =
+            let e : Edge = edge.Started (entry c a) t.index in
+            let l = table_within p j t s.1 in
+            let w : EdgeAt c p t.entry e = inr (a, j, t, ia, s, (refl, refl)) in
+            let asks = subst (λ n. is_asked k n ≡ true) (sym (ap entry_of_child s.1))
+            (followed p t.entry (entry c a) e l w refl q) in
+            goes p t.entry (entry c a) e d d l w q
+            (subst (λ n. has_fact new (fact n d) ≡ true) (ap entry_of_child s.1) (h (ia, s.0, (t, s.1)) asks))
             (z (is_own ks t.entry d))
 
         no_index : (o : Option ℕ) (x : ℕ) → IsAside Loaded o x → is_index o x ≡ false
@@ -284,17 +294,18 @@ module _ (c : Parts) (kept : (p : ℕ) → BreaksV1 c p → ⊥) (os : List Owne
             go true e = absurd (h (eqb-true x y e))
             go false e = refl
 
-        child_has : (u : Kind) (a : Area) (p k x : ℕ) (t : ChildTable) → IsStarted c a p k t → IsAside u t.index x
-            → HasFactOf (Child a p k) (effect_by u x) → HasFactOf a (effect_by u x)
-        child_has Stored a p k x t s z h = from_child a p k t (effect.Stores x) s (λ own. refl) h
-        child_has Loaded a p k x t s z h = from_child a p k t (effect.Loads x) s
+        child_has : (u : Kind) (a : Area) (p j x : ℕ) (t : ChildTable) → IsStarted c a p j t → IsAside u t.index x
+            → HasFactOf (Child a p j) (effect_by u x) → HasFactOf a (effect_by u x)
+        child_has Stored a p j x t s z h = from_child a p j t (effect.Stores x) s (λ own. refl) h
+        child_has Loaded a p j x t s z h = from_child a p j t (effect.Loads x) s
             (λ own. ap (λ (b : Bool). if b then None else Some (fact (entry c a) (effect.Loads x)))
             (no_index t.index x z)) h
 
         module _ (a : Area) (p f up : ℕ) (ss : List Shape) (l : Layout) (call : IsCalled c a p f up ss l) where
-          at_entry : (d : Effect) → HasFactOf (Body f) d → has_fact new (fact l.entry d) ≡ true
-          at_entry d h = subst (λ n. has_fact new (fact n d) ≡ true) (ap entry_of_layout call.layout)
-              (h (l, call.layout))
+          at_entry : (d : Effect) → HasFactOf (Body f) d → is_asked k l.entry ≡ true
+              → has_fact new (fact l.entry d) ≡ true
+          at_entry d h q = subst (λ n. has_fact new (fact n d) ≡ true) (ap entry_of_layout call.layout)
+              (h (l, call.layout) (subst (λ n. is_asked k n ≡ true) (sym (ap entry_of_layout call.layout)) q))
 
           outer : (x : ℕ) → (IsMember x l.variables → ⊥) → owns ks l.entry x ≡ false
           outer x never = go (owns ks l.entry x) refl
@@ -307,15 +318,20 @@ module _ (c : Parts) (kept : (p : ℕ) → BreaksV1 c p → ⊥) (os : List Owne
               → fact_along (edge.Called (entry c a)) (is_own ks l.entry d) d ≡ Some (fact (entry c a) d)
               → HasFactOf (Body f) d
               → HasFactOf a d
-          from_called d z h ia = goes p l.entry (entry c a) (edge.Called (entry c a)) d d (call_within p f up call.call)
-              (inl (a, f, up, ss, l, ia, call, (refl, inl refl))) (at_entry d h) z
+          from_called d z h ia q =
+              let e : Edge = edge.Called (entry c a) in
+              let b = call_within p f up call.call in
+              let w : EdgeAt c p l.entry e = inl (a, f, up, ss, l, ia, call, (refl, inl refl)) in
+              goes p l.entry (entry c a) e d d b w q (at_entry d h (followed p l.entry (entry c a) e b w refl q)) z
 
-          from_passed : (k y x : ℕ) (d e : Effect) → IsNumber l k y → IsActual l ss k x
-              → ((own : Bool) → fact_along (edge.Passed (entry c a) y x) own d ≡ Some (fact (entry c a) e))
-              → HasFactOf (Body f) d → HasFactOf a e
-          from_passed k y x d e num act z h ia =
-              goes p l.entry (entry c a) (edge.Passed (entry c a) y x) d e (call_within p f up call.call)
-              (inl (a, f, up, ss, l, ia, call, (refl, inr (k, y, x, num, act, refl)))) (at_entry d h)
+          from_passed : (j y x : ℕ) (d o : Effect) → IsNumber l j y → IsActual l ss j x
+              → ((own : Bool) → fact_along (edge.Passed (entry c a) y x) own d ≡ Some (fact (entry c a) o))
+              → HasFactOf (Body f) d → HasFactOf a o
+          from_passed j y x d o num act z h ia q =
+              let e : Edge = edge.Passed (entry c a) y x in
+              let b = call_within p f up call.call in
+              let w : EdgeAt c p l.entry e = inl (a, f, up, ss, l, ia, call, (refl, inr (j, y, x, num, act, refl))) in
+              goes p l.entry (entry c a) e d o b w q (at_entry d h (followed p l.entry (entry c a) e b w refl q))
               (z (is_own ks l.entry d))
 
           if_same : (y : ℕ) (g : Fact) → ◌≡◌ {A = Option Fact} (if y == y then Some g else None) (Some g)
@@ -327,13 +343,13 @@ module _ (c : Parts) (kept : (p : ℕ) → BreaksV1 c p → ⊥) (os : List Owne
               subst (λ z. HasFactOf a (effect.Stores z)) (sym s)
               (from_called (effect.Stores y) (ap
               (λ (b : Bool). if b then None else Some (fact (entry c a) (effect.Stores y))) (outer y never)) h)
-          called_has Stored x y (inr (k, num, act)) h = from_passed k y x (effect.Stores y) (effect.Stores x) num act
+          called_has Stored x y (inr (j, num, act)) h = from_passed j y x (effect.Stores y) (effect.Stores x) num act
               (λ own. if_same y (fact (entry c a) (effect.Stores x))) h
           called_has Loaded x y (inl (s, never)) h =
               subst (λ z. HasFactOf a (effect.Loads z)) (sym s)
               (from_called (effect.Loads y) (ap
               (λ (b : Bool). if b then None else Some (fact (entry c a) (effect.Loads y))) (outer y never)) h)
-          called_has Loaded x y (inr (k, num, act)) h = from_passed k y x (effect.Loads y) (effect.Loads x) num act
+          called_has Loaded x y (inr (j, num, act)) h = from_passed j y x (effect.Loads y) (effect.Loads x) num act
               (λ own. if_same y (fact (entry c a) (effect.Loads x))) h
 
         effect_has : (u : Kind) (a : Area) (x : ℕ) → IsEffect c (Does c) u a x → HasFactOf a (effect_by u x)
@@ -344,18 +360,20 @@ module _ (c : Parts) (kept : (p : ℕ) → BreaksV1 c p → ⊥) (os : List Owne
         comes_has : (a : Area) → ComesToStop c a → HasFactOf a effect.Stops
         comes_has a (bs, h) =
             stops_within c (Does c) (HasStop c) (λ b. HasFactOf b effect.Stops) stop_has
-            (λ b p k t s z. from_child b p k t effect.Stops s (λ own. refl) z)
+            (λ b p j t s z. from_child b p j t effect.Stops s (λ own. refl) z)
             (λ b p f up ss l call z. from_called b p f up ss l call effect.Stops refl z) bs a h
 
-        complete : (a : Area) (d : Effect) → IsArea c a → IsEffectOf c a d → has_fact new (fact (entry c a) d) ≡ true
-        complete a (effect.Stores x) ia h = effect_has Stored a x h ia
-        complete a (effect.Loads x) ia h = effect_has Loaded a x h ia
-        complete a effect.Stops ia h = comes_has a h ia
+        complete : (a : Area) (d : Effect) → IsArea c a → is_asked k (entry c a) ≡ true → IsEffectOf c a d
+            → has_fact new (fact (entry c a) d) ≡ true
+        complete a (effect.Stores x) ia q h = effect_has Stored a x h ia q
+        complete a (effect.Loads x) ia q h = effect_has Loaded a x h ia q
+        complete a effect.Stops ia q h = comes_has a h ia q
 
-        pub are_facts : AreFacts c new
-        are_facts a d ia = (sound a d ia, complete a d ia)
+        pub are_facts : AreFacts c k new
+        are_facts a d ia q = (sound a d ia, complete a d ia q)
 
-  pub facts_closed : (none old new : List Fact) → none ≡ [] → Tells none old (OwnBefore c (length c.instrs))
-      → ClosesBy c old new → AreFacts c new
-  facts_closed none old new e start by = are_facts by.own by.are_own by.rows by.are_edges old new
-      (subst (λ (z : List Fact). Tells z old (OwnBefore c (length c.instrs))) e start) by.closes
+    pub facts_closed : (k : Asked) (rows : List (List Edge)) (none old new : List Fact) → FollowsEdges rows k
+        → AreEdges c rows → none ≡ [] → Tells none old (OwnBefore c k (length c.instrs)) → Closes k rows ks old new
+        → AreFacts c k new
+    facts_closed k rows none old new follows edges e start closes = are_facts k rows follows edges old new
+        (subst (λ (z : List Fact). Tells z old (OwnBefore c k (length c.instrs))) e start) closes

@@ -4,6 +4,7 @@ pub mod Owns
 pub mod Lying
 pub mod Linking
 pub mod Spreading
+pub mod Asking
 pub mod Exact
 pub mod Rows
 pub mod Members

@@ -11,11 +11,13 @@ use Rattle.sp_rules.specs.Areas.{Body, entry_of_layout}
 use Rattle.sp_rules.specs.Effects.{Does}
 use Rattle.sp_rules.specs.Forks as fork
 use Rattle.sp_rules.specs.Named.{BreaksV1}
+use Rattle.sp_rules.specs.Rules.{some_reference}
 use Rattle.sp_rules.specs.Verdict.{BreaksV8, HasStop}
 use Rattle.sp_areas.specs.LeastPlaces.{IsLeast, Upto}
 use Rattle.sp_areas.proofs.Leasts.{all}
 use Rattle.sp_effects.specs.declared.effects.EffectRow.{EffectRow}
 use Rattle.sp_effects.specs.declared.effects.Effects.{Effects}
+use Rattle.sp_effects.specs.Asked.{is_asked}
 use Rattle.sp_effects.specs.Effects.{AreEffects, IsRowOf}
 use Rattle.sp_effects.specs.Loud.{IsLoud, LayoutLoud, is_loud}
 use Rattle.sp_effects.specs.Variables.{AreOwn, goes_out}
@@ -56,9 +58,11 @@ module _ (c : Parts) (kept : (p : ℕ) → BreaksV1 c p → ⊥) (ks : List (ℕ
 -- ---- the row of a block
 
 pub body_row : (c : Parts) (e : Effects) (are : AreEffects c e) (l : Layout) → layout_of c.layouts l.block ≡ Some l
+    → is_asked e.asked l.entry ≡ true
     → (d : EffectRow) × (slice_get e.rows l.entry ≡ Some d) × IsRowOf c (Body l.block) d
-body_row c e are l is =
-    let r = are.rows (Body l.block) (l, is) in
+body_row c e are l is asks =
+    let r = are.rows (Body l.block) (l, is)
+    (subst (λ m. is_asked e.asked m ≡ true) (sym (ap entry_of_layout is)) asks) in
     (r.0, ap (slice_get e.rows) (sym (ap entry_of_layout is)) ∙ r.1, r.2)
 
 -- ---- V8
@@ -74,14 +78,22 @@ module _ (c : Parts) (e : Effects) (are : AreEffects c e) (kept : (p : ℕ) → 
   from_rule l d effects_of (a, inl (x, i, m)) = (a, inl (x, (effects_of.stored x).1 i, m))
   from_rule l d effects_of (a, inr s) = (a, inr (effects_of.stops.1 s))
 
+  -- a block that answers is asked about
+  asks : (j : ℕ) (l : Layout) → slice_get c.layouts j ≡ Some l → l.answer ≡ true → is_asked e.asked l.entry ≡ true
+  asks j l is a = are.asks.layouts j l is (or_left l.answer (some_reference l.formals) a)
+
+  answers : (l : Layout) (o : Option EffectRow) → IsLoud l o → l.answer ≡ true
+  answers l None h = absurd h
+  answers l (Some d) h = h.0
+
   found : (j p : ℕ) → LayoutLoud e c.layouts j p → BreaksV8 c p
   found j p (l, is, at, h) =
-      let r = body_row c e are l (layout_here c kept j l is) in
+      let r = body_row c e are l (layout_here c kept j l is) (asks j l is (answers l (slice_get e.rows l.entry) h)) in
       (l, (j, is), at, to_rule l r.0 r.2 (subst (IsLoud l) r.1 h))
 
   finds : (p : ℕ) → BreaksV8 c p → Upto (LayoutLoud e c.layouts) (length c.layouts) p
   finds p (l, (j, is), at, h) =
-      let r = body_row c e are l (layout_here c kept j l is) in
+      let r = body_row c e are l (layout_here c kept j l is) (asks j l is h.0) in
       record {
         item = j;
         below = slice_get_within c.layouts j l is;

@@ -6,6 +6,7 @@ use Rattle.sp_code.specs.declared.instr.Instr.{Instr}
 use Rattle.sp_code.specs.declared.code.Parts.{Parts}
 use Rattle.sp_rules.specs.Areas.{Area, instr_at, entry}
 use Rattle.sp_rules.specs.Shapes.{Shape}
+use Rattle.sp_rules.specs.Named.{LiesIn}
 use Rattle.sp_rules.specs.Reach.{IsIn}
 use Rattle.sp_rules.specs.Touched.{stored_by, loaded_by}
 use Rattle.sp_rules.specs.Verdict.{is_stop}
@@ -19,14 +20,16 @@ use Rattle.sp_shapes.specs.Reached.{reached_at}
 use Rattle.sp_shapes.specs.Stacks.{list_of}
 use Rattle.sp_shapes.proofs.Reaching.{reached_there, stands}
 use Rattle.std.proofs.lemmas.Option.{none-some, same_Some}
-use Rattle.sp_base.proofs.Facts.{below_or_last}
+use Rattle.sp_base.proofs.Facts.{below_or_last, not_true_and_false}
 use Rattle.sp_rules.proofs.Effects.{is_member, is_in_list}
+use Rattle.sp_effects.specs.declared.asked.Asked.{Asked}
 use Rattle.sp_effects.specs.declared.facts.Fact.{Fact}
 use Rattle.sp_effects.specs.declared.facts.Effect.{Effect}
 use Rattle.sp_effects.specs.declared.facts.Effect.TheVariants as effect
 use Rattle.sp_effects.specs.Facts.{fact, with_fact, Tells}
+use Rattle.sp_effects.specs.Asked.{is_asked}
 use Rattle.sp_effects.specs.Own.{IsOf, IsEffectAmong, IsStop, IsHanded, OneIsHanded, ForkedAt, ReachedAt, OwnAt}
-use Rattle.sp_effects.specs.Own.{OwnBefore}
+use Rattle.sp_effects.specs.Own.{AskedAt, OwnBefore}
 use Rattle.sp_effects.specs.Own.{DoesBy, effect_of}
 use Rattle.sp_effects.proofs.Telling.{tells_none, tells_as, tells_then, tells_one}
 
@@ -270,17 +273,37 @@ module _ (c : Parts) (p : ℕ) where
         does = (k, t, s.1, d);
       })
 
+-- ---- if the area is asked about
+
+pub none_lies : (c : Parts) (p : ℕ) (k : Asked) (f : List Fact) → ((a : Area) → LiesIn c p a → ⊥)
+    → Tells f f (AskedAt c k p)
+none_lies c p k f h = tells_none f (AskedAt c k p) (λ z w. absurd (h w.0.0 w.0.1))
+
+module _ (c : Parts) (p : ℕ) (a : Area) (n : ℕ) (only : LiesOnlyIn c p a) (at : entry c a ≡ n) where
+  own_area : (z : Fact) → OwnAt c p z → z.area ≡ n
+  own_area z w = w.2 ∙ ap (entry c) (only.1 w.0 w.1) ∙ at
+
+  pub asked_told : (k : Asked) (f g : List Fact) → is_asked k n ≡ true → Tells f g (OwnAt c p)
+      → Tells f g (AskedAt c k p)
+  asked_told k f g h t = tells_as f g (OwnAt c p) (AskedAt c k p) (λ z w. (w, ap (is_asked k) (own_area z w) ∙ h))
+      (λ z w. w.0) t
+
+  pub none_asked : (k : Asked) (f : List Fact) → is_asked k n ≡ false → Tells f f (AskedAt c k p)
+  none_asked k f h = tells_none f (AskedAt c k p) (λ z w. absurd (not_true_and_false (is_asked k n)
+      (ap (is_asked k) (sym (own_area z w.0)) ∙ w.1) h))
+
 -- ---- at all
 
-module _ (c : Parts) where
-  pub before_more : (f g h : List Fact) (p : ℕ) → Tells f g (OwnBefore c p) → Tells g h (OwnAt c p)
-      → Tells f h (OwnBefore c (p + 1))
-  before_more f g h p u v = tells_as f h (λ z. OwnBefore c p z
-      ⊎ OwnAt c p z) (OwnBefore c (p + 1)) to from (tells_then f g h (OwnBefore c p) (OwnAt c p) u v)
+module _ (c : Parts) (k : Asked) where
+  pub before_more : (f g h : List Fact) (p : ℕ) → Tells f g (OwnBefore c k p) → Tells g h (AskedAt c k p)
+      → Tells f h (OwnBefore c k (p + 1))
+  before_more f g h p u v = tells_as f h (λ z. OwnBefore c k p z
+      ⊎ AskedAt c k p z) (OwnBefore c k (p + 1)) to from (tells_then f g h (OwnBefore c k p) (AskedAt c k p) u v)
     where
-      to : (z : Fact) → OwnBefore c p z ⊎ OwnAt c p z → OwnBefore c (p + 1) z
+      to : (z : Fact) → OwnBefore c k p z ⊎ AskedAt c k p z → OwnBefore c k (p + 1) z
       to z (inl w) = (w.0, (let l = w.1 in omega (arith, l)), w.2)
       to z (inr w) = (p, omega arith, w)
 
-      from : (z : Fact) → OwnBefore c (p + 1) z → OwnBefore c p z ⊎ OwnAt c p z
-      from z w = ⊎_elim (λ l. inl (w.0, l, w.2)) (λ s. inr (subst (λ q. OwnAt c q z) s w.2)) (below_or_last w.0 p w.1)
+      from : (z : Fact) → OwnBefore c k (p + 1) z → OwnBefore c k p z ⊎ AskedAt c k p z
+      from z w = ⊎_elim (λ l. inl (w.0, l, w.2)) (λ s. inr (subst (λ q. AskedAt c k q z) s w.2))
+          (below_or_last w.0 p w.1)

@@ -18,6 +18,7 @@ use Rattle.sp_rules.specs.Effects.{Does, HasEffect, IsActual, IsCalled}
 use Rattle.sp_rules.specs.Forks as fork
 use Rattle.sp_rules.specs.Named.{BreaksV1}
 use Rattle.sp_rules.specs.Reach.{IsArea}
+use Rattle.sp_rules.specs.Rules.{some_reference}
 use Rattle.sp_rules.specs.Shapes.{Shape, O, C, L, A}
 use Rattle.sp_rules.specs.Verdict.{HasStop}
 use Rattle.sp_rules.proofs.Lists.{member_or, different_front, different_apart}
@@ -30,6 +31,7 @@ use Rattle.sp_shapes.specs.Reached.{reached_at}
 use Rattle.sp_shapes.specs.Stacks.{list_of}
 use Rattle.sp_shapes.proofs.Reaching.{reached_there, stands}
 use Rattle.sp_effects.specs.declared.effects.Effects.{Effects}
+use Rattle.sp_effects.specs.Asked.{is_asked}
 use Rattle.sp_effects.specs.Effects.{AreEffects, touches}
 use Rattle.sp_effects.specs.Calls.{CallFails, actual_at, actual_of, actuals, call_clashes, is_outer, list_of_option}
 use Rattle.sp_effects.specs.Calls.{meets_outer, variable_of}
@@ -248,11 +250,36 @@ module _ (e : Effects) (entry : ℕ) where
 
 -- ---- one call
 
+-- the place of a layout that is there
+pub place_there : (ls : List Layout) (b : ℕ) (l : Layout) → layout_of ls b ≡ Some l → (j : ℕ)
+    × (number_from 0 ls b ≡ Some j) × (slice_get ls j ≡ Some l)
+place_there ls b l e = go (number_from 0 ls b) refl
+  where
+    go : (o : Option ℕ) → number_from 0 ls b ≡ o → (j : ℕ) × (number_from 0 ls b ≡ Some j) × (slice_get ls j ≡ Some l)
+    go None f = absurd (none-some l (sym (place_none 0 ls b f) ∙ e))
+    go (Some j) f = (j, f, place_some ls b j f ∙ e)
+
+-- one of the formals is a reference
+reference_there : (fs : List Formal) (k cells : ℕ) → slice_get fs k ≡ Some (formal.Reference cells)
+    → some_reference fs ≡ true
+reference_there [] k cells e = absurd (none-some (formal.Reference cells) e)
+reference_there (formal.Reference n ∷ fs) k cells e = refl
+reference_there (formal.Value n ∷ fs) zero cells e = absurd (cc e)
+reference_there (formal.Value n ∷ fs) (suc k) cells e = reference_there fs k cells e
+
 module _ (c : Parts) (e : Effects) (are : AreEffects c e) (kept : (p : ℕ) → BreaksV1 c p → ⊥) (l : Layout) (b : ℕ)
     (at : layout_of c.layouts b ≡ Some l) (ss : List Shape) where
-  touched : (x : ℕ) → (touches e l.entry x ≡ true) ↔ HasEffect c (Does c) (Body b) x
-  touched x = subst (λ n. (touches e n x ≡ true) ↔ HasEffect c (Does c) (Body b) x) (ap entry_of_layout at)
-      (are.touched (Body b) x (l, at))
+  -- a block with an actual variable is asked about
+  asks : (k x : ℕ) → IsActual l ss k x → is_asked e.asked l.entry ≡ true
+  asks k x f =
+      let r = place_there c.layouts b l at in
+      are.asks.layouts r.0 l r.2
+      (or_right l.answer (some_reference l.formals) (reference_there l.formals k f.0 f.2))
+
+  touched : (k x : ℕ) → IsActual l ss k x → (touches e l.entry x ≡ true) ↔ HasEffect c (Does c) (Body b) x
+  touched k x f = subst (λ n. (touches e n x ≡ true) ↔ HasEffect c (Does c) (Body b) x) (ap entry_of_layout at)
+      (are.touched (Body b) x (l, at) (subst (λ m. is_asked e.asked m ≡ true) (sym (ap entry_of_layout at))
+      (asks k x f)))
 
   abbrev pub Xs : List ℕ
   Xs = actuals l.formals ss (length l.formals)
@@ -266,7 +293,7 @@ module _ (c : Parts) (e : Effects) (are : AreEffects c e) (kept : (p : ℕ) → 
         r.0,
         at_is l ss i.0 r.0 i.1 i.2,
         (
-          (touched r.0).0 r.2,
+          (touched (length l.formals - 1 - i.0) r.0 (at_is l ss i.0 r.0 i.1 i.2)).0 r.2,
           λ m. not_true_and_false (owns e.own.keys l.entry r.0) (in_own c kept e.own.keys are.own b l at r.0 m) r.3,
         ),
       )
@@ -277,7 +304,7 @@ module _ (c : Parts) (e : Effects) (are : AreEffects c e) (kept : (p : ℕ) → 
       let a = is_at l ss k x f in
       let y = a.0 in
       outer_from e l.entry Xs x (at_member l ss (length l.formals) (length l.formals - 1 - k) x
-      (omega (arith, y)) a.1) ((touched x).1 h)
+      (omega (arith, y)) a.1) ((touched k x f).1 h)
       (false_from_ne_true (owns e.own.keys l.entry x) (λ g. m (own_in c kept e.own.keys are.own b l at x g)))
 
   pub clash_rule : call_clashes e l ss ≡ true → fork.BreaksV7 c (Does c) (HasStop c) l b ss
@@ -300,15 +327,6 @@ module _ (c : Parts) (e : Effects) (are : AreEffects c e) (kept : (p : ℕ) → 
 abbrev pub CallBreaks : Parts → ℕ → Type 0
 CallBreaks c p = (a : Area) × (b up : ℕ) × (ss : List Shape) × (l : Layout) × IsArea c a × IsCalled c a p b up ss l
     × fork.BreaksV7 c (Does c) (HasStop c) l b ss
-
--- the place of a layout that is there
-pub place_there : (ls : List Layout) (b : ℕ) (l : Layout) → layout_of ls b ≡ Some l → (j : ℕ)
-    × (number_from 0 ls b ≡ Some j) × (slice_get ls j ≡ Some l)
-place_there ls b l e = go (number_from 0 ls b) refl
-  where
-    go : (o : Option ℕ) → number_from 0 ls b ≡ o → (j : ℕ) × (number_from 0 ls b ≡ Some j) × (slice_get ls j ≡ Some l)
-    go None f = absurd (none-some l (sym (place_none 0 ls b f) ∙ e))
-    go (Some j) f = (j, f, place_some ls b j f ∙ e)
 
 pub call_within : (c : Parts) (e : Effects) (s : Shapes) → AreShapes c s → (p : ℕ) → CallFails c e s p
     → p < length c.instrs

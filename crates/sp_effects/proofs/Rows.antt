@@ -12,10 +12,12 @@ use Rattle.sp_rules.specs.Areas.{Area, entry}
 use Rattle.sp_rules.specs.Reach.{IsIn, IsArea}
 use Rattle.sp_rules.specs.Effects.{Does, HasEffect}
 use Rattle.sp_rules.specs.Named.{BreaksV1}
+use Rattle.sp_effects.specs.declared.asked.Asked.{Asked}
 use Rattle.sp_effects.specs.declared.effects.EffectRow.{EffectRow}
 use Rattle.sp_effects.specs.declared.facts.Fact.{Fact}
 use Rattle.sp_effects.specs.declared.facts.Effect.{Effect}
 use Rattle.sp_effects.specs.declared.facts.Effect.TheVariants as effect
+use Rattle.sp_effects.specs.Asked.{Asks, is_asked}
 use Rattle.sp_effects.specs.Facts.{has_fact, fact}
 use Rattle.sp_effects.specs.Effects.{InRow, RowsHave, AddsEffect, WritesFact, AreRows, IsRowOf, AreEffects, touches}
 use Rattle.sp_effects.specs.Closing.{IsEffectOf, AreFacts}
@@ -193,42 +195,44 @@ row_at (r ∷ rows) zero l = (r, refl)
 row_at (r ∷ rows) (suc m) l = row_at rows m (omega (arith, l))
 
 module _ (c : Parts) (kept : (p : ℕ) → BreaksV1 c p
-    → ⊥) (fs : List Fact) (facts : AreFacts c fs) (rows : List EffectRow)
+    → ⊥) (k : Asked) (asks : Asks c k) (fs : List Fact) (facts : AreFacts c k fs) (rows : List EffectRow)
     (are : AreRows fs (length fs) (length c.instrs) rows) (own : BTreeSet (ℕ × ℕ)) (are_own : AreOwn c own.keys) where
-  row_is : (a : Area) (r : EffectRow) (d : Effect) → IsArea c a → slice_get rows (entry c a) ≡ Some r
-      → InRow r d ↔ IsEffectOf c a d
-  row_is a r d ia e = (λ i. (facts a d ia).0 (are.only (entry c a) d (r, e, i)), back)
+  row_is : (a : Area) (r : EffectRow) (d : Effect) → IsArea c a → is_asked k (entry c a) ≡ true
+      → slice_get rows (entry c a) ≡ Some r → InRow r d ↔ IsEffectOf c a d
+  row_is a r d ia q e = (λ i. (facts a d ia q).0 (are.only (entry c a) d (r, e, i)), back)
     where
       back : IsEffectOf c a d → InRow r d
       back h =
-          let t = told_place fs (fact (entry c a) d) ((facts a d ia).1 h) in
+          let t = told_place fs (fact (entry c a) d) ((facts a d ia q).1 h) in
           let w = are.has t.0 (fact (entry c a) d) (slice_get_within fs t.0 (fact (entry c a) d) t.1) t.1
           (entry_within c kept a ia) in
           subst (λ (x : EffectRow). InRow x d) (same_Some w.0 r (sym w.1 ∙ e)) w.2
 
-  pub are_effects : AreEffects c (record { rows = rows; facts = fs; own = own })
-  are_effects = record { rows = there; touched = touched; own = are_own }
+  pub are_effects : AreEffects c (record { rows = rows; facts = fs; own = own; asked = k })
+  are_effects = record { asks = asks; rows = there; touched = touched; own = are_own }
     where
-      there : (a : Area) → IsArea c a → (r : EffectRow) × (slice_get rows (entry c a) ≡ Some r) × IsRowOf c a r
-      there a ia =
+      there : (a : Area) → IsArea c a → is_asked k (entry c a) ≡ true
+          → (r : EffectRow) × (slice_get rows (entry c a) ≡ Some r) × IsRowOf c a r
+      there a ia q =
           let r = row_at rows (entry c a) (subst (λ n. entry c a < n) (sym are.size) (entry_within c kept a ia)) in (
             r.0,
             r.1,
             record {
-              stored = λ x. row_is a r.0 (effect.Stores x) ia r.1;
+              stored = λ x. row_is a r.0 (effect.Stores x) ia q r.1;
               loaded = λ x. row_is a r.0
-                  (effect.Loads x) ia r.1;
-              stops = row_is a r.0 effect.Stops ia r.1;
+                  (effect.Loads x) ia q r.1;
+              stops = row_is a r.0 effect.Stops ia q r.1;
             },
           )
 
-      touched : (a : Area) (x : ℕ) → IsArea c a
-          → IsTrue (touches (record { rows = rows; facts = fs; own = own }) (entry c a) x) ↔ HasEffect c (Does c) a x
-      touched a x ia = (
-        λ i. ⊎_elim (λ h. inl ((facts a (effect.Stores x) ia).0 h)) (λ h. inr ((facts a (effect.Loads x) ia).0 h))
+      touched : (a : Area) (x : ℕ) → IsArea c a → is_asked k (entry c a) ≡ true
+          → IsTrue (touches (record { rows = rows; facts = fs; own = own; asked = k }) (entry c a) x)
+          ↔ HasEffect c (Does c) a x
+      touched a x ia q = (
+        λ i. ⊎_elim (λ h. inl ((facts a (effect.Stores x) ia q).0 h)) (λ h. inr ((facts a (effect.Loads x) ia q).0 h))
             (or_cases s l i),
-        λ w. ⊎_elim (λ h. or_left s l ((facts a (effect.Stores x) ia).1 h))
-            (λ h. or_right s l ((facts a (effect.Loads x) ia).1 h)) w,
+        λ w. ⊎_elim (λ h. or_left s l ((facts a (effect.Stores x) ia q).1 h))
+            (λ h. or_right s l ((facts a (effect.Loads x) ia q).1 h)) w,
       )
         where
           s : Bool

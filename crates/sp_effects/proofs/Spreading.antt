@@ -8,11 +8,13 @@ use Rattle.std.proofs.lemmas.Option.{slice_get_within, none-some, same_Some}
 use Rattle.sp_base.proofs.Facts.{below_or_last}
 use Rattle.sp_code.specs.declared.code.Layout.{Layout}
 use Rattle.sp_code.specs.declared.code.Parts.{Parts}
+use Rattle.sp_effects.specs.declared.asked.Asked.{Asked}
 use Rattle.sp_effects.specs.declared.edges.Edge.{Edge}
 use Rattle.sp_effects.specs.declared.facts.Fact.{Fact}
 use Rattle.sp_effects.specs.declared.facts.Effect.{Effect}
 use Rattle.sp_effects.specs.Facts.{has_fact, with_fact, pair_cmp, has_pair, Tells}
-use Rattle.sp_effects.specs.Closing.{AlongOne, Closes, ClosesTo, FollowsFrom, FactLeads, fact_along}
+use Rattle.sp_effects.specs.Asked.{is_asked}
+use Rattle.sp_effects.specs.Closing.{AlongOne, Closes, ClosesTo, FollowsFrom, FactLeads, GoesAlong}
 use Rattle.sp_effects.specs.Variables.{AddsPairs, AreOwn, IsOwnIn, IsOwnOf}
 use Rattle.sp_effects.proofs.Telling.{told_place, place_told, told_on, tells_as, tells_then, tells_one}
 use Rattle.sp_effects.proofs.Telling.{pair_put}
@@ -82,29 +84,39 @@ first_all c ls n ks s e h = subst (λ (xs : List Layout). (q : ℕ × ℕ) → (
 
 -- ---- along edges
 
-pub carried_told : (fs : List Fact) (o : Option Fact) (g : Fact) → o ≡ Some g
-    → Tells fs (with_fact fs g) (λ f. o ≡ Some f)
-carried_told fs o g e = tells_as fs (with_fact fs g) (λ f. f ≡ g) (λ f. o ≡ Some f) (λ f s. e
-    ∙ ap Some (sym s)) (λ f s. same_Some f g (sym s ∙ e)) (tells_one fs g)
+pub carried_told : (fs : List Fact) (k : Asked) (o : Option Fact) (g : Fact) → o ≡ Some g → is_asked k g.area ≡ true
+    → Tells fs (with_fact fs g) (λ f. (o ≡ Some f) × (is_asked k f.area ≡ true))
+carried_told fs k o g e q = tells_as fs (with_fact fs g) (λ f. f ≡ g) (λ f. (o ≡ Some f) × (is_asked k f.area ≡ true))
+    (λ f s. (e ∙ ap Some (sym s), ap (λ (z : Fact). is_asked k z.area) s ∙ q)) (λ f s. same_Some f g (sym s.0 ∙ e))
+    (tells_one fs g)
 
-pub along_more : (a b x : List Fact) (row : List Edge) (own : Bool) (d : Effect) (k : ℕ) (e : Edge)
-    → slice_get row k ≡ Some e → Tells a b (AlongOne row own d k) → Tells b x (λ g. fact_along e own d ≡ Some g)
-    → Tells a x (AlongOne row own d (k + 1))
-along_more a b x row own d k e h u v = tells_as a x (λ g. AlongOne row own d k g
-    ⊎ (fact_along e own d ≡ Some g)) (AlongOne row own d (k + 1)) to from
-    (tells_then a b x (AlongOne row own d k) (λ g. fact_along e own d ≡ Some g) u v)
+pub not_carried : (fs : List Fact) (k : Asked) (o : Option Fact)
+    → ((g : Fact) → o ≡ Some g → is_asked k g.area ≡ true → ⊥)
+    → Tells fs fs (λ f. (o ≡ Some f) × (is_asked k f.area ≡ true))
+not_carried fs k o h = record {
+  extends = λ i f e. e;
+  has = λ f w. absurd (h f w.0 w.1);
+  only = λ f w. inl w;
+}
+
+pub along_more : (a b x : List Fact) (q : Asked) (row : List Edge) (own : Bool) (d : Effect) (k : ℕ) (e : Edge)
+    → slice_get row k ≡ Some e → Tells a b (AlongOne q row own d k) → Tells b x (GoesAlong q e own d)
+    → Tells a x (AlongOne q row own d (k + 1))
+along_more a b x q row own d k e h u v = tells_as a x (λ g. AlongOne q row own d k g
+    ⊎ GoesAlong q e own d g) (AlongOne q row own d (k + 1)) to from
+    (tells_then a b x (AlongOne q row own d k) (GoesAlong q e own d) u v)
   where
-    to : (g : Fact) → AlongOne row own d k g ⊎ (fact_along e own d ≡ Some g) → AlongOne row own d (k + 1) g
+    to : (g : Fact) → AlongOne q row own d k g ⊎ GoesAlong q e own d g → AlongOne q row own d (k + 1) g
     to g (inl w) = (w.0, w.1, (let l = w.2 in omega (arith, l)), w.3, w.4)
     to g (inr w) = (k, e, omega arith, h, w)
 
-    from : (g : Fact) → AlongOne row own d (k + 1) g → AlongOne row own d k g ⊎ (fact_along e own d ≡ Some g)
+    from : (g : Fact) → AlongOne q row own d (k + 1) g → AlongOne q row own d k g ⊎ GoesAlong q e own d g
     from g w =
         ⊎_elim (λ l. inl (w.0, w.1, l, w.3, w.4))
-        (λ s. inr (subst (λ (y : Edge). fact_along y own d ≡ Some g) (same_Some w.1 e (sym w.3 ∙ ap (slice_get row) s
+        (λ s. inr (subst (λ (y : Edge). GoesAlong q y own d g) (same_Some w.1 e (sym w.3 ∙ ap (slice_get row) s
         ∙ h)) w.4)) (below_or_last w.0 k w.2)
 
-module _ (rows : List (List Edge)) (own : List (ℕ × ℕ)) where
+module _ (asked : Asked) (rows : List (List Edge)) (own : List (ℕ × ℕ)) where
   -- ---- until nothing is left
 
   there : (fs : List Fact) (i j : ℕ) (f : Fact) → slice_get fs i ≡ Some f → j < i → (g : Fact)
@@ -115,27 +127,28 @@ module _ (rows : List (List Edge)) (own : List (ℕ × ℕ)) where
   there (x ∷ fs) (suc i) (suc j) f e l = there fs i j f e (omega (arith, l))
 
   pub closes_more : (old now new : List Fact) (i : ℕ) (f : Fact) → slice_get now i ≡ Some f
-      → ClosesTo rows own old now i → Tells now new (FactLeads rows own f) → ClosesTo rows own old new (i + 1)
+      → ClosesTo asked rows own old now i → Tells now new (FactLeads asked rows own f)
+      → ClosesTo asked rows own old new (i + 1)
   closes_more old now new i f e h t = record {
-    kept = λ g w. told_on now new (FactLeads rows own f) t g (h.kept g w);
+    kept = λ g w. told_on now new (FactLeads asked rows own f) t g (h.kept g w);
     done = done;
     only = only;
   }
     where
-      done : (j : ℕ) (x g : Fact) → j < i + 1 → slice_get new j ≡ Some x → FactLeads rows own x g
+      done : (j : ℕ) (x g : Fact) → j < i + 1 → slice_get new j ≡ Some x → FactLeads asked rows own x g
           → has_fact new g ≡ true
       done j x g l s w = ⊎_elim (λ z. let r = there now i j f e z in let q : r.0 ≡ x = same_Some r.0 x
-          (sym (t.extends j r.0 r.1) ∙ s) in told_on now new (FactLeads rows own f) t g
+          (sym (t.extends j r.0 r.1) ∙ s) in told_on now new (FactLeads asked rows own f) t g
           (h.done j x g z (r.1 ∙ ap Some q) w))
           (λ z. let q : f ≡ x = same_Some f x (sym (t.extends i f e) ∙ ap (slice_get new) (sym z)
-          ∙ s) in t.has g (subst (λ y. FactLeads rows own y g) (sym q) w)) (below_or_last j i l)
+          ∙ s) in t.has g (subst (λ y. FactLeads asked rows own y g) (sym q) w)) (below_or_last j i l)
 
-      only : (g : Fact) → has_fact new g ≡ true → FollowsFrom rows own old g
+      only : (g : Fact) → has_fact new g ≡ true → FollowsFrom asked rows own old g
       only g w = ⊎_elim (λ z. h.only g z) (λ z. let r = h.only f (place_told now i f e) in (suc r.0, (f, r.1, z)))
           (t.only g w)
 
-  pub closed_now : (old new : List Fact) (i : ℕ) → slice_get new i ≡ None → ClosesTo rows own old new i
-      → Closes rows own old new
+  pub closed_now : (old new : List Fact) (i : ℕ) → slice_get new i ≡ None → ClosesTo asked rows own old new i
+      → Closes asked rows own old new
   closed_now old new i e h = record { kept = h.kept; closed = closed; only = h.only }
     where
       inside : (fs : List Fact) (k j : ℕ) (f : Fact) → slice_get fs k ≡ None → slice_get fs j ≡ Some f → j < k
@@ -144,5 +157,5 @@ module _ (rows : List (List Edge)) (own : List (ℕ × ℕ)) where
       inside (x ∷ fs) (suc k) zero f n s = omega arith
       inside (x ∷ fs) (suc k) (suc j) f n s = let l = inside fs k j f n s in omega (arith, l)
 
-      closed : (f g : Fact) → has_fact new f ≡ true → FactLeads rows own f g → has_fact new g ≡ true
+      closed : (f g : Fact) → has_fact new f ≡ true → FactLeads asked rows own f g → has_fact new g ≡ true
       closed f g w l = let r = told_place new f w in h.done r.0 f g (inside new i r.0 f e r.1) r.1 l

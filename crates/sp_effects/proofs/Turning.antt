@@ -27,6 +27,7 @@ use Rattle.sp_rules.proofs.Walking.{passes}
 use Rattle.sp_areas.specs.Alone.{flag_at}
 use Rattle.sp_areas.specs.Blocks.{IsNumbered, number_from, number_of}
 use Rattle.sp_areas.specs.LeastPlaces.{IsLeast, Upto, earlier_of}
+use Rattle.sp_areas.specs.Owners.{entry_at}
 use Rattle.sp_areas.proofs.BlockLaws.{place_some}
 use Rattle.sp_areas.proofs.Leasts.{all, both, least_of_same}
 use Rattle.sp_shapes.specs.declared.shapes.Shapes.{Shapes}
@@ -35,6 +36,7 @@ use Rattle.sp_shapes.specs.Stacks.{list_of}
 use Rattle.sp_shapes.proofs.Reaching.{reached_there, stands}
 use Rattle.sp_effects.specs.declared.effects.EffectRow.{EffectRow}
 use Rattle.sp_effects.specs.declared.effects.Effects.{Effects}
+use Rattle.sp_effects.specs.Asked.{inside_entry, is_asked}
 use Rattle.sp_effects.specs.Calls.{CallFails}
 use Rattle.sp_effects.specs.Effects.{AreEffects, IsRowOf}
 use Rattle.sp_effects.specs.Turns.{AreInside, LayoutTurns, SomeCalls, Turns, inside_of, is_inside, turns}
@@ -185,14 +187,33 @@ module _ (c : Parts) (k : KeepsCodeRules c) (kept : (p : ℕ) → BreaksV1 c p �
     rule_turn d effects_of (f, (x, (inl h, m), z)) = (is_called f, (x, inl ((effects_of.stored x).1 h), m, z))
     rule_turn d effects_of (f, (x, (inr h, m), z)) = (is_called f, (x, inr ((effects_of.loaded x).1 h), m, z))
 
+    -- it is asked about
+    asks : flag_at flags j ≡ true → is_asked e.asked l.entry ≡ true
+    asks f = by_call ((inside.each j below).0 f)
+      where
+        by_call : SomeCalls c first s (length c.instrs) j → is_asked e.asked l.entry ≡ true
+        by_call h =
+            let q = h.calls in
+            let r = inside_call (homes c q.area) first (instr_at c h.position) j q.calls in
+            let same_place = place_some c.layouts r.0 j (sym (numbered r.0) ∙ r.4) in
+            let ls = c.layouts in
+            are.asks.inside h.position q.area l.entry q.lies
+            (ap (inside_entry (homes c q.area) ls) r.2
+            ∙ ap (λ t. if t then entry_at (layout_of ls r.0) else None) r.3 ∙ ap entry_at (sym same_place ∙ is))
+
+  flagged : (flag : Bool) (l : Layout) (o : Option EffectRow) → Turns flag l o → flag ≡ true
+  flagged flag l None h = absurd h
+  flagged flag l (Some d) h = h.0
+
   turn_found : (j p : ℕ) → LayoutTurns e flags c.layouts j p → TurnBreaks c p
   turn_found j p (l, is, first, h) =
-      let r = body_row c e are l (at j l is) in
+      let r = body_row c e are l (at j l is)
+      (asks j l is (flagged (flag_at flags j) l (slice_get e.rows l.entry) h)) in
       (l, (j, is), first, turn_rule j l is r.0 r.2 (subst (Turns (flag_at flags j) l) r.1 h))
 
   turn_finds : (p : ℕ) → TurnBreaks c p → Upto (LayoutTurns e flags c.layouts) (length c.layouts) p
   turn_finds p (l, (j, is), first, h) =
-      let r = body_row c e are l (at j l is) in
+      let r = body_row c e are l (at j l is) (asks j l is (is_called j l is h.0)) in
       record {
         item = j;
         below = slice_get_within c.layouts j l is;

@@ -6,15 +6,17 @@ use Rattle.sp_code.specs.declared.code.Parts.{Parts}
 use Rattle.sp_rules.specs.Areas.{Area, entry}
 use Rattle.sp_rules.specs.Reach.{IsArea}
 use Rattle.sp_rules.specs.Effects.{Stored, Loaded, Does, IsEffect}
+use Rattle.sp_effects.specs.declared.asked.Asked.{Asked}
 use Rattle.sp_effects.specs.declared.edges.Edge.{Edge}
 use Rattle.sp_effects.specs.declared.edges.Edge.TheVariants as edge
 use Rattle.sp_effects.specs.declared.facts.Fact.{Fact}
 use Rattle.sp_effects.specs.declared.facts.Effect.{Effect}
 use Rattle.sp_effects.specs.declared.facts.Effect.TheVariants as effect
+use Rattle.sp_effects.specs.Asked.{is_asked}
 use Rattle.sp_effects.specs.Facts.{fact, has_fact}
-use Rattle.sp_effects.specs.Edges.{HasEdge, AreEdges}
+use Rattle.sp_effects.specs.Edges.{HasEdge}
 use Rattle.sp_effects.specs.Effects.{ComesToStop}
-use Rattle.sp_effects.specs.Variables.{AreOwn, owns}
+use Rattle.sp_effects.specs.Variables.{owns}
 
 -- it is done to a variable of the area's own
 abbrev pub is_own : List (ℕ × ℕ) → ℕ → Effect → Bool
@@ -42,14 +44,18 @@ fact_along (edge.Passed to y x) own (effect.Stores z) = if z == y then Some (fac
 fact_along (edge.Passed to y x) own (effect.Loads z) = if z == y then Some (fact to (effect.Loads x)) else None
 fact_along (edge.Passed to y x) own effect.Stops = None
 
--- along one of these edges
-abbrev pub AlongOne : List Edge → Bool → Effect → ℕ → Fact → Type 0
-AlongOne row own d n g = (k : ℕ) × (e : Edge) × (k < n) × (slice_get row k ≡ Some e) × (fact_along e own d ≡ Some g)
+-- it does, to an area that is asked about
+abbrev pub GoesAlong : Asked → Edge → Bool → Effect → Fact → Type 0
+GoesAlong k e own d g = (fact_along e own d ≡ Some g) × (is_asked k g.area ≡ true)
 
-module _ (rows : List (List Edge)) (own : List (ℕ × ℕ)) where
+-- along one of these edges
+abbrev pub AlongOne : Asked → List Edge → Bool → Effect → ℕ → Fact → Type 0
+AlongOne a row own d n g = (k : ℕ) × (e : Edge) × (k < n) × (slice_get row k ≡ Some e) × GoesAlong a e own d g
+
+module _ (asked : Asked) (rows : List (List Edge)) (own : List (ℕ × ℕ)) where
   -- one fact leads to another
   abbrev pub FactLeads : Fact → Fact → Type 0
-  FactLeads f g = (e : Edge) × HasEdge rows f.area e × (fact_along e (is_own own f.area f.effect) f.effect ≡ Some g)
+  FactLeads f g = (e : Edge) × HasEdge rows f.area e × GoesAlong asked e (is_own own f.area f.effect) f.effect g
 
   -- in so many steps from these
   abbrev pub FollowsBy : List Fact → ℕ → Fact → Type 0
@@ -80,14 +86,7 @@ module _ (c : Parts) where
   IsEffectOf a (effect.Loads x) = IsEffect c (Does c) Loaded a x
   IsEffectOf a effect.Stops = ComesToStop c a
 
-  -- the facts are closed along the edges of the code
-  pub record ClosesBy (old new : List Fact) : Type 0 where
-    pub rows : List (List Edge)
-    pub own : List (ℕ × ℕ)
-    pub are_edges : AreEdges c rows
-    pub are_own : AreOwn c own
-    pub closes : Closes rows own old new
-
-  -- the facts are those of the areas that are there
-  abbrev pub AreFacts : List Fact → Type 0
-  AreFacts fs = (a : Area) (d : Effect) → IsArea c a → (has_fact fs (fact (entry c a) d) ≡ true) ↔ IsEffectOf a d
+  -- the facts are those of the areas that are there and asked about
+  abbrev pub AreFacts : Asked → List Fact → Type 0
+  AreFacts k fs = (a : Area) (d : Effect) → IsArea c a → is_asked k (entry c a) ≡ true
+      → (has_fact fs (fact (entry c a) d) ≡ true) ↔ IsEffectOf a d

@@ -12,6 +12,7 @@ use Rattle.sp_effects.specs.declared.effects.Effects.{Effects}
 use Rattle.sp_effects.specs.declared.facts.Fact.{Fact}
 use Rattle.sp_effects.specs.declared.facts.Effect.{Effect}
 use Rattle.sp_effects.specs.declared.facts.Effect.TheVariants as effect
+use Rattle.sp_effects.specs.Asked.{Asks, is_asked}
 use Rattle.sp_effects.specs.Facts.{has_fact, fact}
 use Rattle.sp_effects.specs.Variables.{AreOwn}
 
@@ -56,9 +57,12 @@ module _ (c : Parts) where
     pub loaded : (x : ℕ) → IsIn x d.loaded ↔ IsEffect c (Does c) Loaded a x
     pub stops : IsTrue d.stops ↔ ComesToStop a
 
-  -- each area that is there stands under its first instruction; the touched variables are those of its effects; the
-  -- own ones are those of the blocks
+  -- all areas are asked about that the rules ask about; each one that is, stands under its first instruction, and the
+  -- touched variables are those of its effects; the own ones are those of the blocks
   pub record AreEffects (e : Effects) : Type 0 where
-    pub rows : (a : Area) → IsArea c a → (d : EffectRow) × (slice_get e.rows (entry c a) ≡ Some d) × IsRowOf a d
-    pub touched : (a : Area) (x : ℕ) → IsArea c a → IsTrue (touches e (entry c a) x) ↔ HasEffect c (Does c) a x
+    pub asks : Asks c e.asked
+    pub rows : (a : Area) → IsArea c a → is_asked e.asked (entry c a) ≡ true
+        → (d : EffectRow) × (slice_get e.rows (entry c a) ≡ Some d) × IsRowOf a d
+    pub touched : (a : Area) (x : ℕ) → IsArea c a → is_asked e.asked (entry c a) ≡ true
+        → IsTrue (touches e (entry c a) x) ↔ HasEffect c (Does c) a x
     pub own : AreOwn c e.own.keys

@@ -11,3 +11,4 @@ pub mod Loud
 pub mod Calls
 pub mod Turns
 pub mod PassContexts
+pub mod Asked

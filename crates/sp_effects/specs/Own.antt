@@ -18,11 +18,13 @@ use Rattle.sp_rules.specs.Rules.{ComesTo}
 use Rattle.sp_areas.specs.declared.owners.Owner.{Owner}
 use Rattle.sp_areas.specs.declared.owners.Owner.TheVariants as owner
 use Rattle.sp_areas.specs.Owners.{entry_at}
+use Rattle.sp_effects.specs.declared.asked.Asked.{Asked}
 use Rattle.sp_effects.specs.declared.facts.Fact.{Fact}
 use Rattle.sp_effects.specs.declared.facts.Effect.{Effect}
 use Rattle.sp_effects.specs.declared.facts.Effect.TheVariants as effect
 use Rattle.sp_effects.specs.declared.places.Place.{Place}
 use Rattle.sp_effects.specs.declared.places.Place.TheVariants as place
+use Rattle.sp_effects.specs.Asked.{is_asked}
 
 -- where a child begins, if there is one
 abbrev pub child_entry : Option ChildTable → Option ℕ
@@ -103,6 +105,10 @@ module _ (c : Parts) where
   abbrev pub OwnAt : ℕ → Fact → Type 0
   OwnAt p f = (a : Area) × LiesIn c p a × (f.area ≡ entry c a) × DoesAt a p f.effect
 
+  -- an area that is asked about does
+  abbrev pub AskedAt : Asked → ℕ → Fact → Type 0
+  AskedAt k p f = OwnAt p f × (is_asked k f.area ≡ true)
+
   -- at one of the first instructions
-  abbrev pub OwnBefore : ℕ → Fact → Type 0
-  OwnBefore n f = (p : ℕ) × (p < n) × OwnAt p f
+  abbrev pub OwnBefore : Asked → ℕ → Fact → Type 0
+  OwnBefore k n f = (p : ℕ) × (p < n) × AskedAt k p f

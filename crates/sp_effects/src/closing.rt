@@ -1,14 +1,17 @@
 //! How facts go on from area to area along edges, until nothing is new.
 
-ghost use Rattle.std.specs.Prelude.{◌≡◌, ◌<◌, OnOk, IfOk, Some, Bool, length, slice_get};
+ghost use Rattle.std.specs.Prelude.{◌≡◌, ◌<◌, OnOk, IfOk, Some, Bool, length};
 ghost use Rattle.sp_effects.specs.PassContexts.{IsPassContext};
-ghost use Rattle.sp_effects.specs.Closing.{AlongOne, AreFacts, Closes, ClosesBy, FactLeads, fact_along, is_index};
+ghost use Rattle.sp_effects.specs.Asked.{FollowsEdges};
+ghost use Rattle.sp_effects.specs.Closing.{AlongOne, AreFacts, Closes, FactLeads, GoesAlong, fact_along, is_index};
 ghost use Rattle.sp_effects.specs.Closing.{is_own};
 ghost use Rattle.sp_effects.specs.declared.edges.Edge.TheVariants as edge;
+ghost use Rattle.sp_effects.specs.Edges.{AreEdges};
 ghost use Rattle.sp_effects.specs.Facts.{Tells, fact};
 ghost use Rattle.sp_effects.specs.Variables.{AreOwn};
 
-use crate::edges::{Edge, edges_of};
+use crate::asked::Asked;
+use crate::edges::{Edge, edge_at};
 use crate::facts::{Effect, Fact, Facts};
 use crate::have;
 use crate::own::tell_own;
@@ -104,29 +107,41 @@ fn fact_along(edge: Edge, own: bool, effect: Effect) -> Option<Fact>
     }
 }
 
-fn spread_one(facts: &mut Facts, edge: Edge, own: bool, effect: Effect) -> Result<(), Memory>
-    ensures { OnOk result (Tells facts.old facts.new (λ g. fact_along edge own effect ≡ Some g)) }
+// What goes along an edge to an area that is asked about.
+fn spread_one(
+    facts: &mut Facts,
+    asked: &Asked,
+    edge: Edge,
+    own: bool,
+    effect: Effect,
+) -> Result<(), Memory>
+    ensures { OnOk result (Tells facts.old facts.new (GoesAlong asked.now edge own effect)) }
 {
     match fact_along(edge, own, effect) {
         None => Ok(()),
-        Some(fact) => facts.add(fact),
+        Some(fact) => {
+            if asked.has(fact.area as usize) {
+                facts.add(fact)
+            } else {
+                Ok(())
+            }
+        }
     }
 }
 
-fn edge_at(row: &[Edge], k: usize) -> Edge
-    requires { k < length row.now }
-    ensures { slice_get row.now k ≡ Some result }
-{
-    row[k]
-}
-
 // Along all edges of an area.
-fn spread_row(facts: &mut Facts, row: &[Edge], own: bool, effect: Effect) -> Result<(), Memory>
-    ensures { OnOk result (Tells facts.old facts.new (AlongOne row.now own effect (length row.now))) }
+fn spread_row(
+    facts: &mut Facts,
+    asked: &Asked,
+    row: &[Edge],
+    own: bool,
+    effect: Effect,
+) -> Result<(), Memory>
+    ensures { OnOk result (Tells facts.old facts.new (AlongOne asked.now row.now own effect (length row.now))) }
 {
     for k in 0..row.len() {
         let edge = edge_at(row, k);
-        have!(spread_one(facts, edge, own, effect));
+        have!(spread_one(facts, asked, edge, own, effect));
     }
     Ok(())
 }
@@ -134,17 +149,18 @@ fn spread_row(facts: &mut Facts, row: &[Edge], own: bool, effect: Effect) -> Res
 // What one fact leads to.
 fn spread(
     facts: &mut Facts,
+    asked: &Asked,
     rows: &List<List<Edge>>,
     own: &BTreeSet<(u32, u32)>,
     fact: Fact,
 ) -> Result<(), Memory>
-    ensures { OnOk result (Tells facts.old facts.new (FactLeads rows.now own.now.keys fact)) }
+    ensures { OnOk result (Tells facts.old facts.new (FactLeads asked.now rows.now own.now.keys fact)) }
 {
     match rows.get(fact.area as usize) {
         None => Ok(()),
         Some(row) => {
             let mine = is_own(own, fact.area, fact.effect);
-            spread_row(facts, row.items(), mine, fact.effect)
+            spread_row(facts, asked, row.items(), mine, fact.effect)
         }
     }
 }
@@ -152,39 +168,37 @@ fn spread(
 // All that facts lead to. Each is followed once; no memory has more of them than the loop would follow.
 fn close(
     facts: &mut Facts,
+    asked: &Asked,
     rows: &List<List<Edge>>,
     own: &BTreeSet<(u32, u32)>,
 ) -> Result<(), Memory>
-    ensures { OnOk result (Closes rows.now own.now.keys facts.old facts.new) }
+    ensures { OnOk result (Closes asked.now rows.now own.now.keys facts.old facts.new) }
 {
     for i in 0..usize::MAX {
         let fact = match facts.at(i) {
             None => return Ok(()),
             Some(fact) => fact,
         };
-        have!(spread(facts, rows, own, fact));
+        have!(spread(facts, asked, rows, own, fact));
     }
     Err(Memory)
 }
 
-// The same, by the code.
-fn close_by(g: &PassContext, own: &BTreeSet<(u32, u32)>, facts: &mut Facts) -> Result<(), Memory>
+/// What each area that is asked about does, with what it starts and calls, by all edges and the variables of blocks.
+pub(crate) fn facts_of(
+    g: &PassContext,
+    asked: &Asked,
+    rows: &List<List<Edge>>,
+    own: &BTreeSet<(u32, u32)>,
+) -> Result<Facts, Memory>
     requires known { IsPassContext g.now }
+    requires follows { FollowsEdges rows.now asked.now }
+    requires edges { AreEdges g.now.code.now rows.now }
     requires own { AreOwn g.now.code.now own.now.keys }
-    ensures { OnOk result (ClosesBy g.now.code.now facts.old facts.new) }
-{
-    let rows = have!(edges_of(g));
-    close(facts, &rows, own)
-}
-
-/// What each area does, with what it starts and calls, by the variables of blocks.
-pub fn facts_of(g: &PassContext, own: &BTreeSet<(u32, u32)>) -> Result<Facts, Memory>
-    requires known { IsPassContext g.now }
-    requires own { AreOwn g.now.code.now own.now.keys }
-    ensures { IfOk result (AreFacts g.now.code.now) }
+    ensures { IfOk result (AreFacts g.now.code.now asked.now) }
 {
     let mut facts = Facts::new(g.code.parts().instrs.alloc());
-    have!(tell_own(g, &mut facts));
-    have!(close_by(g, own, &mut facts));
+    have!(tell_own(g, asked, &mut facts));
+    have!(close(&mut facts, asked, rows, own));
     Ok(facts)
 }

@@ -32,6 +32,14 @@ pub enum Edge {
     Passed { to: u32, formal: u32, actual: u32 },
 }
 
+/// The edge of a row at a place.
+pub(crate) fn edge_at(row: &[Edge], k: usize) -> Edge
+    requires { k < length row.now }
+    ensures { slice_get row.now k ≡ Some result }
+{
+    row[k]
+}
+
 fn is_same_call(one: Edge, other: Edge) -> bool
     ensures { result ≡ true → one ≡ other }
 {

@@ -6,7 +6,9 @@ ghost use Rattle.sp_effects.specs.Effects.{AreEffects, AreRows, RowsHave, AddsEf
 ghost use Rattle.sp_effects.specs.declared.facts.Effect.{Effect as EffectOf};
 ghost use Rattle.std.specs.Option.{option_copied};
 
+use crate::asked::{Asked, asked_of};
 use crate::closing::facts_of;
+use crate::edges::edges_of;
 use crate::facts::{Effect, Fact, Facts};
 use crate::have;
 use crate::pass_context::PassContext;
@@ -29,23 +31,25 @@ pub struct EffectRow {
 /// What the code of each block and child does, by its first instruction.
 #[derive(Drop)]
 pub struct Effects {
-    /// By the number of the first instruction. Where no code begins, a row says nothing.
+    /// By the number of the first instruction. Where no code begins that is asked about, a row says nothing.
     pub rows: List<EffectRow>,
     /// The same as facts.
     pub facts: Facts,
     /// The variables of each block, each under the first instruction of its block.
     pub own: BTreeSet<(u32, u32)>,
+    /// The areas that a rule asks about, and those that these start or call: rows and facts are of no other.
+    pub asked: Asked,
 }
 
 impl Effects {
-    /// What the block or child with this first instruction does.
+    /// What the block or child with this first instruction does, if it is asked about.
     pub fn of(&self, entry: u32) -> Option<&EffectRow>
         ensures { option_copied result ≡ slice_get self.now.rows entry }
     {
         self.rows.get(entry as usize)
     }
 
-    /// Whether the block or child with this first instruction stores or loads the variable.
+    /// Whether the block or child with this first instruction, which is asked about, stores or loads the variable.
     pub fn touches(&self, entry: u32, variable: u32) -> bool
         ensures { result ≡ touches self.now entry variable }
     {
@@ -128,14 +132,21 @@ fn rows_of(alloc: Global, facts: &Facts, count: usize) -> Result<List<EffectRow>
     Ok(rows)
 }
 
-/// What the code of each block and child does. The only other answer is want of memory.
+/// What the code of each block and child does that a rule asks about. The only other answer is want of memory.
 pub fn find_effects(g: &PassContext) -> Result<Effects, Memory>
     requires known { IsPassContext g.now }
     ensures { IfOk result (λ effects. AreEffects g.now.code.now effects) }
 {
     let own = have!(own_of(g.code));
-    let facts = have!(facts_of(g, &own));
+    let edges = have!(edges_of(g));
+    let asked = have!(asked_of(g, &edges));
+    let facts = have!(facts_of(g, &asked, &edges, &own));
     let instrs = &g.code.parts().instrs;
     let rows = have!(rows_of(instrs.alloc(), &facts, instrs.len()));
-    Ok(Effects { rows, facts, own })
+    Ok(Effects {
+        rows,
+        facts,
+        own,
+        asked,
+    })
 }

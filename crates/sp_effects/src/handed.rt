@@ -1,6 +1,6 @@
 //! Rule V6: what the children of forks are handed, held against what they do.
 
-ghost use Rattle.std.specs.Prelude.{◌≡◌, IfOk, OnOk, length, slice_get, Some};
+ghost use Rattle.std.specs.Prelude.{◌≡◌, IfOk, OnOk, false, length, slice_get, Some};
 ghost use Rattle.sp_areas.specs.LeastPlaces.{IsLeast, Upto};
 ghost use Rattle.sp_rules.specs.Verdict.{BreaksV6};
 ghost use Rattle.sp_effects.specs.PassContexts.{IsPassContext};
@@ -71,6 +71,19 @@ fn note(before: &mut Before, child: &ChildTable) -> Result<(), Memory>
     Ok(())
 }
 
+// The same, unless it is the last one.
+fn note_unless(last: bool, before: &mut Before, child: &ChildTable) -> Result<(), Memory>
+    ensures moved { OnOk result (last ≡ false
+        → before.new.moved.keys ≡ with_all before.old.moved.keys child.now.moved) }
+    ensures handed { OnOk result (last ≡ false
+        → before.new.handed.keys ≡ with_all (with_all before.old.handed.keys child.now.moved) child.now.shared) }
+{
+    if last {
+        return Ok(());
+    }
+    note(before, child)
+}
+
 // Whether a child that does this fails, alone or beside those before it.
 fn fails_so(
     alloc: Global,
@@ -114,10 +127,11 @@ fn first_child(
         handed: BTreeSet::new(alloc),
     };
     let mut first = None;
-    for child in children {
+    let count = children.len();
+    for (k, child) in children.iter().enumerate() {
         let fails = have!(child_fails(alloc, effects, &before, child));
         first = least(first, place_if(fails, child.entry));
-        have!(note(&mut before, child));
+        have!(note_unless(k + 1 == count, &mut before, child));
     }
     Ok(first)
 }

@@ -16,8 +16,8 @@ use sp_base::{List, Memory};
 use sp_code::Instr;
 use sp_shapes::reached::reached;
 
-// Whether a block that is called from so many levels inside the one around it is called inside itself.
-fn is_inside(g: &PassContext, p: u32, block: u32, up: u32) -> bool
+/// Whether a block that is called from so many levels inside the one around it is called inside itself.
+pub(crate) fn is_inside(g: &PassContext, p: u32, block: u32, up: u32) -> bool
     requires known { IsPassContext g.now }
     requires there { p < length g.now.code.now.instrs }
     ensures { (a : Area) → LiesOnlyIn g.now.code.now p a

@@ -6,14 +6,15 @@ ghost use Rattle.sp_areas.specs.Only.{LiesOnlyIn};
 ghost use Rattle.sp_code.specs.Machine.{layout_of};
 ghost use Rattle.sp_effects.specs.PassContexts.{IsPassContext};
 ghost use Rattle.sp_effects.specs.Facts.{Tells};
-ghost use Rattle.sp_effects.specs.Own.{DoesBy, ForkedAt, IsEffectAmong, IsHanded, IsOf, IsStop, OneIsHanded, OwnAt};
-ghost use Rattle.sp_effects.specs.Own.{OwnBefore, ReachedAt, effect_of, operand_variables, variables_at};
+ghost use Rattle.sp_effects.specs.Own.{AskedAt, DoesBy, ForkedAt, IsEffectAmong, IsHanded, IsOf, IsStop, OneIsHanded};
+ghost use Rattle.sp_effects.specs.Own.{OwnAt, OwnBefore, ReachedAt, effect_of, operand_variables, variables_at};
 ghost use Rattle.sp_rules.specs.Areas.{Area, entry, instr_at};
 ghost use Rattle.sp_rules.specs.Touched.{topmost_variable, addresses, number_list};
 ghost use Rattle.sp_rules.specs.Shapes.{below_topmost};
 ghost use Rattle.sp_shapes.specs.Stacks.{IsListNumber, IsStacks, list_of, shape_of};
 
 use crate::areas::{area_at, table_of};
+use crate::asked::Asked;
 use crate::facts::{Effect, Fact, Facts};
 use crate::have;
 use crate::pass_context::PassContext;
@@ -259,27 +260,57 @@ fn tell_reached(g: &PassContext, facts: &mut Facts, area: u32, p: u32) -> Result
     tell_shaped(g, facts, area, p, instr, stack)
 }
 
-// Tells what the instruction at p does.
-fn tell_at(g: &PassContext, facts: &mut Facts, p: u32) -> Result<(), Memory>
+// Tells what the instruction at p does, in this area.
+fn tell_in(g: &PassContext, facts: &mut Facts, area: u32, p: u32) -> Result<(), Memory>
     requires known { IsPassContext g.now }
+    requires lies { (a : Area) × LiesOnlyIn g.now.code.now p a × (entry g.now.code.now a ≡ area) }
     requires there { p < length g.now.code.now.instrs }
     ensures { OnOk result (Tells facts.old facts.new (OwnAt g.now.code.now p)) }
 {
-    let area = match area_at(g, p) {
-        None => return Ok(()),
-        Some(area) => area,
-    };
     have!(tell_reached(g, facts, area, p));
     tell_forked(g.code, facts, area, p)
 }
 
-/// What each area does itself, or hands to its children.
-pub fn tell_own(g: &PassContext, facts: &mut Facts) -> Result<(), Memory>
+// The same, if the area is asked about.
+fn tell_asked(
+    g: &PassContext,
+    asked: &Asked,
+    facts: &mut Facts,
+    area: u32,
+    p: u32,
+) -> Result<(), Memory>
     requires known { IsPassContext g.now }
-    ensures { OnOk result (Tells facts.old facts.new (OwnBefore g.now.code.now (length g.now.code.now.instrs))) }
+    requires lies { (a : Area) × LiesOnlyIn g.now.code.now p a × (entry g.now.code.now a ≡ area) }
+    requires there { p < length g.now.code.now.instrs }
+    ensures { OnOk result (Tells facts.old facts.new (AskedAt g.now.code.now asked.now p)) }
+{
+    if asked.has(area as usize) {
+        tell_in(g, facts, area, p)
+    } else {
+        Ok(())
+    }
+}
+
+// The same, in whichever area it lies.
+fn tell_at(g: &PassContext, asked: &Asked, facts: &mut Facts, p: u32) -> Result<(), Memory>
+    requires known { IsPassContext g.now }
+    requires there { p < length g.now.code.now.instrs }
+    ensures { OnOk result (Tells facts.old facts.new (AskedAt g.now.code.now asked.now p)) }
+{
+    match area_at(g, p) {
+        None => Ok(()),
+        Some(area) => tell_asked(g, asked, facts, area, p),
+    }
+}
+
+/// What each area that is asked about does itself, or hands to its children.
+pub(crate) fn tell_own(g: &PassContext, asked: &Asked, facts: &mut Facts) -> Result<(), Memory>
+    requires known { IsPassContext g.now }
+    ensures { OnOk result (Tells facts.old facts.new
+        (OwnBefore g.now.code.now asked.now (length g.now.code.now.instrs))) }
 {
     for p in 0..g.code.parts().instrs.len() {
-        have!(tell_at(g, facts, p as u32));
+        have!(tell_at(g, asked, facts, p as u32));
     }
     Ok(())
 }

@@ -5,5 +5,6 @@ pub returns : goal.returns
 returns c =
     let g = c.args.g.now in
     let known = c.requires.known in
-    facts_closed g.code.now known.kept g.owners.now known.owners c.new-facts.result c.tell_own.new.facts
-    c.close_by.new.facts c.new-facts.ensures c.in-Ok.ensures c.in-Ok-close_by.ensures
+    facts_closed g.code.now known.kept g.owners.now known.owners c.args.own.now.keys c.requires.own c.args.asked.now
+    c.args.rows.now c.new-facts.result c.tell_own.new.facts c.close.new.facts c.requires.follows c.requires.edges
+    c.new-facts.ensures c.in-Ok.ensures c.in-Ok-close.ensures

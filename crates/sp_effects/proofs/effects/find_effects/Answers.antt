@@ -10,6 +10,7 @@ returns c =
     let fs = c.in-Ok-facts_of.value in
     let m : c.len.result ≡ length code.instrs = c.len.ensures
     ∙ ap (λ (z : Parts). length z.instrs) c.parts.ensures.same in
-    are_effects code c.requires.known.kept fs c.in-Ok-facts_of.ensures c.in-Ok-rows_of.value
+    are_effects code c.requires.known.kept c.in-Ok-asked_of.value c.in-Ok-asked_of.ensures.asks fs
+    c.in-Ok-facts_of.ensures c.in-Ok-rows_of.value
     (subst (λ n. AreRows fs (length fs) n c.in-Ok-rows_of.value) m c.in-Ok-rows_of.ensures) c.in-Ok.value
     c.in-Ok.ensures
