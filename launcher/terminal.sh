@@ -84,7 +84,7 @@ watch() {
 
 # Runs the program on words that are right: a command that runs one goes on as a person at the terminal expects.
 run_at_terminal() {
-    case $command in run | replay | witness | exec) ;; *) exec "$program" "$@" ;; esac
+    case $command in run | replay | trace | where | witness | exec) ;; *) exec "$program" "$@" ;; esac
     [ ! -t 0 ] || reads_input || exec </dev/null
     if [ -t 2 ]; then
         goes_on='the run goes on'

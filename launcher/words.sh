@@ -75,8 +75,8 @@ tell_words() {
     while read -r kind name operands groups what; do
         [ "$kind" != command ] || tell_command "$name" "$operands" "$what"
     done <"$table"
-    echo 'Options of run; witness, exec have all but --show, replay --ticks to --output,'
-    echo 'gen --workers. N is at least 1.                        default       greatest'
+    echo 'Options of run; witness, exec have all but --show, replay, trace, where --ticks'
+    echo 'to --output, gen --workers. N is at least 1.           default       greatest'
     tell_options workers,limits,show
     echo 'COMMAND --help tells its options, --version which superpascal this is.'
     tell_program

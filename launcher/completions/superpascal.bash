@@ -3,7 +3,7 @@ _superpascal() {
     local word=${COMP_WORDS[COMP_CWORD]} before=${COMP_WORDS[COMP_CWORD-1]} options=
     COMPREPLY=()
     if [ "$COMP_CWORD" -eq 1 ]; then
-        COMPREPLY=($(compgen -W "run replay witness check code build exec sets format gen help --help -h --version --words" -- "$word"))
+        COMPREPLY=($(compgen -W "run replay trace where witness check code build exec sets format gen help --help -h --version --words" -- "$word"))
         return
     fi
     # (bash takes `=` for a word of its own)
@@ -19,6 +19,8 @@ _superpascal() {
     case ${COMP_WORDS[1]} in
         run) options="--workers --ticks --depth --cells --processes --channels --entries --output --show --help" ;;
         replay) options="--ticks --depth --cells --processes --channels --entries --output --help" ;;
+        trace) options="--ticks --depth --cells --processes --channels --entries --output --help" ;;
+        where) options="--ticks --depth --cells --processes --channels --entries --output --help" ;;
         witness) options="--workers --ticks --depth --cells --processes --channels --entries --output --help" ;;
         check) options="--help" ;;
         code) options="--help" ;;

@@ -28,7 +28,7 @@ use std::io;
 use table::make_table;
 
 // The files of rows.
-const ROWS: [&str; 9] = [
+const ROWS: [&str; 11] = [
     "rows/words.txt",
     "rows/refusals.txt",
     "rows/texts.txt",
@@ -37,6 +37,8 @@ const ROWS: [&str; 9] = [
     "rows/options.txt",
     "rows/witnesses.txt",
     "rows/replays.txt",
+    "rows/traces.txt",
+    "rows/states.txt",
     "rows/executions.txt",
 ];
 

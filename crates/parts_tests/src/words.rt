@@ -2,7 +2,7 @@
 
 use crate::made::add;
 use sp_base::{Limits, Show, Word, put_decimal};
-use sp_words::{Command, WordsError, read_words};
+use sp_words::{Command, View, WordsError, read_words};
 use std::alloc::Global;
 
 // The words of a line. Where no memory is left they are fewer.
@@ -51,9 +51,17 @@ fn show_text(show: Show) -> &'static [u8] {
     }
 }
 
+fn view_text(view: View) -> &'static [u8] {
+    match view {
+        View::Output => b"replay",
+        View::Entries => b"trace",
+        View::State => b"where",
+    }
+}
+
 /// The words as a command line in one text: the command, its file or its size and, of `run`, `gen`, `witness` and
 /// `exec`, the workers; of `run` the limits in their order and the report too, of `witness` and `exec` the limits, and
-/// of `replay` the journal and the limits.
+/// of `replay`, `trace` and `where` the journal and the limits.
 fn add_command(all: &mut Vec<u8>, command: &Command) {
     match command {
         Command::Check(file) => add_named(all, b"check", file),
@@ -81,8 +89,9 @@ fn add_command(all: &mut Vec<u8>, command: &Command) {
             file,
             journal,
             limits,
+            view,
         } => {
-            add_named(all, b"replay", file);
+            add_named(all, view_text(*view), file);
             add_named(all, b"", journal);
             add_limits(all, limits);
         }
@@ -135,7 +144,7 @@ fn asks(alloc: Global, line: &[&str], wanted: &str) -> bool {
 /// A command line, and what it asks for.
 type Row = (&'static [&'static str], &'static str);
 
-const LINES: [Row; 20] = [
+const LINES: [Row; 23] = [
     (&["check", "a"], "check a"),
     (&["code", "a"], "code a"),
     (&["sets", "--", "-a"], "sets -a"),
@@ -181,6 +190,18 @@ const LINES: [Row; 20] = [
     (
         &["replay", "a", "--", "a"],
         "replay a a 10000000 1000 4194304 100000 100000 1000000 16777216",
+    ),
+    (
+        &["trace", "a.sp", "a.journal"],
+        "trace a.sp a.journal 10000000 1000 4194304 100000 100000 1000000 16777216",
+    ),
+    (
+        &["trace", "--depth", "2", "a", "--output=1", "--", "-b"],
+        "trace a -b 10000000 2 4194304 100000 100000 1000000 1",
+    ),
+    (
+        &["where", "a.sp", "--ticks=3", "a.journal"],
+        "where a.sp a.journal 3 1000 4194304 100000 100000 1000000 16777216",
     ),
     (
         &["witness", "a.sp"],

@@ -40,7 +40,7 @@ use Rattle.sp_words.specs.Words.{command_with, each_once, has_journal, is_accept
 use Rattle.sp_words.specs.declared.command.Command.{Command}
 use Rattle.sp_words.specs.declared.command.CommandName.{CommandName}
 use Rattle.sp_words.specs.declared.command.CommandName.TheVariants.{Check, Run, Code, Sets, Format, Gen, Replay}
-use Rattle.sp_words.specs.declared.command.CommandName.TheVariants.{Witness, Build, Exec}
+use Rattle.sp_words.specs.declared.command.CommandName.TheVariants.{Witness, Build, Exec, Trace, Where}
 use Rattle.sp_words.proofs.Readings.{HoldsOfEach}
 use Rattle.sp_words.proofs.Rules.{Options, Parsers, clear, file_id, journal_id, level, rules}
 use Rattle.sp_words.proofs.WalkStates.{good, or_else-nil}
@@ -60,6 +60,8 @@ word_for Replay = codes "replay"
 word_for Witness = codes "witness"
 word_for Build = codes "build"
 word_for Exec = codes "exec"
+word_for Trace = codes "trace"
+word_for Where = codes "where"
 
 found_step : (x : Text × CommandName) (word : Text) (command : CommandName) (found : Option (Text × CommandName))
     (b : Bool) → x.0 ≡ word_for x.1 → bytes_eq x.0 word ≡ b
@@ -80,7 +82,7 @@ word_found (x ∷ xs) word command each e = found_step x word command (find (λ 
 pub word_of_command : (word : Text) (command : CommandName) → command_named word ≡ Some command
     → word ≡ word_for command
 word_of_command word command e = word_found command_names word command
-    (refl, (refl, (refl, (refl, (refl, (refl, (refl, (refl, (refl, (refl, tt)))))))))) e
+    (refl, (refl, (refl, (refl, (refl, (refl, (refl, (refl, (refl, (refl, (refl, (refl, tt)))))))))))) e
 
 -- ---- the walk past the command
 
@@ -176,6 +178,8 @@ option_parsers q Replay = limit_parsers
 option_parsers q Witness = worker_parsers
 option_parsers q Build = []
 option_parsers q Exec = worker_parsers
+option_parsers q Trace = limit_parsers
+option_parsers q Where = limit_parsers
 
 abbrev pub parsers_for : ValueParser → CommandName → Parsers
 parsers_for q command = (has_journal command, option_parsers q command)
@@ -185,7 +189,8 @@ abbrev pub level_for : ValueParser → CommandName → Shape
 level_for q command = level (word_for command) (parsers_for q command)
 
 abbrev pub shapes : ValueParser → List Shape
-shapes q = map (level_for q) (Check ∷ Run ∷ Code ∷ Sets ∷ Format ∷ Gen ∷ Replay ∷ Witness ∷ Build ∷ Exec ∷ [])
+shapes q = map (level_for q)
+    (Check ∷ Run ∷ Code ∷ Sets ∷ Format ∷ Gen ∷ Replay ∷ Witness ∷ Build ∷ Exec ∷ Trace ∷ Where ∷ [])
 
 pub free : (q : ValueParser) → is_simple_and_free (app_with q) ≡ true
 free q = refl
@@ -205,6 +210,8 @@ enters_command q Replay words = enters (shapes q) (word_for Replay) (level_for q
 enters_command q Witness words = enters (shapes q) (word_for Witness) (level_for q Witness) words refl refl
 enters_command q Build words = enters (shapes q) (word_for Build) (level_for q Build) words refl refl
 enters_command q Exec words = enters (shapes q) (word_for Exec) (level_for q Exec) words refl refl
+enters_command q Trace words = enters (shapes q) (word_for Trace) (level_for q Trace) words refl refl
+enters_command q Where words = enters (shapes q) (word_for Where) (level_for q Where) words refl refl
 
 number_test : (a b : Bool) (n : ℕ) (f : ℕ → Bool)
     → (a && (b && f n)) ≡ option_map_or f (cond (a && b) (Some n) None) false
@@ -262,6 +269,8 @@ agrees q Replay show = limits_agree [] [] tt
 agrees q Witness show = (refl, takes_number 1 64, limits_agree [] [] tt)
 agrees q Build show = tt
 agrees q Exec show = (refl, takes_number 1 64, limits_agree [] [] tt)
+agrees q Trace show = limits_agree [] [] tt
+agrees q Where show = limits_agree [] [] tt
 
 is_free : (q : ValueParser) (command : CommandName) → IsFree (parsers_for q command)
 is_free q Check = (refl, refl)
@@ -274,6 +283,8 @@ is_free q Replay = (refl, refl)
 is_free q Witness = (refl, refl)
 is_free q Build = (refl, refl)
 is_free q Exec = (refl, refl)
+is_free q Trace = (refl, refl)
+is_free q Where = (refl, refl)
 
 -- ---- the words
 
@@ -323,6 +334,8 @@ incomplete command is e = without_file command (lookup is) (lookup is file_id) _
     without Witness word d = absurd (true≢false d)
     without Build word d = absurd (true≢false d)
     without Exec word d = absurd (true≢false d)
+    without Trace word d = without_journal (lookup is journal_id) _ d
+    without Where word d = without_journal (lookup is journal_id) _ d
 
 -- items that the parse refuses are no command
 left_out : (g : Bool) (command : CommandName) (is : List WordItem) → (g && is_complete (has_journal command) is) ≡ false

@@ -21,6 +21,8 @@ use Rattle.sp_words.specs.declared.command.Command.{Command}
 use Rattle.sp_words.specs.declared.command.Command.TheVariants as command
 use Rattle.sp_words.specs.declared.command.CommandName.{CommandName}
 use Rattle.sp_words.specs.declared.command.CommandName.TheVariants as name
+use Rattle.sp_words.specs.declared.command.View.{View}
+use Rattle.sp_words.specs.declared.command.View.TheVariants as view
 use Rattle.sp_words.proofs.Readings.{HoldsOfEach}
 
 -- ---- a number that was given is in its range, and else the default stands
@@ -124,8 +126,8 @@ limits_of_run = (
   ),
 )
 
-limits_of_replay : HoldsOfEach (IsFoundIn limit_options) limit_options
-limits_of_replay = (
+limits_of_following : HoldsOfEach (IsFoundIn limit_options) limit_options
+limits_of_following = (
   ((refl, refl), refl),
   (
     ((refl, refl), refl),
@@ -188,15 +190,15 @@ gen_in_range is word (Some size) c accepted d e =
     rw (sym (same_Some (command.Gen size (workers_from (lookup is))) c e))
     (size_in_range word size d, workers_in_range gen_options is accepted ((refl, refl), refl))
 
--- ---- the JOURNAL of `replay`
+-- ---- the JOURNAL of a command that follows one
 
-journal_in_range : (is : List WordItem) (word : Text) (found : Option Text) (c : Command)
+journal_in_range : (is : List WordItem) (word : Text) (written : View) (found : Option Text) (c : Command)
     → list_all (is_accepted limit_options) is ≡ true
-    → option_map (λ text. command.Replay word text (limits_from (lookup is))) found ≡ Some c → AreInRange c
-journal_in_range is word None c accepted e = absurd (none-some c e)
-journal_in_range is word (Some text) c accepted e =
-    rw (sym (same_Some (command.Replay word text (limits_from (lookup is))) c e))
-    (limits_in_range limit_options is 1 accepted limits_of_replay (omega arith, omega arith))
+    → option_map (λ text. command.Replay word text (limits_from (lookup is)) written) found ≡ Some c → AreInRange c
+journal_in_range is word written None c accepted e = absurd (none-some c e)
+journal_in_range is word written (Some text) c accepted e =
+    rw (sym (same_Some (command.Replay word text (limits_from (lookup is)) written) c e))
+    (limits_in_range limit_options is 1 accepted limits_of_following (omega arith, omega arith))
 
 -- ---- the words
 
@@ -214,13 +216,18 @@ word_in_range name.Sets is word c accepted e = rw (sym (same_Some (command.Sets 
 word_in_range name.Format is word c accepted e = rw (sym (same_Some (command.Format word) c e)) tt
 word_in_range name.Build is word c accepted e = rw (sym (same_Some (command.Build word) c e)) tt
 word_in_range name.Gen is word c accepted e = gen_in_range is word (size_named word) c accepted refl e
-word_in_range name.Replay is word c accepted e = journal_in_range is word (lookup is (codes "JOURNAL")) c accepted e
+word_in_range name.Replay is word c accepted e =
+    journal_in_range is word view.Output (lookup is (codes "JOURNAL")) c accepted e
 word_in_range name.Witness is word c accepted e =
     rw (sym (same_Some (command.Witness word (workers_from (lookup is)) (limits_from (lookup is))) c e))
     (worker_in_range is accepted)
 word_in_range name.Exec is word c accepted e =
     rw (sym (same_Some (command.Exec word (workers_from (lookup is)) (limits_from (lookup is))) c e))
     (worker_in_range is accepted)
+word_in_range name.Trace is word c accepted e =
+    journal_in_range is word view.Entries (lookup is (codes "JOURNAL")) c accepted e
+word_in_range name.Where is word c accepted e =
+    journal_in_range is word view.State (lookup is (codes "JOURNAL")) c accepted e
 
 found_in_range : (called : CommandName) (is : List WordItem) (found : Option Text) (c : Command)
     → list_all (is_accepted (options_of called)) is ≡ true

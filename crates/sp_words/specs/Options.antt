@@ -72,7 +72,7 @@ gen_options = (codes "workers", is_number_in 1 64) ∷ []
 abbrev pub worker_options : List Choice
 worker_options = (codes "workers", is_number_in 1 64) ∷ limit_options
 
--- only `run`, `gen`, `replay`, `witness` and `exec` have options
+-- only `run`, `gen`, `replay`, `witness`, `exec`, `trace` and `where` have options
 abbrev pub options_of : CommandName → List Choice
 options_of name.Check = []
 options_of name.Run = run_options
@@ -84,6 +84,8 @@ options_of name.Replay = limit_options
 options_of name.Witness = worker_options
 options_of name.Build = []
 options_of name.Exec = worker_options
+options_of name.Trace = limit_options
+options_of name.Where = limit_options
 
 -- the names of the options of a command
 abbrev pub option_names : CommandName → List Text

@@ -59,10 +59,9 @@ IsShowParser q = (text : Text) → accepts false q text ≡ is_some (show_named 
 abbrev pub shape_with : Text → List (Text × ValueParser) → Shape
 shape_with name options = record (new_shape name) { rules = file_rule ∷ map option_rule options }
 
--- `replay` with its FILE, its JOURNAL and these options
-abbrev pub replay_shape : List (Text × ValueParser) → Shape
-replay_shape options = record (new_shape
-    (codes "replay")) { rules = file_rule ∷ journal_rule ∷ map option_rule options }
+-- a command of this name that follows a journal, with its FILE, its JOURNAL and the options of the limits
+abbrev pub following_shape : Text → Shape
+following_shape name = record (new_shape name) { rules = file_rule ∷ journal_rule ∷ map option_rule limit_parsers }
 
 -- a command with its FILE alone
 abbrev pub app_with_file : Text → App
@@ -87,9 +86,10 @@ app_with q = record {
   top = record bare_line.top { is_leaf = false };
   subs = shape_with (codes "check") [] ∷ shape_with (codes "run") (run_parsers q)
       ∷ shape_with (codes "code") [] ∷ shape_with (codes "sets") [] ∷ shape_with (codes "format") []
-      ∷ shape_with (codes "gen") gen_parsers ∷ replay_shape limit_parsers
+      ∷ shape_with (codes "gen") gen_parsers ∷ following_shape (codes "replay")
       ∷ shape_with (codes "witness") worker_parsers ∷ shape_with (codes "build") []
-      ∷ shape_with (codes "exec") worker_parsers ∷ [];
+      ∷ shape_with (codes "exec") worker_parsers ∷ following_shape (codes "trace")
+      ∷ following_shape (codes "where") ∷ [];
 }
 
 -- no option of the command is one of its subcommands as well

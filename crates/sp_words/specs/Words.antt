@@ -17,6 +17,8 @@ use Rattle.sp_words.specs.declared.command.Command.{Command}
 use Rattle.sp_words.specs.declared.command.Command.TheVariants as command
 use Rattle.sp_words.specs.declared.command.CommandName.{CommandName}
 use Rattle.sp_words.specs.declared.command.CommandName.TheVariants as name
+use Rattle.sp_words.specs.declared.command.View.{View}
+use Rattle.sp_words.specs.declared.command.View.TheVariants as view
 
 -- what an item is about: FILE, which is the N of `gen`, JOURNAL, or an option
 abbrev pub subject : WordItem → Text
@@ -69,6 +71,11 @@ limits_from value = record {
 abbrev pub workers_from : (Text → Option Text) → ℕ
 workers_from value = number_or (2 ^ 32) default_workers (value (codes "workers"))
 
+-- the command that follows a JOURNAL, of which this is written
+abbrev pub replay_from : (Text → Option Text) → Text → View → Option Command
+replay_from value word written = option_map (λ text. command.Replay word text (limits_from value) written)
+    (value (codes "JOURNAL"))
+
 -- the command with its FILE, or `gen` with a size that it may have, and what its JOURNAL and options were given
 abbrev pub command_from : CommandName → (Text → Option Text) → Text → Option Command
 command_from name.Check value word = Some (command.Check word)
@@ -78,11 +85,12 @@ command_from name.Code value word = Some (command.Code word)
 command_from name.Sets value word = Some (command.Sets word)
 command_from name.Format value word = Some (command.Format word)
 command_from name.Gen value word = option_map (λ size. command.Gen size (workers_from value)) (size_named word)
-command_from name.Replay value word = option_map (λ text. command.Replay word text (limits_from value))
-    (value (codes "JOURNAL"))
+command_from name.Replay value word = replay_from value word view.Output
 command_from name.Witness value word = Some (command.Witness word (workers_from value) (limits_from value))
 command_from name.Build value word = Some (command.Build word)
 command_from name.Exec value word = Some (command.Exec word (workers_from value) (limits_from value))
+command_from name.Trace value word = replay_from value word view.Entries
+command_from name.Where value word = replay_from value word view.State
 
 -- the command by the texts of its subjects, where FILE is one of them
 abbrev pub command_with : CommandName → (Text → Option Text) → Option Command
@@ -102,7 +110,7 @@ journal_second (file word ∷ is) = file word ∷ journal_first is
 journal_second (journal word ∷ is) = journal word ∷ journal_second is
 journal_second (given name value ∷ is) = given name value ∷ journal_second is
 
--- only `replay` has a JOURNAL
+-- only `replay`, `trace` and `where` have a JOURNAL
 abbrev pub has_journal : CommandName → Bool
 has_journal name.Check = false
 has_journal name.Run = false
@@ -114,6 +122,8 @@ has_journal name.Replay = true
 has_journal name.Witness = false
 has_journal name.Build = false
 has_journal name.Exec = false
+has_journal name.Trace = true
+has_journal name.Where = true
 
 -- where there is a JOURNAL, it is the second of the words that are no options
 abbrev pub with_journal : Bool → List WordItem → List WordItem
@@ -135,7 +145,8 @@ abbrev pub command_names : List (Text × CommandName)
 command_names = (codes "check", name.Check) ∷ (codes "run", name.Run) ∷ (codes "code", name.Code)
     ∷ (codes "sets", name.Sets) ∷ (codes "format", name.Format) ∷ (codes "gen", name.Gen)
     ∷ (codes "replay", name.Replay) ∷ (codes "witness", name.Witness)
-    ∷ (codes "build", name.Build) ∷ (codes "exec", name.Exec) ∷ []
+    ∷ (codes "build", name.Build) ∷ (codes "exec", name.Exec)
+    ∷ (codes "trace", name.Trace) ∷ (codes "where", name.Where) ∷ []
 
 -- the command of a name
 abbrev pub command_named : Text → Option CommandName

@@ -40,6 +40,8 @@ pub enum Command {
         /// The name of the journal's text.
         journal: Word,
         limits: Limits,
+        /// What is written of it: `replay` the output, `trace` the entries, `where` the state behind them.
+        view: View,
     },
     /// Run the program, and show the race that its verdict names.
     Witness {
@@ -60,6 +62,17 @@ pub enum Command {
     },
 }
 
+/// What is written of a journal that was followed.
+#[derive(Clone, Copy, Debug, PartialEq, Eq)]
+pub enum View {
+    /// What the program wrote along it.
+    Output,
+    /// Its entries, each with its place in the text and its message.
+    Entries,
+    /// The state behind its last entry: each process with its place in the text, its calls and its variables.
+    State,
+}
+
 /// The names of the commands.
 #[derive(Clone, Copy, Debug, PartialEq, Eq)]
 pub(crate) enum CommandName {
@@ -73,6 +86,8 @@ pub(crate) enum CommandName {
     Witness,
     Build,
     Exec,
+    Trace,
+    Where,
 }
 
 /// Why the words give no command.

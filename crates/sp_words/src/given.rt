@@ -3,9 +3,9 @@
 ghost use Rattle.std.specs.Prelude.{◌≡◌, ◌^◌, IfErr, IfOk, None, Some, codes};
 ghost use Rattle.clap.specs.Words.{first_value, found_of};
 ghost use Rattle.sp_words.specs.Options.{number_below, number_or, show_named, show_or_end, size_named};
-ghost use Rattle.sp_words.specs.Words.{command_from, command_with, limits_from, values_given};
+ghost use Rattle.sp_words.specs.Words.{command_from, command_with, limits_from, replay_from, values_given};
 
-use crate::command::{Command, CommandName, WordsError};
+use crate::command::{Command, CommandName, View, WordsError};
 use crate::defaults::{DEFAULT_WORKERS, default_limits};
 use clap::ArgMatches;
 use sp_base::{Limits, Show, Word};
@@ -102,11 +102,16 @@ fn file(alloc: Global, text: &str) -> Result<Word, AllocError>
     Ok(Word::of(String::from_str(alloc, text)?))
 }
 
-// The command `replay` with the text of its FILE. Without a JOURNAL it is refused.
-fn replay_given(alloc: Global, text: &str, given: &ArgMatches<'_>) -> Result<Command, WordsError>
-    ensures ok { IfOk result (λ c. command_from CommandName.Replay (values_given given.now) text.now ≡ Some c) }
+// The command that follows a journal, with the text of its FILE. Without a JOURNAL it is refused.
+fn replay_given(
+    alloc: Global,
+    text: &str,
+    given: &ArgMatches<'_>,
+    view: View,
+) -> Result<Command, WordsError>
+    ensures ok { IfOk result (λ c. replay_from (values_given given.now) text.now view ≡ Some c) }
     ensures refused { IfErr result (λ e. e ≡ WordsError.Refused
-        → command_from CommandName.Replay (values_given given.now) text.now ≡ None) }
+        → replay_from (values_given given.now) text.now view ≡ None) }
 {
     let Some(journal) = given.get_str("JOURNAL") else {
         return Err(WordsError::Refused);
@@ -115,6 +120,7 @@ fn replay_given(alloc: Global, text: &str, given: &ArgMatches<'_>) -> Result<Com
         file: file(alloc, text)?,
         journal: file(alloc, journal)?,
         limits: limits(given),
+        view,
     })
 }
 
@@ -145,7 +151,9 @@ pub(crate) fn command_given(
         CommandName::Format => Command::Format(file(alloc, text)?),
         CommandName::Build => Command::Build(file(alloc, text)?),
         CommandName::Gen => gen_given(text, given).ok_or(WordsError::Refused)?,
-        CommandName::Replay => replay_given(alloc, text, given)?,
+        CommandName::Replay => replay_given(alloc, text, given, View::Output)?,
+        CommandName::Trace => replay_given(alloc, text, given, View::Entries)?,
+        CommandName::Where => replay_given(alloc, text, given, View::State)?,
         CommandName::Witness => Command::Witness {
             file: file(alloc, text)?,
             workers: small_number(given, "workers", DEFAULT_WORKERS),

@@ -16,8 +16,8 @@
 //!   `src/command.rt` has the commands, `src/read.rt` the call. `src/defaults.rt` gives the default limits to a caller
 //!   that has no words for them, as `gen`.
 //! - N of `gen` is the FILE of the definitions, with a condition of its own (`size_named` of `specs/Options.antt`).
-//! - JOURNAL of `replay` is the second of the words that are no options (`with_journal` of `specs/Words.antt`); a third
-//!   one is a second FILE, and so refused.
+//! - JOURNAL of `replay`, `trace` and `where` is the second of the words that are no options (`with_journal` of
+//!   `specs/Words.antt`); a third one is a second FILE, and so refused.
 //! - Want of memory has no clause that says when it comes: a parse that fails for memory answers `Memory`, and every
 //!   other failure `Refused`.
 //!
@@ -36,7 +36,7 @@ mod law;
 mod parser;
 mod read;
 
-pub use command::{Command, WordsError};
+pub use command::{Command, View, WordsError};
 pub use defaults::default_limits;
 pub use law::accepted_options_are_in_range;
 pub use read::read_words;

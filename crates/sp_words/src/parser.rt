@@ -8,8 +8,8 @@ ghost use Rattle.clap.specs.declared.builder.value_parser.ValueParser.TheVariant
 ghost use Rattle.sp_words.specs.Parsers.{ChangesApp, AddsCommand, IsLocal, IsShowParser, app_with, app_with_file};
 ghost use Rattle.sp_words.specs.Parsers.{bare_line};
 ghost use Rattle.sp_words.specs.Parsers.{gen_parsers};
-ghost use Rattle.sp_words.specs.Parsers.{limit_parsers, option_rule, replay_shape, run_parsers, shape_with, word_rule};
-ghost use Rattle.sp_words.specs.Parsers.{worker_parsers};
+ghost use Rattle.sp_words.specs.Parsers.{following_shape, limit_parsers, option_rule, run_parsers, shape_with};
+ghost use Rattle.sp_words.specs.Parsers.{word_rule, worker_parsers};
 
 use clap::builder::ValueParser;
 use clap::{Arg, ArgAction, Command};
@@ -116,11 +116,12 @@ fn gen_command<'a>(alloc: Global) -> Result<Command<'a>, AllocError>
     with_number(plain_command(alloc, "gen"), alloc, "workers", 1, 64)
 }
 
-fn replay_command<'a>(alloc: Global) -> Result<Command<'a>, AllocError>
-    ensures shape { IfOk result (λ c. shape_of c ≡ replay_shape limit_parsers) }
+// A command that follows a journal.
+fn following_command<'a>(alloc: Global, name: &'a str) -> Result<Command<'a>, AllocError>
+    ensures shape { IfOk result (λ c. shape_of c ≡ following_shape name.entry.now) }
     ensures local { IfOk result IsLocal }
 {
-    let command = with_arg(plain_command(alloc, "replay"), word_arg(alloc, "JOURNAL"));
+    let command = with_arg(plain_command(alloc, name), word_arg(alloc, "JOURNAL"));
     with_limits(command, alloc)
 }
 
@@ -188,8 +189,10 @@ pub(crate) fn parser<'a>(alloc: Global) -> Result<Command<'a>, AllocError>
     let line = with_plain(line, alloc, "sets");
     let line = with_plain(line, alloc, "format");
     let line = with_command(line, gen_command(alloc));
-    let line = with_command(line, replay_command(alloc));
+    let line = with_command(line, following_command(alloc, "replay"));
     let line = with_command(line, worker_command(alloc, "witness"));
     let line = with_plain(line, alloc, "build");
-    with_command(line, worker_command(alloc, "exec"))
+    let line = with_command(line, worker_command(alloc, "exec"));
+    let line = with_command(line, following_command(alloc, "trace"));
+    with_command(line, following_command(alloc, "where"))
 }

@@ -27,7 +27,7 @@ static RUN_OPTIONS: [&str; 9] = [
     "show",
 ];
 
-/// The options of `replay`.
+/// The options of `replay`, `trace` and `where`.
 static LIMIT_OPTIONS: [&str; 7] = [
     "ticks",
     "depth",
@@ -67,6 +67,8 @@ fn command_named(word: &str) -> Option<CommandName>
         "witness" => Some(CommandName::Witness),
         "build" => Some(CommandName::Build),
         "exec" => Some(CommandName::Exec),
+        "trace" => Some(CommandName::Trace),
+        "where" => Some(CommandName::Where),
         _ => None,
     }
 }
@@ -77,7 +79,7 @@ fn option_names(command: CommandName) -> &'static [&'static str]
     match command {
         CommandName::Run => RUN_OPTIONS.as_slice(),
         CommandName::Gen => GEN_OPTIONS.as_slice(),
-        CommandName::Replay => LIMIT_OPTIONS.as_slice(),
+        CommandName::Replay | CommandName::Trace | CommandName::Where => LIMIT_OPTIONS.as_slice(),
         CommandName::Witness | CommandName::Exec => WORKER_OPTIONS.as_slice(),
         CommandName::Check
         | CommandName::Code
@@ -97,8 +99,8 @@ fn failure(error: &Error) -> WordsError
 }
 
 /// Reads the words after the program's own name. The first is the command, and the others are its FILE, or the N of
-/// `gen`, of `replay` a JOURNAL behind FILE, and its options, each at most once, as `--name value` or `--name=value`.
-/// After `--` no word is an option.
+/// `gen`, of `replay`, `trace` and `where` a JOURNAL behind FILE, and its options, each at most once, as `--name value`
+/// or `--name=value`. After `--` no word is an option.
 ///
 /// `Refused` comes exactly where the words ask for no command.
 pub fn read_words(alloc: Global, words: &[String]) -> Result<Command, WordsError>

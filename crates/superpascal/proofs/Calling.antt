@@ -19,6 +19,8 @@ use Rattle.sp_words.specs.Ranges.{default_limits}
 use Rattle.sp_words.specs.Words.{command_of}
 use Rattle.sp_words.specs.declared.command.Command.{Command}
 use Rattle.sp_words.specs.declared.command.Command.TheVariants as command
+use Rattle.sp_words.specs.declared.command.View.{View}
+use Rattle.sp_words.specs.declared.command.View.TheVariants as view
 use Rattle.superpascal.specs.declared.asked.Asked.{Asked}
 use Rattle.superpascal.specs.declared.asked.Followed.{Followed}
 use Rattle.superpascal.specs.declared.ending.Ending.{Ending}
@@ -33,18 +35,20 @@ use Rattle.superpascal.specs.Causes.{HasRun, IsNotLoaded, IsNotRead, IsTooLong, 
 use Rattle.superpascal.specs.Causes.{refusal_answer, silent_answer}
 use Rattle.superpascal.specs.Following.{Following, IsMeantAlong, PrintsReplay}
 use Rattle.superpascal.specs.Headline.{Headline, IsMeant, Prints}
-use Rattle.superpascal.specs.Replays.{IsJournalOf, ending_of_replay, replay_notes}
+use Rattle.superpascal.specs.Replays.{IsJournalOf, IsWritten, ending_of_replay, replay_notes}
 use Rattle.superpascal.specs.Runs.{IsRunOf, Reports, ending_of, generated_answer, generated_output, run_answer}
 use Rattle.superpascal.specs.Runs.{told_notes, told_output}
 use Rattle.superpascal.specs.Statuses.{InputIsTooLong, OutsideWorks, IsRunOfWords, IsWell, ReadsFail, Statuses}
 use Rattle.superpascal.specs.Texts.{FirstBrokenFor, CanRead, HasLongCode, IsDisjointText, IsJournalText, AcceptedFor}
 use Rattle.superpascal.specs.Texts.{IsAcceptedText, Makes, command_of_run, asks_build, asks_text, command_of_replay}
+use Rattle.superpascal.specs.Traces.{IsTraceOf}
+use Rattle.superpascal.specs.Tracing.{Tracing, WritesState, WritesTrace}
 use Rattle.superpascal.specs.Witnessing.{IsShown}
 use Rattle.superpascal.specs.Writing.{AreWritten, Writing, WritesLine}
 use Rattle.superpascal.proofs.Laws.{Laws, disjoint_text, keeps_all, made_asks, made_once}
 use Rattle.superpascal.proofs.RunCommands.{asked_breaks, asked_text, breaks_asked, keeps_asked, not_gen, one_asked}
 use Rattle.superpascal.proofs.Replaying.{if_told, meant_along, not_followed, not_unfit, replay_notes_stand, same_entry}
-use Rattle.superpascal.proofs.Replaying.{told_of}
+use Rattle.superpascal.proofs.Replaying.{told_of, written_is}
 use Rattle.superpascal.proofs.Tellable.{ends_of, replay_ends}
 use Rattle.superpascal.proofs.Why.{HasRanFor, ran_of, same_ran, why, why_of}
 use Rattle.superpascal.proofs.Forms.{one_command, one_size, not_too_long, final, run_notes_stand, output_stands}
@@ -438,32 +442,72 @@ module _ (c : Call) (k : IsAnswered c) (l : Laws) where
         go (came_long h) = absurd (too_short short (if_told _ (c.files.held b.journal) bytes u h.long))
         go (came_outside o) = inr (outside o)
 
-    module _ (input : List ℕ) (left : c.source.left ≡ Some input) where
-      is_followed : IsFinal status → (r : Replayed) × IsMeantAlong b text bytes input r × PrintsReplay c r
-      is_followed f =
-          let h = followed_only c.files c.source c.reports (command_of c.words) k.answer b text v t ending due_why
-          (final_status f) in (
-            h.replayed,
-            meant_along c.files c.source b l h.has_read text bytes input t u left h.replayed h.is_replay,
-            prints h,
-          )
+    -- of one that was followed
+    module _ (f : IsFinal status) where
+      not_displaced : status ≢ 6
+      not_displaced = go f
         where
-          apart : IsFinal status → status ≢ 6
-          apart (inl i) = not_six 0 (λ p. absurd (omega arith)) i
-          apart (inr (inl i)) = not_six 3 (λ p. absurd (omega arith)) i
-          apart (inr (inr i)) = not_six 4 (λ p. absurd (omega arith)) i
+          go : IsFinal status → status ≢ 6
+          go (inl i) = not_six 0 (λ p. absurd (omega arith)) i
+          go (inr (inl i)) = not_six 3 (λ p. absurd (omega arith)) i
+          go (inr (inr i)) = not_six 4 (λ p. absurd (omega arith)) i
 
-          prints : (h : HasReplayed c.files c.source b k.answer) → PrintsReplay c h.replayed
-          prints h =
-              let all = k.written.all_written (apart f) in
-              record {
-                status = same_status (apart f) ∙ ap (λ (z : Answer). status_of z.ending) h.answer;
-                output = subst (WroteAll c.output) (ap output_of h.answer) all.0;
-                notes = subst (WroteAll c.notes) (ap notes_of h.answer
-                    ∙ replay_notes_stand h.replayed.end (replay_notes h.replayed)
-                    (replay_ends _ _ _ _ h.replayed h.is_replay)) all.1;
-                at_end = h.has_read.at_end;
-              }
+      followed_here : HasReplayed c.files c.source b k.answer
+      followed_here = followed_only c.files c.source c.reports (command_of c.words) k.answer b text v t ending due_why
+          (final_status f)
+
+      out_written : (h : HasReplayed c.files c.source b k.answer) → WroteAll c.output h.out
+      out_written h = subst (WroteAll c.output) (ap output_of h.answer) (k.written.all_written not_displaced).0
+
+      prints : (h : HasReplayed c.files c.source b k.answer) → PrintsReplay c b h.replayed
+      prints h = record {
+        status = same_status not_displaced ∙ ap (λ (z : Answer). status_of z.ending) h.answer;
+        output = λ i. subst (WroteAll c.output)
+            (subst (λ (x : View). IsWritten x h.has_read.text h.has_read.input b.limits h.has_read.journal h.replayed
+            h.out) i h.written) (out_written h);
+        notes = subst (WroteAll c.notes) (ap notes_of h.answer
+            ∙ replay_notes_stand h.replayed.end (replay_notes h.replayed.end)
+            (replay_ends _ _ _ _ h.replayed h.is_replay)) (k.written.all_written not_displaced).1;
+        at_end = h.has_read.at_end;
+      }
+
+    module _ (input : List ℕ) (left : c.source.left ≡ Some input) where
+      is_followed : IsFinal status → (r : Replayed) × IsMeantAlong b text bytes input r × PrintsReplay c b r
+      is_followed f = let h = followed_here f in (
+        h.replayed,
+        meant_along c.files c.source b l h.has_read text bytes input t u left h.replayed h.is_replay,
+        prints f h,
+      )
+
+      -- one whose entries are told
+      is_traced : b.view ≡ view.Entries → IsFinal status → WritesTrace c b text bytes input
+      is_traced i f =
+          let h = followed_here f in
+          let j = h.has_read.journal in
+          let told : IsTraceOf text input b.limits j h.out =
+          subst (λ (x : View). IsWritten x text input b.limits j h.replayed h.out) i
+          (written_is c.files c.source b l h.has_read text bytes input t u left h.replayed h.out h.written) in
+          record {
+            journal = j;
+            is_journal = read_is h.has_read;
+            out = h.out;
+            trace = told;
+            written = out_written f h;
+          }
+
+      -- one whose state is told
+      is_placed : b.view ≡ view.State → IsFinal status → WritesState c b text bytes input
+      is_placed i f =
+          let h = followed_here f in
+          let j = h.has_read.journal in
+          record {
+            journal = j;
+            is_journal = read_is h.has_read;
+            out = h.out;
+            state = subst (λ (x : View). IsWritten x text input b.limits j h.replayed h.out) i
+                (written_is c.files c.source b l h.has_read text bytes input t u left h.replayed h.out h.written);
+            written = out_written f h;
+          }
 
       module _ (kept : IsAcceptedText text) (fits : length input ≤ 16777216) (p : Program) (is : IsProgramOf text p)
           (j : Journal) (of : IsJournalOf bytes j) where
@@ -509,6 +553,12 @@ module _ (c : Call) (k : IsAnswered c) (l : Laws) where
     long = λ b text bytes v t u kept long. says_long b text bytes v t u kept long;
     only = λ h. journal_refused c.files c.source c.reports (command_of c.words) k.answer ending due_why
         (undisplaced 9 (λ p. absurd (omega arith)) h);
+  }
+
+  pub tracing : Tracing c
+  tracing = record {
+    traced = λ b text bytes v t u input left i f. is_traced b text bytes v t u input left i f;
+    placed = λ b text bytes v t u input left i f. is_placed b text bytes v t u input left i f;
   }
 
   pub statuses : Statuses c

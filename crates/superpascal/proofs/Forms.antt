@@ -56,7 +56,7 @@ text_or_run (command.Sets file) q r = r
 text_or_run (command.Format file) q r = r
 text_or_run (command.Witness file workers limits) q r = q
 text_or_run (command.Gen size workers) q r = q
-text_or_run (command.Replay file journal limits) q r = r
+text_or_run (command.Replay file journal limits view) q r = r
 text_or_run (command.Build file) q r = r
 text_or_run (command.Exec file workers limits) q r = r
 
@@ -69,7 +69,7 @@ build_text (command.Sets file) q = tt
 build_text (command.Format file) q = tt
 build_text (command.Witness file workers limits) q = q
 build_text (command.Gen size workers) q = q
-build_text (command.Replay file journal limits) q = q
+build_text (command.Replay file journal limits view) q = q
 build_text (command.Build file) q = tt
 build_text (command.Exec file workers limits) q = q
 
@@ -82,7 +82,7 @@ build_keeps (command.Sets file) text q k = absurd q
 build_keeps (command.Format file) text q k = absurd q
 build_keeps (command.Witness file workers limits) text q k = k
 build_keeps (command.Gen size workers) text q k = k
-build_keeps (command.Replay file journal limits) text q k = k
+build_keeps (command.Replay file journal limits view) text q k = k
 build_keeps (command.Build file) text q k = k
 build_keeps (command.Exec file workers limits) text q k = absurd q
 
@@ -96,7 +96,7 @@ build_short l (command.Sets file) text out line q m h = q
 build_short l (command.Format file) text out line q m h = q
 build_short l (command.Witness file workers limits) text out line q m h = q
 build_short l (command.Gen size workers) text out line q m h = q
-build_short l (command.Replay file journal limits) text out line q m h = q
+build_short l (command.Replay file journal limits view) text out line q m h = q
 build_short l (command.Exec file workers limits) text out line q m h = q
 build_short l (command.Build file) text out line q m (other, has, long) = apart out other
     (l.code_text text out other m.0.0 has) m.0.1 long

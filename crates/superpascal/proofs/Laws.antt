@@ -85,7 +85,7 @@ module _ (l : Laws) (text : List ℕ) where
   one_break (command.Format file) a b x y = l.no_layout text a b x y
   one_break (command.Witness file workers limits) a b x y = one_rule a b x y
   one_break (command.Gen size workers) a b x y = one_rule a b x y
-  one_break (command.Replay file journal limits) a b x y = one_rule a b x y
+  one_break (command.Replay file journal limits view) a b x y = one_rule a b x y
   one_break (command.Build file) a b x y = one_rule a b x y
   one_break (command.Exec file workers limits) a b x y = absurd x
 
@@ -98,7 +98,7 @@ module _ (l : Laws) (text : List ℕ) where
   keeps_or (command.Format file) r k x = l.layout_or text k.0 r k.1 x
   keeps_or (command.Witness file workers limits) r k x = kept_or r k x
   keeps_or (command.Gen size workers) r k x = kept_or r k x
-  keeps_or (command.Replay file journal limits) r k x = kept_or r k x
+  keeps_or (command.Replay file journal limits view) r k x = kept_or r k x
   keeps_or (command.Build file) r k x = kept_or r k x
   keeps_or (command.Exec file workers limits) r k x = x
 
@@ -116,7 +116,7 @@ module _ (l : Laws) (text : List ℕ) where
   made_once (command.Format file) a b n m x y = (l.layout text a b x.0 y.0, x.1 ∙ sym y.1)
   made_once (command.Witness file workers limits) a b n m x y = absurd x
   made_once (command.Gen size workers) a b n m x y = absurd x
-  made_once (command.Replay file journal limits) a b n m x y = absurd x
+  made_once (command.Replay file journal limits view) a b n m x y = absurd x
   made_once (command.Build file) a b n m x y = (l.code_text text a b x.0.0 y.0.0, x.1 ∙ sym y.1)
   made_once (command.Exec file workers limits) a b n m x y = absurd x
 
@@ -138,7 +138,7 @@ made_keeps (command.Sets file) text out line m = (m.0.0, m.0.1)
 made_keeps (command.Format file) text out line m = (out, m.0)
 made_keeps (command.Witness file workers limits) text out line m = absurd m
 made_keeps (command.Gen size workers) text out line m = absurd m
-made_keeps (command.Replay file journal limits) text out line m = absurd m
+made_keeps (command.Replay file journal limits view) text out line m = absurd m
 made_keeps (command.Build file) text out line m = code_text_keeps text out m.0.0
 made_keeps (command.Exec file workers limits) text out line m = absurd m
 
@@ -150,7 +150,7 @@ made_asks (command.Sets file) text out line m = tt
 made_asks (command.Format file) text out line m = tt
 made_asks (command.Witness file workers limits) text out line m = m
 made_asks (command.Gen size workers) text out line m = m
-made_asks (command.Replay file journal limits) text out line m = m
+made_asks (command.Replay file journal limits view) text out line m = m
 made_asks (command.Build file) text out line m = tt
 made_asks (command.Exec file workers limits) text out line m = m
 
@@ -162,7 +162,7 @@ keeps_all (command.Sets file) text q k = absurd q
 keeps_all (command.Format file) text q k = absurd q
 keeps_all (command.Witness file workers limits) text q k = k
 keeps_all (command.Gen size workers) text q k = k
-keeps_all (command.Replay file journal limits) text q k = k
+keeps_all (command.Replay file journal limits view) text q k = k
 keeps_all (command.Build file) text q k = k
 keeps_all (command.Exec file workers limits) text q k = absurd q
 
@@ -176,7 +176,8 @@ long_breaks (command.Sets file) name all about h = inl (inl (too_long all start 
 long_breaks (command.Format file) name all about h = inl (inl (too_long all start refl h))
 long_breaks (command.Witness file workers limits) name all about h = inl (inl (inl (inl (too_long all start refl h))))
 long_breaks (command.Gen size workers) name all about h = inl (inl (inl (inl (too_long all start refl h))))
-long_breaks (command.Replay file journal limits) name all about h = inl (inl (inl (inl (too_long all start refl h))))
+long_breaks (command.Replay file journal limits view) name all about h =
+    inl (inl (inl (inl (too_long all start refl h))))
 long_breaks (command.Build file) name all about h = inl (inl (inl (inl (too_long all start refl h))))
 long_breaks (command.Exec file workers limits) name all about h = absurd about
 

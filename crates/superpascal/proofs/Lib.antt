@@ -3,6 +3,7 @@ pub mod FromEnding
 pub mod Calling
 pub mod Laws
 pub mod Parts
+pub mod Marking
 pub mod Replaying
 pub mod RunCommands
 pub mod Running

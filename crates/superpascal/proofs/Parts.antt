@@ -112,7 +112,7 @@ held_of f (command.Sets file) name h = ap f.held h
 held_of f (command.Format file) name h = ap f.held h
 held_of f (command.Witness file workers limits) name h = ap f.held h
 held_of f (command.Gen size workers) name h = absurd h
-held_of f (command.Replay file journal limits) name h = ap f.held h
+held_of f (command.Replay file journal limits view) name h = ap f.held h
 held_of f (command.Build file) name h = ap f.held h
 held_of f (command.Exec file workers limits) name h = absurd h
 

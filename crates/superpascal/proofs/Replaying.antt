@@ -1,7 +1,7 @@
 -- From what the steps of a replay give to the cause of its answer; and what follows of its text, its journal and its
 -- input, as they are told.
 use Rattle.std.proofs.Common.{◌≡◌, inl, inr, ℕ, ◌<◌, ◌≤◌, List, length, Option, Some, None, Result, Ok, Err, refl}
-use Rattle.std.proofs.Common.{◌∙◌, ap, subst, arith}
+use Rattle.std.proofs.Common.{◌∙◌, ap, subst, sym, arith}
 use Rattle.std.specs.Prelude.{IfSome}
 use Rattle.sp_base.specs.declared.limits.Limits.{Limits}
 use Rattle.sp_code.specs.declared.code.Parts.{Parts}
@@ -19,7 +19,9 @@ use Rattle.sp_tree.specs.Bare.{without_places}
 use Rattle.sp_tree.specs.Plain.{Program}
 use Rattle.sp_tree.specs.PlainChecked as c
 use Rattle.sp_words.specs.declared.command.Command.TheVariants as command
+use Rattle.sp_words.specs.declared.command.View.{View}
 use Rattle.superpascal.specs.declared.asked.Followed.{Followed}
+use Rattle.superpascal.specs.declared.teller.Account.{Account}
 use Rattle.superpascal.specs.declared.ending.Ending.{Ending}
 use Rattle.superpascal.specs.declared.ending.Ending.TheVariants as e
 use Rattle.superpascal.specs.declared.ending.Answer.{Answer}
@@ -28,14 +30,15 @@ use Rattle.superpascal.specs.Answers.{notes_by}
 use Rattle.superpascal.specs.Causes.{by_library, by_source, by_length, by_memory, by_replay, by_entry, by_line, by_size}
 use Rattle.superpascal.specs.Causes.{Files, HasRead, IsTold, IsUntouched, Stream}
 use Rattle.superpascal.specs.Following.{IsMeantAlong}
-use Rattle.superpascal.specs.Replays.{IsJournalOf, IsReplayOf, IsUnfitFor, ending_of_replay}
+use Rattle.superpascal.specs.Replays.{IsJournalOf, IsReplayOf, IsUnfitFor, IsWritten, ending_of_replay, replay_answer}
 use Rattle.superpascal.specs.Runs.{HasTree, Reports}
-use Rattle.superpascal.specs.Steps.{AnswersCommand, CommandCause, ReplaysTo, GivesInput, GivesJournal, HasInput}
-use Rattle.superpascal.specs.Steps.{IsUnready}
+use Rattle.superpascal.specs.Steps.{AccountsFor, AnswersCommand, CommandCause, ReplaysTo, GivesInput, GivesJournal}
+use Rattle.superpascal.specs.Steps.{HasInput, IsUnready}
 use Rattle.superpascal.specs.Steps.{ReadsJournal, TellsReplay}
 use Rattle.superpascal.specs.Texts.{CanRead, IsJournalText, IsAcceptedText, command_of_replay}
 use Rattle.superpascal.proofs.Laws.{Laws}
 use Rattle.superpascal.proofs.Parts.{cause_of_text, keeps_code, text_unready, when_told}
+use Rattle.superpascal.proofs.Tellable.{replay_ends}
 
 -- ---- words
 
@@ -48,8 +51,16 @@ one_journal a b h = cc
 one_limits : (a b : Followed) → command_of_replay b ≡ command_of_replay a → b.limits ≡ a.limits
 one_limits a b h = cc
 
+one_view : (a b : Followed) → command_of_replay b ≡ command_of_replay a → b.view ≡ a.view
+one_view a b h = cc
+
 pub one_followed : (a b : Followed) → command_of_replay b ≡ command_of_replay a → b ≡ a
-one_followed a b h = λ i. record { file = one_file a b h i; journal = one_journal a b h i; limits = one_limits a b h i }
+one_followed a b h = λ i. record {
+  file = one_file a b h i;
+  journal = one_journal a b h i;
+  limits = one_limits a b h i;
+  view = one_view a b h i;
+}
 
 pub not_generated : (b : Followed) (size workers : ℕ) → command_of_replay b ≡ command.Gen size workers → ⊥
 not_generated b size workers h = cc
@@ -161,13 +172,20 @@ module _ (f : Files) (s : Stream) (reports : Reports) (b : Followed) where
         )
         replay_unfit x (inr h) = replay_wanting x h
 
-        pub replay_told : (replayed : Replayed) → IsReplayOf text input b.limits j replayed
-            → (r : Result Answer Ending) → TellsReplay replayed r → AnswersCommand f s reports (command_of_replay b) r
-        replay_told replayed m (Ok a) k = (
-          by_replay b refl (record { has_read = has_read; replayed = replayed; is_replay = m; answer = k }),
+        pub replay_told : (account : Account) → AccountsFor b.view text input b.limits j (Ok account)
+            → (r : Result Answer Ending) → TellsReplay account r → AnswersCommand f s reports (command_of_replay b) r
+        replay_told account (replayed, m, same, written) (Ok a) k = (
+          by_replay b refl (record {
+            has_read = has_read;
+            replayed = replayed;
+            is_replay = m;
+            out = account.text;
+            written = written;
+            answer = k ∙ ap (λ (end : Option End). replay_answer end account.text) same;
+          }),
           inr may_read,
         )
-        replay_told replayed m (Err x) k = replay_wanting x k
+        replay_told account m (Err x) k = replay_wanting x k
 
 -- ---- what stands for what
 
@@ -184,6 +202,12 @@ replay_notes_stand (Some ends.Done) notes h = refl
 replay_notes_stand (Some (ends.Deadlock ws)) notes h = refl
 replay_notes_stand (Some (ends.Fault n y)) notes h = refl
 replay_notes_stand (Some ends.Memory) notes h = absurd h
+
+-- the end of a journal that was followed has lines
+pub account_ends : (v : View) (text input : List ℕ) (limits : Limits) (j : Journal) (account : Account)
+    → AccountsFor v text input limits j (Ok account) → HasEndLines account.end
+account_ends v text input limits j account (r, m, same, written) =
+    subst HasEndLines (sym same) (replay_ends text input limits j r m)
 
 module _ (l : Laws) (text input : List ℕ) (limits : Limits) (j : Journal) where
   -- the program of a text is that of its code
@@ -225,6 +249,11 @@ module _ (f : Files) (s : Stream) (b : Followed) (l : Laws) (h : HasRead f s b) 
   pub unfit_is : (n : ℕ) → IsUnfitFor h.text h.input b.limits h.journal n → IsUnfitFor text input b.limits h.journal n
   unfit_is n m = subst (λ x. IsUnfitFor x input b.limits h.journal n) same_text
       (subst (λ x. IsUnfitFor h.text x b.limits h.journal n) same_input m)
+
+  pub written_is : (r : Replayed) (out : List ℕ) → IsWritten b.view h.text h.input b.limits h.journal r out
+      → IsWritten b.view text input b.limits h.journal r out
+  written_is r out m = subst (λ x. IsWritten b.view x input b.limits h.journal r out) same_text
+      (subst (λ x. IsWritten b.view h.text x b.limits h.journal r out) same_input m)
 
   pub meant_along : (r : Replayed) → IsReplayOf h.text h.input b.limits h.journal r → IsMeantAlong b text bytes input r
   meant_along r m = let n = replay_is r m in

@@ -23,8 +23,7 @@ use Rattle.sp_tree.specs.Plain.{Program, Stmt}
 use Rattle.sp_tree.specs.PlainChecked as c
 use Rattle.sp_words.specs.Ranges.{IsInRange}
 use Rattle.superpascal.specs.declared.ending.Ending.{Ending}
-use Rattle.superpascal.specs.declared.ending.Ending.TheVariants as ending
-use Rattle.superpascal.specs.Answering.{HasCode}
+use Rattle.superpascal.specs.Answering.{HasCode, ending_of_error}
 use Rattle.superpascal.specs.Runs.{IsRunOf}
 use Rattle.superpascal.specs.Steps.{ReplaysTo}
 
@@ -57,8 +56,7 @@ RaceLaw = (g : RunInput) (moves shares : Stmt → List ℕ) (workers : ℕ) (r :
 -- how following a journal ends a replay
 abbrev pub ending_at : Result Replayed ReplayError → Result Replayed Ending
 ending_at (Ok r) = Ok r
-ending_at (Err (error.Unfit n)) = Err (ending.Unfit n)
-ending_at (Err error.Memory) = Err ending.OutOfMemory
+ending_at (Err x) = Err (ending_of_error x)
 
 module _ (law : ReadyLaw) (code : Parts) (input : List ℕ) (workers : ℕ) (lim : Limits)
     (range : IsInRange workers lim) where

@@ -91,7 +91,7 @@ module _ (f : Files) (s : Stream) (reports : Reports) (w : Option Command) (a : 
   why_due d v (by_library h) = at _ h.answer (d, v, inl h)
   why_due d v (by_source h) = at _ h.answer (d, v, inr h)
   why_due d v (by_length h) = at _ h.answer (d, v, h)
-  why_due d v (by_replay asked p h) = at (replay_answer h.replayed) h.answer
+  why_due d v (by_replay asked p h) = at (replay_answer h.replayed.end h.out) h.answer
       (by_replay_end h.replayed.end (replay_ends _ _ _ _ h.replayed h.is_replay) (asked, v ∙ ap Some p, h))
   why_due d v (by_entry asked n p h) = at _ h.answer (asked, v ∙ ap Some p, h)
   why_due d v (by_line asked n p h) = at _ h.answer (asked, v ∙ ap Some p, h)

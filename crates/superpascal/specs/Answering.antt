@@ -9,6 +9,8 @@ use Rattle.sp_generate.specs.Generated.{IsCodeOf}
 use Rattle.sp_journal.specs.declared.outcome.End.{End}
 use Rattle.sp_journal.specs.Births.{IsNameable}
 use Rattle.sp_print.specs.OutcomeLines.{HasLines}
+use Rattle.sp_replay.specs.declared.replayer.ReplayError.{ReplayError}
+use Rattle.sp_replay.specs.declared.replayer.ReplayError.TheVariants as error
 use Rattle.sp_tree.specs.Bare.{without_places}
 use Rattle.sp_tree.specs.PlainChecked as c
 use Rattle.superpascal.specs.declared.ending.Ending.{Ending}
@@ -46,6 +48,11 @@ ending_answer x = record { ending = x; ran = None; executed = None; output = Non
 abbrev pub ending_of_halt : Halt → Ending
 ending_of_halt (halt.Refused r) = e.Refused r
 ending_of_halt halt.Memory = e.OutOfMemory
+
+-- how a journal that is not followed ends its command
+abbrev pub ending_of_error : ReplayError → Ending
+ending_of_error (error.Unfit n) = e.Unfit n
+ending_of_error error.Memory = e.OutOfMemory
 
 -- this answer, or want of memory
 abbrev pub AnswersEnding : Ending → Answer → Type 0

@@ -76,7 +76,7 @@ OfRun c P = (a : Asked) (text : List ℕ) → command_of c.words ≡ Some (comma
 abbrev pub OfInput : Call → (Asked → List ℕ → List ℕ → Type 0) → Type 0
 OfInput c P = OfRun c (λ a text. (input : List ℕ) → c.source.left ≡ Some input → P a text input)
 
--- of the replay that the words ask for, its text and the bytes of its journal, where the library tells both
+-- of the journal that the words ask to follow, the bytes of its text and its own, where the library tells both
 abbrev pub OfReplay : Call → (Followed → List ℕ → List ℕ → Type 0) → Type 0
 OfReplay c P = (b : Followed) (text bytes : List ℕ) → command_of c.words ≡ Some (command_of_replay b)
     → c.files.held b.file ≡ Some text → c.files.held b.journal ≡ Some bytes → P b text bytes

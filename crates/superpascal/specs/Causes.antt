@@ -28,7 +28,7 @@ use Rattle.superpascal.specs.declared.ending.Ending.{Ending}
 use Rattle.superpascal.specs.declared.ending.Ending.TheVariants as e
 use Rattle.superpascal.specs.declared.ending.Answer.{Answer}
 use Rattle.superpascal.specs.Executions.{IsExecutionOf, execution_answer}
-use Rattle.superpascal.specs.Replays.{IsJournalOf, IsReplayOf, IsUnfitFor, numbered_answer, replay_answer}
+use Rattle.superpascal.specs.Replays.{IsJournalOf, IsReplayOf, IsUnfitFor, IsWritten, numbered_answer, replay_answer}
 use Rattle.superpascal.specs.Runs.{IsRunOf, Reports, generated_answer, run_answer}
 use Rattle.superpascal.specs.Texts.{FirstBrokenFor, CanRead, HasLongCode, IsAcceptedText, LoadsText, Makes}
 use Rattle.superpascal.specs.Texts.{command_of_run, asks_build, command_of_execution, command_of_replay, text_of}
@@ -146,7 +146,7 @@ pub record IsTooMuch (f : Files) (s : Stream) (c : Command) (a : Answer) : Type 
   pub long : IfSome s.left IsTooLong
   pub answer : a ≡ silent_answer e.TooLong
 
--- what a replay reads: its text, its journal and the whole input, as far as they are told
+-- what a command that follows a journal reads: its text, its journal and the whole input, as far as they are told
 pub record HasRead (f : Files) (s : Stream) (asked : Followed) : Type 0 where
   pub text : List ℕ
   pub bytes : List ℕ
@@ -164,7 +164,9 @@ pub record HasReplayed (f : Files) (s : Stream) (asked : Followed) (a : Answer) 
   pub has_read : HasRead f s asked
   pub replayed : Replayed
   pub is_replay : IsReplayOf has_read.text has_read.input asked.limits has_read.journal replayed
-  pub answer : a ≡ replay_answer replayed
+  pub out : List ℕ
+  pub written : IsWritten asked.view has_read.text has_read.input asked.limits has_read.journal replayed out
+  pub answer : a ≡ replay_answer replayed.end out
 
 -- entry n is the first that the program cannot make there
 pub record IsUnfit (f : Files) (s : Stream) (asked : Followed) (n : ℕ) (a : Answer) : Type 0 where

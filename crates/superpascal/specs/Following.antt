@@ -1,7 +1,7 @@
 -- All of this belongs to what the program promises (docs/promise.txt).
--- What the top call promises of `replay`: a journal is followed exactly where the meaning of the program is defined
--- along it, with its output and its end; else the first thing that is wrong with it is named, and status 9 comes of
--- nothing else.
+-- What the top call promises of the commands that follow a journal, `replay`, `trace` and `where`: it is followed
+-- exactly where the meaning of the program is defined along it, to its end, and `replay` writes its output; else the
+-- first thing that is wrong with it is named, and status 9 comes of nothing else.
 use Rattle.std.specs.Prelude.{◌≡◌, ◌⊎◌, ℕ, ◌<◌, ◌≤◌, List, Some, IfSome, length}
 use Rattle.sp_execute.specs.Follows.{IsFollowed, IsMeant, IsUnfitAt}
 use Rattle.sp_execute.specs.Runs.{run_input}
@@ -13,6 +13,7 @@ use Rattle.sp_outside.specs.Visible.{IsAtEnd}
 use Rattle.sp_replay.specs.declared.replayer.Replayed.{Replayed}
 use Rattle.sp_tree.specs.Plain.{Program}
 use Rattle.sp_words.specs.Words.{command_of}
+use Rattle.sp_words.specs.declared.command.View.TheVariants as view
 use Rattle.superpascal.specs.declared.asked.Followed.{Followed}
 use Rattle.superpascal.specs.declared.ending.Ending.TheVariants as e
 use Rattle.superpascal.specs.Answers.{status_of}
@@ -21,11 +22,11 @@ use Rattle.superpascal.specs.Causes.{HasRead}
 use Rattle.superpascal.specs.Replays.{IsJournalOf, IsUnfitFor, ending_of_replay, replay_notes}
 use Rattle.superpascal.specs.Texts.{IsAcceptedText, command_of_replay}
 
--- the status tells the end, the output and the notes of the replay were written, and nothing is left of the input
-pub record PrintsReplay (c : Call) (r : Replayed) : Type 0 where
+-- the status tells the end, the notes and the output of `replay` were written, and nothing is left of the input
+pub record PrintsReplay (c : Call) (b : Followed) (r : Replayed) : Type 0 where
   pub status : c.outcome.status ≡ status_of (ending_of_replay r.end)
-  pub output : WroteAll c.output r.output
-  pub notes : WroteAll c.notes (replay_notes r)
+  pub output : b.view ≡ view.Output → WroteAll c.output r.output
+  pub notes : WroteAll c.notes (replay_notes r.end)
   pub at_end : IsAtEnd c.source.left'
 
 -- the bytes are those of a journal along which the meaning of the text's program on the input is defined, with this
@@ -44,7 +45,7 @@ IsNoJournal bytes = (67108864 < length bytes) ⊎ (IsText bytes → ⊥)
 pub record Following (c : Call) : Type 0 where
   -- what is told of a journal that was followed is what the program means along it
   pub followed : OfReplayInput c (λ b text bytes input. IsFinal c.outcome.status → (r : Replayed)
-      × IsMeantAlong b text bytes input r × PrintsReplay c r)
+      × IsMeantAlong b text bytes input r × PrintsReplay c b r)
   -- a journal is followed wherever the meaning is defined along it
   pub accepted : OfReplayInput c (λ b text bytes input. IsAcceptedText text → length input ≤ 16777216 → (p : Program)
       → IsProgramOf text p → (j : Journal) → IsJournalOf bytes j → IsMeant (run_input p input b.limits) j.entries

@@ -12,5 +12,7 @@ pub mod Runs
 pub mod Statuses
 pub mod Steps
 pub mod Texts
+pub mod Traces
+pub mod Tracing
 pub mod Witnessing
 pub mod Writing

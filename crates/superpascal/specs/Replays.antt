@@ -1,7 +1,7 @@
 -- All of this belongs to what the program promises (docs/promise.txt).
 -- The program of a text along a journal, and what is told of it. The contracts of `replays` and `notes` promise it; the
--- clauses on `replay` and the written texts are said by it.
-use Rattle.std.specs.Prelude.{ℕ, ◌≤◌, List, ◌++◌, Option, Some, None, codes, length}
+-- clauses on `replay`, `trace` and `where` and the written texts are said by it.
+use Rattle.std.specs.Prelude.{◌≡◌, ℕ, ◌≤◌, List, ◌++◌, Option, Some, None, codes, length}
 use Rattle.sp_base.specs.declared.limits.Limits.{Limits}
 use Rattle.sp_execute.specs.Follows.{IsFollowed, IsUnfitAt}
 use Rattle.sp_execute.specs.Runs.{run_input}
@@ -13,11 +13,14 @@ use Rattle.sp_print.specs.OutcomeLines.{end_text}
 use Rattle.sp_replay.specs.declared.replayer.Replayed.{Replayed}
 use Rattle.sp_tree.specs.Bare.{without_places}
 use Rattle.sp_tree.specs.PlainChecked as c
+use Rattle.sp_words.specs.declared.command.View.{View}
+use Rattle.sp_words.specs.declared.command.View.TheVariants as view
 use Rattle.superpascal.specs.declared.ending.Ending.{Ending}
 use Rattle.superpascal.specs.declared.ending.Ending.TheVariants as e
 use Rattle.superpascal.specs.declared.ending.Answer.{Answer}
 use Rattle.superpascal.specs.Answers.{line_of}
 use Rattle.superpascal.specs.Runs.{HasTree, ending_of}
+use Rattle.superpascal.specs.Traces.{IsStateOf, IsTraceOf}
 
 -- this is the journal of these bytes, which are no more than are loaded
 pub record IsJournalOf (bytes : List ℕ) (j : Journal) : Type 0 where
@@ -49,19 +52,25 @@ abbrev pub lines_of_replay : Option End → List ℕ
 lines_of_replay None = codes "no end\n"
 lines_of_replay (Some x) = end_text x
 
-abbrev pub replay_notes : Replayed → List ℕ
-replay_notes r = codes "replayed\n" ++ lines_of_replay r.end
+abbrev pub replay_notes : Option End → List ℕ
+replay_notes end = codes "replayed\n" ++ lines_of_replay end
+
+-- what is written of a journal that was followed: what the program wrote, the text of the entries, or that of the state
+abbrev pub IsWritten : View → List ℕ → List ℕ → Limits → Journal → Replayed → List ℕ → Type 0
+IsWritten view.Output text input limits j r out = out ≡ r.output
+IsWritten view.Entries text input limits j r out = IsTraceOf text input limits j out
+IsWritten view.State text input limits j r out = IsStateOf text input limits j out
 
 -- ---- answers
 
--- the answer of `replay` where the journal was followed
-abbrev pub replay_answer : Replayed → Answer
-replay_answer r = record {
-  ending = ending_of_replay r.end;
+-- the answer where the journal was followed to this end, and this is written of it
+abbrev pub replay_answer : Option End → List ℕ → Answer
+replay_answer end out = record {
+  ending = ending_of_replay end;
   ran = None;
   executed = None;
-  output = Some r.output;
-  notes = replay_notes r;
+  output = Some out;
+  notes = replay_notes end;
 }
 
 -- the answer that names a number of the journal, or of the code

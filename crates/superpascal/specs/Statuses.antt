@@ -90,7 +90,8 @@ pub record Statuses (c : Call) : Type 0 where
   -- nothing else: where the words ask for a command that refuses the text, or the code file, for no rule, and nothing
   -- outside fails
   pub complete : OfText c (λ d text. AcceptedFor d text → OutsideWorks c d → IsWell d c.outcome.status)
-  -- the source is read by `run`, `witness`, `replay` and `exec` alone, and only where what they load before is right
+  -- the source is read by `run`, `witness`, `replay`, `trace`, `where` and `exec` alone, and only where what they load
+  -- before is right
   pub source : IsUntouched c.source ⊎ ((d : Command) × (command_of c.words ≡ Some d) × CanRead c.files.held d)
-  -- the program of a text that `check`, `code`, `build`, `run`, `witness`, `replay` or `gen` goes through is disjoint
+  -- the program of a text that a command goes through, other than `sets` and `format`, is disjoint
   pub disjoint : OfText c (λ d text. asks_all d → IsFinal c.outcome.status → IsDisjointText text)

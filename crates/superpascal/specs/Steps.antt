@@ -10,11 +10,15 @@ use Rattle.sp_base.specs.declared.halt.Refusal.{Refusal}
 use Rattle.sp_base.specs.declared.limits.Limits.{Limits}
 use Rattle.sp_base.specs.declared.rule.Rule.TheVariants as rule
 use Rattle.sp_code.specs.declared.code.Parts.{Parts}
+use Rattle.sp_code.specs.Sound.{IsSound, run_of}
 use Rattle.sp_codefile.specs.CodeText.{IsFirstBad as IsFirstBadOfCode, IsTextOf as IsTextOfCode}
 use Rattle.sp_codefile.specs.Verifying.{rule_of}
 use Rattle.sp_codefile.specs.declared.verifier.VRule.{VRule}
+use Rattle.sp_execute.specs.TextTold.{IsToldInText}
 use Rattle.sp_execute.specs.declared.execution.Ran.{Ran}
 use Rattle.sp_front.specs.Checks.{FirstBrokenUpToTypes}
+use Rattle.sp_front.specs.Marked.{IsMarked}
+use Rattle.sp_front.specs.declared.marking.MarkedText.{MarkedText}
 use Rattle.sp_journal.specs.declared.entry.Journal.{Journal}
 use Rattle.sp_journal.specs.declared.version.Version.{Version}
 use Rattle.sp_journal.specs.Reading.{IsText}
@@ -22,20 +26,34 @@ use Rattle.sp_journal.specs.Texts.{IsFirstBad, IsTextOf}
 use Rattle.sp_kernel.specs.declared.closed.Closed.{Closed}
 use Rattle.sp_outside.specs.Counts.{Rose}
 use Rattle.sp_outside.specs.Visible.{IsAtEnd}
+use Rattle.sp_lines.specs.Marks.{marks}
 use Rattle.sp_replay.specs.declared.replayer.Replayed.{Replayed}
+use Rattle.sp_replay.specs.Tracing.{TracedTo}
+use Rattle.sp_replay.specs.declared.tracing.Traced.{Traced}
 use Rattle.sp_rules.specs.Verdict.{IsRejected, IsVerified}
+use Rattle.sp_shown.specs.Constants.{by_kind, constants_of}
+use Rattle.sp_tree.specs.Breaches.{IsTree}
+use Rattle.sp_tree.specs.CheckedOf.{program_of}
 use Rattle.sp_tree.specs.Places.{start}
 use Rattle.sp_tree.specs.PlainChecked as c
+use Rattle.sp_tree.specs.PlainSyntax.{Program as Syntax}
+use Rattle.sp_where.specs.declared.symbols.Symbols.{Symbols}
 use Rattle.sp_words.specs.declared.command.Command.{Command}
+use Rattle.sp_words.specs.declared.command.View.{View}
+use Rattle.sp_words.specs.declared.command.View.TheVariants as view
 use Rattle.superpascal.specs.declared.ending.Ending.{Ending}
 use Rattle.superpascal.specs.declared.ending.Ending.TheVariants as e
 use Rattle.superpascal.specs.declared.ending.Answer.{Answer}
+use Rattle.superpascal.specs.declared.teller.Account.{Account}
+use Rattle.superpascal.specs.declared.teller.Ready.{Ready}
+use Rattle.superpascal.specs.declared.teller.Teller.{Teller}
+use Rattle.superpascal.specs.declared.teller.Teller.TheVariants as teller
 use Rattle.superpascal.specs.declared.telling.Telling.{Telling}
 use Rattle.superpascal.specs.Answering.{HasCode, ending_answer}
 use Rattle.superpascal.specs.Causes.{Cause, Due, Files, HasMade, IsLongCode, IsNotLoaded, IsRefusedFor, IsTold}
 use Rattle.superpascal.specs.Causes.{IsTooLong, ReadsAfterRules, Stream, silent_answer}
 use Rattle.superpascal.specs.Executions.{execution_answer}
-use Rattle.superpascal.specs.Replays.{IsJournalOf, IsReplayOf, IsUnfitFor, replay_answer}
+use Rattle.superpascal.specs.Replays.{IsJournalOf, IsReplayOf, IsUnfitFor, IsWritten, replay_answer}
 use Rattle.superpascal.specs.Runs.{Reports, generated_answer, run_answer}
 use Rattle.superpascal.specs.Texts.{FirstBroken, HasSets, IsFileOf}
 
@@ -78,6 +96,48 @@ IsUnready f name x =
 abbrev pub GivesCode : Files → List ℕ → Result Parts Ending → Type 0
 GivesCode f name (Ok code) = (text : List ℕ) × IsTold (f.held name) text × (tree : c.Program) × HasCode text tree code
 GivesCode f name (Err x) = IsUnready f name x
+
+-- what is known of a text, for commands that tell its places and names, or the first rule that it breaks
+abbrev pub MarksTo : List ℕ → Result MarkedText Ending → Type 0
+MarksTo text (Ok m) = IsMarked text m
+MarksTo text (Err x) = ((r : Refusal) × (x ≡ e.Refused r) × FirstBroken text r) ⊎ (x ≡ e.OutOfMemory)
+
+-- the same of the text under a name
+abbrev pub GivesMarked : Files → List ℕ → Result MarkedText Ending → Type 0
+GivesMarked f name (Ok m) = (text : List ℕ) × IsTold (f.held name) text × IsMarked text m
+GivesMarked f name (Err x) = IsUnready f name x
+
+-- these are the tree, the marks and the names of the text
+pub record HasSymbols (text : List ℕ) (tree : c.Program) (y : Symbols) : Type 0 where
+  pub checked : program_of y.checked ≡ tree
+  pub marks : y.marks ≡ marks tree
+  pub syntax : Syntax
+  pub spelt : IsTree text syntax
+  pub constants : y.constants ≡ by_kind y.checked.kinds (constants_of syntax)
+
+-- the code, the tree, the marks and the names of the text under a name
+abbrev pub GivesSymbols : Files → List ℕ → Result (Parts × Symbols) Ending → Type 0
+GivesSymbols f name (Ok r) = (text : List ℕ) × IsTold (f.held name) text × (tree : c.Program)
+    × HasCode text tree r.0 × HasSymbols text tree r.1
+GivesSymbols f name (Err x) = IsUnready f name x
+
+-- by this a journal of the text is told, where that is asked for
+abbrev pub HasTeller : List ℕ → c.Program → View → Teller → Type 0
+HasTeller text tree view.Output teller.Output = Unit {0}
+HasTeller text tree view.Output (teller.Entries y) = ⊥
+HasTeller text tree view.Output (teller.State y) = ⊥
+HasTeller text tree view.Entries teller.Output = ⊥
+HasTeller text tree view.Entries (teller.Entries y) = HasSymbols text tree y
+HasTeller text tree view.Entries (teller.State y) = ⊥
+HasTeller text tree view.State teller.Output = ⊥
+HasTeller text tree view.State (teller.Entries y) = ⊥
+HasTeller text tree view.State (teller.State y) = HasSymbols text tree y
+
+-- the code of the text under a name, and by what its journals are told
+abbrev pub GivesReady : Files → List ℕ → View → Result Ready Ending → Type 0
+GivesReady f name v (Ok r) = (text : List ℕ) × IsTold (f.held name) text × (tree : c.Program)
+    × HasCode text tree r.code × HasTeller text tree v r.teller
+GivesReady f name v (Err x) = IsUnready f name x
 
 -- the sets of a text, as a text
 abbrev pub TellsSets : List ℕ → Result (Vec ℕ Global) Halt → Type 0
@@ -158,9 +218,9 @@ abbrev pub TellsGenerated : ℕ → Ran → Result Answer Ending → Type 0
 TellsGenerated size r (Ok a) = a ≡ generated_answer size r
 TellsGenerated size r (Err x) = x ≡ e.OutOfMemory
 
--- how a replay is told, or want of memory
-abbrev pub TellsReplay : Replayed → Result Answer Ending → Type 0
-TellsReplay r (Ok a) = a ≡ replay_answer r
+-- how a journal that was followed is told, or want of memory
+abbrev pub TellsReplay : Account → Result Answer Ending → Type 0
+TellsReplay r (Ok a) = a ≡ replay_answer r.end r.text
 TellsReplay r (Err x) = x ≡ e.OutOfMemory
 
 -- how the run of a code file is told, or want of memory
@@ -173,6 +233,19 @@ abbrev pub ReplaysTo : List ℕ → List ℕ → Limits → Journal → Result R
 ReplaysTo text input limits j (Ok r) = IsReplayOf text input limits j r
 ReplaysTo text input limits j (Err x) =
     ((n : ℕ) × (x ≡ e.Unfit n) × IsUnfitFor text input limits j n) ⊎ (x ≡ e.OutOfMemory)
+
+-- the same with the code of the text's tree, and what is told of the entries, with its places in the text
+abbrev pub TracesTo : List ℕ → c.Program → Parts → List ℕ → Limits → Journal → Result Traced Ending → Type 0
+TracesTo text tree code input limits j (Ok t) = IsReplayOf text input limits j t.replayed
+    × TracedTo (run_of code input limits) j.entries t × IsToldInText tree (run_of code input limits) j.entries t
+    × IsSound code
+TracesTo text tree code input limits j (Err x) = ReplaysTo text input limits j (Err x)
+
+-- following the journal with the program of the text, and what is written of it
+abbrev pub AccountsFor : View → List ℕ → List ℕ → Limits → Journal → Result Account Ending → Type 0
+AccountsFor v text input limits j (Ok a) = (r : Replayed) × IsReplayOf text input limits j r × (a.end ≡ r.end)
+    × IsWritten v text input limits j r a.text
+AccountsFor v text input limits j (Err x) = ReplaysTo text input limits j (Err x)
 
 -- ---- what a command answers
 

@@ -93,7 +93,7 @@ abbrev pub command_of_run : Asked → Command
 command_of_run a = command_for_run a.telling a.file a.workers a.limits
 
 abbrev pub command_of_replay : Followed → Command
-command_of_replay b = command.Replay b.file b.journal b.limits
+command_of_replay b = command.Replay b.file b.journal b.limits b.view
 
 abbrev pub command_of_execution : Executed → Command
 command_of_execution b = command.Exec b.file b.workers b.limits
@@ -107,7 +107,7 @@ text_of held (command.Sets file) = held file
 text_of held (command.Format file) = held file
 text_of held (command.Witness file workers limits) = held file
 text_of held (command.Gen size workers) = Some (generated_text size)
-text_of held (command.Replay file journal limits) = held file
+text_of held (command.Replay file journal limits view) = held file
 text_of held (command.Build file) = held file
 text_of held (command.Exec file workers limits) = held file
 
@@ -120,7 +120,7 @@ IsAbout (command.Sets file) name = file ≡ name
 IsAbout (command.Format file) name = file ≡ name
 IsAbout (command.Witness file workers limits) name = file ≡ name
 IsAbout (command.Gen size workers) name = ⊥
-IsAbout (command.Replay file journal limits) name = file ≡ name
+IsAbout (command.Replay file journal limits view) name = file ≡ name
 IsAbout (command.Build file) name = file ≡ name
 IsAbout (command.Exec file workers limits) name = ⊥
 
@@ -133,7 +133,7 @@ FollowsUnder (command.Sets file) name = ⊥
 FollowsUnder (command.Format file) name = ⊥
 FollowsUnder (command.Witness file workers limits) name = ⊥
 FollowsUnder (command.Gen size workers) name = ⊥
-FollowsUnder (command.Replay file journal limits) name = journal ≡ name
+FollowsUnder (command.Replay file journal limits view) name = journal ≡ name
 FollowsUnder (command.Build file) name = ⊥
 FollowsUnder (command.Exec file workers limits) name = ⊥
 
@@ -146,7 +146,7 @@ ExecutesUnder (command.Sets file) name = ⊥
 ExecutesUnder (command.Format file) name = ⊥
 ExecutesUnder (command.Witness file workers limits) name = ⊥
 ExecutesUnder (command.Gen size workers) name = ⊥
-ExecutesUnder (command.Replay file journal limits) name = ⊥
+ExecutesUnder (command.Replay file journal limits view) name = ⊥
 ExecutesUnder (command.Build file) name = ⊥
 ExecutesUnder (command.Exec file workers limits) name = file ≡ name
 
@@ -166,7 +166,7 @@ FirstBrokenFor (command.Sets file) text r = FirstBrokenUpToTypes text r
 FirstBrokenFor (command.Format file) text r = HasNoLayout text r
 FirstBrokenFor (command.Witness file workers limits) text r = FirstBroken text r
 FirstBrokenFor (command.Gen size workers) text r = FirstBroken text r
-FirstBrokenFor (command.Replay file journal limits) text r = FirstBroken text r
+FirstBrokenFor (command.Replay file journal limits view) text r = FirstBroken text r
 FirstBrokenFor (command.Build file) text r = FirstBroken text r
 FirstBrokenFor (command.Exec file workers limits) text r = ⊥
 
@@ -179,7 +179,7 @@ AcceptedFor (command.Sets file) text = IsAnalysed text
 AcceptedFor (command.Format file) text = (out : List ℕ) × HasLayout text out
 AcceptedFor (command.Witness file workers limits) text = IsAcceptedText text
 AcceptedFor (command.Gen size workers) text = IsAcceptedText text
-AcceptedFor (command.Replay file journal limits) text = IsAcceptedText text
+AcceptedFor (command.Replay file journal limits view) text = IsAcceptedText text
 AcceptedFor (command.Build file) text = IsAcceptedText text
 AcceptedFor (command.Exec file workers limits) text = IsSoundFile text
 
@@ -192,7 +192,7 @@ asks_text (command.Sets file) = Unit {0}
 asks_text (command.Format file) = Unit {0}
 asks_text (command.Witness file workers limits) = ⊥
 asks_text (command.Gen size workers) = ⊥
-asks_text (command.Replay file journal limits) = ⊥
+asks_text (command.Replay file journal limits view) = ⊥
 asks_text (command.Build file) = Unit {0}
 asks_text (command.Exec file workers limits) = ⊥
 
@@ -205,11 +205,11 @@ asks_run (command.Sets file) = ⊥
 asks_run (command.Format file) = ⊥
 asks_run (command.Witness file workers limits) = Unit {0}
 asks_run (command.Gen size workers) = Unit {0}
-asks_run (command.Replay file journal limits) = ⊥
+asks_run (command.Replay file journal limits view) = ⊥
 asks_run (command.Build file) = ⊥
 asks_run (command.Exec file workers limits) = ⊥
 
--- the command that follows a journal
+-- the commands that follow a journal
 abbrev pub asks_replay : Command → Type 0
 asks_replay (command.Check file) = ⊥
 asks_replay (command.Run file workers limits show) = ⊥
@@ -218,7 +218,7 @@ asks_replay (command.Sets file) = ⊥
 asks_replay (command.Format file) = ⊥
 asks_replay (command.Witness file workers limits) = ⊥
 asks_replay (command.Gen size workers) = ⊥
-asks_replay (command.Replay file journal limits) = Unit {0}
+asks_replay (command.Replay file journal limits view) = Unit {0}
 asks_replay (command.Build file) = ⊥
 asks_replay (command.Exec file workers limits) = ⊥
 
@@ -231,7 +231,7 @@ asks_build (command.Sets file) = ⊥
 asks_build (command.Format file) = ⊥
 asks_build (command.Witness file workers limits) = ⊥
 asks_build (command.Gen size workers) = ⊥
-asks_build (command.Replay file journal limits) = ⊥
+asks_build (command.Replay file journal limits view) = ⊥
 asks_build (command.Build file) = Unit {0}
 asks_build (command.Exec file workers limits) = ⊥
 
@@ -244,7 +244,7 @@ asks_execution (command.Sets file) = ⊥
 asks_execution (command.Format file) = ⊥
 asks_execution (command.Witness file workers limits) = ⊥
 asks_execution (command.Gen size workers) = ⊥
-asks_execution (command.Replay file journal limits) = ⊥
+asks_execution (command.Replay file journal limits view) = ⊥
 asks_execution (command.Build file) = ⊥
 asks_execution (command.Exec file workers limits) = Unit {0}
 
@@ -261,7 +261,7 @@ CanRead held (command.Sets file) = ⊥
 CanRead held (command.Format file) = ⊥
 CanRead held (command.Witness file workers limits) = IfSome (held file) IsAcceptedText
 CanRead held (command.Gen size workers) = ⊥
-CanRead held (command.Replay file journal limits) = IfSome (held file) IsAcceptedText
+CanRead held (command.Replay file journal limits view) = IfSome (held file) IsAcceptedText
     × IfSome (held journal) IsJournalText
 CanRead held (command.Build file) = ⊥
 CanRead held (command.Exec file workers limits) = IfSome (held file) IsSoundFile
@@ -275,7 +275,7 @@ Makes (command.Sets file) text out line = HasSets text out × (line ≡ [])
 Makes (command.Format file) text out line = HasLayout text out × (line ≡ [])
 Makes (command.Witness file workers limits) text out line = ⊥
 Makes (command.Gen size workers) text out line = ⊥
-Makes (command.Replay file journal limits) text out line = ⊥
+Makes (command.Replay file journal limits view) text out line = ⊥
 Makes (command.Build file) text out line = IsCodeFile text out × (line ≡ [])
 Makes (command.Exec file workers limits) text out line = ⊥
 
@@ -288,6 +288,6 @@ asks_all (command.Sets file) = ⊥
 asks_all (command.Format file) = ⊥
 asks_all (command.Witness file workers limits) = Unit {0}
 asks_all (command.Gen size workers) = Unit {0}
-asks_all (command.Replay file journal limits) = Unit {0}
+asks_all (command.Replay file journal limits view) = Unit {0}
 asks_all (command.Build file) = Unit {0}
 asks_all (command.Exec file workers limits) = ⊥

@@ -1,8 +1,9 @@
-//! What the words of a command ask for, as one value: a run (`Asked`), a replay (`Followed`), the run of a code file
-//! (`Executed`).
+//! What the words of a command ask for, as one value: a run (`Asked`), a journal that is followed (`Followed`), the run
+//! of a code file (`Executed`).
 
 use crate::telling::Telling;
 use sp_base::{Limits, Word};
+use sp_words::View;
 
 /// The run that words ask for, and how it is told.
 #[derive(Drop)]
@@ -15,7 +16,7 @@ pub struct Asked {
     pub telling: Telling,
 }
 
-/// The replay that words ask for.
+/// The journal that words ask to follow, and what is written of it.
 #[derive(Drop)]
 pub struct Followed {
     /// The name of the program text.
@@ -23,6 +24,7 @@ pub struct Followed {
     /// The name of the journal's text.
     pub journal: Word,
     pub limits: Limits,
+    pub view: View,
 }
 
 /// The execution of a code file that words ask for.

@@ -1,13 +1,13 @@
 //! How a call ends (`Ending`), and what it has to write (`Answer`), with statuses and lines.
 
 ghost use Rattle.std.specs.Prelude.{◌≡◌};
-ghost use Rattle.superpascal.specs.Answering.{ending_of_halt};
+ghost use Rattle.superpascal.specs.Answering.{ending_of_error, ending_of_halt};
 ghost use Rattle.superpascal.specs.Answers.{has_output, notes_by, output_of, status_of};
 ghost use Rattle.superpascal.specs.declared.ending.Ending.TheVariants as variants;
 
 use sp_base::{Halt, Memory, Refusal, Text};
 use sp_codefile::VRule;
-use sp_execute::Ran;
+use sp_execute::{Ran, ReplayError};
 use sp_kernel::Closed;
 use std::alloc::{AllocError, AllocFailed};
 
@@ -112,6 +112,17 @@ impl From<Halt> for Ending {
         match halt {
             Halt::Refused(refusal) => Ending::Refused(refusal),
             Halt::Memory => Ending::OutOfMemory,
+        }
+    }
+}
+
+impl From<ReplayError> for Ending {
+    ghost from_gives = { λ error e. e ≡ ending_of_error error };
+
+    fn from(error: ReplayError) -> Ending {
+        match error {
+            ReplayError::Unfit(entry) => Ending::Unfit(entry),
+            ReplayError::Memory => Ending::OutOfMemory,
         }
     }
 }

@@ -1,11 +1,13 @@
 //! The top call: from words, a library and a source, two sinks, a gate and watchers to a status and the run.
 //!
 //! Calls:
-//! - `superpascal`: does what the words ask and keeps `Promise` (`specs/Promise.antt`), which has seven parts:
+//! - `superpascal`: does what the words ask and keeps `Promise` (`specs/Promise.antt`), which has eight parts:
 //!   - `Headline`, of `run` and `witness`: a text is refused exactly where it breaks a rule; no process writes what a
 //!     parallel one uses; output and end are those of the meaning along the journal; what `ordered` promises.
-//!   - `Following`, of `replay`: a journal is followed exactly where the meaning is defined along it, with that output
-//!     and end; else status 9, with the first thing that is wrong with it.
+//!   - `Following`, of `replay`, `trace` and `where`: a journal is followed exactly where the meaning is defined along
+//!     it, with that output and end; else status 9, with the first thing that is wrong with it.
+//!   - `Tracing`: `trace` writes the text of the entries, each at the place of its statement, with its message; `where`
+//!     that of the state behind the last one: each process with its place, its calls and its variables.
 //!   - `Executing`, of `exec`: only code that breaks no rule is run, to the machine's output and end along the journal,
 //!     which are the meaning's where `build` wrote the file; else status 10, with the first thing that is wrong.
 //!   - `Witnessing`: the witness of a run's race is a journal of the program that ends where the two offers contend.
@@ -20,18 +22,19 @@
 //!   input, run with verdict, texts. A step gives what the next needs, or the `Ending` of the call. The steps that
 //!   commands share are `src/prepare.rt`.
 //! - `src/texts.rt` has the commands that answer from the text alone, `src/runs.rt` the run of a program, told as
-//!   `src/telling.rt` says, and `gen`, `src/replays.rt` the command that follows a journal, `src/executions.rt` the one
-//!   that runs a code file. `src/notes.rt` is what is told of a run, `src/answers.rt` makes the answer of an ending
-//!   without a run.
+//!   `src/telling.rt` says, and `gen`, `src/replays.rt` the commands that follow a journal, with what they tell it by
+//!   (`src/teller.rt`), `src/executions.rt` the one that runs a code file. `src/notes.rt` is what is told of a run,
+//!   `src/answers.rt` makes the answer of an ending without a run.
 //! - `src/ending.rt` is how a call ends (`Ending`) and what it has to write (`Answer`), `src/writing.rt` writes it,
 //!   `src/outcome.rt` is what is given back. `src/host.rt` is what the steps take of the system (`Host`).
 //! - The contract speaks of a call as `specs/Calls.antt` describes it (`Call`). What each step answers stands in
 //!   `specs/Steps.antt`, what its answer is made of in `specs/Answering.antt`, why an answer is due in
 //!   `specs/Causes.antt` (`Cause`), what it has to write in `specs/Answers.antt`.
 //! - Of the proofs, `Running` and `RunningFiles` lead from `sp_execute` to a text's program and to a code file,
-//!   `Parts`, `Replaying` and `Executed` from the steps of a command to the cause of its answer, `Why` from an ending
-//!   to its cause, `FromEnding` from both to what is due, `Calling` and `Executing` from cause and writing to the
-//!   contract; `Promising` puts the parts together.
+//!   `Marking` from the tree and the marks of a text to the texts of its entries and of its state, `Parts`, `Replaying`
+//!   and `Executed` from the steps of a command to the cause of its answer, `Why` from an ending to its cause,
+//!   `FromEnding` from both to what is due, `Calling` and `Executing` from cause and writing to the contract;
+//!   `Promising` puts the parts together.
 //! - The rules of the text come before its input, so `run`, `check` and `code` name the first broken rule of all;
 //!   `sets` looks up to types and `format` at characters and grammar. A text longer than the library's limit is never
 //!   seen whole; that it is longer is all that L1 says, so its refusal needs no bytes.
@@ -54,10 +57,11 @@
 //!   clause in `specs/Statuses.antt`, `proofs/Why.antt`, `proofs/FromEnding.antt` and `proofs/Calling.antt`.
 //! - A command: its variant in `sp_words`; what it asks for in `src/asked.rt`; `text_of`, `IsAbout`, `FollowsUnder`,
 //!   `ExecutesUnder`, `FirstBrokenFor`, `AcceptedFor`, `asks_text`, `asks_run`, `asks_replay`, `asks_build`,
-//!   `asks_execution`,
-//!   `CanRead`, `Makes` and `asks_all` of `specs/Texts.antt`; its function in `src/texts.rt`, `src/runs.rt`,
-//!   `src/replays.rt` or `src/executions.rt`, its arm in `src/top.rt`.
+//!   `asks_execution`, `CanRead`, `Makes` and `asks_all` of `specs/Texts.antt`; its function in `src/texts.rt`,
+//!   `src/runs.rt`, `src/replays.rt` or `src/executions.rt`, its arm in `src/top.rt`.
 //! - What is told of a run: `run_notes` of `specs/Runs.antt`, `src/notes.rt`.
+//! - What is written of a journal: `View` of `sp_words`, `Teller` of `src/teller.rt`, `IsWritten` of
+//!   `specs/Replays.antt`, `HasTeller` of `specs/Steps.antt`, `account` of `src/replays.rt`.
 //! - A phase over the text: `sp_front`.
 #![tactic(auto)]
 
@@ -71,6 +75,7 @@ mod outcome;
 mod prepare;
 mod replays;
 mod runs;
+mod teller;
 mod telling;
 mod texts;
 mod top;

@@ -4,13 +4,13 @@
 ghost use Rattle.std.specs.Prelude.{◌≡◌, ◌≤◌, List, ℕ};
 ghost use Rattle.superpascal.specs.Causes.{files_of, stream_of};
 ghost use Rattle.superpascal.specs.Steps.{CompilesTo, DecodesTo, GivesBytes, GivesCode, GivesFile, GivesInput};
-ghost use Rattle.superpascal.specs.Steps.{GivesJournal, GivesText, ReadsJournal, VerifiesTo};
+ghost use Rattle.superpascal.specs.Steps.{GivesJournal, GivesMarked, GivesText, MarksTo, ReadsJournal, VerifiesTo};
 
 use crate::ending::Ending;
 use sp_base::{Halt, Place, Refusal, Rule, Text, Word};
 use sp_code::Code;
 use sp_codefile::{DecodeError, Rejected, decode, verify};
-use sp_front::compiled_apart;
+use sp_front::{MarkedText, compiled_apart, marked_apart};
 use sp_journal::{Journal, ReadError as JournalError, read_journal};
 use sp_outside::{Library, LoadError, ReadError, Source, read_all};
 use std::alloc::Global;
@@ -92,6 +92,32 @@ pub(crate) fn prepare<L: Library>(
 {
     let text = load_text(alloc, library, file)?;
     compile(rt, alloc, text.as_slice())
+}
+
+// What is known of a text for commands that tell its places, or the first of all rules that it breaks.
+fn mark(rt: &impl Threads, alloc: Global, text: &[u8]) -> Result<MarkedText, Ending>
+    ensures { MarksTo text.now result }
+{
+    match marked_apart(rt, alloc, text) {
+        Ok(marked) => Ok(marked),
+        Err(Halt::Refused(refusal)) => Err(Ending::Refused(refusal)),
+        Err(Halt::Memory) => Err(Ending::OutOfMemory),
+    }
+}
+
+/// The same of the text in this file: loads it and compiles it.
+pub(crate) fn prepare_marked<L: Library>(
+    rt: &impl Threads,
+    alloc: Global,
+    library: &mut L,
+    file: &Word,
+) -> Result<MarkedText, Ending>
+    ensures prepared { GivesMarked (files_of L.held L.faults library.old library.new) file.now result }
+    ensures counted { (other : List ℕ) → L.faults library.old other ≤ L.faults library.new other }
+    ensures unchanged { (other : List ℕ) → L.held library.new other ≡ L.held library.old other }
+{
+    let text = load_text(alloc, library, file)?;
+    mark(rt, alloc, text.as_slice())
 }
 
 // The journal of these bytes.

@@ -1,24 +1,33 @@
-//! The command that follows a journal: `replay`.
+//! The commands that follow a journal: `replay`, `trace` and `where`.
 
-ghost use Rattle.std.specs.Prelude.{ℕ, List, Ok};
+ghost use Rattle.std.specs.Prelude.{ℕ, ◌≤◌, ◌≡◌, List};
 ghost use Rattle.sp_journal.specs.Births.{IsNameable};
 ghost use Rattle.sp_tree.specs.PlainChecked.{Program as Checked};
 ghost use Rattle.sp_words.specs.Ranges.{IsInRange};
+ghost use Rattle.sp_words.specs.declared.command.View.{View as AView};
+ghost use Rattle.sp_words.specs.declared.command.View.TheVariants as view;
 ghost use Rattle.superpascal.specs.Answering.{HasCode, HasEndLines};
 ghost use Rattle.superpascal.specs.Causes.{files_of, stream_of};
 ghost use Rattle.superpascal.specs.Runs.{Reports};
-ghost use Rattle.superpascal.specs.Steps.{AnswersCommand, ReplaysTo, TellsReplay};
+ghost use Rattle.superpascal.specs.Steps.{AccountsFor, AnswersCommand, GivesReady, GivesSymbols, HasSymbols, HasTeller};
+ghost use Rattle.superpascal.specs.Steps.{ReplaysTo, TellsReplay, TracesTo};
 ghost use Rattle.superpascal.specs.Texts.{command_of_replay};
 
 use crate::asked::Followed;
 use crate::ending::{Answer, Ending};
 use crate::notes::{ending_of_replay, replay_notes};
-use crate::prepare::{prepare, prepare_journal, read_input};
-use sp_base::{Limits, Text};
+use crate::prepare::{prepare, prepare_journal, prepare_marked, read_input};
+use crate::teller::{Account, Ready, Teller};
+use sp_base::{Limits, Text, Word};
 use sp_code::Code;
-use sp_execute::{ReplayError, Replayed, accepted_programs_are_ready, follow};
+use sp_execute::{
+    Replayed, Traced, accepted_programs_are_ready, follow, follow_told,
+    journals_are_told_in_the_text,
+};
 use sp_journal::Journal;
 use sp_outside::{Library, Source};
+use sp_where::{Symbols, trace_text, where_text};
+use sp_words::View;
 use std::alloc::Global;
 use std::sync::Arc;
 use std::thread::Threads;
@@ -40,27 +49,174 @@ fn follow_code(
     accepted_programs_are_ready();
     let code = Arc::new(alloc, code)?;
     let input = Arc::new(alloc, input)?;
-    match follow(alloc, code, input, limits, journal) {
-        Ok(replayed) => Ok(replayed),
-        Err(ReplayError::Unfit(entry)) => Err(Ending::Unfit(entry)),
-        Err(ReplayError::Memory) => Err(Ending::OutOfMemory),
+    let replayed = follow(alloc, code, input, limits, journal)?;
+    Ok(replayed)
+}
+
+// The same, with what is told of the entries and the state behind them.
+fn trace_code(
+    alloc: Global,
+    code: Arc<Code>,
+    input: Text,
+    limits: &Limits,
+    journal: &Journal,
+) -> Result<Traced, Ending>
+    requires range { IsInRange 1 limits.now }
+    requires code { (program : List ℕ) × (tree : Checked) × HasCode program tree code.value }
+    requires nameable { IsNameable journal.now }
+    ensures { (program : List ℕ) (tree : Checked) → HasCode program tree code.value
+        → TracesTo program tree code.value input limits.now journal.now result }
+{
+    accepted_programs_are_ready();
+    journals_are_told_in_the_text();
+    let input = Arc::new(alloc, input)?;
+    let traced = follow_told(alloc, code, input, limits, journal)?;
+    Ok(traced)
+}
+
+// Follows a journal with the code of a text, and writes its entries.
+fn entries(
+    alloc: Global,
+    code: Code,
+    symbols: &Symbols,
+    input: Text,
+    limits: &Limits,
+    journal: &Journal,
+) -> Result<Account, Ending>
+    requires range { IsInRange 1 limits.now }
+    requires code { (program : List ℕ) × (tree : Checked) × HasCode program tree code }
+    requires nameable { IsNameable journal.now }
+    ensures { (program : List ℕ) (tree : Checked) → HasCode program tree code → HasSymbols program tree symbols.now
+        → AccountsFor view.Entries program input limits.now journal.now result }
+{
+    let code = Arc::new(alloc, code)?;
+    let traced = trace_code(alloc, code, input, limits, journal)?;
+    let text = trace_text(alloc, symbols, journal, traced.told.items())?;
+    Ok(Account {
+        end: traced.replayed.end,
+        text: Text::of(text),
+    })
+}
+
+// The same with the state behind its last entry.
+fn state(
+    alloc: Global,
+    code: Code,
+    symbols: &Symbols,
+    input: Text,
+    limits: &Limits,
+    journal: &Journal,
+) -> Result<Account, Ending>
+    requires range { IsInRange 1 limits.now }
+    requires code { (program : List ℕ) × (tree : Checked) × HasCode program tree code }
+    requires nameable { IsNameable journal.now }
+    ensures { (program : List ℕ) (tree : Checked) → HasCode program tree code → HasSymbols program tree symbols.now
+        → AccountsFor view.State program input limits.now journal.now result }
+{
+    let code = Arc::new(alloc, code)?;
+    let traced = trace_code(alloc, Arc::try_clone(&code)?, input, limits, journal)?;
+    let text = where_text(alloc, symbols, &code, journal, &traced)?;
+    Ok(Account {
+        end: traced.replayed.end,
+        text: Text::of(text),
+    })
+}
+
+// Follows a journal with the code of a text, and writes of it what is asked for.
+fn account(
+    alloc: Global,
+    ready: Ready,
+    input: Text,
+    limits: &Limits,
+    journal: &Journal,
+) -> Result<Account, Ending>
+    requires range { IsInRange 1 limits.now }
+    requires code { (program : List ℕ) × (tree : Checked) × HasCode program tree ready.code }
+    requires nameable { IsNameable journal.now }
+    ensures { (program : List ℕ) (tree : Checked) (view : AView) → HasCode program tree ready.code
+        → HasTeller program tree view ready.teller → AccountsFor view program input limits.now journal.now result }
+{
+    let code = ready.code;
+    match &ready.teller {
+        Teller::Output => {
+            let replayed = follow_code(alloc, code, input, limits, journal)?;
+            Ok(Account {
+                end: replayed.end,
+                text: replayed.output,
+            })
+        }
+        Teller::Entries(symbols) => entries(alloc, code, symbols, input, limits, journal),
+        Teller::State(symbols) => state(alloc, code, symbols, input, limits, journal),
     }
 }
 
 // Tells of a journal that was followed.
-fn tell_replay(alloc: Global, replayed: Replayed) -> Result<Answer, Ending>
-    requires lines { HasEndLines replayed.end }
-    ensures { TellsReplay replayed result }
+fn tell_replay(alloc: Global, account: Account) -> Result<Answer, Ending>
+    requires lines { HasEndLines account.end }
+    ensures { TellsReplay account result }
 {
-    match replay_notes(alloc, &replayed.end) {
+    match replay_notes(alloc, &account.end) {
         Ok(notes) => Ok(Answer {
-            ending: ending_of_replay(&replayed.end),
+            ending: ending_of_replay(&account.end),
             ran: None,
             executed: None,
-            output: Some(replayed.output),
+            output: Some(account.text),
             notes: Text::of(notes),
         }),
         Err(_) => Err(Ending::OutOfMemory),
+    }
+}
+
+// The code of the text in this file, and its tree, marks and names.
+fn symbols<L: Library>(
+    rt: &impl Threads,
+    alloc: Global,
+    library: &mut L,
+    file: &Word,
+) -> Result<(Code, Symbols), Ending>
+    ensures symbols { GivesSymbols (files_of L.held L.faults library.old library.new) file.now result }
+    ensures counted { (other : List ℕ) → L.faults library.old other ≤ L.faults library.new other }
+    ensures unchanged { (other : List ℕ) → L.held library.new other ≡ L.held library.old other }
+{
+    let marked = prepare_marked(rt, alloc, library, file)?;
+    let symbols = Symbols {
+        checked: marked.checked,
+        marks: marked.marks,
+        constants: marked.constants,
+    };
+    Ok((marked.code, symbols))
+}
+
+// The code of the text that is asked for, and what its journals are told by.
+fn ready<L: Library>(
+    rt: &impl Threads,
+    alloc: Global,
+    library: &mut L,
+    asked: &Followed,
+) -> Result<Ready, Ending>
+    ensures ready { GivesReady (files_of L.held L.faults library.old library.new) asked.now.file asked.now.view
+        result }
+    ensures counted { (other : List ℕ) → L.faults library.old other ≤ L.faults library.new other }
+    ensures unchanged { (other : List ℕ) → L.held library.new other ≡ L.held library.old other }
+{
+    match asked.view {
+        View::Output => {
+            let code = prepare(rt, alloc, library, &asked.file)?;
+            Ok(Ready {
+                code,
+                teller: Teller::Output,
+            })
+        }
+        View::Entries => {
+            let (code, symbols) = symbols(rt, alloc, library, &asked.file)?;
+            let teller = Teller::Entries(symbols);
+            Ok(Ready { code, teller })
+        }
+        View::State => {
+            let (code, symbols) = symbols(rt, alloc, library, &asked.file)?;
+            let teller = Teller::State(symbols);
+            Ok(Ready { code, teller })
+        }
     }
 }
 
@@ -78,9 +234,9 @@ pub(crate) fn replay<L: Library, I: Source>(
         (stream_of I.left I.faults input.old input.new) reports
         (command_of_replay asked.now) result }
 {
-    let code = prepare(rt, alloc, library, &asked.file)?;
+    let ready = ready(rt, alloc, library, asked)?;
     let journal = prepare_journal(alloc, library, &asked.journal)?;
     let input = read_input(alloc, input)?;
-    let replayed = follow_code(alloc, code, input, &asked.limits, &journal)?;
-    tell_replay(alloc, replayed)
+    let account = account(alloc, ready, input, &asked.limits, &journal)?;
+    tell_replay(alloc, account)
 }

@@ -122,11 +122,13 @@ fn obey<R: Threads + Wait + Sync, L: Library, I: Source, G: Gate>(
             file,
             journal,
             limits,
+            view,
         } => {
             let asked = Followed {
                 file,
                 journal,
                 limits,
+                view,
             };
             replay(host.rt, host.alloc, &asked, library, input)
         }
@@ -204,15 +206,18 @@ fn answer<R: Threads + Wait + Sync, L: Library, I: Source, G: Gate>(
 /// `gen` runs the program that it generates on no input, reads no file and no input, and writes the size, the output,
 /// the number of entries, the end and the verdict to `output`; its status is that of the run.
 ///
-/// `replay` runs the program of the text along a journal, on the calling thread, and gives no run back. `exec` gives
-/// its run back apart, without a verdict.
+/// `replay` runs the program of the text along a journal, on the calling thread, and gives no run back. `trace` and
+/// `where` do so too, and write to `output`, in place of what the program wrote, a line for each entry with its place
+/// and its message, or the state after the last entry: the processes with their places, calls and variables. `exec`
+/// gives its run back apart, without a verdict.
 ///
 /// The order of work is: the words; the load; the rules of the text and its code, or for `exec` those of the code file;
-/// for `replay` the load of the journal and its text; the input, for `run`, `witness`, `replay` and `exec` alone; the
-/// run; the verdict; the texts; writing `output`; writing `notes`. The first step that ends the call decides the
-/// status. Where the words, a load, the text, the journal, the code file, the input or memory end the call, nothing is
-/// written to `output`. After a failed write to `output` nothing is written to `notes`. A text is compiled by a thread
-/// of `rt` with a large stack, so a chain of operators may be as long as the text; the workers are threads of `rt` too.
+/// for `replay`, `trace` and `where` the load of the journal and its text; the input, for these three, `run`, `witness`
+/// and `exec` alone; the run; the verdict; the texts; writing `output`; writing `notes`. The first step that ends the
+/// call decides the status. Where the words, a load, the text, the journal, the code file, the input or memory end the
+/// call, nothing is written to `output`. After a failed write to `output` nothing is written to `notes`. A text is
+/// compiled by a thread of `rt` with a large stack, so a chain of operators may be as long as the text; the workers are
+/// threads of `rt` too.
 pub fn superpascal<R: Threads + Wait + Sync, L: Library, I: Source, O: Sink, N: Sink, G: Gate>(
     rt: &R,
     alloc: Global,

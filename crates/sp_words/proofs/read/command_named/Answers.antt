@@ -19,7 +19,10 @@ returns-in_default c = none_named command_names c.args.word.now (
               c.in_default.not-replay,
               (
                 c.in_default.not-witness,
-                (c.in_default.not-build, (c.in_default.not-exec, tt)),
+                (
+                  c.in_default.not-build,
+                  (c.in_default.not-exec, (c.in_default.not-trace, (c.in_default.not-where₀, tt))),
+                ),
               ),
             ),
           ),

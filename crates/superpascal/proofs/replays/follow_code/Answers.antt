@@ -1,8 +1,8 @@
-use Rattle.std.proofs.Common.{inr, Ok, Err, refl, subst}
+use Rattle.std.proofs.Common.{inr, Ok, Err, refl}
 use Rattle.std.proofs.lemmas.Result.{err_from_is_err_and}
 use Rattle.superpascal.specs.Steps.{ReplaysTo}
 use Rattle.superpascal.proofs.Parts.{at_exit}
-use Rattle.superpascal.proofs.Running.{ending_at, follows_text, ready_held}
+use Rattle.superpascal.proofs.Running.{follows_text, ready_held}
 use Rattle.superpascal.proofs.replays.follow_code.Goals as goal
 
 pub follow-requires-clause-program : goal.follow-requires-clause-program
@@ -21,16 +21,17 @@ returns-in_err-input c = λ program tree has.
     at_exit (λ r. ReplaysTo program c.args.input c.args.limits.now c.args.journal.now r) r _
     (err_from_is_err_and r c.from_residual-in_err-input.ensures.1) (inr refl)
 
-pub returns-in-Ok : goal.returns-in-Ok
-returns-in-Ok c =
-    follows_text c.accepted_programs_are_ready.ensures c.args.code c.args.input 1 c.args.limits.now c.requires.range
-    c.in_ok-code.code.value c.in_ok-input.input.value c.in_ok-code.ensures.ok c.in_ok-input.ensures.ok
-    c.args.journal.now (Ok c.in-Ok.replayed) c.in-Ok.ensures
-
-pub returns-in-Err-Unfit : goal.returns-in-Err-Unfit
-returns-in-Err-Unfit c = λ program tree has.
-    let h = c.in-Err-Unfit in
-    subst (λ x. ReplaysTo program c.args.input c.args.limits.now c.args.journal.now (ending_at (Err x))) h.field-0-is
+pub returns-in_err-replayed : goal.returns-in_err-replayed
+returns-in_err-replayed c = λ program tree has.
+    let r = c.from_residual-in_err-replayed.result in
+    at_exit (λ r. ReplaysTo program c.args.input c.args.limits.now c.args.journal.now r) r _
+    (err_from_is_err_and r c.from_residual-in_err-replayed.ensures.1)
     (follows_text c.accepted_programs_are_ready.ensures c.args.code c.args.input 1 c.args.limits.now c.requires.range
     c.in_ok-code.code.value c.in_ok-input.input.value c.in_ok-code.ensures.ok c.in_ok-input.ensures.ok
-    c.args.journal.now (Err h.field-0) h.ensures program tree has)
+    c.args.journal.now (Err _) c.in_err-replayed.ensures program tree has)
+
+pub returns : goal.returns
+returns c =
+    follows_text c.accepted_programs_are_ready.ensures c.args.code c.args.input 1 c.args.limits.now c.requires.range
+    c.in_ok-code.code.value c.in_ok-input.input.value c.in_ok-code.ensures.ok c.in_ok-input.ensures.ok
+    c.args.journal.now (Ok c.in_ok-replayed.replayed) c.in_ok-replayed.ensures

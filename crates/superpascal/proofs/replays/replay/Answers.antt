@@ -4,81 +4,84 @@ use Rattle.superpascal.specs.Causes.{Files, files_of}
 use Rattle.superpascal.specs.Steps.{AnswersCommand}
 use Rattle.superpascal.specs.Texts.{command_of_replay}
 use Rattle.superpascal.proofs.Parts.{at_exit}
-use Rattle.superpascal.proofs.Replaying.{journal_under, replay_no_input, replay_told, replay_unfit, replay_unread}
-use Rattle.superpascal.proofs.Replaying.{replay_unready}
-use Rattle.superpascal.proofs.Tellable.{replay_ends}
+use Rattle.superpascal.proofs.Replaying.{account_ends, journal_under, replay_no_input, replay_told, replay_unfit}
+use Rattle.superpascal.proofs.Replaying.{replay_unread, replay_unready}
 use Rattle.superpascal.proofs.replays.replay.Goals as goal
 
-pub follow_code-requires-clause-code : goal.follow_code-requires-clause-code
-follow_code-requires-clause-code g c = let h = c.in_ok-code.ensures.prepared in (h.0, h.2, h.3)
+pub account-requires-clause-code : goal.account-requires-clause-code
+account-requires-clause-code g c = let h = c.in_ok-ready.ensures.ready in (h.0, h.2, h.3)
 
-pub follow_code-requires-clause-nameable : goal.follow_code-requires-clause-nameable
-follow_code-requires-clause-nameable g c = c.in_ok-journal.ensures.2.text.nameable
+pub account-requires-clause-nameable : goal.account-requires-clause-nameable
+account-requires-clause-nameable g c = c.in_ok-journal.ensures.2.text.nameable
 
 pub tell_replay-requires : goal.tell_replay-requires
 tell_replay-requires g c =
-    let h = c.in_ok-code.ensures.prepared in
-    record { lines = replay_ends _ _ _ _ c.in_ok-replayed.replayed (c.in_ok-replayed.ensures h.0 h.2 h.3) }
+    let h = c.in_ok-ready.ensures.ready in
+    record {
+      lines = account_ends c.args.asked.now.view _ _ _ _ c.in_ok-account.account
+          (c.in_ok-account.ensures h.0 h.2 c.args.asked.now.view h.3 h.4);
+    }
 
-pub returns-in_err-code : goal.returns-in_err-code
-returns-in_err-code g c = λ reports.
+pub returns-in_err-ready : goal.returns-in_err-ready
+returns-in_err-ready g c = λ reports.
     at_exit (AnswersCommand _ _ reports (command_of_replay c.args.asked.now)) c.from_residual.result _
     (err_from_is_err_and c.from_residual.result c.from_residual.ensures.1)
-    (replay_unready _ _ reports c.args.asked.now (refl, refl) _ c.in_err-code.ensures.prepared)
+    (replay_unready _ _ reports c.args.asked.now (refl, refl) _ c.in_err-ready.ensures.ready)
 
 pub returns-in_err-journal : goal.returns-in_err-journal
 returns-in_err-journal g c = λ reports.
-    let h = c.in_ok-code.ensures.prepared in
+    let h = c.in_ok-ready.ensures.ready in
     let name = c.args.asked.now.journal in
     let f : Files = files_of g.L.Library.held g.L.Library.faults c.args.library.now c.prepare_journal.new.library in
-    let after : Files = files_of g.L.Library.held g.L.Library.faults c.prepare.new.library
+    let after : Files = files_of g.L.Library.held g.L.Library.faults c.ready.new.library
     c.prepare_journal.new.library in
     let r = c.from_residual-in_err-journal.result in
     at_exit (AnswersCommand _ _ reports (command_of_replay c.args.asked.now)) r _
     (err_from_is_err_and r c.from_residual-in_err-journal.ensures.1)
-    (replay_unread _ _ reports c.args.asked.now h.0 h.1 h.2 c.in_ok-code.code h.3 (refl, refl) _
-    (journal_under f after name (c.in_ok-code.ensures.unchanged name) (c.in_ok-code.ensures.counted name) refl (Err _)
+    (replay_unread _ _ reports c.args.asked.now h.0 h.1 h.2 c.in_ok-ready.ready.code h.3 (refl, refl) _
+    (journal_under f after name (c.in_ok-ready.ensures.unchanged name) (c.in_ok-ready.ensures.counted name) refl (Err _)
     c.in_err-journal.ensures))
 
 pub returns-in_err-input : goal.returns-in_err-input
 returns-in_err-input g c = λ reports.
-    let h = c.in_ok-code.ensures.prepared in
+    let h = c.in_ok-ready.ensures.ready in
     let name = c.args.asked.now.journal in
     let f : Files = files_of g.L.Library.held g.L.Library.faults c.args.library.now c.prepare_journal.new.library in
-    let after : Files = files_of g.L.Library.held g.L.Library.faults c.prepare.new.library
+    let after : Files = files_of g.L.Library.held g.L.Library.faults c.ready.new.library
     c.prepare_journal.new.library in
-    let j = journal_under f after name (c.in_ok-code.ensures.unchanged name) (c.in_ok-code.ensures.counted name) refl
+    let j = journal_under f after name (c.in_ok-ready.ensures.unchanged name) (c.in_ok-ready.ensures.counted name) refl
     (Ok c.in_ok-journal.journal) c.in_ok-journal.ensures in
     let r = c.from_residual-in_err-input.result in
     at_exit (AnswersCommand _ _ reports (command_of_replay c.args.asked.now)) r _
     (err_from_is_err_and r c.from_residual-in_err-input.ensures.1)
-    (replay_no_input _ _ reports c.args.asked.now h.0 h.1 h.2 c.in_ok-code.code h.3 j.0 j.1 c.in_ok-journal.journal j.2
-    _ c.in_err-input.ensures)
+    (replay_no_input _ _ reports c.args.asked.now h.0 h.1 h.2 c.in_ok-ready.ready.code h.3 j.0 j.1
+    c.in_ok-journal.journal j.2 _ c.in_err-input.ensures)
 
-pub returns-in_err-replayed : goal.returns-in_err-replayed
-returns-in_err-replayed g c = λ reports.
-    let h = c.in_ok-code.ensures.prepared in
+pub returns-in_err-account : goal.returns-in_err-account
+returns-in_err-account g c = λ reports.
+    let h = c.in_ok-ready.ensures.ready in
     let name = c.args.asked.now.journal in
     let f : Files = files_of g.L.Library.held g.L.Library.faults c.args.library.now c.prepare_journal.new.library in
-    let after : Files = files_of g.L.Library.held g.L.Library.faults c.prepare.new.library
+    let after : Files = files_of g.L.Library.held g.L.Library.faults c.ready.new.library
     c.prepare_journal.new.library in
-    let j = journal_under f after name (c.in_ok-code.ensures.unchanged name) (c.in_ok-code.ensures.counted name) refl
+    let j = journal_under f after name (c.in_ok-ready.ensures.unchanged name) (c.in_ok-ready.ensures.counted name) refl
     (Ok c.in_ok-journal.journal) c.in_ok-journal.ensures in
-    let r = c.from_residual-in_err-replayed.result in
+    let r = c.from_residual-in_err-account.result in
     at_exit (AnswersCommand _ _ reports (command_of_replay c.args.asked.now)) r _
-    (err_from_is_err_and r c.from_residual-in_err-replayed.ensures.1)
-    (replay_unfit _ _ reports c.args.asked.now h.0 h.1 h.2 c.in_ok-code.code h.3 j.0 j.1 c.in_ok-journal.journal j.2
-    c.in_ok-input.input c.in_ok-input.ensures _ (c.in_err-replayed.ensures h.0 h.2 h.3))
+    (err_from_is_err_and r c.from_residual-in_err-account.ensures.1)
+    (replay_unfit _ _ reports c.args.asked.now h.0 h.1 h.2 c.in_ok-ready.ready.code h.3 j.0 j.1
+    c.in_ok-journal.journal j.2 c.in_ok-input.input c.in_ok-input.ensures _
+    (c.in_err-account.ensures h.0 h.2 c.args.asked.now.view h.3 h.4))
 
 pub returns : goal.returns
 returns g c = λ reports.
-    let h = c.in_ok-code.ensures.prepared in
+    let h = c.in_ok-ready.ensures.ready in
     let name = c.args.asked.now.journal in
     let f : Files = files_of g.L.Library.held g.L.Library.faults c.args.library.now c.prepare_journal.new.library in
-    let after : Files = files_of g.L.Library.held g.L.Library.faults c.prepare.new.library
+    let after : Files = files_of g.L.Library.held g.L.Library.faults c.ready.new.library
     c.prepare_journal.new.library in
-    let j = journal_under f after name (c.in_ok-code.ensures.unchanged name) (c.in_ok-code.ensures.counted name) refl
+    let j = journal_under f after name (c.in_ok-ready.ensures.unchanged name) (c.in_ok-ready.ensures.counted name) refl
     (Ok c.in_ok-journal.journal) c.in_ok-journal.ensures in
-    replay_told _ _ reports c.args.asked.now h.0 h.1 h.2 c.in_ok-code.code h.3 j.0 j.1 c.in_ok-journal.journal j.2
-    c.in_ok-input.input c.in_ok-input.ensures c.in_ok-replayed.replayed (c.in_ok-replayed.ensures h.0 h.2 h.3)
-    c.tell_replay.result c.tell_replay.ensures
+    replay_told _ _ reports c.args.asked.now h.0 h.1 h.2 c.in_ok-ready.ready.code h.3 j.0 j.1 c.in_ok-journal.journal
+    j.2 c.in_ok-input.input c.in_ok-input.ensures c.in_ok-account.account
+    (c.in_ok-account.ensures h.0 h.2 c.args.asked.now.view h.3 h.4) c.tell_replay.result c.tell_replay.ensures
