@@ -1,0 +1,5 @@
+use Rattle.promise_rows.proofs.RunRows.{a_run_waits}
+use Rattle.promise_rows.proofs.headline.a_run_waits.Goals as goal
+
+pub returns : goal.returns
+returns c = λ x out notes text o q told held t. a_run_waits o c.one_verdict.ensures.tree text held t q told
