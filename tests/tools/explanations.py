@@ -4,7 +4,7 @@ import re
 
 from cases import EXAMPLES, TOP, copy, read
 
-from superpascal_tools import handbook
+from superpascal_tools import rule_pages
 
 TOLD = {  # the examples that the page tells in words: the text, and the place of the refusal
     "L1": ("program e; begin end." + " " * (1048577 - 21), "1:1"),
@@ -64,7 +64,7 @@ end.
 
 def test(case):
     """All explanations."""
-    names = sorted(handbook.rules_and_faults(), key=lambda it: (it[0] == "F", it[0], int(it[1:])))
+    names = sorted(rule_pages.rules_and_faults(), key=lambda it: (it[0] == "F", it[0], int(it[1:])))
     told = case.each(lambda name: rule(case, name) if name[0] != "F" else fault(case, name), names)
     for name in ("philosophers", "race", "interference"):
         told.append(of(case, ["run", copy(os.path.join(EXAMPLES, name + ".sp"), case.folder), "--workers", "1"]))
@@ -92,14 +92,14 @@ def of(case, words, data=b"", whole=False):
         return said
     said = said[len(notes):]
     for name in re.findall(r"\n  ([A-Z]\d+) is broken", said):
-        said = said.replace("  " + handbook.sentence(name), "  (what the language says of %s)\n" % name)
+        said = said.replace("  " + rule_pages.sentence(name), "  (what the language says of %s)\n" % name)
     said = re.sub(r"(F\d+ comes exactly if) .*", r"\1 (as the language says)\n", said, flags=re.S)
     return "== %s\n%s%s" % (" ".join(words), notes, said)
 
 
 def rule(case, name):
     """The example of a rule."""
-    text, behind = handbook.example(name)
+    text, behind = rule_pages.example(name)
     place = re.search(r"at (\d+:\d+)", behind)
     place = place[1] if place else None
     if name in TOLD:
@@ -114,7 +114,7 @@ def rule(case, name):
 
 def fault(case, name):
     """The example of a fault."""
-    text, behind = handbook.example(name)
+    text, behind = rule_pages.example(name)
     file = os.path.basename(case.file(name + ".sp", text))
     options = re.search(r"with `(--\w+) (\d+)`", behind)
     data = re.search(r"on the input `(.*?)`", behind)

@@ -1,7 +1,6 @@
 """tools/speedup and tools/compare: chains of small journals by hand, tables, plots, and first differences."""
 import os
 import re
-import stat
 import xml.dom.minidom
 
 from cases import EXAMPLES, copy
@@ -35,7 +34,6 @@ def test(case):
     chains(case)
     tables(case)
     differences(case)
-    values(case)
 
 
 def chains(case):
@@ -81,32 +79,22 @@ def differences(case):
     table = [
         (["race.sp", "one.journal", "one.journal"], 0, ["the same: 10 entries of 4 processes"]),
         (["race.sp", "one.journal", "race_other.journal"], 1,
-         ["the first difference: entry 1 of the process 0/0.0", "  2: receive 0#0, met by entry 1 of 0/0.1",
-          "  2: receive 0#0, met by entry 1 of 0/0.2"]),
+         ["the first difference: entry 1 of the process 0/0.0",
+          "  2: receive 0#0 of 1, met by entry 1 of 0/0.1, at 15:7",
+          "  2: receive 0#0 of 2, met by entry 1 of 0/0.2, at 15:7"]),
         (["race.sp", "one.journal", "race_clash.journal"], 1,
-         ["the first difference: entry 1 of the process 0/0.2", "  3: fault F6"]),
+         ["the first difference: entry 1 of the process 0/0.2", "  3: fault F6, at 21:5"]),
         (["race.sp", "other.sp"], 1, ["the first difference: entry 1 of the process 0/0.0",
-                                      "  2: send 0#0, met by nobody", "the outputs differ in line 1", "  12"]),
-        (["two.sp", "three.sp"], 1, ["the outputs differ in line 1", "  1", "  3"]),
+                                      "  2: send 0#0 of 1, met by nobody, at 1:75", "the outputs differ in line 1",
+                                      "  12"]),
+        (["two.sp", "three.sp"], 1, ["the first difference: entry 1 of the process 0/0.0",
+                                     "  2: send 0#0 of 1, met by entry 1 of 0/0.1, at 7:5",
+                                     "  2: send 0#0 of 3, met by entry 1 of 0/0.1, at 7:5",
+                                     "the outputs differ in line 1", "  1", "  3"]),
+        (["two.sp", "one.journal", "one.journal"], 24, []),
         (["torus.sp", "torus.sp"], 0, ["the same: 2341 entries of 915 processes"]),
     ]
     for words, wanted, lines in table:
         status, told, said = case.tool("compare", words)
         missing = [line for line in lines if line not in told.decode().split("\n")]
         case.check(status == wanted and not missing, "compare %s: %d, %s %s" % (words, status, told, said))
-
-
-def values(case):
-    """With a program that has the command `trace`: values are compared, and places shown."""
-    trace = "trace\\n0 5:3 0 open\\n1 6:3 0 fork 2\\n2 7:5 0/0.0 send 0#0 %s\\n3 9:5 0/0.1 receive 0#0 %s\\n" \
-        "4 6:3 0/0.0 end\\n5 6:3 0/0.1 end\\n6 1:9 0 end\\n"
-    script = "#!/bin/sh\n[ \"$1\" != trace ] || { case $* in *three*) printf '%s';; *) printf '%s';; esac; exit 0; }\n" \
-        "exec '%s' \"$@\"\n" % (trace % (3, 3), trace % (1, 1), case.program)
-    path = case.file("program", script)
-    os.chmod(path, os.stat(path).st_mode | stat.S_IXUSR)
-    status, told, said = case.tool("compare", ["--program", path, "two.sp", "three.sp"])
-    wanted = ["the first difference: entry 1 of the process 0/0.0",
-              "  2: send 0#0 of 1, met by entry 1 of 0/0.1, at 7:5",
-              "  2: send 0#0 of 3, met by entry 1 of 0/0.1, at 7:5"]
-    missing = [line for line in wanted if line not in told.decode().split("\n")]
-    case.check(status == 1 and not missing, "values: %d, %s %s" % (status, told.decode(), said))

@@ -41,12 +41,27 @@ def well_formed(case, name, picture):
     case.check(root.find(SVG + "title") is not None and root.find(SVG + "desc") is not None, name + ": no title")
     boxes = []
     for text in root.iter(SVG + "text"):
-        size = {"title": 14, "foot": 11, "name": 10}.get(text.get("class"), 9)
+        size = {"title": 17, "foot": 13}.get(text.get("class"), 12)
         left, base = float(text.get("x")), float(text.get("y"))
         boxes.append((left, base - size * .8, left + len(text.text) * size * LETTER, base + 1, text.text))
     crossed = [(one[4], other[4]) for number, one in enumerate(boxes) for other in boxes[:number]
                if one[0] < other[2] and other[0] < one[2] and one[1] < other[3] and other[1] < one[3]]
     case.check(not crossed, "%s: labels cross: %s" % (name, crossed[:3]))
+    struck = [(text, line) for line in across(root) for *box, text in boxes
+              if box[0] < line[2] and line[0] < box[2] and box[1] < line[1] < box[3]]
+    case.check(not struck, "%s: a label is struck through: %s" % (name, struck[:3]))
+    bars = [it for it in across(root) if it[3] == "fork"]
+    double = [(bar, it) for bar in bars for it in across(root) if it[3] in ("message", "race")
+              and bar[1] == it[1] and bar[0] < it[2] and it[0] < bar[2]]
+    case.check(not double, "%s: a message on the row of a bar: %s" % (name, double[:3]))
+
+
+def across(root):
+    """The lines across: messages, forks, joins, and who waits for whom."""
+    for line in root.iter(SVG + "line"):
+        x, y, right, low = (float(line.get(it)) for it in ("x1", "y1", "x2", "y2"))
+        if y == low and line.get("class") in ("message", "race", "circle", "waits", "fork"):
+            yield min(x, right), y, max(x, right), line.get("class")
 
 
 def same_in_all_forms(case):
@@ -71,7 +86,7 @@ def parts(case):
     case.check(len(names) <= 60 and b"0/0.0/0.*" in names, "folded lanes: %s %s" % (names, said))
     _, picture, _ = case.tool("picture", ["run", "wide.sp", "--workers", "1", "--process", "0/0.0/0.69"])
     names = re.findall(rb'class="name">([^<]*)', picture)
-    case.check(sorted(names) == [b"0/0.0/0.69", b"others"] and b"0#0 70" in picture, "one process: %s" % names)
+    case.check(sorted(names) == [b"0/0.0/0.69", b"others"] and b"c: 70" in picture, "one process: %s" % names)
     for order in ([], ["--order"]):
         _, picture, _ = case.tool("picture", ["run", "wide.sp", "--workers", "1", "--from", "4", "--to", "30"] + order)
         case.check(b"entries 4 to 30 of" in picture and tree.fromstring(picture) is not None, "a part of a run")

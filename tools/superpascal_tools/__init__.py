@@ -1,4 +1,4 @@
-"""What is under the commands tools/explain, tools/picture and tools/schedules.
+"""What is under the commands of tools/
 
-One subject to a module. Nothing here is proved: if it differs from the program, the program is right.
+One subject to a module. Nothing here is proved, and nothing executes a program: what a run did is the program's answer.
 """

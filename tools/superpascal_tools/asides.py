@@ -12,7 +12,7 @@ from typing import Callable, Optional, Sequence
 from .calls import Calls
 from .documents import Dropped, Text
 from .program import BUILT, Answer, Caller
-from .trouble import NO_PROGRAM, Trouble
+from .errors import NO_PROGRAM, ToolError
 
 SECONDS = 30.0
 TRIES = 2
@@ -72,7 +72,7 @@ class Aside(Caller):
             if status is not None and status >= 0:
                 break
         if status is None:
-            raise Trouble(NO_PROGRAM, "the program did not end in %g seconds" % self.seconds)
+            raise ToolError(NO_PROGRAM, "the program did not end in %g seconds" % self.seconds)
         return status, output, notes
 
     def cut(self) -> None:
@@ -102,7 +102,7 @@ class Room:
                 file.write(data)
             return caller([*before, command, "--", path])
         except OSError as error:
-            raise Trouble(NO_PROGRAM, "cannot write %s: %s" % (path, error.strerror)) from None
+            raise ToolError(NO_PROGRAM, "cannot write %s: %s" % (path, error.strerror)) from None
         finally:
             if os.path.exists(path):
                 os.unlink(path)

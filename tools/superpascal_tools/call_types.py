@@ -9,11 +9,13 @@ from .tokens import Place, Token
 
 
 class CallTypes(ExpressionTypes):
-    """Calls of procedures and functions; `actions` has the statements that a function may not have."""
+    """Calls of procedures and functions; `actions` has the statements that a function may not have, `given`
+    the types of arguments by their first tokens."""
 
     def __init__(self, text: str, tokens: list[Token]) -> None:
         super().__init__(text, tokens)
         self.actions: list[tuple[int, str]] = []
+        self.given: dict[int, Optional[Type]] = {}
 
     def arguments(self, each: Callable[[int], Part], has_widths: bool = False) -> list[Part]:
         """The arguments of a call, each read by `each` with its number, which also reads a width if they have one."""
@@ -21,6 +23,7 @@ class CallTypes(ExpressionTypes):
         if self.take("("):
             while True:
                 found.append(each(len(found)))
+                self.given[found[-1].first] = found[-1].kind
                 if not has_widths and self.take(":"):
                     self.tell("N5", found[-1].first, "a width stands only in write and writeln, not after %s" %
                               self.spelled(found[-1].first, found[-1].last))

@@ -8,7 +8,7 @@ import threading
 import time
 from typing import NamedTuple, Optional, Sequence
 
-from .trouble import NO_PROGRAM, Trouble
+from .errors import NO_PROGRAM, ToolError
 
 
 # in KiB of virtual memory: the program takes 1.5 GiB of it for a small run, most of which is never used
@@ -59,7 +59,7 @@ class Calls:
                 process = subprocess.Popen(["sh", "-c", LIMITED, "sh", *words], stdin=subprocess.PIPE,
                                            stdout=subprocess.PIPE, stderr=subprocess.PIPE, start_new_session=True)
             except OSError as error:
-                raise Trouble(NO_PROGRAM, "cannot run %s: %s" % (words[0], error.strerror)) from None
+                raise ToolError(NO_PROGRAM, "cannot run %s: %s" % (words[0], error.strerror)) from None
             self.live.add(process)
             return process
 

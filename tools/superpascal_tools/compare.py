@@ -1,14 +1,13 @@
 """tools/compare: where two runs first did something different."""
 from __future__ import annotations
 
-import os
-import re
-import tempfile
 from typing import NamedTuple, Optional, Sequence
 
-from .journal import Entry, Record, journal_text, partners, read_record
-from .program import Answer, Caller, split_words, take_option
-from .trouble import BAD_WORDS, REFUSED, STATUSES, UNPROVED, Trouble, put_out, read_file, read_input, write_file
+from .errors import BAD_WORDS, REFUSED, STATUSES, UNPROVED, ToolError, put_out, read_file, read_input
+from .followed import Followed, Traced
+from .journal import Entry, Journal, Record, journal_text, partners, read_record
+from .program import Answer, Caller, limit_words, split_words, take_option
+from .tokens import Place
 
 HELP = """usage: tools/compare [--program PROGRAM] FILE RUN RUN [limits of the runs] <INPUT
        tools/compare [--program PROGRAM] FILE OTHER_FILE [OPTIONS of `superpascal run`] <INPUT
@@ -18,11 +17,10 @@ timeline or all, or what `witness` wrote), or one run each of two texts on the s
 
 The order of entries is left to the schedule, so the runs are compared process by process: what each did, and with whom
 its offers met. Of all differences it prints the first in the first run, with what the process did after it in each
-run. If the program has the command `trace`, values of messages are compared too, and places are shown.
+run. Values of messages are compared too, and places shown, as `superpascal trace` tells them.
 The status is 0 if the two are the same, 1 if they differ.
 
 """
-TRACE = re.compile(r"(\d+) (\d+:\d+) (\S+ (?:(?:fork|send|receive|fault) \S+|open|end|laid|pause))(?: (.*))?$")
 SHOWN = 3
 
 
@@ -38,26 +36,23 @@ class Asked(NamedTuple):
     """What the runs have in common: the program, options and the input."""
 
     caller: Caller
-    options: list[str]
+    options: dict[str, str]
     data: bytes
 
     def run(self, file: str) -> Answer:
         """A run of a text with one worker."""
         read_file(file)
-        answer = self.caller(["run", "--show", "timeline", "--workers", "1", *self.options, "--", file], self.data)
+        words = ["run", "--show", "timeline", "--workers", "1", *limit_words(self.options), "--", file]
+        answer = self.caller(words, self.data)
         if answer.status not in (0, 3, 4):
             line = answer.notes.split("\n")[0]
-            raise Trouble(REFUSED if answer.status == 1 else BAD_WORDS, "the program says of %s: %s" % (file, line))
+            raise ToolError(REFUSED if answer.status == 1 else BAD_WORDS, "the program says of %s: %s" % (file, line))
         return answer
 
-    def trace(self, file: str, entries: list[Entry]) -> list[str]:
-        """What the program's command `trace` says of a journal, if it has this command."""
-        with tempfile.TemporaryDirectory() as folder:
-            path = os.path.join(folder, "run.journal")
-            write_file(path, journal_text(entries).encode())
-            answer = self.caller(["trace", *self.options, "--", file, path], self.data)
-        head, *lines = answer.output.decode("utf-8", "replace").split("\n")
-        return lines[:-1] if head == "trace" else []
+    def traced(self, file: str, entries: list[Entry]) -> list[Traced]:
+        """What `trace` says of the entries of a journal."""
+        journal = Journal(journal_text(entries).partition("\n")[2].encode())
+        return list(Followed(self.caller, file, self.options, self.data, journal).lines(0, len(entries) - 1))
 
 
 class Seen(NamedTuple):
@@ -66,7 +61,7 @@ class Seen(NamedTuple):
     title: str
     record: Record
     acts: list[Act]
-    places: list[str]
+    places: list[Place]
     own: dict[str, list[int]]
 
     @property
@@ -93,8 +88,8 @@ def main(given: Sequence[str]) -> int:
     path = take_option(words, "--program")
     asked = split_words(["run"] + words)
     if len(asked.plain) not in (2, 3) or "--show" in asked.options or "--workers" in asked.options:
-        raise Trouble(BAD_WORDS, "wanted are FILE and two journals, or two texts; --help says more")
-    what = Asked(Caller(path), [word for option in asked.options.items() for word in option], read_input())
+        raise ToolError(BAD_WORDS, "wanted are FILE and two journals, or two texts; --help says more")
+    what = Asked(Caller(path), asked.options, read_input())
     outputs = [b"", b""]
     if len(asked.plain) == 3:
         read_file(asked.plain[0])
@@ -114,7 +109,7 @@ def main(given: Sequence[str]) -> int:
 def seen_run(what: Asked, title: str, file: str, record: Record) -> Seen:
     """A run with what is known of its entries."""
     entries = record.entries
-    places, values = traced(what.trace(file, entries), entries)
+    traced = what.traced(file, entries)
     own: dict[str, list[int]] = {}
     number = []
     for at, entry in enumerate(entries):
@@ -126,23 +121,10 @@ def seen_run(what: Asked, title: str, file: str, record: Record) -> Seen:
     for at, entry in enumerate(entries):
         other = met.get(at)
         # (the value of a message stands at its send)
-        value = values.get(at if entry.kind == "send" or other is None else other, "")
+        value = traced[at if entry.kind == "send" or other is None else other].value or ""
         partner = "" if other is None else "entry %d of %s" % (number[other], entries[other].name)
         acts.append(Act(str(entry)[len(entry.name) + 1:], partner, value))
-    return Seen(title, record, acts, places, own)
-
-
-def traced(lines: list[str], entries: list[Entry]) -> tuple[list[str], dict[int, str]]:
-    """The places of the entries and the values of the messages, by the lines of `trace`; none if they do not fit."""
-    found = [TRACE.match(line) for line in lines]
-    places, values = [], {}
-    for at, (line, entry) in enumerate(zip(found, entries)):
-        if line is None or int(line[1]) != at or line[3] != str(entry):
-            break
-        places.append(line[2])
-        if line[4] is not None:
-            values[at] = line[4]
-    return (places, values) if len(places) == len(entries) == len(lines) else ([""] * len(entries), {})
+    return Seen(title, record, acts, [it.place for it in traced], own)
 
 
 def first_difference(one: Seen, other: Seen) -> Optional[Difference]:
@@ -199,11 +181,11 @@ def told(one: Seen, other: Seen, found: Optional[Difference]) -> str:
 
 def act_told(seen: Seen, at: int) -> str:
     """An entry of a run in words."""
-    act, place = seen.acts[at], seen.places[at]
+    act = seen.acts[at]
     words = "%d: %s" % (at, act.did)
     words += " of %s" % act.value if act.value else ""
     words += ", met by %s" % act.met if act.met else ", met by nobody" if act.did[:4] in ("send", "rece") else ""
-    return words + (", at %s" % place if place else "")
+    return "%s, at %d:%d" % ((words,) + seen.places[at])
 
 
 def outputs_told(one: Seen, other: Seen, outputs: Sequence[bytes]) -> str:

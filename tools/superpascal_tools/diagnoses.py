@@ -4,13 +4,13 @@ from __future__ import annotations
 import re
 from typing import Any, NamedTuple, Optional
 
-from . import handbook, refusals
+from . import rule_pages, refusals
 from .asides import Aside, Room
 from .documents import Text
 from .interference import Said
 from .program import Answer
 from .tokens import Place
-from .trouble import NO_PROGRAM, Trouble
+from .errors import NO_PROGRAM, ToolError
 
 ERROR = 1
 REFUSED = re.compile(r"refused (\w+) (\d+):(\d+)\n")
@@ -29,7 +29,7 @@ def refusal(answer: Answer, accepted: str) -> Optional[Refusal]:
     if got:
         return Refusal(got[1], (int(got[2]), int(got[3])))
     if answer.status != 0 or answer.notes != accepted:
-        raise Trouble(NO_PROGRAM, "the program answers with status %d: %s" % (
+        raise ToolError(NO_PROGRAM, "the program answers with status %d: %s" % (
             answer.status, answer.notes.strip()[:200] or "no words"))
     return None
 
@@ -43,7 +43,7 @@ def caused(text: Text, found: Refusal, caller: Aside) -> Said:
     """The cause of a refusal, as tools/explain has it in its first line; the rule's sentence if none is known."""
     try:
         said = refusals.cause(text.data, found.rule, found.place, caller, lambda _: text.outline())
-    except (Trouble, MemoryError, RecursionError, LookupError, ValueError, OSError):
+    except (ToolError, MemoryError, RecursionError, LookupError, ValueError, OSError):
         said = Said("", [])
     return said if said.words else simply(found)
 
@@ -63,5 +63,5 @@ def diagnostic(text: Text, found: Refusal, said: Said) -> dict[str, Any]:
     others = [{"location": {"uri": text.uri, "range": text.refused(place)}, "message": words}
               for place, words in said.others if place != found.place]
     return {"range": text.refused(found.place), "severity": ERROR, "code": found.rule,
-            "codeDescription": {"href": handbook.link(found.rule)}, "source": "superpascal", "message": said.words,
+            "codeDescription": {"href": rule_pages.link(found.rule)}, "source": "superpascal", "message": said.words,
             **({"relatedInformation": others} if others else {})}

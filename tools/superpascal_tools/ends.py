@@ -3,201 +3,209 @@ from __future__ import annotations
 
 from typing import Optional
 
-from . import handbook
+from . import rule_pages
+from .clash import Clash
 from .deadlocks import Deadlock
-from .fault_words import number_at, words_of
-from .following import Met, Run
-from .journal import order_of, racing
-from .kinds import Channel, Frame, shown, shown_cells, variable_name, Array, Record as RecordType
-from .process import Process
-from .source import Source
-from .waiting import waiting
+from .fault_words import FaultWords
+from .followed import Followed
+from .inspector import Inspector
+from .journal import partner_of
+from .states import Process
+from .values import short
 
 VARIABLES = 12
 CALLS = 12
 PROCESSES = 40
+WIDE = 60
 
 
 class Ends:
-    """Tells how a run along a journal ended."""
+    """Tells how a run along a journal ended. `output` is what it wrote."""
 
-    def __init__(self, run: Run, source: Source) -> None:
-        self.run, self.source, self.program = run, source, run.program
+    def __init__(self, run: Followed, output: bytes) -> None:
+        self.run, self.source, self.output = run, run.source, output
 
-    def told(self) -> str:
+    def told(self, race: Optional[tuple[int, int]] = None) -> str:
         """The end, and the race if there is one; nothing for a run that is done and ordered."""
-        end = self.run.end()
-        if end == "fault" and self.run.met is not None:
-            return self.fault(self.run.met)
-        race = self.race()
-        if end == "deadlock":
-            return race + self.deadlock()
-        return race + (self.unended() if end == "no end" else "")
+        state = self.run.inspector.state
+        fault = next(iter(state.those("fault")), None)
+        if fault is not None:
+            return self.fault(fault)
+        said = self.race(race) if race is not None else ""
+        if "\ndeadlock\n" in self.run.notes:
+            return said + self.deadlock()
+        return said + (self.unended() if "\nno end\n" in self.run.notes else "")
 
     # Words for parts.
-    def who(self, process: Process) -> str:
+    def who(self, process: Process, inspector: Optional[Inspector] = None) -> str:
         """A process by its name and the call that it is in."""
-        title = process.title()
-        return "%s%s" % (process.name, " in %s" % title if process.calls else " (%s)" % title if title else "")
-
-    def line_of(self, operation: int) -> int:
-        """The line of an operation."""
-        return self.program.places[operation][0]
+        inspector = inspector or self.run.inspector
+        calls = inspector.stack(process)[0]
+        first = next(iter(calls), None)
+        if first is not None and first.frame.place is not None:
+            return "%s in %s" % (process.name, inspector.call_text(first))
+        if process.name == "0":
+            return "0 (the program)"
+        if first is not None:
+            return "%s (%s)" % (process.name, inspector.call_text(first))
+        return "%s (process statement %d)" % (process.name, int(process.name.rpartition(".")[2]) + 1)
 
     def path(self, process: Process) -> str:
         """The calls that lead to the place of a process."""
-        calls = process.path()
-        lines = ["    called at line %d: %s\n" % (self.line_of(here), call) for call, here in calls[:CALLS]]
+        inspector, lines = self.run.inspector, []
+        calls = [it for it in inspector.chain(process) if it.frame.place is not None]
+        for call in calls[:CALLS]:
+            lines.append("    called at line %d: %s\n" % (call.frame.place[0] if call.frame.place else 0,
+                                                       inspector.call_text(call)))
         if len(calls) > CALLS:
             lines.append("    and %d calls before\n" % (len(calls) - CALLS))
         return "".join(lines)
 
-    def channel(self, channel: Channel, process: Process) -> str:
-        """A channel by the variable that it was opened in, and by what the process calls it here."""
-        first, last = self.program.spelled.get(process.stands, (0, 0))
-        tokens = self.program.tokens[first:last]
-        here = "".join(" %s " % it.word if it.kind == "word" else it.word for it in tokens).replace("  ", " ").strip()
-        names = [channel.opened_as] if channel.opened_as else []
-        if here and here != channel.opened_as and len(here) <= 40:
+    def channel(self, process: Process, inspector: Optional[Inspector] = None) -> str:
+        """The channel at which a process waits, by its variable and by what the process calls it."""
+        inspector = inspector or self.run.inspector
+        given = inspector.arguments(inspector.token_at[process.place])
+        return self.named_channel(process.argument, self.run.outline.spelled(*given[0]) if given else "", inspector)
+
+    def named_channel(self, channel: str, here: str, inspector: Optional[Inspector] = None) -> str:
+        """A channel by its variable, and by what is written for it."""
+        variable = (inspector or self.run.inspector).channel_variable(channel)
+        names = [variable] if variable else []
+        if here and here != variable:
             names.append("here %s" % here)
-        return "%s%s" % (channel.name, " (%s)" % ", ".join(names) if names else "")
+        return "%s%s" % (channel, " (%s)" % ", ".join(names) if names else "")
 
     def variables(self, process: Process) -> str:
         """The variables that the process sees, those of its own call first."""
-        found: list[str] = []
-        frame: Optional[Frame] = process.frame
-        while frame is not None and len(found) < VARIABLES:
-            for declared in frame.block.variables[:VARIABLES]:
-                value, name = None, declared.name
-                kind, home, offset = declared.kind, frame, declared.offset
-                if declared.what == "byvar":
-                    home, offset = frame[offset]
-                    name = "%s (%s)" % (name, variable_name(home, offset, kind))
-                if frame.block.answer == offset and home is frame:
-                    name = "the result"
-                if isinstance(kind, (Array, RecordType)):
-                    value = shown_cells(home[offset:offset + kind.cells], kind, 1)
-                else:
-                    cell = home[offset]
-                    value = cell.name if isinstance(cell, Channel) else shown(cell, kind)
-                found.append("%s = %s" % (name, value))
-            frame = frame.static
-        return "    where %s\n" % ", ".join(found[:VARIABLES]) if found else ""
+        inspector = self.run.inspector
+        call = next((it for it in inspector.chain(process) if it.scope is not None), None)
+        scope, found = call.scope if call is not None else None, {}
+        while scope is not None and len(found) < VARIABLES:
+            for declared in scope.names.values():
+                if declared.what in ("var", "byvar", "index") and declared.name not in found:
+                    value = inspector.value(process, declared)
+                    if value is not None:
+                        found[declared.name] = short(value, WIDE)
+            scope = scope.outer
+        those = ["%s = %s" % it for it in list(found.items())[:VARIABLES]]
+        return rule_pages.wrapped("    where %s" % ", ".join(those), "      ") if those else ""
 
     # A fault.
-    def fault(self, met: Met) -> str:
+    def fault(self, process: Process) -> str:
         """A fault: its cause and line, the calls that lead there and the variables; of a clash both offers."""
-        process, event = met.process, met.event
-        said = self.source.message(self.program.places[process.stands], words_of(self.run, met), met.fault)
-        if met.fault in ("F1", "F3") and self.joins(process):
+        words = FaultWords(self.run, process, self.output)
+        name = process.argument
+        said = self.source.message(process.place, words.told(), name)
+        if name in ("F1", "F3") and words.is_joined():
             said += "  Both sides of and and or are evaluated: put the test that needs the other into an inner if.\n"
-        said += "  %s, %s, in process %s\n" % (met.fault, handbook.fault_name(met.fault), self.who(process))
+        said += "  %s, %s, in process %s\n" % (name, rule_pages.fault_name(name), self.who(process))
         said += self.path(process) + self.variables(process)
-        if met.other is not None and met.other.offer is not None and met.fault in ("F6", "F7"):
-            other = met.other
-            said += "  %s on channel %s: %s.\n" % (event[0], self.channel(event[1], process), self.message(event))
-            said += "  There waits since entry %d process %s with %s: %s.\n" % (
-                other.entry, self.who(other), other.offer[0], self.message(other.offer))
-            said += self.source.named(self.program.places[other.stands], "  ")
-            said += self.path(other)
-        elif met.fault == "F18" and not self.run.data:
+        if words.clash is not None:
+            said += self.offers(process, words.clash)
+        elif name == "F18" and not self.run.data:
             said += "  The input is empty; <FILE after the words gives a file as input.\n"
-        sentence = handbook.fault_sentence(met.fault)
-        return said + handbook.wrapped("  %s comes exactly if %s." % (met.fault, sentence), "    ")
+        sentence = rule_pages.fault_sentence(name)
+        return said + rule_pages.wrapped("  %s comes exactly if %s." % (name, sentence), "    ")
 
-    def joins(self, process: Process) -> bool:
-        """Whether the place of a process is in an expression after an `and` or `or`."""
-        tokens, at = self.program.tokens, number_at(self.run, process)
-        while at > 0 and tokens[at].word not in ("if", "while", "until", "then", "do", ":=", ";", "begin", "else"):
-            if tokens[at].word in ("and", "or"):
-                return True
-            at -= 1
-        return False
-
-    def message(self, event: tuple) -> str:
-        """What an offer sends, or the place of what it receives."""
-        if event[0] == "send":
-            return "the value %s" % shown(event[2], event[3])
-        return "into %s" % variable_name(*event[2], event[3])
+    def offers(self, process: Process, clash: Clash) -> str:
+        """Both offers of a clash."""
+        other = clash.other
+        said = "  %s on channel %s%s.\n" % (
+            clash.kind, self.named_channel(clash.channel, clash.spelled_channel), clash.message(process))
+        if other is None:
+            return said
+        said += "  There waits since entry %d process %s with %s%s.\n" % (
+            self.run.journal.last_of(other.name), self.who(other), other.does, clash.message(other))
+        return said + self.source.named(other.place, "  ") + self.path(other)
 
     # A deadlock.
     def deadlock(self) -> str:
         """Who waits on what and at which line, who could meet it, and the circle."""
-        stuck = sorted(waiting(self.run), key=lambda it: order_of(it.name))
-        told = {process.name: self.waits(process) for process in stuck[:PROCESSES]}
-        briefly = {process.name: self.briefly(process) for process in stuck}
-        places = {process.name: process.stands for process in stuck}
         deadlock = Deadlock(self.run)
-        circle = deadlock.circle()
+        stuck = deadlock.stuck
+        circle = deadlock.told_circle()
         if circle:
             parts = circle if len(circle) <= 9 else circle[:7] + ["..", circle[0]]
-            first, words = circle[0], "a circle of waits, each for the next one: %s" % " -> ".join(parts)
+            first = next((it for it in circle if deadlock.state[it].waits), circle[0])
+            how = "each for the next one" if deadlock.is_certain(circle) else \
+                "in which each could be met by the next one"
+            words = "a circle of waits, %s: %s" % (how, " -> ".join(parts))
         else:
             root = deadlock.root()
-            first, words = root.name, "%s; %s" % (briefly[root.name], deadlock.partner(root)[0])
-        said = self.source.message(self.program.places[places[first]], "deadlock: " + words)
+            first, words = root.name, "%s; %s" % (self.briefly(root), deadlock.partner(root)[0])
+        place = deadlock.state[first].place
+        said = self.source.message(place, "deadlock: " + words)
         said += "  %d process%s, and no other can go on\n" % (len(stuck), " waits" if len(stuck) == 1 else "es wait")
-        order = dict.fromkeys([places[first]] + [places[name] for name in told])
-        for stands in order:
-            said += self.source.named(self.program.places[stands], "  ") if stands != places[first] else ""
-            for name in told:
-                if places[name] == stands:
-                    said += told[name] + self.partner(name, deadlock)
+        for name in [it for it in circle[:-1] if not deadlock.state[it].waits][:PROCESSES]:
+            said += "    %s waits for its children at line %d\n" % (name, deadlock.state[name].place[0])
+        told = stuck[:PROCESSES]
+        for where in dict.fromkeys([place] + [it.place for it in told]):
+            said += self.source.named(where, "  ") if where != place else ""
+            said += "".join(self.waits(it) + self.partner(it, deadlock) for it in told if it.place == where)
         if len(stuck) > PROCESSES:
             said += "  and %d more\n" % (len(stuck) - PROCESSES)
         return said
 
     def briefly(self, process: Process) -> str:
         """A process that waits, in few words."""
-        if process.offer is None:
-            return process.name
-        return "%s waits to %s %s" % (process.name, "send on" if process.offer[0] == "send" else "receive from",
-                                      process.offer[1])
+        variable = self.run.inspector.channel_variable(process.argument)
+        return "%s waits to %s %s%s" % (process.name, "send on" if process.does == "send" else "receive from",
+                                        process.argument, " (%s)" % variable if variable else "")
 
     def waits(self, process: Process) -> str:
         """One process that waits."""
-        offer = process.offer
-        if offer is None:
-            return ""
-        what = "to send %s on" % shown(offer[2], offer[3]) if offer[0] == "send" else \
-            "to receive %s from" % variable_name(*offer[2], offer[3])
-        return "    %s\n      waits %s channel %s, since entry %d\n" % (
-            self.who(process), what, self.channel(offer[1], process), process.entry)
+        return "    %s\n      waits to %s channel %s, since entry %d\n" % (
+            self.who(process), self.purpose(process), self.channel(process), self.run.journal.last_of(process.name))
 
-    def partner(self, name: str, deadlock: Deadlock) -> str:
+    def purpose(self, process: Process) -> str:
+        """What a process that waits would send, or into what it would receive, as it is written."""
+        inspector = self.run.inspector
+        given = inspector.arguments(inspector.token_at[process.place])[1:]
+        what = self.run.outline.spelled(given[0][0], given[-1][1]) if given else "?"
+        if len(given) > 1:
+            what = "one of " + what
+        elif process.does == "send" and given:
+            value = inspector.simple(process, *given[0])
+            what += " (%s)" % short(value, WIDE) if value is not None and value != what else ""
+        return "send %s on" % what if process.does == "send" else "receive %s from" % what
+
+    def partner(self, process: Process, deadlock: Deadlock) -> str:
         """Who could meet a process that waits, and where that one is."""
-        found = deadlock.comers.get(name, [])[:2]
+        found = deadlock.comers.get(process.name, [])[:2]
         if found:
-            return "".join("      could be met by %s at line %d, which waits itself\n" % (who, self.line_of(at))
-                           for who, at in found)
-        said = deadlock.partner(self.run.processes[name])
-        holding = [it for it in deadlock.holding.get(name, []) if it != name][:2]
-        if holding and len(said) == 1 and said[0].startswith("no "):
-            said.append("%s can name the channel and wait%s too" % (" and ".join(holding), "s" * (len(holding) == 1)))
-        return "".join("      %s\n" % it for it in said)
+            return "".join("      could be met by %s at line %d, which waits %s\n" % (
+                it.name, it.place[0], "for its children" if deadlock.state[it.name].does == "join" else "itself")
+                           for it in found)
+        return "".join("      %s\n" % it for it in deadlock.partner(process))
 
     # A race.
-    def race(self) -> str:
+    def race(self, pair: tuple[int, int]) -> str:
         """The two offers that race, and why neither knows of the other."""
-        entries = self.run.entries
-        pair = racing(entries)
-        if pair is None:
-            return ""
         earlier, later = pair
-        channel = self.run.channels[entries[earlier].argument]
+        journal, run = self.run.journal, self.run
+        entries = {at: journal.entry(at) for at in pair}
+        met = partner_of(journal, entries[earlier].argument, earlier)
+        inspector = Inspector(run.outline, run.state(later + 1))
+        traced = {at: run.traced(at) for at in pair}
+        variable = inspector.channel_variable(entries[earlier].argument)
+        channel = "%s%s" % (entries[earlier].argument, " (%s)" % variable if variable else "")
         words = "race: this %s by %s on %s may come before that of %s at %d:%d" % (
-            (entries[later].kind, entries[later].name, channel, entries[earlier].name) + self.run.place(earlier))
-        said = self.source.message(self.run.place(later), words)
+            (entries[later].kind, entries[later].name, channel, entries[earlier].name) + traced[earlier].place)
+        said = self.source.message(traced[later].place, words)
         for at in pair:
-            process = self.run.processes[entries[at].name]
-            what = self.run.messages.get(at)
-            said += "  entry %d, process %s%s\n" % (at, self.who(process), ", the value %s" % what if what else "")
-            said += self.source.named(self.run.place(at), "  ")
+            process = inspector.state.get(entries[at].name)
+            value = traced[at].value
+            if value is None and at == earlier and met is not None:
+                value = run.traced(met).value
+            said += "  entry %d, process %s%s\n" % (
+                at, self.who(process, inspector) if process is not None else entries[at].name,
+                ", the value %s" % value if value else "")
+            said += self.source.named(traced[at].place, "  ")
         one, other = entries[earlier].name, entries[later].name
-        if earlier in self.run.meets:
-            partner = self.run.meets[earlier]
+        if met is not None:
+            partner = journal.entry(met)
             said += "  %s met the %s of %s (entry %d), and %s did not know of it: no message and no join\n" % (
-                one, entries[partner].kind, entries[partner].name, partner, other)
+                one, partner.kind, partner.name, met, other)
             said += "  leads from there to entry %d. So in another schedule %s comes first, or both wait at once,\n" \
                     "  which is F6.\n" % (later, other)
         else:
@@ -206,10 +214,10 @@ class Ends:
 
     def unended(self) -> str:
         """The place at which a journal stops before an end."""
-        going = [it for it in self.run.processes.values() if it.state == 0]
+        going = self.run.inspector.state.those("runs")
         plural = "" if len(going) == 1 else "es"
         words = "the journal stops before an end: %d process%s can go on" % (len(going), plural)
-        said = self.source.message(self.program.places[going[0].stands], words) if going else words + "\n"
+        said = self.source.message(going[0].place, words) if going else words + "\n"
         for process in going[:8]:
-            said += "  %s, after line %d\n" % (self.who(process), self.line_of(process.stands))
+            said += "  %s, at line %d\n" % (self.who(process), process.place[0])
         return said

@@ -15,9 +15,9 @@ import os
 import re
 from typing import NamedTuple
 
-from .following import Limits
-from .handbook import TOP
-from .trouble import BAD_WORDS, Trouble, read_file
+from .program import Limits
+from .rule_pages import TOP
+from .errors import BAD_WORDS, ToolError, read_file
 
 COURSE = os.path.join(TOP, "course")
 FORM = "exercise.txt"
@@ -58,10 +58,10 @@ class Exercise(NamedTuple):
 
 
 def read_exercise(folder: str) -> Exercise:
-    """Reads an exercise; Trouble if the folder is none, or if a line of exercise.txt says nothing that is known."""
+    """Reads an exercise; ToolError if the folder is none, or if a line of exercise.txt says nothing that is known."""
     path = os.path.join(folder, FORM)
     if not os.path.isfile(path):
-        raise Trouble(BAD_WORDS, "%s is not an exercise: it has no file %s" % (folder, FORM))
+        raise ToolError(BAD_WORDS, "%s is not an exercise: it has no file %s" % (folder, FORM))
     found = {"end": "done", "verdict": "ordered", "seconds": "%g" % SECONDS, "processes": "1"}
     limits = dict(LIMITS)
     wrong: dict[str, str] = {}
@@ -76,10 +76,10 @@ def read_exercise(folder: str) -> Exercise:
         elif re.fullmatch(r"wrong_\d+\.sp", name) and value:
             wrong[name] = value.strip()
         else:
-            raise Trouble(BAD_WORDS, "%s:%d: not a line of an exercise: %s" % (path, number, line[:60]))
+            raise ToolError(BAD_WORDS, "%s:%d: not a line of an exercise: %s" % (path, number, line[:60]))
     for name in ("seconds", "processes"):
         if not re.fullmatch(r"\d{1,5}", found[name]):
-            raise Trouble(BAD_WORDS, "%s: %s is not a number" % (path, name))
+            raise ToolError(BAD_WORDS, "%s: %s is not a number" % (path, name))
     return Exercise(folder, found["end"], found["verdict"], float(found["seconds"]), int(found["processes"]), limits,
                     wrong, cases_of(folder))
 
@@ -91,7 +91,7 @@ def cases_of(folder: str) -> list[Case]:
         base = os.path.join(folder, str(len(found) + 1))
         found.append(Case(str(len(found) + 1), read_file(base + ".in"), read_file(base + ".out")))
     if not found:
-        raise Trouble(BAD_WORDS, "%s is not an exercise: it has no file 1.out" % folder)
+        raise ToolError(BAD_WORDS, "%s is not an exercise: it has no file 1.out" % folder)
     return found
 
 
@@ -111,4 +111,4 @@ def find_exercise(name: str) -> Exercise:
     for folder in (name, os.path.join(COURSE, name)):
         if os.path.isdir(folder):
             return read_exercise(folder)
-    raise Trouble(BAD_WORDS, "no exercise is called %s" % name)
+    raise ToolError(BAD_WORDS, "no exercise is called %s" % name)

@@ -7,26 +7,29 @@ import re
 import sys
 from typing import Optional, Sequence
 
-from . import handbook, refusals
+from . import refusals, rule_pages, trace_lines
 from .ends import Ends
-from .following import Run
 from .file_words import bad_code, bad_journal, unfit_journal
-from .journal import Record, read_record
-from .language import Program
-from .program import Answer, Caller, Words, limits_of, split_words, take_option
+from .journal import Journal, journal_in
+from .followed import Followed
+from .program import Answer, Caller, Words, limit_words, split_words, take_option
 from .source import Source
-from .trouble import BAD_WORDS, STATUSES, UNPROVED, Trouble, Unfit, put_out, read_file, read_input, say
+from .errors import BAD_WORDS, STATUSES, UNPROVED, ToolError, put_out, read_file, read_input, say
 
-HELP = """usage: tools/explain [--program PROGRAM] COMMAND ..
+HELP = """usage: tools/explain [--program PROGRAM] [--first] COMMAND ..
   tools/explain run FILE [OPTIONS] <INPUT          as `superpascal run`, and then why it ended so
   tools/explain replay FILE JOURNAL [..] <INPUT    as `superpascal replay`, and then the same of this journal
   tools/explain witness FILE [..] <INPUT           as `superpascal witness`, and then the clash that it shows
+  tools/explain trace [FILTERS] FILE [JOURNAL] [..] <INPUT   the run, or the one of a journal, line by line: place,
+                                                   process with its call, channel by its variable, value. Filters:
+                                                   --process NAME, --channel NAME, --line N or N..N, --from N, --to N
   tools/explain check FILE                         as `superpascal check`, and then why the text is refused; so with
                                                    code, build, sets and format
   tools/explain exec FILE                          as `superpascal exec`, and then why the code file is not accepted
   tools/explain RULE, tools/explain FAULT          what the language says of a rule or a fault, as I1 or F6
 
 The output, the notes and the status of the program stay as they are; what is added goes to standard error after them.
+With --first that is the first line alone: the place and the cause.
 The program is PROGRAM, else the one that SUPERPASCAL names, else ./superpascal of this repository.
 
 """
@@ -38,22 +41,54 @@ def main(given: Sequence[str]) -> int:
     """Explains one call of the program; gives its status."""
     words = list(given)
     path = take_option(words, "--program")
+    is_first = words[:1] == ["--first"]
+    del words[:is_first]
     if words and words[0] in ("--help", "-h", "help"):
         put_out((HELP + UNPROVED + "\n" + STATUSES).encode())
         return 0
     if not words:
-        raise Trouble(BAD_WORDS, "a command is wanted; --help lists them")
+        raise ToolError(BAD_WORDS, "a command is wanted; --help lists them")
     if len(words) == 1 and re.fullmatch(r"[A-Za-z]\d+", words[0]):
-        found = handbook.sentence(words[0].upper())
+        found = rule_pages.sentence(words[0].upper())
         if found is None:
-            raise Trouble(BAD_WORDS, "no rule and no fault is called %s" % words[0])
+            raise ToolError(BAD_WORDS, "no rule and no fault is called %s" % words[0])
         put_out(found.encode())
         return 0
-    return explain(words, Caller(path))
+    if words[0] == "trace":
+        return trace(words, Caller(path))
+    return explain(words, Caller(path), is_first)
 
 
-def explain(words: list[str], caller: Caller) -> int:
-    """The program's own answer, and after it what it means."""
+def trace(words: list[str], caller: Caller) -> int:
+    """A run line by line; the status is that of the run, or of `trace` for a journal."""
+    given = trace_lines.taken(words)
+    asked = split_words(["run"] + words[1:])
+    if len(asked.plain) not in (1, 2):
+        raise ToolError(BAD_WORDS, "trace wants a FILE and perhaps a JOURNAL; --help says more")
+    data = input_of(asked, caller)
+    if len(asked.plain) == 2:
+        answer = caller(["replay", *words[1:]], data)
+        journal = journal_in(read_file(asked.plain[1]))[1]
+        if not answer.notes.startswith("replayed"):
+            say(answer.notes)
+            say(meaning(asked._replace(command="replay"), answer, "", data, caller))
+            return answer.status
+    else:
+        answer = caller(["run", "--show", "timeline", *words[1:]], data)
+        if answer.status not in (0, 3, 4):
+            say(answer.notes)
+            say(meaning(asked, answer, "", data, caller))
+            return answer.status
+        journal = journal_in(answer.notes.encode())[1]
+    wanted = trace_lines.filters_of(given, journal.count)
+    run = Followed(caller, asked.plain[0], asked.options, data, journal)
+    trace_lines.show(trace_lines.TraceLines(run).chosen(wanted))
+    say(answer.notes.partition("\ntimeline\n")[0].rstrip("\n") + "\n")
+    return answer.status
+
+
+def explain(words: list[str], caller: Caller, is_first: bool) -> int:
+    """The program's own answer, and after it what it means, or the first line of that."""
     asked = split_words(words)
     data = input_of(asked, caller)
     show, told = shown_as(words, asked)
@@ -65,9 +100,10 @@ def explain(words: list[str], caller: Caller) -> int:
     put_out(answer.output)
     say(answer.notes)
     try:
-        say(meaning(asked, answer, timeline, data, caller))
-    except Trouble as trouble:
-        say("explain: %s\n" % trouble)
+        said = meaning(asked, answer, timeline, data, caller)
+        say(said.partition("\n")[0] + "\n" if is_first and said else said)
+    except ToolError as error:
+        say("explain: %s\n" % error)
     return answer.status
 
 
@@ -100,7 +136,7 @@ def shown_as(words: list[str], asked: Words) -> tuple[Optional[str], list[str]]:
 
 
 def as_asked(notes: str, show: str) -> str:
-    """The notes as the program would have written them; these have the timeline, and all reports if one is asked for."""
+    """The notes as the program would have written them; these have the timeline, and all reports if one is wanted."""
     if show in ("timeline", "all"):
         return notes
     head, _, rest = notes.partition("\ntimeline\n")
@@ -122,28 +158,28 @@ def meaning(asked: Words, answer: Answer, timeline: str, data: bytes, caller: Ca
         place = (int(got[2]), int(got[3]))
         return refusals.explained(Source(asked.plain[0], text), text, got[1], place, caller)
     if notes == "bad words\n":
-        return bad_words(asked) + handbook.usage()
+        return bad_words(asked) + rule_pages.usage()
     if notes == "read fault\n":
         missing = ["  no file: %s\n" % it for it in asked.plain if not os.path.isfile(it)]
         return "".join(missing) or "  a file or the input cannot be read\n"
     if asked.command == "run" and timeline:
         return run_told(asked, answer, timeline, data, caller)
     if asked.command == "witness" and answer.status in (0, 3, 4) and answer.output:
-        return followed(asked, read_record(answer.output.decode("latin1")), data, None)
+        return followed(asked, journal_in(answer.output)[1], data, b"", caller)
     if asked.command == "replay" and len(asked.plain) == 2:
-        return replay_told(asked, answer, data)
+        return replay_told(asked, answer, data, caller)
     if asked.command == "exec" and answer.status == 10 and asked.plain:
         said = bad_code(asked.plain[0], read_file(asked.plain[0]), notes)
         if said:
             return said
-    found = handbook.status_sentence(notes.rstrip("\n")) if answer.status > 4 else None
+    found = rule_pages.status_sentence(notes.rstrip("\n")) if answer.status > 4 else None
     return "  %s\n" % found if found else ""
 
 
 def bad_words(asked: Words) -> str:
     """What may be wrong with the words."""
-    commands = re.findall(r"^  ([a-z]+) [A-Z]", handbook.usage(), re.M)
-    options = re.findall(r"^  --([a-z]+) ", handbook.usage(), re.M)
+    commands = re.findall(r"^  ([a-z]+) [A-Z]", rule_pages.usage(), re.M)
+    options = re.findall(r"^  --([a-z]+) ", rule_pages.usage(), re.M)
     if asked.command not in commands:
         near = difflib.get_close_matches(asked.command, commands, 1)
         return "  no command: %s%s\n" % (asked.command, "; near: " + near[0] if near else "")
@@ -159,15 +195,13 @@ def bad_words(asked: Words) -> str:
 
 def run_told(asked: Words, answer: Answer, timeline: str, data: bytes, caller: Caller) -> str:
     """The end of a run, and its race with the schedule in which it comes to a clash."""
-    verdict = timeline.partition("\ntimeline\n")[0].rpartition("\n")[2]
-    if answer.status == 0 and not verdict.startswith("race"):
+    head, journal = journal_in(timeline.encode())
+    race = re.fullmatch(r"race \w+ \S+ (\d+) (\d+)", head[-1] if head else "")
+    if answer.status == 0 and race is None:
         return ""
-    said = followed(asked, read_record(timeline), data, answer.output)
-    if verdict.startswith("race"):
-        words = ["witness", "--workers", "1"]
-        for name, value in asked.options.items():
-            if name not in ("--show", "--workers"):
-                words += [name, value]
+    said = followed(asked, journal, data, answer.output, caller, (int(race[1]), int(race[2])) if race else None)
+    if race is not None:
+        words = ["witness", "--workers", "1", *limit_words(asked.options)]
         found = caller(words + ["--", asked.plain[0]], data)
         if found.output:
             count = found.output.count(b"\n") - 1
@@ -177,26 +211,43 @@ def run_told(asked: Words, answer: Answer, timeline: str, data: bytes, caller: C
     return said
 
 
-def followed(asked: Words, record: Record, data: bytes, output: Optional[bytes]) -> str:
+def followed(asked: Words, journal: Journal, data: bytes, output: bytes, caller: Caller,
+             race: Optional[tuple[int, int]] = None) -> str:
     """How a journal ends, in words."""
-    text = read_file(asked.plain[0])
-    run = Run(Program(text.decode("latin1")), data, limits_of(asked.options))
-    run.follow(record.entries)
-    if output is not None and bytes(run.output) != output:
-        raise Unfit(len(record.entries), "the output is another one")
-    return Ends(run, Source(asked.plain[0], text)).told()
+    return Ends(Followed(caller, asked.plain[0], asked.options, data, journal), output).told(race)
 
 
-def replay_told(asked: Words, answer: Answer, data: bytes) -> str:
+def replay_told(asked: Words, answer: Answer, data: bytes, caller: Caller) -> str:
     """A journal that is followed, or why it is not."""
     text = read_file(asked.plain[1])
     got = re.match(r"bad journal (\d+)\n", answer.notes)
     if got:
         return bad_journal(asked.plain[1], text, int(got[1]))
-    if answer.notes.startswith(("replayed", "journal unfit")):
-        try:
-            return followed(asked, read_record(text.decode("latin1")), data, None)
-        except Unfit as unfit:
-            return unfit_journal(asked.plain[1], text, unfit)
-    found = handbook.status_sentence(answer.notes.rstrip("\n"))
+    journal = journal_in(text)[1]
+    if answer.notes.startswith("replayed"):
+        return followed(asked, journal, data, answer.output, caller)
+    got = re.match(r"journal unfit (\d+)\n", answer.notes)
+    if got:
+        run = Followed(caller, asked.plain[0], asked.options, data, journal)
+        return unfit_journal(asked.plain[1], text, int(got[1]), instead(run, int(got[1])))
+    found = rule_pages.status_sentence(answer.notes.rstrip("\n"))
     return "  %s\n" % found if found else ""
+
+
+def instead(run: Followed, at: int) -> str:
+    """Why an entry does not fit: what its process does there instead."""
+    entry, state = run.journal.entry(at), run.state(at)
+    process = state.get(entry.name)
+    if process is None:
+        is_known = run.journal.last_of(entry.name) < at and any(
+            run.journal.entry(it).name == entry.name for it in range(at))
+        why = "%s has ended" % entry.name if is_known else "there is no process %s that has not ended" % entry.name
+    elif process.does == "join":
+        why = "%s waits for its children at %d:%d" % ((entry.name,) + process.place)
+    elif process.waits:
+        why = "%s waits at %d:%d to %s on %s" % ((entry.name,) + process.place + (process.does, process.argument))
+    elif process.does.startswith("runs"):
+        why = "%s goes on at %d:%d to something else" % ((entry.name,) + process.place)
+    else:
+        why = "%s was stopped by a fault" % entry.name
+    return "%s, and %s" % (entry, why)

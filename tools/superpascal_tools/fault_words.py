@@ -1,125 +1,260 @@
-"""A fault in words: what was wrong with which value, which limit was met and what used it up, and the other offer."""
+"""A fault in words: its cause, by the place and the variables that `where` shows.
+
+Nothing is evaluated: an expression is named by its text and by the values of the variables in it.
+"""
 from __future__ import annotations
 
-from bisect import bisect_left
-from typing import Any, Optional
+from typing import Optional
 
-from . import handbook
-from .following import Met, Run
-from .kinds import Array, Frame, Ordinal, Record, shown, variable_name
-from .process import Process
+from . import rule_pages
+from .clash import Clash
+from .followed import Followed
+from .input_words import no_number
+from .inspector import Range
+from .scopes import Scope, Type
+from .states import Process
+from .values import short
 
 OPTIONS = {"F10": "ticks", "F11": "depth", "F12": "cells", "F13": "processes", "F14": "channels", "F15": "entries",
            "F16": "output"}
-STOPS = (";", "end", "until", "else", "|")
+STOPS = frozenset((";", ")", "]", ",", ":", "|", "then", "do", "to", "downto", "of", "end", "else", "until"))
+RELATIONS = frozenset(("=", "<>", "<", "<=", ">", ">=", "and", "or"))
+BEGINS = ("if", "while", "until", "then", "do", ":=", ";", "begin", "else", "of", "to", "downto", "assume")
+MOST = 6
+WIDE = 60
 
 
-def words_of(run: Run, met: Met) -> str:
-    """The cause of a fault in one line."""
-    process = met.process
-    if met.fault in OPTIONS:
-        words = limit(run, met)
-    elif met.fault == "F8":
-        words = "this assumption is false%s" % values(run, process)
-    elif met.fault in ("F6", "F7") and met.other is not None:
-        words = clash(run, met, met.other)
-    else:
-        words = process.cause or handbook.fault_name(met.fault)
-    return words if process.name == "0" or met.fault in ("F6", "F7") else "%s, in process %s" % (words, process.name)
+class FaultWords:
+    """The words for a fault of a process. `clash` has both offers of F6 and F7."""
 
+    def __init__(self, run: Followed, process: Process, output: bytes) -> None:
+        self.run, self.process, self.output, self.outline = run, process, output, run.outline
+        self.tokens, self.inspector = run.outline.tokens, run.inspector
+        self.at = self.inspector.token_at[process.place]
+        self.fault = process.argument
+        self.kind = self.tokens[self.at].word
+        self.clash = Clash(run, process) if self.fault in ("F6", "F7") else None
 
-def limit(run: Run, met: Met) -> str:
-    """The limit that is met, its option, and what uses it up."""
-    process, name = met.process, OPTIONS[met.fault]
-    most = getattr(run.limits, name)
-    here = word_at(run, process)
-    if met.fault == "F10":
-        said = "out of ticks: the process has made %d turns of loops and calls, and %s needs one more" % (most, here)
-    elif met.fault == "F11":
-        block = process.calls[-1][0] if process.calls else None
-        count = sum(it[0] is block for it in process.calls)
-        deepest = ", %d of them of %s" % (count, block.name) if block else ""
-        said = "%d calls have not returned%s, and %s needs one more" % (most, deepest, here)
-    elif met.fault == "F12" and process.cells > most:
-        said = "the variables of the program have %d cells" % process.cells
-    elif met.fault == "F12":
-        said = "the calls of the process have %d cells, and %s needs more" % (process.cells, here)
-    elif met.fault == "F13":
-        said = "the run has had %s, and this fork begins %d more" % (
-            counted(len(run.processes), "process", "processes"), met.event[1])
-    elif met.fault == "F14":
-        said = "the run has opened %s, and this is one more" % counted(len(run.channels), "channel", "channels")
-    elif met.fault == "F15":
-        said = "the journal has %s, and this is one more" % counted(run.counted, "entry", "entries")
-    else:
-        said = "the output has %s, and this would be too much" % counted(len(run.output), "byte", "bytes")
-    return "%s (limit: --%s %d)" % (said, name, most)
+    def told(self) -> str:
+        """The cause in one line."""
+        words = self.limit() if self.fault in OPTIONS else self.cause()
+        name = self.process.name
+        return words if name == "0" or self.fault in ("F6", "F7") else "%s, in process %s" % (words, name)
+
+    def cause(self) -> str:
+        """The cause, but of a limit."""
+        works = {"F1": self.range, "F2": self.overflow, "F3": self.divisor, "F4": self.undefined, "F5": self.undefined,
+                 "F8": self.assumption, "F9": self.selector, "F17": self.number,
+                 "F18": self.past_end}
+        if self.clash is not None:
+            return self.clash.told()
+        return works[self.fault]() if self.fault in works else rule_pages.fault_name(self.fault)
+
+    # Parts of the text.
+    def expression(self, at: int, stops: frozenset[str] = STOPS) -> Range:
+        """The tokens of the expression that begins at a token."""
+        first, deep = at, 0
+        while self.tokens[at].kind != "end":
+            token = self.tokens[at]
+            word = token.word if token.kind in ("word", "sign") else ""
+            if deep == 0 and word in stops:
+                break
+            deep += (word in ("(", "[")) - (word in (")", "]"))
+            at += 1
+        return first, at
+
+    def spelled(self, part: Range) -> str:
+        """Tokens as they are written."""
+        return self.outline.spelled(*part)
+
+    def values(self, part: Range) -> str:
+        """The values of the variables in these tokens, as `: i is 5`."""
+        found: dict[str, str] = {}
+        for at in range(*part):
+            variable = self.inspector.variable(self.process, at)
+            if variable is not None and len(found) < MOST:
+                value = variable.value
+                if isinstance(value, str) and variable.spelled not in found:
+                    found[variable.spelled] = short(self.inspector.shown(value), WIDE)
+        return ": " + ", ".join("%s is %s" % it for it in found.items()) if found else ""
+
+    def is_joined(self) -> bool:
+        """Whether the place is in an expression after an `and` or `or`."""
+        at = self.at
+        while at > 0 and self.tokens[at].word not in BEGINS:
+            if self.tokens[at].word in ("and", "or"):
+                return True
+            at -= 1
+        return False
+
+    def function_at(self, at: int) -> str:
+        """The standard function of this name, if it is one."""
+        declared = self.outline.named.get(at)
+        return declared.name if declared is not None and declared.what == "standard" else ""
+
+    # Causes.
+    def range(self) -> str:
+        """F1: an index and its bounds, a value without a next one, a number that is no char, a width."""
+        part = self.expression(self.at)
+        array = self.array_of(self.at)
+        function = self.function_at(self.at)
+        if function in ("write", "writeln"):
+            return "a width here is below 1%s" % self.values(self.statement())
+        if function in ("chr", "succ", "pred") and (array is None or self.tokens[self.at + 1].word != "("):
+            array = None
+        if array is None and function == "chr":
+            (given,) = self.inspector.arguments(self.at)
+            return "chr(%s) is outside 0..255%s" % (self.spelled(given), self.values(given))
+        if array is None:
+            (given,) = self.inspector.arguments(self.at)
+            return "%s(%s) is no value of its type%s" % (function, self.spelled(given), self.values(given))
+        name, kind = array
+        low, high = kind.limits if kind is not None else ("?", "?")
+        value = self.inspector.simple(self.process, *part)
+        index = self.spelled(part)
+        known = " = %s" % value if value is not None and value != index else ""
+        return "index %s%s is outside the bounds %s..%s of %s%s" % (
+            index, known, low, high, name, "" if value is not None else self.values(part))
+
+    def array_of(self, at: int) -> Optional[tuple[str, Optional[Type]]]:
+        """The array of which an index begins at this token, and its type."""
+        deep, commas, at = 0, 0, at - 1
+        if self.tokens[at].word not in ("[", ",") or self.tokens[at].kind != "sign":
+            return None
+        while deep or self.tokens[at].word != "[":
+            word = self.tokens[at].word if self.tokens[at].kind == "sign" else ""
+            if word == "(" and not deep:
+                return None
+            deep += (word in (")", "]")) - (word in ("(", "["))
+            commas += word == "," and not deep
+            at -= 1
+        stop = at
+        first = at - 1
+        deep = 0
+        while True:
+            word = self.tokens[first].word if self.tokens[first].kind == "sign" else ""
+            deep += (word == "]") - (word == "[")
+            if not deep and self.tokens[first].kind == "name" and self.tokens[first - 1].word != ".":
+                break
+            first -= 1
+        declared = self.outline.named.get(first)
+        kind = declared.kind if declared is not None else None
+        inner = first + 1
+        while inner < stop and kind is not None:
+            if self.tokens[inner].word == ".":
+                kind = kind.fields[self.tokens[inner + 1].word].kind
+                inner += 2
+                continue
+            parts = self.inspector.parts_in(inner)
+            for _ in parts:
+                kind = kind.element if kind is not None else None
+            inner = parts[-1][1] + 1
+        for _ in range(commas):
+            kind = kind.element if kind is not None else None
+        return self.spelled((first, stop)), kind
+
+    def statement(self) -> Range:
+        """The tokens of a call of a standard procedure whose name is at the place."""
+        given = self.inspector.arguments(self.at)
+        return (given[0][0], given[-1][1]) if given else (self.at, self.at + 1)
+
+    def overflow(self) -> str:
+        """F2: the operation, if there is one alone, and its operands."""
+        if self.function_at(self.at) in ("read", "readln"):
+            return "the number that is read is outside -maxint..maxint"
+        part = self.expression(self.at, STOPS | RELATIONS)
+        count = sum(self.tokens[at].word in ("+", "-", "*", "div", "sqr") for at in range(*part))
+        return "%s%s is outside -maxint..maxint%s" % (
+            "" if count == 1 else "a part of ", self.spelled(part), self.values(part))
+
+    def divisor(self) -> str:
+        """F3: the divisor."""
+        part = self.expression(self.at, STOPS | RELATIONS)
+        places = [at for at in range(*part) if self.tokens[at].word in ("div", "mod")]
+        words = {self.tokens[at].word for at in places}
+        what = "not above 0" if words == {"mod"} else "0" if words == {"div"} else "0 (of mod: not above 0)"
+        one = "the divisor" if len(places) == 1 else "a divisor"
+        return "%s is %s in %s%s" % (one, what, self.spelled(part), self.values(part))
+
+    def undefined(self) -> str:
+        """F4 and F5: which variable or component has no value."""
+        variable = self.inspector.variable(self.process, self.at)
+        callee = next((it for it in self.outline.blocks if it.place == self.process.place), None)
+        if callee is not None:
+            return "the function %s ends without a result" % callee.name
+        if variable is None:
+            return "the variable of this for has no value" if self.kind == "for" else rule_pages.fault_name(self.fault)
+        more = ": no channel was opened in it or assigned to it" if self.fault == "F5" else ""
+        return "%s has no value%s%s" % (variable.spelled, more, self.values((self.at + 1, variable.last)))
+
+    def assumption(self) -> str:
+        """F8: the values in the condition."""
+        return "this assumption is false%s" % self.values(self.expression(self.at + 1))
+
+    def selector(self) -> str:
+        """F9: the selector."""
+        part = self.expression(self.at + 1)
+        value = self.inspector.simple(self.process, *part)
+        known = " = %s" % value if value is not None and value != self.spelled(part) else ""
+        return "the selector is %s%s, and no constant of this case is%s" % (
+            self.spelled(part), known, "" if value is not None else self.values(part))
+
+    def number(self) -> str:
+        """F17: what stands in the input instead of an integer."""
+        return no_number(self.inspector, self.run.data) or "no integer comes next in the input"
+
+    def past_end(self) -> str:
+        """F18: what would be read."""
+        given = self.inspector.arguments(self.at)
+        kinds = {it.kind.name for it in (self.inspector.variable(self.process, first) for first, _ in given)
+                 if it is not None and it.kind is not None}
+        return "the input is at its end: no %s is left to read" % " or ".join(sorted(kinds))
+
+    # Limits.
+    def limit(self) -> str:
+        """The limit that is met, its option, and what uses it up."""
+        name = OPTIONS[self.fault]
+        most = getattr(self.run.limits, name)
+        here = "this %s" % self.kind if self.tokens[self.at].kind == "word" else self.kind
+        counts = self.run.journal.counts()
+        if self.fault == "F10":
+            said = "out of ticks: the process has made %d turns of loops and calls, and %s needs one more" % (
+                most, here)
+        elif self.fault == "F11":
+            said = "%s, and %s needs one more" % (self.deepest(most), here)
+        elif self.fault == "F12" and self.run.journal.count == 1 and self.process.name == "0":
+            said = "the variables of the program, or of its calls, have more cells than that"
+        elif self.fault == "F12":
+            said = "the calls of the process have no cells left, and %s needs more" % here
+        elif self.fault == "F13":
+            parts = dict(self.outline.parallels).get(self.process.place)
+            said = "the run has had %s, and this %s begins %s%s" % (
+                counted(counts["children"] + 1, "process", "processes"), self.kind,
+                "%d more" % len(parts) if parts is not None else "too many more", self.nested())
+        elif self.fault == "F14":
+            said = "the run has opened %s, and this is one more" % counted(counts["open"], "channel", "channels")
+        elif self.fault == "F15":
+            made = self.run.journal.count - 1 - counts["end"] - counts["pause"]
+            said = "the journal has %s, and this is one more" % counted(made, "entry", "entries")
+        else:
+            said = "the output has %s, and this would be too much" % counted(len(self.output), "byte", "bytes")
+        return "%s (limit: --%s %d)" % (said, name, most)
+
+    def deepest(self, most: int) -> str:
+        """The calls that have not returned, and those of the innermost block."""
+        calls = [it for it in self.inspector.stack(self.process)[0] if it.frame.place is not None]
+        block: Optional[Scope] = calls[0].scope if calls else None
+        count = sum(it.scope is block for it in calls)
+        return "%d calls and forks have not ended%s" % (most, ", %d of them calls of %s" % (
+            count, block.name) if block is not None else "")
+
+    def nested(self) -> str:
+        """How often the block of a fork stands among the calls that lead there, if it calls itself."""
+        scopes = [it.scope for it in self.inspector.chain(self.process) if it.frame.place is not None]
+        count = sum(it is scopes[0] for it in scopes) if scopes else 0
+        return "; %s is in itself %d times" % (scopes[0].name, count) if count > 1 and scopes[0] is not None else ""
 
 
 def counted(count: int, one: str, more: str) -> str:
     """A number of things."""
     return "%d %s" % (count, one if count == 1 else more)
-
-
-def word_at(run: Run, process: Process) -> str:
-    """The word or the name at which a process stands."""
-    token = run.program.tokens[number_at(run, process)]
-    return "this %s" % token.word if token.kind == "word" else token.word
-
-
-def number_at(run: Run, process: Process) -> int:
-    """The token at which a process stands."""
-    return bisect_left(run.program.tokens, run.program.places[process.stands], key=lambda it: it.place)
-
-
-def values(run: Run, process: Process) -> str:
-    """The values of the variables in the expression after the word at which a process stands."""
-    tokens, at, found = run.program.tokens, number_at(run, process) + 1, {}
-    while tokens[at].kind != "end" and tokens[at].word not in STOPS and len(found) < 6:
-        if tokens[at].kind == "name" and tokens[at - 1].word != ".":
-            value = value_of(process, tokens[at].word)
-            if value is not None:
-                found[tokens[at].word] = value
-        at += 1
-    return ": " + ", ".join("%s is %s" % it for it in found.items()) if found else ""
-
-
-def value_of(process: Process, name: str) -> Optional[str]:
-    """The value of an ordinal variable that a process sees by this name."""
-    frame: Optional[Frame] = process.frame
-    while frame is not None:
-        declared = frame.block.names.get(name)
-        if declared is not None:
-            if declared.what not in ("var", "byvar") or not isinstance(declared.kind, Ordinal):
-                return None
-            home, offset = frame[declared.offset] if declared.what == "byvar" else (frame, declared.offset)
-            return shown(home[offset], declared.kind)
-        frame = frame.static
-    return None
-
-
-def clash(run: Run, met: Met, other: Process) -> str:
-    """F6 and F7: both offers."""
-    kind, channel = met.event[0], met.event[1]
-    line, column = run.program.places[other.stands]
-    if met.fault == "F7" and other.offer is not None:
-        return "%s on %s: %s %s, and %s, which waits at %d:%d, %s" % (
-            ("message types differ", channel, met.process.name, typed(met.event), other.name, line, column,
-             typed(other.offer)))
-    return "two %ss on %s: %s comes with one while %s waits with one at %d:%d" % (
-        kind, channel, met.process.name, other.name, line, column)
-
-
-def typed(event: tuple) -> str:
-    """An offer with the type of its message."""
-    kind = kind_name(event[3])
-    if event[0] == "send":
-        return "sends %s (%s)" % (kind, shown(event[2], event[3]))
-    return "receives %s (%s)" % (kind, variable_name(*event[2], event[3]))
-
-
-def kind_name(kind: Any) -> str:
-    """A type in words."""
-    if isinstance(kind, Ordinal):
-        return ("an " if kind.name[0] in "aeio" else "a ") + kind.name
-    return "an array" if isinstance(kind, Array) else "a record" if isinstance(kind, Record) else "a channel"

@@ -4,10 +4,9 @@ from __future__ import annotations
 import re
 from typing import Optional
 
-from . import handbook
+from . import rule_pages
 from .journal import entry_of
 from .source import Source
-from .trouble import Unfit
 
 CODE = "superpascal code 1"
 JOURNAL = "superpascal journal 2"
@@ -25,11 +24,10 @@ def bad_journal(file: str, text: bytes, number: int) -> str:
     return Source(file, text).message((number, 1), why, "bad journal")
 
 
-def unfit_journal(file: str, text: bytes, unfit: Unfit) -> str:
+def unfit_journal(file: str, text: bytes, index: int, why: str) -> str:
     """A journal that does not fit: its entry, whose line is the one after the first that has no entries."""
-    at = text.decode("latin1").split("\n").index(JOURNAL) + 2 + unfit.index if JOURNAL.encode() in text else 1
-    return Source(file, text).message((at, 1), "entry %d does not fit this text and input: %s" % (
-        unfit.index, unfit.why), "journal unfit")
+    return Source(file, text).message((index + 2, 1), "entry %d does not fit this text and input: %s" % (index, why),
+                                      "journal unfit")
 
 
 def bad_code(file: str, text: bytes, notes: str) -> Optional[str]:
@@ -46,10 +44,10 @@ def bad_code(file: str, text: bytes, notes: str) -> Optional[str]:
         return None
     number = next((at for at, line in enumerate(lines, 1) if line.startswith(got[2] + " ")), 1)
     instruction = lines[number - 1].partition(" ")[2] or "the code"
-    row = handbook.code_rule(got[1])
+    row = rule_pages.code_rule(got[1])
     words = "instruction %s, %s, breaks a rule of code" % (got[2], instruction[:60])
     said = source.message((number, 1), words, got[1])
-    return said + handbook.wrapped("  %s is broken if %s." % (got[1], row), "    ") if row else said
+    return said + rule_pages.wrapped("  %s is broken if %s." % (got[1], row), "    ") if row else said
 
 
 def spelling(lines: list[str], number: int, line: str, cut: bool) -> str:
@@ -63,7 +61,7 @@ def spelling(lines: list[str], number: int, line: str, cut: bool) -> str:
     due = len(before)
     if got and int(got[1]) != due:
         return "this instruction has the number %s, and %d is due" % (got[1], due)
-    if got and got[2] not in handbook.instructions():
+    if got and got[2] not in rule_pages.instructions():
         return "%s is not an instruction" % got[2]
     if got:
         return "the numbers or words after %s are not those of this instruction" % got[2]

@@ -11,7 +11,7 @@ from .exercise import Exercise, find_exercise
 from .grade_pages import as_csv, page, table
 from .grading import RESULTS, Grade, graded
 from .program import Caller, take_option
-from .trouble import BAD_WORDS, NO_FILE, STATUSES, STOPPED, Trouble, put_out, say, write_file
+from .errors import BAD_WORDS, NO_FILE, STATUSES, STOPPED, ToolError, put_out, say, write_file
 
 HELP = """usage: tools/grade [--program PROGRAM] [--to FOLDER] [--jobs N] EXERCISE HAND-INS
 
@@ -48,7 +48,7 @@ def main(given: Sequence[str]) -> int:
     try:
         os.makedirs(asked.to, exist_ok=True)
     except OSError as error:
-        raise Trouble(NO_FILE, "cannot make %s: %s" % (asked.to, error.strerror)) from None
+        raise ToolError(NO_FILE, "cannot make %s: %s" % (asked.to, error.strerror)) from None
     grades, left = grade_all(asked, paths)
     put_out(table(asked.exercise, grades).encode("utf-8", "backslashreplace"))
     say("grade: %d of %d graded; pages and grades.csv are in %s\n" % (len(grades), len(paths), asked.to))
@@ -56,7 +56,7 @@ def main(given: Sequence[str]) -> int:
 
 
 def read_words(words: list[str]) -> Asked:
-    """Takes the words apart; Trouble if they ask for nothing that the tool does."""
+    """Takes the words apart; ToolError if they ask for nothing that the tool does."""
     options: dict[str, Optional[str]] = {}
     plain: list[str] = []
     while words:
@@ -66,13 +66,13 @@ def read_words(words: list[str]) -> Asked:
         else:
             plain.append(words.pop(0))
     if len(plain) != 2 or plain[0].startswith("-"):
-        raise Trouble(BAD_WORDS, "wanted are EXERCISE and a folder of hand-ins; --help says more")
+        raise ToolError(BAD_WORDS, "wanted are EXERCISE and a folder of hand-ins; --help says more")
     jobs = options.get("--jobs") or str(os.cpu_count() or 1)
     if not jobs.isdigit() or not 1 <= int(jobs[:9]) <= 256:
-        raise Trouble(BAD_WORDS, "--jobs is not a number from 1 to 256")
+        raise ToolError(BAD_WORDS, "--jobs is not a number from 1 to 256")
     folder = plain[1].rstrip(os.sep) or os.sep
     if not os.path.isdir(folder):
-        raise Trouble(NO_FILE, "no folder %s" % folder)
+        raise ToolError(NO_FILE, "no folder %s" % folder)
     exercise = find_exercise(plain[0])
     return Asked(exercise, folder, options.get("--to") or folder + ".grades", int(jobs),
                  os.path.abspath(Caller(options.get("--program")).path))
@@ -83,10 +83,10 @@ def hand_ins(folder: str) -> list[str]:
     try:
         names = sorted(os.listdir(folder))
     except OSError as error:
-        raise Trouble(NO_FILE, "cannot read %s: %s" % (folder, error.strerror)) from None
+        raise ToolError(NO_FILE, "cannot read %s: %s" % (folder, error.strerror)) from None
     found = [os.path.join(folder, name) for name in names if not name.startswith(".")]
     if not found:
-        raise Trouble(NO_FILE, "no hand-ins in %s" % folder)
+        raise ToolError(NO_FILE, "no hand-ins in %s" % folder)
     return found
 
 

@@ -9,7 +9,7 @@ import sys
 from .calls import Calls
 from .exercise import Exercise
 from .grading import RESULTS, Grade, Run
-from .handbook import TOP
+from .rule_pages import TOP
 
 HEAD = ("hand-in", "result", "right", "inputs", "input", "workers", "end", "verdict", "difference", "seconds")
 TICKS = "20000"

@@ -10,7 +10,7 @@ import shutil
 import tempfile
 from concurrent.futures import ThreadPoolExecutor
 
-from . import handbook
+from . import rule_pages
 from .expression_types import RELATIONS
 from .outline import Outline
 from .program import Caller
@@ -50,7 +50,7 @@ class Asked:
 
     def may_stand(self) -> list[str]:
         """The tokens that may stand at the place."""
-        names = list(STAND_INS) + handbook.spellings()
+        names = list(STAND_INS) + rule_pages.spellings()
         good = self.fitting([STAND_INS.get(name, name) for name in names])
         return [name for name in names if STAND_INS.get(name, name) in good]
 

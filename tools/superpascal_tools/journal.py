@@ -2,15 +2,18 @@
 from __future__ import annotations
 
 import re
-from typing import NamedTuple, Optional
+from array import array
+from typing import Container, Iterator, NamedTuple, Optional
 
-from .trouble import BAD_JOURNAL, Trouble
+from .errors import BAD_JOURNAL, ToolError
 
 PROCESS = r"(0(?:/\d+\.\d+)*)"
 ENTRY = re.compile(PROCESS + r" (?:(fork) (\d+)|(send|receive) (0(?:/\d+\.\d+)*#\d+)|(fault) (F\d+)"
                    r"|(open|end|laid|pause))$")
 HEADS = ("superpascal journal 1", "superpascal journal 2", "timeline")
 OTHERS = ("census", "tree", "waiting")
+HEAD = b"superpascal journal 2\n"
+OFFER = re.compile(rb"^(\S+) (send|receive) (\S+)$", re.M)
 
 
 class Entry(NamedTuple):
@@ -48,7 +51,7 @@ def read_record(text: str, strict: bool = True) -> Record:
     if cut and not strict:
         lines.append(cut)
     elif cut:
-        raise Trouble(BAD_JOURNAL, "line %d is cut off: %s" % (len(lines) + 1, cut[:80]))
+        raise ToolError(BAD_JOURNAL, "line %d is cut off: %s" % (len(lines) + 1, cut[:80]))
     head: list[str] = []
     entries: list[Entry] = []
     known: dict[str, str] = {}
@@ -66,14 +69,89 @@ def read_record(text: str, strict: bool = True) -> Record:
             index, _, line = line.partition(" ")
             if index != str(len(entries)):
                 said = (index + " " + line)[:80]
-                raise Trouble(BAD_JOURNAL, "line %d is no entry of a timeline: %s" % (number, said))
+                raise ToolError(BAD_JOURNAL, "line %d is no entry of a timeline: %s" % (number, said))
         entry = entry_of(line)
         if entry is None:
-            raise Trouble(BAD_JOURNAL, "line %d is no entry of a journal: %s" % (number, line[:80]))
+            raise ToolError(BAD_JOURNAL, "line %d is no entry of a journal: %s" % (number, line[:80]))
         entries.append(Entry(*[known.setdefault(word, word) for word in entry]))
     if not part:
-        raise Trouble(BAD_JOURNAL, "this is no journal: it has no line `superpascal journal 2` or `timeline`")
+        raise ToolError(BAD_JOURNAL, "this is no journal: it has no line `superpascal journal 2` or `timeline`")
     return Record(head, entries)
+
+
+class Journal:
+    """The lines of a journal that the program has written or followed. An entry is taken apart when it is asked for."""
+
+    def __init__(self, lines: bytes) -> None:
+        self.lines = lines
+        self.count = lines.count(b"\n")
+        self._ends: Optional[array[int]] = None
+
+    @property
+    def ends(self) -> array[int]:
+        """Where each line ends, by its index."""
+        if self._ends is None:
+            self._ends = array("Q", (got.end() for got in re.finditer(rb"\n", self.lines)))
+        return self._ends
+
+    def begins(self, at: int) -> int:
+        """Where a line begins."""
+        return self.ends[at - 1] if at else 0
+
+    def entry(self, at: int) -> Entry:
+        """The entry at this index."""
+        found = entry_of(self.lines[self.begins(at):self.ends[at] - 1].decode("latin1"))
+        if found is None:
+            raise ToolError(BAD_JOURNAL, "entry %d is no entry of a journal" % at)
+        return found
+
+    def first(self, count: int) -> bytes:
+        """The text of the journal that has the first entries only."""
+        return HEAD + self.lines[:self.begins(min(count, self.count))]
+
+    def last_of(self, name: str) -> int:
+        """The index of the last entry of a process, or -1."""
+        begin = self.lines.rfind(b"\n%s " % name.encode()) + 1
+        if begin == 0 and not self.lines.startswith(b"%s " % name.encode()):
+            return -1
+        return self.lines.count(b"\n", 0, begin)
+
+    def offers(self, channels: Container[str]) -> Iterator[tuple[int, str, str, str]]:
+        """The offers on these channels: the index, the process, the direction and the channel of each."""
+        at = last = 0
+        for got in OFFER.finditer(self.lines):
+            channel = got[3].decode()
+            if channel in channels:
+                at += self.lines.count(b"\n", last, got.start())
+                last = got.start()
+                yield at, got[1].decode(), got[2].decode(), channel
+
+    def counts(self) -> dict[str, int]:
+        """How many entries there are of each kind, and how many `children` the forks have started."""
+        words = re.findall(rb"^\S+ (\w)", self.lines, re.M)
+        found = {kind: words.count(kind[:1].encode()) for kind in ("open", "send", "receive", "pause", "end")}
+        found["children"] = sum(map(int, re.findall(rb" fork (\d+)$", self.lines, re.M)))
+        return found
+
+
+def journal_in(notes: bytes) -> tuple[list[str], Journal]:
+    """What `--show timeline`, `all` or `journal` wrote: the lines of the end and the verdict, and the journal."""
+    head, mark, rest = notes.partition(b"timeline\n")
+    if not mark:
+        head, _, rest = notes.partition(HEAD)
+        return head.decode("utf-8", "replace").splitlines(), Journal(rest)
+    rest = re.split(rb"^(?:census|tree|waiting)\n", rest, maxsplit=1, flags=re.M)[0]
+    return head.decode("utf-8", "replace").splitlines(), Journal(re.sub(rb"^\d+ ", b"", rest, flags=re.M))
+
+
+def partner_of(journal: Journal, channel: str, at: int) -> Optional[int]:
+    """The entry that an offer on this channel met, if it met one."""
+    pending: Optional[int] = None
+    for index, _, _, _ in journal.offers((channel,)):
+        if pending is not None and at in (pending, index):
+            return index if at == pending else pending
+        pending = index if pending is None else None
+    return None
 
 
 def journal_text(entries: list[Entry]) -> str:

@@ -15,7 +15,7 @@ from .messages import (BAD_PARAMS, CANCELLED, CHANGED, FAILED, INTERNAL, INVALID
                        Reader, Writer)
 from .program import take_option
 from .questions import CAPABILITIES, INFO, QUESTIONS, WARNING, Desk
-from .trouble import BAD_WORDS, STATUSES, Trouble, put_out
+from .errors import BAD_WORDS, STATUSES, ToolError, put_out
 
 HELP = """usage: tools/language_server [--program PROGRAM]
 Speaks the Language Server Protocol over standard input and output: an editor starts it (docs/EDITORS.md). It shows the
@@ -38,7 +38,7 @@ def main(given: Sequence[str]) -> int:
         put_out((HELP + STATUSES).encode())
         return 0
     if words not in ([], ["--stdio"]):
-        raise Trouble(BAD_WORDS, "no word %s is known; --help lists them" % words[0])
+        raise ToolError(BAD_WORDS, "no word %s is known; --help lists them" % words[0])
     signal.signal(signal.SIGTERM, lambda *_: sys.exit(1))
     return Server(path, Reader(0), Writer(1)).serve()
 
@@ -68,7 +68,7 @@ class Server:
         self.questions: queue.SimpleQueue[tuple[Any, str, dict[str, Any], Text]] = queue.SimpleQueue()
         self.lock, self.showing, self.finding = threading.Lock(), threading.Lock(), threading.Lock()
         self.program: Optional[Found] = None
-        self.trouble = ""
+        self.error = ""
         self.asides: weakref.WeakSet[Aside] = weakref.WeakSet()
         self.desk = Desk(self.aside, self.room, self.has, self.say)
         threading.Thread(target=self.work, daemon=True).start()
@@ -232,9 +232,9 @@ class Server:
 
     def complain(self, error: Exception) -> None:
         """The program cannot be asked: this is said once, until it can be asked again."""
-        words = str(error if isinstance(error, Trouble) else unforeseen(error))
-        if words != self.trouble:
-            self.trouble = words
+        words = str(error if isinstance(error, ToolError) else unforeseen(error))
+        if words != self.error:
+            self.error = words
             self.say(words, ERROR)
 
     def look(self, text: Text, hold: Callable[[Aside], None]) -> None:
@@ -243,7 +243,7 @@ class Server:
             caller = self.aside()
             hold(caller)
             found = diagnoses.checked(text, caller, self.room)
-            self.trouble = ""
+            self.error = ""
             if found is not None and len(text.data) > LARGE:
                 self.publish(text, [diagnoses.diagnostic(text, found, diagnoses.simply(found))])
             said = diagnoses.caused(text, found, caller) if found is not None else None
@@ -279,8 +279,8 @@ class Server:
             self.writer.refuse(number, bad)
         except Dropped:
             self.writer.refuse(number, Bad(CHANGED, "the text has changed since"))
-        except Trouble as trouble:
-            self.writer.refuse(number, Bad(FAILED, str(trouble)))
+        except ToolError as error:
+            self.writer.refuse(number, Bad(FAILED, str(error)))
         except Exception as error:  # pylint: disable=broad-except
             self.writer.refuse(number, unforeseen(error))
         self.waiting.discard(number)

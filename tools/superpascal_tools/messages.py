@@ -97,7 +97,7 @@ class Writer:
         self.target, self.lock = target, threading.Lock()
 
     def send(self, message: dict[str, Any]) -> None:
-        """Writes one message; a reader that has gone is no trouble."""
+        """Writes one message; a reader that has gone is no error."""
         body = json.dumps({"jsonrpc": "2.0", **message}, ensure_ascii=True).encode("ascii")
         data = b"Content-Length: %d\r\n\r\n%s" % (len(body), body)
         with self.lock:

@@ -43,7 +43,8 @@ def references(text: Text, position: Any, with_declaration: bool) -> list[dict[s
     if found is None:
         return []
     begun = text.index_of(found[1].place) if is_own(found[1]) else -1
-    return [location(text, at) for at in sorted(occurrences(text.outline(), found[1])) if with_declaration or at != begun]
+    those = sorted(occurrences(text.outline(), found[1]))
+    return [location(text, at) for at in those if with_declaration or at != begun]
 
 
 def renamed(text: Text, position: Any) -> tuple[int, Name]:

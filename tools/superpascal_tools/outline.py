@@ -115,8 +115,9 @@ class Outline(StatementTypes):
         """One constant."""
         name, at = self.name(), self.at - 1
         self.need("=")
-        kind = self.constant().kind
-        self.declare("const", name, at, kind).defined = self.spelled(at, self.at, HEADING)
+        part = self.constant()
+        declared = self.declare("const", name, at, part.kind)
+        declared.defined, declared.stands_for = self.spelled(at, self.at, HEADING), self.without_names(part)
 
     def types(self) -> None:
         """One type."""
@@ -125,7 +126,7 @@ class Outline(StatementTypes):
         kind = self.type_of(name)
         self.declare("type", name, at, kind).defined = self.spelled(at, self.at, HEADING)
         for word, place in self.enumerated:
-            self.declare("const", word, place, kind)
+            self.declare("const", word, place, kind).stands_for = word
 
     def type_of(self, name: str) -> Optional[Type]:
         """A type after its name and `=`."""
@@ -133,7 +134,9 @@ class Outline(StatementTypes):
         if self.take("("):
             self.enumerated = self.names()
             self.need(")")
-            return Type("ordinal", name)
+            kind = Type("ordinal", name)
+            kind.constants = [word for word, _ in self.enumerated]
+            return kind
         if self.take("array"):
             return self.array(name)
         if self.take("record"):
@@ -160,6 +163,7 @@ class Outline(StatementTypes):
         self.need("of")
         kind.index, kind.element = low.kind, self.type_named(name)
         kind.bounds = (self.spelled(low.first, low.last), self.spelled(high.first, high.last))
+        kind.limits = (self.without_names(low), self.without_names(high))
         if None not in (low.kind, high.kind) and low.kind is not high.kind:
             self.tell("Y13", high.first, "the bounds of %s have two types: %s, %s" % (
                 name, self.is_a(low), self.is_a(high)))

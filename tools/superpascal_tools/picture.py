@@ -2,18 +2,23 @@
 from __future__ import annotations
 
 import os
+import shutil
+import subprocess
+import sys
 from typing import Optional, Sequence
 
-from .drawing import Drawing, View
-from .following import Limits, Run
-from .journal import Entry, Record, order_of, racing, read_record
-from .kinds import shown, variable_name
-from .language import Program
-from .lanes import Lanes
-from .moments import Moments
+from .clash import Clash
+from .columns import Lanes
+from .deadlocks import Deadlock
+from .drawing import Drawing
+from .errors import (BAD_WORDS, NO_FILE, NO_PROGRAM, REFUSED, STATUSES, UNPROVED, ToolError, put_out, read_file,
+                     read_input, say, write_file)
+from .followed import Followed
+from .journal import Entry, Journal, Record, journal_text, racing, read_record
+from .layout import View
 from .program import Caller, limits_of, split_words
-from .trouble import BAD_WORDS, REFUSED, STATUSES, UNPROVED, Trouble, put_out, read_file, read_input, say, write_file
-from .waiting import waiting, who_would_come
+from .run_names import RunNames
+from .timing import Timing
 
 HELP = """usage: tools/picture [OPTIONS] [JOURNAL] >RUN.svg
        tools/picture run FILE [OPTIONS, and those of `superpascal run`] <INPUT >RUN.svg
@@ -22,23 +27,25 @@ Draws a run as a space-time diagram, an SVG. JOURNAL is what `superpascal run` w
 journal, timeline or all; without it standard input is read. With `run` the program runs the text first.
 
 Time goes down, a line is a process, its children to its right. A bar across is a fork or a join, a blue arrow a
-message, dashes in orange a wait; in brown, thick and with squares: offers that race or wait for ever, and a fault as a
-cross. An entry stands right below what had to come before it, so an ordered run gives one picture in all schedules.
+message with its channel and value, dashes in orange a wait; in brown, thick and with squares: offers that race or wait
+for ever, and a fault as a cross. An entry stands right below what had to come before it, so an ordered run gives one
+picture in all schedules.
 
-  --text FILE      the text of the run: messages get values, processes their calls, and who waits for whom is shown
+  --text FILE      the text of the run: messages get values, channels their variables, processes their calls
   --input FILE     the input of the run (none: empty); limits of the run as for `superpascal run`, as --ticks 5
   --order          each entry has a row of its own, in the order of the journal
   --from N, --to N the first and the last entry that is drawn (a part of 400, if there are more)
   --process NAME   this process and all below it; the others are one lane
   --title TEXT     what stands above
-  --out FILE       the file for the picture (standard output)
+  --out FILE       the file for the picture (standard output; at a terminal a file beside the text, which is named)
+  --png FILE, --pdf FILE   the picture in this form, by the command rsvg-convert or inkscape
   --program FILE   the program that runs the text, else that of SUPERPASCAL, else ./superpascal of this repository
 
 If a run has more than 60 processes side by side, subtrees are folded: into their parent, or into one lane.
 
 """
 PART = 400
-OWN = ("--text", "--input", "--from", "--to", "--process", "--title", "--out", "--program")
+OWN = ("--text", "--input", "--from", "--to", "--process", "--title", "--out", "--png", "--pdf", "--program")
 
 
 def main(given: Sequence[str]) -> int:
@@ -56,20 +63,45 @@ def main(given: Sequence[str]) -> int:
     else:
         unknown = [name for name in asked.options if name[2:] not in limits_of({})._fields]
         if unknown or len(asked.plain) > 1:
-            raise Trouble(BAD_WORDS, "not understood: %s; --help says more" % " ".join(unknown or asked.plain[1:]))
+            raise ToolError(BAD_WORDS, "not understood: %s; --help says more" % " ".join(unknown or asked.plain[1:]))
         told = read_file(asked.plain[0]) if asked.plain else read_input()
         record = read_record(told.decode("utf-8", "replace"))
         data = read_file(own["--input"]) if "--input" in own else b""
-    view = View(Moments(record.entries, in_order), Lanes([]), 0, 0, "", foot_of(record))
-    if "--text" in own:
-        know(view, record, own["--text"], data, limits_of(asked.options))
+    view = View(Timing(record.entries, in_order), Lanes([]), 0, 0, "", foot_of(record))
     choose(view, record, own)
+    if "--text" in own:
+        journal = Journal(journal_text(record.entries).partition("\n")[2].encode())
+        know(view, Followed(Caller(own.get("--program")), own["--text"], asked.options, data, journal))
     view.title = own.get("--title") or os.path.basename(own.get("--text", asked.plain[0] if asked.plain else "a run"))
     drawing = Drawing(view)
-    write_file(own.get("--out", "-"), drawing.svg().encode())
+    written(drawing.svg().encode(), own)
     if drawing.paper.left_out:
         say("picture: %d labels found no room; a pointer on the lines shows them\n" % drawing.paper.left_out)
     return 0
+
+
+def written(picture: bytes, own: dict[str, str]) -> None:
+    """Writes the picture in the forms that are asked for."""
+    forms = [name for name in ("--png", "--pdf") if name in own]
+    for name in forms:
+        converted(picture, name[2:], own[name])
+    if "--out" not in own and not forms and sys.stdout is not None and sys.stdout.isatty():
+        own["--out"] = os.path.splitext(os.path.basename(own.get("--text", "run")))[0] + ".svg"
+        say("picture: written to %s\n" % own["--out"])
+    if "--out" in own or not forms:
+        write_file(own.get("--out", "-"), picture)
+
+
+def converted(picture: bytes, form: str, path: str) -> None:
+    """Writes a picture as PNG or PDF."""
+    if shutil.which("rsvg-convert"):
+        words = ["rsvg-convert", "--format", form, "--output", path]
+    elif shutil.which("inkscape"):
+        words = ["inkscape", "--pipe", "--export-type=" + form, "--export-filename=" + path]
+    else:
+        raise ToolError(NO_PROGRAM, "--%s needs the command rsvg-convert or inkscape" % form)
+    if subprocess.run(words, input=picture, capture_output=True, check=False).returncode:
+        raise ToolError(NO_FILE, "%s cannot write %s" % (words[0], path))
 
 
 def own_options(words: list[str]) -> tuple[dict[str, str], list[str], bool]:
@@ -85,7 +117,7 @@ def own_options(words: list[str]) -> tuple[dict[str, str], list[str], bool]:
             in_order = True
         elif name in OWN:
             if not equals and not left:
-                raise Trouble(BAD_WORDS, "%s wants a value" % name)
+                raise ToolError(BAD_WORDS, "%s wants a value" % name)
             own[name] = value if equals else left.pop(0)
         else:
             rest.append(word)
@@ -96,13 +128,13 @@ def ran(own: dict[str, str], rest: list[str]) -> tuple[Record, str, bytes]:
     """The record of a run that is made now, its text and its input."""
     asked = split_words(["run"] + rest)
     if not asked.plain or "--show" in asked.options:
-        raise Trouble(BAD_WORDS, "run wants a FILE, and no --show")
+        raise ToolError(BAD_WORDS, "run wants a FILE, and no --show")
     caller = Caller(own.get("--program"))
     data = read_file(own["--input"]) if "--input" in own else read_input()
     answer = caller(["run", "--show", "timeline"] + rest, data)
     if answer.status not in (0, 3, 4):
         line = answer.notes.split("\n")[0]
-        raise Trouble(REFUSED if answer.status == 1 else BAD_WORDS, "the program says: %s" % line)
+        raise ToolError(REFUSED if answer.status == 1 else BAD_WORDS, "the program says: %s" % line)
     return read_record(answer.notes), asked.plain[0], data
 
 
@@ -115,25 +147,35 @@ def foot_of(record: Record) -> list[str]:
     return ["fault %s %s" % (entry.argument, entry.name) for entry in faults[:1]]
 
 
-def know(view: View, record: Record, path: str, data: bytes, limits: Limits) -> None:
-    """What the text says of the entries."""
-    run = Run(Program(read_file(path).decode("latin1")), data, limits)
-    run.follow(record.entries)
-    view.values = dict(run.messages)
-    view.titles = {name: process.title() for name, process in run.processes.items()}
-    view.titles.update(run.first)
-    view.lines = {at: run.place(at)[0] for at in range(len(record.entries))}
-    for process in waiting(run):
-        if process.offer is not None:
-            kind, _, what, of_type = process.offer
-            said = "value " + shown(what, of_type) if kind == "send" else "into " + variable_name(*what)
-            view.values[process.entry] = said
-    if run.met and run.met.other:
-        view.clash = (run.met.other.entry, run.met.process.entry)
-    if run.end() == "deadlock":
-        comers = who_would_come(run)
-        for name in sorted(comers, key=order_of):
-            view.circle.append((name, comers[name][0][0]))
+def know(view: View, run: Followed) -> None:
+    """What the program says of the entries that are drawn."""
+    entries, names = view.timing.entries, RunNames(run, view.timing)
+    state = run.inspector.state
+    if not entries:
+        return
+    for at, traced in enumerate(run.lines(view.first, view.last), view.first):
+        view.lines[at] = traced.place[0]
+        if traced.value is not None:
+            sender = at if entries[at].kind == "send" else view.timing.meets.get(at, at)
+            view.values[sender] = names.value(traced.value)
+    for name in view.lanes.lane:
+        view.titles[name] = names.process(name) if name in view.timing.born else ""
+    for at in range(view.first, view.last + 1):
+        channel = view.timing.opened.get(at) or entries[at].argument
+        if "#" in channel:
+            view.channels.setdefault(channel, names.channel(channel))
+    for name, at in view.timing.waiting.items():
+        if name in state and view.first <= at <= view.last:
+            view.values[at] = names.purpose(state[name], view.values.get(at))
+    fault = next(iter(state.those("fault")), None)
+    other = Clash(run, fault).other if fault is not None and fault.argument in ("F6", "F7") else None
+    if fault is not None and other is not None:
+        view.clash = (run.journal.last_of(other.name), run.journal.last_of(fault.name))
+    if "\ndeadlock\n" in run.notes:
+        deadlock = Deadlock(run)
+        view.circle = deadlock.told_circle()
+        waits = [it.name for it in deadlock.stuck] + [it for it in view.circle if not state[it].waits]
+        view.waits = [(name, other) for name in dict.fromkeys(waits) for other in deadlock.next_of(name)]
 
 
 def choose(view: View, record: Record, own: dict[str, str]) -> None:
@@ -154,25 +196,25 @@ def choose(view: View, record: Record, own: dict[str, str]) -> None:
         last = first + PART - 1
     view.first, view.last = max(0, first), min(last, count - 1)
     if count and view.first > view.last:
-        raise Trouble(BAD_WORDS, "there are entries from 0 to %d" % (count - 1))
+        raise ToolError(BAD_WORDS, "there are entries from 0 to %d" % (count - 1))
     if view.first or view.last + 1 < count:
         view.foot.append("entries %d to %d of %d; --from and --to choose others" % (view.first, view.last, count))
     top = own.get("--process", "0")
-    if top not in view.moments.born:
-        raise Trouble(BAD_WORDS, "there is no process %s" % top)
+    if top not in view.timing.born:
+        raise ToolError(BAD_WORDS, "there is no process %s" % top)
     view.lanes = Lanes(touched(view, entries), top)
 
 
 def touched(view: View, entries: list[Entry]) -> set[str]:
     """The processes that have a part in the entries that are drawn."""
     names = set()
-    number = {at: fork for (_, fork), (_, at, _) in view.moments.forks.items()}
+    number = {at: fork for (_, fork), (_, at, _) in view.timing.forks.items()}
     for at in range(view.first, view.last + 1):
         names.add(entries[at].name)
         if at in number:
             name, _, count = entries[at]
             names.update("%s/%d.%d" % (name, number[at], child) for child in range(int(count)))
-    names.update(entries[at].name for at in view.moments.waiting.values() if view.last + 1 == len(entries))
+    names.update(entries[at].name for at in view.timing.waiting.values() if view.last + 1 == len(entries))
     return names
 
 
@@ -190,5 +232,5 @@ def whole(own: dict[str, str], name: str, absent: Optional[int]) -> Optional[int
     if name not in own:
         return absent
     if not own[name].isdigit():
-        raise Trouble(BAD_WORDS, "%s wants a number" % name)
+        raise ToolError(BAD_WORDS, "%s wants a number" % name)
     return int(own[name][:18])

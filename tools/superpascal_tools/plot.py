@@ -3,7 +3,7 @@ from __future__ import annotations
 
 from typing import Sequence
 
-from .paper import Paper
+from .svg import Svg
 
 WIDTH, HIGH, LEFT, TOP = 460, 340, 56, 46
 STYLE = """text{font-family:DejaVu Sans,Verdana,sans-serif;font-size:11px;fill:#333}
@@ -18,7 +18,7 @@ class Plot:
     """The axes: workers to the right, times as fast upwards, both from 0 to the greatest number of workers."""
 
     def __init__(self, most: int) -> None:
-        self.most, self.paper = most, Paper()
+        self.most, self.paper = most, Svg()
 
     def place(self, workers: float, speed: float) -> tuple[float, float]:
         """Where a point stands."""

@@ -3,15 +3,33 @@ from __future__ import annotations
 
 import os
 import subprocess
+import sys
+import tempfile
+import time
 from typing import NamedTuple, Optional, Sequence
 
-from .handbook import TOP
-from .following import Limits
-from .trouble import BAD_WORDS, NO_PROGRAM, Trouble, say
+from .rule_pages import TOP
+from .errors import BAD_WORDS, NO_PROGRAM, ToolError, say
 
-LIMITS = Limits._fields
 BUILT = ("crates/sp_main/out/sp_main", "out/unproved", "out/unproved_checked")
 CHATTER = "superpascal: "
+# after this number of seconds a call says at a terminal that it goes on
+PATIENCE = 2.0
+
+
+class Limits(NamedTuple):
+    """The limits of a run, with the values that the program takes by itself."""
+
+    ticks: int = 10_000_000
+    depth: int = 1_000
+    cells: int = 4_194_304
+    processes: int = 100_000
+    channels: int = 100_000
+    entries: int = 1_000_000
+    output: int = 16_777_216
+
+
+LIMITS = Limits._fields
 
 
 class Answer(NamedTuple):
@@ -25,7 +43,7 @@ class Answer(NamedTuple):
 class Caller:
     """Calls the program: the one that is named, else that of SUPERPASCAL, else ./superpascal of this repository.
 
-    What that script says for itself, in lines that begin with its name, is passed on at once and is not part of the notes.
+    What that script says for itself, in lines that begin with its name, is passed on at once and is none of the notes.
     """
 
     def __init__(self, path: Optional[str] = None) -> None:
@@ -43,26 +61,56 @@ class Caller:
             subprocess.run([self.path, "check", os.path.join(TOP, "examples/answer.sp")], stdin=subprocess.DEVNULL,
                            stdout=subprocess.DEVNULL, check=False)
         except OSError as error:
-            raise Trouble(NO_PROGRAM, "cannot run %s: %s" % (self.path, error.strerror)) from None
+            raise ToolError(NO_PROGRAM, "cannot run %s: %s" % (self.path, error.strerror)) from None
 
     def run(self, words: Sequence[str], data: bytes) -> tuple[int, bytes, str]:
         """Runs the program once: its status (negative: the signal that ended it), its output and its notes."""
-        got = subprocess.run([self.path, *words], input=data, capture_output=True, check=False)
-        return got.returncode, got.stdout, got.stderr.decode("utf-8", "replace")
+        begun = time.monotonic()
+        # pylint: disable-next=consider-using-with
+        process = subprocess.Popen([self.path, *words], stdin=subprocess.PIPE, stdout=subprocess.PIPE,
+                                   stderr=subprocess.PIPE)
+        given: Optional[bytes] = data
+        patience = PATIENCE
+        try:
+            while True:
+                try:
+                    output, notes = process.communicate(given, timeout=patience)
+                    return process.returncode, output, notes.decode("utf-8", "replace")
+                except subprocess.TimeoutExpired:
+                    given, patience = None, 5 * PATIENCE
+                    progress("`superpascal %s` goes on: %d s" % (words[0], time.monotonic() - begun))
+        finally:
+            if process.poll() is None:
+                process.kill()
+                process.communicate()
 
     def __call__(self, words: Sequence[str], data: bytes = b"") -> Answer:
         try:
             status, output, notes = self.run(words, data)
         except (OSError, ValueError) as error:
             why = error.strerror if isinstance(error, OSError) else str(error)
-            raise Trouble(NO_PROGRAM, "cannot run the program %s: %s" % (self.path, why)) from None
+            raise ToolError(NO_PROGRAM, "cannot run the program %s: %s" % (self.path, why)) from None
         if status < 0:
-            raise Trouble(NO_PROGRAM, "the program was ended by signal %d" % -status)
+            raise ToolError(NO_PROGRAM, "the program was ended by signal %d" % -status)
         if CHATTER in notes:
             lines = notes.splitlines(keepends=True)
             say("".join(line for line in lines if line.startswith(CHATTER)))
             notes = "".join(line for line in lines if not line.startswith(CHATTER))
         return Answer(status, output, notes)
+
+
+    def along(self, command: str, file: str, journal: bytes, options: Sequence[str], data: bytes) -> Answer:
+        """`trace` or `where` of a text along a journal, with these limits."""
+        with tempfile.NamedTemporaryFile(prefix="superpascal-", suffix=".journal") as kept:
+            kept.write(journal)
+            kept.flush()
+            return self([command, *options, "--", file, kept.name], data)
+
+
+def progress(words: str) -> None:
+    """Says at a terminal what takes long."""
+    if sys.stderr is not None and sys.stderr.isatty():
+        say("%s\n" % words)
 
 
 class Words(NamedTuple):
@@ -98,8 +146,13 @@ def limits_of(options: dict[str, str]) -> Limits:
             try:
                 found[name] = int(value)
             except ValueError:
-                raise Trouble(BAD_WORDS, "--%s wants a number" % name) from None
+                raise ToolError(BAD_WORDS, "--%s wants a number" % name) from None
     return Limits(**found)
+
+
+def limit_words(options: dict[str, str]) -> list[str]:
+    """The limits among the options, as words of a call."""
+    return [word for name, value in options.items() if name[2:] in LIMITS for word in (name, value)]
 
 
 def take_option(words: list[str], name: str) -> Optional[str]:
@@ -108,7 +161,7 @@ def take_option(words: list[str], name: str) -> Optional[str]:
         return words.pop(0).split("=", 1)[1]
     if words and words[0] == name:
         if len(words) < 2:
-            raise Trouble(BAD_WORDS, "%s wants a value" % name)
+            raise ToolError(BAD_WORDS, "%s wants a value" % name)
         del words[0]
         return words.pop(0)
     return None

@@ -8,9 +8,9 @@ from typing import Any, Callable, NamedTuple, Optional
 from . import answers, diagnoses, occurrences
 from .asides import Aside, Room
 from .documents import Text, decoded
-from .handbook import TOP
+from .rule_pages import TOP
 from .messages import BAD_PARAMS, FAILED, Bad
-from .trouble import Trouble
+from .errors import ToolError
 
 WARNING, INFO = 2, 3
 SHOWN = 20
@@ -90,8 +90,8 @@ def execute(desk: Desk, text: Text, params: dict[str, Any]) -> Any:
     name = os.path.basename(urllib.parse.unquote(text.uri)) or "the program"
     try:
         answer = desk.room.ask(command, text.data, explain, ["--program", path])
-    except Trouble as trouble:
-        raise Bad(FAILED, "%s: %s" % (name, trouble)) from None
+    except ToolError as error:
+        raise Bad(FAILED, "%s: %s" % (name, error)) from None
     said = (answer.output.decode("utf-8", "replace") + answer.notes).splitlines()
     told = [desk.room.unnamed(line, name) for line in said]
     desk.say("\n".join([command + " " + name] + told[:SHOWN] + [".."] * (len(told) > SHOWN)), INFO)

@@ -3,7 +3,7 @@ from __future__ import annotations
 
 from typing import Callable
 
-from . import handbook
+from . import rule_pages
 from .byte_words import bytes_words
 from .grammar_words import grammar
 from .interference import Said, interference
@@ -27,14 +27,14 @@ def explained(source: Source, text: bytes, rule: str, place: Place, caller: Call
     """Why a text is refused with this rule at this place."""
     found = cause(text, rule, place, caller)
     said = source.message(place, found.words or summary(rule), rule)
-    said += "".join(handbook.wrapped("  " + line, "    ") for line in found.more)
-    return said + "  " + (handbook.sentence(rule) or rule + "\n")
+    said += "".join(rule_pages.wrapped("  " + line, "    ") for line in found.more)
+    return said + "  " + (rule_pages.sentence(rule) or rule + "\n")
 
 
 def summary(rule: str) -> str:
     """What the language says of a rule, if nothing more is known."""
-    row = handbook.rules_and_faults().get(rule)
-    return handbook.plain(row[0]) if row else "a rule is broken"
+    row = rule_pages.rules_and_faults().get(rule)
+    return rule_pages.plain(row[0]) if row else "a rule is broken"
 
 
 def cause(text: bytes, rule: str, place: Place, caller: Caller, read: Callable[[str], Outline] = Outline) -> Said:

@@ -2,11 +2,12 @@
 from __future__ import annotations
 
 import os
+import time
 from typing import NamedTuple, Optional, Sequence
 
 from .journal import journal_text, read_record
-from .program import Answer, Caller, split_words, take_option
-from .trouble import BAD_WORDS, REFUSED, STATUSES, UNPROVED, Trouble, put_out, read_file, read_input, write_file
+from .program import PATIENCE, Answer, Caller, progress, split_words, take_option
+from .errors import BAD_WORDS, REFUSED, STATUSES, UNPROVED, ToolError, put_out, read_file, read_input, say, write_file
 
 HELP = """usage: tools/schedules [--program PROGRAM] [--journals FOLDER] FILE N [OPTIONS of `superpascal run`] <INPUT
 
@@ -14,7 +15,7 @@ Runs the text N times, with 2, 4 and 8 workers in turn if --workers is not given
 ends, verdicts and outputs, with how often each came. Of each kind one journal is kept in FOLDER (the current one) as
 NAME.1.journal and so on, which `superpascal replay` takes. If a verdict is a race, the schedule in which its two
 offers clash is one more row: that of `superpascal witness`. What did not come in N runs may still come: a verdict
-`ordered` says that nothing else can.
+`ordered` says that nothing else can. Ctrl-C ends it with the table of the runs so far.
 
 """
 WORKERS = ("2", "4", "8")
@@ -42,9 +43,9 @@ def main(given: Sequence[str]) -> int:
         own[name] = take_option(words, name)
     asked = split_words(["run"] + words)
     if len(asked.plain) != 2 or not asked.plain[1].isdigit() or not 1 <= int(asked.plain[1][:9]) <= MOST:
-        raise Trouble(BAD_WORDS, "wanted are FILE and N, from 1 to %d; --help says more" % MOST)
+        raise ToolError(BAD_WORDS, "wanted are FILE and N, from 1 to %d; --help says more" % MOST)
     if "--show" in asked.options:
-        raise Trouble(BAD_WORDS, "--show is not for this tool")
+        raise ToolError(BAD_WORDS, "--show is not for this tool")
     file, count = asked.plain[0], int(asked.plain[1])
     read_file(file)
     options = [word for name, value in asked.options.items() if name != "--workers" for word in (name, value)]
@@ -54,7 +55,7 @@ def main(given: Sequence[str]) -> int:
     seen, kept = many(caller, file, count, options, workers, data)
     witness = clash(caller, file, options, data) if any(kind.verdict.startswith("race") for kind in seen) else ""
     folder = own.get("--journals") or "."
-    put_out(table(file, seen, kept, witness, folder, count).encode())
+    put_out(table(file, seen, kept, witness, folder, sum(seen.values())).encode())
     return 0
 
 
@@ -63,12 +64,22 @@ def many(caller: Caller, file: str, count: int, options: list[str], workers: Seq
     """How often each kind of run came, and a journal of each."""
     seen: dict[Kind, int] = {}
     kept: dict[Kind, str] = {}
+    begun = time.monotonic()
     for number in range(count):
         words = ["run", "--show", "timeline", "--workers", workers[number % len(workers)], *options, "--", file]
-        answer = caller(words, data)
+        try:
+            answer = caller(words, data)
+        except KeyboardInterrupt:
+            if not seen:
+                raise
+            say("schedules: stopped after %d of %d runs\n" % (number, count))
+            break
+        if time.monotonic() - begun >= PATIENCE:
+            progress("%d of %d runs" % (number + 1, count))
+            begun = time.monotonic()
         if answer.status not in (0, 3, 4):
             line = answer.notes.split("\n")[0]
-            raise Trouble(REFUSED if answer.status == 1 else BAD_WORDS, "the program says: %s" % line)
+            raise ToolError(REFUSED if answer.status == 1 else BAD_WORDS, "the program says: %s" % line)
         kind = kind_of(answer)
         seen[kind] = seen.get(kind, 0) + 1
         if kind not in kept:

@@ -3,18 +3,23 @@ from __future__ import annotations
 
 from typing import Optional
 
-from .tokens import Place
+from .tokens import MAXINT, Place
 
 VARIABLES = ("var", "byvar", "index")
 
 
 class Type:
-    """A type. `form` is ordinal, array, record, channel or string; a string of length 1 is a char."""
+    """A type. `form` is ordinal, array, record, channel or string; a string of length 1 is a char.
+
+    Of an array `bounds` are written as the text has them, and `limits` without names of constants; `constants` are
+    those of an enumeration.
+    """
 
     def __init__(self, form: str, name: str) -> None:
         self.form, self.name = form, name
         self.index: Optional[Type] = None
-        self.bounds = ("", "")
+        self.bounds = self.limits = ("", "")
+        self.constants: list[str] = []
         self.element: Optional[Type] = None
         self.fields: dict[str, Name] = {}
         self.messages: list[Optional[Type]] = []
@@ -31,6 +36,7 @@ class Type:
 
 
 INTEGER, BOOLEAN, CHAR = (Type("ordinal", name) for name in ("integer", "boolean", "char"))
+BOOLEAN.constants = ["false", "true"]
 STRING = Type("string", "string")
 
 
@@ -46,12 +52,12 @@ def named(kind: Optional[Type]) -> str:
 
 class Name:
     """A declared name. `what` is program, const, type, field, var, byvar, index, procedure, function or standard;
-    `defined` is the definition of a constant or a type as it is written."""
+    `defined` is the definition of a constant or a type as it is written, `stands_for` a constant without names."""
 
     def __init__(self, what: str, name: str, block: "Scope", place: Place) -> None:
         self.what, self.name, self.block, self.place = what, name, block, place
         self.kind: Optional[Type] = None
-        self.defined = ""
+        self.defined = self.stands_for = ""
         self.inner: Optional[Scope] = None
 
     def described(self) -> str:
@@ -115,6 +121,7 @@ def standard_scope() -> Scope:
         declare("type", kind.name, kind)
     for name, kind in (("false", BOOLEAN), ("true", BOOLEAN), ("maxint", INTEGER)):
         declare("const", name, kind)
+        scope.names[name].stands_for = str(MAXINT) if name == "maxint" else name
     for name in FUNCTIONS + PROCEDURES:
         declare("standard", name, None)
     return scope

@@ -10,7 +10,7 @@ from .chain import TICKS, each_pause, longest_chain
 from .journal import Entry, Record, read_record
 from .plot import plotted
 from .program import Answer, Caller, split_words, take_option
-from .trouble import BAD_WORDS, REFUSED, STATUSES, UNPROVED, Trouble, put_out, read_file, read_input, write_file
+from .errors import BAD_WORDS, REFUSED, STATUSES, UNPROVED, ToolError, put_out, read_file, read_input, write_file
 
 HELP = """usage: tools/speedup [OPTIONS] FILE [OPTIONS of `superpascal run`] <INPUT
 
@@ -73,7 +73,7 @@ def main(given: Sequence[str]) -> int:
     workers, times = numbers_of(own)
     asked = split_words(["run"] + words)
     if len(asked.plain) != 1 or "--show" in asked.options or "--workers" in asked.options:
-        raise Trouble(BAD_WORDS, "wanted is one FILE, without --show, and --workers before it; --help says more")
+        raise ToolError(BAD_WORDS, "wanted is one FILE, without --show, and --workers before it; --help says more")
     read_file(asked.plain[0])
     options = [word for name, value in asked.options.items() for word in (name, value)]
     what = Asked(Caller(own.get("--program")), asked.plain[0], options, read_input())
@@ -90,9 +90,9 @@ def numbers_of(own: dict[str, Optional[str]]) -> tuple[list[int], int]:
     """The numbers of workers, and how many runs are made with each."""
     workers, times = (own.get("--workers") or "1,2,4,8").split(","), own.get("--times") or "3"
     if not all(word.isdigit() and 1 <= int(word[:9]) <= 64 for word in workers) or "1" not in workers:
-        raise Trouble(BAD_WORDS, "--workers wants numbers from 1 to 64 with commas between them, and 1 among them")
+        raise ToolError(BAD_WORDS, "--workers wants numbers from 1 to 64 with commas between them, and 1 among them")
     if not times.isdigit() or not 1 <= int(times[:9]) <= 100:
-        raise Trouble(BAD_WORDS, "--times wants a number from 1 to 100")
+        raise ToolError(BAD_WORDS, "--times wants a number from 1 to 100")
     return sorted({int(word) for word in workers}), int(times)
 
 
@@ -100,7 +100,7 @@ def good(answer: Answer) -> Answer:
     """An answer of a run that was made."""
     if answer.status not in (0, 3, 4):
         line = answer.notes.split("\n")[0]
-        raise Trouble(REFUSED if answer.status == 1 else BAD_WORDS, "the program says: %s" % line)
+        raise ToolError(REFUSED if answer.status == 1 else BAD_WORDS, "the program says: %s" % line)
     return answer
 
 

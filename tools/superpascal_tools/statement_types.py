@@ -14,7 +14,8 @@ ENDS = (";", "end", "until", "|", "else")
 
 class StatementTypes(CallTypes):
     """What is noted of statements. `opened` has the words that wait for their `end`, with their tokens, and `closed`
-    those that have it, with both tokens."""
+    those that have it, with both tokens. `repeated` has the tokens of loops, `choices` those of the statements of which
+    one is chosen."""
 
     def __init__(self, text: str, tokens: list[Token]) -> None:
         super().__init__(text, tokens)
@@ -23,6 +24,17 @@ class StatementTypes(CallTypes):
         self.loops: list[tuple[Place, Name, Range]] = []
         self.opened: list[tuple[str, int]] = []
         self.closed: list[tuple[str, int, int]] = []
+        self.repeated: list[Range] = []
+        self.choices: list[list[Range]] = []
+
+    def without_names(self, part: Part) -> str:
+        """A constant, with what a name stands for in its place."""
+        word = self.tokens[part.last - 1].word
+        declared = self.named.get(part.last - 1)
+        word = declared.stands_for if declared is not None else word
+        if part.last - part.first == 1 or self.tokens[part.first].word == "+":
+            return word
+        return word[1:] if word.startswith("-") else "-" + word
 
     def constant(self) -> Part:
         """A constant."""
@@ -75,6 +87,8 @@ class StatementTypes(CallTypes):
                 self.actions.append((first, token.word))
             self.at += 1
             works[token.word]()
+            if token.word in ("while", "repeat", "for"):
+                self.repeated.append((first, self.at))
         elif token.kind != "end" and token.word not in ENDS:
             self.stop()
 
@@ -123,9 +137,12 @@ class StatementTypes(CallTypes):
         """`if`."""
         self.condition("if")
         self.need("then")
+        begun = self.at
         self.statement()
         if self.take("else"):
+            middle = self.at
             self.statement()
+            self.choices.append([(begun, middle), (middle, self.at)])
 
     def loop(self) -> None:
         """`while`."""
@@ -191,6 +208,8 @@ class StatementTypes(CallTypes):
         self.ordinal("Y11", selector, "the selector of a case")
         self.need("of")
         seen: dict[str, int] = {}
+        arms: list[Range] = []
+        self.choices.append(arms)
         while True:
             while True:
                 part = self.constant()
@@ -202,7 +221,9 @@ class StatementTypes(CallTypes):
                 if not self.take(","):
                     break
             self.need(":")
+            begun = self.at
             self.statement()
+            arms.append((begun, self.at))
             if self.word == "end" or not self.take(";") or self.word == "end":
                 break
         self.need("end")

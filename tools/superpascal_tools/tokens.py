@@ -4,7 +4,7 @@ from __future__ import annotations
 import re
 from typing import NamedTuple
 
-from .trouble import REFUSED, Trouble
+from .errors import REFUSED, ToolError
 
 MAXINT = 9223372036854775807
 
@@ -38,7 +38,7 @@ def tokens_of(text: str, strict: bool = True) -> list[Token]:
         got = TOKEN.match(text, at)
         if got is None:
             if strict:
-                raise Trouble(REFUSED, "the text breaks a rule at %d:%d" % (line, at - begun + 1))
+                raise ToolError(REFUSED, "the text breaks a rule at %d:%d" % (line, at - begun + 1))
             found.append(Token("bad", text[at], (line, at - begun + 1)))
             at += 1
             continue
@@ -56,13 +56,3 @@ def tokens_of(text: str, strict: bool = True) -> list[Token]:
     found.append(Token("end", "", (line, at - begun + 1)))
     return found
 
-
-def number_of(digits: str) -> int:
-    """The value of decimal digits; one above all integers if there are too many of them."""
-    digits = digits.lstrip("0") or "0"
-    return int(digits) if len(digits) <= 20 else 10 ** 20
-
-
-def text_of(word: str) -> bytes:
-    """The bytes that a text stands for."""
-    return word[1:-1].replace("''", "'").encode("latin1")

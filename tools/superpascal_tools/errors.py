@@ -27,12 +27,11 @@ STATUSES = """statuses of the tool itself (those of the program, 0 to 10, are pa
   28  the tool cannot do it, and this is a mistake in the tool
 """
 
-UNPROVED = """Nothing is proved about this tool: it explains with an interpreter of its own, and if it differs from the
-program, the program is right.
+UNPROVED = """Nothing is proved about this tool. Places, calls, values and ends are the answers of the program.
 """
 
 
-class Trouble(Exception):
+class ToolError(Exception):
     """Ends the tool with one line and a status."""
 
     def __init__(self, status: int, line: str) -> None:
@@ -40,7 +39,7 @@ class Trouble(Exception):
         self.status = status
 
 
-class Unfit(Trouble):
+class Unfit(ToolError):
     """The entry at this index is not one that the text makes there."""
 
     def __init__(self, index: int, why: str) -> None:
@@ -54,7 +53,7 @@ def read_file(path: str) -> bytes:
         with open(path, "rb") as file:
             return file.read()
     except OSError as error:
-        raise Trouble(NO_FILE, "cannot read %s: %s" % (path, error.strerror)) from None
+        raise ToolError(NO_FILE, "cannot read %s: %s" % (path, error.strerror)) from None
 
 
 def write_file(path: str, text: bytes) -> None:
@@ -66,11 +65,11 @@ def write_file(path: str, text: bytes) -> None:
         with open(path, "wb") as file:
             file.write(text)
     except OSError as error:
-        raise Trouble(NO_FILE, "cannot write %s: %s" % (path, error.strerror)) from None
+        raise ToolError(NO_FILE, "cannot write %s: %s" % (path, error.strerror)) from None
 
 
 def put_out(text: bytes) -> None:
-    """Writes to standard output; a reader that has gone is no trouble."""
+    """Writes to standard output; a reader that has gone is no error."""
     try:
         sys.stdout.buffer.write(text)
         sys.stdout.buffer.flush()
@@ -78,7 +77,7 @@ def put_out(text: bytes) -> None:
         hush()
     except OSError as error:
         hush()
-        raise Trouble(NO_FILE, "cannot write the output: %s" % error.strerror) from None
+        raise ToolError(NO_FILE, "cannot write the output: %s" % error.strerror) from None
 
 
 def read_input() -> bytes:
@@ -88,7 +87,7 @@ def read_input() -> bytes:
     try:
         return sys.stdin.buffer.read()
     except OSError as error:
-        raise Trouble(NO_FILE, "cannot read the input: %s" % error.strerror) from None
+        raise ToolError(NO_FILE, "cannot read the input: %s" % error.strerror) from None
 
 
 def hush() -> None:
@@ -97,7 +96,7 @@ def hush() -> None:
 
 
 def say(text: str) -> None:
-    """Writes to standard error, whatever letters its locale has; a reader that has gone is no trouble."""
+    """Writes to standard error, whatever letters its locale has; a reader that has gone is no error."""
     try:
         sys.stderr.flush()
         sys.stderr.buffer.write(text.encode("utf-8", "replace"))
@@ -107,12 +106,12 @@ def say(text: str) -> None:
 
 
 def ended(name: str, main: Callable[[Sequence[str]], int]) -> int:
-    """The status of a tool: its own or the program's if it went well, else that of the trouble, reported in one line."""
+    """The status of a tool: its own or the program's if it went well, else that of the error, reported in one line."""
     sys.setrecursionlimit(10_000)
     try:
         return main(sys.argv[1:])
-    except Trouble as trouble:
-        said, status = str(trouble), trouble.status
+    except ToolError as error:
+        said, status = str(error), error.status
     except MemoryError:
         said, status = "out of memory", NO_MEMORY
     except KeyboardInterrupt:

@@ -8,7 +8,7 @@ from functools import lru_cache
 from pathlib import Path
 from typing import Optional
 
-from .trouble import read_file
+from .errors import read_file
 
 WIDE = 100
 TOP = os.path.dirname(os.path.dirname(os.path.dirname(os.path.realpath(__file__))))
@@ -43,7 +43,8 @@ def rules_and_faults() -> dict[str, list[str]]:
 @lru_cache(maxsize=None)
 def link(name: str) -> str:
     """The address of the row of a rule or a fault."""
-    row = next((at for at, line in enumerate(page("LANGUAGE.md").split("\n"), 1) if line.startswith("| %s |" % name)), 1)
+    lines = enumerate(page("LANGUAGE.md").split("\n"), 1)
+    row = next((at for at, line in lines if line.startswith("| %s |" % name)), 1)
     return "%s#L%d" % (Path(TOP, "docs", "LANGUAGE.md").as_uri(), row)
 
 

@@ -6,7 +6,7 @@ from .journal import Entry, parent_of
 Fork = tuple[str, int]
 
 
-class Moments:
+class Timing:
     """The rows of the entries, the partners of offers, and when processes begin, join and end."""
 
     def __init__(self, entries: list[Entry], in_order: bool) -> None:
