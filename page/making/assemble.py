@@ -113,13 +113,13 @@ def assemble(wasm: str, page: str, about: dict) -> int:
         program = file.read()
     data = {"examples": examples(), "handbook": handbook(), "options": options(), "lessons": steps_of_tutorial(wasm),
             "grammar": json.loads(read(TOP, "editors", "vscode", "superpascal.tmLanguage.json"))}
-    script = "\n" + bundle(SITE, "page.mjs")
+    script = "\n" + bundle(SITE, "start.mjs")
     digest = base64.b64encode(hashlib.sha256(script.encode()).digest()).decode()
     style = read(MIRROR, "lib/codemirror.css") + read(MIRROR, "addon/dialog/dialog.css") + read(SITE, "style.css")
     values = {"POLICY": POLICY % digest, "STYLE": style, "PROVED": proved_words(), "ABOUT": as_json(about),
               "LICENCE": html.escape(read(SITE, "codemirror-licence.txt").strip()), "DATA": pack(as_json(data).encode()),
-              "PROGRAM": pack(program), "EDITOR": pack(editor()), "WORKER": bundle(SITE, "worker.mjs"),
-              "SCRIPT": script}
+              "PROGRAM": pack(program), "EDITOR": pack(editor()), "SITE": pack(bundle(SITE, "page.mjs").encode()),
+              "WORKER": bundle(SITE, "worker.mjs"), "SCRIPT": script}
     text = re.sub(r"@([A-Z]+)@", lambda match: values[match[1]], read(SITE, "page.html"))
     with open(page, "w", encoding="utf-8") as file:
         file.write(text)

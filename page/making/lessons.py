@@ -10,7 +10,8 @@ import tempfile
 
 STEP = re.compile(r"^## (\d+\. .*)$", flags=re.M)
 PUT = re.compile(r"[Pp]ut this into `([\w.]+)`")
-COMMANDS = ("run", "replay", "witness", "check", "sets", "format", "code", "build", "exec")
+WITH_JOURNAL = ("replay", "trace", "where")
+COMMANDS = (*WITH_JOURNAL, "run", "witness", "check", "sets", "format", "code", "build", "exec")
 
 
 def inline(text: str) -> str:
@@ -55,7 +56,7 @@ class Folder:
         file = re.search(r"<(\S+)", match[2])
         if file and file[1] != "/dev/null":
             stdin = self.read(file[1])
-        has_journal = words[0] == "replay"
+        has_journal = words[0] in WITH_JOURNAL
         call = {"command": words[0], "file": os.path.basename(words[1]), "text": self.read(words[1]), "input": stdin,
                 "options": options_of(words[3 if has_journal else 2:])}
         return {**call, "journal": self.read(words[2])} if has_journal else call

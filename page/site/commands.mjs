@@ -1,6 +1,6 @@
 // The commands of the page. Each gives what it came to, for the tasks of the tutorial, or null.
 import { call, input, setBusy } from "./calling.mjs";
-import { $, encode, inCode, paragraph } from "./elements.mjs";
+import { $, button, encode, inCode, paragraph } from "./elements.mjs";
 import { tooLong } from "./keeping.mjs";
 import { entriesOf, journalText, readNotes } from "./notes.mjs";
 import { failureWords, runWords } from "./sentences.mjs";
@@ -15,8 +15,10 @@ async function runText() {
   const { entries } = outcome;
   if (entries) {
     $("journal").value = entries.length <= MOST_HISTORY ? journalText(entries) : "";
-    if (outcome.verdict && outcome.verdict.kind === "race")
-      $("details").append(paragraph("Witness makes a schedule in which the two offers clash."));
+    if (outcome.verdict && outcome.verdict.kind === "race") {
+      const both = button("Witness", () => perform("witness"));
+      $("details").append(paragraph(both, " shows beside it a schedule in which the two offers clash."));
+    }
     showRun(page.view, "The run", outcome, entries, words);
   }
   return { command: "run", outcome, output: result.output, entries };
@@ -35,17 +37,16 @@ async function witness() {
   const { look, text } = runWords(runResult.outcome, data.handbook);
   say(look, text);
   $("journal").value = result.output;
-  $("details").replaceChildren(paragraph("The same program, two schedules: beside the run stands its witness, in which "
-    + "the two offers clash, up to the fault F6. It is the journal now, and Replay follows it."));
   const entries = entriesOf(result.output);
   const outcome = { marks: [entries.length - 2, entries.length - 1] };
   showTwo(true);
   showRun(page.otherView, "The witness, in which the two offers clash", outcome, entries, words);
-  $("views").scrollIntoView({ block: "end" });
+  $("views").scrollIntoView({ block: "start" });
   return { command: "witness", outcome: readNotes(result.notes), output: result.output, entries };
 }
 
-async function replay() {
+/** Calls a command on the journal below the editor; null if that cannot be taken, which is said. */
+async function callAlong(command) {
   const journal = $("journal").value;
   const wrong = journal ? tooLong("journal", journal.length) : "There is no journal yet: Run makes one.";
   $("journal-part").open = true;
@@ -53,20 +54,39 @@ async function replay() {
     say("bad", wrong);
     return null;
   }
-  const words = page.options.words("replay");
   const files = { "run.journal": encode(journal) };
-  const result = await call(["replay", "text.sp", "run.journal", ...words], files, input());
-  if (!result) return null;
-  const outcome = show(result);
-  const unfit = /^journal unfit (\d+)$/.exec(outcome.head[0] || "");
+  const result = await call([command, "text.sp", "run.journal", ...page.options.words(command)], files, input());
+  return result && { journal, result };
+}
+
+/** The entries of a journal that were followed; where one does not fit, that is told. */
+function followedEntries(journal, outcome) {
   const entries = entriesOf(journal);
-  const followed = outcome.isReplayed ? entries : unfit ? entries.slice(0, +unfit[1]) : [];
-  if (unfit) {
-    const line = journal.split("\n")[+unfit[1] + 1] || "";
-    $("details").replaceChildren(paragraph("The entry that does not fit: ", inCode(line)));
-  }
-  if (followed.length) showRun(page.view, "The journal as it was followed", outcome, followed, words);
-  return { command: "replay", outcome, output: result.output, entries: followed };
+  const unfit = /^journal unfit (\d+)$/.exec(outcome.head[0] || "");
+  if (!unfit) return outcome.isReplayed ? entries : [];
+  const line = journal.split("\n")[+unfit[1] + 1] || "";
+  $("details").replaceChildren(paragraph("The entry that does not fit: ", inCode(line)));
+  return entries.slice(0, +unfit[1]);
+}
+
+async function replay() {
+  const called = await callAlong("replay");
+  if (!called) return null;
+  const { journal, result } = called;
+  const outcome = show(result);
+  const entries = followedEntries(journal, outcome);
+  const words = page.options.words("replay");
+  if (entries.length) showRun(page.view, "The journal as it was followed", outcome, entries, words);
+  return { command: "replay", outcome, output: result.output, entries };
+}
+
+/** A command that writes what the program does along the journal, in place of its output. */
+async function tellAlong(command, title) {
+  const called = await callAlong(command);
+  if (!called) return null;
+  const { journal, result } = called;
+  const outcome = show(result, title, `${page.name}.${command}.txt`);
+  return { command, outcome, output: result.output, entries: followedEntries(journal, outcome) };
 }
 
 async function checkText() {
@@ -119,6 +139,8 @@ const COMMANDS = {
   run: runText,
   witness,
   replay,
+  trace: () => tellAlong("trace", "Trace"),
+  where: () => tellAlong("where", "State behind the journal"),
   check: checkText,
   format: formatText,
   sets: () => list("sets", "Sets"),

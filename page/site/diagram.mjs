@@ -5,25 +5,28 @@ const LANE = 92;
 const ROW = 22;
 const LEFT = 56;
 const TOP = 40;
+const LETTER = 6.7; // the width of a letter
 export const MOST_ENTRIES = 400;
 
 const escape = (text) => String(text).replace(/[&<>"]/g, (it) => `&#${it.charCodeAt(0)};`);
 const short = (name) => (name === "0" ? "0" : "/" + name.slice(name.lastIndexOf("/") + 1));
 
-/** What is to be drawn: a window of entries, their rows, the lanes, and what is marked. */
+/** What is to be drawn: a window of entries, their rows, the lanes, what is marked, and the values of messages. What
+ * belongs to an entry has its index as `data-moment`. */
 export class Picture {
-  constructor(history, { folds, byCause, first, marks, now }) {
+  constructor(history, { folds, byCause, first, marks, places }) {
     this.history = history;
+    this.places = places;
     this.lanes = new Lanes(history, folds);
     this.first = first;
     this.last = Math.min(history.entries.length, first + MOST_ENTRIES);
     this.marks = marks;
-    this.now = now;
-    const rows = byCause ? history.rowsByCause() : history.entries.map((_, at) => at);
+    const rows = byCause ? history.rowsByCause() : null;
+    const row = (at) => (rows ? rows[at] : at);
     let least = Infinity;
     this.rows = 0;
-    for (let at = this.first; at < this.last; at++) least = Math.min(least, rows[at]);
-    this.rowOf = (at) => Math.max(-1, rows[at] - least);
+    for (let at = this.first; at < this.last; at++) least = Math.min(least, row(at));
+    this.rowOf = (at) => Math.max(-1, row(at) - least);
     for (let at = this.first; at < this.last; at++) this.rows = Math.max(this.rows, this.rowOf(at) + 1);
     this.visible = new Set(this.lanes.heads.map(({ name }) => name));
   }
@@ -50,10 +53,6 @@ export class Picture {
     return at >= this.first && at < this.last;
   }
 
-  later(at) {
-    return at >= this.now ? " later" : "";
-  }
-
   svg() {
     return [
       ...this.lines(), ...this.forks(), ...this.joins(), ...this.waits(), ...this.messages(), ...this.events(),
@@ -68,7 +67,7 @@ export class Picture {
       const role = canFold
         ? ` role="button" tabindex="0" data-fold="${name}" aria-expanded="${!isFolded}" aria-label="process ${name}"`
         : "";
-      const birth = this.history.processes.find((it) => it.name === name).birth;
+      const birth = this.history.births.get(name);
       const y = birth < this.first ? TOP - 14 : this.y(birth) + 1;
       const anchor = birth < this.first ? `x="${x}" text-anchor="middle"` : `x="${x + 6}"`;
       const description = `<title>${name}</title>${escape(short(name) + sign)}`;
@@ -78,13 +77,9 @@ export class Picture {
 
   /** Where each process begins and ends. */
   lines() {
-    const ends = new Map();
-    this.history.entries.forEach((entry, at) => {
-      if (["end", "fault", "laid"].includes(entry.kind)) ends.set(entry.name, at);
-    });
-    const birth = new Map(this.history.processes.map((it) => [it.name, it.birth]));
+    const { births, ends } = this.history;
     return this.lanes.heads.flatMap(({ name }) => {
-      const [begin, end] = [birth.get(name), ends.has(name) ? ends.get(name) : Infinity];
+      const [begin, end] = [births.get(name), ends.get(name) ?? Infinity];
       if (begin >= this.last || end < this.first) return [];
       const x = this.x(name);
       return [line("life", x, x, this.y(begin), this.y(end))];
@@ -98,37 +93,34 @@ export class Picture {
       if (entry.kind !== "fork") continue;
       const xs = this.history.childrenOfFork.get(at).map((name) => this.x(name));
       const far = xs.reduce((most, x) => Math.max(most, x), this.x(entry.name));
-      parts.push(line(`bar${this.later(at)}`, this.x(entry.name), far, this.y(at), this.y(at)));
+      parts.push(line("bar", this.x(entry.name), far, this.y(at), this.y(at), at));
     }
     return parts;
   }
 
   joins() {
-    const left = new Map();
+    const { entries, forkOfJoin } = this.history;
     const parts = [];
-    this.history.entries.slice(0, this.last).forEach((entry, at) => {
-      if (entry.kind === "fork") left.set(entry.name, +entry.argument);
-      if (entry.kind !== "end" || entry.name === "0") return;
-      const parent = entry.name.slice(0, entry.name.lastIndexOf("/"));
-      left.set(parent, left.get(parent) - 1);
-      if (left.get(parent) === 0 && this.isInside(at))
-        parts.push(line(`join${this.later(at)}`, this.x(entry.name), this.x(parent), this.y(at), this.y(at)));
-    });
+    for (let at = this.first; at < this.last; at++) {
+      if (!forkOfJoin.has(at)) continue;
+      const [from, to] = [at, forkOfJoin.get(at)].map((it) => this.x(entries[it].name));
+      parts.push(line("join", from, to, this.y(at), this.y(at), at));
+    }
     return parts;
   }
 
   /** An offer that waits: dashes from it to the one that meets it, or to the end of what is shown. */
   waits() {
-    const parts = [];
-    this.history.entries.slice(0, this.last).forEach((entry, at) => {
-      if (entry.kind !== "send" && entry.kind !== "receive") return;
-      const other = this.history.partners.get(at);
-      if (other !== undefined && (other < at || other < this.first)) return;
-      const x = this.x(entry.name);
-      const kind = other === undefined ? "stuck" : "wait";
-      parts.push(line(kind + this.later(at), x, x, this.y(at), this.y(other ?? Infinity)));
+    const { entries, partners } = this.history;
+    const offers = this.history.pendingAfter(this.first);
+    for (let at = this.first; at < this.last; at++)
+      if (entries[at].kind === "send" || entries[at].kind === "receive") offers.push(at);
+    return offers.flatMap((at) => {
+      const other = partners.get(at);
+      if (other < at) return [];
+      const x = this.x(entries[at].name);
+      return [line(other === undefined ? "stuck" : "wait", x, x, this.y(at), this.y(other ?? Infinity), at)];
     });
-    return parts;
   }
 
   messages() {
@@ -139,15 +131,23 @@ export class Picture {
       const [from, to] = [message.sent, message.received].map((it) => this.x(this.history.entries[it].name));
       if (from === to) continue;
       const side = from < to ? -1 : 1;
-      const channel = this.history.entries[at].argument;
       const middle = (from + to) / 2;
       const y = this.y(at);
       const tip = `<path class="tip" d="M${to + side * 5} ${y}l${side * 8} -4v8z"/>`;
-      const name = `<text x="${middle}" y="${y - 3}" text-anchor="middle">${escape(shortChannel(channel))}</text>`;
+      const label = this.labelOfMessage(message, Math.abs(from - to) - 24);
+      const name = `<text x="${middle}" y="${y - 3}" text-anchor="middle">${escape(label)}</text>`;
       const shaft = `<path d="M${from - side * 5} ${y}H${to + side * 7}"/>`;
-      parts.push(`<g class="message${this.later(at)}">${shaft}${tip}${name}</g>`);
+      parts.push(`<g class="message" data-moment="${at}">${shaft}${tip}${name}</g>`);
     }
     return parts;
+  }
+
+  /** The channel of a message and its value, if that is known and there is room for it. */
+  labelOfMessage({ sent }, room) {
+    const channel = shortChannel(this.history.entries[sent].argument);
+    const value = this.places[sent] && this.places[sent].value;
+    const whole = value ? `${channel}: ${value}` : channel;
+    return whole.length * LETTER <= room ? whole : channel;
   }
 
   events() {
@@ -157,21 +157,21 @@ export class Picture {
       const [x, y] = [this.x(entry.name), this.y(at)];
       const isOwn = this.visible.has(entry.name);
       const isMarked = this.marks.has(at);
-      const current = at === this.now - 1 ? " current" : "";
-      const classes = `event ${entry.kind}${isMarked ? " marked" : ""}${this.later(at)}${current}`;
+      const classes = `event ${entry.kind}${isMarked ? " marked" : ""}`;
       const touch = `<rect class="touch" x="${x - 14}" y="${y - ROW / 2}" width="28" height="${ROW}"/>`;
       const shape = shapeOf(entry.kind === "fault" ? "cross" : isMarked ? "square" : "circle", x, y, isOwn ? 4.5 : 2.5);
       const label = isOwn ? labelOf(entry) : "";
       const under = entry.kind === "fork" ? 13 : 4;
       const text = label ? `<text x="${x + 8}" y="${y + under}">${escape(label)}</text>` : "";
-      parts.push(`<g class="${classes}" data-at="${at}">${touch}${shape}${text}</g>`);
+      parts.push(`<g class="${classes}" data-at="${at}" data-moment="${at}">${touch}${shape}${text}</g>`);
     }
     return parts;
   }
 }
 
-function line(kind, x1, x2, y1, y2) {
-  return `<line class="${kind}" x1="${x1}" x2="${x2}" y1="${y1}" y2="${y2}"/>`;
+function line(kind, x1, x2, y1, y2, at) {
+  const moment = at === undefined ? "" : ` data-moment="${at}"`;
+  return `<line class="${kind}" x1="${x1}" x2="${x2}" y1="${y1}" y2="${y2}"${moment}/>`;
 }
 
 function shapeOf(shape, x, y, size) {
@@ -186,9 +186,10 @@ function labelOf(entry) {
   return entry.kind === "send" || entry.kind === "receive" ? "" : entry.kind;
 }
 
-/** A channel of the root by its number alone. */
+/** A channel with its process as that stands above its line; one of the root by its number alone. */
 function shortChannel(channel) {
-  return channel.startsWith("0#") ? channel.slice(1) : channel;
+  const [name, number] = channel.split("#");
+  return `${name === "0" ? "" : short(name)}#${number}`;
 }
 
 /** The picture as SVG, so many times as large. */

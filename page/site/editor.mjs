@@ -38,12 +38,13 @@ function keys(CodeMirror, actions) {
     "Ctrl-/": "toggleComment",
     "Cmd-/": "toggleComment",
     "Alt-G": "jumpToLine",
+    "Alt-Enter": (mirror) => actions.onLine(mirror.getCursor().line + 1),
   };
 }
 
-/** The editor in `place`. `onChange` is called after each change of the text, `onLineClick` with a line. */
+/** The editor in `place`. `onChange` is called after each change of the text, `onLine` with a line that is chosen. */
 export class Editor {
-  constructor(CodeMirror, place, grammar, { run, save, onChange, onLineClick }) {
+  constructor(CodeMirror, place, grammar, { run, save, onChange, onLine }) {
     CodeMirror.defineMode("superpascal", () => modeOf(grammar));
     this.CodeMirror = CodeMirror;
     this.mirror = CodeMirror(place, {
@@ -62,14 +63,14 @@ export class Editor {
       autocorrect: false,
       autocapitalize: false,
       screenReaderLabel: "the text of the program; Escape and then Tab leaves it",
-      extraKeys: keys(CodeMirror, { run, save }),
+      extraKeys: keys(CodeMirror, { run, save, onLine }),
     });
     this.mirror.on("change", () => onChange());
     this.mirror.on("keydown", (mirror, event) => {
       if (!["Tab", "Shift", "Escape"].includes(event.key)) mirror.removeKeyMap(LEAVING);
     });
     this.mirror.on("blur", (mirror) => mirror.removeKeyMap(LEAVING));
-    this.mirror.on("gutterClick", (_, line) => onLineClick(line + 1));
+    this.mirror.on("gutterClick", (_, line) => onLine(line + 1));
     this.problem = null;
     this.places = [];
   }
@@ -136,15 +137,15 @@ export class Editor {
     if (isFocused) this.mirror.focus();
   }
 
-  /** Marks the lines at which processes are: `places` has { line, column, look }. */
+  /** Marks the lines at which processes are: `places` has { line, column, look, title }. */
   showPlaces(places) {
-    this.clearPlaces();
     this.mirror.operation(() => {
-      for (const { line, column, look } of places) {
+      this.clearPlaces();
+      for (const { line, column, look, title } of places) {
         if (line > this.mirror.lineCount()) continue;
         const handle = this.mirror.addLineClass(line - 1, "background", `place-${look}`);
         const [from, to] = this.wordAt(this.position(line, column));
-        const mark = this.mirror.markText(from, to, { className: `place-word-${look}` });
+        const mark = this.mirror.markText(from, to, { className: `place-word-${look}`, title });
         this.places.push({ handle, look, mark });
       }
     });

@@ -8,6 +8,7 @@ const TAKES = {
   gen: ["workers"],
 };
 TAKES.witness = TAKES.exec = TAKES.run.filter((name) => name !== "show");
+TAKES.trace = TAKES.where = TAKES.replay;
 
 const plain = (text) => text.replace(/[,\s]/g, "");
 

@@ -7,10 +7,12 @@ import { fillPrinted, makeLink, saveJournal, saveOutput, saveText, take, takeExa
 import { writeStorage, readStorage, tooLong } from "./keeping.mjs";
 import { Tutorial } from "./lesson.mjs";
 import { Options } from "./options.mjs";
-import { Caller, unpack } from "./program.mjs";
+import { loadScript, unpack } from "./packing.mjs";
+import { Places } from "./places.mjs";
+import { Caller } from "./program.mjs";
 import { RunView } from "./runview.mjs";
-import { onStep } from "./showing.mjs";
 import { about, data, page, say } from "./state.mjs";
+import { onStep, showPlace, stepToLine } from "./stepping.mjs";
 
 const MOST_EDITED = 4194304; // letters that the editor takes at once
 
@@ -96,20 +98,9 @@ function listenToWindow() {
   });
 }
 
-function loadScript(text) {
-  return new Promise((done, failed) => {
-    const script = document.createElement("script");
-    script.src = URL.createObjectURL(new Blob([text], { type: "text/javascript" }));
-    script.onload = done;
-    script.onerror = () => failed(new Error("the editor could not be loaded"));
-    document.head.append(script);
-  });
-}
-
 async function beginEditor() {
-  await loadScript(await unpack($("packed-editor").textContent));
-  const onLineClick = (line) => page.view.stepToLine(line) || page.otherView.stepToLine(line);
-  const actions = { run: () => void perform("run"), save: saveText, onChange, onLineClick };
+  await loadScript($("packed-editor").textContent);
+  const actions = { run: () => void perform("run"), save: saveText, onChange, onLine: stepToLine };
   page.editor = new Editor(window.CodeMirror, $("editor"), data.grammar, actions);
   page.editor.mirror.on("beforeChange", (_, change) => {
     const size = change.text.reduce((sum, line) => sum + line.length + 1, 0);
@@ -121,7 +112,13 @@ async function beginEditor() {
 
 async function compile() {
   const module = await WebAssembly.compile(await unpack($("packed-program").textContent));
-  for (const name of ["caller", "checker", "teller"]) page[name] = new Caller(module, $("worker").textContent);
+  const caller = () => new Caller(module, $("worker").textContent);
+  for (const view of [page.view, page.otherView]) view.source.caller = caller();
+  Object.assign(page, { checker: caller(), caller: caller() });
+}
+
+function makeView(name) {
+  return new RunView($(name), data.handbook, { source: new Places(), onStep, showPlace });
 }
 
 /** The text at the start: of the link, or of the storage, or an example. */
@@ -147,8 +144,7 @@ async function begin() {
   $("examples").add(new Option("your own text", ""));
   for (const name of Object.keys(data.examples)) $("examples").add(new Option(name));
   page.options = new Options($("options"), data.options, keep);
-  page.view = new RunView($("view"), data.handbook, onStep);
-  page.otherView = new RunView($("other-view"), data.handbook, onStep);
+  Object.assign(page, { view: makeView("view"), otherView: makeView("other-view") });
   const actions = { put, perform: performCall };
   const keepStep = (step) => writeStorage({ step });
   page.tutorial = new Tutorial($("lesson"), data.lessons, actions, readStorage().step, keepStep);

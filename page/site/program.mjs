@@ -1,13 +1,6 @@
 // The program: its module is compiled once, and called in workers, so that the page stays alive and a call can be
 // stopped.
 
-/** The bytes of a block of the page that is packed by gzip and base64. */
-export async function unpack(text) {
-  const bytes = Uint8Array.from(atob(text.trim()), (letter) => letter.charCodeAt(0));
-  const stream = new Blob([bytes]).stream().pipeThrough(new DecompressionStream("gzip"));
-  return new Response(stream).arrayBuffer();
-}
-
 /** A worker that calls the program. Calls wait for each other. */
 export class Caller {
   constructor(module, workerText) {

@@ -2,10 +2,10 @@
 import { MOST_ENTRIES, Picture, svgOf } from "./diagram.mjs";
 import { button, element, paragraph } from "./elements.mjs";
 import { initialFolds } from "./lanes.mjs";
-import { byName } from "./notes.mjs";
-import { entrySentence, stateSentence } from "./sentences.mjs";
+import { eventNodes, offersUnderWay, processTable } from "./processes.mjs";
+import { entrySentence } from "./sentences.mjs";
 
-const MOST_ROWS = 60;
+const HOVER_AFTER = 120; // milliseconds that the pointer stands on an event
 const SCALES = [0.4, 0.55, 0.75, 1, 1.35, 1.8, 2.5];
 
 const CAUSE = "an entry right below those that had to come before it, or a row for each";
@@ -16,12 +16,12 @@ function tool(text, label, action) {
   return node;
 }
 
-/** The view of a run in `place`. `handbook` has the names of faults; `onStep` is called after each step. */
+/** The view of a run in `place`. `handbook` has the names of faults; `source` knows the places of its text (Places);
+ * `onStep(view)` is called after each step, `showPlace(view, place)` when a place of the text is to be shown. */
 export class RunView {
-  constructor(place, handbook, onStep) {
-    this.place = place;
-    this.handbook = handbook;
-    this.onStep = onStep;
+  constructor(place, handbook, { source, onStep, showPlace }) {
+    Object.assign(this, { place, handbook, source, onStep });
+    this.showPlace = (at) => showPlace(this, at);
     this.scale = 3;
     this.byCause = false;
     this.build();
@@ -68,9 +68,7 @@ export class RunView {
       }
     };
     this.picture.onpointermove = (event) => this.hover(event);
-    this.picture.onpointerleave = () => {
-      this.tooltip.hidden = true;
-    };
+    this.picture.onpointerleave = () => this.leave();
     this.picture.onwheel = (event) => {
       if (!event.ctrlKey) return;
       event.preventDefault();
@@ -84,12 +82,13 @@ export class RunView {
     this.marks = new Set(marks);
     this.folds = initialFolds(history);
     this.places = [];
-    this.where = null;
+    this.where = this.before = null;
     this.title.textContent = title;
     this.slider.max = history.entries.length;
     this.place.hidden = false;
-    this.first = 0;
+    this.first = this.now = 0;
     this.scale = this.fitting();
+    this.draw();
     this.step(at);
     if (!marks.length) this.picture.scrollTo(0, 0);
   }
@@ -97,7 +96,7 @@ export class RunView {
   /** The largest scale, at most 1, at which all lanes are seen at once, or at least half of that size. */
   fitting() {
     const { history, folds } = this;
-    const picture = new Picture(history, { folds, byCause: false, first: 0, marks: this.marks, now: 0 });
+    const picture = new Picture(history, { folds, byCause: false, first: 0, marks: this.marks, places: [] });
     const room = this.picture.clientWidth - 20;
     const index = SCALES.slice(0, 4).findLastIndex((scale) => (picture.width + 30) * scale <= room);
     return Math.max(index, 1);
@@ -106,18 +105,21 @@ export class RunView {
   hide() {
     this.place.hidden = true;
     this.history = null;
+    this.source.end();
+    this.leave();
   }
 
   /** Takes the place and the value of each entry, by `trace`. */
   putPlaces(places) {
     this.places = places;
-    if (this.history) this.step(this.now);
+    this.draw();
+    this.step(this.now);
   }
 
-  /** Takes what each process is at, by `where`, for the moment that is shown. */
-  putWhere(processes) {
-    this.where = processes;
-    this.tell();
+  /** Takes what each process is at, by `where`, at the moment that is shown and at the one before. */
+  putWhere(processes, before = null) {
+    Object.assign(this, { where: processes, before, isOld: false });
+    this.tellProcesses();
   }
 
   /** Goes to the moment behind so many entries. */
@@ -125,23 +127,39 @@ export class RunView {
     if (!this.history) return;
     const all = this.history.entries.length;
     this.now = Math.max(0, Math.min(all, now));
-    this.where = null;
+    this.where = this.source.known(this.now) || this.where;
+    this.before = this.source.known(this.now - 1);
+    this.isOld = this.where !== this.source.known(this.now);
     const isOut = this.now <= this.first || this.now > this.first + MOST_ENTRIES;
-    if (isOut) this.first = Math.max(0, Math.min(all - MOST_ENTRIES, this.now - MOST_ENTRIES / 2));
-    this.draw();
+    const first = isOut ? Math.max(0, Math.min(all - MOST_ENTRIES, this.now - MOST_ENTRIES / 2)) : this.first;
+    if (first === this.first) this.markMoment();
+    else {
+      this.first = first;
+      this.draw();
+    }
     this.tell();
     this.onStep(this);
   }
 
   draw() {
-    const { history, folds, byCause, first, marks, now } = this;
-    const picture = new Picture(history, { folds, byCause, first, marks, now });
+    const { history, folds, byCause, first, marks, places } = this;
+    const picture = new Picture(history, { folds, byCause, first, marks, places });
     this.picture.innerHTML = svgOf(picture, SCALES[this.scale]);
     const all = this.history.entries.length;
     if (all > MOST_ENTRIES) {
       const last = Math.min(all, first + MOST_ENTRIES);
       const text = `Entries ${first} to ${last - 1} of ${all} are drawn; the slider leads to the others.`;
       this.picture.append(paragraph(text));
+    }
+    this.markMoment();
+  }
+
+  /** Marks in the picture what is behind the moment, and the last entry, which is brought into view. */
+  markMoment() {
+    for (const node of this.picture.querySelectorAll("[data-moment]")) {
+      const at = +node.dataset.moment;
+      node.classList.toggle("later", at >= this.now);
+      if (node.dataset.at) node.classList.toggle("current", at === this.now - 1);
     }
     const current = this.picture.querySelector(".current");
     if (current) this.scrollTo(current);
@@ -157,12 +175,11 @@ export class RunView {
     this.picture.scrollBy(by(it.left, it.right, box.left, box.right), by(it.top, it.bottom, box.top, box.bottom));
   }
 
-  /** What is said of an entry: the sentence, its value and its place. */
+  /** What is said of an entry: the sentence, with the value of its message, and its line. */
   entryWords(at) {
     const place = this.places[at];
-    const value = place && place.value ? `, ${place.value}` : "";
     const line = place ? ` (line ${place.line})` : "";
-    return `Entry ${at}: ${entrySentence(this.history, at, this.handbook)}${value}${line}.`;
+    return `Entry ${at}: ${entrySentence(this.history, at, this.handbook, place && place.value)}${line}.`;
   }
 
   tell() {
@@ -172,56 +189,14 @@ export class RunView {
     const words = this.now === 0 ? "The start: the root runs." : this.entryWords(this.now - 1);
     this.slider.setAttribute("aria-valuetext", words);
     this.sentence.textContent = words;
-    this.table.replaceChildren(this.processTable(), ...this.underWay());
+    this.tellProcesses();
   }
 
-  processTable() {
-    const states = this.history.stateAfter(this.now);
-    const names = [...states.keys()].filter((name) => states.get(name).kind !== "end").sort(byName);
-    if (!names.length) return paragraph("All processes have ended.");
-    const table = element("table");
-    const hasValues = this.where !== null;
-    const heads = ["process", "is at", ...(hasValues ? ["line", "calls and variables"] : [])];
-    table.append(element("caption", { textContent: "Processes that have not ended" }),
-      element("tr", {}, ...heads.map((text) => element("th", { textContent: text, scope: "col" }))));
-    const acting = this.now > 0 ? this.history.entries[this.now - 1].name : "";
-    for (const name of names.slice(0, MOST_ROWS)) {
-      const row = element("tr", { className: name === acting ? "acting" : "" });
-      row.append(element("th", { textContent: name, scope: "row" }),
-        element("td", { textContent: stateSentence(states.get(name)), className: states.get(name).kind }));
-      if (hasValues) row.append(...this.cellsOf(name));
-      table.append(row);
-    }
-    const left = names.length - MOST_ROWS;
-    const more = element("td", { colSpan: heads.length, textContent: `and ${left} more` });
-    if (left > 0) table.append(element("tr", {}, more));
-    return table;
-  }
-
-  /** Line, calls and variables of a process, by `where`. */
-  cellsOf(name) {
-    const process = this.where.find((it) => it.name === name);
-    if (!process) return [element("td"), element("td")];
-    const calls = process.calls.map((call) => {
-      const from = call.line ? ` (called at line ${call.line})` : "";
-      const variables = call.variables.map((it) => `${it.name} = ${it.value}`).join(", ");
-      return element("div", {}, element("b", { textContent: call.block + from }), variables ? ": " + variables : "");
-    });
-    return [element("td", { textContent: String(process.line) }), element("td", {}, ...calls)];
-  }
-
-  /** The offers that nobody has met at this moment. */
-  underWay() {
-    const waiting = this.history.pendingAfter(this.now);
-    if (!waiting.length) return [];
-    const list = element("ul");
-    for (const at of waiting.slice(0, MOST_ROWS)) {
-      const entry = this.history.entries[at];
-      const value = this.places[at] && this.places[at].value ? ` ${this.places[at].value}` : "";
-      const verb = entry.kind === "send" ? "a message" + value + " of" : "a receive of";
-      list.append(element("li", { textContent: `${verb} ${entry.name} on ${entry.argument}, entry ${at}` }));
-    }
-    return [element("h3", { textContent: "Offers under way" }), list];
+  /** Until `where` has said what holds at this moment, what it said of an earlier one stands there, paler. */
+  tellProcesses() {
+    const { history, now, places, where, before, isOld, showPlace } = this;
+    const options = { where, before, isOld, showPlace, lines: this.source.lines };
+    this.table.replaceChildren(processTable(history, now, options), ...offersUnderWay(history, now, places));
   }
 
   zoom(by) {
@@ -256,14 +231,47 @@ export class RunView {
     if (event) this.step(+event.dataset.at + 1);
   }
 
+  /** Tells what the pointer is on: at once what is known, and a moment later what `where` says of it. */
   hover(event) {
-    const at = event.target.closest ? event.target.closest("[data-at]") : null;
-    this.tooltip.hidden = !at;
-    if (!at) return;
-    this.tooltip.textContent = this.entryWords(+at.dataset.at);
+    const target = event.target.closest ? event.target.closest("[data-at]") : null;
+    if (!target) {
+      this.leave();
+      return;
+    }
+    const at = +target.dataset.at;
+    if (this.hovered !== at) {
+      this.leave();
+      this.hovered = at;
+      this.hoverTimer = setTimeout(() => this.askEvent(at), this.source.known(at + 1) ? 0 : HOVER_AFTER);
+      this.tellEvent(at);
+    }
+    this.tooltip.hidden = false;
     const box = this.place.getBoundingClientRect();
-    this.tooltip.style.left = `${Math.min(event.clientX - box.left + 14, box.width - 260)}px`;
+    const left = Math.min(event.clientX - box.left + 14, box.width - this.tooltip.offsetWidth);
+    this.tooltip.style.left = `${Math.max(0, left)}px`;
     this.tooltip.style.top = `${event.clientY - box.top + 16}px`;
+  }
+
+  leave() {
+    clearTimeout(this.hoverTimer);
+    this.hovered = -1;
+    this.tooltip.hidden = true;
+  }
+
+  async askEvent(at) {
+    await this.source.where(at + 1, "hover");
+    if (this.hovered === at) this.tellEvent(at);
+  }
+
+  tellEvent(at) {
+    const { name } = this.history.entries[at];
+    const process = (this.source.known(at + 1) || []).find((it) => it.name === name);
+    this.tooltip.replaceChildren(...eventNodes(this.entryWords(at), this.places[at], process, this.source.lines));
+  }
+
+  /** Says something in place of the sentence of the moment. */
+  say(words) {
+    this.sentence.textContent = words;
   }
 
   /** Steps behind the first entry from here on that this line of the text made, where places are known. */

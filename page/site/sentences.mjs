@@ -10,14 +10,14 @@ export function rowOf(handbook, name) {
     : { title: name, says: `It is broken where: ${first}. Its place: ${second}.`, example };
 }
 
-function offerSentence(history, at, entry) {
-  const verb = entry.kind === "send" ? "sends on" : "receives on";
+function offerSentence(history, at, entry, value) {
   const partnerVerb = entry.kind === "send" ? "receives" : "sends";
   const other = history.partners.get(at);
-  if (other === undefined) return `offers to ${entry.kind} on ${entry.argument}; nobody ${partnerVerb}`;
+  const what = `${value ? ` ${value}` : ""} on ${entry.argument}`;
+  if (other === undefined) return `offers to ${entry.kind}${what}; nobody ${partnerVerb}`;
   const partner = history.entries[other].name;
-  if (other < at) return `${verb} ${entry.argument} and meets ${partner}, which waited since entry ${other}`;
-  return `offers to ${entry.kind} on ${entry.argument}; ${partner} ${partnerVerb} at entry ${other}`;
+  if (other < at) return `${entry.kind}s${what} and meets ${partner}, which waited since entry ${other}`;
+  return `offers to ${entry.kind}${what}; ${partner} ${partnerVerb} at entry ${other}`;
 }
 
 const nameOf = (fault, handbook) => (handbook[fault] ? `, ${handbook[fault][0]}` : "");
@@ -28,11 +28,11 @@ function forkWords(names) {
   return `${names.length} processes, ${names[0]} to ${names[names.length - 1]}, and waits for them`;
 }
 
-/** What the process of an entry did, in words. */
-export function entrySentence(history, at, handbook) {
+/** What the process of an entry did, in words; `value` is that of its message, if it is known. */
+export function entrySentence(history, at, handbook, value = "") {
   const entry = history.entries[at];
   const { kind, argument, name } = entry;
-  if (kind === "send" || kind === "receive") return `${name} ${offerSentence(history, at, entry)}`;
+  if (kind === "send" || kind === "receive") return `${name} ${offerSentence(history, at, entry, value)}`;
   if (kind === "open") return `${name} opens the channel ${history.channelNames.get(at)}`;
   if (kind === "fork") {
     return `${name} starts ${forkWords(history.childrenOfFork.get(at))}`;

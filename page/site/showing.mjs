@@ -1,19 +1,19 @@
 // Showing what a call came to: the verdict in words, output and notes, the picture of the run.
 import { input } from "./calling.mjs";
 import { MOST_ENTRIES } from "./diagram.mjs";
-import { $, encode, inCode, paragraph } from "./elements.mjs";
+import { $, paragraph } from "./elements.mjs";
+import { tellEnding } from "./ending.mjs";
 import { History } from "./history.mjs";
 import { readNotes } from "./notes.mjs";
-import { Places, circleOf } from "./places.mjs";
 import { lineWords, runWords } from "./sentences.mjs";
 import { data, handbookWords, page, say } from "./state.mjs";
 
 const MOST_SHOWN = 1000000; // letters of a text
-const ASK_AFTER = 120; // milliseconds behind the last step
 export const MOST_HISTORY = 200000; // entries of a run that is drawn
 
 /** Where two runs are shown, they stand side by side over the whole width. */
 export function showTwo(isTwo) {
+  $("two-words").hidden = !isTwo;
   document.querySelector("main").classList.toggle("with-two", isTwo);
 }
 
@@ -100,38 +100,10 @@ export async function showRun(view, title, outcome, entries, words) {
     return;
   }
   const history = new History(entries);
-  view.source ??= new Places((...it) => page.teller.call(...it));
-  view.source.begin(encode(page.editor.text), input(), words, entries);
+  view.source.begin(page.editor.text, input(), words, entries);
   view.show(title, history, opening(outcome, history));
   const places = await view.source.trace();
   if (view.history !== history) return;
   if (places.length) view.putPlaces(places);
-  if (outcome.end && outcome.end.kind === "deadlock") showCircle(view, history);
-}
-
-/** Says the circle of a deadlock, where the program can tell who holds which channel. */
-async function showCircle(view, history) {
-  const processes = await view.source.where(history.entries.length);
-  const circle = processes && circleOf(processes);
-  if (!circle || view.history !== history) return;
-  $("details").append(paragraph("The circle, in which each waits for the next one: ", inCode(circle.join(" \u2192 "))));
-}
-
-let askTimer = 0;
-
-/** After a step of a view: the lines of its moment are marked in the text, and the variables asked for. */
-export function onStep(view) {
-  const entry = view.now > 0 ? view.places[view.now - 1] : null;
-  const current = entry ? [{ ...entry, look: "current" }] : [];
-  page.editor.showPlaces(current);
-  if (!view.source || view.source.isKnown === false) return;
-  clearTimeout(askTimer);
-  const { now, history } = view;
-  askTimer = setTimeout(async () => {
-    const processes = await view.source.where(now);
-    if (!processes || view.now !== now || view.history !== history) return;
-    view.putWhere(processes);
-    const others = processes.map(({ line, column }) => ({ line, column, look: "other" }));
-    page.editor.showPlaces([...others, ...current]);
-  }, ASK_AFTER);
+  tellEnding(view, outcome);
 }

@@ -9,7 +9,7 @@ export const data = {};
 export const about = JSON.parse($("about").textContent);
 
 /** The parts that are made at the start (editor, options, views, tutorial; caller for the commands, checker for the
- * check while one writes, teller for places in the text), and what the page is at. */
+ * check while one writes), and what the page is at; `stepped` is the view that was stepped last. */
 export const page = { name: "program", code: "", linked: null, output: "", isBusy: false, isShown: false };
 
 /** Says one line above the result; `look` is good, bad, warning or nothing. */

@@ -14,7 +14,7 @@ import tempfile
 import time
 
 from browser import Chromium, Firefox
-from in_browser import Test
+from opened import Test
 
 SPEED = os.path.join(os.path.dirname(os.path.abspath(__file__)), "..", "speed")
 TIMES = 3

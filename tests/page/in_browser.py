@@ -1,7 +1,7 @@
 #!/usr/bin/env python3
 """Opens page/superpascal.html in a browser from its file, and does what a user does.
 
-    tests/page/in_browser.py [--firefox] [--page FILE] [--pictures FOLDER] [--without-examples] [--times]
+    tests/page/in_browser.py [--firefox] [--page FILE] [--pictures FOLDER] [--other-program] [--times]
 
 In Firefox, which is tried by hand at a release, all but what needs keys or the browser's own tools. Prints what is
 wrong, and how many checks were made. If Chromium does not start, that is said, and nothing is wrong.
@@ -12,16 +12,12 @@ import sys
 import time
 
 from browser import Chromium, Firefox, Trouble
+from opened import CONTROL, DATA, ENTER, ESCAPE, MIRROR, PAGE, RIGHT, TAB, Test, read, slider, slowness
+from stepping import test_deadlock_places, test_philosophers, test_places_by_hand, test_race, test_race_places
 
-HERE = os.path.dirname(os.path.abspath(__file__))
-TOP = os.path.join(HERE, "..", "..")
-PAGE = os.path.join(TOP, "page", "superpascal.html")
-DATA = os.path.join(TOP, "crates", "gallery", "data")
 # What is far too long on a machine that has nothing else to do.
 READY_IN = 5000  # milliseconds; seen: 400
 STOPPED_IN = 5  # seconds; seen: 0.1
-ESCAPE, TAB, ENTER, CONTROL, RIGHT = "\ue00c", "\ue004", "\ue007", "\ue009", "\ue014"
-MIRROR = "document.querySelector('.CodeMirror').CodeMirror"
 STORED = "(JSON.parse(localStorage.getItem('superpascal')) || {}).text == given[1]"
 CHOOSE_STEP = "const it = document.querySelector('#lesson select'); it.selectedIndex = given[0]; it.onchange()"
 # The buttons of the tutorial's commands; what the page prints below one of them, which is pressed.
@@ -29,88 +25,6 @@ DEEDS = """const deeds = [...document.querySelectorAll('#lesson button')]
     .filter((it) => it.textContent.startsWith('\u25b6'));"""
 DO_DEED = """const next = deeds[given[0]].parentNode.nextSibling; deeds[given[0]].click();
     return next && next.tagName == 'PRE' ? next.textContent : ''"""
-
-
-def slowness():
-    """How many times longer things may take than on a machine that has nothing else to do."""
-    return max(1, 2 * os.getloadavg()[0] / os.cpu_count())
-
-
-def read(name):
-    path = os.path.join(DATA, name)
-    return open(path, encoding="utf-8").read() if os.path.exists(path) else ""
-
-
-class Test:
-    """The page in a browser, and the checks that are made."""
-
-    def __init__(self, browser, page, pictures=""):
-        self.browser, self.pictures = browser, pictures
-        self.address = "file://" + os.path.realpath(page)
-        self.checks, self.wrong = 0, 0
-
-    def expect(self, found, wanted, what):
-        self.checks += 1
-        if found != wanted:
-            self.wrong += 1
-            print("%s: found %r, wanted %r" % (what, found, wanted))
-
-    def expect_that(self, holds, what, found=""):
-        self.checks += 1
-        if not holds:
-            self.wrong += 1
-            print("%s: not so %s" % (what, found))
-
-    def picture(self, name):
-        if self.pictures:
-            self.browser.shot(os.path.join(self.pictures, name + ".png"))
-
-    def wait(self, condition, what, *values):
-        """Waits until a script says so, a minute at most; the values are given[1] and so on in it."""
-        script = """for (const begun = Date.now(); Date.now() - begun < given[0];) {
-            if (%s) return true;
-            await new Promise((go) => setTimeout(go, 20));
-        } return false;""" % condition
-        self.expect_that(self.browser.run(script, 60000, *values), what)
-
-    def open(self, hash_part="", is_first=False):
-        self.browser.go("about:blank")
-        self.browser.go(self.address + hash_part)
-        self.wait("document.body && document.body.dataset.ready", "the page is ready")
-        if is_first:
-            self.browser.run("localStorage.clear()")
-            self.open(hash_part)
-
-    def text(self, name):
-        return self.browser.run("return document.getElementById(given[0]).textContent", name)
-
-    def put(self, text, given="", options=()):
-        """Puts a text, an input and options into the page, as if they were typed."""
-        self.browser.run("""%s.setValue(given[0]); document.getElementById('input').value = given[1];
-            for (const it of document.querySelectorAll('#options input')) it.value = '';
-            for (const [name, value] of given[2]) document.getElementById('option-' + name).value = value;""" % MIRROR,
-                         text, given, list(options))
-
-    def is_there(self, selector):
-        return self.browser.run("return !!document.querySelector(given[0])", selector)
-
-    def click(self, selector):
-        """A click on a part of the page, also of a picture."""
-        self.browser.run("""document.querySelector(given[0])
-            .dispatchEvent(new MouseEvent('click', {bubbles: true}))""", selector)
-
-    def command(self, name):
-        """Presses the button of a command and waits for its end."""
-        self.browser.run("document.querySelector('[data-command=' + given[0] + ']').click()", name)
-        self.wait("document.getElementById('stop').disabled", name + " ends")
-
-    def code_file(self, text):
-        """Opens a text as a code file, through the field of files."""
-        self.browser.run("""const field = document.getElementById('file'), files = new DataTransfer();
-            files.items.add(new File([given[0]], 'text.code')); field.files = files.files;
-            document.getElementById('verdict').textContent = '';
-            field.dispatchEvent(new Event('change'));""", text)
-        self.wait("document.getElementById('verdict').textContent", "the code file is opened")
 
 
 def whole_notes(test):
@@ -126,7 +40,7 @@ def run_example(test, name, words):
         test.code_file(read(file))
     else:
         test.put(read(file), read(name + ".in"))
-    if command == "replay":
+    if command in ("replay", "trace", "where"):
         test.browser.run("document.getElementById('journal').value = given[0]", read(words[2]))
     test.command(command)
     if command == "witness":
@@ -140,9 +54,6 @@ def test_examples(test):
         if line.startswith("#"):
             continue
         name, _, *words = line.split()
-        if not test.is_there("[data-command=%s]" % words[0]):
-            # (trace and where have no button: the page calls them itself)
-            continue
         output, notes = run_example(test, name, words)
         test.expect(output, read(name + ".out"), "output of " + name)
         if notes is None:
@@ -196,72 +107,6 @@ def test_live_check(test):
     test.wait("document.getElementById('problem').textContent.startsWith('2:')", "a place behind other letters")
     test.put(read("answer.sp"))
     test.wait("document.getElementById('problem').textContent.includes('keeps all rules')", "no rule is broken")
-
-
-def slider(test, view="view"):
-    return test.browser.run("""const it = document.querySelector('#' + given[0] + ' input[type=range]');
-        return [it.valueAsNumber, +it.max]""", view)
-
-
-def step(test, label, view="view"):
-    test.click("#%s [aria-label='%s']" % (view, label))
-
-
-def test_philosophers(test):
-    """A deadlock opens at its end; stepping back and forward; the offers that wait are marked."""
-    test.put(read("philosophers.sp"))
-    test.command("run")
-    test.expect_that(test.text("verdict").startswith("Deadlock: 3 processes wait"), "deadlock", test.text("verdict"))
-    now, most = slider(test)
-    test.expect(now, most, "it opens at its end")
-    marked = "return document.querySelectorAll('#view .event.marked').length"
-    test.expect(test.browser.run(marked), 3, "three offers are marked")
-    rows = "return [...document.querySelectorAll('#view tr td.receive')].map((it) => it.textContent)"
-    test.expect(len(test.browser.run(rows)), 3, "three processes wait to receive")
-    test.picture("philosophers")
-    step(test, "one entry back")
-    test.expect(slider(test), [most - 1, most], "a step back")
-    test.expect(len(test.browser.run(rows)), 2, "two processes wait")
-    step(test, "to the start")
-    sentence = "return document.querySelector('#view .sentence').textContent"
-    test.expect(test.browser.run(sentence), "The start: the root runs.", "the start")
-    for _ in range(4):
-        step(test, "one entry on")
-    test.expect_that("0 starts 3 processes" in test.browser.run(sentence), "the fork", test.browser.run(sentence))
-    test.click("#view .event[data-at='5']")
-    test.expect(slider(test)[0], 6, "a click on an event")
-
-
-def test_race(test):
-    """A race opens at its later offer; the witness stands beside the run."""
-    test.put(read("race.sp"), options=[["workers", "1"]])
-    test.command("run")
-    test.expect(slider(test), [5, 10], "it opens behind the later offer")
-    test.expect_that("two sends on the channel 0#0" in test.text("verdict"), "the race", test.text("verdict"))
-    found = test.browser.run("return [...document.querySelectorAll('#view .marked')].map((it) => it.dataset.at)")
-    test.expect(found, ["3", "4"], "the two offers")
-    test.command("witness")
-    test.expect_that(test.browser.run("return !document.getElementById('other-view').hidden"), "the witness is drawn")
-    test.expect(slider(test, "other-view"), [4, 4], "it opens at its end")
-    test.expect_that(test.is_there("#other-view .event.fault"), "the clash is drawn")
-    test.picture("race")
-    test.command("replay")
-    test.expect(test.text("notes"), "replayed\nfault F6 0/0.2", "the witness is replayed")
-    test.put(read("sieve.sp"))
-    test.command("run")
-    test.picture("sieve")
-    test.expect(slider(test), [400, 433], "a long run opens at the end of the first part that is drawn")
-    many = test.browser.run("return document.querySelectorAll('#view [data-fold]').length")
-    test.expect_that(many > 0, "processes that can be folded")
-    test.click("#view [data-fold]")
-    fewer = test.browser.run("return document.querySelectorAll('#view [data-fold]').length")
-    test.expect_that(fewer < many, "folding", (many, fewer))
-    wide = "return document.querySelector('#view svg').getBoundingClientRect().width"
-    before = test.browser.run(wide)
-    step(test, "smaller")
-    test.expect_that(test.browser.run(wide) < before, "smaller")
-    step(test, "an entry right below those that had to come before it, or a row for each")
-    test.expect_that(test.is_there("#view svg .event"), "by cause")
 
 
 def test_link_and_storage(test):
@@ -448,45 +293,6 @@ def test_quiet(test):
     test.expect_that(asked <= {"file", "blob", "data", "about"}, "no request to a host", asked)
 
 
-# What `trace` and `where` would say of the philosophers; a worker that answers so in place of the program.
-TRACE = "trace\n0 24:22 0 open\n1 24:22 0 open\n2 24:22 0 open\n3 25:3 0 fork 3\n" + "".join(
-    "%d 18:3 0/0.%d receive 0#%d\n" % (4 + k, k, (k + 1) % 3) for k in range(3))
-WHERE = "where\n0 25:3 join\n  philosophers\n    i = 3\n" + "".join(
-    "0/0.%d 18:3 receive 0#%d\n  philosopher 26:5\n    k = %d\n    left = 0#%d\n    right = 0#%d\n"
-    "    borrowed = undefined\n" % (k, (k + 1) % 3, k + 1, k, (k + 1) % 3) for k in range(3))
-ANSWERS = """const Real = Worker, answers = %s;
-window.Worker = class extends Real {
-  postMessage(data, ...more) {
-    const text = data.words && answers[data.words[0]];
-    if (!text) return super.postMessage(data, ...more);
-    const result = {id: data.id, status: 4, output: new TextEncoder().encode(text), notes: new Uint8Array()};
-    setTimeout(() => this.onmessage({data: result}));
-  }
-};"""
-
-
-def test_places(test):
-    """Lines, calls and variables, where the program knows `trace` and `where`."""
-    script = ANSWERS % json.dumps({"trace": TRACE, "where": WHERE})
-    added = test.browser.tool("Page.addScriptToEvaluateOnNewDocument", source=script)
-    test.open()
-    test.put(read("philosophers.sp"))
-    test.command("run")
-    circle = "0/0.0 \u2192 0/0.1 \u2192 0/0.2 \u2192 0/0.0"
-    test.wait("document.getElementById('details').textContent.includes('%s')" % circle, "the circle is told")
-    test.wait("document.querySelector('#view table').textContent.includes('borrowed = undefined')", "variables")
-    test.expect_that("philosopher (called at line 26)" in test.text("view"), "calls", test.text("view")[-300:])
-    line = "return [...document.querySelectorAll('.place-current')].map((it) => it.parentNode.textContent.trim())"
-    test.expect_that("receive(right, borrowed)" in str(test.browser.run(line)), "its line", test.browser.run(line))
-    test.click("#view .event[data-at='3']")
-    test.expect_that("forall" in str(test.browser.run(line)), "the line of an event", test.browser.run(line))
-    test.expect_that("(line 25)" in test.text("view"), "the line in words")
-    test.browser.run("CodeMirror.signal(%s, 'gutterClick', %s, 17)" % (MIRROR, MIRROR))
-    test.expect(slider(test)[0], 5, "a click on a line steps to its next entry")
-    test.picture("places")
-    test.browser.tool("Page.removeScriptToEvaluateOnNewDocument", identifier=added["identifier"])
-
-
 def refused_memory(page):
     """A browser that gives a page 100 MB: a run that wants more ends out of memory, and the page goes on."""
     browser = Chromium(more=["--js-flags=--wasm-max-mem-pages=1600"])
@@ -507,9 +313,10 @@ def refused_memory(page):
     return test
 
 
-EVERYWHERE = (test_examples, test_commands, test_live_check, test_philosophers, test_race, test_stop, test_troubles,
+OF_PROGRAM = (test_examples, test_deadlock_places, test_race_places, test_places_by_hand)
+EVERYWHERE = (*OF_PROGRAM[:-1], test_commands, test_live_check, test_philosophers, test_race, test_stop, test_troubles,
               test_tutorial, test_link_and_storage, test_looks)
-IN_CHROMIUM = (test_places, test_phone, test_keys, test_print, test_quiet)
+IN_CHROMIUM = (test_places_by_hand, test_phone, test_keys, test_print, test_quiet)
 
 
 def all_parts(test, parts, has_times):
@@ -541,9 +348,9 @@ def main(words):
     named = {name: words[words.index(name) + 1] for name in ("--page", "--pictures") if name in words}
     is_firefox, page = "--firefox" in words, named.get("--page", PAGE)
     parts = EVERYWHERE + (() if is_firefox else IN_CHROMIUM)
-    if "--without-examples" in words:
-        print("skipped: what the examples print in the page, since its program was made of other sources")
-        parts = tuple(part for part in parts if part is not test_examples)
+    if "--other-program" in words:
+        print("skipped: what the examples and their places are in the page, since its program is of other sources")
+        parts = tuple(part for part in parts if part not in OF_PROGRAM)
     browser = start(is_firefox)
     if not browser:
         return 0

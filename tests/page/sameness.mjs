@@ -29,13 +29,24 @@ function compare(name, words, files, input) {
   return { status: ours.status, output, notes };
 }
 
-/** A command that writes a file, and then one that takes it. */
-function handOn(name, files, input, words, file, next) {
+/** A command that writes a file, and then those that take it. Gives the file's bytes, where there are some. */
+function handOn(name, files, input, words, file, ...next) {
   const made = compare(name, words, files, input);
   const bytes = words[0] === "run" ? made.notes : made.output;
-  if (!bytes.length) return;
+  if (!bytes.length) return null;
   fs.writeFileSync(file, bytes);
-  compare(name, next, { ...files, [file]: bytes }, input);
+  for (const it of next) compare(name, it, { ...files, [file]: bytes }, input);
+  return bytes;
+}
+
+const alongOf = (file) => ["replay", "trace", "where"].map((command) => [command, "a.sp", file]);
+
+/** `where` in the midst of a run: of the first half of its journal. */
+function compareHalf(name, files, input, journal) {
+  const lines = journal.toString("latin1").split("\n").slice(0, -1);
+  const half = Buffer.from(lines.slice(0, 1 + lines.length / 2).join("\n") + "\n", "latin1");
+  fs.writeFileSync("h.journal", half);
+  compare(name, ["where", "a.sp", "h.journal"], { ...files, "h.journal": half }, input);
 }
 
 function allCommands(name, text, given) {
@@ -47,9 +58,10 @@ function allCommands(name, text, given) {
   compare(name, ["run", "a.sp", ...one, "--show", "all"], files, input);
   compare(name, ["run", "a.sp", ...one, "--ticks", "7", "--depth=3", "--output", "5"], files, input);
   handOn(name, files, input, ["build", "a.sp"], "a.code", ["exec", "a.code", ...one]);
-  handOn(name, files, input, ["witness", "a.sp", ...one], "w.journal", ["replay", "a.sp", "w.journal"]);
+  handOn(name, files, input, ["witness", "a.sp", ...one], "w.journal", ...alongOf("w.journal"));
   const kept = ["run", "a.sp", ...one, "--show", "journal"];
-  handOn(name, files, input, kept, "r.journal", ["replay", "a.sp", "r.journal"]);
+  const journal = handOn(name, files, input, kept, "r.journal", ...alongOf("r.journal"));
+  if (journal && journal.toString("latin1").startsWith("superpascal journal")) compareHalf(name, files, input, journal);
 }
 
 /** Words, files and inputs that are refused. */
@@ -67,9 +79,10 @@ function refusals() {
   };
   for (const [name, bytes] of Object.entries(files)) fs.writeFileSync(name, bytes);
   const calls = ["", "run", "go a.sp", "run a.sp a.sp", "run a.sp --ticks 0", "run a.sp --workers 65", "check none.sp",
-    "run none.sp", "replay c.sp bad.journal", "replay c.sp unfit.journal", "replay c.sp none.journal", "exec bad.code",
-    "exec rejected.code", "exec none.code", "gen 0", "gen 7", "gen 2001", "check a.sp --ticks 1", "run -- a.sp", "sets",
-    "-x"];
+    "run none.sp", "replay c.sp bad.journal", "replay c.sp unfit.journal", "replay c.sp none.journal", "trace c.sp bad.journal",
+    "trace c.sp unfit.journal", "where c.sp bad.journal", "where c.sp unfit.journal", "where c.sp none.journal",
+    "trace c.sp", "where c.sp", "where a.sp unfit.journal --workers 1", "exec bad.code", "exec rejected.code",
+    "exec none.code", "gen 0", "gen 7", "gen 2001", "check a.sp --ticks 1", "run -- a.sp", "sets", "-x"];
   for (const words of calls) compare("refusals", words.split(" ").filter(Boolean), files, nothing);
   compare("a long input", ["run", "a.sp"], files, Buffer.alloc(16777217, 32));
   compare("a long text", ["check", "a.sp"], long({ "a.sp": Buffer.alloc(1048577, 32) }), nothing);

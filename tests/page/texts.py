@@ -5,14 +5,14 @@ import sys
 
 TOP = os.path.join(os.path.dirname(os.path.abspath(__file__)), "..", "..")
 sys.path.insert(0, os.path.join(TOP, "tools"))
-from superpascal_tools import handbook  # noqa: E402
+from superpascal_tools import rule_pages  # noqa: E402
 
 
 def texts():
     """Of each text its name, itself and its input."""
     found = []
-    for name in handbook.rules_and_faults():
-        text, behind = handbook.example(name)
+    for name in rule_pages.rules_and_faults():
+        text, behind = rule_pages.example(name)
         if text:
             found.append([name, text, "-" if behind.startswith(" on the input") else ""])
     folder = os.path.join(TOP, "crates", "gallery", "data")

@@ -2,6 +2,7 @@
 import assert from "node:assert/strict";
 import fs from "node:fs";
 import path from "node:path";
+import { circleOf, circlePicture, circleWords } from "../../page/site/circle.mjs";
 import { Picture, svgOf } from "../../page/site/diagram.mjs";
 import { History } from "../../page/site/history.mjs";
 import { decodeLink, kindOf, encodeLink, tooLong } from "../../page/site/keeping.mjs";
@@ -9,7 +10,8 @@ import { Lanes, MOST_LANES, initialFolds } from "../../page/site/lanes.mjs";
 import { isSolved } from "../../page/site/lesson.mjs";
 import { modeOf } from "../../page/site/mode.mjs";
 import { byName, entriesOf, entryOf, journalText, readNotes } from "../../page/site/notes.mjs";
-import { Places, circleOf, readTrace, readWhere } from "../../page/site/places.mjs";
+import { Places, readTrace, readWhere } from "../../page/site/places.mjs";
+import { statementAt } from "../../page/site/processes.mjs";
 import { entrySentence, failureWords, lineWords, runWords } from "../../page/site/sentences.mjs";
 
 const top = path.join(path.dirname(new URL(import.meta.url).pathname), "..", "..");
@@ -79,6 +81,8 @@ await test("the history of a race", () => {
   assert.deepEqual(history.rowsByCause(), [0, 1, 2, 3, 2, 4, 4, 5, 5, 6]);
   assert.equal(entrySentence(history, 1, {}), "0 starts 3 processes, 0/0.0 to 0/0.2, and waits for them");
   assert.equal(entrySentence(history, 0, {}), "0 opens the channel 0#0");
+  assert.equal(entrySentence(history, 3, {}, "1"), "0/0.1 sends 1 on 0#0 and meets 0/0.0, which waited since entry 2");
+  assert.equal(entrySentence(history, 2, {}), "0/0.0 offers to receive on 0#0; 0/0.1 sends at entry 3");
 });
 
 await test("a fork of no children and a process that never runs", () => {
@@ -96,10 +100,22 @@ await test("pictures, lanes and folding", () => {
   assert.ok(lanes.width <= MOST_LANES);
   assert.equal(lanes.lane.size, 5001);
   const history = new History(entriesOf(PHILOSOPHERS));
-  const options = { folds: new Set(), byCause: true, first: 0, marks: new Set([4, 5, 6]), now: 7 };
+  const options = { folds: new Set(), byCause: true, first: 0, marks: new Set([4, 5, 6]), places: [] };
   const svg = svgOf(new Picture(history, options), 1);
   assert.equal(svg.match(/class="stuck/g).length, 3);
   assert.equal(svg.match(/ marked/g).length, 3);
+});
+
+await test("values at the arrows of a picture", () => {
+  const history = new History(RACE.entries);
+  const labels = (places) => {
+    const picture = new Picture(history, { folds: new Set(), byCause: false, first: 0, marks: new Set(), places });
+    return [...svgOf(picture, 1).matchAll(/text-anchor="middle">(#[^<]*)/g)].map((it) => it[1]);
+  };
+  assert.deepEqual(labels([]), ["#0", "#0"]);
+  const places = [];
+  [places[3], places[4]] = [{ value: "'<'" }, { value: "[1, 2, 3, 4, 5, 6, 7, 8, 9, 10, 11, 12, 13]" }];
+  assert.deepEqual(labels(places), ["#0: '&#60;'", "#0"]);
 });
 
 await test("what trace says", () => {
@@ -134,43 +150,114 @@ const WHERE = `where
     right = 0#0
 `;
 
-await test("what where says, and the circle", () => {
+await test("what where says", () => {
   const processes = readWhere(WHERE);
   assert.equal(processes.length, 4);
+  assert.deepEqual([processes[0].line, processes[0].column, processes[0].condition], [25, 3, "join"]);
   const call = processes[1].calls[0];
   assert.deepEqual([call.block, call.line, call.column], ["philosopher", 26, 5]);
   const variables = call.variables.map(({ name, value }) => `${name} = ${value}`);
   assert.deepEqual(variables, ["k = 1", "left = 0#0", "right = 0#1", "borrowed = undefined"]);
+  const variable = { name: "k", value: "1" };
+  assert.deepEqual(processes[1].calls[1], { block: "forall", line: 0, column: 0, variables: [variable] });
   assert.equal(processes[2].calls[0].variables[2].value, "with a child");
-  assert.deepEqual(circleOf(processes), ["0/0.0", "0/0.1", "0/0.2", "0/0.0"]);
+  assert.deepEqual(readWhere("where\n0/0.1 19:5 runs to its end\n")[0].calls, []);
+  assert.deepEqual(readWhere("where\n"), []);
+});
+
+await test("the circle of a deadlock", () => {
+  const processes = readWhere(WHERE);
+  const circle = circleOf(processes);
+  assert.deepEqual(circle.map(({ name, channel }) => [name, channel]),
+    [["0/0.0", "0#1"], ["0/0.1", "0#2"], ["0/0.2", "0#0"]]);
+  assert.equal(circleWords(circle), "0/0.0 \u2192 0/0.1 \u2192 0/0.2 \u2192 0/0.0");
+  assert.equal(circlePicture(circle).match(/class="node"/g).length, 3);
   assert.equal(circleOf(processes.slice(0, 3)), null);
+  const both = (name, waits, other) => `${name} 1:1 receive ${waits}\n  p\n    c = [${waits}, ${other}]\n`;
+  const two = circleOf(readWhere(`where\n${both("0/0.0", "0#1", "0#2")}${both("0/0.1", "0#2", "0#1")}`));
+  assert.deepEqual(two.map(({ name }) => name), ["0/0.0", "0/0.1"]);
+  assert.ok(!circlePicture(two).includes("NaN"));
+  assert.equal(circlePicture(Array(13).fill(two[0])), "");
 });
 
-await test("a program that has no trace is asked once", async () => {
-  let calls = 0;
-  const places = new Places(async () => {
-    calls++;
-    return { status: 2, output: new Uint8Array(), notes: new TextEncoder().encode("bad words\n") };
-  });
-  places.begin(new Uint8Array(), new Uint8Array(), ["--workers", "1", "--ticks", "5"], entriesOf(PHILOSOPHERS));
-  assert.deepEqual(await places.trace(), []);
-  assert.equal(await places.where(3), null);
-  assert.equal(calls, 1);
+await test("the statement at a place", () => {
+  const lines = ["  x := '\u20ac'; y := 1", "  writeln('12345678901234567890123456789012345678901234567890')"];
+  assert.equal(statementAt(lines, { line: 1, column: 3 }), "x := '\u20ac'; y := 1");
+  assert.equal(statementAt(lines, { line: 1, column: 15 }), "y := 1");
+  assert.equal(statementAt(lines, { line: 2, column: 3 }).length, 49);
+  assert.equal(statementAt(lines, { line: 9, column: 1 }), "");
 });
 
-await test("a program that has them", async () => {
-  const asked = [];
-  const places = new Places(async (words, files) => {
-    asked.push([words.join(" "), new TextDecoder().decode(files["run.journal"])]);
-    const output = words[0] === "trace" ? "trace\n0 1:2 0 open\n" : WHERE;
-    return { status: 4, output: new TextEncoder().encode(output), notes: new Uint8Array() };
+/** A caller that notes what it is asked, and answers by this function when `go` is called. */
+function callerOf(answer) {
+  const caller = { asked: [], left: [], stopped: 0 };
+  caller.call = (words, files) => new Promise((done) => {
+    caller.asked.push([words.join(" "), new TextDecoder().decode(files["run.journal"])]);
+    const output = new TextEncoder().encode(answer(words));
+    caller.left.push(() => done({ status: 4, output, notes: new Uint8Array() }));
   });
-  places.begin(new Uint8Array(), new Uint8Array(), ["--workers", "1", "--ticks", "5"], entriesOf(PHILOSOPHERS));
+  caller.stop = () => caller.stopped++;
+  Object.defineProperty(caller, "isAtWork", { get: () => caller.left.length > 0 });
+  caller.go = async () => {
+    while (caller.left.length) {
+      caller.left.shift()();
+      await new Promise((go) => setTimeout(go));
+    }
+  };
+  return caller;
+}
+
+function placesOf(caller) {
+  const places = new Places();
+  places.caller = caller;
+  places.begin("program", new Uint8Array(), ["--workers", "1", "--ticks", "5"], entriesOf(PHILOSOPHERS));
+  return places;
+}
+
+await test("places of a program that cannot tell them", async () => {
+  const caller = callerOf(() => "");
+  const places = placesOf(caller);
+  const [trace, where] = [places.trace(), places.where(3)];
+  await caller.go();
+  assert.deepEqual(await trace, []);
+  assert.equal(await where, null);
+});
+
+await test("places are asked once for each moment", async () => {
+  const caller = callerOf((words) => (words[0] === "trace" ? "trace\n0 1:2 0 open\n" : WHERE));
+  const places = placesOf(caller);
+  const where = places.where(1);
+  await caller.go();
   assert.equal((await places.trace())[0].column, 2);
+  assert.equal((await where).length, 4);
   assert.equal((await places.where(1)).length, 4);
-  assert.equal((await places.where(1)).length, 4);
-  assert.deepEqual(asked, [["trace text.sp run.journal --ticks 5", PHILOSOPHERS],
+  assert.equal(places.known(1).length, 4);
+  assert.equal(places.known(2), null);
+  assert.deepEqual(caller.asked, [["trace text.sp run.journal --ticks 5", PHILOSOPHERS],
     ["where text.sp run.journal --ticks 5", "superpascal journal 2\n0 open\n"]]);
+});
+
+await test("of moments that wait the newest is asked alone", async () => {
+  const caller = callerOf((words) => (words[0] === "trace" ? "trace\n" : WHERE));
+  const places = placesOf(caller);
+  const asked = [[1], [0, "before"], [2], [4], [3, "hover"], [4]];
+  const wheres = asked.map((it) => places.where(...it));
+  await caller.go();
+  const told = (await Promise.all(wheres)).map((it) => (it ? it.length : 0));
+  assert.deepEqual(told, [4, 4, 0, 4, 4, 4]);
+  const moments = caller.asked.slice(1).map(([, journal]) => journal.split("\n").length - 2);
+  assert.deepEqual(moments, [1, 4, 3, 0]);
+});
+
+await test("another run ends what was asked of the one before", async () => {
+  const caller = callerOf(() => WHERE);
+  const places = placesOf(caller);
+  const [trace, where] = [places.trace(), places.where(1)];
+  places.begin("program", new Uint8Array(), [], []);
+  assert.equal(caller.stopped, 1);
+  await caller.go();
+  assert.deepEqual([await trace, await where], [[], null]);
+  assert.equal(places.known(1), null);
 });
 
 await test("links", async () => {
