@@ -37,13 +37,14 @@ class Option(NamedTuple):
 
 
 class Table(NamedTuple):
-    """All that the file says; ranges of operands by command, values of options by option, and words of the script."""
+    """All that the file says; ranges of operands by command, values of options by option, words of the script."""
 
     version: str
     commands: list[Command]
     operands: dict[str, Range]
     options: list[Option]
     values: dict[str, dict[str, str]]
+    tools: dict[str, str]
     script: list[tuple[list[str], str]]
 
     def options_of(self, command: Command) -> list[Option]:
@@ -58,7 +59,7 @@ def names_in(column: str) -> list[str]:
 
 def read_table(path: str = PATH) -> Table:
     """Reads the file; ValueError if a line is not as its head says."""
-    table = Table("", [], {}, [], {}, [])
+    table = Table("", [], {}, [], {}, {}, [])
     for line in open(path, encoding="utf-8"):
         kind, _, rest = line.strip().partition(" ")
         if not kind or kind == "#" or kind.startswith("#"):
@@ -68,6 +69,9 @@ def read_table(path: str = PATH) -> Table:
         elif kind == "command":
             name, operands, groups, what = rest.split(None, 3)
             table.commands.append(Command(name, names_in(operands), names_in(groups), what))
+        elif kind == "tool":
+            name, what = rest.split(None, 1)
+            table.tools[name] = what
         elif kind == "operand":
             command, _name, least, greatest = rest.split()
             table.operands[command] = Range(int(least), int(greatest))

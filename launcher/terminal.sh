@@ -1,5 +1,5 @@
 # What the script superpascal does at a terminal alone: it says which words and files are wrong, gives empty input to a
-# program that reads none, and ends the last line of an output before the notes come.
+# program that reads none, ends the last line of an output before the notes come, and adds the place and the cause.
 # Sourced by the script superpascal after launcher/words.sh, whose judge_words has judged the words.
 # shellcheck shell=sh disable=SC2154 # The variables are those of the script and of launcher/words.sh.
 
@@ -50,6 +50,8 @@ reads_input() {
 
 # Runs the program on the words, and ends the last line of its output, if that has no line feed, before its notes come.
 run_by_lines() {
+    # (an input that is closed cannot be handed on)
+    (: 3<&0) 2>/dev/null || exec "$program" "$@"
     texts=$(mktemp -d) || exec "$program" "$@"
     trap 'end_run' EXIT
     trap 'exit 129' HUP
@@ -79,12 +81,28 @@ watch() {
         sleep 1
         kill -0 "$$" 2>/dev/null || return
     done
-    say "$goes_on; the output comes at the end of the run"
+    say "$goes_on; $at_end"
+}
+
+# Of run and check the first line of the explanation is told after the notes, if there is a python3 for the tools (which
+# begins with no folder as its input).
+explain_first() {
+    case $command in run | check) ;; *) return ;; esac
+    [ -t 2 ] && [ -x "$here/launcher/explained" ] && [ -x "$here/tools/explain" ] || return 0
+    python3 -ISc 'import sys; sys.exit(sys.version_info < (3, 11))' 2>/dev/null || return 0
+    exec python3 "$here/launcher/explained" "$program" "${goes_on:+$goes_on; $at_end}" "$@"
 }
 
 # Runs the program on words that are right: a command that runs one goes on as a person at the terminal expects.
 run_at_terminal() {
-    case $command in run | replay | trace | where | witness | exec) ;; *) exec "$program" "$@" ;; esac
+    goes_on='' at_end='the output comes at the end of the run'
+    case $command in
+    run | replay | trace | where | witness | exec) ;;
+    *)
+        explain_first "$@"
+        exec "$program" "$@"
+        ;;
+    esac
     [ ! -t 0 ] || reads_input || exec </dev/null
     if [ -t 2 ]; then
         goes_on='the run goes on'
@@ -92,6 +110,7 @@ run_at_terminal() {
             goes_on='the input is still read, or the run goes on'
             say 'reading the input; Ctrl-D ends it'
         fi
+        explain_first "$@"
         watch </dev/null >/dev/null &
     fi
     if [ -t 1 ] && [ -t 2 ]; then

@@ -21,11 +21,20 @@ find_option() {
     return 1
 }
 
+# Whether the table has a tool of the name $1.
+find_tool() {
+    while read -r kind name what; do
+        [ "$kind" != tool ] || [ "$name" != "$1" ] || return 0
+    done <"$table"
+    return 1
+}
+
 # The first names of the lines of kind $1 of the table; of options only those of the groups $2.
 list_names() {
     while read -r kind first second rest; do
         case $kind,$1,${2+,$2,} in
         command,command,) echo "$first" ;;
+        tool,tool,) echo "$first" ;;
         name,name,) echo "$second" ;;
         script,script,) echo "$first" | tr , '\n' | grep -v COMMAND ;;
         option,option,*",$first,"*) echo "--$second" ;;
@@ -78,6 +87,7 @@ tell_words() {
     echo 'Options of run; witness, exec have all but --show, replay, trace, where --ticks'
     echo 'to --output, gen --workers. N is at least 1.           default       greatest'
     tell_options workers,limits,show
+    echo "Tools (TOOL --help): $(list_names tool | tr '\n' , | sed 's/,$//; s/,/, /g')."
     echo 'COMMAND --help tells its options, --version which superpascal this is.'
     tell_program
 }
@@ -240,7 +250,8 @@ judge_script_words() {
         esac
         return
     done
-    refuse "unknown command $1" "$1" "$(list_names command && list_names script)" 'superpascal --help lists them'
+    refuse "unknown command $1" "$1" "$(list_names command && list_names tool && list_names script)" \
+        'superpascal --help lists them'
 }
 
 # Judges words, of which there is one at least. Sets wrong to the first thing that is wrong with them, or to nothing,

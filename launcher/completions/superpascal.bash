@@ -3,7 +3,7 @@ _superpascal() {
     local word=${COMP_WORDS[COMP_CWORD]} before=${COMP_WORDS[COMP_CWORD-1]} options=
     COMPREPLY=()
     if [ "$COMP_CWORD" -eq 1 ]; then
-        COMPREPLY=($(compgen -W "run replay trace where witness check code build exec sets format gen help --help -h --version --words" -- "$word"))
+        COMPREPLY=($(compgen -W "run replay trace where witness check code build exec sets format gen explain picture schedules compare speedup grade help --help -h --version --words" -- "$word"))
         return
     fi
     # (bash takes `=` for a word of its own)
@@ -29,6 +29,7 @@ _superpascal() {
         sets) options="--help" ;;
         format) options="--help" ;;
         gen) options="--workers --help" ;;
+        explain | picture | schedules | compare | speedup | grade) options="--help" ;;
     esac
     case $word in
         -*) COMPREPLY=($(compgen -W "$options" -- "$word")) && return ;;
