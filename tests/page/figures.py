@@ -14,7 +14,7 @@ import tempfile
 import time
 
 from browser import Chromium, Firefox
-from opened import Test
+from opened import PAGE, Test
 
 SPEED = os.path.join(os.path.dirname(os.path.abspath(__file__)), "..", "speed")
 TIMES = 3
@@ -73,7 +73,7 @@ def longest_chain(test):
 
 def main(words):
     browser = Firefox() if "--firefox" in words else Chromium()
-    test = Test(browser, "")
+    test = Test(browser, PAGE)
     try:
         test.open(is_first=True)
         print("%s %s: %s" % (type(browser).__name__, browser.version, test.text("verdict")))
