@@ -2,8 +2,10 @@
 import os
 import shutil
 import subprocess
+import sys
 import tempfile
 import threading
+import time
 from concurrent.futures import ThreadPoolExecutor
 
 HERE = os.path.dirname(os.path.realpath(__file__))
@@ -97,3 +99,13 @@ def copy(source, folder):
     """Copies a file of the gallery to a folder; gives its name there."""
     shutil.copy(source, folder)
     return os.path.basename(source)
+
+
+def made_by_number(path, make, most):
+    """What a part does that is called by itself with PROGRAM [COUNT [SEED]]; gives its status."""
+    case, begun = Cases(os.path.abspath(sys.argv[1]), False), time.time()
+    found = make(case, int(sys.argv[2]) if len(sys.argv) > 2 else most, sys.argv[3] if len(sys.argv) > 3 else 1)
+    print("%s: %d passed, %d failed, %.0f s: %s" % (
+        os.path.relpath(path, HERE), case.passed, case.failed, time.time() - begun,
+        ", ".join("%s %d" % it for it in found.most_common())))
+    return 1 if case.failed else 0

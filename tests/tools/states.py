@@ -9,9 +9,8 @@ import os
 import random
 import re
 import sys
-import time
 
-from cases import HERE, TOP, Cases
+from cases import TOP, made_by_number
 
 if __name__ == "__main__":
     sys.path.insert(0, os.path.join(TOP, "tools"))
@@ -171,9 +170,4 @@ def test(case):
 
 
 if __name__ == "__main__":
-    CASE, BEGUN = Cases(os.path.abspath(sys.argv[1]), False), time.time()
-    FOUND = make(CASE, int(sys.argv[2]) if len(sys.argv) > 2 else 1000, sys.argv[3] if len(sys.argv) > 3 else 1)
-    print("%s: %d passed, %d failed, %.0f s: %s" % (
-        os.path.relpath(__file__, HERE), CASE.passed, CASE.failed, time.time() - BEGUN,
-        ", ".join("%s %d" % it for it in FOUND.most_common())))
-    sys.exit(1 if CASE.failed else 0)
+    sys.exit(made_by_number(__file__, make, 1000))

@@ -6,7 +6,7 @@ import subprocess
 import sys
 import tempfile
 import time
-from typing import NamedTuple, Optional, Sequence
+from typing import Collection, NamedTuple, Optional, Sequence
 
 from .rule_pages import TOP
 from .errors import BAD_WORDS, NO_PROGRAM, ToolError, say
@@ -165,3 +165,12 @@ def take_option(words: list[str], name: str) -> Optional[str]:
         del words[0]
         return words.pop(0)
     return None
+
+
+def take_options(words: list[str], names: Collection[str]) -> dict[str, Optional[str]]:
+    """Takes the leading options of these names, with their values, from the words."""
+    taken: dict[str, Optional[str]] = {}
+    while words and words[0].split("=")[0] in names:
+        name = words[0].split("=")[0]
+        taken[name] = take_option(words, name)
+    return taken

@@ -6,7 +6,7 @@ import time
 from typing import NamedTuple, Optional, Sequence
 
 from .journal import journal_text, read_record
-from .program import PATIENCE, Answer, Caller, progress, split_words, take_option
+from .program import PATIENCE, Answer, Caller, progress, split_words, take_options
 from .errors import BAD_WORDS, REFUSED, STATUSES, UNPROVED, ToolError, put_out, read_file, read_input, say, write_file
 
 HELP = """usage: tools/schedules [--program PROGRAM] [--journals FOLDER] FILE N [OPTIONS of `superpascal run`] <INPUT
@@ -37,10 +37,7 @@ def main(given: Sequence[str]) -> int:
     if words and words[0] in ("--help", "-h", "help"):
         put_out((HELP + UNPROVED + "\n" + STATUSES).encode())
         return 0
-    own: dict[str, Optional[str]] = {}
-    while words and words[0].split("=")[0] in ("--program", "--journals"):
-        name = words[0].split("=")[0]
-        own[name] = take_option(words, name)
+    own = take_options(words, ("--program", "--journals"))
     asked = split_words(["run"] + words)
     if len(asked.plain) != 2 or not asked.plain[1].isdigit() or not 1 <= int(asked.plain[1][:9]) <= MOST:
         raise ToolError(BAD_WORDS, "wanted are FILE and N, from 1 to %d; --help says more" % MOST)

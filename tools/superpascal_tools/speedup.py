@@ -9,7 +9,7 @@ from typing import Callable, NamedTuple, Optional, Sequence
 from .chain import TICKS, each_pause, longest_chain
 from .journal import Entry, Record, read_record
 from .plot import plotted
-from .program import Answer, Caller, split_words, take_option
+from .program import Answer, Caller, split_words, take_options
 from .errors import BAD_WORDS, REFUSED, STATUSES, UNPROVED, ToolError, put_out, read_file, read_input, write_file
 
 HELP = """usage: tools/speedup [OPTIONS] FILE [OPTIONS of `superpascal run`] <INPUT
@@ -66,10 +66,7 @@ def main(given: Sequence[str]) -> int:
     if words and words[0] in ("--help", "-h", "help"):
         put_out((HELP + UNPROVED + "\n" + STATUSES).encode())
         return 0
-    own: dict[str, Optional[str]] = {}
-    while words and words[0].split("=")[0] in OWN:
-        name = words[0].split("=")[0]
-        own[name] = take_option(words, name)
+    own = take_options(words, OWN)
     workers, times = numbers_of(own)
     asked = split_words(["run"] + words)
     if len(asked.plain) != 1 or "--show" in asked.options or "--workers" in asked.options:
