@@ -1,22 +1,22 @@
 pub mod Leasts
 pub mod BlockLaws
-pub mod Beginnings
+mod Beginnings
 pub mod Failing
-pub mod Alone
-pub mod Owning
+mod Alone
+mod Owning
 pub mod Handing
 pub mod Owned
-pub mod Placing
-pub mod Declaring
-pub mod NamedTables
-pub mod Summing
-pub mod Outward
-pub mod Rounding
-pub mod Growing
-pub mod Leading
-pub mod Filling
-pub mod Hanging
-pub mod Surrounding
-pub mod Misnaming
-pub mod Lacking
-pub mod Knowing
+mod Placing
+mod Declaring
+mod NamedTables
+mod Summing
+mod Outward
+mod Rounding
+mod Growing
+mod Leading
+mod Filling
+mod Hanging
+mod Surrounding
+mod Misnaming
+mod Lacking
+mod Knowing

@@ -39,6 +39,14 @@
 //!   and whoever uses a hint looks whether it is right.
 //! - `rounds.rt` is V9, by numbers that `components.rt` guesses and a loop checks.
 //!
+//! Lemmas for others, in `proofs`:
+//! - `Leasts`: least numbers of sums, of equal facts, and of items one after the other.
+//! - `BlockLaws`: what a table of layouts finds is the layout of the block.
+//! - `Failing`: one layout or child that fails a test, among others.
+//! - `Handing`: the steps of a search for owners: each hands on what is true, and where it changes nothing, it
+//!   leaves nothing to be handed on.
+//! - `Owned`: where nothing is left to be handed on, each instruction of an area knows it: so the owners are right.
+//!
 //! To change:
 //! - A point of V1: its definition in `sp_rules`; its pass, `src/whole.rt`, `specs/Sums.antt`, `proofs/Summing.antt`.
 #![tactic(auto)]

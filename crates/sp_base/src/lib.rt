@@ -21,6 +21,10 @@
 //! To know:
 //! - No contract says when memory is refused.
 //!
+//! Lemmas for others, in `proofs`:
+//! - `Facts`: small facts of numbers, booleans, options and lists that many proofs use and the standard library has
+//!   not.
+//!
 //! To change:
 //! - Anything: it is checked again with every crate above, so rarely.
 //! - A rule or a fault: the files are in its row of `docs/ARCHITECTURE.md`.

@@ -36,9 +36,7 @@ from_stored (inr (inr n)) = Away
 -- nothing is lost
 abbrev pub from_to_stored : (h : Content) → from_stored (to_stored h) ≡ h
 from_to_stored (Own cs) = refl
-from_to_stored (Shared cs) = refl
-from_to_stored (Output bs) = refl
-from_to_stored Away = refl
+from_to_stored _ = refl
 
 abbrev pub content_code : Coded Content
 content_code = code_by Stored (coded⊎ (coded⊎ (coded_list cell_code) (coded_list cell_code))

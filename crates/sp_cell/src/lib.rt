@@ -15,6 +15,15 @@
 //!   and `Held.antt` (all stores of a run side by side). The laws over them, which have no representation in view,
 //!   stand in `proofs/`: `Laws`, `FrameLaws`, `HeldLaws`, `Partition`, `Plan`, `Steps`.
 //!
+//! Lemmas for others, in `proofs`:
+//! - `FrameLaws`: laws of frame numbers, and of frames pushed and popped.
+//! - `HeldLaws`: a fork and a join keep the partition of all variables.
+//! - `Laws`: laws of the map of a store: what is found after an insert, and when two maps are one.
+//! - `Order`: the order of spots is total, and only equal spots tie: what a map by spots rests on.
+//! - `Partition`: what a fork leaves to whom, and that its joins give the map back.
+//! - `Plan`: whole plans: what the children get, one after another, and that no two of them get one spot.
+//! - `Steps`: one more spot of a fork or a join, as a loop takes it.
+//!
 //! To change:
 //! - What a store means: `specs/Map.antt`, `specs/Frame.antt`, `specs/Fork.antt`.
 //! - What all stores of a run keep: `specs/Held.antt`.

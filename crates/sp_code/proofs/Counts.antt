@@ -39,15 +39,10 @@ unary_after unary.Minus q = refl
 unary_after unary.Not q = refl
 
 standard_after : (f : StandardFn) (q : ℕ) → after_standard f q ≡ q + standard_length f
-standard_after standard.Abs q = refl
-standard_after standard.Sqr q = refl
-standard_after standard.Odd q = refl
 standard_after standard.Ord q = omega arith
-standard_after standard.Chr q = refl
-standard_after standard.Succ q = refl
-standard_after standard.Pred q = refl
 standard_after standard.Eof q = omega arith
 standard_after standard.Eoln q = omega arith
+standard_after _ _ = refl
 
 mutual
   pub value_after : (q : ℕ) (e : Expr) → after_value q e ≡ q + value_length e
@@ -165,14 +160,7 @@ unary_count unary.Not = refl
 
 standard_count : (f : StandardFn) (t : Option KindOf) → length (standard_code f t) ≡ standard_length f
 standard_count standard.Abs t = refl
-standard_count standard.Sqr t = refl
-standard_count standard.Odd t = refl
-standard_count standard.Ord t = refl
-standard_count standard.Chr t = refl
-standard_count standard.Succ t = refl
-standard_count standard.Pred t = refl
-standard_count standard.Eof t = refl
-standard_count standard.Eoln t = refl
+standard_count _ _ = refl
 
 -- one more instruction behind, and in between
 pub last_count : (xs : List Instr) (x : Instr) (n : ℕ) → length xs ≡ n → length (xs ++ x ∷ []) ≡ n + 1
@@ -350,9 +338,6 @@ parts_count xs ys m n e f = omega (arith, length-append xs ys, e, f)
 
 mutual
   pub texts_count : (s : Stmt) → length (texts_of s) ≡ texts_in s
-  texts_count Empty = refl
-  texts_count (Assign v e) = refl
-  texts_count (Call f args) = refl
   texts_count (Sequence ss) = texts_all_count ss
   texts_count (If e a) = texts_count a
   texts_count (IfElse e a b) = parts_count (texts_of a) (texts_of b) _ _ (texts_count a) (texts_count b)
@@ -362,15 +347,7 @@ mutual
   texts_count (Case e arms) = texts_arms_count arms
   texts_count (Parallel ss) = texts_all_count ss
   texts_count (Forall x from to s) = texts_count s
-  texts_count (Assume e) = refl
-  texts_count (ReadValue v) = refl
-  texts_count ReadLine = refl
-  texts_count (WriteValue e w) = refl
-  texts_count (WriteText t w) = refl
-  texts_count WriteLine = refl
-  texts_count (Open v) = refl
-  texts_count (Send c e) = refl
-  texts_count (Receive c v) = refl
+  texts_count _ = refl
 
   pub texts_all_count : (ss : Stmts) → length (texts_of_all ss) ≡ texts_in_all ss
   texts_all_count No = refl
@@ -387,9 +364,6 @@ module _ (p : Program) (moves shares : Stmt → List ℕ) where
 
   mutual
     pub tables_count : (q : ℕ) (s : Stmt) → length (tables p moves shares q s) ≡ tables_in s
-    tables_count q Empty = refl
-    tables_count q (Assign v e) = refl
-    tables_count q (Call f args) = refl
     tables_count q (Sequence ss) = tables_all_count q ss
     tables_count q (If e a) = tables_count (after_value q e + 1) a
     tables_count q (IfElse e a b) =
@@ -402,15 +376,7 @@ module _ (p : Program) (moves shares : Stmt → List ℕ) where
     tables_count q (Parallel ss) = ap suc (tables_children_count (q + 1 + 1) ss) ∙ omega arith
     tables_count q (Forall x from to s) = ap suc (tables_count (after_value (after_value q from) to + 1 + 1) s)
         ∙ omega arith
-    tables_count q (Assume e) = refl
-    tables_count q (ReadValue v) = refl
-    tables_count q ReadLine = refl
-    tables_count q (WriteValue e w) = refl
-    tables_count q (WriteText t w) = refl
-    tables_count q WriteLine = refl
-    tables_count q (Open v) = refl
-    tables_count q (Send c e) = refl
-    tables_count q (Receive c v) = refl
+    tables_count _ _ = refl
 
     pub tables_all_count : (q : ℕ) (ss : Stmts) → length (tables_all p moves shares q ss) ≡ tables_in_all ss
     tables_all_count q No = refl

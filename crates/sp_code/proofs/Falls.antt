@@ -66,68 +66,42 @@ module _ {M : Type 0} (left : Config M → ℕ) (b : ℕ) (f : ℕ → ℕ) wher
   falls_number : (st : List Entry) (go : ℤ → List Entry → StepResult M)
       → ((x : ℤ) (st1 : List Entry) → left_on_return f st1 ≤ left_on_return f st → Down (go x st1))
       → Down (on_number st go)
-  falls_number [] go h = tt
   falls_number (Number v ∷ st) go h = h v st (omega arith)
-  falls_number (Chan c ∷ st) go h = tt
-  falls_number (Pointer a ∷ st) go h = tt
-  falls_number (Cells cs ∷ st) go h = tt
-  falls_number (Link r ∷ st) go h = tt
-  falls_number (Reply r ∷ st) go h = tt
+  falls_number _ _ _ = tt
 
   falls_channel : (st : List Entry) (go : ℕ → List Entry → StepResult M)
       → ((x : ℕ) (st1 : List Entry) → left_on_return f st1 ≤ left_on_return f st → Down (go x st1))
       → Down (on_channel st go)
-  falls_channel [] go h = tt
-  falls_channel (Number v ∷ st) go h = tt
   falls_channel (Chan c ∷ st) go h = h c st (omega arith)
-  falls_channel (Pointer a ∷ st) go h = tt
-  falls_channel (Cells cs ∷ st) go h = tt
-  falls_channel (Link r ∷ st) go h = tt
-  falls_channel (Reply r ∷ st) go h = tt
+  falls_channel _ _ _ = tt
 
   falls_address : (st : List Entry) (go : Address → List Entry → StepResult M)
       → ((x : Address) (st1 : List Entry) → left_on_return f st1 ≤ left_on_return f st → Down (go x st1))
       → Down (on_address st go)
-  falls_address [] go h = tt
-  falls_address (Number v ∷ st) go h = tt
-  falls_address (Chan c ∷ st) go h = tt
   falls_address (Pointer a ∷ st) go h = h a st (omega arith)
-  falls_address (Cells cs ∷ st) go h = tt
-  falls_address (Link r ∷ st) go h = tt
-  falls_address (Reply r ∷ st) go h = tt
+  falls_address _ _ _ = tt
 
   falls_cell : (st : List Entry) (go : Cell → List Entry → StepResult M)
       → ((x : Cell) (st1 : List Entry) → left_on_return f st1 ≤ left_on_return f st → Down (go x st1))
       → Down (on_cell st go)
-  falls_cell [] go h = tt
   falls_cell (Number v ∷ st) go h = h (cell.Ordinal v) st (omega arith)
   falls_cell (Chan c ∷ st) go h = h (cell.Channel c) st (omega arith)
-  falls_cell (Pointer a ∷ st) go h = tt
-  falls_cell (Cells cs ∷ st) go h = tt
-  falls_cell (Link r ∷ st) go h = tt
-  falls_cell (Reply r ∷ st) go h = tt
+  falls_cell _ _ _ = tt
 
   falls_cells : (st : List Entry) (go : List Cell → List Entry → StepResult M)
       → ((x : List Cell) (st1 : List Entry) → left_on_return f st1 ≤ left_on_return f st → Down (go x st1))
       → Down (on_cells st go)
-  falls_cells [] go h = tt
   falls_cells (Number v ∷ st) go h = h (cell.Ordinal v ∷ []) st (omega arith)
   falls_cells (Chan c ∷ st) go h = h (cell.Channel c ∷ []) st (omega arith)
-  falls_cells (Pointer a ∷ st) go h = tt
   falls_cells (Cells cs ∷ st) go h = h cs st (omega arith)
-  falls_cells (Link r ∷ st) go h = tt
-  falls_cells (Reply r ∷ st) go h = tt
+  falls_cells _ _ _ = tt
 
   falls_equals : (st : List Entry) (go : Bool → List Entry → StepResult M)
       → ((x : Bool) (st1 : List Entry) → left_on_return f st1 ≤ left_on_return f st → Down (go x st1))
       → Down (on_equals st go)
-  falls_equals [] go h = tt
   falls_equals (Number v ∷ st) go h = falls_number st _ (λ u st1 e. h (same_ordinal u v) st1 e)
   falls_equals (Chan c ∷ st) go h = falls_channel st _ (λ d st1 e. h (d == c) st1 e)
-  falls_equals (Pointer a ∷ st) go h = tt
-  falls_equals (Cells cs ∷ st) go h = tt
-  falls_equals (Link r ∷ st) go h = tt
-  falls_equals (Reply r ∷ st) go h = tt
+  falls_equals _ _ _ = tt
 
   falls_pop : (k : ℕ) (st es : List Entry) (go : List Entry → List Entry → StepResult M)
       → ((xs st1 : List Entry) → left_on_return f st1 ≤ left_on_return f st → Down (go xs st1)) → Down (pop k st es go)
@@ -300,11 +274,6 @@ module _ {M : Type 0} (ops : Ops M) (code : Parts) (budget : M → ℕ) (law : H
 
   returned_down : (pc : ℕ) (st : List Entry) (n : M) → 0 < r pc
       → Falls left (left (At pc st n)) (return_step ops code st n)
-  returned_down pc [] n p = tt
-  returned_down pc (Number v ∷ st) n p = tt
-  returned_down pc (Chan c ∷ st) n p = tt
-  returned_down pc (Pointer a ∷ st) n p = tt
-  returned_down pc (Cells cs ∷ st) n p = tt
   returned_down pc (Link k ∷ st) n p = falls_when left _ r (ops.may_close n) _
       (goes_down pc k (Link k ∷ st) st n (ops.close_frame n) (law.close_frame n) (omega arith))
   returned_down pc (Reply k ∷ st) n p =
@@ -314,6 +283,7 @@ module _ {M : Type 0} (ops : Ops M) (code : Parts) (budget : M → ℕ) (law : H
       (falls_ordinal left _ r (ops.read a n) _
       (λ v. goes_down pc k (Reply k ∷ st) (Number v ∷ st) n (ops.close_frame n) (law.close_frame n)
       (omega arith)))))
+  returned_down _ _ _ _ = tt
 
   instruction_down : (o : Option Instr) (pc : ℕ) (st : List Entry) (n : M) → 0 < r pc → AllBelow r (r pc) (ways pc o)
       → Falls left (left (At pc st n)) (instruction ops code o pc st n)

@@ -1,6 +1,6 @@
 pub mod Members
 pub mod Numbered
-pub mod Small
+mod Small
 mod Rows
 mod Runs
 pub mod Counts
@@ -9,7 +9,7 @@ pub mod Turning
 pub mod Falls
 pub mod Systems
 pub mod Spending
-pub mod Ends
+mod Ends
 pub mod Blocks
 pub mod StoreLaws
 pub mod Plans

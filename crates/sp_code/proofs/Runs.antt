@@ -30,13 +30,8 @@ module _ (g : CodeRun) where
 
   -- a process that does not run makes no entry, and nothing more is told
   abbrev by_condition : (System Small → List Event × List ℕ) → ℕ → System Small → Condition Small → List Event × List ℕ
-  by_condition go q m Absent = ([], [])
   by_condition go q m (Working c) = by_turn go q m (turn_within (memory small g) g.code 100 c)
-  by_condition go q m (Waits stop c) = ([], [])
-  by_condition go q m (Joins left c) = ([], [])
-  by_condition go q m (Laid c) = ([], [])
-  by_condition go q m Gone = ([], [])
-  by_condition go q m (Over c) = ([], [])
+  by_condition _ _ _ _ = ([], [])
 
   -- what the root's store has of the output in the end
   abbrev output_in : Condition Small → List ℕ

@@ -149,28 +149,17 @@ module _ (p : Program) (moves shares : Stmt → List ℕ) (all : Parts) (callabl
   standard_stands : (q : ℕ) (f : StandardFn) (t : KindOf)
       → StandardAt p moves shares AnyInstr AnyTable AnyText callable q f t → Here q (standard_code f (Some t))
       → StandardAt p moves shares (CodeAt all) (HasFork all) (HasWords all) callable q f t
-  standard_stands q standard.Abs t f h = h.0
-  standard_stands q standard.Sqr t f h = h.0
-  standard_stands q standard.Odd t f h = h.0
   standard_stands q standard.Ord t f h = tt
-  standard_stands q standard.Chr t f h = h.0
-  standard_stands q standard.Succ t f h = h.0
-  standard_stands q standard.Pred t f h = h.0
   standard_stands q standard.Eof t f h = absurd f
   standard_stands q standard.Eoln t f h = absurd f
+  standard_stands _ _ _ _ h = h.0
 
   input_stands : (q : ℕ) (f : StandardFn) → InputAt p moves shares AnyInstr AnyTable AnyText callable q f
       → slice_get all.instrs q ≡ Some (input_instr f)
       → InputAt p moves shares (CodeAt all) (HasFork all) (HasWords all) callable q f
-  input_stands q standard.Abs f h = absurd f
-  input_stands q standard.Sqr f h = absurd f
-  input_stands q standard.Odd f h = absurd f
-  input_stands q standard.Ord f h = absurd f
-  input_stands q standard.Chr f h = absurd f
-  input_stands q standard.Succ f h = absurd f
-  input_stands q standard.Pred f h = absurd f
   input_stands q standard.Eof f h = h
   input_stands q standard.Eoln f h = h
+  input_stands _ _ f _ = absurd f
 
   up_is : (sc : List Scope) (f : ℕ) (o : Option ℕ) (up : ℕ)
       → Around p moves shares AnyInstr AnyTable AnyText callable sc f o up → call_up sc o ≡ up
@@ -360,12 +349,8 @@ module _ (p : Program) (moves shares : Stmt → List ℕ) (all : Parts) (callabl
       → slice_get all.instrs q ≡ Some (reading_instr (Some t))
       → ReadsAt p moves shares (CodeAt all) (HasFork all) (HasWords all) callable q t
   reads_stands q kind.Integer f h = h
-  reads_stands q kind.Boolean f h = absurd f
   reads_stands q kind.Char f h = h
-  reads_stands q (kind.Enumeration n) f h = absurd f
-  reads_stands q (kind.Array low high index element) f h = absurd f
-  reads_stands q (kind.Fields fs) f h = absurd f
-  reads_stands q (kind.Channel ks) f h = absurd f
+  reads_stands _ _ f _ = absurd f
 
   test_stands : (q : ℕ) (ms : List ℤ) (b : ℕ) → Here q (test_code ms b)
       → TestAt p moves shares (CodeAt all) (HasFork all) (HasWords all) callable q ms b

@@ -32,28 +32,14 @@ use Rattle.sp_code.specs.Emitted.{binary_instr, write_instr, children_tables, ch
 
 -- no index of a forall
 abbrev pub NoIndex : Role → Type 0
-NoIndex role.Console = Unit {0}
-NoIndex role.Local = Unit {0}
-NoIndex role.Value = Unit {0}
-NoIndex role.Reference = Unit {0}
 NoIndex role.Index = ⊥
-NoIndex role.Answer = Unit {0}
+NoIndex _ = Unit {0}
 
 -- the operator may stand between channels
 abbrev pub TakesChannels : BinaryOp → Type 0
 TakesChannels binary.Eq = Unit {0}
 TakesChannels binary.Ne = Unit {0}
-TakesChannels binary.Lt = ⊥
-TakesChannels binary.Le = ⊥
-TakesChannels binary.Gt = ⊥
-TakesChannels binary.Ge = ⊥
-TakesChannels binary.Add = ⊥
-TakesChannels binary.Sub = ⊥
-TakesChannels binary.Or = ⊥
-TakesChannels binary.Mul = ⊥
-TakesChannels binary.Div = ⊥
-TakesChannels binary.Mod = ⊥
-TakesChannels binary.And = ⊥
+TakesChannels _ = ⊥
 
 -- the sorts of operands
 abbrev pub Operands : BinaryOp → Sort → Sort → Type 0
@@ -73,10 +59,7 @@ abbrev pub IsWritten : KindOf → Type 0
 IsWritten kind.Integer = Unit {0}
 IsWritten kind.Boolean = Unit {0}
 IsWritten kind.Char = Unit {0}
-IsWritten (kind.Enumeration n) = ⊥
-IsWritten (kind.Array low high index element) = ⊥
-IsWritten (kind.Fields fs) = ⊥
-IsWritten (kind.Channel ks) = ⊥
+IsWritten _ = ⊥
 
 -- what may be called while a function is being called: blocks that lead to no kernel statement
 abbrev pub IsCallable : (ℕ → Type 0) → Bool → ℕ → Type 0
@@ -91,12 +74,10 @@ module _ (p : Program) (moves shares : Stmt → List ℕ) (Is : ℕ → Instr �
   -- an entire variable with this role
   abbrev pub VarRole : List Scope → ℕ → ℕ → Variable → Role → Type 0
   VarRole sc q x v role.Console = ⊥
-  VarRole sc q x v role.Local = (up : ℕ) × (level (is_block v.block) sc ≡ Some up) × Is q (i.Addr up (slot p x))
-  VarRole sc q x v role.Value = (up : ℕ) × (level (is_block v.block) sc ≡ Some up) × Is q (i.Addr up (slot p x))
   VarRole sc q x v role.Reference = (up : ℕ) × (level (is_block v.block) sc ≡ Some up) × Is q (i.Deref up (slot p x))
   VarRole sc q x v role.Index = (up : ℕ) × (level (is_index x) sc ≡ Some up) × Is q (i.Addr up 0)
       × (sort p v.kind ≡ Ordinals)
-  VarRole sc q x v role.Answer = (up : ℕ) × (level (is_block v.block) sc ≡ Some up) × Is q (i.Addr up (slot p x))
+  VarRole sc q x v _ = (up : ℕ) × (level (is_block v.block) sc ≡ Some up) × Is q (i.Addr up (slot p x))
 
   -- an entire variable of type k, which the process holds
   abbrev pub VarAt : List Scope → ℕ → ℕ → ℕ → Type 0
@@ -136,15 +117,9 @@ module _ (p : Program) (moves shares : Stmt → List ℕ) (Is : ℕ → Instr �
   StandardAt q standard.Eoln t = ⊥
 
   abbrev pub InputAt : ℕ → StandardFn → Type 0
-  InputAt q standard.Abs = ⊥
-  InputAt q standard.Sqr = ⊥
-  InputAt q standard.Odd = ⊥
-  InputAt q standard.Ord = ⊥
-  InputAt q standard.Chr = ⊥
-  InputAt q standard.Succ = ⊥
-  InputAt q standard.Pred = ⊥
   InputAt q standard.Eof = Is q i.Eof
   InputAt q standard.Eoln = Is q i.Eoln
+  InputAt _ _ = ⊥
 
   -- the level of the block around a called one
   abbrev pub Around : List Scope → ℕ → Option ℕ → ℕ → Type 0
@@ -212,12 +187,8 @@ module _ (p : Program) (moves shares : Stmt → List ℕ) (Is : ℕ → Instr �
 
   abbrev pub ReadsAt : ℕ → KindOf → Type 0
   ReadsAt q kind.Integer = Is q i.ReadInt
-  ReadsAt q kind.Boolean = ⊥
   ReadsAt q kind.Char = Is q i.ReadChar
-  ReadsAt q (kind.Enumeration n) = ⊥
-  ReadsAt q (kind.Array low high index element) = ⊥
-  ReadsAt q (kind.Fields fs) = ⊥
-  ReadsAt q (kind.Channel ks) = ⊥
+  ReadsAt _ _ = ⊥
 
   -- the right side of an assignment, and the instruction that assigns
   abbrev pub RightAt : List Scope → ℕ → ℕ → Sort → ExprForm → Type 0

@@ -69,14 +69,7 @@ offers w waits p c (Some z) k = queues p (queues z.1 (record k { pending = at_ke
 -- one child fewer is awaited; after the last one the parent becomes ready
 abbrev pub one_fewer : ℕ → Doing → Control → Control
 one_fewer p (Joining left) k = if left == 1 then queues p k else does p (Joining (left - 1)) k
-one_fewer p Unborn k = k
-one_fewer p Ready k = k
-one_fewer p (Out worker) k = k
-one_fewer p (Sending channel) k = k
-one_fewer p (Receiving channel) k = k
-one_fewer p Laid k = k
-one_fewer p Ended k = k
-one_fewer p Gone k = k
+one_fewer _ _ k = k
 
 -- the parent of who ended waits for a child fewer
 abbrev pub reports : Option Birth → Control → Control
@@ -157,15 +150,8 @@ pub data Standing : Type 0 where
   IsMemory : Standing
 
 abbrev pub has_ended : Doing → Bool
-has_ended Unborn = false
-has_ended Ready = false
-has_ended (Out worker) = false
-has_ended (Sending channel) = false
-has_ended (Receiving channel) = false
-has_ended (Joining left) = false
-has_ended Laid = false
 has_ended Ended = true
-has_ended Gone = false
+has_ended _ = false
 
 abbrev pub is_ready : List ℕ → Bool
 is_ready [] = false
@@ -187,10 +173,7 @@ front_of (p ∷ ps) = Some p
 -- the next process, while the run goes on
 abbrev pub front_while : Standing → List ℕ → Option ℕ
 front_while Running ps = front_of ps
-front_while IsDone ps = None
-front_while IsDeadlock ps = None
-front_while IsFault ps = None
-front_while IsMemory ps = None
+front_while _ _ = None
 
 -- the process that is taken next, if one can be
 abbrev pub front : Control → Option ℕ

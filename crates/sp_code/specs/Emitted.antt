@@ -73,24 +73,16 @@ abbrev pub standard_code : StandardFn → Option KindOf → List Instr
 standard_code standard.Abs t = i.Abs ∷ []
 standard_code standard.Sqr t = i.Sqr ∷ []
 standard_code standard.Odd t = i.Odd ∷ []
-standard_code standard.Ord t = []
 standard_code standard.Chr t = i.Range (pos 0) (pos 255) ∷ []
 standard_code standard.Succ t = i.Succ (greatest_of t) ∷ []
 standard_code standard.Pred t = i.Pred (least_of t) ∷ []
-standard_code standard.Eof t = []
-standard_code standard.Eoln t = []
+standard_code _ _ = []
 
 -- `eof` and `eoln`; `nocase` stands where no accepted tree comes
 abbrev pub input_instr : StandardFn → Instr
-input_instr standard.Abs = i.Nocase
-input_instr standard.Sqr = i.Nocase
-input_instr standard.Odd = i.Nocase
-input_instr standard.Ord = i.Nocase
-input_instr standard.Chr = i.Nocase
-input_instr standard.Succ = i.Nocase
-input_instr standard.Pred = i.Nocase
 input_instr standard.Eof = i.Eof
 input_instr standard.Eoln = i.Eoln
+input_instr _ = i.Nocase
 
 -- what an address is replaced by
 abbrev pub read_instr : Sort → (cells : ℕ) → Instr
@@ -169,9 +161,6 @@ test_code (m ∷ ms) b = i.Casej m b ∷ test_code ms b
 -- how many fork tables and written texts a statement has
 abbrev mutual
   pub tables_in : Stmt → ℕ
-  tables_in Empty = 0
-  tables_in (Assign v e) = 0
-  tables_in (Call f args) = 0
   tables_in (Sequence ss) = tables_in_all ss
   tables_in (If e a) = tables_in a
   tables_in (IfElse e a b) = tables_in a + tables_in b
@@ -181,15 +170,7 @@ abbrev mutual
   tables_in (Case e arms) = tables_in_arms arms
   tables_in (Parallel ss) = tables_in_all ss + 1
   tables_in (Forall x from to s) = tables_in s + 1
-  tables_in (Assume e) = 0
-  tables_in (ReadValue v) = 0
-  tables_in ReadLine = 0
-  tables_in (WriteValue e w) = 0
-  tables_in (WriteText t w) = 0
-  tables_in WriteLine = 0
-  tables_in (Open v) = 0
-  tables_in (Send c e) = 0
-  tables_in (Receive c v) = 0
+  tables_in _ = 0
 
   pub tables_in_all : Stmts → ℕ
   tables_in_all No = 0
@@ -202,9 +183,6 @@ abbrev mutual
 -- the written texts of a statement, in order
 abbrev mutual
   pub texts_of : Stmt → List (List ℕ)
-  texts_of Empty = []
-  texts_of (Assign v e) = []
-  texts_of (Call f args) = []
   texts_of (Sequence ss) = texts_of_all ss
   texts_of (If e a) = texts_of a
   texts_of (IfElse e a b) = texts_of a ++ texts_of b
@@ -214,15 +192,8 @@ abbrev mutual
   texts_of (Case e arms) = texts_of_arms arms
   texts_of (Parallel ss) = texts_of_all ss
   texts_of (Forall x from to s) = texts_of s
-  texts_of (Assume e) = []
-  texts_of (ReadValue v) = []
-  texts_of ReadLine = []
-  texts_of (WriteValue e w) = []
   texts_of (WriteText t w) = t ∷ []
-  texts_of WriteLine = []
-  texts_of (Open v) = []
-  texts_of (Send c e) = []
-  texts_of (Receive c v) = []
+  texts_of _ = []
 
   pub texts_of_all : Stmts → List (List ℕ)
   texts_of_all No = []
@@ -234,9 +205,6 @@ abbrev mutual
 
 abbrev mutual
   pub texts_in : Stmt → ℕ
-  texts_in Empty = 0
-  texts_in (Assign v e) = 0
-  texts_in (Call f args) = 0
   texts_in (Sequence ss) = texts_in_all ss
   texts_in (If e a) = texts_in a
   texts_in (IfElse e a b) = texts_in a + texts_in b
@@ -246,15 +214,8 @@ abbrev mutual
   texts_in (Case e arms) = texts_in_arms arms
   texts_in (Parallel ss) = texts_in_all ss
   texts_in (Forall x from to s) = texts_in s
-  texts_in (Assume e) = 0
-  texts_in (ReadValue v) = 0
-  texts_in ReadLine = 0
-  texts_in (WriteValue e w) = 0
   texts_in (WriteText t w) = 1
-  texts_in WriteLine = 0
-  texts_in (Open v) = 0
-  texts_in (Send c e) = 0
-  texts_in (Receive c v) = 0
+  texts_in _ = 0
 
   pub texts_in_all : Stmts → ℕ
   texts_in_all No = 0
@@ -274,12 +235,9 @@ blocks_texts (k ∷ ks) = texts_of k.body ++ blocks_texts ks
 
 -- a parameter of a role, whose type has so many cells
 abbrev pub formal_of : Role → ℕ → Formal
-formal_of role.Console n = formal.Value n
-formal_of role.Local n = formal.Value n
 formal_of role.Value n = formal.Value n
 formal_of role.Reference n = formal.Reference n
-formal_of role.Index n = formal.Value n
-formal_of role.Answer n = formal.Value n
+formal_of _ n = formal.Value n
 
 -- what a process shares of what its statement only uses: all but the index of its own forall, which is its own from the
 -- start
@@ -472,9 +430,6 @@ module _ (p : Program) where
     abbrev mutual
       -- the fork tables of a statement that stands at q, in order: a table before those inside
       pub tables : ℕ → Stmt → List ForkTable
-      tables q Empty = []
-      tables q (Assign v e) = []
-      tables q (Call f args) = []
       tables q (Sequence ss) = tables_all q ss
       tables q (If e a) = tables (after_value q e + 1) a
       tables q (IfElse e a b) =
@@ -487,15 +442,7 @@ module _ (p : Program) where
       tables q (Forall x from to s) =
           let b = after_value (after_value q from) to in
           record { children = child_table (b + 1 + 1) (Some x) s ∷ [] } ∷ tables (b + 1 + 1) s
-      tables q (Assume e) = []
-      tables q (ReadValue v) = []
-      tables q ReadLine = []
-      tables q (WriteValue e w) = []
-      tables q (WriteText t w) = []
-      tables q WriteLine = []
-      tables q (Open v) = []
-      tables q (Send c e) = []
-      tables q (Receive c v) = []
+      tables _ _ = []
 
       pub tables_all : ℕ → Stmts → List ForkTable
       tables_all q No = []

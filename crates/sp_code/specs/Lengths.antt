@@ -21,15 +21,10 @@ unary_length unary.Not = 1
 
 -- `ord`: 0; every other standard function of an operand: 1
 abbrev pub standard_length : StandardFn → ℕ
-standard_length standard.Abs = 1
-standard_length standard.Sqr = 1
-standard_length standard.Odd = 1
 standard_length standard.Ord = 0
-standard_length standard.Chr = 1
-standard_length standard.Succ = 1
-standard_length standard.Pred = 1
 standard_length standard.Eof = 0
 standard_length standard.Eoln = 0
+standard_length _ = 1
 
 abbrev mutual
   pub value_length : Expr → ℕ

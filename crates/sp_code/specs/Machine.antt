@@ -148,63 +148,37 @@ layout_of (l ∷ ls) b = if l.block == b then Some l else layout_of ls b
 module _ {M : Type 0} where
   -- the operand on top of the stack
   abbrev pub on_number : List Entry → (ℤ → List Entry → StepResult M) → StepResult M
-  on_number [] go = Stuck
   on_number (Number v ∷ st) go = go v st
-  on_number (Chan c ∷ st) go = Stuck
-  on_number (Pointer a ∷ st) go = Stuck
-  on_number (Cells cs ∷ st) go = Stuck
-  on_number (Link r ∷ st) go = Stuck
-  on_number (Reply r ∷ st) go = Stuck
+  on_number _ _ = Stuck
 
   -- on with the channel on top
   abbrev pub on_channel : List Entry → (ℕ → List Entry → StepResult M) → StepResult M
-  on_channel [] go = Stuck
-  on_channel (Number v ∷ st) go = Stuck
   on_channel (Chan c ∷ st) go = go c st
-  on_channel (Pointer a ∷ st) go = Stuck
-  on_channel (Cells cs ∷ st) go = Stuck
-  on_channel (Link r ∷ st) go = Stuck
-  on_channel (Reply r ∷ st) go = Stuck
+  on_channel _ _ = Stuck
 
   -- on with the address on top
   abbrev pub on_address : List Entry → (Address → List Entry → StepResult M) → StepResult M
-  on_address [] go = Stuck
-  on_address (Number v ∷ st) go = Stuck
-  on_address (Chan c ∷ st) go = Stuck
   on_address (Pointer a ∷ st) go = go a st
-  on_address (Cells cs ∷ st) go = Stuck
-  on_address (Link r ∷ st) go = Stuck
-  on_address (Reply r ∷ st) go = Stuck
+  on_address _ _ = Stuck
 
   -- one value as a cell, or as cells
   abbrev pub on_cell : List Entry → (Cell → List Entry → StepResult M) → StepResult M
-  on_cell [] go = Stuck
   on_cell (Number v ∷ st) go = go (cell.Ordinal v) st
   on_cell (Chan c ∷ st) go = go (cell.Channel c) st
-  on_cell (Pointer a ∷ st) go = Stuck
-  on_cell (Cells cs ∷ st) go = Stuck
-  on_cell (Link r ∷ st) go = Stuck
-  on_cell (Reply r ∷ st) go = Stuck
+  on_cell _ _ = Stuck
 
   -- on with the cells on top
   abbrev pub on_cells : List Entry → (List Cell → List Entry → StepResult M) → StepResult M
-  on_cells [] go = Stuck
   on_cells (Number v ∷ st) go = go (cell.Ordinal v ∷ []) st
   on_cells (Chan c ∷ st) go = go (cell.Channel c ∷ []) st
-  on_cells (Pointer a ∷ st) go = Stuck
   on_cells (Cells cs ∷ st) go = go cs st
-  on_cells (Link r ∷ st) go = Stuck
-  on_cells (Reply r ∷ st) go = Stuck
+  on_cells _ _ = Stuck
 
   -- whether two ordinals or two channels are equal
   abbrev pub on_equals : List Entry → (Bool → List Entry → StepResult M) → StepResult M
-  on_equals [] go = Stuck
   on_equals (Number v ∷ st) go = on_number st (λ u st1. go (same_ordinal u v) st1)
   on_equals (Chan c ∷ st) go = on_channel st (λ d st1. go (d == c) st1)
-  on_equals (Pointer a ∷ st) go = Stuck
-  on_equals (Cells cs ∷ st) go = Stuck
-  on_equals (Link r ∷ st) go = Stuck
-  on_equals (Reply r ∷ st) go = Stuck
+  on_equals _ _ = Stuck
 
   -- so many operands, the lowest first
   abbrev pub pop : ℕ → List Entry → List Entry → (List Entry → List Entry → StepResult M) → StepResult M
@@ -277,16 +251,12 @@ module _ {M : Type 0} (ops : Ops M) (code : Parts) where
 
   -- the return of a procedure, or of a function with its result
   abbrev pub return_step : List Entry → M → StepResult M
-  return_step [] n = Stuck
-  return_step (Number v ∷ st) n = Stuck
-  return_step (Chan c ∷ st) n = Stuck
-  return_step (Pointer a ∷ st) n = Stuck
-  return_step (Cells cs ∷ st) n = Stuck
   return_step (Link r ∷ st) n = when (ops.may_close n) (Goes (At r st (ops.close_frame n)))
   return_step (Reply r ∷ st) n =
       when (ops.may_close n) (on_some (ops.answer n)
       (λ a. when (ops.has a 1 n) (ordinal_in (ops.read a n)
       (λ v. Goes (At r (Number v ∷ st) (ops.close_frame n))))))
+  return_step _ _ = Stuck
 
   -- an item read into an address
   abbrev pub item_step : ReadResult → Address → ℕ → List Entry → M → StepResult M

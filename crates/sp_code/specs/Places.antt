@@ -21,15 +21,10 @@ after_unary unary.Minus q = q + 1
 after_unary unary.Not q = q + 1
 
 abbrev pub after_standard : StandardFn → ℕ → ℕ
-after_standard standard.Abs q = q + 1
-after_standard standard.Sqr q = q + 1
-after_standard standard.Odd q = q + 1
 after_standard standard.Ord q = q
-after_standard standard.Chr q = q + 1
-after_standard standard.Succ q = q + 1
-after_standard standard.Pred q = q + 1
 after_standard standard.Eof q = q
 after_standard standard.Eoln q = q
+after_standard _ q = q + 1
 
 abbrev mutual
   -- an expression is its operands in order and then its operator

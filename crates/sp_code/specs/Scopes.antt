@@ -42,12 +42,8 @@ is_given (Some x) = true
 
 -- variables of a role, by their numbers
 abbrev pub is_local : Role → Bool
-is_local role.Console = false
 is_local role.Local = true
-is_local role.Value = false
-is_local role.Reference = false
-is_local role.Index = false
-is_local role.Answer = false
+is_local _ = false
 
 -- those that are no parameters
 abbrev pub locals_among : List (ℕ × Variable) → List ℕ

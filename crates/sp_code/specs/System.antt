@@ -188,13 +188,8 @@ module _ {S : Type 0} where
 
   -- what a process is stopped at, if it waits with an offer
   abbrev pub stop_of : Condition S → Option Stop
-  stop_of Absent = None
-  stop_of (Working c) = None
   stop_of (Waits s c) = Some s
-  stop_of (Joins left c) = None
-  stop_of (Laid c) = None
-  stop_of Gone = None
-  stop_of (Over c) = None
+  stop_of _ = None
 
   -- what the process waits with whose offer is pending
   abbrev pub pending_stop : System S → Option ℕ → Option Stop
@@ -218,12 +213,9 @@ module _ {S : Type 0} where
 
   -- the fault of an offer against what is pending
   abbrev pub clash_of : System S → Stop → Option Fault
-  clash_of s (Forks t value n) = None
-  clash_of s (Opens a) = None
   clash_of s (Sends c k cs) = clash_by way.Send k (pending_stop s (s.pending c))
   clash_of s (Receives c k a) = clash_by way.Receive k (pending_stop s (s.pending c))
-  clash_of s Ends = None
-  clash_of s Pauses = None
+  clash_of _ _ = None
 
   -- the fault of a turn's event, if it is one: those of the turn come first, then F15, then F13, F14, F6 and F7
   abbrev pub fault_of : Limits → System S → Turn (Memory S) → Option Fault

@@ -51,6 +51,22 @@
 //! - Variables of a fork's table that stand in no visible frame have no spot and are handed to nobody. Generated code
 //!   has none. The index of a `forall` is held in its element statement besides.
 //!
+//! Lemmas for others, in `proofs`:
+//! - `Members`: members of lists of numbers: where they stand, and what is above them.
+//! - `Numbered`: lines put one after another, each with its number.
+//! - `Counts`: the places of a tree's code agree with its lengths, and its code has exactly its length.
+//! - `Standing`: where the list of a statement's instructions stands, with its fork tables and texts, the statement
+//!   stands.
+//! - `Turning`: one turn is a function, and what is computed of it is so.
+//! - `Falls`: a number falls with each instruction whose ways make the rank fall.
+//! - `Systems`: the system along a journal is one.
+//! - `Spending`: the memory of a process has as many ticks left as its limit and its count say.
+//! - `Blocks`: the code of a program has exactly the tree's length, and all its blocks stand in it.
+//! - `StoreLaws`: what the tests of a plain store say.
+//! - `Plans`: what the handings of a fork are: which spots move and which are shared, and that none comes twice
+//!   where the children's variables differ.
+//! - `Pieces`: the pieces of a new frame: each variable has undefined cells of its own, and no other spot changes.
+//!
 //! To change:
 //! - An instruction: `src/instr.rt`, `src/words.rt`, `specs/Listing`, `Machine`, `Ranks`, and a clause in
 //!   `proofs/Falls`.

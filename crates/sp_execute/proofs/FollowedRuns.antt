@@ -22,7 +22,7 @@ use Rattle.sp_code.specs.Machine.{Stop, Forks, Opens, Sends, Receives, Ends, Pau
 use Rattle.sp_code.specs.Memory.{Memory}
 use Rattle.sp_code.specs.PlainStore.{plain}
 use Rattle.sp_code.specs.Sound.{run_of}
-use Rattle.sp_code.specs.System.{System, Condition, Absent, Working, Waits, Joins, Laid, Gone, Over, IsSystem}
+use Rattle.sp_code.specs.System.{System, Condition, Working, Waits, IsSystem}
 use Rattle.sp_history.specs.Agreement.{Running, phase_in}
 use Rattle.sp_link.specs.Premises.{IsReady, run_by}
 use Rattle.sp_link.proofs.Endings.{program_no_fault, program_deadlock}
@@ -43,7 +43,6 @@ nameable_front s (suc n) (e ∷ es) h = (h.0, nameable_front (births_after_entry
 
 -- who runs works
 works : (X : Condition Plain) → phase_in X ≡ Running → (d : Config (Memory Plain)) × (X ≡ Working d)
-works Absent e = absurd (cc e)
 works (Working d) e = (d, refl)
 works (Waits stop d) e = absurd (waiting stop e)
   where
@@ -54,10 +53,7 @@ works (Waits stop d) e = absurd (waiting stop e)
     waiting (Receives c m a) f = cc f
     waiting Ends f = cc f
     waiting Pauses f = cc f
-works (Joins left d) e = absurd (cc e)
-works (Laid d) e = absurd (cc e)
-works Gone e = absurd (cc e)
-works (Over d) e = absurd (cc e)
+works _ e = absurd (cc e)
 
 module _ (g : RunInput) (moves shares : Stmt → List ℕ) (ready : IsReady g moves shares) where
   -- a system that goes on is at no end of the program

@@ -1,9 +1,9 @@
-pub mod Waiting
-pub mod Races
-pub mod Concluding
-pub mod Executing
-pub mod FollowedRuns
-pub mod Judged
-pub mod Prefixes
+mod Waiting
+mod Races
+mod Concluding
+mod Executing
+mod FollowedRuns
+mod Judged
+mod Prefixes
 mod Readiness
-pub mod TextTold
+mod TextTold

@@ -6,7 +6,7 @@ use Rattle.std.proofs.lemmas.Bool.{cases_order}
 use Rattle.sp_base.specs.declared.limits.TheConstants.{TURN_TICKS}
 use Rattle.sp_journal.specs.declared.entry.Entry.{Entry}
 use Rattle.sp_journal.specs.Births.{Births, first_births, births_after_entry, occurrences_from}
-use Rattle.sp_journal.specs.Names.{Happening, Forked, Opened, Offered, Ended, Faulted, Laid, Paused, Occurrence}
+use Rattle.sp_journal.specs.Names.{Happening, Laid, Paused, Occurrence}
 use Rattle.sp_meaning.specs.Model.{Name}
 use Rattle.sp_meaning.specs.LocalWork.{RunInput}
 use Rattle.sp_meaning.specs.Runs.{StateOf, start}
@@ -25,15 +25,7 @@ module _ (g : RunInput) (turn : ℕ) where
         → (k : ℕ) × (z : StateOf g) × EntryStep g (λ c1 u r. Along g turn c1 u ps r z) c m paused q what k
     entered c m paused q Laid n t h = let r = shorter _ _ n t h.1 in (r.0, r.1, (h.0, r.2))
     entered c m paused q Paused n t h = let r = shorter _ _ n t h.2 in (r.0, r.1, (h.0, h.1, r.2))
-    entered c m paused q (Forked count) n t (a, b, u, rest, e, i, l) = let r = shorter _ _ rest t l in
-        (suc r.0, r.1, (a, b, u, r.0, refl, i, r.2))
-    entered c m paused q Opened n t (a, b, u, rest, e, i, l) = let r = shorter _ _ rest t l in
-        (suc r.0, r.1, (a, b, u, r.0, refl, i, r.2))
-    entered c m paused q (Offered w ch) n t (a, b, u, rest, e, i, l) = let r = shorter _ _ rest t l in
-        (suc r.0, r.1, (a, b, u, r.0, refl, i, r.2))
-    entered c m paused q Ended n t (a, b, u, rest, e, i, l) = let r = shorter _ _ rest t l in
-        (suc r.0, r.1, (a, b, u, r.0, refl, i, r.2))
-    entered c m paused q (Faulted f) n t (a, b, u, rest, e, i, l) = let r = shorter _ _ rest t l in
+    entered _ _ _ _ _ _ t (a, b, u, rest, e, i, l) = let r = shorter _ _ rest t l in
         (suc r.0, r.1, (a, b, u, r.0, refl, i, r.2))
 
   first_part : (b : Births) (xs ys : List Entry) (c : Course) (s : StateOf g) (n : ℕ) (t : StateOf g)

@@ -24,19 +24,11 @@ use Rattle.sp_runner.specs.Ends.{IsDeadlock, offer_in, waiter_list, waiters_amon
 abbrev doing_at : Stop → Doing
 doing_at (Sends c k cs) = Sending c
 doing_at (Receives c k a) = Receiving c
-doing_at (Forks t v n) = Unborn
-doing_at (Opens a) = Unborn
-doing_at Ends = Unborn
-doing_at Pauses = Unborn
+doing_at _ = Unborn
 
 abbrev doing_in : Condition Plain → Doing
 doing_in (Waits stop c) = doing_at stop
-doing_in Absent = Unborn
-doing_in (Working c) = Unborn
-doing_in (Joins n c) = Unborn
-doing_in (Laid c) = Unborn
-doing_in Gone = Unborn
-doing_in (Over c) = Unborn
+doing_in _ = Unborn
 
 to_send : (b : Births) (i c : ℕ) (X : Condition Plain) → doing_in X ≡ Sending c → Waits_with b i X (Sends_at b i c)
 to_send b i c (Waits (Sends c1 k cs) d) e = let same : c1 ≡ c = cc e in

@@ -94,11 +94,8 @@ constants_block l (x ∷ xs) = constants_block
     ∙ declared_block l x.text sort.Constant (meaning.Constant (next_constant l.counts))
 
 kind_block : (l : Local) (k : SynKind) → (kind_local l k).block ≡ l.block
-kind_block l (kinds.Alias t) = refl
 kind_block l (kinds.Enumeration xs) = constants_block l xs
-kind_block l (kinds.Array a b t) = refl
-kind_block l (kinds.Record gs) = refl
-kind_block l (kinds.Channel ts) = refl
+kind_block _ _ = refl
 
 pub part_block : (l : Local) (q : Part) → (part_local l q).block ≡ l.block
 part_block l (Const x c) = declared_block l x.text sort.Constant (meaning.Constant (next_constant l.counts))
@@ -385,12 +382,9 @@ module _ (p : plain.Program) (m : ℕ) where
   kind_place : (sc : List Scope) (block a : ℕ) (around : List names.Scope) (l : Local) (k : SynKind) (j : ℕ)
       → IsOpen sc block a around l → w.kind_constants_sites [] both_lists all_at around l k ≡ []
       → next_constant l.counts + length (constants_named j k) ≤ m → IsOpen sc block a around (kind_local l k)
-  kind_place sc block a around l (kinds.Alias t) j place calm few = place
   kind_place sc block a around l (kinds.Enumeration xs) j place calm few =
       constants_place sc block a around l xs j 0 place calm few
-  kind_place sc block a around l (kinds.Array lo hi t) j place calm few = place
-  kind_place sc block a around l (kinds.Record gs) j place calm few = place
-  kind_place sc block a around l (kinds.Channel ts) j place calm few = place
+  kind_place _ _ _ _ _ _ _ place _ _ = place
 
   -- what a part declares stands in the tables of the program
   abbrev pub PartInTables : Counts → n.Program → Type 0

@@ -86,11 +86,8 @@ enumerated_behind k j i [] = tt
 enumerated_behind k j i (x ∷ xs) = enumerated_behind (suc k) j (suc i) xs
 
 constants_behind : (k j : ℕ) (d : SynKind) → AreValuesBehind k (constants_named j d)
-constants_behind k j (kinds.Alias t) = tt
 constants_behind k j (kinds.Enumeration xs) = enumerated_behind k j 0 xs
-constants_behind k j (kinds.Array lo hi t) = tt
-constants_behind k j (kinds.Record gs) = tt
-constants_behind k j (kinds.Channel ts) = tt
+constants_behind _ _ _ = tt
 
 behind_more : (k j : ℕ) (v : NamedValue) → k ≤ j → IsBehind k v → IsBehind j v
 behind_more k j (given.Number c) l h = tt

@@ -38,14 +38,11 @@ use Rattle.sp_facts.specs.ConstantsDeclared.{AreEnumerated, HasOrdinalConstants}
 use Rattle.sp_facts.proofs.TypesFormed.{keeps}
 
 abbrev IsOrdinalForm : NamedKindForm → Type 0
-IsOrdinalForm form.Integer = Unit {0}
-IsOrdinalForm form.Boolean = Unit {0}
-IsOrdinalForm form.Char = Unit {0}
 IsOrdinalForm (form.Alias k) = ⊥
-IsOrdinalForm (form.Enumeration m) = Unit {0}
 IsOrdinalForm (form.Array a b e) = ⊥
 IsOrdinalForm (form.Fields fs) = ⊥
 IsOrdinalForm (form.Channel ks) = ⊥
+IsOrdinalForm _ = Unit {0}
 
 -- ---- a definition that makes a type stands at its own number
 
@@ -101,14 +98,8 @@ ordinal_at ns consts known next (k ∷ ks) (suc j) d e o =
         (kinds_from ns consts ks) (next_by next f) (length known + suc j)
         → OrdinalAt (numbers_from (known ++ number_by known next f ∷ []) (next_by next f) ks)
         (kinds_by ns consts f ++ kinds_from ns consts ks) next (length known + suc j)
-    go form.Integer (t, h, r) = (suc t, up (numbers_from (known ++ next ∷ []) (next + 1) ks) t h, r)
-    go form.Boolean (t, h, r) = (suc t, up (numbers_from (known ++ next ∷ []) (next + 1) ks) t h, r)
-    go form.Char (t, h, r) = (suc t, up (numbers_from (known ++ next ∷ []) (next + 1) ks) t h, r)
-    go (form.Enumeration m) (t, h, r) = (suc t, up (numbers_from (known ++ next ∷ []) (next + 1) ks) t h, r)
-    go (form.Array a b e) (t, h, r) = (suc t, up (numbers_from (known ++ next ∷ []) (next + 1) ks) t h, r)
-    go (form.Fields fs) (t, h, r) = (suc t, up (numbers_from (known ++ next ∷ []) (next + 1) ks) t h, r)
-    go (form.Channel cs) (t, h, r) = (suc t, up (numbers_from (known ++ next ∷ []) (next + 1) ks) t h, r)
     go (form.Alias i) r = r
+    go _ (t, h, r) = (suc t, up (numbers_from (known ++ next ∷ []) (next + 1) ks) t h, r)
 
 -- ---- enumerations stand among the types
 

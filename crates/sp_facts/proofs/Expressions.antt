@@ -154,19 +154,12 @@ module _ (p : Program) (m : ℕ) (moves shares : Stmt → List ℕ) (callable : 
   unary_at q unary.Not = tt
 
   binary_sort : (op : BinaryOp) → (sort p (binary_gives op) ≡ Ordinals) × IsKind p (binary_gives op)
-  binary_sort binary.Eq = (boolean_is 1 refl, (kind.Boolean, knows.boolean))
-  binary_sort binary.Ne = (boolean_is 1 refl, (kind.Boolean, knows.boolean))
-  binary_sort binary.Lt = (boolean_is 1 refl, (kind.Boolean, knows.boolean))
-  binary_sort binary.Le = (boolean_is 1 refl, (kind.Boolean, knows.boolean))
-  binary_sort binary.Gt = (boolean_is 1 refl, (kind.Boolean, knows.boolean))
-  binary_sort binary.Ge = (boolean_is 1 refl, (kind.Boolean, knows.boolean))
   binary_sort binary.Add = (integer_is 0 refl, (kind.Integer, knows.integer))
   binary_sort binary.Sub = (integer_is 0 refl, (kind.Integer, knows.integer))
-  binary_sort binary.Or = (boolean_is 1 refl, (kind.Boolean, knows.boolean))
   binary_sort binary.Mul = (integer_is 0 refl, (kind.Integer, knows.integer))
   binary_sort binary.Div = (integer_is 0 refl, (kind.Integer, knows.integer))
   binary_sort binary.Mod = (integer_is 0 refl, (kind.Integer, knows.integer))
-  binary_sort binary.And = (boolean_is 1 refl, (kind.Boolean, knows.boolean))
+  binary_sort _ = (boolean_is 1 refl, (kind.Boolean, knows.boolean))
 
   operands : (op : BinaryOp) (k : ℕ) → binary_takes env op k ≡ true → Operands op (sort p k) (sort p k)
   operands binary.Eq k e = either (ordinal env k) refl
@@ -332,26 +325,14 @@ module _ (p : Program) (m : ℕ) (moves shares : Stmt → List ℕ) (callable : 
   standard_one fn.Eoln ka o a oe ik takes ke h = absurd (cc takes)
 
   no_argument : (f : StandardFn) → function_takes f 0 ≡ true → FormIs (standard_gives env f None) (plain.AtInput f)
-  no_argument fn.Abs e = absurd (cc e)
-  no_argument fn.Sqr e = absurd (cc e)
-  no_argument fn.Odd e = absurd (cc e)
-  no_argument fn.Ord e = absurd (cc e)
-  no_argument fn.Chr e = absurd (cc e)
-  no_argument fn.Succ e = absurd (cc e)
-  no_argument fn.Pred e = absurd (cc e)
   no_argument fn.Eof e = (1, refl, (kind.Boolean, knows.boolean), λ q. (tt, boolean_is 1 refl))
   no_argument fn.Eoln e = (1, refl, (kind.Boolean, knows.boolean), λ q. (tt, boolean_is 1 refl))
+  no_argument _ e = absurd (cc e)
 
   too_many : (f : StandardFn) (m : ℕ) → function_takes f (suc (suc m)) ≡ true → ⊥
-  too_many fn.Abs m e = let w = nat_eq_is 1 (suc (suc m)) e in omega (arith, w)
-  too_many fn.Sqr m e = let w = nat_eq_is 1 (suc (suc m)) e in omega (arith, w)
-  too_many fn.Odd m e = let w = nat_eq_is 1 (suc (suc m)) e in omega (arith, w)
-  too_many fn.Ord m e = let w = nat_eq_is 1 (suc (suc m)) e in omega (arith, w)
-  too_many fn.Chr m e = let w = nat_eq_is 1 (suc (suc m)) e in omega (arith, w)
-  too_many fn.Succ m e = let w = nat_eq_is 1 (suc (suc m)) e in omega (arith, w)
-  too_many fn.Pred m e = let w = nat_eq_is 1 (suc (suc m)) e in omega (arith, w)
   too_many fn.Eof m e = let w = nat_eq_is 0 (suc (suc m)) e in omega (arith, w)
   too_many fn.Eoln m e = let w = nat_eq_is 0 (suc (suc m)) e in omega (arith, w)
+  too_many _ m e = let w = nat_eq_is 1 (suc (suc m)) e in omega (arith, w)
 
   -- a text in an expression is a char
   quoted : (at : Place) (t : List ℕ) → text_rule at t ≡ None
@@ -428,13 +409,8 @@ module _ (p : Program) (m : ℕ) (moves shares : Stmt → List ℕ) (callable : 
           → (fs : List (List ℕ × ℕ)) × (x : List ℕ) × (t : ℕ) × (slice_get p.kinds k ≡ Some (kind.Fields fs))
           × (slice_get fs (field_number (field_in name (slice_get env.kinds j))) ≡ Some (x, t))
           × (field_kind (field_in name (slice_get env.kinds j)) ≡ Some t)
-      go kind.Integer a ek c = absurd (cc c)
-      go kind.Boolean a ek c = absurd (cc c)
-      go kind.Char a ek c = absurd (cc c)
-      go (kind.Enumeration m) a ek c = absurd (cc c)
-      go (kind.Array low high index el) a ek c = absurd (cc c)
       go (kind.Fields fs) a ek c = found fs a ek (field_from 0 name fs) refl c
-      go (kind.Channel ks) a ek c = absurd (cc c)
+      go _ _ _ c = absurd (cc c)
 
   -- an argument, by the role of its parameter
   abbrev pub ReferenceIs : n.Expression → Type 0

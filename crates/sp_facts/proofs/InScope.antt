@@ -47,11 +47,7 @@ use Rattle.sp_facts.specs.Earlier.{IsEarlier}
 abbrev pub Bound : Counts → Meaning → Type 0
 Bound c (meaning.Constant k) = suc k ≤ next_constant c
 Bound c (meaning.Kind k) = suc k ≤ next_kind c
-Bound c (meaning.Variable x b r) = Unit {0}
-Bound c (meaning.Procedure f fs) = Unit {0}
-Bound c (meaning.Function f fs) = Unit {0}
-Bound c (meaning.StandardFunction f) = Unit {0}
-Bound c (meaning.StandardProcedure f) = Unit {0}
+Bound _ _ = Unit {0}
 
 abbrev pub AllBound : Counts → names.Scope → Type 0
 AllBound c [] = Unit {0}
@@ -72,11 +68,7 @@ UpTo c d = (next_constant c ≤ next_constant d) × (next_kind c ≤ next_kind d
 bound_more : (c d : Counts) (y : Meaning) → UpTo c d → Bound c y → Bound d y
 bound_more c d (meaning.Constant k) l h = let a = l.0 in omega (arith, a, h)
 bound_more c d (meaning.Kind k) l h = let a = l.1 in omega (arith, a, h)
-bound_more c d (meaning.Variable x b r) l h = tt
-bound_more c d (meaning.Procedure f fs) l h = tt
-bound_more c d (meaning.Function f fs) l h = tt
-bound_more c d (meaning.StandardFunction f) l h = tt
-bound_more c d (meaning.StandardProcedure f) l h = tt
+bound_more _ _ _ _ _ = tt
 
 pub all_bound_more : (c d : Counts) (b : names.Scope) → UpTo c d → AllBound c b → AllBound d b
 all_bound_more c d [] l h = tt
@@ -170,11 +162,8 @@ pub kind_bound : (around : List names.Scope) (c : Counts) (l : Local) (d : SynKi
     → w.kind_constants_sites [] both_lists all_at around l d ≡ [] → (j : ℕ)
     → next_constant l.counts + length (constants_named j d) ≤ next_constant c → AllBound c l.here
     → AllBound c (kind_local l d).here
-kind_bound around c l (kinds.Alias t) calm j few h = h
 kind_bound around c l (kinds.Enumeration xs) calm j few h = constants_bound around c l xs calm j 0 few h
-kind_bound around c l (kinds.Array lo hi t) calm j few h = h
-kind_bound around c l (kinds.Record gs) calm j few h = h
-kind_bound around c l (kinds.Channel ts) calm j few h = h
+kind_bound _ _ _ _ _ _ _ h = h
 
 pub block_bound : (c : Counts) (l : Local) (fs : List SynFormal) (answer : Option Name)
     → Bound c (block_meaning l fs answer)

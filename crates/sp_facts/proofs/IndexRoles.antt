@@ -17,10 +17,6 @@ module _ (p : Program) (m : ℕ) where
 
     form_has : (sc : List Scope) (form : n.Form) → InStatementForm p m sc form
         → FormSatisfies (IsIndexOf p) AnyBranches form
-    form_has sc n.Empty i = tt
-    form_has sc (n.Assign v e) i = tt
-    form_has sc (n.Call f args) i = tt
-    form_has sc (n.Perform f args) i = tt
     form_has sc (n.Sequence ss) i = all_have sc ss i
     form_has sc (n.If e a o) i = (statement_has sc a i.1, other_has sc o i.2)
     form_has sc (n.While e a) i = statement_has sc a i.1
@@ -29,7 +25,7 @@ module _ (p : Program) (m : ℕ) where
     form_has sc (n.For x at from down to a) i = statement_has sc a i.3
     form_has sc (n.Parallel bs) i = (tt, branches_have sc bs i)
     form_has sc (n.Forall x from to a) i = (i.0, statement_has (OfIndex x ∷ sc) a i.3)
-    form_has sc (n.Assume e) i = tt
+    form_has _ _ _ = tt
 
     other_has : (sc : List Scope) (o : n.ElsePart) → InOther p m sc o → ElseSatisfies (IsIndexOf p) AnyBranches o
     other_has sc n.NoElse i = tt

@@ -126,13 +126,10 @@ module _ (p : plain.Program) (m : ℕ) where
       around_more x b role.Answer h = inr h
 
       one : (y : Meaning) → IsValid p m sc y → IsValid p m (s ∷ sc) y
-      one (meaning.Constant k) h = h
-      one (meaning.Kind k) h = h
       one (meaning.Variable x b r) (v, at, vr, vb, h) = (v, at, vr, vb, around_more x b r h)
       one (meaning.Procedure f fs) (b, (at, flags, (q, e, h)), none) = (b, (at, flags, (q, e, inr h)), none)
       one (meaning.Function f fs) (b, (at, flags, (q, e, h)), ans) = (b, (at, flags, (q, e, inr h)), ans)
-      one (meaning.StandardFunction f) h = h
-      one (meaning.StandardProcedure f) h = h
+      one _ h = h
 
       valid_more : (s2 : Scope) (sc2 : List Scope) (b : names.Scope) → AreValid p m sc b → AreValid p m (s ∷ sc) b
       valid_more s2 sc2 [] h = tt

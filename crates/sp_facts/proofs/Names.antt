@@ -137,11 +137,8 @@ module _ (p : plain.Program) (m : ℕ) where
 
       go : (r : Role) → IsAround p m sc x b r → SeenRole p m sc x v r
       go role.Console h = h
-      go role.Local h = block h
-      go role.Value h = block h
-      go role.Reference h = block h
       go role.Index h = level_index x sc h
-      go role.Answer h = block h
+      go _ h = block h
 
   pub aimed : (sc : List Scope) (x b : ℕ) (r : Role) (at : Place) → IsValid p m sc (meaning.Variable x b r)
       → variable_rule at r ≡ None → AimedIn p m x

@@ -57,13 +57,7 @@ places_length ns consts (k ∷ ks) = length-append (kinds_by ns consts k.form) (
 
     one : (f : NamedKindForm) → length (kinds_by ns consts f) ≡ length (w.place_by k.at f)
     one form.Integer = refl
-    one form.Boolean = refl
-    one form.Char = refl
-    one (form.Enumeration m) = refl
-    one (form.Array a b e) = refl
-    one (form.Fields fs) = refl
-    one (form.Channel cs) = refl
-    one (form.Alias j) = refl
+    one _ = refl
 
 -- of a program
 pub types_small : (s : syntax.Program) → types_broken (program_named s) ≡ [] → (k : ℕ)

@@ -63,12 +63,8 @@ types_at ns (w ∷ us) zero u e = ap (λ (z : checked.Variable). Some (type_of n
 types_at ns (w ∷ us) (suc x) u e = types_at ns us x u e
 
 type_is : (ns : List ℕ) (r : Role) (k : ℕ) → NoIndex r → type_of ns r k ≡ Some (type_number ns k)
-type_is ns role.Console k d = refl
-type_is ns role.Local k d = refl
-type_is ns role.Value k d = refl
-type_is ns role.Reference k d = refl
 type_is ns role.Index k d = absurd d
-type_is ns role.Answer k d = refl
+type_is _ _ _ _ = refl
 
 signatures_at : (env : Env) (starts : List ℕ) (bs : List n.Block) (f : ℕ) (b : plain.Block)
     → slice_get (map bare_block (checked_blocks env starts bs)) f ≡ Some b
@@ -96,12 +92,9 @@ among_formals p f k (v ∷ vs) h = go (v.block == f)
     one : (r : Role) → v.role ≡ r → AreFormals p (numbers_with_role is_parameter (variables_of f (suc k) vs))
         → AreFormals p (if is_parameter r then k ∷ numbers_with_role is_parameter (variables_of f (suc k) vs) else
         numbers_with_role is_parameter (variables_of f (suc k) vs))
-    one role.Console e r = r
-    one role.Local e r = r
     one role.Value e r = ((v, at, inl e), r)
     one role.Reference e r = ((v, at, inr e), r)
-    one role.Index e r = r
-    one role.Answer e r = r
+    one _ _ r = r
 
     go : (b : Bool) → AreFormals p (numbers_with_role is_parameter (variables_of f (suc k) vs))
         → AreFormals p (numbers_with_role is_parameter (if b then (k, v) ∷ variables_of f (suc k) vs else

@@ -95,12 +95,8 @@ module _ (s : syntax.Program) (calm : broken_name_rules s ≡ []) (no_types : ty
       there = number_there s calm u.kind h.0
 
       by : (r : Role) → IsThere (length p_.kinds) (type_of (numbers_of n_) r u.kind)
-      by role.Console = there
-      by role.Local = there
-      by role.Value = there
-      by role.Reference = there
       by role.Index = tt
-      by role.Answer = there
+      by _ = there
 
   standard_there : 3 ≤ length p_.kinds
   standard_there = within p_.kinds 2 kind.Char refl
@@ -127,12 +123,8 @@ module _ (s : syntax.Program) (calm : broken_name_rules s ≡ []) (no_types : ty
       → IsFine p_ (λ s. []) (λ s. []) (NeverStops p_) f 0 b) where
     -- a parallel statement has a process statement
     abbrev HasProcess : Use → Type 0
-    HasProcess (Target x) = Unit {0}
-    HasProcess (Seen x) = Unit {0}
-    HasProcess (CallOf f args) = Unit {0}
     HasProcess (ParallelOf ss) = ss ≡ No → ⊥
-    HasProcess (ForallOf x s) = Unit {0}
-    HasProcess Stop = Unit {0}
+    HasProcess _ = Unit {0}
 
     process : (ss : c.Statements) → HasPart (SplitsAt ss) → bare_statements ss ≡ No → ⊥
     process c.NoStatement h e = h

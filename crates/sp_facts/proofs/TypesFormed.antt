@@ -162,11 +162,6 @@ kinds_formed consts known next (k ∷ ks) ns e below (early, more) (value, value
             → w.kinds_sites [] both_lists refusal_list consts ks ≡ []
             → AreFormedKinds (next_by next f) (kinds_from ns consts ks))
             → AreFormedKinds next (kinds_by ns consts f ++ kinds_from ns consts ks)
-        by form.Integer i v c rest = (tt, at_next (rest fresh (later next) values two.1))
-        by form.Boolean i v c rest = (tt, at_next (rest fresh (later next) values two.1))
-        by form.Char i v c rest = (tt, at_next (rest fresh (later next) values two.1))
-        by (form.Enumeration m) i v c rest = (tt, at_next (rest fresh (later next) values two.1))
-        by (form.Channel cs) i v c rest = (tt, at_next (rest fresh (later next) values two.1))
         by (form.Alias j) i v c rest =
             let r = number j i in
             let y = first_or 0 (slice_get known j) in
@@ -180,6 +175,7 @@ kinds_formed consts known next (k ∷ ks) ns e below (early, more) (value, value
           at_next (rest fresh (later next) values two.1),
         )
         by (form.Fields fs) i v c rest = (fields_below fs i, at_next (rest fresh (later next) values two.1))
+        by _ _ _ _ rest = (tt, at_next (rest fresh (later next) values two.1))
 
 -- all numbers of types are of types that there are
 pub numbers_below : (consts : List (Option Ordinal)) (ns : List ℕ) (known : List ℕ) (next : ℕ) (ks : List NamedKind)
@@ -216,14 +212,8 @@ numbers_below consts ns known next (k ∷ ks) below (early, more) =
 
     counted : (f : NamedKindForm) → next_by next f + length (kinds_from ns consts ks) ≡ next
         + length (kinds_by ns consts f ++ kinds_from ns consts ks)
-    counted form.Integer = one next (length (kinds_from ns consts ks))
-    counted form.Boolean = one next (length (kinds_from ns consts ks))
-    counted form.Char = one next (length (kinds_from ns consts ks))
-    counted (form.Enumeration m) = one next (length (kinds_from ns consts ks))
-    counted (form.Array a b e) = one next (length (kinds_from ns consts ks))
-    counted (form.Fields fs) = one next (length (kinds_from ns consts ks))
-    counted (form.Channel cs) = one next (length (kinds_from ns consts ks))
     counted (form.Alias j) = refl
+    counted _ = one next (length (kinds_from ns consts ks))
 
 -- by the number of a type
 pub formed_at : (i k : ℕ) (ts : List KindOf) (t : KindOf) → AreFormedKinds i ts → slice_get ts k ≡ Some t

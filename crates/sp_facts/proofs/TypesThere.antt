@@ -55,18 +55,7 @@ module _ (k : ℕ) where
 
   binary_there : (op : BinaryOp) → 3 ≤ k → suc (binary_gives op) ≤ k
   binary_there binary.Eq l = omega (arith, l)
-  binary_there binary.Ne l = omega (arith, l)
-  binary_there binary.Lt l = omega (arith, l)
-  binary_there binary.Le l = omega (arith, l)
-  binary_there binary.Gt l = omega (arith, l)
-  binary_there binary.Ge l = omega (arith, l)
-  binary_there binary.Add l = omega (arith, l)
-  binary_there binary.Sub l = omega (arith, l)
-  binary_there binary.Or l = omega (arith, l)
-  binary_there binary.Mul l = omega (arith, l)
-  binary_there binary.Div l = omega (arith, l)
-  binary_there binary.Mod l = omega (arith, l)
-  binary_there binary.And l = omega (arith, l)
+  binary_there _ l = omega (arith, l)
 
   field_there : (i : ℕ) (name : List ℕ) (fs : List (List ℕ × ℕ)) → AreBefore k fs
       → IsThere k (field_kind (field_from i name fs))
@@ -132,15 +121,9 @@ module _ (k : ℕ) where
         go false = tt
 
     standard_there : (f : StandardFn) (j : Option ℕ) → IsThere k j → IsThere k (standard_gives env f j)
-    standard_there fn.Abs j h = let l = known.standard in omega (arith, l)
-    standard_there fn.Sqr j h = let l = known.standard in omega (arith, l)
-    standard_there fn.Odd j h = let l = known.standard in omega (arith, l)
-    standard_there fn.Ord j h = let l = known.standard in omega (arith, l)
-    standard_there fn.Chr j h = let l = known.standard in omega (arith, l)
     standard_there fn.Succ j h = ordinal_there j h
     standard_there fn.Pred j h = ordinal_there j h
-    standard_there fn.Eof j h = let l = known.standard in omega (arith, l)
-    standard_there fn.Eoln j h = let l = known.standard in omega (arith, l)
+    standard_there _ _ _ = let l = known.standard in omega (arith, l)
 
     mutual
       pub expression_there : (e : Expression) → IsThere k (expression_kind env e)

@@ -10,7 +10,7 @@ use Rattle.sp_tree.specs.Plain as plain
 use Rattle.sp_tree.specs.NamedTree.{program_named}
 use Rattle.sp_tree.specs.NameFirst.{broken_name_rules}
 use Rattle.sp_tree.specs.Bare.{bare_statement, without_places}
-use Rattle.sp_tree.specs.Uses.{Use, Target, Seen, CallOf, ParallelOf, ForallOf, Stop, In_stmt}
+use Rattle.sp_tree.specs.Uses.{Use, CallOf, Stop, In_stmt}
 use Rattle.sp_tree.specs.Sets.{LeadsToStop}
 use Rattle.sp_tree.specs.Interference.{IsIndexOf, IsFunction, IsFreeOfInterference}
 use Rattle.sp_tree.specs.Sites.{Site, statement_sites}
@@ -36,12 +36,9 @@ module _ (g : c.Program) (calm : KeepsInterference g) where
 
   -- nor is this use
   abbrev IsSilentUse : Use → Type 0
-  IsSilentUse (Target x) = Unit {0}
-  IsSilentUse (Seen x) = Unit {0}
   IsSilentUse (CallOf f args) = LeadsToStop (without_places g) f → ⊥
-  IsSilentUse (ParallelOf ss) = Unit {0}
-  IsSilentUse (ForallOf x s) = Unit {0}
   IsSilentUse Stop = ⊥
+  IsSilentUse _ = Unit {0}
 
   silent_use : (f : ℕ) (k : c.Block) → slice_get g.blocks f ≡ Some k → IsFunction (without_places g) f → (u : Use)
       → In_stmt (bare_statement k.body) u → IsSilentUse u

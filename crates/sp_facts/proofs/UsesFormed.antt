@@ -9,7 +9,7 @@ use Rattle.sp_tree.specs.Plain.{Entire, Index, Field, Selectors, Whole, Select, 
 use Rattle.sp_tree.specs.Plain.{Pass, Program, Variable, Stmt, Empty, Assign, Call, Sequence, If, IfElse, While, Repeat}
 use Rattle.sp_tree.specs.Plain.{For, Case, Parallel, Forall, Assume, ReadValue, ReadLine, WriteValue, WriteText}
 use Rattle.sp_tree.specs.Plain.{WriteLine, Open, Send, Receive, Stmts, No, And, On, Arms, NoArm, Or}
-use Rattle.sp_tree.specs.Uses.{Use, Seen, CallOf, ParallelOf, ForallOf, Stop, In_expr, In_form, In_read, In_target}
+use Rattle.sp_tree.specs.Uses.{Use, Seen, Stop, In_expr, In_form, In_read, In_target}
 use Rattle.sp_tree.specs.Uses.{In_selectors, In_actuals, In_width, In_stmt, In_stmts, In_arms}
 use Rattle.sp_tree.specs.Uses as use_of
 use Rattle.sp_code.specs.Scopes.{Sort, Ordinals, Channels, Many, NoSort, Scope, OfIndex, sort}
@@ -23,10 +23,7 @@ module _ (p : Program) (input : (v : Variable) × (slice_get p.variables 0 ≡ S
   abbrev pub IsGoodUse : Use → Type 0
   IsGoodUse (use_of.Target x) = (v : Variable) × (slice_get p.variables x ≡ Some v) × (v.role ≡ role.Index → ⊥)
   IsGoodUse (Seen x) = x ≡ 1 → ⊥
-  IsGoodUse (CallOf f args) = Unit {0}
-  IsGoodUse (ParallelOf ss) = Unit {0}
-  IsGoodUse (ForallOf x s) = Unit {0}
-  IsGoodUse Stop = Unit {0}
+  IsGoodUse _ = Unit {0}
 
   abbrev Value : List Scope → ℕ → Expr → Type 0
   Value = ValueAt p moves shares AnyInstr AnyTable AnyText callable
@@ -50,12 +47,8 @@ module _ (p : Program) (input : (v : Variable) × (slice_get p.variables 0 ≡ S
   StatementInCode = StandsAt p moves shares AnyInstr AnyTable AnyText callable true
 
   no_index : (r : Role) → NoIndex r → r ≡ role.Index → ⊥
-  no_index role.Console d e = cc e
-  no_index role.Local d e = cc e
-  no_index role.Value d e = cc e
-  no_index role.Reference d e = cc e
   no_index role.Index d e = d
-  no_index role.Answer d e = cc e
+  no_index _ _ e = cc e
 
   no_output : (sc : List Scope) (q x k : ℕ) → VarAt p moves shares AnyInstr AnyTable AnyText callable sc q x k → x ≡ 1
       → ⊥

@@ -9,8 +9,8 @@ use Rattle.sp_tree.specs.Scopes.{Env, find}
 use Rattle.sp_tree.specs.NameWalk.{role_of}
 use Rattle.sp_tree.specs.NamedTree.{kind_number, variables_named, formals_named, answer_named, indices, form_indices}
 use Rattle.sp_tree.specs.NamedTree.{other_indices, statements_indices, arms_indices, branches_indices}
-use Rattle.sp_tree.specs.PlainSyntax.{Statement, Does, Form, Empty, Assign, Call, Sequence, If, While, Repeat, For}
-use Rattle.sp_tree.specs.PlainSyntax.{Case, Parallel, Forall, Assume, ElsePart, NoElse, Else, Statements, NoStatement}
+use Rattle.sp_tree.specs.PlainSyntax.{Statement, Does, Form, Sequence, If, While, Repeat, For}
+use Rattle.sp_tree.specs.PlainSyntax.{Case, Parallel, Forall, ElsePart, NoElse, Else, Statements, NoStatement}
 use Rattle.sp_tree.specs.PlainSyntax.{AndThen, On, Arms, NoArm, Or, Branches, NoBranch, Beside}
 use Rattle.sp_facts.specs.ForEach.{HoldsOfEach}
 
@@ -55,9 +55,6 @@ module _ (P : checked.Variable → Type 0) (block : ℕ) where
       indices_each (Does at form) = form_each form
 
       form_each : (form : Form) → HoldsOfEach P (form_indices block form)
-      form_each Empty = tt
-      form_each (Assign v e) = tt
-      form_each (Call f args) = tt
       form_each (Sequence ss) = statements_each ss
       form_each (If e a o) = each_join P (indices block a) (other_indices block o) (indices_each a) (other_each o)
       form_each (While e a) = indices_each a
@@ -66,7 +63,7 @@ module _ (P : checked.Variable → Type 0) (block : ℕ) where
       form_each (For x from down to a) = indices_each a
       form_each (Parallel bs) = branches_each bs
       form_each (Forall x from to a) = (one x, indices_each a)
-      form_each (Assume e) = tt
+      form_each _ = tt
 
       other_each : (o : ElsePart) → HoldsOfEach P (other_indices block o)
       other_each NoElse = tt

@@ -34,14 +34,8 @@ AreBehind kinds numbers j (constant.Enumerated k i ∷ cs) = (is_ordinal (slice_
     × AreBehind kinds numbers (suc j) cs
 
 abbrev pub IsBoundBehind : ℕ → NamedKindForm → Type 0
-IsBoundBehind j form.Integer = Unit {0}
-IsBoundBehind j form.Boolean = Unit {0}
-IsBoundBehind j form.Char = Unit {0}
-IsBoundBehind j (form.Alias k) = Unit {0}
-IsBoundBehind j (form.Enumeration m) = Unit {0}
 IsBoundBehind j (form.Array a b e) = IsBehind j a.value × IsBehind j b.value
-IsBoundBehind j (form.Fields fs) = Unit {0}
-IsBoundBehind j (form.Channel ks) = Unit {0}
+IsBoundBehind _ _ = Unit {0}
 
 abbrev pub AreBoundsBehind : ℕ → List NamedKind → Type 0
 AreBoundsBehind j [] = Unit {0}

@@ -16,14 +16,10 @@ use Rattle.sp_tree.specs.declared.checked.Variable as checked
 
 -- the definition of type j
 abbrev pub IsEarlier : ℕ → NamedKindForm → Type 0
-IsEarlier j form.Integer = Unit {0}
-IsEarlier j form.Boolean = Unit {0}
-IsEarlier j form.Char = Unit {0}
 IsEarlier j (form.Alias k) = suc k ≤ j
-IsEarlier j (form.Enumeration m) = Unit {0}
 IsEarlier j (form.Array a b e) = suc e ≤ j
 IsEarlier j (form.Fields fs) = AreBefore j fs
-IsEarlier j (form.Channel ks) = Unit {0}
+IsEarlier _ _ = Unit {0}
 
 -- so for each definition, from type j on
 abbrev pub AreEarlier : ℕ → List NamedKind → Type 0
@@ -39,14 +35,8 @@ abbrev pub HasValue : List (Option Ordinal) → NamedConst → Type 0
 HasValue known c = (o : Ordinal) × (const_value known c ≡ Some o)
 
 abbrev pub HaveValues : List (Option Ordinal) → NamedKindForm → Type 0
-HaveValues known form.Integer = Unit {0}
-HaveValues known form.Boolean = Unit {0}
-HaveValues known form.Char = Unit {0}
-HaveValues known (form.Alias k) = Unit {0}
-HaveValues known (form.Enumeration m) = Unit {0}
 HaveValues known (form.Array a b e) = HasValue known a × HasValue known b
-HaveValues known (form.Fields fs) = Unit {0}
-HaveValues known (form.Channel ks) = Unit {0}
+HaveValues _ _ = Unit {0}
 
 abbrev pub AllHaveValues : List (Option Ordinal) → List NamedKind → Type 0
 AllHaveValues known [] = Unit {0}
@@ -54,13 +44,9 @@ AllHaveValues known (k ∷ ks) = HaveValues known k.form × AllHaveValues known 
 
 -- a type whose components are of types before it
 abbrev pub IsFormedKind : ℕ → KindOf → Type 0
-IsFormedKind i kind.Integer = Unit {0}
-IsFormedKind i kind.Boolean = Unit {0}
-IsFormedKind i kind.Char = Unit {0}
-IsFormedKind i (kind.Enumeration m) = Unit {0}
 IsFormedKind i (kind.Array low high index element) = (suc element ≤ i) × (int_le low high ≡ true)
 IsFormedKind i (kind.Fields fs) = AreBefore i fs
-IsFormedKind i (kind.Channel ks) = Unit {0}
+IsFormedKind _ _ = Unit {0}
 
 abbrev pub AreFormedKinds : ℕ → List KindOf → Type 0
 AreFormedKinds i [] = Unit {0}

@@ -4,7 +4,7 @@
 use Rattle.std.specs.Prelude.{ℕ, List, [], ◌∷◌}
 use Rattle.sp_tree.specs.PlainNamed as n
 use Rattle.sp_tree.specs.PlainChecked as c
-use Rattle.sp_tree.specs.Sites.{Site, SplitsAt, SpreadsAt, LoopsAt, CallsAt, StopsAt}
+use Rattle.sp_tree.specs.Sites.{Site, SplitsAt}
 
 module _ (OnIndex : ℕ → Type 0) (OnBranches : n.Branches → Type 0) where
   abbrev mutual
@@ -12,10 +12,6 @@ module _ (OnIndex : ℕ → Type 0) (OnBranches : n.Branches → Type 0) where
     ForksSatisfy (n.Does at form) = FormSatisfies form
 
     pub FormSatisfies : n.Form → Type 0
-    FormSatisfies n.Empty = Unit {0}
-    FormSatisfies (n.Assign v e) = Unit {0}
-    FormSatisfies (n.Call f args) = Unit {0}
-    FormSatisfies (n.Perform f args) = Unit {0}
     FormSatisfies (n.Sequence ss) = AllSatisfy ss
     FormSatisfies (n.If e a o) = ForksSatisfy a × ElseSatisfies o
     FormSatisfies (n.While e a) = ForksSatisfy a
@@ -24,7 +20,7 @@ module _ (OnIndex : ℕ → Type 0) (OnBranches : n.Branches → Type 0) where
     FormSatisfies (n.For x at from down to a) = ForksSatisfy a
     FormSatisfies (n.Parallel bs) = OnBranches bs × BranchesSatisfy bs
     FormSatisfies (n.Forall x from to a) = OnIndex x × ForksSatisfy a
-    FormSatisfies (n.Assume e) = Unit {0}
+    FormSatisfies _ = Unit {0}
 
     pub ElseSatisfies : n.ElsePart → Type 0
     ElseSatisfies n.NoElse = Unit {0}
@@ -62,8 +58,4 @@ IsSplit (n.Beside ss rest) = Unit {0}
 -- a parallel statement has a process statement
 abbrev pub HasPart : Site → Type 0
 HasPart (SplitsAt c.NoStatement) = ⊥
-HasPart (SplitsAt (c.AndThen s rest)) = Unit {0}
-HasPart (SpreadsAt at x s) = Unit {0}
-HasPart (LoopsAt x at s) = Unit {0}
-HasPart (CallsAt f at args) = Unit {0}
-HasPart (StopsAt at) = Unit {0}
+HasPart _ = Unit {0}

@@ -68,10 +68,6 @@ module _ (p : Program) where
     IsTyped env (n.Does at form) = IsTypedForm (with_next_number env) form
 
     pub IsTypedForm : Env → n.Form → Type 0
-    IsTypedForm env n.Empty = Unit {0}
-    IsTypedForm env (n.Assign v e) = Unit {0}
-    IsTypedForm env (n.Call f args) = Unit {0}
-    IsTypedForm env (n.Perform f args) = Unit {0}
     IsTypedForm env (n.Sequence ss) = AreTyped env ss
     IsTypedForm env (n.If e a o) = IsTyped env a × IsTypedOther (statement_after env a) o
     IsTypedForm env (n.While e a) = IsTyped env a
@@ -82,7 +78,7 @@ module _ (p : Program) where
     IsTypedForm env (n.Forall x from to a) =
         ((v : Variable) → slice_get p.variables x ≡ Some v → (k : ℕ) → expression_kind env from ≡ Some k → v.kind ≡ k)
         × IsTyped (with_index_type env x (expression_kind env from)) a
-    IsTypedForm env (n.Assume e) = Unit {0}
+    IsTypedForm _ _ = Unit {0}
 
     pub IsTypedOther : Env → n.ElsePart → Type 0
     IsTypedOther env n.NoElse = Unit {0}

@@ -9,11 +9,7 @@ use Rattle.sp_facts.specs.ForEach.{HoldsOfEach}
 
 abbrev pub NoConsole : Role → Type 0
 NoConsole role.Console = ⊥
-NoConsole role.Local = Unit {0}
-NoConsole role.Value = Unit {0}
-NoConsole role.Reference = Unit {0}
-NoConsole role.Index = Unit {0}
-NoConsole role.Answer = Unit {0}
+NoConsole _ = Unit {0}
 
 -- so many blocks there are
 abbrev pub AreInRealBlocks : ℕ → List checked.Variable → Type 0

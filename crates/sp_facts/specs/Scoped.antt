@@ -23,11 +23,8 @@ IsInForall (OfIndex x ∷ sc) = Unit {0}
 module _ (p : Program) (constants : ℕ) where
   abbrev pub SeenRole : List Scope → ℕ → Variable → Role → Type 0
   SeenRole sc x v role.Console = ⊥
-  SeenRole sc x v role.Local = (up : ℕ) × (level (is_block v.block) sc ≡ Some up)
-  SeenRole sc x v role.Value = (up : ℕ) × (level (is_block v.block) sc ≡ Some up)
-  SeenRole sc x v role.Reference = (up : ℕ) × (level (is_block v.block) sc ≡ Some up)
   SeenRole sc x v role.Index = (up : ℕ) × (level (is_index x) sc ≡ Some up)
-  SeenRole sc x v role.Answer = (up : ℕ) × (level (is_block v.block) sc ≡ Some up)
+  SeenRole sc _ v _ = (up : ℕ) × (level (is_block v.block) sc ≡ Some up)
 
   -- a variable that is visible
   abbrev pub SeenIn : List Scope → ℕ → Type 0
@@ -106,13 +103,11 @@ module _ (p : Program) (constants : ℕ) where
   AreAimedLater (n.AndArgument a rest) = AreAimed rest
 
   abbrev pub AimsOf : StandardProcedure → n.Arguments → Type 0
-  AimsOf procedure.Read args = AreAimed args
-  AimsOf procedure.Readln args = AreAimed args
   AimsOf procedure.Write args = Unit {0}
   AimsOf procedure.Writeln args = Unit {0}
-  AimsOf procedure.Open args = AreAimed args
   AimsOf procedure.Send args = Unit {0}
   AimsOf procedure.Receive args = AreAimedLater args
+  AimsOf _ args = AreAimed args
 
   abbrev mutual
     pub InStatement : List Scope → n.Statement → Type 0

@@ -22,6 +22,11 @@
 //!   `ForkWalk` leaves open what is asked of each forall and parallel statement.
 //! - `proofs/Joining` joins the facts of names and types for a text; `SmallTypes` has the cells of types.
 //!
+//! Lemmas for others, in `proofs`:
+//! - `PhaseAnswers`: what the answers of the phases say: where a tree comes out, no rule is broken, and the tree is
+//!   the one of the definitions.
+//! - `Joining`: a text that breaks no rule has a formed tree that is free of interference, with fine blocks.
+//!
 //! To change:
 //! - A rule: one clause in the induction over its form.
 #![tactic(auto)]

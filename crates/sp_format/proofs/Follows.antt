@@ -115,11 +115,8 @@ dot_next n c before is g h e = at_dot is g (subst (λ n. Apart (Some (kind.Sign 
 -- behind a number: no real one
 real_touch : (k : Kind) (d rest : List ℕ) → BeginsAsKind k d → touches (Some kind.Number) (Some k) ≡ true
     → ((n : ℕ) → k ≡ kind.Sign n → n ≡ 14 → begins_digit rest ≡ false) → goes_on_real (d ++ rest) ≡ false
-real_touch kind.Name d rest f t g = absurd cc
-real_touch kind.Number d rest f t g = absurd cc
-real_touch kind.Text d rest f t g = absurd cc
-real_touch (kind.Word n) d rest f t g = absurd cc
 real_touch (kind.Sign n) d rest f t g = sign_real n d rest (tail_of n d f) (g n refl)
+real_touch _ d rest f t g = absurd cc
 
 real_by : (k : Kind) (d g rest : List ℕ) (b t : Bool) → BeginsAsKind k d → touches (Some kind.Number) (Some k) ≡ t
     → ((n : ℕ) → k ≡ kind.Sign n → n ≡ 14 → begins_digit (rest ++ 10 ∷ []) ≡ false)
@@ -157,10 +154,7 @@ number_next c before (i ∷ is) g h = real_after c before i.kind i.bytes is g.0 
 ends_next : (k : Kind) (c : List ℕ) (before is : List Item) → AreSoundItems is → Apart (Some k) is
     → MayFollow k (items_layout (item (Some k) c ∷ before) is ++ 10 ∷ [])
 ends_next kind.Number c before is g h = number_next c before is g h
-ends_next kind.Name c before is g h = tt
-ends_next kind.Text c before is g h = tt
-ends_next (kind.Word n) c before is g h = tt
-ends_next (kind.Sign n) c before is g h = tt
+ends_next _ _ _ _ _ _ = tt
 
 -- there no rule is broken
 no_breach : (k : Kind) (c r : List ℕ) → ReadsToken k c r → KeepsTokenRules k c → MayFollow k r → (s : Rule)

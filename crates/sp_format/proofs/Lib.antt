@@ -1,9 +1,9 @@
-pub mod Walking
-pub mod Joining
-pub mod Neat
-pub mod Again
-pub mod Neighbours
-pub mod Follows
-pub mod Accepts
-pub mod OneLayout
-pub mod SameTree
+mod Walking
+mod Joining
+mod Neat
+mod Again
+mod Neighbours
+mod Follows
+mod Accepts
+mod OneLayout
+mod SameTree

@@ -11,7 +11,7 @@ use Rattle.sp_tree.specs.declared.token.Kind.{Kind}
 use Rattle.sp_tree.specs.declared.token.Kind.TheVariants as kind
 use Rattle.sp_tree.specs.declared.operators.BinaryOp.{BinaryOp}
 use Rattle.sp_tree.specs.PlainSyntax.{Program}
-use Rattle.sp_tree.specs.Grammar.{IsRelational, equal, unequal, less, at_most, greater, at_least, IsAdding, plus, minus}
+use Rattle.sp_tree.specs.Grammar.{IsRelational, equal, IsAdding, plus, minus}
 use Rattle.sp_tree.specs.Grammar.{or, IsMultiplying, times, quotient, modulo, and}
 use Rattle.sp_tree.specs.Viable.{Any, Spells}
 use Rattle.sp_grammar.specs.Symbols.{Symbol, AToken, AName, AProgram, AFormal, AStatement, MoreLabels, MoreArms}
@@ -105,30 +105,15 @@ extend {k} {l} f m g = record {
 
 of_constant : {k : Kind} {l : List Symbol} → ConstantRow k l → LeavesNeat k l
 of_constant row.constant_number = record { same = λ q. refl; ready' = λ q. refl }
-of_constant row.constant_name = record { same = λ q. refl; ready' = λ q. refl }
-of_constant row.constant_text = record { same = λ q. refl; ready' = λ q. refl }
-of_constant row.constant_plus = record { same = λ q. refl; ready' = λ q. refl }
-of_constant row.constant_minus = record { same = λ q. refl; ready' = λ q. refl }
+of_constant _ = record { same = λ q. refl; ready' = λ q. refl }
 
 of_parts : {d : ℕ} {k : Kind} {l : List Symbol} → PartsRow d k l → LeavesNeat k l
 of_parts row.parts_begin = record { same = λ q. refl; ready' = λ q. refl }
-of_parts row.parts_const = record { same = λ q. refl; ready' = λ q. refl }
-of_parts row.parts_type = record { same = λ q. refl; ready' = λ q. refl }
-of_parts row.parts_var = record { same = λ q. refl; ready' = λ q. refl }
-of_parts row.parts_procedure = record { same = λ q. refl; ready' = λ q. refl }
-of_parts row.parts_function = record { same = λ q. refl; ready' = λ q. refl }
+of_parts _ = record { same = λ q. refl; ready' = λ q. refl }
 
 of_form : {d : ℕ} {k : Kind} {l : List Symbol} → FormRow d k l → LeavesNeat k l
 of_form row.form_name = record { same = λ q. refl; ready' = λ q. refl }
-of_form row.form_begin = record { same = λ q. refl; ready' = λ q. refl }
-of_form row.form_if = record { same = λ q. refl; ready' = λ q. refl }
-of_form row.form_while = record { same = λ q. refl; ready' = λ q. refl }
-of_form row.form_repeat = record { same = λ q. refl; ready' = λ q. refl }
-of_form row.form_for = record { same = λ q. refl; ready' = λ q. refl }
-of_form row.form_case = record { same = λ q. refl; ready' = λ q. refl }
-of_form row.form_parallel = record { same = λ q. refl; ready' = λ q. refl }
-of_form row.form_forall = record { same = λ q. refl; ready' = λ q. refl }
-of_form row.form_assume = record { same = λ q. refl; ready' = λ q. refl }
+of_form _ = record { same = λ q. refl; ready' = λ q. refl }
 
 of_selector : {d : ℕ} {k : Kind} {l : List Symbol} → SelectorRow d k l → LeavesNeat k l
 of_selector row.selector_index = record { same = λ q. refl; ready' = λ q. refl }
@@ -136,10 +121,7 @@ of_selector row.selector_field = record { same = λ q. refl; ready' = λ q. refl
 
 of_factor : {d : ℕ} {k : Kind} {l : List Symbol} → FactorRow d k l → LeavesNeat k l
 of_factor row.factor_number = record { same = λ q. refl; ready' = λ q. refl }
-of_factor row.factor_text = record { same = λ q. refl; ready' = λ q. refl }
-of_factor row.factor_name = record { same = λ q. refl; ready' = λ q. refl }
-of_factor row.factor_open = record { same = λ q. refl; ready' = λ q. refl }
-of_factor row.factor_not = record { same = λ q. refl; ready' = λ q. refl }
+of_factor _ = record { same = λ q. refl; ready' = λ q. refl }
 
 of_simple : {d : ℕ} {k : Kind} {l : List Symbol} → SimpleRow d k l → LeavesNeat k l
 of_simple {d} (row.simple_factor r) = extend (of_factor r) (MoreFactors d ∷ MoreTerms d ∷ []) (λ q. refl)
@@ -148,11 +130,7 @@ of_simple row.simple_minus = record { same = λ q. refl; ready' = λ q. refl }
 
 of_relation : {k : Kind} {o : BinaryOp} → IsRelational k o → (q : List Symbol) → ready k q ≡ true
 of_relation equal q = refl
-of_relation unequal q = refl
-of_relation less q = refl
-of_relation at_most q = refl
-of_relation greater q = refl
-of_relation at_least q = refl
+of_relation _ _ = refl
 
 of_adding : {k : Kind} {o : BinaryOp} → IsAdding k o → (q : List Symbol) → ready k q ≡ true
 of_adding plus q = refl

@@ -76,24 +76,12 @@ module _ (text other : List ℕ) where
         → parts_value text c t vs ≡ parts_value other c u vs
     parts_like row.parts_begin (s, (ss, e)) =
         ap (λ (p : Place). record { parts = tree.NoPart; body = tree.Does p (tree.Sequence (tree.AndThen s ss)) }) at
-    parts_like row.parts_const (n, (e, (c, (s, (b, u))))) = refl
-    parts_like row.parts_type (n, (e, (c, (s, (b, u))))) = refl
-    parts_like row.parts_var (n, (ns, (c, (k, (s, (b, u)))))) = refl
-    parts_like row.parts_procedure (n, (fs, (c, (b, (s, (m, u)))))) = refl
-    parts_like row.parts_function (n, (fs, (c, (a, (e, (b, (s, (m, u)))))))) = refl
+    parts_like _ _ = refl
 
     form_like : {d : ℕ} {k : Kind} {l : List Symbol} (c : FormRow d k l) → SaySame k t u → (vs : Values l)
         → form_value text c t vs ≡ form_value other c u vs
     form_like row.form_name h (f, v) = ap f h
-    form_like row.form_begin h (s, (ss, v)) = refl
-    form_like row.form_if h (e, (x, (s, (o, v)))) = refl
-    form_like row.form_while h (e, (x, (s, v))) = refl
-    form_like row.form_repeat h (s, (ss, (x, (e, v)))) = refl
-    form_like row.form_for h (n, (b, (x, (down, (y, (z, (s, v))))))) = refl
-    form_like row.form_case h (e, (x, (c, (cs, (s, (rest, v)))))) = refl
-    form_like row.form_parallel h (s, (ss, (bs, v))) = refl
-    form_like row.form_forall h (n, (b, (x, (z, (y, (i, (s, v))))))) = refl
-    form_like row.form_assume h (e, v) = refl
+    form_like _ _ _ = refl
 
     selector_like : {d : ℕ} {k : Kind} {l : List Symbol} (c : SelectorRow d k l) (vs : Values l)
         → selector_value text c t vs ≡ selector_value other c u vs

@@ -31,13 +31,8 @@ use Rattle.sp_front.proofs.OneAnswer.{OneTree}
 -- ---- how many constants the enumerations have, in order
 
 abbrev sizes_by : KindOf → List ℕ
-sizes_by kind.Integer = []
-sizes_by kind.Boolean = []
-sizes_by kind.Char = []
 sizes_by (kind.Enumeration n) = n ∷ []
-sizes_by (kind.Array low high index element) = []
-sizes_by (kind.Fields fs) = []
-sizes_by (kind.Channel ks) = []
+sizes_by _ = []
 
 abbrev sizes : List KindOf → List ℕ
 sizes [] = []
@@ -49,14 +44,8 @@ sizes_both (k ∷ ks) b = ap (λ (l : List ℕ). sizes_by k ++ l) (sizes_both ks
     ∙ sym (append_assoc (sizes_by k) (sizes ks) (sizes b))
 
 abbrev form_sizes : NamedKindForm → List ℕ
-form_sizes form.Integer = []
-form_sizes form.Boolean = []
-form_sizes form.Char = []
-form_sizes (form.Alias k) = []
 form_sizes (form.Enumeration m) = m ∷ []
-form_sizes (form.Array a b e) = []
-form_sizes (form.Fields fs) = []
-form_sizes (form.Channel ks) = []
+form_sizes _ = []
 
 abbrev named_sizes : List NamedKind → List ℕ
 named_sizes [] = []
@@ -76,14 +65,8 @@ no_size false low high index i element = refl
 
 form_sized : (numbers : List ℕ) (known : List (Option Ordinal)) (f : NamedKindForm)
     → sizes (kinds_by numbers known f) ≡ form_sizes f
-form_sized numbers known form.Integer = refl
-form_sized numbers known form.Boolean = refl
-form_sized numbers known form.Char = refl
-form_sized numbers known (form.Alias k) = refl
-form_sized numbers known (form.Enumeration m) = refl
 form_sized numbers known (form.Array a b e) = no_size _ _ _ _ _ _
-form_sized numbers known (form.Fields fs) = refl
-form_sized numbers known (form.Channel ks) = refl
+form_sized _ _ _ = refl
 
 kinds_sized : (numbers : List ℕ) (known : List (Option Ordinal)) (ks : List NamedKind)
     → sizes (kinds_from numbers known ks) ≡ named_sizes ks
@@ -102,11 +85,8 @@ map_both [] b = refl
 map_both (x ∷ xs) b = ap (λ (l : List ℕ). length x ∷ l) (map_both xs b)
 
 kind_sized : (env : Env) (k : SynKind) → form_sizes (kind_named env k) ≡ map length (kind_constants k)
-kind_sized env (kinds.Alias t) = refl
 kind_sized env (kinds.Enumeration xs) = ap (λ (m : ℕ). m ∷ []) (as_many xs)
-kind_sized env (kinds.Array a b t) = refl
-kind_sized env (kinds.Record gs) = refl
-kind_sized env (kinds.Channel ts) = refl
+kind_sized _ _ = refl
 
 mutual
   parts_sized : (around : List Scope) (l : Local) (ps : s.Parts)

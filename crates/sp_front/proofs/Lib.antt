@@ -1,12 +1,12 @@
-pub mod Accepting
-pub mod BodyPlaces
-pub mod ConstantNames
-pub mod TextMarked
-pub mod Existence
-pub mod Joining
-pub mod Numbered
+mod Accepting
+mod BodyPlaces
+mod ConstantNames
+mod TextMarked
+mod Existence
+mod Joining
+mod Numbered
 pub mod OneAnswer
-pub mod OwnNumbers
-pub mod Phasing
+mod OwnNumbers
+mod Phasing
 mod Crossing
-pub mod Ending
+mod Ending

@@ -49,6 +49,9 @@
 //!   it, by `src/apart.rt`; who calls the others has to.
 //! - `IsProgramOf` of `specs/Checks.antt` is the program of a text.
 //!
+//! Lemmas for others, in `proofs`:
+//! - `OneAnswer`: the phases together give one answer.
+//!
 //! To change:
 //! - A further phase: `src/compiling.rt`, its outcome in `specs/Compiles.antt`, its line in `proofs/Accepting.antt`;
 //!   one after the code: `src/to_code.rt` with `CompiledText`, and `IsCompiled` of `specs/Codes.antt`.

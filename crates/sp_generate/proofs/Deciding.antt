@@ -84,19 +84,13 @@ module _ (tree : c.Program) (sets : Sets) where
   -- a use makes the variable a target, itself or by the block that it calls
   use_targets : ℕ → Use → Bool
   use_targets x (Target y) = x == y
-  use_targets x (Seen y) = false
   use_targets x (CallOf b args) = is_given (slice_get tree.blocks b) && has (implicit_targets_of sets b) x
-  use_targets x (ParallelOf ss) = false
-  use_targets x (ForallOf y s) = false
-  use_targets x Stop = false
+  use_targets _ _ = false
 
   use_reads : ℕ → Use → Bool
-  use_reads x (Target y) = false
   use_reads x (Seen y) = x == y
   use_reads x (CallOf b args) = is_given (slice_get tree.blocks b) && has (implicit_expressions_of sets b) x
-  use_reads x (ParallelOf ss) = false
-  use_reads x (ForallOf y s) = false
-  use_reads x Stop = false
+  use_reads _ _ = false
 
   pub is_target : Stmt → ℕ → Bool
   is_target s x = some_use (use_targets x) (stmt_uses s)

@@ -6,7 +6,7 @@ use Rattle.sp_tree.specs.Plain.{Entire, Index, Field, Selectors, Whole, Select, 
 use Rattle.sp_tree.specs.Plain.{Pass, Stmt, Empty, Assign, Call, Sequence, If, IfElse, While, Repeat, For, Case}
 use Rattle.sp_tree.specs.Plain.{Parallel, Forall, Assume, ReadValue, ReadLine, WriteValue, WriteText, WriteLine, Open}
 use Rattle.sp_tree.specs.Plain.{Send, Receive, Stmts, No, And, On, Arms, NoArm, Or}
-use Rattle.sp_tree.specs.Uses.{Use, Target, Seen, CallOf, ParallelOf, ForallOf, Stop, In_expr, In_form, In_read}
+use Rattle.sp_tree.specs.Uses.{Use, Target, Seen, In_expr, In_form, In_read}
 use Rattle.sp_tree.specs.Uses.{In_target, In_selectors, In_actuals, In_width, IsOther, In_stmt, In_stmts, In_arms}
 use Rattle.sp_tree.proofs.UsesOf.{Among, expr_uses, form_uses, read_uses, target_uses, selectors_uses, actuals_uses}
 use Rattle.sp_tree.proofs.UsesOf.{width_uses, is_other, others, stmt_uses, stmts_uses, arms_uses}
@@ -72,10 +72,7 @@ not_equal x y h e = absurd (true≢false (sym h ∙ ap not (eq-eqb x y e)))
 other_of : (x : ℕ) (u : Use) → is_other x u ≡ true → IsOther x u
 other_of x (Target y) h = not_equal x y h
 other_of x (Seen y) h = not_equal x y h
-other_of x (CallOf f args) h = tt
-other_of x (ParallelOf ss) h = tt
-other_of x (ForallOf y s) h = tt
-other_of x Stop h = tt
+other_of _ _ _ = tt
 
 others_inside : (x : ℕ) (us : List Use) (u : Use) → Among u (others x us) → Among u us × IsOther x u
 others_inside x [] u h = absurd h

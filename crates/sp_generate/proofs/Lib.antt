@@ -1,13 +1,13 @@
-pub mod Tables
-pub mod Emitting
-pub mod Patched
-pub mod Handing
-pub mod CaseTests
-pub mod Forms
-pub mod Locals
-pub mod WrittenProgram
+mod Tables
+mod Emitting
+mod Patched
+mod Handing
+mod CaseTests
+mod Forms
+mod Locals
+mod WrittenProgram
 pub mod Limits
-pub mod Inside
-pub mod Deciding
-pub mod Telling
-pub mod OneCode
+mod Inside
+mod Deciding
+mod Telling
+mod OneCode

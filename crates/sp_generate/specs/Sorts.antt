@@ -1,10 +1,8 @@
 -- None of this belongs to what the program promises: it is for contracts between crates.
 -- Which values are many cells: the test by which copies and single loads are told apart.
 use Rattle.std.specs.Prelude.{Bool, true, false}
-use Rattle.sp_code.specs.Scopes.{Sort, Ordinals, Channels, Many, NoSort}
+use Rattle.sp_code.specs.Scopes.{Sort, Many}
 
 abbrev pub is_many : Sort → Bool
-is_many Ordinals = false
-is_many Channels = false
 is_many Many = true
-is_many NoSort = false
+is_many _ = false

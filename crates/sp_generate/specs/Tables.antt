@@ -2,9 +2,9 @@
 -- The fork tables of a tree with numbers, where the variables of a process statement are told by its number. Written
 -- code is said by it, since the tree in memory has numbers and no sets.
 use Rattle.std.specs.Prelude.{ℕ, ◌+◌, List, [], ◌∷◌, ◌++◌, Option, Some, None}
-use Rattle.sp_tree.specs.PlainChecked.{Statement, Does, Form, Empty, Assign, Call, Sequence, If, While, Repeat, For}
-use Rattle.sp_tree.specs.PlainChecked.{Case, Parallel, Forall, Assume, ReadValue, ReadLine, WriteValue, WriteText}
-use Rattle.sp_tree.specs.PlainChecked.{WriteLine, Open, Send, Receive, NoElse, Else, Statements, NoStatement, AndThen}
+use Rattle.sp_tree.specs.PlainChecked.{Statement, Does, Form, Sequence, If, While, Repeat, For}
+use Rattle.sp_tree.specs.PlainChecked.{Case, Parallel, Forall}
+use Rattle.sp_tree.specs.PlainChecked.{NoElse, Else, Statements, NoStatement, AndThen}
 use Rattle.sp_tree.specs.PlainChecked.{On, Arms, NoArm, Or, Block}
 use Rattle.sp_tree.specs.Bare.{bare_expression, bare_statement, bare_arms, bare_block}
 use Rattle.sp_tree.specs.Plain.{Program}
@@ -32,9 +32,6 @@ module _ (p : Program) (moved shared : ℕ → List ℕ) where
 
     -- the fork tables of a statement that stands at q, in order: a table before those inside
     pub form_tables : ℕ → Form → List ForkTable
-    form_tables q Empty = []
-    form_tables q (Assign v e) = []
-    form_tables q (Call f args) = []
     form_tables q (Sequence ss) = tables_all q ss
     form_tables q (If e s NoElse) = tables (after_value q (bare_expression e) + 1) s
     form_tables q (If e s (Else t)) =
@@ -50,15 +47,7 @@ module _ (p : Program) (moved shared : ℕ → List ℕ) where
     form_tables q (Forall x from to s) =
         let b = after_value (after_value q (bare_expression from)) (bare_expression to) in
         record { children = child (b + 1 + 1) (Some x) s ∷ [] } ∷ tables (b + 1 + 1) s
-    form_tables q (Assume e) = []
-    form_tables q (ReadValue v) = []
-    form_tables q ReadLine = []
-    form_tables q (WriteValue e w) = []
-    form_tables q (WriteText t w) = []
-    form_tables q WriteLine = []
-    form_tables q (Open v) = []
-    form_tables q (Send c e) = []
-    form_tables q (Receive c v) = []
+    form_tables _ _ = []
 
     pub tables_all : ℕ → Statements → List ForkTable
     tables_all q NoStatement = []

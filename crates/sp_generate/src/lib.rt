@@ -24,6 +24,9 @@
 //! - `proofs/Forms` has a lemma for each form, `CaseTests` the jumps of a `case`. `Inside`, `Deciding` and `Telling`
 //!   lead from the numbers of statements to the sets of any statement; `OneCode` is the law.
 //!
+//! Lemmas for others, in `proofs`:
+//! - `Limits`: a length as it is told is beyond the limit of code exactly where the length is.
+//!
 //! To change:
 //! - A form: `Emitted` of `sp_code`, the function of its name, its lemma in `proofs/Forms`, its clauses in `Tables`,
 //!   `Inside` and `Telling`.

@@ -1,16 +1,16 @@
-pub mod One
+mod One
 pub mod Run
 pub mod From
-pub mod Behind
+mod Behind
 pub mod Looks
 pub mod Scanned
 pub mod To
 pub mod Completes
 pub mod Wider
-pub mod Viable
+mod Viable
 pub mod Order
 pub mod Rising
 pub mod Firsts
 pub mod OneList
-pub mod Existence
-pub mod Examples
+mod Existence
+mod Examples

@@ -13,63 +13,37 @@ use Rattle.sp_grammar.specs.Derives.{and}
 pub look_constant : (d : ℕ) {k : Kind} {l : List Symbol} (c : ConstantRow k l)
     → look (rows sym.AConstant) k ≡ Some (row_entry _ _ (row.constant c))
 look_constant d row.constant_number = refl
-look_constant d row.constant_name = refl
-look_constant d row.constant_text = refl
-look_constant d row.constant_plus = refl
-look_constant d row.constant_minus = refl
+look_constant _ _ = refl
 
 pub look_arm : (d : ℕ) {k : Kind} {l : List Symbol} (c : ConstantRow k l)
     → look (rows (sym.ArmOrEnd d)) k ≡ Some (row_entry _ _ (row.next_arm {d = d} c))
 look_arm d row.constant_number = refl
-look_arm d row.constant_name = refl
-look_arm d row.constant_text = refl
-look_arm d row.constant_plus = refl
-look_arm d row.constant_minus = refl
+look_arm _ _ = refl
 
 pub look_block : (d : ℕ) {k : Kind} {l : List Symbol} (c : PartsRow (suc d) k l)
     → look (rows (sym.ABlock d)) k ≡ Some (row_entry _ _ (row.block {d = d} c))
 look_block d row.parts_begin = refl
-look_block d row.parts_const = refl
-look_block d row.parts_type = refl
-look_block d row.parts_var = refl
-look_block d row.parts_procedure = refl
-look_block d row.parts_function = refl
+look_block _ _ = refl
 
 pub look_parts : (d : ℕ) {k : Kind} {l : List Symbol} (c : PartsRow d k l)
     → look (rows (sym.Parts d)) k ≡ Some (row_entry _ _ (row.parts c))
 look_parts d row.parts_begin = refl
-look_parts d row.parts_const = refl
-look_parts d row.parts_type = refl
-look_parts d row.parts_var = refl
-look_parts d row.parts_procedure = refl
-look_parts d row.parts_function = refl
+look_parts _ _ = refl
 
 pub look_after_constants : (d : ℕ) {k : Kind} {l : List Symbol} (c : PartsRow d k l)
     → look (rows (sym.MoreConstants d)) k ≡ Some (row_entry _ _ (row.after_constants c))
 look_after_constants d row.parts_begin = refl
-look_after_constants d row.parts_const = refl
-look_after_constants d row.parts_type = refl
-look_after_constants d row.parts_var = refl
-look_after_constants d row.parts_procedure = refl
-look_after_constants d row.parts_function = refl
+look_after_constants _ _ = refl
 
 pub look_after_types : (d : ℕ) {k : Kind} {l : List Symbol} (c : PartsRow d k l)
     → look (rows (sym.MoreTypes d)) k ≡ Some (row_entry _ _ (row.after_types c))
 look_after_types d row.parts_begin = refl
-look_after_types d row.parts_const = refl
-look_after_types d row.parts_type = refl
-look_after_types d row.parts_var = refl
-look_after_types d row.parts_procedure = refl
-look_after_types d row.parts_function = refl
+look_after_types _ _ = refl
 
 pub look_after_variables : (d : ℕ) {k : Kind} {l : List Symbol} (c : PartsRow d k l)
     → look (rows (sym.MoreVariables d)) k ≡ Some (row_entry _ _ (row.after_variables c))
 look_after_variables d row.parts_begin = refl
-look_after_variables d row.parts_const = refl
-look_after_variables d row.parts_type = refl
-look_after_variables d row.parts_var = refl
-look_after_variables d row.parts_procedure = refl
-look_after_variables d row.parts_function = refl
+look_after_variables _ _ = refl
 
 pub look_target : (d : ℕ) {k : Kind} {l : List Symbol} (c : SelectorRow d k l)
     → look (rows (sym.AfterName d)) k ≡ Some (row_entry _ _ (row.target c))
@@ -79,26 +53,17 @@ look_target d row.selector_field = refl
 pub look_factor : (d : ℕ) {k : Kind} {l : List Symbol} (c : FactorRow d k l)
     → look (rows (sym.AFactor d)) k ≡ Some (row_entry _ _ (row.factor c))
 look_factor d row.factor_number = refl
-look_factor d row.factor_text = refl
-look_factor d row.factor_name = refl
-look_factor d row.factor_open = refl
-look_factor d row.factor_not = refl
+look_factor _ _ = refl
 
 pub look_negated : (d : ℕ) {k : Kind} {l : List Symbol} (c : FactorRow (suc d) k l)
     → look (rows (sym.ANegated d)) k ≡ Some (row_entry _ _ (row.negated {d = d} c))
 look_negated d row.factor_number = refl
-look_negated d row.factor_text = refl
-look_negated d row.factor_name = refl
-look_negated d row.factor_open = refl
-look_negated d row.factor_not = refl
+look_negated _ _ = refl
 
 pub look_term : (d : ℕ) {k : Kind} {l : List Symbol} (c : FactorRow d k l)
     → look (rows (sym.ATerm d)) k ≡ Some (row_entry _ _ (row.term c))
 look_term d row.factor_number = refl
-look_term d row.factor_text = refl
-look_term d row.factor_name = refl
-look_term d row.factor_open = refl
-look_term d row.factor_not = refl
+look_term _ _ = refl
 
 pub look_simple : (d : ℕ) {k : Kind} {l : List Symbol} (c : SimpleRow d k l)
     → look (rows (sym.ASimple d)) k ≡ Some (row_entry _ _ (row.simple c))
@@ -123,11 +88,7 @@ look_expression d (row.simple_factor row.factor_not) = refl
 pub look_relation : (d : ℕ) {k : Kind} {o : BinaryOp} (c : g.IsRelational k o)
     → look (rows (sym.ARelation d)) k ≡ Some (row_entry _ _ (row.relation {d = d} c))
 look_relation d g.equal = refl
-look_relation d g.unequal = refl
-look_relation d g.less = refl
-look_relation d g.at_most = refl
-look_relation d g.greater = refl
-look_relation d g.at_least = refl
+look_relation _ _ = refl
 
 pub look_adding : (d : ℕ) {k : Kind} {o : BinaryOp} (c : g.IsAdding k o)
     → look (rows (sym.MoreTerms d)) k ≡ Some (row_entry _ _ (row.next_term {d = d} c))

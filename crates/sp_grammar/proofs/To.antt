@@ -396,11 +396,8 @@ module _ (text : List ℕ) (Ok : ℕ → List Token → Type 0) where
   branches_statements d (g.branches_go_on i bs) = ends (sym.MoreStatements d) w.Bar refl i
 
   pub else_looks : (d : ℕ) (k : Kind) → k ≢ w.Else → look (rows (sym.AnElse d)) k ≡ None
-  else_looks d kind.Name h = refl
-  else_looks d kind.Number h = refl
-  else_looks d kind.Text h = refl
-  else_looks d (kind.Sign n) h = refl
   else_looks d (kind.Word n) h = word_looks d n h (9 == n) refl
+  else_looks _ _ _ = refl
 
   pub else_ends : (d : ℕ) (r : List Token) → g.Lacks w.Else r → EndsStatement r → TakesNone (sym.AnElse d) r
   else_ends d [] h q = q.statement 0

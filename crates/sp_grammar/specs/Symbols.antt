@@ -74,11 +74,6 @@ Value FieldOrEnd = List SynGroup
 Value AFormal = SynFormal
 Value MoreFormals = List SynFormal
 Value Formals = List SynFormal
-Value (ABlock d) = tree.Block
-Value (Parts d) = tree.Block
-Value (MoreConstants d) = tree.Block
-Value (MoreTypes d) = tree.Block
-Value (MoreVariables d) = tree.Block
 Value (AStatement d) = tree.Statement
 Value (AfterName d) = Name → tree.Form
 Value (AnElse d) = tree.ElsePart
@@ -101,6 +96,7 @@ Value (Selectors d) = tree.Selectors
 Value (MoreIndices d) = tree.Selectors
 Value (MoreArguments d) = tree.Arguments
 Value (AWidth d) = tree.Width
+Value _ = tree.Block
 
 -- what symbols one after another stand for: a pair of the first one's value and the others, and an empty value at the
 -- end

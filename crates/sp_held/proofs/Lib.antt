@@ -1,13 +1,13 @@
-pub mod Identity
-pub mod Contents
-pub mod Sole
-pub mod Sides
-pub mod Becoming
-pub mod Plans
-pub mod Splitting
-pub mod Joining
-pub mod Turning
-pub mod Running
-pub mod Conditions
-pub mod EntriesKeepApart
-pub mod Held
+mod Identity
+mod Contents
+mod Sole
+mod Sides
+mod Becoming
+mod Plans
+mod Splitting
+mod Joining
+mod Turning
+mod Running
+mod Conditions
+mod EntriesKeepApart
+mod Held

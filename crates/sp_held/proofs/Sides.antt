@@ -13,7 +13,7 @@ use Rattle.sp_cell.proofs.HeldLaws.{same_spot}
 use Rattle.sp_code.specs.Machine.{Config, At}
 use Rattle.sp_code.specs.Memory.{Memory}
 use Rattle.sp_code.specs.Sound.{view_at, views_at, views_of}
-use Rattle.sp_code.specs.System.{Condition, Absent, Working, Waits, Joins, Laid, Gone, Over}
+use Rattle.sp_code.specs.System.{Condition, Absent}
 use Rattle.sp_held.specs.Apart.{config_in, map_of, meaning, AreApart, AreOlder}
 use Rattle.sp_held.proofs.Sole.{one_frame, none_or}
 
@@ -29,12 +29,7 @@ of_seen (Some c) = view_at c ∷ []
 
 views_are : (y : Condition Plain) → views_at y ≡ of_seen (config_in y)
 views_are Absent = refl
-views_are (Working c) = refl
-views_are (Waits stop c) = refl
-views_are (Joins left c) = refl
-views_are (Laid c) = refl
-views_are Gone = refl
-views_are (Over c) = refl
+views_are _ = refl
 
 module _ (f : ℕ → Condition Plain) (birth : ℕ → Option Birth) (p : AreApart f birth) (older : AreOlder f birth) where
   named : (r : ℕ) (c : Config (Memory Plain)) → config_in (f r) ≡ Some c → HasUniqueSpots (viewed c)

@@ -130,11 +130,7 @@ fewer_control k p Gone e q = as_it_was p q k.doing Gone e
 
 fewer_waiting : (stop : Stop) → waiting_phase stop ≡ fewer (waiting_phase stop)
 fewer_waiting (Sends c k cs) = refl
-fewer_waiting (Receives c k a) = refl
-fewer_waiting (Forks t v n) = refl
-fewer_waiting (Opens a) = refl
-fewer_waiting Ends = refl
-fewer_waiting Pauses = refl
+fewer_waiting _ = refl
 
 module _ {S : Type 0} (stores : Stores S) (g : CodeRun) where
   fewer_system : (c : Config (Memory S)) (x : Condition S) → phase_in (parent_after_join stores g c x)

@@ -74,13 +74,7 @@ born_event b q (event.Fork n) l h r d = go (is_next b n r) refl
     go true w k = let x = next_is b n r w in let y : q ≡ d.parent = ap (λ (z : Birth). z.parent) (same_Some _ _ k) in
         (omega (arith, x), omega (arith, x, y, l))
     go false w k = let x = h r d k in (omega (arith, x), x.1)
-born_event b q event.Open l h r d = h r d
-born_event b q (event.Send c) l h r d = h r d
-born_event b q (event.Receive c) l h r d = h r d
-born_event b q event.End l h r d = h r d
-born_event b q (event.Fault f) l h r d = h r d
-born_event b q event.Laid l h r d = h r d
-born_event b q event.Pause l h r d = h r d
+born_event _ _ _ _ h r d = h r d
 
 -- ---- one entry
 

@@ -58,63 +58,37 @@ module _ {M : Type 0} (C : ℕ → Type 0) (I : M → Type 0) (J : ℕ → Addre
 
   k_number : (st : List Entry) (go : ℤ → List Entry → StepResult M) → EntriesHave C st
       → ((x : ℤ) (st1 : List Entry) → EntriesHave C st1 → K (go x st1)) → K (on_number st go)
-  k_number [] go e h = tt
   k_number (Number v ∷ st) go e h = h v st e.1
-  k_number (Chan c ∷ st) go e h = tt
-  k_number (Pointer a ∷ st) go e h = tt
-  k_number (Cells cs ∷ st) go e h = tt
-  k_number (Link r ∷ st) go e h = tt
-  k_number (Reply r ∷ st) go e h = tt
+  k_number _ _ _ _ = tt
 
   k_channel : (st : List Entry) (go : ℕ → List Entry → StepResult M) → EntriesHave C st
       → ((x : ℕ) (st1 : List Entry) → C x → EntriesHave C st1 → K (go x st1)) → K (on_channel st go)
-  k_channel [] go e h = tt
-  k_channel (Number v ∷ st) go e h = tt
   k_channel (Chan c ∷ st) go e h = h c st e.0 e.1
-  k_channel (Pointer a ∷ st) go e h = tt
-  k_channel (Cells cs ∷ st) go e h = tt
-  k_channel (Link r ∷ st) go e h = tt
-  k_channel (Reply r ∷ st) go e h = tt
+  k_channel _ _ _ _ = tt
 
   k_address : (st : List Entry) (go : Address → List Entry → StepResult M) → EntriesHave C st
       → ((x : Address) (st1 : List Entry) → EntriesHave C st1 → K (go x st1)) → K (on_address st go)
-  k_address [] go e h = tt
-  k_address (Number v ∷ st) go e h = tt
-  k_address (Chan c ∷ st) go e h = tt
   k_address (Pointer a ∷ st) go e h = h a st e.1
-  k_address (Cells cs ∷ st) go e h = tt
-  k_address (Link r ∷ st) go e h = tt
-  k_address (Reply r ∷ st) go e h = tt
+  k_address _ _ _ _ = tt
 
   k_cell : (st : List Entry) (go : Cell → List Entry → StepResult M) → EntriesHave C st
       → ((x : Cell) (st1 : List Entry) → CellHas C x → EntriesHave C st1 → K (go x st1)) → K (on_cell st go)
-  k_cell [] go e h = tt
   k_cell (Number v ∷ st) go e h = h (cell.Ordinal v) st tt e.1
   k_cell (Chan c ∷ st) go e h = h (cell.Channel c) st e.0 e.1
-  k_cell (Pointer a ∷ st) go e h = tt
-  k_cell (Cells cs ∷ st) go e h = tt
-  k_cell (Link r ∷ st) go e h = tt
-  k_cell (Reply r ∷ st) go e h = tt
+  k_cell _ _ _ _ = tt
 
   k_cells : (st : List Entry) (go : List Cell → List Entry → StepResult M) → EntriesHave C st
       → ((x : List Cell) (st1 : List Entry) → CellsHave C x → EntriesHave C st1 → K (go x st1)) → K (on_cells st go)
-  k_cells [] go e h = tt
   k_cells (Number v ∷ st) go e h = h (cell.Ordinal v ∷ []) st (tt, tt) e.1
   k_cells (Chan c ∷ st) go e h = h (cell.Channel c ∷ []) st (e.0, tt) e.1
-  k_cells (Pointer a ∷ st) go e h = tt
   k_cells (Cells cs ∷ st) go e h = h cs st e.0 e.1
-  k_cells (Link r ∷ st) go e h = tt
-  k_cells (Reply r ∷ st) go e h = tt
+  k_cells _ _ _ _ = tt
 
   k_equals : (st : List Entry) (go : Bool → List Entry → StepResult M) → EntriesHave C st
       → ((x : Bool) (st1 : List Entry) → EntriesHave C st1 → K (go x st1)) → K (on_equals st go)
-  k_equals [] go e h = tt
   k_equals (Number v ∷ st) go e h = k_number st _ e.1 (λ u st1 d. h (same_ordinal u v) st1 d)
   k_equals (Chan c ∷ st) go e h = k_channel st _ e.1 (λ d st1 f g. h (d == c) st1 g)
-  k_equals (Pointer a ∷ st) go e h = tt
-  k_equals (Cells cs ∷ st) go e h = tt
-  k_equals (Link r ∷ st) go e h = tt
-  k_equals (Reply r ∷ st) go e h = tt
+  k_equals _ _ _ _ = tt
 
   k_pop : (k : ℕ) (st es : List Entry) (go : List Entry → List Entry → StepResult M) → EntriesHave C st
       → EntriesHave C es
@@ -234,16 +208,12 @@ module _ {M : Type 0} (ops : Ops M) (code : Parts) (C : ℕ → Type 0) (I : M �
     forked_keeps t first count next st1 f = k_if C I J (ops.may_fork n) _ _ ((tt, tt), (f, h)) tt
 
   returned_keeps : (st : List Entry) (n : M) → EntriesHave C st → I n → OneHas C I J (return_step ops code st n)
-  returned_keeps [] n e h = tt
-  returned_keeps (Number v ∷ st) n e h = tt
-  returned_keeps (Chan c ∷ st) n e h = tt
-  returned_keeps (Pointer a ∷ st) n e h = tt
-  returned_keeps (Cells cs ∷ st) n e h = tt
   returned_keeps (Link k ∷ st) n e h = k_when C I J (ops.may_close n) _ (λ w. (e.1, law.close_frame n h w))
   returned_keeps (Reply k ∷ st) n e h =
       k_when C I J (ops.may_close n) _ (λ w. k_there C I J (ops.answer n) _
       (λ a x. k_when C I J (ops.has a 1 n) _
       (λ y. k_ordinal C I J (ops.read a n) _ (λ v. ((tt, e.1), law.close_frame n h w)))))
+  returned_keeps _ _ _ _ = tt
 
   instruction_keeps : (o : Option Instr) (pc : ℕ) (st : List Entry) (n : M) → EntriesHave C st → I n
       → OneHas C I J (instruction ops code o pc st n)

@@ -9,8 +9,8 @@ use Rattle.sp_journal.specs.Births.{Births}
 use Rattle.sp_code.specs.Machine.{Config}
 use Rattle.sp_code.specs.Memory.{CodeRun, Stores, Memory}
 use Rattle.sp_code.specs.Control.{Control, Doing, Ready, Out, Gone, comes_back, abandons, takes, after_give, after_note}
-use Rattle.sp_code.specs.Control.{after_notes, front, front_of, front_while, Standing, Running, IsDone, IsDeadlock}
-use Rattle.sp_code.specs.Control.{IsFault, IsMemory, standing, entry_of, entries_of}
+use Rattle.sp_code.specs.Control.{after_notes, front, front_of, front_while, Standing, Running}
+use Rattle.sp_code.specs.Control.{standing, entry_of, entries_of}
 use Rattle.sp_code.specs.System.{System, Working, system_after_turn, EntryLeads, GiveIsLegal, GetIsLegal, EntriesLead}
 use Rattle.sp_code.specs.System.{LegalFrom}
 use Rattle.sp_code.proofs.Systems.{enters_same}
@@ -28,10 +28,7 @@ front_first k h q Running e = go k.ready refl h.queue.queued e
     go [] w each e = absurd (cc e)
     go (x ∷ xs) w each e = let is : x ≡ q = cc e in
         ((xs, w ∙ ap (λ y. y ∷ xs) is), subst (λ y. k.doing y ≡ Ready) is each.0)
-front_first k h q IsDone e = absurd (cc e)
-front_first k h q IsDeadlock e = absurd (cc e)
-front_first k h q IsFault e = absurd (cc e)
-front_first k h q IsMemory e = absurd (cc e)
+front_first _ _ _ _ e = absurd (cc e)
 
 pub got_of : (k : Control) → IsOrderly k → (got : Option ℕ) → got ≡ front k → IsGot k got
 got_of k h None e = tt {0}

@@ -6,8 +6,8 @@ pub mod Staying
 pub mod Legal
 pub mod Outs
 pub mod Keeping
-pub mod Cells
-pub mod Memories
+mod Cells
+mod Memories
 pub mod Speaking
 pub mod Families
 pub mod InTurn
@@ -16,6 +16,6 @@ pub mod OneFault
 pub mod Phases
 pub mod Along
 pub mod Outputs
-pub mod Holding
+mod Holding
 pub mod Splitting
 pub mod Holders

@@ -5,7 +5,7 @@ use Rattle.std.specs.Prelude.{slice_get}
 use Rattle.sp_base.specs.declared.fault.Fault.{Fault}
 use Rattle.sp_journal.specs.declared.entry.Event.TheVariants as event
 use Rattle.sp_journal.specs.declared.entry.Entry.{Entry}
-use Rattle.sp_code.specs.Machine.{Stop, Forks, Opens, Sends, Receives, Ends, Pauses}
+use Rattle.sp_code.specs.Machine.{Stop, Forks}
 use Rattle.sp_code.specs.Turns.{Turn, Stopped, Faulted}
 use Rattle.sp_code.specs.Memory.{CodeRun, Stores, Memory}
 use Rattle.sp_history.specs.Faults.{IsFaulty}
@@ -16,11 +16,7 @@ use Rattle.sp_code.specs.System.{EntriesLead}
 -- what a process stops for is no fault
 pub stop_not_fault : (stop : Stop) (f : Fault) → event_at stop ≡ event.Fault f → ⊥
 stop_not_fault (Forks t v n) f e = cc e
-stop_not_fault (Opens a) f e = cc e
-stop_not_fault (Sends c k cs) f e = cc e
-stop_not_fault (Receives c k a) f e = cc e
-stop_not_fault Ends f e = cc e
-stop_not_fault Pauses f e = cc e
+stop_not_fault _ _ e = cc e
 
 module _ {S : Type 0} (stores : Stores S) (g : CodeRun) where
   -- once a fault stands it stays, and each event is Laid

@@ -399,14 +399,7 @@ orderly_back k h p u event.End e = same_births _ (k.out - 1) k.births
         go : (b : Bool) → m.births ≡ (if b then queues x m else does x (Joining (n - 1)) m).births
         go true = refl
         go false = refl
-    fewer x Unborn m = refl
-    fewer x Ready m = refl
-    fewer x (Out w) m = refl
-    fewer x (Sending c) m = refl
-    fewer x (Receiving c) m = refl
-    fewer x Laid m = refl
-    fewer x Ended m = refl
-    fewer x Gone m = refl
+    fewer _ _ _ = refl
 
     kept : (o : Option Birth) → k.births ≡ (reports o (does p Ended k)).births
     kept None = refl

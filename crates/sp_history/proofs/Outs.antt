@@ -111,14 +111,7 @@ module _ (k : Control) (p : ℕ) where
       go : (b : Bool) → IsOut ((if b then queues x m else does x (Joining (n - 1)) m).doing q) → IsOut (m.doing q)
       go true o = (at_out m.doing x q Ready (no_out Ready (λ w e. absurd (cc e))) o).0
       go false o = (at_out m.doing x q (Joining (n - 1)) (no_out _ (λ w e. absurd (cc e))) o).0
-  fewer_was x Unborn m q o = o
-  fewer_was x Ready m q o = o
-  fewer_was x (Out w) m q o = o
-  fewer_was x (Sending c) m q o = o
-  fewer_was x (Receiving c) m q o = o
-  fewer_was x Laid m q o = o
-  fewer_was x Ended m q o = o
-  fewer_was x Gone m q o = o
+  fewer_was _ _ _ _ o = o
 
   ready_was : (f : ℕ → Doing) (z q : ℕ) → IsOut (at_key ◌==◌ z Ready f q) → IsOut (f q) × (q ≢ z)
   ready_was f z q o = at_out f z q Ready (no_out Ready (λ w e. absurd (cc e))) o
@@ -239,10 +232,7 @@ module _ {S : Type 0} (stores : Stores S) (g : CodeRun) where
 
   front_over : (st : Standing) (ps : List ℕ) → st ≢ Going → front_while st ps ≡ None
   front_over Going ps n = absurd (n refl)
-  front_over IsDone ps n = refl
-  front_over IsDeadlock ps n = refl
-  front_over IsFault ps n = refl
-  front_over IsMemory ps n = refl
+  front_over _ _ _ = refl
 
   given_up : (b : Bool) (x : Standing) → b ≡ true → (if b then IsMemory else x) ≢ Going
   given_up true x e f = absurd (cc f)

@@ -56,12 +56,9 @@ module _ (C D : ℕ → Type 0) (weaker : (c : ℕ) → C c → D c) where
   entries_weak (m.Reply r ∷ es) h = (tt, entries_weak es h.1)
 
   stop_weak : (s : Stop) → StopHas C s → StopHas D s
-  stop_weak (Forks t v n) h = tt
-  stop_weak (Opens a) h = tt
   stop_weak (Sends c k cs) h = (weaker c h.0, cells_weak cs h.1)
   stop_weak (Receives c k a) h = weaker c h
-  stop_weak Ends h = tt
-  stop_weak Pauses h = tt
+  stop_weak _ _ = tt
 
   config_weak : (q : ℕ) (c : Config (Memory Plain)) → ConfigHas C (MemoryHas C q) c → ConfigHas D (MemoryHas D q) c
   config_weak q (At pc st n) h = (entries_weak st h.0, (h.1.0, λ p. cells_weak (cells_at plain n.store p) (h.1.1 p)))
@@ -129,21 +126,12 @@ module _ (g : CodeRun) (C : ℕ → Type 0) where
   received_has q cs (Over c) k h = h
 
   stop_message : (stop : Stop) → StopHas C stop → CellsHave C (message_of plain g (Some stop))
-  stop_message (Forks t v n) h = tt
-  stop_message (Opens a) h = tt
   stop_message (Sends c k cs) h = h.1
-  stop_message (Receives c k a) h = tt
-  stop_message Ends h = tt
-  stop_message Pauses h = tt
+  stop_message _ _ = tt
 
   message_has : (q : ℕ) (x : Condition Plain) → HasChannels q x → CellsHave C (message_of plain g (stop_of x))
-  message_has q Absent h = tt
-  message_has q (Working c) h = tt
   message_has q (Waits stop c) h = stop_message stop h.0
-  message_has q (Joins n c) h = tt
-  message_has q (Laid c) h = tt
-  message_has q Gone h = tt
-  message_has q (Over c) h = tt
+  message_has _ _ _ = tt
 
   rejoined_has : (p q : ℕ) (c : Config (Memory Plain)) (x : Condition Plain) → Mine p c → HasChannels q x
       → HasChannels q (parent_after_join plain g c x)
@@ -204,12 +192,8 @@ module _ (g : CodeRun) (C : ℕ → Type 0) where
 
     -- the channel of an open has the property too
     abbrev Opening : Stop → Type 0
-    Opening (Forks t v n) = Unit {0}
     Opening (Opens a) = C s.births.channels
-    Opening (Sends c k cs) = Unit {0}
-    Opening (Receives c k a) = Unit {0}
-    Opening Ends = Unit {0}
-    Opening Pauses = Unit {0}
+    Opening _ = Unit {0}
 
     happens_has : (stop : Stop) (c : Config (Memory Plain)) → StopHas C stop → Mine q c → Opening stop → (r : ℕ)
         → HasChannels r ((apply_stop plain g q stop c s).condition r)
@@ -228,13 +212,7 @@ module _ (g : CodeRun) (C : ℕ → Type 0) where
 
 channels_grow : (b : Births) (q : ℕ) (e : Event) → b.channels ≤ (births_after_event b q e).channels
 channels_grow b q (event.Fork n) = omega arith
-channels_grow b q event.Open = omega arith
-channels_grow b q (event.Send c) = omega arith
-channels_grow b q (event.Receive c) = omega arith
-channels_grow b q event.End = omega arith
-channels_grow b q (event.Fault f) = omega arith
-channels_grow b q event.Laid = omega arith
-channels_grow b q event.Pause = omega arith
+channels_grow _ _ _ = omega arith
 
 abbrev B : System Plain → ℕ → Event → ℕ → Type 0
 B s q e c = c < (births_after_event s.births q e).channels
@@ -264,12 +242,8 @@ module _ (g : CodeRun) where
       config_has (Faulted f c) w = w
 
       opened : (stop : Stop) → Opening g (B s q (event_at stop)) s q (all (event_at stop)) stop
-      opened (Forks a v n) = tt
       opened (Opens a) = omega arith
-      opened (Sends c a cs) = tt
-      opened (Receives c a b) = tt
-      opened Ends = tt
-      opened Pauses = tt
+      opened _ = tt
 
       by_fault : (o : Option Fault) (x : Turn (Memory Plain))
           → TurnHas (λ c. c < s.births.channels) (MemoryHas (λ c. c < s.births.channels) q) x

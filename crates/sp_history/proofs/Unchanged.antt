@@ -2,7 +2,7 @@
 use Rattle.std.proofs.Common.{◌≡◌, ℕ, ◌-◌, ◌==◌, if◌then◌else◌, Bool, true, false, Option, Some, None, refl}
 use Rattle.sp_journal.specs.declared.entry.Way.{Way}
 use Rattle.sp_journal.specs.declared.entry.Birth.{Birth}
-use Rattle.sp_code.specs.Control.{Control, Doing, Unborn, Ready, Out, Sending, Receiving, Joining, Laid, Ended, Gone}
+use Rattle.sp_code.specs.Control.{Control, Doing, Joining}
 use Rattle.sp_code.specs.Control.{does, queues, offers, one_fewer, reports}
 
 -- ---- whether a fault stands
@@ -18,14 +18,7 @@ fewer_faulted x (Joining n) k = go (n == 1)
     go : (b : Bool) → (if b then queues x k else does x (Joining (n - 1)) k).faulted ≡ k.faulted
     go true = refl
     go false = refl
-fewer_faulted x Unborn k = refl
-fewer_faulted x Ready k = refl
-fewer_faulted x (Out w) k = refl
-fewer_faulted x (Sending c) k = refl
-fewer_faulted x (Receiving c) k = refl
-fewer_faulted x Laid k = refl
-fewer_faulted x Ended k = refl
-fewer_faulted x Gone k = refl
+fewer_faulted _ _ _ = refl
 
 pub reports_faulted : (o : Option Birth) (k : Control) → (reports o k).faulted ≡ k.faulted
 reports_faulted None k = refl
@@ -39,11 +32,4 @@ fewer_pending x (Joining n) k c = go (n == 1)
     go : (b : Bool) → k.pending c ≡ (if b then queues x k else does x (Joining (n - 1)) k).pending c
     go true = refl
     go false = refl
-fewer_pending x Unborn k c = refl
-fewer_pending x Ready k c = refl
-fewer_pending x (Out w) k c = refl
-fewer_pending x (Sending d) k c = refl
-fewer_pending x (Receiving d) k c = refl
-fewer_pending x Laid k c = refl
-fewer_pending x Ended k c = refl
-fewer_pending x Gone k c = refl
+fewer_pending _ _ _ _ = refl

@@ -7,8 +7,8 @@ use Rattle.sp_journal.specs.declared.entry.Way.TheVariants as way
 use Rattle.sp_journal.specs.declared.entry.Birth.{Birth}
 use Rattle.sp_journal.specs.declared.entry.Note.{Note}
 use Rattle.sp_code.specs.Memory.{CodeRun, Stores}
-use Rattle.sp_code.specs.Machine.{Stop, Forks, Opens, Sends, Receives, Ends, Pauses}
-use Rattle.sp_code.specs.Control.{Control, Doing, Unborn, Ready, Out, Sending, Receiving, Joining, Laid, Ended, Gone}
+use Rattle.sp_code.specs.Machine.{Stop, Sends, Receives}
+use Rattle.sp_code.specs.Control.{Control, Doing, Unborn, Ready, Out, Sending, Receiving, Joining, Laid, Ended}
 use Rattle.sp_code.specs.Control.{after_give, after_note, standing, Running as Going}
 use Rattle.sp_code.specs.System.{System, Condition, Absent, Working, Waits, Joins, Laid as IsLaid, Gone as HasGone}
 use Rattle.sp_code.specs.System.{Over, GiveIsLegal, GetIsLegal}
@@ -27,23 +27,18 @@ pub data Phase : Type 0 where
 -- one that an abandoning worker had goes on running in the system
 abbrev pub phase : Doing → Phase
 phase Unborn = Never
-phase Ready = Running
-phase (Out w) = Running
 phase (Sending c) = ToSend c
 phase (Receiving c) = ToReceive c
 phase (Joining n) = ToJoin n
 phase Laid = Down
 phase Ended = Finished
-phase Gone = Running
+phase _ = Running
 
 -- what a stop is to wait for
 abbrev pub waiting_phase : Stop → Phase
 waiting_phase (Sends c k cs) = ToSend c
 waiting_phase (Receives c k a) = ToReceive c
-waiting_phase (Forks t v n) = Odd
-waiting_phase (Opens a) = Odd
-waiting_phase Ends = Odd
-waiting_phase Pauses = Odd
+waiting_phase _ = Odd
 
 -- what the system tells
 abbrev pub phase_in : {S : Type 0} → Condition S → Phase

@@ -6,7 +6,7 @@ use Rattle.sp_cell.specs.declared.cell.Cell.{Cell}
 use Rattle.sp_cell.specs.declared.cell.Cell.TheVariants as cell
 use Rattle.sp_cell.specs.declared.spot.Spot.{Spot}
 use Rattle.sp_cell.specs.declared.spot.Address.{Address}
-use Rattle.sp_code.specs.Machine.{Entry, Number, Chan, Pointer, Cells, Link, Reply, Stop, Forks, Opens, Sends, Receives}
+use Rattle.sp_code.specs.Machine.{Entry, Chan, Cells, Stop, Forks, Opens, Sends, Receives}
 use Rattle.sp_code.specs.Machine.{Ends, Pauses, Config, At, StepResult, Goes, Stops, Fails, Stuck}
 use Rattle.sp_code.specs.Turns.{Turn, Stopped, Faulted}
 use Rattle.sp_code.specs.Memory.{Stores, cells_at}
@@ -35,12 +35,9 @@ module _ (C : ℕ → Type 0) where
 
   -- so for an operand
   abbrev pub EntryHas : Entry → Type 0
-  EntryHas (Number v) = Unit {0}
   EntryHas (Chan c) = C c
-  EntryHas (Pointer a) = Unit {0}
   EntryHas (Cells cs) = CellsHave cs
-  EntryHas (Link r) = Unit {0}
-  EntryHas (Reply r) = Unit {0}
+  EntryHas _ = Unit {0}
 
   -- so for each operand
   abbrev pub EntriesHave : List Entry → Type 0
@@ -49,12 +46,9 @@ module _ (C : ℕ → Type 0) where
 
   -- what a process stops at speaks of such channels alone
   abbrev pub StopHas : Stop → Type 0
-  StopHas (Forks t v n) = Unit {0}
-  StopHas (Opens a) = Unit {0}
   StopHas (Sends c k cs) = C c × CellsHave cs
   StopHas (Receives c k a) = C c
-  StopHas Ends = Unit {0}
-  StopHas Pauses = Unit {0}
+  StopHas _ = Unit {0}
 
   -- each cell of each piece that a store holds
   abbrev pub StoreHas : {S : Type 0} → Stores S → S → Type 0

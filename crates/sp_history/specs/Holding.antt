@@ -9,7 +9,7 @@ use Rattle.sp_cell.specs.Spots.{In}
 use Rattle.sp_journal.specs.declared.entry.Birth.{Birth}
 use Rattle.sp_code.specs.Memory.{Memory}
 use Rattle.sp_code.specs.PlainStore.{plain}
-use Rattle.sp_code.specs.System.{System, Condition, Absent, Working, Waits, Joins, Laid, Gone, Over, store_in}
+use Rattle.sp_code.specs.System.{System, Condition, Waits, store_in}
 use Rattle.sp_history.specs.Agreement.{EachNumber}
 use Rattle.sp_history.specs.Channels.{AimsAt}
 
@@ -41,13 +41,8 @@ Owned k a n = IsOwn (map.get n.store.map a.spot)
 
 -- who waits for a message has a piece of its own for it
 abbrev pub AimsIn : Condition Plain → Type 0
-AimsIn Absent = Unit {0}
-AimsIn (Working c) = Unit {0}
 AimsIn (Waits stop c) = AimsAt Owned stop c
-AimsIn (Joins left c) = Unit {0}
-AimsIn (Laid c) = Unit {0}
-AimsIn Gone = Unit {0}
-AimsIn (Over c) = Unit {0}
+AimsIn _ = Unit {0}
 
 -- the processes with these shares: one holds the output, and no other; a child that is part of it had it from its
 -- parent, which lends it, and there is one such child at most; another child was not handed it by one that is part

@@ -4,7 +4,7 @@
 use Rattle.std.specs.Prelude.{◌≡◌, ℕ, List, [], ◌∷◌, length, Option, Some}
 use Rattle.sp_journal.specs.declared.entry.Note.{Note}
 use Rattle.sp_journal.specs.declared.entry.Birth.{Birth}
-use Rattle.sp_code.specs.Control.{Control, Doing, Unborn, Ready, Out, Sending, Receiving, Joining, Laid, Ended, Gone}
+use Rattle.sp_code.specs.Control.{Control, Doing, Unborn, Joining, Ended}
 use Rattle.sp_history.specs.Agreement.{Among}
 
 -- each note gives what the one before it got: at first o
@@ -14,27 +14,14 @@ OneByOne o (n ∷ ns) = (n.given ≡ o) × OneByOne n.got ns
 
 -- how many children a process still waits for
 abbrev pub left_of : Doing → ℕ
-left_of Unborn = 0
-left_of Ready = 0
-left_of (Out w) = 0
-left_of (Sending c) = 0
-left_of (Receiving c) = 0
 left_of (Joining n) = n
-left_of Laid = 0
-left_of Ended = 0
-left_of Gone = 0
+left_of _ = 0
 
 -- it is there, and has not ended
 abbrev pub IsLive : Doing → Type 0
 IsLive Unborn = ⊥
-IsLive Ready = Unit {0}
-IsLive (Out w) = Unit {0}
-IsLive (Sending c) = Unit {0}
-IsLive (Receiving c) = Unit {0}
-IsLive (Joining n) = Unit {0}
-IsLive Laid = Unit {0}
 IsLive Ended = ⊥
-IsLive Gone = Unit {0}
+IsLive _ = Unit {0}
 
 -- each process waits for as many children as it has that have not ended
 pub record HasChildren (k : Control) : Type 0 where

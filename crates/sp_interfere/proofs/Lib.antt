@@ -1,12 +1,12 @@
-pub mod Along
-pub mod Broken
-pub mod Calls
-pub mod Clashes
-pub mod ChannelOfItems
-pub mod Exact
-pub mod FittingSites
-pub mod FindsFirst
-pub mod Means
-pub mod SetTests
+mod Along
+mod Broken
+mod Calls
+mod Clashes
+mod ChannelOfItems
+mod Exact
+mod FittingSites
+mod FindsFirst
+mod Means
+mod SetTests
 pub mod Standing
-pub mod MoreItems
+mod MoreItems

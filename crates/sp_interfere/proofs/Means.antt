@@ -54,12 +54,8 @@ pub at_of : (R : Rule) (at : Place) (x : Refusal) → x ≡ refusal R at → at 
 at_of R at x e = ap (λ (y : Refusal). y.at) (sym e)
 
 pub is_reference_to : (r : Role) → is_reference r ≡ true → r ≡ role.Reference
-is_reference_to role.Console h = absurd (cc h)
-is_reference_to role.Local h = absurd (cc h)
-is_reference_to role.Value h = absurd (cc h)
 is_reference_to role.Reference h = refl
-is_reference_to role.Index h = absurd (cc h)
-is_reference_to role.Answer h = absurd (cc h)
+is_reference_to _ h = absurd (cc h)
 
 pub answer_of : (o : Option ℕ) → is_function o ≡ true → (y : ℕ) × (o ≡ Some y)
 answer_of None h = absurd (cc h)

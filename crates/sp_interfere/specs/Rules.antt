@@ -23,12 +23,8 @@ use Rattle.sp_interfere.specs.Walk.{statement_first}
 use Rattle.sp_interfere.specs.Tests.{some_in, is_any, clashes, has_implicit, has_declared}
 
 abbrev pub is_reference : Role → Bool
-is_reference role.Console = false
-is_reference role.Local = false
-is_reference role.Value = false
 is_reference role.Reference = true
-is_reference role.Index = false
-is_reference role.Answer = false
+is_reference _ = false
 
 abbrev pub is_function : Option ℕ → Bool
 is_function None = false

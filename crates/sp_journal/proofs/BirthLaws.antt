@@ -267,12 +267,7 @@ by_event : (s : Births) → Lawful s → (p : ℕ) → p < s.processes → (e : 
     → Lawful (births_after_event s p e)
 by_event s l p t (event.Fork n) g = fork_lawful s l p n t g.0 g.1
 by_event s l p t event.Open g = open_lawful s l p t g.0 g.1
-by_event s l p t (event.Send c) g = l
-by_event s l p t (event.Receive c) g = l
-by_event s l p t event.End g = l
-by_event s l p t (event.Fault f) g = l
-by_event s l p t event.Laid g = l
-by_event s l p t event.Pause g = l
+by_event _ l _ _ _ _ = l
 
 pub lawful_after : (s : Births) (e : Entry) → Lawful s → CanFollow s e → Lawful (births_after_entry s e)
 lawful_after s e l f = by_event s l e.process f.0 e.event f.1

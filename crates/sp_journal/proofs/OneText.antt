@@ -31,23 +31,7 @@ faults_differ f g e = same_Some f g (sym (found f) ∙ ap read e ∙ found g)
 
     found : (f : Fault) → read (fault_name f) ≡ Some f
     found fault.F1 = refl
-    found fault.F2 = refl
-    found fault.F3 = refl
-    found fault.F4 = refl
-    found fault.F5 = refl
-    found fault.F6 = refl
-    found fault.F7 = refl
-    found fault.F8 = refl
-    found fault.F9 = refl
-    found fault.F10 = refl
-    found fault.F11 = refl
-    found fault.F12 = refl
-    found fault.F13 = refl
-    found fault.F14 = refl
-    found fault.F15 = refl
-    found fault.F16 = refl
-    found fault.F17 = refl
-    found fault.F18 = refl
+    found _ = refl
 
 -- the first two bytes of the text of an event tell its kind
 abbrev two : List ℕ → ℕ

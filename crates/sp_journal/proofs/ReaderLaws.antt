@@ -100,20 +100,11 @@ module _ (r : Reader) (reader : IsReader r) where
 -- what an event's text is made of
 abbrev pub EventTextParts : Births → Event → Option (List ℕ × List ℕ) → Type 0
 EventTextParts s (event.Fork n) o = o ≡ Some (codes "fork", decimal n)
-EventTextParts s event.Open o = o ≡ None
 EventTextParts s (event.Send c) o = o ≡ Some (codes "send", channel_text (chan_name (channel s c)))
 EventTextParts s (event.Receive c) o = o ≡ Some (codes "receive", channel_text (chan_name (channel s c)))
-EventTextParts s event.End o = o ≡ None
 EventTextParts s (event.Fault f) o = o ≡ Some (codes "fault", fault_name f)
-EventTextParts s event.Laid o = o ≡ None
-EventTextParts s event.Pause o = o ≡ None
+EventTextParts _ _ o = o ≡ None
 
 pub told : (s : Births) (e : Event) → EventTextParts s e (first_split 32 (event_text s e))
 told s (event.Fork n) = refl
-told s event.Open = refl
-told s (event.Send c) = refl
-told s (event.Receive c) = refl
-told s event.End = refl
-told s (event.Fault f) = refl
-told s event.Laid = refl
-told s event.Pause = refl
+told _ _ = refl

@@ -125,13 +125,7 @@ pub no_fork : (s : Births) (p : ℕ) (e : Event) → ((n : ℕ) → e ≡ event.
     → ((births_after_event s p e).processes ≡ s.processes) × ((q : ℕ) → (births_after_event s p e).birth q ≡ s.birth q)
     × ((q : ℕ) → (births_after_event s p e).forks q ≡ s.forks q)
 no_fork s p (event.Fork n) h = absurd (h n refl)
-no_fork s p event.Open h = (refl, λ q. refl, λ q. refl)
-no_fork s p (event.Send c) h = (refl, λ q. refl, λ q. refl)
-no_fork s p (event.Receive c) h = (refl, λ q. refl, λ q. refl)
-no_fork s p event.End h = (refl, λ q. refl, λ q. refl)
-no_fork s p (event.Fault f) h = (refl, λ q. refl, λ q. refl)
-no_fork s p event.Laid h = (refl, λ q. refl, λ q. refl)
-no_fork s p event.Pause h = (refl, λ q. refl, λ q. refl)
+no_fork _ _ _ _ = (refl, λ q. refl, λ q. refl)
 
 -- who has no birth
 module _ (es : List Entry) (nameable : NameableFrom first_births es) (q : ℕ) where

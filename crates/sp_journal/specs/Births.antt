@@ -90,10 +90,7 @@ GivesNumbers s p (event.Fork n) = (s.processes + n ≤ 2 ^ 32) × (s.forks p < 2
 GivesNumbers s p event.Open = (s.channels < 2 ^ 32) × (s.opens p < 2 ^ 32)
 GivesNumbers s p (event.Send c) = c < s.channels
 GivesNumbers s p (event.Receive c) = c < s.channels
-GivesNumbers s p event.End = Unit {0}
-GivesNumbers s p (event.Fault f) = Unit {0}
-GivesNumbers s p event.Laid = Unit {0}
-GivesNumbers s p event.Pause = Unit {0}
+GivesNumbers _ _ _ = Unit {0}
 
 -- an entry can come next: its process is there, and so is what its event speaks of
 abbrev pub CanFollow : Births → Entry → Type 0

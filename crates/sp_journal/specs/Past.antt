@@ -96,12 +96,7 @@ abbrev pub KnowsCompletions : Knowledge → List Occurrence → Name → Happeni
 KnowsCompletions j done p (Offered w c) = (i : ℕ) (z : Name)
     → slice_get done i ≡ Some (record { who = z; what = Offered w c }) → (m : ℕ) × (j.completed i ≡ Some m)
     × (j.past p m ≡ true)
-KnowsCompletions j done p Opened = Unit {0}
-KnowsCompletions j done p (Forked k) = Unit {0}
-KnowsCompletions j done p Ended = Unit {0}
-KnowsCompletions j done p (Faulted f) = Unit {0}
-KnowsCompletions j done p Laid = Unit {0}
-KnowsCompletions j done p Paused = Unit {0}
+KnowsCompletions _ _ _ _ = Unit {0}
 
 abbrev pub CompletedFrom : Knowledge → List Occurrence → List Occurrence → Type 0
 CompletedFrom j done [] = Unit {0}

@@ -33,6 +33,15 @@
 //! - The reader finds an entry by the parts of its line and takes only what prints as it was read. So its parts may
 //!   give any answer to other bytes.
 //!
+//! Lemmas for others, in `proofs`:
+//! - `BirthLaws`: laws of what a nameable journal gives.
+//! - `EntryText`: the text of an entry has no line feed.
+//! - `Facts`: tests on numbers as statements: what a test that is true says.
+//! - `NameLaws`: different names stay different in the form in which the program keeps them.
+//! - `SplitLaws`: laws of cutting a text at a byte.
+//! - `TextLaws`: laws of the texts of names: what they are made of, and that different names have different texts.
+//! - `Walk`: going over the entries of a journal, one after another.
+//!
 //! To change:
 //! - An event: `Event` in `src/entry.rt`; its texts in `specs/Texts.antt`, `src/print.rt` and `src/reader.rt`; what
 //!   it gives in `specs/Births.antt`; what it teaches in `specs/Past.antt`.

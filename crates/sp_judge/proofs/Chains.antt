@@ -37,21 +37,11 @@ what_is a b h = ap (λ (x : Occurrence). x.what) (same_Some a b h)
 
 abbrev pub way_of : Way → Happening → Way
 way_of d (Offered w c) = w
-way_of d Opened = d
-way_of d (Forked k) = d
-way_of d Ended = d
-way_of d (Faulted f) = d
-way_of d Laid = d
-way_of d Paused = d
+way_of d _ = d
 
 abbrev pub channel_of : Channel → Happening → Channel
 channel_of d (Offered w c) = c
-channel_of d Opened = d
-channel_of d (Forked k) = d
-channel_of d Ended = d
-channel_of d (Faulted f) = d
-channel_of d Laid = d
-channel_of d Paused = d
+channel_of d _ = d
 
 module _ (j : Knowledge) (es : List Occurrence) (chains : Chains j es) (paired : Paired j (length es)) (p : Name)
     (h : Happening) (knows : KnowsOffers j es p h) where

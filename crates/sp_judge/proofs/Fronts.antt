@@ -124,13 +124,9 @@ module _ (t : Births) (lawful : Lawful t) where
           let b = h e.process l in
           let c = h p k in
           λ i. cond (sym a i) (b i + 1) (c i)
-      by event.Open = h p k
       by (event.Send c) = ap (λ f. f (t.name p)) (met _ (j.pending _)) ∙ h p k
       by (event.Receive c) = ap (λ f. f (t.name p)) (met _ (j.pending _)) ∙ h p k
-      by event.End = h p k
-      by (event.Fault f) = h p k
-      by event.Laid = h p k
-      by event.Pause = h p k
+      by _ = h p k
 
   forks_from : (es : List Entry) (j : Knowledge) (n : ℕ) (s : Births) → NameableFrom s es
       → ((r : ℕ) → r < (births_from s es).processes → r < t.processes)

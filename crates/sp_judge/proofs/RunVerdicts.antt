@@ -65,11 +65,8 @@ module _ (g : RunInput) where
       (f : Fault) where
     does_not : (a : ActOf L) (cs : List (Change L)) → happening_of a (Advances cs) ≡ Some (Faulted f) → ⊥
     does_not (Moves o ws) cs e = none-some _ e
-    does_not (Opens o ws) cs e = cc e
-    does_not (Forks o os) cs e = cc e
-    does_not (Offering o) cs e = cc e
-    does_not EndsProcess cs e = cc e
     does_not (MeetsFault x) cs e = none-some _ e
+    does_not _ _ e = cc e
 
     by_outcome : (a : ActOf L) (out : ActOutcome L) → happening_of a out ≡ Some (Faulted f) → Broken (result_of s q out)
     by_outcome a (Advances cs) e = absurd (does_not a cs e)

@@ -8,7 +8,7 @@ use Rattle.sp_journal.specs.Maps.{at_key}
 use Rattle.sp_journal.specs.Past.{Knowledge, knowledge_after_offer, knowledge_after, no_knowledge}
 use Rattle.sp_meaning.specs.Model.{Name, Channel, same_channel, Language, Moves, Opens, Forks, Offering, EndsProcess}
 use Rattle.sp_meaning.specs.Model.{MeetsFault}
-use Rattle.sp_meaning.specs.Model.{Absent, Works, Waits, Joins, Ended, Change, with_changes}
+use Rattle.sp_meaning.specs.Model.{Waits, Ended, Change, with_changes}
 use Rattle.sp_meaning.specs.Steps.{ActOf, OfferOf, ConditionOf, ActOutcome, Advances, Faulty, way_of, message}
 use Rattle.sp_meaning.specs.Steps.{meeting_changes}
 use Rattle.sp_meaning.specs.Steps.{handover_outcome, meeting_outcome, offer_outcome, act_outcome, cost, limit_fault}
@@ -64,11 +64,7 @@ module _ (g : RunInput) where
 
     faulty_fits : (a : ActOf L) (f : Fault) → PendingAgrees (happening_of {L = L} a (Faulty f)) (Faulty f)
     faulty_fits (Moves o ws) f = match.pends
-    faulty_fits (Opens o ws) f = match.pends
-    faulty_fits (Forks o os) f = match.pends
-    faulty_fits (Offering o) f = match.pends
-    faulty_fits EndsProcess f = match.pends
-    faulty_fits (MeetsFault x) f = match.pends
+    faulty_fits _ _ = match.pends
 
     -- changes that leave the pending offers alone
     same_fits : (a : ActOf L) → ((c : Channel) → IsOn a c → ⊥) → (cs : List (Change L))
@@ -97,11 +93,8 @@ module _ (g : RunInput) where
 
     meets_fits : (o : OfferOf L) (z : Name) (k : ℕ) → j.pending o.channel ≡ Some (z, k) → (x : ConditionOf L)
         → PendingAgrees (happening_of (Offering o) (meeting_outcome s q o z x)) (meeting_outcome s q o z x)
-    meets_fits o z k pend Absent = match.pends
-    meets_fits o z k pend (Works own) = match.pends
     meets_fits o z k pend (Waits w) = hands_fits o z k w pend (message o.cargo w.cargo)
-    meets_fits o z k pend (Joins m i own) = match.pends
-    meets_fits o z k pend Ended = match.pends
+    meets_fits _ _ _ _ _ = match.pends
 
     offer_fits : (o : OfferOf L) (x : Option (Name × ℕ)) → j.pending o.channel ≡ x → (y : Option Name) → offerer x ≡ y
         → PendingAgrees (happening_of (Offering o) (offer_outcome s q o y)) (offer_outcome s q o y)

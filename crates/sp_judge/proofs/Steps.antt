@@ -324,15 +324,11 @@ module _ (all : List Entry) (t : IsNameableAndSilent all) (at : ℕ) (e : Entry)
             ∙ still))
 
         by : (v : Event) → e.event ≡ v → IsPlain v → TablesHold s until (take (at + 1) all) b'
-        by (event.Fork n) is f = absurd f
-        by event.Open is f = absurd f
-        by (event.Send c) is f = absurd f
-        by (event.Receive c) is f = absurd f
-        by event.End is f = absurd f
         by (event.Fault x) is f = all_of (event.Fault x) is refl (λ d w g. subst IsOffer (sym g) tt) (λ r q. refl) refl
             refl
         by event.Laid is f = all_of event.Laid is refl (λ d w g. subst IsOffer (sym g) tt) (λ r q. refl) refl refl
         by event.Pause is f = all_of event.Pause is refl (λ d w g. subst IsOffer (sym g) tt) (λ r q. refl) refl refl
+        by _ _ f = absurd f
 
   -- an offer and its line
   module _ (w : Way) (c : ℕ) (is : e.event ≡ offer_event w c) where

@@ -9,7 +9,7 @@ use Rattle.sp_journal.specs.declared.entry.Event.{Event}
 use Rattle.sp_journal.specs.declared.entry.Event.TheVariants as event
 use Rattle.sp_journal.specs.declared.entry.Way.{Way}
 use Rattle.sp_journal.specs.declared.entry.Way.TheVariants as way
-use Rattle.sp_journal.specs.Names.{Name, Channel, Happening, Opened, Forked, Offered, Ended, Faulted, Laid, Paused}
+use Rattle.sp_journal.specs.Names.{Name, Channel, Happening, Offered}
 use Rattle.sp_journal.specs.Names.{Occurrence}
 use Rattle.sp_journal.specs.Births.{Births, first_births, births, channel, GivesNumbers, NameableFrom, happening}
 use Rattle.sp_journal.specs.Births.{occurrence}
@@ -104,12 +104,7 @@ named_take s (x ∷ es) (suc i) = ap (λ ys. occurrence s x ∷ ys) (named_take 
 
 abbrev pub IsOffer : Happening → Type 0
 IsOffer (Offered w c) = Unit {0}
-IsOffer Opened = ⊥
-IsOffer (Forked k) = ⊥
-IsOffer Ended = ⊥
-IsOffer (Faulted f) = ⊥
-IsOffer Laid = ⊥
-IsOffer Paused = ⊥
+IsOffer _ = ⊥
 
 pub event_is : (s : Births) (v : Event) (w : Way) (d : Channel) → happening s v ≡ Offered w d → (c : ℕ)
     × (v ≡ offer_event w c) × (channel s c ≡ d)
@@ -117,12 +112,7 @@ event_is s (event.Send c) w d h = let a : way.Send ≡ w = ap (way_of w) h in
     (c, ap (λ x. offer_event x c) a, ap (channel_of d) h)
 event_is s (event.Receive c) w d h = let a : way.Receive ≡ w = ap (way_of w) h in
     (c, ap (λ x. offer_event x c) a, ap (channel_of d) h)
-event_is s (event.Fork n) w d h = absurd (subst IsOffer (sym h) tt)
-event_is s event.Open w d h = absurd (subst IsOffer (sym h) tt)
-event_is s event.End w d h = absurd (subst IsOffer (sym h) tt)
-event_is s (event.Fault f) w d h = absurd (subst IsOffer (sym h) tt)
-event_is s event.Laid w d h = absurd (subst IsOffer (sym h) tt)
-event_is s event.Pause w d h = absurd (subst IsOffer (sym h) tt)
+event_is _ _ _ _ h = absurd (subst IsOffer (sym h) tt)
 
 pub offer_happens : (s : Births) (w : Way) (c : ℕ) → happening s (offer_event w c) ≡ Offered w (channel s c)
 offer_happens s way.Send c = refl

@@ -3,7 +3,7 @@
 -- that they tell the pasts, and the judge's tables hold them by numbers.
 use Rattle.std.specs.Prelude.{◌≡◌, ℕ, zero, suc, true, cond, max, ◌&&◌, List, [], ◌∷◌, ◌++◌, take, length, Option, Some}
 use Rattle.std.specs.Prelude.{None, slice_get}
-use Rattle.sp_journal.specs.Names.{Name, same_name, Happening, Opened, Forked, Offered, Ended, Faulted, Laid, Paused}
+use Rattle.sp_journal.specs.Names.{Name, same_name, Happening, Opened, Forked, Offered, Ended}
 use Rattle.sp_journal.specs.Names.{Occurrence}
 use Rattle.sp_journal.specs.Past.{Knowledge, knowledge_after, no_knowledge}
 use Rattle.sp_judge.specs.Prefixes.{is_counted}
@@ -65,9 +65,7 @@ clocks_after_entry count j es p (Forked k) = with_children_merged p (j.forks p) 
 clocks_after_entry count j es p (Offered w c) = clocks_after_offer count es p (j.pending c)
 clocks_after_entry count j es p Ended =
     with_parent_merged p (clock_with_entry count es p) (with_clock p (clock_with_entry count es p) count)
-clocks_after_entry count j es p (Faulted f) = count
-clocks_after_entry count j es p Laid = count
-clocks_after_entry count j es p Paused = count
+clocks_after_entry count _ _ _ _ = count
 
 abbrev pub clocks_from : (Name → Name → ℕ) → Knowledge → List Occurrence → List Occurrence → Name → Name → ℕ
 clocks_from count j done [] = count

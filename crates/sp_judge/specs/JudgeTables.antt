@@ -85,14 +85,10 @@ offer_event way.Receive c = event.Receive c
 
 -- an event that nobody comes to know
 abbrev pub IsPlain : Event → Type 0
-IsPlain (event.Fork n) = ⊥
-IsPlain event.Open = ⊥
-IsPlain (event.Send c) = ⊥
-IsPlain (event.Receive c) = ⊥
-IsPlain event.End = ⊥
 IsPlain (event.Fault f) = Unit {0}
 IsPlain event.Laid = Unit {0}
 IsPlain event.Pause = Unit {0}
+IsPlain _ = ⊥
 
 -- the entry of index i makes this offer
 abbrev pub IsOfferAt : List Entry → Way → ℕ → ℕ → Type 0

@@ -2,19 +2,16 @@
 -- What a process knows of another, as a prefix of that one's entries. The law of this crate promises it; so a past is
 -- a count for each process, and the judge keeps counts in place of sets.
 use Rattle.std.specs.Prelude.{◌≡◌, ℕ, suc, ◌≤◌, Bool, true, false, List, [], ◌∷◌, Some, slice_get}
-use Rattle.sp_journal.specs.Names.{Name, Channel, Happening, Opened, Forked, Offered, Ended, Faulted, Laid, Paused}
+use Rattle.sp_journal.specs.Names.{Name, Channel, Happening, Faulted, Laid, Paused}
 use Rattle.sp_journal.specs.Names.{Occurrence}
 use Rattle.sp_journal.specs.Past.{Knowledge, knowledge_of, knowledge_after, no_knowledge}
 
 -- fork, open, send, receive and end are counted
 abbrev pub is_counted : Happening → Bool
-is_counted Opened = true
-is_counted (Forked k) = true
-is_counted (Offered w c) = true
-is_counted Ended = true
 is_counted (Faulted f) = false
 is_counted Laid = false
 is_counted Paused = false
+is_counted _ = true
 
 -- the entry of index i is a counted one of process q
 abbrev pub Counts : List Occurrence → Name → ℕ → Type 0

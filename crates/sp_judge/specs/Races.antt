@@ -31,10 +31,8 @@ IsLeastRace es w c i k = Race es w c i k × ((v : Way) (d : Channel) (x y : ℕ)
 
 -- a process broke a rule of execution
 abbrev pub IsFault : End → Type 0
-IsFault end.Done = ⊥
-IsFault (end.Deadlock ws) = ⊥
 IsFault (end.Fault p f) = Unit {0}
-IsFault end.Memory = ⊥
+IsFault _ = ⊥
 
 -- ordered where the order condition holds, and else the least race
 abbrev pub IsJudged : List Occurrence → Verdict → Type 0

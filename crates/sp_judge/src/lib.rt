@@ -33,6 +33,12 @@
 //! - What a verdict promises of a run along a journal is proved in `proofs/SilentWaiters.antt` and
 //!   `proofs/RunVerdicts.antt`.
 //!
+//! Lemmas for others, in `proofs`:
+//! - `Keys`: the tests of names and channels, as equalities.
+//! - `Prefixing`: what a process knows is closed under earlier entries: the law kept from entry to entry.
+//! - `Numbers`: from the numbers of a nameable journal to the names that its entries give in the end.
+//! - `Fronts`: what is judged of the front of a journal and of one more entry.
+//!
 //! To change:
 //! - What an entry teaches: `sp_journal`'s `specs/Past.antt`, and `one_entry` in `proofs/Prefixing.antt`.
 //! - A clock: `src/clock.rt`.

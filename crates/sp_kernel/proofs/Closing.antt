@@ -55,14 +55,7 @@ module _ (P : Doing → Type 0) where
             → (if b then queues x m else does x (Joining (n - 1)) m).doing q ≡ m.doing q
         go true o = (at_kept m.doing x q Ready none.ready o).0
         go false o = (at_kept m.doing x q (Joining (n - 1)) (none.joining (n - 1)) o).0
-    fewer_kept x Unborn m q o = refl
-    fewer_kept x Ready m q o = refl
-    fewer_kept x (Out w) m q o = refl
-    fewer_kept x (Sending c) m q o = refl
-    fewer_kept x (Receiving c) m q o = refl
-    fewer_kept x Laid m q o = refl
-    fewer_kept x Ended m q o = refl
-    fewer_kept x Gone m q o = refl
+    fewer_kept _ _ _ _ _ = refl
 
     module _ (k : Control) (p : ℕ) where
       offers_kept : (w : Way) (d : Doing) (c : ℕ) (x : Option (Way × ℕ)) (q : ℕ) → (P d → ⊥)

@@ -45,13 +45,7 @@ named x fine log y told =
 
 more_processes : (s : Births) (p : ℕ) (e : Event) → s.processes ≤ (births_after_event s p e).processes
 more_processes s p (event.Fork n) = omega arith
-more_processes s p event.Open = omega arith
-more_processes s p (event.Send c) = omega arith
-more_processes s p (event.Receive c) = omega arith
-more_processes s p event.End = omega arith
-more_processes s p (event.Fault f) = omega arith
-more_processes s p event.Laid = omega arith
-more_processes s p event.Pause = omega arith
+more_processes _ _ _ = omega arith
 
 pub fault_there : (s : Births) (es : List Entry) (p : ℕ) (f : Fault) → NameableFrom s es → fault_in es ≡ Some (p, f)
     → p < (births_from s es).processes

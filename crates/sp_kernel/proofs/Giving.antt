@@ -43,13 +43,7 @@ use Rattle.sp_history.proofs.Agreeing.{agrees_after}
 
 pub turn_config : (s : Stop) (q : Proc) → config_at (turn_by s q) ≡ config_of q
 turn_config (stop.Fork t v n) q = refl
-turn_config stop.Open q = refl
-turn_config (stop.Send c j cs) q = refl
-turn_config (stop.Receive c j) q = refl
-turn_config stop.End q = refl
-turn_config stop.Pause q = refl
-turn_config (stop.Fault g) q = refl
-turn_config stop.Memory q = refl
+turn_config _ _ = refl
 
 module _ (lim : Limits) (s : System Plain) where
   pub event_laid : (t : Turn (Memory Plain)) → s.faulted ≡ true → event.Laid ≡ event_of lim s t

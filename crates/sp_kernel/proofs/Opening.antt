@@ -61,12 +61,8 @@ any_cells [] = tt
 any_cells (c ∷ cs) = (any_cell c, any_cells cs)
 
 any_entry : (e : m.Entry) → Rattle.sp_history.specs.Channels.EntryHas Any e
-any_entry (m.Number v) = tt
-any_entry (m.Chan c) = tt
-any_entry (m.Pointer a) = tt
 any_entry (m.Cells cs) = any_cells cs
-any_entry (m.Link r) = tt
-any_entry (m.Reply r) = tt
+any_entry _ = tt
 
 any_entries : (es : List m.Entry) → EntriesHave Any es
 any_entries [] = tt

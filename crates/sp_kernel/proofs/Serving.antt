@@ -12,7 +12,7 @@ use Rattle.sp_journal.specs.Maps.{at_key}
 use Rattle.sp_code.specs.Memory.{CodeRun}
 use Rattle.sp_code.specs.PlainStore.{plain}
 use Rattle.sp_code.specs.Sound.{run_of}
-use Rattle.sp_code.specs.Control.{Control, Doing, Ready, Out, Gone, Joining, Unborn, Sending, Receiving, Laid, Ended}
+use Rattle.sp_code.specs.Control.{Control, Doing, Out, Gone, Joining, Ended}
 use Rattle.sp_code.specs.Control.{takes, after_give, entry_of, comes_back, abandons, front, offers, queues, does}
 use Rattle.sp_code.specs.Control.{one_fewer}
 use Rattle.sp_code.specs.Control.{reports}
@@ -76,28 +76,17 @@ fewer_abandons x (Joining n) k = go (n == 1)
     go : (b : Bool) → (if b then queues x k else does x (Joining (n - 1)) k).abandons ≡ k.abandons
     go true = refl
     go false = refl
-fewer_abandons x Unborn k = refl
-fewer_abandons x Ready k = refl
-fewer_abandons x (Out w) k = refl
-fewer_abandons x (Sending c) k = refl
-fewer_abandons x (Receiving c) k = refl
-fewer_abandons x Laid k = refl
-fewer_abandons x Ended k = refl
-fewer_abandons x Gone k = refl
+fewer_abandons _ _ _ = refl
 
 reports_abandons : (o : Option Birth) (k : Control) → (reports o k).abandons ≡ k.abandons
 reports_abandons None k = refl
 reports_abandons (Some b) k = fewer_abandons b.parent (k.doing b.parent) k
 
 pub back_abandons : (p : ℕ) (e : Event) (k : Control) → (comes_back p e k).abandons ≡ k.abandons
-back_abandons p (event.Fork n) k = refl
-back_abandons p event.Open k = refl
 back_abandons p (event.Send c) k = offers_abandons _ _ p c (k.pending c) k
 back_abandons p (event.Receive c) k = offers_abandons _ _ p c (k.pending c) k
 back_abandons p event.End k = reports_abandons (k.births.birth p) (does p Ended k)
-back_abandons p (event.Fault f) k = refl
-back_abandons p event.Laid k = refl
-back_abandons p event.Pause k = refl
+back_abandons _ _ _ = refl
 
 taken_out : (w : ℕ) (o : Option ℕ) (k : Control) → (takes w o k).out ≤ k.out + 1
 taken_out w None k = omega arith

@@ -27,10 +27,7 @@ use Rattle.sp_kernel.proofs.Tables.{table_set, set_as_it_was}
 
 front_none : (k : Control) (st : Standing) (r : List ℕ) → front_of r ≡ None → front_while st r ≡ None
 front_none k Running r e = e
-front_none k IsDone r e = refl
-front_none k IsDeadlock r e = refl
-front_none k IsFault r e = refl
-front_none k IsMemory r e = refl
+front_none _ _ _ _ = refl
 
 pub over_none : (k : Control) → is_over k ≡ true → front k ≡ None
 over_none k e = go (nat_lt 0 k.abandons) k.faulted (has_ended (k.doing 0)) e

@@ -18,27 +18,15 @@ use Rattle.sp_kernel.specs.Closes.{HeldHere}
 
 store_here : (p : Proc) (s : State) → store_in (condition_in (Some (slot.Here p s))) ≡ Some p.store
 store_here p st.Ready = refl
-store_here p (st.Sending c k cs) = refl
-store_here p (st.Receiving c k) = refl
-store_here p (st.Joining n) = refl
-store_here p st.Laid = refl
-store_here p st.Over = refl
+store_here _ _ = refl
 
 not_out : (p : Proc) (s : State) (w : ℕ) → doing_in (Some (slot.Here p s)) ≡ Out w → ⊥
 not_out p st.Ready w e = absurd (cc e)
-not_out p (st.Sending c k cs) w e = absurd (cc e)
-not_out p (st.Receiving c k) w e = absurd (cc e)
-not_out p (st.Joining n) w e = absurd (cc e)
-not_out p st.Laid w e = absurd (cc e)
-not_out p st.Over w e = absurd (cc e)
+not_out _ _ _ e = absurd (cc e)
 
 not_gone : (p : Proc) (s : State) → doing_in (Some (slot.Here p s)) ≡ Gone → ⊥
 not_gone p st.Ready e = absurd (cc e)
-not_gone p (st.Sending c k cs) e = absurd (cc e)
-not_gone p (st.Receiving c k) e = absurd (cc e)
-not_gone p (st.Joining n) e = absurd (cc e)
-not_gone p st.Laid e = absurd (cc e)
-not_gone p st.Over e = absurd (cc e)
+not_gone _ _ e = absurd (cc e)
 
 -- an output of one of these, which is here
 pub record HoldsOutput (slots : List Slot) (bs : List ℕ) : Type 0 where

@@ -37,13 +37,7 @@ waiter_of b q w c = record { process = proc_name (b.name q); way = w; channel = 
 abbrev pub with_waiter : Births → ℕ → Slot → List Waiter → List Waiter
 with_waiter b q (slot.Here p (st.Sending c k cs)) ws = waiter_of b q way.Send c ∷ ws
 with_waiter b q (slot.Here p (st.Receiving c k)) ws = waiter_of b q way.Receive c ∷ ws
-with_waiter b q (slot.Here p st.Ready) ws = ws
-with_waiter b q (slot.Here p (st.Joining n)) ws = ws
-with_waiter b q (slot.Here p st.Laid) ws = ws
-with_waiter b q (slot.Here p st.Over) ws = ws
-with_waiter b q (slot.Out w p) ws = ws
-with_waiter b q slot.Ended ws = ws
-with_waiter b q (slot.Gone p) ws = ws
+with_waiter _ _ _ ws = ws
 
 -- those that wait in these slots, which are those of process q and of the following ones
 abbrev pub waiters_from : Births → ℕ → List Slot → List Waiter
@@ -54,13 +48,7 @@ waiters_from b q (s ∷ ss) = with_waiter b q s (waiters_from b (suc q) ss)
 abbrev pub SpeaksBelow : ℕ → Slot → Type 0
 SpeaksBelow n (slot.Here p (st.Sending c k cs)) = c < n
 SpeaksBelow n (slot.Here p (st.Receiving c k)) = c < n
-SpeaksBelow n (slot.Here p st.Ready) = Unit {0}
-SpeaksBelow n (slot.Here p (st.Joining m)) = Unit {0}
-SpeaksBelow n (slot.Here p st.Laid) = Unit {0}
-SpeaksBelow n (slot.Here p st.Over) = Unit {0}
-SpeaksBelow n (slot.Out w p) = Unit {0}
-SpeaksBelow n slot.Ended = Unit {0}
-SpeaksBelow n (slot.Gone p) = Unit {0}
+SpeaksBelow _ _ = Unit {0}
 
 -- those that wait, in the order of their names
 abbrev pub AreByName : List Waiter → Type 0

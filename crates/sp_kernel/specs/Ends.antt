@@ -49,15 +49,7 @@ ends_child p z t x = record x {
 -- it joins, and can take back from this child
 abbrev pub IsJoiner : Option Slot → Proc → Type 0
 IsJoiner (Some (slot.Here q (st.Joining n))) p = CanJoin q.store p.store
-IsJoiner None p = ⊥
-IsJoiner (Some (slot.Here q st.Ready)) p = ⊥
-IsJoiner (Some (slot.Out w q)) p = ⊥
-IsJoiner (Some (slot.Here q (st.Sending c k bs))) p = ⊥
-IsJoiner (Some (slot.Here q (st.Receiving c k))) p = ⊥
-IsJoiner (Some (slot.Here q st.Laid)) p = ⊥
-IsJoiner (Some slot.Ended) p = ⊥
-IsJoiner (Some (slot.Here q st.Over)) p = ⊥
-IsJoiner (Some (slot.Gone q)) p = ⊥
+IsJoiner _ _ = ⊥
 
 -- q took back from p, and is r now
 abbrev pub TookBack : Proc → Proc → Proc → Type 0
@@ -67,12 +59,4 @@ TookBack q p r = (config_of r ≡ on_store (λ m. plain.joined m p.store) (confi
 -- the slot of one that joins, after it took back from p
 abbrev pub JoinedSlot : Option Slot → Proc → Slot → Type 0
 JoinedSlot (Some (slot.Here q (st.Joining n))) p t = (r : Proc) × (t ≡ slot.Here r (one_fewer n)) × TookBack q p r
-JoinedSlot None p t = ⊥
-JoinedSlot (Some (slot.Here q st.Ready)) p t = ⊥
-JoinedSlot (Some (slot.Out w q)) p t = ⊥
-JoinedSlot (Some (slot.Here q (st.Sending c k bs))) p t = ⊥
-JoinedSlot (Some (slot.Here q (st.Receiving c k))) p t = ⊥
-JoinedSlot (Some (slot.Here q st.Laid)) p t = ⊥
-JoinedSlot (Some slot.Ended) p t = ⊥
-JoinedSlot (Some (slot.Here q st.Over)) p t = ⊥
-JoinedSlot (Some (slot.Gone q)) p t = ⊥
+JoinedSlot _ _ _ = ⊥

@@ -25,23 +25,13 @@ use Rattle.sp_kernel.specs.Kernels.{control_of, system_of, code_run_of}
 abbrev pub IsOffered : ℕ → Stop → Type 0
 IsOffered n (stop.Send c k cs) = c < n
 IsOffered n (stop.Receive c k) = c < n
-IsOffered n stop.Pause = Unit {0}
-IsOffered n (stop.Fault f) = Unit {0}
-IsOffered n (stop.Fork t v count) = Unit {0}
-IsOffered n stop.Open = Unit {0}
-IsOffered n stop.End = Unit {0}
 IsOffered n stop.Memory = ⊥
+IsOffered _ _ = Unit {0}
 
 -- a turn that memory did not end
 abbrev pub IsWhole : Stop → Type 0
-IsWhole (stop.Send c k cs) = Unit {0}
-IsWhole (stop.Receive c k) = Unit {0}
-IsWhole stop.Pause = Unit {0}
-IsWhole (stop.Fault f) = Unit {0}
-IsWhole (stop.Fork t v count) = Unit {0}
-IsWhole stop.Open = Unit {0}
-IsWhole stop.End = Unit {0}
 IsWhole stop.Memory = ⊥
+IsWhole _ = Unit {0}
 
 -- what the machine asks of the code besides
 pub record FitsCode (code : Parts) : Type 0 where

@@ -252,12 +252,8 @@ module _ (x : Kernel) (fine : IsOpening x) (log : List Note) (y : Kernel) (told 
         go (stop.Send c k cs) b t = subst (λ n. c < n) (sym after_log.whole.channels) (there (Sends c k cs) t).0
         go (stop.Receive c k) b t =
             subst (λ n. c < n) (sym after_log.whole.channels) (there (Receives c k h.proc.target) t)
-        go stop.Pause b t = tt {0}
-        go (stop.Fault g) b t = tt {0}
-        go (stop.Fork u v n) b t = tt {0}
-        go stop.Open b t = tt {0}
-        go stop.End b t = tt {0}
         go stop.Memory b t = absurd b
+        go _ _ _ = tt {0}
 
     pub fits_now : (h : Handed) → HasRun (code_run_of x) seen w h → FitsHanded y w h
     fits_now h m = record {

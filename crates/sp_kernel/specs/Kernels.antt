@@ -100,14 +100,7 @@ code_run_of x = run_of x.code.value x.root.value.input.value x.limits
 abbrev pub WaitsAs : Option Slot → ℕ → Pending → Type 0
 WaitsAs (Some (slot.Here p (st.Sending c k cs))) d o = (c ≡ d) × (k ≡ o.message) × (o.way ≡ way.Send)
 WaitsAs (Some (slot.Here p (st.Receiving c k))) d o = (c ≡ d) × (k ≡ o.message) × (o.way ≡ way.Receive)
-WaitsAs None d o = ⊥
-WaitsAs (Some (slot.Here p st.Ready)) d o = ⊥
-WaitsAs (Some (slot.Out w p)) d o = ⊥
-WaitsAs (Some (slot.Here p (st.Joining n))) d o = ⊥
-WaitsAs (Some (slot.Here p st.Laid)) d o = ⊥
-WaitsAs (Some slot.Ended) d o = ⊥
-WaitsAs (Some (slot.Here p st.Over)) d o = ⊥
-WaitsAs (Some (slot.Gone p)) d o = ⊥
+WaitsAs _ _ _ = ⊥
 
 -- a process is in the slot of its number, and reads this input
 abbrev pub IsOwn : List ℕ → Proc → ℕ → Type 0
@@ -198,15 +191,7 @@ pub record Gave (x : Kernel) (p : ℕ) (h : Handed) (y : Kernel) : Type 0 where
 -- the slot of a ready process
 abbrev pub IsReady : Option Slot → Type 0
 IsReady (Some (slot.Here p st.Ready)) = Unit {0}
-IsReady None = ⊥
-IsReady (Some (slot.Out v p)) = ⊥
-IsReady (Some (slot.Here p (st.Sending c k cs))) = ⊥
-IsReady (Some (slot.Here p (st.Receiving c k))) = ⊥
-IsReady (Some (slot.Here p (st.Joining n))) = ⊥
-IsReady (Some (slot.Here p st.Laid)) = ⊥
-IsReady (Some slot.Ended) = ⊥
-IsReady (Some (slot.Here p st.Over)) = ⊥
-IsReady (Some (slot.Gone p)) = ⊥
+IsReady _ = ⊥
 
 -- what is taken: the front of the queue, as the system has it; or nothing, and then nothing changes
 pub record Takes (x : Kernel) (w : ℕ) (y : Kernel) (r : Option Proc) : Type 0 where

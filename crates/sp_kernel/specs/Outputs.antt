@@ -15,9 +15,7 @@ output_of_process p = output_of (map.get p.store.map output_spot)
 -- the output in a slot
 abbrev pub output_in_slot : Slot → Option (List ℕ)
 output_in_slot (slot.Here p s) = output_of_process p
-output_in_slot (slot.Out w p) = None
-output_in_slot slot.Ended = None
-output_in_slot (slot.Gone p) = None
+output_in_slot _ = None
 
 -- the first that is there
 abbrev pub or_rest : Option (List ℕ) → Option (List ℕ) → Option (List ℕ)

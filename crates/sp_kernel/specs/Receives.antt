@@ -37,28 +37,12 @@ meets_receiving p t c z x = record x {
 -- it waits to send, and its message fits at the target of p
 abbrev pub IsSender : Option Slot → Proc → Type 0
 IsSender (Some (slot.Here q (st.Sending c k cs))) p = CanTake p cs
-IsSender None p = ⊥
-IsSender (Some (slot.Here q st.Ready)) p = ⊥
-IsSender (Some (slot.Out w q)) p = ⊥
-IsSender (Some (slot.Here q (st.Receiving c k))) p = ⊥
-IsSender (Some (slot.Here q (st.Joining n))) p = ⊥
-IsSender (Some (slot.Here q st.Laid)) p = ⊥
-IsSender (Some slot.Ended) p = ⊥
-IsSender (Some (slot.Here q st.Over)) p = ⊥
-IsSender (Some (slot.Gone q)) p = ⊥
+IsSender _ _ = ⊥
 
 -- the sender is t, with this message
 abbrev pub IsSenderWith : Option Slot → Proc → List Cell → Type 0
 IsSenderWith (Some (slot.Here q (st.Sending c k bs))) t cs = (q ≡ t) × (bs ≡ cs)
-IsSenderWith None t cs = ⊥
-IsSenderWith (Some (slot.Here q st.Ready)) t cs = ⊥
-IsSenderWith (Some (slot.Out w q)) t cs = ⊥
-IsSenderWith (Some (slot.Here q (st.Receiving c k))) t cs = ⊥
-IsSenderWith (Some (slot.Here q (st.Joining n))) t cs = ⊥
-IsSenderWith (Some (slot.Here q st.Laid)) t cs = ⊥
-IsSenderWith (Some slot.Ended) t cs = ⊥
-IsSenderWith (Some (slot.Here q st.Over)) t cs = ⊥
-IsSenderWith (Some (slot.Gone q)) t cs = ⊥
+IsSenderWith _ _ _ = ⊥
 
 -- from here on its ticks count for the next pause, and it has the message
 abbrev pub EntersWith : Proc → List Cell → Proc → Type 0

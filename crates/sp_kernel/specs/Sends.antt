@@ -37,30 +37,14 @@ meets_sending p r c z x = record x {
 -- it waits to receive, and the cells fit at its target
 abbrev pub IsReceiver : Option Slot → List Cell → Type 0
 IsReceiver (Some (slot.Here p (st.Receiving c k))) cs = CanTake p cs
-IsReceiver None cs = ⊥
-IsReceiver (Some (slot.Here p st.Ready)) cs = ⊥
-IsReceiver (Some (slot.Out w p)) cs = ⊥
-IsReceiver (Some (slot.Here p (st.Sending c k bs))) cs = ⊥
-IsReceiver (Some (slot.Here p (st.Joining n))) cs = ⊥
-IsReceiver (Some (slot.Here p st.Laid)) cs = ⊥
-IsReceiver (Some slot.Ended) cs = ⊥
-IsReceiver (Some (slot.Here p st.Over)) cs = ⊥
-IsReceiver (Some (slot.Gone p)) cs = ⊥
+IsReceiver _ _ = ⊥
 
 -- the receiver is r once it has the cells
 abbrev pub Receives : Option Slot → List Cell → Proc → Type 0
 Receives (Some (slot.Here p (st.Receiving c k))) cs r =
     (config_of r ≡ on_store (put_cells plain p.target cs) (config_of p)) × (r.number ≡ p.number)
     × (r.input.value ≡ p.input.value)
-Receives None cs r = ⊥
-Receives (Some (slot.Here p st.Ready)) cs r = ⊥
-Receives (Some (slot.Out w p)) cs r = ⊥
-Receives (Some (slot.Here p (st.Sending c k bs))) cs r = ⊥
-Receives (Some (slot.Here p (st.Joining n))) cs r = ⊥
-Receives (Some (slot.Here p st.Laid)) cs r = ⊥
-Receives (Some slot.Ended) cs r = ⊥
-Receives (Some (slot.Here p st.Over)) cs r = ⊥
-Receives (Some (slot.Gone p)) cs r = ⊥
+Receives _ _ _ = ⊥
 
 -- process p sent these cells to z, and both are ready
 abbrev pub HasSent : Kernel → Proc → List Cell → ℕ → ℕ → Kernel → Type 0

@@ -23,8 +23,5 @@ IsSeen x c seen.Over = x ≡ Over c
 abbrev pub IsUnseen : Condition Plain → Type 0
 IsUnseen Absent = Unit {0}
 IsUnseen (Working c) = Unit {0}
-IsUnseen (Waits stop c) = ⊥
-IsUnseen (Joins left c) = ⊥
-IsUnseen (Laid c) = ⊥
 IsUnseen Gone = Unit {0}
-IsUnseen (Over c) = ⊥
+IsUnseen _ = ⊥

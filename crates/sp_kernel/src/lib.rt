@@ -44,6 +44,15 @@
 //!   its seat after the stores are split.
 //! - The number of each parent stands in a list beside the slots, so that an end finds it at once.
 //!
+//! Lemmas for others, in `proofs`:
+//! - `Tables`: tables by numbers: what one write changes.
+//! - `Serving`: each call of the kernel that leaves a note is a step of the control and the system of the
+//!   definitions (`LeavesNote`).
+//! - `Crossing`: the kernel, a seat of its room and the room may go to another thread.
+//! - `Closing`: what stands once a run is over: no process is out, and where no worker gave up none is gone.
+//! - `Writing`: the output that is found in the slots is that of a process which is neither out nor gone.
+//! - `Ending`: the end of a run: what its journal names is there, and one process holds its output.
+//!
 //! To change:
 //! - An event: its file in `src/`, its arm in `give`, its record in `specs/` and its lemma in `proofs/`.
 //! - What is kept of a process: `src/slot.rt`, and the clauses by slot in `specs/`.

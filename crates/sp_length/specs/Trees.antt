@@ -3,15 +3,13 @@
 -- after another.
 use Rattle.std.specs.Prelude.{ℕ, ◌+◌, Bool, true, false, Option, Some, None}
 use Rattle.sp_tree.specs.Plain.{Expr, Typed, Stmt, Program}
-use Rattle.sp_code.specs.Scopes.{Sort, Ordinals, Channels, Many, NoSort, sort}
+use Rattle.sp_code.specs.Scopes.{Sort, Many, sort}
 use Rattle.sp_code.specs.Lengths.{right_length, stmt_length}
 
 -- a value of several cells
 abbrev pub is_many : Sort → Bool
-is_many Ordinals = false
-is_many Channels = false
 is_many Many = true
-is_many NoSort = false
+is_many _ = false
 
 -- the right side of an assignment
 abbrev pub right_side : Program → Expr → ℕ

@@ -135,29 +135,11 @@ module _ (T : Statement → Type 0) where
 
   is_binary : (m : Mark) (o : BinaryOp) → R m (binary_instr o)
   is_binary m binary.Eq = tt
-  is_binary m binary.Ne = tt
-  is_binary m binary.Lt = tt
-  is_binary m binary.Le = tt
-  is_binary m binary.Gt = tt
-  is_binary m binary.Ge = tt
-  is_binary m binary.Add = tt
-  is_binary m binary.Sub = tt
-  is_binary m binary.Or = tt
-  is_binary m binary.Mul = tt
-  is_binary m binary.Div = tt
-  is_binary m binary.Mod = tt
-  is_binary m binary.And = tt
+  is_binary _ _ = tt
 
   is_input : (m : Mark) (f : StandardFn) → R m (input_instr f)
   is_input m standard.Abs = tt
-  is_input m standard.Sqr = tt
-  is_input m standard.Odd = tt
-  is_input m standard.Ord = tt
-  is_input m standard.Chr = tt
-  is_input m standard.Succ = tt
-  is_input m standard.Pred = tt
-  is_input m standard.Eof = tt
-  is_input m standard.Eoln = tt
+  is_input _ _ = tt
 
   unaries : (m : Mark) (o : UnaryOp) → Pairs R (unary_marks m o) (unary_code o)
   unaries m unary.Plus = tt
@@ -165,23 +147,14 @@ module _ (T : Statement → Type 0) where
   unaries m unary.Not = (tt, tt)
 
   standards : (m : Mark) (f : StandardFn) (k : Option KindOf) → Pairs R (standard_marks m f) (standard_code f k)
-  standards m standard.Abs k = (tt, tt)
-  standards m standard.Sqr k = (tt, tt)
-  standards m standard.Odd k = (tt, tt)
   standards m standard.Ord k = tt
-  standards m standard.Chr k = (tt, tt)
-  standards m standard.Succ k = (tt, tt)
-  standards m standard.Pred k = (tt, tt)
   standards m standard.Eof k = tt
   standards m standard.Eoln k = tt
+  standards _ _ _ = (tt, tt)
 
   is_addr_by : (m : Mark) (sc : List Scope) (x n : ℕ) (v : plain.Variable) (r : Role) → R m (addr_by sc x n v r)
   is_addr_by m sc x n v role.Console = tt
-  is_addr_by m sc x n v role.Local = tt
-  is_addr_by m sc x n v role.Value = tt
-  is_addr_by m sc x n v role.Reference = tt
-  is_addr_by m sc x n v role.Index = tt
-  is_addr_by m sc x n v role.Answer = tt
+  is_addr_by _ _ _ _ _ _ = tt
 
   is_addr : (m : Mark) (sc : List Scope) (x n : ℕ) (v : Option plain.Variable) → R m (addr_of sc x n v)
   is_addr m sc x n None = tt

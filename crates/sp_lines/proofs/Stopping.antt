@@ -48,63 +48,37 @@ module _ {M : Type 0} (ops : Ops M) (code : Parts) (o : Instr) (at : ℕ) where
 
   by_number : (st : List Entry) (go : ℤ → List Entry → StepResult M) → ((v : ℤ) (r : List Entry) → Only (go v r))
       → Only (on_number st go)
-  by_number [] go h = tt
   by_number (Number v ∷ st) go h = h v st
-  by_number (Chan c ∷ st) go h = tt
-  by_number (Pointer a ∷ st) go h = tt
-  by_number (Cells cs ∷ st) go h = tt
-  by_number (Link r ∷ st) go h = tt
-  by_number (Reply r ∷ st) go h = tt
+  by_number _ _ _ = tt
 
   by_channel : (st : List Entry) (go : ℕ → List Entry → StepResult M) → ((v : ℕ) (r : List Entry) → Only (go v r))
       → Only (on_channel st go)
-  by_channel [] go h = tt
-  by_channel (Number v ∷ st) go h = tt
   by_channel (Chan c ∷ st) go h = h c st
-  by_channel (Pointer a ∷ st) go h = tt
-  by_channel (Cells cs ∷ st) go h = tt
-  by_channel (Link r ∷ st) go h = tt
-  by_channel (Reply r ∷ st) go h = tt
+  by_channel _ _ _ = tt
 
   by_address : (st : List Entry) (go : Address → List Entry → StepResult M)
       → ((v : Address) (r : List Entry) → Only (go v r)) → Only (on_address st go)
-  by_address [] go h = tt
-  by_address (Number v ∷ st) go h = tt
-  by_address (Chan c ∷ st) go h = tt
   by_address (Pointer a ∷ st) go h = h a st
-  by_address (Cells cs ∷ st) go h = tt
-  by_address (Link r ∷ st) go h = tt
-  by_address (Reply r ∷ st) go h = tt
+  by_address _ _ _ = tt
 
   by_cell : (st : List Entry) (go : Cell → List Entry → StepResult M) → ((v : Cell) (r : List Entry) → Only (go v r))
       → Only (on_cell st go)
-  by_cell [] go h = tt
   by_cell (Number v ∷ st) go h = h (cell.Ordinal v) st
   by_cell (Chan c ∷ st) go h = h (cell.Channel c) st
-  by_cell (Pointer a ∷ st) go h = tt
-  by_cell (Cells cs ∷ st) go h = tt
-  by_cell (Link r ∷ st) go h = tt
-  by_cell (Reply r ∷ st) go h = tt
+  by_cell _ _ _ = tt
 
   by_cells : (st : List Entry) (go : List Cell → List Entry → StepResult M)
       → ((v : List Cell) (r : List Entry) → Only (go v r)) → Only (on_cells st go)
-  by_cells [] go h = tt
   by_cells (Number v ∷ st) go h = h (cell.Ordinal v ∷ []) st
   by_cells (Chan c ∷ st) go h = h (cell.Channel c ∷ []) st
-  by_cells (Pointer a ∷ st) go h = tt
   by_cells (Cells cs ∷ st) go h = h cs st
-  by_cells (Link r ∷ st) go h = tt
-  by_cells (Reply r ∷ st) go h = tt
+  by_cells _ _ _ = tt
 
   by_equals : (st : List Entry) (go : Bool → List Entry → StepResult M) → ((v : Bool) (r : List Entry) → Only (go v r))
       → Only (on_equals st go)
-  by_equals [] go h = tt
   by_equals (Number v ∷ st) go h = by_number st _ (λ u r. h _ r)
   by_equals (Chan c ∷ st) go h = by_channel st _ (λ u r. h _ r)
-  by_equals (Pointer a ∷ st) go h = tt
-  by_equals (Cells cs ∷ st) go h = tt
-  by_equals (Link r ∷ st) go h = tt
-  by_equals (Reply r ∷ st) go h = tt
+  by_equals _ _ _ = tt
 
   by_pop : (k : ℕ) (st es : List Entry) (go : List Entry → List Entry → StepResult M)
       → ((v r : List Entry) → Only (go v r)) → Only (pop k st es go)
@@ -166,14 +140,10 @@ module _ {M : Type 0} (ops : Ops M) (code : Parts) (o : Instr) (at : ℕ) where
       (by_when (ops.can_push up n) _ (by_memory (ops.open_frame l up es n) _ (λ m. entering l r q m))))
 
   returning : (st : List Entry) (n : M) → Only (return_step ops code st n)
-  returning [] n = tt
-  returning (Number v ∷ st) n = tt
-  returning (Chan c ∷ st) n = tt
-  returning (Pointer a ∷ st) n = tt
-  returning (Cells cs ∷ st) n = tt
   returning (Link r ∷ st) n = by_when (ops.may_close n) _ tt
   returning (Reply r ∷ st) n = by_when (ops.may_close n) _ (by_some (ops.answer n) _
       (λ a. by_when (ops.has a 1 n) _ (by_ordinal (ops.read a n) _ (λ v. tt))))
+  returning _ _ = tt
 
   item : (x : ReadResult) (a : Address) (pc : ℕ) (st : List Entry) (n : M) → Only (item_step ops code x a pc st n)
   item (ReadItem v bytes) a pc st n = tt

@@ -73,13 +73,9 @@ module _ (p : Program) where
 
   join_kept : (g : CodeRun) (c : Config (Memory Plain)) (d : Condition Plain) (m : ℕ) → IsShown p d m
       → IsShown p (parent_after_join stores g c d) m
-  join_kept g c Absent m h = tt
-  join_kept g c (Working d) m h = tt
   join_kept g c (Waits z d) m h = h
   join_kept g c (Joins left d) m h = by_last (left == 1) left _ m h
-  join_kept g c (Laid d) m h = tt
-  join_kept g c Gone m h = tt
-  join_kept g c (Over d) m h = tt
+  join_kept _ _ _ _ _ = tt
 
   others : (z : ℕ) (c : Condition Plain) (f : ℕ → Condition Plain) (at : ℕ → ℕ)
       → ((r : ℕ) → z ≡ r → IsShown p c (at r)) → Good f at → Good (at_key ◌==◌ z c f) at

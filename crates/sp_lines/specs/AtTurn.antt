@@ -13,12 +13,9 @@ next_of (At pc stack n) = pc
 
 -- of a process that stopped so, with this next instruction
 abbrev pub at_stop : Stop → ℕ → ℕ
-at_stop (Forks table first count) pc = pc - 1
-at_stop (Opens target) pc = pc - 1
-at_stop (Sends channel message cells) pc = pc - 1
-at_stop (Receives channel message target) pc = pc - 1
 at_stop Ends pc = pc
 at_stop Pauses pc = pc
+at_stop _ pc = pc - 1
 
 -- the instruction at which a turn ends; of one that is due, the one with which it goes on
 abbrev pub at_turn : {M : Type 0} → Turn M → ℕ

@@ -2,9 +2,9 @@
 -- Which statements a statement has in it, and that the marks and the code of a part stand beside each other in those of
 -- a whole. The laws of this crate promise it of every statement of a program.
 use Rattle.std.specs.Prelude.{◌≡◌, ◌⊎◌, ℕ, List, ◌++◌, length}
-use Rattle.sp_tree.specs.PlainChecked.{Statement, Does, Form, Empty, Assign, Call, Sequence, If, While, Repeat, For}
-use Rattle.sp_tree.specs.PlainChecked.{Case, Parallel, Forall, Assume, ReadValue, ReadLine, WriteValue, WriteText}
-use Rattle.sp_tree.specs.PlainChecked.{WriteLine, Open, Send, Receive, ElsePart, NoElse, Else, Statements}
+use Rattle.sp_tree.specs.PlainChecked.{Statement, Does, Form, Sequence, If, While, Repeat, For}
+use Rattle.sp_tree.specs.PlainChecked.{Case, Parallel, Forall}
+use Rattle.sp_tree.specs.PlainChecked.{ElsePart, NoElse, Else, Statements}
 use Rattle.sp_tree.specs.PlainChecked.{NoStatement, AndThen, On, Arms, NoArm, Or}
 use Rattle.sp_tree.specs.Plain.{Program}
 use Rattle.sp_tree.specs.Bare.{bare_statement}
@@ -20,9 +20,6 @@ abbrev mutual
   IsIn u (Does n at form) = (u ≡ Does n at form) ⊎ IsInForm u form
 
   pub IsInForm : Statement → Form → Type 0
-  IsInForm u Empty = ⊥
-  IsInForm u (Assign v e) = ⊥
-  IsInForm u (Call f args) = ⊥
   IsInForm u (Sequence ss) = IsInAll u ss
   IsInForm u (If e a other) = IsIn u a ⊎ IsInElse u other
   IsInForm u (While e a) = IsIn u a
@@ -31,15 +28,7 @@ abbrev mutual
   IsInForm u (Case e arms) = IsInArms u arms
   IsInForm u (Parallel ss) = IsInAll u ss
   IsInForm u (Forall x from to a) = IsIn u a
-  IsInForm u (Assume e) = ⊥
-  IsInForm u (ReadValue v) = ⊥
-  IsInForm u ReadLine = ⊥
-  IsInForm u (WriteValue e w) = ⊥
-  IsInForm u (WriteText t w) = ⊥
-  IsInForm u WriteLine = ⊥
-  IsInForm u (Open v) = ⊥
-  IsInForm u (Send c e) = ⊥
-  IsInForm u (Receive c v) = ⊥
+  IsInForm _ _ = ⊥
 
   pub IsInElse : Statement → ElsePart → Type 0
   IsInElse u NoElse = ⊥

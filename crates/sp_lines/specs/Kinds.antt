@@ -95,7 +95,4 @@ HasStatement p (event.Send channel) q = (m : Mark) × (slice_get (marks p) q ≡
     × ((n : ℕ) × (c : Expression) × (e : Expression) × IsOfProgram p (Does n m.statement (Send c e)))
 HasStatement p (event.Receive channel) q = (m : Mark) × (slice_get (marks p) q ≡ Some m)
     × ((n : ℕ) × (c : Expression) × (v : Variable) × IsOfProgram p (Does n m.statement (Receive c v)))
-HasStatement p event.End q = Unit {0}
-HasStatement p (event.Fault f) q = Unit {0}
-HasStatement p event.Laid q = Unit {0}
-HasStatement p event.Pause q = Unit {0}
+HasStatement _ _ _ = Unit {0}

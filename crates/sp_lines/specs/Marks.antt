@@ -33,15 +33,10 @@ unary_marks m unary.Minus = m ∷ []
 unary_marks m unary.Not = m ∷ []
 
 abbrev pub standard_marks : Mark → StandardFn → List Mark
-standard_marks m standard.Abs = m ∷ []
-standard_marks m standard.Sqr = m ∷ []
-standard_marks m standard.Odd = m ∷ []
 standard_marks m standard.Ord = []
-standard_marks m standard.Chr = m ∷ []
-standard_marks m standard.Succ = m ∷ []
-standard_marks m standard.Pred = m ∷ []
 standard_marks m standard.Eof = []
 standard_marks m standard.Eoln = []
+standard_marks m _ = m ∷ []
 
 -- where an expression begins
 abbrev pub begins : Expression → Place

@@ -32,12 +32,9 @@ of_type k (Some cells) = Some (k, cells)
 
 -- the type and the cells of the message of a stop: what is sent, or what a waiting send has that a receive meets
 abbrev pub passes_at : System Plain → Stop → Option (ℕ × List Cell)
-passes_at s (Forks table first count) = None
-passes_at s (Opens target) = None
 passes_at s (Sends channel message cells) = Some (message, cells)
 passes_at s (Receives channel message target) = of_type message (sent_by (pending_stop s (s.pending channel)))
-passes_at s Ends = None
-passes_at s Pauses = None
+passes_at _ _ = None
 
 abbrev pub passes : System Plain → Turn (Memory Plain) → Option (ℕ × List Cell)
 passes s (Stopped stop c) = passes_at s stop

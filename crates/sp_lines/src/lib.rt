@@ -22,6 +22,13 @@
 //! - `specs/Marks.antt` says them clause by clause as `Emitted` of `sp_code` says the code.
 //! - It recurses as deep as the tree is.
 //!
+//! Lemmas for others, in `proofs`:
+//! - `Stopping`: where a turn stops: each instruction that stops is that of its stop, and leaves the process right
+//!   behind it.
+//! - `Tellings`: of each journal along which the machine has a system one thing is told.
+//! - `Shown`: what is told of an entry that forks, opens, sends or receives is a statement of the text of its kind.
+//! - `Faulting`: an instruction that faults has a mark.
+//!
 //! To change:
 //! - A form: its clause in `specs/Marks.antt` beside that in `Emitted`, its arm in `src/statements.rt` or
 //!   `src/expressions.rt`.

@@ -49,25 +49,17 @@ next_entry os i o h e =
 
 one_more : (k : ℕ) (o : Operand) (es : List m.Entry) (found : List (ℕ × Address)) (a : Address) → pointer_in o ≡ Some a
     → found ++ references k (entry_of o ∷ es) ≡ (found ++ (k, a) ∷ []) ++ references (k + 1) es
-one_more k (operand.Number n) es found a e = absurd cc
-one_more k (operand.Channel n) es found a e = absurd cc
 one_more k (operand.Pointer b) es found a e =
     let same : b ≡ a = same_Some b a e in
     let one : suc k ≡ k + 1 = omega arith in
     ap (λ (x : Address). found ++ (k, x) ∷ references (suc k) es) same ∙ ap (λ n. found ++ (k, a) ∷ references n es) one
     ∙ sym (append_assoc found ((k, a) ∷ []) (references (k + 1) es))
-one_more k (operand.Cells cs) es found a e = absurd cc
-one_more k (operand.Link r) es found a e = absurd cc
-one_more k (operand.Reply r) es found a e = absurd cc
+one_more k _ es found a e = absurd cc
 
 no_more : (k : ℕ) (o : Operand) (es : List m.Entry) → pointer_in o ≡ None
     → references k (entry_of o ∷ es) ≡ references (k + 1) es
-no_more k (operand.Number n) es e = let one : suc k ≡ k + 1 = omega arith in ap (λ j. references j es) one
-no_more k (operand.Channel n) es e = let one : suc k ≡ k + 1 = omega arith in ap (λ j. references j es) one
 no_more k (operand.Pointer b) es e = absurd cc
-no_more k (operand.Cells cs) es e = let one : suc k ≡ k + 1 = omega arith in ap (λ j. references j es) one
-no_more k (operand.Link r) es e = let one : suc k ≡ k + 1 = omega arith in ap (λ j. references j es) one
-no_more k (operand.Reply r) es e = let one : suc k ≡ k + 1 = omega arith in ap (λ j. references j es) one
+no_more k _ es _ = let one : suc k ≡ k + 1 = omega arith in ap (λ j. references j es) one
 
 pub references_pointer : (os : List Operand) (found : List (ℕ × Address)) (i : ℕ) (o : Operand) (a : Address)
     → i < length os → o ≡ get_or os i o → pointer_in o ≡ Some a
@@ -128,11 +120,7 @@ after_one s n k (m.Reply r) es w = w
 fill_apart : (s : Plain) (n k : ℕ) (e : m.Entry) (es : List m.Entry)
     → with_arguments plain n k (e ∷ es) s ≡ with_arguments plain n (suc k) es (with_arguments plain n k (e ∷ []) s)
 fill_apart s n k (m.Number v) es = refl
-fill_apart s n k (m.Chan v) es = refl
-fill_apart s n k (m.Pointer a) es = refl
-fill_apart s n k (m.Cells xs) es = refl
-fill_apart s n k (m.Link r) es = refl
-fill_apart s n k (m.Reply r) es = refl
+fill_apart _ _ _ _ _ = refl
 
 pub fill_step : (os : List Operand) (s : Plain) (n i : ℕ) (o : Operand) → i < length os → o ≡ get_or os i o
     → with_arguments plain n i (entries_of (drop i os)) s

@@ -91,14 +91,8 @@ module _ (g : CodeRun) where
             (ended c (config_of p) (Faulted z (config_of q)) n b h (e ∙ ap m.Fails (sym k), w))
 
         by : (s : Stop) → FaultIs s f → IsTurnOf x code lim q s
-        by (stop.Fork table v k) i = absurd i
-        by stop.Open i = absurd i
-        by (stop.Send ch k cs) i = absurd i
-        by (stop.Receive ch k) i = absurd i
-        by stop.End i = absurd i
-        by stop.Pause i = absurd i
         by (stop.Fault z) i = (done z i, tt)
-        by stop.Memory i = absurd i
+        by _ i = absurd i
 
     stopped : (s : Stop) (o : m.StepResult (Memory Plain)) → m.next_step ops g.code (config_of p) ≡ o → o ≢ m.Stuck
         → StepMatches o p q (Some s) → IsTurnOf x code lim q s
@@ -176,13 +170,7 @@ module _ (x : State) (code : Parts) (lim : Limits) (p : State) (input : p.input 
 pub turned_with : (x : State) (code : Parts) (lim : Limits) (q : State) (t s : Stop) → IsTurnOf x code lim q s
     → IsTurnOf x code lim (record q { stopped = t }) s
 turned_with x code lim q t (stop.Fork table v k) h = h
-turned_with x code lim q t stop.Open h = h
-turned_with x code lim q t (stop.Send ch k cs) h = h
-turned_with x code lim q t (stop.Receive ch k) h = h
-turned_with x code lim q t stop.End h = h
-turned_with x code lim q t stop.Pause h = h
-turned_with x code lim q t (stop.Fault z) h = h
-turned_with x code lim q t stop.Memory h = h
+turned_with _ _ _ _ _ _ h = h
 
 -- one instruction came so, whatever it was
 pub once : (p : State) (code : Parts) (lim : Limits) (q : State) (r : Result (Option Interrupt) Refused)

@@ -1,12 +1,12 @@
-pub mod Framing
-pub mod Positions
-pub mod Printing
-pub mod Stacking
-pub mod Finding
-pub mod Calling
-pub mod Going
-pub mod Resuming
-pub mod Placing
-pub mod Planning
-pub mod Giving
-pub mod Returning
+mod Framing
+mod Positions
+mod Printing
+mod Stacking
+mod Finding
+mod Calling
+mod Going
+mod Resuming
+mod Placing
+mod Planning
+mod Giving
+mod Returning

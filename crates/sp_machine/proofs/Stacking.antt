@@ -11,11 +11,7 @@ use Rattle.sp_machine.specs.StackEntries.{entries_of, one_if_reply, replies}
 
 counted_few : (o : Operand) → one_if_reply o ≤ 1
 counted_few (operand.Number n) = omega arith
-counted_few (operand.Channel c) = omega arith
-counted_few (operand.Pointer a) = omega arith
-counted_few (operand.Cells cs) = omega arith
-counted_few (operand.Link r) = omega arith
-counted_few (operand.Reply r) = omega arith
+counted_few _ = omega arith
 
 within : (os : List Operand) → replies os ≤ length os
 within [] = omega arith

@@ -4,7 +4,7 @@ use Rattle.std.specs.Prelude.{ℕ, suc, ◌≤◌, List, [], ◌∷◌, length}
 use Rattle.std.specs.FinMap as map
 use Rattle.sp_cell.specs.declared.spot.Spot.{Spot}
 use Rattle.sp_cell.specs.Map.{Map, IsOwn, cells_at}
-use Rattle.sp_code.specs.Machine.{Entry, Number, Chan, Pointer, Cells, Link, Reply}
+use Rattle.sp_code.specs.Machine.{Entry, Number, Chan, Cells}
 
 -- an own piece of so many cells or more
 abbrev pub HasOwn : Map → Spot → ℕ → Type 0
@@ -14,10 +14,8 @@ HasOwn m q n = IsOwn (map.get m q) × (n ≤ length (cells_at m q))
 abbrev pub Takes : Map → ℕ → ℕ → Entry → Type 0
 Takes m n k (Number v) = HasOwn m (record { frame = n; variable = k }) 1
 Takes m n k (Chan c) = HasOwn m (record { frame = n; variable = k }) 1
-Takes m n k (Pointer a) = Unit {0}
 Takes m n k (Cells cs) = HasOwn m (record { frame = n; variable = k }) (length cs)
-Takes m n k (Link r) = Unit {0}
-Takes m n k (Reply r) = Unit {0}
+Takes _ _ _ _ = Unit {0}
 
 -- the variables from k on take the arguments
 abbrev pub TakeAll : Map → ℕ → ℕ → List Entry → Type 0

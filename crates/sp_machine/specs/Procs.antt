@@ -91,14 +91,8 @@ StopIs stop.Memory q s = ⊥
 
 -- a process that stopped so met this fault
 abbrev pub FaultIs : Stop → Fault → Type 0
-FaultIs (stop.Fork t v n) f = ⊥
-FaultIs stop.Open f = ⊥
-FaultIs (stop.Send c k cs) f = ⊥
-FaultIs (stop.Receive c k) f = ⊥
-FaultIs stop.End f = ⊥
-FaultIs stop.Pause f = ⊥
 FaultIs (stop.Fault g) f = g ≡ f
-FaultIs stop.Memory f = ⊥
+FaultIs _ _ = ⊥
 
 -- what came of an instruction: the process goes on, it stopped, or it met a fault
 abbrev pub StepMatches : m.StepResult (Memory Plain) → State → State → Option Stop → Type 0
@@ -155,13 +149,7 @@ turn_by stop.Memory q = Stopped m.Ends (config_of q)
 -- what a process keeps for the children of a fork at which it stopped
 abbrev pub KeepsFork : Stop → State → Type 0
 KeepsFork (stop.Fork t v n) q = IsAtFork q t v n
-KeepsFork stop.Open q = Unit {0}
-KeepsFork (stop.Send c k cs) q = Unit {0}
-KeepsFork (stop.Receive c k) q = Unit {0}
-KeepsFork stop.End q = Unit {0}
-KeepsFork stop.Pause q = Unit {0}
-KeepsFork (stop.Fault f) q = Unit {0}
-KeepsFork stop.Memory q = Unit {0}
+KeepsFork _ _ = Unit {0}
 
 -- no instruction of the turn lacks what it needs
 abbrev pub CanTurn : State → Parts → Limits → Type 0

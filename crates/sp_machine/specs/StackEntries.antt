@@ -25,12 +25,8 @@ entries_of (o ∷ os) = entry_of o ∷ entries_of os
 
 -- 1 for where the caller of a function goes on
 abbrev pub one_if_reply : Operand → ℕ
-one_if_reply (operand.Number n) = 0
-one_if_reply (operand.Channel c) = 0
-one_if_reply (operand.Pointer a) = 0
-one_if_reply (operand.Cells cs) = 0
-one_if_reply (operand.Link r) = 0
 one_if_reply (operand.Reply r) = 1
+one_if_reply _ = 0
 
 -- how many functions are being called
 abbrev pub replies : List Operand → ℕ
@@ -39,12 +35,8 @@ replies (o ∷ os) = one_if_reply o + replies os
 
 -- the address that an entry is, if it is one
 abbrev pub pointer_in : Operand → Option Address
-pointer_in (operand.Number n) = None
-pointer_in (operand.Channel c) = None
 pointer_in (operand.Pointer a) = Some a
-pointer_in (operand.Cells cs) = None
-pointer_in (operand.Link r) = None
-pointer_in (operand.Reply r) = None
+pointer_in _ = None
 
 -- no number is on top, no channel, no address: an instruction that takes one lacks it
 abbrev pub HasNoNumber : List Operand → Type 0

@@ -205,28 +205,19 @@ member_in (Pass (ByReference (Entire x ss)) rest) v (inr m) = inr (member_in res
 touched : (p : Program) (fs : List Frame) (u : Use) (x : ℕ) (l : Loc) → Touches p fs u x l → location_of p fs x ≡ Some l
 touched p fs (Target y) x l t = t.1
 touched p fs (Seen y) x l t = t.1
-touched p fs (CallOf f args) x l t = absurd t
-touched p fs (ParallelOf ss) x l t = absurd t
-touched p fs (ForallOf y s) x l t = absurd t
-touched p fs Stop x l t = absurd t
+touched _ _ _ _ _ t = absurd t
 
 touches_in : (p : Program) (fs gs : List Frame) (u : Use) (x : ℕ) (l : Loc) → Touches p fs u x l
     → location_of p gs x ≡ Some l → Touches p gs u x l
 touches_in p fs gs (Target y) x l t e = (t.0, e)
 touches_in p fs gs (Seen y) x l t e = (t.0, e)
-touches_in p fs gs (CallOf f args) x l t e = absurd t
-touches_in p fs gs (ParallelOf ss) x l t e = absurd t
-touches_in p fs gs (ForallOf y s) x l t e = absurd t
-touches_in p fs gs Stop x l t e = absurd t
+touches_in _ _ _ _ _ _ t _ = absurd t
 
 passes_of : (p : Program) (fs : List Frame) (u : Use) (x : ℕ) (l : Loc) (b : ℕ) → Touches p fs u x l → IsFree p b x
     → IsUseOfCallers p b u
 passes_of p fs (Target y) x l b t f = subst (λ z. IsFree p b z) (sym t.0) f
 passes_of p fs (Seen y) x l b t f = subst (λ z. IsFree p b z) (sym t.0) f
-passes_of p fs (CallOf g args) x l b t f = absurd t
-passes_of p fs (ParallelOf ss) x l b t f = absurd t
-passes_of p fs (ForallOf y s) x l b t f = absurd t
-passes_of p fs Stop x l b t f = absurd t
+passes_of _ _ _ _ _ _ t _ = absurd t
 
 used_of : (p : Program) (fs : List Frame) (u : Use) (x : ℕ) (l : Loc) (Here : Use → Type 0) (bs : List ℕ)
     → Touches p fs u x l → Reach p Here bs u → IsUsed p Here x
@@ -346,10 +337,7 @@ module _ (p : Program) (q : Name) (W R : Loc → Type 0) (low : ℕ) (own : (n x
       right_of_own : (u : Use) (l : Loc) → W l → Right p W R u l
       right_of_own (Target x) l w = w
       right_of_own (Seen x) l w = reads l w
-      right_of_own (CallOf g args) l w = tt
-      right_of_own (ParallelOf ss) l w = tt
-      right_of_own (ForallOf x s) l w = tt
-      right_of_own Stop l w = tt
+      right_of_own _ _ _ = tt
 
       module _ (high : low ≤ length fs) (s : Sound p W R fs (In_call b args)) where
         target : (v : ℕ) → IsMember v (refs args) → In_call b args (Target v)

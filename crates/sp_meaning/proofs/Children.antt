@@ -10,7 +10,7 @@ use Rattle.sp_tree.specs.Plain.{Program, Variable, Stmt}
 use Rattle.sp_meaning.specs.Model.{Name, same_name}
 use Rattle.sp_meaning.specs.LocalWork.{Loc, Cell, Input, Output, OfIndex, Frame, Item, is_block}
 use Rattle.sp_meaning.specs.Actions.{Birth, push, with_index}
-use Rattle.sp_tree.specs.Uses.{Use, Target, Seen, CallOf, ParallelOf, ForallOf, Stop, In_stmt}
+use Rattle.sp_tree.specs.Uses.{Use, Target, Seen, In_stmt}
 use Rattle.sp_tree.specs.Sets.{IsUsed, Reach}
 use Rattle.sp_meaning.specs.Owning.{frame_found, Linked, cell_of, reference_of, location_by, location_at, location_of}
 use Rattle.sp_meaning.specs.Owning.{Touches, Right}
@@ -98,10 +98,7 @@ module _ (p : Program) (fs : List Frame) (q : Name) (ix : Option (ℕ × ℤ)) w
   index_touches : (u : Use) (x : ℕ) (l : Loc) → Touches p (with_index q ix fs) u x l → Touches p fs u x l
   index_touches (Target y) x l t = (t.0, sym (index_stands x) ∙ t.1)
   index_touches (Seen y) x l t = (t.0, sym (index_stands x) ∙ t.1)
-  index_touches (CallOf f args) x l t = t
-  index_touches (ParallelOf ss) x l t = t
-  index_touches (ForallOf y s) x l t = t
-  index_touches Stop x l t = t
+  index_touches _ _ _ t = t
 
   pub index_linked : Linked fs → Linked (with_index q ix fs)
   index_linked l = go ix
@@ -120,10 +117,7 @@ module _ (p : Program) (W R V T : Loc → Type 0) (fs : List Frame) (q : Name) (
   may : (bs : List ℕ) (u : Use) → Reach p (In_stmt s) bs u → (x : ℕ) (l : Loc) → Touches p fs u x l → Right p V T u l
   may bs (Target y) r x l t = aims l (y, (bs, r), ap (location_of p fs) t.0 ∙ t.1)
   may bs (Seen y) r x l t = uses l (y, inr (bs, r), ap (location_of p fs) t.0 ∙ t.1)
-  may bs (CallOf f args) r x l t = tt
-  may bs (ParallelOf ss) r x l t = tt
-  may bs (ForallOf y e) r x l t = tt
-  may bs Stop r x l t = tt
+  may _ _ _ _ _ _ = tt
 
   pub child_sound : Sound p V T inner (In_stmt s)
   child_sound = record {

@@ -139,17 +139,7 @@ module _ (t : ℕ) where
   channels_steady : (op : BinaryOp) (c d : Channel) → Steady t (channels_op op c d)
   channels_steady binary.Eq c d = give_steady _
   channels_steady binary.Ne c d = give_steady _
-  channels_steady binary.Lt c d = lost_steady _
-  channels_steady binary.Le c d = lost_steady _
-  channels_steady binary.Gt c d = lost_steady _
-  channels_steady binary.Ge c d = lost_steady _
-  channels_steady binary.Add c d = lost_steady _
-  channels_steady binary.Sub c d = lost_steady _
-  channels_steady binary.Or c d = lost_steady _
-  channels_steady binary.Mul c d = lost_steady _
-  channels_steady binary.Div c d = lost_steady _
-  channels_steady binary.Mod c d = lost_steady _
-  channels_steady binary.And c d = lost_steady _
+  channels_steady _ _ _ = lost_steady _
 
   binary_steady : (op : BinaryOp) (v w : Value) → Steady t (operate op v w)
   binary_steady op Undefined w = lost_steady _
@@ -169,15 +159,9 @@ module _ (t : ℕ) where
   standard_steady standard.Eoln k n = lost_steady _
 
   input_steady : (f : StandardFn) (bs : List ℕ) → Steady t (input_op f bs)
-  input_steady standard.Abs bs = lost_steady _
-  input_steady standard.Sqr bs = lost_steady _
-  input_steady standard.Odd bs = lost_steady _
-  input_steady standard.Ord bs = lost_steady _
-  input_steady standard.Chr bs = lost_steady _
-  input_steady standard.Succ bs = lost_steady _
-  input_steady standard.Pred bs = lost_steady _
   input_steady standard.Eof bs = give_steady _
   input_steady standard.Eoln bs = give_steady _
+  input_steady _ _ = lost_steady _
 
   ordinal_read_steady : (v : Value) → Steady t (ordinal_read v)
   ordinal_read_steady Undefined = fail_steady _ fault.F4
@@ -192,26 +176,18 @@ module _ (t : ℕ) where
   channel_read_steady (Parts vs) = fail_steady _ fault.F5
 
   checked_steady : (k : KindOf) (v : Value) → Steady t (checked_value k v)
-  checked_steady kind.Integer v = ordinal_read_steady v
-  checked_steady kind.Boolean v = ordinal_read_steady v
-  checked_steady kind.Char v = ordinal_read_steady v
-  checked_steady (kind.Enumeration n) v = ordinal_read_steady v
   checked_steady (kind.Array low high index element) v = give_steady v
   checked_steady (kind.Fields fs) v = give_steady v
   checked_steady (kind.Channel ks) v = channel_read_steady v
+  checked_steady _ v = ordinal_read_steady v
 
   element_steady : (a : Address) (n : ℤ) (k : KindOf) → Steady t (element_at a n k)
-  element_steady a n kind.Integer = lost_steady _
-  element_steady a n kind.Boolean = lost_steady _
-  element_steady a n kind.Char = lost_steady _
-  element_steady a n (kind.Enumeration m) = lost_steady _
   element_steady a n (kind.Array low high index element) =
       if_steady (int_le low n && int_le n high)
       (give (AtAddress (record { spot = a.spot; path = a.path ++ nat_abs (n -ℤ low) ∷ []; kind = element })))
       (fail fault.F1)
       (give_steady _) (fail_steady _ fault.F1)
-  element_steady a n (kind.Fields fs) = lost_steady _
-  element_steady a n (kind.Channel ks) = lost_steady _
+  element_steady _ _ _ = lost_steady _
 
   module _ (g : RunInput) where
     pub kind_steady : (k : ℕ) → Steady t (kind_at g k)

@@ -432,9 +432,6 @@ module _ (g : RunInput) (k : ℕ) where
   Settled w todo o = (weights todo ≤ w) × AreLight k todo
 
   settle_ends : (t : ℕ) (todo : List Item) → AreLight k todo → From t (Settled (weights todo)) (settle g todo)
-  settle_ends t [] f = record { proof = λ w o le. (le, (omega arith, f)) }
-  settle_ends t (Do s ∷ todo) f = record { proof = λ w o le. (le, (omega arith, f)) }
-  settle_ends t (First x m n down s ∷ todo) f = record { proof = λ w o le. (le, (omega arith, f)) }
   settle_ends t (Again x n down s ∷ todo) f =
       after t (Settled (1 + weights todo)) _ _ (peek_steady g t x) (λ v. go (goes_on down n v) (settle_ends t todo f.1))
     where
@@ -445,9 +442,7 @@ module _ (g : RunInput) (k : ℕ) where
         proof = λ w o le. ends_strong t t (Settled (weights todo)) (Settled (1 + weights todo))
             (settle g todo w o) (omega arith) (λ xs o1 l1 i. (omega (arith, i.0), i.1)) (h.proof w o le);
       }
-  settle_ends t (Test s e ∷ todo) f = record { proof = λ w o le. (le, (omega arith, f)) }
-  settle_ends t (Leave ∷ todo) f = record { proof = λ w o le. (le, (omega arith, f)) }
-  settle_ends t (Break x ∷ todo) f = record { proof = λ w o le. (le, (omega arith, f)) }
+  settle_ends _ _ f = record { proof = λ w o le. (le, (omega arith, f)) }
 
   pub record AllEnd (n : ℕ) : Type 0 where
     pub proof : (todo : List Item) (w : Identity) (o : LocalState) → AreLight k todo → budget o.ticks + weights todo < n
@@ -498,10 +493,7 @@ module _ (g : RunInput) (k : ℕ) where
           (ih.proof todo1 w o1 d.1 (omega (arith, d.0, h)))
       go (actions.Ticked todo1) o1 le d = ends_weaker o1.ticks o.ticks (run_items g n todo1 w o1) le
           (ih.proof todo1 w o1 d.1 (omega (arith, d.0, h)))
-      go (Opened todo1) o1 le d = tt
-      go (Forked os todo1) o1 le d = tt
-      go (Offered c x g todo1) o1 le d = tt
-      go Ended o1 le d = tt
+      go _ _ _ _ = tt
 
   -- with this bound all that is left comes to an end, to a fault, or breaks a rule
   pub all_ends : Light → (n : ℕ) → AllEnd n

@@ -3,8 +3,7 @@ use Rattle.std.proofs.Common.{◌≡◌, ◌≢◌, ◌⊎◌, inl, inr, ℕ, su
 use Rattle.std.proofs.Common.{Option, Some, None, refl, sym, ◌∙◌, subst, arith}
 use Rattle.sp_meaning.specs.Maps.{IsTest}
 use Rattle.sp_meaning.specs.Model.{Name, Channel, Language, Act, Moves, Opens, Forks, Offering, EndsProcess, MeetsFault}
-use Rattle.sp_meaning.specs.Model.{Absent}
-use Rattle.sp_meaning.specs.Model.{Works, Waits, Joins, Ended, State, Change, Becomes, Forked, WritesLocation, Pends}
+use Rattle.sp_meaning.specs.Model.{Waits, State, Change, Becomes, Forked, WritesLocation, Pends}
 use Rattle.sp_meaning.specs.Model.{AddsTotals}
 use Rattle.sp_meaning.specs.Model.{Faults, with_change, with_changes}
 use Rattle.sp_meaning.specs.Steps.{ActOf, OfferOf, ConditionOf, ActOutcome, Advances, Faulty, write_changes}
@@ -18,11 +17,7 @@ use Rattle.sp_meaning.proofs.Keys.{name_test, channel_test}
 -- the channel on which an act offers
 abbrev pub IsOn : {O M V T : Type 0} → Act O M V T → Channel → Type 0
 IsOn (Offering o) c = o.channel ≡ c
-IsOn (Moves o ws) c = ⊥
-IsOn (Opens o ws) c = ⊥
-IsOn (Forks o os) c = ⊥
-IsOn EndsProcess c = ⊥
-IsOn (MeetsFault f) c = ⊥
+IsOn _ _ = ⊥
 
 -- where an act writes, or puts a message
 abbrev pub WritesTo : {L : Language} → State L → ActOf L → L.Loc → Type 0
@@ -36,19 +31,11 @@ WritesTo s (MeetsFault f) l = ⊥
 -- r is p, or whom its offer meets, or a child that it may fork
 abbrev pub IsPartner : {L : Language} → State L → ActOf L → Name → Type 0
 IsPartner s (Offering o) r = s.pending o.channel ≡ Some r
-IsPartner s (Moves o ws) r = ⊥
-IsPartner s (Opens o ws) r = ⊥
-IsPartner s (Forks o os) r = ⊥
-IsPartner s EndsProcess r = ⊥
-IsPartner s (MeetsFault f) r = ⊥
+IsPartner _ _ _ = ⊥
 
 abbrev pub IsChild : {L : Language} → State L → Name → ActOf L → Name → Type 0
 IsChild s p (Forks o os) r = (i : ℕ) × (r ≡ (s.forks p, i) ∷ p) × (i < length os)
-IsChild s p (Moves o ws) r = ⊥
-IsChild s p (Opens o ws) r = ⊥
-IsChild s p (Offering o) r = ⊥
-IsChild s p EndsProcess r = ⊥
-IsChild s p (MeetsFault f) r = ⊥
+IsChild _ _ _ _ = ⊥
 
 abbrev pub IsNear : {L : Language} → State L → Name → ActOf L → Name → Type 0
 IsNear s p a r = (r ≡ p) ⊎ (IsPartner s a r ⊎ IsChild s p a r)
@@ -107,11 +94,8 @@ hands_in {L} s p o z w (Some m) e c h = elim (o.kind == w.kind) as
 
 meets_in : {L : Language} (s : State L) (p : Name) (o : OfferOf L) (z : Name) (c : ConditionOf L)
     → s.pending o.channel ≡ Some z → s.condition z ≡ c → OutcomeIn s p (Offering o) (meeting_outcome s p o z c)
-meets_in s p o z Absent e h = tt
-meets_in s p o z (Works own) e h = tt
 meets_in s p o z (Waits w) e h = hands_in s p o z w (message o.cargo w.cargo) e h refl
-meets_in s p o z (Joins k n own) e h = tt
-meets_in s p o z Ended e h = tt
+meets_in _ _ _ _ _ _ _ = tt
 
 offered_in : {L : Language} (s : State L) (p : Name) (o : OfferOf L) (m : Option Name) → s.pending o.channel ≡ m
     → OutcomeIn s p (Offering o) (offer_outcome s p o m)

@@ -118,11 +118,7 @@ module _ {L : Language} {limits : Totals} (s : State L) (p : Name) (cs : List (C
       let more : t.forks p ≤ (with_changes rest t).forks p = forks_grow rest t p in
       let less : k < (with_changes rest t).forks p = omega (arith, here, more, k_is) in
       subst (λ x. k < (with_changes x s).forks z) (sym list) (subst (λ x. k < (with_changes rest t).forks x) z_is less)
-  forked_later (Moves o ws) does z k i h = absurd h
-  forked_later (Opens o ws) does z k i h = absurd h
-  forked_later (Offering o) does z k i h = absurd h
-  forked_later EndsProcess does z k i h = absurd h
-  forked_later (MeetsFault f) does z k i h = absurd h
+  forked_later _ _ _ _ _ h = absurd h
 
   unborn_kept : (z : Name) (k i : ℕ) → (with_changes cs s).forks z ≤ k → (with_changes cs s).condition ((k, i) ∷ z)
       ≡ Absent
@@ -175,11 +171,7 @@ module _ {L : Language} {limits : Totals} (s : State L) (p : Name) (cs : List (C
       subst (λ (x : ConditionOf L). JoinsAt k i x) (sym at) (k_is, less) in
       subst (λ x. JoinsAt k i ((with_changes x s).condition z)) (sym list)
       (subst (λ x. JoinsAt k i ((with_changes (birth_changes p (s.forks p) 0 os) t).condition x)) z_is good)
-  child_joined (Moves o ws) does z k i h = absurd h
-  child_joined (Opens o ws) does z k i h = absurd h
-  child_joined (Offering o) does z k i h = absurd h
-  child_joined EndsProcess does z k i h = absurd h
-  child_joined (MeetsFault f) does z k i h = absurd h
+  child_joined _ _ _ _ _ h = absurd h
 
   joined_kept : (z : Name) (k i : ℕ) → IsAlive ((with_changes cs s).condition ((k, i) ∷ z))
       → JoinsAt k i ((with_changes cs s).condition z)

@@ -1,16 +1,16 @@
 pub mod Maps
 pub mod Keys
 pub mod EffectTree
-pub mod Trees
+mod Trees
 pub mod Instance
 pub mod Frames
 pub mod Status
 pub mod Meeting
 pub mod Kept
 pub mod Parallel
-pub mod Schedules
+mod Schedules
 pub mod Run
-pub mod Enough
+mod Enough
 pub mod Weights
 pub mod EnoughSteps
 pub mod Moved
@@ -18,12 +18,12 @@ pub mod Sound
 pub mod Reached
 pub mod JournalSchedules
 pub mod LawProofs
-pub mod Faults
-pub mod Reading
-pub mod Examples
-pub mod Pauses
-pub mod Rows
-pub mod Fronts
+mod Faults
+mod Reading
+mod Examples
+mod Pauses
+mod Rows
+mod Fronts
 pub mod Static
 pub mod Within
 pub mod CallRights

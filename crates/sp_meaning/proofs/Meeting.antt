@@ -1,7 +1,7 @@
 -- An offer that met another's, and one that waits.
 use Rattle.std.proofs.Common.{◌≡◌, true, false, cond, ◌==◌, List, Option, Some, None, refl, subst}
 use Rattle.sp_base.specs.declared.fault.Fault.TheVariants as fault
-use Rattle.sp_meaning.specs.Model.{Name, Language, Offering, Absent, Works, Waits, Joins, Ended, State, Change}
+use Rattle.sp_meaning.specs.Model.{Name, Language, Offering, Waits, State, Change}
 use Rattle.sp_meaning.specs.Steps.{OfferOf, ConditionOf, ActOutcome, Advances, Faulty, message, meeting_changes}
 use Rattle.sp_meaning.specs.Steps.{waiting_changes, handover_outcome}
 use Rattle.sp_meaning.specs.Steps.{meeting_outcome, offer_outcome, act_outcome}
@@ -31,11 +31,8 @@ module _ {L : Language} (s : State L) (p : Name) (o : OfferOf L) (z : Name) (cs 
       ] refl e
 
   met_in : (c : ConditionOf L) → s.condition z ≡ c → meeting_outcome s p o z c ≡ Advances cs → Met s p o z cs
-  met_in Absent c e = absurd (cc e)
-  met_in (Works x) c e = absurd (cc e)
   met_in (Waits w) c e = met_by w (message o.cargo w.cargo) c refl e
-  met_in (Joins k n x) c e = absurd (cc e)
-  met_in Ended c e = absurd (cc e)
+  met_in _ _ e = absurd (cc e)
 
   pub met : s.pending o.channel ≡ Some z → act_outcome s p (Offering o) ≡ Advances cs → Met s p o z cs
   met pe e = met_in (s.condition z) refl (subst (λ m. offer_outcome s p o m ≡ Advances cs) pe e)

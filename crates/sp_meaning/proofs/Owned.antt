@@ -10,8 +10,8 @@ use Rattle.sp_base.specs.declared.fault.Fault.TheVariants as fault
 use Rattle.sp_base.proofs.Facts.{is_plus_none, next_goes_right}
 use Rattle.sp_tree.specs.Plain.{Program, Stmt}
 use Rattle.sp_meaning.specs.Maps.{at_key}
-use Rattle.sp_meaning.specs.Model.{Name, same_name, Totals, Language, Moves, Opens, Forks, Offering, EndsProcess}
-use Rattle.sp_meaning.specs.Model.{MeetsFault, Cargo}
+use Rattle.sp_meaning.specs.Model.{Name, same_name, Totals, Language, Offering}
+use Rattle.sp_meaning.specs.Model.{Cargo}
 use Rattle.sp_meaning.specs.Model.{Message, Takes, Condition, Absent, Works, Waits, Joins, Ended, State, Becomes}
 use Rattle.sp_meaning.specs.Model.{Forked, WritesLocation, Pends, AddsTotals, Faults, with_change, with_changes}
 use Rattle.sp_meaning.specs.Steps.{ActOf, OfferOf, ConditionOf, own_part_in, ActOutcome, Advances, Faulty}
@@ -35,7 +35,7 @@ use Rattle.sp_meaning.specs.SuperPascal.{fuel_of, action_of, act_tree, act_of, s
 use Rattle.sp_meaning.proofs.Keys.{name_test}
 use Rattle.sp_meaning.proofs.EffectTree.{answer_then}
 use Rattle.sp_meaning.proofs.Instance.{loc_test}
-use Rattle.sp_tree.specs.Uses.{Use, Target, Seen, CallOf, ParallelOf, ForallOf, Stop}
+use Rattle.sp_tree.specs.Uses.{Use, Target, Seen}
 use Rattle.sp_tree.specs.Interference.{IsFreeOfInterference}
 use Rattle.sp_meaning.specs.Owning.{Right, ItemsAreSound, frames_below, Linked, Fit, Sound, Born, Fair, MayTake}
 use Rattle.sp_meaning.proofs.Within.{StaysWithin}
@@ -144,10 +144,7 @@ module _ (p : Program) where
     more_right : (u : Use) (l : Loc) → Right p W R u l → Right p V T u l
     more_right (Target x) l h = w l h
     more_right (Seen x) l h = r l h
-    more_right (CallOf f args) l h = tt
-    more_right (ParallelOf ss) l h = tt
-    more_right (ForallOf x s) l h = tt
-    more_right Stop l h = tt
+    more_right _ _ _ = tt
 
     pub more_sound : (fs : List Frame) {Here : Use → Type 0} → Sound p W R fs Here → Sound p V T fs Here
     more_sound fs so = record {
@@ -430,11 +427,8 @@ module _ (set : RunInput) (totals : Totals) (free : IsFreeOfInterference set.pro
 
         meets_keep : (c : ConditionOf L) → s.condition z ≡ c
             → NextRights W R (result_of s q (meeting_outcome {L = L} s q o z c))
-        meets_keep Absent e = as_it_is _ inv
-        meets_keep (Works own) e = as_it_is _ inv
         meets_keep (Waits w) e = hands_keep w e (message o.cargo w.cargo)
-        meets_keep (Joins n m own) e = as_it_is _ inv
-        meets_keep Ended e = as_it_is _ inv
+        meets_keep _ _ = as_it_is _ inv
 
     acts_keep : (r : WorkOutcome Action) → Result (λ d o. IsFairStep d o.frames) r → (ws : List (Loc × LocationContent))
         → NextRights W R (result_of s q (act_outcome {L = L} s q (act_of pr.who r ws)))
@@ -523,20 +517,11 @@ module _ (set : RunInput) (totals : Totals) (free : IsFreeOfInterference set.pro
     assigned (Computed (Stepped todo) o) ws l h = h
     assigned (Computed (Ticked todo) o) ws l h = h
     assigned (Computed (Opened todo) o) ws l h = h
-    assigned (Computed (Forks_it bs todo) o) ws l h = absurd h
-    assigned (Computed (Offered c i g todo) o) ws l h = absurd h
-    assigned (Computed actions.Ended o) ws l h = absurd h
-    assigned (EndsInFault f) ws l h = absurd h
-    assigned IllFormed ws l h = absurd h
-    assigned OutOfFuel ws l h = absurd h
+    assigned _ _ _ h = absurd h
 
     abbrev TakesWell : Name → ActOf L → Type 0
-    TakesWell r (Moves n ws) = Unit {0}
-    TakesWell r (Opens n ws) = Unit {0}
-    TakesWell r (Forks n os) = Unit {0}
     TakesWell r (Offering o) = MayTake set.program (OwnOrGiven W r) (OwnOrGiven R r) o.cargo
-    TakesWell r EndsProcess = Unit {0}
-    TakesWell r (MeetsFault f) = Unit {0}
+    TakesWell _ _ = Unit {0}
 
     takes_well : (r : WorkOutcome Action) (ws : List (Loc × LocationContent))
         → Result (λ d o. Fair set.program (OwnOrGiven W q) (OwnOrGiven R q) k.last d o.frames) r

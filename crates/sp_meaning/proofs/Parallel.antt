@@ -96,11 +96,8 @@ joins_lives k i (Joins m n o) h = tt
 joins_lives k i Ended h = h
 
 pub one_fork : {O V T : Type 0} (k i m j : ℕ) (c : Condition O V T) → JoinsAt k i c → JoinsAt m j c → k ≡ m
-one_fork k i m j Absent h g = absurd h
-one_fork k i m j (Works o) h g = absurd h
-one_fork k i m j (Waits w) h g = absurd h
 one_fork k i m j (Joins n x o) h g = sym h.0 ∙ g.0
-one_fork k i m j Ended h g = absurd h
+one_fork _ _ _ _ _ h _ = absurd h
 
 -- each ancestor of a process that lives joins, and so lives
 pub ancestors_live : {L : Language} (s : State L) → Sound s → (u : Name) (z : Name) → IsAlive (s.condition (u ++ z))

@@ -9,7 +9,7 @@ use Rattle.sp_tree.specs.Plain.{Entire, Index, Field, Selectors, Whole, Select, 
 use Rattle.sp_tree.specs.Plain.{Pass, Program, Variable, Block, Stmt, Empty, Assign, Call, Sequence, If, IfElse, While}
 use Rattle.sp_tree.specs.Plain.{Repeat, For, Case, Parallel, Forall, Assume, ReadValue, ReadLine, WriteValue, WriteText}
 use Rattle.sp_tree.specs.Plain.{WriteLine, Open, Send, Receive, Stmts, No, And, On, Arms, NoArm, Or}
-use Rattle.sp_tree.specs.Uses.{Use, Target, Seen, CallOf, ParallelOf, ForallOf, Stop, In_expr, In_form, In_selectors}
+use Rattle.sp_tree.specs.Uses.{Use, Target, CallOf, In_expr, In_form, In_selectors}
 use Rattle.sp_tree.specs.Uses.{In_actuals}
 use Rattle.sp_tree.specs.Sets.{Reach, ImplicitTarget}
 use Rattle.sp_tree.specs.Interference.{IsMember, IsFunction}
@@ -115,11 +115,8 @@ module _ (p : Program) where
   -- what stands in such an expression: no target, and calls of functions
   abbrev pub PureUse : Use → Type 0
   PureUse (Target x) = ⊥
-  PureUse (Seen x) = Unit {0}
   PureUse (CallOf f args) = IsFunction p f
-  PureUse (ParallelOf ss) = Unit {0}
-  PureUse (ForallOf x s) = Unit {0}
-  PureUse Stop = Unit {0}
+  PureUse _ = Unit {0}
 
   mutual
     pub expr_uses : (e : Expr) → PureExpr e → (u : Use) → In_expr e u → PureUse u

@@ -303,11 +303,8 @@ module _ (g : RunInput) where
 
     meets_well : Well T s → (o : OfferOf L) (z : Name) → ProcessKeeps K (T p) (s.forks p) p o.next → (c : ConditionOf L)
         → s.condition z ≡ c → Well T (result_of s p (meeting_outcome {L = L} s p o z c))
-    meets_well w o z own Absent e = w
-    meets_well w o z own (Works x) e = w
     meets_well w o z own (Waits v) e = hands_well w o z v e own (message o.cargo v.cargo)
-    meets_well w o z own (Joins n m x) e = w
-    meets_well w o z own Ended e = w
+    meets_well w _ _ _ _ _ = w
 
     offered_well : Well T s → (o : OfferOf L) → ProcessKeeps K (T p) (s.forks p) p o.next → (z : Option Name)
         → Well T (result_of s p (offer_outcome {L = L} s p o z))

@@ -78,12 +78,8 @@ IsStop Ended = Unit {0}
 
 -- a step that opens a channel
 abbrev pub IsOpening : Action → Type 0
-IsOpening (Stepped todo) = ⊥
-IsOpening (Ticked todo) = ⊥
 IsOpening (Opened todo) = Unit {0}
-IsOpening (Forked bs todo) = ⊥
-IsOpening (Offered c k x todo) = ⊥
-IsOpening Ended = ⊥
+IsOpening _ = ⊥
 
 -- of all that is there one variable at most has another value
 pub record IsSameButOne (n : ℕ) (s m : Store) : Type 0 where
@@ -130,26 +126,8 @@ module _ (p : Program) where
   mutual
     push_pure : (s : Stmt) (todo : List Item) → PureStmt p s → PureItems p todo → PureItems p (push s todo)
     push_pure Empty todo h k = k
-    push_pure (Assign v e) todo h k = (h, k)
-    push_pure (Call f args) todo h k = (h, k)
     push_pure (Sequence ss) todo h k = push_all_pure ss todo h k
-    push_pure (If e a) todo h k = (h, k)
-    push_pure (IfElse e a b) todo h k = (h, k)
-    push_pure (While e s) todo h k = (h, k)
-    push_pure (Repeat s e) todo h k = (h, k)
-    push_pure (For x from down to s) todo h k = (h, k)
-    push_pure (Case e arms) todo h k = (h, k)
-    push_pure (Parallel ss) todo h k = (h, k)
-    push_pure (Forall x from to s) todo h k = (h, k)
-    push_pure (Assume e) todo h k = (h, k)
-    push_pure (ReadValue v) todo h k = (h, k)
-    push_pure ReadLine todo h k = (h, k)
-    push_pure (WriteValue e w) todo h k = (h, k)
-    push_pure (WriteText t w) todo h k = (h, k)
-    push_pure WriteLine todo h k = (h, k)
-    push_pure (Open v) todo h k = (h, k)
-    push_pure (Send c e) todo h k = (h, k)
-    push_pure (Receive c v) todo h k = (h, k)
+    push_pure _ _ h k = (h, k)
 
     push_all_pure : (ss : Stmts) (todo : List Item) → PureStmts p ss → PureItems p todo → PureItems p (push_all ss todo)
     push_all_pure No todo h k = k

@@ -107,10 +107,7 @@ module _ {p : Program} {W R : Loc → Type 0} {fs : List Frame} (x : ℕ) (from 
       (λ (n : x ≢ y). inr n) (number_or x y)
   other_or (Seen y) = ⊎_elim (λ (e : x ≡ y). inl (λ z l t. no_spot l (ap (location_of p fs) (e ∙ t.0) ∙ t.1)))
       (λ (n : x ≢ y). inr n) (number_or x y)
-  other_or (CallOf f args) = inr tt
-  other_or (ParallelOf ss) = inr tt
-  other_or (ForallOf y t) = inr tt
-  other_or Stop = inr tt
+  other_or _ = inr tt
 
   lifted : (bs : List ℕ) (u : Use) → Reach p (In_stmt s) bs u → (y : ℕ) (l : Loc) → Touches p fs u y l
       → Reach p (In_stmt (Forall x from to s)) bs u

@@ -15,7 +15,7 @@ use Rattle.sp_base.specs.declared.fault.Fault.TheVariants as fault
 use Rattle.sp_meaning.specs.Steps.{first_condition}
 use Rattle.sp_meaning.specs.SuperPascal.{main_items, root}
 use Rattle.sp_meaning.specs.Runs.{total_limits, start, IsDisjointRun}
-use Rattle.sp_tree.specs.Uses.{Use, Target, Seen, CallOf, ParallelOf, ForallOf, Stop, In_stmt}
+use Rattle.sp_tree.specs.Uses.{Use, Target, Seen, In_stmt}
 use Rattle.sp_tree.specs.Interference.{IsFreeOfInterference}
 use Rattle.sp_meaning.specs.Owning.{cell_of, reference_of, console, location_by, location_at, location_of, Touches}
 use Rattle.sp_meaning.specs.Owning.{Right, Sound}
@@ -113,10 +113,7 @@ module _ (set : RunInput) (free : IsFreeOfInterference set.program) where
       → Right set.program (OwnOrGiven First []) (OwnOrGiven First []) u l × ProgramLocation x l
   touched (Target y) x l t = (right x l (where_is x l t.1), where_is x l t.1)
   touched (Seen y) x l t = (right x l (where_is x l t.1), where_is x l t.1)
-  touched (CallOf f args) x l t = absurd t
-  touched (ParallelOf ss) x l t = absurd t
-  touched (ForallOf y s) x l t = absurd t
-  touched Stop x l t = absurd t
+  touched _ _ _ t = absurd t
 
   pub body_sound : (b : Block) → slice_get set.program.blocks 0 ≡ Some b
       → Sound set.program (OwnOrGiven First []) (OwnOrGiven First []) (bottom ∷ []) (In_stmt b.body)

@@ -31,11 +31,8 @@ IsNotWaiting (Joins k n o) = Unit
 IsNotWaiting Ended = Unit
 
 pub waits_stands : {O V T : Type 0} (c : Channel) (x : Condition O V T) → WaitsOn c x → IsNotWaiting x → ⊥
-waits_stands c Absent h k = h
-waits_stands c (Works o) h k = h
 waits_stands c (Waits w) h k = k
-waits_stands c (Joins n m o) h k = h
-waits_stands c Ended h k = h
+waits_stands _ _ h _ = h
 
 pub working_stands : {O V T : Type 0} (m : Name → Condition O V T) (p : Name) (x : Condition O V T) (own : O)
     → own_part_in m p x ≡ Some own → IsNotWaiting x
@@ -83,16 +80,13 @@ ended_at m q k (suc n) i h lt = ⊎_elim
 -- a process whose children have ended is joined by none that lives
 pub working_joins : {O V T : Type 0} (m : Name → Condition O V T) (q : Name) (x : Condition O V T) (own : O) (k i : ℕ)
     → own_part_in m q x ≡ Some own → JoinsAt k i x → has_ended (m ((k, i) ∷ q)) ≡ true
-working_joins m q Absent own k i h j = absurd j
-working_joins m q (Works o) own k i h j = absurd j
-working_joins m q (Waits w) own k i h j = absurd j
 working_joins m q (Joins k' n o) own k i h j =
     ended_at m q k n i (elim (all_ended m q k' n) as
     (λ b. all_ended m q k' n ≡ b → cond b (Some o) None ≡ Some own → all_ended m q k n ≡ true) [
       | true ↦ λ e f. subst (λ z. all_ended m q z n ≡ true) j.0 e
       | false ↦ λ e f. absurd (cc f)
     ] refl h) j.1
-working_joins m q Ended own k i h j = absurd j
+working_joins _ _ _ _ _ _ _ j = absurd j
 
 all_ended_same : {O V T : Type 0} (m l : Name → Condition O V T) (q : Name) (k n : ℕ)
     → ((i : ℕ) → has_ended (m ((k, i) ∷ q)) ≡ true → l ((k, i) ∷ q) ≡ m ((k, i) ∷ q)) → all_ended m q k n ≡ true
@@ -106,32 +100,21 @@ all_ended_same m l q k (suc n) h e =
 pub working_same : {O V T : Type 0} (m l : Name → Condition O V T) (q : Name) (x : Condition O V T) (own : O)
     → ((k i : ℕ) → has_ended (m ((k, i) ∷ q)) ≡ true → l ((k, i) ∷ q) ≡ m ((k, i) ∷ q)) → own_part_in m q x ≡ Some own
     → own_part_in l q x ≡ Some own
-working_same m l q Absent own h e = e
-working_same m l q (Works o) own h e = e
-working_same m l q (Waits w) own h e = e
 working_same m l q (Joins k n o) own h e = elim (all_ended m q k n) as
     (λ b. all_ended m q k n ≡ b → cond b (Some o) None ≡ Some own → cond (all_ended l q k n) (Some o) None ≡ Some own) [
       | true ↦ λ a f. rw (all_ended_same m l q k n (h k) a) f
       | false ↦ λ a f. absurd (cc f)
     ] refl e
-working_same m l q Ended own h e = e
+working_same _ _ _ _ _ _ e = e
 
 module _ {L : Language} (s : State L) (p : Name) where
   pub child_absent : Sound s → (a : ActOf L) (r : Name) → IsChild s p a r → s.condition r ≡ Absent
   child_absent sound (Forks o os) r h = ap s.condition h.1 ∙ sound.unborn p (s.forks p) h.0 (le_refl _)
-  child_absent sound (Moves o ws) r h = absurd h
-  child_absent sound (Opens o ws) r h = absurd h
-  child_absent sound (Offering o) r h = absurd h
-  child_absent sound EndsProcess r h = absurd h
-  child_absent sound (MeetsFault f) r h = absurd h
+  child_absent _ _ _ h = absurd h
 
   pub child_below : (a : ActOf L) (r : Name) → IsChild s p a r → (x : ℕ × ℕ) × (r ≡ x ∷ p)
   child_below (Forks o os) r h = ((s.forks p, h.0), h.1)
-  child_below (Moves o ws) r h = absurd h
-  child_below (Opens o ws) r h = absurd h
-  child_below (Offering o) r h = absurd h
-  child_below EndsProcess r h = absurd h
-  child_below (MeetsFault f) r h = absurd h
+  child_below _ _ h = absurd h
 
   pub near_stands : Sound s → (a : ActOf L) (r : Name) → r ≢ p → IsNear s p a r → IsNotWaiting (s.condition r) → ⊥
   near_stands sound a r apart n st = ⊎_elim apart
@@ -147,18 +130,12 @@ module _ {L : Language} (s : State L) (p : Name) where
       partner (MeetsFault f) h = h
 
 pub waits_joins : {O V T : Type 0} (c : Channel) (k i : ℕ) (x : Condition O V T) → WaitsOn c x → JoinsAt k i x → ⊥
-waits_joins c k i Absent h j = h
-waits_joins c k i (Works o) h j = h
 waits_joins c k i (Waits w) h j = j
-waits_joins c k i (Joins n m o) h j = h
-waits_joins c k i Ended h j = h
+waits_joins _ _ _ _ h _ = h
 
 pub waits_one : {O V T : Type 0} (c d : Channel) (x : Condition O V T) → WaitsOn c x → WaitsOn d x → c ≡ d
-waits_one c d Absent h k = absurd h
-waits_one c d (Works o) h k = absurd h
 waits_one c d (Waits w) h k = sym h ∙ k
-waits_one c d (Joins n m o) h k = absurd h
-waits_one c d Ended h k = absurd h
+waits_one _ _ _ h _ = absurd h
 
 pub waits_absent : {O V T : Type 0} (c : Channel) (x : Condition O V T) → WaitsOn c x → x ≡ Absent → ⊥
 waits_absent c x h e = subst (WaitsOn c) e h
@@ -203,11 +180,7 @@ module _ {L : Language} {limits : Totals} (s : State L) (p : Name) (cs : List (C
 
   pub on_partner : (a : ActOf L) (z : Name) → IsPartner s a z → (c : Channel) × IsOn a c × WaitsOn c (s.condition z)
   on_partner (Offering o) z h = (o.channel, refl, sound.waits o.channel z h)
-  on_partner (Moves o ws) z h = absurd h
-  on_partner (Opens o ws) z h = absurd h
-  on_partner (Forks o os) z h = absurd h
-  on_partner EndsProcess z h = absurd h
-  on_partner (MeetsFault f) z h = absurd h
+  on_partner _ _ h = absurd h
 
   pub waiting_far : (c : Channel) (z : Name) → WaitsOn c (s.condition z) → (IsOn act_of c → ⊥) → IsNear s p act_of z → ⊥
   waiting_far c z w off n = ⊎_elim

@@ -2,20 +2,16 @@
 use Rattle.std.proofs.Common.{ℕ, zero, suc, ◌+◌, ◌≤◌, Bool, true, false, List, [], ◌∷◌, Option, Some, None, arith}
 use Rattle.std.proofs.Common.{if◌then◌else◌}
 use Rattle.std.specs.Prelude.{ℤ, pos, ◌+ℤ◌}
-use Rattle.sp_tree.specs.Plain.{Block, Stmt, Empty, Assign, Call, Sequence, If, IfElse, While, Repeat, For, Case}
-use Rattle.sp_tree.specs.Plain.{Parallel, Forall, Assume, ReadValue, ReadLine, WriteValue, WriteText, WriteLine, Open}
-use Rattle.sp_tree.specs.Plain.{Send, Receive, Stmts, No, And, On, Arms, NoArm, Or}
+use Rattle.sp_tree.specs.Plain.{Block, Stmt, Empty, Sequence}
+use Rattle.sp_tree.specs.Plain.{Stmts, No, And, On, Arms, NoArm, Or}
 use Rattle.sp_meaning.specs.LocalWork.{Item, Do, First, Again, Test, Leave, Break}
 use Rattle.sp_meaning.specs.Actions.{Birth, push, push_all, has_constant, arm_for, children, indexed_children}
 use Rattle.sp_meaning.specs.SuperPascal.{weight, weight_all, weight_arms}
 
 abbrev pub weight_item : Item → ℕ
 weight_item (Do s) = weight s
-weight_item (First x m n down s) = 1
-weight_item (Again x n down s) = 1
 weight_item (Test s e) = weight s + 4
-weight_item Leave = 1
-weight_item (Break f) = 1
+weight_item _ = 1
 
 abbrev pub weights : List Item → ℕ
 weights [] = 0
@@ -41,27 +37,8 @@ AllBorn k (b ∷ bs) = AreLight k b.todo × AllBorn k bs
 
 mutual
   pub push_weight : (s : Stmt) (todo : List Item) → weights (push s todo) ≤ weight s + weights todo
-  push_weight Empty todo = omega arith
-  push_weight (Assign v e) todo = omega arith
-  push_weight (Call f args) todo = omega arith
   push_weight (Sequence ss) todo = omega (arith, push_all_weight ss todo)
-  push_weight (If e a) todo = omega arith
-  push_weight (IfElse e a b) todo = omega arith
-  push_weight (While e s) todo = omega arith
-  push_weight (Repeat s e) todo = omega arith
-  push_weight (For x from down to s) todo = omega arith
-  push_weight (Case e arms) todo = omega arith
-  push_weight (Parallel ss) todo = omega arith
-  push_weight (Forall x from to s) todo = omega arith
-  push_weight (Assume e) todo = omega arith
-  push_weight (ReadValue v) todo = omega arith
-  push_weight ReadLine todo = omega arith
-  push_weight (WriteValue e w) todo = omega arith
-  push_weight (WriteText t w) todo = omega arith
-  push_weight WriteLine todo = omega arith
-  push_weight (Open v) todo = omega arith
-  push_weight (Send c e) todo = omega arith
-  push_weight (Receive c v) todo = omega arith
+  push_weight _ _ = omega arith
 
   pub push_all_weight : (ss : Stmts) (todo : List Item) → weights (push_all ss todo) ≤ weight_all ss + weights todo
   push_all_weight No todo = omega arith
@@ -70,26 +47,8 @@ mutual
 mutual
   pub push_fit : (k : ℕ) (s : Stmt) (todo : List Item) → weight s ≤ k → AreLight k todo → AreLight k (push s todo)
   push_fit k Empty todo h f = f
-  push_fit k (Assign v e) todo h f = (h, f)
-  push_fit k (Call g args) todo h f = (h, f)
   push_fit k (Sequence ss) todo h f = push_all_fit k ss todo (omega arith) f
-  push_fit k (If e a) todo h f = (h, f)
-  push_fit k (IfElse e a b) todo h f = (h, f)
-  push_fit k (While e s) todo h f = (h, f)
-  push_fit k (Repeat s e) todo h f = (h, f)
-  push_fit k (For x from down to s) todo h f = (h, f)
-  push_fit k (Case e arms) todo h f = (h, f)
-  push_fit k (Parallel ss) todo h f = (h, f)
-  push_fit k (Forall x from to s) todo h f = (h, f)
-  push_fit k (Assume e) todo h f = (h, f)
-  push_fit k (ReadValue v) todo h f = (h, f)
-  push_fit k ReadLine todo h f = (h, f)
-  push_fit k (WriteValue e w) todo h f = (h, f)
-  push_fit k (WriteText t w) todo h f = (h, f)
-  push_fit k WriteLine todo h f = (h, f)
-  push_fit k (Open v) todo h f = (h, f)
-  push_fit k (Send c e) todo h f = (h, f)
-  push_fit k (Receive c v) todo h f = (h, f)
+  push_fit _ _ _ h f = (h, f)
 
   pub push_all_fit : (k : ℕ) (ss : Stmts) (todo : List Item) → weight_all ss ≤ k → AreLight k todo
       → AreLight k (push_all ss todo)

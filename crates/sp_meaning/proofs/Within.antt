@@ -182,17 +182,7 @@ module _ (q : Name) (W R : Loc → Type 0) (fs : List Frame) where
   channels_stays : (op : BinaryOp) (c d : Channel) → KeepsRightsOnly (channels_op op c d)
   channels_stays binary.Eq c d = give_stays _
   channels_stays binary.Ne c d = give_stays _
-  channels_stays binary.Lt c d = lost_stays _
-  channels_stays binary.Le c d = lost_stays _
-  channels_stays binary.Gt c d = lost_stays _
-  channels_stays binary.Ge c d = lost_stays _
-  channels_stays binary.Add c d = lost_stays _
-  channels_stays binary.Sub c d = lost_stays _
-  channels_stays binary.Or c d = lost_stays _
-  channels_stays binary.Mul c d = lost_stays _
-  channels_stays binary.Div c d = lost_stays _
-  channels_stays binary.Mod c d = lost_stays _
-  channels_stays binary.And c d = lost_stays _
+  channels_stays _ _ _ = lost_stays _
 
   operate_stays : (op : BinaryOp) (v w : Value) → KeepsRightsOnly (operate op v w)
   operate_stays op Undefined w = lost_stays _
@@ -201,26 +191,16 @@ module _ (q : Name) (W R : Loc → Type 0) (fs : List Frame) where
   operate_stays op (Parts vs) w = lost_stays _
 
   standard_stays : (f : StandardFn) (k : KindOf) (n : ℤ) → KeepsRightsOnly (standard_op f k n)
-  standard_stays standard.Abs k n = work_stays _
-  standard_stays standard.Sqr k n = work_stays _
   standard_stays standard.Odd k n = give_stays _
   standard_stays standard.Ord k n = give_stays _
-  standard_stays standard.Chr k n = work_stays _
-  standard_stays standard.Succ k n = work_stays _
-  standard_stays standard.Pred k n = work_stays _
   standard_stays standard.Eof k n = lost_stays _
   standard_stays standard.Eoln k n = lost_stays _
+  standard_stays _ _ _ = work_stays _
 
   input_stays : (f : StandardFn) (bs : List ℕ) → KeepsRightsOnly (input_op f bs)
-  input_stays standard.Abs bs = lost_stays _
-  input_stays standard.Sqr bs = lost_stays _
-  input_stays standard.Odd bs = lost_stays _
-  input_stays standard.Ord bs = lost_stays _
-  input_stays standard.Chr bs = lost_stays _
-  input_stays standard.Succ bs = lost_stays _
-  input_stays standard.Pred bs = lost_stays _
   input_stays standard.Eof bs = give_stays _
   input_stays standard.Eoln bs = give_stays _
+  input_stays _ _ = lost_stays _
 
   ordinal_read_stays : (v : Value) → KeepsRightsOnly (ordinal_read v)
   ordinal_read_stays Undefined = fail_stays _ fault.F4
@@ -235,13 +215,10 @@ module _ (q : Name) (W R : Loc → Type 0) (fs : List Frame) where
   channel_read_stays (Parts vs) = fail_stays _ fault.F5
 
   checked_stays : (k : KindOf) (v : Value) → KeepsRightsOnly (checked_value k v)
-  checked_stays kind.Integer v = ordinal_read_stays v
-  checked_stays kind.Boolean v = ordinal_read_stays v
-  checked_stays kind.Char v = ordinal_read_stays v
-  checked_stays (kind.Enumeration n) v = ordinal_read_stays v
   checked_stays (kind.Array low high index element) v = give_stays v
   checked_stays (kind.Fields fs) v = give_stays v
   checked_stays (kind.Channel ks) v = channel_read_stays v
+  checked_stays _ v = ordinal_read_stays v
 
   -- where variable x stands in these frames, its component stands too
   abbrev pub IsComponentOf : Option Loc → Place → Type 0
@@ -250,10 +227,6 @@ module _ (q : Name) (W R : Loc → Type 0) (fs : List Frame) where
 
   element_keeps : (x : Option Loc) (a : Address) (n : ℤ) (k : KindOf) → x ≡ Some a.spot
       → KeepsRights q W R fs (IsComponentOf x) (element_at a n k)
-  element_keeps x a n kind.Integer e = lost_keeps
-  element_keeps x a n kind.Boolean e = lost_keeps
-  element_keeps x a n kind.Char e = lost_keeps
-  element_keeps x a n (kind.Enumeration m) e = lost_keeps
   element_keeps x a n (kind.Array low high index element) e = go (int_le low n && int_le n high)
     where
       go : (b : Bool) → KeepsRights q W R fs (IsComponentOf x)
@@ -266,8 +239,7 @@ module _ (q : Name) (W R : Loc → Type 0) (fs : List Frame) where
           fail fault.F1)
       go true = give_keeps _ e
       go false = fail_keeps fault.F1
-  element_keeps x a n (kind.Fields fs) e = lost_keeps
-  element_keeps x a n (kind.Channel ks) e = lost_keeps
+  element_keeps _ _ _ _ _ = lost_keeps
 
   module _ (set : RunInput) where
     pub kind_stays : (k : ℕ) → KeepsRightsOnly (kind_at set k)

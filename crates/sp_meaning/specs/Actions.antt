@@ -14,7 +14,7 @@ use Rattle.sp_tree.specs.Plain.{Repeat, For, Case, Parallel, Forall, Assume, Rea
 use Rattle.sp_tree.specs.Plain.{WriteLine, Open, Send, Receive, Stmts, No, And, On, Arms, NoArm, Or}
 use Rattle.sp_meaning.specs.Model.{Name, Channel, Cargo, Message, Takes}
 use Rattle.sp_tree.specs.Cells.{variables_of, cells_of_frame}
-use Rattle.sp_meaning.specs.Values.{Value, Undefined, Ordinal, Chan, Parts, initials}
+use Rattle.sp_meaning.specs.Values.{Value, Ordinal, Chan, initials}
 use Rattle.sp_meaning.specs.LocalWork.{RunInput, Cell, Input, Output, LocationContent, Tree, Position, Written, Address}
 use Rattle.sp_meaning.specs.LocalWork.{Home, OfBlock}
 use Rattle.sp_meaning.specs.LocalWork.{OfIndex, Frame, LocalState, Identity, Item, Do, First, Again, Test, Leave, Break}
@@ -89,10 +89,8 @@ if_true n a b = if int_le n (pos 0) then b else a
 
 -- a loop goes on where its variable is before the limit, or holds no ordinal (and then the step is F4)
 abbrev pub goes_on : Bool → ℤ → Value → Bool
-goes_on down limit Undefined = true
 goes_on down limit (Ordinal n) = is_before down n limit
-goes_on down limit (Chan c) = true
-goes_on down limit (Parts vs) = true
+goes_on _ _ _ = true
 
 -- frames
 
@@ -123,20 +121,13 @@ abbrev pub ordinal_text : KindOf → ℤ → Bool × List ℕ
 ordinal_text kind.Integer n = (false, signed_decimal n)
 ordinal_text kind.Boolean n = (true, truth_text n)
 ordinal_text kind.Char n = (false, byte n ∷ [])
-ordinal_text (kind.Enumeration m) n = (false, [])
-ordinal_text (kind.Array low high index element) n = (false, [])
-ordinal_text (kind.Fields fs) n = (false, [])
-ordinal_text (kind.Channel ks) n = (false, [])
+ordinal_text _ _ = (false, [])
 
 -- what is read of a type
 abbrev pub reading_by : KindOf → List ℕ → Option ReadResult
 reading_by kind.Integer bs = Some (number_in bs)
-reading_by kind.Boolean bs = None
 reading_by kind.Char bs = Some (char_in bs)
-reading_by (kind.Enumeration n) bs = None
-reading_by (kind.Array low high index element) bs = None
-reading_by (kind.Fields fs) bs = None
-reading_by (kind.Channel ks) bs = None
+reading_by _ _ = None
 
 -- one child for each process statement
 abbrev pub children : Stmts → List Birth
@@ -348,10 +339,7 @@ module _ (g : RunInput) where
   abbrev pub items_after : Action → Work (List Item)
   items_after (Stepped todo) = give todo
   items_after (Ticked todo) = give todo
-  items_after (Opened todo) = ill_formed
-  items_after (Forked os todo) = ill_formed
-  items_after (Offered c k cargo todo) = ill_formed
-  items_after Ended = ill_formed
+  items_after _ = ill_formed
 
   -- a function's result, or F4
   abbrev pub function_result : Option ℕ → Work Value

@@ -102,13 +102,9 @@ module _ (g : RunInput) where
 
 -- no entry is Fault or Laid
 abbrev pub IsCleanly : Happening → Type 0
-IsCleanly (Forked n) = Unit
-IsCleanly Opened = Unit
-IsCleanly (Offered w c) = Unit
-IsCleanly happenings.Ended = Unit
 IsCleanly (Faulted f) = ⊥
 IsCleanly Laid = ⊥
-IsCleanly Paused = Unit
+IsCleanly _ = Unit
 
 -- no process faults or is laid
 abbrev pub IsClean : List Occurrence → Type 0

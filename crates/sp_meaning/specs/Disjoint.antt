@@ -2,7 +2,7 @@
 -- Disjoint programs: in no schedule does a process write what a parallel one uses. The promise of a program without
 -- interference is said by it, in the words of the model and of no rule.
 use Rattle.std.specs.Prelude.{◌≡◌, ◌≢◌, ◌⊎◌, ℕ, List, [], ◌∷◌, ◌++◌, Some}
-use Rattle.sp_meaning.specs.Model.{Name, Totals, Language, Act, Moves, Opens, Forks, Offering, EndsProcess, MeetsFault}
+use Rattle.sp_meaning.specs.Model.{Name, Totals, Language, Act, Moves, Opens, Offering}
 use Rattle.sp_meaning.specs.Model.{Cargo}
 use Rattle.sp_meaning.specs.Model.{Message, Takes, Waits, State}
 use Rattle.sp_meaning.specs.Steps.{ActOf, OfferOf, own_part, message, step, process_system}
@@ -29,10 +29,7 @@ IsWrittenIn (w ∷ ws) l = (w.0 ≡ l) ⊎ IsWrittenIn ws l
 abbrev pub Assigns : {O M V T : Type 0} → Act O M V T → M → Type 0
 Assigns (Moves o ws) l = IsWrittenIn ws l
 Assigns (Opens o ws) l = IsWrittenIn ws l
-Assigns (Forks o os) l = ⊥
-Assigns (Offering o) l = ⊥
-Assigns EndsProcess l = ⊥
-Assigns (MeetsFault f) l = ⊥
+Assigns _ _ = ⊥
 
 -- who receives, of p that offers this and of z that waits
 abbrev pub receiver : {V T : Type 0} → Cargo V T → Name → Name → Name

@@ -6,10 +6,5 @@ pub use Rattle.sp_journal.specs.Names.{Happening, Opened, Forked, Offered, Ended
 
 -- the entry of a fault
 abbrev pub is_fault : Happening → Bool
-is_fault Opened = false
-is_fault (Forked n) = false
-is_fault (Offered w c) = false
-is_fault Ended = false
 is_fault (Faulted f) = true
-is_fault Laid = false
-is_fault Paused = false
+is_fault _ = false

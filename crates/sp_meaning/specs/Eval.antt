@@ -47,17 +47,13 @@ work_of (OperatorFault f) = fail f
 
 -- the ordinal that an evaluated expression is
 abbrev pub ordinal : Value → Work ℤ
-ordinal Undefined = ill_formed
 ordinal (Ordinal n) = give n
-ordinal (Chan c) = ill_formed
-ordinal (Parts vs) = ill_formed
+ordinal _ = ill_formed
 
 -- the channel that a value is
 abbrev pub channel : Value → Work Channel
-channel Undefined = ill_formed
-channel (Ordinal n) = ill_formed
 channel (Chan c) = give c
-channel (Parts vs) = ill_formed
+channel _ = ill_formed
 
 -- the value of an expression of an ordinal type, as a number
 abbrev pub as_ordinal : Work Value → Work ℤ
@@ -69,17 +65,7 @@ as_ordinal h = bind h ordinal
 abbrev pub channels_op : BinaryOp → Channel → Channel → Work Value
 channels_op binary.Eq c d = work_of (truth (same_channel c d))
 channels_op binary.Ne c d = work_of (truth (not (same_channel c d)))
-channels_op binary.Lt c d = ill_formed
-channels_op binary.Le c d = ill_formed
-channels_op binary.Gt c d = ill_formed
-channels_op binary.Ge c d = ill_formed
-channels_op binary.Add c d = ill_formed
-channels_op binary.Sub c d = ill_formed
-channels_op binary.Or c d = ill_formed
-channels_op binary.Mul c d = ill_formed
-channels_op binary.Div c d = ill_formed
-channels_op binary.Mod c d = ill_formed
-channels_op binary.And c d = ill_formed
+channels_op _ _ _ = ill_formed
 
 -- an operator between two values
 abbrev pub operate : BinaryOp → Value → Value → Work Value
@@ -102,64 +88,41 @@ standard_op standard.Eoln k n = ill_formed
 
 -- eof and eoln, of what is left of the input
 abbrev pub input_op : StandardFn → List ℕ → Work Value
-input_op standard.Abs bs = ill_formed
-input_op standard.Sqr bs = ill_formed
-input_op standard.Odd bs = ill_formed
-input_op standard.Ord bs = ill_formed
-input_op standard.Chr bs = ill_formed
-input_op standard.Succ bs = ill_formed
-input_op standard.Pred bs = ill_formed
 input_op standard.Eof bs = work_of (truth (length bs == 0))
 input_op standard.Eoln bs = work_of (truth (at_line_end bs))
+input_op _ _ = ill_formed
 
 -- what is read of a type: an ordinal (or F4), a channel (or F5), or all parts as they are
 abbrev pub ordinal_read : Value → Work Value
-ordinal_read Undefined = fail fault.F4
 ordinal_read (Ordinal n) = give (Ordinal n)
-ordinal_read (Chan c) = fail fault.F4
-ordinal_read (Parts vs) = fail fault.F4
+ordinal_read _ = fail fault.F4
 
 -- a channel that is read, or F5
 abbrev pub channel_read : Value → Work Value
-channel_read Undefined = fail fault.F5
-channel_read (Ordinal n) = fail fault.F5
 channel_read (Chan c) = give (Chan c)
-channel_read (Parts vs) = fail fault.F5
+channel_read _ = fail fault.F5
 
 -- a value that is read, by its type
 abbrev pub checked_value : KindOf → Value → Work Value
-checked_value kind.Integer v = ordinal_read v
-checked_value kind.Boolean v = ordinal_read v
-checked_value kind.Char v = ordinal_read v
-checked_value (kind.Enumeration n) v = ordinal_read v
 checked_value (kind.Array low high index element) v = give v
 checked_value (kind.Fields fs) v = give v
 checked_value (kind.Channel ks) v = channel_read v
+checked_value _ v = ordinal_read v
 
 -- the element at an index, or F1
 abbrev pub element_at : Address → ℤ → KindOf → Work Place
-element_at a n kind.Integer = ill_formed
-element_at a n kind.Boolean = ill_formed
-element_at a n kind.Char = ill_formed
-element_at a n (kind.Enumeration m) = ill_formed
 element_at a n (kind.Array low high index element) =
     if int_le low n && int_le n high then give
     (AtAddress (record { spot = a.spot; path = a.path ++ nat_abs (n -ℤ low) ∷ []; kind = element })) else fail fault.F1
-element_at a n (kind.Fields fs) = ill_formed
-element_at a n (kind.Channel ks) = ill_formed
+element_at _ _ _ = ill_formed
 
 abbrev pub field_kind : ℕ → KindOf → Option ℕ
-field_kind f kind.Integer = None
-field_kind f kind.Boolean = None
-field_kind f kind.Char = None
-field_kind f (kind.Enumeration m) = None
-field_kind f (kind.Array low high index element) = None
 field_kind f (kind.Fields fs) = second (slice_get fs f)
   where
     second : Option (List ℕ × ℕ) → Option ℕ
     second None = None
     second (Some x) = Some x.1
-field_kind f (kind.Channel ks) = None
+field_kind _ _ = None
 
 module _ (g : RunInput) where
   abbrev pub kind_at : ℕ → Work KindOf
@@ -197,12 +160,10 @@ module _ (g : RunInput) where
   -- where an entire variable stands
   abbrev pub place_by : ℕ → Variable → Role → Work Place
   place_by x i role.Console = ill_formed
-  place_by x i role.Local = bind (visible_frame (is_block i.block)) (λ f. give (AtAddress (in_frame x i f)))
-  place_by x i role.Value = bind (visible_frame (is_block i.block)) (λ f. give (AtAddress (in_frame x i f)))
   place_by x i role.Reference = bind (visible_frame (is_block i.block))
       (λ f. bind (or_ill_formed (reference_target x f.references)) (λ a. give (AtAddress a)))
   place_by x i role.Index = bind (visible_frame (is_index x)) (λ f. index_in f.home)
-  place_by x i role.Answer = bind (visible_frame (is_block i.block)) (λ f. give (AtAddress (in_frame x i f)))
+  place_by x i _ = bind (visible_frame (is_block i.block)) (λ f. give (AtAddress (in_frame x i f)))
 
   -- where a variable stands
   abbrev pub place_of : ℕ → Work Place

@@ -12,7 +12,7 @@ use Rattle.sp_meaning.specs.LocalWork.{Frame, Item, Do}
 use Rattle.sp_meaning.specs.LocalWork.{First, Again, Test, Leave, Break, is_block, reference_target}
 use Rattle.sp_meaning.specs.Actions.{Birth, Action, Stepped, Ticked, Opened, Forked, Offered, Ended, push}
 use Rattle.sp_meaning.specs.Eval.{ArgumentValue, ValueOf, PlaceOf}
-use Rattle.sp_tree.specs.Uses.{Use, Target, Seen, CallOf, ParallelOf, ForallOf, Stop, In_stmt, In_loop}
+use Rattle.sp_tree.specs.Uses.{Use, Target, Seen, In_stmt, In_loop}
 use Rattle.sp_tree.specs.Sets.{IsTarget, IsUsed, Reach}
 use Rattle.sp_tree.specs.Interference.{IsFreeUse}
 
@@ -43,11 +43,9 @@ console (suc n) = Output
 
 abbrev pub location_by : List Frame → ℕ → Variable → Role → Option Loc
 location_by fs x i role.Console = Some (console x)
-location_by fs x i role.Local = cell_of x (frame_found (is_block i.block) (length fs) fs)
-location_by fs x i role.Value = cell_of x (frame_found (is_block i.block) (length fs) fs)
 location_by fs x i role.Reference = reference_of x (frame_found (is_block i.block) (length fs) fs)
 location_by fs x i role.Index = None
-location_by fs x i role.Answer = cell_of x (frame_found (is_block i.block) (length fs) fs)
+location_by fs x i _ = cell_of x (frame_found (is_block i.block) (length fs) fs)
 
 -- where variable x stands, by its declaration
 abbrev pub location_at : List Frame → ℕ → Option Variable → Option Loc
@@ -100,10 +98,7 @@ module _ (p : Program) where
   abbrev pub Touches : List Frame → Use → ℕ → Loc → Type 0
   Touches fs (Target y) x l = (y ≡ x) × (location_of fs x ≡ Some l)
   Touches fs (Seen y) x l = (y ≡ x) × (location_of fs x ≡ Some l)
-  Touches fs (CallOf f args) x l = ⊥
-  Touches fs (ParallelOf ss) x l = ⊥
-  Touches fs (ForallOf y s) x l = ⊥
-  Touches fs Stop x l = ⊥
+  Touches _ _ _ _ = ⊥
 
   -- the evaluated arguments are those of a call in these frames
   abbrev pub Gave : List Frame → Actuals → List ArgumentValue → Type 0
@@ -136,10 +131,7 @@ module _ (p : Program) where
     abbrev pub Right : Use → Loc → Type 0
     Right (Target x) l = W l
     Right (Seen x) l = R l
-    Right (CallOf f args) l = Unit
-    Right (ParallelOf ss) l = Unit
-    Right (ForallOf x s) l = Unit
-    Right Stop l = Unit
+    Right _ _ = Unit
 
     -- what stands there may be done in these frames: the locations are the process's to write or read, no two variables
     -- are one location, and the rules are kept

@@ -28,10 +28,7 @@ ConditionOf L = Condition L.Own L.Value L.Target
 
 abbrev pub has_ended : {O V T : Type 0} → Condition O V T → Bool
 has_ended Ended = true
-has_ended Absent = false
-has_ended (Works o) = false
-has_ended (Waits o) = false
-has_ended (Joins k n o) = false
+has_ended _ = false
 
 -- the children 0 to n - 1 of this fork have ended
 abbrev pub all_ended : {O V T : Type 0} → (Name → Condition O V T) → Name → ℕ → ℕ → Bool
@@ -41,11 +38,9 @@ all_ended m p k (suc i) = has_ended (m ((k, i) ∷ p)) && all_ended m p k i
 -- the own part of a process in this condition, where it is running: it works, or it joins and all its children have
 -- ended
 abbrev pub own_part_in : {O V T : Type 0} → (Name → Condition O V T) → Name → Condition O V T → Option O
-own_part_in m p Absent = None
 own_part_in m p (Works o) = Some o
-own_part_in m p (Waits o) = None
 own_part_in m p (Joins k n o) = if all_ended m p k n then Some o else None
-own_part_in m p Ended = None
+own_part_in _ _ _ = None
 
 -- the own part of a process that is running
 abbrev pub own_part : {L : Language} → State L → Name → Option L.Own
@@ -104,11 +99,8 @@ handover_outcome s p o z w (Some m) = if o.kind == w.kind then Advances (meeting
 
 -- z's offer is pending. No case but the third comes up
 abbrev pub meeting_outcome : {L : Language} → State L → Name → OfferOf L → Name → ConditionOf L → ActOutcome L
-meeting_outcome s p o z Absent = Faulty fault.F6
-meeting_outcome s p o z (Works own) = Faulty fault.F6
 meeting_outcome s p o z (Waits w) = handover_outcome s p o z w (message o.cargo w.cargo)
-meeting_outcome s p o z (Joins k n own) = Faulty fault.F6
-meeting_outcome s p o z Ended = Faulty fault.F6
+meeting_outcome _ _ _ _ _ = Faulty fault.F6
 
 -- the offer waits, or it meets the one that is pending
 abbrev pub offer_outcome : {L : Language} → State L → Name → OfferOf L → Option Name → ActOutcome L
@@ -129,12 +121,10 @@ act_outcome s p (MeetsFault f) = Faulty f
 
 -- what counts against the totals
 abbrev pub cost : {O M V T : Type 0} → Act O M V T → Option Totals
-cost (Moves o ws) = None
 cost (Opens o ws) = Some (record { processes = 0; channels = 1; entries = 1 })
 cost (Forks o os) = Some (record { processes = length os; channels = 0; entries = 1 })
 cost (Offering o) = Some entry_cost
-cost EndsProcess = None
-cost (MeetsFault f) = None
+cost _ = None
 
 -- a total that grows by n would pass its limit; one that does not grow passes none
 abbrev pub is_limit_passed : ℕ → ℕ → ℕ → Bool
@@ -189,26 +179,18 @@ pub record Laws (L : Language) : Type 0 where
 
 -- it waits with an offer on this channel
 abbrev pub WaitsOn : {O V T : Type 0} → Channel → Condition O V T → Type 0
-WaitsOn c Absent = ⊥
-WaitsOn c (Works o) = ⊥
 WaitsOn c (Waits w) = w.channel ≡ c
-WaitsOn c (Joins k n o) = ⊥
-WaitsOn c Ended = ⊥
+WaitsOn _ _ = ⊥
 
 -- it is there and has not ended
 abbrev pub IsAlive : {O V T : Type 0} → Condition O V T → Type 0
 IsAlive Absent = ⊥
-IsAlive (Works o) = Unit
-IsAlive (Waits w) = Unit
-IsAlive (Joins k n o) = Unit
 IsAlive Ended = ⊥
+IsAlive _ = Unit
 
 abbrev pub JoinsAt : {O V T : Type 0} → ℕ → ℕ → Condition O V T → Type 0
-JoinsAt k i Absent = ⊥
-JoinsAt k i (Works o) = ⊥
-JoinsAt k i (Waits w) = ⊥
 JoinsAt k i (Joins m n o) = (m ≡ k) × (i < n)
-JoinsAt k i Ended = ⊥
+JoinsAt _ _ _ = ⊥
 
 pub record Sound {L : Language} (s : State L) : Type 0 where
   -- a pending offer is that of a process that waits on this channel

@@ -4,9 +4,9 @@
 use Rattle.std.specs.Prelude.{ℕ, zero, suc, ◌+◌, ◌-◌, ◌*◌, List, [], ◌∷◌, Bool, true, false, ◌==◌, if◌then◌else◌}
 use Rattle.std.specs.Prelude.{nat_lt}
 use Rattle.sp_base.specs.declared.fault.Fault.TheVariants as fault
-use Rattle.sp_tree.specs.Plain.{Program, Variable, Block, Stmt, Empty, Assign, Call, Sequence, If, IfElse, While}
-use Rattle.sp_tree.specs.Plain.{Repeat, For, Case, Parallel, Forall, Assume, ReadValue, ReadLine, WriteValue, WriteText}
-use Rattle.sp_tree.specs.Plain.{WriteLine, Open, Send, Receive, Stmts, No, And, On, Arms, NoArm, Or}
+use Rattle.sp_tree.specs.Plain.{Program, Variable, Block, Stmt, Call, Sequence, If, IfElse, While}
+use Rattle.sp_tree.specs.Plain.{Repeat, For, Case, Parallel, Forall}
+use Rattle.sp_tree.specs.Plain.{Stmts, No, And, On, Arms, NoArm, Or}
 use Rattle.sp_meaning.specs.Model.{Act, Moves, Opens, Forks, Offering, EndsProcess, MeetsFault, Language}
 use Rattle.sp_meaning.specs.EffectTree.{EffectTree, Leaf, and_then, run_tree}
 use Rattle.sp_meaning.specs.Trees.{of_trees}
@@ -24,8 +24,6 @@ use Rattle.sp_meaning.specs.Actions.{size_of_frame, first_value_by}
 
 abbrev mutual
   pub weight : Stmt → ℕ
-  weight Empty = 1
-  weight (Assign v e) = 1
   weight (Call f args) = 2
   weight (Sequence ss) = weight_all ss + 1
   weight (If e a) = weight a + 1
@@ -36,15 +34,7 @@ abbrev mutual
   weight (Case e arms) = weight_arms arms + 1
   weight (Parallel ss) = weight_all ss + 1
   weight (Forall x from to s) = weight s + 1
-  weight (Assume e) = 1
-  weight (ReadValue v) = 1
-  weight ReadLine = 1
-  weight (WriteValue e w) = 1
-  weight (WriteText t w) = 1
-  weight WriteLine = 1
-  weight (Open v) = 1
-  weight (Send c e) = 1
-  weight (Receive c v) = 1
+  weight _ = 1
 
   pub weight_all : Stmts → ℕ
   weight_all No = 0

@@ -65,14 +65,10 @@ field_values known fields = map (λ f. first_or Undefined (slice_get known f.1))
 
 -- a type's first value, where those of the types before it are known
 abbrev pub initial_by : List Value → KindOf → Value
-initial_by known kind.Integer = Undefined
-initial_by known kind.Boolean = Undefined
-initial_by known kind.Char = Undefined
-initial_by known (kind.Enumeration n) = Undefined
 initial_by known (kind.Array low high index element) =
     Parts (values (replicate (count low high) (first_or Undefined (slice_get known element))))
 initial_by known (kind.Fields fs) = Parts (values (field_values known fs))
-initial_by known (kind.Channel ks) = Undefined
+initial_by _ _ = Undefined
 
 -- the first value of each type
 abbrev pub initials : List KindOf → List Value

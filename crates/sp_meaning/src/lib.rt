@@ -38,6 +38,46 @@
 //!   around them, consoles are the first two variables, a function's result is its own). I3 and I6 to I9 are rules of
 //!   the language that it does without.
 //!
+//! Lemmas for others, in `proofs`:
+//! - `Maps`: maps as functions: look-ups after an update, and updates at different keys.
+//! - `Keys`: numbers, names and channels are told apart by their tests.
+//! - `EffectTree`: locality of work that is a tree of reads and writes, once for all trees.
+//! - `Instance`: the language keeps the laws of the model: locations are told apart, and a step goes by what it
+//!   touches alone.
+//! - `Frames`: what a step changes, and that all else stays.
+//! - `Status`: what each condition of a process says of the others: who is running, who waits, whom a step meets.
+//! - `Meeting`: an offer that met another's, and one that waits.
+//! - `Kept`: each step keeps what is known of the state: a pending offer's process waits, unborn children are
+//!   absent, and the parent of a child that lives joins it.
+//! - `Parallel`: two processes that do not wait for one another are parallel.
+//! - `Run`: computations run on a store one after the other: the only place where the trees of reads and writes are
+//!   seen.
+//! - `Weights`: how much stands between two ticks of what is left to do: no more than in the statement that it
+//!   comes from.
+//! - `EnoughSteps`: the bound of a step never runs out: each tick pays for what stands between two ticks.
+//! - `Moved`: a local step of the model is the run of the process's own step on the store.
+//! - `Sound`: every step keeps what is known of the state, a faulting one too.
+//! - `Reached`: what every step keeps: names, counts of forks, light items; and ticks never fall.
+//! - `JournalSchedules`: along a journal without a fault goes a lawful schedule of that length.
+//! - `LawProofs`: the laws, as the contracts of `laws.rt` state them.
+//! - `Static`: static links: what is visible from a frame is the same seen from the frames inside it.
+//! - `Within`: what the evaluation of an expression reads and writes is the process's to read and write.
+//! - `CallRights`: a call keeps the invariant behind disjointness: what is sound for the call in the caller's
+//!   frames makes the body sound in the new one.
+//! - `Rights`: rights by names: a process has its own locations and those that its fork gave it; what one of two
+//!   parallel ones may write the other has not.
+//! - `SoundParts`: what is sound of a statement is so of its parts, of what it leaves to do and of the children
+//!   that it begins.
+//! - `ActionRights`: what a step of statements, calls and items reads and writes is the process's to read and
+//!   write, and what it comes to is fair.
+//! - `Children`: a fork hands over rights: each child gets those of its statement's variables, and keeps the
+//!   invariant behind disjointness with them.
+//! - `Owned`: the invariant behind disjointness holds along every lawful schedule.
+//! - `Started`: a program that keeps the rules is disjoint.
+//! - `Pure`: expressions are pure: what they call is functions alone, with values alone, and a function changes
+//!   nothing outside itself.
+//! - `SilentActions`: what a step that forks, offers, ends or fails leaves as it was, where expressions are pure.
+//!
 //! To change:
 //! - A statement: `specs/Actions.antt` (`start`, `push`) and a line in `proofs/EnoughSteps.antt`.
 //! - An operator: `sp_tree/specs/Operators.antt`, which `specs/Operators.antt` passes on.

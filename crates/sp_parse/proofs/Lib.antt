@@ -1,17 +1,17 @@
-pub mod Steps
-pub mod Behind
-pub mod Spelling
-pub mod SoFar
-pub mod Rounds
-pub mod ReadNames
-pub mod Rows
-pub mod Declares
-pub mod ReadTypes
-pub mod ReadHeadings
-pub mod ReadExpressions
-pub mod ReadFactors
-pub mod ReadParts
-pub mod ReadBlocks
-pub mod ReadStatements
+mod Steps
+mod Behind
+mod Spelling
+mod SoFar
+mod Rounds
+mod ReadNames
+mod Rows
+mod Declares
+mod ReadTypes
+mod ReadHeadings
+mod ReadExpressions
+mod ReadFactors
+mod ReadParts
+mod ReadBlocks
+mod ReadStatements
 pub mod Fitting
-pub mod Parsing
+mod Parsing

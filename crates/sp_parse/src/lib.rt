@@ -16,6 +16,9 @@
 //!   `Rounds` the loops (`Rounds` those that begin with an item), `Rows` the use of rows of the table. `Read*` have
 //!   the lemmas of each group of functions, and `Parsing` leads to the tokens' own definitions.
 //!
+//! Lemmas for others, in `proofs`:
+//! - `Fitting`: the tokens of a text that breaks no rule of characters lie in it, and their numbers are integers.
+//!
 //! To change:
 //! - A line of the grammar: its production, the function of its symbol, its constructor in `src/made*.rt`, and its
 //!   lemmas in `proofs/Read*`.

@@ -21,10 +21,8 @@ waiter_line w = codes "waits " ++ name_text w.process ++ codes " " ++ way_text w
 
 -- an end has lines unless memory ran out
 abbrev pub HasLines : End → Type 0
-HasLines ends.Done = Unit {0}
-HasLines (ends.Deadlock ws) = Unit {0}
-HasLines (ends.Fault p f) = Unit {0}
 HasLines ends.Memory = ⊥
+HasLines _ = Unit {0}
 
 -- the lines of an end
 abbrev pub end_text : End → List ℕ

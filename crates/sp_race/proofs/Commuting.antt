@@ -8,7 +8,7 @@ use Rattle.sp_base.proofs.Facts.{same_tail}
 use Rattle.sp_meaning.specs.Maps.{IsTest}
 use Rattle.sp_meaning.specs.Model.{Name, Channel, Totals, add, Language, Moves, Opens, Forks, Offering, EndsProcess}
 use Rattle.sp_meaning.specs.Model.{MeetsFault}
-use Rattle.sp_meaning.specs.Model.{Absent, Works, Waits, Joins, Ended, State, Change, Becomes, Forked, WritesLocation}
+use Rattle.sp_meaning.specs.Model.{Absent, Works, Waits, Joins, State, Change, Becomes, Forked, WritesLocation}
 use Rattle.sp_meaning.specs.Model.{Pends}
 use Rattle.sp_meaning.specs.Model.{AddsTotals, Faults, with_change, with_changes}
 use Rattle.sp_meaning.specs.Steps.{ActOf, OfferOf, ConditionOf, own_part, ActOutcome, Advances, Faulty, write_changes}
@@ -79,11 +79,8 @@ hands_cost s p o z w (Some m) = elim (o.kind == w.kind) as
 
 meets_cost : {L : Language} (s : State L) (p : Name) (o : OfferOf L) (z : Name) (c : ConditionOf L)
     → Costs (Offering o) (meeting_outcome s p o z c)
-meets_cost s p o z Absent = tt
-meets_cost s p o z (Works own) = tt
 meets_cost s p o z (Waits w) = hands_cost s p o z w (message o.cargo w.cargo)
-meets_cost s p o z (Joins k n own) = tt
-meets_cost s p o z Ended = tt
+meets_cost _ _ _ _ _ = tt
 
 offered_cost : {L : Language} (s : State L) (p : Name) (o : OfferOf L) (m : Option Name)
     → Costs (Offering o) (offer_outcome s p o m)
@@ -189,8 +186,6 @@ module _ {L : Language} (t s : State L) (q : Name) where
 
   meets_same : (o : OfferOf L) (z : Name) (c : ConditionOf L) → s.pending o.channel ≡ Some z → s.condition z ≡ c
       → ((l : L.Loc) → Delivers s o l → t.store l ≡ s.store l) → meeting_outcome t q o z c ≡ meeting_outcome s q o z c
-  meets_same o z Absent pe ce st = refl
-  meets_same o z (Works x) pe ce st = refl
   meets_same o z (Waits w) pe ce st = hands_same o z w (message o.cargo w.cargo)
       (λ x is. st (L.place x.0) (record {
         partner = z;
@@ -201,8 +196,7 @@ module _ {L : Language} (t s : State L) (q : Name) where
         message_is = is;
         there = refl;
       }))
-  meets_same o z (Joins n m x) pe ce st = refl
-  meets_same o z Ended pe ce st = refl
+  meets_same _ _ _ _ _ _ = refl
 
   offered_same : (o : OfferOf L) (m : Option Name) → s.pending o.channel ≡ m
       → ((z : Name) → s.pending o.channel ≡ Some z → t.condition z ≡ s.condition z)
@@ -214,15 +208,12 @@ module _ {L : Language} (t s : State L) (q : Name) where
   pub acts_same : (b : ActOf L) → t.forks q ≡ s.forks q → ((c : Channel) → IsOn b c → t.pending c ≡ s.pending c)
       → ((z : Name) → IsPartner s b z → t.condition z ≡ s.condition z)
       → ((l : L.Loc) → WritesTo s b l → t.store l ≡ s.store l) → act_outcome t q b ≡ act_outcome s q b
-  acts_same (Moves o ws) f pe other st = refl
-  acts_same (Opens o ws) f pe other st = refl
   acts_same (Forks o os) f pe other st = λ i. Advances
       (Becomes q (Joins (f i) (length os) o) ∷ Forked q
       ∷ AddsTotals (record { processes = length os; channels = 0; entries = 1 }) ∷ birth_changes q (f i) 0 os)
   acts_same (Offering o) f pe other st = ap (offer_outcome t q o) (pe o.channel refl)
       ∙ offered_same o (s.pending o.channel) refl other st
-  acts_same EndsProcess f pe other st = refl
-  acts_same (MeetsFault x) f pe other st = refl
+  acts_same _ _ _ _ _ = refl
 
 -- What a step does is not changed by one of another process before it
 module _ {L : Language} {limits : Totals} (loc : IsTest L.same_loc) (s : State L) (p : Name) (cs : List (Change L))
@@ -244,9 +235,6 @@ module _ {L : Language} {limits : Totals} (loc : IsTest L.same_loc) (s : State L
   -- nor where it writes
   pub writes_kept : (b : ActOf L) → ((c : Channel) → IsOn (L.next does.own s.store) c → IsOn b c → ⊥) → (l : L.Loc)
       → WritesTo s b l → WritesTo (with_changes cs s) b l
-  writes_kept (Moves o ws) off l h = h
-  writes_kept (Opens o ws) off l h = h
-  writes_kept (Forks o os) off l h = h
   writes_kept (Offering o) off l h =
       let a = L.next does.own s.store in
       let i = all_in s p a cs does.does in
@@ -261,8 +249,7 @@ module _ {L : Language} {limits : Totals} (loc : IsTest L.same_loc) (s : State L
         message_is = h.message_is;
         there = h.there;
       }
-  writes_kept EndsProcess off l h = h
-  writes_kept (MeetsFault f) off l h = h
+  writes_kept _ _ _ h = h
 
 -- The changes of both are of different parts of the state
 module _ {L : Language} {limits : Totals} (s : State L) (sound : Sound s) (p q : Name) (cs ds : List (Change L))

@@ -247,12 +247,7 @@ module _ (j : Knowledge) (n : ℕ) (paired : Paired j n) (p : Name) where
 
   known_by : (done : List Occurrence) (h : Happening) → KnowsCompletions j done p h → KnowsOffers j done p h
   known_by done (Offered w c) k = λ i z e. let x = k i z e in paired.closed p i x.0 x.1 x.2
-  known_by done Opened k = tt
-  known_by done (Forked m) k = tt
-  known_by done Ended k = tt
-  known_by done (Faulted f) k = tt
-  known_by done Laid k = tt
-  known_by done Paused k = tt
+  known_by _ _ _ = tt
 
 pub nothing_paired : Paired no_knowledge 0
 nothing_paired = record {
@@ -322,12 +317,7 @@ grown_entry (d ∷ done) e x (suc i) n size h = ⊎_elim
 
 abbrev IsNoOffer : Happening → Type 0
 IsNoOffer (Offered w c) = ⊥
-IsNoOffer Opened = Unit {0}
-IsNoOffer (Forked k) = Unit {0}
-IsNoOffer Ended = Unit {0}
-IsNoOffer (Faulted f) = Unit {0}
-IsNoOffer Laid = Unit {0}
-IsNoOffer Paused = Unit {0}
+IsNoOffer _ = Unit {0}
 
 module _ (j : Knowledge) (done : List Occurrence) (n : ℕ) (paired : Paired j n) (r : Rounded j done n) (p : Name) where
   abbrev longer : Happening → List Occurrence
@@ -473,12 +463,7 @@ module _ (j : Knowledge) (done : List Occurrence) (n : ℕ) (paired : Paired j n
 
   completed_by : (h : Happening) → KnowsOffers j done p h → KnowsCompletions j done p h
   completed_by (Offered w c) k = λ i z e. r.complete p i z w c e (k i z e)
-  completed_by Opened k = tt
-  completed_by (Forked m) k = tt
-  completed_by Ended k = tt
-  completed_by (Faulted f) k = tt
-  completed_by Laid k = tt
-  completed_by Paused k = tt
+  completed_by _ _ = tt
 
 pub nothing_rounded : Rounded no_knowledge [] 0
 nothing_rounded = record {

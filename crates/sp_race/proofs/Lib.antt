@@ -1,14 +1,14 @@
-pub mod Ways
-pub mod Diamond
-pub mod Changes
+mod Ways
+mod Diamond
+mod Changes
 pub mod Commuting
 pub mod NotesFrames
-pub mod Rendezvous
+mod Rendezvous
 pub mod Partners
 pub mod GoodSteps
 pub mod Linking
 pub mod LinkedSteps
 pub mod Completion
 pub mod Verdict
-pub mod Testing
-pub mod Rows
+mod Testing
+mod Rows

@@ -5,7 +5,7 @@ use Rattle.std.proofs.lemmas.Bool.{and_from}
 use Rattle.std.proofs.lemmas.Option.{none-some, same_Some}
 use Rattle.sp_base.proofs.Facts.{first_true, is_none_plus, is_plus_none, next_goes_left, next_goes_right, second_true}
 use Rattle.sp_journal.specs.declared.entry.Way.{Way}
-use Rattle.sp_journal.specs.Names.{Name, Channel, Happening, Opened, Forked, Offered, Ended, Faulted, Laid, Paused}
+use Rattle.sp_journal.specs.Names.{Name, Channel, Happening, Offered}
 use Rattle.sp_journal.specs.Names.{Occurrence}
 use Rattle.sp_journal.specs.Past.{Knowledge, knowledge_after, no_knowledge, KnowsCompletions, CompletedFrom, AreOrdered}
 use Rattle.sp_meaning.proofs.Maps.{itself}
@@ -42,12 +42,7 @@ in_order : (j : Knowledge) (done : List Occurrence) (p : Name) (h : Happening) �
     → KnowsCompletions j done p h
 in_order j done p (Offered w c) t = λ i z e. let m = all_known j p w c 0 done t i z e in
     (m.0, ap j.completed (is_none_plus i) ∙ m.1, m.2)
-in_order j done p Opened t = tt
-in_order j done p (Forked k) t = tt
-in_order j done p Ended t = tt
-in_order j done p (Faulted f) t = tt
-in_order j done p Laid t = tt
-in_order j done p Paused t = tt
+in_order _ _ _ _ _ = tt
 
 completed_from : (j : Knowledge) (done es : List Occurrence) → order_from j done es ≡ true → CompletedFrom j done es
 completed_from j done [] h = tt
@@ -71,12 +66,7 @@ if_true false x h = refl
 offer_is : (w : Way) (c : Channel) (h : Happening) → is_offer w c h ≡ true → h ≡ Offered w c
 offer_is w c (Offered v d) h = λ i. Offered (sym (way_is w v (first_true _ _ h)) i)
     (sym ((channel_test c d).0 (second_true _ _ h)) i)
-offer_is w c Opened h = absurd (cc h)
-offer_is w c (Forked k) h = absurd (cc h)
-offer_is w c Ended h = absurd (cc h)
-offer_is w c (Faulted f) h = absurd (cc h)
-offer_is w c Laid h = absurd (cc h)
-offer_is w c Paused h = absurd (cc h)
+offer_is _ _ _ h = absurd (cc h)
 
 known_all : (j : Knowledge) (p : Name) (w : Way) (c : Channel) (k : ℕ) (es : List Occurrence)
     → ((i : ℕ) (z : Name) → slice_get es i ≡ Some (record { who = z; what = Offered w c }) → (m : ℕ)
@@ -93,12 +83,7 @@ order_in : (j : Knowledge) (done : List Occurrence) (p : Name) (h : Happening) �
     → is_in_order j done p h ≡ true
 order_in j done p (Offered w c) t = known_all j p w c 0 done
     (λ i z e. let m = t i z e in (m.0, ap j.completed (zero-add i) ∙ m.1, m.2))
-order_in j done p Opened t = refl
-order_in j done p (Forked k) t = refl
-order_in j done p Ended t = refl
-order_in j done p (Faulted f) t = refl
-order_in j done p Laid t = refl
-order_in j done p Paused t = refl
+order_in _ _ _ _ _ = refl
 
 from_completed : (j : Knowledge) (done es : List Occurrence) → CompletedFrom j done es → order_from j done es ≡ true
 from_completed j done [] h = refl

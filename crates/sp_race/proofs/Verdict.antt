@@ -143,11 +143,8 @@ module _ (g : RunInput) where
           → happening_of a (Advances x.cs) ≡ None
           → IsMove s x.makes.own
       by (Moves o ws) e h = record { next_own = o; writes = ws; move_is = e }
-      by (Opens o ws) e h = absurd (none-some _ (sym h))
-      by (Forks o os) e h = absurd (none-some _ (sym h))
-      by (Offering o) e h = absurd (none-some _ (sym h))
-      by EndsProcess e h = absurd (none-some _ (sym h))
       by (MeetsFault f) e h = absurd (faulty_does (ap (act_outcome s q) (sym e) ∙ x.makes.does))
+      by _ _ h = absurd (none-some _ (sym h))
 
   pub moves_know : (s : StateOf g) (own : Process) (v : JudgeNotes) (q : Name) → IsMove s own
       → KnowsBefore (superpascal g) v q ((superpascal g).next own s.store)

@@ -4,19 +4,14 @@
 use Rattle.std.specs.Prelude.{ℕ, suc, Bool, true, false, ◌&&◌, if◌then◌else◌, List, [], ◌∷◌, ◌++◌, length, Option, Some}
 use Rattle.std.specs.Prelude.{None}
 use Rattle.sp_journal.specs.declared.entry.Way.{Way}
-use Rattle.sp_journal.specs.Names.{Name, Channel, same_way, same_channel, Happening, Opened, Forked, Offered, Ended}
-use Rattle.sp_journal.specs.Names.{Faulted, Laid, Paused, Occurrence}
+use Rattle.sp_journal.specs.Names.{Name, Channel, same_way, same_channel, Happening, Offered}
+use Rattle.sp_journal.specs.Names.{Occurrence}
 use Rattle.sp_journal.specs.Past.{Knowledge, knowledge_after, no_knowledge}
 
 -- an offer of this way on this channel
 abbrev pub is_offer : Way → Channel → Happening → Bool
 is_offer w c (Offered v d) = same_way w v && same_channel c d
-is_offer w c Opened = false
-is_offer w c (Forked k) = false
-is_offer w c Ended = false
-is_offer w c (Faulted f) = false
-is_offer w c Laid = false
-is_offer w c Paused = false
+is_offer _ _ _ = false
 
 -- the completion is there, and p knows it
 abbrev pub is_known : Knowledge → Name → Option ℕ → Bool
@@ -32,12 +27,7 @@ knows_all j p w c i (e ∷ es) = (if is_offer w c e.what then is_known j p (j.co
 -- the condition at one entry
 abbrev pub is_in_order : Knowledge → List Occurrence → Name → Happening → Bool
 is_in_order j done p (Offered w c) = knows_all j p w c 0 done
-is_in_order j done p Opened = true
-is_in_order j done p (Forked k) = true
-is_in_order j done p Ended = true
-is_in_order j done p (Faulted f) = true
-is_in_order j done p Laid = true
-is_in_order j done p Paused = true
+is_in_order _ _ _ _ = true
 
 abbrev pub order_from : Knowledge → List Occurrence → List Occurrence → Bool
 order_from j done [] = true

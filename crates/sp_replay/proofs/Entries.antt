@@ -6,7 +6,7 @@ use Rattle.sp_journal.specs.declared.entry.Entry.{Entry}
 use Rattle.sp_journal.specs.declared.entry.Event.{Event}
 use Rattle.sp_code.specs.Memory.{CodeRun, Stores}
 use Rattle.sp_code.specs.PlainStore.{plain}
-use Rattle.sp_code.specs.Control.{Doing, Unborn, Ready, Out, Sending, Receiving, Joining, Laid, Ended, Gone}
+use Rattle.sp_code.specs.Control.{Doing, Ready, Out, Gone}
 use Rattle.sp_code.specs.System.{System, EntryLeads, EntriesLead, IsSystem, opening_system}
 use Rattle.sp_code.proofs.Systems.{event_same, leads_same}
 use Rattle.sp_history.specs.Agreement.{Among, phase, phase_in, Running}
@@ -58,12 +58,7 @@ run_away : (d : Doing) → phase d ≡ Running → (d ≡ Ready → ⊥) → IsO
 run_away Ready e n = absurd (n refl)
 run_away (Out w) e n = tt {0}
 run_away Gone e n = tt {0}
-run_away Unborn e n = absurd (cc e)
-run_away (Sending c) e n = absurd (cc e)
-run_away (Receiving c) e n = absurd (cc e)
-run_away (Joining m) e n = absurd (cc e)
-run_away Laid e n = absurd (cc e)
-run_away Ended e n = absurd (cc e)
+run_away _ e _ = absurd (cc e)
 
 -- who is not held does not run
 pub not_running : (x : Kernel) (c : HasCome x) (who : ℕ → Option Proc) → AreOut x who → x.ready ≡ [] → (q : ℕ)

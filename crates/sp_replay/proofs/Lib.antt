@@ -1,10 +1,10 @@
-pub mod OutOfKernel
-pub mod Living
-pub mod Giving
-pub mod Coming
-pub mod Entries
-pub mod Ending
-pub mod Holding
-pub mod TellingLaws
-pub mod Showing
-pub mod TooLarge
+mod OutOfKernel
+mod Living
+mod Giving
+mod Coming
+mod Entries
+mod Ending
+mod Holding
+mod TellingLaws
+mod Showing
+mod TooLarge

@@ -53,13 +53,7 @@ module _ (k : Control) (h : IsOrderly k) (c : HasChildren k) (lawful : Lawful k.
   ended_dead : (d : Doing) → has_ended d ≡ true → IsLive d → ⊥
   ended_dead Ended e l = l
   ended_dead Unborn e l = l
-  ended_dead Ready e l = absurd (cc e)
-  ended_dead (Out w) e l = absurd (cc e)
-  ended_dead (Sending x) e l = absurd (cc e)
-  ended_dead (Receiving x) e l = absurd (cc e)
-  ended_dead (Joining n) e l = absurd (cc e)
-  ended_dead Laid e l = absurd (cc e)
-  ended_dead Gone e l = absurd (cc e)
+  ended_dead _ e _ = absurd (cc e)
 
   -- after the root's end nobody is ready
   pub ended_none : has_ended (k.doing 0) ≡ true → k.ready ≡ []

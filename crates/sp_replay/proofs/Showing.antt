@@ -8,7 +8,7 @@ use Rattle.std.specs.Prelude.{MatchOption}
 use Rattle.sp_cell.specs.Map.{Plain}
 use Rattle.sp_journal.specs.declared.entry.Entry.{Entry}
 use Rattle.sp_journal.specs.Maps.{at_key}
-use Rattle.sp_code.specs.System.{Condition, Absent, Working, Waits, Joins, Laid, Gone, Over}
+use Rattle.sp_code.specs.System.{Condition, Absent, Working, Gone}
 use Rattle.sp_history.specs.Agreement.{phase_in, Running}
 use Rattle.sp_kernel.proofs.Tables.{table_set}
 use Rattle.sp_kernel.specs.Views.{IsUnseen}
@@ -20,11 +20,8 @@ use Rattle.sp_replay.specs.Tracing.{IsNowhere, last_in, never, or_zero}
 pub nowhere : (x : Condition Plain) → IsUnseen x → (phase_in x ≡ Running → ⊥) → IsNowhere x
 nowhere Absent u n = tt {0}
 nowhere (Working c) u n = n refl
-nowhere (Waits stop c) u n = u
-nowhere (Joins left c) u n = u
-nowhere (Laid c) u n = u
 nowhere Gone u n = tt {0}
-nowhere (Over c) u n = u
+nowhere _ u _ = u
 
 -- of what is none, something else may be said
 pub on_none : {X : Type 0} (o : Option X) (P Q : Type 0) (R : X → Type 0) → (P → Q) → MatchOption o P R

@@ -33,14 +33,8 @@ use Rattle.sp_replay.proofs.Entries.{at_or, one_more}
 is_turn : (p : Proc) (code : Parts) (lim : Limits) (q : Proc) (s : Stop) → IsTurnOf p code lim q s
     → (s ≡ stop.Memory → ⊥)
     → IsTurn (memory plain (run_of code p.input.value lim)) code (config_of p) (turn_by s q)
-is_turn p code lim q (stop.Fork t v n) h w = h.0
-is_turn p code lim q stop.Open h w = h.0
-is_turn p code lim q (stop.Send c k cs) h w = h.0
-is_turn p code lim q (stop.Receive c k) h w = h.0
-is_turn p code lim q stop.End h w = h.0
-is_turn p code lim q stop.Pause h w = h.0
-is_turn p code lim q (stop.Fault f) h w = h.0
 is_turn p code lim q stop.Memory h w = absurd (w refl)
+is_turn _ _ _ _ _ h _ = h.0
 
 module _ (x : Kernel) (code : Parts) (lim : Limits) (runs : RunsOn x code lim) (e : Entry) (p : Proc)
     (out : IsOutAs x e.process p) (h : Handed) (turned : WasTurned p code lim h) where

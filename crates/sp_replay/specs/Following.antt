@@ -10,7 +10,7 @@ use Rattle.sp_journal.specs.declared.entry.Note.{Note}
 use Rattle.sp_journal.specs.Maps.{at_key}
 use Rattle.sp_code.specs.declared.code.Parts.{Parts}
 use Rattle.sp_code.specs.PlainStore.{plain}
-use Rattle.sp_code.specs.Control.{Doing, Unborn, Ready, Out, Sending, Receiving, Joining, Laid, Ended, Gone}
+use Rattle.sp_code.specs.Control.{Doing, Out, Gone}
 use Rattle.sp_code.specs.System as system
 use Rattle.sp_code.specs.System.{System, Working}
 use Rattle.sp_machine.specs.declared.state.State.{State as Proc}
@@ -26,15 +26,9 @@ use Rattle.sp_replay.specs.Held.{held_at}
 
 -- the kernel does not have the process
 abbrev pub IsOutOfKernel : Doing → Type 0
-IsOutOfKernel Unborn = ⊥
-IsOutOfKernel Ready = ⊥
 IsOutOfKernel (Out w) = Unit {0}
-IsOutOfKernel (Sending c) = ⊥
-IsOutOfKernel (Receiving c) = ⊥
-IsOutOfKernel (Joining n) = ⊥
-IsOutOfKernel Laid = ⊥
-IsOutOfKernel Ended = ⊥
 IsOutOfKernel Gone = Unit {0}
+IsOutOfKernel _ = ⊥
 
 -- process q is out, and is this one
 pub record IsOutAs (y : Kernel) (q : ℕ) (p : Proc) : Type 0 where

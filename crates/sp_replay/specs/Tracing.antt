@@ -6,7 +6,7 @@ use Rattle.sp_cell.specs.Map.{Plain}
 use Rattle.sp_journal.specs.declared.entry.Entry.{Entry}
 use Rattle.sp_code.specs.Memory.{CodeRun}
 use Rattle.sp_code.specs.PlainStore.{plain}
-use Rattle.sp_code.specs.System.{System, Condition, Absent, Working, Waits, Joins, Laid, Gone, Over, IsSystem}
+use Rattle.sp_code.specs.System.{System, Condition, Absent, Gone, IsSystem}
 use Rattle.sp_history.specs.Holding.{IsOutputOf}
 use Rattle.sp_lines.specs.Telling.{IsTold}
 use Rattle.sp_kernel.specs.Kernels.{system_of}
@@ -43,12 +43,8 @@ replayed_of (Err e) = Err e
 -- a process that was not started, or has ended
 abbrev pub IsNowhere : Condition Plain → Type 0
 IsNowhere Absent = Unit {0}
-IsNowhere (Working c) = ⊥
-IsNowhere (Waits stop c) = ⊥
-IsNowhere (Joins left c) = ⊥
-IsNowhere (Laid c) = ⊥
 IsNowhere Gone = Unit {0}
-IsNowhere (Over c) = ⊥
+IsNowhere _ = ⊥
 
 -- the number in a place of a list, or 0
 abbrev pub or_zero : Option ℕ → ℕ

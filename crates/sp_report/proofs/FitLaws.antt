@@ -24,22 +24,13 @@ use Rattle.sp_report.specs.Fits.{ConditionsFit, ConditionFits}
 grows : (s : Births) (p : ℕ) (e : Event) → (s.processes ≤ (births_after_event s p e).processes)
     × (s.channels ≤ (births_after_event s p e).channels)
 grows s p (event.Fork n) = (omega arith, omega arith)
-grows s p event.Open = (omega arith, omega arith)
-grows s p (event.Send c) = (omega arith, omega arith)
-grows s p (event.Receive c) = (omega arith, omega arith)
-grows s p event.End = (omega arith, omega arith)
-grows s p (event.Fault f) = (omega arith, omega arith)
-grows s p event.Laid = (omega arith, omega arith)
-grows s p event.Pause = (omega arith, omega arith)
+grows _ _ _ = (omega arith, omega arith)
 
 wider : (s r : Births) (k : Condition) → s.processes ≤ r.processes → s.channels ≤ r.channels → ConditionFits s k
     → ConditionFits r k
 wider s r (condition.Offering w c) p q h = omega arith
 wider s r (condition.Joining first n left) p q h = omega arith
-wider s r condition.Unstarted p q h = tt
-wider s r condition.Running p q h = tt
-wider s r condition.Ended p q h = tt
-wider s r condition.Laid p q h = tt
+wider _ _ _ _ _ _ = tt
 
 module _ (s : Births) where
   either : (b : Bool) (j k : Condition) → ConditionFits s j → ConditionFits s k → ConditionFits s (cond b j k)
@@ -67,11 +58,7 @@ module _ (s : Births) where
       → ConditionsFit s (with_child_fewer t p k)
   waits_fit t p (condition.Joining first n left) l f =
       becomes_fit t p (less_left first n left) f (less_fits first n left l)
-  waits_fit t p condition.Unstarted l f = f
-  waits_fit t p condition.Running l f = f
-  waits_fit t p (condition.Offering w c) l f = f
-  waits_fit t p condition.Ended l f = f
-  waits_fit t p condition.Laid l f = f
+  waits_fit _ _ _ _ f = f
 
   reported_fit : (t : Conditions) (b : Option Birth) → ConditionsFit s t → ConditionsFit s (conditions_after_end t b)
   reported_fit t None f = f

@@ -69,35 +69,16 @@ channel_clean c = joined (name_text c.owner ++ codes "#") (decimal c.nth)
 
 fault_clean : (f : Fault) → no_feed (fault_name f) ≡ true
 fault_clean fault.F1 = refl
-fault_clean fault.F2 = refl
-fault_clean fault.F3 = refl
-fault_clean fault.F4 = refl
-fault_clean fault.F5 = refl
-fault_clean fault.F6 = refl
-fault_clean fault.F7 = refl
-fault_clean fault.F8 = refl
-fault_clean fault.F9 = refl
-fault_clean fault.F10 = refl
-fault_clean fault.F11 = refl
-fault_clean fault.F12 = refl
-fault_clean fault.F13 = refl
-fault_clean fault.F14 = refl
-fault_clean fault.F15 = refl
-fault_clean fault.F16 = refl
-fault_clean fault.F17 = refl
-fault_clean fault.F18 = refl
+fault_clean _ = refl
 
 event_clean : (s : Births) (e : Event) → no_feed (event_text s e) ≡ true
 event_clean s (event.Fork n) = joined (codes "fork ") (decimal n) refl (number_clean n)
-event_clean s event.Open = refl
 event_clean s (event.Send c) = joined (codes "send ") (channel_text (chan_name (channel s c))) refl
     (channel_clean (chan_name (channel s c)))
 event_clean s (event.Receive c) = joined (codes "receive ") (channel_text (chan_name (channel s c))) refl
     (channel_clean (chan_name (channel s c)))
-event_clean s event.End = refl
 event_clean s (event.Fault f) = joined (codes "fault ") (fault_name f) refl (fault_clean f)
-event_clean s event.Laid = refl
-event_clean s event.Pause = refl
+event_clean _ _ = refl
 
 entry_clean : (s : Births) (e : Entry) → no_feed (entry_text s e) ≡ true
 entry_clean s e = joined (name_text (proc_name (s.name e.process)) ++ codes " ") (event_text s e.event)

@@ -55,11 +55,7 @@ less_left first n left = cond (left == 1) condition.Running (condition.Joining f
 -- process p waits for a child fewer
 abbrev pub with_child_fewer : Conditions → ℕ → Condition → Conditions
 with_child_fewer t p (condition.Joining first n left) = with_condition t p (less_left first n left)
-with_child_fewer t p condition.Unstarted = t
-with_child_fewer t p condition.Running = t
-with_child_fewer t p (condition.Offering w c) = t
-with_child_fewer t p condition.Ended = t
-with_child_fewer t p condition.Laid = t
+with_child_fewer t _ _ = t
 
 -- the parent of who ended waits for a child fewer
 abbrev pub conditions_after_end : Conditions → Option Birth → Conditions
@@ -79,32 +75,16 @@ conditions_after_event s t p event.Pause = t
 
 abbrev pub is_running : Condition → Bool
 is_running condition.Running = true
-is_running condition.Unstarted = false
-is_running (condition.Offering w c) = false
-is_running (condition.Joining first n left) = false
-is_running condition.Ended = false
-is_running condition.Laid = false
+is_running _ = false
 
 abbrev pub is_fault : Event → Bool
 is_fault (event.Fault f) = true
-is_fault (event.Fork n) = false
-is_fault event.Open = false
-is_fault (event.Send c) = false
-is_fault (event.Receive c) = false
-is_fault event.End = false
-is_fault event.Laid = false
-is_fault event.Pause = false
+is_fault _ = false
 
 -- only `laid` follows a fault, and it follows nothing else
 abbrev pub is_timely : Bool → Event → Bool
 is_timely faulted event.Laid = faulted
-is_timely faulted (event.Fork n) = not faulted
-is_timely faulted event.Open = not faulted
-is_timely faulted (event.Send c) = not faulted
-is_timely faulted (event.Receive c) = not faulted
-is_timely faulted event.End = not faulted
-is_timely faulted (event.Fault f) = not faulted
-is_timely faulted event.Pause = not faulted
+is_timely faulted _ = not faulted
 
 -- a fault counts whoever makes it
 abbrev pub conditions_with_fault : Event → Conditions → Conditions

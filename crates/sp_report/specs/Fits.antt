@@ -21,10 +21,7 @@ table_conditions t = record {
 abbrev pub ConditionFits : Births → Condition → Type 0
 ConditionFits s (condition.Offering w c) = c < s.channels
 ConditionFits s (condition.Joining first n left) = first + n ≤ s.processes
-ConditionFits s condition.Unstarted = Unit {0}
-ConditionFits s condition.Running = Unit {0}
-ConditionFits s condition.Ended = Unit {0}
-ConditionFits s condition.Laid = Unit {0}
+ConditionFits _ _ = Unit {0}
 
 -- so for each process
 abbrev pub ConditionsFit : Births → Conditions → Type 0

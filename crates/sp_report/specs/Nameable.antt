@@ -13,10 +13,7 @@ numbers_prop s p (event.Fork n) = ×_prop le_prop le_prop
 numbers_prop s p event.Open = ×_prop le_prop le_prop
 numbers_prop s p (event.Send c) = le_prop
 numbers_prop s p (event.Receive c) = le_prop
-numbers_prop s p event.End = Unit-prop
-numbers_prop s p (event.Fault f) = Unit-prop
-numbers_prop s p event.Laid = Unit-prop
-numbers_prop s p event.Pause = Unit-prop
+numbers_prop _ _ _ = Unit-prop
 
 -- so for whole journals
 pub nameable_prop : (s : Births) (es : List Entry) → IsProp (NameableFrom s es)

@@ -18,19 +18,12 @@ use Rattle.sp_report.specs.InOrder.{NamedProcess, sorted_by_name}
 abbrev pub is_waiting : Condition → Bool
 is_waiting (condition.Offering w c) = true
 is_waiting (condition.Joining first n left) = true
-is_waiting condition.Unstarted = false
-is_waiting condition.Running = false
-is_waiting condition.Ended = false
-is_waiting condition.Laid = false
+is_waiting _ = false
 
 -- it has ended
 abbrev pub has_ended : Condition → Bool
 has_ended condition.Ended = true
-has_ended condition.Unstarted = false
-has_ended condition.Running = false
-has_ended (condition.Offering w c) = false
-has_ended (condition.Joining first n left) = false
-has_ended condition.Laid = false
+has_ended _ = false
 
 -- these children, each after a space
 abbrev pub children_text : Births → List ℕ → List ℕ
@@ -44,10 +37,7 @@ unended_children t first n = filter (λ q. not (has_ended (t.of q))) (numbers fi
 abbrev pub wait_text : Births → Conditions → Condition → List ℕ
 wait_text s t (condition.Offering w c) = offer_text s w c
 wait_text s t (condition.Joining first n left) = codes "join" ++ children_text s (unended_children t first n)
-wait_text s t condition.Unstarted = []
-wait_text s t condition.Running = []
-wait_text s t condition.Ended = []
-wait_text s t condition.Laid = []
+wait_text _ _ _ = []
 
 -- the line of a process that waits
 abbrev pub waiting_line : Births → Conditions → NamedProcess → List ℕ

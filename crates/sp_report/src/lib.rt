@@ -20,6 +20,9 @@
 //!   neighbours, so the text takes time near linear in its bytes.
 //! - In `waiting` a fault counts from its entry on, whoever made it.
 //!
+//! Lemmas for others, in `proofs`:
+//! - `Orders`: processes that are put in the order of their names, one after another.
+//!
 //! To change:
 //! - A watcher: a file of its own with an `impl Watcher`, its text in `specs/`, its name in `is_chosen`, its place in
 //!   `sorted_by_name`.

@@ -1,6 +1,6 @@
 pub mod Histories
 pub mod Places
-pub mod RoomKeeps
-pub mod Serving
-pub mod SeatsKeep
-pub mod Rows
+mod RoomKeeps
+mod Serving
+mod SeatsKeep
+mod Rows

@@ -67,6 +67,10 @@
 //!   - A note is counted (word 1, add): the note is seen, and is its own.
 //!   - The turn is given back (word 0, store): it holds no turn, and has given one more back.
 //!
+//! Lemmas for others, in `proofs`:
+//! - `Histories`: lists of notes that begin with others, and the claims of a list of views.
+//! - `Places`: a seat stays where it is, whatever it does: what a caller needs of a seat that moved.
+//!
 //! To change:
 //! - What a step does: `specs/RoomRule.antt` and the lemma of that step in `proofs/RoomKeeps.antt` (turn) or
 //!   `proofs/SeatsKeep.antt` (seats).

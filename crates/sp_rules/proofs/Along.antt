@@ -161,12 +161,9 @@ module _ (g : CodeRun) {Area : Type 0} (H : Area → List Home) (E : Area → �
 
   received_live : (cs : List Cell) (x : Condition Plain) → IsLive (after_message plain g cs x) → IsLive x
   received_live cs Absent l = l
-  received_live cs (Working c) l = tt
-  received_live cs (Waits stop c) l = tt
-  received_live cs (Joins left c) l = tt
-  received_live cs (Laid c) l = tt
   received_live cs Gone l = l
   received_live cs (Over c) l = l
+  received_live _ _ _ = tt
 
   -- the message goes over to the one that waits, and the other goes on
   pub meets_ok : (f : ℕ → Condition Plain) (b : Births) (i : Ok f b) (q z : ℕ) (cs : List Cell) (x : Condition Plain)
@@ -243,13 +240,10 @@ module _ (g : CodeRun) {Area : Type 0} (H : Area → List Home) (E : Area → �
     pub fine_alike : (b : Base g H E T) (rs : List ℕ) (x : Condition Plain)
         → ((r : ℕ) → IsMember r rs → next r ≡ base r) → Fine g H E T Room Cells base b rs x
         → Fine g H E T Room Cells next b rs x
-    fine_alike b rs Absent h f = tt
     fine_alike b rs (Working c) h f = f
     fine_alike b rs (Waits stop c) h f = f
     fine_alike b rs (Joins left c) h f = joins_alike b rs c h f
-    fine_alike b rs (Laid c) h f = tt
-    fine_alike b rs Gone h f = tt
-    fine_alike b rs (Over c) h f = tt
+    fine_alike _ _ _ _ _ = tt
 
   -- the parent after a child's end: it goes on, or joins the others
   module _ (base : ℕ → Base g H E T) (b : Base g H E T) (rs : List ℕ) (r : ℕ) (mine : IsMember r rs) (a : Area) (qc : ℕ)
@@ -320,13 +314,8 @@ module _ (g : CodeRun) {Area : Type 0} (H : Area → List Home) (E : Area → �
       some (y ∷ xs) m e = omega (arith, e)
 
       joins : (y : Condition Plain) → f x.parent ≡ y → (left : ℕ) × (d : Config (Memory Plain)) × (y ≡ Joins left d)
-      joins Absent e = absurd (some (i.children x.parent) mine (i.count x.parent ∙ ap awaited_children e))
-      joins (Working d) e = absurd (some (i.children x.parent) mine (i.count x.parent ∙ ap awaited_children e))
-      joins (Waits stop d) e = absurd (some (i.children x.parent) mine (i.count x.parent ∙ ap awaited_children e))
       joins (Joins left d) e = (left, d, refl)
-      joins (Laid d) e = absurd (some (i.children x.parent) mine (i.count x.parent ∙ ap awaited_children e))
-      joins Gone e = absurd (some (i.children x.parent) mine (i.count x.parent ∙ ap awaited_children e))
-      joins (Over d) e = absurd (some (i.children x.parent) mine (i.count x.parent ∙ ap awaited_children e))
+      joins _ e = absurd (some (i.children x.parent) mine (i.count x.parent ∙ ap awaited_children e))
 
       go : (y : Condition Plain) → f x.parent ≡ y
           → Ok (at_key ◌==◌ x.parent (parent_after_join plain g (At qc qt c) y) (at_key ◌==◌ q Gone f)) b

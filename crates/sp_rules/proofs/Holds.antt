@@ -224,12 +224,8 @@ passed_later ls fs b bs e1 es j t k m e h = record {
 }
   where
     go : (e1 : Entry) → reference_target t (references j (e1 ∷ es)) ≡ reference_target t (references (suc j) es)
-    go (Number v) = refl
-    go (Chan d) = refl
     go (Pointer q) = ap (λ z. if z then Some q else reference_target t (references (suc j) es)) e
-    go (Cells cs) = refl
-    go (Link r) = refl
-    go (Reply r) = refl
+    go _ = refl
 
 passed_at : (ls : List Layout) (fs : List Frame) (ms : List Formal) (bs : List Shape) (es : List Entry) (j : ℕ)
     → Pairs ls fs bs es → rule.fit_formals ms bs ≡ true → (t k m : ℕ) → t ≡ j + k

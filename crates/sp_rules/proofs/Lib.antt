@@ -1,43 +1,43 @@
 pub mod Lists
-pub mod Chains
-pub mod Calls
-pub mod Forking
-pub mod Births
-pub mod Keeping
+mod Chains
+mod Calls
+mod Forking
+mod Births
+mod Keeping
 pub mod Pieces
-pub mod Holdings
-pub mod Pushes
-pub mod Messages
-pub mod Rejoining
-pub mod Forked
-pub mod Along
-pub mod Journals
-pub mod Safety
-pub mod Taking
-pub mod Facts
-pub mod Turns
+mod Holdings
+mod Pushes
+mod Messages
+mod Rejoining
+mod Forked
+mod Along
+mod Journals
+mod Safety
+mod Taking
+mod Facts
+mod Turns
 pub mod Walking
 pub mod Scoping
-pub mod Addresses
-pub mod Unbroken
+mod Addresses
+mod Unbroken
 pub mod Effects
 pub mod Firsts
-pub mod Instances
+mod Instances
 pub mod Readiness
 pub mod Safe
-pub mod Holds
+mod Holds
 pub mod Writing
 pub mod Ending
 pub mod Ranked
 pub mod Kept
-pub mod Opening
+mod Opening
 pub mod Verified
-pub mod EffectRows
+mod EffectRows
 pub mod Assembly
-pub mod Answering
+mod Answering
 pub mod EffectLaws
 pub mod Rows
-pub mod Tabled
-pub mod KeptRows
-pub mod AnswerRow
-pub mod AnswerForks
+mod Tabled
+mod KeptRows
+mod AnswerRow
+mod AnswerForks

@@ -192,12 +192,8 @@ more_in x (A y n) bs h = inr h
 skips : (ls : List Layout) (fs : List Frame) (e1 : Entry) (es : List Entry) (j t m : ℕ) → (t == j) ≡ false
     → Refers ls fs (reference_target t (references (suc j) es)) m
     → Refers ls fs (reference_target t (references j (e1 ∷ es))) m
-skips ls fs (Number v) es j t m e h = h
-skips ls fs (Chan d) es j t m e h = h
 skips ls fs (Pointer q) es j t m e h = rw e h
-skips ls fs (Cells cs) es j t m e h = h
-skips ls fs (Link r) es j t m e h = h
-skips ls fs (Reply r) es j t m e h = h
+skips _ _ _ _ _ _ _ _ h = h
 
 in_more : (x : ℕ) (xs : List ℕ) → IsIn x xs → IsIn x (xs ++ [])
 in_more x [] h = absurd h

@@ -8,7 +8,7 @@ use Rattle.sp_code.specs.declared.instr.Instr.{Instr}
 use Rattle.sp_code.specs.declared.instr.Instr.TheVariants as i
 use Rattle.sp_code.specs.declared.code.Layout.{Layout}
 use Rattle.sp_code.specs.declared.code.Parts.{Parts}
-use Rattle.sp_code.specs.Machine.{Entry, Stop, Forks, Opens, Sends, Receives, Ends, Pauses, At, StepResult, Goes, Stops}
+use Rattle.sp_code.specs.Machine.{Entry, Stop, Forks, Receives, Ends, Pauses, At, StepResult, Goes, Stops}
 use Rattle.sp_code.specs.Machine.{Fails}
 use Rattle.sp_code.specs.Machine.{Stuck, layout_of}
 use Rattle.sp_code.specs.Memory.{CodeRun, Stores, Frame, Memory, memory, with_store, memory_after_call}
@@ -40,10 +40,8 @@ module _ {S : Type 0} (stores : Stores S) (g : CodeRun) where
   abbrev pub IsHere : Memory S → Stop → List Area → List Area → Type 0
   IsHere m Pauses us vs = Unit {0}
   IsHere m (Forks t v k) us vs = (us ≡ vs) × ((memory stores g).may_fork m ≡ true)
-  IsHere m (Opens q) us vs = us ≡ vs
-  IsHere m (Sends ch k cs) us vs = us ≡ vs
   IsHere m (Receives ch k q) us vs = (us ≡ vs) × ((n : Memory S) × (m ≡ (memory stores g).make_own q n))
-  IsHere m Ends us vs = us ≡ vs
+  IsHere _ _ us vs = us ≡ vs
 
 module _ {S : Type 0} (stores : Stores S) (g : CodeRun) (a : Area) (o : Option Instr) (ss : List Shape)
     (n : Memory S) where

@@ -105,7 +105,7 @@ is_reference Plainly = false
 is_reference Never = false
 is_reference ByReference = true
 
--- may end a loop's variable
+-- can be the control variable of a `for`: it is named plainly and has one cell
 abbrev pub is_loop_variable : Option VariableInfo → Bool
 is_loop_variable None = false
 is_loop_variable (Some f) = is_plain f.naming && (f.cells == 1)

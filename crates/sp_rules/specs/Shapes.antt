@@ -45,26 +45,19 @@ take_c (L n ∷ ss) go = Wrong
 take_c (A x n ∷ ss) go = Wrong
 
 abbrev pub take_a : List Shape → (ℕ → ℕ → List Shape → Shaped) → Shaped
-take_a [] go = Wrong
-take_a (O ∷ ss) go = Wrong
-take_a (C ∷ ss) go = Wrong
-take_a (L n ∷ ss) go = Wrong
 take_a (A x n ∷ ss) go = go x n ss
+take_a _ _ = Wrong
 
 -- an ordinal or a channel; two of one kind; an ordinal, a channel or cells, with their number
 abbrev pub take_value : List Shape → (List Shape → Shaped) → Shaped
-take_value [] go = Wrong
 take_value (O ∷ ss) go = go ss
 take_value (C ∷ ss) go = go ss
-take_value (L n ∷ ss) go = Wrong
-take_value (A x n ∷ ss) go = Wrong
+take_value _ _ = Wrong
 
 abbrev pub take_same : List Shape → (List Shape → Shaped) → Shaped
-take_same [] go = Wrong
 take_same (O ∷ ss) go = take_o ss go
 take_same (C ∷ ss) go = take_c ss go
-take_same (L n ∷ ss) go = Wrong
-take_same (A x n ∷ ss) go = Wrong
+take_same _ _ = Wrong
 
 abbrev pub take_cells : List Shape → (ℕ → List Shape → Shaped) → Shaped
 take_cells [] go = Wrong
@@ -202,11 +195,8 @@ module _ (c : Parts) (a : Area) where
 
 -- the topmost operand is no address, or has so many cells left
 abbrev pub has_left : ℕ → List Shape → Bool
-has_left k [] = true
-has_left k (O ∷ ss) = true
-has_left k (C ∷ ss) = true
-has_left k (L n ∷ ss) = true
 has_left k (A x n ∷ ss) = nat_le k n
+has_left _ _ = true
 
 -- those below the topmost
 abbrev pub below_topmost : List Shape → List Shape

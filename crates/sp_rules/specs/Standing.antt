@@ -129,11 +129,8 @@ module _ (c : Parts) where
 
   -- the cells left of the topmost address
   abbrev pub cells_left : List Shape → Option ℕ
-  cells_left [] = None
-  cells_left (O ∷ ss) = None
-  cells_left (C ∷ ss) = None
-  cells_left (L n ∷ ss) = None
   cells_left (A x n ∷ ss) = Some n
+  cells_left _ = None
 
   -- somewhere a message of this type has so many cells, and somewhere one is received where so many are left
   pub record IsSent (k n : ℕ) : Type 0 where

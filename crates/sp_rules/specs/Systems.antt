@@ -11,7 +11,7 @@ use Rattle.sp_journal.specs.Births.{Births}
 use Rattle.sp_journal.specs.declared.entry.Birth.{Birth}
 use Rattle.sp_code.specs.Machine.{Config}
 use Rattle.sp_code.specs.Memory.{CodeRun, Home, Frame, Memory}
-use Rattle.sp_code.specs.System.{Condition, Absent, Working, Waits, Joins, Laid, Gone, Over, spot_of, frames_of}
+use Rattle.sp_code.specs.System.{Condition, Absent, Working, Waits, Joins, Gone, Over, spot_of, frames_of}
 use Rattle.sp_code.specs.System.{store_of, on_store}
 use Rattle.sp_rules.specs.Extents.{extent}
 use Rattle.sp_rules.specs.Running.{Base, HasActivations, StopsWell}
@@ -23,23 +23,15 @@ without_first q (x ∷ xs) = cond (q == x) xs (x ∷ without_first q xs)
 
 -- how many children a process awaits yet
 abbrev pub awaited_children : {S : Type 0} → Condition S → ℕ
-awaited_children Absent = 0
-awaited_children (Working c) = 0
-awaited_children (Waits stop c) = 0
 awaited_children (Joins left c) = left
-awaited_children (Laid c) = 0
-awaited_children Gone = 0
-awaited_children (Over c) = 0
+awaited_children _ = 0
 
 -- a process that has not ended
 abbrev pub IsLive : {S : Type 0} → Condition S → Type 0
 IsLive Absent = ⊥
-IsLive (Working c) = Unit {0}
-IsLive (Waits stop c) = Unit {0}
-IsLive (Joins left c) = Unit {0}
-IsLive (Laid c) = Unit {0}
 IsLive Gone = ⊥
 IsLive (Over c) = ⊥
+IsLive _ = Unit {0}
 
 module _ (g : CodeRun) {Area : Type 0} (H : Area → List Home) (E : Area → ℕ → Type 0) (T : List Area
     → Config (Memory Plain) → Type 0) (Room Cells : ℕ → ℕ → Type 0) where
@@ -80,14 +72,11 @@ module _ (g : CodeRun) {Area : Type 0} (H : Area → List Home) (E : Area → �
 
   -- a process lives in its condition
   abbrev pub Fine : (ℕ → Base g H E T) → Base g H E T → List ℕ → Condition Plain → Type 0
-  Fine base b rs Absent = Unit {0}
   Fine base b rs (Working c) = (us : List Area) × HasActivations g H E T b us c × T us c
   Fine base b rs (Waits stop c) = (us : List Area) × HasActivations g H E T b us c × T us c
       × StopsWell g H E T Room Cells stop us c
   Fine base b rs (Joins left c) = JoinsWell base b rs c
-  Fine base b rs (Laid c) = Unit {0}
-  Fine base b rs Gone = Unit {0}
-  Fine base b rs (Over c) = Unit {0}
+  Fine _ _ _ _ = Unit {0}
 
   -- all processes: each lives, and who has not ended is awaited by its parent
   pub record Inv (condition : ℕ → Condition Plain) (births : Births) : Type 0 where

@@ -16,11 +16,8 @@ use Rattle.sp_rules.specs.Extents.{HasWhole}
 
 -- the variable of the topmost operand, if it is an address
 abbrev pub topmost_variable : List Shape → List ℕ
-topmost_variable [] = []
-topmost_variable (O ∷ ss) = []
-topmost_variable (C ∷ ss) = []
-topmost_variable (L n ∷ ss) = []
 topmost_variable (A x n ∷ ss) = x ∷ []
+topmost_variable _ = []
 
 -- the variables of the addresses among the n topmost
 abbrev pub addresses : ℕ → List Shape → List ℕ

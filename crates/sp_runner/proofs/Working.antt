@@ -205,23 +205,11 @@ module _ (x : Kernel) (code : Parts) (lim : Limits) (run : IsRunOf x code lim) (
       by_stop : (r : Stop) → (r ≡ stop.Memory → ⊥) → IsTurnOf p code lim q r
           → IsTurn (memory plain (run_of code p.input.value lim)) code (config_of p) (turn_by r q) × KeepsFork r q
       by_stop stop.Memory n t = absurd (n refl)
-      by_stop (stop.Fork u v i) n t = t
-      by_stop stop.Open n t = t
-      by_stop (stop.Send c k cs) n t = t
-      by_stop (stop.Receive c k) n t = t
-      by_stop stop.End n t = t
-      by_stop stop.Pause n t = t
-      by_stop (stop.Fault f) n t = t
+      by_stop _ _ t = t
 
       whole : (r : Stop) → (r ≡ stop.Memory → ⊥) → IsWhole r
       whole stop.Memory n = absurd (n refl)
-      whole (stop.Fork u v i) n = tt {0}
-      whole stop.Open n = tt {0}
-      whole (stop.Send c k cs) n = tt {0}
-      whole (stop.Receive c k) n = tt {0}
-      whole stop.End n = tt {0}
-      whole stop.Pause n = tt {0}
-      whole (stop.Fault f) n = tt {0}
+      whole _ _ = tt {0}
 
   -- who is lost with its worker
   pub may_lose : (own : List Note) (q : Proc) → notes_of_worker w seen ≡ own → KeepsNumberAndInput p q

@@ -14,10 +14,10 @@ use Rattle.sp_journal.specs.declared.outcome.Waiter.{Waiter}
 use Rattle.sp_journal.specs.Births.{Births, channel}
 use Rattle.sp_journal.specs.Names.{proc_name, chan_name}
 use Rattle.sp_journal.specs.Queue.{numbers}
-use Rattle.sp_code.specs.Machine.{Stop, Forks, Opens, Sends, Receives, Ends, Pauses}
+use Rattle.sp_code.specs.Machine.{Stop, Sends, Receives}
 use Rattle.sp_code.specs.Memory.{CodeRun}
 use Rattle.sp_code.specs.PlainStore.{plain}
-use Rattle.sp_code.specs.System.{System, Condition, Absent, Working, Waits, Joins, Laid, Gone, Over, IsSystem}
+use Rattle.sp_code.specs.System.{System, Condition, Waits, IsSystem}
 use Rattle.sp_history.specs.Agreement.{phase_in, Running, Finished}
 use Rattle.sp_history.specs.Holding.{IsOutputOf}
 use Rattle.sp_kernel.specs.Faults.{fault_in}
@@ -26,22 +26,14 @@ use Rattle.sp_kernel.specs.Faults.{fault_in}
 
 -- the way and the channel of an offer
 abbrev pub offer_at : Stop → Option (Way × ℕ)
-offer_at (Forks t v n) = None
-offer_at (Opens a) = None
 offer_at (Sends c k cs) = Some (way.Send, c)
 offer_at (Receives c k a) = Some (way.Receive, c)
-offer_at Ends = None
-offer_at Pauses = None
+offer_at _ = None
 
 -- those of a process that waits with one
 abbrev pub offer_in : Condition Plain → Option (Way × ℕ)
-offer_in Absent = None
-offer_in (Working c) = None
 offer_in (Waits stop c) = offer_at stop
-offer_in (Joins n c) = None
-offer_in (Laid c) = None
-offer_in Gone = None
-offer_in (Over c) = None
+offer_in _ = None
 
 -- process q, if it waits, by its name and that of the channel
 abbrev pub waiter_list : Births → ℕ → Option (Way × ℕ) → List Waiter

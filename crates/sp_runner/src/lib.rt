@@ -17,6 +17,14 @@
 //! - One seat is enough at the end: what it saw as over stays over, and where no worker gave up nothing is out.
 //! - The types of the kernel and the room that go to another thread are shown so in `sp_kernel/proofs/Crossing.antt`.
 //!
+//! Lemmas for others, in `proofs`:
+//! - `Working`: what a worker holds may be handed in: who gets work has it out, in the state of the system along
+//!   what its seat has seen.
+//! - `Closing`: a run that was closed is one of the definitions: from the kernel's end to that of the system
+//!   (`closed_run`).
+//! - `TooLarge`: the run of a program whose frame has more cells than the limit: F12 before its first instruction
+//!   (`one_fault`).
+//!
 //! To change:
 //! - What a worker does: `work` of `src/worker.rt`, its invariant, and `proofs/Working.antt` for what it hands in.
 //! - What is promised of a run: `IsRun`, and `closed_run` of `proofs/Closing.antt`.

@@ -13,6 +13,12 @@
 //! - `scan` and `first_breach` go from item to item (`src/scanner.rt`), by the rules at one place (`src/rules.rt`).
 //! - The formatter scans with comments by `item`, and its contracts cite `specs/Finds.antt` too.
 //!
+//! Lemmas for others, in `proofs`:
+//! - `Along`: runs of bytes, comments and texts, by loops that go along them.
+//! - `Tokens`: the longest token at a place.
+//! - `Breaches`: the first rule of characters that is broken at a place.
+//! - `Scanning`: the tokens so far, and that no rule is broken before them.
+//!
 //! To change:
 //! - A word or a sign: the tables of `src/tables.rt`.
 //! - A rule of characters: `src/rules.rt` and `proofs/Breaches.antt`.

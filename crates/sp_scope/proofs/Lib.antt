@@ -1,9 +1,9 @@
-pub mod Scoped
-pub mod Held
-pub mod Tables
-pub mod NameRows
-pub mod Standards
-pub mod Heads
+mod Scoped
+mod Held
+mod Tables
+mod NameRows
+mod Standards
+mod Heads
 pub mod Found
 pub mod NameLaws
-pub mod TakenFirst
+mod TakenFirst

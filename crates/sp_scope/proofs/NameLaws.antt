@@ -232,11 +232,8 @@ module _ {M N : Type 0} (none : M) (join : M → M → M) (site : Env → Site �
 
   kind_constants_leads : (around : List Scope) (l : Local) (k : SynKind)
       → R (w.kind_constants_sites none join site around l k) (w.kind_constants_sites none2 join2 site2 around l k)
-  kind_constants_leads around l (kinds.Alias t) = nothing
   kind_constants_leads around l (kinds.Enumeration xs) = enumerated_leads around l xs
-  kind_constants_leads around l (kinds.Array a b t) = nothing
-  kind_constants_leads around l (kinds.Record gs) = nothing
-  kind_constants_leads around l (kinds.Channel ts) = nothing
+  kind_constants_leads _ _ _ = nothing
 
   title_leads : (env : Env) (x : Name) (fs : List SynFormal) (r : Option Name)
       → R (w.title_sites none join site env x fs r) (w.title_sites none2 join2 site2 env x fs r)

@@ -17,6 +17,10 @@
 //! - A number that would not fit 32 bits is answered as want of memory. No program has so many declarations.
 //! - The hash of the tables has a fixed seed, so names can be made that collide.
 //!
+//! Lemmas for others, in `proofs`:
+//! - `Found`: what the walk finds in a part, from what it finds in its own parts.
+//! - `NameLaws`: what the code finds is the first of all broken rules of names of a program.
+//!
 //! To change:
 //! - A rule of names: `sp_tree`'s `specs/NameRules.antt`, then `src/rules.rt`.
 //! - What a part declares: `NameWalk` and `NamedTree` of `sp_tree`, then the walk.

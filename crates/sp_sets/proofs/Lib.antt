@@ -1,5 +1,5 @@
-pub mod Joins
-pub mod Members
-pub mod OneText
-pub mod Ordering
-pub mod Walked
+mod Joins
+mod Members
+mod OneText
+mod Ordering
+mod Walked

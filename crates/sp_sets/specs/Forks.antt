@@ -4,9 +4,9 @@
 use Rattle.std.specs.Prelude.{ℕ, suc, List, [], ◌∷◌, ◌++◌, Some, None}
 use Rattle.sp_base.specs.declared.place.Place.{Place}
 use Rattle.sp_sets.specs.declared.sets_line.SetsLine.{SetsLine}
-use Rattle.sp_tree.specs.PlainChecked.{Statement, Does, Form, Empty, Assign, Call, Sequence, If, While, Repeat, For}
-use Rattle.sp_tree.specs.PlainChecked.{Case, Parallel, Forall, Assume, ReadValue, ReadLine, WriteValue, WriteText}
-use Rattle.sp_tree.specs.PlainChecked.{WriteLine, Open, Send, Receive, ElsePart, NoElse, Else, Statements, NoStatement}
+use Rattle.sp_tree.specs.PlainChecked.{Statement, Does, Form, Sequence, If, While, Repeat, For}
+use Rattle.sp_tree.specs.PlainChecked.{Case, Parallel, Forall}
+use Rattle.sp_tree.specs.PlainChecked.{ElsePart, NoElse, Else, Statements, NoStatement}
 use Rattle.sp_tree.specs.PlainChecked.{AndThen, On, Arms, NoArm, Or, Block, Program}
 use Rattle.sp_varsets.specs.Parts.{number_of}
 
@@ -22,9 +22,6 @@ abbrev mutual
 
   -- what stands in a statement at this place
   pub form_lines : Place → Form → List SetsLine
-  form_lines at Empty = []
-  form_lines at (Assign v e) = []
-  form_lines at (Call f args) = []
   form_lines at (Sequence ss) = statements_lines ss
   form_lines at (If e s other) = statement_lines s ++ other_lines other
   form_lines at (While e s) = statement_lines s
@@ -33,15 +30,7 @@ abbrev mutual
   form_lines at (Case e choices) = arms_lines choices
   form_lines at (Parallel ss) = process_lines at 0 ss ++ statements_lines ss
   form_lines at (Forall x from to s) = record { at = at; part = None; statement = number_of s } ∷ statement_lines s
-  form_lines at (Assume e) = []
-  form_lines at (ReadValue v) = []
-  form_lines at ReadLine = []
-  form_lines at (WriteValue e w) = []
-  form_lines at (WriteText t w) = []
-  form_lines at WriteLine = []
-  form_lines at (Open v) = []
-  form_lines at (Send c e) = []
-  form_lines at (Receive c v) = []
+  form_lines _ _ = []
 
   pub other_lines : ElsePart → List SetsLine
   other_lines NoElse = []

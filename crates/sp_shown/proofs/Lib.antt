@@ -1,1 +1,1 @@
-pub mod Landings
+mod Landings

@@ -15,11 +15,8 @@ names (x ∷ xs) = x.text ∷ names xs
 
 -- of the definition of a type: one list of names, if it is an enumeration
 abbrev pub kind_constants : SynKind → List (List (List ℕ))
-kind_constants (kinds.Alias t) = []
 kind_constants (kinds.Enumeration xs) = names xs ∷ []
-kind_constants (kinds.Array a b t) = []
-kind_constants (kinds.Record gs) = []
-kind_constants (kinds.Channel ts) = []
+kind_constants _ = []
 
 -- of declarations, with those inside procedures and functions
 abbrev mutual
@@ -48,23 +45,13 @@ rest_of (c ∷ cs) = cs
 
 -- the names of the constants of a type: those that are next, if it is an enumeration
 abbrev pub kind_names : KindOf → List (List (List ℕ)) → List (List ℕ)
-kind_names kind.Integer cs = []
-kind_names kind.Boolean cs = []
-kind_names kind.Char cs = []
 kind_names (kind.Enumeration n) cs = first_of cs
-kind_names (kind.Array low high index element) cs = []
-kind_names (kind.Fields fs) cs = []
-kind_names (kind.Channel ks) cs = []
+kind_names _ _ = []
 
 -- those that are next behind it
 abbrev pub rest_behind : KindOf → List (List (List ℕ)) → List (List (List ℕ))
-rest_behind kind.Integer cs = cs
-rest_behind kind.Boolean cs = cs
-rest_behind kind.Char cs = cs
 rest_behind (kind.Enumeration n) cs = rest_of cs
-rest_behind (kind.Array low high index element) cs = cs
-rest_behind (kind.Fields fs) cs = cs
-rest_behind (kind.Channel ks) cs = cs
+rest_behind _ cs = cs
 
 -- the names of the constants of each type, where those of the enumerations among them are these, in order
 abbrev pub by_kind : List KindOf → List (List (List ℕ)) → List (List (List ℕ))

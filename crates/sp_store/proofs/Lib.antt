@@ -1,4 +1,4 @@
 mod Ends
-pub mod Frames
-pub mod Places
+mod Frames
+mod Places
 mod OneCellPieces

@@ -61,43 +61,23 @@ by_variable f (Some i) = f i
 
 abbrev pub is_console : Role → Bool
 is_console role.Console = true
-is_console role.Local = false
-is_console role.Value = false
-is_console role.Reference = false
-is_console role.Index = false
-is_console role.Answer = false
+is_console _ = false
 
 abbrev pub is_index : Role → Bool
-is_index role.Console = false
-is_index role.Local = false
-is_index role.Value = false
-is_index role.Reference = false
 is_index role.Index = true
-is_index role.Answer = false
+is_index _ = false
 
 console_is : (r : Role) → is_console r ≡ true → r ≡ role.Console
 console_is role.Console h = refl
-console_is role.Local h = absurd (cc h)
-console_is role.Value h = absurd (cc h)
-console_is role.Reference h = absurd (cc h)
-console_is role.Index h = absurd (cc h)
-console_is role.Answer h = absurd (cc h)
+console_is _ h = absurd (cc h)
 
 index_is : (r : Role) → is_index r ≡ true → r ≡ role.Index
-index_is role.Console h = absurd (cc h)
-index_is role.Local h = absurd (cc h)
-index_is role.Value h = absurd (cc h)
-index_is role.Reference h = absurd (cc h)
 index_is role.Index h = refl
-index_is role.Answer h = absurd (cc h)
+index_is _ h = absurd (cc h)
 
 pub answer_is : (r : Role) → is_answer r ≡ true → r ≡ role.Answer
-answer_is role.Console h = absurd (cc h)
-answer_is role.Local h = absurd (cc h)
-answer_is role.Value h = absurd (cc h)
-answer_is role.Reference h = absurd (cc h)
-answer_is role.Index h = absurd (cc h)
 answer_is role.Answer h = refl
+answer_is _ h = absurd (cc h)
 
 variable_is : (f : Variable → Bool) (o : Option Variable) → by_variable f o ≡ true → (i : Variable) × (o ≡ Some i)
     × (f i ≡ true)

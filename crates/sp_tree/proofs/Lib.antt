@@ -4,12 +4,12 @@ pub mod Members
 pub mod UsesOf
 pub mod Certified
 pub mod Closure
-pub mod InterferenceRows
+mod InterferenceRows
 pub mod SingleStatements
-pub mod Sited
+mod Sited
 pub mod NoBreach
 pub mod Reached
 pub mod Unbroken
-pub mod BreachRows
-pub mod FormedRows
+mod BreachRows
+mod FormedRows
 pub mod Tables

@@ -27,20 +27,12 @@ use Rattle.sp_tree.proofs.Reached.{IsClosedUnderCalls, complete}
 use Rattle.sp_tree.proofs.NoBreach.{block_at}
 
 abbrev pub is_reference : Role → Bool
-is_reference role.Console = false
-is_reference role.Local = false
-is_reference role.Value = false
 is_reference role.Reference = true
-is_reference role.Index = false
-is_reference role.Answer = false
+is_reference _ = false
 
 reference_not : (r : Role) → not (is_reference r) ≡ true → r ≡ role.Reference → ⊥
-reference_not role.Console h e = cc e
-reference_not role.Local h e = cc e
-reference_not role.Value h e = cc e
 reference_not role.Reference h e = cc h
-reference_not role.Index h e = cc e
-reference_not role.Answer h e = cc e
+reference_not _ _ e = cc e
 
 abbrev pub by_role : (Role → Bool) → Option ast_x.Variable → Bool
 by_role f None = true
@@ -194,12 +186,9 @@ module _ (c : p.Program) (claims : List Claim) (stopping : List ℕ) where
       || outer_calls b 0 c.blocks
 
   abbrev pub stop_test : ℕ → Use → Bool
-  stop_test b (Target x) = true
-  stop_test b (Seen x) = true
   stop_test b (CallOf f args) = not (has stopping f) || has stopping b
-  stop_test b (ParallelOf ss) = true
-  stop_test b (ForallOf x s) = true
   stop_test b Stop = has stopping b
+  stop_test _ _ = true
 
   abbrev pub block_test : ℕ → p.Block → Bool
   block_test b k = (all_sites site_test (statement_sites k.body) && function_test b k k.answer)

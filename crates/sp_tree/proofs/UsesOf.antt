@@ -59,10 +59,7 @@ width_uses (Some e) = expr_uses e
 abbrev pub is_other : ℕ → Use → Bool
 is_other x (Target y) = not (x == y)
 is_other x (Seen y) = not (x == y)
-is_other x (CallOf f args) = true
-is_other x (ParallelOf ss) = true
-is_other x (ForallOf y s) = true
-is_other x Stop = true
+is_other _ _ = true
 
 abbrev pub others : ℕ → List Use → List Use
 others x [] = []
@@ -155,10 +152,7 @@ not_equal x y n = go (x == y) refl
 other_is : (x : ℕ) (u : Use) → IsOther x u → is_other x u ≡ true
 other_is x (Target y) n = not_equal x y n
 other_is x (Seen y) n = not_equal x y n
-other_is x (CallOf f args) n = refl
-other_is x (ParallelOf ss) n = refl
-other_is x (ForallOf y s) n = refl
-other_is x Stop n = refl
+other_is _ _ _ = refl
 
 other_among : (x : ℕ) (us : List Use) (u : Use) → Among u us → IsOther x u → Among u (others x us)
 other_among x [] u h o = h

@@ -29,13 +29,9 @@ fields_size known fields = sum (map (λ f. first_or 0 (slice_get known f.1)) fie
 
 -- a type's cells, where those of the types before it are known
 abbrev pub size_by : List ℕ → KindOf → ℕ
-size_by known kind.Integer = 1
-size_by known kind.Boolean = 1
-size_by known kind.Char = 1
-size_by known (kind.Enumeration n) = 1
 size_by known (kind.Array low high index element) = count low high * first_or 0 (slice_get known element)
 size_by known (kind.Fields fs) = fields_size known fs
-size_by known (kind.Channel ks) = 1
+size_by _ _ = 1
 
 -- the cells of each type
 abbrev pub sizes : List KindOf → List ℕ
@@ -49,11 +45,9 @@ variables_of b x (i ∷ is) = if i.block == b then (x, i) ∷ variables_of b (su
 -- a variable's cells in its frame: the consoles and the index of a forall have none, and a variable parameter has one
 abbrev pub cells_by : List ℕ → Role → ℕ → ℕ
 cells_by sizes role.Console k = 0
-cells_by sizes role.Local k = first_or 0 (slice_get sizes k)
-cells_by sizes role.Value k = first_or 0 (slice_get sizes k)
 cells_by sizes role.Reference k = 1
 cells_by sizes role.Index k = 0
-cells_by sizes role.Answer k = first_or 0 (slice_get sizes k)
+cells_by sizes _ k = first_or 0 (slice_get sizes k)
 
 -- the cells of a block's frame
 abbrev pub cells_of_frame : Program → ℕ → ℕ

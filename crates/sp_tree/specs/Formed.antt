@@ -9,25 +9,18 @@ use Rattle.sp_tree.specs.declared.checked.Role.{Role}
 use Rattle.sp_tree.specs.declared.checked.Role.TheVariants as role
 use Rattle.sp_tree.specs.Cells.{variables_of}
 use Rattle.sp_tree.specs.Plain.{Program, Variable, Block, No}
-use Rattle.sp_tree.specs.Uses.{Use, Target, Seen, CallOf, ParallelOf, ForallOf, Stop, In_stmt}
+use Rattle.sp_tree.specs.Uses.{Use, Target, Seen, ParallelOf, In_stmt}
 
 -- value and variable parameters
 abbrev pub is_parameter : Role → Bool
-is_parameter role.Console = false
-is_parameter role.Local = false
 is_parameter role.Value = true
 is_parameter role.Reference = true
-is_parameter role.Index = false
-is_parameter role.Answer = false
+is_parameter _ = false
 
 -- the result of a function
 abbrev pub is_answer : Role → Bool
-is_answer role.Console = false
-is_answer role.Local = false
-is_answer role.Value = false
-is_answer role.Reference = false
-is_answer role.Index = false
 is_answer role.Answer = true
+is_answer _ = false
 
 -- the numbers of those with such a role
 abbrev pub numbers_with_role : (Role → Bool) → List (ℕ × Variable) → List ℕ
@@ -49,10 +42,8 @@ AreBefore k (f ∷ fs) = (suc f.1 ≤ k) × AreBefore k fs
 abbrev pub IsFormedUse : Program → Use → Type 0
 IsFormedUse p (Target x) = (v : Variable) × (slice_get p.variables x ≡ Some v) × (v.role ≢ role.Index)
 IsFormedUse p (Seen x) = x ≢ 1
-IsFormedUse p (CallOf f args) = Unit {0}
 IsFormedUse p (ParallelOf ss) = ss ≢ No
-IsFormedUse p (ForallOf x s) = Unit {0}
-IsFormedUse p Stop = Unit {0}
+IsFormedUse _ _ = Unit {0}
 
 -- all of it
 pub record IsFormed (p : Program) : Type 0 where

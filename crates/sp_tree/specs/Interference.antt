@@ -5,7 +5,7 @@ use Rattle.std.specs.Prelude.{◌≡◌, ◌⊎◌, ℕ, ◌<◌, List, [], ◌�
 use Rattle.sp_tree.specs.declared.checked.Role.TheVariants as role
 use Rattle.sp_tree.specs.Plain.{Entire, ByValue, ByReference, Actuals, Nothing, Pass, Program, Variable, Block, Stmt}
 use Rattle.sp_tree.specs.Plain.{Stmts, No, And}
-use Rattle.sp_tree.specs.Uses.{Use, Target, Seen, CallOf, ParallelOf, ForallOf, Stop, In_stmt, In_stmts}
+use Rattle.sp_tree.specs.Uses.{Use, CallOf, ParallelOf, ForallOf, In_stmt, In_stmts}
 use Rattle.sp_tree.specs.Sets.{IsBelow, IsTarget, IsUsed, Implicit}
 
 -- the entire variables of the actual variable parameters
@@ -58,12 +58,10 @@ module _ (p : Program) where
 
   -- what the rules say of what stands in a statement
   abbrev pub IsFreeUse : Use → Type 0
-  IsFreeUse (Target x) = Unit
-  IsFreeUse (Seen x) = Unit
   IsFreeUse (CallOf b args) = KeepsI4 args × KeepsI5 b args
   IsFreeUse (ParallelOf ss) = KeepsI1 ss
   IsFreeUse (ForallOf x s) = IsIndexOf x × KeepsI2 s
-  IsFreeUse Stop = Unit
+  IsFreeUse _ = Unit
 
   -- the rules of interference on which disjointness rests, and what names and types give of the tree
   pub record IsFreeOfInterference : Type 0 where

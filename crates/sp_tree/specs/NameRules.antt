@@ -69,13 +69,11 @@ own_rule own x other = if bytes_eq own.text x.text then refusal_at rule.N4 x.at 
 
 -- so many arguments fit
 abbrev pub procedure_takes : StandardProcedure → ℕ → Bool
-procedure_takes procedure.Read n = nat_le 1 n
 procedure_takes procedure.Readln n = true
-procedure_takes procedure.Write n = nat_le 1 n
 procedure_takes procedure.Writeln n = true
-procedure_takes procedure.Open n = nat_le 1 n
 procedure_takes procedure.Send n = nat_le 2 n
 procedure_takes procedure.Receive n = nat_le 2 n
+procedure_takes _ n = nat_le 1 n
 
 -- so many arguments are right
 abbrev pub function_takes : StandardFn → ℕ → Bool

@@ -62,9 +62,6 @@ abbrev mutual
   statement_local l (Does at form) = form_local l form
 
   pub form_local : Local → Form → Local
-  form_local l Empty = l
-  form_local l (Assign v e) = l
-  form_local l (Call f args) = l
   form_local l (Sequence ss) = statements_local l ss
   form_local l (If e s o) = other_local (statement_local l s) o
   form_local l (While e s) = statement_local l s
@@ -73,7 +70,7 @@ abbrev mutual
   form_local l (For x from down to s) = statement_local l s
   form_local l (Parallel bs) = branches_local l bs
   form_local l (Forall x from to s) = local_of_outer l (statement_local (local_of_index l x) s)
-  form_local l (Assume e) = l
+  form_local l _ = l
 
   pub other_local : Local → ElsePart → Local
   other_local l NoElse = l

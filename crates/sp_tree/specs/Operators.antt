@@ -97,12 +97,7 @@ binary_op binary.And m n = truth (is_true m && is_true n)
 -- an ordinal type's least and greatest number
 abbrev pub least_ordinal : KindOf → ℤ
 least_ordinal kind.Integer = neg_ℤ MAXINT
-least_ordinal kind.Boolean = pos 0
-least_ordinal kind.Char = pos 0
-least_ordinal (kind.Enumeration n) = pos 0
-least_ordinal (kind.Array low high index element) = pos 0
-least_ordinal (kind.Fields fs) = pos 0
-least_ordinal (kind.Channel ks) = pos 0
+least_ordinal _ = pos 0
 
 -- the greatest integer
 abbrev pub greatest_ordinal : KindOf → ℤ
@@ -110,6 +105,4 @@ greatest_ordinal kind.Integer = MAXINT
 greatest_ordinal kind.Boolean = pos 1
 greatest_ordinal kind.Char = pos 255
 greatest_ordinal (kind.Enumeration n) = pos n -ℤ pos 1
-greatest_ordinal (kind.Array low high index element) = pos 0
-greatest_ordinal (kind.Fields fs) = pos 0
-greatest_ordinal (kind.Channel ks) = pos 0
+greatest_ordinal _ = pos 0

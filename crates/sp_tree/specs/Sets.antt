@@ -3,7 +3,7 @@
 -- said by paths, and not by a closure, so that it shares nothing with the computation.
 use Rattle.std.specs.Prelude.{◌≡◌, ◌⊎◌, ℕ, zero, suc, List, [], ◌∷◌, Some, slice_get}
 use Rattle.sp_tree.specs.Plain.{Actuals, Program, Variable, Block}
-use Rattle.sp_tree.specs.Uses.{Use, Target, Seen, CallOf, ParallelOf, ForallOf, Stop, In_stmt}
+use Rattle.sp_tree.specs.Uses.{Use, Target, Seen, CallOf, Stop, In_stmt}
 
 module _ (p : Program) where
   -- block c is block b, or stands in it n levels deep
@@ -19,10 +19,8 @@ module _ (p : Program) where
   abbrev pub IsUseOfCallers : ℕ → Use → Type 0
   IsUseOfCallers b (Target x) = IsFree b x
   IsUseOfCallers b (Seen x) = IsFree b x
-  IsUseOfCallers b (CallOf f args) = ⊥
-  IsUseOfCallers b (ParallelOf ss) = ⊥
-  IsUseOfCallers b (ForallOf x s) = ⊥
   IsUseOfCallers b Stop = Unit
+  IsUseOfCallers _ _ = ⊥
 
   -- by a path of calls from where the uses Here stand, this use
   abbrev pub Reach : (Use → Type 0) → List ℕ → Use → Type 0

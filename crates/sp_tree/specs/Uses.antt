@@ -61,10 +61,7 @@ In_width (Some e) u = In_expr e u
 abbrev pub IsOther : ℕ → Use → Type 0
 IsOther x (Target y) = x ≢ y
 IsOther x (Seen y) = x ≢ y
-IsOther x (CallOf f args) = Unit
-IsOther x (ParallelOf ss) = Unit
-IsOther x (ForallOf y s) = Unit
-IsOther x Stop = Unit
+IsOther _ _ = Unit
 
 abbrev mutual
   pub In_stmt : Stmt → Use → Type 0

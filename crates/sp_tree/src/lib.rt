@@ -48,6 +48,25 @@
 //! - The index of a `forall` is taken out of what stands in the element statement, not out of what calls carry: a
 //!   call never carries it, since its block is the one around.
 //!
+//! Lemmas for others, in `proofs`:
+//! - `Earlier`: places of a text, one before another.
+//! - `Gathering`: what a walk gathers in a list leads to the same first broken rule as the walk that keeps the
+//!   first alone.
+//! - `Members`: members of lists of numbers: of a list of two parts, and at a place.
+//! - `UsesOf`: the uses in a statement as a list.
+//! - `Certified`: the rules of interference by a test: sets that are closed under calls are given, and hold all
+//!   that paths reach.
+//! - `Closure`: what is reached by paths of calls is what stands here, and what is reached from a block that is
+//!   called here.
+//! - `SingleStatements`: the single statements of a `send` or `receive` of several, without their numbers and
+//!   places.
+//! - `NoBreach`: a tree that breaks no rule of interference keeps them at every use in it.
+//! - `Reached`: what paths of calls reach from a block's statement part: any claims that are closed under calls
+//!   hold all of it.
+//! - `Unbroken`: that a tree breaks no rule of interference, by a test over claims of what its blocks reach.
+//! - `Tables`: tables of types, each result by those before it (`table`): which result stands where, and how many
+//!   there are.
+//!
 //! To change:
 //! - A form of statement or expression: `src/syntax.rt`, `specs/PlainSyntax.antt`, `SyntaxOf`, `Grammar`, and the
 //!   same for `src/checked.rt`, `PlainChecked`, `CheckedOf`, `Plain`, `Bare`.

@@ -87,13 +87,9 @@ array_capped known n e =
     ∙ ap (λ (s : ℕ). capped_count (n * s)) (at_capped known e) ∙ counted_right n (first_or 0 (slice_get known e))
 
 size_capped : (known : List ℕ) (k : KindOf) → capped_by (map capped_count known) k ≡ capped_count (size_by known k)
-size_capped known kind.Integer = refl
-size_capped known kind.Boolean = refl
-size_capped known kind.Char = refl
-size_capped known (kind.Enumeration n) = refl
 size_capped known (kind.Array low high index element) = array_capped known (count low high) element
 size_capped known (kind.Fields fs) = fields_capped known fs
-size_capped known (kind.Channel ks) = refl
+size_capped _ _ = refl
 
 one_more : (known : List ℕ) (n : ℕ) → map capped_count known ++ capped_count n ∷ [] ≡ map capped_count (known ++ n ∷ [])
 one_more known n = back_of (map-append capped_count known (n ∷ []))

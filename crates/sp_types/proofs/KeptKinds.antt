@@ -1,7 +1,7 @@
 -- Statements and blocks change no type.
 use Rattle.std.proofs.Common.{◌≡◌, refl, ◌∙◌, ℕ, List, [], ◌∷◌}
-use Rattle.sp_tree.specs.PlainNamed.{Statement, Does, Form, Empty, Assign, Call, Perform, Sequence, If, While, Repeat}
-use Rattle.sp_tree.specs.PlainNamed.{Case, For, Parallel, Forall, Assume, ElsePart, NoElse, Else, Statements}
+use Rattle.sp_tree.specs.PlainNamed.{Statement, Does, Form, Sequence, If, While, Repeat}
+use Rattle.sp_tree.specs.PlainNamed.{Case, For, Parallel, Forall, ElsePart, NoElse, Else, Statements}
 use Rattle.sp_tree.specs.PlainNamed.{NoStatement}
 use Rattle.sp_tree.specs.PlainNamed.{AndThen, Arm, On, Arms, NoArm, Or, Branches, NoBranch, Beside, Block}
 use Rattle.sp_types.specs.Tables.{Env, with_next_number, with_index_type}
@@ -14,10 +14,6 @@ mutual
   statement_kinds env (Does at form) = form_kinds (with_next_number env) form
 
   form_kinds : (env : Env) (s : Form) → (form_after env s).kinds ≡ env.kinds
-  form_kinds env Empty = refl
-  form_kinds env (Assign v e) = refl
-  form_kinds env (Call f args) = refl
-  form_kinds env (Perform p args) = refl
   form_kinds env (Sequence ss) = statements_kinds env ss
   form_kinds env (If e s o) = other_kinds (statement_after env s) o ∙ statement_kinds env s
   form_kinds env (While e s) = statement_kinds env s
@@ -26,7 +22,7 @@ mutual
   form_kinds env (For x at from down to s) = statement_kinds env s
   form_kinds env (Parallel bs) = branches_kinds env bs
   form_kinds env (Forall x from to s) = statement_kinds (with_index_type env x (expression_kind env from)) s
-  form_kinds env (Assume e) = refl
+  form_kinds _ _ = refl
 
   other_kinds : (env : Env) (o : ElsePart) → (other_after env o).kinds ≡ env.kinds
   other_kinds env NoElse = refl

@@ -229,14 +229,8 @@ module _ {M N : Type 0} (none : M) (join : M → M → M) (site : FirstRefusal �
 
   bounds_leads : (known : List (Option Ordinal)) (f : NamedKindForm)
       → R (w.bounds_sites none join site known f) (w.bounds_sites none2 join2 site2 known f)
-  bounds_leads known form.Integer = nothing
-  bounds_leads known form.Boolean = nothing
-  bounds_leads known form.Char = nothing
-  bounds_leads known (form.Alias k) = nothing
-  bounds_leads known (form.Enumeration n) = nothing
   bounds_leads known (form.Array a b e) = and _ _ _ _ (at _) (and _ _ _ _ (at _) (at _))
-  bounds_leads known (form.Fields fs) = nothing
-  bounds_leads known (form.Channel ks) = nothing
+  bounds_leads _ _ = nothing
 
   kinds_leads : (known : List (Option Ordinal)) (ks : List NamedKind)
       → R (w.kinds_sites none join site known ks) (w.kinds_sites none2 join2 site2 known ks)

@@ -1,17 +1,17 @@
-pub mod Rows
-pub mod DeclarationRows
-pub mod TreeRows
-pub mod TextRows
+mod Rows
+mod DeclarationRows
+mod TreeRows
+mod TextRows
 pub mod Laws
-pub mod Steps
-pub mod Wanting
-pub mod Counts
-pub mod Numbering
+mod Steps
+mod Wanting
+mod Counts
+mod Numbering
 pub mod StatementNumbers
-pub mod Capping
-pub mod Declared
-pub mod KeptKinds
-pub mod ProgramTyped
-pub mod Seeing
-pub mod Noting
-pub mod EachReceived
+mod Capping
+mod Declared
+mod KeptKinds
+mod ProgramTyped
+mod Seeing
+mod Noting
+mod EachReceived

@@ -1,8 +1,8 @@
 -- Behind a statement the next number is the one that counting its statements gives: numbers have no gap and none comes
 -- twice.
 use Rattle.std.proofs.Common.{◌≡◌, refl, ap, ◌∙◌, ℕ}
-use Rattle.sp_tree.specs.PlainNamed.{Statement, Does, Form, Empty, Assign, Call, Perform, Sequence, If, While, Repeat}
-use Rattle.sp_tree.specs.PlainNamed.{Case, For, Parallel, Forall, Assume, ElsePart, NoElse, Else, Statements}
+use Rattle.sp_tree.specs.PlainNamed.{Statement, Does, Form, Sequence, If, While, Repeat}
+use Rattle.sp_tree.specs.PlainNamed.{Case, For, Parallel, Forall, ElsePart, NoElse, Else, Statements}
 use Rattle.sp_tree.specs.PlainNamed.{NoStatement}
 use Rattle.sp_tree.specs.PlainNamed.{AndThen, Arm, On, Arms, NoArm, Or, Branches, NoBranch, Beside}
 use Rattle.sp_types.specs.Tables.{Env, with_next_number, with_index_type}
@@ -16,10 +16,6 @@ mutual
   statement_next env (Does at form) = form_next (with_next_number env) form
 
   form_next : (env : Env) (s : Form) → (form_after env s).next ≡ form_counted env.next s
-  form_next env Empty = refl
-  form_next env (Assign v e) = refl
-  form_next env (Call f args) = refl
-  form_next env (Perform p args) = refl
   form_next env (Sequence ss) = statements_next env ss
   form_next env (If e s o) = other_next (statement_after env s) o
       ∙ ap (λ (k : ℕ). other_counted k o) (statement_next env s)
@@ -29,7 +25,7 @@ mutual
   form_next env (For x at from down to s) = statement_next env s
   form_next env (Parallel bs) = branches_next env bs
   form_next env (Forall x from to s) = statement_next (with_index_type env x (expression_kind env from)) s
-  form_next env (Assume e) = refl
+  form_next _ _ = refl
 
   other_next : (env : Env) (o : ElsePart) → (other_after env o).next ≡ other_counted env.next o
   other_next env NoElse = refl

@@ -9,10 +9,9 @@ use Rattle.sp_base.specs.declared.place.Place.{Place}
 use Rattle.sp_base.proofs.Facts.{less_same_or_more}
 use Rattle.sp_tree.specs.declared.meaning.StandardProcedure.{StandardProcedure}
 use Rattle.sp_tree.specs.declared.meaning.StandardProcedure.TheVariants as procedure
-use Rattle.sp_tree.specs.PlainNamed.{Expression, ExpressionAt, Number, Quoted, Constant, Read, Apply, Standard, Unary}
-use Rattle.sp_tree.specs.PlainNamed.{Binary}
-use Rattle.sp_tree.specs.PlainNamed.{Pass, Arguments, NoArgument, AndArgument, Statement, Does, Form, Empty, Assign}
-use Rattle.sp_tree.specs.PlainNamed.{Call, Perform, Sequence, If, While, Repeat, Case, For, Parallel, Forall, Assume}
+use Rattle.sp_tree.specs.PlainNamed.{Expression, ExpressionAt, Quoted, Read}
+use Rattle.sp_tree.specs.PlainNamed.{Pass, Arguments, NoArgument, AndArgument, Statement, Does, Form}
+use Rattle.sp_tree.specs.PlainNamed.{Perform, Sequence, If, While, Repeat, Case, For, Parallel, Forall}
 use Rattle.sp_tree.specs.PlainNamed.{ElsePart, NoElse, Else, Statements, NoStatement, AndThen, On, Arms, NoArm, Or}
 use Rattle.sp_tree.specs.PlainNamed.{Branches, NoBranch, Beside, Block, Program}
 use Rattle.sp_tree.specs.PlainChecked as c
@@ -64,13 +63,7 @@ text_single at t (Some o) w = refl
 
 written_single : (env : Env) (e : Expression) (w : Option c.Expression) → form_numbers (write_value_form env e w) ≡ []
 written_single env (ExpressionAt at (Quoted t)) w = text_single at t (char_of t) w
-written_single env (ExpressionAt at (Number k)) w = refl
-written_single env (ExpressionAt at (Constant k)) w = refl
-written_single env (ExpressionAt at (Read v)) w = refl
-written_single env (ExpressionAt at (Apply f name args)) w = refl
-written_single env (ExpressionAt at (Standard f args)) w = refl
-written_single env (ExpressionAt at (Unary op a)) w = refl
-written_single env (ExpressionAt at (Binary op a b)) w = refl
+written_single _ _ _ = refl
 
 -- so many, all of them single
 abbrev Are : List c.Form → ℕ → Type 0
@@ -154,9 +147,6 @@ mutual
 
   form_rise : (env : Env) (at : Place) (s : Form)
       → Rise env.next (form_numbers (checked_statement_form env at s)) (form_after env s).next
-  form_rise env at Empty = refl
-  form_rise env at (Assign v e) = refl
-  form_rise env at (Call f args) = refl
   form_rise env at (Perform p args) = expanded_numbers env.next (single_count p args) at (singles env p args)
       (singles_are env p args)
   form_rise env at (Sequence ss) = statements_rise env ss
@@ -167,7 +157,7 @@ mutual
   form_rise env at (For x name from down to s) = statement_rise env s
   form_rise env at (Parallel bs) = branches_rise env at bs
   form_rise env at (Forall x from to s) = statement_rise (with_index_type env x (expression_kind env from)) s
-  form_rise env at (Assume e) = refl
+  form_rise _ _ _ = refl
 
   other_rise : (env : Env) (o : ElsePart) → Rise env.next (other_numbers (checked_other env o)) (other_after env o).next
   other_rise env NoElse = refl
@@ -202,9 +192,6 @@ mutual
   statement_on k j (Does at form) = ap (λ (m : ℕ). form_counted m form) (next_on k j) ∙ form_on k (j + 1) form
 
   form_on : (k j : ℕ) (s : Form) → form_counted (k + j) s ≡ k + form_counted j s
-  form_on k j Empty = refl
-  form_on k j (Assign v e) = refl
-  form_on k j (Call f args) = refl
   form_on k j (Perform p args) = omega arith
   form_on k j (Sequence ss) = statements_on k j ss
   form_on k j (If e s o) = ap (λ (m : ℕ). other_counted m o) (statement_on k j s) ∙ other_on k (statement_counted j s) o
@@ -214,7 +201,7 @@ mutual
   form_on k j (For x at from down to s) = statement_on k j s
   form_on k j (Parallel bs) = branches_on k j bs
   form_on k j (Forall x from to s) = statement_on k j s
-  form_on k j (Assume e) = refl
+  form_on _ _ _ = refl
 
   other_on : (k j : ℕ) (o : ElsePart) → other_counted (k + j) o ≡ k + other_counted j o
   other_on k j NoElse = refl

@@ -28,27 +28,15 @@ message_of at None k = refl
 message_of at (Some ks) k = refl
 
 pub unknown : (env : Env) (w : Wanted) (at : Place) → wanted_rule env w at None ≡ None
-unknown env wanted.Condition at = refl
 unknown env (wanted.Assigned v) at = of_none rule.Y5 at v
-unknown env wanted.Read at = refl
-unknown env wanted.Written at = refl
-unknown env wanted.Channel at = refl
 unknown env (wanted.Message c) at = message_of_none at (messages env c)
-unknown env wanted.Range at = refl
 unknown env (wanted.Limit v) at = of_none rule.Y10 at v
-unknown env wanted.Selector at = refl
+unknown _ _ _ = refl
 
 pub known : (env : Env) (w : Wanted) (at : Place) (k : ℕ) →
     wanted_rule env w at (Some k) ≡ refusal_if (wanted_row w) at (misfits env w k)
-known env wanted.Condition at k = refl
-known env (wanted.Assigned v) at k = refl
-known env wanted.Read at k = refl
-known env wanted.Written at k = refl
-known env wanted.Channel at k = refl
 known env (wanted.Message c) at k = message_of at (messages env c) k
-known env wanted.Range at k = refl
-known env (wanted.Limit v) at k = refl
-known env wanted.Selector at k = refl
+known _ _ _ _ = refl
 
 pub no_part : (env : Env) (p : Part) → part_forms env p NoArgument ≡ []
 no_part env part.Read = refl

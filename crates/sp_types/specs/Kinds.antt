@@ -45,15 +45,13 @@ if_ordinal env (Some k) = if ordinal env k then Some k else None
 
 -- what a standard function gives, by its parameter
 abbrev pub standard_gives : Env → StandardFn → Option ℕ → Option ℕ
-standard_gives env fn.Abs k = Some integer
-standard_gives env fn.Sqr k = Some integer
 standard_gives env fn.Odd k = Some boolean
-standard_gives env fn.Ord k = Some integer
 standard_gives env fn.Chr k = Some char
 standard_gives env fn.Succ k = if_ordinal env k
 standard_gives env fn.Pred k = if_ordinal env k
 standard_gives env fn.Eof k = Some boolean
 standard_gives env fn.Eoln k = Some boolean
+standard_gives _ _ _ = Some integer
 
 module _ (env : Env) where
   abbrev mutual

@@ -78,29 +78,18 @@ binary_takes env binary.Lt k = ordinal env k
 binary_takes env binary.Le k = ordinal env k
 binary_takes env binary.Gt k = ordinal env k
 binary_takes env binary.Ge k = ordinal env k
-binary_takes env binary.Add k = nat_eq k integer
-binary_takes env binary.Sub k = nat_eq k integer
 binary_takes env binary.Or k = nat_eq k boolean
-binary_takes env binary.Mul k = nat_eq k integer
-binary_takes env binary.Div k = nat_eq k integer
-binary_takes env binary.Mod k = nat_eq k integer
 binary_takes env binary.And k = nat_eq k boolean
+binary_takes _ _ k = nat_eq k integer
 
 -- the type of what a comparison or another operator gives
 abbrev pub binary_gives : BinaryOp → ℕ
-binary_gives binary.Eq = boolean
-binary_gives binary.Ne = boolean
-binary_gives binary.Lt = boolean
-binary_gives binary.Le = boolean
-binary_gives binary.Gt = boolean
-binary_gives binary.Ge = boolean
 binary_gives binary.Add = integer
 binary_gives binary.Sub = integer
-binary_gives binary.Or = boolean
 binary_gives binary.Mul = integer
 binary_gives binary.Div = integer
 binary_gives binary.Mod = integer
-binary_gives binary.And = boolean
+binary_gives _ = boolean
 
 -- Y1: an operand of a type that its operator does not take
 abbrev pub unary_rule : UnaryOp → Place → Option ℕ → FirstRefusal
@@ -168,15 +157,12 @@ actual_rule None at is_variable formal k = None
 
 -- what the parameter of a standard function may be
 abbrev pub standard_takes : Env → StandardFn → ℕ → Bool
-standard_takes env fn.Abs k = nat_eq k integer
-standard_takes env fn.Sqr k = nat_eq k integer
-standard_takes env fn.Odd k = nat_eq k integer
-standard_takes env fn.Chr k = nat_eq k integer
 standard_takes env fn.Ord k = ordinal env k
 standard_takes env fn.Succ k = ordinal env k
 standard_takes env fn.Pred k = ordinal env k
 standard_takes env fn.Eof k = false
 standard_takes env fn.Eoln k = false
+standard_takes _ _ k = nat_eq k integer
 
 -- Y8: an argument of a standard call has a type that it does not take
 abbrev pub standard_rule : Env → StandardFn → Place → Option ℕ → FirstRefusal

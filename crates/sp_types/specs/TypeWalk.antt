@@ -79,13 +79,11 @@ with_more_numbers n env = record env { next = env.next + n }
 
 -- the single statements that a call of a standard procedure stands for
 abbrev pub single_count : StandardProcedure → Arguments → ℕ
-single_count procedure.Read args = count args
 single_count procedure.Readln args = count args + 1
-single_count procedure.Write args = count args
 single_count procedure.Writeln args = count args + 1
-single_count procedure.Open args = count args
 single_count procedure.Send args = count (arguments_behind args)
 single_count procedure.Receive args = count (arguments_behind args)
+single_count _ args = count args
 
 -- one is the statement itself, others stand in a sequence
 abbrev pub parts_count : ℕ → ℕ
@@ -98,9 +96,6 @@ abbrev mutual
   statement_after env (Does at form) = form_after (with_next_number env) form
 
   pub form_after : Env → Form → Env
-  form_after env Empty = env
-  form_after env (Assign v e) = env
-  form_after env (Call f args) = env
   form_after env (Perform p args) = with_more_numbers (parts_count (single_count p args)) env
   form_after env (Sequence ss) = statements_after env ss
   form_after env (If e s o) = other_after (statement_after env s) o
@@ -110,7 +105,7 @@ abbrev mutual
   form_after env (For x at from down to s) = statement_after env s
   form_after env (Parallel bs) = branches_after env bs
   form_after env (Forall x from to s) = statement_after (with_index_type env x (expression_kind env from)) s
-  form_after env (Assume e) = env
+  form_after env _ = env
 
   pub other_after : Env → ElsePart → Env
   other_after env NoElse = env
@@ -137,9 +132,6 @@ abbrev mutual
   statement_counted k (Does at form) = form_counted (k + 1) form
 
   pub form_counted : ℕ → Form → ℕ
-  form_counted k Empty = k
-  form_counted k (Assign v e) = k
-  form_counted k (Call f args) = k
   form_counted k (Perform p args) = k + parts_count (single_count p args)
   form_counted k (Sequence ss) = statements_counted k ss
   form_counted k (If e s o) = other_counted (statement_counted k s) o
@@ -149,7 +141,7 @@ abbrev mutual
   form_counted k (For x at from down to s) = statement_counted k s
   form_counted k (Parallel bs) = branches_counted k bs
   form_counted k (Forall x from to s) = statement_counted k s
-  form_counted k (Assume e) = k
+  form_counted k _ = k
 
   pub other_counted : ℕ → ElsePart → ℕ
   other_counted k NoElse = k

@@ -38,13 +38,11 @@ wanted_rule env wanted.Selector at k = selector_rule env at k
 abbrev pub wanted_row : Wanted → Rule
 wanted_row wanted.Condition = rule.Y4
 wanted_row (wanted.Assigned v) = rule.Y5
-wanted_row wanted.Read = rule.Y8
-wanted_row wanted.Written = rule.Y8
-wanted_row wanted.Channel = rule.Y8
 wanted_row (wanted.Message c) = rule.Y9
 wanted_row wanted.Range = rule.Y10
 wanted_row (wanted.Limit v) = rule.Y10
 wanted_row wanted.Selector = rule.Y11
+wanted_row _ = rule.Y8
 
 -- a type that is not among the message types of a channel
 abbrev pub refuses : Option (List ℕ) → ℕ → Bool

@@ -41,6 +41,11 @@
 //! - A number above the 64-bit range of integers, and a number of a statement, a field or a type that is no 32-bit
 //!   number, are answered as want of memory. No text of the permitted length has one after the scanner.
 //!
+//! Lemmas for others, in `proofs`:
+//! - `Laws`: the first broken rule of types is the first of all that are broken.
+//! - `StatementNumbers`: the numbers of a statement's tree are those from its own up to the one behind it, in this
+//!   order; so blocks whose statement parts stand at different places have different numbers.
+//!
 //! To change:
 //! - A rule of types: its clause in `specs/TypeRules.antt`, its function in `src/rules.rt`, a row in
 //!   `proofs/Rows.antt`.

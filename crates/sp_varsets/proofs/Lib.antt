@@ -1,10 +1,10 @@
-pub mod Items
-pub mod SetsFound
-pub mod Gathering
-pub mod Paths
-pub mod Totalling
+mod Items
+mod SetsFound
+mod Gathering
+mod Paths
+mod Totalling
 pub mod Walking
-pub mod Reaching
+mod Reaching
 pub mod Words
 pub mod Adding
-pub mod WordChanges
+mod WordChanges

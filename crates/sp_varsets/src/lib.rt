@@ -23,6 +23,11 @@
 //! - `proofs/Reaching` leads to paths.
 //! - `VarSet::words` says how far a set goes, so that a few unions, each over its window of variables, see it whole.
 //!
+//! Lemmas for others, in `proofs`:
+//! - `Walking`: what is recorded of statements, one after another.
+//! - `Words`: bits of words, as the members of a set stand in them.
+//! - `Adding`: what a pass adds to the sets, part by part.
+//!
 //! To change:
 //! - A form of statement: `src/walk.rt`, `src/simple.rt`.
 //! - A set: `specs/Members.antt`, `proofs/Words.antt`.

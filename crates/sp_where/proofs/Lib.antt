@@ -1,6 +1,6 @@
-pub mod Cutting
-pub mod Filling
-pub mod Forms
-pub mod Moving
-pub mod StateLines
-pub mod Tracing
+mod Cutting
+mod Filling
+mod Forms
+mod Moving
+mod StateLines
+mod Tracing

@@ -19,7 +19,7 @@ use Rattle.sp_journal.specs.Queue.{numbers}
 use Rattle.sp_cell.specs.Map.{Plain}
 use Rattle.sp_code.specs.declared.instr.Instr.{Instr}
 use Rattle.sp_code.specs.declared.instr.Instr.TheVariants as i
-use Rattle.sp_code.specs.Machine.{Stop, Forks, Opens, Sends, Receives, Ends, Pauses, Config, At}
+use Rattle.sp_code.specs.Machine.{Stop, Sends, Receives, Config, At}
 use Rattle.sp_code.specs.Memory.{Memory}
 use Rattle.sp_code.specs.System.{Condition, Absent, Working, Waits, Joins, Laid, Gone, Over}
 use Rattle.sp_machine.specs.Calls.{returns}
@@ -48,13 +48,7 @@ running_words o = if is_end o then codes "runs to its end\n" else codes "runs\n"
 -- the process that met a fault, and the fault
 abbrev pub fault_by : ℕ → Event → Option (ℕ × Fault) → Option (ℕ × Fault)
 fault_by q (event.Fault f) later = Some (q, f)
-fault_by q (event.Fork n) later = later
-fault_by q event.Open later = later
-fault_by q (event.Send c) later = later
-fault_by q (event.Receive c) later = later
-fault_by q event.End later = later
-fault_by q event.Laid later = later
-fault_by q event.Pause later = later
+fault_by _ _ later = later
 
 -- the first in a journal
 abbrev pub fault_in : List Entry → Option (ℕ × Fault)
@@ -64,25 +58,20 @@ fault_in (e ∷ es) = fault_by e.process e.event (fault_in es)
 -- the process has not ended
 abbrev pub is_live : Condition Plain → Bool
 is_live Absent = false
-is_live (Working c) = true
-is_live (Waits stop c) = true
-is_live (Joins left c) = true
-is_live (Laid c) = true
 is_live Gone = false
 is_live (Over c) = false
+is_live _ = true
 
 -- the lines below the first one of process q
 abbrev pub config_text : Known → ℕ → Config (Memory Plain) → List ℕ
 config_text w q (At pc stack n) = frames_text w q n.store (returns stack) n.frames
 
 abbrev pub lines_below : Known → ℕ → Condition Plain → List ℕ
-lines_below w q Absent = []
 lines_below w q (Working c) = config_text w q c
 lines_below w q (Waits stop c) = config_text w q c
 lines_below w q (Joins left c) = config_text w q c
 lines_below w q (Laid c) = config_text w q c
-lines_below w q Gone = []
-lines_below w q (Over c) = []
+lines_below _ _ _ = []
 
 -- a process that works, and goes on at this instruction
 abbrev pub working_line : Known → ProcName → ℕ → List ℕ
@@ -95,10 +84,7 @@ waiting_line w name last (Sends c k cs) = line_start name (statement_at w.marks 
     ++ (codes "send " ++ cell_channel_text w.births c ++ codes "\n")
 waiting_line w name last (Receives c k a) = line_start name (statement_at w.marks last)
     ++ (codes "receive " ++ cell_channel_text w.births c ++ codes "\n")
-waiting_line w name last (Forks t value n) = []
-waiting_line w name last (Opens a) = []
-waiting_line w name last Ends = []
-waiting_line w name last Pauses = []
+waiting_line _ _ _ _ = []
 
 -- process q, which was stopped, by the process that met the fault
 abbrev pub laid_line : Known → ProcName → (q last : ℕ) → Option (ℕ × Fault) → List ℕ
@@ -109,13 +95,11 @@ laid_line w name q last (Some z) = if z.0 == q then
 
 -- the first line of process q in this condition
 abbrev pub first_line : Known → Option (ℕ × Fault) → ProcName → (q last : ℕ) → Condition Plain → List ℕ
-first_line w fault name q last Absent = []
 first_line w fault name q last (Working (At pc stack n)) = working_line w name pc
 first_line w fault name q last (Waits stop c) = waiting_line w name last stop
 first_line w fault name q last (Joins left c) = line_start name (statement_at w.marks last) ++ codes "join\n"
 first_line w fault name q last (Laid c) = laid_line w name q last fault
-first_line w fault name q last Gone = []
-first_line w fault name q last (Over c) = []
+first_line _ _ _ _ _ _ = []
 
 -- a process by its name and its number
 abbrev pub named_text : Known → Option (ℕ × Fault) → (ℕ → ℕ) → (ℕ → Condition Plain) → NamedProcess → List ℕ

@@ -20,24 +20,13 @@ use Rattle.sp_where.specs.Values.{value_text}
 -- of the statement
 abbrev pub place_of_event : List Mark → Event → ℕ → Place
 place_of_event marks (event.Fault f) q = part_at marks q
-place_of_event marks (event.Fork n) q = statement_at marks q
-place_of_event marks event.Open q = statement_at marks q
-place_of_event marks (event.Send c) q = statement_at marks q
-place_of_event marks (event.Receive c) q = statement_at marks q
-place_of_event marks event.End q = statement_at marks q
-place_of_event marks event.Laid q = statement_at marks q
-place_of_event marks event.Pause q = statement_at marks q
+place_of_event marks _ q = statement_at marks q
 
 -- what passes at an event whose turn came to this message: it does at a send and at a receive alone
 abbrev pub passed : Event → Option (ℕ × List Cell) → Option (ℕ × List Cell)
 passed (event.Send c) m = m
 passed (event.Receive c) m = m
-passed (event.Fork n) m = None
-passed event.Open m = None
-passed event.End m = None
-passed (event.Fault f) m = None
-passed event.Laid m = None
-passed event.Pause m = None
+passed _ _ = None
 
 -- the message that passes, if one does, behind a space
 abbrev pub message_text : List KindOf → List (List (List ℕ)) → Births → Option (ℕ × List Cell) → List ℕ

@@ -77,11 +77,7 @@ form_by known (kind.Array low high index element) = Fixed (codes "[")
     ∷ parts_from 0 (replicate (count low high) (form_in known element)) ++ Fixed (codes "]") ∷ []
 form_by known (kind.Fields fs) = Fixed (codes "(")
     ∷ parts_from 0 (map (field_in known) fs) ++ Fixed (codes ")") ∷ []
-form_by known kind.Integer = CellOf (length known) ∷ []
-form_by known kind.Boolean = CellOf (length known) ∷ []
-form_by known kind.Char = CellOf (length known) ∷ []
-form_by known (kind.Enumeration m) = CellOf (length known) ∷ []
-form_by known (kind.Channel ks) = CellOf (length known) ∷ []
+form_by known _ = CellOf (length known) ∷ []
 
 -- a value of this type
 abbrev pub form : List KindOf → ℕ → List Piece

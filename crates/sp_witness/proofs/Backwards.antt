@@ -66,13 +66,10 @@ meets_itself p (Some z) f = at_itself p (f p || f z) (at_key ◌==◌ z (f p || 
 pub own_is : (s : Births) (lines : ℕ → Option ℕ) (p : ℕ) (e : Event) (f : ℕ → Bool)
     → flags_before s lines p e f p ≡ own_flag f p e s.processes (partner_of lines e) (s.birth p)
 own_is s lines p (event.Fork m) f = at_itself p (f p || any_flag f s.processes m) f
-own_is s lines p event.Open f = refl
 own_is s lines p (event.Send c) f = meets_itself p (lines c) f
 own_is s lines p (event.Receive c) f = meets_itself p (lines c) f
 own_is s lines p event.End f = at_itself p (f p || parent_flag f (s.birth p)) f
-own_is s lines p (event.Fault x) f = refl
-own_is s lines p event.Laid f = refl
-own_is s lines p event.Pause f = refl
+own_is _ _ _ _ _ = refl
 
 same_value : (p q : ℕ) (f : ℕ → Bool) → p == q ≡ true → f q ≡ f p
 same_value p q f e = ap f (sym (equal_of_test p q e))
@@ -123,7 +120,6 @@ pub flags_are : (s : Births) (lines : ℕ → Option ℕ) (p : ℕ) (e : Event) 
 flags_are s lines p (event.Fork m) f q =
     raised p q (any_flag f s.processes m) f
     ∙ ap (λ b. with_flag b p f q) (sym (at_itself p (f p || any_flag f s.processes m) f))
-flags_are s lines p event.Open f q = same_flag p q f
 flags_are s lines p (event.Send c) f q =
     met_flags p q (lines c) f
     ∙ ap (λ b. with_partner b (lines c) (with_flag b p f) q) (sym (meets_itself p (lines c) f))
@@ -133,9 +129,7 @@ flags_are s lines p (event.Receive c) f q =
 flags_are s lines p event.End f q =
     raised p q (parent_flag f (s.birth p)) f
     ∙ ap (λ b. with_flag b p f q) (sym (at_itself p (f p || parent_flag f (s.birth p)) f))
-flags_are s lines p (event.Fault x) f q = same_flag p q f
-flags_are s lines p event.Laid f q = same_flag p q f
-flags_are s lines p event.Pause f q = same_flag p q f
+flags_are _ _ p _ f q = same_flag p q f
 
 pub raised_last : (t : Bool) (p q : ℕ) (f : ℕ → Bool) → with_flag t p f q ≡ f q || (t && (q == p))
 raised_last t p q f = by t (p == q) (f q) ∙ ap (λ b. f q || (t && b)) turned

@@ -151,11 +151,6 @@ module _ (g : RunInput) (label : ℕ → Option Event) where
               (k.0, k.1 ∙ (λ i. Some (record { who = z; nth = sym same i })), k.2)
 
           by : (a : ActOf L) → act ≡ a → (k : ℕ) × (label k ≡ Some (next_event_of m.notes z)) × (known k ≡ true)
-          by (Moves o ws) is = old (λ on. subst (λ a. IsOn a c) is on)
-          by (Opens o ws) is = old (λ on. subst (λ a. IsOn a c) is on)
-          by (Forks o os) is = old (λ on. subst (λ a. IsOn a c) is on)
-          by EndsProcess is = old (λ on. subst (λ a. IsOn a c) is on)
-          by (MeetsFault f) is = old (λ on. subst (λ a. IsOn a c) is on)
           by (Offering o) is = ⊎_elim
               (λ (on : o.channel ≡ c). offered_here on (s.state.pending o.channel) refl)
               (λ (off : o.channel ≢ c). old (λ on. off (subst (λ a. IsOn a c) is on)))
@@ -193,6 +188,7 @@ module _ (g : RunInput) (label : ℕ → Option Event) where
                   ap (λ ds. (with_changes ds s.state).pending c) (sym list) ∙ made in
                   absurd (none-some _ (sym (ap (λ b. cond b None (s.state.pending c)) ((channel_test o.channel c).1 on))
                   ∙ here))
+          by _ is = old (λ on. subst (λ a. IsOn a c) is on)
 
     -- an offer that finds nothing pending waits
     pub waits_here : (w : Way) (c : Channel) → (o : Offers L x.act w c) → s.state.pending c ≡ None

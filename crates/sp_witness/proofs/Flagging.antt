@@ -154,15 +154,10 @@ module _ (t : Births) (law : Lawful t) where
         by : (v : Event) → GivesNumbers s e.process v
             → Matches t (lines_after lines e.process v d)
             ((knowledge_after j n (t.name e.process) (happening t v)).pending (channel t d))
-        by (event.Fork m) given = waits d k
-        by event.Open given = waits d k
         by (event.Send c) given = at c (inside c given) (lines c) (j.pending (channel t c)) (waits c (inside c given))
         by (event.Receive c) given =
             at c (inside c given) (lines c) (j.pending (channel t c)) (waits c (inside c given))
-        by event.End given = waits d k
-        by (event.Fault x) given = waits d k
-        by event.Laid given = waits d k
-        by event.Pause given = waits d k
+        by _ _ = waits d k
 
   -- the whole pass
   module _ (os : List Occurrence) (earlier later last : ℕ) (inside : last < t.processes)

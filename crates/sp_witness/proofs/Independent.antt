@@ -12,7 +12,7 @@ use Rattle.sp_meaning.specs.Maps.{at_key}
 use Rattle.sp_meaning.specs.EffectTree.{EffectTree, Leaf, ReadThen, WriteThen, TreeTouches, and_then}
 use Rattle.sp_meaning.specs.Model.{Name, Channel, same_name, Totals, Language, Act, Moves, Opens, Forks, Offering}
 use Rattle.sp_meaning.specs.Model.{EndsProcess}
-use Rattle.sp_meaning.specs.Model.{MeetsFault, Absent, Works, Waits, Joins, Ended, State, Change, Becomes, with_change}
+use Rattle.sp_meaning.specs.Model.{MeetsFault, Waits, State, Change, Becomes, with_change}
 use Rattle.sp_meaning.specs.Model.{with_changes}
 use Rattle.sp_meaning.specs.Steps.{ActOf, OfferOf, ConditionOf, has_ended, own_part, ActOutcome, Advances, Faulty}
 use Rattle.sp_meaning.specs.Steps.{write_changes}
@@ -54,11 +54,7 @@ asks_then same (WriteThen l v more) f m q h =
 -- the act is a local one
 abbrev pub IsLocal : {O M V T : Type 0} → Act O M V T → Type 0
 IsLocal (Moves o ws) = Unit {0}
-IsLocal (Opens o ws) = ⊥
-IsLocal (Forks o os) = ⊥
-IsLocal (Offering o) = ⊥
-IsLocal EndsProcess = ⊥
-IsLocal (MeetsFault f) = ⊥
+IsLocal _ = ⊥
 
 -- no change makes a process end
 abbrev NoneEnds : {L : Language} → List (Change L) → Type 0
@@ -71,12 +67,8 @@ EndsNone (Advances cs) = NoneEnds cs
 EndsNone (Faulty f) = Unit {0}
 
 abbrev IsNoEnd : {O M V T : Type 0} → Act O M V T → Type 0
-IsNoEnd (Moves o ws) = Unit {0}
-IsNoEnd (Opens o ws) = Unit {0}
-IsNoEnd (Forks o os) = Unit {0}
-IsNoEnd (Offering o) = Unit {0}
 IsNoEnd EndsProcess = ⊥
-IsNoEnd (MeetsFault f) = Unit {0}
+IsNoEnd _ = Unit {0}
 
 puts_none : (L : Language) (ws : List (L.Loc × L.Value)) → NoneEnds {L = L} (write_changes {L = L} ws)
 puts_none L [] = tt
@@ -98,11 +90,8 @@ module _ {L : Language} (s : State L) (p : Name) where
       ]
 
   meets_none : (o : OfferOf L) (z : Name) (c : ConditionOf L) → EndsNone {L = L} (meeting_outcome s p o z c)
-  meets_none o z Absent = tt
-  meets_none o z (Works x) = tt
   meets_none o z (Waits w) = hands_none o z w (message o.cargo w.cargo)
-  meets_none o z (Joins k n x) = tt
-  meets_none o z Ended = tt
+  meets_none _ _ _ = tt
 
   offered_none : (o : OfferOf L) (m : Option Name) → EndsNone {L = L} (offer_outcome s p o m)
   offered_none o None = (refl, tt)

@@ -1,30 +1,30 @@
-pub mod Rows
-pub mod Independent
-pub mod Moving
-pub mod Pasts
-pub mod Ticks
-pub mod Blocks
-pub mod Walking
-pub mod Back
-pub mod Parts
-pub mod Contending
-pub mod Order
-pub mod Witnessing
-pub mod Shown
-pub mod Real
-pub mod Standing
-pub mod Learning
-pub mod Passing
-pub mod PassLaw
-pub mod Flagging
+mod Rows
+mod Independent
+mod Moving
+mod Pasts
+mod Ticks
+mod Blocks
+mod Walking
+mod Back
+mod Parts
+mod Contending
+mod Order
+mod Witnessing
+mod Shown
+mod Real
+mod Standing
+mod Learning
+mod Passing
+mod PassLaw
+mod Flagging
 pub mod Finding
-pub mod Moved
-pub mod Tables
-pub mod OwnFronts
-pub mod Pass
-pub mod Backwards
-pub mod Forwards
-pub mod WitnessOfCode
+mod Moved
+mod Tables
+mod OwnFronts
+mod Pass
+mod Backwards
+mod Forwards
+mod WitnessOfCode
 pub mod Cleanness
 pub mod Deciding
-pub mod Offers
+mod Offers

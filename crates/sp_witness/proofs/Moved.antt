@@ -176,12 +176,7 @@ module _ (t : Births) (law : Lawful t) where
             × ((births_after_event s e.process v).opens q ≡ s.opens q)
         by (event.Fork n) = (other (s.forks e.process + 1) (s.forks q), refl)
         by event.Open = (refl, other (s.opens e.process + 1) (s.opens q))
-        by (event.Send c) = (refl, refl)
-        by (event.Receive c) = (refl, refl)
-        by event.End = (refl, refl)
-        by (event.Fault x) = (refl, refl)
-        by event.Laid = (refl, refl)
-        by event.Pause = (refl, refl)
+        by _ = (refl, refl)
 
   -- an entry that is not picked
   module _ (s s' : Births) (m : Table) (dirty : ℕ → Bool) (f : TableFollows t s s' m dirty) (e : Entry)
@@ -436,20 +431,7 @@ module _ (t : Births) (law : Lawful t) where
                 by_test : (x : Bool) → s.channels == c ≡ x → cond x m.channels (m.channel c) ≡ m.channel c
                 by_test true h = let z = eqb-true s.channels c h in absurd (omega (arith, z, b))
                 by_test false h = refl
-        by (event.Fork n) is given given' l =
-            old_source l (λ c b. subst (λ v. (table_after s m v).channel c ≡ m.channel c) (sym is) refl)
-        by (event.Send x) is given given' l =
-            old_source l (λ c b. subst (λ v. (table_after s m v).channel c ≡ m.channel c) (sym is) refl)
-        by (event.Receive x) is given given' l =
-            old_source l (λ c b. subst (λ v. (table_after s m v).channel c ≡ m.channel c) (sym is) refl)
-        by event.End is given given' l =
-            old_source l (λ c b. subst (λ v. (table_after s m v).channel c ≡ m.channel c) (sym is) refl)
-        by (event.Fault x) is given given' l =
-            old_source l (λ c b. subst (λ v. (table_after s m v).channel c ≡ m.channel c) (sym is) refl)
-        by event.Laid is given given' l =
-            old_source l (λ c b. subst (λ v. (table_after s m v).channel c ≡ m.channel c) (sym is) refl)
-        by event.Pause is given given' l =
-            old_source l (λ c b. subst (λ v. (table_after s m v).channel c ≡ m.channel c) (sym is) refl)
+        by _ is _ _ l = old_source l (λ c b. subst (λ v. (table_after s m v).channel c ≡ m.channel c) (sym is) refl)
 
     blank_after_new : IsBlank s1'
     blank_after_new = blank_after s' f.blank_new e' can'

@@ -31,12 +31,7 @@ entry_at s (e ∷ es) (suc i) o h =
 plain_offer : (s : Births) (v : Event) (w : Way) (c : Channel) → happening s v ≡ Offered w c → IsPlain v
 plain_offer s (event.Fork n) w c e = cc e
 plain_offer s event.Open w c e = cc e
-plain_offer s (event.Send d) w c e = tt
-plain_offer s (event.Receive d) w c e = tt
-plain_offer s event.End w c e = tt
-plain_offer s (event.Fault f) w c e = tt
-plain_offer s event.Laid w c e = tt
-plain_offer s event.Pause w c e = tt
+plain_offer _ _ _ _ _ = tt
 
 pub offers_there : (j : Journal) (w : Way) (c : Channel) (earlier later : ℕ) → Race (occurrences j) w c earlier later
     → (earlier < later) × (later < length j.entries)

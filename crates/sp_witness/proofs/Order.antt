@@ -4,7 +4,7 @@ use Rattle.std.proofs.Common.{take, take_at, Option, Some, None, slice_get, refl
 use Rattle.std.proofs.lemmas.Bool.{true≢false}
 use Rattle.std.proofs.lemmas.Option.{none-some, same_Some, slice_get_within}
 use Rattle.sp_journal.specs.declared.entry.Way.{Way}
-use Rattle.sp_journal.specs.Names.{Name, Channel, Happening, Opened, Forked, Offered, Ended, Faulted, Laid, Paused}
+use Rattle.sp_journal.specs.Names.{Name, Channel, Happening, Offered}
 use Rattle.sp_journal.specs.Names.{Occurrence}
 use Rattle.sp_journal.specs.Past.{Knowledge, knowledge_after, knowledge_of, no_knowledge, KnowsCompletions}
 use Rattle.sp_journal.specs.Past.{CompletedFrom}
@@ -69,12 +69,7 @@ module _ (es : List Occurrence) (w : Way) (c : Channel) (earlier later : ℕ)
 
       knows : (h : Happening) → e.what ≡ h → KnowsCompletions j done e.who h
       knows (Offered v d) is = knows_offer v d is
-      knows Opened is = tt
-      knows (Forked k) is = tt
-      knows Ended is = tt
-      knows (Faulted f) is = tt
-      knows Laid is = tt
-      knows Paused is = tt
+      knows _ _ = tt
 
   pub known_front : (front tail : List Occurrence) → es ≡ front ++ tail → length front ≤ later → AreKnown front
   known_front front tail whole le =

@@ -227,10 +227,6 @@ module _ (es : List Occurrence) (earlier later : ℕ) where
           counted ok = (passed j n e.who below bound stands.kept.single silent F' e.what ok).back m lt s
 
           by : (h : Happening) → e.what ≡ h → IsCleanly h → Someone G j m
-          by Opened is ok = counted (subst IsCounted (sym is) tt)
-          by (Forked k) is ok = counted (subst IsCounted (sym is) tt)
-          by (Offered w c) is ok = counted (subst IsCounted (sym is) tt)
-          by Ended is ok = counted (subst IsCounted (sym is) tt)
           by (Faulted f) is ok = absurd ok
           by Laid is ok = absurd ok
           by Paused is ok = (
@@ -238,6 +234,7 @@ module _ (es : List Occurrence) (earlier later : ℕ) where
             more j n e.who below bound stands.kept.single silent F' e.what s.0 s.1,
             subst (λ (z : Knowledge). HasEntry z s.0 m) (ap (knowledge_after j n e.who) is) s.2,
           )
+          by _ is _ = counted (subst IsCounted (sym is) tt)
 
       forth : (m : ℕ) → Someone G j m → Someone F' j' m
       forth m s = by e.what refl clean
@@ -246,10 +243,6 @@ module _ (es : List Occurrence) (earlier later : ℕ) where
           counted ok = (passed j n e.who below bound stands.kept.single silent F' e.what ok).forth m s
 
           by : (h : Happening) → e.what ≡ h → IsCleanly h → Someone F' j' m
-          by Opened is ok = counted (subst IsCounted (sym is) tt)
-          by (Forked k) is ok = counted (subst IsCounted (sym is) tt)
-          by (Offered w c) is ok = counted (subst IsCounted (sym is) tt)
-          by Ended is ok = counted (subst IsCounted (sym is) tt)
           by (Faulted f) is ok = absurd ok
           by Laid is ok = absurd ok
           by Paused is ok = (
@@ -257,6 +250,7 @@ module _ (es : List Occurrence) (earlier later : ℕ) where
             sym (ap (λ h. needed_before j e.who h F' s.0) is) ∙ s.1,
             subst (λ (z : Knowledge). HasEntry z s.0 m) (sym (ap (knowledge_after j n e.who) is)) s.2,
           )
+          by _ is _ = counted (subst IsCounted (sym is) tt)
 
       from_F : (q : Name) → F q ≡ true → (G q ≡ true) ⊎ ((n ≡ earlier) × (q ≡ e.who))
       from_F q h = ⊎_elim (λ (x : G q ≡ true). inl x)

@@ -25,13 +25,10 @@ abbrev pub Someone : (Name → Bool) → Knowledge → ℕ → Type 0
 Someone F j m = (q : Name) × (F q ≡ true) × HasEntry j q m
 
 abbrev pub IsCounted : Happening → Type 0
-IsCounted Opened = Unit {0}
-IsCounted (Forked m) = Unit {0}
-IsCounted (Offered w c) = Unit {0}
-IsCounted Ended = Unit {0}
 IsCounted (Faulted f) = ⊥
 IsCounted Laid = ⊥
 IsCounted Paused = ⊥
+IsCounted _ = Unit {0}
 
 module _ (j : Knowledge) (n : ℕ) (p : Name) (below : (q : Name) (i : ℕ) → j.past q i ≡ true → i < n)
     (bound : (c : Channel) (z : Name) (o : ℕ) → j.pending c ≡ Some (z, o) → o < n)
@@ -54,7 +51,6 @@ module _ (j : Knowledge) (n : ℕ) (p : Name) (below : (q : Name) (i : ℕ) → 
 
   -- who was needed after the entry is needed before it
   pub more : (h : Happening) (q : Name) → F q ≡ true → G h q ≡ true
-  more Opened q f = f
   more (Forked m) q f =
       key_more p (F p || any_child F p (j.forks p) m) F q (or_left (F p) (any_child F p (j.forks p) m)) f
   more (Offered w c) q f = by (j.pending c)
@@ -68,9 +64,7 @@ module _ (j : Knowledge) (n : ℕ) (p : Name) (below : (q : Name) (i : ℕ) → 
           (key_is o.0 b F p h))
           (key_more o.0 b F q (or_right (F p) (F o.0)) f)
   more Ended q f = key_more p (F p || parent_is F p) F q (or_left (F p) (parent_is F p)) f
-  more (Faulted x) q f = f
-  more Laid q f = f
-  more Paused q f = f
+  more _ _ f = f
 
   -- an offer that meets
   module _ (c : Channel) (o : Name × ℕ) (pe : j.pending c ≡ Some o) where
@@ -497,7 +491,6 @@ module _ (j : Knowledge) (n : ℕ) (p : Name) (below : (q : Name) (i : ℕ) → 
   -- whoever is needed before it was needed after it, or made it, or waits
   pub newly : (h : Happening) (q : Name) → needed_before j p h F q ≡ true
       → (F q ≡ true) ⊎ ((q ≡ p) ⊎ ((c : Channel) × (o : ℕ) × (j.pending c ≡ Some (q, o))))
-  newly Opened q h = inl h
   newly (Forked k) q h =
       ⊎_elim (λ (x : (p ≡ q) × (F p || any_child F p (j.forks p) k ≡ true)). inr (inl (sym x.0)))
       (λ (x : F q ≡ true). inl x) (key_is p (F p || any_child F p (j.forks p) k) F q h)
@@ -513,16 +506,11 @@ module _ (j : Knowledge) (n : ℕ) (p : Name) (below : (q : Name) (i : ℕ) → 
           (⊎_elim (λ (y : p ≡ q). inl (sym y)) (λ (y : o.0 ≡ q). inr (c, o.1, e ∙ (λ i. Some (y i, o.1)))) x.1))
           (λ (x : F q ≡ true). inl x)
           (meets_is c o e q h)
-  newly (Faulted f) q h = inl h
-  newly Laid q h = inl h
-  newly Paused q h = inl h
+  newly _ _ h = inl h
 
   -- an offer that is pending after it was pending before it, or is p's
   pub pends_after : (h : Happening) (d : Channel) (q : Name) (o : ℕ) → (knowledge_after j n p h).pending d ≡ Some (q, o)
       → (j.pending d ≡ Some (q, o)) ⊎ (q ≡ p)
-  pends_after Opened d q o h = inl h
-  pends_after (Forked k) d q o h = inl h
-  pends_after Ended d q o h = inl h
   pends_after (Offered w c) d q o h = by (j.pending c) refl h
     where
       by : (x : Option (Name × ℕ)) → j.pending c ≡ x → (knowledge_after_offer j p n c x).pending d ≡ Some (q, o)
@@ -530,9 +518,7 @@ module _ (j : Knowledge) (n : ℕ) (p : Name) (below : (q : Name) (i : ℕ) → 
       by None e h = ⊎_elim (λ (y : (p, n) ≡ (q, o)). inr (ap (λ (z : Name × ℕ). z.0) (sym y)))
           (λ (y : j.pending d ≡ Some (q, o)). inl y) (wait_pending c e d (q, o) h)
       by (Some x) e h = inl (then_pending c x e d (q, o) h)
-  pends_after (Faulted f) d q o h = inl h
-  pends_after Laid d q o h = inl h
-  pends_after Paused d q o h = inl h
+  pends_after _ _ _ _ h = inl h
 
   -- nobody has what is to come
   pub none_yet : Someone F j n → ⊥

@@ -28,11 +28,7 @@ births_condition L p k i (o ∷ os) t = births_condition L p k (suc i) os (with_
 pub said_same : {L : Language} (a : ActOf L) (cs ds : List (Change L))
     → happening_of a (Advances cs) ≡ happening_of a (Advances ds)
 said_same (Moves o ws) cs ds = refl
-said_same (Opens o ws) cs ds = refl
-said_same (Forks o os) cs ds = refl
-said_same (Offering o) cs ds = refl
-said_same EndsProcess cs ds = refl
-said_same (MeetsFault f) cs ds = refl
+said_same _ _ _ = refl
 
 module _ (g : RunInput) where
   abbrev L : Language

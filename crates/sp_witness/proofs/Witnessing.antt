@@ -6,8 +6,7 @@ use Rattle.sp_journal.specs.declared.entry.Way.{Way}
 use Rattle.sp_meaning.specs.Model.{Name, Channel, Language}
 use Rattle.sp_meaning.specs.LocalWork.{RunInput}
 use Rattle.sp_meaning.specs.SuperPascal.{superpascal}
-use Rattle.sp_meaning.specs.Entries.{Happening, Opened, Forked, Offered, Faulted, Laid, Paused, Occurrence}
-use Rattle.sp_journal.specs.Names as happenings
+use Rattle.sp_meaning.specs.Entries.{Happening, Offered, Paused, Occurrence}
 use Rattle.sp_meaning.specs.Along.{IsClean}
 use Rattle.sp_race.specs.Notes.{Event, next_event_of}
 use Rattle.sp_race.specs.Noting.{WithNotes}
@@ -121,12 +120,7 @@ module _ (g : RunInput) (label : ℕ → Option Event) where
       last_local : (what : Happening) (since : ℕ) (x : Tag g) (ticks : ℕ) → is_pause what ≡ true
           → IsLast g turn since what x ticks → IsLocal x.act
       last_local Paused since x ticks p l = local_is since x true ticks l
-      last_local Opened since x ticks p l = true_is_not_false (sym p)
-      last_local (Forked n) since x ticks p l = true_is_not_false (sym p)
-      last_local (Offered w c) since x ticks p l = true_is_not_false (sym p)
-      last_local happenings.Ended since x ticks p l = true_is_not_false (sym p)
-      last_local (Faulted f) since x ticks p l = true_is_not_false (sym p)
-      last_local Laid since x ticks p l = true_is_not_false (sym p)
+      last_local _ _ _ _ p _ = true_is_not_false (sym p)
 
       block_pends : (since : ℕ) (s t : WithNotes L) (h : Head) (xs : List (Tag g)) (ticks : ℕ) → IsFit h
           → Valid g turn since h.what xs ticks → Runs g label s h xs t → Pends s → Pends t

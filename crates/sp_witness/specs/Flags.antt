@@ -29,13 +29,10 @@ flags_to_meet p (Some z) flags = at_key ◌==◌ p (flags p || flags z) (at_key 
 -- each channel
 abbrev pub flags_before : Births → (ℕ → Option ℕ) → ℕ → Event → (ℕ → Bool) → ℕ → Bool
 flags_before s lines p (event.Fork m) flags = at_key ◌==◌ p (flags p || any_flag flags s.processes m) flags
-flags_before s lines p event.Open flags = flags
 flags_before s lines p (event.Send c) flags = flags_to_meet p (lines c) flags
 flags_before s lines p (event.Receive c) flags = flags_to_meet p (lines c) flags
 flags_before s lines p event.End flags = at_key ◌==◌ p (flags p || parent_flag flags (s.birth p)) flags
-flags_before s lines p (event.Fault f) flags = flags
-flags_before s lines p event.Laid flags = flags
-flags_before s lines p event.Pause flags = flags
+flags_before _ _ _ _ flags = flags
 
 -- who waits on each channel after p offers on c: p, where nobody waited there, else nobody
 abbrev pub line_by : (ℕ → Option ℕ) → ℕ → ℕ → Option ℕ → ℕ → Option ℕ
@@ -44,25 +41,15 @@ line_by lines p c (Some z) = at_key ◌==◌ c None lines
 
 -- who waits on each channel after this event of p
 abbrev pub lines_after : (ℕ → Option ℕ) → ℕ → Event → ℕ → Option ℕ
-lines_after lines p (event.Fork m) = lines
-lines_after lines p event.Open = lines
 lines_after lines p (event.Send c) = line_by lines p c (lines c)
 lines_after lines p (event.Receive c) = line_by lines p c (lines c)
-lines_after lines p event.End = lines
-lines_after lines p (event.Fault f) = lines
-lines_after lines p event.Laid = lines
-lines_after lines p event.Pause = lines
+lines_after lines _ _ = lines
 
 -- whom an event meets, where these wait
 abbrev pub partner_of : (ℕ → Option ℕ) → Event → Option ℕ
-partner_of lines (event.Fork m) = None
-partner_of lines event.Open = None
 partner_of lines (event.Send c) = lines c
 partner_of lines (event.Receive c) = lines c
-partner_of lines event.End = None
-partner_of lines (event.Fault f) = None
-partner_of lines event.Laid = None
-partner_of lines event.Pause = None
+partner_of _ _ = None
 
 -- of the earlier offer's index and the number of the later one's process
 module _ (earlier last : ℕ) where

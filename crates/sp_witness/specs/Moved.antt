@@ -83,9 +83,4 @@ IsOwnFront dirty (e ∷ es) (false ∷ marks) = IsOwnFront (at_key ◌==◌ e.pr
 abbrev pub IsPlain : Event → Type 0
 IsPlain (event.Fork n) = ⊥
 IsPlain event.Open = ⊥
-IsPlain (event.Send c) = Unit {0}
-IsPlain (event.Receive c) = Unit {0}
-IsPlain event.End = Unit {0}
-IsPlain (event.Fault f) = Unit {0}
-IsPlain event.Laid = Unit {0}
-IsPlain event.Pause = Unit {0}
+IsPlain _ = Unit {0}

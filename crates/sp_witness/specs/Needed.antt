@@ -4,7 +4,7 @@
 use Rattle.std.specs.Prelude.{ℕ, zero, suc, Bool, false, ◌&&◌, ◌||◌, ◌==◌, if◌then◌else◌, List, [], ◌∷◌, take, Option}
 use Rattle.std.specs.Prelude.{Some, None}
 use Rattle.sp_journal.specs.Maps.{at_key}
-use Rattle.sp_journal.specs.Names.{Name, same_name, Happening, Opened, Forked, Offered, Ended, Faulted, Laid, Paused}
+use Rattle.sp_journal.specs.Names.{Name, same_name, Happening, Forked, Offered, Ended}
 use Rattle.sp_journal.specs.Names.{Occurrence}
 use Rattle.sp_journal.specs.Past.{Knowledge, knowledge_after, no_knowledge}
 use Rattle.sp_witness.specs.Witness.{who_at}
@@ -29,15 +29,12 @@ needed_to_meet p (Some o) needed_processes =
 -- Who is needed before an entry of p, of those needed after it: a parent that forks where a child is, both that meet
 -- where one of them is, a child that ends where its parent is
 abbrev pub needed_before : Knowledge → Name → Happening → (Name → Bool) → Name → Bool
-needed_before j p Opened needed_processes = needed_processes
 needed_before j p (Forked m) needed_processes =
     at_key same_name p (needed_processes p || any_child needed_processes p (j.forks p) m) needed_processes
 needed_before j p (Offered w c) needed_processes = needed_to_meet p (j.pending c) needed_processes
 needed_before j p Ended needed_processes = at_key same_name p (needed_processes p || parent_is needed_processes p)
     needed_processes
-needed_before j p (Faulted f) needed_processes = needed_processes
-needed_before j p Laid needed_processes = needed_processes
-needed_before j p Paused needed_processes = needed_processes
+needed_before _ _ _ needed_processes = needed_processes
 
 module _ (es : List Occurrence) (earlier later : ℕ) where
   -- who is needed before these entries, which end before the later offer: the process of that offer, and before the

@@ -92,12 +92,7 @@ table_in n = record {
 abbrev pub CanAdd : Event → ℕ → ℕ → ℕ → ℕ → Type 0
 CanAdd (event.Fork n) process channel next_process next_channel = (process + n ≤ 2 ^ 32) × (next_process ≤ process)
 CanAdd event.Open process channel next_process next_channel = (channel < 2 ^ 32) × (next_channel ≤ channel)
-CanAdd (event.Send c) process channel next_process next_channel = Unit {0}
-CanAdd (event.Receive c) process channel next_process next_channel = Unit {0}
-CanAdd event.End process channel next_process next_channel = Unit {0}
-CanAdd (event.Fault f) process channel next_process next_channel = Unit {0}
-CanAdd event.Laid process channel next_process next_channel = Unit {0}
-CanAdd event.Pause process channel next_process next_channel = Unit {0}
+CanAdd _ _ _ _ _ = Unit {0}
 
 -- whether the entry of this index is marked
 abbrev pub IsMark : ℕ → ℕ → List Entry → ℕ → Bool → Type 0

@@ -5,7 +5,7 @@
 use Rattle.std.specs.Prelude.{ℕ, suc, Bool, true, false, ◌&&◌, ◌||◌, if◌then◌else◌, nat_lt, List, [], ◌∷◌, ◌++◌, take}
 use Rattle.std.specs.Prelude.{Option, Some, None, slice_get}
 use Rattle.sp_base.specs.declared.fault.Fault.TheVariants as fault
-use Rattle.sp_journal.specs.Names.{Name, same_name, Happening, Opened, Forked, Offered, Ended, Faulted, Laid, Paused}
+use Rattle.sp_journal.specs.Names.{Name, same_name, Happening, Faulted, Paused}
 use Rattle.sp_journal.specs.Names.{Occurrence}
 use Rattle.sp_journal.specs.Past.{knowledge_of}
 
@@ -29,13 +29,8 @@ past_before es i k = (knowledge_of (take i es)).past (who_at es i) k
 
 -- a process pauses
 abbrev pub is_pause : Happening → Bool
-is_pause Opened = false
-is_pause (Forked n) = false
-is_pause (Offered w c) = false
-is_pause Ended = false
-is_pause (Faulted f) = false
-is_pause Laid = false
 is_pause Paused = true
+is_pause _ = false
 
 -- of a journal, for its offers of these two indices
 module _ (es : List Occurrence) (earlier later : ℕ) where

@@ -38,6 +38,12 @@
 //!   `Moved.antt`, `Tables.antt` and `OwnFronts.antt` for the numbers; `Backwards.antt`, `Forwards.antt` and
 //!   `WitnessOfCode.antt` for the code.
 //!
+//! Lemmas for others, in `proofs`:
+//! - `Finding`: the numbers of a nameable journal are found again by its names.
+//! - `Cleanness`: the witness of a run without a fault is clean but for its last entry.
+//! - `Deciding`: a run without a fault at its end is ordered exactly where no schedule of the program meets
+//!   contention.
+//!
 //! To change:
 //! - Which entries stand in a witness: `specs/Witness.antt`, `specs/Needed.antt`, `specs/Flags.antt` and
 //!   `src/marks.rt`.

@@ -168,18 +168,14 @@ enters subs word s words met sub = record {
 -- ---- the command line of superpascal
 
 abbrev pub option_parsers : ValueParser → CommandName → Options
-option_parsers q Check = []
 option_parsers q Run = run_parsers q
-option_parsers q Code = []
-option_parsers q Sets = []
-option_parsers q Format = []
 option_parsers q Gen = gen_parsers
 option_parsers q Replay = limit_parsers
 option_parsers q Witness = worker_parsers
-option_parsers q Build = []
 option_parsers q Exec = worker_parsers
 option_parsers q Trace = limit_parsers
 option_parsers q Where = limit_parsers
+option_parsers _ _ = []
 
 abbrev pub parsers_for : ValueParser → CommandName → Parsers
 parsers_for q command = (has_journal command, option_parsers q command)
@@ -274,17 +270,7 @@ agrees q Where show = limits_agree [] [] tt
 
 is_free : (q : ValueParser) (command : CommandName) → IsFree (parsers_for q command)
 is_free q Check = (refl, refl)
-is_free q Run = (refl, refl)
-is_free q Code = (refl, refl)
-is_free q Sets = (refl, refl)
-is_free q Format = (refl, refl)
-is_free q Gen = (refl, refl)
-is_free q Replay = (refl, refl)
-is_free q Witness = (refl, refl)
-is_free q Build = (refl, refl)
-is_free q Exec = (refl, refl)
-is_free q Trace = (refl, refl)
-is_free q Where = (refl, refl)
+is_free _ _ = (refl, refl)
 
 -- ---- the words
 

@@ -74,18 +74,14 @@ worker_options = (codes "workers", is_number_in 1 64) ∷ limit_options
 
 -- only `run`, `gen`, `replay`, `witness`, `exec`, `trace` and `where` have options
 abbrev pub options_of : CommandName → List Choice
-options_of name.Check = []
 options_of name.Run = run_options
-options_of name.Code = []
-options_of name.Sets = []
-options_of name.Format = []
 options_of name.Gen = gen_options
 options_of name.Replay = limit_options
 options_of name.Witness = worker_options
-options_of name.Build = []
 options_of name.Exec = worker_options
 options_of name.Trace = limit_options
 options_of name.Where = limit_options
+options_of _ = []
 
 -- the names of the options of a command
 abbrev pub option_names : CommandName → List Text

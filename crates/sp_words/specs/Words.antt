@@ -112,18 +112,10 @@ journal_second (given name value ∷ is) = given name value ∷ journal_second i
 
 -- only `replay`, `trace` and `where` have a JOURNAL
 abbrev pub has_journal : CommandName → Bool
-has_journal name.Check = false
-has_journal name.Run = false
-has_journal name.Code = false
-has_journal name.Sets = false
-has_journal name.Format = false
-has_journal name.Gen = false
 has_journal name.Replay = true
-has_journal name.Witness = false
-has_journal name.Build = false
-has_journal name.Exec = false
 has_journal name.Trace = true
 has_journal name.Where = true
+has_journal _ = false
 
 -- where there is a JOURNAL, it is the second of the words that are no options
 abbrev pub with_journal : Bool → List WordItem → List WordItem

@@ -19,6 +19,9 @@
 //!   the one before at the first part of it.
 //! - `items` and `is_lost` are public: another call may write into `items`, and `note` takes what it answers.
 //!
+//! Lemmas for others, in `proofs`:
+//! - `Adding`: for answers by hand: what stands after two parts, and in a loop.
+//!
 //! To change:
 //! - One more kind of item for bytes: `src/text.rt`.
 #![tactic(auto)]
