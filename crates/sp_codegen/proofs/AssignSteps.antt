@@ -52,13 +52,13 @@ module _ {M : Type 0} (ex : Execution M) where
   store_one : (q : ℕ) (z : Sort) (k : ℕ) (v : Value) (e : Entry) (a : Ptr) (stack : List Entry) (n : M)
       → Stood rel p z k v e → OneCell z → ops.has a 1 n ≡ true → slice_get code.instrs q ≡ Some i.Store
       → next_step ops code (m.At q (e ∷ m.Pointer a ∷ stack) n) ≡ Goes (m.At (q + 1) stack (ops.put a (cell_of e) n))
-  store_one q Ordinals k v e a stack n x y ha h =
+  store_one q Ordinals k v e a stack n (_, _, entry_is) y ha h =
       subst (λ u. next_step ops code (m.At q (u ∷ m.Pointer a ∷ stack) n)
-      ≡ Goes (m.At (q + 1) stack (ops.put a (cell_of u) n))) (sym x.2)
+      ≡ Goes (m.At (q + 1) stack (ops.put a (cell_of u) n))) (sym entry_is)
       (at_one ex q _ n h ∙ holds_when (ops.has a 1 n) _ ha)
-  store_one q Channels k v e a stack n x y ha h =
+  store_one q Channels k v e a stack n (_, _, _, entry_is, _) y ha h =
       subst (λ u. next_step ops code (m.At q (u ∷ m.Pointer a ∷ stack) n)
-      ≡ Goes (m.At (q + 1) stack (ops.put a (cell_of u) n))) (sym x.3)
+      ≡ Goes (m.At (q + 1) stack (ops.put a (cell_of u) n))) (sym entry_is)
       (at_one ex q _ n h ∙ holds_when (ops.has a 1 n) _ ha)
   store_one q Many k v e a stack n x y ha h = absurd y
   store_one q NoSort k v e a stack n x y ha h = absurd y

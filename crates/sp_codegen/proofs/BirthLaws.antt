@@ -116,7 +116,8 @@ module _ (g : RunInput) (moves shares : Stmt → List ℕ) (pause : ℕ) (tree :
   reached_formed : (bs : List ℕ) (Here : Use → Type 0) (u : Use) → ((u : Use) → Here u → IsFormedUse g.program u)
       → Reach g.program Here bs u → IsFormedUse g.program u
   reached_formed [] Here u formed r = formed u r
-  reached_formed (f ∷ bs) Here u formed r = reached_formed bs (In_stmt r.2.body) u (tree.formed.uses f r.2 r.3) r.5
+  reached_formed (f ∷ bs) Here u formed (_, _, block, known, _, reached) =
+      reached_formed bs (In_stmt block.body) u (tree.formed.uses f block known) reached
 
   -- nothing reads the output
   unread : {Here : Use → Type 0} → ((u : Use) → Here u → IsFormedUse g.program u) → IsUsed g.program Here 1
@@ -351,7 +352,8 @@ module _ (g : RunInput) (moves shares : Stmt → List ℕ) (pause : ℕ) (tree :
         (λ q k. Called g moves shares pause life q k) (λ l. IsWritableLoc g moves shares pause life l)
         (λ l. IsReadable g moves shares pause life l) (λ h. Indexes g moves shares pause life h) life.low life.base
         life.born life.since pause life.moved
-        (λ q i. (i.0.0, not_in_both q back nc.store.moved i.0.1 i.1))
+        (λ q i. let (away, not_now) = i in let (moved, not_before) = away in
+        (moved, not_in_both q back nc.store.moved not_before not_now))
         (joined_joining g (program_code g.program moves shares) life.who
         (λ c j. Named g moves shares pause life c j) (λ q k. Called g moves shares pause life q k)
         (λ l. IsWritableLoc g moves shares pause life l) (λ l. IsReadable g moves shares pause life l)

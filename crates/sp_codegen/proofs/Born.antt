@@ -191,11 +191,12 @@ module _ (p : Program) (formed : IsFormed p) (ls : List Layout) (laid : Laid p l
   index_spot [] n js ch pa l up e j rest u = absurd (cc e)
   index_spot (sp ∷ sc) n [] ch pa l up e j rest u = let z : [] ≡ ch.0 ∷ ch.1 = ch.2 in absurd (cc z)
   index_spot (sp ∷ sc) zero (k ∷ js) ch pa l up e j rest u = absurd (omega (arith, l))
-  index_spot (sp ∷ sc) (suc n) (k ∷ js) ch pa l up e j rest u =
+  index_spot (sp ∷ sc) (suc n) (k ∷ js) (joint, over, list_is, home_is, further_out)
+      (homes, link_is, link_low, _, _, _, others) l up e j rest u =
       by_test (λ z d a b c f g. index_spot sc n z d a b c f j rest g) (is_index x sp) refl e
     where
-      same : (k ≡ ch.0) × (js ≡ ch.1)
-      same = (ap (λ z. a_joint z) ch.2, ap (λ z. rest_of z) ch.2)
+      same : (k ≡ joint) × (js ≡ over)
+      same = (ap (λ z. a_joint z) list_is, ap (λ z. rest_of z) list_is)
         where
           a_joint : List FramePair → FramePair
           a_joint [] = k
@@ -206,18 +207,18 @@ module _ (p : Program) (formed : IsFormed p) (ls : List Layout) (laid : Laid p l
           rest_of (i ∷ is) = is
 
       home : HomeIs sp k.source.home
-      home = subst (λ (z : FramePair). HomeIs sp z.source.home) (sym same.0) ch.3
+      home = subst (λ (z : FramePair). HomeIs sp z.source.home) (sym same.0) home_is
 
       outward : Chain sc (pairs_from k.source.link js)
       outward = subst (λ z. Chain sc (pairs_from k.source.link z)) (sym same.1)
-          (subst (λ (z : FramePair). Chain sc (pairs_from z.source.link ch.1)) (sym same.0) ch.4)
+          (subst (λ (z : FramePair). Chain sc (pairs_from z.source.link over)) (sym same.0) further_out)
 
       outer : Option Spot
       outer = spot_from ls n (last_frames k.machine.link (machines js)) x
 
       outer_is : outer ≡ spot_from ls n (machines (pairs_from k.source.link js)) x
-      outer_is = ap (λ z. spot_from ls n (last_frames z (machines js)) x) (sym pa.1)
-          ∙ ap (λ z. spot_from ls n z x) (last_machines k.source.link js pa.2)
+      outer_is = ap (λ z. spot_from ls n (last_frames z (machines js)) x) (sym link_is)
+          ∙ ap (λ z. spot_from ls n z x) (last_machines k.source.link js link_low)
 
       here : (t : Scope) (a : Home) (c : m.Home) → HomeIs t a → HomesAre p a c → is_index x t ≡ true
           → spot_in ls k.machine c x ≡ Some (spot_at k.machine.number 0)
@@ -230,9 +231,9 @@ module _ (p : Program) (formed : IsFormed p) (ls : List Layout) (laid : Laid p l
 
       not_here : (t : Scope) (a : Home) (c : m.Home) → HomeIs t a → HomesAre p a c → is_index x t ≡ false
           → spot_in ls k.machine c x ≡ None
-      not_here t (OfBlock a) (m.OfBlock c) hi ho f =
-          spot_no_frame p formed ls laid k.machine c ho.1.0 x (ap (λ z. slice_get p.blocks z) (sym ho.0) ∙ ho.1.1)
-          (not_in_frame c ho.1.0 (ap (λ z. slice_get p.blocks z) (sym ho.0) ∙ ho.1.1))
+      not_here t (OfBlock a) (m.OfBlock c) hi (same_block, (block, known)) f =
+          spot_no_frame p formed ls laid k.machine c block x (ap (λ z. slice_get p.blocks z) (sym same_block) ∙ known)
+          (not_in_frame c block (ap (λ z. slice_get p.blocks z) (sym same_block) ∙ known))
       not_here t (OfBlock a) (m.OfIndex c) hi ho f = absurd ho
       not_here t (OfIndex z w) (m.OfBlock c) hi ho f = absurd ho
       not_here (s.OfBlock b) (OfIndex z w) (m.OfIndex c) hi ho f = absurd hi
@@ -248,12 +249,12 @@ module _ (p : Program) (formed : IsFormed p) (ls : List Layout) (laid : Laid p l
       by_test ih true t d =
           let zero_up : 0 ≡ up = cc d in
           let kj : k ∷ js ≡ j ∷ rest = ap (λ z. up_at z (k ∷ js)) zero_up ∙ u in
-          ap (λ z. or_outward z outer) (here sp k.source.home k.machine.home home pa.0 t)
+          ap (λ z. or_outward z outer) (here sp k.source.home k.machine.home home homes t)
           ∙ ap (λ (z : FramePair). Some (spot_at z.machine.number 0)) (first_of kj)
         where
           first_of : k ∷ js ≡ j ∷ rest → k ≡ j
           first_of e = cc e
-      by_test ih false t d = ap (λ z. or_outward z outer) (not_here sp k.source.home k.machine.home home pa.0 t)
+      by_test ih false t d = ap (λ z. or_outward z outer) (not_here sp k.source.home k.machine.home home homes t)
           ∙ outer_is ∙ further (level (is_index x) sc) refl d
         where
           further : (o : Option ℕ) → level (is_index x) sc ≡ o → one_more o ≡ Some up
@@ -262,6 +263,6 @@ module _ (p : Program) (formed : IsFormed p) (ls : List Layout) (laid : Laid p l
           further (Some a) f d =
               let above : suc a ≡ up = cc d in
               let sh = from_short k.source.link js in
-              ih (pairs_from k.source.link js) outward (paired_from p Called k.source.link js pa.6)
+              ih (pairs_from k.source.link js) outward (paired_from p Called k.source.link js others)
               (omega (arith, l, sh)) a f
               (ap (λ z. up_at z (k ∷ js)) above ∙ u)

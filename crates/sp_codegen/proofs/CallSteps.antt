@@ -140,21 +140,23 @@ module _ {M : Type 0} (ex : Execution M) where
       → CallAt p moves shares (CodeAt code) (HasFork code) (HasWords code) callable sc q f b
       → (z : BlockIs f b) → GivensAre rel p fs b.formals gs es → Gave p (sources fs) args gs
       → CallFinds fs f b q stack gs es o s n z.layout
-  call_finds {fs} {o} {s} {n} f args b sc q stack gs es t pl h z gv ga = by_parent b.parent refl h.2
+  call_finds {fs} {o} {s} {n} f args b sc q stack gs es t pl (level, known, within, calls) z gv ga =
+      by_parent b.parent refl within
     where
       by_parent : (y : Option ℕ) → b.parent ≡ y
-          → Around p moves shares (CodeAt code) (HasFork code) (HasWords code) callable sc f y h.0
+          → Around p moves shares (CodeAt code) (HasFork code) (HasWords code) callable sc f y level
           → CallFinds fs f b q stack gs es o s n z.layout
       by_parent None e x = absurd x
       by_parent (Some c) e x =
-          let r = found (is_block c) (places.is_block c) (block_agrees c) sc fs h.0 pl.chain x.0 in
+          let r = found (is_block c) (places.is_block c) (block_agrees c) sc fs level pl.chain x.0 in
           let seek_is : seek (is_block c) (length (sources fs)) (sources fs) ≡ sources (r.frame ∷ r.rest) =
           seek_all (is_block c) fs ∙ r.sought in
-          let op = law.open_frame t f b z.layout h.1 z.layout_is c h.0 r.frame r.rest e r.frame_at seek_is gs es gv in
+          let op = law.open_frame t f b z.layout known z.layout_is c level r.frame r.rest e r.frame_at seek_is gs es gv
+          in
           let formals_are : length z.layout.formals ≡ length b.formals = ap
           (λ (y : Layout). length y.formals) z.layout_is
           ∙ length_of_map _ b.formals in
-          let fresh_is : fresh p w.name W R 0 (λ m x h. mine_written m x) reads free (sources fs) f b args gs c
+          let fresh_is : fresh p w.name W R 0 (λ m x i. mine_written m x) reads free (sources fs) f b args gs c
           r.frame.source ≡ frame_for rel w f b fs (r.frame ∷ r.rest) gs =
           (let a = sources_length fs in let k =
           sym (sought (is_block c) (length (sources fs)) (sources fs) r.frame.source (sources r.rest) pl.linked
@@ -168,36 +170,36 @@ module _ {M : Type 0} (ex : Execution M) where
           }) in
           let found_is : frame_found (is_block c) (length (sources fs)) (sources fs) ≡ Some r.frame.source =
           find_in (is_block c) fs r.frame r.rest r.sought in
-          let before : c < f = free.parents f b c h.1 e in
+          let before : c < f = free.parents f b c known e in
           record {
-            did = ops.open_frame z.layout h.0 es n;
+            did = ops.open_frame z.layout level es n;
             around = r.frame ∷ r.rest;
             entered = op.2;
-            goes = at_one ex q (pushed es stack) n h.3
-                ∙ ap (λ y. on_some y (λ l. m.call_step ops code l h.0 (q + 1) (pushed es stack) n))
+            goes = at_one ex q (pushed es stack) n calls
+                ∙ ap (λ y. on_some y (λ l. m.call_step ops code l level (q + 1) (pushed es stack) n))
                 (finds f z.layout z.layout_at)
                 ∙ pop_pushed es (length z.layout.formals) 0 stack []
                 (λ es st. when (fit_formals z.layout.formals es)
-                (when (ops.can_push h.0 n)
-                (then_go (ops.open_frame z.layout h.0 es n) (λ n1. m.enter_step ops code z.layout (q + 1) st n1))))
+                (when (ops.can_push level n)
+                (then_go (ops.open_frame z.layout level es n) (λ n1. m.enter_step ops code z.layout (q + 1) st n1))))
                 (zero_plus (length z.layout.formals) (length es) (length b.formals) formals_are
                 (givens_length fs b.formals gs es gv))
                 ∙ ap (λ y. when (fit_formals z.layout.formals y)
-                (when (ops.can_push h.0 n) (calls_to z.layout (q + 1) stack (ops.open_frame z.layout h.0 y n))))
+                (when (ops.can_push level n) (calls_to z.layout (q + 1) stack (ops.open_frame z.layout level y n))))
                 (rev_onto_nil es)
-                ∙ holds_when (fit_formals z.layout.formals es) _ op.0 ∙ holds_when (ops.can_push h.0 n) _ op.1;
+                ∙ holds_when (fit_formals z.layout.formals es) _ op.0 ∙ holds_when (ops.can_push level n) _ op.1;
             parent = (c, e);
             placed = λ j ej. record {
-              chain = chain_of fs (r.frame ∷ r.rest) f (drop h.0 sc) j b gs ej
-                  (up_from h.0 fs r.frame r.rest r.frame_at) x.1
+              chain = chain_of fs (r.frame ∷ r.rest) f (drop level sc) j b gs ej
+                  (up_from level fs r.frame r.rest r.frame_at) x.1
                   r.chain;
               linked = subst (λ y. Linked (y ∷ sources fs)) (fresh_is ∙ sym ej)
-                  (fresh_linked p w.name W R 0 (λ m x h. mine_written m x) reads free (sources fs) f b args gs c
-                  r.frame.source pl.linked h.1 ga before found_is);
+                  (fresh_linked p w.name W R 0 (λ m x i. mine_written m x) reads free (sources fs) f b args gs c
+                  r.frame.source pl.linked known ga before found_is);
               sound = subst (λ y. Sound p W R (y ∷ sources fs) (In_stmt b.body)) (fresh_is ∙ sym ej)
-                  (fresh_sound p w.name W R 0 (λ m x h. mine_written m x) reads free (sources fs) f b args gs c
-                  r.frame.source pl.linked h.1 ga before found_is (omega arith) pl.sound);
-              formed = λ u hx. uses_formed f b h.1 u hx;
+                  (fresh_sound p w.name W R 0 (λ m x i. mine_written m x) reads free (sources fs) f b args gs c
+                  r.frame.source pl.linked known ga before found_is (omega arith) pl.sound);
+              formed = λ u hx. uses_formed f b known u hx;
               indexes = λ x up hx lv. absurd (no_index_scope p (length p.blocks) (Some f) x up lv);
             };
           }
@@ -246,39 +248,38 @@ module _ {M : Type 0} (ex : Execution M) where
 
       go : (x : WorkOutcome Block × Store) (d : MemoryResult M) → CallMatches rel w fs s f b r.around gs x d
           → next_step ops code c ≡ calls_to l (q + 1) stack d → Made ex c (After ex end base below) (then_run next w x)
-      go (Computed b1 o1, s1) (Done n1) al e =
-          let fr = al.1.0 in (
-            l.entry,
-            m.Link (q + 1) ∷ stack,
-            n1,
-            fr ∷ fs,
-            c,
-            stays ops rel w code c,
-            e ∙ ap (λ y. if y then Goes (m.At l.entry (m.Reply (q + 1) ∷ stack) n1) else
-                pause_step ops code l.entry (m.Link (q + 1) ∷ stack) n1) no_answer,
-            al.1.2,
-            subst (λ (y : Block). After ex end base below (push y.body (Leave ∷ todo)) (fr ∷ fs) l.entry
-                (m.Link (q + 1) ∷ stack)) (sym al.0)
-                (push_follows ex b.body end base below (scopes_of p f) l.entry (m.Link (q + 1) ∷ stack) (fr ∷ fs)
-                (Leave ∷ todo) (r.placed fr al.1.1) (z.stands.body (is_in_no_function stack) hu) (
-                  after_statement p l.entry b.body,
-                  q + 1,
-                  stack,
-                  fr,
-                  fs,
-                  slides ex _ _,
-                  refl,
-                  z.stands.end
-                      ∙ ap Some (return_at f r.parent.0 b h.1 r.parent.1),
-                  refl,
-                  fo,
-                  al.1.3,
-                )),
-          )
+      go (Computed b1 o1, s1) (Done n1) (block_is, (fr, frame_is, stands, mine)) e = (
+        l.entry,
+        m.Link (q + 1) ∷ stack,
+        n1,
+        fr ∷ fs,
+        c,
+        stays ops rel w code c,
+        e ∙ ap (λ y. if y then Goes (m.At l.entry (m.Reply (q + 1) ∷ stack) n1) else
+            pause_step ops code l.entry (m.Link (q + 1) ∷ stack) n1) no_answer,
+        stands,
+        subst (λ (y : Block). After ex end base below (push y.body (Leave ∷ todo)) (fr ∷ fs) l.entry
+            (m.Link (q + 1) ∷ stack)) (sym block_is)
+            (push_follows ex b.body end base below (scopes_of p f) l.entry (m.Link (q + 1) ∷ stack) (fr ∷ fs)
+            (Leave ∷ todo) (r.placed fr frame_is) (z.stands.body (is_in_no_function stack) hu) (
+              after_statement p l.entry b.body,
+              q + 1,
+              stack,
+              fr,
+              fs,
+              slides ex _ _,
+              refl,
+              z.stands.end
+                  ∙ ap Some (return_at f r.parent.0 b h.1 r.parent.1),
+              refl,
+              fo,
+              mine,
+            )),
+      )
       go (Computed b1 o1, s1) (Failed x) al e = absurd al
       go (EndsInFault x, s1) (Done n1) al e = absurd al
-      go (EndsInFault x, s1) (Failed y) al e =
-          breaks ops rel w code c x s1 (subst (StandsFor rel c) (sym al.1) (fs, o, t))
-          (e ∙ ap Fails (sym al.0))
+      go (EndsInFault x, s1) (Failed y) (same_fault, same_store) e =
+          breaks ops rel w code c x s1 (subst (StandsFor rel c) (sym same_store) (fs, o, t))
+          (e ∙ ap Fails (sym same_fault))
       go (IllFormed, s1) d al e = absurd al
       go (OutOfFuel, s1) d al e = absurd al

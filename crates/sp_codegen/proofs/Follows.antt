@@ -68,15 +68,21 @@ module _ {M : Type 0} (ex : Execution M) where
   pub slide_follows : (end : ℕ) (base : List Entry) (below : List FramePair) (pc q : ℕ) (stack : List Entry)
       (fs : List FramePair) (todo : List Item) → Slides pc q stack → CodeFollows end base below q stack fs todo
       → CodeFollows end base below pc stack fs todo
-  slide_follows end base below pc q stack fs [] h k = (slides_on h k.0, k.1, k.2)
-  slide_follows end base below pc q stack fs (Do s ∷ todo) h k = (k.0, k.1, slides_on h k.2, k.3, k.4, k.5)
-  slide_follows end base below pc q stack fs (First x lo hi d s ∷ todo) h k =
-      (k.0, k.1, k.2, slides_on h k.3, k.4, k.5, k.6, k.7, k.8)
-  slide_follows end base below pc q stack fs (Again x hi d s ∷ todo) h k =
-      (k.0, k.1, k.2, slides_on h k.3, k.4, k.5, k.6, k.7)
-  slide_follows end base below pc q stack fs (Test s e ∷ todo) h k = (k.0, k.1, slides_on h k.2, k.3, k.4, k.5)
-  slide_follows end base below pc q stack fs (Leave ∷ todo) h k =
-      (k.0, k.1, k.2, k.3, k.4, slides_on h k.5, k.6, k.7, k.8, k.9, k.10)
+  slide_follows end base below pc q stack fs [] h (slide, stack_is, frames_are) =
+      (slides_on h slide, stack_is, frames_are)
+  slide_follows end base below pc q stack fs (Do s ∷ todo) h (at, scopes, slide, placed, stands, rest) =
+      (at, scopes, slides_on h slide, placed, stands, rest)
+  slide_follows end base below pc q stack fs (First x lo hi d s ∷ todo) h
+      (at, scopes, under, slide, stack_is, placed, turns, rest, in_range) =
+      (at, scopes, under, slides_on h slide, stack_is, placed, turns, rest, in_range)
+  slide_follows end base below pc q stack fs (Again x hi d s ∷ todo) h
+      (at, scopes, under, slide, stack_is, placed, turns, rest) =
+      (at, scopes, under, slides_on h slide, stack_is, placed, turns, rest)
+  slide_follows end base below pc q stack fs (Test s e ∷ todo) h (at, scopes, slide, placed, stands, rest) =
+      (at, scopes, slides_on h slide, placed, stands, rest)
+  slide_follows end base below pc q stack fs (Leave ∷ todo) h
+      (at, back, under, frame, outer, slide, stack_is, returns, frames_are, rest, mine) =
+      (at, back, under, frame, outer, slides_on h slide, stack_is, returns, frames_are, rest, mine)
   slide_follows end base below pc q stack fs (Break f ∷ todo) h k = k
 
   mutual
@@ -122,17 +128,20 @@ module _ {M : Type 0} (ex : Execution M) where
   pub outside_follows : (end : ℕ) (base : List Entry) (below : List FramePair) (pc : ℕ) (stack : List Entry)
       (fs : List FramePair) (todo : List Item) → CodeFollows end base below pc stack fs todo
       → is_in_no_function stack ≡ is_in_no_function base
-  outside_follows end base below pc stack fs [] h = ap is_in_no_function h.1
-  outside_follows end base below pc stack fs (Do s ∷ todo) h =
-      outside_follows end base below (after_statement p h.0 s) stack fs todo h.5
-  outside_follows end base below pc stack fs (First x lo hi d s ∷ todo) h = ap is_in_no_function h.4
-      ∙ outside_follows end base below (after_statement p (h.0 + 1 + 1) s + 1) h.2 fs todo h.7
-  outside_follows end base below pc stack fs (Again x hi d s ∷ todo) h = ap is_in_no_function h.4
-      ∙ outside_follows end base below (after_statement p (h.0 + 1 + 1) s + 1) h.2 fs todo h.7
-  outside_follows end base below pc stack fs (Test s e ∷ todo) h =
-      outside_follows end base below (after_statement p h.0 (Repeat s e)) stack fs todo h.5
-  outside_follows end base below pc stack fs (Leave ∷ todo) h = ap is_in_no_function h.6
-      ∙ outside_follows end base below h.1 h.2 h.4 todo h.9
+  outside_follows end base below pc stack fs [] (_, stack_is, _) = ap is_in_no_function stack_is
+  outside_follows end base below pc stack fs (Do s ∷ todo) (at, _, _, _, _, rest) =
+      outside_follows end base below (after_statement p at s) stack fs todo rest
+  outside_follows end base below pc stack fs (First x lo hi d s ∷ todo) (at, _, under, _, stack_is, _, _, rest, _) =
+      ap is_in_no_function stack_is
+      ∙ outside_follows end base below (after_statement p (at + 1 + 1) s + 1) under fs todo rest
+  outside_follows end base below pc stack fs (Again x hi d s ∷ todo) (at, _, under, _, stack_is, _, _, rest) =
+      ap is_in_no_function stack_is
+      ∙ outside_follows end base below (after_statement p (at + 1 + 1) s + 1) under fs todo rest
+  outside_follows end base below pc stack fs (Test s e ∷ todo) (at, _, _, _, _, rest) =
+      outside_follows end base below (after_statement p at (Repeat s e)) stack fs todo rest
+  outside_follows end base below pc stack fs (Leave ∷ todo) (_, back, under, _, outer, _, stack_is, _, _, rest, _) =
+      ap is_in_no_function stack_is
+      ∙ outside_follows end base below back under outer todo rest
   outside_follows end base below pc stack fs (Break f ∷ todo) h = absurd h
 
   abbrev pub CargoIs : List FramePair → Channel → ℕ → Cargo LocationContent Address → Stop → Type 0
@@ -153,33 +162,81 @@ module _ {M : Type 0} (ex : Execution M) where
   pub made_after : (c d : Config M) (Q : List Item → List FramePair → ℕ → List Entry → Type 0) (r : WorkOutcome Action
       × Store)
       → RunsTo ops code c d → Made d Q r → Made c Q r
-  made_after c d Q (Computed (Stepped todo) o, s) h k = (k.0, k.1, k.2, k.3, comes_on ops rel w code h k.4, k.5, k.6)
-  made_after c d Q (Computed (Ticked todo) o, s) h k =
-      (k.0, k.1, k.2, k.3, k.4, comes_on ops rel w code h k.5, k.6, k.7, k.8)
-  made_after c d Q (Computed (Opened todo) o, s) h k = (
-    k.0,
-    k.1,
-    k.2,
-    k.3,
-    k.4,
-    k.5,
-    k.6,
-    k.7,
-    comes_on ops rel w code h k.8,
-    k.9,
-    k.10,
-    k.11,
-    k.12,
-    k.13,
-    k.14,
-    k.15,
-    k.16,
+  made_after c d Q (Computed (Stepped todo) o, s) h (to, st, n1, frames, comes, stands, rest) =
+      (to, st, n1, frames, comes_on ops rel w code h comes, stands, rest)
+  made_after c d Q (Computed (Ticked todo) o, s) h (to, st, n1, frames, before, comes, pauses, stands, rest) =
+      (to, st, n1, frames, before, comes_on ops rel w code h comes, pauses, stands, rest)
+  made_after c d Q (Computed (Opened todo) o, s) h (
+    to,
+    st,
+    n1,
+    frames,
+    before,
+    place,
+    cell,
+    store,
+    comes,
+    stops,
+    stands,
+    points,
+    may,
+    store_is,
+    rest,
+    outside,
+    sort_is,
+  ) = (
+    to,
+    st,
+    n1,
+    frames,
+    before,
+    place,
+    cell,
+    store,
+    comes_on ops rel w code h comes,
+    stops,
+    stands,
+    points,
+    may,
+    store_is,
+    rest,
+    outside,
+    sort_is,
   )
-  made_after c d Q (Computed (Forked bs todo) o, s) h k =
-      (k.0, k.1, k.2, k.3, k.4, k.5, comes_on ops rel w code h k.6, k.7, k.8, k.9, k.10, k.11, k.12)
-  made_after c d Q (Computed (Offered ch x g todo) o, s) h k =
-      (k.0, k.1, k.2, k.3, k.4, k.5, comes_on ops rel w code h k.6, k.7, k.8, k.9, k.10, k.11, k.12)
-  made_after c d Q (Computed Ended o, s) h k = (k.0, k.1, k.2, k.3, comes_on ops rel w code h k.4, k.5, k.6, k.7, k.8)
+  made_after c d Q (Computed (Forked bs todo) o, s) h (
+    to,
+    st,
+    n1,
+    frames,
+    before,
+    stop,
+    comes,
+    stops,
+    stands,
+    rest,
+    outside,
+    fork,
+    shallow,
+  ) =
+      (to, st, n1, frames, before, stop, comes_on ops rel w code h comes, stops, stands, rest, outside, fork, shallow)
+  made_after c d Q (Computed (Offered ch x g todo) o, s) h (
+    to,
+    st,
+    n1,
+    frames,
+    before,
+    stop,
+    comes,
+    stops,
+    stands,
+    cargo,
+    rest,
+    outside,
+    owned,
+  ) =
+      (to, st, n1, frames, before, stop, comes_on ops rel w code h comes, stops, stands, cargo, rest, outside, owned)
+  made_after c d Q (Computed Ended o, s) h (to, st, n1, frames, comes, stops, stands, rest, outside) =
+      (to, st, n1, frames, comes_on ops rel w code h comes, stops, stands, rest, outside)
   made_after c d Q (EndsInFault f, s) h k = breaks_after ops rel w code h k
   made_after c d Q (IllFormed, s) h k = k
   made_after c d Q (OutOfFuel, s) h k = k
@@ -200,8 +257,9 @@ module _ {M : Type 0} (ex : Execution M) where
       record { proof = subst (Made c Q) (sym (run_bind h gg w o s)) (go (run h w o s) k.proof) }
     where
       go : (r : WorkOutcome A × Store) → RealizesResult ops rel w code fs c pc st F r → Made c Q (then_run gg w r)
-      go (Computed a o1, s1) q = made_after c (At pc (st a q.0) q.1) Q (run (gg a) w o1 s1) q.2
-          (next a q.0 o1 s1 q.1 q.3 q.4).proof
+      go (Computed a o1, s1) (e, n1, comes, stands, holds) =
+          made_after c (At pc (st a e) n1) Q (run (gg a) w o1 s1) comes
+          (next a e o1 s1 n1 stands holds).proof
       go (EndsInFault f, s1) q = q
       go (IllFormed, s1) q = q
       go (OutOfFuel, s1) q = q
@@ -246,7 +304,8 @@ module _ {M : Type 0} (ex : Execution M) where
       go (Computed a o1, s1) (Done n1) al e = (pc, st, n1, fs, c, stays ops rel w code c, e, al, q)
       go (Computed a o1, s1) (Failed f) al e = absurd al
       go (EndsInFault f, s1) (Done n1) al e = absurd al
-      go (EndsInFault f, s1) (Failed g1) al e = breaks ops rel w code c f s1 (subst (StandsFor rel c) (sym al.1) t)
-          (e ∙ ap Fails (sym al.0))
+      go (EndsInFault f, s1) (Failed g1) (same_fault, same_store) e =
+          breaks ops rel w code c f s1 (subst (StandsFor rel c) (sym same_store) t)
+          (e ∙ ap Fails (sym same_fault))
       go (IllFormed, s1) d al e = absurd al
       go (OutOfFuel, s1) d al e = absurd al

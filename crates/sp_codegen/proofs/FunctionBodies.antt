@@ -103,20 +103,23 @@ module _ {M : Type 0} (ex : Execution M) where
       by_action : (r : WorkOutcome Action × Store) → Made ex c (After ex end base below) r
           → RealizesResult ops rel w code below c end (BaseTop base) No_more
           (then_run (λ d. bind (items_after g d) go) w r)
-      by_action (Computed (Stepped todo) o1, s1) q =
-          ends_after ops rel w code below c (m.At q.0 q.1 q.2) end (BaseTop base) No_more (run (go todo) w o1 s1) q.4
-          (ih.proof end base below ob todo q.0 q.1 q.3 o1 s1 q.2 q.5 q.6).proof
-      by_action (Computed (Ticked todo) o1, s1) q =
-          ends_after ops rel w code below c (m.At q.0 q.1 q.2) end (BaseTop base) No_more (run (go todo) w o1 s1)
-          (comes_on ops rel w code q.5 (goes ops rel w code
-          (q.6 ∙ ap (λ b. if b then (if ops.due q.2 then Stops m.Pauses (m.At q.0 q.1 q.2) else
-          Goes (m.At q.0 q.1 q.2)) else Goes (m.At q.0 q.1 q.2))
-          (outside_follows ex end base below q.0 q.1 q.3 todo q.8 ∙ ob))))
-          (ih.proof end base below ob todo q.0 q.1 q.3 o1 s1 q.2 q.7 q.8).proof
-      by_action (Computed (Opened todo) o1, s1) q = absurd (no q.1 q.0 q.3 todo q.14 q.15)
-      by_action (Computed (Forked bs todo) o1, s1) q = absurd (no q.1 q.0 q.3 todo q.9 q.10)
-      by_action (Computed (Offered ch x cg todo) o1, s1) q = absurd (no q.1 q.0 q.3 todo q.10 q.11)
-      by_action (Computed Ended o1, s1) q = absurd (no q.1 q.0 q.3 [] q.7 q.8)
+      by_action (Computed (Stepped todo) o1, s1) (to, st, n1, fs1, comes, stands, left) =
+          ends_after ops rel w code below c (m.At to st n1) end (BaseTop base) No_more (run (go todo) w o1 s1) comes
+          (ih.proof end base below ob todo to st fs1 o1 s1 n1 stands left).proof
+      by_action (Computed (Ticked todo) o1, s1) (to, st, n1, fs1, _, comes, pauses, stands, left) =
+          ends_after ops rel w code below c (m.At to st n1) end (BaseTop base) No_more (run (go todo) w o1 s1)
+          (comes_on ops rel w code comes (goes ops rel w code
+          (pauses ∙ ap (λ b. if b then (if ops.due n1 then Stops m.Pauses (m.At to st n1) else
+          Goes (m.At to st n1)) else Goes (m.At to st n1))
+          (outside_follows ex end base below to st fs1 todo left ∙ ob))))
+          (ih.proof end base below ob todo to st fs1 o1 s1 n1 stands left).proof
+      by_action (Computed (Opened todo) o1, s1) (to, st, _, fs1, _, _, _, _, _, _, _, _, _, _, left, outside, _) =
+          absurd (no st to fs1 todo left outside)
+      by_action (Computed (Forked bs todo) o1, s1) (to, st, _, fs1, _, _, _, _, _, left, outside, _, _) =
+          absurd (no st to fs1 todo left outside)
+      by_action (Computed (Offered ch x cg todo) o1, s1) (to, st, _, fs1, _, _, _, _, _, _, left, outside, _) =
+          absurd (no st to fs1 todo left outside)
+      by_action (Computed Ended o1, s1) (to, st, _, fs1, _, _, _, left, outside) = absurd (no st to fs1 [] left outside)
       by_action (EndsInFault f, s1) q = q
       by_action (IllFormed, s1) q = q
       by_action (OutOfFuel, s1) q = q
@@ -292,7 +295,7 @@ module _ {M : Type 0} (ex : Execution M) where
               → G ex fs (m.At l.entry st n1) o1 s1 (q + 1) (Top ex stack) (StK k) (body b)
           inner fr o1 s1 n1 ej t1 mi =
               let pl1 = r.placed fr ej in
-              let a = z.stands.answer ans.0 ans.1 in
+              let (v1, known, role_is, block_is, sort_is) = z.stands.answer ans.0 ans.1 in
               let hh : fr.source.home ≡ OfBlock f = ap (λ (y : Frame). y.home) ej in
               let ow : fr.source.owner ≡ w.name = ap (λ (y : Frame). y.owner) ej in
               gives_bind ops rel w code
@@ -300,14 +303,14 @@ module _ {M : Type 0} (ex : Execution M) where
               (push_follows ex b.body end st (fr ∷ fs) (scopes_of p f) l.entry st (fr ∷ fs) [] pl1
               (z.stands.body false (z.stands.callable_function ans.0 ans.1)) (slides ex _ _, refl, refl)))
               (λ rest u o2 s2 n2 t2 x.
-              let re = law.result t2 b f ans.0 a.0 hh ca.1 ans.1 a.1 a.2 a.3 in
+              let (cell1, cell_is, points) = law.result t2 b f ans.0 v1 hh ca.1 ans.1 known role_is block_is in
               gives_by ops rel w code (ap (λ y. bind (function_result g y) (λ v. bind (leave g) (λ u. give v))) ans.1)
               (gives_assoc (place_of g ans.0) (read_at g) (λ v. bind (leave g) (λ u. give v))
               (gives_known ops rel w code (λ y. bind (read_at g y) (λ v. bind (leave g) (λ u. give v)))
-              (AtAddress (in_frame g ans.0 a.0 fr.source))
-              (answer_place f ans.0 (drop ca.0 sc) a.0 t2 (subst (λ y. Chain y (fr ∷ fs)) scoped pl1.chain) a.1 a.2
-              a.3)
-              (at_answer fr a.0 re.0 a.4 o2 s2 n2 t2 mi ow re.1 re.2))))
+              (AtAddress (in_frame g ans.0 v1 fr.source))
+              (answer_place f ans.0 (drop ca.0 sc) v1 t2 (subst (λ y. Chain y (fr ∷ fs)) scoped pl1.chain) known role_is
+              block_is)
+              (at_answer fr v1 cell1 sort_is o2 s2 n2 t2 mi ow cell_is points))))
             where
               around_at : (y : Option ℕ) → b.parent ≡ y
                   → Around p moves shares (CodeAt code) (HasFork code) (HasWords code) callable sc f y ca.0
@@ -321,16 +324,17 @@ module _ {M : Type 0} (ex : Execution M) where
           by_enter : (x : WorkOutcome Block × Store) (d : MemoryResult M) → CallMatches rel w fs s f b r.around gs x d
               → next_step ops code c ≡ calls_to ex l (q + 1) stack d
               → RealizesResult ops rel w code fs c (q + 1) (Top ex stack) (StK k) (then_run body w x)
-          by_enter (Computed b1 o1, s1) (Done n1) al e =
+          by_enter (Computed b1 o1, s1) (Done n1) (block_is, (frame, frame_is, stands, mine)) e =
               ends_after ops rel w code fs c (m.At l.entry st n1) (q + 1) (Top ex stack) (StK k) (run (body b1) w o1 s1)
               (goes ops rel w code (e ∙ ap (λ y. if y then Goes (m.At l.entry st n1) else
               pause_step ops code l.entry (m.Link (q + 1) ∷ stack) n1) answers))
               (subst (λ (y : Block). G ex fs (m.At l.entry st n1) o1 s1 (q + 1) (Top ex stack) (StK k) (body y))
-              (sym al.0) (inner al.1.0 o1 s1 n1 al.1.1 al.1.2 al.1.3)).proof
+              (sym block_is) (inner frame o1 s1 n1 frame_is stands mine)).proof
           by_enter (Computed b1 o1, s1) (Failed x) al e = absurd al
           by_enter (EndsInFault x, s1) (Done n1) al e = absurd al
-          by_enter (EndsInFault x, s1) (Failed y) al e =
-              breaks ops rel w code c x s1 (subst (StandsFor rel c) (sym al.1) (fs, o, t)) (e ∙ ap Fails (sym al.0))
+          by_enter (EndsInFault x, s1) (Failed y) (same_fault, same_store) e =
+              breaks ops rel w code c x s1 (subst (StandsFor rel c) (sym same_store) (fs, o, t))
+              (e ∙ ap Fails (sym same_fault))
           by_enter (IllFormed, s1) d al e = absurd al
           by_enter (OutOfFuel, s1) d al e = absurd al
 

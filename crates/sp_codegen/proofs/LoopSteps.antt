@@ -63,22 +63,21 @@ module _ {M : Type 0} (ex : Execution M) where
       (x : ℕ)
       → rel.Stand fs o s n → Pl ex sc fs Here → Here (Target x)
       → ForVar p moves shares (CodeAt code) (HasFork code) (HasWords code) callable sc x → ForPlace fs x n o s
-  for_place {fs = fs} {o = o} {s = s} {n = n} sc x t pl ai h =
-      let v = h.0 in
-      let r = found (is_block v.block) (places.is_block v.block) (block_agrees v.block) sc fs 0 pl.chain h.3 in
-      let a = law.addr t 0 x r.frame r.rest r.frame_at v h.1 (home_is v.block r.frame.source.home r.fit)
-      (subst Owns (sym h.2) tt) in
+  for_place {fs = fs} {o = o} {s = s} {n = n} sc x t pl ai (v, known, role_is, level_is, sort_is) =
+      let r = found (is_block v.block) (places.is_block v.block) (block_agrees v.block) sc fs 0 pl.chain level_is in
+      let a = law.addr t 0 x r.frame r.rest r.frame_at v known (home_is v.block r.frame.source.home r.fit)
+      (subst Owns (sym role_is) tt) in
       let at : location_of p (sources fs) x ≡ Some (in_frame g x v r.frame.source).spot =
-      ap (location_at (sources fs) x) h.1
-      ∙ ap (location_by (sources fs) x v) h.2
+      ap (location_at (sources fs) x) known
+      ∙ ap (location_by (sources fs) x v) role_is
       ∙ ap (cell_in x) (find_in (is_block v.block) fs r.frame r.rest r.sought) in
       record {
         address = in_frame g x v r.frame.source;
         cell = a.0;
         known = known_bind ops rel w code (λ i. place_by g x i i.role) v (AtAddress (in_frame g x v r.frame.source))
-            (or_known ex (slice_get p.variables x) v h.1)
+            (or_known ex (slice_get p.variables x) v known)
             (subst (λ y. HasKnownValue ops rel w code o s (place_by g x v y)
-            (AtAddress (in_frame g x v r.frame.source))) (sym h.2)
+            (AtAddress (in_frame g x v r.frame.source))) (sym role_is)
             (known_bind ops rel w code (λ f. give (AtAddress (in_frame g x v f))) r.frame.source
             (AtAddress (in_frame g x v r.frame.source))
             (visible_known ex t (is_block v.block) r.frame r.rest (seek_all (is_block v.block) fs ∙ r.sought))
@@ -87,7 +86,7 @@ module _ {M : Type 0} (ex : Execution M) where
         points = a.2;
         may = reads (in_frame g x v r.frame.source).spot
             (pl.sound.allowed [] (Target x) ai x (in_frame g x v r.frame.source).spot (refl, at));
-        sorted = h.4;
+        sorted = sort_is;
       }
 
   -- the value of a for loop's turn is assigned, and then there is a tick
@@ -102,6 +101,7 @@ module _ {M : Type 0} (ex : Execution M) where
       → next_step ops code c ≡ Goes (m.At (q + 1) (m.Number limit ∷ st) (ops.put z.cell (cell.Ordinal v) n))
       → K ex c o s (After ex end base below) (turn_of g x v limit down d todo)
   turn_makes end base below x v limit down d sc q st todo fs c o s n t pl h fo z ge =
+      let (_, _, ticks, body, _) = h in
       makes_known ex _ (AtAddress z.address) z.known
       (makes_known ex (λ a. bind (assign a (Ordinal v))
       (λ u. bind (tick g.limits) (λ u. give (Ticked (push d (Again x limit down d ∷ todo)))))) z.address
@@ -112,9 +112,9 @@ module _ {M : Type 0} (ex : Execution M) where
       (subst (λ y. Stood rel p y z.address.kind (Ordinal v) (m.Number v)) (sym z.sorted) (v, refl, refl)) ge)
       (λ x1 x2 o2 s2 n2 t2 x3.
       makes_tick ex (push d (Again x limit down d ∷ todo)) fs (q + 1 + 1) (m.Number limit ∷ st) (ops.tick n2) (_, _, t2)
-      (law.tick t2) (at_one ex (q + 1) (m.Number limit ∷ st) n2 h.2)
+      (law.tick t2) (at_one ex (q + 1) (m.Number limit ∷ st) n2 ticks)
       (push_follows ex d end base below sc (q + 1 + 1) (m.Number limit ∷ st) fs (Again x limit down d ∷ todo)
-      (within (λ u. inr) pl) h.3 (q, sc, st, slides ex _ _, refl, pl, h, fo)))))
+      (within (λ u. inr) pl) body (q, sc, st, slides ex _ _, refl, pl, h, fo)))))
 
   pub first_one : (down : Bool) (q to x : ℕ) (stack : List Entry) (n : M) (lo hi : ℤ)
       → slice_get code.instrs q ≡ Some (if down then i.Fordown (slot p x) to else i.Forup (slot p x) to) → (u : Ptr)

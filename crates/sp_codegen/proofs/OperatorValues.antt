@@ -110,18 +110,7 @@ module _ {M : Type 0} (ex : Execution M) where
       → next_step ops code (m.At q (m.Number v ∷ m.Number u ∷ stack) n)
       ≡ on_result (binary_op op u v) (λ z. Goes (m.At (q + 1) (m.Number z ∷ stack) n))
   calc_one binary.Eq q stack u v n h = at_one ex q _ n h
-  calc_one binary.Ne q stack u v n h = at_one ex q _ n h
-  calc_one binary.Lt q stack u v n h = at_one ex q _ n h
-  calc_one binary.Le q stack u v n h = at_one ex q _ n h
-  calc_one binary.Gt q stack u v n h = at_one ex q _ n h
-  calc_one binary.Ge q stack u v n h = at_one ex q _ n h
-  calc_one binary.Add q stack u v n h = at_one ex q _ n h
-  calc_one binary.Sub q stack u v n h = at_one ex q _ n h
-  calc_one binary.Or q stack u v n h = at_one ex q _ n h
-  calc_one binary.Mul q stack u v n h = at_one ex q _ n h
-  calc_one binary.Div q stack u v n h = at_one ex q _ n h
-  calc_one binary.Mod q stack u v n h = at_one ex q _ n h
-  calc_one binary.And q stack u v n h = at_one ex q _ n h
+  calc_one _ q _ _ _ n h = at_one ex q _ n h
 
   -- two operands
   channels_gives : {js : List FramePair} {o : LocalState} {s : Store} (op : BinaryOp) (q k : ℕ) (stack : List Entry)
@@ -137,17 +126,7 @@ module _ {M : Type 0} (ex : Execution M) where
       (truth (not (same_channel c d))) (at_one ex q _ n h
       ∙ ap (λ r. on_result (truth (not r)) (λ v. Goes (m.At (q + 1) (m.Number v ∷ stack) n)))
       (sym (law.named_same c d a b x y)))
-  channels_gives binary.Lt q k stack c d a b n t x y e h z = absurd z
-  channels_gives binary.Le q k stack c d a b n t x y e h z = absurd z
-  channels_gives binary.Gt q k stack c d a b n t x y e h z = absurd z
-  channels_gives binary.Ge q k stack c d a b n t x y e h z = absurd z
-  channels_gives binary.Add q k stack c d a b n t x y e h z = absurd z
-  channels_gives binary.Sub q k stack c d a b n t x y e h z = absurd z
-  channels_gives binary.Or q k stack c d a b n t x y e h z = absurd z
-  channels_gives binary.Mul q k stack c d a b n t x y e h z = absurd z
-  channels_gives binary.Div q k stack c d a b n t x y e h z = absurd z
-  channels_gives binary.Mod q k stack c d a b n t x y e h z = absurd z
-  channels_gives binary.And q k stack c d a b n t x y e h z = absurd z
+  channels_gives _ _ _ _ _ _ _ _ _ _ _ _ _ _ z = absurd z
 
   pub binary_gives : {js : List FramePair} {o : LocalState} {s : Store} (op : BinaryOp) (q k ka kb : ℕ)
       (stack : List Entry)
@@ -166,13 +145,16 @@ module _ {M : Type 0} (ex : Execution M) where
   binary_gives op q k ka kb stack Ordinals Many u v d e n t a b z r h = absurd z
   binary_gives op q k ka kb stack Ordinals NoSort u v d e n t a b z r h = absurd z
   binary_gives op q k ka kb stack Channels Ordinals u v d e n t a b z r h = absurd z
-  binary_gives {js} {o} {s} op q k ka kb stack Channels Channels u v d e n t a b z r h =
-      subst (λ y. G ex js (m.At q (y ∷ d ∷ stack) n) o s (q + 1) (Top ex stack) (St ex k) (operate op u v)) (sym b.3)
-      (subst (λ y. G ex js (m.At q (m.Chan b.1 ∷ y ∷ stack) n) o s (q + 1) (Top ex stack) (St ex k) (operate op u v))
-      (sym a.3)
-      (gives_by ops rel w code (ap (λ y. operate op y v) a.2 ∙ ap (λ y. operate op (Chan a.0) y) b.2)
-      (gives_known ops rel w code (λ j. channels_op op a.0 j) b.0 (channel_known ex b.0)
-      (channels_gives op q k stack a.0 b.0 a.1 b.1 n t a.4 b.4 r h z))))
+  binary_gives {js} {o} {s} op q k ka kb stack Channels Channels u v d e n t (c, number, value_is, entry_is, named)
+      (c2, number2, value_is2, entry_is2, named2) z r h =
+      subst (λ y. G ex js (m.At q (y ∷ d ∷ stack) n) o s (q + 1) (Top ex stack) (St ex k) (operate op u v))
+      (sym entry_is2)
+      (subst (λ y. G ex js (m.At q (m.Chan number2 ∷ y ∷ stack) n) o s (q + 1) (Top ex stack) (St ex k)
+      (operate op u v))
+      (sym entry_is)
+      (gives_by ops rel w code (ap (λ y. operate op y v) value_is ∙ ap (λ y. operate op (Chan c) y) value_is2)
+      (gives_known ops rel w code (λ j. channels_op op c j) c2 (channel_known ex c2)
+      (channels_gives op q k stack c c2 number number2 n t named named2 r h z))))
   binary_gives op q k ka kb stack Channels Many u v d e n t a b z r h = absurd z
   binary_gives op q k ka kb stack Channels NoSort u v d e n t a b z r h = absurd z
   binary_gives op q k ka kb stack Many y u v d e n t a b z r h = absurd z

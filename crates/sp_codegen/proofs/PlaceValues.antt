@@ -88,13 +88,10 @@ module _ {M : Type 0} (ex : Execution M) where
       → rel.Stand js o s n → Chain sc js → MayRead ex sc js x
       → VarAt p moves shares (CodeAt code) (HasFork code) (HasWords code) callable sc q x k
       → G ex js (m.At q stack n) o s (q + 1) (PlaceTop ex stack) (PlaceIs ex js x k) (place_of g x)
-  var_gives {js} {o} {s} sc q x k stack n t ch may h =
-      gives_known ops rel w code (λ i. place_by g x i i.role) h.0 (or_known ex (slice_get p.variables x) h.0 h.1)
-      (by_role h.0.role refl h.3)
+  var_gives {js} {o} {s} sc q x k stack n t ch may (v, known, is_kind, role_at) =
+      gives_known ops rel w code (λ i. place_by g x i i.role) v (or_known ex (slice_get p.variables x) v known)
+      (by_role v.role refl role_at)
     where
-      v : Variable
-      v = h.0
-
       Goal : Role → Type 0
       Goal r = G ex js (m.At q stack n) o s (q + 1) (PlaceTop ex stack) (PlaceIs ex js x k) (place_by g x v r)
 
@@ -102,39 +99,41 @@ module _ {M : Type 0} (ex : Execution M) where
           → VarRole p moves shares (CodeAt code) (HasFork code) (HasWords code) callable sc q
           x v r → Goal r
       by_role role.Console er z = absurd z
-      by_role role.Local er z = own_gives sc q x k stack n t ch may v h.1 h.2 (subst Owns (sym er) tt)
+      by_role role.Local er z = own_gives sc q x k stack n t ch may v known is_kind (subst Owns (sym er) tt)
           (λ f. ap (location_by (sources js) x v) er) z.0 z.1 z.2
-      by_role role.Value er z = own_gives sc q x k stack n t ch may v h.1 h.2 (subst Owns (sym er) tt)
+      by_role role.Value er z = own_gives sc q x k stack n t ch may v known is_kind (subst Owns (sym er) tt)
           (λ f. ap (location_by (sources js) x v) er) z.0 z.1 z.2
-      by_role role.Answer er z = own_gives sc q x k stack n t ch may v h.1 h.2 (subst Owns (sym er) tt)
+      by_role role.Answer er z = own_gives sc q x k stack n t ch may v known is_kind (subst Owns (sym er) tt)
           (λ f. ap (location_by (sources js) x v) er) z.0 z.1 z.2
       by_role role.Reference er z =
           let r = found (is_block v.block) (places.is_block v.block) (block_agrees v.block) sc js z.0 ch z.1 in
-          let a = law.deref t z.0 x r.frame r.rest r.frame_at v h.1 (home_is v.block r.frame.source.home r.fit) er in
-          let at : location_of p (sources js) x ≡ Some a.0.spot = ap (location_at (sources js) x) h.1
+          let (source, source_is, kind_is, found_target) = law.deref t z.0 x r.frame r.rest r.frame_at v known
+          (home_is v.block r.frame.source.home r.fit) er in
+          let (target, target_is, points) = found_target in
+          let at : location_of p (sources js) x ≡ Some source.spot = ap (location_at (sources js) x) known
           ∙ ap (location_by (sources js) x v) er
-          ∙ ap (reference_of x) (find_in (is_block v.block) js r.frame r.rest r.sought) ∙ ap spot_of a.1 in
+          ∙ ap (reference_of x) (find_in (is_block v.block) js r.frame r.rest r.sought) ∙ ap spot_of source_is in
           gives_known ops rel w code (λ f. bind (or_ill_formed (reference_target x f.references))
           (λ a. give (AtAddress a))) r.frame.source
           (visible_known ex t (is_block v.block) r.frame r.rest (seek_all (is_block v.block) js ∙ r.sought))
-          (gives_known ops rel w code (λ a. give (AtAddress a)) a.0
-          (or_known ex (reference_target x r.frame.source.references) a.0 a.1)
-          (gives_give ops rel w code (AtAddress a.0) a.3.0
+          (gives_known ops rel w code (λ a. give (AtAddress a)) source
+          (or_known ex (reference_target x r.frame.source.references) source source_is)
+          (gives_give ops rel w code (AtAddress source) target
           (goes ops rel w code (at_one ex q stack n z.2
-          ∙ ap (λ y. on_some y (λ u. Goes (m.At (q + 1) (m.Pointer u ∷ stack) n))) a.3.1)) t
-          (a.2 ∙ h.2, a.3.2, may.location a.0.spot at, at)))
-      by_role role.Index er z =
-          let r = found (is_index x) (places.is_index x) (index_agrees x) sc js z.0 ch z.1 in
+          ∙ ap (λ y. on_some y (λ u. Goes (m.At (q + 1) (m.Pointer u ∷ stack) n))) target_is)) t
+          (kind_is ∙ is_kind, points, may.location source.spot at, at)))
+      by_role role.Index er (up, level_is, instr, sort_is) =
+          let r = found (is_index x) (places.is_index x) (index_agrees x) sc js up ch level_is in
           let b = index_home x r.frame.source.home r.fit in
-          let a = law.index t z.0 x b.0 r.frame r.rest r.frame_at b.1
-          (may.index v h.1 er z.0 z.1 r.frame r.rest r.frame_at) in
+          let a = law.index t up x b.0 r.frame r.rest r.frame_at b.1
+          (may.index v known er up level_is r.frame r.rest r.frame_at) in
           gives_known ops rel w code (λ f. index_in g f.home) r.frame.source
           (visible_known ex t (is_index x) r.frame r.rest (seek_all (is_index x) js ∙ r.sought))
           (gives_by ops rel w code (ap (index_in g) b.1)
           (gives_give ops rel w code (Fixed b.0) a.0
-          (goes ops rel w code (at_one ex q stack n z.2
+          (goes ops rel w code (at_one ex q stack n instr
           ∙ ap (λ y. on_some y (λ u. Goes (m.At (q + 1) (m.Pointer u ∷ stack) n))) a.1)) t
-          (subst (λ y. sort p y ≡ Ordinals) h.2 z.3, a.2, (v, h.1, er))))
+          (subst (λ y. sort p y ≡ Ordinals) is_kind sort_is, a.2, (v, known, er))))
 
   not_many : (ty : Option KindOf) (z : KindOf) → ty ≡ Some z → sort_by (Some z) ≡ Many → sort_by ty ≡ Ordinals → ⊥
   not_many ty z e f h = subst IsMany (sym f ∙ ap sort_by (sym e) ∙ h) tt
@@ -148,9 +147,9 @@ module _ {M : Type 0} (ex : Execution M) where
       (element_place g pl v)
   indexed_gives q x k low high ix el stack (Fixed z) a v n t pi hk h =
       absurd (not_many (slice_get p.kinds k) (kind.Array low high ix el) hk refl pi.0)
-  indexed_gives {js} {o} {s} q x k low high ix el stack (AtAddress b) a v n t pi hk h =
+  indexed_gives {js} {o} {s} q x k low high ix el stack (AtAddress b) a v n t (kind_is, points, may_it, located) hk h =
       gives_known ops rel w code (element_at b v) (kind.Array low high ix el)
-      (kind_known ex b.kind k (kind.Array low high ix el) pi.0 hk)
+      (kind_known ex b.kind k (kind.Array low high ix el) kind_is hk)
       (by_test (int_le low v && int_le v high) refl (at_one ex q (m.Number v ∷ m.Pointer a ∷ stack) n h))
     where
       b1 : Address
@@ -165,10 +164,10 @@ module _ {M : Type 0} (ex : Execution M) where
           → G ex js (m.At q (m.Number v ∷ m.Pointer a ∷ stack) n) o s (q + 1) (PlaceTop ex stack) (PlaceIs ex js x el)
           (if y then give (AtAddress b1) else fail fault.F1)
       by_test true e gg =
-          let pt = law.element b a pi.1 low high ix el (ap (λ y. slice_get p.kinds y) pi.0 ∙ hk) v e in
+          let pt = law.element b a points low high ix el (ap (λ y. slice_get p.kinds y) kind_is ∙ hk) v e in
           gives_give ops rel w code (AtAddress b1) a1
           (goes ops rel w code (gg ∙ holds_when (nat_le a1.offset 4294967295)
-          (Goes (m.At (q + 1) (m.Pointer a1 ∷ stack) n)) (law.within t b1 a1 pt pi.2))) t (refl, pt, pi.2, pi.3)
+          (Goes (m.At (q + 1) (m.Pointer a1 ∷ stack) n)) (law.within t b1 a1 pt may_it))) t (refl, pt, may_it, located)
       by_test false e gg = gives_fail ops rel w code fault.F1 (js, o, t) gg
 
   pub fielded_gives : {js : List FramePair} {o : LocalState} {s : Store} (q x k f j : ℕ) (name : List ℕ)
@@ -180,17 +179,17 @@ module _ {M : Type 0} (ex : Execution M) where
       (field_place g f pl)
   fielded_gives q x k f j name gs stack (Fixed z) a n t pi hk hf h =
       absurd (not_many (slice_get p.kinds k) (kind.Fields gs) hk refl pi.0)
-  fielded_gives {js} {o} {s} q x k f j name gs stack (AtAddress b) a n t pi hk hf h =
+  fielded_gives {js} {o} {s} q x k f j name gs stack (AtAddress b) a n t (kind_is, points, may_it, located) hk hf h =
       gives_known ops rel w code (λ y. bind (or_ill_formed (field_kind f y))
       (λ u. give (AtAddress (record { spot = b.spot; path = b.path ++ f ∷ []; kind = u })))) (kind.Fields gs)
-      (kind_known ex b.kind k (kind.Fields gs) pi.0 hk)
+      (kind_known ex b.kind k (kind.Fields gs) kind_is hk)
       (gives_known ops rel w code
       (λ u. give (AtAddress (record { spot = b.spot; path = b.path ++ f ∷ []; kind = u }))) j
       (or_known ex (field_kind f (kind.Fields gs)) j (rw hf refl))
       (gives_give ops rel w code (AtAddress b1) a1 (goes ops rel w code
       (at_one ex q (m.Pointer a ∷ stack) n h
       ∙ holds_when (nat_le a1.offset 4294967295) (Goes (m.At (q + 1) (m.Pointer a1 ∷ stack) n))
-      (law.within t b1 a1 pt pi.2))) t (refl, pt, pi.2, pi.3)))
+      (law.within t b1 a1 pt may_it))) t (refl, pt, may_it, located)))
     where
       b1 : Address
       b1 = record { spot = b.spot; path = b.path ++ f ∷ []; kind = j }
@@ -199,7 +198,7 @@ module _ {M : Type 0} (ex : Execution M) where
       a1 = address_after (places.field_offset p gs f) a
 
       pt : rel.Points js b1 a1
-      pt = law.field b a pi.1 gs (ap (λ y. slice_get p.kinds y) pi.0 ∙ hk) f j name hf
+      pt = law.field b a points gs (ap (λ y. slice_get p.kinds y) kind_is ∙ hk) f j name hf
 
   -- what is read at a place
   pub ordinal_cell : {js : List FramePair} {o : LocalState} {s : Store} (q k : ℕ) (stack : List Entry) (c : Config M)
@@ -247,12 +246,7 @@ module _ {M : Type 0} (ex : Execution M) where
 
   pub checked_as : (ty : KindOf) (v : Value) → checked_value ty v ≡ read_as (sort_by (Some ty)) v
   checked_as kind.Integer v = refl
-  checked_as kind.Boolean v = refl
-  checked_as kind.Char v = refl
-  checked_as (kind.Enumeration n) v = refl
-  checked_as (kind.Array low high index element) v = refl
-  checked_as (kind.Fields fs) v = refl
-  checked_as (kind.Channel ks) v = refl
+  checked_as _ _ = refl
 
   -- the type that a sort is of
   kind_there : (k : ℕ) (z : Sort) → sort p k ≡ z → NotNone z → (ty : KindOf) × (slice_get p.kinds k ≡ Some ty)

@@ -35,26 +35,28 @@ module _ (p : Program) (values : DoFunctionsTakeValues p) (moves shares : Stmt �
     form_pure : (form : ExprForm) (k : ℕ) (sc : List Scope) (q : ℕ)
         → FormAt p moves shares Is HasTable HasText callable sc q k form → PureForm p form
     form_pure (Number n) k sc q h = tt
-    form_pure (Read v) k sc q h = var_pure v k sc q h.0
-    form_pure (Unary op a) k sc q h = expr_pure a sc q h.0
-    form_pure (Binary op a b) k sc q h = (expr_pure a sc q h.0, expr_pure b sc (after_value q a) h.1)
-    form_pure (Apply f args) k sc q h =
-        let function : IsFunction p f = (h.0, h.3.0, h.2.1, h.3.1) in
-        (function, values_pure args h.0.formals sc q (λ x m v e r. values f h.0 h.2.1 function x m v e r) h.1)
-    form_pure (Standard f a) k sc q h = expr_pure a sc q h.2
+    form_pure (Read v) k sc q (place, _) = var_pure v k sc q place
+    form_pure (Unary op a) k sc q (operand, _, _, _) = expr_pure a sc q operand
+    form_pure (Binary op a b) k sc q (left, right, _, _, _) =
+        (expr_pure a sc q left, expr_pure b sc (after_value q a) right)
+    form_pure (Apply f args) k sc q (b, given, (_, block, _, _), (answer, answer_is), _) =
+        let function : IsFunction p f = (b, answer, block, answer_is) in
+        (function, values_pure args b.formals sc q (λ x m v e r. values f b block function x m v e r) given)
+    form_pure (Standard f a) k sc q (_, _, operand, _, _, _) = expr_pure a sc q operand
     form_pure (AtInput f) k sc q h = tt
 
     var_pure : (v : Var) (k : ℕ) (sc : List Scope) (q : ℕ)
         → PlaceAt p moves shares Is HasTable HasText callable sc q v k
         → PureVar p v
-    var_pure (Entire x ss) k sc q h = selectors_pure ss h.0 k sc (q + 1) h.2
+    var_pure (Entire x ss) k sc q (whole, _, selected) = selectors_pure ss whole k sc (q + 1) selected
 
     selectors_pure : (ss : Selectors) (k k2 : ℕ) (sc : List Scope) (q : ℕ)
         → SelectedAt p moves shares Is HasTable HasText callable sc q ss k k2 → PureSelectors p ss
     selectors_pure Whole k k2 sc q h = tt
-    selectors_pure (Select (Index e) rest) k k2 sc q h =
-        (expr_pure e sc q h.5, selectors_pure rest h.3 k2 sc (after_value q e + 1) h.8)
-    selectors_pure (Select (Field f) rest) k k2 sc q h = selectors_pure rest h.2 k2 sc (q + 1) h.6
+    selectors_pure (Select (Index e) rest) k k2 sc q (_, _, _, element, _, value, _, _, further) =
+        (expr_pure e sc q value, selectors_pure rest element k2 sc (after_value q e + 1) further)
+    selectors_pure (Select (Field f) rest) k k2 sc q (_, _, type, _, _, _, further) =
+        selectors_pure rest type k2 sc (q + 1) further
 
     -- the arguments of a function, none of whose parameters is a variable parameter
     values_pure : (args : Actuals) (xs : List ℕ) (sc : List Scope) (q : ℕ)
@@ -62,18 +64,19 @@ module _ (p : Program) (values : DoFunctionsTakeValues p) (moves shares : Stmt �
         → ActualsAt p moves shares Is HasTable HasText callable sc q args xs → PureValues p args
     values_pure Nothing xs sc q never h = tt
     values_pure (Pass a rest) [] sc q never h = absurd h
-    values_pure (Pass (ByValue e) rest) (x ∷ xs) sc q never h =
-        (expr_pure e sc q h.0, values_pure rest xs sc (after_value q e) (λ y m. never y (inr m)) h.2)
-    values_pure (Pass (ByReference v) rest) (x ∷ xs) sc q never h = never x (inl refl) h.3.0 h.3.1 h.3.3
+    values_pure (Pass (ByValue e) rest) (x ∷ xs) sc q never (value, _, others) =
+        (expr_pure e sc q value, values_pure rest xs sc (after_value q e) (λ y m. never y (inr m)) others)
+    values_pure (Pass (ByReference v) rest) (x ∷ xs) sc q never (_, _, _, (formal, known, _, role_is), _) =
+        never x (inl refl) formal known role_is
 
   actuals_pure : (args : Actuals) (xs : List ℕ) (sc : List Scope) (q : ℕ)
       → ActualsAt p moves shares Is HasTable HasText callable sc q args xs → PureActuals p args
   actuals_pure Nothing xs sc q h = tt
   actuals_pure (Pass a rest) [] sc q h = absurd h
-  actuals_pure (Pass (ByValue e) rest) (x ∷ xs) sc q h =
-      (expr_pure e sc q h.0, actuals_pure rest xs sc (after_value q e) h.2)
-  actuals_pure (Pass (ByReference v) rest) (x ∷ xs) sc q h =
-      (var_pure v h.0 sc q h.1, actuals_pure rest xs sc (after_var q v) h.4)
+  actuals_pure (Pass (ByValue e) rest) (x ∷ xs) sc q (value, _, others) =
+      (expr_pure e sc q value, actuals_pure rest xs sc (after_value q e) others)
+  actuals_pure (Pass (ByReference v) rest) (x ∷ xs) sc q (k, place, _, _, others) =
+      (var_pure v k sc q place, actuals_pure rest xs sc (after_var q v) others)
 
   width_pure : (w : Option Expr) (sc : List Scope) (q : ℕ) → WidthAt p moves shares Is HasTable HasText callable sc q w
       → PureWidth p w
@@ -94,67 +97,73 @@ module _ (p : Program) (values : DoFunctionsTakeValues p) (moves shares : Stmt �
   right_pure NoSort form k sc q h = absurd h
 
   for_local : (sc : List Scope) (x : ℕ) → ForVar p moves shares Is HasTable HasText callable sc x → IsLocal p x
-  for_local sc x h = (h.0, h.1, h.2)
+  for_local sc x (v, known, role_is, _, _) = (v, known, role_is)
 
   mutual
     pub stmt_pure : (s : Stmt) (free : Bool) (sc : List Scope) (q : ℕ)
         → StandsAt p moves shares Is HasTable HasText callable free sc q s → PureStmt p s
     stmt_pure Empty free sc q h = tt
-    stmt_pure (Assign v (Typed k form)) free sc q h =
-        (var_pure v k sc q h.0, right_pure (sort p k) form k sc (after_var q v) h.2)
-    stmt_pure (Call f args) free sc q h = actuals_pure args h.0.formals sc q h.1
+    stmt_pure (Assign v (Typed k form)) free sc q (place, _, right) =
+        (var_pure v k sc q place, right_pure (sort p k) form k sc (after_var q v) right)
+    stmt_pure (Call f args) free sc q (b, given, _, _, _) = actuals_pure args b.formals sc q given
     stmt_pure (Sequence ss) free sc q h = all_pure ss free sc q h
-    stmt_pure (If e a) free sc q h = (expr_pure e sc q h.0.0, stmt_pure a free sc (after_value q e + 1) h.2)
-    stmt_pure (IfElse e a b) free sc q h = (
-      expr_pure e sc q h.0.0,
-      stmt_pure a free sc (after_value q e + 1) h.2,
-      stmt_pure b free sc (after_statement p (after_value q e + 1) a + 1) h.4,
+    stmt_pure (If e a) free sc q ((value, _), _, body) =
+        (expr_pure e sc q value, stmt_pure a free sc (after_value q e + 1) body)
+    stmt_pure (IfElse e a b) free sc q ((value, _), _, first, _, second) = (
+      expr_pure e sc q value,
+      stmt_pure a free sc (after_value q e + 1) first,
+      stmt_pure b free sc (after_statement p (after_value q e + 1) a + 1) second,
     )
-    stmt_pure (While e s) free sc q h = (expr_pure e sc q h.0.0, stmt_pure s free sc (after_value q e + 1 + 1) h.3)
-    stmt_pure (Repeat s e) free sc q h =
-        (expr_pure e sc (after_statement p (q + 1) s) h.2.0, stmt_pure s free sc (q + 1) h.1)
-    stmt_pure (For x from down to s) free sc q h =
+    stmt_pure (While e s) free sc q ((value, _), _, _, body, _) =
+        (expr_pure e sc q value, stmt_pure s free sc (after_value q e + 1 + 1) body)
+    stmt_pure (Repeat s e) free sc q (_, body, (value, _), _) =
+        (expr_pure e sc (after_statement p (q + 1) s) value, stmt_pure s free sc (q + 1) body)
+    stmt_pure (For x from down to s) free sc q ((first, _), (last, _), (local, _, _, body, _)) =
         let t = after_value (after_value q from) to in (
-          expr_pure from sc q h.0.0,
-          expr_pure to sc (after_value q from) h.1.0,
-          for_local sc x h.2.0,
-          stmt_pure s free sc (t + 1 + 1) h.2.3,
+          expr_pure from sc q first,
+          expr_pure to sc (after_value q from) last,
+          for_local sc x local,
+          stmt_pure s free sc (t + 1 + 1) body,
         )
-    stmt_pure (Case e arms) free sc q h =
+    stmt_pure (Case e arms) free sc q ((value, _), _, _, bodies) =
         let b = after_tests (after_value q e) arms in
-        (expr_pure e sc q h.0.0, arms_pure arms free sc (b + 1) (after_arms p (b + 1) arms) h.3)
-    stmt_pure (Parallel ss) free sc q h = children_pure ss free sc (q + 1 + 1) h.4
-    stmt_pure (Forall x from to s) free sc q h = (
-      expr_pure from sc q h.2.0,
-      expr_pure to sc (after_value q from) h.3.0,
-      stmt_pure s free (OfIndex x ∷ sc) (after_value (after_value q from) to + 1 + 1) h.6,
+        (expr_pure e sc q value, arms_pure arms free sc (b + 1) (after_arms p (b + 1) arms) bodies)
+    stmt_pure (Parallel ss) free sc q (_, _, _, _, children, _) = children_pure ss free sc (q + 1 + 1) children
+    stmt_pure (Forall x from to s) free sc q (_, _, (first, _), (last, _), _, _, body, _, _) = (
+      expr_pure from sc q first,
+      expr_pure to sc (after_value q from) last,
+      stmt_pure s free (OfIndex x ∷ sc) (after_value (after_value q from) to + 1 + 1) body,
     )
-    stmt_pure (Assume e) free sc q h = expr_pure e sc q h.0.0
-    stmt_pure (ReadValue v) free sc q h = var_pure v h.0 sc q h.2
+    stmt_pure (Assume e) free sc q ((value, _), _) = expr_pure e sc q value
+    stmt_pure (ReadValue v) free sc q (k, _, place, _, _, _) = var_pure v k sc q place
     stmt_pure ReadLine free sc q h = tt
-    stmt_pure (WriteValue e w) free sc q h = (expr_pure e sc q h.1.0, width_pure w sc (after_value q e) h.3)
-    stmt_pure (WriteText t w) free sc q h = width_pure w sc q h.2
+    stmt_pure (WriteValue e w) free sc q (_, (value, _), _, width, _, _) =
+        (expr_pure e sc q value, width_pure w sc (after_value q e) width)
+    stmt_pure (WriteText t w) free sc q (_, _, width, _) = width_pure w sc q width
     stmt_pure WriteLine free sc q h = tt
-    stmt_pure (Open v) free sc q h = var_pure v h.0 sc q h.1
-    stmt_pure (Send c e) free sc q h = (expr_pure c sc q h.0, expr_pure e sc (after_value q c) h.2)
-    stmt_pure (Receive c v) free sc q h = (expr_pure c sc q h.1, var_pure v h.0 sc (after_value q c) h.3)
+    stmt_pure (Open v) free sc q (k, place, _, _, _, _) = var_pure v k sc q place
+    stmt_pure (Send c e) free sc q (channel, _, value, _, _) =
+        (expr_pure c sc q channel, expr_pure e sc (after_value q c) value)
+    stmt_pure (Receive c v) free sc q (k, channel, _, place, _, _, _) =
+        (expr_pure c sc q channel, var_pure v k sc (after_value q c) place)
 
     all_pure : (ss : Stmts) (free : Bool) (sc : List Scope) (q : ℕ)
         → AllAt p moves shares Is HasTable HasText callable free sc q ss → PureStmts p ss
     all_pure No free sc q h = tt
-    all_pure (And s rest) free sc q h = (stmt_pure s free sc q h.0, all_pure rest free sc (after_statement p q s) h.1)
+    all_pure (And s rest) free sc q (first, others) =
+        (stmt_pure s free sc q first, all_pure rest free sc (after_statement p q s) others)
 
     children_pure : (ss : Stmts) (free : Bool) (sc : List Scope) (q : ℕ)
         → ChildrenAt p moves shares Is HasTable HasText callable free sc q ss → PureStmts p ss
     children_pure No free sc q h = tt
-    children_pure (And s rest) free sc q h =
-        (stmt_pure s free sc q h.0, children_pure rest free sc (after_statement p q s + 1) h.2)
+    children_pure (And s rest) free sc q (first, _, others) =
+        (stmt_pure s free sc q first, children_pure rest free sc (after_statement p q s + 1) others)
 
     arms_pure : (arms : Arms) (free : Bool) (sc : List Scope) (q end : ℕ)
         → ArmsAt p moves shares Is HasTable HasText callable free sc q arms end → PureArms p arms
     arms_pure NoArm free sc q end h = tt
-    arms_pure (Or (On ms s) rest) free sc q end h =
-        (stmt_pure s free sc q h.0, arms_pure rest free sc (after_statement p q s + 1) end h.2)
+    arms_pure (Or (On ms s) rest) free sc q end (first, _, others) =
+        (stmt_pure s free sc q first, arms_pure rest free sc (after_statement p q s + 1) end others)
 
 -- the program's blocks
 pub blocks_pure : (p : Program) → DoFunctionsTakeValues p
@@ -172,34 +181,37 @@ module _ {M : Type 0} (ex : Execution M) (values : DoFunctionsTakeValues ex.run_
       (fs : List FramePair)
       (todo : List Item) → CodeFollows ex end base below pc stack fs todo → PureItems g.program todo
   follows_pure end base below pc stack fs [] h = tt
-  follows_pure end base below pc stack fs (Do s ∷ todo) h = (
+  follows_pure end base below pc stack fs (Do s ∷ todo) (at, scopes, _, _, stands, rest) = (
     stmt_pure g.program values moves shares (CodeAt code) (HasFork code) (HasWords code) callable s
-        (is_in_no_function stack) h.1
-        h.0 h.4,
-    follows_pure end base below (after_statement g.program h.0 s) stack fs todo h.5,
+        (is_in_no_function stack) scopes
+        at stands,
+    follows_pure end base below (after_statement g.program at s) stack fs todo rest,
   )
-  follows_pure end base below pc stack fs (First x lo hi d s ∷ todo) h = (
-    (
-      for_local g.program values moves shares (CodeAt code) (HasFork code) (HasWords code) callable h.1 x h.6.0,
-      stmt_pure g.program values moves shares (CodeAt code) (HasFork code) (HasWords code) callable s
-          (is_in_no_function h.2) h.1
-          (h.0 + 1 + 1) h.6.3,
-    ),
-    follows_pure end base below (after_statement g.program (h.0 + 1 + 1) s + 1) h.2 fs todo h.7,
-  )
-  follows_pure end base below pc stack fs (Again x hi d s ∷ todo) h = (
-    (
-      for_local g.program values moves shares (CodeAt code) (HasFork code) (HasWords code) callable h.1 x h.6.0,
-      stmt_pure g.program values moves shares (CodeAt code) (HasFork code) (HasWords code) callable s
-          (is_in_no_function h.2) h.1
-          (h.0 + 1 + 1) h.6.3,
-    ),
-    follows_pure end base below (after_statement g.program (h.0 + 1 + 1) s + 1) h.2 fs todo h.7,
-  )
-  follows_pure end base below pc stack fs (Test s e ∷ todo) h = (
+  follows_pure end base below pc stack fs (First x lo hi d s ∷ todo)
+      (at, scopes, under, _, _, _, (local, _, _, body, _), rest, _) = (
+        (
+          for_local g.program values moves shares (CodeAt code) (HasFork code) (HasWords code) callable scopes x local,
+          stmt_pure g.program values moves shares (CodeAt code) (HasFork code) (HasWords code) callable s
+              (is_in_no_function under) scopes
+              (at + 1 + 1) body,
+        ),
+        follows_pure end base below (after_statement g.program (at + 1 + 1) s + 1) under fs todo rest,
+      )
+  follows_pure end base below pc stack fs (Again x hi d s ∷ todo)
+      (at, scopes, under, _, _, _, (local, _, _, body, _), rest) = (
+        (
+          for_local g.program values moves shares (CodeAt code) (HasFork code) (HasWords code) callable scopes x local,
+          stmt_pure g.program values moves shares (CodeAt code) (HasFork code) (HasWords code) callable s
+              (is_in_no_function under) scopes
+              (at + 1 + 1) body,
+        ),
+        follows_pure end base below (after_statement g.program (at + 1 + 1) s + 1) under fs todo rest,
+      )
+  follows_pure end base below pc stack fs (Test s e ∷ todo) (at, scopes, _, _, stands, rest) = (
     stmt_pure g.program values moves shares (CodeAt code) (HasFork code) (HasWords code) callable (Repeat s e)
-        (is_in_no_function stack) h.1 h.0 h.4,
-    follows_pure end base below (after_statement g.program h.0 (Repeat s e)) stack fs todo h.5,
+        (is_in_no_function stack) scopes at stands,
+    follows_pure end base below (after_statement g.program at (Repeat s e)) stack fs todo rest,
   )
-  follows_pure end base below pc stack fs (Leave ∷ todo) h = follows_pure end base below h.1 h.2 h.4 todo h.9
+  follows_pure end base below pc stack fs (Leave ∷ todo) (_, back, under, _, outer, _, _, _, _, rest, _) =
+      follows_pure end base below back under outer todo rest
   follows_pure end base below pc stack fs (Break f ∷ todo) h = absurd h

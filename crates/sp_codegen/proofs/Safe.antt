@@ -53,15 +53,19 @@ module _ {M : Type 0} (ex : Execution M) where
   pub turn_finishes : (c : Config M) (end : ℕ) (base : List Entry) (below : List FramePair) (r : WorkOutcome source.Stop
       × Store)
       → Turned ex c end base below r → AtEnd r → Finishes ops code c
-  turn_finishes c end base below (Computed (source.Paused todo) o, s) q h = (q.4, q.5, last_by _ _ q.6 tt)
+  turn_finishes c end base below (Computed (source.Paused todo) o, s) (_, _, _, _, before, comes, pauses, _, _) h =
+      (before, comes, last_by _ _ pauses tt)
   turn_finishes c end base below (Computed (source.Stops (Stepped todo)) o, s) q h = absurd h
   turn_finishes c end base below (Computed (source.Stops (Ticked todo)) o, s) q h = absurd h
-  turn_finishes c end base below (Computed (source.Stops (Opened todo)) o, s) q h = (q.4, q.8, last_by _ _ q.9 tt)
-  turn_finishes c end base below (Computed (source.Stops (Forked bs todo)) o, s) q h = (q.4, q.6, last_by _ _ q.7 tt)
-  turn_finishes c end base below (Computed (source.Stops (Offered ch k cg todo)) o, s) q h =
-      (q.4, q.6, last_by _ _ q.7 tt)
-  turn_finishes c end base below (Computed (source.Stops Ended) o, s) q h =
-      (At q.0 q.1 q.2, q.4, last_by (At q.0 q.1 q.2) _ q.5 tt)
+  turn_finishes c end base below (Computed (source.Stops (Opened todo)) o, s)
+      (_, _, _, _, before, _, _, _, comes, stops, _, _, _, _, _, _, _) h = (before, comes, last_by _ _ stops tt)
+  turn_finishes c end base below (Computed (source.Stops (Forked bs todo)) o, s)
+      (_, _, _, _, before, _, comes, stops, _, _, _, _, _) h = (before, comes, last_by _ _ stops tt)
+  turn_finishes c end base below (Computed (source.Stops (Offered ch k cg todo)) o, s)
+      (_, _, _, _, before, _, comes, stops, _, _, _, _, _) h =
+      (before, comes, last_by _ _ stops tt)
+  turn_finishes c end base below (Computed (source.Stops Ended) o, s) (to, st, n, _, comes, stops, _, _, _) h =
+      (At to st n, comes, last_by (At to st n) _ stops tt)
   turn_finishes c end base below (EndsInFault f, s) q h = (q.configuration, q.comes, last_by _ _ q.fails tt)
   turn_finishes c end base below (IllFormed, s) q h = absurd h
   turn_finishes c end base below (OutOfFuel, s) q h = absurd h

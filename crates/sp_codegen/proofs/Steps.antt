@@ -250,25 +250,25 @@ module _ {M : Type 0} (ex : Execution M) where
       → Stood rel p (sort p k) k v e → ((c : Channel) (j : ℕ) → rel.Named c j
       → K ex (m.At q (m.Chan j ∷ stack) n) o s Q (gg c)) → K ex (m.At q (e ∷ stack) n) o s Q (bind (channel v) gg)
   with_channel Q k v e gg q stack o s n es x next =
-      let y = subst (λ z. Stood rel p z k v e) es x in
-      subst (λ z. K ex (m.At q (z ∷ stack) n) o s Q (bind (channel v) gg)) (sym y.3)
-      (makes_known ex gg y.0 (record { proof = ap (λ z. run (channel z) w o s) y.2 }) (next y.0 y.1 y.4))
+      let (c1, j1, value_is, entry_is, named) = subst (λ z. Stood rel p z k v e) es x in
+      subst (λ z. K ex (m.At q (z ∷ stack) n) o s Q (bind (channel v) gg)) (sym entry_is)
+      (makes_known ex gg c1 (record { proof = ap (λ z. run (channel z) w o s) value_is }) (next c1 j1 named))
 
   send_one : (q k : ℕ) (z : Sort) (v : Value) (e : Entry) (j : ℕ) (stack : List Entry) (n : M) → Stood rel p z k v e
       → slice_get code.instrs q ≡ Some (i.Send k)
       → next_step ops code (m.At q (e ∷ m.Chan j ∷ stack) n) ≡ Stops (Sends j k (cells_in e)) (m.At (q + 1) stack n)
-  send_one q k Ordinals v e j stack n x h = subst
+  send_one q k Ordinals v e j stack n (_, _, entry_is) h = subst
       (λ u. next_step ops code (m.At q (u ∷ m.Chan j ∷ stack) n) ≡ Stops (Sends j k (cells_in u))
       (m.At (q + 1) stack n))
-      (sym x.2) (at_one ex q _ n h)
-  send_one q k Channels v e j stack n x h = subst
+      (sym entry_is) (at_one ex q _ n h)
+  send_one q k Channels v e j stack n (_, _, _, entry_is, _) h = subst
       (λ u. next_step ops code (m.At q (u ∷ m.Chan j ∷ stack) n) ≡ Stops (Sends j k (cells_in u))
       (m.At (q + 1) stack n))
-      (sym x.3) (at_one ex q _ n h)
-  send_one q k Many v e j stack n x h = subst
+      (sym entry_is) (at_one ex q _ n h)
+  send_one q k Many v e j stack n (_, entry_is, _) h = subst
       (λ u. next_step ops code (m.At q (u ∷ m.Chan j ∷ stack) n) ≡ Stops (Sends j k (cells_in u))
       (m.At (q + 1) stack n))
-      (sym x.1) (at_one ex q _ n h)
+      (sym entry_is) (at_one ex q _ n h)
   send_one q k NoSort v e j stack n x h = absurd x
 
   receive_is : (fs : List FramePair) (c : Channel) (k : ℕ) (a : Address) (u : Ptr) (j : ℕ) → (ek : a.kind ≡ k)
@@ -294,89 +294,98 @@ module _ {M : Type 0} (ex : Execution M) where
       → K ex (m.At q stack n) o s (After ex end base below) (statement_action g call d todo)
   start_makes call ok bl end base below Empty sc q stack todo fs o s n t pl h k =
       makes_went ex todo fs q stack n (stays ops rel w code _) t k
-  start_makes call ok bl end base below (Assign v (Typed x form)) sc q stack todo fs o s n t pl h k =
-      makes_bind ex _ (address_gives ex call ok v x sc q stack fs o s n t (within (λ u. inl) pl) h.0 h.1)
+  start_makes call ok bl end base below (Assign v (Typed x form)) sc q stack todo fs o s n t pl
+      (place, target, right) k =
+      makes_bind ex _ (address_gives ex call ok v x sc q stack fs o s n t (within (λ u. inl) pl) place target)
       (λ a u o1 s1 n1 t1 x1.
       assign_makes ex call ok end base below (sort p x) x form sc (after_var q v) stack todo a u fs o1 s1 n1 t1
-      (within (λ u. inr) pl) refl x1.0 x1.1 x1.2 h.2 k)
-  start_makes call ok bl end base below (Call f args) sc q stack todo fs o s n t pl h k =
-      makes_bind ex _ (actuals_gives ex call ok args h.0.formals sc q stack fs o s n t (within (λ u. inr) pl) h.1)
+      (within (λ u. inr) pl) refl x1.0 x1.1 x1.2 right k)
+  start_makes call ok bl end base below (Call f args) sc q stack todo fs o s n t pl
+      (b, given, calls, no_answer, callable) k =
+      makes_bind ex _ (actuals_gives ex call ok args b.formals sc q stack fs o s n t (within (λ u. inr) pl) given)
       (λ gs es o1 s1 n1 t1 x1.
-      call_makes ex bl end base below f args h.0 sc
-      (after_actuals q args) stack gs es todo fs o1 s1 n1 t1 pl h.2 h.3 h.4
+      call_makes ex bl end base below f args b sc
+      (after_actuals q args) stack gs es todo fs o1 s1 n1 t1 pl calls no_answer callable
       x1.0 x1.1 k)
   start_makes call ok bl end base below (Sequence ss) sc q stack todo fs o s n t pl h k =
       makes_went ex (push_all ss todo) fs q stack n (stays ops rel w code _) t
       (push_all_follows ex ss end base below sc q stack fs todo pl h k)
-  start_makes call ok bl end base below (If e a) sc q stack todo fs o s n t pl h k =
-      makes_bind ex _ (ordinal_gives ex call ok e sc q stack fs o s n t (within (λ u. inl) pl) h.0)
+  start_makes call ok bl end base below (If e a) sc q stack todo fs o s n t pl (value, jump, body) k =
+      makes_bind ex _ (ordinal_gives ex call ok e sc q stack fs o s n t (within (λ u. inl) pl) value)
       (λ v u o1 s1 n1 t1 x1.
       makes_by ex (went_if ex (int_le v (pos 0)) todo (push a todo))
       (branch ex (After ex end base below) v (after_value q e) (after_statement p (after_value q e + 1) a) stack o1 s1
-      n1 _ _ h.1
+      n1 _ _ jump
       (makes_went ex todo fs _ stack n1 (stays ops rel w code _) t1 k)
       (makes_went ex (push a todo) fs _ stack n1 (stays ops rel w code _) t1
-      (push_follows ex a end base below sc _ stack fs todo (within (λ u. inr) pl) h.2 k))))
-  start_makes call ok bl end base below (IfElse e a b) sc q stack todo fs o s n t pl h k =
-      makes_bind ex _ (ordinal_gives ex call ok e sc q stack fs o s n t (within (λ u. inl) pl) h.0)
+      (push_follows ex a end base below sc _ stack fs todo (within (λ u. inr) pl) body k))))
+  start_makes call ok bl end base below (IfElse e a b) sc q stack todo fs o s n t pl
+      (value, jump, first, leave, second) k =
+      makes_bind ex _ (ordinal_gives ex call ok e sc q stack fs o s n t (within (λ u. inl) pl) value)
       (λ v u o1 s1 n1 t1 x1.
       makes_by ex (went_if ex (int_le v (pos 0)) (push b todo) (push a todo))
       (branch ex (After ex end base below) v (after_value q e)
-      (after_statement p (after_value q e + 1) a + 1) stack o1 s1 n1 _ _ h.1
+      (after_statement p (after_value q e + 1) a + 1) stack o1 s1 n1 _ _ jump
       (makes_went ex (push b todo) fs _ stack n1 (stays ops rel w code _) t1
-      (push_follows ex b end base below sc _ stack fs todo (within (λ u i. inr (inr i)) pl) h.4 k))
+      (push_follows ex b end base below sc _ stack fs todo (within (λ u i. inr (inr i)) pl) second k))
       (makes_went ex (push a todo) fs _ stack n1 (stays ops rel w code _) t1
-      (push_follows ex a end base below sc _ stack fs todo (within (λ u i. inr (inl i)) pl) h.2
-      (slide_follows ex end base below _ _ stack fs todo (jumps ex _ _ stack h.3) k)))))
+      (push_follows ex a end base below sc _ stack fs todo (within (λ u i. inr (inl i)) pl) first
+      (slide_follows ex end base below _ _ stack fs todo (jumps ex _ _ stack leave) k)))))
   start_makes call ok bl end base below (While e d) sc q stack todo fs o s n t pl h k =
-      makes_bind ex _ (ordinal_gives ex call ok e sc q stack fs o s n t (within (λ u. inl) pl) h.0)
+      let (value, jump, ticks, body, again) = h in
+      makes_bind ex _ (ordinal_gives ex call ok e sc q stack fs o s n t (within (λ u. inl) pl) value)
       (λ v u o1 s1 n1 t1 x1.
       branch ex (After ex end base below) v (after_value q e)
-      (after_statement p (after_value q e + 1 + 1) d + 1) stack o1 s1 n1 _ _ h.1
+      (after_statement p (after_value q e + 1 + 1) d + 1) stack o1 s1 n1 _ _ jump
       (makes_went ex todo fs _ stack n1 (stays ops rel w code _) t1 k)
       (makes_tick ex (push d (Do (While e d) ∷ todo)) fs (after_value q e + 1 + 1) stack (ops.tick n1) (_, _, t1)
-      (law.tick t1) (at_one ex (after_value q e + 1) stack n1 h.2)
-      (push_follows ex d end base below sc _ stack fs (Do (While e d) ∷ todo) (within (λ u. inr) pl) h.3
-      (q, sc, jumps ex _ q stack h.4, pl, h, k))))
+      (law.tick t1) (at_one ex (after_value q e + 1) stack n1 ticks)
+      (push_follows ex d end base below sc _ stack fs (Do (While e d) ∷ todo) (within (λ u. inr) pl) body
+      (q, sc, jumps ex _ q stack again, pl, h, k))))
   start_makes call ok bl end base below (Repeat d e) sc q stack todo fs o s n t pl h k =
+      let (ticks, body, _, _) = h in
       makes_tick ex (push d (Test d e ∷ todo)) fs (q + 1) stack (ops.tick n) (_, _, t) (law.tick t)
-      (at_one ex q stack n h.0)
-      (push_follows ex d end base below sc (q + 1) stack fs (Test d e ∷ todo) (within (λ u. inr) pl) h.1
+      (at_one ex q stack n ticks)
+      (push_follows ex d end base below sc (q + 1) stack fs (Test d e ∷ todo) (within (λ u. inr) pl) body
       (q, sc, slides ex _ _, pl, h, k))
-  start_makes call ok bl end base below (For x pairs_from down to d) sc q stack todo fs o s n t pl h k =
-      makes_bind ex _ (ordinal_gives ex call ok pairs_from sc q stack fs o s n t (within (λ u i. inr (inl i)) pl) h.0)
+  start_makes call ok bl end base below (For x pairs_from down to d) sc q stack todo fs o s n t pl
+      (first, last, turns) k =
+      makes_bind ex _ (ordinal_gives ex call ok pairs_from sc q stack fs o s n t (within (λ u i. inr (inl i)) pl) first)
       (λ lo u o1 s1 n1 t1 x1.
       makes_bind ex _ (ordinal_gives ex call ok to sc (after_value q pairs_from) (m.Number lo ∷ stack) fs o1 s1 n1 t1
-      (within (λ u i. inr (inr (inl i))) pl) h.1) (λ hi u2 o2 s2 n2 t2 x2.
+      (within (λ u i. inr (inr (inl i))) pl) last) (λ hi u2 o2 s2 n2 t2 x2.
       for_begins ex end base below x down d sc (after_value (after_value q pairs_from) to) stack todo fs lo hi o2
       s2 n2 t2
-      (within (loop x pairs_from down to d) pl) h.2 k))
+      (within (loop x pairs_from down to d) pl) turns k))
     where
       loop : (x : ℕ) (pairs_from : Expr) (down : Bool) (to : Expr) (d : Stmt) (u : Use) → In_loop x d u
           → In_stmt (For x pairs_from down to d) u
       loop x pairs_from down to d u (inl e) = inl e
       loop x pairs_from down to d u (inr i) = inr (inr (inr i))
-  start_makes call ok bl end base below (Case e arms) sc q stack todo fs o s n t pl h k =
-      makes_bind ex _ (ordinal_gives ex call ok e sc q stack fs o s n t (within (λ u. inl) pl) h.0)
+  start_makes call ok bl end base below (Case e arms) sc q stack todo fs o s n t pl (value, tests, none, bodies) k =
+      makes_bind ex _ (ordinal_gives ex call ok e sc q stack fs o s n t (within (λ u. inl) pl) value)
       (λ v u o1 s1 n1 t1 x1.
       case_makes end base below v arms sc (after_value q e) (after_tests (after_value q e) arms + 1)
-      (after_statement p q (Case e arms)) stack todo fs o1 s1 n1 t1 (within (λ u. inr) pl) h.1 h.2 h.3 k)
-  start_makes call ok bl end base below (Parallel ss) sc q stack todo fs o s n t pl h k =
-      fork_makes (After ex end base below) fs (q + 1) h.0 (pos 0)
+      (after_statement p q (Case e arms)) stack todo fs o1 s1 n1 t1 (within (λ u. inr) pl) tests none bodies k)
+  start_makes call ok bl end base below (Parallel ss) sc q stack todo fs o s n t pl
+      (number, table_is, fork, jump, bodies, outside) k =
+      fork_makes (After ex end base below) fs (q + 1) number (pos 0)
       (length (emitted.children_tables p moves shares (q + 1 + 1) ss)) stack (children ss) todo (m.At q stack n) o s
-      n t (fs, o, t) (at_one ex q stack n h.2
-      ∙ ap (λ y. on_some y (λ table. m.fork_step ops code h.0 (pos 0) (length table.children) (q + 1) stack n)) h.1)
-      (slide_follows ex end base below (q + 1) _ stack fs todo (jumps ex (q + 1) _ stack h.3) k) h.5
-      (inl (ss, h.0, q + 1 + 1, sc, refl, h.1, refl, h.4, pl))
-  start_makes call ok bl end base below (Forall x pairs_from to d) sc q stack todo fs o s n t pl h k =
-      makes_bind ex _ (ordinal_gives ex call ok pairs_from sc q stack fs o s n t (within (λ u i. inr (inl i)) pl) h.2)
+      n t (fs, o, t) (at_one ex q stack n fork
+      ∙ ap (λ y. on_some y (λ table. m.fork_step ops code number (pos 0) (length table.children) (q + 1) stack n))
+      table_is)
+      (slide_follows ex end base below (q + 1) _ stack fs todo (jumps ex (q + 1) _ stack jump) k) outside
+      (inl (ss, number, q + 1 + 1, sc, refl, table_is, refl, bodies, pl))
+  start_makes call ok bl end base below (Forall x pairs_from to d) sc q stack todo fs o s n t pl
+      (number, table_is, first, last, fork, jump, body, ends, outside) k =
+      makes_bind ex _ (ordinal_gives ex call ok pairs_from sc q stack fs o s n t (within (λ u i. inr (inl i)) pl) first)
       (λ lo u o1 s1 n1 t1 x1.
       makes_bind ex _ (ordinal_gives ex call ok to sc (after_value q pairs_from) (m.Number lo ∷ stack) fs o1 s1 n1 t1
-      (within (λ u i. inr (inr (inl i))) pl) h.3) (λ hi u2 o2 s2 n2 t2 x2.
+      (within (λ u i. inr (inr (inl i))) pl) last) (λ hi u2 o2 s2 n2 t2 x2.
       forall_makes (After ex end base below) fs
-      (after_value (after_value q pairs_from) to) h.0 x d lo hi stack todo o2 s2 n2 t2
-      h.4
-      (slide_follows ex end base below _ _ stack fs todo (jumps ex _ _ stack h.5) k) h.8
+      (after_value (after_value q pairs_from) to) number x d lo hi stack todo o2 s2 n2 t2
+      fork
+      (slide_follows ex end base below _ _ stack fs todo (jumps ex _ _ stack jump) k) outside
       (λ b. inr (
         x,
         pairs_from,
@@ -384,30 +393,31 @@ module _ {M : Type 0} (ex : Execution M) where
         d,
         lo,
         hi,
-        h.0,
+        number,
         after_value (after_value q pairs_from) to + 1 + 1,
         sc,
         refl,
-        h.1,
+        table_is,
         refl,
         b,
-        h.6,
-        h.7,
+        body,
+        ends,
         pl,
       ))))
-  start_makes call ok bl end base below (Assume e) sc q stack todo fs o s n t pl h k =
-      makes_bind ex _ (ordinal_gives ex call ok e sc q stack fs o s n t pl h.0) (λ v u o1 s1 n1 t1 x1.
-      assume_makes (After ex end base below) fs v (after_value q e) stack todo o1 s1 n1 t1 h.1 k)
-  start_makes call ok bl end base below (ReadValue v) sc q stack todo fs o s n t pl h k =
+  start_makes call ok bl end base below (Assume e) sc q stack todo fs o s n t pl (value, instr) k =
+      makes_bind ex _ (ordinal_gives ex call ok e sc q stack fs o s n t pl value) (λ v u o1 s1 n1 t1 x1.
+      assume_makes (After ex end base below) fs v (after_value q e) stack todo o1 s1 n1 t1 instr k)
+  start_makes call ok bl end base below (ReadValue v) sc q stack todo fs o s n t pl
+      (x, type, place, target, type_is, instr) k =
       let ri = aims_input sc fs pl (inl refl) in
-      makes_bind ex _ (address_gives ex call ok v h.0 sc q stack fs o s n t (within (λ u i. inr (inl i)) pl) h.2 h.3)
+      makes_bind ex _ (address_gives ex call ok v x sc q stack fs o s n t (within (λ u i. inr (inl i)) pl) place target)
       (λ a u o1 s1 n1 t1 x1.
-      makes_known ex _ h.1 (kind_known ex a.kind h.0 h.1 x1.0 h.4)
-      (makes_known ex (λ bs. bind (or_ill_formed (reading_by h.1 bs))
+      makes_known ex _ type (kind_known ex a.kind x type x1.0 type_is)
+      (makes_known ex (λ bs. bind (or_ill_formed (reading_by type bs))
       (λ z. bind (take_in g a z) (λ y. give (Stepped todo))))
       (rest_of ex s1) (left_known ex)
-      (reads_makes (After ex end base below) fs h.1 (after_var q v) a u stack todo o1 s1 n1 t1 ri x1.1 x1.2
-      (ap (λ y. slice_get p.kinds y) x1.0 ∙ h.4) h.5 k)))
+      (reads_makes (After ex end base below) fs type (after_var q v) a u stack todo o1 s1 n1 t1 ri x1.1 x1.2
+      (ap (λ y. slice_get p.kinds y) x1.0 ∙ type_is) instr k)))
   start_makes call ok bl end base below ReadLine sc q stack todo fs o s n t pl h k =
       let ri = aims_input sc fs pl (inl refl) in
       let bs = rest_of ex s in
@@ -424,25 +434,28 @@ module _ {M : Type 0} (ex : Execution M) where
           k,
         );
       })
-  start_makes call ok bl end base below (WriteValue (Typed x form) wd) sc q stack todo fs o s n t pl h k =
+  start_makes call ok bl end base below (WriteValue (Typed x form) wd) sc q stack todo fs o s n t pl
+      (type, value, type_is, width, instr, written) k =
       let ro = aims_output sc fs pl (inl refl) in
       makes_bind ex _ (ordinal_gives ex call ok (Typed x form) sc q stack fs o s n t (within (λ u i. inr (inl i)) pl)
-      h.1) (λ v u o1 s1 n1 t1 x1.
-      width_item ex call ok end base below h.0 x v wd sc (after_form q form) stack todo fs o1 s1 n1 t1
-      (within (λ u i. inr (inr (inl i))) pl) ro h.2 h.3 h.4 h.5 k)
-  start_makes call ok bl end base below (WriteText tx wd) sc q stack todo fs o s n t pl h k =
+      value) (λ v u o1 s1 n1 t1 x1.
+      width_item ex call ok end base below type x v wd sc (after_form q form) stack todo fs o1 s1 n1 t1
+      (within (λ u i. inr (inr (inl i))) pl) ro type_is width instr written k)
+  start_makes call ok bl end base below (WriteText tx wd) sc q stack todo fs o s n t pl
+      (number, text_is, width, instr) k =
       let ro = aims_output sc fs pl (inl refl) in
-      width_text ex call ok end base below tx h.0 wd sc q stack todo fs o s n t
-      (within (λ u i. inr (inl i)) pl) ro h.1 h.2
-      h.3 k
+      width_text ex call ok end base below tx number wd sc q stack todo fs o s n t
+      (within (λ u i. inr (inl i)) pl) ro text_is width
+      instr k
   start_makes call ok bl end base below WriteLine sc q stack todo fs o s n t pl h k =
       let ro = aims_output sc fs pl (inl refl) in
       plain_makes ex (After ex end base below) fs (q + 1) (10 ∷ []) stack todo (m.At q stack n) o s n t (fs, o, t) ro
       (at_one ex q stack n h) k
-  start_makes call ok bl end base below (Open v) sc q stack todo fs o s n t pl h k =
+  start_makes call ok bl end base below (Open v) sc q stack todo fs o s n t pl
+      (x, place, target, sort_is, instr, outside) k =
       makes_bind ex (λ a. bind who (λ z. bind (assign a (Chan (record { owner = z.name; nth = z.opens })))
-      (λ u. give (Opened todo)))) (address_gives ex call ok v h.0 sc q stack fs o s n t (within (λ u. inl) pl) h.1
-      h.2) (λ a u o1 s1 n1 t1 x1.
+      (λ u. give (Opened todo)))) (address_gives ex call ok v x sc q stack fs o s n t (within (λ u. inl) pl) place
+      target) (λ a u o1 s1 n1 t1 x1.
       record {
         proof = (
           after_var q v + 1,
@@ -454,25 +467,27 @@ module _ {M : Type 0} (ex : Execution M) where
           u,
           s1,
           stays ops rel w code _,
-          at_one ex (after_var q v) _ n1 h.4
+          at_one ex (after_var q v) _ n1 instr
               ∙ holds_when (ops.has u 1 n1) _ (law.has_one t1 a u x1.1 x1.2),
           law.make_own t1 a u x1.1 x1.2,
           x1.1,
           x1.2,
           refl,
           k,
-          h.5,
-          ap (λ y. sort p y) x1.0 ∙ h.3,
+          outside,
+          ap (λ y. sort p y) x1.0 ∙ sort_is,
         );
       })
-  start_makes call ok bl end base below (Send c (Typed x form)) sc q stack todo fs o s n t pl h k =
-      makes_bind ex _ (value_gives ex call ok c sc q stack fs o s n t (within (λ u. inl) pl) h.0) (λ v e o1 s1 n1 t1 x1.
+  start_makes call ok bl end base below (Send c (Typed x form)) sc q stack todo fs o s n t pl
+      (chan, sort_is, sent, instr, outside) k =
+      makes_bind ex _ (value_gives ex call ok c sc q stack fs o s n t (within (λ u. inl) pl) chan)
+      (λ v e o1 s1 n1 t1 x1.
       with_channel (After ex end base below) (kind_of c) v e
       (λ to. bind (value g call (Typed x form)) (λ z. give (Offered to x (Offers (Tree z)) todo))) (after_value q c)
-      stack o1 s1 n1 h.1 x1 (λ ch1 j nm.
+      stack o1 s1 n1 sort_is x1 (λ ch1 j nm.
       makes_bind ex (λ z. give (Offered ch1 x (Offers (Tree z)) todo))
       (form_gives ex call ok x form sc (after_value q c) (m.Chan j ∷ stack) fs o1 s1 n1 t1
-      (within (λ u i. inr (inl i)) pl) h.2) (λ v2 e2 o2 s2 n2 t2 x2.
+      (within (λ u i. inr (inl i)) pl) sent) (λ v2 e2 o2 s2 n2 t2 x2.
       record {
         proof = (
           after_form (after_value q c) form + 1,
@@ -482,23 +497,25 @@ module _ {M : Type 0} (ex : Execution M) where
           m.At (after_form (after_value q c) form) (e2 ∷ m.Chan j ∷ stack) n2,
           Sends j x (cells_in e2),
           stays ops rel w code _,
-          send_one (after_form (after_value q c) form) x (sort p x) v2 e2 j stack n2 x2 h.3,
+          send_one (after_form (after_value q c) form) x (sort p x) v2 e2 j stack n2 x2 instr,
           t2,
           (j, e2, refl, nm, x2),
           k,
-          h.4,
+          outside,
           tt,
         );
       })))
-  start_makes call ok bl end base below (Receive c v) sc q stack todo fs o s n t pl h k =
-      makes_bind ex _ (value_gives ex call ok c sc q stack fs o s n t (within (λ u. inl) pl) h.1) (λ y e o1 s1 n1 t1 x1.
+  start_makes call ok bl end base below (Receive c v) sc q stack todo fs o s n t pl
+      (x, chan, sort_is, place, target, instr, outside) k =
+      makes_bind ex _ (value_gives ex call ok c sc q stack fs o s n t (within (λ u. inl) pl) chan)
+      (λ y e o1 s1 n1 t1 x1.
       with_channel (After ex end base below) (kind_of c) y e
       (λ pairs_from. bind (address g call v) (λ a. give (Offered pairs_from a.kind (Takes a) todo))) (after_value q c)
       stack o1
-      s1 n1 h.2 x1 (λ ch1 j nm.
+      s1 n1 sort_is x1 (λ ch1 j nm.
       makes_bind ex (λ a. give (Offered ch1 a.kind (Takes a) todo))
-      (address_gives ex call ok v h.0 sc (after_value q c) (m.Chan j ∷ stack) fs o1 s1 n1 t1
-      (within (λ u i. inr (inl i)) pl) h.3 h.4) (λ a u o2 s2 n2 t2 x2.
+      (address_gives ex call ok v x sc (after_value q c) (m.Chan j ∷ stack) fs o1 s1 n1 t1
+      (within (λ u i. inr (inl i)) pl) place target) (λ a u o2 s2 n2 t2 x2.
       record {
         proof = (
           after_var (after_value q c) v + 1,
@@ -506,14 +523,14 @@ module _ {M : Type 0} (ex : Execution M) where
           ops.make_own u n2,
           fs,
           m.At (after_var (after_value q c) v) (m.Pointer u ∷ m.Chan j ∷ stack) n2,
-          Receives j h.0 u,
+          Receives j x u,
           stays ops rel w code _,
-          at_one ex (after_var (after_value q c) v) _ n2 h.5
+          at_one ex (after_var (after_value q c) v) _ n2 instr
               ∙ holds_when (ops.has u 0 n2) _ (law.has_none t2 a u x2.1 x2.2),
           law.make_own t2 a u x2.1 x2.2,
-          receive_is fs ch1 h.0 a u j x2.0 nm x2.1 x2.2,
+          receive_is fs ch1 x a u j x2.0 nm x2.1 x2.2,
           k,
-          h.6,
+          outside,
           (n2, refl),
         );
       })))

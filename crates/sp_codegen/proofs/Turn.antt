@@ -38,8 +38,9 @@ module _ {M : Type 0} (ex : Execution M) where
   turned_after : (c d : Config M) (end : ℕ) (base : List Entry) (below : List FramePair) (r : WorkOutcome source.Stop
       × Store)
       → C ex c d → Turned d end base below r → Turned c end base below r
-  turned_after c d end base below (Computed (source.Paused todo) o, s) h k =
-      (k.0, k.1, k.2, k.3, k.4, comes_on ops rel w code h k.5, k.6, k.7, k.8)
+  turned_after c d end base below (Computed (source.Paused todo) o, s) h
+      (to, st, n1, frames, before, comes, pauses, stands, rest) =
+      (to, st, n1, frames, before, comes_on ops rel w code h comes, pauses, stands, rest)
   turned_after c d end base below (Computed (source.Stops e) o, s) h k =
       made_after ex c d (After ex end base below) (Computed e o, s) h k
   turned_after c d end base below (EndsInFault f, s) h k = breaks_after ops rel w code h k
@@ -96,14 +97,15 @@ module _ {M : Type 0} (ex : Execution M) where
           → rel.Stand fs o s n → F ex end base below pc st fs todo
           → Turned (m.At pc st n) end base below (run (source.turn g due k todo) w o s))
           → Turned c end base below (then_run (source.rest_of_turn g due (source.turn g due k)) w r)
-      go (Computed (Stepped todo) o1, s1) q ih = turned_after c (m.At q.0 q.1 q.2) end base below
-          (run (source.turn g due k todo) w o1 s1) q.4 (ih todo q.0 q.1 q.3 o1 s1 q.2 q.5 q.6)
-      go (Computed (Ticked todo) o1, s1) q ih =
-          by_due todo o1 s1 q.0 q.1 q.2 q.3 q.4 q.5
-          (q.6 ∙ ap (λ b. if b then (if ops.due q.2 then Stops m.Pauses (m.At q.0 q.1 q.2) else
-          Goes (m.At q.0 q.1 q.2)) else Goes (m.At q.0 q.1 q.2))
-          (outside_follows ex end base below q.0 q.1 q.3 todo q.8 ∙ ob)) q.7 q.8
-          (ih todo q.0 q.1 q.3 o1 s1 q.2 q.7 q.8) (due o1) (law.due_same q.7)
+      go (Computed (Stepped todo) o1, s1) (to, st1, n1, fs1, comes, stands, left) ih =
+          turned_after c (m.At to st1 n1) end base below
+          (run (source.turn g due k todo) w o1 s1) comes (ih todo to st1 fs1 o1 s1 n1 stands left)
+      go (Computed (Ticked todo) o1, s1) (to, st1, n1, fs1, before, comes, pauses, stands, left) ih =
+          by_due todo o1 s1 to st1 n1 fs1 before comes
+          (pauses ∙ ap (λ b. if b then (if ops.due n1 then Stops m.Pauses (m.At to st1 n1) else
+          Goes (m.At to st1 n1)) else Goes (m.At to st1 n1))
+          (outside_follows ex end base below to st1 fs1 todo left ∙ ob)) stands left
+          (ih todo to st1 fs1 o1 s1 n1 stands left) (due o1) (law.due_same stands)
       go (Computed (Opened todo) o1, s1) q ih = q
       go (Computed (Forked bs todo) o1, s1) q ih = q
       go (Computed (Offered ch x cg todo) o1, s1) q ih = q

@@ -159,24 +159,26 @@ module _ {M : Type 0} (ex : Execution M) where
       settled end base below fs o s n pc stack (Leave ∷ todo) refl h tt
   settle_follows end base below fs o s n t pc stack (Break f ∷ todo) h =
       settled end base below fs o s n pc stack (Break f ∷ todo) refl h tt
-  settle_follows end base below fs o s n t pc stack (Again x hi down d ∷ todo) h =
+  settle_follows end base below fs o s n t pc stack (Again x hi down d ∷ todo)
+      (at, sc, under, slide, stack_is, placed, (local, test, tick, body, next), rest) =
       go (held z) refl (ops.read z.cell n) (law.load t z.address z.cell z.points z.may
-      (subst OneCell (sym z.sorted) tt)) at_end (settle_follows end base below fs o s n t (j + 1) h.2 todo h.7)
+      (subst OneCell (sym z.sorted) tt)) at_end (settle_follows end base below fs o s n t (j + 1) under todo rest)
     where
       q : ℕ
-      q = h.0
+      q = at
 
       j : ℕ
-      j = after_statement p (h.0 + 1 + 1) d
+      j = after_statement p (at + 1 + 1) d
 
       z : FP fs x n o s
-      z = for_place ex h.1 x t h.5 (inl refl) h.6.0
+      z = for_place ex sc x t placed (inl refl) local
 
-      at_end : next_step ops code (m.At j (m.Number hi ∷ h.2) n)
+      at_end : next_step ops code (m.At j (m.Number hi ∷ under) n)
           ≡ ordinal_in (ops.read z.cell n) (λ v. if is_before down v hi then
-          Goes (m.At (q + 1) (m.Number hi ∷ h.2) (ops.put z.cell (cell.Ordinal (next_value down v)) n)) else
-          Goes (m.At (j + 1) h.2 n))
-      at_end = next_one down j (q + 1) x h.2 n hi h.6.4 z.cell z.cell_at (law.has_one t z.address z.cell z.points z.may)
+          Goes (m.At (q + 1) (m.Number hi ∷ under) (ops.put z.cell (cell.Ordinal (next_value down v)) n)) else
+          Goes (m.At (j + 1) under n))
+      at_end = next_one down j (q + 1) x under n hi next z.cell z.cell_at
+          (law.has_one t z.address z.cell z.points z.may)
 
       peeked : HasKnownValue ops rel w code o s (peek g x) (held z)
       peeked = known_bind ops rel w code (λ y. bind (address_of g y) fetch) (AtAddress z.address) (held z) z.known
@@ -191,13 +193,13 @@ module _ {M : Type 0} (ex : Execution M) where
         place = pc;
         st = stack;
         comes = stays ops rel w code _;
-        follows = h;
+        follows = (at, sc, under, slide, stack_is, placed, (local, test, tick, body, next), rest);
         ready = (z, e);
       }
 
-      off : goes_on down hi (held z) ≡ false → next_step ops code (m.At j (m.Number hi ∷ h.2) n)
-          ≡ Goes (m.At (j + 1) h.2 n)
-          → Settled end base below fs o s n (j + 1) h.2 todo
+      off : goes_on down hi (held z) ≡ false → next_step ops code (m.At j (m.Number hi ∷ under) n)
+          ≡ Goes (m.At (j + 1) under n)
+          → Settled end base below fs o s n (j + 1) under todo
           → Settled end base below fs o s n pc stack (Again x hi down d ∷ todo)
       off e ge k = record {
         left = k.left;
@@ -209,29 +211,29 @@ module _ {M : Type 0} (ex : Execution M) where
             });
         place = k.place;
         st = k.st;
-        comes = comes_on ops rel w code (h.3.proof n)
-            (comes_on ops rel w code (goes ops rel w code (ap (λ y. next_step ops code (m.At j y n)) h.4 ∙ ge))
+        comes = comes_on ops rel w code (slide.proof n)
+            (comes_on ops rel w code (goes ops rel w code (ap (λ y. next_step ops code (m.At j y n)) stack_is ∙ ge))
             k.comes);
         follows = k.follows;
         ready = k.ready;
       }
 
       by_test : (a : ℤ) → held z ≡ Ordinal a
-          → next_step ops code (m.At j (m.Number hi ∷ h.2) n)
+          → next_step ops code (m.At j (m.Number hi ∷ under) n)
           ≡ (if is_before down a hi then Goes
-          (m.At (q + 1) (m.Number hi ∷ h.2) (ops.put z.cell (cell.Ordinal (next_value down a)) n)) else
-          Goes (m.At (j + 1) h.2 n)) → Settled end base below fs o s n (j + 1) h.2 todo → (b : Bool)
+          (m.At (q + 1) (m.Number hi ∷ under) (ops.put z.cell (cell.Ordinal (next_value down a)) n)) else
+          Goes (m.At (j + 1) under n)) → Settled end base below fs o s n (j + 1) under todo → (b : Bool)
           → is_before down a hi ≡ b → Settled end base below fs o s n pc stack (Again x hi down d ∷ todo)
       by_test a e ge k true eb = on (ap (goes_on down hi) e ∙ eb)
       by_test a e ge k false eb = off (ap (goes_on down hi) e ∙ eb)
-          (ge ∙ ap (λ b. if b then Goes (m.At (q + 1) (m.Number hi ∷ h.2)
-          (ops.put z.cell (cell.Ordinal (next_value down a)) n)) else Goes (m.At (j + 1) h.2 n)) eb) k
+          (ge ∙ ap (λ b. if b then Goes (m.At (q + 1) (m.Number hi ∷ under)
+          (ops.put z.cell (cell.Ordinal (next_value down a)) n)) else Goes (m.At (j + 1) under n)) eb) k
 
       go : (v : Value) → held z ≡ v → (c : Cell) → CellIs rel.Named (held z) c
-          → next_step ops code (m.At j (m.Number hi ∷ h.2) n)
+          → next_step ops code (m.At j (m.Number hi ∷ under) n)
           ≡ ordinal_in c (λ v. if is_before down v hi then
-          Goes (m.At (q + 1) (m.Number hi ∷ h.2) (ops.put z.cell (cell.Ordinal (next_value down v)) n)) else
-          Goes (m.At (j + 1) h.2 n)) → Settled end base below fs o s n (j + 1) h.2 todo
+          Goes (m.At (q + 1) (m.Number hi ∷ under) (ops.put z.cell (cell.Ordinal (next_value down v)) n)) else
+          Goes (m.At (j + 1) under n)) → Settled end base below fs o s n (j + 1) under todo
           → Settled end base below fs o s n pc stack (Again x hi down d ∷ todo)
       go Undefined e c oi ge k = on (ap (goes_on down hi) e)
       go (Chan y) e c oi ge k = on (ap (goes_on down hi) e)
@@ -239,8 +241,8 @@ module _ {M : Type 0} (ex : Execution M) where
       go (Ordinal a) e c oi ge k = by_test a e
           (ge ∙ cell_is a c (subst (λ y. CellIs rel.Named y c) e oi)
           (λ v. if is_before down v hi then Goes
-          (m.At (q + 1) (m.Number hi ∷ h.2) (ops.put z.cell (cell.Ordinal (next_value down v)) n)) else
-          Goes (m.At (j + 1) h.2 n))) k (is_before down a hi) refl
+          (m.At (q + 1) (m.Number hi ∷ under) (ops.put z.cell (cell.Ordinal (next_value down v)) n)) else
+          Goes (m.At (j + 1) under n))) k (is_before down a hi) refl
 
   -- the next value of a for loop
   again_makes : (end : ℕ) (base : List Entry) (below : List FramePair) (x : ℕ) (hi : ℤ) (down : Bool) (d : Stmt)
@@ -255,7 +257,7 @@ module _ {M : Type 0} (ex : Execution M) where
       → Ka end base below (m.At (after_statement p (q + 1 + 1) d) (m.Number hi ∷ st) n) o s
       (bind (place_of g x) (λ y. bind (read_at g y)
       (λ v. bind (ordinal v) (λ a. turn_of g x (next_value down a) hi down d todo))))
-  again_makes end base below x hi down d sc q st todo fs o s n t pl h k z gz =
+  again_makes end base below x hi down d sc q st todo fs o s n t pl (local, test, tick, body, next) k z gz =
       let ty = kind_of_sort (slice_get p.kinds z.address.kind) z.sorted in
       makes_known ex (λ y. bind (read_at g y) rest) (AtAddress z.address) z.known
       (makes_assoc ex (kind_at g z.address.kind) (λ u. bind (fetch z.address) (checked_value u)) rest
@@ -266,7 +268,7 @@ module _ {M : Type 0} (ex : Execution M) where
       (makes_by ex (ap (λ (y : Work Value). bind y rest)
       (checked_as ex ty.0 (held z) ∙ ap (λ y. read_as ex y (held z)) (sym (ap sort_by ty.1) ∙ z.sorted)))
       (go (held z) gz (ops.read z.cell n) (law.load t z.address z.cell z.points z.may (subst OneCell (sym z.sorted) tt))
-      (next_one down (after_statement p (q + 1 + 1) d) (q + 1) x st n hi h.4 z.cell z.cell_at
+      (next_one down (after_statement p (q + 1 + 1) d) (q + 1) x st n hi next z.cell z.cell_at
       (law.has_one t z.address z.cell z.points z.may))))))))
     where
       rest : Value → Work Action
@@ -292,7 +294,8 @@ module _ {M : Type 0} (ex : Execution M) where
       go (Chan y) e (cell.Channel a) oi ge = fails (Chan y) refl ge
       go (Parts y) e u oi ge = absurd oi
       go (Ordinal a) e u oi ge =
-          turn_makes ex end base below x (next_value down a) hi down d sc q st todo fs c o s n t pl h k z
+          turn_makes ex end base below x (next_value down a) hi down d sc q st todo fs c o s n t pl
+          (local, test, tick, body, next) k z
           (ge ∙ cell_is a u oi (λ a. if is_before down a hi then
           Goes (m.At (q + 1) (m.Number hi ∷ st) (ops.put z.cell (cell.Ordinal (next_value down a)) n)) else
           Goes (m.At (after_statement p (q + 1 + 1) d + 1) st n))
@@ -308,46 +311,52 @@ module _ {M : Type 0} (ex : Execution M) where
       → F end base below pc stack fs (item ∷ todo) → LoopMayGoOn fs o s n (item ∷ todo)
       → Ka end base below (m.At pc stack n) o s (item_action g call item todo)
   act_makes call ok bl end base below (Do d) pc stack todo fs o s n t h r =
-      makes_after ex (h.2.proof n)
-      (start_makes ex call ok bl end base below d h.1 h.0 stack todo fs o s n t h.3 h.4 h.5)
+      let (at, sc, slide, placed, stands, rest) = h in
+      makes_after ex (slide.proof n)
+      (start_makes ex call ok bl end base below d sc at stack todo fs o s n t placed stands rest)
   act_makes call ok bl end base below (First x lo hi down d) pc stack todo fs o s n t h r =
-      let z = for_place ex h.1 x t h.5 (inl refl) h.6.0 in
-      makes_after ex (h.3.proof n) (subst (λ y. Ka end base below (m.At h.0 y n) o s (turn_of g x lo hi down d todo))
-      (sym h.4)
-      (turn_makes ex end base below x lo hi down d h.1 h.0 h.2 todo fs (m.At h.0 (m.Number hi ∷ m.Number lo ∷ h.2) n) o
-      s n t h.5 h.6 h.7 z
-      (first_one ex down h.0 (after_statement p (h.0 + 1 + 1) d + 1) x h.2 n lo hi h.6.1 z.cell z.cell_at
+      let (at, sc, under, slide, stack_is, placed, turns, rest, in_range) = h in
+      let (local, test, _, _, _) = turns in
+      let z = for_place ex sc x t placed (inl refl) local in
+      makes_after ex (slide.proof n) (subst (λ y. Ka end base below (m.At at y n) o s (turn_of g x lo hi down d todo))
+      (sym stack_is)
+      (turn_makes ex end base below x lo hi down d sc at under todo fs (m.At at (m.Number hi ∷ m.Number lo ∷ under) n) o
+      s n t placed turns rest z
+      (first_one ex down at (after_statement p (at + 1 + 1) d + 1) x under n lo hi test z.cell z.cell_at
       (law.has_one t z.address z.cell z.points z.may)
-      ∙ ap (λ b. if b then Goes (m.At (h.0 + 1) (m.Number hi ∷ h.2) (ops.put z.cell (cell.Ordinal lo) n)) else
-      Goes (m.At (after_statement p (h.0 + 1 + 1) d + 1) h.2 n)) h.8)))
-  act_makes call ok bl end base below (Again x hi down d) pc stack todo fs o s n t h r =
-      makes_after ex (h.3.proof n) (subst (λ y. Ka end base below (m.At (after_statement p (h.0 + 1 + 1) d) y n) o s
-      (item_action g call (Again x hi down d) todo)) (sym h.4)
-      (again_makes end base below x hi down d h.1 h.0 h.2 todo fs o s n t h.5 h.6 h.7 r.0 r.1))
+      ∙ ap (λ b. if b then Goes (m.At (at + 1) (m.Number hi ∷ under) (ops.put z.cell (cell.Ordinal lo) n)) else
+      Goes (m.At (after_statement p (at + 1 + 1) d + 1) under n)) in_range)))
+  act_makes call ok bl end base below (Again x hi down d) pc stack todo fs o s n t h (place, goes_on_so) =
+      let (at, scopes, under, slide, stack_is, placed, turns, rest) = h in
+      makes_after ex (slide.proof n) (subst (λ y. Ka end base below (m.At (after_statement p (at + 1 + 1) d) y n) o s
+      (item_action g call (Again x hi down d) todo)) (sym stack_is)
+      (again_makes end base below x hi down d scopes at under todo fs o s n t placed turns rest place goes_on_so))
   act_makes call ok bl end base below (Test d e) pc stack todo fs o s n t h r =
-      makes_after ex (h.2.proof n)
-      (makes_bind ex _ (ordinal_gives ex call ok e h.1 (after_statement p (h.0 + 1) d) stack fs o s n t
-      (within (λ u. inl) h.3)
-      h.4.2) (λ v u o1 s1 n1 t1 x1.
+      let (at, sc, slide, placed, stands, rest) = h in
+      let (_, _, value, jump) = stands in
+      makes_after ex (slide.proof n)
+      (makes_bind ex _ (ordinal_gives ex call ok e sc (after_statement p (at + 1) d) stack fs o s n t
+      (within (λ u. inl) placed) value) (λ v u o1 s1 n1 t1 x1.
       makes_by ex (went_if ex (int_le v (pos 0)) (Do (Repeat d e) ∷ todo) todo)
-      (branch ex (After ex end base below) v (after_value (after_statement p (h.0 + 1) d) e) h.0 stack o1 s1 n1 _
-      _ h.4.3
+      (branch ex (After ex end base below) v (after_value (after_statement p (at + 1) d) e) at stack o1 s1 n1 _
+      _ jump
       (makes_went ex (Do (Repeat d e) ∷ todo) fs _ stack n1 (stays ops rel w code _) t1
-      (h.0, h.1, slides ex _ _, h.3, h.4, h.5))
-      (makes_went ex todo fs _ stack n1 (stays ops rel w code _) t1 h.5))))
+      (at, sc, slides ex _ _, placed, stands, rest))
+      (makes_went ex todo fs _ stack n1 (stays ops rel w code _) t1 rest))))
   act_makes call ok bl end base below Leave pc stack todo fs o s n t h r =
-      let c = law.close_frame (subst (λ y. rel.Stand y o s n) h.8 t) h.10 in
+      let (at, back, under, _, outer, slide, stack_is, returns, frames_are, rest, mine) = h in
+      let c = law.close_frame (subst (λ y. rel.Stand y o s n) frames_are t) mine in
       record {
         proof = (
-          h.1,
-          h.2,
+          back,
+          under,
           ops.close_frame n,
-          h.4,
-          comes_on ops rel w code (h.5.proof n)
-              (goes ops rel w code (at_one ex h.0 stack n h.7 ∙ ap (λ y. m.return_step ops code y n) h.6
+          outer,
+          comes_on ops rel w code (slide.proof n)
+              (goes ops rel w code (at_one ex at stack n returns ∙ ap (λ y. m.return_step ops code y n) stack_is
               ∙ holds_when (ops.may_close n) _ c.0)),
           c.1,
-          h.9,
+          rest,
         );
       }
   act_makes call ok bl end base below (Break f) pc stack todo fs o s n t h r = absurd h
@@ -358,18 +367,18 @@ module _ {M : Type 0} (ex : Execution M) where
       (o : LocalState) (s : Store)
       (n : M) → rel.Stand fs o s n → F end base below pc stack fs todo → LoopMayGoOn fs o s n todo
       → Ka end base below (m.At pc stack n) o s (action_by g go todo)
-  action_makes go ok bl end base below e ob [] pc stack fs o s n t h r =
+  action_makes go ok bl end base below e ob [] pc stack fs o s n t (slide, stack_is, frames_are) r =
       record {
         proof = (
           end,
           stack,
           n,
           fs,
-          h.0.proof n,
+          slide.proof n,
           at_one ex end stack n e,
           t,
-          (slides ex end stack, h.1, h.2),
-          ap is_in_no_function h.1 ∙ ob,
+          (slides ex end stack, stack_is, frames_are),
+          ap is_in_no_function stack_is ∙ ob,
         );
       }
   action_makes go ok bl end base below e ob (item ∷ todo) pc stack fs o s n t h r =

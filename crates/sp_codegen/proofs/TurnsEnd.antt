@@ -43,13 +43,13 @@ module _ (g : RunInput) (due : LocalState → Bool) where
           → Ended (run (source.turn g due k todo1) w o1 s1)) → (r : WorkOutcome Action × Store)
           → Result o.ticks (ActionFalls g K o.ticks (weights todo)) r.0
           → Ended (then_run (source.rest_of_turn g due (source.turn g due k)) w r)
-      go ih (Computed (Stepped todo1) o1, s1) d = ih todo1 o1 s1 d.1.1 (omega (arith, d.1.0, h))
-      go ih (Computed (Ticked todo1) o1, s1) d = by_due (due o1)
+      go ih (Computed (Stepped todo1) o1, s1) (_, (falls, light)) = ih todo1 o1 s1 light (omega (arith, falls, h))
+      go ih (Computed (Ticked todo1) o1, s1) (_, (falls, light)) = by_due (due o1)
         where
           by_due : (b : Bool) → Ended (run (if b then give (source.Paused todo1) else source.turn g due k todo1) w o1
               s1)
           by_due true = tt
-          by_due false = ih todo1 o1 s1 d.1.1 (omega (arith, d.1.0, h))
+          by_due false = ih todo1 o1 s1 light (omega (arith, falls, h))
       go ih (Computed (Opened todo1) o1, s1) d = tt
       go ih (Computed (Forked bs todo1) o1, s1) d = tt
       go ih (Computed (Offered c x cargo todo1) o1, s1) d = tt

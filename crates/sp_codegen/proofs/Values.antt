@@ -70,9 +70,9 @@ module _ {M : Type 0} (ex : Execution M) where
       (λ b u. (b.kind ≡ k) × rel.Points js b u × R b.spot × (location_of p (sources js) x ≡ Some b.spot))
       (address_of g pl)
   target_gives q k stack x ss (AtAddress b) a c t pi h = gives_give ops rel w code b a c t pi
-  target_gives q k stack x ss (Fixed z) a c t pi h =
-      let e = same_some h.0 pi.2.0 h.1 pi.2.1 in
-      absurd (subst NoIndex (ap (λ (y : Variable). y.role) e ∙ pi.2.2) h.2)
+  target_gives q k stack x ss (Fixed z) a c t (_, _, (v, known, role_is)) (target, target_known, no_index) =
+      let e = same_some target v target_known known in
+      absurd (subst NoIndex (ap (λ (y : Variable). y.role) e ∙ role_is) no_index)
 
   -- the input is variable 0
   pub at_console : (js : List FramePair) (x : ℕ) → (v : Variable) × (slice_get p.variables x ≡ Some v)
@@ -97,33 +97,34 @@ module _ {M : Type 0} (ex : Execution M) where
         (s : Store) (n : M) → rel.Stand js o s n → P ex sc js (In_form form)
         → FormAt p moves shares (CodeAt code) (HasFork code) (HasWords code) callable sc q k form
         → G ex js (m.At q stack n) o s (after_form q form) (Top ex stack) (St ex k) (form_value g call k form)
-    form_gives call ok k (Number v) sc q stack js o s n t pl h =
-        worked_gives ex (m.At q stack n) (q + 1) k stack n t (_, _, t) h.1 (Yields v) (at_one ex q stack n h.0)
-    form_gives call ok k (Read (Entire x ss)) sc q stack js o s n t pl h =
+    form_gives call ok k (Number v) sc q stack js o s n t pl (instr, result) =
+        worked_gives ex (m.At q stack n) (q + 1) k stack n t (_, _, t) result (Yields v) (at_one ex q stack n instr)
+    form_gives call ok k (Read (Entire x ss)) sc q stack js o s n t pl (place, read) =
         gives_bind ops rel w code (place_gives call ok (Entire x ss) k sc q stack js o s n t (within (λ u. inr) pl)
-        (may_see ex sc js x pl (inl refl)) h.0)
-        (λ z a o1 s1 n1 t1 pi. read_gives ex (after_selectors (q + 1) ss) x k stack z a n1 t1 pi h.1)
-    form_gives call ok k (Unary op a) sc q stack js o s n t pl h =
-        with_ordinal ex (kind_of a) stack _ _ h.1 (value_gives call ok a sc q stack js o s n t pl h.0)
-        (λ v o1 s1 n1 t1. unary_gives ex op (after_value q a) k stack v n1 t1 h.2 h.3)
-    form_gives call ok k (Binary op a b) sc q stack js o s n t pl h =
-        gives_bind ops rel w code (value_gives call ok a sc q stack js o s n t (within (λ u. inl) pl) h.0)
+        (may_see ex sc js x pl (inl refl)) place)
+        (λ z a o1 s1 n1 t1 pi. read_gives ex (after_selectors (q + 1) ss) x k stack z a n1 t1 pi read)
+    form_gives call ok k (Unary op a) sc q stack js o s n t pl (operand, sort_is, result, instr) =
+        with_ordinal ex (kind_of a) stack _ _ sort_is (value_gives call ok a sc q stack js o s n t pl operand)
+        (λ v o1 s1 n1 t1. unary_gives ex op (after_value q a) k stack v n1 t1 result instr)
+    form_gives call ok k (Binary op a b) sc q stack js o s n t pl (left, right, instr, sorts, result) =
+        gives_bind ops rel w code (value_gives call ok a sc q stack js o s n t (within (λ u. inl) pl) left)
         (λ u d o1 s1 n1 t1 x1.
         gives_bind ops rel w code (value_gives call ok b sc (after_value q a) (d ∷ stack) js o1 s1 n1 t1
-        (within (λ u. inr) pl) h.1) (λ v e o2 s2 n2 t2 x2.
+        (within (λ u. inr) pl) right) (λ v e o2 s2 n2 t2 x2.
         binary_gives ex op (after_value (after_value q a) b) k (kind_of a) (kind_of b) stack (sort p (kind_of a))
-        (sort p (kind_of b)) u v d e n2 t2 x1 x2 h.3 h.4 h.2))
-    form_gives call ok k (Apply f args) sc q stack js o s n t pl h =
-        gives_bind ops rel w code (actuals_gives call ok args h.0.formals sc q stack js o s n t (within (λ u. inr) pl)
-        h.1) (λ gs es o1 s1 n1 t1 x1.
-        ok.proof f args h.0 sc (after_actuals q args) k stack js o1 s1 n1 t1 pl h.2 h.3 h.4 gs es x1.0 x1.1)
-    form_gives call ok k (Standard f a) sc q stack js o s n t pl h =
-        with_ordinal ex (kind_of a) stack _ _ h.3 (value_gives call ok a sc q stack js o s n t pl h.2) (λ v o1 s1 n1 t1.
-        gives_known ops rel w code (λ ty. standard_op f ty v) h.0 (kind_known ex k k h.0 refl h.1)
-        (standard_gives ex f (after_value q a) k h.0 stack v n1 t1 h.4 h.5))
-    form_gives call ok k (AtInput f) sc q stack js o s n t pl h =
+        (sort p (kind_of b)) u v d e n2 t2 x1 x2 sorts result instr))
+    form_gives call ok k (Apply f args) sc q stack js o s n t pl (b, given, calls, answer, result) =
+        gives_bind ops rel w code (actuals_gives call ok args b.formals sc q stack js o s n t (within (λ u. inr) pl)
+        given) (λ gs es o1 s1 n1 t1 x1.
+        ok.proof f args b sc (after_actuals q args) k stack js o1 s1 n1 t1 pl calls answer result gs es x1.0 x1.1)
+    form_gives call ok k (Standard f a) sc q stack js o s n t pl (type, type_is, operand, sort_is, result, instr) =
+        with_ordinal ex (kind_of a) stack _ _ sort_is (value_gives call ok a sc q stack js o s n t pl operand)
+        (λ v o1 s1 n1 t1.
+        gives_known ops rel w code (λ ty. standard_op f ty v) type (kind_known ex k k type refl type_is)
+        (standard_gives ex f (after_value q a) k type stack v n1 t1 result instr))
+    form_gives call ok k (AtInput f) sc q stack js o s n t pl (instr, result) =
         gives_known ops rel w code (input_op f) (rest_of ex s) (left_known ex)
-        (input_gives ex f q k stack n t (input_read sc js pl refl) h.1 h.0)
+        (input_gives ex f q k stack n t (input_read sc js pl refl) result instr)
 
     pub place_gives : (call : Calls) → CallsMeet call
         → (v : Var) (k : ℕ) (sc : List Scope) (q : ℕ) (stack : List Entry) (js : List FramePair) (o : LocalState)
@@ -132,9 +133,9 @@ module _ {M : Type 0} (ex : Execution M) where
         → PlaceAt p moves shares (CodeAt code) (HasFork code) (HasWords code) callable sc q v k
         → G ex js (m.At q stack n) o s (after_var q v) (PlaceTop ex stack)
         (PlaceIs ex js (variable_of v) k) (place g call v)
-    place_gives call ok (Entire x ss) k sc q stack js o s n t pl may h =
-        gives_bind ops rel w code (var_gives ex sc q x h.0 stack n t pl.chain may h.1)
-        (λ z a o1 s1 n1 t1 pi. selected_gives call ok ss x h.0 k sc (q + 1) stack z a js o1 s1 n1 t1 pl pi h.2)
+    place_gives call ok (Entire x ss) k sc q stack js o s n t pl may (whole, variable, selected) =
+        gives_bind ops rel w code (var_gives ex sc q x whole stack n t pl.chain may variable)
+        (λ z a o1 s1 n1 t1 pi. selected_gives call ok ss x whole k sc (q + 1) stack z a js o1 s1 n1 t1 pl pi selected)
 
     selected_gives : (call : Calls) → CallsMeet call
         → (ss : Selectors) (x k k2 : ℕ) (sc : List Scope) (q : ℕ) (stack : List Entry) (z : Place) (a : Ptr)
@@ -145,17 +146,21 @@ module _ {M : Type 0} (ex : Execution M) where
         (component_place g call ss z)
     selected_gives call ok Whole x k k2 sc q stack z a js o s n t pl pi h =
         gives_give ops rel w code z a (stays ops rel w code _) t (subst (λ y. PlaceIs ex js x y z a) h pi)
-    selected_gives call ok (Select (Index e) rest) x k k2 sc q stack z a js o s n t pl pi h =
-        with_ordinal ex (kind_of e) (m.Pointer a ∷ stack) _ _ h.6
-        (value_gives call ok e sc q (m.Pointer a ∷ stack) js o s n t (within (λ u. inl) pl) h.5) (λ v o1 s1 n1 t1.
-        gives_bind ops rel w code (indexed_gives ex (after_value q e) x k h.0 h.1 h.2 h.3 stack z a v n1 t1 pi h.4 h.7)
+    selected_gives call ok (Select (Index e) rest) x k k2 sc q stack z a js o s n t pl pi
+        (low, high, index, element, type_is, value, sort_is, instr, further) =
+        with_ordinal ex (kind_of e) (m.Pointer a ∷ stack) _ _ sort_is
+        (value_gives call ok e sc q (m.Pointer a ∷ stack) js o s n t (within (λ u. inl) pl) value) (λ v o1 s1 n1 t1.
+        gives_bind ops rel w code (indexed_gives ex (after_value q e) x k low high index element stack z a v n1 t1 pi
+        type_is instr)
         (λ z2 a2 o2 s2 n2 t2 pi2.
-        selected_gives call ok rest x h.3 k2 sc (after_value q e + 1) stack z2 a2 js o2 s2 n2 t2 (within (λ u. inr) pl)
-        pi2 h.8))
-    selected_gives call ok (Select (Field f) rest) x k k2 sc q stack z a js o s n t pl pi h =
-        gives_bind ops rel w code (fielded_gives ex q x k f h.2 h.1 h.0 stack z a n t pi h.3 h.4 h.5)
+        selected_gives call ok rest x element k2 sc (after_value q e + 1) stack z2 a2 js o2 s2 n2 t2
+        (within (λ u. inr) pl)
+        pi2 further))
+    selected_gives call ok (Select (Field f) rest) x k k2 sc q stack z a js o s n t pl pi
+        (fields, name, type, fields_are, field_is, instr, further) =
+        gives_bind ops rel w code (fielded_gives ex q x k f type name fields stack z a n t pi fields_are field_is instr)
         (λ z2 a2 o2 s2 n2 t2 pi2.
-        selected_gives call ok rest x h.2 k2 sc (q + 1) stack z2 a2 js o2 s2 n2 t2 pl pi2 h.6)
+        selected_gives call ok rest x type k2 sc (q + 1) stack z2 a2 js o2 s2 n2 t2 pl pi2 further)
 
     pub actuals_gives : (call : Calls) → CallsMeet call
         → (args : Actuals) (xs : List ℕ) (sc : List Scope) (q : ℕ) (stack : List Entry) (js : List FramePair)
@@ -169,22 +174,25 @@ module _ {M : Type 0} (ex : Execution M) where
         gives_give ops rel w code [] [] (stays ops rel w code _) t (tt, tt)
     actuals_gives call ok Nothing (x ∷ xs) sc q stack js o s n t pl h = absurd h
     actuals_gives call ok (Pass a rest) [] sc q stack js o s n t pl h = absurd h
-    actuals_gives call ok (Pass (ByValue e) rest) (x ∷ xs) sc q stack js o s n t pl h =
-        gives_bind ops rel w code (value_gives call ok e sc q stack js o s n t (within (λ u. inl) pl) h.0)
+    actuals_gives call ok (Pass (ByValue e) rest) (x ∷ xs) sc q stack js o s n t pl
+        (value, (formal, known, kind_is, role_is), others) =
+        gives_bind ops rel w code (value_gives call ok e sc q stack js o s n t (within (λ u. inl) pl) value)
         (λ v en o1 s1 n1 t1 x1.
         gives_bind ops rel w code (actuals_gives call ok rest xs sc (after_value q e) (en ∷ stack) js o1 s1 n1 t1
-        (within (λ u. inr) pl) h.2) (λ gs es o2 s2 n2 t2 x2.
+        (within (λ u. inr) pl) others) (λ gs es o2 s2 n2 t2 x2.
         gives_give ops rel w code (ValueOf v ∷ gs) (en ∷ es) (stays ops rel w code _) t2
-        (((h.1.0, h.1.1, (h.1.3, subst (λ y. Stood rel p (sort p y) y v en) (sym h.1.2) x1)), x2.0), x2.1)))
-    actuals_gives call ok (Pass (ByReference (Entire y ss)) rest) (x ∷ xs) sc q stack js o s n t pl h =
-        gives_bind ops rel w code (place_gives call ok (Entire y ss) h.0 sc q stack js o s n t
-        (within (λ u a. inl (inr a)) pl) (may_aim ex sc js y ss pl (inl (inl refl)) h.2) h.1) (λ z a o1 s1 n1 t1 pi.
-        gives_bind ops rel w code (target_gives (after_selectors (q + 1) ss) h.0 stack y ss z a (stays ops rel w code _)
-        t1 pi h.2) (λ b u o2 s2 n2 t2 x2.
+        (((formal, known, (role_is, subst (λ y. Stood rel p (sort p y) y v en) (sym kind_is) x1)), x2.0), x2.1)))
+    actuals_gives call ok (Pass (ByReference (Entire y ss)) rest) (x ∷ xs) sc q stack js o s n t pl
+        (kd, place, target, (formal, known, kind_is, role_is), others) =
+        gives_bind ops rel w code (place_gives call ok (Entire y ss) kd sc q stack js o s n t
+        (within (λ u a. inl (inr a)) pl) (may_aim ex sc js y ss pl (inl (inl refl)) target) place)
+        (λ z a o1 s1 n1 t1 pi.
+        gives_bind ops rel w code (target_gives (after_selectors (q + 1) ss) kd stack y ss z a (stays ops rel w code _)
+        t1 pi target) (λ b u o2 s2 n2 t2 (is_kind, points, _, located).
         gives_bind ops rel w code (actuals_gives call ok rest xs sc (after_selectors (q + 1) ss) (m.Pointer u ∷ stack)
-        js o2 s2 n2 t2 (within (λ u. inr) pl) h.4) (λ gs es o3 s3 n3 t3 x3.
+        js o2 s2 n2 t2 (within (λ u. inr) pl) others) (λ gs es o3 s3 n3 t3 x3.
         gives_give ops rel w code (PlaceOf b ∷ gs) (m.Pointer u ∷ es) (stays ops rel w code _) t3
-        (((h.3.0, h.3.1, (h.3.3, x2.0 ∙ sym h.3.2, (u, refl, x2.1))), x3.0), (x2.3, x3.1)))))
+        (((formal, known, (role_is, is_kind ∙ sym kind_is, (u, refl, points))), x3.0), (located, x3.1)))))
 
   -- the address of a target
   pub address_gives : (call : Calls) → CallsMeet call

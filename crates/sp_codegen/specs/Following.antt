@@ -52,10 +52,8 @@ pub record RunsToFault {M : Type 0} (ops : Ops M) (rel : Relation M) (code : Cod
 abbrev pub cells_in : Entry → List Cell
 cells_in (m.Number n) = cell.Ordinal n ∷ []
 cells_in (m.Chan c) = cell.Channel c ∷ []
-cells_in (m.Pointer a) = []
 cells_in (m.Cells cs) = cs
-cells_in (m.Link r) = []
-cells_in (m.Reply r) = []
+cells_in _ = []
 
 -- at the stop, the piece of a receiver's target is its own
 abbrev pub IsOwned : {M : Type 0} → Ops M → Stop → M → Type 0

@@ -7,3 +7,5 @@ pub mod Standing
 pub mod TurnAgrees
 pub mod ProcessInfos
 pub mod Parents
+pub mod CompiledRuns
+pub mod Children

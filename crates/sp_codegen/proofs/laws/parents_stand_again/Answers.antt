@@ -2,17 +2,17 @@ use Rattle.sp_codegen.proofs.BirthLaws.{same_stands, parent_joins, parent_goes_o
 use Rattle.sp_codegen.proofs.laws.parents_stand_again.Goals as goal
 
 pub returns-clause-forks : goal.returns-clause-forks
-returns-clause-forks c = λ g moves shares pause life js o s n hs tree stands known dry. parent_joins g moves shares
-    pause tree life js o s n hs stands known dry
+returns-clause-forks c = λ r life js o s n hs stands known dry. parent_joins r.input r.moves r.shares r.pause
+    r.compilable life js o s n hs stands known dry
 
 pub returns-clause-returned : goal.returns-clause-returned
-returns-clause-returned c = λ g moves shares pause life child hs back js ks o oc s n nc m tree ec ep joins stands gives.
-    child_gives_back g moves shares pause tree life hs back js o s n m child ks oc nc ec ep joins stands gives
+returns-clause-returned c = λ r life child hs back js ks o oc s n nc m ec ep joins stands gives. child_gives_back
+    r.input r.moves r.shares r.pause r.compilable life hs back js o s n m child ks oc nc ec ep joins stands gives
 
 pub returns-clause-joined : goal.returns-clause-joined
-returns-clause-joined c = λ g moves shares pause life hs back js o s n m tree none joins. parent_goes_on g moves shares
-    pause tree life hs back js o s n m none joins
+returns-clause-joined c = λ r life hs back js o s n m none joins. parent_goes_on r.input r.moves r.shares r.pause
+    r.compilable life hs back js o s n m none joins
 
 pub returns-clause-elsewhere : goal.returns-clause-elsewhere
-returns-clause-elsewhere c = λ g moves shares pause life js o s t n tree stands same. same_stands g moves shares pause
-    tree life js o s t n stands same
+returns-clause-elsewhere c = λ r life js o s t n stands same. same_stands r.input r.moves r.shares r.pause r.compilable
+    life js o s t n stands same

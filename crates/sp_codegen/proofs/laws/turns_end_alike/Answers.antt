@@ -2,13 +2,13 @@ use Rattle.sp_codegen.proofs.ProcessInfoLaws.{turn_alike, turn_over, turn_safe}
 use Rattle.sp_codegen.proofs.laws.turns_end_alike.Goals as goal
 
 pub returns-clause-turn : goal.returns-clause-turn
-returns-clause-turn c = λ g moves shares pause life h end base below js todo pc stack o s n k tree it. turn_alike g
-    moves shares pause life tree h end base below js todo pc stack o s n it k
+returns-clause-turn c = λ r t steps. turn_alike r.input r.moves r.shares r.pause t.life r.compilable t.laws t.end t.base
+    t.below t.frames t.todo t.place t.stack t.own t.store t.memory t.stands steps
 
 pub returns-clause-over : goal.returns-clause-over
-returns-clause-over c = λ g moves shares pause life h end base below js todo pc stack o s n tree it light. turn_over g
-    moves shares pause life tree h end base below js todo pc stack o s n it light
+returns-clause-over c = λ r t light. turn_over r.input r.moves r.shares r.pause t.life r.compilable t.laws t.end t.base
+    t.below t.frames t.todo t.place t.stack t.own t.store t.memory t.stands light
 
 pub returns-clause-safe : goal.returns-clause-safe
-returns-clause-safe c = λ g moves shares pause life h end base below js todo pc stack o s n tree it light. turn_safe g
-    moves shares pause life tree h end base below js todo pc stack o s n it light
+returns-clause-safe c = λ r t light. turn_safe r.input r.moves r.shares r.pause t.life r.compilable t.laws t.end t.base
+    t.below t.frames t.todo t.place t.stack t.own t.store t.memory t.stands light
