@@ -87,51 +87,58 @@ module _ {M : Type 0} (g : RunInput) (code : Code) (moves shares : Stmt → List
   pub again : (end : ℕ) (base : List Entry) (below : List FramePair) (pc : ℕ) (stack : List Entry) (js : List FramePair)
       (todo : List Item) → CodeFollows before end base below pc stack js todo
       → CodeFollows now end base below pc stack js todo
-  again end base below pc stack js [] h = (slides_again h.0, h.1, h.2)
-  again end base below pc stack js (Do s ∷ todo) h =
-      (h.0, h.1, slides_again h.2, h.3, h.4, again end base below (after_statement g.program h.0 s) stack js todo h.5)
-  again end base below pc stack js (First x lo hi d s ∷ todo) h = (
-    h.0,
-    h.1,
-    h.2,
-    slides_again h.3,
-    h.4,
-    h.5,
-    h.6,
-    again end base below (after_statement g.program (h.0 + 1 + 1) s + 1) h.2 js todo h.7,
-    h.8,
+  again end base below pc stack js [] (slides, empty, frames) = (slides_again slides, empty, frames)
+  again end base below pc stack js (Do s ∷ todo) (q, sc, slides, placed, stands, rest) = (
+    q,
+    sc,
+    slides_again slides,
+    placed,
+    stands,
+    again end base below (after_statement g.program q s) stack js todo
+        rest,
   )
-  again end base below pc stack js (Again x hi d s ∷ todo) h = (
-    h.0,
-    h.1,
-    h.2,
-    slides_again h.3,
-    h.4,
-    h.5,
-    h.6,
-    again end base below (after_statement g.program (h.0 + 1 + 1) s + 1) h.2 js todo h.7,
+  again end base below pc stack js (First x lo hi d s ∷ todo) (q, sc, st, slides, top, placed, turns, rest, some) = (
+    q,
+    sc,
+    st,
+    slides_again slides,
+    top,
+    placed,
+    turns,
+    again end base below (after_statement g.program (q + 1 + 1) s + 1) st js todo rest,
+    some,
   )
-  again end base below pc stack js (Test s e ∷ todo) h = (
-    h.0,
-    h.1,
-    slides_again h.2,
-    h.3,
-    h.4,
-    again end base below (after_statement g.program h.0 (Repeat s e)) stack js
-        todo h.5,
+  again end base below pc stack js (Again x hi d s ∷ todo) (q, sc, st, slides, top, placed, turns, rest) = (
+    q,
+    sc,
+    st,
+    slides_again slides,
+    top,
+    placed,
+    turns,
+    again end base below (after_statement g.program (q + 1 + 1) s + 1) st js todo rest,
   )
-  again end base below pc stack js (Leave ∷ todo) h = (
-    h.0,
-    h.1,
-    h.2,
-    h.3,
-    h.4,
-    slides_again h.5,
-    h.6,
-    h.7,
-    h.8,
-    again end base below h.1 h.2 h.4 todo h.9,
-    mine h.3 h.4 h.10,
+  again end base below pc stack js (Test s e ∷ todo) (q, sc, slides, placed, stands, rest) = (
+    q,
+    sc,
+    slides_again slides,
+    placed,
+    stands,
+    again end base below (after_statement g.program q (Repeat s e)) stack js
+        todo rest,
+  )
+  again end base below pc stack js (Leave ∷ todo) (q, r, st, f, fs, slides, top, returns, split, rest, own) = (
+    q,
+    r,
+    st,
+    f,
+    fs,
+    slides_again slides,
+    top,
+    returns,
+    split,
+    again end base below r st fs todo rest,
+    mine f fs own,
   )
   again end base below pc stack js (Break x ∷ todo) h = h
 

@@ -205,9 +205,10 @@ module _ (G : RunContext) (lf : BirthRights) (kids : ℕ → ℕ → BirthRights
             child new_name table refl refl value k h jh j rest x v e hi (inl (aimed_right Input a.1))
             (ap (λ (y : Spot). y.frame) a.0)
         no (inr (inl a)) = let bad : 0 ≡ 1 = ap (λ (y : Spot). y.variable) a.0 in absurd (omega (arith, bad))
-        no (inr (inr a)) = no_index_spot G.g G.code w (Named G) (Called G) Wr Rd lf.J lf.low (length lf.below) lf.born
+        no (inr (inr (owner, number, variable, live, _, reads, spot_is))) =
+            no_index_spot G.g G.code w (Named G) (Called G) Wr Rd lf.J lf.low (length lf.below) lf.born
             since G.pause lf.moved G.formed G.laid G.free f.reads G.moves G.shares G.sets t z.statement sound unread
-            child new_name table refl refl value k a.0 a.1 a.2 a.3 a.5 h jh j rest x v e hi (sym a.6)
+            child new_name table refl refl value k owner number variable live reads h jh j rest x v e hi (sym spot_is)
 
     input_moved : Rd Input → In position_at.spot handing.moved → life.R Input
     input_moved may i = by (moves_so position_at.spot i)
@@ -217,9 +218,11 @@ module _ (G : RunContext) (lf : BirthRights) (kids : ℕ → ℕ → BirthRights
             table refl refl value k position_at.spot → life.R Input
         by (inl a) = aimed_used Input a.1
         by (inr (inl a)) = let bad : 0 ≡ 1 = ap (λ (y : Spot). y.variable) a.0 in absurd (omega (arith, bad))
-        by (inr (inr a)) = absurd (no_console_spot G.g G.code w (Named G) (Called G) Wr Rd lf.J lf.low (length lf.below)
+        by (inr (inr (owner, number, variable, live, _, reads, spot_is))) =
+            absurd (no_console_spot G.g G.code w (Named G) (Called G) Wr Rd lf.J lf.low (length lf.below)
             lf.born since G.pause lf.moved G.formed G.laid G.free f.reads G.moves G.shares G.sets t z.statement sound
-            unread child new_name table refl refl value k 0 a.0 a.1 a.2 a.3 a.5 (inl may) (omega arith) (sym a.6))
+            unread child new_name table refl refl value k 0 owner number variable live reads (inl may) (omega arith)
+            (sym spot_is))
 
     output_moved : Rd Output → In output_spot handing.moved → life.R Output
     output_moved may i = by (moves_so output_spot i)
@@ -229,9 +232,11 @@ module _ (G : RunContext) (lf : BirthRights) (kids : ℕ → ℕ → BirthRights
             table refl refl value k output_spot → life.R Output
         by (inl a) = let bad : 1 ≡ 0 = ap (λ (y : Spot). y.variable) a.0 in absurd (omega (arith, bad))
         by (inr (inl a)) = aimed_used Output a.1
-        by (inr (inr a)) = absurd (no_console_spot G.g G.code w (Named G) (Called G) Wr Rd lf.J lf.low (length lf.below)
+        by (inr (inr (owner, number, variable, live, _, reads, spot_is))) =
+            absurd (no_console_spot G.g G.code w (Named G) (Called G) Wr Rd lf.J lf.low (length lf.below)
             lf.born since G.pause lf.moved G.formed G.laid G.free f.reads G.moves G.shares G.sets t z.statement sound
-            unread child new_name table refl refl value k 1 a.0 a.1 a.2 a.3 a.5 (inr may) (omega arith) (sym a.6))
+            unread child new_name table refl refl value k 1 owner number variable live reads (inr may) (omega arith)
+            (sym spot_is))
 
     abbrev Keeps_spot : Spot → Type 0
     Keeps_spot a = (life.R Input × (a ≡ position_at.spot)) ⊎ ((life.R Output × (a ≡ output_spot))
@@ -247,7 +252,8 @@ module _ (G : RunContext) (lf : BirthRights) (kids : ℕ → ℕ → BirthRights
             table refl refl value k a → Keeps_spot a
         by (inl b) = inl (aimed_used Input b.1, b.0)
         by (inr (inl b)) = inr (inl (aimed_used Output b.1, b.0))
-        by (inr (inr b)) = inr (inr (b.0, b.1, b.2, b.3, inr (aimed_used (Cell b.0 b.1 b.2) b.4), b.6))
+        by (inr (inr (owner, number, variable, live, aimed, _, spot_is))) =
+            inr (inr (owner, number, variable, live, inr (aimed_used (Cell owner number variable) aimed), spot_is))
 
     pub handed_facts : Handed G lf kids q js n life child
     handed_facts = record {

@@ -95,14 +95,11 @@ contention_meets lim t stop e q r = by_stop lim t stop e
 
 found : (lim : Limits) (t : System Plain) (stop : Stop) (e : Config (Memory Plain)) → MeetsItsWay t stop
     → t.entries < lim.entries → fault_of lim t (Stopped stop e) ≡ Some fault.F6
-found lim t (Forks tb v n) e m l = absurd m
-found lim t (Opens a) e m l = absurd m
-found lim t (Sends c k cs) e m l = ap (λ b. first_fault (if b then Some fault.F15 else None)
-    (clash_of t (Sends c k cs))) (less lim.entries t.entries l) ∙ ap (λ o. clash_by way.Send k o) m.3
-found lim t (Receives c k a) e m l = ap (λ b. first_fault (if b then Some fault.F15 else None)
-    (clash_of t (Receives c k a))) (less lim.entries t.entries l) ∙ ap (λ o. clash_by way.Receive k o) m.3
-found lim t Ends e m l = absurd m
-found lim t Pauses e m l = absurd m
+found lim t (Sends c k cs) e (_, _, _, pends) l = ap (λ b. first_fault (if b then Some fault.F15 else None)
+    (clash_of t (Sends c k cs))) (less lim.entries t.entries l) ∙ ap (λ o. clash_by way.Send k o) pends
+found lim t (Receives c k a) e (_, _, _, pends) l = ap (λ b. first_fault (if b then Some fault.F15 else None)
+    (clash_of t (Receives c k a))) (less lim.entries t.entries l) ∙ ap (λ o. clash_by way.Receive k o) pends
+found _ _ _ _ m _ = absurd m
 
 pub meets_contention : (lim : Limits) (t : System Plain) (stop : Stop) (e : Config (Memory Plain)) → t.faulted ≡ false
     → MeetsItsWay t stop → t.entries < lim.entries → event_of lim t (Stopped stop e) ≡ event.Fault fault.F6

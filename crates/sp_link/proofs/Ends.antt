@@ -39,25 +39,35 @@ use Rattle.sp_code.specs.System as sys
 use Rattle.sp_link.proofs.Journal.{IsOpen, now_by}
 use Rattle.sp_link.proofs.KernelSteps.{kernel_next, kernel_says, stand_dead}
 use Rattle.sp_link.proofs.OneChanges.{here, inv_local, since_other}
-use Rattle.sp_link.proofs.Pauses.{Entry_of, Meant, Machined, kids, turn_is, after_no_fault, way_of_step}
+use Rattle.sp_link.proofs.Pauses.{Entry_of, Meant, turn_is, after_no_fault, way_of_step}
 use Rattle.sp_link.proofs.Rejoins.{memory_after, joins_on, runs_on, one_fewer, all_over}
-use Rattle.sp_link.proofs.Relation.{RunContext, RightsOfAll, W_of, R_of, St, ProcessMatches, Joined, Performs_all}
+use Rattle.sp_link.proofs.Relation.{W_of, R_of, St, ProcessMatches, Joined, Performs_all}
 use Rattle.sp_link.proofs.Relation.{Linked, Began, run_is}
 use Rattle.sp_link.proofs.Relation.{ops, left_of}
 use Rattle.sp_link.proofs.OthersStay.{does_stay}
 use Rattle.sp_meaning.proofs.SilentActions.{IsDead}
+use Rattle.sp_journal.proofs.BirthLaws.{Born}
 use Rattle.sp_link.proofs.AtStop.{same_but_dead, w, p1, alone_at, known_at, rights_at, ended_at, other_name, does_at}
+use Rattle.sp_link.proofs.Relation.{AtStop}
+use Rattle.sp_link.proofs.Pauses.{MatchesNow, EndsAt}
 
-module _ (G : RunContext) (lv : RightsOfAll G) (c : Course) (s : StateOf G.g) (u : System Plain) (l : Linked G lv c s u)
-    (i : ℕ)
-    (d : Config (Memory Plain)) (at_i : u.condition i ≡ sys.Working d)
-    (z : ProcessMatches G (lv (w G lv c s u l i d at_i)) (kids G lv c s u l i d at_i) (w G lv c s u l i d at_i)
-    (c.since (w G lv c s u l i d at_i)) (p1 G lv c s u l i d at_i) s.store d)
-    (o : LocalState) (m : Store) (x : Meant G lv c s u l i d at_i z (Computed (source.Stops actions.Ended) o, m))
-    (t : Machined G lv c s u l i d at_i z (Computed (source.Stops actions.Ended) o, m))
-    (no_fault : u.faulted ≡ false) where
+module _ (at_stop : AtStop) (z : MatchesNow at_stop)
+    (o : LocalState) (m : Store) (x : Meant at_stop z (Computed (source.Stops actions.Ended) o, m))
+    (t : EndsAt at_stop z o m)
+    (no_fault : at_stop.system.faulted ≡ false) where
+  open at_stop use {
+    run as G,
+    lives as lv,
+    course as c,
+    state as s,
+    system as u,
+    linked as l,
+    number as i,
+    configuration as d,
+  }
+
   abbrev v : Name
-  v = w G lv c s u l i d at_i
+  v = w at_stop
 
   abbrev r : WorkOutcome Action × Store
   r = (Computed actions.Ended o, m)
@@ -81,7 +91,7 @@ module _ (G : RunContext) (lv : RightsOfAll G) (c : Course) (s : StateOf G.g) (u
   same a e = at_other name_test x.state.condition v a Ended (λ h. e (sym h))
 
   known_then : StateKeeps G.g x.state
-  known_then = known_at G lv c s u l i d at_i z r x happenings.Ended said
+  known_then = known_at at_stop z r x happenings.Ended said
 
   known_now : StateKeeps G.g t1
   known_now = record {
@@ -91,7 +101,7 @@ module _ (G : RunContext) (lv : RightsOfAll G) (c : Course) (s : StateOf G.g) (u
   }
 
   rights_then : Inv G.g.program (W_of G lv) (R_of G lv) x.state.condition x.state.forks
-  rights_then = rights_at G lv c s u l i d at_i z r x happenings.Ended said
+  rights_then = rights_at at_stop z r x happenings.Ended said
 
   rights_now : Inv G.g.program (W_of G lv) (R_of G lv) t1.condition t1.forks
   rights_now = inv_local G (W_of G lv)
@@ -105,45 +115,49 @@ module _ (G : RunContext) (lv : RightsOfAll G) (c : Course) (s : StateOf G.g) (u
   does_other : (j : ℕ) → j < u.births.processes → i ≢ j → ((k n : ℕ) → (k, n) ∷ G.births.name j ≢ v)
       → Performs_all G lv (G.births.name j) c1 t1 (u.births.opens j) (u.condition j)
   does_other j lt e far =
-      let apart = other_name G lv c s u l i d at_i z r x happenings.Ended said j lt e in
+      let apart = other_name at_stop z r x happenings.Ended said j lt e in
       does_stay G lv x.state t1 known_then.sound rights_then.fair v
-      (alone_at G lv c s u l i d at_i z r x happenings.Ended said) (λ a. inl refl) (G.births.name j) apart
+      (alone_at at_stop z r x happenings.Ended said) (λ a. inl refl) (G.births.name j) apart
       (same (G.births.name j) apart)
       (λ k n. ap (λ a. has_ended a) (same ((k, n) ∷ G.births.name j) (far k n)))
       (λ k n h e. h (sym (same ((k, n) ∷ G.births.name j) (far k n)) ∙ e)) c c1
       (since_other c v (ticks_of G.g t1 v) (G.births.name j) apart) refl (λ h. h) (u.births.opens j) (u.condition j)
-      (does_at G lv c s u l i d at_i z r x happenings.Ended said j lt e)
+      (does_at at_stop z r x happenings.Ended said j lt e)
 
   -- what it leaves
   abbrev n1 : Memory Plain
-  n1 = record (t.2) { since = (t.2).ticks }
+  n1 = record (t.memory) { since = t.memory.ticks }
 
   abbrev left_it : Config (Memory Plain)
-  left_it = At t.0 t.1 n1
+  left_it = At t.pc t.stack n1
 
   abbrev tn : Turn (Memory Plain)
-  tn = Stopped machine.Ends (At t.0 t.1 t.2)
+  tn = Stopped machine.Ends (At t.pc t.stack t.memory)
 
-  tn_is : IsTurn (ops G) G.code d (Stopped machine.Ends (At t.0 t.1 t.2))
-  tn_is = turn_is G lv c s u l i d at_i z (Stopped machine.Ends (At t.0 t.1 t.2)) (At t.0 t.1 t.2, t.4, t.5)
+  tn_is : IsTurn (ops G) G.code d (Stopped machine.Ends (At t.pc t.stack t.memory))
+  tn_is = turn_is at_stop z (Stopped machine.Ends (At t.pc t.stack t.memory)) (
+    At t.pc t.stack t.memory,
+    t.comes,
+    t.stops,
+  )
 
-  stood : St G (lv v) (λ a b. lv ((a, b) ∷ v)) v (p1 G lv c s u l i d at_i).who (c.since v) (lv v).below o x.state.store
-      t.2
-  stood = subst (λ y. St G (lv v) (λ a b. lv ((a, b) ∷ v)) v (p1 G lv c s u l i d at_i).who (c.since v) y o
+  stood : St G (lv v) (λ a b. lv ((a, b) ∷ v)) v (p1 at_stop).who (c.since v) (lv v).below o x.state.store
+      t.memory
+  stood = subst (λ y. St G (lv v) (λ a b. lv ((a, b) ∷ v)) v (p1 at_stop).who (c.since v) y o
       x.state.store
-      t.2) (t.7).2
-      (stand_dead G (lv v) (λ a b. lv ((a, b) ∷ v)) v t.6 x.state.store
+      t.memory) t.frames_are
+      (stand_dead G (lv v) (λ a b. lv ((a, b) ∷ v)) v t.stand x.state.store
       (λ a. subst (λ y. (x.state.store a ≡ m a) ⊎ IsDead y a) lengths
-      (same_but_dead G lv c s u l i d at_i z actions.Ended o m x tt a)))
+      (same_but_dead at_stop z actions.Ended o m x tt a)))
     where
       count : (js : List Rattle.sp_codegen.specs.FramePairs.FramePair)
           → length (Rattle.sp_codegen.specs.FramePairs.sources js) ≡ length js
       count js = Rattle.sp_codegen.proofs.FramePairs.sources_length js
 
-      lengths : length o.frames ≡ length t.3
-      lengths = ap (λ y. length y) (t.6).frames.sources_are ∙ count t.3
+      lengths : length o.frames ≡ length t.frames
+      lengths = ap (λ y. length y) t.stand.frames.sources_are ∙ count t.frames
 
-  moved_here : (t.2).store.moved ≡ (lv v).moved
+  moved_here : t.memory.store.moved ≡ (lv v).moved
   moved_here = stood.moved_is
 
   no_absent : ◌≡◌ {A = Condition Process LocationContent Address} Ended Absent → ⊥
@@ -191,7 +205,7 @@ module _ (G : RunContext) (lv : RightsOfAll G) (c : Course) (s : StateOf G.g) (u
     unmade = λ j le. subst (λ (y : Rattle.sp_journal.specs.Births.Births). (y.forks j ≡ 0) × (y.opens j ≡ 0)) (sym eb)
         (l.unmade j (subst (λ y. y ≤ j) (ap (λ (y : Rattle.sp_journal.specs.Births.Births). y.processes) eb) le));
     numbered = λ a h. subst (λ (y : Rattle.sp_journal.specs.Births.Births). (k : ℕ) × (k < y.processes)
-        × (G.births.name k ≡ a)) (sym eb) (⊎_elim (λ (e : a ≡ v). (i, here G lv c s u l i d at_i, sym e))
+        × (G.births.name k ≡ a)) (sym eb) (⊎_elim (λ (e : a ≡ v). (i, here at_stop, sym e))
         (λ (e : a ≢ v). l.numbered a (λ f. h (same a e ∙ x.elsewhere.condition a e ∙ f))) (same_or_not name_test a v));
   }
 
@@ -207,7 +221,7 @@ module _ (G : RunContext) (lv : RightsOfAll G) (c : Course) (s : StateOf G.g) (u
       (λ (e : i ≢ j). subst (λ y. Performs_all G lv (G.births.name j) c1 t1 (u.births.opens j) y)
       (sym (other_number j e)) (does_other j lt e (λ k n h. no_child k n (h ∙ is))))
       (number_or i j))
-      (λ j le. other_number j (λ e. let a = here G lv c s u l i d at_i in omega (arith, a, le, e)) ∙ l.unborn j le)
+      (λ j le. other_number j (λ e. let a = here at_stop in omega (arith, a, le, e)) ∙ l.unborn j le)
     where
       no_child : {a : Name} (k n : ℕ) → (k, n) ∷ a ≡ [] → ⊥
       no_child k n h = cc h
@@ -238,7 +252,7 @@ module _ (G : RunContext) (lv : RightsOfAll G) (c : Course) (s : StateOf G.g) (u
     joins_at = known_then.sound.joined P b.fork b.child live_there
 
     parent_apart : P ≢ v
-    parent_apart = other_name G lv c s u l i d at_i z r x happenings.Ended said b.parent known_parent
+    parent_apart = other_name at_stop z r x happenings.Ended said b.parent known_parent
         (λ e. older (sym e))
 
     at_parent : t1.condition P ≡ x.state.condition P
@@ -263,15 +277,15 @@ module _ (G : RunContext) (lv : RightsOfAll G) (c : Course) (s : StateOf G.g) (u
 
       yet : has_ended (x.state.condition ((k, b.child) ∷ P)) ≡ false
       yet = subst (λ y. has_ended (x.state.condition y) ≡ false) vy
-          (ended_at G lv c s u l i d at_i z r x happenings.Ended said)
+          (ended_at at_stop z r x happenings.Ended said)
 
       stood_there : St G (lv ((k, b.child) ∷ P)) (λ a e. lv ((a, e) ∷ (k, b.child) ∷ P)) ((k, b.child) ∷ P)
-          (p1 G lv c s u l i d at_i).who (c.since v) (lv ((k, b.child) ∷ P)).below o x.state.store t.2
-      stood_there = subst (λ y. St G (lv y) (λ a e. lv ((a, e) ∷ y)) y (p1 G lv c s u l i d at_i).who (c.since v)
-          (lv y).below o x.state.store t.2) vy stood
+          (p1 at_stop).who (c.since v) (lv ((k, b.child) ∷ P)).below o x.state.store t.memory
+      stood_there = subst (λ y. St G (lv y) (λ a e. lv ((a, e) ∷ y)) y (p1 at_stop).who (c.since v)
+          (lv y).below o x.state.store t.memory) vy stood
 
-      moved_there : (t.2).store.moved ≡ (lv ((k, b.child) ∷ P)).moved
-      moved_there = subst (λ y. (t.2).store.moved ≡ (lv y).moved) vy moved_here
+      moved_there : t.memory.store.moved ≡ (lv ((k, b.child) ∷ P)).moved
+      moved_there = subst (λ y. t.memory.store.moved ≡ (lv y).moved) vy moved_here
 
       abbrev t2 : StateOf G.g
       t2 = with_change {L = superpascal G.g} (Becomes ((k, b.child) ∷ P) Ended) x.state
@@ -343,7 +357,8 @@ module _ (G : RunContext) (lv : RightsOfAll G) (c : Course) (s : StateOf G.g) (u
     rejoin sys.Absent h = absurd h
     rejoin (sys.Working dd) h = absurd (not_alone (inl (h.0, h.1)))
     rejoin (sys.Waits y dd) h = absurd (subst (λ a. JoinsAt b.fork b.child a) h.1 joins_at)
-    rejoin (sys.Joins left dd) h = rejoins left dd h.0 h.1 h.2 h.3 h.4 h.5 h.6
+    rejoin (sys.Joins left dd) (k, n, pr, joins, t, opens_are, not_laid) =
+        rejoins left dd k n pr joins t opens_are not_laid
     rejoin (sys.Laid dd) h = absurd (not_alone (inl h.2))
     rejoin sys.Gone h = absurd (subst (λ a. JoinsAt b.fork b.child a) h.0 joins_at)
     rejoin (sys.Over dd) h = absurd (subst (λ a. JoinsAt b.fork b.child a) h.0 joins_at)
@@ -371,7 +386,7 @@ module _ (G : RunContext) (lv : RightsOfAll G) (c : Course) (s : StateOf G.g) (u
         (λ a lt. ⊎_elim
         (λ (e : b.parent ≡ a). subst (λ y. Performs_all G lv (G.births.name y) c1 t1 (u.births.opens y)
         (u1.condition y)) e (subst (λ y. Performs_all G lv P c1 t1 op y) (sym at_p)
-        (rejoin (u.condition b.parent) (does_at G lv c s u l i d at_i z r x happenings.Ended said b.parent
+        (rejoin (u.condition b.parent) (does_at at_stop z r x happenings.Ended said b.parent
         known_parent (λ h. older (sym h))))))
         (λ (e : b.parent ≢ a). ⊎_elim
         (λ (f : i ≡ a). subst (λ y. Performs_all G lv (G.births.name y) c1 t1 (u.births.opens y) (u1.condition y)) f
@@ -384,7 +399,7 @@ module _ (G : RunContext) (lv : RightsOfAll G) (c : Course) (s : StateOf G.g) (u
         (number_or i a))
         (number_or b.parent a))
         (λ a le. at_far a (λ h. omega (arith, known_parent, le, h))
-        (λ h. let y = here G lv c s u l i d at_i in omega (arith, y, le, h)) ∙ l.unborn a le)
+        (λ h. let y = here at_stop in omega (arith, y, le, h)) ∙ l.unborn a le)
       where
         few : (a : ℕ) → a < u.births.processes → a < G.births.processes
         few a lt = let y = l.began.processes in omega (arith, lt, y)
@@ -399,38 +414,37 @@ module _ (G : RunContext) (lv : RightsOfAll G) (c : Course) (s : StateOf G.g) (u
   by_birth None e = root_ends e (first i refl)
     where
       first : (k : ℕ) → i ≡ k → v ≡ []
-      first zero h = sym (l.began.names i (here G lv c s u l i d at_i)) ∙ ap (λ y. u.births.name y) h ∙ l.began.root.1
-      first (suc k) h = let y = l.began.born i (omega (arith, h)) (here G lv c s u l i d at_i) in
-          absurd (none-some y.0 (sym e ∙ y.1))
+      first zero h = sym (l.began.names i (here at_stop)) ∙ ap (λ y. u.births.name y) h ∙ l.began.root.1
+      first (suc k) h = let y = l.began.born i (omega (arith, h)) (here at_stop) in
+          absurd (none-some y.birth (sym e ∙ y.birth_is))
   by_birth (Some b) e = child_ends b e (omega (arith, older, lt)) (λ h. omega (arith, older, h))
       (sym (l.began.names i lt) ∙ named ∙ ap (λ y. (b.fork, b.child) ∷ y)
       (l.began.names b.parent (omega (arith, older, lt))))
     where
       lt : i < u.births.processes
-      lt = here G lv c s u l i d at_i
+      lt = here at_stop
 
       above : (k : ℕ) → i ≡ k → 0 < i
       above zero h = absurd (none-some b (sym l.began.root.0 ∙ ap (λ y. u.births.birth y) (sym h) ∙ e))
       above (suc k) h = omega (arith, h)
 
-      of : (y : Birth) × (u.births.birth i ≡ Some y) × (y.parent < i)
-          × (u.births.name i ≡ (y.fork, y.child) ∷ u.births.name y.parent) × (y.fork < u.births.forks y.parent)
+      of : Born u.births i
       of = l.began.born i (above i refl) lt
 
-      is : of.0 ≡ b
-      is = same_Some of.0 b (sym of.1 ∙ e)
+      is : of.birth ≡ b
+      is = same_Some of.birth b (sym of.birth_is ∙ e)
 
       older : b.parent < i
-      older = subst (λ (y : Birth). y.parent < i) is of.2
+      older = subst (λ (y : Birth). y.parent < i) is of.older
 
       named : u.births.name i ≡ (b.fork, b.child) ∷ u.births.name b.parent
-      named = of.3 ∙ ap (λ (y : Birth). (y.fork, y.child) ∷ u.births.name y.parent) is
+      named = of.named ∙ ap (λ (y : Birth). (y.fork, y.child) ∷ u.births.name y.parent) is
 
   pub finishing : Entry_of G c s u i d
   finishing = record {
     turn = tn;
     is_turn = tn_is;
-    way = way_of_step G lv c s u l i d at_i x.steps x.state (x.turn happenings.Ended said) happenings.Ended t1
+    way = way_of_step at_stop x.steps x.state (x.turn happenings.Ended said) happenings.Ended t1
         (λ left n k. (l.faulted ∙ no_fault, refl, t1, n, one-add n, (x.left, x.runs, said, goes_next), k)) _ (sym told);
     speaks = subst (λ a. IsOpen u.births (if a then event.Laid else event.End)) (sym no_fault) tt;
     lives = lv;

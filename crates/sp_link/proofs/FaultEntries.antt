@@ -93,15 +93,15 @@ module _ (g : RunInput) where
 
   turn_fault : (pause since : ℕ) (q : Name) (n : ℕ) (s t : StateOf g) (paused : Bool)
       → Turn g pause since q n s t paused → t.fault ≡ s.fault
-  turn_fault pause since q zero s t paused h = ap (λ (y : StateOf g). y.fault) h.0
-  turn_fault pause since q (suc n) s t paused h =
-      by (is_due_after g pause since s h.0 q h.3) (λ k. turn_fault pause since q n h.3 t paused k) h.5
+  turn_fault pause since q zero s t paused (is, _, _, _, _, _) = ap (λ (y : StateOf g). y.fault) is
+  turn_fault pause since q (suc n) s t paused (own, runs, silent, mid, goes, rest) =
+      by (is_due_after g pause since s own q mid) (λ k. turn_fault pause since q n mid t paused k) rest
     where
-      one : h.3.fault ≡ s.fault
-      one = next_fault s h.3 q h.0 h.1 h.4 ∙ ap (λ y. fault_after q y s.fault) h.2
+      one : mid.fault ≡ s.fault
+      one = next_fault s mid q own runs goes ∙ ap (λ y. fault_after q y s.fault) silent
 
-      by : (b : Bool) → (Turn g pause since q n h.3 t paused → t.fault ≡ h.3.fault)
-          → Either b ((n ≡ 0) × (t ≡ h.3) × (paused ≡ true)) (Turn g pause since q n h.3 t paused) → t.fault ≡ s.fault
+      by : (b : Bool) → (Turn g pause since q n mid t paused → t.fault ≡ mid.fault)
+          → Either b ((n ≡ 0) × (t ≡ mid) × (paused ≡ true)) (Turn g pause since q n mid t paused) → t.fault ≡ s.fault
       by true ih k = ap (λ (y : StateOf g). y.fault) k.1 ∙ one
       by false ih k = ih k ∙ one
 
@@ -109,32 +109,28 @@ module _ (g : RunInput) where
   faulted_stays : (pause : ℕ) (os : List Occurrence) (c : Course) (s t : StateOf g) (n : ℕ) → c.faulted ≡ true
       → Along g pause c s os n t → t.fault ≡ s.fault
   faulted_stays pause [] c s t n f h = ap (λ (y : StateOf g). y.fault) h.1
-  faulted_stays pause (o ∷ os) c s t n f h = by o.what h.7 (λ c1 r k. faulted_stays pause os c1 h.3 t r k)
-      ∙ turn_fault pause (c.since o.who) o.who h.1 s h.3 h.4 h.6
+  faulted_stays pause (o ∷ os) c s t n f (_, n0, rest, mid, paused, _, turn0, enters) =
+      by o.what enters (λ c1 r k. faulted_stays pause os c1 mid t r k)
+      ∙ turn_fault pause (c.since o.who) o.who n0 s mid paused turn0
     where
       no : {A : Type 0} → c.faulted ≡ false → A
       no e = let bad : true ≡ false = sym f ∙ e in absurd (cc bad)
 
-      by : (what : Happening) → EntryStep g (λ c1 u r. Along g pause c1 u os r t) c h.3 h.4 o.who what h.2
-          → ((c1 : Course) (r : ℕ) → c1.faulted ≡ true → Along g pause c1 h.3 os r t → t.fault ≡ h.3.fault)
-          → t.fault ≡ h.3.fault
-      by Laid k ih = ih (with_fault o.who c) h.2 refl k.1
-      by Paused k ih = no k.0
-      by (Forked m) k ih = no k.0
-      by Opened k ih = no k.0
-      by (Offered w d) k ih = no k.0
-      by Ended k ih = no k.0
-      by (Faulted x) k ih = no k.0
+      by : (what : Happening) → EntryStep g (λ c1 u r. Along g pause c1 u os r t) c mid paused o.who what rest
+          → ((c1 : Course) (r : ℕ) → c1.faulted ≡ true → Along g pause c1 mid os r t → t.fault ≡ mid.fault)
+          → t.fault ≡ mid.fault
+      by Laid k ih = ih (with_fault o.who c) rest refl k.1
+      by _ k _ = no k.0
 
   -- an entry that is a fault says which one stands in the end
   pub fault_told : (pause : ℕ) (es : List Entry) (b : Births) → Lawful b → NameableFrom b es
       → (c : Course) (s t : StateOf g) (n : ℕ) → Along g pause c s (occurrences_from b es) n t
       → (p : ℕ) (f : Fault) → HasFaultEntry es p f → t.fault ≡ Some ((births_from b es).name p, f)
   fault_told pause [] b w m c s t n h p f i = absurd i
-  fault_told pause (e ∷ es) b w m c s t n h p f (inl x) =
+  fault_told pause (e ∷ es) b w m c s t n (_, _, rest, mid, paused, _, _, enters) p f (inl x) =
       by (subst (λ y. EntryStep g
       (λ c1 u r. Along g pause c1 u (occurrences_from (births_after_event b e.process e.event) es) r
-      t) c h.3 h.4 (b.name e.process) (happening b y) h.2) event_is h.7)
+      t) c mid paused (b.name e.process) (happening b y) rest) event_is enters)
     where
       event_is : e.event ≡ event.Fault f
       event_is = ap (λ (y : Entry). y.event) x
@@ -146,35 +142,38 @@ module _ (g : RunInput) where
       name_is = (grows_from (e ∷ es) b w m).names e.process m.0.0 ∙ ap (λ y. (births_from b (e ∷ es)).name y) process_is
 
       by : EntryStep g (λ c1 u r. Along g pause c1 u (occurrences_from (births_after_event b e.process e.event) es) r
-          t) c h.3
-          h.4 (b.name e.process) (Faulted f) h.2 → t.fault ≡ Some ((births_from b (e ∷ es)).name p, f)
-      by k = faulted_stays pause (occurrences_from (births_after_event b e.process e.event) es)
-          (course_after (b.name e.process) (Faulted f) (ticks_of g k.2 (b.name e.process)) c) k.2 t k.3 refl k.6
-          ∙ next_fault h.3 k.2 (b.name e.process) k.5.0 k.5.1 k.5.3
-          ∙ ap (λ y. fault_after (b.name e.process) y h.3.fault) k.5.2 ∙ ap (λ y. Some (pair y)) name_is
+          t) c mid
+          paused (b.name e.process) (Faulted f) rest → t.fault ≡ Some ((births_from b (e ∷ es)).name p, f)
+      by (_, _, to, left, _, (own, runs, says, goes), after) =
+          faulted_stays pause (occurrences_from (births_after_event b e.process e.event) es)
+          (course_after (b.name e.process) (Faulted f) (ticks_of g to (b.name e.process)) c) to t left refl after
+          ∙ next_fault mid to (b.name e.process) own runs goes
+          ∙ ap (λ y. fault_after (b.name e.process) y mid.fault) says ∙ ap (λ y. Some (pair y)) name_is
         where
           pair : Name → Name × Fault
           pair y = (y, f)
-  fault_told pause (e ∷ es) b w m c s t n h p f (inr i) =
-      by (happening b e.event) h.7 (λ c1 u r k. fault_told pause es (births_after_event b e.process e.event)
+  fault_told pause (e ∷ es) b w m c s t n (_, _, rest, mid, paused, _, _, enters) p f (inr i) =
+      by (happening b e.event) enters (λ c1 u r k. fault_told pause es (births_after_event b e.process e.event)
       (lawful_after b e w m.0) m.1 c1 u t r k p f i)
     where
       by : (what : Happening) → EntryStep g (λ c1 u r. Along g pause c1 u
-          (occurrences_from (births_after_event b e.process e.event) es) r t) c h.3 h.4 (b.name e.process) what h.2
+          (occurrences_from (births_after_event b e.process e.event) es) r t) c mid paused (b.name e.process) what rest
           → ((c1 : Course) (u : StateOf g) (r : ℕ)
           → Along g pause c1 u (occurrences_from (births_after_event b e.process e.event) es) r t
           → t.fault ≡ Some ((births_from b (e ∷ es)).name p, f))
           → t.fault ≡ Some ((births_from b (e ∷ es)).name p, f)
-      by Laid k ih = ih (with_fault (b.name e.process) c) h.3 h.2 k.1
-      by Paused k ih = ih (with_ticks (b.name e.process) (ticks_of g h.3 (b.name e.process)) c) h.3 h.2 k.2
-      by (Forked x) k ih = ih (course_after (b.name e.process) (Forked x) (ticks_of g k.2 (b.name e.process)) c) k.2 k.3
-          k.6
-      by Opened k ih = ih (course_after (b.name e.process) Opened (ticks_of g k.2 (b.name e.process)) c) k.2 k.3 k.6
-      by (Offered x d) k ih = ih (course_after (b.name e.process) (Offered x d) (ticks_of g k.2 (b.name e.process)) c)
-          k.2 k.3 k.6
-      by Ended k ih = ih (course_after (b.name e.process) Ended (ticks_of g k.2 (b.name e.process)) c) k.2 k.3 k.6
-      by (Faulted x) k ih = ih (course_after (b.name e.process) (Faulted x) (ticks_of g k.2 (b.name e.process)) c) k.2
-          k.3 k.6
+      by Laid k ih = ih (with_fault (b.name e.process) c) mid rest k.1
+      by Paused k ih = ih (with_ticks (b.name e.process) (ticks_of g mid (b.name e.process)) c) mid rest k.2
+      by (Forked x) (_, _, u, left, _, _, after) ih =
+          ih (course_after (b.name e.process) (Forked x) (ticks_of g u (b.name e.process)) c) u left after
+      by Opened (_, _, u, left, _, _, after) ih =
+          ih (course_after (b.name e.process) Opened (ticks_of g u (b.name e.process)) c) u left after
+      by (Offered x d) (_, _, u, left, _, _, after) ih =
+          ih (course_after (b.name e.process) (Offered x d) (ticks_of g u (b.name e.process)) c) u left after
+      by Ended (_, _, u, left, _, _, after) ih =
+          ih (course_after (b.name e.process) Ended (ticks_of g u (b.name e.process)) c) u left after
+      by (Faulted x) (_, _, u, left, _, _, after) ih =
+          ih (course_after (b.name e.process) (Faulted x) (ticks_of g u (b.name e.process)) c) u left after
 
 -- ---- in the machine
 
@@ -228,13 +227,14 @@ module _ (g : memory.CodeRun) where
       → (p : ℕ) × (f : Fault) × HasFaultEntry es p f
   fault_entry [] s t q h e = let bad : false ≡ true = sym q ∙ sym (ap (λ (y : System Plain). y.faulted) h) ∙ e in
       absurd (cc bad)
-  fault_entry (x ∷ es) s t q h e = by (h.0.faulted) refl (λ k. fault_entry es h.0 t k h.2 e)
+  fault_entry (x ∷ es) s t q (u, (_, _, tn, _, event_is, after_is), more) e =
+      by (u.faulted) refl (λ k. fault_entry es u t k more e)
     where
-      by : (b : Bool) → h.0.faulted ≡ b → (h.0.faulted ≡ false → (p : ℕ) × (f : Fault) × HasFaultEntry es p f) → (p : ℕ)
+      by : (b : Bool) → u.faulted ≡ b → (u.faulted ≡ false → (p : ℕ) × (f : Fault) × HasFaultEntry es p f) → (p : ℕ)
           × (f : Fault) × HasFaultEntry (x ∷ es) p f
       by true k ih =
-          let w = after_faults s x.process h.1.2 q (sym (ap (λ (y : System Plain). y.faulted) h.1.5) ∙ k) in
-          (x.process, w.0, inl (same (sym h.1.4 ∙ w.1)))
+          let w = after_faults s x.process tn q (sym (ap (λ (y : System Plain). y.faulted) after_is) ∙ k) in
+          (x.process, w.0, inl (same (sym event_is ∙ w.1)))
         where
           same : {v : Event} → x.event ≡ v → x ≡ record { process = x.process; event = v }
           same {v} r = ap (λ y. record { process = x.process; event = y }) r

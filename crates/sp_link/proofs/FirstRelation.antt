@@ -127,14 +127,14 @@ module _ (G : RunContext) (b : Block) (eb : slice_get G.g.program.blocks 0 ≡ S
 
   too_large : nat_lt G.g.limits.cells (size_of_frame G.g 0) ≡ true
       → TooLarge G (lives []) kids [] (first_store G.g) (root G.g) (first_process plain (run_is G))
-  too_large e = (
-    refl,
-    todo_by true e,
-    refl,
-    refl,
-    no_room,
-    λ may. (let y = roomy_is.output may in (y.0, y.1, ap output_of y.2)),
-  )
+  too_large e = record {
+    is_first = refl;
+    faults = todo_by true e;
+    is_root = refl;
+    configuration_is = refl;
+    no_room = no_room;
+    output = λ may. (let y = roomy_is.output may in (y.0, y.1, ap output_of y.2));
+  }
     where
       small : nat_le n0.cells G.g.limits.cells ≡ false
       small = let a = roomy_is.frames.cells in by (nat_le n0.cells G.g.limits.cells) refl a

@@ -64,13 +64,16 @@ use Rattle.sp_link.proofs.Halts.{failed_entry, forked_halt}
 use Rattle.sp_link.proofs.Journal.{IsOpen, now_by}
 use Rattle.sp_link.proofs.KernelSteps.{kernel_next, kernel_says, stand_dead}
 use Rattle.sp_link.proofs.NewRights.{does_lives, inv_same}
-use Rattle.sp_link.proofs.OneChanges.{q, pr, its, alone, here, present, not_ended, keeps_to, since_other}
+use Rattle.sp_link.proofs.OneChanges.{q, pr, alone, here, present, not_ended, keeps_to, since_other}
 use Rattle.sp_link.proofs.OthersStay.{does_stay}
-use Rattle.sp_link.proofs.Pauses.{Entry_of, Meant, Machined, Kept_to, kids, turn_is, after_no_fault, way_of_step}
+use Rattle.sp_link.proofs.Pauses.{Entry_of, Meant, Kept_to, kids, turn_is, after_no_fault, way_of_step}
 use Rattle.sp_link.proofs.Relation.{RunContext, BirthRights, RightsOfAll, W_of, R_of, ProcessMatches, Joined, Handed}
 use Rattle.sp_link.proofs.Relation.{St, Rel, law, Performs}
 use Rattle.sp_link.proofs.Relation.{Performs_all, Linked, Began, run_is, ops}
 use Rattle.sp_link.proofs.Newborns.{born_at, born_else, born_is, newborns_at, newborns_length, pick, cons}
+use Rattle.sp_link.proofs.Relation.{AtStop}
+use Rattle.sp_link.proofs.Pauses.{MatchesNow, ForksAt}
+use Rattle.sp_link.proofs.OneChanges.{opens_are, unlaid}
 
 pub is_less : (a b : ℕ) → a < b → nat_lt a b ≡ true
 is_less a b h = go (nat_lt a b) refl
@@ -99,9 +102,10 @@ not_absent G lf kids q c s opens sys.Absent h = absurd h
 not_absent G lf kids q c s opens (sys.Working a) h =
     λ e. subst (λ b. IsLive b) e (working_lives s.condition q (s.condition q) h.0 h.1)
 not_absent G lf kids q c s opens (sys.Waits a b) h = λ e. subst (λ b. IsLive b) (sym h.1 ∙ e) tt
-not_absent G lf kids q c s opens (sys.Joins a b) h = λ e. subst (λ b. IsLive b) (sym h.3 ∙ e) tt
-not_absent G lf kids q c s opens (sys.Laid a) h =
-    λ e. subst (λ b. IsLive b) e (working_lives s.condition q (s.condition q) h.2.0 h.2.1)
+not_absent G lf kids q c s opens (sys.Joins a b) (_, _, _, joins, _, _, _) =
+    λ e. subst (λ b. IsLive b) (sym joins ∙ e) tt
+not_absent G lf kids q c s opens (sys.Laid a) (_, _, (pr, runs), _) =
+    λ e. subst (λ b. IsLive b) e (working_lives s.condition q (s.condition q) pr runs)
 not_absent G lf kids q c s opens sys.Gone h = λ e. ended_there (sym h.0 ∙ e)
   where
     ended_there : ◌≡◌ {A = Condition Process LocationContent Address} Ended Absent → ⊥
@@ -111,21 +115,28 @@ not_absent G lf kids q c s opens (sys.Over a) h = λ e. ended_there (sym h.0 ∙
     ended_there : ◌≡◌ {A = Condition Process LocationContent Address} Ended Absent → ⊥
     ended_there e = cc e
 
-module _ (G : RunContext) (lv : RightsOfAll G) (c : Course) (s : StateOf G.g) (u : System Plain) (l : Linked G lv c s u)
-    (i : ℕ)
-    (d : Config (Memory Plain)) (at_i : u.condition i ≡ sys.Working d)
-    (z : ProcessMatches G (lv (q G lv c s u l i d at_i)) (kids G lv c s u l i d at_i) (q G lv c s u l i d at_i)
-    (c.since (q G lv c s u l i d at_i)) (pr G lv c s u l i d at_i) s.store d)
+module _ (at_stop : AtStop) (z : MatchesNow at_stop)
     (bs : List Birth) (todo : List Item) (o : LocalState) (m : Store)
-    (x : Meant G lv c s u l i d at_i z (Computed (source.Stops (Forked bs todo)) o, m))
-    (t : Machined G lv c s u l i d at_i z (Computed (source.Stops (Forked bs todo)) o, m))
-    (y : Kept_to G lv c s u l i d at_i z (Computed (source.Stops (Forked bs todo)) o, m)) (no_fault : u.faulted ≡ false)
-    (tb : ℕ) (val : ℤ) (n : ℕ) (stop_is : t.5 ≡ machine.Forks tb val n) (some : 1 ≤ length bs) where
+    (x : Meant at_stop z (Computed (source.Stops (Forked bs todo)) o, m))
+    (t : ForksAt at_stop z bs todo o m)
+    (y : Kept_to at_stop z (Computed (source.Stops (Forked bs todo)) o, m)) (no_fault : at_stop.system.faulted ≡ false)
+    (tb : ℕ) (val : ℤ) (n : ℕ) (stop_is : t.stop ≡ machine.Forks tb val n) (some : 1 ≤ length bs) where
+  open at_stop use {
+    run as G,
+    lives as lv,
+    course as c,
+    state as s,
+    system as u,
+    linked as l,
+    number as i,
+    configuration as d,
+  }
+
   abbrev pub v : Name
-  v = q G lv c s u l i d at_i
+  v = q at_stop
 
   abbrev pub p1 : Process
-  p1 = pr G lv c s u l i d at_i
+  p1 = pr at_stop
 
   abbrev r : WorkOutcome Action × Store
   r = (Computed (Forked bs todo) o, m)
@@ -144,10 +155,10 @@ module _ (G : RunContext) (lv : RightsOfAll G) (c : Course) (s : StateOf G.g) (u
   grows = record { processes = length os; channels = 0; entries = 1 }
 
   abbrev tn : Turn (Memory Plain)
-  tn = Stopped t.5 (At t.0 t.1 t.2)
+  tn = Stopped t.stop (At t.pc t.stack t.memory)
 
-  tn_is : IsTurn (ops G) G.code d (Stopped t.5 (At t.0 t.1 t.2))
-  tn_is = turn_is G lv c s u l i d at_i z (Stopped t.5 (At t.0 t.1 t.2)) (t.4, t.6, t.7)
+  tn_is : IsTurn (ops G) G.code d (Stopped t.stop (At t.pc t.stack t.memory))
+  tn_is = turn_is at_stop z (Stopped t.stop (At t.pc t.stack t.memory)) (t.last, t.comes, t.stops)
 
   some_grow : nat_lt 0 (length os) ≡ true
   some_grow = is_less 0 (length os) (let c : length os ≡ length bs = newborns_length x.left.who o 0 bs in
@@ -174,7 +185,7 @@ module _ (G : RunContext) (lv : RightsOfAll G) (c : Course) (s : StateOf G.g) (u
       → nat_lt G.g.limits.processes (u.births.processes + n) ≡ e2
       → fault_of G.g.limits u tn ≡ sys.first_fault
       (if e1 then Some fault.F15 else (if e2 then Some fault.F13 else None)) None
-  found e1 e2 h1 h2 = ap (λ b. fault_of G.g.limits u (Stopped b (At t.0 t.1 t.2))) stop_is
+  found e1 e2 h1 h2 = ap (λ b. fault_of G.g.limits u (Stopped b (At t.pc t.stack t.memory))) stop_is
       ∙ ap (λ b. sys.first_fault (if b then Some fault.F15 else
       (if nat_lt G.g.limits.processes (u.births.processes + n) then Some fault.F13 else None)) None) h1
       ∙ ap (λ b. sys.first_fault (if e1 then Some fault.F15 else (if b then Some fault.F13 else None)) None) h2
@@ -186,7 +197,7 @@ module _ (G : RunContext) (lv : RightsOfAll G) (c : Course) (s : StateOf G.g) (u
 
   fails : (f : Fault) → step_outcome {L = superpascal G.g} (total_limits G.g) x.state v (Forks goes_on os) ≡ Faulty f
       → fault_of G.g.limits u tn ≡ Some f → Entry_of G c s u i d
-  fails f e h = failed_entry G lv c s u l i d at_i (forked_halt G lv c s u l i d at_i z bs todo o m x t) refl f
+  fails f e h = failed_entry at_stop (forked_halt at_stop z bs todo o m x t) refl f
       (kernel_says G.g v x.state x.left x.runs r x.does
       ∙ ap (λ b. happening_of {L = superpascal G.g} (Forks goes_on os) b) e)
       (kernel_next G.g v x.state x.left x.runs r x.does
@@ -206,10 +217,10 @@ module _ (G : RunContext) (lv : RightsOfAll G) (c : Course) (s : StateOf G.g) (u
 
   -- the parent's memory at its entry
   abbrev pub n1 : Memory Plain
-  n1 = record (t.2) { since = (t.2).ticks }
+  n1 = record (t.memory) { since = t.memory.ticks }
 
   abbrev pub there : Config (Memory Plain)
-  there = At t.0 t.1 n1
+  there = At t.pc t.stack n1
 
   abbrev pub hs : List Handing
   hs = plan_of plain (run_is G) there tb val n
@@ -219,17 +230,17 @@ module _ (G : RunContext) (lv : RightsOfAll G) (c : Course) (s : StateOf G.g) (u
       (child_or (child_at (table_or (slice_get G.code.forks tb)) j))
 
   -- where it stands, without what calls wrote in frames that are gone
-  pub parent_stand : (since1 : ℕ) → since1 ≡ (t.2).ticks
-      → St G (lv v) (λ a b. lv ((a, b) ∷ v)) v goes_on.who since1 t.3 o x.state.store n1
+  pub parent_stand : (since1 : ℕ) → since1 ≡ t.memory.ticks
+      → St G (lv v) (λ a b. lv ((a, b) ∷ v)) v goes_on.who since1 t.frames o x.state.store n1
   parent_stand since1 e = stand_again G (lv v) (λ a b. lv ((a, b) ∷ v)) v {w = p1.who} {w1 = goes_on.who}
       {since = c.since v} {since1 = since1} (ap (λ (a : Identity). a.name) x.who_is) e
-      (stand_dead G (lv v) (λ a b. lv ((a, b) ∷ v)) v t.8 x.state.store
+      (stand_dead G (lv v) (λ a b. lv ((a, b) ∷ v)) v t.stand x.state.store
       (λ a. subst (λ b. (x.state.store a ≡ m a) ⊎ IsDead b a)
-      (ap (λ b. length b) (t.8).frames.sources_are ∙ sources_length t.3)
-      (same_but_dead G lv c s u l i d at_i z (Forked bs todo) o m x tt a)))
+      (ap (λ b. length b) t.stand.frames.sources_are ∙ sources_length t.frames)
+      (same_but_dead at_stop z (Forked bs todo) o m x tt a)))
 
   pub counted : x.left.who.forks ≡ k
-  counted = ap (λ (a : Identity). a.forks) x.who_is ∙ (keeps_to G lv c s u l i d at_i).forked
+  counted = ap (λ (a : Identity). a.forks) x.who_is ∙ (keeps_to at_stop).forked
       ∙ ap (λ a. a v) (sym x.elsewhere.forks)
 
   -- ---- it forks
@@ -258,7 +269,8 @@ module _ (G : RunContext) (lv : RightsOfAll G) (c : Course) (s : StateOf G.g) (u
       (gives : (j : ℕ) → j < n → (a : Spot) → In a (new_life j).moved → In a (moved_of hs))
       (unshared : (a : Spot) → In a (moved_of hs) → NotIn a (shared_of hs))
       (parted : (a b : ℕ) → a < n → b < n → a ≢ b → (e : Spot) → In e (new_life a).moved → In e (new_life b).moved → ⊥)
-      (handed : (more : ℕ → ℕ → BirthRights) (j : ℕ) → j < n → Handed G (lv v) more v t.3 n1 (new_life j) ((k, j) ∷ v))
+      (handed : (more : ℕ → ℕ → BirthRights) (j : ℕ) → j < n → Handed G (lv v) more v t.frames n1 (new_life j)
+      ((k, j) ∷ v))
       (children : (more : ℕ → ℕ → BirthRights) (j : ℕ) → j < n → (b : Birth) → slice_get bs j ≡ Some b
       → Rattle.sp_link.proofs.Relation.Called G ((k, j) ∷ v) (u.births.processes + j)
       → ProcessMatches G (new_life j) more ((k, j) ∷ v) 0 (new_process x.left.who o j b) x.state.store
@@ -344,7 +356,7 @@ module _ (G : RunContext) (lv : RightsOfAll G) (c : Course) (s : StateOf G.g) (u
         by false e g h = inr (λ j lt f. (let is : true ≡ false = sym (test j f) ∙ e in absurd (cc is)))
 
     known_then : StateKeeps G.g x.state
-    known_then = known_at G lv c s u l i d at_i z r x says_now said_now
+    known_then = known_at at_stop z r x says_now said_now
 
     known_now : StateKeeps G.g t1
     known_now = record {
@@ -379,7 +391,7 @@ module _ (G : RunContext) (lv : RightsOfAll G) (c : Course) (s : StateOf G.g) (u
         (ap (λ f. f && (k == k)) (itself name_test v) ∙ eq-eqb k k refl)
 
     rights_then : Inv G.g.program (W_of G lv) (R_of G lv) x.state.condition x.state.forks
-    rights_then = rights_at G lv c s u l i d at_i z r x says_now said_now
+    rights_then = rights_at at_stop z r x says_now said_now
 
     there_at : x.state.condition v ≢ Absent
     there_at e = subst (λ b. IsLive b) e (working_lives x.state.condition v (x.state.condition v) x.left x.runs)
@@ -439,7 +451,7 @@ module _ (G : RunContext) (lv : RightsOfAll G) (c : Course) (s : StateOf G.g) (u
         (known_if G.g.program (W_of G lv)
         (R_of G lv) x.state.condition x.state.forks rights_then v there_at) x.left.who o
         x.good.named counted
-        goes_on x.good.named (ap (λ a. a + 1) counted) (keeps_to G lv c s u l i d at_i).last y.final.2 stmts bs born
+        goes_on x.good.named (ap (λ a. a + 1) counted) (keeps_to at_stop).last y.final.2 stmts bs born
         (y.final.2).linked (length os))
 
     -- ---- the others
@@ -447,7 +459,7 @@ module _ (G : RunContext) (lv : RightsOfAll G) (c : Course) (s : StateOf G.g) (u
     ended_same : (b : Name) → has_ended (t1.condition b) ≡ has_ended (s.condition b)
     ended_same b = ⊎_elim
         (λ (e : b ≡ v). ap (λ k. has_ended (t1.condition k)) e ∙ ap (λ k. has_ended k) cond_v
-        ∙ sym (not_ended G lv c s u l i d at_i) ∙ ap (λ k. has_ended (s.condition k)) (sym e))
+        ∙ sym (not_ended at_stop) ∙ ap (λ k. has_ended (s.condition k)) (sym e))
         (λ (e : b ≢ v). ⊎_elim
         (λ (h : (j : ℕ) × (j < n) × (b ≡ (k, j) ∷ v)).
         (let p = at_place h.0 h.1 in ap (λ k. has_ended (t1.condition k)) h.2
@@ -468,9 +480,9 @@ module _ (G : RunContext) (lv : RightsOfAll G) (c : Course) (s : StateOf G.g) (u
     abbrev c1 : Course
     c1 = with_ticks v (ticks_of G.g t1 v) c
 
-    since_here : c1.since v ≡ (t.2).ticks
+    since_here : c1.since v ≡ t.memory.ticks
     since_here = ap (λ b. cond b (ticks_of G.g t1 v) (c.since v)) (itself name_test v) ∙ ap ticks_in cond_v
-        ∙ (t.8).ticks
+        ∙ t.stand.ticks
 
     few : (a : ℕ) → a < u.births.processes → a < G.births.processes
     few a lt = let b = l.began.processes in omega (arith, lt, b)
@@ -479,7 +491,7 @@ module _ (G : RunContext) (lv : RightsOfAll G) (c : Course) (s : StateOf G.g) (u
         → Performs_all G lv1 (G.births.name a) c1 t1 (u.births.opens a) (u.condition a)
     does_other a lt e =
         let apart : G.births.name a ≢ v = λ h. e
-        (G.one_name i a (few i (here G lv c s u l i d at_i)) (few a lt) (sym h)) in
+        (G.one_name i a (few i (here at_stop)) (few a lt) (sym h)) in
         let living : s.condition (G.births.name a) ≢ Absent =
         not_absent G (lv (G.births.name a)) (λ a1 b1. lv ((a1, b1) ∷ G.births.name a)) (G.births.name a) c s
         (u.births.opens a) (u.condition a) (l.does a lt) in
@@ -487,7 +499,7 @@ module _ (G : RunContext) (lv : RightsOfAll G) (c : Course) (s : StateOf G.g) (u
         λ j h f. living (ap (λ b. s.condition b) f ∙ unborn j) in
         does_lives G lv lv1 (G.births.name a) (lv1_other (G.births.name a) living)
         (λ a1 b1. lv1_kids (G.births.name a) (λ h. apart (sym h)) a1 b1) c1 t1 (u.births.opens a) (u.condition a)
-        (does_stay G lv s t1 l.known.sound l.rights.fair v (alone G lv c s u l i d at_i) x.good.stays (G.births.name a)
+        (does_stay G lv s t1 l.known.sound l.rights.fair v (alone at_stop) x.good.stays (G.births.name a)
         apart (cond_r (G.births.name a) apart far) (λ a1 b1. ended_same ((a1, b1) ∷ G.births.name a))
         (λ a1 b1. present_same ((a1, b1) ∷ G.births.name a)) c c1
         (since_other c v (ticks_of G.g t1 v) (G.births.name a) apart) refl
@@ -505,21 +517,21 @@ module _ (G : RunContext) (lv : RightsOfAll G) (c : Course) (s : StateOf G.g) (u
     left_it = on_store (λ a. plain.handed a hs) there
 
     joined : Joined G (lv v) kids1 v (c1.since v) k n n goes_on t1 left_it
-    joined = parent_joins G (lv v) kids1 v fresh1 (c1.since v) k n goes_on t.3 t1 n1
-        (parent_stand (c1.since v) since_here) x.good.named t.0 t.1
+    joined = parent_joins G (lv v) kids1 v fresh1 (c1.since v) k n goes_on t.frames t1 n1
+        (parent_stand (c1.since v) since_here) x.good.named t.pc t.stack
         (again G.g G.code G.moves G.shares G.callable (λ a. OwnLocation v a ⊎ (lv v).W a)
         (λ a. OwnLocation v a ⊎ (lv v).R a) (lv v).J
         (ops G) G.free G.finds G.formed.uses z.fresh.reads fresh1.reads
-        p1.who (due_after (c.since v) G.pause) (Rel G (lv v) (kids G lv c s u l i d at_i) v p1.who (c.since v))
-        (law G (lv v) (kids G lv c s u l i d at_i) v z.fresh p1.who z.named (c.since v)) (λ a b. inl z.named)
+        p1.who (due_after (c.since v) G.pause) (Rel G (lv v) (kids at_stop) v p1.who (c.since v))
+        (law G (lv v) (kids at_stop) v z.fresh p1.who z.named (c.since v)) (λ a b. inl z.named)
         goes_on.who (due_after (c1.since v) G.pause) (Rel G (lv v) kids1 v goes_on.who (c1.since v))
         (law G (lv v) kids1 v fresh1 goes_on.who x.good.named (c1.since v)) (λ a b. inl x.good.named) (λ j js m. m)
-        (lv v).end [] (lv v).below t.0 t.1 t.3 todo t.9) hs known dry (omega (arith, some, count_is))
+        (lv v).end [] (lv v).below t.pc t.stack t.frames todo t.follows) hs known dry (omega (arith, some, count_is))
         (λ j lt. (let p = at_place j lt in ap (λ b. has_ended b) (cond_child j p.0 p.1)))
         (λ j lt e. (let p = at_place j lt in subst (λ b. IsLive b) (sym (cond_child j p.0 p.1) ∙ e) tt))
         (λ a h. (let w = parts a h in
         (w.0, w.1, subst (λ (lf : BirthRights). In a lf.moved) (sym (lv1_child w.0)) w.2)))
-        (λ j lt. subst (λ (lf : BirthRights). Handed G (lv v) kids1 v t.3 n1 lf ((k, j) ∷ v)) (sym (lv1_child j))
+        (λ j lt. subst (λ (lf : BirthRights). Handed G (lv v) kids1 v t.frames n1 lf ((k, j) ∷ v)) (sym (lv1_child j))
         (handed kids1 j lt))
         (λ j lt a h. gives j lt a (subst (λ (lf : BirthRights). In a lf.moved) (lv1_child j) h)) unshared
         (λ a b la lb ne e h g. parted a b la lb ne e (subst (λ (lf : BirthRights). In e lf.moved) (lv1_child a) h)
@@ -527,15 +539,15 @@ module _ (G : RunContext) (lv : RightsOfAll G) (c : Course) (s : StateOf G.g) (u
 
     parent_does : Performs_all G lv1 v c1 t1 (u.births.opens i) (sys.Joins n left_it)
     parent_does = subst (λ (lf : BirthRights). Performs G lf kids1 v c1 t1 (u.births.opens i) (sys.Joins n left_it))
-        (sym (lv1_other v (present G lv c s u l i d at_i))) (
+        (sym (lv1_other v (present at_stop))) (
           k,
           n,
           goes_on,
           cond_v ∙ ap (λ a. Joins k a goes_on) os_length,
           joined,
           ap (λ (a : Identity). a.opens) x.who_is
-              ∙ (its G lv c s u l i d at_i).3,
-          (its G lv c s u l i d at_i).4,
+              ∙ opens_are at_stop,
+          unlaid at_stop,
         )
 
     -- ---- the machine
@@ -561,26 +573,26 @@ module _ (G : RunContext) (lv : RightsOfAll G) (c : Course) (s : StateOf G.g) (u
     }
 
     abbrev tn2 : Turn (Memory Plain)
-    tn2 = Stopped (machine.Forks tb val n) (At t.0 t.1 t.2)
+    tn2 = Stopped (machine.Forks tb val n) (At t.pc t.stack t.memory)
 
     turn_has_no_fault : fault_of G.g.limits u tn2 ≡ None
-    turn_has_no_fault = sym (ap (λ b. fault_of G.g.limits u (Stopped b (At t.0 t.1 t.2))) stop_is)
+    turn_has_no_fault = sym (ap (λ b. fault_of G.g.limits u (Stopped b (At t.pc t.stack t.memory))) stop_is)
         ∙ found false false room1 room2
 
     after_is : system_after_turn plain (run_is G) i tn u ≡ u1
-    after_is = ap (λ b. system_after_turn plain (run_is G) i (Stopped b (At t.0 t.1 t.2)) u) stop_is
+    after_is = ap (λ b. system_after_turn plain (run_is G) i (Stopped b (At t.pc t.stack t.memory)) u) stop_is
         ∙ after_no_fault G i tn2 u no_fault
         ∙ ap (λ f. record (apply_unless_fault plain (run_is G) f i tn2 u)
         { births = births_after_event u.births i (event_or f tn2) }) turn_has_no_fault
 
     event_is : event_of G.g.limits u tn ≡ event.Fork n
-    event_is = ap (λ b. event_of G.g.limits u (Stopped b (At t.0 t.1 t.2))) stop_is
+    event_is = ap (λ b. event_of G.g.limits u (Stopped b (At t.pc t.stack t.memory))) stop_is
         ∙ ap (λ b. if b then event.Laid else event_or (fault_of G.g.limits u tn2) tn2) no_fault
         ∙ ap (λ f. event_or f tn2) turn_has_no_fault
 
     module _ (began : Began G b1) where
       forks_here : u.births.forks i ≡ k
-      forks_here = sym (l.forks i (here G lv c s u l i d at_i)) ∙ ap (λ a. a v) (sym x.elsewhere.forks)
+      forks_here = sym (l.forks i (here at_stop)) ∙ ap (λ a. a v) (sym x.elsewhere.forks)
 
       minus : (j : ℕ) → (P + j) - P ≡ j
       minus j = omega arith
@@ -591,7 +603,7 @@ module _ (G : RunContext) (lv : RightsOfAll G) (c : Course) (s : StateOf G.g) (u
           (next_number u.births n j lt)
           ∙ ap (λ a. cons (a, (P + j) - P) (u.births.name i)) forks_here
           ∙ ap (λ a. cons (k, a) (u.births.name i)) (minus j)
-          ∙ ap (λ a. cons (k, j) a) (l.began.names i (here G lv c s u l i d at_i))
+          ∙ ap (λ a. cons (k, j) a) (l.began.names i (here at_stop))
 
       called : (j : ℕ) → j < n → Rattle.sp_link.proofs.Relation.Called G ((k, j) ∷ v) (P + j)
       called j lt = ((let a = began.processes in omega (arith, a, lt)), name_child j lt)
@@ -648,7 +660,7 @@ module _ (G : RunContext) (lv : RightsOfAll G) (c : Course) (s : StateOf G.g) (u
       beyond a le = ap (λ f. nat_le P a && f) (not_less a (P + n) le) ∙ and_with_false (nat_le P a)
 
       not_i : (a : ℕ) → P ≤ a → i ≢ a
-      not_i a le e = let b = here G lv c s u l i d at_i in omega (arith, b, le, e)
+      not_i a le e = let b = here at_stop in omega (arith, b, le, e)
 
       child_forks : (j : ℕ) → j < n → x.state.forks ((k, j) ∷ v) ≡ 0
       child_forks j lt = subst (λ b. ConditionInRights G.g.program (W_of G lv) (R_of G lv) x.state.forks ((k, j) ∷ v) b)
@@ -660,7 +672,7 @@ module _ (G : RunContext) (lv : RightsOfAll G) (c : Course) (s : StateOf G.g) (u
           (at_same name_test x.state.forks v (k + 1) ∙ ap (λ b. b + 1) (sym forks_here)
           ∙ sym (ap (λ f. cond f (u.births.forks i + 1) (u.births.forks i)) (eq-eqb i i refl))))
           (λ (e : i ≢ a). at_other name_test x.state.forks v (G.births.name a) (k + 1)
-          (λ h. e (G.one_name i a (few i (here G lv c s u l i d at_i)) (few a lt) h))
+          (λ h. e (G.one_name i a (few i (here at_stop)) (few a lt) h))
           ∙ ap (λ b. b (G.births.name a)) x.elsewhere.forks ∙ l.forks a lt
           ∙ sym (ap (λ f. cond f (u.births.forks i + 1) (u.births.forks a)) (ne_eqb i a e)))
           (number_or i a)
@@ -711,7 +723,7 @@ module _ (G : RunContext) (lv : RightsOfAll G) (c : Course) (s : StateOf G.g) (u
               (ne_eqb i a (not_i a (omega (arith, le)))) ∙ (l.unmade a (omega (arith, le))).0,
           (l.unmade a (omega (arith, le))).1,
         );
-        numbered = λ a h. ⊎_elim (λ (e : a ≡ v). (i, (let b = here G lv c s u l i d at_i in omega (arith, b)), sym e))
+        numbered = λ a h. ⊎_elim (λ (e : a ≡ v). (i, (let b = here at_stop in omega (arith, b)), sym e))
             (λ (e : a ≢ v). ⊎_elim (λ (g : (j : ℕ) × (j < n) × (a ≡ (k, j) ∷ v)).
             (P + g.0, (let b = g.1 in omega (arith, b)), name_child g.0 g.1 ∙ sym g.2))
             (λ g. (let w = l.numbered a (λ f. h (cond_r a e g ∙ f)) in (w.0, (let b = w.1 in omega (arith, b)), w.2)))
@@ -728,7 +740,7 @@ module _ (G : RunContext) (lv : RightsOfAll G) (c : Course) (s : StateOf G.g) (u
     fork_entry = record {
       turn = tn;
       is_turn = tn_is;
-      way = way_of_step G lv c s u l i d at_i x.steps x.state (x.turn says_now said_now) says_now t1
+      way = way_of_step at_stop x.steps x.state (x.turn says_now said_now) says_now t1
           (λ left n k. (l.faulted ∙ no_fault, refl, t1, n, one-add n, (x.left, x.runs, said_now, goes_next), k)) _
           (sym told);
       speaks = subst (λ f. IsOpen u.births f) (sym event_is) tt;

@@ -70,10 +70,7 @@ module _ (p : Program) where
       → HasRoom (formal_of r (size p k)) (Some (cells_by (sizes p.kinds) r k))
   passes role.Value k e = omega arith
   passes role.Reference k e = tt
-  passes role.Console k e = absurd (cc e)
-  passes role.Local k e = absurd (cc e)
-  passes role.Index k e = absurd (cc e)
-  passes role.Answer k e = absurd (cc e)
+  passes _ _ e = absurd (cc e)
 
   module _ (formed : IsFormed p) (f : ℕ) (b : Block) (eb : slice_get p.blocks f ≡ Some b) where
     room : (x : ℕ) → IsMember x b.formals → HasRoom (formal_by p (slice_get p.variables x))

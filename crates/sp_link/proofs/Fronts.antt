@@ -75,7 +75,7 @@ module _ (G : RunContext) where
     names = g.names;
     openings = g.openings;
     root = (w.no_birth, w.no_name, w.some);
-    born = λ i l m. (let z = w.born i l m in (z.birth, z.birth_is, z.older, z.named, z.made));
+    born = w.born;
   }
 
   -- each front of a nameable journal has begun

@@ -39,7 +39,7 @@ use Rattle.sp_code.specs.Machine as machine
 use Rattle.sp_code.specs.Turns.{Turn, Stopped, Faulted, IsTurn, BeginsOrFaults}
 use Rattle.sp_code.specs.Memory.{Memory}
 use Rattle.sp_code.specs.PlainStore.{plain}
-use Rattle.sp_code.specs.System.{System, system_after_turn, event_of, event_or, fault_of, config_of, apply_unless_fault}
+use Rattle.sp_code.specs.System.{system_after_turn, event_of, event_or, fault_of, config_of, apply_unless_fault}
 use Rattle.sp_code.specs.System as sys
 use Rattle.sp_codegen.specs.FramePairs.{FramePair}
 use Rattle.sp_codegen.specs.Following.{StandsFor}
@@ -47,22 +47,23 @@ use Rattle.sp_meaning.proofs.SilentActions.{IsSameButOne}
 use Rattle.sp_link.proofs.AtStop.{keeps_at, same_but_dead, same_but_one, same_output}
 use Rattle.sp_link.proofs.Journal.{Way_on, IsOpen, now_by}
 use Rattle.sp_link.proofs.KernelSteps.{kernel_next, kernel_says, act}
-use Rattle.sp_link.proofs.OneChanges.{its, runs_as_pr, linked_local}
-use Rattle.sp_link.proofs.Pauses.{Entry_of, Meant, Machined, kids, turn_is, after_no_fault, after_laid, kt}
+use Rattle.sp_link.proofs.OneChanges.{runs_as_pr, linked_local}
+use Rattle.sp_link.proofs.Pauses.{Entry_of, Meant, Machined, turn_is, after_no_fault, after_laid, kt}
 use Rattle.sp_link.proofs.Pauses as at
-use Rattle.sp_link.proofs.Relation.{RunContext, BirthRights, RightsOfAll, W_of, R_of, St, Rel, ProcessMatches, TooLarge}
+use Rattle.sp_link.proofs.Relation.{RunContext, BirthRights, W_of, R_of, St, Rel, TooLarge}
 use Rattle.sp_link.proofs.Relation.{OutputMatches, Linked, run_is}
 use Rattle.sp_link.proofs.Relation.{ops}
 use Rattle.sp_link.proofs.TurnsMeet.{turn_known}
+use Rattle.sp_link.proofs.Relation.{AtStop}
+use Rattle.sp_link.proofs.Pauses.{MatchesNow, PausesAt, ForksAt, OffersAt, OpensAt, EndsAt, pauses_at, forks_at}
+use Rattle.sp_link.proofs.Pauses.{offers_at, opens_at, ends_at}
+use Rattle.sp_link.proofs.OneChanges.{unlaid}
 
 -- a step of the kernel says something
 abbrev pub IsKernel : (g : RunInput) → ActOf (superpascal g) → Type 0
 IsKernel g (Moves o ws) = ⊥
-IsKernel g (Opens o ws) = Unit {0}
-IsKernel g (Forks o os) = Unit {0}
-IsKernel g (Offering o) = Unit {0}
-IsKernel g EndsProcess = Unit {0}
 IsKernel g (MeetsFault f) = ⊥
+IsKernel _ _ = Unit {0}
 
 pub something_said : (g : RunInput) (a : ActOf (superpascal g)) → IsKernel g a → (o : ActOutcome (superpascal g))
     → (what : Happening) × (happening_of {L = superpascal g} a o ≡ Some what)
@@ -105,11 +106,20 @@ module _ (G : RunContext) (lf : BirthRights) (more : ℕ → ℕ → BirthRights
       → OutputMatches G lf more q s1 e
   told_same (At pc st n) s s1 same h = λ may. let y = h may in (y.0, same ∙ y.1, y.2)
 
-module _ (G : RunContext) (lv : RightsOfAll G) (c : Course) (s : StateOf G.g) (u : System Plain) (l : Linked G lv c s u)
-    (i : ℕ)
-    (d : Config (Memory Plain)) (at_i : u.condition i ≡ sys.Working d) where
+module _ (at_stop : AtStop) where
+  open at_stop use {
+    run as G,
+    lives as lv,
+    course as c,
+    state as s,
+    system as u,
+    linked as l,
+    number as i,
+    configuration as d,
+  }
+
   abbrev v : Name
-  v = at.w G lv c s u l i d at_i
+  v = at.w at_stop
 
   -- where its turn has come to, on both sides
   pub record Halted : Type 1 where
@@ -158,7 +168,7 @@ module _ (G : RunContext) (lv : RightsOfAll G) (c : Course) (s : StateOf G.g) (u
       said = ap (happening u.births) event_is
 
       linked : Linked G lv c1 h.state (record u { condition = at_key ◌==◌ i (sys.Laid (config_of h.turn)) u.condition })
-      linked = linked_local G lv c s u l i d at_i h.state c1
+      linked = linked_local at_stop h.state c1
           (sys.Laid (config_of h.turn)) u.faulted h.others_stay h.forks
           h.pending h.totals h.stays
           (turn_known G.g G.pause (c.since v) v h.steps s h.state h.paused l.known h.way) h.left
@@ -169,7 +179,7 @@ module _ (G : RunContext) (lv : RightsOfAll G) (c : Course) (s : StateOf G.g) (u
 
       way_by : (e : Happening) → Laid ≡ e → Way_on G c s v e
       way_by e k = record {
-        unlaid = (its G lv c s u l i d at_i).4;
+        unlaid = unlaid at_stop;
         steps = h.steps;
         source = h.state;
         paused = h.paused;
@@ -235,7 +245,7 @@ module _ (G : RunContext) (lv : RightsOfAll G) (c : Course) (s : StateOf G.g) (u
         condition = at_key ◌==◌ i (sys.Laid (config_of h.turn)) u.condition;
         faulted = true;
       })
-      linked = linked_local G lv c s u l i d at_i t1 c1
+      linked = linked_local at_stop t1 c1
           (sys.Laid (config_of h.turn)) true h.others_stay h.forks h.pending
           h.totals h.stays known_now h.left h.runs h.rights
           (λ r a. ap (λ b. cond b (ticks_of G.g t1 v) (c.since r)) (differs name_test v r (λ e. a (sym e))))
@@ -245,7 +255,7 @@ module _ (G : RunContext) (lv : RightsOfAll G) (c : Course) (s : StateOf G.g) (u
 
       way_by : (e : Happening) → happenings.Faulted f ≡ e → Way_on G c s v e
       way_by e k = record {
-        unlaid = (its G lv c s u l i d at_i).4;
+        unlaid = unlaid at_stop;
         steps = h.steps;
         source = h.state;
         paused = h.paused;
@@ -259,17 +269,17 @@ module _ (G : RunContext) (lv : RightsOfAll G) (c : Course) (s : StateOf G.g) (u
 
   -- ---- the first process where the frame of the program is too large
 
-  module _ (z : TooLarge G (lv v) (λ k n. lv ((k, n) ∷ v)) v s.store (at.p1 G lv c s u l i d at_i) d) where
-    breaks : ◌≡◌ {A = WorkOutcome Action × Store} (run_tree same_loc (action_of G.g (at.p1 G lv c s u l i d at_i))
+  module _ (z : TooLarge G (lv v) (λ k n. lv ((k, n) ∷ v)) v s.store (at.p1 at_stop) d) where
+    breaks : ◌≡◌ {A = WorkOutcome Action × Store} (run_tree same_loc (action_of G.g (at.p1 at_stop))
         s.store)
         (EndsInFault fault.F12, s.store)
-    breaks = ap (λ (y : Process). run_tree same_loc (action_of G.g y) s.store) z.2
+    breaks = ap (λ (y : Process). run_tree same_loc (action_of G.g y) s.store) z.is_root
         ∙ ap (λ y. run_tree same_loc (Rattle.sp_meaning.specs.Actions.next_action G.g (fuel_of G.g (root G.g).own) y
         (root G.g).who
-        (root G.g).own) s.store) z.1
+        (root G.g).own) s.store) z.faults
 
-    says_it : happening_at G.g s v (at.p1 G lv c s u l i d at_i) ≡ Some (happenings.Faulted fault.F12)
-    says_it = kernel_says G.g v s (at.p1 G lv c s u l i d at_i) (runs_as_pr G lv c s u l i d at_i)
+    says_it : happening_at G.g s v (at.p1 at_stop) ≡ Some (happenings.Faulted fault.F12)
+    says_it = kernel_says G.g v s (at.p1 at_stop) (runs_as_pr at_stop)
         (EndsInFault fault.F12, s.store)
         breaks
 
@@ -277,32 +287,32 @@ module _ (G : RunContext) (lv : RightsOfAll G) (c : Course) (s : StateOf G.g) (u
     too_large_halt = record {
       turn = Faulted fault.F12 d;
       is_turn = subst (λ b. BeginsOrFaults b d (Faulted fault.F12 d)
-          (Rattle.sp_code.specs.Turns.Runs (ops G) G.code d (Faulted fault.F12 d))) (sym z.4) refl;
+          (Rattle.sp_code.specs.Turns.Runs (ops G) G.code d (Faulted fault.F12 d))) (sym z.no_room) refl;
       steps = 0;
       state = s;
       paused = false;
       way = (
         refl,
         refl,
-        at.p1 G lv c s u l i d at_i,
-        runs_as_pr G lv c s u l i d at_i,
+        at.p1 at_stop,
+        runs_as_pr at_stop,
         happenings.Faulted fault.F12,
         says_it,
       );
-      left = at.p1 G lv c s u l i d at_i;
-      runs = runs_as_pr G lv c s u l i d at_i;
+      left = at.p1 at_stop;
+      runs = runs_as_pr at_stop;
       others_stay = λ r a. refl;
       forks = refl;
       pending = refl;
       totals = refl;
       stays = λ a. inl refl;
-      rights = kt G lv c s u l i d at_i;
-      told = z.5;
+      rights = kt at_stop;
+      told = z.output;
     }
 
     pub too_large_fails : u.faulted ≡ false → Entry_of G c s u i d
     too_large_fails no_fault = failed_entry too_large_halt refl fault.F12 says_it
-        (kernel_next G.g v s (at.p1 G lv c s u l i d at_i) (runs_as_pr G lv c s u l i d at_i)
+        (kernel_next G.g v s (at.p1 at_stop) (runs_as_pr at_stop)
         (EndsInFault fault.F12, s.store) breaks)
         refl no_fault
 
@@ -311,19 +321,18 @@ module _ (G : RunContext) (lv : RightsOfAll G) (c : Course) (s : StateOf G.g) (u
 
   -- ---- where a turn has come to, by its end
 
-  module _ (z : ProcessMatches G (lv v) (kids G lv c s u l i d at_i) v (c.since v) (at.p1 G lv c s u l i d at_i) s.store
-      d) where
+  module _ (z : MatchesNow at_stop) where
     abbrev pub paused_halt : (todo : List Item) (o : LocalState) (m : Store)
-        → Meant G lv c s u l i d at_i z (Computed (source.Paused todo) o, m)
-        → Machined G lv c s u l i d at_i z (Computed (source.Paused todo) o, m) → Halted
+        → Meant at_stop z (Computed (source.Paused todo) o, m)
+        → PausesAt at_stop z todo o m → Halted
     paused_halt todo o m x t = record {
-      turn = Stopped machine.Pauses (At t.0 t.1 t.2);
-      is_turn = turn_is G lv c s u l i d at_i z (Stopped machine.Pauses (At t.0 t.1 t.2)) (t.4, t.5, t.6);
+      turn = Stopped machine.Pauses (At t.pc t.stack t.memory);
+      is_turn = turn_is at_stop z (Stopped machine.Pauses (At t.pc t.stack t.memory)) (t.last, t.comes, t.stops);
       steps = x.steps;
       state = x.state;
       paused = true;
       way = x.turn;
-      left = with_todo todo (at.p1 G lv c s u l i d at_i).who o;
+      left = with_todo todo (at.p1 at_stop).who o;
       runs = x.runs;
       others_stay = x.elsewhere.condition;
       forks = x.elsewhere.forks;
@@ -332,15 +341,15 @@ module _ (G : RunContext) (lv : RightsOfAll G) (c : Course) (s : StateOf G.g) (u
       stays = subst (λ y. (a : Loc) → (y a ≡ s.store a) ⊎ OwnOrGiven (W_of G lv) v a) (sym x.store) x.good.stays;
       rights = record {
         named = z.named;
-        forked = (kt G lv c s u l i d at_i).forked;
-        last = (kt G lv c s u l i d at_i).last;
+        forked = (kt at_stop).forked;
+        last = (kt at_stop).last;
         fit = x.good.fit;
       };
-      told = subst (λ y. OutputMatches G (lv v) (λ k n. lv ((k, n) ∷ v)) v y (At t.0 t.1 t.2)) (sym x.store)
-          (told_by G (lv v) (λ k n. lv ((k, n) ∷ v)) v t.0 t.1 t.7);
+      told = subst (λ y. OutputMatches G (lv v) (λ k n. lv ((k, n) ∷ v)) v y (At t.pc t.stack t.memory)) (sym x.store)
+          (told_by G (lv v) (λ k n. lv ((k, n) ∷ v)) v t.pc t.stack t.stand);
     }
 
-    module _ (r : WorkOutcome Action × Store) (x : Rattle.sp_link.proofs.AtStop.Stopped_at G lv c s u l i d at_i z r)
+    module _ (r : WorkOutcome Action × Store) (x : Rattle.sp_link.proofs.AtStop.Stopped_at at_stop z r)
         (what : Happening) (said : happening_at G.g x.state v x.left ≡ Some what) where
       abbrev pub halt_by : (tn : Turn (Memory Plain)) → IsTurn (ops G) G.code d tn
           → OutputMatches G (lv v) (λ k n. lv ((k, n) ∷ v)) v x.state.store (config_of tn) → Halted
@@ -358,13 +367,12 @@ module _ (G : RunContext) (lv : RightsOfAll G) (c : Course) (s : StateOf G.g) (u
         pending = x.elsewhere.pending;
         totals = x.elsewhere.totals;
         stays = x.good.stays;
-        rights = keeps_at G lv c s u l i d at_i z r x what said;
+        rights = keeps_at at_stop z r x what said;
         told = told;
       }
 
     -- what the step at a stop says
-    pub says_something : (r : WorkOutcome Action × Store) (x : Rattle.sp_link.proofs.AtStop.Stopped_at G lv c s u l i d
-        at_i z r)
+    pub says_something : (r : WorkOutcome Action × Store) (x : Rattle.sp_link.proofs.AtStop.Stopped_at at_stop z r)
         → IsKernel G.g (act G.g v x.state x.left x.runs r x.does) → (what : Happening)
         × (happening_at G.g x.state v x.left ≡ Some what)
     says_something r x k =
@@ -374,96 +382,104 @@ module _ (G : RunContext) (lv : RightsOfAll G) (c : Course) (s : StateOf G.g) (u
         (y.0, kernel_says G.g v x.state x.left x.runs r x.does ∙ y.1)
 
     abbrev pub forked_halt : (bs : List Birth) (todo : List Item) (o : LocalState) (m : Store)
-        → Meant G lv c s u l i d at_i z (Computed (source.Stops (Forked bs todo)) o, m)
-        → Machined G lv c s u l i d at_i z (Computed (source.Stops (Forked bs todo)) o, m) → Halted
+        → Meant at_stop z (Computed (source.Stops (Forked bs todo)) o, m)
+        → ForksAt at_stop z bs todo o m → Halted
     forked_halt bs todo o m x t = let y = says_something (Computed (Forked bs todo) o, m) x tt in
-        halt_by (Computed (Forked bs todo) o, m) x y.0 y.1 (Stopped t.5 (At t.0 t.1 t.2))
-        (turn_is G lv c s u l i d at_i z (Stopped t.5 (At t.0 t.1 t.2)) (t.4, t.6, t.7))
-        (told_same G (lv v) (λ k n. lv ((k, n) ∷ v)) v (At t.0 t.1 t.2) m x.state.store
-        (⊎_elim (λ b. b) (λ b. absurd b) (same_but_dead G lv c s u l i d at_i z (Forked bs todo) o m x tt Output))
-        (told_by G (lv v) (λ k n. lv ((k, n) ∷ v)) v t.0 t.1 t.8))
+        halt_by (Computed (Forked bs todo) o, m) x y.0 y.1 (Stopped t.stop (At t.pc t.stack t.memory))
+        (turn_is at_stop z (Stopped t.stop (At t.pc t.stack t.memory)) (t.last, t.comes, t.stops))
+        (told_same G (lv v) (λ k n. lv ((k, n) ∷ v)) v (At t.pc t.stack t.memory) m x.state.store
+        (⊎_elim (λ b. b) (λ b. absurd b) (same_but_dead at_stop z (Forked bs todo) o m x tt Output))
+        (told_by G (lv v) (λ k n. lv ((k, n) ∷ v)) v t.pc t.stack t.stand))
 
     abbrev pub offered_halt : (ch : Rattle.sp_meaning.specs.Model.Channel) (k : ℕ)
         (cg : Rattle.sp_meaning.specs.Model.Cargo LocationContent Rattle.sp_meaning.specs.LocalWork.Address)
         (todo : List Item) (o : LocalState)
-        (m : Store) → Meant G lv c s u l i d at_i z (Computed (source.Stops (Offered ch k cg todo)) o, m)
-        → Machined G lv c s u l i d at_i z (Computed (source.Stops (Offered ch k cg todo)) o, m) → Halted
+        (m : Store) → Meant at_stop z (Computed (source.Stops (Offered ch k cg todo)) o, m)
+        → OffersAt at_stop z ch k cg todo o m → Halted
     offered_halt ch k cg todo o m x t = let y = says_something (Computed (Offered ch k cg todo) o, m) x tt in
-        halt_by (Computed (Offered ch k cg todo) o, m) x y.0 y.1 (Stopped t.5 (At t.0 t.1 t.2))
-        (turn_is G lv c s u l i d at_i z (Stopped t.5 (At t.0 t.1 t.2)) (t.4, t.6, t.7))
-        (told_same G (lv v) (λ k n. lv ((k, n) ∷ v)) v (At t.0 t.1 t.2) m x.state.store
+        halt_by (Computed (Offered ch k cg todo) o, m) x y.0 y.1 (Stopped t.stop (At t.pc t.stack t.memory))
+        (turn_is at_stop z (Stopped t.stop (At t.pc t.stack t.memory)) (t.last, t.comes, t.stops))
+        (told_same G (lv v) (λ k n. lv ((k, n) ∷ v)) v (At t.pc t.stack t.memory) m x.state.store
         (⊎_elim (λ b. b) (λ b. absurd b)
-        (same_but_dead G lv c s u l i d at_i z (Offered ch k cg todo) o m x tt Output))
-        (told_by G (lv v) (λ k n. lv ((k, n) ∷ v)) v t.0 t.1 t.8))
+        (same_but_dead at_stop z (Offered ch k cg todo) o m x tt Output))
+        (told_by G (lv v) (λ k n. lv ((k, n) ∷ v)) v t.pc t.stack t.stand))
 
     abbrev pub over_halt : (o : LocalState) (m : Store)
-        → Meant G lv c s u l i d at_i z (Computed (source.Stops actions.Ended) o, m)
-        → Machined G lv c s u l i d at_i z (Computed (source.Stops actions.Ended) o, m) → Halted
+        → Meant at_stop z (Computed (source.Stops actions.Ended) o, m)
+        → EndsAt at_stop z o m → Halted
     over_halt o m x t = let y = says_something (Computed actions.Ended o, m) x tt in
-        halt_by (Computed actions.Ended o, m) x y.0 y.1 (Stopped machine.Ends (At t.0 t.1 t.2))
-        (turn_is G lv c s u l i d at_i z (Stopped machine.Ends (At t.0 t.1 t.2)) (At t.0 t.1 t.2, t.4, t.5))
-        (told_same G (lv v) (λ k n. lv ((k, n) ∷ v)) v (At t.0 t.1 t.2) m x.state.store
-        (⊎_elim (λ b. b) (λ b. absurd b) (same_but_dead G lv c s u l i d at_i z actions.Ended o m x tt Output))
-        (told_by G (lv v) (λ k n. lv ((k, n) ∷ v)) v t.0 t.1 t.6))
+        halt_by (Computed actions.Ended o, m) x y.0 y.1 (Stopped machine.Ends (At t.pc t.stack t.memory))
+        (turn_is at_stop z (Stopped machine.Ends (At t.pc t.stack t.memory)) (
+          At t.pc t.stack t.memory,
+          t.comes,
+          t.stops,
+        ))
+        (told_same G (lv v) (λ k n. lv ((k, n) ∷ v)) v (At t.pc t.stack t.memory) m x.state.store
+        (⊎_elim (λ b. b) (λ b. absurd b) (same_but_dead at_stop z actions.Ended o m x tt Output))
+        (told_by G (lv v) (λ k n. lv ((k, n) ∷ v)) v t.pc t.stack t.stand))
 
     -- the target of an open is no console
     abbrev pub opened_halt : (todo : List Item) (o : LocalState) (m : Store)
-        → Meant G lv c s u l i d at_i z (Computed (source.Stops (Opened todo)) o, m)
-        → Machined G lv c s u l i d at_i z (Computed (source.Stops (Opened todo)) o, m) → Halted
+        → Meant at_stop z (Computed (source.Stops (Opened todo)) o, m)
+        → OpensAt at_stop z todo o m → Halted
     opened_halt todo o m x t = let y = says_something (Computed (Opened todo) o, m) x tt in
-        halt_by (Computed (Opened todo) o, m) x y.0 y.1 (Stopped (machine.Opens t.6) (At t.0 t.1 t.2))
-        (turn_is G lv c s u l i d at_i z (Stopped (machine.Opens t.6) (At t.0 t.1 t.2)) (t.4, t.8, t.9))
-        (λ may. (let y = (t.10).output may in
-        (y.0, wrote may (same_but_one G lv c s u l i d at_i z todo o m x) ∙ y.1, ap output_of y.2)))
+        halt_by (Computed (Opened todo) o, m) x y.0 y.1 (Stopped (machine.Opens t.target) (At t.pc t.stack t.memory))
+        (turn_is at_stop z (Stopped (machine.Opens t.target) (At t.pc t.stack t.memory)) (t.last, t.comes, t.stops))
+        (λ may. (let y = t.stand.output may in
+        (y.0, wrote may (same_but_one at_stop z todo o m x) ∙ y.1, ap output_of y.2)))
       where
-        output_is : m Output ≡ t.7 Output
-        output_is = ap (λ (y : Store). y Output) t.13
-            ∙ ap (λ b. cond b (Rattle.sp_meaning.specs.LocalWork.content_with t.5 (t.7 t.5.spot)
+        output_is : m Output ≡ t.store Output
+        output_is = ap (λ (y : Store). y Output) t.store_is
+            ∙ ap (λ b. cond b (Rattle.sp_meaning.specs.LocalWork.content_with t.variable (t.store t.variable.spot)
             (Rattle.sp_meaning.specs.LocalWork.Tree
             (Rattle.sp_meaning.specs.Values.Chan
             (record {
-              owner = (at.p1 G lv c s u l i d at_i).who.name;
-              nth = (at.p1 G lv c s u l i d at_i).who.opens;
-            })))) (t.7 Output))
-            (cell_no_output t.5 t.11.owner t.11.frame t.11.variable t.11.cell_is)
+              owner = (at.p1 at_stop).who.name;
+              nth = (at.p1 at_stop).who.opens;
+            })))) (t.store Output))
+            (cell_no_output t.variable t.points.owner t.points.frame t.points.variable t.points.cell_is)
 
         wrote : Rattle.sp_link.proofs.Relation.IsReadable G (lv v) (λ k n. lv ((k, n) ∷ v)) v Output
-            → IsSameButOne (length x.left.own.frames) x.state.store m → x.state.store Output ≡ t.7 Output
+            → IsSameButOne (length x.left.own.frames) x.state.store m → x.state.store Output ≡ t.store Output
         wrote may h = ⊎_elim (λ e. e ∙ output_is)
             (λ e. ⊎_elim (λ b. absurd b) (λ b. absurd
-            (let y = (t.10).output may in no_tree h.value y.0 (sym h.now ∙ ap m b ∙ output_is ∙ y.1))) e)
+            (let y = t.stand.output may in no_tree h.value y.0 (sym h.now ∙ ap m b ∙ output_is ∙ y.1))) e)
             (h.others Output)
 
-    abbrev pub bad_halt : (f : Fault) (m : Store) → Meant G lv c s u l i d at_i z (EndsInFault f, m)
-        → Machined G lv c s u l i d at_i z (EndsInFault f, m) → Halted
+    abbrev pub bad_halt : (f : Fault) (m : Store) → Meant at_stop z (EndsInFault f, m)
+        → Machined at_stop z (EndsInFault f, m) → Halted
     bad_halt f m x t =
         halt_by (EndsInFault f, m) x (happenings.Faulted f)
         (kernel_says G.g v x.state x.left x.runs (EndsInFault f, m) x.does)
         (Faulted f t.configuration)
-        (turn_is G lv c s u l i d at_i z (Faulted f t.configuration) (t.configuration, t.comes, (t.fails, refl)))
+        (turn_is at_stop z (Faulted f t.configuration) (t.configuration, t.comes, (t.fails, refl)))
         (told_same G (lv v) (λ k n. lv ((k, n) ∷ v)) v t.configuration m x.state.store
-        (same_output G lv c s u l i d at_i z f m x)
-        (told_break G (lv v) (λ k n. lv ((k, n) ∷ v)) v (at.p1 G lv c s u l i d at_i).who (c.since v) t.configuration m
+        (same_output at_stop z f m x)
+        (told_break G (lv v) (λ k n. lv ((k, n) ∷ v)) v (at.p1 at_stop).who (c.since v) t.configuration m
         t.stands))
 
     -- the entry of a fault of an instruction
-    pub failing : (f : Fault) (m : Store) → Meant G lv c s u l i d at_i z (EndsInFault f, m)
-        → Machined G lv c s u l i d at_i z (EndsInFault f, m) → u.faulted ≡ false → Entry_of G c s u i d
+    pub failing : (f : Fault) (m : Store) → Meant at_stop z (EndsInFault f, m)
+        → Machined at_stop z (EndsInFault f, m) → u.faulted ≡ false → Entry_of G c s u i d
     failing f m x t no_fault = failed_entry (bad_halt f m x t) refl f
         (kernel_says G.g v x.state x.left x.runs (EndsInFault f, m) x.does)
         (kernel_next G.g v x.state x.left x.runs (EndsInFault f, m) x.does) refl no_fault
 
     -- and of a process that is laid, wherever its turn ends
     pub laying : (r : WorkOutcome source.Stop × Store) → Rattle.sp_codegen.proofs.Safe.AtEnd r
-        → Meant G lv c s u l i d at_i z r → Machined G lv c s u l i d at_i z r → u.faulted ≡ true → Entry_of G c s u i d
-    laying (Computed (source.Paused todo) o, m) e x t bad = laid_entry (paused_halt todo o m x t) bad
+        → Meant at_stop z r → Machined at_stop z r → u.faulted ≡ true → Entry_of G c s u i d
+    laying (Computed (source.Paused todo) o, m) e x t bad = laid_entry (paused_halt todo o m x (pauses_at at_stop z todo
+        o m t)) bad
     laying (Computed (source.Stops (Stepped todo)) o, m) e x t bad = absurd e
     laying (Computed (source.Stops (Ticked todo)) o, m) e x t bad = absurd e
-    laying (Computed (source.Stops (Opened todo)) o, m) e x t bad = laid_entry (opened_halt todo o m x t) bad
-    laying (Computed (source.Stops (Forked bs todo)) o, m) e x t bad = laid_entry (forked_halt bs todo o m x t) bad
+    laying (Computed (source.Stops (Opened todo)) o, m) e x t bad =
+        laid_entry (opened_halt todo o m x (opens_at at_stop z todo o m t)) bad
+    laying (Computed (source.Stops (Forked bs todo)) o, m) e x t bad =
+        laid_entry (forked_halt bs todo o m x (forks_at at_stop z bs todo o m t)) bad
     laying (Computed (source.Stops (Offered ch k cg todo)) o, m) e x t bad =
-        laid_entry (offered_halt ch k cg todo o m x t) bad
-    laying (Computed (source.Stops actions.Ended) o, m) e x t bad = laid_entry (over_halt o m x t) bad
+        laid_entry (offered_halt ch k cg todo o m x (offers_at at_stop z ch k cg todo o m t)) bad
+    laying (Computed (source.Stops actions.Ended) o, m) e x t bad =
+        laid_entry (over_halt o m x (ends_at at_stop z o m t)) bad
     laying (EndsInFault f, m) e x t bad = laid_entry (bad_halt f m x t) bad
     laying (IllFormed, m) e x t bad = absurd e
     laying (OutOfFuel, m) e x t bad = absurd e

@@ -216,26 +216,12 @@ to_receive b i c HasGone e = absurd (cc e)
 to_receive b i c (Over d) e = absurd (cc e)
 
 sending : (d : Doing) (c : ℕ) → phase d ≡ ToSend c → d ≡ Sending c
-sending Unborn c e = absurd (cc e)
-sending Ready c e = absurd (cc e)
-sending (Out w) c e = absurd (cc e)
 sending (Sending c1) c e = let same : c1 ≡ c = cc e in ap Sending same
-sending (Receiving c1) c e = absurd (cc e)
-sending (Joining n) c e = absurd (cc e)
-sending Laid c e = absurd (cc e)
-sending Ended c e = absurd (cc e)
-sending Gone c e = absurd (cc e)
+sending _ _ e = absurd (cc e)
 
 receiving : (d : Doing) (c : ℕ) → phase d ≡ ToReceive c → d ≡ Receiving c
-receiving Unborn c e = absurd (cc e)
-receiving Ready c e = absurd (cc e)
-receiving (Out w) c e = absurd (cc e)
-receiving (Sending c1) c e = absurd (cc e)
 receiving (Receiving c1) c e = let same : c1 ≡ c = cc e in ap Receiving same
-receiving (Joining n) c e = absurd (cc e)
-receiving Laid c e = absurd (cc e)
-receiving Ended c e = absurd (cc e)
-receiving Gone c e = absurd (cc e)
+receiving _ _ e = absurd (cc e)
 
 module _ (k : Control) (t : System Plain) (a : AgreesWithSystem k t) where
   control_waits : (w : Waiting) → IsWaiting k w → WaitsAs t w
@@ -261,26 +247,26 @@ module _ (k : Control) (t : System Plain) (a : AgreesWithSystem k t) where
       )
 
   system_waits : (w : Waiting) → WaitsAs t w → IsWaiting k w
-  system_waits w h = by h.1 h.3 h.4
+  system_waits w (i, stop, d, at, told) = by stop at told
     where
-      by : (stop : Stop) → t.condition h.0 ≡ Waits stop h.2 → waiting_at t.births h.0 stop ≡ Some w → IsWaiting k w
+      by : (stop : Stop) → t.condition i ≡ Waits stop d → waiting_at t.births i stop ≡ Some w → IsWaiting k w
       by (Forks tb v n) e r = absurd (none-some _ r)
       by (Opens x) e r = absurd (none-some _ r)
       by (Sends c m cs) e r = (
-        h.0,
+        i,
         c,
         inl (
-          sending (k.doing h.0) c (a.each h.0 ∙ ap (λ y. phase_in y) e),
-          sym (same_Some _ _ r) ∙ ap (λ (y : Births). Sends_at y h.0 c) (sym a.births),
+          sending (k.doing i) c (a.each i ∙ ap (λ y. phase_in y) e),
+          sym (same_Some _ _ r) ∙ ap (λ (y : Births). Sends_at y i c) (sym a.births),
         ),
       )
       by (Receives c m x) e r = (
-        h.0,
+        i,
         c,
         inr (
-          receiving (k.doing h.0) c (a.each h.0 ∙ ap (λ y. phase_in y) e),
+          receiving (k.doing i) c (a.each i ∙ ap (λ y. phase_in y) e),
           sym (same_Some _ _ r)
-              ∙ ap (λ (y : Births). Receives_at y h.0 c) (sym a.births),
+              ∙ ap (λ (y : Births). Receives_at y i c) (sym a.births),
         ),
       )
       by Ends e r = absurd (none-some _ r)

@@ -48,14 +48,9 @@ now_by G lv c s u l = subst (λ n. Linked (at_open G n) lv c s u) l.open_is l
 
 -- the channel that an event speaks of is open
 abbrev pub IsOpen : Births → Event → Type 0
-IsOpen b (event.Fork n) = Unit {0}
-IsOpen b event.Open = Unit {0}
 IsOpen b (event.Send c) = c < b.channels
 IsOpen b (event.Receive c) = c < b.channels
-IsOpen b event.End = Unit {0}
-IsOpen b (event.Fault f) = Unit {0}
-IsOpen b event.Laid = Unit {0}
-IsOpen b event.Pause = Unit {0}
+IsOpen _ _ = Unit {0}
 
 module _ (G : RunContext) where
   -- and the machine's system after it is u
@@ -115,10 +110,11 @@ module _ (G : RunContext) where
     lives = lv;
     linked = subst (λ z. Now G lv c s z) (sym h) l;
   }
-  goes_along one (e ∷ es) lv c s u t l b h = on (λ z lv1 c1 s1 k q. goes_along one es lv1 c1 s1 h.0 t k q h.2)
+  goes_along one (e ∷ es) lv c s u t l b (v, (d, at, tn, is_turn, event_is, after_is), more) =
+      on (λ z lv1 c1 s1 k q. goes_along one es lv1 c1 s1 v t k q more)
     where
-      on : ((z : Unit {0}) (lv1 : RightsOfAll G) (c1 : Course) (s1 : StateOf G.g) → Now G lv1 c1 s1 h.0
-          → AllBegan (h.0).births es → Goes_along c1 s1 (h.0).births es t) → Goes_along c s u.births (e ∷ es) t
+      on : ((z : Unit {0}) (lv1 : RightsOfAll G) (c1 : Course) (s1 : StateOf G.g) → Now G lv1 c1 s1 v
+          → AllBegan v.births es → Goes_along c1 s1 v.births es t) → Goes_along c s u.births (e ∷ es) t
       on ih = record {
         steps = x.way.steps + (x.way.cost + y.steps);
         course = y.course;
@@ -142,21 +138,17 @@ module _ (G : RunContext) where
         linked = y.linked;
       }
         where
-          v : System Plain
-          v = h.0
-
-          d : Config (Memory Plain)
-          d = h.1.0
-
           given : v.births ≡ births_after_event u.births e.process e.event
-          given = ap (λ (z : System Plain). z.births) h.1.5 ∙ ap (λ z. births_after_event u.births e.process z) h.1.4
+          given = ap (λ (z : System Plain). z.births) after_is ∙ ap (λ z. births_after_event u.births e.process z)
+              event_is
 
           names : occurrence u.births e ≡ record { who = G.births.name e.process; what = happening u.births e.event }
           names = ap (λ z. record { who = z; what = happening u.births e.event })
-              (l.began.names e.process (is_born_now lv c s u l e.process d h.1.1))
+              (l.began.names e.process (is_born_now lv c s u l e.process d at))
 
           x : Goes_on c s (G.births.name e.process) (happening u.births e.event) v
-          x = one lv c s u v e.process e.event l h.1 (subst (λ z. Began G z) (sym given) b.0)
+          x = one lv c s u v e.process e.event l (d, at, tn, is_turn, event_is, after_is) (subst (λ z. Began G z)
+              (sym given) b.0)
 
           y : Goes_along x.way.course x.way.state v.births es t
           y = ih tt x.lives x.way.course x.way.state x.linked (subst (λ z. AllBegan z es) (sym given) b.1)

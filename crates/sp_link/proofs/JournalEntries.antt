@@ -1,19 +1,17 @@
 -- Every entry on both sides: each process that runs makes one, by how its turn ends (`entry`). So the meaning goes
 -- along every journal of the system (`system_is_meaning`).
-use Rattle.std.proofs.Common.{◌≡◌, inl, inr, ⊎_elim, ℕ, List, Bool, true, false, refl, sym, ap, ◌∙◌, subst}
+use Rattle.std.proofs.Common.{◌≡◌, inl, inr, ⊎_elim, List, Bool, true, false, refl, sym, ap, ◌∙◌, subst}
 use Rattle.sp_journal.specs.declared.entry.Entry.{Entry}
 use Rattle.sp_journal.specs.Births.{first_births, happening}
 use Rattle.sp_cell.specs.Map.{Plain}
 use Rattle.sp_meaning.specs.LocalWork.{WorkOutcome, Computed, EndsInFault, IllFormed, OutOfFuel}
 use Rattle.sp_meaning.specs.Actions.{Stepped, Ticked, Opened, Forked, Offered, Ended}
 use Rattle.sp_meaning.specs.Run.{Store}
-use Rattle.sp_meaning.specs.Runs.{StateOf, start}
-use Rattle.sp_meaning.specs.Along.{Course, no_course}
+use Rattle.sp_meaning.specs.Runs.{start}
+use Rattle.sp_meaning.specs.Along.{no_course}
 use Rattle.sp_meaning.specs.Turn as source
-use Rattle.sp_code.specs.Machine.{Config}
-use Rattle.sp_code.specs.Memory.{Memory}
 use Rattle.sp_code.specs.PlainStore.{plain}
-use Rattle.sp_code.specs.System.{System, Working, IsSystem, opening_system, system_after_turn, event_of}
+use Rattle.sp_code.specs.System.{System, IsSystem, opening_system, system_after_turn, event_of}
 use Rattle.sp_code.proofs.Turning.{turn_same}
 use Rattle.sp_codegen.proofs.Safe.{AtEnd}
 use Rattle.sp_link.proofs.TurnsMeet.{outcome, kept, turned, ends, result}
@@ -26,87 +24,96 @@ use Rattle.sp_link.proofs.Offers.{offering}
 use Rattle.sp_link.proofs.Opens.{opening_entry}
 use Rattle.sp_link.proofs.Parallels.{parallel_entry}
 use Rattle.sp_link.proofs.Foralls.{forall_entry}
-use Rattle.sp_codegen.specs.Following.{ForkIs}
-use Rattle.sp_link.proofs.Relation.{RunContext, RightsOfAll, ProcessMatches, TooLarge, Linked, Began, at_open, run_is}
-use Rattle.sp_link.proofs.Relation.{ops, execution}
+use Rattle.sp_link.proofs.Relation.{RunContext, RightsOfAll, TooLarge, Began, at_open, run_is}
+use Rattle.sp_link.proofs.Relation.{ops}
+use Rattle.sp_link.proofs.Relation.{AtStop, stop_of}
+use Rattle.sp_link.proofs.Pauses.{MatchesNow, running, ForksAt, pauses_at, forks_at, offers_at, opens_at, ends_at}
+use Rattle.sp_link.proofs.MachineStops.{ForkStop}
 
-module _ (G : RunContext) where
-  module _ (lv : RightsOfAll G) (c : Course) (s : StateOf G.g) (u : System Plain) (l : Linked G lv c s u) (i : ℕ)
-      (d : Config (Memory Plain)) (at : u.condition i ≡ Working d) where
-    module _ (z : ProcessMatches G (lv (q G lv c s u l i d at)) (kids G lv c s u l i d at) (q G lv c s u l i d at)
-        (c.since (q G lv c s u l i d at)) (pr G lv c s u l i d at) s.store d) where
-      by_no_fault : (r : WorkOutcome source.Stop × Store) → AtEnd r → Meant G lv c s u l i d at z r
-          → Machined G lv c s u l i d at z r → Kept_to G lv c s u l i d at z r → u.faulted ≡ false
-          → Entry_of G c s u i d
-      by_no_fault (Computed (source.Paused todo) o, m) e x t y f = pausing G lv c s u l i d at z todo o m x t f
-      by_no_fault (Computed (source.Stops (Stepped todo)) o, m) e x t y f = absurd e
-      by_no_fault (Computed (source.Stops (Ticked todo)) o, m) e x t y f = absurd e
-      by_no_fault (Computed (source.Stops (Opened todo)) o, m) e x t y f =
-          opening_entry G lv c s u l i d at z todo o m x t y f
-      by_no_fault (Computed (source.Stops (Forked bs todo)) o, m) e x t y f =
-          by_form (subst (λ b. ForkIs (execution G (lv (q G lv c s u l i d at)) (kids G lv c s u l i d at)
-          (q G lv c s u l i d at) z.fresh (pr G lv c s u l i d at).who z.named (c.since (q G lv c s u l i d at))) b t.3
-          bs t.5) t.10 t.11)
-        where
-          by_form : ForkIs (execution G (lv (q G lv c s u l i d at)) (kids G lv c s u l i d at) (q G lv c s u l i d at)
-              z.fresh (pr G lv c s u l i d at).who z.named (c.since (q G lv c s u l i d at))) true t.3 bs t.5
-              → Entry_of G c s u i d
-          by_form (inl h) = parallel_entry G lv c s u l i d at z bs todo o m x t y f h
-          by_form (inr h) = forall_entry G lv c s u l i d at z bs todo o m x t y f h
-      by_no_fault (Computed (source.Stops (Offered ch k a todo)) o, m) e x t y f =
-          offering G lv c s u l i d at z ch k a todo o m x t y f
-      by_no_fault (Computed (source.Stops Ended) o, m) e x t y f = finishing G lv c s u l i d at z o m x t f
-      by_no_fault (EndsInFault f, m) e x t y q = failing G lv c s u l i d at z f m x t q
-      by_no_fault (IllFormed, m) e x t y f = absurd e
-      by_no_fault (OutOfFuel, m) e x t y f = absurd e
+module _ (at_stop : AtStop) where
+  open at_stop use {
+    run as G,
+    lives as lv,
+    course as c,
+    state as s,
+    system as u,
+    number as i,
+    configuration as d,
+  }
 
-      by_fault : (b : Bool) → u.faulted ≡ b → (r : WorkOutcome source.Stop × Store) → AtEnd r
-          → Meant G lv c s u l i d at z r
-          → Machined G lv c s u l i d at z r → Kept_to G lv c s u l i d at z r → Entry_of G c s u i d
-      by_fault true f r e x t y = laying G lv c s u l i d at z r e x t f
-      by_fault false f r e x t y = by_no_fault r e x t y f
-
-      abbrev kt : Rattle.sp_meaning.proofs.Owned.Keeps_to G.g.program (Rattle.sp_link.proofs.Relation.W_of G lv)
-          (Rattle.sp_link.proofs.Relation.R_of G lv) s.forks (q G lv c s u l i d at) (pr G lv c s u l i d at)
-      kt = keeps_to G lv c s u l i d at
-
-      standing : Entry_of G c s u i d
-      standing = by_fault u.faulted refl
-          (result G (lv (q G lv c s u l i d at)) (kids G lv c s u l i d at) (q G lv c s u l i d at)
-          (c.since (q G lv c s u l i d at)) s (pr G lv c s u l i d at) d z (runs_as_pr G lv c s u l i d at)
-          (light G lv c s u l i d at) kt.last kt.fit)
-          (ends G (lv (q G lv c s u l i d at)) (kids G lv c s u l i d at) (q G lv c s u l i d at)
-          (c.since (q G lv c s u l i d at)) s (pr G lv c s u l i d at) d z (runs_as_pr G lv c s u l i d at)
-          (light G lv c s u l i d at) kt.last kt.fit)
-          (outcome G (lv (q G lv c s u l i d at)) (kids G lv c s u l i d at) (q G lv c s u l i d at)
-          (c.since (q G lv c s u l i d at)) s (pr G lv c s u l i d at) d z (runs_as_pr G lv c s u l i d at)
-          (light G lv c s u l i d at) kt.last kt.fit)
-          (turned G (lv (q G lv c s u l i d at)) (kids G lv c s u l i d at) (q G lv c s u l i d at)
-          (c.since (q G lv c s u l i d at)) s (pr G lv c s u l i d at) d z (runs_as_pr G lv c s u l i d at)
-          (light G lv c s u l i d at) kt.last kt.fit)
-          (kept G (lv (q G lv c s u l i d at)) (kids G lv c s u l i d at) (q G lv c s u l i d at)
-          (c.since (q G lv c s u l i d at)) s (pr G lv c s u l i d at) d z (runs_as_pr G lv c s u l i d at)
-          (light G lv c s u l i d at) kt.last kt.fit)
-
-    -- the entry of a process that runs: it has one
-    pub entry : Entry_of G c s u i d
-    entry = ⊎_elim (λ z. standing z) (λ z. by z u.faulted refl) (its G lv c s u l i d at).2
+  module _ (z : MatchesNow at_stop) where
+    by_no_fault : (r : WorkOutcome source.Stop × Store) → AtEnd r → Meant at_stop z r
+        → Machined at_stop z r → Kept_to at_stop z r → u.faulted ≡ false
+        → Entry_of G c s u i d
+    by_no_fault (Computed (source.Paused todo) o, m) e x t y f =
+        pausing at_stop z todo o m x (pauses_at at_stop z todo o m t) f
+    by_no_fault (Computed (source.Stops (Stepped todo)) o, m) e x t y f = absurd e
+    by_no_fault (Computed (source.Stops (Ticked todo)) o, m) e x t y f = absurd e
+    by_no_fault (Computed (source.Stops (Opened todo)) o, m) e x t y f =
+        opening_entry at_stop z todo o m x (opens_at at_stop z todo o m t) y f
+    by_no_fault (Computed (source.Stops (Forked bs todo)) o, m) e x t y f =
+        by_form t1.forks
       where
-        by : TooLarge G (lv (q G lv c s u l i d at)) (kids G lv c s u l i d at) (q G lv c s u l i d at) s.store
-            (pr G lv c s u l i d at) d → (b : Bool) → u.faulted ≡ b → Entry_of G c s u i d
-        by z true f = too_large_laid G lv c s u l i d at z f
-        by z false f = too_large_fails G lv c s u l i d at z f
+        t1 : ForksAt at_stop z bs todo o m
+        t1 = forks_at at_stop z bs todo o m t
+
+        by_form : ForkStop (running at_stop z) t1.frames bs t1.stop → Entry_of G c s u i d
+        by_form (inl h) = parallel_entry at_stop z bs todo o m x t1 y f h
+        by_form (inr h) = forall_entry at_stop z bs todo o m x t1 y f h
+    by_no_fault (Computed (source.Stops (Offered ch k a todo)) o, m) e x t y f =
+        offering at_stop z ch k a todo o m x (offers_at at_stop z ch k a todo o m t) y f
+    by_no_fault (Computed (source.Stops Ended) o, m) e x t y f = finishing at_stop z o m x (ends_at at_stop z o m t) f
+    by_no_fault (EndsInFault f, m) e x t y q = failing at_stop z f m x t q
+    by_no_fault (IllFormed, m) e x t y f = absurd e
+    by_no_fault (OutOfFuel, m) e x t y f = absurd e
+
+    by_fault : (b : Bool) → u.faulted ≡ b → (r : WorkOutcome source.Stop × Store) → AtEnd r
+        → Meant at_stop z r
+        → Machined at_stop z r → Kept_to at_stop z r → Entry_of G c s u i d
+    by_fault true f r e x t y = laying at_stop z r e x t f
+    by_fault false f r e x t y = by_no_fault r e x t y f
+
+    abbrev kt : Rattle.sp_meaning.proofs.Owned.Keeps_to G.g.program (Rattle.sp_link.proofs.Relation.W_of G lv)
+        (Rattle.sp_link.proofs.Relation.R_of G lv) s.forks (q at_stop) (pr at_stop)
+    kt = keeps_to at_stop
+
+    standing : Entry_of G c s u i d
+    standing = by_fault u.faulted refl
+        (result G (lv (q at_stop)) (kids at_stop) (q at_stop)
+        (c.since (q at_stop)) s (pr at_stop) d z (runs_as_pr at_stop)
+        (light at_stop) kt.last kt.fit)
+        (ends G (lv (q at_stop)) (kids at_stop) (q at_stop)
+        (c.since (q at_stop)) s (pr at_stop) d z (runs_as_pr at_stop)
+        (light at_stop) kt.last kt.fit)
+        (outcome G (lv (q at_stop)) (kids at_stop) (q at_stop)
+        (c.since (q at_stop)) s (pr at_stop) d z (runs_as_pr at_stop)
+        (light at_stop) kt.last kt.fit)
+        (turned G (lv (q at_stop)) (kids at_stop) (q at_stop)
+        (c.since (q at_stop)) s (pr at_stop) d z (runs_as_pr at_stop)
+        (light at_stop) kt.last kt.fit)
+        (kept G (lv (q at_stop)) (kids at_stop) (q at_stop)
+        (c.since (q at_stop)) s (pr at_stop) d z (runs_as_pr at_stop)
+        (light at_stop) kt.last kt.fit)
+
+  -- the entry of a process that runs: it has one
+  pub entry : Entry_of G c s u i d
+  entry = ⊎_elim (λ z. standing z) (λ z. by z u.faulted refl) (its at_stop).2
+    where
+      by : TooLarge G (lv (q at_stop)) (kids at_stop) (q at_stop) s.store
+          (pr at_stop) d → (b : Bool) → u.faulted ≡ b → Entry_of G c s u i d
+      by z true f = too_large_laid at_stop z f
+      by z false f = too_large_fails at_stop z f
 
 -- however many channels are open
 module _ (G : RunContext) where
   -- one entry on both sides
   pub one_entry : OneEntry G
-  one_entry lv c s u t i e l h began =
-      let en = entry (at_open G u.births.channels) lv c s u l i h.0 h.1 in
-      let same : en.turn ≡ h.2 = turn_same (ops G) G.code h.0 en.turn h.2 en.is_turn h.3 in
+  one_entry lv c s u t i e l (d, at, tn, is_turn, event_is, after_is) began =
+      let en = entry (stop_of (at_open G u.births.channels) lv c s u l i d at) in
+      let same : en.turn ≡ tn = turn_same (ops G) G.code d en.turn tn en.is_turn is_turn in
       let at : system_after_turn plain (run_is G) i en.turn u ≡ t =
-      ap (λ x. system_after_turn plain (run_is G) i x u) same ∙ sym h.5 in
-      let said : event_of G.g.limits u en.turn ≡ e = ap (λ x. event_of G.g.limits u x) same ∙ h.4 in
+      ap (λ x. system_after_turn plain (run_is G) i x u) same ∙ sym after_is in
+      let said : event_of G.g.limits u en.turn ≡ e = ap (λ x. event_of G.g.limits u x) same ∙ event_is in
       subst (λ x. Goes_on G c s (G.births.name i) (happening u.births e) x) at
       (subst (λ x. Goes_on G c s (G.births.name i) (happening u.births x)
       (system_after_turn plain (run_is G) i en.turn u)) said

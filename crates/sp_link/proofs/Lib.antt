@@ -1,55 +1,56 @@
 pub mod Relation
 pub mod Journal
-pub mod SourceTurns
-pub mod TurnsEnd
-pub mod TurnsKeep
-pub mod ParallelOrBelow
-pub mod OthersStay
-pub mod AfterEntry
-pub mod TurnsMeet
-pub mod OneChanges
+mod SourceTurns
+mod TurnsEnd
+mod TurnsKeep
+mod ParallelOrBelow
+mod OthersStay
+mod AfterEntry
+mod TurnsMeet
+mod MachineStops
+mod OneChanges
 pub mod Pauses
-pub mod KernelSteps
-pub mod Rejoins
-pub mod Newborns
-pub mod Forks
-pub mod Scoping
-pub mod Splits
-pub mod Parallels
-pub mod Foralls
-pub mod Opens
-pub mod FirstRelation
+mod KernelSteps
+mod Rejoins
+mod Newborns
+mod Forks
+mod Scoping
+mod Splits
+mod Parallels
+mod Foralls
+mod Opens
+mod FirstRelation
 pub mod JournalEntries
-pub mod AtStop
-pub mod Ends
-pub mod Halts
-pub mod ChildrenStand
-pub mod EachStands
-pub mod TurnsSafe
+mod AtStop
+mod Ends
+mod Halts
+mod ChildrenStand
+mod EachStands
+mod TurnsSafe
 pub mod OneState
 pub mod Replay
-pub mod Messages
-pub mod Fronts
-pub mod Outputs
+mod Messages
+mod Fronts
+mod Outputs
 pub mod Theorem
 pub mod Programs
-pub mod NewRights
-pub mod MoreChannels
-pub mod WhoRuns
-pub mod AtOffer
-pub mod OffersWait
-pub mod OffersMeet
-pub mod Offers
-pub mod BoundedRanks
-pub mod StraightCode
-pub mod Ranks
-pub mod Formals
-pub mod SafeSteps
+mod NewRights
+mod MoreChannels
+mod WhoRuns
+mod AtOffer
+mod OffersWait
+mod OffersMeet
+mod Offers
+mod BoundedRanks
+mod StraightCode
+mod Ranks
+mod Formals
+mod SafeSteps
 pub mod Soundness
 pub mod FaultEntries
-pub mod Waiters
+mod Waiters
 pub mod Endings
 pub mod Histories
-pub mod NameOrder
-pub mod Contention
+mod NameOrder
+mod Contention
 pub mod SortedWaiters

@@ -42,12 +42,12 @@ module _ (G : RunContext) (lf : BirthRights) (kids : ℕ → ℕ → BirthRights
             (sym (simple_value G.g.program G.formed k (subst Rattle.sp_codegen.specs.Relation.OneCell (sym i) tt))) tt,
         (refl, tt),
       ))
-  sent_flat w since k Channels i v e s =
-      subst (λ y. Flat G.g.program (Named G) k y (cells_in e)) (sym s.2)
-      (subst (λ y. Flat G.g.program (Named G) k (Chan s.0) (cells_in y)) (sym s.3) (
-        subst (λ y. SameShape y (Chan s.0)) (sym
+  sent_flat w since k Channels i v e (nm, _, value_is, entry_is, named) =
+      subst (λ y. Flat G.g.program (Named G) k y (cells_in e)) (sym value_is)
+      (subst (λ y. Flat G.g.program (Named G) k (Chan nm) (cells_in y)) (sym entry_is) (
+        subst (λ y. SameShape y (Chan nm)) (sym
             (simple_value G.g.program G.formed k (subst Rattle.sp_codegen.specs.Relation.OneCell (sym i) tt))) tt,
-        (s.4, tt),
+        (named, tt),
       ))
   sent_flat w since k Many i v e s = subst (λ y. Flat G.g.program (Named G) k v (cells_in y)) (sym s.1) s.2
   sent_flat w since k NoSort i v e s = absurd s

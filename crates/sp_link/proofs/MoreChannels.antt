@@ -23,14 +23,14 @@ use Rattle.sp_meaning.specs.Runs.{StateOf}
 use Rattle.sp_meaning.specs.Along.{Course}
 use Rattle.sp_meaning.specs.Steps.{has_ended}
 use Rattle.sp_meaning.proofs.Rights.{OwnLocation}
-use Rattle.sp_code.specs.Machine.{Entry, Config, Stop}
+use Rattle.sp_code.specs.Machine.{Entry, Config, Stop, At}
 use Rattle.sp_code.specs.Scopes.{Sort, Ordinals, Channels, Many, NoSort, sort}
 use Rattle.sp_code.specs.System as sys
 use Rattle.sp_codegen.specs.TurnAgrees.{due_after}
 use Rattle.sp_codegen.specs.Relation.{Stood}
 use Rattle.sp_link.proofs.AfterEntry.{again}
 use Rattle.sp_link.proofs.Relation.{RunContext, BirthRights, Called, Named, Fresh, ProcessMatches, Joined, Handed}
-use Rattle.sp_link.proofs.Relation.{Performs, Fo, Ca, Rel}
+use Rattle.sp_link.proofs.Relation.{Performs, Fo, Ca, Rel, OutputMatches, TooLarge}
 use Rattle.sp_link.proofs.Relation.{law, left_of, at_open, ops}
 
 module _ (Named Named1 : Channel → ℕ → Type 0) (more : (c : Channel) (j : ℕ) → Named c j → Named1 c j) where
@@ -148,7 +148,7 @@ module _ (G : RunContext) where
         → Stood (Rel G lf kids q w since) G.g.program y k v e
         → Stood (Rel (one_more G) lf kids q w since) G.g.program y k v e
     stood_more w since Ordinals k v e h = h
-    stood_more w since Channels k v e h = (h.0, h.1, h.2, h.3, named_more h.0 h.1 h.4)
+    stood_more w since Channels k v e (nm, k1, v_is, e_is, named) = (nm, k1, v_is, e_is, named_more nm k1 named)
     stood_more w since Many k v e h = (
       h.0,
       h.1,
@@ -160,11 +160,12 @@ module _ (G : RunContext) where
         (k : ℕ)
         (x : Cargo LocationContent Address) (z : Stop) → Ca G lf kids q f w n since js c k x z
         → Ca (one_more G) lf kids q (fresh_more f) w n since js c k x z
-    cargo_more f w n since js c k (Message (Tree v)) z h =
-        (h.0, h.1, h.2, named_more c h.0 h.3, stood_more w since (sort G.g.program k) k v h.1 h.4)
+    cargo_more f w n since js c k (Message (Tree v)) z (j, e, stop_is, named, stood) =
+        (j, e, stop_is, named_more c j named, stood_more w since (sort G.g.program k) k v e stood)
     cargo_more f w n since js c k (Message (Position m)) z h = h
     cargo_more f w n since js c k (Message (Written bs)) z h = h
-    cargo_more f w n since js c k (Takes a) z h = (h.0, h.1, h.2, named_more c h.0 h.3, h.4, h.5, h.6)
+    cargo_more f w n since js c k (Takes a) z (j, target, stop_is, named, kind_is, points, may) =
+        (j, target, stop_is, named_more c j named, kind_is, points, may)
 
     handed_more : (js : List FramePair) (n : Memory Plain) (v : BirthRights) (z : Name) → Handed G lf kids q js n v z
         → Handed (one_more G) lf kids q js n v z
@@ -209,29 +210,45 @@ module _ (G : RunContext) where
       parted = z.parted;
     }
 
+    large_more : (s : Store) (pr : Process) (d : Config (Memory Plain)) → TooLarge G lf kids q s pr d
+        → TooLarge (one_more G) lf kids q s pr d
+    large_more s pr d z = record {
+      is_first = z.is_first;
+      faults = z.faults;
+      is_root = z.is_root;
+      configuration_is = z.configuration_is;
+      no_room = z.no_room;
+      output = told_more d z.output;
+    }
+      where
+        told_more : (d : Config (Memory Plain)) → OutputMatches G lf kids q s d
+            → OutputMatches (one_more G) lf kids q s d
+        told_more (At pc st n) h = h
+
     -- whatever it does
     pub does_more : (c : Course) (s : StateOf G.g) (opens : ℕ) (x : sys.Condition Plain)
         → Performs G lf kids q c s opens x → Performs (one_more G) lf kids q c s opens x
     does_more c s opens sys.Absent h = h
-    does_more c s opens (sys.Working d) h = (
-      h.0,
-      h.1,
-      ⊎_elim (λ z. inl (stands_more (c.since q) h.0 s.store d z)) (λ z. inr z) h.2,
-      h.3,
-      h.4,
+    does_more c s opens (sys.Working d) (pr, runs, stands, opens_are, not_laid) = (
+      pr,
+      runs,
+      ⊎_elim (λ z. inl (stands_more (c.since q) pr s.store d z))
+          (λ z. inr (large_more s.store pr d z)) stands,
+      opens_are,
+      not_laid,
     )
-    does_more c s opens (sys.Waits y d) h = (
-      h.0,
-      h.1,
-      stands_more (c.since q) (h.0).next s.store d h.2,
-      cargo_more (h.2).fresh (h.0).next.who (h.2).named (c.since q) (h.2).js (h.0).channel (h.0).kind (h.0).cargo y
-          h.3,
-      h.4,
-      h.5,
-      h.6,
+    does_more c s opens (sys.Waits y d) (o, waits, t, carries, opens_are, not_laid, owns) = (
+      o,
+      waits,
+      stands_more (c.since q) o.next s.store d t,
+      cargo_more t.fresh o.next.who t.named (c.since q) t.js o.channel o.kind o.cargo y
+          carries,
+      opens_are,
+      not_laid,
+      owns,
     )
-    does_more c s opens (sys.Joins left d) h =
-        (h.0, h.1, h.2, h.3, joined_more (c.since q) h.0 h.1 left h.2 s d h.4, h.5, h.6)
+    does_more c s opens (sys.Joins left d) (k, n, pr, joins, t, opens_are, not_laid) =
+        (k, n, pr, joins, joined_more (c.since q) k n left pr s d t, opens_are, not_laid)
     does_more c s opens (sys.Laid d) h = h
     does_more c s opens sys.Gone h = h
     does_more c s opens (sys.Over d) h = h

@@ -16,14 +16,12 @@ use Rattle.sp_meaning.specs.LocalWork.{Position, Written}
 use Rattle.sp_meaning.specs.Actions.{Action, Offered}
 use Rattle.sp_meaning.specs.SuperPascal.{superpascal}
 use Rattle.sp_meaning.specs.Run.{Store}
-use Rattle.sp_meaning.specs.Runs.{StateOf, total_limits, happening_at, happening_of}
-use Rattle.sp_meaning.specs.Along.{Course}
+use Rattle.sp_meaning.specs.Runs.{total_limits, happening_at, happening_of}
 use Rattle.sp_meaning.specs.Turn as source
-use Rattle.sp_code.specs.Machine.{Config, At}
+use Rattle.sp_code.specs.Machine.{At}
 use Rattle.sp_code.specs.Machine as machine
 use Rattle.sp_code.specs.Turns.{Stopped}
-use Rattle.sp_code.specs.Memory.{Memory}
-use Rattle.sp_code.specs.System.{System, fault_of}
+use Rattle.sp_code.specs.System.{fault_of}
 use Rattle.sp_code.specs.System as sys
 use Rattle.sp_link.proofs.AtOffer as ao
 use Rattle.sp_link.proofs.AtStop.{w, p1, does_at}
@@ -32,42 +30,51 @@ use Rattle.sp_link.proofs.KernelSteps.{kernel_next, kernel_says}
 use Rattle.sp_link.proofs.OffersMeet.{waiting_idle, meeting_entry}
 use Rattle.sp_link.proofs.OffersWait.{waiting_entry}
 use Rattle.sp_link.proofs.OneChanges.{runs_as_pr}
-use Rattle.sp_link.proofs.Pauses.{Entry_of, Meant, Machined, Kept_to, kids}
-use Rattle.sp_link.proofs.Relation.{RunContext, RightsOfAll, Named, ProcessMatches, Ca, Performs_all, IsPending, Linked}
+use Rattle.sp_link.proofs.Pauses.{Entry_of, Meant, Kept_to}
+use Rattle.sp_link.proofs.Relation.{Named, Ca, Performs_all, IsPending}
+use Rattle.sp_link.proofs.Relation.{AtStop}
+use Rattle.sp_link.proofs.Pauses.{MatchesNow, OffersAt}
 
-module _ (G : RunContext) (lv : RightsOfAll G) (c : Course) (s : StateOf G.g) (u : System Plain) (l : Linked G lv c s u)
-    (i : ℕ)
-    (d : Config (Memory Plain)) (at_i : u.condition i ≡ sys.Working d)
-    (z : ProcessMatches G (lv (w G lv c s u l i d at_i)) (kids G lv c s u l i d at_i) (w G lv c s u l i d at_i)
-    (c.since (w G lv c s u l i d at_i)) (p1 G lv c s u l i d at_i) s.store d)
+module _ (at_stop : AtStop) (z : MatchesNow at_stop)
     (ch : Channel) (kd : ℕ) (cg : Cargo LocationContent Address) (todo : List Item) (o : LocalState) (m : Store)
-    (x : Meant G lv c s u l i d at_i z (Computed (source.Stops (Offered ch kd cg todo)) o, m))
-    (t : Machined G lv c s u l i d at_i z (Computed (source.Stops (Offered ch kd cg todo)) o, m))
-    (y : Kept_to G lv c s u l i d at_i z (Computed (source.Stops (Offered ch kd cg todo)) o, m))
-    (no_fault : u.faulted ≡ false) where
+    (x : Meant at_stop z (Computed (source.Stops (Offered ch kd cg todo)) o, m))
+    (t : OffersAt at_stop z ch kd cg todo o m)
+    (y : Kept_to at_stop z (Computed (source.Stops (Offered ch kd cg todo)) o, m))
+    (no_fault : at_stop.system.faulted ≡ false) where
+  open at_stop use {
+    run as G,
+    lives as lv,
+    course as c,
+    state as s,
+    system as u,
+    linked as l,
+    number as i,
+    configuration as d,
+  }
+
   abbrev v : Name
-  v = w G lv c s u l i d at_i
+  v = w at_stop
 
   abbrev r : WorkOutcome Action × Store
   r = (Computed (Offered ch kd cg todo) o, m)
 
   abbrev off : OfferOf (superpascal G.g)
-  off = ao.off G lv c s u l i d at_i z ch kd cg todo o m x t y
+  off = ao.off at_stop z ch kd cg todo o m x t y
 
   -- what the step says, whatever it comes to
   said_any : (what : Happening) × (happening_at G.g x.state v x.left ≡ Some what)
-  said_any = says_something G lv c s u l i d at_i z r x tt
+  said_any = says_something at_stop z r x tt
 
   -- ---- the entries are at their limit
 
   over_entry : nat_lt G.g.limits.entries (u.entries + 1) ≡ true → Entry_of G c s u i d
-  over_entry full = failed_entry G lv c s u l i d at_i (offered_halt G lv c s u l i d at_i z ch kd cg todo o m x t) refl
+  over_entry full = failed_entry at_stop (offered_halt at_stop z ch kd cg todo o m x t) refl
       fault.F15
       (kernel_says G.g v x.state x.left x.runs r x.does ∙ ap (λ b. happening_of {L = superpascal G.g} (Offering off) b)
       faults)
       (kernel_next G.g v x.state x.left x.runs r x.does
       ∙ ap (λ b. Some (result_of {L = superpascal G.g} x.state v b)) faults)
-      (found cg refl t.9) no_fault
+      (found cg refl t.carries) no_fault
     where
       passes : limit_fault (total_limits G.g) x.state.totals (Some entry_cost) ≡ Some fault.F15
       passes =
@@ -79,14 +86,14 @@ module _ (G : RunContext) (lv : RightsOfAll G) (c : Course) (s : StateOf G.g) (u
       faults = ap (λ a. fault_or a (offer_outcome {L = superpascal G.g} x.state v off (x.state.pending ch))) passes
 
       found : (g1 : Cargo LocationContent Address) → cg ≡ g1
-          → Ca G (lv v) (λ a b. lv ((a, b) ∷ v)) v z.fresh (p1 G lv c s u l i d at_i).who z.named (c.since v) t.3 ch kd
-          g1 t.5 → fault_of G.g.limits u (Stopped t.5 (At t.0 t.1 t.2)) ≡ Some fault.F15
-      found (Message (Tree a)) e h = ap (λ b. fault_of G.g.limits u (Stopped b (At t.0 t.1 t.2))) h.2
+          → Ca G (lv v) (λ a b. lv ((a, b) ∷ v)) v z.fresh (p1 at_stop).who z.named (c.since v) t.frames ch kd
+          g1 t.stop → fault_of G.g.limits u (Stopped t.stop (At t.pc t.stack t.memory)) ≡ Some fault.F15
+      found (Message (Tree a)) e h = ap (λ b. fault_of G.g.limits u (Stopped b (At t.pc t.stack t.memory))) h.2
           ∙ ap (λ b. sys.first_fault (if b then Some fault.F15 else None)
           (sys.clash_of u (machine.Sends h.0 kd (Rattle.sp_codegen.specs.Following.cells_in h.1)))) full
       found (Message (Position n)) e h = absurd h
       found (Message (Written bs)) e h = absurd h
-      found (Takes a) e h = ap (λ b. fault_of G.g.limits u (Stopped b (At t.0 t.1 t.2))) h.2
+      found (Takes a) e h = ap (λ b. fault_of G.g.limits u (Stopped b (At t.pc t.stack t.memory))) h.2
           ∙ ap (λ b. sys.first_fault (if b then Some fault.F15 else None)
           (sys.clash_of u (machine.Receives h.0 kd h.1))) full
 
@@ -105,7 +112,7 @@ module _ (G : RunContext) (lv : RightsOfAll G) (c : Course) (s : StateOf G.g) (u
 
     apart : G.births.name zi ≢ v
     apart e = waiting_idle s.condition v ch (s.condition v) _ (subst (λ b. WaitsOn ch (s.condition b)) e waits_on)
-        (runs_as_pr G lv c s u l i d at_i)
+        (runs_as_pr at_stop)
 
     waits_then : WaitsOn ch (x.state.condition (G.births.name zi))
     waits_then = subst (λ b. WaitsOn ch b) (sym (x.elsewhere.condition (G.births.name zi) apart)) waits_on
@@ -115,18 +122,19 @@ module _ (G : RunContext) (lv : RightsOfAll G) (c : Course) (s : StateOf G.g) (u
     by_condition sys.Absent e h = absurd h
     by_condition (sys.Working a) e h = absurd
         (waiting_idle x.state.condition (G.births.name zi) ch (x.state.condition (G.births.name zi)) h.0 waits_then h.1)
-    by_condition (sys.Waits st2 d2) e h = meeting_entry G lv c s u l i d at_i z ch kd cg todo o m x t y said_any.0
-        said_any.1 no_fault zi few pends j named pending_is enough apart st2 d2 e h.0 h.1
-        (subst (λ b. WaitsOn ch b) h.1 waits_then) h.2 h.3 h.4 h.5
-    by_condition (sys.Joins left a) e h = absurd (subst (λ b. WaitsOn ch b) h.3 waits_then)
-    by_condition (sys.Laid a) e h = absurd (waiting_idle x.state.condition (G.births.name zi) ch
-        (x.state.condition (G.births.name zi)) h.2.0 waits_then h.2.1)
+    by_condition (sys.Waits st2 d2) e (o2, waits, t2, carries, opens2, laid2, _) =
+        meeting_entry at_stop z ch kd cg todo o m x t y said_any.0
+        said_any.1 no_fault zi few pends j named pending_is enough apart st2 d2 e o2 waits
+        (subst (λ b. WaitsOn ch b) waits waits_then) t2 carries opens2 laid2
+    by_condition (sys.Joins left a) e (_, _, _, joins, _, _, _) = absurd (subst (λ b. WaitsOn ch b) joins waits_then)
+    by_condition (sys.Laid a) e (_, _, (own, runs), _) = absurd (waiting_idle x.state.condition (G.births.name zi) ch
+        (x.state.condition (G.births.name zi)) own waits_then runs)
     by_condition sys.Gone e h = absurd (subst (λ b. WaitsOn ch b) h.0 waits_then)
     by_condition (sys.Over a) e h = absurd (subst (λ b. WaitsOn ch b) h.0 waits_then)
 
     meets_it : Entry_of G c s u i d
     meets_it = by_condition (u.condition zi) refl
-        (does_at G lv c s u l i d at_i z r x said_any.0 said_any.1 zi few
+        (does_at at_stop z r x said_any.0 said_any.1 zi few
         (λ e. apart (ap (λ n. G.births.name n) (sym e))))
 
   -- its number
@@ -146,17 +154,17 @@ module _ (G : RunContext) (lv : RightsOfAll G) (c : Course) (s : StateOf G.g) (u
   offering = by_limit (nat_lt G.g.limits.entries (u.entries + 1)) refl
     where
       number : (g1 : Cargo LocationContent Address)
-          → Ca G (lv v) (λ a b. lv ((a, b) ∷ v)) v z.fresh (p1 G lv c s u l i d at_i).who
-          z.named (c.since v) t.3 ch kd g1 t.5 → (j : ℕ) × Named G ch j
-      number (Message (Tree a)) h = (h.0, h.3)
+          → Ca G (lv v) (λ a b. lv ((a, b) ∷ v)) v z.fresh (p1 at_stop).who
+          z.named (c.since v) t.frames ch kd g1 t.stop → (j : ℕ) × Named G ch j
+      number (Message (Tree a)) (j, _, _, named, _) = (j, named)
       number (Message (Position n)) h = absurd h
       number (Message (Written bs)) h = absurd h
-      number (Takes a) h = (h.0, h.3)
+      number (Takes a) (j, _, _, named, _, _, _) = (j, named)
 
       by_offer : (b : Option Name) → s.pending ch ≡ b → nat_lt G.g.limits.entries (u.entries + 1) ≡ false
           → Entry_of G c s u i d
-      by_offer None e h = waiting_entry G lv c s u l i d at_i z ch kd cg todo o m x t y no_fault e h
-      by_offer (Some zn) e h = let n = number cg t.9 in by_pending zn e n.0 n.1 h
+      by_offer None e h = waiting_entry at_stop z ch kd cg todo o m x t y no_fault e h
+      by_offer (Some zn) e h = let n = number cg t.carries in by_pending zn e n.0 n.1 h
 
       by_limit : (b : Bool) → nat_lt G.g.limits.entries (u.entries + 1) ≡ b → Entry_of G c s u i d
       by_limit true e = over_entry e

@@ -4,7 +4,7 @@ use Rattle.std.proofs.Common.{◌≡◌, ◌⊎◌, inl, ⊎_elim, ℕ, ◌+◌,
 use Rattle.std.proofs.Common.{cond, if◌then◌else◌, eq-eqb, refl, sym, ap, ◌∙◌, subst, arith, one-add}
 use Rattle.std.specs.Prelude.{◌≢◌, nat_lt}
 use Rattle.std.proofs.lemmas.Bool.{ne_eqb}
-use Rattle.sp_journal.specs.Births.{Births, channel}
+use Rattle.sp_journal.specs.Births.{channel}
 use Rattle.sp_meaning.proofs.Owned.{ConditionInRights}
 use Rattle.sp_meaning.proofs.Keys.{channel_test, name_test, number_or}
 use Rattle.sp_link.proofs.AfterEntry.{stand_again, follows_again, cargo_again}
@@ -44,28 +44,39 @@ use Rattle.sp_code.specs.System as sys
 use Rattle.sp_link.proofs.Messages.{owned_ready}
 use Rattle.sp_link.proofs.Journal.{IsOpen, now_by}
 use Rattle.sp_link.proofs.KernelSteps.{kernel_next, kernel_says, stand_dead}
-use Rattle.sp_link.proofs.OneChanges.{its, here, inv_local, since_other}
-use Rattle.sp_link.proofs.Pauses.{Entry_of, Meant, Machined, Kept_to, kids, turn_is, after_no_fault, way_of_step}
-use Rattle.sp_link.proofs.Relation.{RunContext, RightsOfAll, W_of, R_of, ProcessMatches, Performs_all, Ca, IsPending}
+use Rattle.sp_link.proofs.OneChanges.{here, inv_local, since_other}
+use Rattle.sp_link.proofs.Pauses.{Entry_of, Meant, Kept_to, turn_is, after_no_fault, way_of_step}
+use Rattle.sp_link.proofs.Relation.{W_of, R_of, ProcessMatches, Performs_all, Ca, IsPending}
 use Rattle.sp_link.proofs.Relation.{Linked, run_is, ops}
 use Rattle.sp_link.proofs.OthersStay.{does_stay}
 use Rattle.sp_meaning.proofs.SilentActions.{IsDead}
 use Rattle.sp_link.proofs.AtStop.{same_but_dead, w, p1, kt, alone_at, known_at, rights_at, ended_at, other_name}
 use Rattle.sp_link.proofs.AtStop.{does_at}
+use Rattle.sp_link.proofs.Relation.{AtStop}
+use Rattle.sp_link.proofs.Pauses.{MatchesNow, OffersAt}
+use Rattle.sp_link.proofs.OneChanges.{opens_are, unlaid}
 
-module _ (G : RunContext) (lv : RightsOfAll G) (c : Course) (s : StateOf G.g) (u : System Plain) (l : Linked G lv c s u)
-    (i : ℕ)
-    (d : Config (Memory Plain)) (at_i : u.condition i ≡ sys.Working d)
-    (z : ProcessMatches G (lv (w G lv c s u l i d at_i)) (kids G lv c s u l i d at_i) (w G lv c s u l i d at_i)
-    (c.since (w G lv c s u l i d at_i)) (p1 G lv c s u l i d at_i) s.store d)
+module _ (at_stop : AtStop) (z : MatchesNow at_stop)
     (ch : Channel) (kd : ℕ) (cg : Cargo LocationContent Address) (todo : List Item) (o : LocalState) (m : Store)
-    (x : Meant G lv c s u l i d at_i z (Computed (source.Stops (Offered ch kd cg todo)) o, m))
-    (t : Machined G lv c s u l i d at_i z (Computed (source.Stops (Offered ch kd cg todo)) o, m))
-    (y : Kept_to G lv c s u l i d at_i z (Computed (source.Stops (Offered ch kd cg todo)) o, m))
-    (no_fault : u.faulted ≡ false)
-    (alone_there : s.pending ch ≡ None) (enough : nat_lt G.g.limits.entries (u.entries + 1) ≡ false) where
+    (x : Meant at_stop z (Computed (source.Stops (Offered ch kd cg todo)) o, m))
+    (t : OffersAt at_stop z ch kd cg todo o m)
+    (y : Kept_to at_stop z (Computed (source.Stops (Offered ch kd cg todo)) o, m))
+    (no_fault : at_stop.system.faulted ≡ false)
+    (alone_there : at_stop.state.pending ch ≡ None)
+    (enough : nat_lt at_stop.run.g.limits.entries (at_stop.system.entries + 1) ≡ false) where
+  open at_stop use {
+    run as G,
+    lives as lv,
+    course as c,
+    state as s,
+    system as u,
+    linked as l,
+    number as i,
+    configuration as d,
+  }
+
   abbrev v : Name
-  v = w G lv c s u l i d at_i
+  v = w at_stop
 
   abbrev r : WorkOutcome Action × Store
   r = (Computed (Offered ch kd cg todo) o, m)
@@ -118,7 +129,7 @@ module _ (G : RunContext) (lv : RightsOfAll G) (c : Course) (s : StateOf G.g) (u
   same a e = at_other name_test x.state.condition v a (Waits off) (λ h. e (sym h))
 
   known_then : StateKeeps G.g x.state
-  known_then = known_at G lv c s u l i d at_i z r x what said
+  known_then = known_at at_stop z r x what said
 
   known_now : StateKeeps G.g t1
   known_now = record {
@@ -128,15 +139,15 @@ module _ (G : RunContext) (lv : RightsOfAll G) (c : Course) (s : StateOf G.g) (u
   }
 
   rights_then : Inv G.g.program (W_of G lv) (R_of G lv) x.state.condition x.state.forks
-  rights_then = rights_at G lv c s u l i d at_i z r x what said
+  rights_then = rights_at at_stop z r x what said
 
   holds : ConditionInRights G.g.program (W_of G lv) (R_of G lv) x.state.forks v (Waits off)
   holds = (
     record {
       named = x.good.named;
       forked = ap (λ (a : Rattle.sp_meaning.specs.LocalWork.Identity). a.forks) x.who_is
-          ∙ (kt G lv c s u l i d at_i).forked ∙ ap (λ a. a v) (sym x.elsewhere.forks);
-      last = (kt G lv c s u l i d at_i).last;
+          ∙ (kt at_stop).forked ∙ ap (λ a. a v) (sym x.elsewhere.forks);
+      last = (kt at_stop).last;
       fit = y.final.1;
     },
     y.final.0,
@@ -150,7 +161,7 @@ module _ (G : RunContext) (lv : RightsOfAll G) (c : Course) (s : StateOf G.g) (u
 
   ended_same : (a : Name) → has_ended (t1.condition a) ≡ has_ended (x.state.condition a)
   ended_same a = ⊎_elim (λ (e : a ≡ v). ap (λ b. has_ended (t1.condition b)) e ∙ ap (λ b. has_ended b) waits
-      ∙ sym (ended_at G lv c s u l i d at_i z r x what said) ∙ ap (λ b. has_ended (x.state.condition b)) (sym e))
+      ∙ sym (ended_at at_stop z r x what said) ∙ ap (λ b. has_ended (x.state.condition b)) (sym e))
       (λ (e : a ≢ v). ap (λ b. has_ended b) (same a e)) (same_or_not name_test a v)
 
   present_same : (a : Name) → x.state.condition a ≢ Absent → t1.condition a ≢ Absent
@@ -161,65 +172,65 @@ module _ (G : RunContext) (lv : RightsOfAll G) (c : Course) (s : StateOf G.g) (u
   does_other : (j : ℕ) → j < u.births.processes → i ≢ j
       → Performs_all G lv (G.births.name j) c1 t1 (u.births.opens j) (u.condition j)
   does_other j lt e =
-      let apart = other_name G lv c s u l i d at_i z r x what said j lt e in
-      does_stay G lv x.state t1 known_then.sound rights_then.fair v (alone_at G lv c s u l i d at_i z r x what said)
+      let apart = other_name at_stop z r x what said j lt e in
+      does_stay G lv x.state t1 known_then.sound rights_then.fair v (alone_at at_stop z r x what said)
       (λ a. inl refl) (G.births.name j) apart (same (G.births.name j) apart)
       (λ k n. ended_same ((k, n) ∷ G.births.name j)) (λ k n. present_same ((k, n) ∷ G.births.name j)) c c1
       (since_other c v (ticks_of G.g t1 v) (G.births.name j) apart) refl (λ h. h) (u.births.opens j) (u.condition j)
-      (does_at G lv c s u l i d at_i z r x what said j lt e)
+      (does_at at_stop z r x what said j lt e)
 
   -- it stands where it waits
   abbrev n1 : Memory Plain
-  n1 = record (t.2) { since = (t.2).ticks }
+  n1 = record (t.memory) { since = t.memory.ticks }
 
   abbrev there : Config (Memory Plain)
-  there = At t.0 t.1 n1
+  there = At t.pc t.stack n1
 
-  tn_is : IsTurn (ops G) G.code d (Stopped t.5 (At t.0 t.1 t.2))
-  tn_is = turn_is G lv c s u l i d at_i z (Stopped t.5 (At t.0 t.1 t.2)) (t.4, t.6, t.7)
+  tn_is : IsTurn (ops G) G.code d (Stopped t.stop (At t.pc t.stack t.memory))
+  tn_is = turn_is at_stop z (Stopped t.stop (At t.pc t.stack t.memory)) (t.last, t.comes, t.stops)
 
   name_is : x.left.who.name ≡ v
   name_is = x.good.named
 
-  since_here : c1.since v ≡ (t.2).ticks
+  since_here : c1.since v ≡ t.memory.ticks
   since_here = ap (λ b. cond b (ticks_of G.g t1 v) (c.since v)) (Rattle.sp_meaning.proofs.Maps.itself name_test v)
-      ∙ ap ticks_in waits ∙ (t.8).ticks
+      ∙ ap ticks_in waits ∙ t.stand.ticks
 
   abbrev stands : ProcessMatches G (lv v) (λ a b. lv ((a, b) ∷ v)) v (c1.since v) off.next t1.store there
   stands = record {
     fresh = z.fresh;
     named = name_is;
-    js = t.3;
-    pc = t.0;
-    stack = t.1;
+    js = t.frames;
+    pc = t.pc;
+    stack = t.stack;
     memory = n1;
     configuration_is = refl;
-    stand = stand_again G (lv v) (λ a b. lv ((a, b) ∷ v)) v {w = (p1 G lv c s u l i d at_i).who} {w1 = x.left.who}
+    stand = stand_again G (lv v) (λ a b. lv ((a, b) ∷ v)) v {w = (p1 at_stop).who} {w1 = x.left.who}
         {since = c.since v} {since1 = c1.since v} (ap (λ (a : Rattle.sp_meaning.specs.LocalWork.Identity). a.name)
         x.who_is)
         since_here
-        (stand_dead G (lv v) (λ a b. lv ((a, b) ∷ v)) v t.8 x.state.store
+        (stand_dead G (lv v) (λ a b. lv ((a, b) ∷ v)) v t.stand x.state.store
         (λ a. subst (λ b. (x.state.store a ≡ m a) ⊎ IsDead b a)
-        (ap (λ b. length b) (t.8).frames.sources_are ∙ Rattle.sp_codegen.proofs.FramePairs.sources_length t.3)
-        (same_but_dead G lv c s u l i d at_i z (Offered ch kd cg todo) o m x tt a)));
-    follows = follows_again G (lv v) (λ a b. lv ((a, b) ∷ v)) v z.fresh z.fresh (p1 G lv c s u l i d at_i).who
-        x.left.who z.named name_is (c.since v) (c1.since v) t.0 t.1 t.3 todo t.10;
+        (ap (λ b. length b) t.stand.frames.sources_are ∙ Rattle.sp_codegen.proofs.FramePairs.sources_length t.frames)
+        (same_but_dead at_stop z (Offered ch kd cg todo) o m x tt a)));
+    follows = follows_again G (lv v) (λ a b. lv ((a, b) ∷ v)) v z.fresh z.fresh (p1 at_stop).who
+        x.left.who z.named name_is (c.since v) (c1.since v) t.pc t.stack t.frames todo t.follows;
   }
 
-  cargo : Ca G (lv v) (λ a b. lv ((a, b) ∷ v)) v z.fresh x.left.who name_is (c1.since v) t.3 ch kd cg t.5
-  cargo = cargo_again G (lv v) (λ a b. lv ((a, b) ∷ v)) v z.fresh z.fresh (p1 G lv c s u l i d at_i).who x.left.who
-      z.named name_is (c.since v) (c1.since v) t.3 ch kd cg t.5 t.9
+  cargo : Ca G (lv v) (λ a b. lv ((a, b) ∷ v)) v z.fresh x.left.who name_is (c1.since v) t.frames ch kd cg t.stop
+  cargo = cargo_again G (lv v) (λ a b. lv ((a, b) ∷ v)) v z.fresh z.fresh (p1 at_stop).who x.left.who
+      z.named name_is (c.since v) (c1.since v) t.frames ch kd cg t.stop t.carries
 
-  its_does : Performs_all G lv v c1 t1 (u.births.opens i) (sys.Waits t.5 there)
+  its_does : Performs_all G lv v c1 t1 (u.births.opens i) (sys.Waits t.stop there)
   its_does = (
     off,
     waits,
     stands,
     cargo,
     ap (λ (a : Rattle.sp_meaning.specs.LocalWork.Identity). a.opens) x.who_is
-        ∙ (its G lv c s u l i d at_i).3,
-    (its G lv c s u l i d at_i).4,
-    owned_ready G t.5 t.0 t.1 t.2 t.12,
+        ∙ opens_are at_stop,
+    unlaid at_stop,
+    owned_ready G t.stop t.pc t.stack t.memory t.owned,
   )
 
   -- ---- the machine
@@ -240,13 +251,13 @@ module _ (G : RunContext) (lv : RightsOfAll G) (c : Course) (s : StateOf G.g) (u
 
     abbrev u1 : System Plain
     u1 = record u {
-      condition = at_key ◌==◌ i (sys.Waits t.5 there) u.condition;
+      condition = at_key ◌==◌ i (sys.Waits t.stop there) u.condition;
       pending = at_key ◌==◌ j (Some i) u.pending;
       entries = u.entries + 1;
     }
 
     at_other_number : (a : ℕ) → i ≢ a → u1.condition a ≡ u.condition a
-    at_other_number a e = ap (λ b. cond b (sys.Waits t.5 there) (u.condition a)) (ne_eqb i a e)
+    at_other_number a e = ap (λ b. cond b (sys.Waits t.stop there) (u.condition a)) (ne_eqb i a e)
 
     pends_now : (a : ℕ) → a < u.births.channels → IsPending G (t1.pending (channel G.births a)) (u1.pending a)
     pends_now a lt = ⊎_elim
@@ -262,7 +273,7 @@ module _ (G : RunContext) (lv : RightsOfAll G) (c : Course) (s : StateOf G.g) (u
         (number_or j a)
       where
         few : i < G.births.processes
-        few = let a = here G lv c s u l i d at_i in let b = l.began.processes in omega (arith, a, b)
+        few = let a = here at_stop in let b = l.began.processes in omega (arith, a, b)
 
         apart : j ≢ a → same_channel ch (channel G.births a) ≡ false
         apart e = differs channel_test ch (channel G.births a)
@@ -293,14 +304,14 @@ module _ (G : RunContext) (lv : RightsOfAll G) (c : Course) (s : StateOf G.g) (u
       does = λ a lt. ⊎_elim
           (λ (e : i ≡ a). subst (λ b. Performs_all G lv (G.births.name b) c1 t1 (u.births.opens b) (u1.condition b)) e
           (subst (λ b. Performs_all G lv v c1 t1 (u.births.opens i) b)
-          (sym (ap (λ b. cond b (sys.Waits t.5 there) (u.condition i)) (eq-eqb i i refl))) its_does))
+          (sym (ap (λ b. cond b (sys.Waits t.stop there) (u.condition i)) (eq-eqb i i refl))) its_does))
           (λ (e : i ≢ a). subst (λ b. Performs_all G lv (G.births.name a) c1 t1 (u.births.opens a) b)
           (sym (at_other_number a e)) (does_other a lt e))
           (number_or i a);
-      unborn = λ a le. at_other_number a (λ e. let b = here G lv c s u l i d at_i in omega (arith, b, le, e))
+      unborn = λ a le. at_other_number a (λ e. let b = here at_stop in omega (arith, b, le, e))
           ∙ l.unborn a le;
       unmade = l.unmade;
-      numbered = λ a h. ⊎_elim (λ (e : a ≡ v). (i, here G lv c s u l i d at_i, sym e))
+      numbered = λ a h. ⊎_elim (λ (e : a ≡ v). (i, here at_stop, sym e))
           (λ (e : a ≢ v). l.numbered a (λ f. h (same a e ∙ x.elsewhere.condition a e ∙ f))) (same_or_not name_test a v);
     }
       where
@@ -316,7 +327,7 @@ module _ (G : RunContext) (lv : RightsOfAll G) (c : Course) (s : StateOf G.g) (u
     }
 
     abbrev turn_of : machine.Stop → Turn (Memory Plain)
-    turn_of st = Stopped st (At t.0 t.1 t.2)
+    turn_of st = Stopped st (At t.pc t.stack t.memory)
 
     abbrev or_f15 : Option Fault
     or_f15 = if nat_lt G.g.limits.entries (u.entries + 1) then
@@ -369,43 +380,45 @@ module _ (G : RunContext) (lv : RightsOfAll G) (c : Course) (s : StateOf G.g) (u
     name_of = l.began.openings j is_open ∙ named.2
 
     -- the entry, once it is known what the machine's turn makes
-    entry_by : system_after_turn plain (run_is G) i (turn_of t.5) u ≡ u1
-        → happening u.births (event_of G.g.limits u (turn_of t.5)) ≡ what
-        → IsOpen u.births (event_of G.g.limits u (turn_of t.5)) → Entry_of G c s u i d
+    entry_by : system_after_turn plain (run_is G) i (turn_of t.stop) u ≡ u1
+        → happening u.births (event_of G.g.limits u (turn_of t.stop)) ≡ what
+        → IsOpen u.births (event_of G.g.limits u (turn_of t.stop)) → Entry_of G c s u i d
     entry_by is told speaks = record {
-      turn = turn_of t.5;
+      turn = turn_of t.stop;
       is_turn = tn_is;
-      way = way_of_step G lv c s u l i d at_i x.steps x.state (x.turn what said) what t1
+      way = way_of_step at_stop x.steps x.state (x.turn what said) what t1
           (λ left n k. (l.faulted ∙ no_fault, refl, t1, n, one-add n, (x.left, x.runs, said, goes_next), k)) _
           (sym told);
       speaks = speaks;
       lives = lv;
-      linked = λ began. now_by G lv c1 t1 (system_after_turn plain (run_is G) i (turn_of t.5) u)
+      linked = λ began. now_by G lv c1 t1 (system_after_turn plain (run_is G) i (turn_of t.stop) u)
           (subst (λ a. Linked G lv c1 t1 a) (sym is) linked);
     }
 
   -- of both ways
   waiting_by : (g1 : Cargo LocationContent Address) → cg ≡ g1
-      → Ca G (lv v) (λ a b. lv ((a, b) ∷ v)) v z.fresh x.left.who name_is (c1.since v) t.3 ch kd g1 t.5
+      → Ca G (lv v) (λ a b. lv ((a, b) ∷ v)) v z.fresh x.left.who name_is (c1.since v) t.frames ch kd g1 t.stop
       → Entry_of G c s u i d
-  waiting_by (Message (Tree a)) e h = entry_by h.0 h.3
-      (ap (λ st. system_after_turn plain (run_is G) i (Stopped st (At t.0 t.1 t.2)) u) h.2 ∙ sends h.0 h.3 _
-      ∙ ap (λ st. u1_of h.0 h.3 st) (sym h.2))
-      (ap (λ st. happening u.births (event_of G.g.limits u (Stopped st (At t.0 t.1 t.2)))) h.2
-      ∙ ap (λ f. happening u.births f) (event_sends h.0 h.3 _) ∙ ap (λ a. Is_offered way.Send a) (name_of h.0 h.3)
+  waiting_by (Message (Tree a)) e (j, _, stop_is, named, _) = entry_by j named
+      (ap (λ st. system_after_turn plain (run_is G) i (Stopped st (At t.pc t.stack t.memory)) u) stop_is
+      ∙ sends j named _
+      ∙ ap (λ st. u1_of j named st) (sym stop_is))
+      (ap (λ st. happening u.births (event_of G.g.limits u (Stopped st (At t.pc t.stack t.memory)))) stop_is
+      ∙ ap (λ f. happening u.births f) (event_sends j named _) ∙ ap (λ a. Is_offered way.Send a) (name_of j named)
       ∙ ap (λ a. Is_offered (way_of a) ch) (sym e))
-      (subst (λ st. IsOpen u.births (event_of G.g.limits u (Stopped st (At t.0 t.1 t.2)))) (sym h.2)
-      (subst (λ f. IsOpen u.births f) (sym (event_sends h.0 h.3 _)) (is_open h.0 h.3)))
+      (subst (λ st. IsOpen u.births (event_of G.g.limits u (Stopped st (At t.pc t.stack t.memory)))) (sym stop_is)
+      (subst (λ f. IsOpen u.births f) (sym (event_sends j named _)) (is_open j named)))
   waiting_by (Message (Position n)) e h = absurd h
   waiting_by (Message (Written bs)) e h = absurd h
-  waiting_by (Takes a) e h = entry_by h.0 h.3
-      (ap (λ st. system_after_turn plain (run_is G) i (Stopped st (At t.0 t.1 t.2)) u) h.2 ∙ takes h.0 h.3 h.1
-      ∙ ap (λ st. u1_of h.0 h.3 st) (sym h.2))
-      (ap (λ st. happening u.births (event_of G.g.limits u (Stopped st (At t.0 t.1 t.2)))) h.2
-      ∙ ap (λ f. happening u.births f) (event_takes h.0 h.3 h.1)
-      ∙ ap (λ a. Is_offered way.Receive a) (name_of h.0 h.3) ∙ ap (λ a. Is_offered (way_of a) ch) (sym e))
-      (subst (λ st. IsOpen u.births (event_of G.g.limits u (Stopped st (At t.0 t.1 t.2)))) (sym h.2)
-      (subst (λ f. IsOpen u.births f) (sym (event_takes h.0 h.3 h.1)) (is_open h.0 h.3)))
+  waiting_by (Takes a) e (j, target, stop_is, named, _, _, _) = entry_by j named
+      (ap (λ st. system_after_turn plain (run_is G) i (Stopped st (At t.pc t.stack t.memory)) u) stop_is
+      ∙ takes j named target
+      ∙ ap (λ st. u1_of j named st) (sym stop_is))
+      (ap (λ st. happening u.births (event_of G.g.limits u (Stopped st (At t.pc t.stack t.memory)))) stop_is
+      ∙ ap (λ f. happening u.births f) (event_takes j named target)
+      ∙ ap (λ a. Is_offered way.Receive a) (name_of j named) ∙ ap (λ a. Is_offered (way_of a) ch) (sym e))
+      (subst (λ st. IsOpen u.births (event_of G.g.limits u (Stopped st (At t.pc t.stack t.memory)))) (sym stop_is)
+      (subst (λ f. IsOpen u.births f) (sym (event_takes j named target)) (is_open j named)))
 
   pub waiting_entry : Entry_of G c s u i d
   waiting_entry = waiting_by cg refl cargo

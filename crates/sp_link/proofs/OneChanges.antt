@@ -19,13 +19,12 @@ use Rattle.sp_meaning.proofs.Reached.{StateKeeps, working_keeps, K}
 use Rattle.sp_meaning.proofs.Rights.{OwnOrGiven}
 use Rattle.sp_meaning.proofs.Status.{working_lives, lives_ended}
 use Rattle.sp_meaning.proofs.Weights.{AreLight}
-use Rattle.sp_code.specs.Machine.{Config}
-use Rattle.sp_code.specs.Memory.{Memory}
 use Rattle.sp_code.specs.System.{System}
 use Rattle.sp_code.specs.System as sys
 use Rattle.sp_link.proofs.Journal.{is_born}
-use Rattle.sp_link.proofs.Relation.{RunContext, RightsOfAll, W_of, R_of, Performs_all, Linked, IsPending}
+use Rattle.sp_link.proofs.Relation.{RunContext, W_of, R_of, Performs_all, Linked, IsPending}
 use Rattle.sp_link.proofs.OthersStay.{does_stay}
+use Rattle.sp_link.proofs.Relation.{AtStop}
 
 -- an entry notes the ticks of its process alone
 pub since_other : (c : Course) (v : Name) (n : ℕ) (a : Name) → a ≢ v → (with_ticks v n c).since a ≡ c.since a
@@ -60,9 +59,19 @@ inv_local G W R m m1 f f1 q i e here other h = subst (λ z. Inv G.g.program W R 
   unknown = i.unknown;
 })
 
-module _ (G : RunContext) (lv : RightsOfAll G) (c : Course) (s : StateOf G.g) (u : System Plain) (l : Linked G lv c s u)
-    (i : ℕ)
-    (d : Config (Memory Plain)) (at_i : u.condition i ≡ sys.Working d) where
+module _ (at_stop : AtStop) where
+  open at_stop use {
+    run as G,
+    lives as lv,
+    course as c,
+    state as s,
+    system as u,
+    linked as l,
+    number as i,
+    configuration as d,
+    working as at_i,
+  }
+
   abbrev pub q : Name
   q = G.births.name i
 
@@ -78,6 +87,13 @@ module _ (G : RunContext) (lv : RightsOfAll G) (c : Course) (s : StateOf G.g) (u
 
   pub runs_as_pr : running_process G.g s q ≡ Some pr
   runs_as_pr = its.1
+
+  -- how many opens it has made, and that it is not laid down
+  pub opens_are : pr.who.opens ≡ u.births.opens i
+  opens_are = its.3
+
+  pub unlaid : c.laid q ≡ false
+  unlaid = its.4
 
   pub alone : IsAlone s q
   alone = inl (pr, runs_as_pr)

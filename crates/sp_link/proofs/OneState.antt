@@ -19,31 +19,34 @@ module _ (g : RunInput) (turn since : ℕ) (who : List (ℕ × ℕ)) where
 
   pub turn_one : (n k : ℕ) (s a b : StateOf g) (x y : Bool) → Turn g turn since who n s a x
       → Turn g turn since who k s b y → SameTurnEnd n k a b x y
-  turn_one zero zero s a b x y h i = record { steps = refl; state = h.0 ∙ sym i.0; paused = h.1 ∙ sym i.1 }
-  turn_one zero (suc k) s a b x y h i =
-      let own : h.2 ≡ i.0 = same_Some h.2 i.0 (sym h.3 ∙ i.1) in
-      absurd (none-some h.4 (sym i.2 ∙ ap (λ z. happening_at g s who z) (sym own) ∙ h.5))
-  turn_one (suc n) zero s a b x y h i =
-      let own : i.2 ≡ h.0 = same_Some i.2 h.0 (sym i.3 ∙ h.1) in
-      absurd (none-some i.4 (sym h.2 ∙ ap (λ z. happening_at g s who z) (sym own) ∙ i.5))
-  turn_one (suc n) (suc k) s a b x y h i = by (is_due_after g turn since s h.0 who h.3) h.5
-      (subst (λ z. Either z ((k ≡ 0) × (b ≡ h.3) × (y ≡ true)) (Turn g turn since who k h.3 b y)) due_is
-      (subst (λ z. Either (is_due_after g turn since s i.0 who i.3) ((k ≡ 0) × (b ≡ z) × (y ≡ true))
-      (Turn g turn since who k z b y)) to i.5))
-      (λ u v. turn_one n k h.3 a b x y u v)
+  turn_one zero zero s a b x y (is, whole, _, _, _, _) (is1, whole1, _, _, _, _) =
+      record { steps = refl; state = is ∙ sym is1; paused = whole ∙ sym whole1 }
+  turn_one zero (suc k) s a b x y (_, _, own, runs, what, says) (own1, runs1, silent1, _, _, _) =
+      let one : own ≡ own1 = same_Some own own1 (sym runs ∙ runs1) in
+      absurd (none-some what (sym silent1 ∙ ap (λ z. happening_at g s who z) (sym one) ∙ says))
+  turn_one (suc n) zero s a b x y (own, runs, silent, _, _, _) (_, _, own1, runs1, what1, says1) =
+      let one : own1 ≡ own = same_Some own1 own (sym runs1 ∙ runs) in
+      absurd (none-some what1 (sym silent ∙ ap (λ z. happening_at g s who z) (sym one) ∙ says1))
+  turn_one (suc n) (suc k) s a b x y (own, runs, _, to, goes, after) (own1, runs1, _, to1, goes1, after1) =
+      by (is_due_after g turn since s own who to) after
+      (subst (λ z. Either z ((k ≡ 0) × (b ≡ to) × (y ≡ true)) (Turn g turn since who k to b y)) due_is
+      (subst (λ z. Either (is_due_after g turn since s own1 who to1) ((k ≡ 0) × (b ≡ z) × (y ≡ true))
+      (Turn g turn since who k z b y)) one_to after1))
+      (λ u v. turn_one n k to a b x y u v)
     where
-      own : i.0 ≡ h.0
-      own = same_Some i.0 h.0 (sym i.1 ∙ h.1)
+      one_own : own1 ≡ own
+      one_own = same_Some own1 own (sym runs1 ∙ runs)
 
-      to : i.3 ≡ h.3
-      to = same_Some i.3 h.3 (sym i.4 ∙ h.4)
+      one_to : to1 ≡ to
+      one_to = same_Some to1 to (sym goes1 ∙ goes)
 
-      due_is : is_due_after g turn since s i.0 who i.3 ≡ is_due_after g turn since s h.0 who h.3
-      due_is = ap (λ z. is_due_after g turn since s z who i.3) own ∙ ap (λ z. is_due_after g turn since s h.0 who z) to
+      due_is : is_due_after g turn since s own1 who to1 ≡ is_due_after g turn since s own who to
+      due_is = ap (λ z. is_due_after g turn since s z who to1) one_own
+          ∙ ap (λ z. is_due_after g turn since s own who z) one_to
 
-      by : (z : Bool) → Either z ((n ≡ 0) × (a ≡ h.3) × (x ≡ true)) (Turn g turn since who n h.3 a x)
-          → Either z ((k ≡ 0) × (b ≡ h.3) × (y ≡ true)) (Turn g turn since who k h.3 b y)
-          → (Turn g turn since who n h.3 a x → Turn g turn since who k h.3 b y → SameTurnEnd n k a b x y)
+      by : (z : Bool) → Either z ((n ≡ 0) × (a ≡ to) × (x ≡ true)) (Turn g turn since who n to a x)
+          → Either z ((k ≡ 0) × (b ≡ to) × (y ≡ true)) (Turn g turn since who k to b y)
+          → (Turn g turn since who n to a x → Turn g turn since who k to b y → SameTurnEnd n k a b x y)
           → SameTurnEnd (suc n) (suc k) a b x y
       by true u v go = record { steps = ap suc (u.0 ∙ sym v.0); state = u.1 ∙ sym v.1; paused = u.2 ∙ sym v.2 }
       by false u v go = let z = go u v in record { steps = ap suc z.steps; state = z.state; paused = z.paused }
@@ -62,11 +65,12 @@ module _ (g : RunInput) (turn : ℕ) where
       (c : Course) (m : StateOf g) (p : Bool) (q : List (ℕ × ℕ)) where
     kernel_one : (what : Happening) (n k : ℕ) → KernelStep g (IsAlongRest es t) c m p q what n
         → KernelStep g (IsAlongRest es v) c m p q what k → SameCountAndState n k t v
-    kernel_one what n k h i =
-        let to : i.2 ≡ h.2 = same_Some i.2 h.2 (sym i.5.3 ∙ h.5.3) in
-        let z = ih (course_after q what (ticks_of g h.2 q) c) h.2 h.3 i.3 h.6
-        (subst (λ y. Along g turn (course_after q what (ticks_of g y q) c) y es i.3 v) to i.6) in
-        (h.4 ∙ ap suc z.0 ∙ sym i.4, z.1)
+    kernel_one what n k (_, _, to, rest, count, (_, _, _, goes), after)
+        (_, _, to1, rest1, count1, (_, _, _, goes1), after1) =
+        let one : to1 ≡ to = same_Some to1 to (sym goes1 ∙ goes) in
+        let z = ih (course_after q what (ticks_of g to q) c) to rest rest1 after
+        (subst (λ y. Along g turn (course_after q what (ticks_of g y q) c) y es rest1 v) one after1) in
+        (count ∙ ap suc z.0 ∙ sym count1, z.1)
 
     -- after one entry from one state
     entry_one : (what : Happening) (n k : ℕ) → EntryStep g (IsAlongRest es t) c m p q what n
@@ -82,14 +86,16 @@ module _ (g : RunInput) (turn : ℕ) where
   pub along_one : (es : List Occurrence) (t v : StateOf g) (c : Course) (s : StateOf g) (n k : ℕ)
       → Along g turn c s es n t → Along g turn c s es k v → SameCountAndState n k t v
   along_one [] t v c s n k h i = (h.0 ∙ sym i.0, h.1 ∙ sym i.1)
-  along_one (e ∷ es) t v c s n k h i =
-      let z = turn_one g turn (c.since e.who) e.who i.1 h.1 s i.3 h.3 i.4 h.4 i.6 h.6 in
-      let at : EntryStep g (IsAlongRest es v) c h.3 h.4 e.who e.what i.2 =
-      subst (λ y. EntryStep g (IsAlongRest es v) c h.3 y e.who e.what i.2) z.paused
-      (subst (λ y. EntryStep g (IsAlongRest es v) c y i.4 e.who e.what i.2) z.state i.7) in
-      let r = entry_one es t v (λ c1 s1 n1 k1 a b. along_one es t v c1 s1 n1 k1 a b) c h.3 h.4 e.who e.what h.2 i.2 h.7
+  along_one (e ∷ es) t v c s n k (_, n0, rest, mid, paused, count, turn0, enters)
+      (_, n1, rest1, mid1, paused1, count1, turn1, enters1) =
+      let z = turn_one g turn (c.since e.who) e.who n1 n0 s mid1 mid paused1 paused turn1 turn0 in
+      let at : EntryStep g (IsAlongRest es v) c mid paused e.who e.what rest1 =
+      subst (λ y. EntryStep g (IsAlongRest es v) c mid y e.who e.what rest1) z.paused
+      (subst (λ y. EntryStep g (IsAlongRest es v) c y paused1 e.who e.what rest1) z.state enters1) in
+      let r = entry_one es t v (λ c1 s1 n1 k1 a b. along_one es t v c1 s1 n1 k1 a b) c mid paused e.who e.what rest
+      rest1 enters
       at in
-      (h.5 ∙ ap (λ y. y + h.2) (sym z.steps) ∙ ap (λ y. i.1 + y) r.0 ∙ sym i.5, r.1)
+      (count ∙ ap (λ y. y + rest) (sym z.steps) ∙ ap (λ y. n1 + y) r.0 ∙ sym count1, r.1)
 
 -- from the start
 pub one_state : (g : RunInput) (turn : ℕ) (es : List Occurrence) (n k : ℕ) (t v : StateOf g) → IsAlong g turn es n t

@@ -53,12 +53,15 @@ use Rattle.sp_link.proofs.Halts.{failed_entry, opened_halt}
 use Rattle.sp_link.proofs.Journal.{IsOpen, Now}
 use Rattle.sp_link.proofs.KernelSteps.{kernel_next, kernel_says}
 use Rattle.sp_link.proofs.MoreChannels.{one_more, stands_more, does_more}
-use Rattle.sp_link.proofs.OneChanges.{q, pr, its, alone, here, present, not_ended, keeps_to, inv_local, since_other}
+use Rattle.sp_link.proofs.OneChanges.{q, pr, alone, here, present, not_ended, keeps_to, inv_local, since_other}
 use Rattle.sp_link.proofs.OthersStay.{does_stay}
-use Rattle.sp_link.proofs.Pauses.{Entry_of, Meant, Machined, Kept_to, kids, turn_is, after_no_fault, way_of_step}
+use Rattle.sp_link.proofs.Pauses.{Entry_of, Meant, Kept_to, turn_is, after_no_fault, way_of_step}
 use Rattle.sp_link.proofs.Relation.{RunContext, BirthRights, RightsOfAll, W_of, R_of, Called, Named, ProcessMatches, Ca}
 use Rattle.sp_link.proofs.Relation.{Rel, St, Performs_all}
 use Rattle.sp_link.proofs.Relation.{IsPending, Linked, Began, at_open, run_is, ops}
+use Rattle.sp_link.proofs.Relation.{AtStop}
+use Rattle.sp_link.proofs.Pauses.{MatchesNow, OpensAt}
+use Rattle.sp_link.proofs.OneChanges.{opens_are, unlaid}
 
 module _ (G : RunContext) (lv : RightsOfAll G) (c : Course) (s : StateOf G.g) (u : System Plain)
     (l : Linked G lv c s u) where
@@ -96,39 +99,46 @@ module _ (G : RunContext) (lv : RightsOfAll G) (c : Course) (s : StateOf G.g) (u
           (kd : ℕ)
           (g : Cargo LocationContent Address) (z : machine.Stop) → Ca G lf more zn f w nm since js c1 kd g z → (j : ℕ)
           × Named G c1 j
-      cargo lf more f w nm since js c1 kd (Message (Tree a)) z h = (h.0, h.3)
+      cargo lf more f w nm since js c1 kd (Message (Tree a)) z (j, _, _, named, _) = (j, named)
       cargo lf more f w nm since js c1 kd (Message (Position m)) z h = absurd h
       cargo lf more f w nm since js c1 kd (Message (Written bs)) z h = absurd h
-      cargo lf more f w nm since js c1 kd (Takes a) z h = (h.0, h.3)
+      cargo lf more f w nm since js c1 kd (Takes a) z (j, _, _, named, _, _, _) = (j, named)
 
       by : (x : sys.Condition Plain) → Performs_all G lv zn c s (u.births.opens k) x → (j : ℕ) × Named G ch j
       by sys.Absent h = absurd h
       by (sys.Working a) h = absurd (idle (s.condition zn) h.0 waits h.1)
-      by (sys.Waits z a) h =
-          let on : (h.0).channel ≡ ch = subst (λ b. WaitsOn ch b) h.1 waits in
-          let y = cargo (lv zn) (λ a b. lv ((a, b) ∷ zn)) (h.2).fresh (h.0).next.who (h.2).named (c.since zn) (h.2).js
-          (h.0).channel (h.0).kind (h.0).cargo z h.3 in
+      by (sys.Waits z a) (o, is, t, carries, _, _, _) =
+          let on : o.channel ≡ ch = subst (λ b. WaitsOn ch b) is waits in
+          let y = cargo (lv zn) (λ a b. lv ((a, b) ∷ zn)) t.fresh o.next.who t.named (c.since zn) t.js
+          o.channel o.kind o.cargo z carries in
           (y.0, subst (λ b. Named G b y.0) on y.1)
-      by (sys.Joins left a) h = absurd (subst (λ b. WaitsOn ch b) h.3 waits)
-      by (sys.Laid a) h = absurd (idle (s.condition zn) h.2.0 waits h.2.1)
+      by (sys.Joins left a) (_, _, _, joins, _, _, _) = absurd (subst (λ b. WaitsOn ch b) joins waits)
+      by (sys.Laid a) (_, _, (own, runs), _) = absurd (idle (s.condition zn) own waits runs)
       by sys.Gone h = absurd (subst (λ b. WaitsOn ch b) h.0 waits)
       by (sys.Over a) h = absurd (subst (λ b. WaitsOn ch b) h.0 waits)
 
-module _ (G : RunContext) (lv : RightsOfAll G) (c : Course) (s : StateOf G.g) (u : System Plain) (l : Linked G lv c s u)
-    (i : ℕ)
-    (d : Config (Memory Plain)) (at_i : u.condition i ≡ sys.Working d)
-    (z : ProcessMatches G (lv (q G lv c s u l i d at_i)) (kids G lv c s u l i d at_i) (q G lv c s u l i d at_i)
-    (c.since (q G lv c s u l i d at_i)) (pr G lv c s u l i d at_i) s.store d)
+module _ (at_stop : AtStop) (z : MatchesNow at_stop)
     (todo : List Item) (o : LocalState) (m : Store)
-    (x : Meant G lv c s u l i d at_i z (Computed (source.Stops (Opened todo)) o, m))
-    (t : Machined G lv c s u l i d at_i z (Computed (source.Stops (Opened todo)) o, m))
-    (y : Kept_to G lv c s u l i d at_i z (Computed (source.Stops (Opened todo)) o, m))
-    (no_fault : u.faulted ≡ false) where
+    (x : Meant at_stop z (Computed (source.Stops (Opened todo)) o, m))
+    (t : OpensAt at_stop z todo o m)
+    (y : Kept_to at_stop z (Computed (source.Stops (Opened todo)) o, m))
+    (no_fault : at_stop.system.faulted ≡ false) where
+  open at_stop use {
+    run as G,
+    lives as lv,
+    course as c,
+    state as s,
+    system as u,
+    linked as l,
+    number as i,
+    configuration as d,
+  }
+
   abbrev v : Name
-  v = q G lv c s u l i d at_i
+  v = q at_stop
 
   abbrev p1 : Process
-  p1 = pr G lv c s u l i d at_i
+  p1 = pr at_stop
 
   abbrev r : WorkOutcome Action × Store
   r = (Computed (Opened todo) o, m)
@@ -143,10 +153,10 @@ module _ (G : RunContext) (lv : RightsOfAll G) (c : Course) (s : StateOf G.g) (u
   a_channel = record { processes = 0; channels = 1; entries = 1 }
 
   abbrev tn : Turn (Memory Plain)
-  tn = Stopped (machine.Opens t.6) (At t.0 t.1 t.2)
+  tn = Stopped (machine.Opens t.target) (At t.pc t.stack t.memory)
 
-  tn_is : IsTurn (ops G) G.code d (Stopped (machine.Opens t.6) (At t.0 t.1 t.2))
-  tn_is = turn_is G lv c s u l i d at_i z (Stopped (machine.Opens t.6) (At t.0 t.1 t.2)) (t.4, t.8, t.9)
+  tn_is : IsTurn (ops G) G.code d (Stopped (machine.Opens t.target) (At t.pc t.stack t.memory))
+  tn_is = turn_is at_stop z (Stopped (machine.Opens t.target) (At t.pc t.stack t.memory)) (t.last, t.comes, t.stops)
 
   passes : (e1 e2 : Bool) → nat_lt G.g.limits.entries (u.entries + 1) ≡ e1
       → nat_lt G.g.limits.channels (u.births.channels + 1) ≡ e2
@@ -178,7 +188,7 @@ module _ (G : RunContext) (lv : RightsOfAll G) (c : Course) (s : StateOf G.g) (u
 
   fails : (f : Fault) → step_outcome {L = superpascal G.g} (total_limits G.g) x.state v (Opens goes_on ws) ≡ Faulty f
       → fault_of G.g.limits u tn ≡ Some f → Entry_of G c s u i d
-  fails f e h = failed_entry G lv c s u l i d at_i (opened_halt G lv c s u l i d at_i z todo o m x t) refl f
+  fails f e h = failed_entry at_stop (opened_halt at_stop z todo o m x t) refl f
       (kernel_says G.g v x.state x.left x.runs r x.does
       ∙ ap (λ b. happening_of {L = superpascal G.g} (Opens goes_on ws) b) e)
       (kernel_next G.g v x.state x.left x.runs r x.does
@@ -223,7 +233,7 @@ module _ (G : RunContext) (lv : RightsOfAll G) (c : Course) (s : StateOf G.g) (u
     cond_r b e = at_other name_test x.state.condition v b (Works goes_on) (λ f. e (sym f)) ∙ x.elsewhere.condition b e
 
     known_then : StateKeeps G.g x.state
-    known_then = known_at G lv c s u l i d at_i z r x Is_opened said_now
+    known_then = known_at at_stop z r x Is_opened said_now
 
     known_now : StateKeeps G.g t1
     known_now = record {
@@ -234,19 +244,19 @@ module _ (G : RunContext) (lv : RightsOfAll G) (c : Course) (s : StateOf G.g) (u
 
     rights_now : Inv G.g.program (W_of G lv) (R_of G lv) t1.condition t1.forks
     rights_now = inv_local G (W_of G lv) (R_of G lv) s.condition t1.condition s.forks t1.forks v l.rights
-        x.elsewhere.forks (present G lv c s u l i d at_i) cond_r
+        x.elsewhere.forks (present at_stop) cond_r
         (subst (λ b. ConditionInRights G.g.program (W_of G lv) (R_of G lv) s.forks v b) (sym cond_v)
         (record {
           named = x.good.named;
           forked = ap (λ (a : Identity). a.forks) x.who_is
-              ∙ (keeps_to G lv c s u l i d at_i).forked;
-          last = (keeps_to G lv c s u l i d at_i).last;
+              ∙ (keeps_to at_stop).forked;
+          last = (keeps_to at_stop).last;
           fit = y.final;
         }))
 
     ended_same : (b : Name) → has_ended (t1.condition b) ≡ has_ended (s.condition b)
     ended_same b = ⊎_elim (λ (e : b ≡ v). ap (λ k. has_ended (t1.condition k)) e ∙ ap (λ k. has_ended k) cond_v
-        ∙ sym (not_ended G lv c s u l i d at_i) ∙ ap (λ k. has_ended (s.condition k)) (sym e))
+        ∙ sym (not_ended at_stop) ∙ ap (λ k. has_ended (s.condition k)) (sym e))
         (λ (e : b ≢ v). ap (λ k. has_ended k) (cond_r b e)) (same_or_not name_test b v)
 
     present_same : (b : Name) → s.condition b ≢ Absent → t1.condition b ≢ Absent
@@ -257,9 +267,9 @@ module _ (G : RunContext) (lv : RightsOfAll G) (c : Course) (s : StateOf G.g) (u
     abbrev c1 : Course
     c1 = with_ticks v (ticks_of G.g t1 v) c
 
-    since_here : c1.since v ≡ (t.2).ticks
+    since_here : c1.since v ≡ t.memory.ticks
     since_here = ap (λ b. cond b (ticks_of G.g t1 v) (c.since v)) (itself name_test v) ∙ ap ticks_in cond_v
-        ∙ (t.10).ticks
+        ∙ t.stand.ticks
 
     few : (k : ℕ) → k < u.births.processes → k < G.births.processes
     few k lt = let b = l.began.processes in omega (arith, lt, b)
@@ -268,10 +278,10 @@ module _ (G : RunContext) (lv : RightsOfAll G) (c : Course) (s : StateOf G.g) (u
         → Performs_all (one_more G) lv (G.births.name k) c1 t1 (u.births.opens k) (u.condition k)
     does_other k lt e =
         let apart : G.births.name k ≢ v = λ h. e
-        (G.one_name i k (few i (here G lv c s u l i d at_i)) (few k lt) (sym h)) in
+        (G.one_name i k (few i (here at_stop)) (few k lt) (sym h)) in
         does_more G (lv (G.births.name k)) (λ a b. lv ((a, b) ∷ G.births.name k)) (G.births.name k) c1 t1
         (u.births.opens k) (u.condition k)
-        (does_stay G lv s t1 l.known.sound l.rights.fair v (alone G lv c s u l i d at_i) y.stays (G.births.name k) apart
+        (does_stay G lv s t1 l.known.sound l.rights.fair v (alone at_stop) y.stays (G.births.name k) apart
         (cond_r (G.births.name k) apart) (λ a b. ended_same ((a, b) ∷ G.births.name k))
         (λ a b. present_same ((a, b) ∷ G.births.name k)) c c1
         (since_other c v (ticks_of G.g t1 v) (G.births.name k) apart) refl (λ h. h)
@@ -280,10 +290,10 @@ module _ (G : RunContext) (lv : RightsOfAll G) (c : Course) (s : StateOf G.g) (u
     -- ---- the machine
 
     abbrev n1 : Memory Plain
-    n1 = record (t.2) { since = (t.2).ticks }
+    n1 = record (t.memory) { since = t.memory.ticks }
 
     abbrev there : Config (Memory Plain)
-    there = on_store (put_cell plain t.6 (cell.Channel u.births.channels)) (At t.0 t.1 n1)
+    there = on_store (put_cell plain t.target (cell.Channel u.births.channels)) (At t.pc t.stack n1)
 
     abbrev b1 : Births
     b1 = births_after_event u.births i event.Open
@@ -319,8 +329,8 @@ module _ (G : RunContext) (lv : RightsOfAll G) (c : Course) (s : StateOf G.g) (u
           ∙ ap (λ (a : Opening). record { owner = u.births.name a.owner; nth = a.nth })
           (ap (λ b. cond b (record { owner = i; nth = u.births.opens i }) (u.births.opening k)) (eq-eqb k k refl))
           ∙ ap (λ a. record { owner = a; nth = u.births.opens i })
-          (l.began.names i (here G lv c s u l i d at_i) ∙ sym z.named)
-          ∙ ap (λ a. record { owner = p1.who.name; nth = a }) (sym (its G lv c s u l i d at_i).3)
+          (l.began.names i (here at_stop) ∙ sym z.named)
+          ∙ ap (λ a. record { owner = p1.who.name; nth = a }) (sym (opens_are at_stop))
 
       named : Named (one_more G) nm k
       named = ((let a = l.open_is in omega (arith, a)), below, channel_is)
@@ -338,44 +348,46 @@ module _ (G : RunContext) (lv : RightsOfAll G) (c : Course) (s : StateOf G.g) (u
               absurd (omega (arith, same, lt, op))
 
       -- before the channel stands in its target
-      abbrev before : ProcessMatches (one_more G) (lv v) (λ a b. lv ((a, b) ∷ v)) v (c1.since v) goes_on t.7
-          (At t.0 t.1 n1)
-      before = stands_more G (lv v) (λ a b. lv ((a, b) ∷ v)) v (c1.since v) goes_on t.7 (At t.0 t.1 n1) (record {
-        fresh = z.fresh;
-        named = x.good.named;
-        js = t.3;
-        pc = t.0;
-        stack = t.1;
-        memory = n1;
-        configuration_is = refl;
-        stand = stand_again G (lv v) (λ a b. lv ((a, b) ∷ v)) v {w = p1.who} {w1 = goes_on.who} {since = c.since v}
-            {since1 = c1.since v} (ap (λ (a : Identity). a.name) x.who_is) since_here t.10;
-        follows = follows_again G (lv v) (λ a b. lv ((a, b) ∷ v)) v z.fresh z.fresh p1.who goes_on.who z.named
-            x.good.named (c.since v) (c1.since v) t.0 t.1 t.3 todo t.14;
-      })
+      abbrev before : ProcessMatches (one_more G) (lv v) (λ a b. lv ((a, b) ∷ v)) v (c1.since v) goes_on t.store
+          (At t.pc t.stack n1)
+      before = stands_more G (lv v) (λ a b. lv ((a, b) ∷ v)) v (c1.since v) goes_on t.store (At t.pc t.stack n1)
+          (record {
+            fresh = z.fresh;
+            named = x.good.named;
+            js = t.frames;
+            pc = t.pc;
+            stack = t.stack;
+            memory = n1;
+            configuration_is = refl;
+            stand = stand_again G (lv v) (λ a b. lv ((a, b) ∷ v)) v {w = p1.who} {w1 = goes_on.who} {since = c.since v}
+                {since1 = c1.since v} (ap (λ (a : Identity). a.name) x.who_is) since_here t.stand;
+            follows = follows_again G (lv v) (λ a b. lv ((a, b) ∷ v)) v z.fresh z.fresh p1.who goes_on.who z.named
+                x.good.named (c.since v) (c1.since v) t.pc t.stack t.frames todo t.follows;
+          })
 
       stood : Stood (Rel (one_more G) (lv v) (λ a b. lv ((a, b) ∷ v)) v goes_on.who (c1.since v)) G.g.program
-          (sort G.g.program (t.5).kind) (t.5).kind (Chan nm) (machine.Chan k)
+          (sort G.g.program t.variable.kind) t.variable.kind (Chan nm) (machine.Chan k)
       stood = subst (λ b. Stood (Rel (one_more G) (lv v) (λ a b. lv ((a, b) ∷ v)) v goes_on.who (c1.since v))
-          G.g.program b (t.5).kind (Chan nm) (machine.Chan k)) (sym t.16) (nm, k, refl, refl, named)
+          G.g.program b t.variable.kind (Chan nm) (machine.Chan k)) (sym t.sort_is) (nm, k, refl, refl, named)
 
-      stand_now : St (one_more G) (lv v) (λ a b. lv ((a, b) ∷ v)) v goes_on.who (c1.since v) t.3 o m
-          (record n1 { store = put_cell plain t.6 (cell.Channel k) n1.store })
-      stand_now = subst (λ b. St (one_more G) (lv v) (λ a b. lv ((a, b) ∷ v)) v goes_on.who (c1.since v) t.3 o b
-          (record n1 { store = put_cell plain t.6 (cell.Channel k) n1.store })) (sym t.13)
+      stand_now : St (one_more G) (lv v) (λ a b. lv ((a, b) ∷ v)) v goes_on.who (c1.since v) t.frames o m
+          (record n1 { store = put_cell plain t.target (cell.Channel k) n1.store })
+      stand_now = subst (λ b. St (one_more G) (lv v) (λ a b. lv ((a, b) ∷ v)) v goes_on.who (c1.since v) t.frames o b
+          (record n1 { store = put_cell plain t.target (cell.Channel k) n1.store })) (sym t.store_is)
           (store_law G.g G.code goes_on.who (Named (one_more G)) (Called G) (λ a. OwnLocation v a ⊎ (lv v).W a)
           (λ a. OwnLocation v a ⊎ (lv v).R a) (lv v).J (lv v).low (length (lv v).below) (lv v).born (c1.since v) G.pause
-          (lv v).moved G.formed before.stand t.5 t.6 t.11 t.12 (subst OneCell (sym t.16) tt) (Chan nm)
+          (lv v).moved G.formed before.stand t.variable t.target t.points t.readable (subst OneCell (sym t.sort_is) tt)
+          (Chan nm)
           (machine.Chan k) stood)
 
       stands_now : ProcessMatches (one_more G) (lv v) (λ a b. lv ((a, b) ∷ v)) v (c1.since v) goes_on m there
       stands_now = record {
         fresh = before.fresh;
         named = before.named;
-        js = t.3;
-        pc = t.0;
-        stack = t.1;
-        memory = record n1 { store = put_cell plain t.6 (cell.Channel k) n1.store };
+        js = t.frames;
+        pc = t.pc;
+        stack = t.stack;
+        memory = record n1 { store = put_cell plain t.target (cell.Channel k) n1.store };
         configuration_is = refl;
         stand = stand_now;
         follows = before.follows;
@@ -389,8 +401,8 @@ module _ (G : RunContext) (lv : RightsOfAll G) (c : Course) (s : StateOf G.g) (u
         goes_on,
         ap (own_part_in t1.condition v) cond_v,
         inl stands_now,
-        ap (λ a. a + 1) (ap (λ (a : Identity). a.opens) x.who_is ∙ (its G lv c s u l i d at_i).3) ∙ sym opens_here,
-        (its G lv c s u l i d at_i).4,
+        ap (λ a. a + 1) (ap (λ (a : Identity). a.opens) x.who_is ∙ opens_are at_stop) ∙ sym opens_here,
+        unlaid at_stop,
       )
 
       linked : Linked (one_more G) lv c1 t1 u1
@@ -433,13 +445,13 @@ module _ (G : RunContext) (lv : RightsOfAll G) (c : Course) (s : StateOf G.g) (u
             (sym (ap (λ b. cond b (sys.Working there) (u.condition a)) (ne_eqb i a e))) (does_other a lt e)))
             (number_or i a);
         unborn = λ a le. ap (λ b. cond b (sys.Working there) (u.condition a))
-            (ne_eqb i a (λ e. let b = here G lv c s u l i d at_i in omega (arith, b, le, e))) ∙ l.unborn a le;
+            (ne_eqb i a (λ e. let b = here at_stop in omega (arith, b, le, e))) ∙ l.unborn a le;
         unmade = λ a le. (
           (l.unmade a le).0,
           ap (λ b. cond b (u.births.opens i + 1) (u.births.opens a))
-              (ne_eqb i a (λ e. let b = here G lv c s u l i d at_i in omega (arith, b, le, e))) ∙ (l.unmade a le).1,
+              (ne_eqb i a (λ e. let b = here at_stop in omega (arith, b, le, e))) ∙ (l.unmade a le).1,
         );
-        numbered = λ a h. ⊎_elim (λ (e : a ≡ v). (i, here G lv c s u l i d at_i, sym e))
+        numbered = λ a h. ⊎_elim (λ (e : a ≡ v). (i, here at_stop, sym e))
             (λ (e : a ≢ v). l.numbered a (λ f. h (cond_r a e ∙ f))) (same_or_not name_test a v);
       }
         where
@@ -453,7 +465,7 @@ module _ (G : RunContext) (lv : RightsOfAll G) (c : Course) (s : StateOf G.g) (u
     opens_entry = record {
       turn = tn;
       is_turn = tn_is;
-      way = way_of_step G lv c s u l i d at_i x.steps x.state (x.turn Is_opened said_now) Is_opened t1
+      way = way_of_step at_stop x.steps x.state (x.turn Is_opened said_now) Is_opened t1
           (λ left n k. (l.faulted ∙ no_fault, refl, t1, n, one-add n, (x.left, x.runs, said_now, goes_next), k)) _
           (sym told);
       speaks = subst (λ f. IsOpen u.births f) (sym event_is) tt;

@@ -72,11 +72,8 @@ module _ (G : RunContext) (lv : RightsOfAll G) (s t : StateOf G.g) (sound : Soun
 
     works_same : (c : Condition Process LocationContent Address) → own_part_in t.condition r c
         ≡ own_part_in s.condition r c
-    works_same Absent = refl
-    works_same (Works o) = refl
-    works_same (Waits o) = refl
     works_same (Joins k n o) = ap (λ b. if b then Some o else None) (all_same k n)
-    works_same Ended = refl
+    works_same _ = refl
 
     pub working_same : (pr : Process) → own_part_in s.condition r (s.condition r) ≡ Some pr
         → own_part_in t.condition r (t.condition r) ≡ Some pr
@@ -189,43 +186,50 @@ module _ (G : RunContext) (lv : RightsOfAll G) (s t : StateOf G.g) (sound : Soun
         → (c.faulted ≡ true → c1.faulted ≡ true) → (opens : ℕ) (x : sys.Condition Plain)
         → Performs_all G lv r c s opens x → Performs_all G lv r c1 t opens x
     does_stay c c1 si la fa opens sys.Absent h = h
-    does_stay c c1 si la fa opens (sys.Working d) h = (
-      h.0,
-      working_same h.0 h.1,
+    does_stay c c1 si la fa opens (sys.Working d) (pr, runs, stands, opens_are, not_laid) = (
+      pr,
+      working_same pr runs,
       ⊎_elim (λ z. inl
-          (subst (λ y. ProcessMatches G (lv r) kids r y h.0 t.store d) (sym si)
-          (stands_stay (c.since r) h.0 d (inl (h.0, h.1)) z)))
-          (λ z. inr (z.0, z.1, z.2, z.3, z.4, told_stay d (unread (inl (h.0, h.1)) Output) z.5)) h.2,
-      h.3,
-      la ∙ h.4,
+          (subst (λ y. ProcessMatches G (lv r) kids r y pr t.store d) (sym si)
+          (stands_stay (c.since r) pr d (inl (pr, runs)) z)))
+          (λ z. inr (record {
+            is_first = z.is_first;
+            faults = z.faults;
+            is_root = z.is_root;
+            configuration_is = z.configuration_is;
+            no_room = z.no_room;
+            output = told_stay d (unread (inl (pr, runs)) Output) z.output;
+          })) stands,
+      opens_are,
+      la ∙ not_laid,
     )
-    does_stay c c1 si la fa opens (sys.Waits y d) h =
-        (h.0, same ∙ h.1, z.0, z.1, h.4, la ∙ h.5, h.6)
+    does_stay c c1 si la fa opens (sys.Waits y d) (o, waits, t0, carries, opens_are, not_laid, owns) =
+        (o, same ∙ waits, z.0, z.1, opens_are, la ∙ not_laid, owns)
       where
-        both : (a : ℕ) → a ≡ c.since r → (b : ProcessMatches G (lv r) kids r a (h.0).next t.store d)
-            × Rattle.sp_link.proofs.Relation.Ca G (lv r) kids r b.fresh (h.0).next.who b.named a b.js (h.0).channel
-            (h.0).kind (h.0).cargo y
-        both a e = subst (λ a. (b : ProcessMatches G (lv r) kids r a (h.0).next t.store d)
-            × Rattle.sp_link.proofs.Relation.Ca G (lv r) kids r b.fresh (h.0).next.who b.named a b.js (h.0).channel
-            (h.0).kind (h.0).cargo y) (sym e)
-            (stands_stay (c.since r) (h.0).next d (inr ((h.0).channel, waits_is (s.condition r) h.0 h.1)) h.2, h.3)
+        both : (a : ℕ) → a ≡ c.since r → (b : ProcessMatches G (lv r) kids r a o.next t.store d)
+            × Rattle.sp_link.proofs.Relation.Ca G (lv r) kids r b.fresh o.next.who b.named a b.js o.channel
+            o.kind o.cargo y
+        both a e = subst (λ a. (b : ProcessMatches G (lv r) kids r a o.next t.store d)
+            × Rattle.sp_link.proofs.Relation.Ca G (lv r) kids r b.fresh o.next.who b.named a b.js o.channel
+            o.kind o.cargo y) (sym e)
+            (stands_stay (c.since r) o.next d (inr (o.channel, waits_is (s.condition r) o waits)) t0, carries)
 
-        z : (b : ProcessMatches G (lv r) kids r (c1.since r) (h.0).next t.store d)
-            × Rattle.sp_link.proofs.Relation.Ca G (lv r) kids r b.fresh (h.0).next.who b.named (c1.since r) b.js
-            (h.0).channel (h.0).kind (h.0).cargo y
+        z : (b : ProcessMatches G (lv r) kids r (c1.since r) o.next t.store d)
+            × Rattle.sp_link.proofs.Relation.Ca G (lv r) kids r b.fresh o.next.who b.named (c1.since r) b.js
+            o.channel o.kind o.cargo y
         z = both (c1.since r) si
-    does_stay c c1 si la fa opens (sys.Joins left d) h = (
-      h.0,
-      h.1,
-      h.2,
-      same ∙ h.3,
-      subst (λ y. Joined G (lv r) kids r y h.0 h.1 left h.2 t d) (sym si)
-          (joined_stay (c.since r) h.0 h.1 left h.2 d h.3 h.4),
-      h.5,
-      la ∙ h.6,
+    does_stay c c1 si la fa opens (sys.Joins left d) (k, n, pr, joins, joining, opens_are, not_laid) = (
+      k,
+      n,
+      pr,
+      same ∙ joins,
+      subst (λ y. Joined G (lv r) kids r y k n left pr t d) (sym si)
+          (joined_stay (c.since r) k n left pr d joins joining),
+      opens_are,
+      la ∙ not_laid,
     )
-    does_stay c c1 si la fa opens (sys.Laid d) h =
-        (la ∙ h.0, fa h.1, (h.2.0, working_same h.2.0 h.2.1), told_stay d (unread (inl h.2) Output) h.3)
+    does_stay c c1 si la fa opens (sys.Laid d) (is_laid, bad, (pr, runs), told) =
+        (la ∙ is_laid, fa bad, (pr, working_same pr runs), told_stay d (unread (inl (pr, runs)) Output) told)
     does_stay c c1 si la fa opens sys.Gone h = (same ∙ h.0, h.1)
     does_stay c c1 si la fa opens (sys.Over d) h =
         absurd (subst (λ y. IsLive y) h.0 (subst (λ y. IsLive (s.condition y)) (sym h.1) root_lives))

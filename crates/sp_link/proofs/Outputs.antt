@@ -85,12 +85,12 @@ module _ (G : RunContext) (lv : RightsOfAll G) (c : Course) (s : StateOf G.g) (u
           greater zero lz e = absurd (no_empty (k, j) (G.births.name i) (sym l.began.root.1 ∙ l.began.names 0 lz ∙ e))
           greater (suc a) ls e =
               let b = l.began.born (suc a) (omega arith) ls in
-              let parent : G.births.name (b.0).parent ≡ G.births.name i =
-              sym (l.began.names (b.0).parent (let x = b.2 in omega (arith, x, ls)))
-              ∙ same_tail (sym b.3 ∙ l.began.names (suc a) ls ∙ e) in
-              let same : (b.0).parent ≡ i = G.one_name (b.0).parent i
-              (few (b.0).parent (let x = b.2 in omega (arith, x, ls))) (few i lt) parent in
-              let x = b.2 in omega (arith, x, same)
+              let parent : G.births.name b.birth.parent ≡ G.births.name i =
+              sym (l.began.names b.birth.parent (let x = b.older in omega (arith, x, ls)))
+              ∙ same_tail (sym b.named ∙ l.began.names (suc a) ls ∙ e) in
+              let same : b.birth.parent ≡ i = G.one_name b.birth.parent i
+              (few b.birth.parent (let x = b.older in omega (arith, x, ls))) (few i lt) parent in
+              let x = b.older in omega (arith, x, same)
 
       by : (x : sys.Condition Plain) → u.condition i ≡ x → Performs_all G lv (G.births.name i) c s (u.births.opens i) x
           → ((j : ℕ) → j < u.births.processes → u.births.processes ≤ j + f
@@ -103,7 +103,7 @@ module _ (G : RunContext) (lv : RightsOfAll G) (c : Course) (s : StateOf G.g) (u
           holds_it i (sys.Working d) (At z.pc z.stack z.memory) e
           (ap (λ y. store_in (sys.Working y)) z.configuration_is) y.0 y.1
           (ap output_of y.2)))
-          (λ z. told_it (G.births.name i) i (sys.Working d) d e (at_config d) z.5 may) h.2
+          (λ z. told_it (G.births.name i) i (sys.Working d) d e (at_config d) z.output may) h.2
       by (sys.Waits a d) e h next = let z = h.2 in let y = z.stand.output may in
           holds_it i (sys.Waits a d) (At z.pc z.stack z.memory) e
           (ap (λ y. store_in (sys.Waits a y)) z.configuration_is) y.0 y.1

@@ -7,9 +7,10 @@ use Rattle.sp_journal.specs.Births.{births_after_event}
 use Rattle.sp_journal.specs.Maps.{at_key}
 use Rattle.sp_journal.specs.declared.entry.Event.TheVariants as event
 use Rattle.sp_cell.specs.Map.{Plain}
-use Rattle.sp_meaning.specs.Model.{Name}
+use Rattle.sp_meaning.specs.Actions.{Birth, Opened, Forked, Offered, Ended}
+use Rattle.sp_meaning.specs.Model.{Name, Channel, Cargo}
 use Rattle.sp_meaning.specs.Entries.{Happening, Paused as Is_paused}
-use Rattle.sp_meaning.specs.LocalWork.{Loc, LocalState, Item, Process, WorkOutcome, Computed}
+use Rattle.sp_meaning.specs.LocalWork.{Loc, LocationContent, Address, LocalState, Item, Process, WorkOutcome, Computed}
 use Rattle.sp_meaning.specs.SuperPascal.{with_todo}
 use Rattle.sp_meaning.specs.Run.{Store}
 use Rattle.sp_meaning.specs.Runs.{StateOf}
@@ -24,15 +25,20 @@ use Rattle.sp_code.specs.Machine as machine
 use Rattle.sp_code.specs.Turns as Turns
 use Rattle.sp_code.specs.Turns.{Turn, Stopped, IsTurn}
 use Rattle.sp_code.specs.Memory.{Memory}
+use Rattle.sp_codegen.specs.Executions.{Execution}
+use Rattle.sp_link.proofs.MachineStops.{AtPause, AtFork, AtOffer, AtOpen, AtFinish}
+use Rattle.sp_link.proofs.MachineStops.{to_pause, to_fork, to_offer, to_open, to_finish}
 use Rattle.sp_code.specs.PlainStore.{plain}
 use Rattle.sp_code.specs.System.{System, Working, system_after_turn, apply_unless_fault, fault_of, event_or, event_of}
 use Rattle.sp_code.specs.System.{lays, config_of}
 use Rattle.sp_link.proofs.AfterEntry.{stand_again, follows_again}
 use Rattle.sp_link.proofs.TurnsMeet.{Outcome_of, Kept_of, Turned_as, is_turn, turn_known}
 use Rattle.sp_link.proofs.Journal.{Way_on, IsOpen, Now, now_by}
-use Rattle.sp_link.proofs.OneChanges.{q, pr, its, runs_as_pr, light, keeps_to, linked_local}
+use Rattle.sp_link.proofs.OneChanges.{q, pr, runs_as_pr, light, keeps_to, linked_local}
 use Rattle.sp_link.proofs.Relation.{RunContext, BirthRights, RightsOfAll, W_of, R_of, ProcessMatches, Linked, Began}
-use Rattle.sp_link.proofs.Relation.{run_is, ops}
+use Rattle.sp_link.proofs.Relation.{run_is, ops, execution}
+use Rattle.sp_link.proofs.Relation.{AtStop}
+use Rattle.sp_link.proofs.OneChanges.{opens_are, unlaid}
 
 -- where no fault stands
 pub after_no_fault : (G : RunContext) (i : ℕ) (t : Turn (Memory Plain)) (u : System Plain) → u.faulted ≡ false
@@ -63,20 +69,29 @@ pub record Entry_of (G : RunContext) (c : Course) (s : StateOf G.g) (u : System 
   pub linked : Began G (system_after_turn plain (run_is G) i turn u).births
       → Now G lives way.course way.state (system_after_turn plain (run_is G) i turn u)
 
-module _ (G : RunContext) (lv : RightsOfAll G) (c : Course) (s : StateOf G.g) (u : System Plain) (l : Linked G lv c s u)
-    (i : ℕ)
-    (d : Config (Memory Plain)) (at_i : u.condition i ≡ Working d) where
+module _ (at_stop : AtStop) where
+  open at_stop use {
+    run as G,
+    lives as lv,
+    course as c,
+    state as s,
+    system as u,
+    linked as l,
+    number as i,
+    configuration as d,
+  }
+
   abbrev pub w : Name
-  w = q G lv c s u l i d at_i
+  w = q at_stop
 
   abbrev pub p1 : Process
-  p1 = pr G lv c s u l i d at_i
+  p1 = pr at_stop
 
   abbrev pub kids : ℕ → ℕ → BirthRights
   kids k n = lv ((k, n) ∷ w)
 
   abbrev pub kt : Keeps_to G.g.program (W_of G lv) (R_of G lv) s.forks w p1
-  kt = keeps_to G lv c s u l i d at_i
+  kt = keeps_to at_stop
 
   -- the way to an entry that the next step makes, once it is known what the machine says
   abbrev pub way_of_step : (steps : ℕ) (at : StateOf G.g) → source_turn G.g G.pause (c.since w) w steps s at false
@@ -84,7 +99,7 @@ module _ (G : RunContext) (lv : RightsOfAll G) (c : Course) (s : StateOf G.g) (u
       → left (with_ticks w (ticks_of G.g t1 w) c) t1 n → EntryStep G.g left c at false w what (1 + n)) → (e : Happening)
       → what ≡ e → Way_on G c s w e
   way_of_step steps at turn what t1 enters e h = record {
-    unlaid = (its G lv c s u l i d at_i).4;
+    unlaid = unlaid at_stop;
     steps = steps;
     source = at;
     paused = false;
@@ -95,30 +110,72 @@ module _ (G : RunContext) (lv : RightsOfAll G) (c : Course) (s : StateOf G.g) (u
     enters = λ left n k. subst (λ f. EntryStep G.g left c at false w f (1 + n)) h (enters left n k);
   }
 
-  module _ (z : ProcessMatches G (lv w) kids w (c.since w) p1 s.store d) where
+  -- its memory and its code stand for what it has left
+  abbrev pub MatchesNow : Type 0
+  MatchesNow = ProcessMatches G (lv w) kids w (c.since w) p1 s.store d
+
+  module _ (z : MatchesNow) where
     -- how its turn ends in the meaning, and in the machine
     abbrev pub Meant : WorkOutcome source.Stop × Store → Type 0
-    Meant r = Outcome_of G (lv w) kids w (c.since w) s p1 d z (runs_as_pr G lv c s u l i d at_i)
-        (light G lv c s u l i d at_i)
+    Meant r = Outcome_of G (lv w) kids w (c.since w) s p1 d z (runs_as_pr at_stop)
+        (light at_stop)
         kt.last kt.fit r
 
     abbrev pub Machined : WorkOutcome source.Stop × Store → Type 0
-    Machined r = Turned_as G (lv w) kids w (c.since w) s p1 d z (runs_as_pr G lv c s u l i d at_i)
-        (light G lv c s u l i d at_i) kt.last kt.fit r
+    Machined r = Turned_as G (lv w) kids w (c.since w) s p1 d z (runs_as_pr at_stop)
+        (light at_stop) kt.last kt.fit r
+
+    -- the same by the event that the machine stops at, with its parts by name
+    abbrev pub running : Execution (Memory Plain)
+    running = execution G (lv w) kids w z.fresh p1.who z.named (c.since w)
+
+    abbrev pub PausesAt : List Item → LocalState → Store → Type 0
+    PausesAt todo o m = AtPause running (At z.pc z.stack z.memory) (lv w).end (lv w).below todo o m
+
+    abbrev pub ForksAt : List Birth → List Item → LocalState → Store → Type 0
+    ForksAt bs todo o m = AtFork running (At z.pc z.stack z.memory) (lv w).end (lv w).below bs todo o m
+
+    abbrev pub OffersAt : Channel → ℕ → Cargo LocationContent Address → List Item → LocalState → Store → Type 0
+    OffersAt ch k cg todo o m = AtOffer running (At z.pc z.stack z.memory) (lv w).end (lv w).below ch k cg todo o m
+
+    abbrev pub OpensAt : List Item → LocalState → Store → Type 0
+    OpensAt todo o m = AtOpen running (At z.pc z.stack z.memory) (lv w).end (lv w).below todo o m
+
+    abbrev pub EndsAt : LocalState → Store → Type 0
+    EndsAt o m = AtFinish running (At z.pc z.stack z.memory) (lv w).end (lv w).below o m
+
+    pub pauses_at : (todo : List Item) (o : LocalState) (m : Store) → Machined (Computed (source.Paused todo) o, m)
+        → PausesAt todo o m
+    pauses_at = to_pause running (At z.pc z.stack z.memory) (lv w).end (lv w).below
+
+    pub forks_at : (bs : List Birth) (todo : List Item) (o : LocalState) (m : Store)
+        → Machined (Computed (source.Stops (Forked bs todo)) o, m) → ForksAt bs todo o m
+    forks_at = to_fork running (At z.pc z.stack z.memory) (lv w).end (lv w).below
+
+    pub offers_at : (ch : Channel) (k : ℕ) (cg : Cargo LocationContent Address) (todo : List Item) (o : LocalState)
+        (m : Store) → Machined (Computed (source.Stops (Offered ch k cg todo)) o, m) → OffersAt ch k cg todo o m
+    offers_at = to_offer running (At z.pc z.stack z.memory) (lv w).end (lv w).below
+
+    pub opens_at : (todo : List Item) (o : LocalState) (m : Store)
+        → Machined (Computed (source.Stops (Opened todo)) o, m) → OpensAt todo o m
+    opens_at = to_open running (At z.pc z.stack z.memory) (lv w).end (lv w).below
+
+    pub ends_at : (o : LocalState) (m : Store) → Machined (Computed (source.Stops Ended) o, m) → EndsAt o m
+    ends_at = to_finish running (At z.pc z.stack z.memory) (lv w).end (lv w).below
 
     -- what it kept to, and what is left keeps to
     abbrev pub Kept_to : WorkOutcome source.Stop × Store → Type 0
-    Kept_to r = Kept_of G (lv w) kids w (c.since w) s p1 d z (runs_as_pr G lv c s u l i d at_i)
-        (light G lv c s u l i d at_i)
+    Kept_to r = Kept_of G (lv w) kids w (c.since w) s p1 d z (runs_as_pr at_stop)
+        (light at_stop)
         kt.last kt.fit r
 
     pub turn_is : (t : Turn (Memory Plain)) → Turns.Runs (ops G) G.code (At z.pc z.stack z.memory) t
         → IsTurn (ops G) G.code d t
-    turn_is t r = is_turn G (lv w) kids w (c.since w) s p1 d z (runs_as_pr G lv c s u l i d at_i)
-        (light G lv c s u l i d at_i) kt.last kt.fit t r
+    turn_is t r = is_turn G (lv w) kids w (c.since w) s p1 d z (runs_as_pr at_stop)
+        (light at_stop) kt.last kt.fit t r
 
     pub pausing : (todo : List Item) (o : LocalState) (m : Store) → Meant (Computed (source.Paused todo) o, m)
-        → Machined (Computed (source.Paused todo) o, m) → u.faulted ≡ false → Entry_of G c s u i d
+        → PausesAt todo o m → u.faulted ≡ false → Entry_of G c s u i d
     pausing todo o m x t no_fault = record {
       turn = tn;
       is_turn = tn_is;
@@ -130,10 +187,10 @@ module _ (G : RunContext) (lv : RightsOfAll G) (c : Course) (s : StateOf G.g) (u
     }
       where
         tn : Turn (Memory Plain)
-        tn = Stopped machine.Pauses (At t.0 t.1 t.2)
+        tn = Stopped machine.Pauses (At t.pc t.stack t.memory)
 
         tn_is : IsTurn (ops G) G.code d tn
-        tn_is = turn_is tn (t.4, t.5, t.6)
+        tn_is = turn_is tn (t.last, t.comes, t.stops)
 
         said : Rattle.sp_journal.specs.Births.happening u.births (event_of G.g.limits u tn) ≡ Is_paused
         said = ap (λ b. Rattle.sp_journal.specs.Births.happening u.births
@@ -148,29 +205,33 @@ module _ (G : RunContext) (lv : RightsOfAll G) (c : Course) (s : StateOf G.g) (u
         c1 : Course
         c1 = with_ticks w (ticks_of G.g x.state w) c
 
-        since_here : c1.since w ≡ (t.2).ticks
-        since_here = ap (λ b. cond b (ticks_of G.g x.state w) (c.since w)) (itself name_test w) ∙ ticks ∙ (t.7).ticks
+        since_here : c1.since w ≡ t.memory.ticks
+        since_here = ap (λ b. cond b (ticks_of G.g x.state w) (c.since w)) (itself name_test w) ∙ ticks ∙ t.stand.ticks
 
         n1 : Memory Plain
-        n1 = record (t.2) { since = (t.2).ticks }
+        n1 = record (t.memory) { since = t.memory.ticks }
 
-        stands : ProcessMatches G (lv w) kids w (c1.since w) p2 x.state.store (At t.0 t.1 n1)
-        stands = subst (λ y. ProcessMatches G (lv w) kids w (c1.since w) p2 y (At t.0 t.1 n1)) (sym x.store) (record {
-          fresh = z.fresh;
-          named = z.named;
-          js = t.3;
-          pc = t.0;
-          stack = t.1;
-          memory = n1;
-          configuration_is = refl;
-          stand = stand_again G (lv w) kids w {w = p1.who} {w1 = p1.who} {since = c.since w} {since1 = c1.since w} refl
-              since_here t.7;
-          follows = follows_again G (lv w) kids w z.fresh z.fresh p1.who p1.who z.named z.named (c.since w) (c1.since w)
-              t.0 t.1 t.3 todo t.8;
+        stands : ProcessMatches G (lv w) kids w (c1.since w) p2 x.state.store (At t.pc t.stack n1)
+        stands = subst (λ y. ProcessMatches G (lv w) kids w (c1.since w) p2 y (At t.pc t.stack n1)) (sym x.store)
+            (record {
+              fresh = z.fresh;
+              named = z.named;
+              js = t.frames;
+              pc = t.pc;
+              stack = t.stack;
+              memory = n1;
+              configuration_is = refl;
+              stand = stand_again G (lv w) kids w {w = p1.who} {w1 = p1.who} {since = c.since w}
+                  {since1 = c1.since w} refl since_here t.stand;
+              follows = follows_again G (lv w) kids w z.fresh z.fresh p1.who p1.who z.named z.named (c.since w)
+                  (c1.since w) t.pc t.stack t.frames todo t.follows;
+            })
+
+        linked : Linked G lv c1 x.state (record u {
+          condition =
+              at_key ◌==◌ i (Working (At t.pc t.stack n1)) u.condition;
         })
-
-        linked : Linked G lv c1 x.state (record u { condition = at_key ◌==◌ i (Working (At t.0 t.1 n1)) u.condition })
-        linked = linked_local G lv c s u l i d at_i x.state c1 (Working (At t.0 t.1 n1)) u.faulted
+        linked = linked_local at_stop x.state c1 (Working (At t.pc t.stack n1)) u.faulted
             x.elsewhere.condition x.elsewhere.forks x.elsewhere.pending x.elsewhere.totals
             (subst (λ y. (a : Loc) → (y a ≡ s.store a) ⊎ OwnOrGiven (W_of G lv) w a) (sym x.store) x.good.stays)
             (turn_known G.g G.pause (c.since w) w x.steps s x.state true l.known x.turn) p2 x.runs
@@ -178,11 +239,11 @@ module _ (G : RunContext) (lv : RightsOfAll G) (c : Course) (s : StateOf G.g) (u
             (λ r a. ap (λ b. cond b (ticks_of G.g x.state w) (c.since r)) (differs name_test w r (λ e. a (sym e))))
             (λ r a. refl) (λ e. e) l.faulted
             (λ e. x.elsewhere.fault ∙ l.no_fault e) l.unlaid
-            (p2, x.runs, inl stands, (its G lv c s u l i d at_i).3, (its G lv c s u l i d at_i).4) (λ e. absurd (cc e))
+            (p2, x.runs, inl stands, opens_are at_stop, unlaid at_stop) (λ e. absurd (cc e))
 
         way_by : (e : Happening) → Is_paused ≡ e → Way_on G c s w e
         way_by e h = record {
-          unlaid = (its G lv c s u l i d at_i).4;
+          unlaid = unlaid at_stop;
           steps = x.steps;
           source = x.state;
           paused = true;

@@ -310,10 +310,11 @@ module _ (all : List Instr) where
           let rv = value_after q e in
           let tail = code p sc t n (u + 1 + 1) s ++ i.Jump q ∷ [] in
           let back = has_back all q u (value_code p sc e) (i.Jumpf (j + 1) ∷ i.Tick ∷ tail) (vstop sc q e) h in
+          let body_has = back.1 in
           let front = has_front all q (value_code p sc e) (i.Jumpf (j + 1) ∷ i.Tick ∷ tail) h in
           let bs = has_back all (u + 1 + 1) j (code p sc t n (u + 1 + 1) s) (i.Jump q ∷ []) (cstop sc t n (u + 1 + 1) s)
-          back.1.1 in
-          let tick = step (u + 1) i.Tick 0 back.1.0 (λ k. tt) in
+          body_has.1 in
+          let tick = step (u + 1) i.Tick 0 body_has.0 (λ k. tt) in
           let ju = step u (i.Jumpf (j + 1)) (b + 1) back.0
           (λ k. (
             raise (j + 1) b (b + 1) (omega arith) d k,
@@ -359,14 +360,15 @@ module _ (all : List Instr) where
           let turns = up ∷ i.Tick ∷ (code p sc t n (u + 1 + 1) s ++ nx ∷ []) in
           let back1 = has_back all q m (value_code p sc from) (value_code p sc to ++ turns) (vstop sc q from) h in
           let back = has_back all m u (value_code p sc to) turns (vstop sc m to) back1 in
+          let body_has = back.1 in
           let bs = has_back all (u + 1 + 1) j (code p sc t n (u + 1 + 1) s) (nx ∷ []) (cstop sc t n (u + 1 + 1) s)
-          back.1.1 in
-          let tick = step (u + 1) i.Tick 0 back.1.0 (λ k. tt) in
+          body_has.1 in
+          let tick = step (u + 1) i.Tick 0 body_has.0 (λ k. tt) in
           let tick1 = raise (u + 1) (0 + 1) (b + 1) (omega arith) tick in
           let d1 = raise (j + 1) b (b + 1) (omega arith) d in
           let jj = step j nx (b + 1) bs.0 (λ k. loop_ends down (slot p x) (u + 1) j (b + 1) tick1 k d1) in
           let gs = stmt sc t n (u + 1 + 1) (b + 1 + 1) s
-          (has_front all (u + 1 + 1) (code p sc t n (u + 1 + 1) s) (nx ∷ []) back.1.1) jj in
+          (has_front all (u + 1 + 1) (code p sc t n (u + 1 + 1) s) (nx ∷ []) body_has.1) jj in
           let ju = step u up (b + 1) back.0 (λ k. loop_begins down (slot p x) (j + 1) u (b + 1) d1 k tick1) in
           let gt = value sc m (b + 1 + 1) to (has_front all m (value_code p sc to) turns back1) ju in
           let gf = value sc q (b + 1 + 1 + lt) from
@@ -400,12 +402,12 @@ module _ (all : List Instr) where
           (omega arith)
           (join q v v m (b + la + 1 + lt + le) (b + la + 1 + lt) (b + (le + lt + la + 1)) (omega arith) (omega arith)
           (omega arith) gv gt) ga
-      stmt sc t n q b (Parallel ss) h d =
+      stmt sc t n q b (Parallel ss) (forks, (jumps, parts)) d =
           let r = after_children p (q + 1 + 1) ss in
           let lc = children_length p ss in
-          let f = step q (i.Fork t) 0 h.0 (λ k. tt) in
-          let j = step (q + 1) (i.Jump r) b h.1.0 (λ k. (d k, tt)) in
-          let gc = kids sc (t + 1) n (q + 1 + 1) b ss h.1.1 d in
+          let f = step q (i.Fork t) 0 forks (λ k. tt) in
+          let j = step (q + 1) (i.Jump r) b jumps (λ k. (d k, tt)) in
+          let gc = kids sc (t + 1) n (q + 1 + 1) b ss parts d in
           join q q (q + 1) r (0 + 1) (b + (lc + 2)) (b + (lc + 2)) (omega arith) (omega arith) (omega arith)
           (one_place q (0 + 1) f)
           (join (q + 1) (q + 1) (q + 1 + 1) r (b + 1) (b + lc) (b + (lc + 2)) (omega arith) (omega arith) (omega arith)
@@ -422,12 +424,13 @@ module _ (all : List Instr) where
           let tail = i.Forall t ∷ i.Jump (j + 1) ∷ (body ++ i.End ∷ []) in
           let back1 = has_back all q m (value_code p sc from) (value_code p sc to ++ tail) (vstop sc q from) h in
           let back = has_back all m u (value_code p sc to) tail (vstop sc m to) back1 in
+          let body_has = back.1 in
           let bs = has_back all (u + 1 + 1) j body (i.End ∷ []) (cstop (OfIndex x ∷ sc) (t + 1) n (u + 1 + 1) s)
-          back.1.1 in
+          body_has.1 in
           let e = step j i.End 0 bs.0 (λ k. tt) in
           let gs = stmt (OfIndex x ∷ sc) (t + 1) n (u + 1 + 1) (0 + 1) s
-          (has_front all (u + 1 + 1) body (i.End ∷ []) back.1.1) e in
-          let jump = step (u + 1) (i.Jump (j + 1)) b back.1.0 (λ k. (d k, tt)) in
+          (has_front all (u + 1 + 1) body (i.End ∷ []) body_has.1) e in
+          let jump = step (u + 1) (i.Jump (j + 1)) b body_has.0 (λ k. (d k, tt)) in
           let ju = step u (i.Forall t) (b + 1) back.0 (λ k. (jump k, tt)) in
           let gt = value sc m (b + 1 + 1) to (has_front all m (value_code p sc to) tail back1) ju in
           let gf = value sc q (b + 1 + 1 + lt) from

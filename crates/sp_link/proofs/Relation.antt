@@ -12,8 +12,8 @@ use Rattle.std.specs.FinMap as fin
 use Rattle.sp_base.specs.declared.fault.Fault.TheVariants as fault
 use Rattle.sp_tree.specs.Plain.{Program, Stmt}
 use Rattle.sp_tree.specs.Interference.{IsFreeOfInterference}
-use Rattle.sp_journal.specs.declared.entry.Birth.{Birth}
 use Rattle.sp_journal.specs.Births.{Births, channel}
+use Rattle.sp_journal.proofs.BirthLaws.{Born}
 use Rattle.sp_cell.specs.declared.spot.Spot.{Spot}
 use Rattle.sp_cell.specs.Map.{Map, Plain, Away, IsOwn, with_map, output_spot, output_of}
 use Rattle.sp_cell.specs.Spots.{In, NotIn}
@@ -107,20 +107,15 @@ pub record Begun (all b : Births) : Type 0 where
   pub openings : (j : ℕ) → j < b.channels → channel b j ≡ channel all j
   -- how each came to be
   pub root : (b.birth 0 ≡ None) × (b.name 0 ≡ []) × (0 < b.processes)
-  pub born : (i : ℕ) → 0 < i → i < b.processes → (z : Birth) × (b.birth i ≡ Some z) × (z.parent < i)
-      × (b.name i ≡ (z.fork, z.child) ∷ b.name z.parent) × (z.fork < b.forks z.parent)
+  pub born : (i : ℕ) → 0 < i → i < b.processes → Born b i
 
 abbrev pub Began : RunContext → Births → Type 0
 Began G b = Begun G.births b
 
 -- one that waits to receive has a piece of its own for it
 abbrev pub HasOwnTarget : Stop → Config (Memory Plain) → Type 0
-HasOwnTarget (machine.Forks tb val k) d = Unit {0}
-HasOwnTarget (machine.Opens a) d = Unit {0}
-HasOwnTarget (machine.Sends ch k cs) d = Unit {0}
 HasOwnTarget (machine.Receives ch k a) d = IsOwn (fin.get (sys.store_of d).map a.spot)
-HasOwnTarget machine.Ends d = Unit {0}
-HasOwnTarget machine.Pauses d = Unit {0}
+HasOwnTarget _ _ = Unit {0}
 
 module _ (G : RunContext) where
   abbrev pub p : Program
@@ -292,10 +287,13 @@ module _ (G : RunContext) where
         × (output_of (fin.get n.store.map output_spot) ≡ Some bs)
 
     -- the first process where the frame of the program is too large: F12 comes before its first instruction
-    abbrev pub TooLarge : Store → Process → Config (Memory Plain) → Type 0
-    TooLarge s pr c = (q ≡ []) × ((root G.g).todo ≡ Break fault.F12 ∷ []) × (pr ≡ root G.g)
-        × (c ≡ first_process plain run_is)
-        × (frames_fit ops G.code c ≡ false) × OutputMatches s c
+    pub record TooLarge (s : Store) (pr : Process) (c : Config (Memory Plain)) : Type 0 where
+      pub is_first : q ≡ []
+      pub faults : (root G.g).todo ≡ Break fault.F12 ∷ []
+      pub is_root : pr ≡ root G.g
+      pub configuration_is : c ≡ first_process plain run_is
+      pub no_room : frames_fit ops G.code c ≡ false
+      pub output : OutputMatches s c
 
     -- condition by condition
     abbrev pub Performs : Course → StateOf G.g → ℕ → sys.Condition Plain → Type 0
@@ -360,3 +358,30 @@ module _ (G : RunContext) where
     pub unmade : (i : ℕ) → u.births.processes ≤ i → (u.births.forks i ≡ 0) × (u.births.opens i ≡ 0)
     -- who is anything in the meaning has a number
     pub numbered : (q : Name) → s.condition q ≢ Absent → (i : ℕ) × (i < u.births.processes) × (G.births.name i ≡ q)
+
+-- a process that runs, before its turn, in two states that are linked
+pub record AtStop : Type 1 where
+  pub run : RunContext
+  pub lives : RightsOfAll run
+  pub course : Course
+  pub state : StateOf run.g
+  pub system : System Plain
+  pub linked : Linked run lives course state system
+  pub number : ℕ
+  pub configuration : Config (Memory Plain)
+  pub working : system.condition number ≡ sys.Working configuration
+
+-- by its parts
+abbrev pub stop_of : (G : RunContext) (lv : RightsOfAll G) (c : Course) (s : StateOf G.g) (u : System Plain)
+    → Linked G lv c s u → (i : ℕ) (d : Config (Memory Plain)) → u.condition i ≡ sys.Working d → AtStop
+stop_of G lv c s u l i d at = record {
+  run = G;
+  lives = lv;
+  course = c;
+  state = s;
+  system = u;
+  linked = l;
+  number = i;
+  configuration = d;
+  working = at;
+}

@@ -14,8 +14,7 @@ use Rattle.sp_journal.specs.Births.{NameableFrom}
 use Rattle.sp_cell.specs.Map.{Plain}
 use Rattle.sp_meaning.specs.Model.{Name, Waits, Joins, Absent, Ended}
 use Rattle.sp_meaning.specs.Steps.{own_part_in, all_ended, has_ended}
-use Rattle.sp_meaning.specs.Entries.{Happening, Opened, Forked, Offered, Faulted, Laid, Paused}
-use Rattle.sp_journal.specs.Names as happenings
+use Rattle.sp_meaning.specs.Entries.{Happening, Offered, Laid, Paused}
 use Rattle.sp_meaning.specs.LocalWork.{RunInput, Process}
 use Rattle.sp_meaning.specs.Runs.{StateOf, running_process, happening_at}
 use Rattle.sp_meaning.specs.Along.{Turn, Course, KernelStep, EntryStep, Along, with_fault, with_ticks, ticks_of}
@@ -30,6 +29,7 @@ use Rattle.sp_link.proofs.Journal.{Now, IsOpen, AllBegan}
 use Rattle.sp_link.proofs.OneState.{SameTurnEnd, turn_one}
 use Rattle.sp_link.proofs.Relation.{RunContext, BirthRights, RightsOfAll, Linked, Began, at_open, Performs_all, run_is}
 use Rattle.sp_link.proofs.Relation.{left_of}
+use Rattle.sp_link.proofs.Relation.{stop_of}
 
 -- ---- and so is its entry
 
@@ -44,11 +44,7 @@ module _ (g : RunInput) where
       (n : ℕ) → EntryStep g left c m p q what n → Forms left c m p q what n
   forms left c m p q Laid n h = inl (refl, h.0, h.1)
   forms left c m p q Paused n h = inr (inl (refl, h.0, h.1, h.2))
-  forms left c m p q (Forked k) n h = inr (inr h)
-  forms left c m p q Opened n h = inr (inr h)
-  forms left c m p q (Offered w ch) n h = inr (inr h)
-  forms left c m p q happenings.Ended n h = inr (inr h)
-  forms left c m p q (Faulted f) n h = inr (inr h)
+  forms _ _ _ _ _ _ _ h = inr (inr h)
 
   abbrev pub Here : Course → StateOf g → Course → StateOf g → ℕ → Type 0
   Here c1 s1 c2 s2 n = (c2 ≡ c1) × (s2 ≡ s1)
@@ -67,19 +63,20 @@ module _ (g : RunInput) where
       both (inl x) (inr (inl y)) = absurd (not_true_and_false c.faulted x.1 y.1)
       both (inl x) (inr (inr y)) = absurd (not_true_and_false c.faulted x.1 y.0)
       both (inr (inl x)) (inl y) = absurd (not_true_and_false c.faulted y.1 x.1)
-      both (inr (inl x)) (inr (inl y)) = (x.0 ∙ sym y.0, (k, moved _ _ k x.3 y.3))
+      both (inr (inl (is0, _, _, left0))) (inr (inl (is1, _, _, left1))) = (is0 ∙ sym is1, (k, moved _ _ k left0 left1))
       both (inr (inl x)) (inr (inr y)) = absurd (not_true_and_false p x.2 y.1)
       both (inr (inr x)) (inl y) = absurd (not_true_and_false c.faulted y.1 x.0)
       both (inr (inr x)) (inr (inl y)) = absurd (not_true_and_false p y.2 x.1)
-      both (inr (inr x)) (inr (inr y)) =
-          let own : x.5.0 ≡ y.5.0 = same_Some x.5.0 y.5.0 (sym x.5.1 ∙ y.5.1) in
-          let what : a ≡ b = same_Some a b (sym x.5.2 ∙ ap (λ z. happening_at g m q z) own ∙ y.5.2) in
-          let to : x.2 ≡ y.2 = same_Some x.2 y.2 (sym x.5.3 ∙ y.5.3) in (
+      both (inr (inr (_, _, to, _, _, (own, runs, says, goes), after)))
+          (inr (inr (_, _, to1, rest1, _, (own1, runs1, says1, goes1), after1))) =
+          let one : own ≡ own1 = same_Some own own1 (sym runs ∙ runs1) in
+          let what : a ≡ b = same_Some a b (sym says ∙ ap (λ z. happening_at g m q z) one ∙ says1) in
+          let meets : to ≡ to1 = same_Some to to1 (sym goes ∙ goes1) in (
             what,
             (
-              y.3,
-              moved _ _ y.3 x.6 (subst (λ z. left (course_after q z (ticks_of g x.2 q) c) x.2 y.3) (sym what)
-                  (subst (λ z. left (course_after q b (ticks_of g z q) c) z y.3) (sym to) y.6)),
+              rest1,
+              moved _ _ rest1 after (subst (λ z. left (course_after q z (ticks_of g to q) c) to rest1) (sym what)
+                  (subst (λ z. left (course_after q b (ticks_of g z q) c) z rest1) (sym meets) after1)),
             ),
           )
 
@@ -184,14 +181,9 @@ module _ (G : RunContext) (b : Births) (began : Began G b) where
 
 -- an event that can come next
 pub follows_open : (b : Births) (p : ℕ) (e : Event) → CanFollow b (record { process = p; event = e }) → IsOpen b e
-follows_open b p (event.Fork n) h = tt
-follows_open b p event.Open h = tt
 follows_open b p (event.Send c) h = h.1
 follows_open b p (event.Receive c) h = h.1
-follows_open b p event.End h = tt
-follows_open b p (event.Fault f) h = tt
-follows_open b p event.Laid h = tt
-follows_open b p event.Pause h = tt
+follows_open _ _ _ _ = tt
 
 module _ (G : RunContext) where
   -- who is running in the meaning runs in the machine
@@ -224,7 +216,7 @@ module _ (G : RunContext) where
       go sys.Absent h z = absurd z
       go (sys.Working d) h z = (d, h)
       go (sys.Waits y d) h z = absurd (none-some own (idle (Waits z.0) z.1))
-      go (sys.Joins left d) h z = absurd (joined left z.0 z.1 z.2 d z.3 z.4)
+      go (sys.Joins left d) h (k, n, pr, joins, stands, _, _) = absurd (joined left k n pr d joins stands)
       go (sys.Laid d) h z = absurd (let a : true ≡ false = sym z.0 ∙ la in cc a)
       go sys.Gone h z = absurd (none-some own (idle Ended z.0))
       go (sys.Over d) h z = absurd (none-some own (idle Ended z.0))
@@ -232,8 +224,8 @@ module _ (G : RunContext) where
 module _ (G : RunContext) where
   turn_runs : (s m : StateOf G.g) (q : Name) (since n : ℕ) (p : Bool) → Turn G.g G.pause since q n s m p
       → (own : Process) × (running_process G.g s q ≡ Some own)
-  turn_runs s m q since zero p h = (h.2, h.3)
-  turn_runs s m q since (suc n) p h = (h.0, h.1)
+  turn_runs s m q since zero p (_, _, own, runs, _, _) = (own, runs)
+  turn_runs s m q since (suc n) p (own, runs, _, _, _, _) = (own, runs)
 
   pub replays : (es : List Entry) (lv : RightsOfAll G) (c : Course) (s : StateOf G.g) (u : System Plain)
       → Now G lv c s u
@@ -241,7 +233,8 @@ module _ (G : RunContext) where
       → Along G.g G.pause c s (occurrences_from u.births es) n t → (v : System Plain)
       × EntriesLead plain (run_is G) u es v
   replays [] lv c s u l b y n t h = (u, refl)
-  replays (e ∷ es) lv c s u l b y n t h = on (λ lv1 c1 s1 u1 k b1 y1 r h1. replays es lv1 c1 s1 u1 k b1 y1 r t h1)
+  replays (e ∷ es) lv c s u l b y n t (free, k0, rest, mid, paused, _, turn0, enters) =
+      on (λ lv1 c1 s1 u1 k b1 y1 r h1. replays es lv1 c1 s1 u1 k b1 y1 r t h1)
     where
       w : Name
       w = G.births.name e.process
@@ -253,25 +246,25 @@ module _ (G : RunContext) where
       name_is = l.began.names e.process lt
 
       unlaid : c.laid (G.births.name e.process) ≡ false
-      unlaid = subst (λ a. c.laid a ≡ false) name_is h.0
+      unlaid = subst (λ a. c.laid a ≡ false) name_is free
 
-      way : Turn G.g G.pause (c.since (G.births.name e.process)) (G.births.name e.process) h.1 s h.3 h.4
-      way = subst (λ a. Turn G.g G.pause (c.since a) a h.1 s h.3 h.4) name_is h.6
+      way : Turn G.g G.pause (c.since (G.births.name e.process)) (G.births.name e.process) k0 s mid paused
+      way = subst (λ a. Turn G.g G.pause (c.since a) a k0 s mid paused) name_is turn0
 
       left : Course → StateOf G.g → ℕ → Type 0
       left c1 s1 r = Along G.g G.pause c1 s1 (occurrences_from (births_after_event u.births e.process e.event) es) r t
 
-      entered : EntryStep G.g left c h.3 h.4 (G.births.name e.process) (happening u.births e.event) h.2
-      entered = subst (λ a. EntryStep G.g left c h.3 h.4 a (happening u.births e.event) h.2) name_is h.7
+      entered : EntryStep G.g left c mid paused (G.births.name e.process) (happening u.births e.event) rest
+      entered = subst (λ a. EntryStep G.g left c mid paused a (happening u.births e.event) rest) name_is enters
 
       own : (a : Process) × (running_process G.g s (G.births.name e.process) ≡ Some a)
-      own = turn_runs s h.3 (G.births.name e.process) (c.since (G.births.name e.process)) h.1 h.4 way
+      own = turn_runs s mid (G.births.name e.process) (c.since (G.births.name e.process)) k0 paused way
 
       at : (d : Config (Memory Plain)) × (u.condition e.process ≡ sys.Working d)
       at = runs_there (at_open G u.births.channels) lv c s u l e.process lt own.0 own.1 unlaid
 
       en : Rattle.sp_link.proofs.Pauses.Entry_of (at_open G u.births.channels) c s u e.process at.0
-      en = entry (at_open G u.births.channels) lv c s u l e.process at.0 at.1
+      en = entry (stop_of (at_open G u.births.channels) lv c s u l e.process at.0 at.1)
 
       f : Event
       f = sys.event_of G.g.limits u en.turn
@@ -279,24 +272,24 @@ module _ (G : RunContext) where
       u1 : System Plain
       u1 = sys.system_after_turn plain (run_is G) e.process en.turn u
 
-      same : SameTurnEnd G.g G.pause (c.since (G.births.name e.process)) (G.births.name e.process) en.way.steps h.1
+      same : SameTurnEnd G.g G.pause (c.since (G.births.name e.process)) (G.births.name e.process) en.way.steps k0
           en.way.source
-          h.3 en.way.paused h.4
-      same = turn_one G.g G.pause (c.since (G.births.name e.process)) (G.births.name e.process) en.way.steps h.1 s
-          en.way.source h.3 en.way.paused h.4 en.way.turn way
+          mid en.way.paused paused
+      same = turn_one G.g G.pause (c.since (G.births.name e.process)) (G.births.name e.process) en.way.steps k0 s
+          en.way.source mid en.way.paused paused en.way.turn way
 
-      its : EntryStep G.g (Here G.g en.way.course en.way.state) c h.3 h.4 (G.births.name e.process)
+      its : EntryStep G.g (Here G.g en.way.course en.way.state) c mid paused (G.births.name e.process)
           (happening u.births f)
           (en.way.cost + 0)
-      its = subst (λ a. EntryStep G.g (Here G.g en.way.course en.way.state) c a h.4 (G.births.name e.process)
+      its = subst (λ a. EntryStep G.g (Here G.g en.way.course en.way.state) c a paused (G.births.name e.process)
           (happening u.births f) (en.way.cost + 0)) same.state
           (subst (λ a. EntryStep G.g (Here G.g en.way.course en.way.state) c en.way.source a (G.births.name e.process)
           (happening u.births f) (en.way.cost + 0)) same.paused
           (en.way.enters (Here G.g en.way.course en.way.state) 0 (refl, refl)))
 
       one : (happening u.births f ≡ happening u.births e.event) × ((r : ℕ) × left en.way.course en.way.state r)
-      one = entry_one G.g left c en.way.course h.3 en.way.state h.4 (G.births.name e.process) (happening u.births f)
-          (happening u.births e.event) (en.way.cost + 0) h.2 its entered
+      one = entry_one G.g left c en.way.course mid en.way.state paused (G.births.name e.process) (happening u.births f)
+          (happening u.births e.event) (en.way.cost + 0) rest its entered
 
       event_is : f ≡ e.event
       event_is = one_event (at_open G u.births.channels) u.births l.began f e.event en.speaks

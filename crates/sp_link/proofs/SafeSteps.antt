@@ -40,7 +40,7 @@ use Rattle.sp_code.specs.System.{System, store_of, plan_of}
 use Rattle.sp_code.specs.System as sys
 use Rattle.sp_code.proofs.Turning.{turn_same}
 use Rattle.sp_code.proofs.StoreLaws.{held_of_cells}
-use Rattle.sp_codegen.specs.Following.{ForkIs, CargoIs, cells_in}
+use Rattle.sp_codegen.specs.Following.{CargoIs, cells_in}
 use Rattle.sp_codegen.specs.FramePairs.{FramePair}
 use Rattle.sp_codegen.specs.Shapes.{Flat}
 use Rattle.sp_codegen.specs.Standing.{PointsTo, made_frames}
@@ -55,7 +55,13 @@ use Rattle.sp_link.proofs.Pauses.{Meant, Machined, Kept_to, kids, turn_is}
 use Rattle.sp_link.proofs.Splits.{bytes_held}
 use Rattle.sp_link.proofs.Relation.{RunContext, BirthRights, RightsOfAll, Named, St, Ca, ProcessMatches, HasOwnTarget}
 use Rattle.sp_link.proofs.Relation.{Joined, Performs_all}
-use Rattle.sp_link.proofs.Relation.{Linked, run_is, ops, execution}
+use Rattle.sp_link.proofs.Relation.{Linked, run_is, ops}
+use Rattle.sp_link.proofs.Relation.{AtStop, stop_of}
+use Rattle.sp_link.proofs.Pauses.{MatchesNow, running, ForksAt, OffersAt, pauses_at, forks_at, offers_at, opens_at}
+use Rattle.sp_link.proofs.Pauses.{ends_at}
+use Rattle.sp_link.proofs.MachineStops.{ForkStop}
+use Rattle.sp_journal.proofs.BirthLaws.{Born}
+use Rattle.sp_meaning.specs.Model.{Offer}
 
 -- what a process made beside its first frames
 none_made : (js : List FramePair) → made_frames (length js) js ≡ []
@@ -100,45 +106,46 @@ module _ (G : RunContext) (lv : RightsOfAll G) (c : Course) (s : StateOf G.g) (u
     (no_fault : u.faulted ≡ false) where
   -- a process that runs
   module _ (i : ℕ) (d : Config (Memory Plain)) (at : u.condition i ≡ sys.Working d) where
+    abbrev at_stop : AtStop
+    at_stop = stop_of G lv c s u l i d at
+
     abbrev v : Name
-    v = q G lv c s u l i d at
+    v = q at_stop
 
     module _ (P : Turn (Memory Plain) → Type 0)
-        (z : ProcessMatches G (lv (q G lv c s u l i d at)) (kids G lv c s u l i d at) (q G lv c s u l i d at)
-        (c.since (q G lv c s u l i d at)) (pr G lv c s u l i d at) s.store d) where
+        (z : MatchesNow at_stop) where
       -- what is so of the end of its turn, whichever it is
       abbrev HoldsAtTurnEnd : WorkOutcome source.Stop × Store → Type 0
-      HoldsAtTurnEnd r = AtEnd r → Meant G lv c s u l i d at z r → Machined G lv c s u l i d at z r
-          → Kept_to G lv c s u l i d at z r → (tn : Turn (Memory Plain)) × IsTurn (ops G) G.code d tn × P tn
+      HoldsAtTurnEnd r = AtEnd r → Meant at_stop z r → Machined at_stop z r
+          → Kept_to at_stop z r → (tn : Turn (Memory Plain)) × IsTurn (ops G) G.code d tn × P tn
 
       abbrev kt : Rattle.sp_meaning.proofs.Owned.Keeps_to G.g.program (Rattle.sp_link.proofs.Relation.W_of G lv)
-          (Rattle.sp_link.proofs.Relation.R_of G lv) s.forks (q G lv c s u l i d at) (pr G lv c s u l i d at)
-      kt = keeps_to G lv c s u l i d at
+          (Rattle.sp_link.proofs.Relation.R_of G lv) s.forks (q at_stop) (pr at_stop)
+      kt = keeps_to at_stop
 
       of_turn : ((r : WorkOutcome source.Stop × Store) → HoldsAtTurnEnd r) → (tn : Turn (Memory Plain))
           → IsTurn (ops G) G.code d tn → P tn
-      of_turn f tn is = by (f (result G (lv v) (kids G lv c s u l i d at) v (c.since v) s (pr G lv c s u l i d at) d z
-          (runs_as_pr G lv c s u l i d at) (light G lv c s u l i d at) kt.last kt.fit)
-          (ends G (lv v) (kids G lv c s u l i d at) v (c.since v) s (pr G lv c s u l i d at) d z
-          (runs_as_pr G lv c s u l i d at) (light G lv c s u l i d at) kt.last kt.fit)
-          (outcome G (lv v) (kids G lv c s u l i d at) v (c.since v) s (pr G lv c s u l i d at) d z
-          (runs_as_pr G lv c s u l i d at) (light G lv c s u l i d at) kt.last kt.fit)
-          (turned G (lv v) (kids G lv c s u l i d at) v (c.since v) s (pr G lv c s u l i d at) d z
-          (runs_as_pr G lv c s u l i d at) (light G lv c s u l i d at) kt.last kt.fit)
-          (kept G (lv v) (kids G lv c s u l i d at) v (c.since v) s (pr G lv c s u l i d at) d z
-          (runs_as_pr G lv c s u l i d at) (light G lv c s u l i d at) kt.last kt.fit))
+      of_turn f tn is = by (f (result G (lv v) (kids at_stop) v (c.since v) s (pr at_stop) d z
+          (runs_as_pr at_stop) (light at_stop) kt.last kt.fit)
+          (ends G (lv v) (kids at_stop) v (c.since v) s (pr at_stop) d z
+          (runs_as_pr at_stop) (light at_stop) kt.last kt.fit)
+          (outcome G (lv v) (kids at_stop) v (c.since v) s (pr at_stop) d z
+          (runs_as_pr at_stop) (light at_stop) kt.last kt.fit)
+          (turned G (lv v) (kids at_stop) v (c.since v) s (pr at_stop) d z
+          (runs_as_pr at_stop) (light at_stop) kt.last kt.fit)
+          (kept G (lv v) (kids at_stop) v (c.since v) s (pr at_stop) d z
+          (runs_as_pr at_stop) (light at_stop) kt.last kt.fit))
         where
           by : (tn1 : Turn (Memory Plain)) × IsTurn (ops G) G.code d tn1 × P tn1 → P tn
           by w = subst (λ y. P y) (turn_same (ops G) G.code d w.0 tn w.1 is) w.2
 
     -- one that stops is no process whose frame is too large
     stands_at : (stop : machine.Stop) (e : Config (Memory Plain)) → IsTurn (ops G) G.code d (Stopped stop e)
-        → ProcessMatches G (lv (q G lv c s u l i d at)) (kids G lv c s u l i d at) (q G lv c s u l i d at)
-        (c.since (q G lv c s u l i d at)) (pr G lv c s u l i d at) s.store d
+        → MatchesNow at_stop
     stands_at stop e is = ⊎_elim (λ z. z) (λ z. absurd
         (no_stop (subst (λ b. BeginsOrFaults b d (Stopped stop e) (turns.Runs (ops G) G.code d (Stopped stop e)))
-        z.4 is)))
-        (its G lv c s u l i d at).2
+        z.no_room is)))
+        (its at_stop).2
       where
         no_stop : ◌≡◌ {A = Turn (Memory Plain)} (Stopped stop e) (Faulted fault.F12 d) → ⊥
         no_stop e = cc e
@@ -149,7 +156,7 @@ module _ (G : RunContext) (lv : RightsOfAll G) (c : Course) (s : StateOf G.g) (u
       pub store : Store
       pub memory : Memory Plain
       pub store_is : store_of e ≡ memory.store
-      pub stands : St G (lv v) (kids G lv c s u l i d at) v (pr G lv c s u l i d at).who (c.since v) (lv v).below own
+      pub stands : St G (lv v) (kids at_stop) v (pr at_stop).who (c.since v) (lv v).below own
           store memory
 
     -- all is well with the end of a turn
@@ -162,77 +169,80 @@ module _ (G : RunContext) (lv : RightsOfAll G) (c : Course) (s : StateOf G.g) (u
     Well (Stopped machine.Ends e) = Left_by e
     Well (Stopped machine.Pauses e) = Unit {0}
 
-    module _ (z : ProcessMatches G (lv (q G lv c s u l i d at)) (kids G lv c s u l i d at) (q G lv c s u l i d at)
-        (c.since (q G lv c s u l i d at)) (pr G lv c s u l i d at) s.store d) where
-      abbrev Fork_is : List FramePair → List Rattle.sp_meaning.specs.Actions.Birth → machine.Stop → Type 0
-      Fork_is fs bs x = ForkIs (execution G (lv (q G lv c s u l i d at)) (kids G lv c s u l i d at)
-          (q G lv c s u l i d at) z.fresh (pr G lv c s u l i d at).who z.named (c.since (q G lv c s u l i d at))) true
-          fs bs x
-
+    module _ (z : MatchesNow at_stop) where
       abbrev Cargo_is : List FramePair → Channel → ℕ → Cargo LocationContent Address → machine.Stop → Type 0
-      Cargo_is fs ch k g x = CargoIs (execution G (lv (q G lv c s u l i d at)) (kids G lv c s u l i d at)
-          (q G lv c s u l i d at) z.fresh (pr G lv c s u l i d at).who z.named (c.since (q G lv c s u l i d at))) fs ch
-          k g x
+      Cargo_is fs ch k g x = CargoIs (running at_stop z) fs ch k g x
 
       by_well : (r : WorkOutcome source.Stop × Store) → HoldsAtTurnEnd Well z r
-      by_well (Computed (source.Paused todo) o, m) e x t y = (
-        Stopped machine.Pauses (At t.0 t.1 t.2),
-        turn_is G lv c s u l i d at z (Stopped machine.Pauses (At t.0 t.1 t.2)) (t.4, t.5, t.6),
-        tt,
-      )
+      by_well (Computed (source.Paused todo) o, m) e x t y =
+          let h = pauses_at at_stop z todo o m t in (
+            Stopped machine.Pauses (At h.pc h.stack h.memory),
+            turn_is at_stop z (Stopped machine.Pauses (At h.pc h.stack h.memory)) (h.last, h.comes, h.stops),
+            tt,
+          )
       by_well (Computed (source.Stops (Stepped todo)) o, m) e x t y = absurd e
       by_well (Computed (source.Stops (Ticked todo)) o, m) e x t y = absurd e
-      by_well (Computed (source.Stops (Opened todo)) o, m) e x t y = (
-        Stopped (machine.Opens t.6) (At t.0 t.1 t.2),
-        turn_is G lv c s u l i d at z (Stopped (machine.Opens t.6) (At t.0 t.1 t.2)) (t.4, t.8, t.9),
-        tt,
-      )
-      by_well (Computed (source.Stops (Forked bs todo)) o, m) e x t y = (
-        Stopped t.5 (At t.0 t.1 t.2),
-        turn_is G lv c s u l i d at z (Stopped t.5 (At t.0 t.1 t.2)) (t.4, t.6, t.7),
-        by_form (subst (λ b. ForkIs (execution G (lv (q G lv c s u l i d at)) (kids G lv c s u l i d at)
-            (q G lv c s u l i d at) z.fresh (pr G lv c s u l i d at).who z.named (c.since (q G lv c s u l i d at))) b
-            t.3 bs t.5) t.10 t.11),
-      )
-        where
-          by_form : Fork_is t.3 bs t.5 → Well (Stopped t.5 (At t.0 t.1 t.2))
-          by_form (inl h) = subst (λ b. Well (Stopped b (At t.0 t.1 t.2))) (sym h.4)
-              (parallel.can_split G lv c s u l i d at z bs todo o m x t y no_fault h)
-          by_form (inr h) = subst (λ b. Well (Stopped b (At t.0 t.1 t.2))) (sym h.9)
-              (forall.can_split G lv c s u l i d at z bs todo o m x t y no_fault h)
-      by_well (Computed (source.Stops (Offered ch k a todo)) o, m) e x t y = (
-        Stopped t.5 (At t.0 t.1 t.2),
-        turn_is G lv c s u l i d at z (Stopped t.5 (At t.0 t.1 t.2)) (t.4, t.6, t.7),
-        by_cargo a t.9,
-      )
-        where
-          by_cargo : (g : Cargo LocationContent Address) → Cargo_is t.3 ch k g t.5 → Well (Stopped t.5 (At t.0 t.1 t.2))
-          by_cargo (Message (Tree w)) h = subst (λ b. Well (Stopped b (At t.0 t.1 t.2))) (sym h.2) (
-            w,
-            sent_flat G (lv v) (kids G lv c s u l i d at) v (pr G lv c s u l i d at).who (c.since v) k
-                (sort G.g.program k) refl w h.1 h.4,
+      by_well (Computed (source.Stops (Opened todo)) o, m) e x t y =
+          let h = opens_at at_stop z todo o m t in (
+            Stopped (machine.Opens h.target) (At h.pc h.stack h.memory),
+            turn_is at_stop z (Stopped (machine.Opens h.target) (At h.pc h.stack h.memory)) (h.last, h.comes, h.stops),
+            tt,
           )
-          by_cargo (Message (Position n)) h = absurd h
-          by_cargo (Message (Written bs)) h = absurd h
-          by_cargo (Takes w) h = subst (λ b. Well (Stopped b (At t.0 t.1 t.2))) (sym h.2)
-              (taken_well G (lv v) (kids G lv c s u l i d at) v k w h.1 t.0 t.1 t.2 t.8 h.4 h.5 h.6
-              (subst (λ b. HasOwnTarget b (At t.0 t.1 (record (t.2) { since = (t.2).ticks }))) h.2
-              (owned_ready G t.5 t.0 t.1 t.2 t.12)))
-      by_well (Computed (source.Stops Ended) o, m) e x t y = (
-        Stopped machine.Ends (At t.0 t.1 t.2),
-        turn_is G lv c s u l i d at z (Stopped machine.Ends (At t.0 t.1 t.2)) (At t.0 t.1 t.2, t.4, t.5),
-        record {
-          own = o;
-          store = m;
-          memory = t.2;
-          store_is = refl;
-          stands = subst (λ b. St G (lv v) (kids G lv c s u l i d at) v (pr G lv c s u l i d at).who (c.since v) b o m
-              t.2) (t.7).2 t.6;
-        },
+      by_well (Computed (source.Stops (Forked bs todo)) o, m) e x t y = (
+        Stopped h.stop (At h.pc h.stack h.memory),
+        turn_is at_stop z (Stopped h.stop (At h.pc h.stack h.memory)) (h.last, h.comes, h.stops),
+        by_form h.forks,
       )
+        where
+          h : ForksAt at_stop z bs todo o m
+          h = forks_at at_stop z bs todo o m t
+
+          by_form : ForkStop (running at_stop z) h.frames bs h.stop → Well (Stopped h.stop (At h.pc h.stack h.memory))
+          by_form (inl f) = subst (λ b. Well (Stopped b (At h.pc h.stack h.memory))) (sym f.stop_is)
+              (parallel.can_split at_stop z bs todo o m x h y no_fault f)
+          by_form (inr f) = subst (λ b. Well (Stopped b (At h.pc h.stack h.memory))) (sym f.stop_is)
+              (forall.can_split at_stop z bs todo o m x h y no_fault f)
+      by_well (Computed (source.Stops (Offered ch k a todo)) o, m) e x t y = (
+        Stopped h.stop (At h.pc h.stack h.memory),
+        turn_is at_stop z (Stopped h.stop (At h.pc h.stack h.memory)) (h.last, h.comes, h.stops),
+        by_cargo a h.carries,
+      )
+        where
+          h : OffersAt at_stop z ch k a todo o m
+          h = offers_at at_stop z ch k a todo o m t
+
+          by_cargo : (g : Cargo LocationContent Address) → Cargo_is h.frames ch k g h.stop
+              → Well (Stopped h.stop (At h.pc h.stack h.memory))
+          by_cargo (Message (Tree w)) (j, entry, stop_is, named, stood) =
+              subst (λ b. Well (Stopped b (At h.pc h.stack h.memory))) (sym stop_is) (
+                w,
+                sent_flat G (lv v) (kids at_stop) v (pr at_stop).who (c.since v) k (sort G.g.program k) refl w entry
+                    stood,
+              )
+          by_cargo (Message (Position n)) r = absurd r
+          by_cargo (Message (Written bs)) r = absurd r
+          by_cargo (Takes w) (j, target, stop_is, named, kind_is, points, may) =
+              subst (λ b. Well (Stopped b (At h.pc h.stack h.memory))) (sym stop_is)
+              (taken_well G (lv v) (kids at_stop) v k w target h.pc h.stack h.memory h.stand kind_is points may
+              (subst (λ b. HasOwnTarget b (At h.pc h.stack (record (h.memory) { since = h.memory.ticks }))) stop_is
+              (owned_ready G h.stop h.pc h.stack h.memory h.owned)))
+      by_well (Computed (source.Stops Ended) o, m) e x t y =
+          let h = ends_at at_stop z o m t in (
+            Stopped machine.Ends (At h.pc h.stack h.memory),
+            turn_is at_stop z (Stopped machine.Ends (At h.pc h.stack h.memory))
+                (At h.pc h.stack h.memory, h.comes, h.stops),
+            record {
+              own = o;
+              store = m;
+              memory = h.memory;
+              store_is = refl;
+              stands = subst (λ b. St G (lv v) (kids at_stop) v (pr at_stop).who (c.since v) b o m h.memory)
+                  h.frames_are h.stand;
+            },
+          )
       by_well (EndsInFault f, m) e x t y = (
         Faulted f t.configuration,
-        turn_is G lv c s u l i d at z (Faulted f t.configuration) (t.configuration, t.comes, (t.fails, refl)),
+        turn_is at_stop z (Faulted f t.configuration) (t.configuration, t.comes, (t.fails, refl)),
         tt,
       )
       by_well (IllFormed, m) e x t y = absurd e
@@ -264,27 +274,27 @@ module _ (G : RunContext) (lv : RightsOfAll G) (c : Course) (s : StateOf G.g) (u
         (joins : u.condition b.parent ≡ sys.Joins left dd) (e : Config (Memory Plain))
         (is : IsTurn (ops G) G.code d (Stopped machine.Ends e)) where
       lt : i < u.births.processes
-      lt = here G lv c s u l i d at
+      lt = here at_stop
 
       above : (k : ℕ) → i ≡ k → 0 < i
       above zero h = absurd (none-some b (sym l.began.root.0 ∙ ap (λ y. u.births.birth y) (sym h) ∙ born))
       above (suc k) h = omega (arith, h)
 
-      of : (y : Birth) × (u.births.birth i ≡ Some y) × (y.parent < i)
-          × (u.births.name i ≡ (y.fork, y.child) ∷ u.births.name y.parent) × (y.fork < u.births.forks y.parent)
+      of : Born u.births i
       of = l.began.born i (above i refl) lt
 
-      of_is : of.0 ≡ b
-      of_is = same_Some of.0 b (sym of.1 ∙ born)
+      of_is : of.birth ≡ b
+      of_is = same_Some of.birth b (sym of.birth_is ∙ born)
 
       older : b.parent < i
-      older = subst (λ (y : Birth). y.parent < i) of_is of.2
+      older = subst (λ (y : Birth). y.parent < i) of_is of.older
 
       abbrev parent : Name
       parent = G.births.name b.parent
 
       name_is : v ≡ (b.fork, b.child) ∷ parent
-      name_is = sym (l.began.names i lt) ∙ of.3 ∙ ap (λ (y : Birth). (y.fork, y.child) ∷ u.births.name y.parent) of_is
+      name_is = sym (l.began.names i lt) ∙ of.named ∙ ap (λ (y : Birth). (y.fork, y.child) ∷ u.births.name y.parent)
+          of_is
           ∙ ap (λ (y : Name). (b.fork, b.child) ∷ y) (l.began.names b.parent (omega (arith, older, lt)))
 
       does : Performs_all G lv parent c s (u.births.opens b.parent) (sys.Joins left dd)
@@ -293,7 +303,7 @@ module _ (G : RunContext) (lv : RightsOfAll G) (c : Course) (s : StateOf G.g) (u
 
       live : IsLive (s.condition ((b.fork, b.child) ∷ parent))
       live = subst (λ y. IsLive (s.condition y)) name_is
-          (working_lives s.condition v (s.condition v) (pr G lv c s u l i d at) (runs_as_pr G lv c s u l i d at))
+          (working_lives s.condition v (s.condition v) (pr at_stop) (runs_as_pr at_stop))
 
       joins_at : JoinsAt {O = Process} {V = LocationContent} {T = Address} b.fork b.child (Joins does.0 does.1 does.2)
       joins_at = subst (λ y. JoinsAt {O = Process} {V = LocationContent} {T = Address} b.fork b.child y) does.3
@@ -304,7 +314,7 @@ module _ (G : RunContext) (lv : RightsOfAll G) (c : Course) (s : StateOf G.g) (u
 
       yet : has_ended (s.condition ((does.0, b.child) ∷ parent)) ≡ false
       yet = subst (λ y. has_ended (s.condition y) ≡ false) name_now
-          (Rattle.sp_link.proofs.OneChanges.not_ended G lv c s u l i d at)
+          (Rattle.sp_link.proofs.OneChanges.not_ended at_stop)
 
       abbrev zj : Joined G (lv parent) (λ a1 b1. lv ((a1, b1) ∷ parent)) parent (c.since parent) does.0 does.1 left
           does.2 s dd
@@ -320,9 +330,9 @@ module _ (G : RunContext) (lv : RightsOfAll G) (c : Course) (s : StateOf G.g) (u
       moved_here = ap (λ (y : Plain). y.moved) ended.store_is ∙ ended.stands.moved_is ∙ ap (λ y. (lv y).moved) name_now
 
       stood : St G (lv ((does.0, b.child) ∷ parent)) (λ a1 b1. lv ((a1, b1) ∷ (does.0, b.child) ∷ parent))
-          ((does.0, b.child) ∷ parent) (pr G lv c s u l i d at).who (c.since v) (lv ((does.0, b.child) ∷ parent)).below
+          ((does.0, b.child) ∷ parent) (pr at_stop).who (c.since v) (lv ((does.0, b.child) ∷ parent)).below
           ended.own ended.store ended.memory
-      stood = subst (λ y. St G (lv y) (λ a1 b1. lv ((a1, b1) ∷ y)) y (pr G lv c s u l i d at).who (c.since v)
+      stood = subst (λ y. St G (lv y) (λ a1 b1. lv ((a1, b1) ∷ y)) y (pr at_stop).who (c.since v)
           (lv y).below ended.own ended.store ended.memory) name_now ended.stands
 
       held_there : (a : Spot) → In a moved_to → IsHeld (fin.get (ended.memory).store.map a)
@@ -353,21 +363,21 @@ module _ (G : RunContext) (lv : RightsOfAll G) (c : Course) (s : StateOf G.g) (u
   -- one that waits with an offer
   waits_message : (ch k : ℕ) (cs : List OneCell) (z : ℕ) (e : Config (Memory Plain)) → z < u.births.processes
       → u.condition z ≡ sys.Waits (machine.Sends ch k cs) e → IsMessage G k cs
-  waits_message ch k cs z e lt at = by h.0.cargo h.3
+  waits_message ch k cs z e lt at =
+      of (subst (λ y. Performs_all G lv (G.births.name z) c s (u.births.opens z) y) at (l.does z lt))
     where
-      h : Performs_all G lv (G.births.name z) c s (u.births.opens z) (sys.Waits (machine.Sends ch k cs) e)
-      h = subst (λ y. Performs_all G lv (G.births.name z) c s (u.births.opens z) y) at (l.does z lt)
-
-      by : (g : Cargo LocationContent Address) → Ca G (lv (G.births.name z)) (λ a b. lv ((a, b) ∷ G.births.name z))
-          (G.births.name z) (h.2).fresh (h.0).next.who (h.2).named (c.since (G.births.name z)) (h.2).js (h.0).channel
-          (h.0).kind g (machine.Sends ch k cs) → IsMessage G k cs
-      by (Message (Tree w)) x =
-          let e1 : (h.0).kind ≡ k = sym (kind_of x.2) in
-          let e2 : cells_in x.1 ≡ cs = sym (message_of x.2) in
-          subst (λ y. IsMessage G k y) e2 (subst (λ y. IsMessage G y (cells_in x.1)) e1 (
+      by : (o : Offer Process LocationContent Address)
+          (t : ProcessMatches G (lv (G.births.name z)) (λ a b. lv ((a, b) ∷ G.births.name z)) (G.births.name z)
+          (c.since (G.births.name z)) o.next s.store e) (g : Cargo LocationContent Address)
+          → Ca G (lv (G.births.name z)) (λ a b. lv ((a, b) ∷ G.births.name z)) (G.births.name z) t.fresh o.next.who
+          t.named (c.since (G.births.name z)) t.js o.channel o.kind g (machine.Sends ch k cs) → IsMessage G k cs
+      by o t (Message (Tree w)) (j, entry, stop_is, named, stood) =
+          let e1 : o.kind ≡ k = sym (kind_of stop_is) in
+          let e2 : cells_in entry ≡ cs = sym (message_of stop_is) in
+          subst (λ y. IsMessage G k y) e2 (subst (λ y. IsMessage G y (cells_in entry)) e1 (
             w,
-            sent_flat G (lv (G.births.name z)) (λ a b. lv ((a, b) ∷ G.births.name z)) (G.births.name z)
-                (h.0).next.who (c.since (G.births.name z)) (h.0).kind (sort G.g.program (h.0).kind) refl w x.1 x.4,
+            sent_flat G (lv (G.births.name z)) (λ a b. lv ((a, b) ∷ G.births.name z)) (G.births.name z) o.next.who
+                (c.since (G.births.name z)) o.kind (sort G.g.program o.kind) refl w entry stood,
           ))
         where
           kind_of : {a b e f : ℕ} {x y : List OneCell} → machine.Sends a b x ≡ machine.Sends e f y → b ≡ f
@@ -375,43 +385,51 @@ module _ (G : RunContext) (lv : RightsOfAll G) (c : Course) (s : StateOf G.g) (u
 
           message_of : {a b e f : ℕ} {x y : List OneCell} → machine.Sends a b x ≡ machine.Sends e f y → x ≡ y
           message_of r = cc r
-      by (Message (Position n)) x = absurd x
-      by (Message (Written bs)) x = absurd x
-      by (Takes w) x = absurd (no x.2)
+      by o t (Message (Position n)) x = absurd x
+      by o t (Message (Written bs)) x = absurd x
+      by o t (Takes w) x = absurd (no x.2)
         where
           no : {a b e f : ℕ} {x : List OneCell} {y : Ptr} → machine.Sends a b x ≡ machine.Receives e f y → ⊥
           no r = cc r
 
+      of : Performs_all G lv (G.births.name z) c s (u.births.opens z) (sys.Waits (machine.Sends ch k cs) e)
+          → IsMessage G k cs
+      of (o, waits, t, carries, opens_are, not_laid, owns) = by o t o.cargo carries
+
   waits_room : (ch k : ℕ) (a : Ptr) (z : ℕ) (e : Config (Memory Plain)) → z < u.births.processes
       → u.condition z ≡ sys.Waits (machine.Receives ch k a) e → Takes_well G k a e
-  waits_room ch k a z e lt at = by h.0.cargo h.3
+  waits_room ch k a z e lt at =
+      of (subst (λ y. Performs_all G lv (G.births.name z) c s (u.births.opens z) y) at (l.does z lt))
     where
-      h : Performs_all G lv (G.births.name z) c s (u.births.opens z) (sys.Waits (machine.Receives ch k a) e)
-      h = subst (λ y. Performs_all G lv (G.births.name z) c s (u.births.opens z) y) at (l.does z lt)
-
-      by : (g : Cargo LocationContent Address) → Ca G (lv (G.births.name z)) (λ a b. lv ((a, b) ∷ G.births.name z))
-          (G.births.name z) (h.2).fresh (h.0).next.who (h.2).named (c.since (G.births.name z)) (h.2).js (h.0).channel
-          (h.0).kind g (machine.Receives ch k a) → Takes_well G k a e
-      by (Message (Tree w)) x = absurd (no x.2)
+      by : (o : Offer Process LocationContent Address)
+          (t : ProcessMatches G (lv (G.births.name z)) (λ a b. lv ((a, b) ∷ G.births.name z)) (G.births.name z)
+          (c.since (G.births.name z)) o.next s.store e) (g : Cargo LocationContent Address)
+          → Ca G (lv (G.births.name z)) (λ a b. lv ((a, b) ∷ G.births.name z)) (G.births.name z) t.fresh o.next.who
+          t.named (c.since (G.births.name z)) t.js o.channel o.kind g (machine.Receives ch k a)
+          → HasOwnTarget (machine.Receives ch k a) e → Takes_well G k a e
+      by o t (Message (Tree w)) x owns = absurd (no x.2)
         where
           no : {a b e f : ℕ} {x : Ptr} {y : List OneCell} → machine.Receives a b x ≡ machine.Sends e f y → ⊥
           no r = cc r
-      by (Message (Position n)) x = absurd x
-      by (Message (Written bs)) x = absurd x
-      by (Takes w) x =
-          let e1 : (h.0).kind ≡ k = sym (kind_of x.2) in
-          let e2 : x.1 ≡ a = sym (target_of x.2) in
-          subst (λ (y : Config (Memory Plain)). Takes_well G k a y) (sym (h.2).configuration_is)
-          (taken_well G (lv (G.births.name z)) (λ a b. lv ((a, b) ∷ G.births.name z)) (G.births.name z) k w a (h.2).pc
-          (h.2).stack (h.2).memory (h.2).stand (x.4 ∙ e1) (subst (λ y. PointsTo G.g.program (h.2).js w y) e2 x.5)
-          x.6
-          (subst (λ (y : Config (Memory Plain)). IsOwn (fin.get (store_of y).map a.spot)) (h.2).configuration_is h.6))
+      by o t (Message (Position n)) x owns = absurd x
+      by o t (Message (Written bs)) x owns = absurd x
+      by o t (Takes w) (j, target, stop_is, named, kind_is, points, may) owns =
+          let e1 : o.kind ≡ k = sym (kind_of stop_is) in
+          let e2 : target ≡ a = sym (target_of stop_is) in
+          subst (λ (y : Config (Memory Plain)). Takes_well G k a y) (sym t.configuration_is)
+          (taken_well G (lv (G.births.name z)) (λ a b. lv ((a, b) ∷ G.births.name z)) (G.births.name z) k w a t.pc
+          t.stack t.memory t.stand (kind_is ∙ e1) (subst (λ y. PointsTo G.g.program t.js w y) e2 points) may
+          (subst (λ (y : Config (Memory Plain)). IsOwn (fin.get (store_of y).map a.spot)) t.configuration_is owns))
         where
           kind_of : {a b e f : ℕ} {x y : Ptr} → machine.Receives a b x ≡ machine.Receives e f y → b ≡ f
           kind_of r = cc r
 
           target_of : {a b e f : ℕ} {x y : Ptr} → machine.Receives a b x ≡ machine.Receives e f y → x ≡ y
           target_of r = cc r
+
+      of : Performs_all G lv (G.births.name z) c s (u.births.opens z) (sys.Waits (machine.Receives ch k a) e)
+          → Takes_well G k a e
+      of (o, waits, t, carries, opens_are, not_laid, owns) = by o t o.cargo carries owns
 
   -- two offers that meet have one type
   one_type : (j k : ℕ) (f : Option Fault) → f ≡ (if j == k then None else Some fault.F7) → f ≡ None → j ≡ k

@@ -42,13 +42,9 @@ index_further sc x y up other e = go (y == x) refl e
 
 -- a use that stands here: a variable that is seen is declared, and an index is in scope
 abbrev Direct : Program → List Scope → Use → Type 0
-Direct p sc (Target x) = Unit {0}
 Direct p sc (Seen x) = (v : Variable) × (slice_get p.variables x ≡ Some v)
     × (v.role ≡ role.Index → (up : ℕ) × (level (is_index x) sc ≡ Some up))
-Direct p sc (CallOf f args) = Unit {0}
-Direct p sc (ParallelOf ss) = Unit {0}
-Direct p sc (ForallOf x s) = Unit {0}
-Direct p sc Stop = Unit {0}
+Direct _ _ _ = Unit {0}
 
 module _ (p : Program) (free : IsFreeOfInterference p) (moves shares : Stmt → List ℕ) (Is : ℕ → Instr → Type 0)
     (HasTable : ℕ → ForkTable → Type 0) (HasText : ℕ → List ℕ → Type 0) (callable : ℕ → Type 0) where
@@ -137,16 +133,12 @@ module _ (p : Program) (free : IsFreeOfInterference p) (moves shares : Stmt → 
 
   -- an index further in is none of these
   outer : (sc : List Scope) (x : ℕ) (u : Use) → IsOther x u → D (OfIndex x ∷ sc) u → D sc u
-  outer sc x (Target y) o d = tt
   outer sc x (Seen y) o d = (d.0, d.1, λ iv. further (d.2 iv))
     where
       further : (up : ℕ) × (level (is_index y) (OfIndex x ∷ sc) ≡ Some up) → (up : ℕ)
           × (level (is_index y) sc ≡ Some up)
       further r = index_further sc x y r.0 o r.1
-  outer sc x (CallOf f args) o d = tt
-  outer sc x (ParallelOf ss) o d = tt
-  outer sc x (ForallOf y s) o d = tt
-  outer sc x Stop o d = tt
+  outer _ _ _ _ _ = tt
 
   mutual
     pub stmt : (s : Stmt) (fr : Bool) (sc : List Scope) (q : ℕ)

@@ -150,13 +150,7 @@ module _ (k : Control) (lawful : Lawful k.births) (unborn : (q : ℕ) → k.birt
   later : (q : ℕ) (d : Doing) (w : Waiting) (ws : List Waiting) → IsIn w ws → IsIn w (with_waiting k.births q d ws)
   later q (Sending c) w ws i = inr i
   later q (Receiving c) w ws i = inr i
-  later q Unborn w ws i = i
-  later q Ready w ws i = i
-  later q (Out x) w ws i = i
-  later q (Joining m) w ws i = i
-  later q Laid w ws i = i
-  later q Ended w ws i = i
-  later q Gone w ws i = i
+  later _ _ _ _ i = i
 
   abbrev IsWaitOf : ℕ → Waiting → Type 0
   IsWaitOf i w = (c : ℕ)

@@ -28,13 +28,14 @@ use Rattle.sp_link.proofs.Relation.{RunContext, RightsOfAll, Linked, at_open, ru
 use Rattle.sp_link.proofs.SafeSteps.{can_split, can_join, put_by_send, put_by_receive}
 use Rattle.sp_link.proofs.Theorem.{linked_along}
 use Rattle.sp_link.proofs.TurnsSafe.{turn_safe}
+use Rattle.sp_link.proofs.Relation.{stop_of}
 
 -- of a system that is linked
 system_well : (G : RunContext) (lv : RightsOfAll G) (c : Course) (s : StateOf G.g) (u : System Plain)
     → IsRanked G.code.instrs
     → Linked G lv c s u → IsSafeSystem (run_is G) u
 system_well G lv c s u ranked l = record {
-  turns = λ q d at. turn_safe G lv c s u l q d at;
+  turns = λ q d at. turn_safe (stop_of G lv c s u l q d at);
   ranks = λ q d at. ranked_along (ops G) G.code ranked d;
   forks = λ q tb n val d st. can_split G lv c s u l st.no_fault q st.configuration st.runs tb val n d st.turn;
   ends = λ q left b d e st born joins. can_join G lv c s u l st.no_fault q st.configuration st.runs b born left e

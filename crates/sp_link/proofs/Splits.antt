@@ -161,8 +161,9 @@ module _ (G : RunContext) (lf : BirthRights) (kids : ℕ → ℕ → BirthRights
             subst (λ c. IsHeld (fin.get n.store.map c)) (sym b.0) (held_of_cells _ _ z.2)
         by (inr (inl b)) = let z = t.output (right Output b.1.0 (inl b.1.1) b.1.2) in
             subst (λ c. IsHeld (fin.get n.store.map c)) (sym b.0) (bytes_held _ _ z.2)
-        by (inr (inr b)) = let z = t.held b.0 b.1 b.2 b.3 b.5 in
-            subst (λ c. IsHeld (fin.get n.store.map c)) (sym b.6) (held_of_cells _ _ z.piece)
+        by (inr (inr (owner, number, variable, live, _, may, spot_is))) = let z =
+            t.held owner number variable live may in
+            subst (λ c. IsHeld (fin.get n.store.map c)) (sym spot_is) (held_of_cells _ _ z.piece)
 
     -- ---- the plan
 

@@ -40,40 +40,18 @@ unary_straight unary.Not = (λ f q b h. (h, tt), tt)
 
 pub binary_straight : (op : BinaryOp) → IsStraight (binary_instr op)
 binary_straight binary.Eq = λ f q b h. (h, tt)
-binary_straight binary.Ne = λ f q b h. (h, tt)
-binary_straight binary.Lt = λ f q b h. (h, tt)
-binary_straight binary.Le = λ f q b h. (h, tt)
-binary_straight binary.Gt = λ f q b h. (h, tt)
-binary_straight binary.Ge = λ f q b h. (h, tt)
-binary_straight binary.Add = λ f q b h. (h, tt)
-binary_straight binary.Sub = λ f q b h. (h, tt)
-binary_straight binary.Or = λ f q b h. (h, tt)
-binary_straight binary.Mul = λ f q b h. (h, tt)
-binary_straight binary.Div = λ f q b h. (h, tt)
-binary_straight binary.Mod = λ f q b h. (h, tt)
-binary_straight binary.And = λ f q b h. (h, tt)
+binary_straight _ = λ f q b h. (h, tt)
 
 pub standard_straight : (g : StandardFn) (t : Option KindOf) → AllStraight (standard_code g t)
-standard_straight standard.Abs t = (λ f q b h. (h, tt), tt)
-standard_straight standard.Sqr t = (λ f q b h. (h, tt), tt)
-standard_straight standard.Odd t = (λ f q b h. (h, tt), tt)
 standard_straight standard.Ord t = tt
-standard_straight standard.Chr t = (λ f q b h. (h, tt), tt)
-standard_straight standard.Succ t = (λ f q b h. (h, tt), tt)
-standard_straight standard.Pred t = (λ f q b h. (h, tt), tt)
 standard_straight standard.Eof t = tt
 standard_straight standard.Eoln t = tt
+standard_straight _ _ = (λ f q b h. (h, tt), tt)
 
 pub input_straight : (g : StandardFn) → IsStraight (input_instr g)
-input_straight standard.Abs = λ f q b h. tt
-input_straight standard.Sqr = λ f q b h. tt
-input_straight standard.Odd = λ f q b h. tt
-input_straight standard.Ord = λ f q b h. tt
-input_straight standard.Chr = λ f q b h. tt
-input_straight standard.Succ = λ f q b h. tt
-input_straight standard.Pred = λ f q b h. tt
 input_straight standard.Eof = λ f q b h. (h, tt)
 input_straight standard.Eoln = λ f q b h. (h, tt)
+input_straight _ = λ f q b h. tt
 
 pub read_straight : (s : Sort) (n : ℕ) → IsStraight (read_instr s n)
 read_straight Ordinals n = λ f q b h. (h, tt)
@@ -126,11 +104,7 @@ assign_straight NoSort n = λ f q b h. tt
 
 role_straight : (sc : List Scope) (x k : ℕ) (v : Variable) (r : Role) → IsStraight (addr_by sc x k v r)
 role_straight sc x k v role.Console = λ f q b h. tt
-role_straight sc x k v role.Local = λ f q b h. (h, tt)
-role_straight sc x k v role.Value = λ f q b h. (h, tt)
-role_straight sc x k v role.Reference = λ f q b h. (h, tt)
-role_straight sc x k v role.Index = λ f q b h. (h, tt)
-role_straight sc x k v role.Answer = λ f q b h. (h, tt)
+role_straight _ _ _ _ _ = λ f q b h. (h, tt)
 
 pub addr_straight : (sc : List Scope) (x k : ℕ) (v : Option Variable) → IsStraight (addr_of sc x k v)
 addr_straight sc x k None = λ f q b h. tt

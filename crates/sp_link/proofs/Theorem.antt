@@ -25,6 +25,7 @@ use Rattle.sp_link.proofs.WhoRuns.{root_over, nobody}
 use Rattle.sp_meaning.specs.Model.{Name, Ended}
 use Rattle.sp_link.proofs.Replay.{replays}
 use Rattle.sp_link.proofs.TurnsSafe.{turn_safe}
+use Rattle.sp_link.proofs.Relation.{stop_of}
 
 module _ (G : RunContext) (b : Block) (eb : slice_get G.g.program.blocks 0 ≡ Some b) (es : List Entry)
     (named : NameableFrom first_births es) (all : births_from first_births es ≡ G.births) where
@@ -46,7 +47,7 @@ module _ (G : RunContext) (b : Block) (eb : slice_get G.g.program.blocks 0 ≡ S
   pub turns_safe : (t : System Plain) → IsSystem plain (run_is G) es t → (i : ℕ) (d : Config (Memory Plain))
       → t.condition i ≡ Working d → IsSafe (ops G) G.code d
   turns_safe t h i d at = let z = linked_along t h in
-      turn_safe (at_open G t.births.channels) z.lives z.course z.state t z.linked i d at
+      turn_safe (stop_of (at_open G t.births.channels) z.lives z.course z.state t z.linked i d at)
 
   -- and the other way round
   pub system_of_meaning : (n : ℕ) (s : StateOf G.g) → IsAlong G.g G.pause (occurrences_from first_births es) n s

@@ -39,18 +39,18 @@ use Rattle.sp_link.proofs.SourceTurns.{Outcome, turns}
 -- what is known of every state is known after local steps
 pub turn_known : (g : RunInput) (turn since : ℕ) (q : Name) (n : ℕ) (s t : StateOf g) (paused : Bool) → StateKeeps g s
     → Turn g turn since q n s t paused → StateKeeps g t
-turn_known g turn since q zero s t paused k h = subst (StateKeeps g) (sym h.0) k
-turn_known g turn since q (suc n) s t paused k h =
-    by (is_due_after g turn since s h.0 q h.3) h.5 (λ x. turn_known g turn since q n h.3 t paused after x)
+turn_known g turn since q zero s t paused k (same_state, _, _, _, _, _) = subst (StateKeeps g) (sym same_state) k
+turn_known g turn since q (suc n) s t paused k (own, _, _, mid, goes, rest) =
+    by (is_due_after g turn since s own q mid) rest (λ x. turn_known g turn since q n mid t paused after x)
   where
-    after : StateKeeps g h.3
+    after : StateKeeps g mid
     after = record {
-      sound = step_sound (total_limits g) s q h.3 k.sound h.4;
-      well = lowered g (λ r. ticks_in (s.condition r)) h.3 (step_well g s k.sound q (raised g s k.well) h.3 h.4);
+      sound = step_sound (total_limits g) s q mid k.sound goes;
+      well = lowered g (λ r. ticks_in (s.condition r)) mid (step_well g s k.sound q (raised g s k.well) mid goes);
     }
 
-    by : (b : Bool) → Either b ((n ≡ 0) × (t ≡ h.3) × (paused ≡ true)) (Turn g turn since q n h.3 t paused)
-        → (Turn g turn since q n h.3 t paused → StateKeeps g t) → StateKeeps g t
+    by : (b : Bool) → Either b ((n ≡ 0) × (t ≡ mid) × (paused ≡ true)) (Turn g turn since q n mid t paused)
+        → (Turn g turn since q n mid t paused → StateKeeps g t) → StateKeeps g t
     by true x go = subst (StateKeeps g) (sym x.1) after
     by false x go = go x
 

@@ -41,21 +41,22 @@ module _ (G : RunContext) (lv : RightsOfAll G) (c : Course) (s : StateOf G.g) (u
         (h.2).named
         (c.since q) (h.2).js o.channel o.kind g stop
         → waiting_at u.births i stop ≡ Some (record { who = q; way = way_of g; channel = o.channel })
-    offers_so (Message (Tree v)) x = ap (λ y. waiting_at u.births i y) x.2
-        ∙ ap (λ y. Some (waits y)) (l.began.names i lt) ∙ ap (λ y. Some (waits_on y)) (named_here o.channel x.0 x.3)
+    offers_so (Message (Tree v)) (j, _, stop_is, named, _) = ap (λ y. waiting_at u.births i y) stop_is
+        ∙ ap (λ y. Some (waits y)) (l.began.names i lt) ∙ ap (λ y. Some (waits_on y)) (named_here o.channel j named)
       where
         waits : Name → Waiting
-        waits y = record { who = y; way = way.Send; channel = channel u.births x.0 }
+        waits y = record { who = y; way = way.Send; channel = channel u.births j }
 
         waits_on : Channel → Waiting
         waits_on y = record { who = q; way = way.Send; channel = y }
     offers_so (Message (Position n)) x = absurd x
     offers_so (Message (Written bs)) x = absurd x
-    offers_so (Takes a) x = ap (λ y. waiting_at u.births i y) x.2 ∙ ap (λ y. Some (waits y)) (l.began.names i lt)
-        ∙ ap (λ y. Some (waits_on y)) (named_here o.channel x.0 x.3)
+    offers_so (Takes a) (j, _, stop_is, named, _, _, _) = ap (λ y. waiting_at u.births i y) stop_is
+        ∙ ap (λ y. Some (waits y)) (l.began.names i lt)
+        ∙ ap (λ y. Some (waits_on y)) (named_here o.channel j named)
       where
         waits : Name → Waiting
-        waits y = record { who = y; way = way.Receive; channel = channel u.births x.0 }
+        waits y = record { who = y; way = way.Receive; channel = channel u.births j }
 
         waits_on : Channel → Waiting
         waits_on y = record { who = q; way = way.Receive; channel = y }
@@ -64,12 +65,12 @@ module _ (G : RunContext) (lv : RightsOfAll G) (c : Course) (s : StateOf G.g) (u
     offers = offers_so o.cargo h.3
 
   pub waits_means : (w : Waiting) → WaitsAs u w → WaitsSo G.g s w
-  waits_means w h =
-      let lt = has_number G lv c s u l h.0 (sys.Waits h.1 h.2) h.3 (λ e. cc e) in
-      let x : Performs_all G lv (G.births.name h.0) c s (u.births.opens h.0) (sys.Waits h.1 h.2) =
-      subst (λ y. Performs_all G lv (G.births.name h.0) c s (u.births.opens h.0) y) h.3 (l.does h.0 lt) in
-      let is : Some w ≡ Some (record { who = G.births.name h.0; way = way_of (x.0).cargo; channel = (x.0).channel }) =
-      sym h.4 ∙ offers h.0 lt h.1 h.2 x in
+  waits_means w (i, stop, d, at, told) =
+      let lt = has_number G lv c s u l i (sys.Waits stop d) at (λ e. cc e) in
+      let x : Performs_all G lv (G.births.name i) c s (u.births.opens i) (sys.Waits stop d) =
+      subst (λ y. Performs_all G lv (G.births.name i) c s (u.births.opens i) y) at (l.does i lt) in
+      let is : Some w ≡ Some (record { who = G.births.name i; way = way_of (x.0).cargo; channel = (x.0).channel }) =
+      sym told ∙ offers i lt stop d x in
       let same = same_Some _ _ is in (
         x.0,
         ap (λ (y : Waiting). s.condition y.who) same ∙ x.1,
@@ -116,8 +117,10 @@ module _ (G : RunContext) (lv : RightsOfAll G) (c : Course) (s : StateOf G.g) (u
 
           rest : same w.who h.0 ≡ w
           rest = λ j. record { who = w.who; way = sym h.2 j; channel = sym h.3 j }
-      by i lt e (sys.Joins left d) k x = absurd (joins (sym x.3 ∙ ap (λ y. s.condition y) e ∙ h.1))
-      by i lt e (sys.Laid d) k x = absurd (works (G.births.name i) (ap (λ y. s.condition y) e ∙ h.1) x.2.1)
+      by i lt e (sys.Joins left d) k (_, _, _, joining, _, _, _) =
+          absurd (joins (sym joining ∙ ap (λ y. s.condition y) e ∙ h.1))
+      by i lt e (sys.Laid d) k (_, _, (_, runs), _) = absurd (works (G.births.name i) (ap (λ y. s.condition y) e
+          ∙ h.1) runs)
       by i lt e sys.Gone k x = absurd (ended (sym x.0 ∙ ap (λ y. s.condition y) e ∙ h.1))
       by i lt e (sys.Over d) k x = absurd (ended (sym x.0 ∙ ap (λ y. s.condition y) e ∙ h.1))
 

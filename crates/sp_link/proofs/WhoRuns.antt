@@ -14,6 +14,7 @@ use Rattle.sp_code.specs.System.{System, Working, Over}
 use Rattle.sp_link.proofs.OneChanges.{runs_as_pr}
 use Rattle.sp_link.proofs.Relation.{RunContext, RightsOfAll, Linked, Performs_all}
 use Rattle.sp_link.proofs.Replay.{runs_there}
+use Rattle.sp_link.proofs.Relation.{stop_of}
 
 module _ (G : RunContext) (lv : RightsOfAll G) (c : Course) (s : StateOf G.g) (u : System Plain)
     (l : Linked G lv c s u) where
@@ -33,7 +34,7 @@ module _ (G : RunContext) (lv : RightsOfAll G) (c : Course) (s : StateOf G.g) (u
   -- and the other way round
   pub somebody : (i : ℕ) (d : Config (Memory Plain)) → u.condition i ≡ Working d → (own : Process)
       × (running_process G.g s (G.births.name i) ≡ Some own)
-  somebody i d e = (_, runs_as_pr G lv c s u l i d e)
+  somebody i d e = (_, runs_as_pr (stop_of G lv c s u l i d e))
 
   pub root_over : (d : Config (Memory Plain)) → u.condition 0 ≡ Over d → s.condition [] ≡ Ended
   root_over d e =

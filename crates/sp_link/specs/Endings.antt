@@ -18,9 +18,9 @@ use Rattle.sp_journal.specs.declared.outcome.End.TheVariants as end
 use Rattle.sp_journal.specs.Births.{Births, births, channel}
 use Rattle.sp_journal.specs.Names.{proc_name}
 use Rattle.sp_meaning.specs.Ends.{Waiting, IsIn, IsSorted, waiter_of}
-use Rattle.sp_code.specs.Control.{Control, Doing, Unborn, Ready, Out, Sending, Receiving, Joining, Laid, Ended, Gone}
+use Rattle.sp_code.specs.Control.{Control, Doing, Sending, Receiving}
 use Rattle.sp_code.specs.Control.{control, standing, IsDone, IsDeadlock, IsFault, entries_of}
-use Rattle.sp_code.specs.Machine.{Stop, Forks, Opens, Sends, Receives, Ends, Pauses, Config}
+use Rattle.sp_code.specs.Machine.{Stop, Sends, Receives, Config}
 use Rattle.sp_code.specs.Memory.{Memory}
 use Rattle.sp_code.specs.System.{System, Working, Waits, Over, pending_stop}
 
@@ -31,12 +31,9 @@ HasFaultEntry (e ∷ es) p f = (e ≡ record { process = p; event = event.Fault 
 
 -- how a process waits at a stop, by its name and the channel's
 abbrev pub waiting_at : Births → ℕ → Stop → Option Waiting
-waiting_at b i (Forks table value n) = None
-waiting_at b i (Opens a) = None
 waiting_at b i (Sends c k cs) = Some (record { who = b.name i; way = way.Send; channel = channel b c })
 waiting_at b i (Receives c k a) = Some (record { who = b.name i; way = way.Receive; channel = channel b c })
-waiting_at b i Ends = None
-waiting_at b i Pauses = None
+waiting_at _ _ _ = None
 
 -- a process of the system waits so
 abbrev pub WaitsAs : System Plain → Waiting → Type 0
@@ -74,13 +71,7 @@ pub record AreAllWaiting (k : Control) (ws : List Waiting) : Type 0 where
 abbrev pub with_waiting : Births → ℕ → Doing → List Waiting → List Waiting
 with_waiting b q (Sending c) ws = record { who = b.name q; way = way.Send; channel = channel b c } ∷ ws
 with_waiting b q (Receiving c) ws = record { who = b.name q; way = way.Receive; channel = channel b c } ∷ ws
-with_waiting b q Unborn ws = ws
-with_waiting b q Ready ws = ws
-with_waiting b q (Out w) ws = ws
-with_waiting b q (Joining n) ws = ws
-with_waiting b q Laid ws = ws
-with_waiting b q Ended ws = ws
-with_waiting b q Gone ws = ws
+with_waiting _ _ _ ws = ws
 
 -- who waits of process q and the n - 1 following ones
 abbrev pub waiting_from : Control → ℕ → ℕ → List Waiting
@@ -102,9 +93,6 @@ StandsAt ns end.Memory = ⊥
 
 -- an offer at this stop meets a pending one of its own way
 abbrev pub MeetsItsWay : System Plain → Stop → Type 0
-MeetsItsWay t (Forks table value n) = ⊥
-MeetsItsWay t (Opens a) = ⊥
 MeetsItsWay t (Sends c k cs) = (d j : ℕ) × (ds : List Cell) × (pending_stop t (t.pending c) ≡ Some (Sends d j ds))
 MeetsItsWay t (Receives c k a) = (d j : ℕ) × (b : Address) × (pending_stop t (t.pending c) ≡ Some (Receives d j b))
-MeetsItsWay t Ends = ⊥
-MeetsItsWay t Pauses = ⊥
+MeetsItsWay _ _ = ⊥

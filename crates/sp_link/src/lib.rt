@@ -25,6 +25,30 @@
 //! - `Waiters`, `FaultEntries`, `Endings`: ends. `NameOrder`, `SortedWaiters`, `Histories`: ends of a history.
 //!   `Contention`: offers of one way.
 //!
+//! Lemmas for others, in `proofs`:
+//! - `Relation`: how the system of the machine stands for the state of the meaning after the same entries.
+//! - `Journal`: along a journal: where each entry keeps the relation, the meaning goes along the journal as the
+//!   system does.
+//! - `Pauses`: the entry `Pause` on both sides (`pausing`).
+//! - `JournalEntries`: every entry on both sides: each process that runs makes one, by how its turn ends (`entry`).
+//! - `OneState`: along a journal the meaning has one state at most, after one number of steps: a turn is a function
+//!   of the state, and so is the step of an entry.
+//! - `Replay`: the other way round: where the meaning goes along a journal, the system does (`replays`).
+//! - `Theorem`: the system along a journal is the meaning along that journal, both ways; with the same output, and
+//!   the first process ended in both or in neither.
+//! - `Programs`: the theorem for programs: the code of a program that is ready, along each journal that can be
+//!   named, is the program's meaning along that journal, both ways, and no turn of it lacks what it needs.
+//! - `Soundness`: the code of a program that is ready is sound (`program_sound`): each way back in it passes a tick
+//!   or a call, and all is well with every turn and every event along each journal of its system.
+//! - `FaultEntries`: the fault of a run is that of its journal: along a journal the meaning comes to the fault that
+//!   an entry of it says (`fault_told`), and where a fault stands in the machine an entry says it (`fault_entry`).
+//! - `Endings`: how a run of a program's code ends is how the program does: the same ones wait where nobody can go
+//!   on, and the fault of the journal is the program's.
+//! - `Histories`: a legal history of the kernel over a program's code ends as the program does along its journal:
+//!   what the control of its notes tells of the end is so of the program.
+//! - `SortedWaiters`: the waiters of a run in order of their names, as the program tells them, are all that wait in
+//!   the control, in the order of the meaning (`all_waiting`).
+//!
 //! To change:
 //! - An event: its lemma and `proofs/JournalEntries`; what it needs to be carried out: `by_well` in `proofs/SafeSteps`.
 //! - A form of statement or expression: its clause in `proofs/Ranks`, or in `proofs/StraightCode`.

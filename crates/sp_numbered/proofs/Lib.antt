@@ -1,4 +1,4 @@
-pub mod Ways
-pub mod Numbering
-pub mod Journals
-pub mod Ends
+mod Ways
+mod Numbering
+mod Journals
+mod Ends

@@ -31,7 +31,7 @@ use Rattle.sp_link.proofs.Journal.{Goes_along}
 use Rattle.sp_link.proofs.OneState.{one_state}
 use Rattle.sp_link.proofs.Pauses.{Entry_of}
 use Rattle.sp_link.proofs.Programs.{ground, program_means, program_runs}
-use Rattle.sp_link.proofs.Relation.{RunContext, Linked, at_open}
+use Rattle.sp_link.proofs.Relation.{RunContext, Linked, at_open, stop_of}
 use Rattle.sp_link.proofs.Replay.{runs_there}
 use Rattle.sp_link.proofs.Soundness.{names_on}
 use Rattle.sp_link.proofs.Theorem.{linked_along}
@@ -113,7 +113,7 @@ module _ (g : RunInput) (moves shares : Stmt → List ℕ) (pause : ℕ) (ready 
         (linked.unlaid no_fault (G.births.name number.0))
 
     turns : Entry_of G goes.course before.state t number.0 works.0
-    turns = entry G goes.lives goes.course before.state t linked number.0 works.0 works.1
+    turns = entry (stop_of G goes.lives goes.course before.state t linked number.0 works.0 works.1)
 
     abbrev e : Entry
     e = record { process = number.0; event = event_of g.limits t turns.turn }

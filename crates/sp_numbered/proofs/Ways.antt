@@ -39,47 +39,52 @@ module _ (g : RunInput) (turn : ℕ) where
         record { state = x.state; count = x.steps; entered = (h.0, x.along); own = x.own; runs = x.runs }
     entry Paused n h = let x = go (with_ticks q (ticks_of g m q) c) m n h.2 in
         record { state = x.state; count = x.steps; entered = (h.0, h.1, x.along); own = x.own; runs = x.runs }
-    entry (Forked k) n h = let x = go (course_after q (Forked k) (ticks_of g h.2 q) c) h.2 h.3 h.6 in
+    entry (Forked k) n (quiet, whole, u, rest, _, makes, after) =
+        let x = go (course_after q (Forked k) (ticks_of g u q) c) u rest after in
         record {
           state = x.state;
           count = suc x.steps;
-          entered = (h.0, h.1, h.2, x.steps, refl, h.5, x.along);
+          entered = (quiet, whole, u, x.steps, refl, makes, x.along);
           own =
               x.own;
           runs = x.runs;
         }
-    entry Opened n h = let x = go (course_after q Opened (ticks_of g h.2 q) c) h.2 h.3 h.6 in
+    entry Opened n (quiet, whole, u, rest, _, makes, after) =
+        let x = go (course_after q Opened (ticks_of g u q) c) u rest after in
         record {
           state = x.state;
           count = suc x.steps;
-          entered = (h.0, h.1, h.2, x.steps, refl, h.5, x.along);
+          entered = (quiet, whole, u, x.steps, refl, makes, x.along);
           own =
               x.own;
           runs = x.runs;
         }
-    entry (Offered w d) n h = let x = go (course_after q (Offered w d) (ticks_of g h.2 q) c) h.2 h.3 h.6 in
+    entry (Offered w d) n (quiet, whole, u, rest, _, makes, after) =
+        let x = go (course_after q (Offered w d) (ticks_of g u q) c) u rest after in
         record {
           state = x.state;
           count = suc x.steps;
-          entered = (h.0, h.1, h.2, x.steps, refl, h.5, x.along);
+          entered = (quiet, whole, u, x.steps, refl, makes, x.along);
           own =
               x.own;
           runs = x.runs;
         }
-    entry happenings.Ended n h = let x = go (course_after q happenings.Ended (ticks_of g h.2 q) c) h.2 h.3 h.6 in
+    entry happenings.Ended n (quiet, whole, u, rest, _, makes, after) =
+        let x = go (course_after q happenings.Ended (ticks_of g u q) c) u rest after in
         record {
           state = x.state;
           count = suc x.steps;
-          entered = (h.0, h.1, h.2, x.steps, refl, h.5, x.along);
+          entered = (quiet, whole, u, x.steps, refl, makes, x.along);
           own =
               x.own;
           runs = x.runs;
         }
-    entry (Faulted f) n h = let x = go (course_after q (Faulted f) (ticks_of g h.2 q) c) h.2 h.3 h.6 in
+    entry (Faulted f) n (quiet, whole, u, rest, _, makes, after) =
+        let x = go (course_after q (Faulted f) (ticks_of g u q) c) u rest after in
         record {
           state = x.state;
           count = suc x.steps;
-          entered = (h.0, h.1, h.2, x.steps, refl, h.5, x.along);
+          entered = (quiet, whole, u, x.steps, refl, makes, x.along);
           own =
               x.own;
           runs = x.runs;
@@ -87,20 +92,21 @@ module _ (g : RunInput) (turn : ℕ) where
 
   turn_runs : (since : ℕ) (q : Name) (k : ℕ) (s m : StateOf g) (p : Bool) → Turn g turn since q k s m p
       → (own : Process) × (running_process g s q ≡ Some own)
-  turn_runs since q zero s m p h = (h.2, h.3)
-  turn_runs since q (suc k) s m p h = (h.0, h.1)
+  turn_runs since q zero s m p (_, _, own, runs, _, _) = (own, runs)
+  turn_runs since q (suc k) s m p (own, runs, _, _, _, _) = (own, runs)
 
   pub front : (xs : List Occurrence) (o : Occurrence) (ys : List Occurrence) (c : Course) (s : StateOf g) (n : ℕ)
       (t : StateOf g) → Along g turn c s (xs ++ o ∷ ys) n t → Front c s xs o.who
-  front [] o ys c s n t a = let r = turn_runs (c.since o.who) o.who a.1 s a.3 a.4 a.6 in
+  front [] o ys c s n t (_, k, _, mid, paused, _, turn0, _) =
+      let r = turn_runs (c.since o.who) o.who k s mid paused turn0 in
       record { steps = 0; state = s; along = (refl, refl); own = r.0; runs = r.1 }
-  front (x ∷ xs) o ys c s n t a =
+  front (x ∷ xs) o ys c s n t (unlaid, k0, rest, mid, paused, _, turn0, enters) =
       let e = entry xs o.who (λ c1 v r. Along g turn c1 v (xs ++ o ∷ ys) r t) (λ c1 u k h. front xs o ys c1 u k t h) c
-      a.3 a.4 x.who x.what a.2 a.7 in
+      mid paused x.who x.what rest enters in
       record {
-        steps = a.1 + e.count;
+        steps = k0 + e.count;
         state = e.state;
-        along = (a.0, a.1, e.count, a.3, a.4, refl, a.6, e.entered);
+        along = (unlaid, k0, e.count, mid, paused, refl, turn0, e.entered);
         own = e.own;
         runs = e.runs;
       }
@@ -125,8 +131,8 @@ module _ (g : RunInput) (turn : ℕ) where
     kernel_says : (what : Happening) (n : ℕ) → KernelStep g left c m p q what n
         → Some what ≡ pick c.faulted p (said_by (running_process g m q) m q)
     unfolding said_by
-    kernel_says what n h = sym h.5.2 ∙ ap (λ o. said_by o m q) (sym h.5.1)
-        ∙ (λ i. pick (sym h.0 i) (sym h.1 i) (said_by (running_process g m q) m q))
+    kernel_says what n (quiet, whole, _, _, _, (_, runs, says, _), _) = sym says ∙ ap (λ o. said_by o m q) (sym runs)
+        ∙ (λ i. pick (sym quiet i) (sym whole i) (said_by (running_process g m q) m q))
 
     entry_says : (what : Happening) (n : ℕ) → EntryStep g left c m p q what n
         → Some what ≡ pick c.faulted p (said_by (running_process g m q) m q)
@@ -142,11 +148,10 @@ module _ (g : RunInput) (turn : ℕ) where
   module _ (A : Type 0) (left right : Course → StateOf g → ℕ → Type 0) (c : Course) (m : StateOf g) (p : Bool)
       (q : Name) (go : (c1 : Course) (u : StateOf g) (n k : ℕ) → left c1 u n → right c1 u k → A) where
     kernel_two : (what : Happening) (n k : ℕ) → KernelStep g left c m p q what n → KernelStep g right c m p q what k → A
-    kernel_two what n k h i =
-        let own = same_Some h.5.0 i.5.0 (sym h.5.1 ∙ i.5.1) in
-        let to : i.2 ≡ h.2 = same_Some i.2 h.2 (sym i.5.3 ∙ h.5.3) in
-        go (course_after q what (ticks_of g h.2 q) c) h.2 h.3 i.3 h.6
-        (subst (λ y. right (course_after q what (ticks_of g y q) c) y i.3) to i.6)
+    kernel_two what n k (_, _, to, rest, _, (_, _, _, goes), after) (_, _, to1, rest1, _, (_, _, _, goes1), after1) =
+        let one : to1 ≡ to = same_Some to1 to (sym goes1 ∙ goes) in
+        go (course_after q what (ticks_of g to q) c) to rest rest1 after
+        (subst (λ y. right (course_after q what (ticks_of g y q) c) y rest1) one after1)
 
     entered_two : (what : Happening) (n k : ℕ) → EntryStep g left c m p q what n → EntryStep g right c m p q what k → A
     entered_two Laid n k h i = go (with_fault q c) m n k h.1 i.1
@@ -161,20 +166,22 @@ module _ (g : RunInput) (turn : ℕ) where
   pub next_one : (xs : List Occurrence) (q : Name) (a b : Happening) (c : Course) (s : StateOf g) (n k : ℕ)
       (t v : StateOf g) → Along g turn c s (xs ++ record { who = q; what = a } ∷ []) n t
       → Along g turn c s (xs ++ record { who = q; what = b } ∷ []) k v → a ≡ b
-  next_one [] q a b c s n k t v h i =
-      let z = turn_one g turn (c.since q) q i.1 h.1 s i.3 h.3 i.4 h.4 i.6 h.6 in
-      let one = entry_says (λ c1 u r. Along g turn c1 u [] r t) c h.3 h.4 q a h.2 h.7 in
-      let two = entry_says (λ c1 u r. Along g turn c1 u [] r v) c i.3 i.4 q b i.2 i.7 in
-      let same : pick c.faulted i.4 (said_by (running_process g i.3 q) i.3 q)
-      ≡ pick c.faulted h.4 (said_by (running_process g h.3 q) h.3 q) =
+  next_one [] q a b c s n k t v (_, n0, rest, mid, paused, _, turn0, enters)
+      (_, n1, rest1, mid1, paused1, _, turn1, enters1) =
+      let z = turn_one g turn (c.since q) q n1 n0 s mid1 mid paused1 paused turn1 turn0 in
+      let one = entry_says (λ c1 u r. Along g turn c1 u [] r t) c mid paused q a rest enters in
+      let two = entry_says (λ c1 u r. Along g turn c1 u [] r v) c mid1 paused1 q b rest1 enters1 in
+      let same : pick c.faulted paused1 (said_by (running_process g mid1 q) mid1 q)
+      ≡ pick c.faulted paused (said_by (running_process g mid q) mid q) =
       λ j. pick c.faulted (z.paused j) (said_by (running_process g (z.state j) q) (z.state j) q) in
       same_Some a b (one ∙ sym (two ∙ same))
-  next_one (x ∷ xs) q a b c s n k t v h i =
-      let z = turn_one g turn (c.since x.who) x.who i.1 h.1 s i.3 h.3 i.4 h.4 i.6 h.6 in
+  next_one (x ∷ xs) q a b c s n k t v (_, n0, rest, mid, paused, _, turn0, enters)
+      (_, n1, rest1, mid1, paused1, _, turn1, enters1) =
+      let z = turn_one g turn (c.since x.who) x.who n1 n0 s mid1 mid paused1 paused turn1 turn0 in
       let right : Course → StateOf g → ℕ → Type 0 =
       λ c1 u r. Along g turn c1 u (xs ++ record { who = q; what = b } ∷ []) r v in
-      let at : EntryStep g right c h.3 h.4 x.who x.what i.2 =
-      subst (λ y. EntryStep g right c h.3 y x.who x.what i.2) z.paused
-      (subst (λ y. EntryStep g right c y i.4 x.who x.what i.2) z.state i.7) in
-      entered_two (a ≡ b) (λ c1 u r. Along g turn c1 u (xs ++ record { who = q; what = a } ∷ []) r t) right c h.3 h.4
-      x.who (λ c1 u r d y w. next_one xs q a b c1 u r d t v y w) x.what h.2 i.2 h.7 at
+      let at : EntryStep g right c mid paused x.who x.what rest1 =
+      subst (λ y. EntryStep g right c mid y x.who x.what rest1) z.paused
+      (subst (λ y. EntryStep g right c y paused1 x.who x.what rest1) z.state enters1) in
+      entered_two (a ≡ b) (λ c1 u r. Along g turn c1 u (xs ++ record { who = q; what = a } ∷ []) r t) right c mid paused
+      x.who (λ c1 u r d y w. next_one xs q a b c1 u r d t v y w) x.what rest rest1 enters at
