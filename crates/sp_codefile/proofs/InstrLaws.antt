@@ -33,68 +33,7 @@ outside (x ∷ xs) e = (
 
 is_lettered : (x : Instr) → lettered (word x) ≡ true
 is_lettered (i.Const x) = refl
-is_lettered (i.Addr x y) = refl
-is_lettered (i.Deref x y) = refl
-is_lettered (i.Index x y z) = refl
-is_lettered (i.Field x) = refl
-is_lettered i.Load = refl
-is_lettered i.Loadc = refl
-is_lettered i.Store = refl
-is_lettered (i.Copy x) = refl
-is_lettered i.Add = refl
-is_lettered i.Sub = refl
-is_lettered i.Mul = refl
-is_lettered i.Div = refl
-is_lettered i.Mod = refl
-is_lettered i.Neg = refl
-is_lettered i.Abs = refl
-is_lettered i.Sqr = refl
-is_lettered i.Odd = refl
-is_lettered i.And = refl
-is_lettered i.Or = refl
-is_lettered i.Not = refl
-is_lettered i.Eq = refl
-is_lettered i.Ne = refl
-is_lettered i.Lt = refl
-is_lettered i.Le = refl
-is_lettered i.Gt = refl
-is_lettered i.Ge = refl
-is_lettered (i.Range x y) = refl
-is_lettered (i.Succ x) = refl
-is_lettered (i.Pred x) = refl
-is_lettered (i.Jump x) = refl
-is_lettered (i.Jumpf x) = refl
-is_lettered (i.Casej x y) = refl
-is_lettered i.Nocase = refl
-is_lettered i.Tick = refl
-is_lettered i.Assume = refl
-is_lettered (i.Forup x y) = refl
-is_lettered (i.Fordown x y) = refl
-is_lettered (i.Nextup x y) = refl
-is_lettered (i.Nextdown x y) = refl
-is_lettered (i.Call x y) = refl
-is_lettered i.Return = refl
-is_lettered i.ReadInt = refl
-is_lettered i.ReadChar = refl
-is_lettered i.Readln = refl
-is_lettered i.Eof = refl
-is_lettered i.Eoln = refl
-is_lettered i.WriteInt = refl
-is_lettered i.WriteChar = refl
-is_lettered i.WriteBool = refl
-is_lettered (i.WriteText x) = refl
-is_lettered i.WritewInt = refl
-is_lettered i.WritewChar = refl
-is_lettered i.WritewBool = refl
-is_lettered (i.WritewText x) = refl
-is_lettered i.Writeln = refl
-is_lettered (i.Pack x) = refl
-is_lettered i.Open = refl
-is_lettered (i.Send x) = refl
-is_lettered (i.Receive x) = refl
-is_lettered (i.Fork x) = refl
-is_lettered (i.Forall x) = refl
-is_lettered i.End = refl
+is_lettered _ = refl
 
 pub word_outside : (x : Instr) → Outside 45 57 (word x)
 word_outside x = outside (word x) (is_lettered x)
@@ -167,68 +106,7 @@ plain i.End = i.End
 
 pub named_plain : (x : Instr) → instr_named (word x) ≡ Some (plain x)
 named_plain (i.Const x) = refl
-named_plain (i.Addr x y) = refl
-named_plain (i.Deref x y) = refl
-named_plain (i.Index x y z) = refl
-named_plain (i.Field x) = refl
-named_plain i.Load = refl
-named_plain i.Loadc = refl
-named_plain i.Store = refl
-named_plain (i.Copy x) = refl
-named_plain i.Add = refl
-named_plain i.Sub = refl
-named_plain i.Mul = refl
-named_plain i.Div = refl
-named_plain i.Mod = refl
-named_plain i.Neg = refl
-named_plain i.Abs = refl
-named_plain i.Sqr = refl
-named_plain i.Odd = refl
-named_plain i.And = refl
-named_plain i.Or = refl
-named_plain i.Not = refl
-named_plain i.Eq = refl
-named_plain i.Ne = refl
-named_plain i.Lt = refl
-named_plain i.Le = refl
-named_plain i.Gt = refl
-named_plain i.Ge = refl
-named_plain (i.Range x y) = refl
-named_plain (i.Succ x) = refl
-named_plain (i.Pred x) = refl
-named_plain (i.Jump x) = refl
-named_plain (i.Jumpf x) = refl
-named_plain (i.Casej x y) = refl
-named_plain i.Nocase = refl
-named_plain i.Tick = refl
-named_plain i.Assume = refl
-named_plain (i.Forup x y) = refl
-named_plain (i.Fordown x y) = refl
-named_plain (i.Nextup x y) = refl
-named_plain (i.Nextdown x y) = refl
-named_plain (i.Call x y) = refl
-named_plain i.Return = refl
-named_plain i.ReadInt = refl
-named_plain i.ReadChar = refl
-named_plain i.Readln = refl
-named_plain i.Eof = refl
-named_plain i.Eoln = refl
-named_plain i.WriteInt = refl
-named_plain i.WriteChar = refl
-named_plain i.WriteBool = refl
-named_plain (i.WriteText x) = refl
-named_plain i.WritewInt = refl
-named_plain i.WritewChar = refl
-named_plain i.WritewBool = refl
-named_plain (i.WritewText x) = refl
-named_plain i.Writeln = refl
-named_plain (i.Pack x) = refl
-named_plain i.Open = refl
-named_plain (i.Send x) = refl
-named_plain (i.Receive x) = refl
-named_plain (i.Fork x) = refl
-named_plain (i.Forall x) = refl
-named_plain i.End = refl
+named_plain _ = refl
 
 -- a word was read as this operand, where it is one
 pub record IsRead (z : ℤ) (a : Operand) : Type 0 where
@@ -250,28 +128,7 @@ filled_plain (i.Deref x y) f a b c h = let e0 = h.0.number x f.0 refl in let e1 
 filled_plain (i.Index x y z) f a b c h = let e0 = h.0.integer f.0 in let e1 = h.1.0.integer f.1 in
     let e2 = h.1.1.0.number z f.2 refl in λ j. i.Index (e0 j) (e1 j) (e2 j)
 filled_plain (i.Field x) f a b c h = ap i.Field (h.0.number x f refl)
-filled_plain i.Load f a b c h = refl
-filled_plain i.Loadc f a b c h = refl
-filled_plain i.Store f a b c h = refl
 filled_plain (i.Copy x) f a b c h = ap i.Copy (h.0.number x f refl)
-filled_plain i.Add f a b c h = refl
-filled_plain i.Sub f a b c h = refl
-filled_plain i.Mul f a b c h = refl
-filled_plain i.Div f a b c h = refl
-filled_plain i.Mod f a b c h = refl
-filled_plain i.Neg f a b c h = refl
-filled_plain i.Abs f a b c h = refl
-filled_plain i.Sqr f a b c h = refl
-filled_plain i.Odd f a b c h = refl
-filled_plain i.And f a b c h = refl
-filled_plain i.Or f a b c h = refl
-filled_plain i.Not f a b c h = refl
-filled_plain i.Eq f a b c h = refl
-filled_plain i.Ne f a b c h = refl
-filled_plain i.Lt f a b c h = refl
-filled_plain i.Le f a b c h = refl
-filled_plain i.Gt f a b c h = refl
-filled_plain i.Ge f a b c h = refl
 filled_plain (i.Range x y) f a b c h = let e0 = h.0.integer f.0 in let e1 = h.1.0.integer f.1 in λ j. i.Range (e0 j)
     (e1 j)
 filled_plain (i.Succ x) f a b c h = ap i.Succ (h.0.integer f)
@@ -280,9 +137,6 @@ filled_plain (i.Jump x) f a b c h = ap i.Jump (h.0.number x f refl)
 filled_plain (i.Jumpf x) f a b c h = ap i.Jumpf (h.0.number x f refl)
 filled_plain (i.Casej x y) f a b c h = let e0 = h.0.integer f.0 in let e1 = h.1.0.number y f.1 refl in λ j. i.Casej
     (e0 j) (e1 j)
-filled_plain i.Nocase f a b c h = refl
-filled_plain i.Tick f a b c h = refl
-filled_plain i.Assume f a b c h = refl
 filled_plain (i.Forup x y) f a b c h = let e0 = h.0.number x f.0 refl in let e1 = h.1.0.number y f.1 refl in λ j.
     i.Forup (e0 j) (e1 j)
 filled_plain (i.Fordown x y) f a b c h = let e0 = h.0.number x f.0 refl in let e1 = h.1.0.number y f.1 refl in λ j.
@@ -293,28 +147,14 @@ filled_plain (i.Nextdown x y) f a b c h = let e0 = h.0.number x f.0 refl in let 
     i.Nextdown (e0 j) (e1 j)
 filled_plain (i.Call x y) f a b c h = let e0 = h.0.number x f.0 refl in let e1 = h.1.0.number y f.1 refl in λ j. i.Call
     (e0 j) (e1 j)
-filled_plain i.Return f a b c h = refl
-filled_plain i.ReadInt f a b c h = refl
-filled_plain i.ReadChar f a b c h = refl
-filled_plain i.Readln f a b c h = refl
-filled_plain i.Eof f a b c h = refl
-filled_plain i.Eoln f a b c h = refl
-filled_plain i.WriteInt f a b c h = refl
-filled_plain i.WriteChar f a b c h = refl
-filled_plain i.WriteBool f a b c h = refl
 filled_plain (i.WriteText x) f a b c h = ap i.WriteText (h.0.number x f refl)
-filled_plain i.WritewInt f a b c h = refl
-filled_plain i.WritewChar f a b c h = refl
-filled_plain i.WritewBool f a b c h = refl
 filled_plain (i.WritewText x) f a b c h = ap i.WritewText (h.0.number x f refl)
-filled_plain i.Writeln f a b c h = refl
 filled_plain (i.Pack x) f a b c h = ap i.Pack (h.0.number x f refl)
-filled_plain i.Open f a b c h = refl
 filled_plain (i.Send x) f a b c h = ap i.Send (h.0.number x f refl)
 filled_plain (i.Receive x) f a b c h = ap i.Receive (h.0.number x f refl)
 filled_plain (i.Fork x) f a b c h = ap i.Fork (h.0.number x f refl)
 filled_plain (i.Forall x) f a b c h = ap i.Forall (h.0.number x f refl)
-filled_plain i.End f a b c h = refl
+filled_plain _ _ _ _ _ _ = refl
 
 -- each operand is written in a word of digits
 abbrev pub AreSmall : List ℤ → Type 0
@@ -327,64 +167,26 @@ operands_small (i.Addr x y) f = (let a = f.0 in omega arith, (let a = f.1 in ome
 operands_small (i.Deref x y) f = (let a = f.0 in omega arith, (let a = f.1 in omega arith, tt))
 operands_small (i.Index x y z) f = (integer_small x f.0, (integer_small y f.1, (let a = f.2 in omega arith, tt)))
 operands_small (i.Field x) f = (let a = f in omega arith, tt)
-operands_small i.Load f = tt
-operands_small i.Loadc f = tt
-operands_small i.Store f = tt
 operands_small (i.Copy x) f = (let a = f in omega arith, tt)
-operands_small i.Add f = tt
-operands_small i.Sub f = tt
-operands_small i.Mul f = tt
-operands_small i.Div f = tt
-operands_small i.Mod f = tt
-operands_small i.Neg f = tt
-operands_small i.Abs f = tt
-operands_small i.Sqr f = tt
-operands_small i.Odd f = tt
-operands_small i.And f = tt
-operands_small i.Or f = tt
-operands_small i.Not f = tt
-operands_small i.Eq f = tt
-operands_small i.Ne f = tt
-operands_small i.Lt f = tt
-operands_small i.Le f = tt
-operands_small i.Gt f = tt
-operands_small i.Ge f = tt
 operands_small (i.Range x y) f = (integer_small x f.0, (integer_small y f.1, tt))
 operands_small (i.Succ x) f = (integer_small x f, tt)
 operands_small (i.Pred x) f = (integer_small x f, tt)
 operands_small (i.Jump x) f = (let a = f in omega arith, tt)
 operands_small (i.Jumpf x) f = (let a = f in omega arith, tt)
 operands_small (i.Casej x y) f = (integer_small x f.0, (let a = f.1 in omega arith, tt))
-operands_small i.Nocase f = tt
-operands_small i.Tick f = tt
-operands_small i.Assume f = tt
 operands_small (i.Forup x y) f = (let a = f.0 in omega arith, (let a = f.1 in omega arith, tt))
 operands_small (i.Fordown x y) f = (let a = f.0 in omega arith, (let a = f.1 in omega arith, tt))
 operands_small (i.Nextup x y) f = (let a = f.0 in omega arith, (let a = f.1 in omega arith, tt))
 operands_small (i.Nextdown x y) f = (let a = f.0 in omega arith, (let a = f.1 in omega arith, tt))
 operands_small (i.Call x y) f = (let a = f.0 in omega arith, (let a = f.1 in omega arith, tt))
-operands_small i.Return f = tt
-operands_small i.ReadInt f = tt
-operands_small i.ReadChar f = tt
-operands_small i.Readln f = tt
-operands_small i.Eof f = tt
-operands_small i.Eoln f = tt
-operands_small i.WriteInt f = tt
-operands_small i.WriteChar f = tt
-operands_small i.WriteBool f = tt
 operands_small (i.WriteText x) f = (let a = f in omega arith, tt)
-operands_small i.WritewInt f = tt
-operands_small i.WritewChar f = tt
-operands_small i.WritewBool f = tt
 operands_small (i.WritewText x) f = (let a = f in omega arith, tt)
-operands_small i.Writeln f = tt
 operands_small (i.Pack x) f = (let a = f in omega arith, tt)
-operands_small i.Open f = tt
 operands_small (i.Send x) f = (let a = f in omega arith, tt)
 operands_small (i.Receive x) f = (let a = f in omega arith, tt)
 operands_small (i.Fork x) f = (let a = f in omega arith, tt)
 operands_small (i.Forall x) f = (let a = f in omega arith, tt)
-operands_small i.End f = tt
+operands_small _ _ = tt
 
 at_operands : (zs : List ℤ) → AreSmall zs → AtClass 45 57 (flat_map operand_text zs)
 at_operands [] s = tt

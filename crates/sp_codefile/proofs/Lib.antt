@@ -9,4 +9,4 @@ mod ReadLaws
 mod LayoutLaws
 mod KindLaws
 mod OneLaws
-pub mod Judging
+mod Judging

@@ -35,6 +35,7 @@ use sp_rules::laws::verified_code_is_sound;
 use sp_shapes::calls::first_unfit;
 use sp_shapes::cells::first_passing;
 use sp_shapes::messages::first_length;
+use sp_shapes::repeats::repeats_of;
 use sp_shapes::shapes::{Outcome, Shapes, shapes_of};
 use std::marker::Model;
 use thiserror::Error;
@@ -157,17 +158,20 @@ fn keep_shapes(
 }
 
 // Whether V3, V4 and V5 are.
-fn keep_cells(code: &Code, blocks: &Blocks, shapes: &Shapes) -> Result<(), Rejected>
-    requires kept { KeepsBefore code.now 3 }
-    requires blocks { IsNumbered blocks.now.first code.now.layouts }
-    requires shapes { AreShapes code.now shapes.now }
-    ensures ok { OnOk result (KeepsBefore code.now 6) }
-    ensures err { IfErr result (λ e. IsRefused code.now e) }
+fn keep_cells(g: &PassContext) -> Result<(), Rejected>
+    requires known { IsPassContext g.now }
+    requires kept { KeepsBefore g.now.code.now 3 }
+    ensures ok { OnOk result (KeepsBefore g.now.code.now 6) }
+    ensures err { IfErr result (λ e. IsRefused g.now.code.now e) }
 {
-    keep(code, VRule::V3, first_passing(code, shapes))?;
-    let length = have!(first_length(code, shapes), Rejected::Memory);
-    keep(code, VRule::V4, length)?;
-    keep(code, VRule::V5, first_unfit(code, blocks, shapes))
+    keep(g.code, VRule::V3, first_passing(g.code, g.shapes))?;
+    let length = have!(first_length(g.code, g.shapes), Rejected::Memory);
+    keep(g.code, VRule::V4, length)?;
+    keep(
+        g.code,
+        VRule::V5,
+        first_unfit(g.code, g.blocks, g.shapes, g.repeats),
+    )
 }
 
 // Whether V6, V7 and V8 are.
@@ -192,7 +196,7 @@ fn keep_shaped(g: &PassContext) -> Result<(), Rejected>
     ensures ok { OnOk result (KeepsBefore g.now.code.now 9) }
     ensures err { IfErr result (λ e. IsRefused g.now.code.now e) }
 {
-    keep_cells(g.code, g.blocks, g.shapes)?;
+    keep_cells(g)?;
     let effects = have!(find_effects(g), Rejected::Memory);
     keep_effects(g, &effects)
 }
@@ -212,12 +216,14 @@ fn keep_between(
     ensures err { IfErr result (λ e. IsRefused code.now e) }
 {
     let shapes = keep_shapes(code, blocks, owners, homes)?;
+    let repeats = have!(repeats_of(code, owners, &shapes), Rejected::Memory);
     keep_shaped(&PassContext {
         code,
         blocks,
         owners,
         homes,
         shapes: &shapes,
+        repeats: &repeats,
     })
 }
 

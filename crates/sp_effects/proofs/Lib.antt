@@ -1,20 +1,21 @@
-pub mod Telling
-pub mod Operands
-pub mod Owns
-pub mod Lying
-pub mod Linking
-pub mod Spreading
-pub mod Asking
-pub mod Exact
-pub mod Rows
-pub mod Members
-pub mod Alone
-pub mod Failing
-pub mod Children
-pub mod Broken
-pub mod Owned
-pub mod Loudness
-pub mod Actuals
-pub mod Passing
-pub mod Inward
-pub mod Turning
+mod Telling
+mod Operands
+mod Owns
+mod Lying
+mod Again
+mod Linking
+mod Spreading
+mod Asking
+mod Exact
+mod Rows
+mod Members
+mod Alone
+mod Failing
+mod Children
+mod Broken
+mod Owned
+mod Loudness
+mod Actuals
+mod Passing
+mod Inward
+mod Turning

@@ -8,8 +8,6 @@ use Rattle.std.proofs.lemmas.List.{length-set}
 use Rattle.std.proofs.lemmas.Option.{slice_get_within, none-some, same_Some}
 use Rattle.std.proofs.lemmas.Bool.{cases_eq}
 use Rattle.sp_base.proofs.Facts.{below_or_last, get_beside_set, get_where_set, less_same_or_more}
-use Rattle.sp_code.specs.declared.instr.Instr.{Instr}
-use Rattle.sp_code.specs.declared.instr.Instr.TheVariants as i
 use Rattle.sp_code.specs.declared.code.ChildTable.{ChildTable}
 use Rattle.sp_code.specs.declared.code.ForkTable.{ForkTable}
 use Rattle.sp_code.specs.declared.code.Formal.{Formal}
@@ -28,13 +26,15 @@ use Rattle.sp_shapes.specs.declared.shapes.Shapes.{Shapes}
 use Rattle.sp_shapes.specs.Shapes.{AreShapes}
 use Rattle.sp_shapes.specs.Reached.{reached_at}
 use Rattle.sp_shapes.proofs.Reaching.{reached_there, stands}
+use Rattle.sp_shapes.proofs.Repeating.{called_is}
+use Rattle.sp_shapes.specs.Repeats.{called_block}
 use Rattle.sp_shapes.specs.Stacks.{list_of}
 use Rattle.sp_rules.proofs.Walking.{passes}
 use Rattle.sp_areas.proofs.Owned.{layout_in, name_of}
 use Rattle.sp_effects.specs.declared.edges.Edge.{Edge}
 use Rattle.sp_effects.specs.declared.edges.Edge.TheVariants as edge
 use Rattle.sp_effects.specs.Edges.{InRow, HasEdge, PutsEdge, Links, passed_by, formal_at, deep_edge, IsDeep, IsDeeper}
-use Rattle.sp_effects.specs.Edges.{IsPassed, called_block, IsCall, IsStart, OneStarts, CalledAt, StartedAt, EdgeAt}
+use Rattle.sp_effects.specs.Edges.{IsPassed, IsCall, IsStart, OneStarts, CalledAt, StartedAt, EdgeAt}
 use Rattle.sp_effects.specs.Edges.{HasEdges}
 
 -- ---- one edge
@@ -264,11 +264,6 @@ none_below ss at j e h d l = ap (slice_get ss) further ∙ sym (h (d - j))
     further = omega (arith, l)
 
 -- ---- at an instruction
-
-pub called_is : (o : Option Instr) (f : ℕ) → called_block o ≡ Some f → (up : ℕ) × (o ≡ Some (i.Call f up))
-called_is None f e = absurd (none-some f e)
-called_is (Some (i.Call b up)) f e = (up, ap (λ z. Some (i.Call z up)) (same_Some b f e))
-called_is (Some o) f e = absurd (none-some f e)
 
 module _ (c : Parts) (p : ℕ) where
   module _ (shapes : Shapes) (are : AreShapes c shapes) where

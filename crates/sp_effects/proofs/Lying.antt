@@ -2,6 +2,7 @@
 use Rattle.std.proofs.Common.{◌≡◌, inl, refl, ap, sym, ◌∙◌, subst, ℕ, ◌<◌, List, length, Option}
 use Rattle.std.proofs.Common.{Some, None, arith}
 use Rattle.std.specs.Prelude.{slice_get, MatchOption}
+use Rattle.std.proofs.lemmas.Option.{same_Some}
 use Rattle.sp_base.proofs.Facts.{item_is_not_none}
 use Rattle.sp_code.specs.declared.code.Parts.{Parts}
 use Rattle.sp_rules.specs.Areas.{Area, Body, Child, entry, entry_of_layout, entry_of_child}
@@ -33,6 +34,21 @@ module _ (c : Parts) where
   area_found p (owner.Block b) r kept h e = one_found p (owner.Block b) r h e
   area_found p (owner.Child q k) r kept h e = one_found p (owner.Child q k) r h e
   area_found p owner.Several r kept h e = absurd (kept p (InTwo (h.first, h.lies, inl (h.second, h.too, h.apart))))
+
+  only_entry : (p : ℕ) (o : Owner) (a : Area) → IsOnly c p o → LiesIn c p a → entry_by c o ≡ Some (entry c a)
+  only_entry p o a h l = ap (entry_by c) (sym h.owner_is) ∙ area_entry h.area h.lies.0
+      ∙ ap (λ z. Some (entry c z)) (sym (h.only a l))
+
+  -- areas in which instructions of one owner lie begin at one instruction
+  pub one_entry : (p q : ℕ) (a b : Area) (o : Owner) → ((x : ℕ) → BreaksV1 c x → ⊥) → Owns c p o → Owns c q o
+      → LiesIn c p a → LiesIn c q b → entry c a ≡ entry c b
+  one_entry p q a b owner.Nobody kept x y l m = absurd (x a l)
+  one_entry p q a b (owner.Block d) kept x y l m = same_Some (entry c a) (entry c b)
+      (sym (only_entry p (owner.Block d) a x l) ∙ only_entry q (owner.Block d) b y m)
+  one_entry p q a b (owner.Child d k) kept x y l m = same_Some (entry c a) (entry c b)
+      (sym (only_entry p (owner.Child d k) a x l) ∙ only_entry q (owner.Child d k) b y m)
+  one_entry p q a b owner.Several kept x y l m = absurd (kept p (InTwo
+      (x.first, x.lies, inl (x.second, x.too, x.apart))))
 
   pub owner_there : (os : List Owner) (p : ℕ) → AreOwners c os → p < length c.instrs → slice_get os p ≡ None → ⊥
   owner_there os p are l e = item_is_not_none os p (let m = are.0 in omega (arith, l, m)) e

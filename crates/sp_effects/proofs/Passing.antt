@@ -35,11 +35,11 @@ use Rattle.sp_effects.specs.Asked.{is_asked}
 use Rattle.sp_effects.specs.Effects.{AreEffects, touches}
 use Rattle.sp_effects.specs.Calls.{CallFails, actual_at, actual_of, actuals, call_clashes, is_outer, list_of_option}
 use Rattle.sp_effects.specs.Calls.{meets_outer, variable_of}
-use Rattle.sp_effects.specs.Edges.{called_block}
+use Rattle.sp_shapes.specs.Repeats.{called_block}
 use Rattle.sp_effects.specs.Variables.{owns}
 use Rattle.sp_effects.specs.Sets.{all_new}
 use Rattle.sp_effects.proofs.Members.{new_from, new_is}
-use Rattle.sp_effects.proofs.Linking.{called_is}
+use Rattle.sp_shapes.proofs.Repeating.{called_is}
 use Rattle.sp_effects.proofs.Owned.{in_own, own_in}
 
 -- ---- answers that are given

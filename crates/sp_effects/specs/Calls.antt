@@ -10,23 +10,21 @@ use Rattle.sp_code.specs.declared.code.Layout.{Layout}
 use Rattle.sp_code.specs.declared.code.Parts.{Parts}
 use Rattle.sp_code.specs.Machine.{layout_of}
 use Rattle.sp_rules.specs.Areas.{on_option, instr_at}
-use Rattle.sp_rules.specs.Shapes.{Shape, O, C, L, A}
+use Rattle.sp_rules.specs.Shapes.{Shape, A}
 use Rattle.sp_shapes.specs.declared.shapes.Shapes.{Shapes}
 use Rattle.sp_shapes.specs.declared.stacks.Stacks.{Stacks}
 use Rattle.sp_shapes.specs.Reached.{reached_at}
 use Rattle.sp_shapes.specs.Stacks.{list_of}
 use Rattle.sp_effects.specs.declared.effects.Effects.{Effects}
-use Rattle.sp_effects.specs.Edges.{called_block}
+use Rattle.sp_shapes.specs.Repeats.{called_block}
 use Rattle.sp_effects.specs.Effects.{touches}
 use Rattle.sp_effects.specs.Variables.{owns}
 use Rattle.sp_effects.specs.Sets.{all_new}
 
 -- the variable of an operand for a formal, if that is by reference
 abbrev pub variable_of : Shape → Option ℕ
-variable_of O = None
-variable_of C = None
-variable_of (L n) = None
 variable_of (A x n) = Some x
+variable_of _ = None
 
 abbrev pub actual_of : Formal → Shape → Option ℕ
 actual_of (formal.Value n) s = None

@@ -2,8 +2,6 @@
 -- The ways on which effects go from area to area: from a child to the area that starts it, and from a block to one that
 -- calls it.
 use Rattle.std.specs.Prelude.{◌≡◌, ◌⊎◌, ℕ, ◌-◌, ◌<◌, List, Option, Some, None, length, slice_get}
-use Rattle.sp_code.specs.declared.instr.Instr.{Instr}
-use Rattle.sp_code.specs.declared.instr.Instr.TheVariants as i
 use Rattle.sp_code.specs.declared.code.ChildTable.{ChildTable}
 use Rattle.sp_code.specs.declared.code.Formal.{Formal}
 use Rattle.sp_code.specs.declared.code.Formal.TheVariants as formal
@@ -60,11 +58,6 @@ IsDeeper l n ss j m e = (m ≡ l.entry) × ((d : ℕ) × (d < j) × IsDeep l n s
 -- the edge of a formal and its actual variable
 abbrev pub IsPassed : Layout → ℕ → List Shape → Edge → Type 0
 IsPassed l n ss e = (k y x : ℕ) × IsNumber l k y × IsActual l ss k x × (e ≡ edge.Passed n y x)
-
--- the block that an instruction calls
-abbrev pub called_block : Option Instr → Option ℕ
-called_block (Some (i.Call b up)) = Some b
-called_block o = None
 
 -- those of a call
 abbrev pub IsCall : Layout → ℕ → List Shape → ℕ → Edge → Type 0

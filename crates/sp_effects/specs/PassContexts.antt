@@ -5,6 +5,7 @@ use Rattle.sp_rules.specs.Named.{BreaksV1}
 use Rattle.sp_areas.specs.Blocks.{IsNumbered}
 use Rattle.sp_areas.specs.Homes.{AreHomes}
 use Rattle.sp_areas.specs.Owners.{AreOwners}
+use Rattle.sp_shapes.specs.Repeats.{AreRepeats}
 use Rattle.sp_shapes.specs.Shapes.{AreShapes}
 use Rattle.sp_effects.specs.declared.pass_context.PassContext.{PassContext}
 
@@ -14,3 +15,4 @@ pub record IsPassContext (g : PassContext) : Type 0 where
   pub owners : AreOwners g.code.now g.owners.now
   pub homes : AreHomes g.code.now g.homes.now
   pub shapes : AreShapes g.code.now g.shapes.now
+  pub repeats : AreRepeats g.code.now g.owners.now g.shapes.now g.repeats.now

@@ -4,14 +4,13 @@ ghost use Rattle.std.specs.Prelude.{◌≡◌, ◌<◌, MatchOption, length};
 ghost use Rattle.std.specs.Option.{option_copied};
 ghost use Rattle.sp_areas.specs.Only.{LiesOnlyIn};
 ghost use Rattle.sp_effects.specs.PassContexts.{IsPassContext};
-ghost use Rattle.sp_effects.specs.Edges.{called_block};
 ghost use Rattle.sp_effects.specs.Own.{child_entry, entry_by};
 ghost use Rattle.sp_rules.specs.Areas.{Area, child_at, entry, instr_at, table_at, table_named};
 ghost use Rattle.sp_rules.specs.Named.{LiesIn};
 
 use crate::pass_context::PassContext;
 use sp_areas::owners::{Owner, table_number};
-use sp_code::{Code, ForkTable, Instr};
+use sp_code::{Code, ForkTable};
 
 /// The table of the fork or forall at p.
 pub fn table_of<'a>(code: &'a Code, p: u32) -> Option<&'a ForkTable>
@@ -60,15 +59,5 @@ pub fn area_at(g: &PassContext, p: u32) -> Option<u32>
     match g.owners.get(p as usize) {
         None => None,
         Some(owner) => entry_of(g, *owner),
-    }
-}
-
-/// The block that the instruction at p calls.
-pub(crate) fn called_block(code: &Code, p: u32) -> Option<u32>
-    ensures { result ≡ called_block (instr_at code.now p) }
-{
-    match code.instr(p) {
-        Some(Instr::Call { block, up: _ }) => Some(block),
-        _ => None,
     }
 }

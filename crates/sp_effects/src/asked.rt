@@ -7,7 +7,6 @@ ghost use Rattle.sp_effects.specs.Asked.{Asks, AsksChildren, AsksInsideAt, AsksL
 ghost use Rattle.sp_effects.specs.Asked.{FollowsRow, LeadsToNone, inside_entry, is_asked, is_of_rules, target};
 ghost use Rattle.sp_effects.specs.PassContexts.{IsPassContext};
 ghost use Rattle.sp_rules.specs.Areas.{Area, homes as homes_of, instr_at};
-ghost use Rattle.sp_rules.specs.Rules.{some_reference};
 
 use crate::edges::{Edge, edge_at};
 use crate::have;
@@ -15,7 +14,8 @@ use crate::inside::is_inside;
 use crate::pass_context::PassContext;
 use sp_areas::flags::{flag_at, mark, no_flags};
 use sp_base::{List, Memory};
-use sp_code::{ChildTable, ForkTable, Formal, Instr, Layout};
+use sp_code::{ChildTable, ForkTable, Instr, Layout};
+use sp_shapes::calls::some_reference;
 
 /// Areas by their first instructions.
 #[derive(Drop)]
@@ -56,18 +56,6 @@ fn target(edge: Edge) -> u32
             actual: _,
         } => to,
     }
-}
-
-// Whether one of the formals is a reference.
-fn some_reference(formals: &[Formal]) -> bool
-    ensures { result ≡ some_reference formals.now }
-{
-    for f in formals {
-        if let Formal::Reference(_) = *f {
-            return true;
-        }
-    }
-    false
 }
 
 // Whether a block answers, or takes a variable by reference.

@@ -1,6 +1,7 @@
 //! Rule V7 at a call: the variables that it passes by reference.
 
-ghost use Rattle.std.specs.Prelude.{◌≡◌, ◌++◌, ◌<◌, IfOk, OnOk, Some, length, slice_get};
+ghost use Rattle.std.specs.Prelude.{◌≡◌, ◌++◌, ◌<◌, ◌&&◌, IfOk, OnOk, Some, length, not, slice_get};
+ghost use Rattle.sp_areas.specs.Alone.{flag_at};
 ghost use Rattle.sp_areas.specs.LeastPlaces.{IsLeast};
 ghost use Rattle.sp_shapes.specs.Stacks.{IsListNumber, IsStacks, list_of, shape_of};
 ghost use Rattle.sp_effects.specs.PassContexts.{IsPassContext};
@@ -8,15 +9,16 @@ ghost use Rattle.sp_effects.specs.Calls.{CallFails, actual_of, actuals, call_cla
 ghost use Rattle.sp_effects.specs.Calls.{list_of_option};
 ghost use Rattle.sp_effects.specs.Calls.{meets_outer};
 
-use crate::areas::called_block;
 use crate::effects::Effects;
 use crate::have;
 use crate::pass_context::PassContext;
 use crate::sets::add_all;
 use crate::variables::owns;
+use sp_areas::flags::flag_at;
 use sp_base::{List, Memory};
 use sp_code::{Formal, Layout};
 use sp_shapes::reached::reached;
+use sp_shapes::repeats::called_block;
 use sp_shapes::stacks::{Shape, Stacks};
 use std::alloc::Global;
 use std::collections::BTreeSet;
@@ -137,6 +139,19 @@ fn fails_at(g: &PassContext, effects: &Effects, p: u32) -> Result<bool, Memory>
     }
 }
 
+// Whether it is one that does, and repeats no earlier one.
+fn fails_first(g: &PassContext, effects: &Effects, p: u32) -> Result<bool, Memory>
+    requires known { IsPassContext g.now }
+    ensures { IfOk result (λ fails. fails
+        ≡ not (flag_at g.now.repeats.now p) && fails_at g.now.code.now effects.now g.now.shapes.now p) }
+{
+    if flag_at(g.repeats, p as usize) {
+        Ok(false)
+    } else {
+        fails_at(g, effects, p)
+    }
+}
+
 // The least call that clashes.
 pub(crate) fn first_call(g: &PassContext, effects: &Effects) -> Result<Option<u32>, Memory>
     requires known { IsPassContext g.now }
@@ -144,7 +159,7 @@ pub(crate) fn first_call(g: &PassContext, effects: &Effects) -> Result<Option<u3
 {
     let count = g.code.parts().instrs.len();
     for p in 0..count {
-        let fails = have!(fails_at(g, effects, p as u32));
+        let fails = have!(fails_first(g, effects, p as u32));
         if fails {
             return Ok(Some(p as u32));
         }

@@ -1,23 +1,25 @@
 //! The ways on which effects go from area to area.
 
-ghost use Rattle.std.specs.Prelude.{◌≡◌, ℕ, ◌<◌, ◌-◌, OnOk, IfOk, Some, true, length, slice_get};
+ghost use Rattle.std.specs.Prelude.{◌≡◌, ℕ, ◌+◌, ◌<◌, ◌-◌, OnOk, IfOk, Some, true, length, slice_get};
 ghost use Rattle.sp_areas.specs.Only.{LiesOnlyIn};
 ghost use Rattle.sp_code.specs.declared.code.ChildTable.{ChildTable};
 ghost use Rattle.sp_code.specs.declared.code.Layout.{Layout};
 ghost use Rattle.sp_code.specs.Machine.{layout_of};
 ghost use Rattle.sp_effects.specs.PassContexts.{IsPassContext};
 ghost use Rattle.sp_effects.specs.declared.edges.Edge.{Edge as EdgeOf};
-ghost use Rattle.sp_effects.specs.Edges.{AreEdges, CalledAt, EdgeAt, HasEdge, IsCall, IsDeeper, Links};
+ghost use Rattle.sp_effects.specs.Edges.{AreEdges, CalledAt, EdgeAt, HasEdge, HasEdges, IsCall, IsDeeper, Links};
 ghost use Rattle.sp_effects.specs.Edges.{OneStarts, PutsEdge, StartWithin, StartedAt, deep_edge, passed_by};
 ghost use Rattle.sp_rules.specs.Areas.{Area, entry};
 ghost use Rattle.sp_shapes.specs.Stacks.{IsListNumber, IsStacks, list_of, shape_of};
 
-use crate::areas::{area_at, called_block, table_of};
+use crate::areas::{area_at, table_of};
 use crate::have;
 use crate::pass_context::PassContext;
+use sp_areas::flags::flag_at;
 use sp_base::{List, Memory};
 use sp_code::{ChildTable, Code, Formal, Layout};
 use sp_shapes::reached::reached;
+use sp_shapes::repeats::called_block;
 use sp_shapes::stacks::{Shape, Stacks};
 use std::alloc::Global;
 
@@ -252,6 +254,20 @@ fn empty_rows(alloc: Global, count: usize) -> Result<List<List<Edge>>, Memory>
     Ok(rows)
 }
 
+// Puts those at p too, unless that is a call that repeats an earlier one: its edges are there.
+fn link_next(g: &PassContext, rows: &mut List<List<Edge>>, p: u32) -> Result<(), Memory>
+    requires known { IsPassContext g.now }
+    requires there { p < length g.now.code.now.instrs }
+    requires before { HasEdges g.now.code.now p rows.old }
+    ensures { OnOk result (HasEdges g.now.code.now (p + 1) rows.new) }
+{
+    if flag_at(g.repeats, p as usize) {
+        Ok(())
+    } else {
+        link_at(g, rows, p)
+    }
+}
+
 /// All edges, by the first instructions of the areas from which they lead.
 pub fn edges_of(g: &PassContext) -> Result<List<List<Edge>>, Memory>
     requires known { IsPassContext g.now }
@@ -261,7 +277,7 @@ pub fn edges_of(g: &PassContext) -> Result<List<List<Edge>>, Memory>
     let count = instrs.len();
     let mut rows = have!(empty_rows(instrs.alloc(), count));
     for p in 0..count {
-        have!(link_at(g, &mut rows, p as u32));
+        have!(link_next(g, &mut rows, p as u32));
     }
     Ok(rows)
 }

@@ -1,10 +1,12 @@
 //! What instructions do themselves: the variables that they store and load, stops, and what forks hand on.
 
-ghost use Rattle.std.specs.Prelude.{◌≡◌, ◌++◌, ◌∷◌, [], ◌<◌, IfOk, OnOk, length, Some};
+ghost use Rattle.std.specs.Prelude.{◌≡◌, ◌+◌, ◌++◌, ◌∷◌, [], ◌<◌, IfOk, List, OnOk, length};
+ghost use Rattle.std.specs.Prelude.{Some};
 ghost use Rattle.sp_areas.specs.Homes.{found_of};
 ghost use Rattle.sp_areas.specs.Only.{LiesOnlyIn};
 ghost use Rattle.sp_code.specs.Machine.{layout_of};
 ghost use Rattle.sp_effects.specs.PassContexts.{IsPassContext};
+ghost use Rattle.sp_effects.specs.declared.facts.Fact.{Fact as FactOf};
 ghost use Rattle.sp_effects.specs.Facts.{Tells};
 ghost use Rattle.sp_effects.specs.Own.{AskedAt, DoesBy, ForkedAt, IsEffectAmong, IsHanded, IsOf, IsStop, OneIsHanded};
 ghost use Rattle.sp_effects.specs.Own.{OwnAt, OwnBefore, ReachedAt, effect_of, operand_variables, variables_at};
@@ -19,6 +21,7 @@ use crate::facts::{Effect, Fact, Facts};
 use crate::have;
 use crate::pass_context::PassContext;
 use crate::places::{Place, is_stop, loaded_place, stored_place};
+use sp_areas::flags::flag_at;
 use sp_areas::homes::Found;
 use sp_base::{List, Memory};
 use sp_code::{ChildTable, Code, Instr};
@@ -303,6 +306,20 @@ fn tell_at(g: &PassContext, asked: &Asked, facts: &mut Facts, p: u32) -> Result<
     }
 }
 
+// The same too, unless the instruction is a call that repeats an earlier one: what it does is told.
+fn tell_next(g: &PassContext, asked: &Asked, facts: &mut Facts, p: u32) -> Result<(), Memory>
+    requires known { IsPassContext g.now }
+    requires there { p < length g.now.code.now.instrs }
+    ensures { OnOk result ((first : List FactOf) → Tells first facts.old (OwnBefore g.now.code.now asked.now p)
+        → Tells first facts.new (OwnBefore g.now.code.now asked.now (p + 1))) }
+{
+    if flag_at(g.repeats, p as usize) {
+        Ok(())
+    } else {
+        tell_at(g, asked, facts, p)
+    }
+}
+
 /// What each area that is asked about does itself, or hands to its children.
 pub(crate) fn tell_own(g: &PassContext, asked: &Asked, facts: &mut Facts) -> Result<(), Memory>
     requires known { IsPassContext g.now }
@@ -310,7 +327,7 @@ pub(crate) fn tell_own(g: &PassContext, asked: &Asked, facts: &mut Facts) -> Res
         (OwnBefore g.now.code.now asked.now (length g.now.code.now.instrs))) }
 {
     for p in 0..g.code.parts().instrs.len() {
-        have!(tell_at(g, asked, facts, p as u32));
+        have!(tell_next(g, asked, facts, p as u32));
     }
     Ok(())
 }

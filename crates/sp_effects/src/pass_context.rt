@@ -8,7 +8,7 @@ use sp_code::Code;
 use sp_shapes::shapes::Shapes;
 
 /// Code, its layouts by their blocks, and of each instruction whose code it is, what is around it, and the shapes that
-/// it is reached with (`IsPassContext`).
+/// it is reached with, and whether it is a call that repeats an earlier one (`IsPassContext`).
 #[derive(Drop)]
 pub struct PassContext<'a> {
     pub code: &'a Code,
@@ -16,4 +16,5 @@ pub struct PassContext<'a> {
     pub owners: &'a List<Owner>,
     pub homes: &'a Homes,
     pub shapes: &'a Shapes,
+    pub repeats: &'a List<bool>,
 }

@@ -1,13 +1,14 @@
-pub mod Stacking
-pub mod Forms
-pub mod Takings
-pub mod Stepping
-pub mod Ways
-pub mod Searching
-pub mod Comparing
-pub mod SearchSteps
-pub mod Starting
-pub mod Closing
+mod Stacking
+mod Forms
+mod Takings
+mod Stepping
+mod Ways
+mod Searching
+mod Comparing
+mod SearchSteps
+mod Starting
+mod Closing
 pub mod Reaching
-pub mod Formals
-pub mod Measuring
+pub mod Repeating
+mod Formals
+mod Measuring

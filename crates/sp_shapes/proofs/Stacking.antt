@@ -1,10 +1,11 @@
 -- Each list of shapes has one number, and keeps it.
 use Rattle.std.proofs.Common.{◌≡◌, ◌⊎◌, inl, inr, ⊎_elim, refl, sym, ◌∙◌, ap, subst, ℕ, zero, suc, ◌+◌, ◌*◌, ◌<◌, ◌≤◌}
 use Rattle.std.proofs.Common.{◌==◌, List, [], ◌∷◌, ◌++◌, length, Option, Some, None, Bool, true, false, arith, eqb-true}
-use Rattle.std.proofs.Common.{eq-eqb}
-use Rattle.std.specs.Prelude.{slice_get, cond}
+use Rattle.std.proofs.Common.{append_assoc, eq-eqb}
+use Rattle.std.specs.Prelude.{slice_get, cond, take, MatchOption}
 use Rattle.std.specs.Ordering.{nat_cmp}
 use Rattle.std.specs.BTreeMap.{is_at}
+use Rattle.std.specs.Map.{lookup}
 use Rattle.std.specs.Cmp.{unsigned_tied}
 use Rattle.std.proofs.lemmas.Option.{slice_get_within, slice_get_cases, none-some, same_Some}
 use Rattle.std.proofs.lemmas.List.{length-append}
@@ -13,9 +14,10 @@ use Rattle.sp_rules.specs.Shapes.{Shape}
 use Rattle.sp_shapes.specs.declared.stacks.Shape.{Shape as Kept}
 use Rattle.sp_shapes.specs.declared.stacks.Shape.TheVariants as kept
 use Rattle.sp_shapes.specs.declared.stacks.Cell.{Cell}
+use Rattle.sp_shapes.specs.declared.stacks.Jump.{Jump}
 use Rattle.sp_shapes.specs.declared.stacks.Stacks.{Stacks}
 use Rattle.sp_shapes.specs.Stacks.{shape_of, shapes_from, list_of, IsListNumber, Extends, shape_key, key_of, number_at}
-use Rattle.sp_shapes.specs.Stacks.{IsSmall, IsStacks}
+use Rattle.sp_shapes.specs.Stacks.{HasBefore, IsJump, IsSmall, IsStacks, JumpsIn}
 
 -- the rest of each list comes before it
 abbrev pub AreEarlier : List Cell → Type 0
@@ -214,19 +216,67 @@ list_known st h s below n small there e =
 pub one_more : (cs : List Cell) (x : Cell) → length (cs ++ x ∷ []) ≡ length cs + 1
 one_more cs x = length-append cs (x ∷ [])
 
+pub stacks_extend : (old new : Stacks) (x : Cell) → IsStacks old → new.cells ≡ old.cells ++ x ∷ [] → Extends old new
+stacks_extend old new x h e n l =
+    let m = one_more old.cells x in
+    let s : length new.cells ≡ length old.cells + 1 = ap (λ (cs : List Cell). length cs) e ∙ m in
+    (omega (arith, s, l), ap (λ cs. shapes_from cs n n) e ∙ same_from old.cells x h.earlier n n l)
+
+-- ---- jumps
+
+pub one_before : (s : Shape) (ss : List Shape) → HasBefore 1 (s ∷ ss) ss
+one_before s ss = record { before = s ∷ []; many = refl; whole = refl }
+
+pub both_before : (j k : ℕ) (ss ts us : List Shape) → HasBefore j ss ts → HasBefore k ts us → HasBefore (j + k) ss us
+both_before j k ss ts us a b = record {
+  before = a.before ++ b.before;
+  many = length-append a.before b.before ∙ ap (λ n. n + length b.before) a.many ∙ ap (λ n. j + n) b.many;
+  whole = a.whole ∙ ap (λ xs. a.before ++ xs) b.whole ∙ sym (append_assoc a.before b.before us);
+}
+
+-- a jump to the rest, and two jumps behind one more shape
+pub jump_one : (st : Stacks) (n : ℕ) (s : Shape) → IsListNumber st n
+    → IsJump st (s ∷ list_of st n) (record { to = n; far = 1 })
+jump_one st n s l = record { held = l; lands = one_before s (list_of st n) }
+
+pub jump_both : (st : Stacks) (s : Shape) (ss : List Shape) (near next : Jump) → IsJump st ss near
+    → IsJump st (list_of st near.to) next → IsJump st (s ∷ ss) (record { to = next.to; far = 1 + near.far + next.far })
+jump_both st s ss near next a b = record {
+  held = b.held;
+  lands = both_before (1 + near.far) next.far (s ∷ ss) (list_of st near.to) (list_of st next.to)
+      (both_before 1 near.far (s ∷ ss) ss (list_of st near.to) (one_before s ss) a.lands) b.lands;
+}
+
+-- a jump is one too where more lists are there
+pub jump_kept : (old new : Stacks) (ss : List Shape) (j : Jump) → Extends old new → IsJump old ss j → IsJump new ss j
+jump_kept old new ss j extends h =
+    let r = extends j.to h.held in
+    record {
+      held = r.0;
+      lands = record {
+        before = h.lands.before;
+        many = h.lands.many;
+        whole = h.lands.whole ∙ ap (λ ts. h.lands.before ++ ts) (sym r.1);
+      };
+    }
+
+-- ---- one cell more in the stacks
+
 -- the stacks with one cell more, whose key was not there
 pub stacks_more : (old new : Stacks) (x : Cell) → IsStacks old → new.cells ≡ old.cells ++ x ∷ []
     → length old.cells + 1 < 4294967296
-    → IsListNumber old x.below → IsSmall x.shape → number_at old (key_of x.shape x.below) ≡ None
+    → IsListNumber old x.below → IsSmall x.shape → IsJump old (shape_of x.shape ∷ list_of old x.below) x.jump
+    → number_at old (key_of x.shape x.below) ≡ None
     → ((q : ℕ) → number_at new q ≡ cond (key_of x.shape x.below == q) (Some (length old.cells + 1)) (number_at old q))
     → IsStacks new
-stacks_more old new x h e few there small none now =
+stacks_more old new x h e few there small jump none now =
     record {
       few = omega (arith, size, few);
-      earlier = λ i c f. at_cell (λ i c. c.below ≤ i) h.earlier there i c f;
+      earlier = early;
       small = λ i c f. at_cell (λ i c. IsSmall c.shape) h.small small i c f;
       known = λ i c f. at_cell (λ i c. number_at new (key_of c.shape c.below) ≡ Some (i + 1))
           (λ j d g. old_known (key_of d.shape d.below) (j + 1) (h.known j d g)) new_known i c f;
+      jumps = λ i c f. at_cell (λ i c. IsJump new (list_of new (i + 1)) c.jump) old_jump new_jump i c f;
       found = found;
     }
   where
@@ -241,6 +291,29 @@ stacks_more old new x h e few there small none now =
         → (i : ℕ) (c : Cell) → slice_get new.cells i ≡ Some c → P i c
     at_cell P f g i c k = ⊎_elim (f i c) (λ z. subst (λ j. P j c) (sym z.0) (subst (P (length old.cells)) z.1 g))
         (found_at old.cells x c i (ap (λ cs. slice_get cs i) (sym e) ∙ k))
+
+    early : AreEarlier new.cells
+    early i c f = at_cell (λ i c. c.below ≤ i) h.earlier there i c f
+
+    extends : Extends old new
+    extends = stacks_extend old new x h e
+
+    old_jump : (i : ℕ) (c : Cell) → slice_get old.cells i ≡ Some c → IsJump new (list_of new (i + 1)) c.jump
+    old_jump i c f =
+        let l : i < length old.cells = slice_get_within old.cells i c f in
+        let r = extends (i + 1) (omega (arith, l)) in
+        subst (λ ss. IsJump new ss c.jump) (sym r.1)
+        (jump_kept old new (list_of old (i + 1)) c.jump extends (h.jumps i c f))
+
+    new_jump : IsJump new (list_of new (length old.cells + 1)) x.jump
+    new_jump =
+        let at : slice_get new.cells (length old.cells) ≡ Some x = ap (λ cs. slice_get cs (length old.cells)) e
+        ∙ new_at old.cells x in
+        let is : list_of new (length old.cells + 1) ≡ shape_of x.shape ∷ list_of old x.below =
+        list_at new.cells early (length old.cells) x at (length old.cells + 1) refl
+        ∙ ap (λ ss. shape_of x.shape ∷ ss) (extends x.below there).1 in
+        subst (λ ss. IsJump new ss x.jump) (sym is)
+        (jump_kept old new (shape_of x.shape ∷ list_of old x.below) x.jump extends jump)
 
     is_key : (q : ℕ) (t : Bool) → (key_of x.shape x.below == q) ≡ t
         → (number_at new q ≡ cond t (Some (length old.cells + 1)) (number_at old q))
@@ -275,19 +348,14 @@ stacks_more old new x h e few there small none now =
             let l : k.0 < length old.cells = slice_get_within old.cells k.0 k.1 k.3 in
             (k.0, k.1, k.2, ap (λ cs. slice_get cs k.0) e ∙ kept_at old.cells x k.0 l ∙ k.3, k.4)
 
-pub stacks_extend : (old new : Stacks) (x : Cell) → IsStacks old → new.cells ≡ old.cells ++ x ∷ [] → Extends old new
-stacks_extend old new x h e n l =
-    let m = one_more old.cells x in
-    let s : length new.cells ≡ length old.cells + 1 = ap (λ (cs : List Cell). length cs) e ∙ m in
-    (omega (arith, s, l), ap (λ cs. shapes_from cs n n) e ∙ same_from old.cells x h.earlier n n l)
-
 -- the same, as a table is written
 pub stacks_grow : (old new : Stacks) (x : Cell) (key n : ℕ) → IsStacks old → new.cells ≡ old.cells ++ x ∷ []
     → n ≡ length old.cells + 1 → n ≤ 4294967295
-    → IsListNumber old x.below → IsSmall x.shape → key ≡ key_of x.shape x.below → number_at old key ≡ None
+    → IsListNumber old x.below → IsSmall x.shape → IsJump old (shape_of x.shape ∷ list_of old x.below) x.jump
+    → key ≡ key_of x.shape x.below → number_at old key ≡ None
     → ((q : ℕ) → number_at new q ≡ cond (is_at (nat_cmp key) q) (Some n) (number_at old q)) → IsStacks new
-stacks_grow old new x key n h e s few there small k none now =
-    stacks_more old new x h e (omega (arith, s, few)) there small (ap (number_at old) (sym k) ∙ none)
+stacks_grow old new x key n h e s few there small jump k none now =
+    stacks_more old new x h e (omega (arith, s, few)) there small jump (ap (number_at old) (sym k) ∙ none)
     (λ q. now q ∙ ap (λ b. cond b (Some n) (number_at old q)) (unsigned_tied key q ∙ ap (λ m. m == q) k)
     ∙ ap (λ m. cond (key_of x.shape x.below == q) (Some m) (number_at old q)) s)
 
@@ -299,3 +367,44 @@ list_more old new x n h g e s there =
     ∙ new_at old.cells x in
     let r = list_of_cell new g (length old.cells) x at n s in
     (r.2, r.0 ∙ ap (λ ss. shape_of x.shape ∷ ss) (stacks_extend old new x h e x.below there).1)
+
+-- ---- none more, where memory was refused
+
+-- the same cells, with the same numbers under their keys
+pub stacks_same : (old new : Stacks) → IsStacks old → new.cells ≡ old.cells → new.known.entries ≡ old.known.entries
+    → IsStacks new
+stacks_same old new h e f = record {
+  few = subst (λ (cs : List Cell). length cs < 4294967296) (sym e) h.few;
+  earlier = λ i c g. h.earlier i c (there i c g);
+  small = λ i c g. h.small i c (there i c g);
+  known = λ i c g. now (key_of c.shape c.below) ∙ h.known i c (there i c g);
+  jumps = λ i c g. subst (λ cs. JumpsIn cs (shapes_from cs (i + 1) (i + 1)) c.jump) (sym e) (h.jumps i c (there i c g));
+  found = λ q n g. let k = h.found q n (sym (now q) ∙ g) in (
+    k.0,
+    k.1,
+    k.2,
+    ap (λ cs. slice_get cs k.0) e ∙ k.3,
+    k.4,
+  );
+}
+  where
+    there : (i : ℕ) (c : Cell) → slice_get new.cells i ≡ Some c → slice_get old.cells i ≡ Some c
+    there i c g = ap (λ cs. slice_get cs i) (sym e) ∙ g
+
+    now : (q : ℕ) → number_at new q ≡ number_at old q
+    now q = ap (lookup (is_at (nat_cmp q))) f
+
+-- a cell that was added is taken away again
+first_part : (cs : List Cell) (x : Cell) → take (length cs) (cs ++ x ∷ []) ≡ cs
+first_part [] x = refl
+first_part (c ∷ cs) x = ap (λ ds. c ∷ ds) (first_part cs x)
+
+pub taken_away : (o : Option Cell) (xs ys zs : List Cell) (x : Cell) → ys ≡ xs ++ x ∷ []
+    → MatchOption o ((ys ≡ []) × (zs ≡ [])) (λ y. ys ≡ zs ++ y ∷ []) → zs ≡ xs
+taken_away None xs ys zs x e h =
+    let n = ap (λ (cs : List Cell). length cs) (sym h.0 ∙ e) ∙ one_more xs x in
+    absurd (omega (arith, n))
+taken_away (Some y) xs ys zs x e h =
+    let n = sym (one_more zs y) ∙ ap (λ (cs : List Cell). length cs) (sym h ∙ e) ∙ one_more xs x in
+    let m : length zs ≡ length xs = omega (arith, n) in
+    sym (first_part zs y) ∙ ap (take (length zs)) (sym h ∙ e) ∙ ap (λ k. take k (xs ++ x ∷ [])) m ∙ first_part xs x

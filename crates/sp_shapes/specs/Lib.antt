@@ -6,4 +6,5 @@ pub mod Search
 pub mod Starts
 pub mod Shapes
 pub mod Reached
+pub mod Repeats
 pub mod Lengths

@@ -1,6 +1,7 @@
 -- None of this belongs to what the program promises: it is for contracts between crates.
 -- Lists of shapes by numbers: each list is kept once, as its first shape and the number of the rest.
-use Rattle.std.specs.Prelude.{◌≡◌, ℕ, zero, suc, ◌+◌, ◌*◌, ◌≤◌, ◌<◌, List, [], ◌∷◌, Option, Some, slice_get, length}
+use Rattle.std.specs.Prelude.{◌≡◌, ℕ, zero, suc, ◌+◌, ◌*◌, ◌≤◌, ◌<◌, List, [], ◌∷◌, ◌++◌, Option, Some}
+use Rattle.std.specs.Prelude.{slice_get, length}
 use Rattle.std.specs.Ordering.{nat_cmp}
 use Rattle.std.specs.BTreeMap.{get}
 use Rattle.sp_rules.specs.Areas.{on_option}
@@ -8,6 +9,7 @@ use Rattle.sp_rules.specs.Shapes.{Shape, O, C, L, A}
 use Rattle.sp_shapes.specs.declared.stacks.Shape.{Shape as Kept}
 use Rattle.sp_shapes.specs.declared.stacks.Shape.TheVariants as kept
 use Rattle.sp_shapes.specs.declared.stacks.Cell.{Cell}
+use Rattle.sp_shapes.specs.declared.stacks.Jump.{Jump}
 use Rattle.sp_shapes.specs.declared.stacks.Stacks.{Stacks}
 
 -- the shape that the code means
@@ -57,11 +59,27 @@ IsSmall kept.Channel = Unit {0}
 IsSmall (kept.Cells n) = n < 4294967296
 IsSmall (kept.Address x n) = (x < 4294967296) × (n < 4294967296)
 
--- the rest of each list comes before it, and under each key stands the number of the list that it is the key of
+-- a list has so many shapes before those of another one
+pub record HasBefore (k : ℕ) (ss ts : List Shape) : Type 0 where
+  pub before : List Shape
+  pub many : length before ≡ k
+  pub whole : ss ≡ before ++ ts
+
+-- a jump leads from a list to what is left of it behind so many shapes
+pub record JumpsIn (cs : List Cell) (ss : List Shape) (j : Jump) : Type 0 where
+  pub held : j.to ≤ length cs
+  pub lands : HasBefore j.far ss (shapes_from cs j.to j.to)
+
+abbrev pub IsJump : Stacks → List Shape → Jump → Type 0
+IsJump st = JumpsIn st.cells
+
+-- the rest of each list comes before it, its jump leads to what is left of it, and under each key stands the number of
+-- the list that it is the key of
 pub record IsStacks (st : Stacks) : Type 0 where
   pub few : length st.cells < 4294967296
   pub earlier : (i : ℕ) (c : Cell) → slice_get st.cells i ≡ Some c → c.below ≤ i
   pub small : (i : ℕ) (c : Cell) → slice_get st.cells i ≡ Some c → IsSmall c.shape
   pub known : (i : ℕ) (c : Cell) → slice_get st.cells i ≡ Some c → number_at st (key_of c.shape c.below) ≡ Some (i + 1)
+  pub jumps : (i : ℕ) (c : Cell) → slice_get st.cells i ≡ Some c → IsJump st (list_of st (i + 1)) c.jump
   pub found : (key n : ℕ) → number_at st key ≡ Some n → (i : ℕ) × (c : Cell) × (n ≡ i + 1)
       × (slice_get st.cells i ≡ Some c) × (key ≡ key_of c.shape c.below)

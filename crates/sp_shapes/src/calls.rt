@@ -1,12 +1,14 @@
 //! Operands of calls against the formals of blocks: rule V5.
 
-ghost use Rattle.std.specs.Prelude.{◌≡◌, [], length, true, Some};
-ghost use Rattle.sp_areas.specs.Alone.{LayoutFails};
+ghost use Rattle.std.specs.Prelude.{◌≡◌, ◌&&◌, [], length, not, true, List, Some};
+ghost use Rattle.sp_areas.specs.Alone.{LayoutFails, flag_at};
 ghost use Rattle.sp_areas.specs.Blocks.{IsNumbered};
 ghost use Rattle.sp_areas.specs.LeastPlaces.{IsLeast, Upto};
+ghost use Rattle.sp_areas.specs.declared.owners.Owner.{Owner};
 ghost use Rattle.sp_rules.specs.Rules.{BreaksV5, call_fits, fit_formals, fits_formal};
 ghost use Rattle.sp_rules.specs.Rules.{lowest_first, some_reference};
 ghost use Rattle.sp_shapes.specs.Reached.{answers_by_reference, fails_at};
+ghost use Rattle.sp_shapes.specs.Repeats.{AreRepeats};
 ghost use Rattle.sp_shapes.specs.Shapes.{AreShapes};
 ghost use Rattle.sp_shapes.specs.Stacks.{IsListNumber, IsStacks, list_of, shape_of};
 
@@ -14,7 +16,9 @@ use crate::reached::reached;
 use crate::shapes::Shapes;
 use crate::stacks::{Shape, Stacks};
 use sp_areas::blocks::Blocks;
+use sp_areas::flags::flag_at;
 use sp_areas::least::{least, place_if};
+use sp_base::List;
 use sp_code::{Code, Formal, Instr, Layout, Parts};
 
 // Whether an operand fits a formal.
@@ -88,22 +92,42 @@ fn misfits(code: &Code, blocks: &Blocks, shapes: &Shapes, p: u32) -> bool
     }
 }
 
-// The least call that its operands do not fit.
-fn first_misfit(code: &Code, blocks: &Blocks, shapes: &Shapes) -> Option<u32>
+// Whether it is one that repeats no earlier call.
+fn misfits_first(
+    code: &Code,
+    blocks: &Blocks,
+    shapes: &Shapes,
+    repeats: &List<bool>,
+    p: u32,
+) -> bool
     requires blocks { IsNumbered blocks.now.first code.now.layouts }
     requires shapes { AreShapes code.now shapes.now }
+    ensures { result ≡ (not (flag_at repeats.now p) && fails_at (call_fits code.now) code.now shapes.now p) }
+{
+    if flag_at(repeats, p as usize) {
+        false
+    } else {
+        misfits(code, blocks, shapes, p)
+    }
+}
+
+// The least call that its operands do not fit.
+fn first_misfit(code: &Code, blocks: &Blocks, shapes: &Shapes, repeats: &List<bool>) -> Option<u32>
+    requires blocks { IsNumbered blocks.now.first code.now.layouts }
+    requires shapes { AreShapes code.now shapes.now }
+    requires repeats { (os : List Owner) × AreRepeats code.now os shapes.now repeats.now }
     ensures { IsLeast (λ p. fails_at (call_fits code.now) code.now shapes.now p ≡ true) result }
 {
     for p in 0..code.parts().instrs.len() {
-        if misfits(code, blocks, shapes, p as u32) {
+        if misfits_first(code, blocks, shapes, repeats, p as u32) {
             return Some(p as u32);
         }
     }
     None
 }
 
-// Whether one of the formals is a reference.
-fn some_reference(formals: &[Formal]) -> bool
+/// Whether one of the formals is a reference.
+pub fn some_reference(formals: &[Formal]) -> bool
     ensures { result ≡ some_reference formals.now }
 {
     for f in formals {
@@ -133,13 +157,19 @@ fn first_answering(layouts: &[Layout]) -> Option<u32>
 }
 
 /// V5: the least call whose operands do not fit the formals of its block, or entry of a block that answers and has a
-/// formal by reference.
-pub fn first_unfit(code: &Code, blocks: &Blocks, shapes: &Shapes) -> Option<u32>
+/// formal by reference. Of calls that repeat each other the first one tells.
+pub fn first_unfit(
+    code: &Code,
+    blocks: &Blocks,
+    shapes: &Shapes,
+    repeats: &List<bool>,
+) -> Option<u32>
     requires blocks { IsNumbered blocks.now.first code.now.layouts }
     requires shapes { AreShapes code.now shapes.now }
+    requires repeats { (os : List Owner) × AreRepeats code.now os shapes.now repeats.now }
     ensures { IsLeast (BreaksV5 code.now) result }
 {
-    let misfit = first_misfit(code, blocks, shapes);
+    let misfit = first_misfit(code, blocks, shapes, repeats);
     let answering = first_answering(code.parts().layouts.items());
     least(misfit, answering)
 }

@@ -8,6 +8,8 @@
 //!   nowhere.
 //! - `first_length` (`messages`), `first_unfit` (`calls`): the same for V4 and V5.
 //! - `reached`: the number of the shapes that an instruction is reached with.
+//! - `repeats_of` (`repeats`): of each instruction, whether it is a call that repeats an earlier one (`AreRepeats`):
+//!   what is said of that one is said of it. `called_block`: the block that an instruction calls.
 //! - `Stacks::new`, `push`, `top` (`stacks`): lists of shapes by their numbers. `push` answers want of memory at 2^32
 //!   lists too.
 //!
@@ -20,7 +22,12 @@
 //!   a few forms (`specs/Plans.antt`, `proofs/Forms.antt`).
 //! - `taking.rt` and `steps.rt` are one step by these forms, `begin.rt` is where ways begin, `search.rt` follows all
 //!   ways level by level (`specs/Search.antt` says what is kept meanwhile), `shapes.rt` is V2.
-//! - `cells.rt`, `messages.rt` and `calls.rt` are V3, V4 and V5.
+//! - `cells.rt`, `messages.rt` and `calls.rt` are V3, V4 and V5. `repeats.rt` spares V5, and what stands above it, the
+//!   operands of calls that say nothing new. `stacks.rt` has jumps, by which `taking.rt` takes many operands at once.
+//!
+//! Lemmas for others, in `proofs`:
+//! - `Reaching`: the table of shapes has, at each instruction, the shapes that ways bring there.
+//! - `Repeating`: a call that repeats an earlier one fails a test where that one does.
 #![tactic(auto)]
 
 pub mod begin;
@@ -30,6 +37,7 @@ pub mod have;
 pub mod messages;
 pub mod plans;
 pub mod reached;
+pub mod repeats;
 pub mod search;
 pub mod shapes;
 pub mod stacks;

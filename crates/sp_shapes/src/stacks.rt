@@ -1,7 +1,8 @@
 //! Lists of shapes, each kept once: equal lists have equal numbers, and a deep one is not copied.
 
-ghost use Rattle.std.specs.Prelude.{◌≡◌, ◌∷◌, [], ◌<◌, IfOk, MatchOption, Some};
-ghost use Rattle.sp_shapes.specs.Stacks.{Extends, IsListNumber, IsSmall, IsStacks, key_of, list_of, number_at};
+ghost use Rattle.std.specs.Prelude.{◌≡◌, ◌∷◌, [], ◌<◌, ◌≤◌, IfOk, MatchOption, Some};
+ghost use Rattle.sp_rules.specs.Shapes.{Shape as ShapeOf};
+ghost use Rattle.sp_shapes.specs.Stacks.{Extends, IsJump, IsListNumber, IsSmall, IsStacks, key_of, list_of, number_at};
 ghost use Rattle.sp_shapes.specs.Stacks.{shape_of};
 
 use crate::have;
@@ -20,11 +21,19 @@ pub enum Shape {
     Address { variable: u32, left: u32 },
 }
 
-/// A list that is not empty: its first shape, and the number of the rest.
+/// A way to the list that is left behind the first shapes of a list, so many.
+#[derive(Clone, Copy)]
+pub struct Jump {
+    pub to: u32,
+    pub far: u32,
+}
+
+/// A list that is not empty: its first shape, the number of the rest, and a jump.
 #[derive(Clone, Copy)]
 pub struct Cell {
     pub shape: Shape,
     pub below: u32,
+    pub jump: Jump,
 }
 
 /// Lists of shapes by their numbers. 0 is the empty list.
@@ -61,6 +70,39 @@ impl Stacks {
         }
     }
 
+    // The jump of a list.
+    fn jump_of(&self, n: u32) -> Jump
+        requires stacks { IsStacks self.now }
+        requires there { IsListNumber self.now n }
+        ensures { IsJump self.now (list_of self.now n) result }
+    {
+        if n == 0 {
+            return Jump { to: n, far: 0 };
+        }
+        match self.cells.get(n as usize - 1) {
+            None => Jump { to: n, far: 0 },
+            Some(cell) => cell.jump,
+        }
+    }
+
+    // The jump of a list with one more shape: as far as both jumps behind it together, where they are equally far.
+    fn jump_over(&self, below: u32) -> Jump
+        requires stacks { IsStacks self.now }
+        requires there { IsListNumber self.now below }
+        ensures { (s : ShapeOf) → IsJump self.now (s ∷ list_of self.now below) result }
+    {
+        let near = self.jump_of(below);
+        let next = self.jump_of(near.to);
+        if near.far == next.far && near.far < 1_000_000_000 {
+            Jump {
+                to: next.to,
+                far: 1 + near.far + next.far,
+            }
+        } else {
+            Jump { to: below, far: 1 }
+        }
+    }
+
     // Adds a list that is not there.
     fn add(&mut self, shape: Shape, below: u32, key: u128) -> Result<u32, Memory>
         requires stacks { IsStacks self.old }
@@ -77,7 +119,8 @@ impl Stacks {
         if n > 4_294_967_295 {
             return Err(Memory);
         }
-        have!(self.cells.push(Cell { shape, below }));
+        let jump = self.jump_over(below);
+        have!(self.cells.push(Cell { shape, below, jump }));
         match self.known.insert(key, n as u32) {
             Ok(_) => Ok(n as u32),
             Err(_) => {
@@ -119,6 +162,27 @@ impl Stacks {
         match self.cells.get(n as usize - 1) {
             None => None,
             Some(cell) => Some((cell.shape, cell.below)),
+        }
+    }
+
+    /// A jump from a list, no farther than so many shapes; nothing from the empty list.
+    pub(crate) fn skip(&self, n: u32, left: usize) -> Option<Jump>
+        requires stacks { IsStacks self.now }
+        requires there { IsListNumber self.now n }
+        requires some { 0 < left }
+        ensures { MatchOption result (list_of self.now n ≡ [])
+            (λ j. (0 < j.far) × (j.far ≤ left) × IsJump self.now (list_of self.now n) j) }
+    {
+        match self.top(n) {
+            None => None,
+            Some((_shape, below)) => {
+                let jump = self.jump_of(n);
+                if 0 < jump.far && jump.far as usize <= left {
+                    Some(jump)
+                } else {
+                    Some(Jump { to: below, far: 1 })
+                }
+            }
         }
     }
 }

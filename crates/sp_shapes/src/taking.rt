@@ -111,10 +111,14 @@ fn take_many(stacks: &Stacks, count: usize, s: u32) -> Option<TakeResult>
     ensures { IsTaken stacks.now (take (takes_of.Many count) (list_of stacks.now s)) result }
 {
     let mut rest = s;
-    for k in 0..count {
-        match stacks.top(rest) {
+    let mut left = count;
+    'shapes: while 0 < left {
+        match stacks.skip(rest, left) {
             None => return None,
-            Some((_shape, below)) => rest = below,
+            Some(jump) => {
+                rest = jump.to;
+                left -= jump.far as usize;
+            }
         }
     }
     Some(TakeResult {

@@ -9,4 +9,5 @@ keep_shaped-requires-clause-known c = record {
   owners = c.requires.owners;
   homes = c.requires.homes;
   shapes = c.in_ok-shapes.ensures.ok.1;
+  repeats = c.in-Ok.ensures;
 }

@@ -1,7 +1,7 @@
 use Rattle.std.proofs.Common.{◌≡◌, ap, ◌∙◌, subst, length, arith}
 use Rattle.sp_code.specs.declared.code.Parts.{Parts}
 use Rattle.sp_effects.specs.Edges.{HasEdges}
-use Rattle.sp_effects.proofs.Linking.{no_edges, more_edges}
+use Rattle.sp_effects.proofs.Linking.{no_edges}
 use Rattle.sp_effects.proofs.edges.edges_of.Goals as goal
 
 pub loop-p-init : goal.loop-p-init
@@ -12,8 +12,7 @@ loop-p-init c =
     no_edges code c.in-Ok.value (c.in-Ok.ensures.0 ∙ m) c.in-Ok.ensures.1
 
 pub loop-p-preserved : goal.loop-p-preserved
-loop-p-preserved c = more_edges c.args.g.now.code.now c.loop-p.rows c.link_at.new.rows c.loop-p.p c.loop-p.invariant
-    c.in-Ok-link_at.ensures
+loop-p-preserved c = c.in-Ok-link_next.ensures
 
 pub returns : goal.returns
 returns c =

@@ -1,6 +1,9 @@
 use Rattle.sp_shapes.proofs.Takings.{AreGone}
 use Rattle.sp_shapes.proofs.taking.take_many.Given as goal
 
--- so many are taken so far
-abbrev pub invariant-loop-k : goal.invariant-loop-k
-invariant-loop-k l = AreGone l.stacks l.s l.count l.k l.rest
+-- so many are left to be taken
+abbrev pub invariant-shapes : goal.invariant-shapes
+invariant-shapes l = AreGone l.stacks l.s l.count l.left l.rest
+
+abbrev pub decreases-shapes : goal.decreases-shapes
+decreases-shapes l = l.left
