@@ -1,0 +1,7 @@
+mod ValueTexts
+mod Layouts
+mod Frames
+mod Rights
+mod Standing
+mod FrameTexts
+mod Rows
