@@ -18,7 +18,7 @@ use Rattle.sp_kernel.specs.declared.closed.Closed.{Closed}
 use Rattle.sp_rules.specs.Areas.{Body}
 use Rattle.sp_rules.specs.Named.{BreaksV1, OutOfRange}
 use Rattle.sp_rules.specs.Reach.{IsInCodeOf}
-use Rattle.sp_rules.specs.Verdict.{IsRejected, IsVerified, Rule, V1, V2, V3, V4, V5, V6, V7, V8, V9, number}
+use Rattle.sp_rules.specs.Verdict.{IsRejected, IsVerified, Rule, V1, number}
 use Rattle.sp_words.specs.Words.{command_of}
 use Rattle.superpascal.specs.declared.ending.Ending.{Ending}
 use Rattle.superpascal.specs.declared.ending.Ending.TheVariants as e
@@ -132,14 +132,7 @@ broken = OutOfRange (Body 0, ((main, refl), at_start), refl)
 
 none_before : (w : Rule) → number w < 1 → ⊥
 none_before V1 h = omega (arith, h)
-none_before V2 h = omega (arith, h)
-none_before V3 h = omega (arith, h)
-none_before V4 h = omega (arith, h)
-none_before V5 h = omega (arith, h)
-none_before V6 h = omega (arith, h)
-none_before V7 h = omega (arith, h)
-none_before V8 h = omega (arith, h)
-none_before V9 h = omega (arith, h)
+none_before _ h = omega (arith, h)
 
 rejected : IsRejected no_variable (rule_of v.V1) 0
 rejected = record {

@@ -48,60 +48,15 @@ unfit_line = ap (λ (x : List ℕ). codes "journal unfit " ++ x ++ codes "\n") o
 
 -- the line of status 2
 pub line_of_2 : (x : Ending) → 2 ≡ status_of x → line_of x ≡ codes "bad words\n"
-line_of_2 e.Done h = absurd (omega (arith, h))
-line_of_2 e.NoEnd h = absurd (omega (arith, h))
-line_of_2 e.Accepted h = absurd (omega (arith, h))
-line_of_2 (e.Refused r) h = absurd (omega (arith, h))
 line_of_2 e.BadWords h = refl
-line_of_2 e.Fault h = absurd (omega (arith, h))
-line_of_2 e.Deadlock h = absurd (omega (arith, h))
-line_of_2 e.ReadFault h = absurd (omega (arith, h))
-line_of_2 e.TooLong h = absurd (omega (arith, h))
-line_of_2 e.OutOfMemory h = absurd (omega (arith, h))
-line_of_2 e.LongJournal h = absurd (omega (arith, h))
-line_of_2 (e.BadJournal n) h = absurd (omega (arith, h))
-line_of_2 (e.Unfit n) h = absurd (omega (arith, h))
-line_of_2 e.LongCode h = absurd (omega (arith, h))
-line_of_2 e.LongFile h = absurd (omega (arith, h))
-line_of_2 (e.BadCode n) h = absurd (omega (arith, h))
-line_of_2 (e.Rejected v i) h = absurd (omega (arith, h))
+line_of_2 _ h = absurd (omega (arith, h))
 
 -- the line of status 5
 pub line_of_5 : (x : Ending) → 5 ≡ status_of x → line_of x ≡ codes "read fault\n"
-line_of_5 e.Done h = absurd (omega (arith, h))
-line_of_5 e.NoEnd h = absurd (omega (arith, h))
-line_of_5 e.Accepted h = absurd (omega (arith, h))
-line_of_5 (e.Refused r) h = absurd (omega (arith, h))
-line_of_5 e.BadWords h = absurd (omega (arith, h))
-line_of_5 e.Fault h = absurd (omega (arith, h))
-line_of_5 e.Deadlock h = absurd (omega (arith, h))
 line_of_5 e.ReadFault h = refl
-line_of_5 e.TooLong h = absurd (omega (arith, h))
-line_of_5 e.OutOfMemory h = absurd (omega (arith, h))
-line_of_5 e.LongJournal h = absurd (omega (arith, h))
-line_of_5 (e.BadJournal n) h = absurd (omega (arith, h))
-line_of_5 (e.Unfit n) h = absurd (omega (arith, h))
-line_of_5 e.LongCode h = absurd (omega (arith, h))
-line_of_5 e.LongFile h = absurd (omega (arith, h))
-line_of_5 (e.BadCode n) h = absurd (omega (arith, h))
-line_of_5 (e.Rejected v i) h = absurd (omega (arith, h))
+line_of_5 _ h = absurd (omega (arith, h))
 
 -- the line of status 7
 pub line_of_7 : (x : Ending) → 7 ≡ status_of x → line_of x ≡ codes "input too long\n"
-line_of_7 e.Done h = absurd (omega (arith, h))
-line_of_7 e.NoEnd h = absurd (omega (arith, h))
-line_of_7 e.Accepted h = absurd (omega (arith, h))
-line_of_7 (e.Refused r) h = absurd (omega (arith, h))
-line_of_7 e.BadWords h = absurd (omega (arith, h))
-line_of_7 e.Fault h = absurd (omega (arith, h))
-line_of_7 e.Deadlock h = absurd (omega (arith, h))
-line_of_7 e.ReadFault h = absurd (omega (arith, h))
 line_of_7 e.TooLong h = refl
-line_of_7 e.OutOfMemory h = absurd (omega (arith, h))
-line_of_7 e.LongJournal h = absurd (omega (arith, h))
-line_of_7 (e.BadJournal n) h = absurd (omega (arith, h))
-line_of_7 (e.Unfit n) h = absurd (omega (arith, h))
-line_of_7 e.LongCode h = absurd (omega (arith, h))
-line_of_7 e.LongFile h = absurd (omega (arith, h))
-line_of_7 (e.BadCode n) h = absurd (omega (arith, h))
-line_of_7 (e.Rejected v i) h = absurd (omega (arith, h))
+line_of_7 _ h = absurd (omega (arith, h))

@@ -141,7 +141,7 @@ module _ {c : Call} {out notes : List ℕ} where
     an_end_is_told o =
         let w = o.promise.tracing.traced (a_journal view.Entries) text bytes (ap command_of o.words ∙ trace_words) held
         journal [] o.input refl (inl done) in
-        let l = line_of_end one bytes is text w.journal w.is_journal w.out w.trace in
+        let l = line_of_end one bytes is text w.journal w.is_journal w.out w.is_text in
         (l.0, whole_output o w.out w.written ∙ l.1)
 
     pub no_output_is_told : Observed c (codes "trace" ∷ codes "a" ∷ codes "j" ∷ []) [] out notes
@@ -153,4 +153,4 @@ module _ {c : Call} {out notes : List ℕ} where
     nobody_is_anywhere o =
         let w = o.promise.tracing.placed (a_journal view.State) text bytes (ap command_of o.words ∙ where_words) held
         journal [] o.input refl (inl done) in
-        whole_output o w.out w.written ∙ state_of_end one bytes is text w.journal w.is_journal w.out w.state
+        whole_output o w.out w.written ∙ state_of_end one bytes is text w.journal w.is_journal w.out w.is_text

@@ -41,8 +41,8 @@ use Rattle.superpascal.specs.Runs.{told_notes, told_output}
 use Rattle.superpascal.specs.Statuses.{InputIsTooLong, OutsideWorks, IsRunOfWords, IsWell, ReadsFail, Statuses}
 use Rattle.superpascal.specs.Texts.{FirstBrokenFor, CanRead, HasLongCode, IsDisjointText, IsJournalText, AcceptedFor}
 use Rattle.superpascal.specs.Texts.{IsAcceptedText, Makes, command_of_run, asks_build, asks_text, command_of_replay}
-use Rattle.superpascal.specs.Traces.{IsTraceOf}
-use Rattle.superpascal.specs.Tracing.{Tracing, WritesState, WritesTrace}
+use Rattle.superpascal.specs.Traces.{IsStateOf, IsTraceOf}
+use Rattle.superpascal.specs.Tracing.{Tells, Tracing}
 use Rattle.superpascal.specs.Witnessing.{IsShown}
 use Rattle.superpascal.specs.Writing.{AreWritten, Writing, WritesLine}
 use Rattle.superpascal.proofs.Laws.{Laws, disjoint_text, keeps_all, made_asks, made_once}
@@ -480,7 +480,7 @@ module _ (c : Call) (k : IsAnswered c) (l : Laws) where
       )
 
       -- one whose entries are told
-      is_traced : b.view ≡ view.Entries → IsFinal status → WritesTrace c b text bytes input
+      is_traced : b.view ≡ view.Entries → IsFinal status → Tells c bytes (IsTraceOf text input b.limits)
       is_traced i f =
           let h = followed_here f in
           let j = h.has_read.journal in
@@ -491,12 +491,12 @@ module _ (c : Call) (k : IsAnswered c) (l : Laws) where
             journal = j;
             is_journal = read_is h.has_read;
             out = h.out;
-            trace = told;
+            is_text = told;
             written = out_written f h;
           }
 
       -- one whose state is told
-      is_placed : b.view ≡ view.State → IsFinal status → WritesState c b text bytes input
+      is_placed : b.view ≡ view.State → IsFinal status → Tells c bytes (IsStateOf text input b.limits)
       is_placed i f =
           let h = followed_here f in
           let j = h.has_read.journal in
@@ -504,7 +504,7 @@ module _ (c : Call) (k : IsAnswered c) (l : Laws) where
             journal = j;
             is_journal = read_is h.has_read;
             out = h.out;
-            state = subst (λ (x : View). IsWritten x text input b.limits j h.replayed h.out) i
+            is_text = subst (λ (x : View). IsWritten x text input b.limits j h.replayed h.out) i
                 (written_is c.files c.source b l h.has_read text bytes input t u left h.replayed h.out h.written);
             written = out_written f h;
           }
@@ -613,9 +613,6 @@ module _ (c : Call) (k : IsAnswered c) (l : Laws) where
   -- the notes where there is no output
   line_is : (x : Ending) → why c.files c.source c.reports (command_of c.words) k.answer x → has_output x ≡ false
       → (notes_by x k.answer.notes ≡ line_of x) ⊎ ((r : Refusal) × (k.answer ≡ refusal_answer r))
-  line_is e.LongJournal m h = inl refl
-  line_is e.LongCode m h = inl refl
-  line_is e.LongFile m h = inl refl
   line_is (e.BadCode n) (b, v, m) h = inl (ap (λ (z : Answer). z.notes) m.answer)
   line_is (e.Rejected r n) (b, v, m) h = inl (ap (λ (z : Answer). z.notes) m.answer)
   line_is (e.BadJournal n) (b, v, m) h = inl (ap (λ (z : Answer). z.notes) m.answer)
@@ -626,29 +623,15 @@ module _ (c : Call) (k : IsAnswered c) (l : Laws) where
   line_is e.NoEnd m h = absurd (true≢false h)
   line_is e.Accepted m h = absurd (true≢false h)
   line_is (e.Refused q) (d, v, m) h = inr (m.refusal, m.answer)
-  line_is e.BadWords m h = inl refl
-  line_is e.ReadFault m h = inl refl
-  line_is e.TooLong m h = inl refl
-  line_is e.OutOfMemory m h = inl refl
+  line_is _ _ _ = inl refl
 
   without_output : (x : Ending) → status_of x ≢ 0 → status_of x ≢ 3 → status_of x ≢ 4 → has_output x ≡ false
   without_output e.Done a b d = absurd (a refl)
   without_output e.Deadlock a b d = absurd (d refl)
   without_output e.Fault a b d = absurd (b refl)
   without_output e.Accepted a b d = absurd (a refl)
-  without_output (e.Refused r) a b d = refl
-  without_output e.BadWords a b d = refl
-  without_output e.ReadFault a b d = refl
-  without_output e.TooLong a b d = refl
-  without_output e.OutOfMemory a b d = refl
   without_output e.NoEnd a b d = absurd (a refl)
-  without_output e.LongJournal a b d = refl
-  without_output (e.BadJournal n) a b d = refl
-  without_output (e.Unfit n) a b d = refl
-  without_output e.LongCode a b d = refl
-  without_output e.LongFile a b d = refl
-  without_output (e.BadCode n) a b d = refl
-  without_output (e.Rejected r n) a b d = refl
+  without_output _ _ _ _ = refl
 
   pub writing : Writing c
   writing = record {

@@ -48,7 +48,7 @@ module _ (f : Files) (s : Stream) (reports : Reports) (b : Executed) where
   execution_unready u x (inl (inl h)) =
       (by_long_file b refl (record { long = h.1; answer = ap ending_answer h.0 }), inl u)
   execution_unready u x (inl (inr (inl h))) = (
-    by_library (record { name = b.file; loads = inr (inr refl); rose = h.1; answer = ap ending_answer h.0 }),
+    by_library (record { name = b.file; loads = inl refl; rose = h.1; answer = ap ending_answer h.0 }),
     inl u,
   )
   execution_unready u x (inl (inr (inr h))) = (by_memory (ap ending_answer h), inl u)

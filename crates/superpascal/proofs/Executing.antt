@@ -100,7 +100,6 @@ module _ (f : Files) (s : Stream) (reports : Reports) (w : Option Command) (a : 
   came e.Done k = came_run (ended_here k)
   came e.Deadlock k = came_run (ended_here k)
   came e.Fault k = came_run (ended_here k)
-  came e.NoEnd k = absurd (follows_not k.0 k.1)
   came e.Accepted (c, u, h) = absurd
       (subst (λ (y : Command). Makes y h.text h.output h.line) (one_command w (command_of_execution b) c v u) h.makes)
   came (e.Refused r) (c, u, h) = came_refused refl
@@ -109,14 +108,12 @@ module _ (f : Files) (s : Stream) (reports : Reports) (w : Option Command) (a : 
   came e.ReadFault k = came_outside (omega arith, omega arith)
   came e.TooLong k = came_outside (omega arith, omega arith)
   came e.OutOfMemory k = came_outside (omega arith, omega arith)
-  came e.LongJournal k = absurd (follows_not k.0 k.1)
-  came (e.BadJournal n) k = absurd (follows_not k.0 k.1)
-  came (e.Unfit n) k = absurd (follows_not k.0 k.1)
   came e.LongCode (c, u, h) =
       absurd (subst (λ (y : Command). asks_build y) (one_command w (command_of_execution b) c v u) h.builds)
   came e.LongFile (x, u, h) = came_long (this (λ y. IsLongFile f y a) x u h)
   came (e.BadCode n) (x, u, h) = came_bad n (this (λ y. IsBadCode f y n a) x u h)
   came (e.Rejected r n) (x, u, h) = came_rejected r n (this (λ y. IsRejectedCode f y r n a) x u h)
+  came _ k = absurd (follows_not k.0 k.1)
 
   -- a final status comes where the file has run
   ran_only : (x : Ending) → Why x → IsFinal (status_of x) → HasExecuted f s b a

@@ -49,57 +49,33 @@ output_stands reports told.Witness r = refl
 
 -- a command that answers from a text alone runs nothing
 pub text_or_run : (d : Command) → asks_text d → asks_run d → ⊥
-text_or_run (command.Check file) q r = r
 text_or_run (command.Run file workers limits show) q r = q
-text_or_run (command.Code file) q r = r
-text_or_run (command.Sets file) q r = r
-text_or_run (command.Format file) q r = r
 text_or_run (command.Witness file workers limits) q r = q
 text_or_run (command.Gen size workers) q r = q
-text_or_run (command.Replay file journal limits view) q r = r
-text_or_run (command.Build file) q r = r
-text_or_run (command.Exec file workers limits) q r = r
+text_or_run _ _ r = r
 
 -- a command that writes a code file answers from a text alone
 pub build_text : (d : Command) → asks_build d → asks_text d
-build_text (command.Check file) q = tt
 build_text (command.Run file workers limits show) q = q
-build_text (command.Code file) q = tt
-build_text (command.Sets file) q = tt
-build_text (command.Format file) q = tt
 build_text (command.Witness file workers limits) q = q
 build_text (command.Gen size workers) q = q
 build_text (command.Replay file journal limits view) q = q
-build_text (command.Build file) q = tt
 build_text (command.Exec file workers limits) q = q
+build_text _ _ = tt
 
 -- what it refuses, and of what it makes something
 pub build_keeps : (d : Command) (text : List ℕ) → asks_build d → IsAcceptedText text → AcceptedFor d text
-build_keeps (command.Check file) text q k = k
-build_keeps (command.Run file workers limits show) text q k = k
-build_keeps (command.Code file) text q k = k
 build_keeps (command.Sets file) text q k = absurd q
 build_keeps (command.Format file) text q k = absurd q
-build_keeps (command.Witness file workers limits) text q k = k
-build_keeps (command.Gen size workers) text q k = k
-build_keeps (command.Replay file journal limits view) text q k = k
-build_keeps (command.Build file) text q k = k
 build_keeps (command.Exec file workers limits) text q k = absurd q
+build_keeps _ _ _ k = k
 
 -- a code file is not too long
 pub build_short : (l : Laws) (d : Command) (text out line : List ℕ) → asks_build d → Makes d text out line
     → HasLongCode text → ⊥
-build_short l (command.Check file) text out line q m h = q
-build_short l (command.Run file workers limits show) text out line q m h = q
-build_short l (command.Code file) text out line q m h = q
-build_short l (command.Sets file) text out line q m h = q
-build_short l (command.Format file) text out line q m h = q
-build_short l (command.Witness file workers limits) text out line q m h = q
-build_short l (command.Gen size workers) text out line q m h = q
-build_short l (command.Replay file journal limits view) text out line q m h = q
-build_short l (command.Exec file workers limits) text out line q m h = q
 build_short l (command.Build file) text out line q m (other, has, long) = apart out other
     (l.code_text text out other m.0.0 has) m.0.1 long
   where
     apart : (a b : List ℕ) → a ≡ b → length a ≤ 67108864 → 67108864 < length b → ⊥
     apart a b e h k = let i : length a ≡ length b = ap length e in omega arith
+build_short _ _ _ _ _ q _ _ = q

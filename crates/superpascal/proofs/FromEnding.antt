@@ -71,19 +71,10 @@ module _ (f : Files) (s : Stream) (reports : Reports) (w : Option Command) (a : 
   words_due h e.Done k = absurd (ended_asked h k)
   words_due h e.Deadlock k = absurd (ended_asked h k)
   words_due h e.Fault k = absurd (ended_asked h k)
-  words_due h e.NoEnd k = absurd (no_command _ _ k.1 h)
-  words_due h e.LongJournal k = absurd (no_command _ _ k.1 h)
-  words_due h (e.BadJournal n) k = absurd (no_command _ _ k.1 h)
-  words_due h (e.Unfit n) k = absurd (no_command _ _ k.1 h)
-  words_due h e.LongCode k = absurd (no_command _ _ k.1 h)
-  words_due h e.LongFile k = absurd (no_command _ _ k.1 h)
-  words_due h (e.BadCode n) k = absurd (no_command _ _ k.1 h)
-  words_due h (e.Rejected v i) k = absurd (no_command _ _ k.1 h)
-  words_due h e.Accepted k = absurd (no_command _ _ k.1 h)
-  words_due h (e.Refused r) k = absurd (no_command _ _ k.1 h)
   words_due h e.ReadFault k = inr (omega arith, omega arith)
   words_due h e.TooLong k = inr (omega arith, omega arith)
   words_due h e.OutOfMemory k = inr (omega arith, omega arith)
+  words_due h _ k = absurd (no_command _ _ k.1 h)
 
   pub read_fails : (x : Ending) → Why x → status_of x ≡ 5 → (d : Command) × (w ≡ Some d)
       × (IsNotLoaded f d a ⊎ IsNotRead f s d a)
@@ -253,12 +244,8 @@ module _ (f : Files) (s : Stream) (reports : Reports) (w : Option Command) (a : 
 
     pub long_code_due : asks_build d → Laws → HasLongCode text → (x : Ending) → Why x → Due_status x 10
     long_code_due q l m e.Done k = absurd (not_ended (build_text d q) k)
-    long_code_due q l m e.NoEnd k = absurd (not_followed_by (build_text d q) k.0 k.1)
     long_code_due q l m e.Deadlock k = absurd (not_ended (build_text d q) k)
     long_code_due q l m e.Fault k = absurd (not_ended (build_text d q) k)
-    long_code_due q l m e.LongJournal k = absurd (not_followed_by (build_text d q) k.0 k.1)
-    long_code_due q l m (e.BadJournal n) k = absurd (not_followed_by (build_text d q) k.0 k.1)
-    long_code_due q l m (e.Unfit n) k = absurd (not_followed_by (build_text d q) k.0 k.1)
     long_code_due q l m e.LongCode k = inl refl
     long_code_due q l m e.LongFile k = inl refl
     long_code_due q l m (e.BadCode n) k = inl refl
@@ -270,6 +257,7 @@ module _ (f : Files) (s : Stream) (reports : Reports) (w : Option Command) (a : 
     long_code_due q l m e.ReadFault k = inr (omega arith, omega arith)
     long_code_due q l m e.TooLong k = inr (omega arith, omega arith)
     long_code_due q l m e.OutOfMemory k = inr (omega arith, omega arith)
+    long_code_due q _ _ _ k = absurd (not_followed_by (build_text d q) k.0 k.1)
 
     pub made_due : asks_text d → Laws → ((out line : List ℕ) × Makes d text out line) → (x : Ending) → Why x
         → Due_status x 0
@@ -403,10 +391,6 @@ module _ (f : Files) (s : Stream) (reports : Reports) (w : Option Command) (a : 
     long_due e.Done k = absurd (ended_not k)
     long_due e.Deadlock k = absurd (ended_not k)
     long_due e.Fault k = absurd (ended_not k)
-    long_due e.NoEnd k = absurd (followed_not k.0 k.1)
-    long_due e.LongJournal k = absurd (followed_not k.0 k.1)
-    long_due (e.BadJournal n) k = absurd (followed_not k.0 k.1)
-    long_due (e.Unfit n) k = absurd (followed_not k.0 k.1)
     long_due e.LongFile k = absurd (executed_not k.0 k.1)
     long_due (e.BadCode n) k = absurd (executed_not k.0 k.1)
     long_due (e.Rejected r n) k = absurd (executed_not k.0 k.1)
@@ -419,6 +403,7 @@ module _ (f : Files) (s : Stream) (reports : Reports) (w : Option Command) (a : 
     long_due e.ReadFault k = (omega arith, omega arith)
     long_due e.TooLong k = (omega arith, omega arith)
     long_due e.OutOfMemory k = (omega arith, omega arith)
+    long_due _ k = absurd (followed_not k.0 k.1)
 
   -- what comes of a journal and a text that is kept
   pub data ReplayCause (b : Followed) (x : Ending) : Type 0 where

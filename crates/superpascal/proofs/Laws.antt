@@ -1,5 +1,5 @@
 -- What the phases and the commands make of a text is one thing. So a text has one answer.
-use Rattle.std.proofs.Common.{◌≡◌, inl, inr, ℕ, ◌<◌, ◌≤◌, List, length, refl, sym, ◌∙◌, ap, subst, arith}
+use Rattle.std.proofs.Common.{◌≡◌, inl, inr, ℕ, ◌<◌, ◌≤◌, List, length, Some, refl, sym, ◌∙◌, ap, subst, arith}
 use Rattle.sp_base.specs.declared.halt.Refusal.{Refusal}
 use Rattle.sp_base.specs.declared.rule.Rule.TheVariants as rule
 use Rattle.sp_code.specs.Lengths.{tree_length}
@@ -25,9 +25,9 @@ use Rattle.sp_varsets.specs.AreSets.{AreSets}
 use Rattle.sp_varsets.specs.declared.sets.Sets.{Sets}
 use Rattle.sp_words.specs.declared.command.Command.{Command}
 use Rattle.sp_words.specs.declared.command.Command.TheVariants as command
-use Rattle.superpascal.specs.Texts.{FirstBrokenFor, FirstBroken, HasCodeText, HasSets, IsAbout, IsDisjointText}
+use Rattle.superpascal.specs.Texts.{FirstBrokenFor, FirstBroken, HasCodeText, HasSets, IsDisjointText}
 use Rattle.superpascal.specs.Texts.{AcceptedFor, IsAcceptedText}
-use Rattle.superpascal.specs.Texts.{Makes, asks_all, asks_text}
+use Rattle.superpascal.specs.Texts.{Makes, asks_all, asks_execution, asks_text, file_of}
 
 pub record Laws : Type 0 where
   -- by characters, grammar, names and types
@@ -78,29 +78,17 @@ module _ (l : Laws) (text : List ℕ) where
       too_many m n e h k = omega arith
 
   pub one_break : (d : Command) (a b : Refusal) → FirstBrokenFor d text a → FirstBrokenFor d text b → a ≡ b
-  one_break (command.Check file) a b x y = one_rule a b x y
-  one_break (command.Run file workers limits show) a b x y = one_rule a b x y
-  one_break (command.Code file) a b x y = one_rule a b x y
   one_break (command.Sets file) a b x y = l.first text a b x y
   one_break (command.Format file) a b x y = l.no_layout text a b x y
-  one_break (command.Witness file workers limits) a b x y = one_rule a b x y
-  one_break (command.Gen size workers) a b x y = one_rule a b x y
-  one_break (command.Replay file journal limits view) a b x y = one_rule a b x y
-  one_break (command.Build file) a b x y = one_rule a b x y
   one_break (command.Exec file workers limits) a b x y = absurd x
+  one_break _ a b x y = one_rule a b x y
 
   -- a command that refuses the text for no rule refuses it for none
   pub keeps_or : (d : Command) (r : Refusal) → AcceptedFor d text → FirstBrokenFor d text r → ⊥
-  keeps_or (command.Check file) r k x = kept_or r k x
-  keeps_or (command.Run file workers limits show) r k x = kept_or r k x
-  keeps_or (command.Code file) r k x = kept_or r k x
   keeps_or (command.Sets file) r k x = l.not_both text k.0 r k.1 x
   keeps_or (command.Format file) r k x = l.layout_or text k.0 r k.1 x
-  keeps_or (command.Witness file workers limits) r k x = kept_or r k x
-  keeps_or (command.Gen size workers) r k x = kept_or r k x
-  keeps_or (command.Replay file journal limits view) r k x = kept_or r k x
-  keeps_or (command.Build file) r k x = kept_or r k x
   keeps_or (command.Exec file workers limits) r k x = x
+  keeps_or _ r k x = kept_or r k x
 
   one_sets : (a b : List ℕ) → HasSets text a → HasSets text b → a ≡ b
   one_sets a b (p, h, s, are, x) (q, k, t, also, y) =
@@ -110,15 +98,11 @@ module _ (l : Laws) (text : List ℕ) where
 
   pub made_once : (d : Command) (a b n m : List ℕ) → Makes d text a n → Makes d text b m → (a ≡ b) × (n ≡ m)
   made_once (command.Check file) a b n m x y = (x.1 ∙ sym y.1, x.2 ∙ sym y.2)
-  made_once (command.Run file workers limits show) a b n m x y = absurd x
   made_once (command.Code file) a b n m x y = (l.listing text a b x.0 y.0, x.1 ∙ sym y.1)
   made_once (command.Sets file) a b n m x y = (one_sets a b x.0 y.0, x.1 ∙ sym y.1)
   made_once (command.Format file) a b n m x y = (l.layout text a b x.0 y.0, x.1 ∙ sym y.1)
-  made_once (command.Witness file workers limits) a b n m x y = absurd x
-  made_once (command.Gen size workers) a b n m x y = absurd x
-  made_once (command.Replay file journal limits view) a b n m x y = absurd x
   made_once (command.Build file) a b n m x y = (l.code_text text a b x.0.0 y.0.0, x.1 ∙ sym y.1)
-  made_once (command.Exec file workers limits) a b n m x y = absurd x
+  made_once _ _ _ _ _ x _ = absurd x
 
   -- a text that is kept is disjoint
   pub disjoint_text : IsAcceptedText text → IsDisjointText text
@@ -132,54 +116,37 @@ code_text_keeps text out h = (h.0, h.1, h.2)
 -- of a text of which the command makes something it refuses none
 pub made_keeps : (d : Command) (text out line : List ℕ) → Makes d text out line → AcceptedFor d text
 made_keeps (command.Check file) text out line m = m.0
-made_keeps (command.Run file workers limits show) text out line m = absurd m
 made_keeps (command.Code file) text out line m = (m.0.0, m.0.1, m.0.2)
 made_keeps (command.Sets file) text out line m = (m.0.0, m.0.1)
 made_keeps (command.Format file) text out line m = (out, m.0)
-made_keeps (command.Witness file workers limits) text out line m = absurd m
-made_keeps (command.Gen size workers) text out line m = absurd m
-made_keeps (command.Replay file journal limits view) text out line m = absurd m
 made_keeps (command.Build file) text out line m = code_text_keeps text out m.0.0
-made_keeps (command.Exec file workers limits) text out line m = absurd m
+made_keeps _ _ _ _ m = absurd m
 
 pub made_asks : (d : Command) (text out line : List ℕ) → Makes d text out line → asks_text d
-made_asks (command.Check file) text out line m = tt
 made_asks (command.Run file workers limits show) text out line m = m
-made_asks (command.Code file) text out line m = tt
-made_asks (command.Sets file) text out line m = tt
-made_asks (command.Format file) text out line m = tt
 made_asks (command.Witness file workers limits) text out line m = m
 made_asks (command.Gen size workers) text out line m = m
 made_asks (command.Replay file journal limits view) text out line m = m
-made_asks (command.Build file) text out line m = tt
 made_asks (command.Exec file workers limits) text out line m = m
+made_asks _ _ _ _ _ = tt
 
 pub keeps_all : (d : Command) (text : List ℕ) → asks_all d → AcceptedFor d text → IsAcceptedText text
-keeps_all (command.Check file) text q k = k
-keeps_all (command.Run file workers limits show) text q k = k
-keeps_all (command.Code file) text q k = k
 keeps_all (command.Sets file) text q k = absurd q
 keeps_all (command.Format file) text q k = absurd q
-keeps_all (command.Witness file workers limits) text q k = k
-keeps_all (command.Gen size workers) text q k = k
-keeps_all (command.Replay file journal limits view) text q k = k
-keeps_all (command.Build file) text q k = k
 keeps_all (command.Exec file workers limits) text q k = absurd q
+keeps_all _ _ _ k = k
+
+-- the command loads a text under this name first, and no code file
+abbrev pub IsAbout : Command → List ℕ → Type 0
+IsAbout d name = (file_of d ≡ Some name) × (asks_execution d → ⊥)
 
 -- every command that is about a text refuses one that is longer than a text may be
 pub long_breaks : (d : Command) (name all : List ℕ) → IsAbout d name → 1048576 < length all
     → FirstBrokenFor d all (record { rule = rule.L1; at = start })
-long_breaks (command.Check file) name all about h = inl (inl (inl (inl (too_long all start refl h))))
-long_breaks (command.Run file workers limits show) name all about h = inl (inl (inl (inl (too_long all start refl h))))
-long_breaks (command.Code file) name all about h = inl (inl (inl (inl (too_long all start refl h))))
 long_breaks (command.Sets file) name all about h = inl (inl (too_long all start refl h))
 long_breaks (command.Format file) name all about h = inl (inl (too_long all start refl h))
-long_breaks (command.Witness file workers limits) name all about h = inl (inl (inl (inl (too_long all start refl h))))
-long_breaks (command.Gen size workers) name all about h = inl (inl (inl (inl (too_long all start refl h))))
-long_breaks (command.Replay file journal limits view) name all about h =
-    inl (inl (inl (inl (too_long all start refl h))))
-long_breaks (command.Build file) name all about h = inl (inl (inl (inl (too_long all start refl h))))
-long_breaks (command.Exec file workers limits) name all about h = absurd about
+long_breaks (command.Exec file workers limits) name all about h = absurd (about.1 tt)
+long_breaks _ _ all _ h = inl (inl (inl (inl (too_long all start refl h))))
 
 pub laws : ((text : List ℕ) (p q : c.Program) → IsChecked text p → IsChecked text q → p ≡ q)
     → ((text : List ℕ) (a b : Refusal) → FirstBrokenUpToTypes text a → FirstBrokenUpToTypes text b → a ≡ b)

@@ -1,16 +1,16 @@
-pub mod Forms
-pub mod FromEnding
-pub mod Calling
-pub mod Laws
-pub mod Parts
-pub mod Marking
-pub mod Replaying
-pub mod RunCommands
-pub mod Running
-pub mod Tellable
-pub mod Why
-pub mod CodeFiles
-pub mod Executing
-pub mod Promising
-pub mod Executed
-pub mod RunningFiles
+mod Forms
+mod FromEnding
+mod Calling
+mod Laws
+mod Parts
+mod Marking
+mod Replaying
+mod RunCommands
+mod Running
+mod Tellable
+mod Why
+mod CodeFiles
+mod Executing
+mod Promising
+mod Executed
+mod RunningFiles

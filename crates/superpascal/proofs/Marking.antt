@@ -13,7 +13,6 @@ use Rattle.sp_lines.specs.Marks.{marks}
 use Rattle.sp_lines.specs.Telling.{lasts_after}
 use Rattle.sp_lines.specs.declared.mark.Mark.{Mark}
 use Rattle.sp_replay.specs.Tracing.{TracedTo, never}
-use Rattle.sp_replay.specs.declared.replayer.Replayed.{Replayed}
 use Rattle.sp_replay.specs.declared.tracing.Traced.{Traced}
 use Rattle.sp_shown.specs.Constants.{by_kind, constants_of}
 use Rattle.sp_tree.specs.CheckedOf.{program_of}
@@ -30,7 +29,6 @@ use Rattle.superpascal.specs.declared.teller.Teller.{Teller}
 use Rattle.superpascal.specs.declared.teller.Teller.TheVariants as teller
 use Rattle.superpascal.specs.Answering.{HasCode}
 use Rattle.superpascal.specs.Causes.{Files, IsTold}
-use Rattle.superpascal.specs.Replays.{IsReplayOf}
 use Rattle.superpascal.specs.Steps.{AccountsFor, GivesMarked, HasSymbols, HasTeller, MarksTo}
 use Rattle.superpascal.specs.Texts.{FirstBroken}
 use Rattle.superpascal.specs.Traces.{IsStateOf, IsToldOf, IsTraceOf}
@@ -72,13 +70,12 @@ marked_symbols text m h = record {
 module _ (text input : List ℕ) (limits : Limits) (j : Journal) where
   -- what the program wrote
   pub output_told : (tree : c.Program) (v : View) (t : Teller) → t ≡ teller.Output → HasTeller text tree v t
-      → (r : Replayed) → IsReplayOf text input limits j r
-      → AccountsFor v text input limits j (Ok (record { end = r.end; text = r.output }))
-  output_told tree v t i h r m = go v (subst (HasTeller text tree v) i h)
+      → (r : Result Account Ending) → AccountsFor view.Output text input limits j r
+      → AccountsFor v text input limits j r
+  output_told tree v t i h r told = go v (subst (HasTeller text tree v) i h)
     where
-      go : (v : View) → HasTeller text tree v teller.Output
-          → AccountsFor v text input limits j (Ok (record { end = r.end; text = r.output }))
-      go view.Output k = (r, m, refl, refl)
+      go : (v : View) → HasTeller text tree v teller.Output → AccountsFor v text input limits j r
+      go view.Output k = told
       go view.Entries k = absurd k
       go view.State k = absurd k
 

@@ -2,7 +2,7 @@
 -- `run` and `witness`, and of `gen`.
 use Rattle.std.proofs.Common.{◌≡◌, inl, inr, ℕ, ◌<◌, List, [], length, Option, Some, None, Result, Ok, Err}
 use Rattle.std.proofs.Common.{refl, sym, ◌∙◌, ap, subst}
-use Rattle.std.specs.Prelude.{IfSome, ◌↔◌}
+use Rattle.std.specs.Prelude.{IfSome, ◌↔◌, option_and_then}
 use Rattle.sp_base.specs.declared.halt.Halt.{Halt}
 use Rattle.sp_base.specs.declared.halt.Halt.TheVariants as halt
 use Rattle.sp_base.specs.declared.halt.Refusal.{Refusal}
@@ -34,10 +34,10 @@ use Rattle.superpascal.specs.Steps.{AnswersCommand, AnswersText, AnswersWords, C
 use Rattle.superpascal.specs.Steps.{GivesInput}
 use Rattle.superpascal.specs.Steps.{HasInput, IsKeptBack, IsSaidOf, IsUnready, ReadsCommand, TellsGenerated, TellsRun}
 use Rattle.superpascal.specs.Steps.{TellsSets, TextCause, length_refusal}
-use Rattle.superpascal.specs.Texts.{FirstBrokenFor, FirstBroken, CanRead, HasCodeText, IsAbout, IsAcceptedText, Makes}
+use Rattle.superpascal.specs.Texts.{FirstBrokenFor, FirstBroken, CanRead, HasCodeText, IsAcceptedText, Makes}
 use Rattle.superpascal.specs.Texts.{command_of_run, text_of}
 use Rattle.superpascal.proofs.RunCommands.{asked_about, asked_breaks, asked_reads}
-use Rattle.superpascal.proofs.Laws.{long_breaks}
+use Rattle.superpascal.proofs.Laws.{IsAbout, long_breaks}
 
 -- ---- what is told
 
@@ -88,7 +88,11 @@ compiled_code text r code i k = (
 
 pub unready : (f : Files) (name : List ℕ) (x : Ending) → IsKeptBack f name 1048576 (e.Refused length_refusal) x
     → IsUnready f name x
-unready f name x (inl h) = inl (length_refusal, h.0, long_broken (command.Check name) name (f.held name) refl h.1)
+unready f name x (inl h) = inl (
+  length_refusal,
+  h.0,
+  long_broken (command.Check name) name (f.held name) (refl, λ k. k) h.1,
+)
 unready f name x (inr h) = inr h
 
 pub given_code : (f : Files) (name text : List ℕ) → IsTold (f.held name) text → (r : Result Parts Ending)
@@ -105,16 +109,8 @@ keeps_code text tree code h = (tree, h.has.accepted, h.has.short)
 
 -- the text of a command is the one under the name that it is about
 held_of : (f : Files) (d : Command) (name : List ℕ) → IsAbout d name → text_of f.held d ≡ f.held name
-held_of f (command.Check file) name h = ap f.held h
-held_of f (command.Run file workers limits show) name h = ap f.held h
-held_of f (command.Code file) name h = ap f.held h
-held_of f (command.Sets file) name h = ap f.held h
-held_of f (command.Format file) name h = ap f.held h
-held_of f (command.Witness file workers limits) name h = ap f.held h
-held_of f (command.Gen size workers) name h = absurd h
-held_of f (command.Replay file journal limits view) name h = ap f.held h
-held_of f (command.Build file) name h = ap f.held h
-held_of f (command.Exec file workers limits) name h = absurd h
+held_of f (command.Gen size workers) name h = absurd (cc h.0)
+held_of f _ _ h = ap (option_and_then f.held) h.0
 
 module _ (f : Files) (d : Command) (name : List ℕ) (about : IsAbout d name) where
   to_text : (P : Option (List ℕ) → Type 0) → P (f.held name) → P (text_of f.held d)
@@ -129,7 +125,8 @@ module _ (f : Files) (d : Command) (name : List ℕ) (about : IsAbout d name) wh
   })))
 
   fails : (x : Ending) → x ≡ e.ReadFault → Rose (f.before name) (f.after name) → TextCause f d (ending_answer x)
-  fails x h r = inr (inr (inr (inl (record { name = name; loads = inl about; rose = r; answer = ap ending_answer h }))))
+  fails x h r = inr (inr (inr (inl
+      (record { name = name; loads = inl about.0; rose = r; answer = ap ending_answer h }))))
 
   -- a text that is not loaded
   pub text_kept_back : (x : Ending) → IsKeptBack f name 1048576 (e.Refused length_refusal) x
@@ -166,17 +163,17 @@ module _ (f : Files) (d : Command) (name : List ℕ) (about : IsAbout d name) wh
 -- a text that is not accepted, or of which no sets, or no layout, are made
 pub check_halted : (f : Files) (file text : List ℕ) → IsTold (f.held file) text → (h : Halt) → Accepts text (Err h)
     → TextCause f (command.Check file) (ending_answer (ending_of_halt h))
-check_halted f file text t (halt.Refused r) b = text_refused f (command.Check file) file refl text t r b
+check_halted f file text t (halt.Refused r) b = text_refused f (command.Check file) file (refl, λ k. k) text t r b
 check_halted f file text t halt.Memory b = inr (inr (inr (inr refl)))
 
 pub sets_halted : (f : Files) (file text : List ℕ) → IsTold (f.held file) text → (h : Halt) → TellsSets text (Err h)
     → TextCause f (command.Sets file) (ending_answer (ending_of_halt h))
-sets_halted f file text t (halt.Refused r) b = text_refused f (command.Sets file) file refl text t r b
+sets_halted f file text t (halt.Refused r) b = text_refused f (command.Sets file) file (refl, λ k. k) text t r b
 sets_halted f file text t halt.Memory b = inr (inr (inr (inr refl)))
 
 pub layout_halted : (f : Files) (file text : List ℕ) → IsTold (f.held file) text → (h : Halt) → Formats text (Err h)
     → TextCause f (command.Format file) (ending_answer (ending_of_halt h))
-layout_halted f file text t (halt.Refused r) b = text_refused f (command.Format file) file refl text t r b
+layout_halted f file text t (halt.Refused r) b = text_refused f (command.Format file) file (refl, λ k. k) text t r b
 layout_halted f file text t halt.Memory b = inr (inr (inr (inr refl)))
 
 -- the text of the code of a text

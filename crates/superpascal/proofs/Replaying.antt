@@ -102,7 +102,7 @@ module _ (f : Files) (s : Stream) (reports : Reports) (b : Followed) where
   -- no code comes of the text
   pub replay_unready : IsUntouched s → (x : Ending) → IsUnready f b.file x → Due_replay (ending_answer x)
   replay_unready u x h = cause_of_text f s reports (command_of_replay b) u (ending_answer x)
-      (text_unready f (command_of_replay b) b.file refl (λ text r k. k) x h)
+      (text_unready f (command_of_replay b) b.file (refl, λ k. k) (λ text r k. k) x h)
 
   module _ (text : List ℕ) (t : IsTold (f.held b.file) text) (tree : c.Program) (code : Parts)
       (has : HasCode text tree code) where
@@ -117,7 +117,7 @@ module _ (f : Files) (s : Stream) (reports : Reports) (b : Followed) where
     )
     replay_unread u x (inl (inr (inl h))) = (
       by_library
-          (record { name = b.journal; loads = inr (inl (refl, kept_is)); rose = h.1; answer = ap ending_answer h.0 }),
+          (record { name = b.journal; loads = inr (refl, kept_is); rose = h.1; answer = ap ending_answer h.0 }),
       inl u,
     )
     replay_unread u x (inl (inr (inr h))) = (by_memory (ap ending_answer h), inl u)

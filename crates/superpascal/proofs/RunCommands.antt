@@ -12,9 +12,10 @@ use Rattle.superpascal.specs.declared.asked.Executed.{Executed}
 use Rattle.superpascal.specs.declared.asked.Followed.{Followed}
 use Rattle.superpascal.specs.declared.telling.Telling.{Telling}
 use Rattle.superpascal.specs.declared.telling.Telling.TheVariants as told
-use Rattle.superpascal.specs.Texts.{FirstBrokenFor, FirstBroken, CanRead, IsAbout, AcceptedFor, IsAcceptedText}
+use Rattle.superpascal.specs.Texts.{FirstBrokenFor, FirstBroken, CanRead, AcceptedFor, IsAcceptedText}
 use Rattle.superpascal.specs.Texts.{Makes, asked_run, command_of_run, asks_build, command_for_run, asks_text}
 use Rattle.superpascal.specs.Texts.{command_of_execution, command_of_replay, text_of}
+use Rattle.superpascal.proofs.Laws.{IsAbout}
 
 -- what holds of `run` and of `witness` holds of the command
 pub either_command : (P : Command → Type 0) (b : Asked)
@@ -30,7 +31,7 @@ pub asked_text : (held : List ℕ → Option (List ℕ)) (b : Asked) → text_of
 asked_text held b = either_command (λ d. text_of held d ≡ held b.file) b (λ show. refl) refl
 
 pub asked_about : (b : Asked) → IsAbout (command_of_run b) b.file
-asked_about b = either_command (λ d. IsAbout d b.file) b (λ show. refl) refl
+asked_about b = either_command (λ d. IsAbout d b.file) b (λ show. (refl, λ k. k)) (refl, λ k. k)
 
 pub asked_reads : (held : List ℕ → Option (List ℕ)) (b : Asked) → IfSome (held b.file) IsAcceptedText
     → CanRead held (command_of_run b)

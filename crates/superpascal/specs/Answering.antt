@@ -22,23 +22,12 @@ use Rattle.superpascal.specs.Runs.{HasTree}
 
 -- the line of an ending, where it is not the same for every text; else nothing
 abbrev pub own_line : Ending → List ℕ
-own_line e.Done = []
-own_line e.Deadlock = []
-own_line e.Fault = []
-own_line e.NoEnd = []
-own_line e.Accepted = []
 own_line (e.Refused r) = line_of (e.Refused r)
-own_line e.BadWords = []
-own_line e.ReadFault = []
-own_line e.TooLong = []
-own_line e.OutOfMemory = []
-own_line e.LongJournal = []
 own_line (e.BadJournal n) = line_of (e.BadJournal n)
 own_line (e.Unfit n) = line_of (e.Unfit n)
-own_line e.LongCode = []
-own_line e.LongFile = []
 own_line (e.BadCode n) = line_of (e.BadCode n)
 own_line (e.Rejected v i) = line_of (e.Rejected v i)
+own_line _ = []
 
 -- the answer to what ends so without an output
 abbrev pub ending_answer : Ending → Answer

@@ -38,18 +38,7 @@ has_output e.Deadlock = true
 has_output e.Fault = true
 has_output e.NoEnd = true
 has_output e.Accepted = true
-has_output (e.Refused r) = false
-has_output e.BadWords = false
-has_output e.ReadFault = false
-has_output e.TooLong = false
-has_output e.OutOfMemory = false
-has_output e.LongJournal = false
-has_output (e.BadJournal n) = false
-has_output (e.Unfit n) = false
-has_output e.LongCode = false
-has_output e.LongFile = false
-has_output (e.BadCode n) = false
-has_output (e.Rejected v i) = false
+has_output _ = false
 
 -- the line of a call that has no output
 abbrev pub line_of : Ending → List ℕ
@@ -65,31 +54,18 @@ line_of e.LongCode = codes "code file too long\n"
 line_of e.LongFile = codes "code file too long\n"
 line_of (e.BadCode n) = codes "bad code " ++ decimal n ++ codes "\n"
 line_of (e.Rejected v i) = codes "rejected V" ++ decimal (number (rule_of v)) ++ codes " " ++ decimal i ++ codes "\n"
-line_of e.Done = []
-line_of e.Deadlock = []
-line_of e.Fault = []
-line_of e.NoEnd = []
-line_of e.Accepted = []
+line_of _ = []
 
 -- the notes: those of the run, of the refusal, of the journal or of the code, or a line that is the same for every text
 abbrev pub notes_by : Ending → List ℕ → List ℕ
-notes_by e.Done notes = notes
-notes_by e.Deadlock notes = notes
-notes_by e.Fault notes = notes
-notes_by e.NoEnd notes = notes
-notes_by e.Accepted notes = notes
-notes_by (e.Refused r) notes = notes
 notes_by e.BadWords notes = line_of e.BadWords
 notes_by e.ReadFault notes = line_of e.ReadFault
 notes_by e.TooLong notes = line_of e.TooLong
 notes_by e.OutOfMemory notes = line_of e.OutOfMemory
 notes_by e.LongJournal notes = line_of e.LongJournal
-notes_by (e.BadJournal n) notes = notes
-notes_by (e.Unfit n) notes = notes
 notes_by e.LongCode notes = line_of e.LongCode
 notes_by e.LongFile notes = line_of e.LongFile
-notes_by (e.BadCode n) notes = notes
-notes_by (e.Rejected v i) notes = notes
+notes_by _ notes = notes
 
 abbrev pub notes_of : Answer → List ℕ
 notes_of a = notes_by a.ending a.notes

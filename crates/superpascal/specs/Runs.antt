@@ -55,12 +55,7 @@ Reports = Show → List Entry → List ℕ
 
 abbrev pub is_journal : Show → Bool
 is_journal show.Journal = true
-is_journal show.End = false
-is_journal show.Timeline = false
-is_journal show.Census = false
-is_journal show.Tree = false
-is_journal show.Waiting = false
-is_journal show.All = false
+is_journal _ = false
 
 -- the lines of the end and of the verdict
 abbrev pub end_lines : Ran → List ℕ

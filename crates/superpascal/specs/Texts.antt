@@ -1,9 +1,9 @@
 -- Some of this belongs to what the program promises (docs/promise.txt).
 -- What each command finds in a text: the first rule for which it refuses the text (`FirstBrokenFor`), or none
--- (`AcceptedFor`), or
--- what it makes of it (`Makes`). The contracts of `texts` promise it, and the causes, the headline and the writing cite
--- it.
-use Rattle.std.specs.Prelude.{◌≡◌, ◌⊎◌, ℕ, ◌<◌, ◌≤◌, List, [], Option, Some, IfSome, codes, length}
+-- (`AcceptedFor`), or what it makes of it (`Makes`). The contracts of `texts` promise it, and the causes, the headline
+-- and the writing cite it.
+use Rattle.std.specs.Prelude.{◌≡◌, ◌⊎◌, ℕ, ◌<◌, ◌≤◌, List, [], Option, Some, None, IfSome, codes, length}
+use Rattle.std.specs.Prelude.{option_and_then}
 use Rattle.sp_base.specs.declared.halt.Refusal.{Refusal}
 use Rattle.sp_base.specs.declared.limits.Limits.{Limits}
 use Rattle.sp_code.specs.Lengths.{tree_length}
@@ -98,155 +98,78 @@ command_of_replay b = command.Replay b.file b.journal b.limits b.view
 abbrev pub command_of_execution : Executed → Command
 command_of_execution b = command.Exec b.file b.workers b.limits
 
--- the text that a command is about, or its code file, where the library tells it, or the text that it makes itself
-abbrev pub text_of : (List ℕ → Option (List ℕ)) → Command → Option (List ℕ)
-text_of held (command.Check file) = held file
-text_of held (command.Run file workers limits show) = held file
-text_of held (command.Code file) = held file
-text_of held (command.Sets file) = held file
-text_of held (command.Format file) = held file
-text_of held (command.Witness file workers limits) = held file
-text_of held (command.Gen size workers) = Some (generated_text size)
-text_of held (command.Replay file journal limits view) = held file
-text_of held (command.Build file) = held file
-text_of held (command.Exec file workers limits) = held file
+-- the file that a command loads first: its text, or its code file
+abbrev pub file_of : Command → Option (List ℕ)
+file_of (command.Check file) = Some file
+file_of (command.Run file workers limits show) = Some file
+file_of (command.Code file) = Some file
+file_of (command.Sets file) = Some file
+file_of (command.Format file) = Some file
+file_of (command.Witness file workers limits) = Some file
+file_of (command.Gen size workers) = None
+file_of (command.Replay file journal limits view) = Some file
+file_of (command.Build file) = Some file
+file_of (command.Exec file workers limits) = Some file
 
--- the command is about the text under this name
-abbrev pub IsAbout : Command → List ℕ → Type 0
-IsAbout (command.Check file) name = file ≡ name
-IsAbout (command.Run file workers limits show) name = file ≡ name
-IsAbout (command.Code file) name = file ≡ name
-IsAbout (command.Sets file) name = file ≡ name
-IsAbout (command.Format file) name = file ≡ name
-IsAbout (command.Witness file workers limits) name = file ≡ name
-IsAbout (command.Gen size workers) name = ⊥
-IsAbout (command.Replay file journal limits view) name = file ≡ name
-IsAbout (command.Build file) name = file ≡ name
-IsAbout (command.Exec file workers limits) name = ⊥
+-- what that file holds, where the library tells it, or the text that the command makes itself
+abbrev pub text_of : (List ℕ → Option (List ℕ)) → Command → Option (List ℕ)
+text_of held (command.Gen size workers) = Some (generated_text size)
+text_of held c = option_and_then held (file_of c)
 
 -- the command follows the journal under this name
 abbrev pub FollowsUnder : Command → List ℕ → Type 0
-FollowsUnder (command.Check file) name = ⊥
-FollowsUnder (command.Run file workers limits show) name = ⊥
-FollowsUnder (command.Code file) name = ⊥
-FollowsUnder (command.Sets file) name = ⊥
-FollowsUnder (command.Format file) name = ⊥
-FollowsUnder (command.Witness file workers limits) name = ⊥
-FollowsUnder (command.Gen size workers) name = ⊥
 FollowsUnder (command.Replay file journal limits view) name = journal ≡ name
-FollowsUnder (command.Build file) name = ⊥
-FollowsUnder (command.Exec file workers limits) name = ⊥
+FollowsUnder _ _ = ⊥
 
--- the command runs the code file under this name
-abbrev pub ExecutesUnder : Command → List ℕ → Type 0
-ExecutesUnder (command.Check file) name = ⊥
-ExecutesUnder (command.Run file workers limits show) name = ⊥
-ExecutesUnder (command.Code file) name = ⊥
-ExecutesUnder (command.Sets file) name = ⊥
-ExecutesUnder (command.Format file) name = ⊥
-ExecutesUnder (command.Witness file workers limits) name = ⊥
-ExecutesUnder (command.Gen size workers) name = ⊥
-ExecutesUnder (command.Replay file journal limits view) name = ⊥
-ExecutesUnder (command.Build file) name = ⊥
-ExecutesUnder (command.Exec file workers limits) name = file ≡ name
-
--- the command loads what is held under this name: its text, or the journal, where its text breaks no rule, or its code
--- file
+-- the command loads what is held under this name: its file, or its journal, where its text breaks no rule
 abbrev pub LoadsText : (List ℕ → Option (List ℕ)) → Command → List ℕ → Type 0
-LoadsText held c name = IsAbout c name ⊎ ((FollowsUnder c name × IfSome (text_of held c) IsAcceptedText)
-    ⊎ ExecutesUnder c name)
+LoadsText held c name = (file_of c ≡ Some name) ⊎ (FollowsUnder c name × IfSome (text_of held c) IsAcceptedText)
 
 -- the first rule for which the command refuses the text: of all rules, for `sets` of those of characters, grammar,
 -- names and types, for `format` of those that it goes through; a code file has no text that could break one
 abbrev pub FirstBrokenFor : Command → List ℕ → Refusal → Type 0
-FirstBrokenFor (command.Check file) text r = FirstBroken text r
-FirstBrokenFor (command.Run file workers limits show) text r = FirstBroken text r
-FirstBrokenFor (command.Code file) text r = FirstBroken text r
 FirstBrokenFor (command.Sets file) text r = FirstBrokenUpToTypes text r
 FirstBrokenFor (command.Format file) text r = HasNoLayout text r
-FirstBrokenFor (command.Witness file workers limits) text r = FirstBroken text r
-FirstBrokenFor (command.Gen size workers) text r = FirstBroken text r
-FirstBrokenFor (command.Replay file journal limits view) text r = FirstBroken text r
-FirstBrokenFor (command.Build file) text r = FirstBroken text r
 FirstBrokenFor (command.Exec file workers limits) text r = ⊥
+FirstBrokenFor _ text r = FirstBroken text r
 
 -- the command refuses the text for no rule, and a code file neither
 abbrev pub AcceptedFor : Command → List ℕ → Type 0
-AcceptedFor (command.Check file) text = IsAcceptedText text
-AcceptedFor (command.Run file workers limits show) text = IsAcceptedText text
-AcceptedFor (command.Code file) text = IsAcceptedText text
 AcceptedFor (command.Sets file) text = IsAnalysed text
 AcceptedFor (command.Format file) text = (out : List ℕ) × HasLayout text out
-AcceptedFor (command.Witness file workers limits) text = IsAcceptedText text
-AcceptedFor (command.Gen size workers) text = IsAcceptedText text
-AcceptedFor (command.Replay file journal limits view) text = IsAcceptedText text
-AcceptedFor (command.Build file) text = IsAcceptedText text
 AcceptedFor (command.Exec file workers limits) text = IsSoundFile text
+AcceptedFor _ text = IsAcceptedText text
 
 -- the commands that answer from the text alone
 abbrev pub asks_text : Command → Type 0
-asks_text (command.Check file) = Unit {0}
 asks_text (command.Run file workers limits show) = ⊥
-asks_text (command.Code file) = Unit {0}
-asks_text (command.Sets file) = Unit {0}
-asks_text (command.Format file) = Unit {0}
 asks_text (command.Witness file workers limits) = ⊥
 asks_text (command.Gen size workers) = ⊥
 asks_text (command.Replay file journal limits view) = ⊥
-asks_text (command.Build file) = Unit {0}
 asks_text (command.Exec file workers limits) = ⊥
+asks_text _ = Unit {0}
 
 -- the commands that run a program with workers
 abbrev pub asks_run : Command → Type 0
-asks_run (command.Check file) = ⊥
 asks_run (command.Run file workers limits show) = Unit {0}
-asks_run (command.Code file) = ⊥
-asks_run (command.Sets file) = ⊥
-asks_run (command.Format file) = ⊥
 asks_run (command.Witness file workers limits) = Unit {0}
 asks_run (command.Gen size workers) = Unit {0}
-asks_run (command.Replay file journal limits view) = ⊥
-asks_run (command.Build file) = ⊥
-asks_run (command.Exec file workers limits) = ⊥
+asks_run _ = ⊥
 
 -- the commands that follow a journal
 abbrev pub asks_replay : Command → Type 0
-asks_replay (command.Check file) = ⊥
-asks_replay (command.Run file workers limits show) = ⊥
-asks_replay (command.Code file) = ⊥
-asks_replay (command.Sets file) = ⊥
-asks_replay (command.Format file) = ⊥
-asks_replay (command.Witness file workers limits) = ⊥
-asks_replay (command.Gen size workers) = ⊥
 asks_replay (command.Replay file journal limits view) = Unit {0}
-asks_replay (command.Build file) = ⊥
-asks_replay (command.Exec file workers limits) = ⊥
+asks_replay _ = ⊥
 
 -- the command that writes a code file
 abbrev pub asks_build : Command → Type 0
-asks_build (command.Check file) = ⊥
-asks_build (command.Run file workers limits show) = ⊥
-asks_build (command.Code file) = ⊥
-asks_build (command.Sets file) = ⊥
-asks_build (command.Format file) = ⊥
-asks_build (command.Witness file workers limits) = ⊥
-asks_build (command.Gen size workers) = ⊥
-asks_build (command.Replay file journal limits view) = ⊥
 asks_build (command.Build file) = Unit {0}
-asks_build (command.Exec file workers limits) = ⊥
+asks_build _ = ⊥
 
 -- the command that runs a code file
 abbrev pub asks_execution : Command → Type 0
-asks_execution (command.Check file) = ⊥
-asks_execution (command.Run file workers limits show) = ⊥
-asks_execution (command.Code file) = ⊥
-asks_execution (command.Sets file) = ⊥
-asks_execution (command.Format file) = ⊥
-asks_execution (command.Witness file workers limits) = ⊥
-asks_execution (command.Gen size workers) = ⊥
-asks_execution (command.Replay file journal limits view) = ⊥
-asks_execution (command.Build file) = ⊥
 asks_execution (command.Exec file workers limits) = Unit {0}
+asks_execution _ = ⊥
 
 -- these bytes are the text of a journal, and no more than are loaded
 abbrev pub IsJournalText : List ℕ → Type 0
@@ -254,40 +177,25 @@ IsJournalText bytes = IsText bytes × (length bytes ≤ 67108864)
 
 -- the command reads the input, where what it loads before is right
 abbrev pub CanRead : (List ℕ → Option (List ℕ)) → Command → Type 0
-CanRead held (command.Check file) = ⊥
 CanRead held (command.Run file workers limits show) = IfSome (held file) IsAcceptedText
-CanRead held (command.Code file) = ⊥
-CanRead held (command.Sets file) = ⊥
-CanRead held (command.Format file) = ⊥
 CanRead held (command.Witness file workers limits) = IfSome (held file) IsAcceptedText
-CanRead held (command.Gen size workers) = ⊥
 CanRead held (command.Replay file journal limits view) = IfSome (held file) IsAcceptedText
     × IfSome (held journal) IsJournalText
-CanRead held (command.Build file) = ⊥
 CanRead held (command.Exec file workers limits) = IfSome (held file) IsSoundFile
+CanRead _ _ = ⊥
 
 -- what the command makes of the text alone, for the output and for the notes
 abbrev pub Makes : Command → List ℕ → List ℕ → List ℕ → Type 0
 Makes (command.Check file) text out line = IsAcceptedText text × (out ≡ []) × (line ≡ codes "accepted\n")
-Makes (command.Run file workers limits show) text out line = ⊥
 Makes (command.Code file) text out line = HasListing text out × (line ≡ [])
 Makes (command.Sets file) text out line = HasSets text out × (line ≡ [])
 Makes (command.Format file) text out line = HasLayout text out × (line ≡ [])
-Makes (command.Witness file workers limits) text out line = ⊥
-Makes (command.Gen size workers) text out line = ⊥
-Makes (command.Replay file journal limits view) text out line = ⊥
 Makes (command.Build file) text out line = IsCodeFile text out × (line ≡ [])
-Makes (command.Exec file workers limits) text out line = ⊥
+Makes _ _ _ _ = ⊥
 
 -- the commands that go through the rules of interference too, and name no broken one
 abbrev pub asks_all : Command → Type 0
-asks_all (command.Check file) = Unit {0}
-asks_all (command.Run file workers limits show) = Unit {0}
-asks_all (command.Code file) = Unit {0}
 asks_all (command.Sets file) = ⊥
 asks_all (command.Format file) = ⊥
-asks_all (command.Witness file workers limits) = Unit {0}
-asks_all (command.Gen size workers) = Unit {0}
-asks_all (command.Replay file journal limits view) = Unit {0}
-asks_all (command.Build file) = Unit {0}
 asks_all (command.Exec file workers limits) = ⊥
+asks_all _ = Unit {0}

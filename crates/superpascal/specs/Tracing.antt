@@ -7,29 +7,20 @@
 use Rattle.std.specs.Prelude.{◌≡◌, ℕ, List}
 use Rattle.sp_journal.specs.declared.entry.Journal.{Journal}
 use Rattle.sp_words.specs.declared.command.View.TheVariants as view
-use Rattle.superpascal.specs.declared.asked.Followed.{Followed}
 use Rattle.superpascal.specs.Calls.{WroteAll, Call, IsFinal, OfReplayInput}
 use Rattle.superpascal.specs.Replays.{IsJournalOf}
 use Rattle.superpascal.specs.Traces.{IsStateOf, IsTraceOf}
 
--- the bytes are those of a journal, and the text of its entries was written
-pub record WritesTrace (c : Call) (b : Followed) (text bytes input : List ℕ) : Type 0 where
+-- the bytes are those of a journal, and this text of it was written
+pub record Tells (c : Call) (bytes : List ℕ) (IsTextOf : Journal → List ℕ → Type 0) : Type 0 where
   pub journal : Journal
   pub is_journal : IsJournalOf bytes journal
   pub out : List ℕ
-  pub trace : IsTraceOf text input b.limits journal out
-  pub written : WroteAll c.output out
-
--- the same of the text of the state
-pub record WritesState (c : Call) (b : Followed) (text bytes input : List ℕ) : Type 0 where
-  pub journal : Journal
-  pub is_journal : IsJournalOf bytes journal
-  pub out : List ℕ
-  pub state : IsStateOf text input b.limits journal out
+  pub is_text : IsTextOf journal out
   pub written : WroteAll c.output out
 
 pub record Tracing (c : Call) : Type 0 where
   pub traced : OfReplayInput c (λ b text bytes input. b.view ≡ view.Entries → IsFinal c.outcome.status
-      → WritesTrace c b text bytes input)
+      → Tells c bytes (IsTraceOf text input b.limits))
   pub placed : OfReplayInput c (λ b text bytes input. b.view ≡ view.State → IsFinal c.outcome.status
-      → WritesState c b text bytes input)
+      → Tells c bytes (IsStateOf text input b.limits))

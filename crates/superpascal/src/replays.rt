@@ -10,7 +10,7 @@ ghost use Rattle.superpascal.specs.Answering.{HasCode, HasEndLines};
 ghost use Rattle.superpascal.specs.Causes.{files_of, stream_of};
 ghost use Rattle.superpascal.specs.Runs.{Reports};
 ghost use Rattle.superpascal.specs.Steps.{AccountsFor, AnswersCommand, GivesReady, GivesSymbols, HasSymbols, HasTeller};
-ghost use Rattle.superpascal.specs.Steps.{ReplaysTo, TellsReplay, TracesTo};
+ghost use Rattle.superpascal.specs.Steps.{TellsReplay, TracesTo};
 ghost use Rattle.superpascal.specs.Texts.{command_of_replay};
 
 use crate::asked::Followed;
@@ -21,8 +21,7 @@ use crate::teller::{Account, Ready, Teller};
 use sp_base::{Limits, Text, Word};
 use sp_code::Code;
 use sp_execute::{
-    Replayed, Traced, accepted_programs_are_ready, follow, follow_told,
-    journals_are_told_in_the_text,
+    Traced, accepted_programs_are_ready, follow, follow_told, journals_are_told_in_the_text,
 };
 use sp_journal::Journal;
 use sp_outside::{Library, Source};
@@ -32,28 +31,31 @@ use std::alloc::Global;
 use std::sync::Arc;
 use std::thread::Threads;
 
-// Follows a journal with the code of a text that breaks no rule.
-fn follow_code(
+// Follows a journal with the code of a text that breaks no rule, and writes what the program writes along it.
+fn output(
     alloc: Global,
     code: Code,
     input: Text,
     limits: &Limits,
     journal: &Journal,
-) -> Result<Replayed, Ending>
+) -> Result<Account, Ending>
     requires range { IsInRange 1 limits.now }
     requires code { (program : List ℕ) × (tree : Checked) × HasCode program tree code }
     requires nameable { IsNameable journal.now }
     ensures { (program : List ℕ) (tree : Checked) → HasCode program tree code
-        → ReplaysTo program input limits.now journal.now result }
+        → AccountsFor view.Output program input limits.now journal.now result }
 {
     accepted_programs_are_ready();
     let code = Arc::new(alloc, code)?;
     let input = Arc::new(alloc, input)?;
     let replayed = follow(alloc, code, input, limits, journal)?;
-    Ok(replayed)
+    Ok(Account {
+        end: replayed.end,
+        text: replayed.output,
+    })
 }
 
-// The same, with what is told of the entries and the state behind them.
+// Follows a journal so, and gives what is told of the entries and the state behind them.
 fn trace_code(
     alloc: Global,
     code: Arc<Code>,
@@ -74,7 +76,8 @@ fn trace_code(
     Ok(traced)
 }
 
-// Follows a journal with the code of a text, and writes its entries.
+// Follows a journal with the code of a text, and writes its entries. The text may be long, so the state behind them is
+// given back before it is made.
 fn entries(
     alloc: Global,
     code: Code,
@@ -91,9 +94,15 @@ fn entries(
 {
     let code = Arc::new(alloc, code)?;
     let traced = trace_code(alloc, code, input, limits, journal)?;
-    let text = trace_text(alloc, symbols, journal, traced.told.items())?;
+    let Traced {
+        replayed,
+        told,
+        state,
+    } = traced;
+    drop(state);
+    let text = trace_text(alloc, symbols, journal, told.items())?;
     Ok(Account {
-        end: traced.replayed.end,
+        end: replayed.end,
         text: Text::of(text),
     })
 }
@@ -138,13 +147,7 @@ fn account(
 {
     let code = ready.code;
     match &ready.teller {
-        Teller::Output => {
-            let replayed = follow_code(alloc, code, input, limits, journal)?;
-            Ok(Account {
-                end: replayed.end,
-                text: replayed.output,
-            })
-        }
+        Teller::Output => output(alloc, code, input, limits, journal),
         Teller::Entries(symbols) => entries(alloc, code, symbols, input, limits, journal),
         Teller::State(symbols) => state(alloc, code, symbols, input, limits, journal),
     }

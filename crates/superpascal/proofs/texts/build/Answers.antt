@@ -9,7 +9,8 @@ pub returns-in_err-code : goal.returns-in_err-code
 returns-in_err-code g c =
     at_exit (AnswersText _ (Build c.args.file.now)) c.from_residual.result _
     (err_from_is_err_and c.from_residual.result c.from_residual.ensures.1)
-    (text_unready _ (Build c.args.file.now) c.args.file.now refl (λ text r h. h) _ c.in_err-code.ensures.prepared)
+    (text_unready _ (Build c.args.file.now) c.args.file.now (refl, λ k. k) (λ text r h. h) _
+    c.in_err-code.ensures.prepared)
 
 pub returns-then-len-gt-LONGEST_CODE : goal.returns-then-len-gt-LONGEST_CODE
 returns-then-len-gt-LONGEST_CODE g c =
@@ -21,7 +22,8 @@ returns-then-len-gt-LONGEST_CODE g c =
 pub returns : goal.returns
 returns g c =
     let h = c.in_ok-code.ensures.prepared in
-    text_made _ (Build c.args.file.now) c.args.file.now refl h.0 h.1 c.in_ok-bytes.bytes.items c.new.result.items (
+    text_made _ (Build c.args.file.now) c.args.file.now (refl, λ k. k) h.0 h.1 c.in_ok-bytes.bytes.items
+    c.new.result.items (
       (
         has_code_text h.0 h.2 c.in_ok-code.code c.in_ok-bytes.bytes.items h.3 c.in_ok-bytes.ensures,
         omega (arith, c.if-len-gt-LONGEST_CODE.false, c.len.ensures),

@@ -9,11 +9,13 @@ pub returns-in_err-code : goal.returns-in_err-code
 returns-in_err-code g c =
     at_exit (AnswersText _ (Code c.args.file.now)) c.from_residual.result _
     (err_from_is_err_and c.from_residual.result c.from_residual.ensures.1)
-    (text_unready _ (Code c.args.file.now) c.args.file.now refl (λ text r h. h) _ c.in_err-code.ensures.prepared)
+    (text_unready _ (Code c.args.file.now) c.args.file.now (refl, λ k. k) (λ text r h. h) _
+    c.in_err-code.ensures.prepared)
 
 pub returns : goal.returns
 returns g c =
     let h = c.in_ok-code.ensures.prepared in
-    text_made _ (Code c.args.file.now) c.args.file.now refl h.0 h.1 c.in_ok-lines.lines.items c.new.result.items
+    text_made _ (Code c.args.file.now) c.args.file.now (refl, λ k. k) h.0 h.1 c.in_ok-lines.lines.items
+    c.new.result.items
     ((h.2, h.3.has.accepted, h.3.has.short, c.in_ok-code.code, h.3.code, c.in_ok-lines.ensures), c.new.ensures.items)
     c.accepted.result c.accepted.ensures

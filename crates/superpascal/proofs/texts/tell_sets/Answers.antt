@@ -10,7 +10,7 @@ pub returns-in_err-text : goal.returns-in_err-text
 returns-in_err-text g c =
     at_exit (AnswersText _ (Sets c.args.file.now)) c.from_residual.result _
     (err_from_is_err_and c.from_residual.result c.from_residual.ensures.1)
-    (text_kept_back _ (Sets c.args.file.now) c.args.file.now refl _ c.in_err-text.ensures.loaded)
+    (text_kept_back _ (Sets c.args.file.now) c.args.file.now (refl, λ k. k) _ c.in_err-text.ensures.loaded)
 
 pub returns-in_err-lines : goal.returns-in_err-lines
 returns-in_err-lines g c =
@@ -23,7 +23,7 @@ returns-in_err-lines g c =
 
 pub returns : goal.returns
 returns g c =
-    text_made _ (Sets c.args.file.now) c.args.file.now refl c.as_slice.result.now
+    text_made _ (Sets c.args.file.now) c.args.file.now (refl, λ k. k) c.as_slice.result.now
     (subst (λ (t : List ℕ). IfSome (g.L.Library.held c.args.library.now c.args.file.now) (λ all. t ≡ all))
     (sym c.as_slice.ensures.value) c.in_ok-text.ensures.loaded.0)
     c.in_ok-lines.lines.items c.new.result.items (c.in_ok-lines.ensures, c.new.ensures.items) c.accepted.result
