@@ -1,21 +1,14 @@
-//! Tests of the plain interpreter of the meaning (`sp_run`) and of the arithmetic that it stands on
-//! (`sp_values`). The programs are worked by hand, each with a schedule that leads to its end.
+//! Rows of the meaning (`sp_meaning`), and tests of the arithmetic of expressions (`sp_values`).
 //!
 //! To know:
-//! - `src/values.rt`: one process, what it writes, and the faults of its expressions, widths and limits.
-//! - `src/channels.rt`: forks, joins, rendezvous, contention and a deadlock.
-//! - `src/depth.rt`: a function that calls itself without end, on a thread with a large stack.
+//! - `proofs/ProcessRows.antt` and `ChannelRows` run small programs along schedules: the prover computes each run by
+//!   the definitions alone, and compares how many steps it has, what it writes and how it ends (`Goes`).
+//! - `proofs/LimitRows.antt` and `DepthRows` have runs that are too long to be computed, for every number above a
+//!   limit.
+//! - `proofs/Programs.antt` has the programs, worked by hand, and `Trees` the trees of their texts; `TreeRows` says
+//!   that those trees give these programs. The gallery runs the same texts.
 //! - `src/arithmetic.rt`: the calls of `sp_values`.
-//! - `src/programs.rt`: texts and schedules, and what is asked of their runs.
 #![tactic(auto)]
 
 #[cfg(test)]
 mod arithmetic;
-#[cfg(test)]
-mod channels;
-#[cfg(test)]
-mod depth;
-#[cfg(test)]
-mod programs;
-#[cfg(test)]
-mod values;

@@ -1,0 +1,9 @@
+mod Programs
+mod Goes
+mod FirstSteps
+mod ProcessRows
+mod LimitRows
+mod DepthRows
+mod ChannelRows
+mod Trees
+mod TreeRows
