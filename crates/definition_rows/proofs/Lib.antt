@@ -1,0 +1,3 @@
+mod CodeRows
+mod EffectRows
+mod ParallelRows
