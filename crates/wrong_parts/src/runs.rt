@@ -6,6 +6,7 @@ ghost use Rattle.sp_code.specs.Sound.{IsSound, AreLimits, run_of};
 ghost use Rattle.sp_journal.specs.Births.{IsNameable};
 ghost use Rattle.sp_runner.specs.Runs.{IsRun};
 ghost use Rattle.sp_replay.specs.Replays.{Replays};
+ghost use Rattle.sp_replay.specs.Tracing.{Traces, replayed_of};
 ghost use Rattle.sp_execute.specs.Follows.{FollowsTo};
 ghost use Rattle.sp_execute.specs.Runs.{run_input, IsCodeOf, Executes};
 
@@ -15,7 +16,7 @@ use sp_execute::Ran;
 use sp_journal::Journal;
 use sp_kernel::Closed;
 use sp_outside::Gate;
-use sp_replay::{ReplayError, Replayed};
+use sp_replay::{ReplayError, Replayed, Traced};
 use std::alloc::Global;
 use std::sync::{Arc, Wait};
 use std::thread::Threads;
@@ -53,6 +54,23 @@ pub fn replay(
 {
     let replayed = sp_replay::replay(alloc, code, input, limits, journal);
     replayed
+}
+
+/// `sp_replay::replay_told`.
+pub fn replay_told(
+    alloc: Global,
+    code: Arc<Code>,
+    input: Arc<Text>,
+    limits: &Limits,
+    journal: &Journal,
+) -> Result<Traced, ReplayError>
+    requires sound { IsSound code.value }
+    requires limits { AreLimits limits.now }
+    ensures traces { Traces (run_of code.value input.value limits.now) journal.now.entries result }
+    ensures replays { Replays (run_of code.value input.value limits.now) journal.now.entries (replayed_of result) }
+{
+    let traced = sp_replay::replay_told(alloc, code, input, limits, journal);
+    traced
 }
 
 /// `sp_execute::execute`.
