@@ -155,7 +155,8 @@ function activate(context) {
     vscode.workspace.onDidCloseTextDocument(closed),
     vscode.commands.registerCommand("superpascal.run", runner("run")),
     vscode.commands.registerCommand("superpascal.witness", runner("witness")),
-    ...providers.map(([register, provider, ...more]) => vscode.languages[register]({ language: LANGUAGE }, provider, ...more)));
+    ...providers.map(([register, provider, ...more]) =>
+      vscode.languages[register]({ language: LANGUAGE }, provider, ...more)));
 }
 
 module.exports = { activate };

@@ -46,8 +46,8 @@ class Chromium:
                 if time.time() > last or self.process.poll() is not None:
                     raise
                 time.sleep(0.1)
-        words = ["--headless=new", "--no-sandbox", "--disable-gpu", "--disable-dev-shm-usage", "--window-size=%d,%d" % (wide, high),
-                 *more]
+        words = ["--headless=new", "--no-sandbox", "--disable-gpu", "--disable-dev-shm-usage",
+                 "--window-size=%d,%d" % (wide, high), *more]
         prefs = {"download.default_directory": self.downloads}
         wanted = {"goog:loggingPrefs": {"browser": "ALL", "performance": "ALL"},
                   "timeouts": {"script": 120000, "pageLoad": 120000},

@@ -223,7 +223,8 @@ def test_phone(test):
     wide = "return [document.documentElement.scrollWidth, innerWidth]"
     found = test.browser.run(wide)
     test.expect_that(found[0] <= found[1], "nothing is wider than the screen", found)
-    seen = "const it = document.getElementById('verdict').getBoundingClientRect(); return [it.top, it.bottom, innerHeight]"
+    seen = "const it = document.getElementById('verdict').getBoundingClientRect();" \
+        " return [it.top, it.bottom, innerHeight]"
     top, bottom, high = test.browser.run(seen)
     test.expect_that(0 <= top < bottom <= high, "a run brings its result into view", (top, bottom, high))
     test.picture("phone")

@@ -79,7 +79,8 @@ function refusals() {
   };
   for (const [name, bytes] of Object.entries(files)) fs.writeFileSync(name, bytes);
   const calls = ["", "run", "go a.sp", "run a.sp a.sp", "run a.sp --ticks 0", "run a.sp --workers 65", "check none.sp",
-    "run none.sp", "replay c.sp bad.journal", "replay c.sp unfit.journal", "replay c.sp none.journal", "trace c.sp bad.journal",
+    "run none.sp", "replay c.sp bad.journal", "replay c.sp unfit.journal", "replay c.sp none.journal",
+    "trace c.sp bad.journal",
     "trace c.sp unfit.journal", "where c.sp bad.journal", "where c.sp unfit.journal", "where c.sp none.journal",
     "trace c.sp", "where c.sp", "where a.sp unfit.journal --workers 1", "exec bad.code", "exec rejected.code",
     "exec none.code", "gen 0", "gen 7", "gen 2001", "check a.sp --ticks 1", "run -- a.sp", "sets", "-x"];

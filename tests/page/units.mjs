@@ -320,7 +320,8 @@ function tokens(mode, state, string) {
 }
 
 await test("colours", () => {
-  const mode = modeOf(JSON.parse(fs.readFileSync(path.join(top, "editors", "vscode", "superpascal.tmLanguage.json"), "utf-8")));
+  const grammar = path.join(top, "editors", "vscode", "superpascal.tmLanguage.json");
+  const mode = modeOf(JSON.parse(fs.readFileSync(grammar, "utf-8")));
   const state = mode.startState();
   const colours = (text) => tokens(mode, state, text).map((it) => it.join("/")).join(" ");
   assert.equal(colours("procedure  Node(k: integer);"), "procedure/keyword Node/def integer/type");

@@ -18,9 +18,9 @@ if __name__ == "__main__":
 from client import Editor  # noqa: E402  pylint: disable=wrong-import-position
 
 FEW = 30
-PIECES = (";", "end", "begin", " x ", "1", "'", "{", "}", "(*", ")", "(", ":=", "=", "\n", "\r\n", "\r", "'a'", "true", "1.5",
-          "if", "then", "parallel", "|", "\u00f6", "\U0001f600", "{\U0001f600}", "'\u00f6'", "_", "goto", "var", " ",
-          "99999999999999999999", ".", "[1]", "integer")
+PIECES = (";", "end", "begin", " x ", "1", "'", "{", "}", "(*", ")", "(", ":=", "=", "\n", "\r\n", "\r", "'a'", "true",
+          "1.5", "if", "then", "parallel", "|", "\u00f6", "\U0001f600", "{\U0001f600}", "'\u00f6'", "_", "goto", "var",
+          " ", "99999999999999999999", ".", "[1]", "integer")
 BREAK = re.compile("\r\n|\n|\r")
 
 

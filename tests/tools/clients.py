@@ -1,4 +1,7 @@
-"""The editors: Neovim, Emacs and a stand-in for VS Code show a mistake, format and rename. One that is missing is skipped."""
+"""The editors: Neovim, Emacs and a stand-in for VS Code show a mistake, format and rename.
+
+One that is missing is skipped.
+"""
 import os
 import shutil
 import subprocess

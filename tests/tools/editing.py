@@ -1,4 +1,4 @@
-"""The language server, as an editor speaks to it: questions, bad messages, large texts, a program that hangs or dies."""
+"""The language server, as an editor speaks to it: questions, bad messages, large texts, programs that hang or die."""
 import json
 import os
 import re
@@ -33,7 +33,8 @@ HOVERS = (
     ((2, 4), "x: integer && a variable (line 3) of p, an integer"),
     ((2, 5), "x: integer"), ((2, 20), "l: list && an array of integer (list)"),
     ((3, 12), "procedure show(var z: integer; n: integer) && targets: output && expressions: none"),
-    ((3, 19), "var z: integer && a variable parameter (line 4) of show"), ((3, 32), "a value parameter (line 4) of show"),
+    ((3, 19), "var z: integer && a variable parameter (line 4) of show"),
+    ((3, 32), "a value parameter (line 4) of show"),
     ((6, 9), "function f(n: integer): integer && targets: none"),
     ((9, 4), "process statement 1 of the parallel at 10:3 && targets: output, x && statement 2 && targets: y"),
     ((10, 4), "a variable (line 3) of p && process statement 1 of the parallel"),
@@ -49,7 +50,8 @@ RENAMES = (
     ((2, 4), "y", "would mean something else"), ((2, 4), "q", "is already declared|would mean"),
     ((13, 9), "l", "would mean something else"), ((3, 19), "i", "already declared|would mean"),
     ((2, 4), "begin", "begin is not a name"), ((2, 4), "goto", "U1"), ((2, 4), "1x", "not a name"),
-    ((2, 4), "a b", "not a name"), ((2, 4), "", "not a name"), ((2, 4), "\u00e4", "not a name"), ((2, 4), 7, "a new name"),
+    ((2, 4), "a b", "not a name"), ((2, 4), "", "not a name"), ((2, 4), "\u00e4", "not a name"),
+    ((2, 4), 7, "a new name"),
     ((2, 4), "a" * 128, "S5"), ((2, 7), "show", "already declared|would mean"), ((2, 9), "n", "no name"),
     ((5, 45), "print", "standard procedure"), ((2, 14), "int", "a type of the language"),
 )
@@ -116,7 +118,8 @@ def questions(case):
     case.check(names == ["list", "r", "x", "y", "l", "q", "show", "f"], "symbols: %s" % names)
     case.check([it["name"] for it in tree[0]["children"][6]["children"]] == ["z", "n", "i"], "symbols of show")
     got = {it["label"] for it in editor.about("completion", 10, 4)}
-    case.check({"x", "show", "f", "writeln", "integer", "maxint"} <= got and not {"z", "i", "a"} & got, "completion: %s" % got)
+    case.check({"x", "show", "f", "writeln", "integer", "maxint"} <= got and not {"z", "i", "a"} & got,
+               "completion: %s" % got)
     got = {it["label"] for it in editor.about("completion", 5, 33)}
     case.check({"x", "z", "i", "n", "show"} <= got and "f" not in got, "completion in show: %s" % got)
     got = {it["label"] for it in editor.about("completion", 13, 30)}
@@ -164,7 +167,8 @@ def renames(case):
     case.check("code" in editor.about("prepareRename", 5, 45), "prepareRename of writeln")
     editor.change(TEXT.replace("y := f(2)", "y := f(2"))
     editor.shown()
-    case.check("not read to its end" in editor.about("rename", 2, 4, newName="z9")["message"], "rename in a broken text")
+    message = editor.about("rename", 2, 4, newName="z9")["message"]
+    case.check("not read to its end" in message, "rename in a broken text")
     editor.end()
 
 
@@ -199,7 +203,8 @@ def bad_messages(case):
     case.check(editor.ask("initialize", {})["code"] == -32600, "initialize twice")
     body = json.dumps({"jsonrpc": "2.0", "id": "next", "method": "nothing/here"}).encode()
     good = b"Content-Length: %d\r\n\r\n%s" % (len(body), body)
-    for data in (b"\r\n\r\n", b"hello\r\n\r\n", b"Content-Length: x\r\n\r\n{}", b"Content-Length: -5\r\n\r\n", b"{" * 5000,
+    for data in (b"\r\n\r\n", b"hello\r\n\r\n", b"Content-Length: x\r\n\r\n{}", b"Content-Length: -5\r\n\r\n",
+                 b"{" * 5000,
                  b"Content-Length: 99999999999\r\n\r\n", b"Content-Length: 5\r\n\r\n{\"a\":", b"\0\xff\xfe\r\n\r\n",
                  b"Content-Length: 20\r\n\r\n{\"id\": 1, \"method\": \"shutdown\"}", b"Content-Length: 4\r\n\r\nnull",
                  b"Content-Length: 2\r\n\r\n[]", b"Content-Length: 2\r\n\r\n\xff\xff", b"Content-Type: x\r\n\r\n{}",
@@ -213,9 +218,11 @@ def bad_messages(case):
             first = editor.answers.get(timeout=60)
         case.check(first["id"] == "next" and first["error"]["code"] == -32601, "after %s: %s" % (data[:40], first))
     for method, params, code in (
-            ("textDocument/hover", {}, -32602), ("textDocument/hover", [1], -32602), ("textDocument/hover", "x", -32602),
+            ("textDocument/hover", {}, -32602), ("textDocument/hover", [1], -32602),
+            ("textDocument/hover", "x", -32602),
             ("textDocument/hover", {"textDocument": {"uri": "file:///none"}}, -32602), ("x" * 3000, {}, -32601),
-            ("workspace/executeCommand", {"command": "rm"}, -32602), ("textDocument/rename", {"textDocument": 5}, -32602)):
+            ("workspace/executeCommand", {"command": "rm"}, -32602),
+            ("textDocument/rename", {"textDocument": 5}, -32602)):
         got = editor.ask(method, params)
         case.check(got.get("code") == code, "%s %s: %s" % (method[:40], params, got))
     editor.send({"id": {}, "method": "textDocument/hover"})
@@ -283,14 +290,16 @@ def faulty(case):
         mark = os.path.join(case.folder, name + ".mark")
         editor = Editor(script(case, name, once % (mark, mark, text)), options={"seconds": 5})
         got = editor.open("program p; begin x := 1 end.")
-        case.check([it["code"] for it in got] == ["N1"] and not editor.said, "%s once: %s %s" % (name, got, editor.said))
+        case.check([it["code"] for it in got] == ["N1"] and not editor.said,
+                   "%s once: %s %s" % (name, got, editor.said))
         editor.end()
     for name, text, wanted in (("hung", "sleep 1000", "did not end in 1 seconds"), ("dead", "kill -11 $$", "signal 11"),
                                ("odd", "echo what", "answers"), ("odder", "echo what >&2; exit 9", "status 9: what")):
         editor = Editor(script(case, name, text), options={"seconds": 1})
         case.check(editor.open("program p; begin end.") == [], name)
         editor.change("program p; begin end. ")
-        case.check(editor.shown() == [] and len(editor.said) == 1 and wanted in editor.said[0], "%s: %s" % (name, editor.said))
+        case.check(editor.shown() == [] and len(editor.said) == 1 and wanted in editor.said[0],
+                   "%s: %s" % (name, editor.said))
         got = editor.about("formatting", options={})
         case.check("code" in got or name == "odd", "%s: formatting: %s" % (name, got))
         case.check(editor.end() == 0 and not editor.notes, "%s: %s" % (name, editor.notes))

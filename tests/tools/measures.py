@@ -23,8 +23,8 @@ CHAINS = (
     ("0 fork 2, 0/0.0 pause, 0/0.0 pause, 0/0.1 pause, 0/0.0 end, 0/0.1 end, 0 pause, 0 end", 6, 3),
 )
 ROW = re.compile(r" +(\d+) +\d+\.\d{3} +\d+\.\d\d")
-TEXT = "program c;\ntype chan = *(integer);\nvar c: chan; x: integer;\nbegin\n  open(c);\n  parallel\n    send(c, 1)\n" \
-    "  |\n    receive(c, x)\n  end;\n  writeln(x)\nend.\n"
+TEXT = "program c;\ntype chan = *(integer);\nvar c: chan; x: integer;\nbegin\n  open(c);\n  parallel\n" \
+    "    send(c, 1)\n  |\n    receive(c, x)\n  end;\n  writeln(x)\nend.\n"
 
 
 def test(case):

@@ -54,6 +54,12 @@ CAUSES = (
     ("program p; type t = array [1..2] of char; var x: t; a: integer; begin a := x end.",
      "a is an integer, x is an array of char \\(t\\)"),
     ("program p; type t = record x: char end; var r: t; begin r[1] := 'a' end.", "r is a record \\(t\\), not an array"),
+    ("program p; const n = -4; type t = array [1..3] of integer; var a: t; "
+     "begin a[2] := 7; a[a[2] - n * sqr(1)] := 1 end.",
+     r"index a\[2\] - n \* sqr\(1\) = 11 is outside the bounds 1\.\.3 of a: a\[2\] is 7"),
+    ("program p; type t = array [1..3] of char; var a: t; function f: integer; begin f := 9 end; "
+     "begin a[f + 1] := 'a' end.",
+     r"index f \+ 1 is outside the bounds 1\.\.3 of a"),
     ("program p; function g: integer; procedure q; begin parallel end end; begin q; g := 1 end; begin end.",
      "q, which this function calls, has parallel at 1:52"),
 )

@@ -1,6 +1,7 @@
 """Pictures of the gallery: some are compared with stored ones, and in all no label crosses another."""
 import os
 import re
+import shutil
 import xml.etree.ElementTree as tree
 
 from cases import TOP, copy, gallery, read
@@ -15,6 +16,7 @@ def test(case):
     case.each(lambda it: draw(case, *it), gallery())
     same_in_all_forms(case)
     parts(case)
+    converted(case)
 
 
 def draw(case, name, path, data):
@@ -90,3 +92,18 @@ def parts(case):
     for order in ([], ["--order"]):
         _, picture, _ = case.tool("picture", ["run", "wide.sp", "--workers", "1", "--from", "4", "--to", "30"] + order)
         case.check(b"entries 4 to 30 of" in picture and tree.fromstring(picture) is not None, "a part of a run")
+
+
+def converted(case):
+    """PNG and PDF, if a command is there that makes them; without one a line says what is needed."""
+    has_command = shutil.which("rsvg-convert") or shutil.which("inkscape")
+    for form, head in (("png", b"\x89PNG"), ("pdf", b"%PDF")):
+        path = os.path.join(case.folder, "race." + form)
+        status, picture, said = case.tool("picture", ["run", "race.sp", "--workers", "1", "--" + form, path])
+        if has_command:
+            is_made = (status, picture, said) == (0, b"", "") and read(path).startswith(head)
+            case.check(is_made, "--%s: %s" % (form, said))
+            status, _, said = case.tool("picture", ["run", "race.sp", "--" + form, "no/folder." + form])
+            case.check(status == 22 and said.endswith("cannot write no/folder.%s\n" % form), "--%s: %s" % (form, said))
+        else:
+            case.check(status == 21 and said.count("\n") == 1, "--%s without a command: %s" % (form, said))

@@ -47,7 +47,8 @@ def test(case):
     case.each(lambda it: refused(case, *it), table)
     for tool in ("explain", "picture", "schedules", "speedup", "compare"):
         status, told, _ = case.tool(tool, ["--help"])
-        case.check(status == 0 and told.count(b"Nothing is proved about this tool") == 1 and b"\n  24  " in told, tool + " --help")
+        is_whole = told.count(b"Nothing is proved about this tool") == 1 and b"\n  24  " in told
+        case.check(status == 0 and is_whole, tool + " --help")
     handed_on(case)
     schedules(case)
 

@@ -3,7 +3,7 @@ from __future__ import annotations
 
 import re
 
-from .tokens import MAXINT
+from .tokens import MAXINT, place_of
 
 BYTE_ORDER_MARK = b"\xef\xbb\xbf"
 QUOTES = "\u2018\u2019\u201c\u201d\u201e\u201a\u00ab\u00bb"
@@ -101,11 +101,6 @@ def last_comment(text: bytes, at: int) -> tuple[int, int, int, int] | None:
     if found is None or b"{" not in found[0][1:] and b"(*" not in found[0][1:]:
         return None
     return place_of(text, found.start()) + place_of(text, found.end() - 1)
-
-
-def place_of(text: bytes, at: int) -> tuple[int, int]:
-    """The line and the column of a byte."""
-    return text.count(b"\n", 0, at) + 1, at - text.rfind(b"\n", 0, at)
 
 
 def not_in_language(text: bytes, at: int, rule: str) -> tuple[str, list[str]]:

@@ -1,7 +1,7 @@
 """Lanes: a place across for each process that is shown. If there would be too many, subtrees are folded."""
 from __future__ import annotations
 
-from typing import Iterable, Optional
+from typing import Iterable, Iterator, Optional
 
 from .journal import order_of, parent_of
 
@@ -33,27 +33,31 @@ class Lanes:
         self.rests: dict[str, str] = {}
         self.place()
 
-    def width(self, deep: int, most: Optional[int]) -> int:
-        """The number of lanes if children are shown down to this depth, and at the last one only this many."""
-        wide: dict[str, int] = {}
-        todo = [(self.top, 0, False)]
-        while todo:
-            name, level, ready = todo.pop()
-            forks = self.children.get(name, {}) if level < deep else {}
-            if not ready and forks:
-                todo.append((name, level, True))
-                for those in forks.values():
-                    todo.extend((child, level + 1, False) for child in self.cut(those, level, deep, most))
-                continue
-            sums = [sum(wide[child] for child in self.cut(those, level, deep, most))
-                    + (len(self.cut(those, level, deep, most)) < len(those)) for those in forks.values()]
-            wide[name] = 1 + max(sums, default=0)
-        return wide[self.top]
+    def forks(self, name: str, level: int, deep: int, most: Optional[int]) -> Iterator[tuple[int, list[str], int]]:
+        """The forks of a process whose children are shown, if they are down to this depth and at the last one only this
+        many: the number of each fork, the children that are shown, and how many are not."""
+        for fork, those in self.children.get(name, {}).items() if level < deep else ():
+            shown = those if most is None or level + 1 < deep else those[:most]
+            yield fork, shown, len(those) - len(shown)
 
-    @staticmethod
-    def cut(those: list[str], level: int, deep: int, most: Optional[int]) -> list[str]:
-        """The children that are shown."""
-        return those if most is None or level + 1 < deep else those[:most]
+    def widths(self, deep: int, most: Optional[int]) -> dict[str, int]:
+        """How many lanes each process takes with all below it; the last one is the top."""
+        order: list[tuple[str, int]] = []
+        todo = [(self.top, 0)]
+        while todo:
+            name, level = todo.pop()
+            order.append((name, level))
+            todo.extend((child, level + 1) for _, shown, _ in self.forks(name, level, deep, most) for child in shown)
+        wide: dict[str, int] = {}
+        for name, level in reversed(order):
+            sums = (sum(wide[child] for child in shown) + (rest > 0)
+                    for _, shown, rest in self.forks(name, level, deep, most))
+            wide[name] = 1 + max(sums, default=0)
+        return wide
+
+    def width(self, deep: int, most: Optional[int]) -> int:
+        """The number of all lanes."""
+        return self.widths(deep, most)[self.top]
 
     def fold(self) -> tuple[int, Optional[int]]:
         """How deep children are shown, and how many of a fork at that depth."""
@@ -75,30 +79,18 @@ class Lanes:
     def place(self) -> None:
         """Gives each process that is shown its lane."""
         self.lane[self.top] = 0
-        todo = [(self.top, 0)]
-        order = []
-        while todo:
-            name, level = todo.pop()
-            order.append((name, level))
-            if level < self.deep:
-                for those in self.children.get(name, {}).values():
-                    todo.extend((child, level + 1) for child in self.cut(those, level, self.deep, self.most))
-        wide: dict[str, int] = {}
-        for name, level in reversed(order):
-            wide[name] = 1
-            for those in self.children.get(name, {}).values() if level < self.deep else ():
-                shown = self.cut(those, level, self.deep, self.most)
-                wide[name] = max(wide[name], 1 + sum(wide[child] for child in shown) + (len(shown) < len(those)))
-        for name, level in order:
-            for fork, those in self.children.get(name, {}).items() if level < self.deep else ():
+        wide = self.widths(self.deep, self.most)
+        for name in reversed(wide):
+            level = name.count("/") - self.depth_of_top
+            for fork, shown, more in self.forks(name, level, self.deep, self.most):
                 at = self.lane[name] + 1
-                for child in (shown := self.cut(those, level, self.deep, self.most)):
+                for child in shown:
                     self.lane[child] = at
                     at += wide[child]
-                if len(shown) < len(those):
+                if more:
                     rest = "%s/%d.*" % (name, fork)
                     self.lane[rest] = at
-                    self.rests[rest] = "%d more" % (len(those) - len(shown))
+                    self.rests[rest] = "%d more" % more
         self.count = wide[self.top]
 
     def owner(self, name: str) -> str:

@@ -3,7 +3,7 @@ from __future__ import annotations
 
 from typing import NamedTuple, Optional, Sequence
 
-from .errors import BAD_WORDS, REFUSED, STATUSES, UNPROVED, ToolError, put_out, read_file, read_input
+from .errors import BAD_WORDS, LONGEST_RECORD, ToolError, put_out, read_file, read_input
 from .followed import Followed, Traced
 from .journal import Entry, Journal, Record, journal_text, partners, read_record
 from .program import Answer, Caller, limit_words, split_words, take_option
@@ -43,11 +43,7 @@ class Asked(NamedTuple):
         """A run of a text with one worker."""
         read_file(file)
         words = ["run", "--show", "timeline", "--workers", "1", *limit_words(self.options), "--", file]
-        answer = self.caller(words, self.data)
-        if answer.status not in (0, 3, 4):
-            line = answer.notes.split("\n")[0]
-            raise ToolError(REFUSED if answer.status == 1 else BAD_WORDS, "the program says of %s: %s" % (file, line))
-        return answer
+        return self.caller.ran(words, self.data, file)
 
     def traced(self, file: str, entries: list[Entry]) -> list[Traced]:
         """What `trace` says of the entries of a journal."""
@@ -79,12 +75,8 @@ class Difference(NamedTuple):
     other: Optional[int]
 
 
-def main(given: Sequence[str]) -> int:
+def main(words: list[str]) -> int:
     """Prints the first difference of two runs."""
-    words = list(given)
-    if words and words[0] in ("--help", "-h", "help"):
-        put_out((HELP + UNPROVED + "\n" + STATUSES).encode())
-        return 0
     path = take_option(words, "--program")
     asked = split_words(["run"] + words)
     if len(asked.plain) not in (2, 3) or "--show" in asked.options or "--workers" in asked.options:
@@ -93,7 +85,7 @@ def main(given: Sequence[str]) -> int:
     outputs = [b"", b""]
     if len(asked.plain) == 3:
         read_file(asked.plain[0])
-        records = [read_record(read_file(run).decode("utf-8", "replace")) for run in asked.plain[1:]]
+        records = [read_record(read_file(run, LONGEST_RECORD).decode("utf-8", "replace")) for run in asked.plain[1:]]
         one, other = (seen_run(what, run, asked.plain[0], record) for run, record in zip(asked.plain[1:], records))
     else:
         answers = [what.run(file) for file in asked.plain]

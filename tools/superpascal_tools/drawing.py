@@ -178,10 +178,13 @@ class Drawing(Layout):
                 names.append(self.timing.opened[following])
             following += 1
         x, y = self.point(at)
-        last = " .. " + self.channel(names[-1]) if len(names) > 1 else ""
+        first, last = self.channel(names[0]), self.channel(names[-1])
         tip = "opens " + " ".join("%s (%s)" % (it, self.channel(it)) for it in names[:40])
         self.paper.put("circle", tip, cx=x, cy=y, r=3.5, class_="open")
-        said = "open " + self.channel(names[0]) + last
+        said, array = "open " + first, first.rpartition("[")[0] + "["
+        if len(names) > 1:
+            is_array = all(self.channel(it).startswith(array) for it in names)
+            said = "%s..%s" % (said[:-1], last[len(array):]) if is_array else "%s .. %s" % (said, last)
         self.paper.label(cut(said, LANE - 12), [(x + 7, y + 4), (x + 7, y + 16)], tip=tip)
 
     def ends_of_arrow(self, at: int) -> tuple[int, int, Point, Point]:
@@ -251,9 +254,6 @@ class Drawing(Layout):
         if not names or self.view.last + 1 < len(self.entries):
             return low
         top, around = low, set(zip(self.view.circle, self.view.circle[1:]))
-        low += 18
-        said = "who waits for whom%s" % ("; thick: the circle" if around else "")
-        self.paper.label(said, [(LEFT - 20, low - 2)], "loud")
         for one, other in names:
             low += 14
             x1, x2 = self.x(one), self.x(other)
@@ -261,6 +261,9 @@ class Drawing(Layout):
                 self.paper.line((x, top), (x, low), "guide")
             kind = "circle" if (one, other) in around else "waits"
             self.paper.arrow((x1, low), (x2 - (4 if x2 > x1 else -4), low), kind, "%s waits for %s" % (one, other))
+        # (below the arrows no line crosses it)
+        low += 18
+        self.paper.label("who waits for whom%s" % ("; thick: the circle" if around else ""), [(LEFT - 20, low)], "loud")
         return low + 8
 
     def foot(self, low: float) -> float:

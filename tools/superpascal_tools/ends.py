@@ -11,7 +11,7 @@ from .followed import Followed
 from .inspector import Inspector
 from .journal import partner_of
 from .states import Process
-from .values import short
+from .values import counted, short
 
 VARIABLES = 12
 CALLS = 12
@@ -135,7 +135,7 @@ class Ends:
             first, words = root.name, "%s; %s" % (self.briefly(root), deadlock.partner(root)[0])
         place = deadlock.state[first].place
         said = self.source.message(place, "deadlock: " + words)
-        said += "  %d process%s, and no other can go on\n" % (len(stuck), " waits" if len(stuck) == 1 else "es wait")
+        said += "  %s, and no other can go on\n" % (counted(len(stuck), "process") + " wait" + "s" * (len(stuck) == 1))
         for name in [it for it in circle[:-1] if not deadlock.state[it].waits][:PROCESSES]:
             said += "    %s waits for its children at line %d\n" % (name, deadlock.state[name].place[0])
         told = stuck[:PROCESSES]
@@ -215,8 +215,7 @@ class Ends:
     def unended(self) -> str:
         """The place at which a journal stops before an end."""
         going = self.run.inspector.state.those("runs")
-        plural = "" if len(going) == 1 else "es"
-        words = "the journal stops before an end: %d process%s can go on" % (len(going), plural)
+        words = "the journal stops before an end: %s can go on" % counted(len(going), "process")
         said = self.source.message(going[0].place, words) if going else words + "\n"
         for process in going[:8]:
             said += "  %s, at line %d\n" % (self.who(process), process.place[0])

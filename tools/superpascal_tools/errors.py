@@ -2,8 +2,9 @@
 from __future__ import annotations
 
 import os
+import signal
 import sys
-from typing import Callable, Sequence
+from typing import Callable, NoReturn
 
 BAD_WORDS = 20
 NO_PROGRAM = 21
@@ -14,6 +15,11 @@ REFUSED = 25
 NO_MEMORY = 26
 STOPPED = 27
 UNFORESEEN = 28
+
+# The program refuses an input and a file that is longer; a record of a run has an index before each entry.
+LONGEST_INPUT = 16_777_216
+LONGEST_FILE = 67_108_864
+LONGEST_RECORD = 4 * LONGEST_FILE
 
 STATUSES = """statuses of the tool itself (those of the program, 0 to 10, are passed on):
   20  the words ask for nothing that the tool does
@@ -47,11 +53,11 @@ class Unfit(ToolError):
         self.index, self.why = index, why
 
 
-def read_file(path: str) -> bytes:
-    """The bytes of a file."""
+def read_file(path: str, longest: int = LONGEST_FILE) -> bytes:
+    """The bytes of a file, or of one that is too long the first ones."""
     try:
         with open(path, "rb") as file:
-            return file.read()
+            return file.read(longest + 1)
     except OSError as error:
         raise ToolError(NO_FILE, "cannot read %s: %s" % (path, error.strerror)) from None
 
@@ -80,12 +86,12 @@ def put_out(text: bytes) -> None:
         raise ToolError(NO_FILE, "cannot write the output: %s" % error.strerror) from None
 
 
-def read_input() -> bytes:
-    """The standard input to its end; nothing if it is closed."""
+def read_input(longest: int = LONGEST_INPUT) -> bytes:
+    """The standard input, or of one that is too long the first bytes; nothing if it is closed."""
     if sys.stdin is None or sys.stdin.closed:
         return b""
     try:
-        return sys.stdin.buffer.read()
+        return sys.stdin.buffer.read(longest + 1)
     except OSError as error:
         raise ToolError(NO_FILE, "cannot read the input: %s" % error.strerror) from None
 
@@ -105,10 +111,21 @@ def say(text: str) -> None:
         pass
 
 
-def ended(name: str, main: Callable[[Sequence[str]], int]) -> int:
+def leave(number: int, _frame: object) -> NoReturn:
+    """A signal ends the tool with all that it has started: calls of the program, and files for them."""
+    sys.exit(128 + number)
+
+
+def ended(name: str, main: Callable[[list[str]], int], usage: str) -> int:
     """The status of a tool: its own or the program's if it went well, else that of the error, reported in one line."""
     sys.setrecursionlimit(10_000)
+    for number in (signal.SIGTERM, signal.SIGHUP):
+        if signal.getsignal(number) is signal.SIG_DFL:
+            signal.signal(number, leave)
     try:
+        if sys.argv[1:2] in (["--help"], ["-h"], ["help"]):
+            put_out((usage + UNPROVED + "\n" + STATUSES).encode())
+            return 0
         return main(sys.argv[1:])
     except ToolError as error:
         said, status = str(error), error.status

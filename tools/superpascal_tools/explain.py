@@ -5,16 +5,16 @@ import difflib
 import os
 import re
 import sys
-from typing import Optional, Sequence
+from typing import Optional
 
 from . import refusals, rule_pages, trace_lines
 from .ends import Ends
 from .file_words import bad_code, bad_journal, unfit_journal
 from .journal import Journal, journal_in
 from .followed import Followed
-from .program import Answer, Caller, Words, limit_words, split_words, take_option
+from .program import Answer, Caller, Words, limit_words, split_words, take_anywhere, take_option
 from .source import Source
-from .errors import BAD_WORDS, STATUSES, UNPROVED, ToolError, put_out, read_file, read_input, say
+from .errors import BAD_WORDS, ToolError, put_out, read_file, read_input, say
 
 HELP = """usage: tools/explain [--program PROGRAM] [--first] COMMAND ..
   tools/explain run FILE [OPTIONS] <INPUT          as `superpascal run`, and then why it ended so
@@ -37,15 +37,11 @@ SHOWS = ("end", "timeline", "census", "tree", "waiting", "all", "journal")
 RUNS = ("run", "replay", "witness", "exec")
 
 
-def main(given: Sequence[str]) -> int:
+def main(words: list[str]) -> int:
     """Explains one call of the program; gives its status."""
-    words = list(given)
     path = take_option(words, "--program")
     is_first = words[:1] == ["--first"]
     del words[:is_first]
-    if words and words[0] in ("--help", "-h", "help"):
-        put_out((HELP + UNPROVED + "\n" + STATUSES).encode())
-        return 0
     if not words:
         raise ToolError(BAD_WORDS, "a command is wanted; --help lists them")
     if len(words) == 1 and re.fullmatch(r"[A-Za-z]\d+", words[0]):
@@ -61,7 +57,7 @@ def main(given: Sequence[str]) -> int:
 
 def trace(words: list[str], caller: Caller) -> int:
     """A run line by line; the status is that of the run, or of `trace` for a journal."""
-    given = trace_lines.taken(words)
+    given = take_anywhere(words, trace_lines.FILTERS)
     asked = split_words(["run"] + words[1:])
     if len(asked.plain) not in (1, 2):
         raise ToolError(BAD_WORDS, "trace wants a FILE and perhaps a JOURNAL; --help says more")
@@ -108,14 +104,21 @@ def explain(words: list[str], caller: Caller, is_first: bool) -> int:
 
 
 def input_of(asked: Words, caller: Caller) -> bytes:
-    """The standard input, if the command reads it; none is read for a text that is refused."""
-    if asked.command not in RUNS or not asked.plain:
+    """The standard input, if the command reads it. None is read for words or a file that the program refuses: what
+    writes the input may wait for the answer."""
+    if asked.command not in RUNS or bad_words(asked) or is_refused(asked, caller):
         return b""
     if sys.stdin is not None and not sys.stdin.closed and sys.stdin.isatty():
-        if asked.command != "exec" and caller(["check", "--", asked.plain[0]]).status:
-            return b""
         say("explain: reading the input: Ctrl-D ends it\n")
     return read_input()
+
+
+def is_refused(asked: Words, caller: Caller) -> bool:
+    """Whether the text or the code file is refused. That of a code file comes out in its first tick."""
+    file = ["--", asked.plain[0]]
+    if asked.command == "exec":
+        return caller(["exec", "--ticks", "1", "--workers", "1", *file]).status not in (0, 3, 4)
+    return caller(["check", *file]).status != 0
 
 
 def shown_as(words: list[str], asked: Words) -> tuple[Optional[str], list[str]]:

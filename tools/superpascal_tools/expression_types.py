@@ -40,6 +40,8 @@ class ExpressionTypes:
         self.selected_of: Optional[Type] = None
         self.uses: list[tuple[int, Name, bool]] = []
         self.called: list[tuple[int, Scope]] = []
+        # by the first token of an index: its array and the index itself
+        self.indexed: dict[int, tuple[Part, Part]] = {}
         self.actuals: list[tuple[Scope, list[tuple[Place, Name]]]] = []
         self.input = self.output = Name("var", "", self.block, (1, 1))
 
@@ -164,6 +166,7 @@ class ExpressionTypes:
     def element(self, array: Part) -> Optional[Type]:
         """The type of the element of an array; its index is next."""
         index, kind = self.expression(), array.kind
+        self.indexed[index.first] = (array, index)
         if kind is None:
             return None
         if kind.form != "array":

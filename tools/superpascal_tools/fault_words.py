@@ -1,6 +1,7 @@
 """A fault in words: its cause, by the place and the variables that `where` shows.
 
-Nothing is evaluated: an expression is named by its text and by the values of the variables in it.
+Nothing is evaluated here: an expression is named by its text and by the values of the variables in it. What an index is
+by these values is asked of the program.
 """
 from __future__ import annotations
 
@@ -11,9 +12,9 @@ from .clash import Clash
 from .followed import Followed
 from .input_words import no_number
 from .inspector import Range
-from .scopes import Scope, Type
+from .scopes import INTEGER, Scope
 from .states import Process
-from .values import short
+from .values import counted, order, short
 
 OPTIONS = {"F10": "ticks", "F11": "depth", "F12": "cells", "F13": "processes", "F14": "channels", "F15": "entries",
            "F16": "output"}
@@ -78,6 +79,26 @@ class FaultWords:
                     found[variable.spelled] = short(self.inspector.shown(value), WIDE)
         return ": " + ", ".join("%s is %s" % it for it in found.items()) if found else ""
 
+    def computed(self, part: Range) -> Optional[int]:
+        """The integer that the program computes of an expression with the values of its variables in their places; None
+        if one is not known, or if the expression has a function of its text or of the input."""
+        words, at = [], part[0]
+        while at < part[1]:
+            word, declared = self.tokens[at].word, self.outline.named.get(at)
+            if declared is None or declared.what == "standard" and declared.name not in ("eof", "eoln"):
+                words.append(word)
+                at += 1
+                continue
+            variable = self.inspector.variable(self.process, at)
+            value = declared.stands_for if variable is None else variable.value
+            if not isinstance(value, str) or order(value, None) is None:
+                return None
+            words.append("(%s)" % value)
+            at = variable.last if variable is not None else at + 1
+        text = "program value; begin write(0 + (%s)) end." % " ".join(words)
+        answer = self.run.caller.beside(["run", "--workers", "1", "--"], text.encode("latin1"))
+        return int(answer.output) if answer.status == 0 else None
+
     def is_joined(self) -> bool:
         """Whether the place is in an expression after an `and` or `or`."""
         at = self.at
@@ -95,63 +116,24 @@ class FaultWords:
     # Causes.
     def range(self) -> str:
         """F1: an index and its bounds, a value without a next one, a number that is no char, a width."""
-        part = self.expression(self.at)
-        array = self.array_of(self.at)
         function = self.function_at(self.at)
         if function in ("write", "writeln"):
             return "a width here is below 1%s" % self.values(self.statement())
-        if function in ("chr", "succ", "pred") and (array is None or self.tokens[self.at + 1].word != "("):
-            array = None
-        if array is None and function == "chr":
+        found = self.outline.indexed.get(self.at)
+        if found is None:
             (given,) = self.inspector.arguments(self.at)
-            return "chr(%s) is outside 0..255%s" % (self.spelled(given), self.values(given))
-        if array is None:
-            (given,) = self.inspector.arguments(self.at)
-            return "%s(%s) is no value of its type%s" % (function, self.spelled(given), self.values(given))
-        name, kind = array
-        low, high = kind.limits if kind is not None else ("?", "?")
+            what = "outside 0..255" if function == "chr" else "no value of its type"
+            return "%s(%s) is %s%s" % (function, self.spelled(given), what, self.values(given))
+        array, part = found[0], (found[1].first, found[1].last)
+        low, high = array.kind.limits if array.kind is not None else ("?", "?")
         value = self.inspector.simple(self.process, *part)
         index = self.spelled(part)
         known = " = %s" % value if value is not None and value != index else ""
-        return "index %s%s is outside the bounds %s..%s of %s%s" % (
-            index, known, low, high, name, "" if value is not None else self.values(part))
-
-    def array_of(self, at: int) -> Optional[tuple[str, Optional[Type]]]:
-        """The array of which an index begins at this token, and its type."""
-        deep, commas, at = 0, 0, at - 1
-        if self.tokens[at].word not in ("[", ",") or self.tokens[at].kind != "sign":
-            return None
-        while deep or self.tokens[at].word != "[":
-            word = self.tokens[at].word if self.tokens[at].kind == "sign" else ""
-            if word == "(" and not deep:
-                return None
-            deep += (word in (")", "]")) - (word in ("(", "["))
-            commas += word == "," and not deep
-            at -= 1
-        stop = at
-        first = at - 1
-        deep = 0
-        while True:
-            word = self.tokens[first].word if self.tokens[first].kind == "sign" else ""
-            deep += (word == "]") - (word == "[")
-            if not deep and self.tokens[first].kind == "name" and self.tokens[first - 1].word != ".":
-                break
-            first -= 1
-        declared = self.outline.named.get(first)
-        kind = declared.kind if declared is not None else None
-        inner = first + 1
-        while inner < stop and kind is not None:
-            if self.tokens[inner].word == ".":
-                kind = kind.fields[self.tokens[inner + 1].word].kind
-                inner += 2
-                continue
-            parts = self.inspector.parts_in(inner)
-            for _ in parts:
-                kind = kind.element if kind is not None else None
-            inner = parts[-1][1] + 1
-        for _ in range(commas):
-            kind = kind.element if kind is not None else None
-        return self.spelled((first, stop)), kind
+        if value is None and array.kind is not None and array.kind.index is INTEGER:
+            number = self.computed(part)
+            known = " = %d" % number if number is not None and not int(low) <= number <= int(high) else ""
+        name, values = self.spelled((array.first, array.last)), self.values(part) if value is None else ""
+        return "index %s%s is outside the bounds %s..%s of %s%s" % (index, known, low, high, name, values)
 
     def statement(self) -> Range:
         """The tokens of a call of a standard procedure whose name is at the place."""
@@ -229,15 +211,15 @@ class FaultWords:
         elif self.fault == "F13":
             parts = dict(self.outline.parallels).get(self.process.place)
             said = "the run has had %s, and this %s begins %s%s" % (
-                counted(counts["children"] + 1, "process", "processes"), self.kind,
+                counted(counts["children"] + 1, "process"), self.kind,
                 "%d more" % len(parts) if parts is not None else "too many more", self.nested())
         elif self.fault == "F14":
-            said = "the run has opened %s, and this is one more" % counted(counts["open"], "channel", "channels")
+            said = "the run has opened %s, and this is one more" % counted(counts["open"], "channel")
         elif self.fault == "F15":
             made = self.run.journal.count - 1 - counts["end"] - counts["pause"]
-            said = "the journal has %s, and this is one more" % counted(made, "entry", "entries")
+            said = "the journal has %s, and this is one more" % counted(made, "entry")
         else:
-            said = "the output has %s, and this would be too much" % counted(len(self.output), "byte", "bytes")
+            said = "the output has %s, and this would be too much" % counted(len(self.output), "byte")
         return "%s (limit: --%s %d)" % (said, name, most)
 
     def deepest(self, most: int) -> str:
@@ -253,8 +235,3 @@ class FaultWords:
         scopes = [it.scope for it in self.inspector.chain(self.process) if it.frame.place is not None]
         count = sum(it is scopes[0] for it in scopes) if scopes else 0
         return "; %s is in itself %d times" % (scopes[0].name, count) if count > 1 and scopes[0] is not None else ""
-
-
-def counted(count: int, one: str, more: str) -> str:
-    """A number of things."""
-    return "%d %s" % (count, one if count == 1 else more)

@@ -1,27 +1,25 @@
 """A run along a journal, as `where` and `trace` of the program tell it."""
 from __future__ import annotations
 
+import io
 import re
 from functools import cached_property
 from typing import Iterator, NamedTuple, Optional
 
 from .errors import REFUSED, UNFIT, ToolError, Unfit, read_file
 from .inspector import Inspector
-from .journal import Journal
+from .journal import Entry, Journal
 from .outline import Outline
 from .program import Answer, Caller, Limits, limit_words, limits_of
 from .source import Source
 from .states import State
 from .tokens import Place
 
-TRACE = re.compile(r"(\d+) (\d+):(\d+) (\S+ (?:(?:fork|send|receive|fault) \S+|open|end|laid|pause))(?: (.*))?")
-
-
 class Traced(NamedTuple):
     """A line of a trace: the place of an entry, the entry, and the value of its message."""
 
     place: Place
-    entry: str
+    entry: Entry
     value: Optional[str]
 
 
@@ -43,7 +41,8 @@ class Followed:
     def ask(self, command: str, count: Optional[int] = None) -> Answer:
         """`trace` or `where` along the first entries."""
         journal = self.journal.first(self.journal.count if count is None else count)
-        answer = self.caller.along(command, self.file, journal, limit_words(self.options), self.data)
+        words = [command, *limit_words(self.options), "--", self.file]
+        answer = self.caller.beside(words, journal, self.data)
         unfit = re.match(r"journal unfit (\d+)\n", answer.notes)
         if unfit:
             raise Unfit(int(unfit[1]), str(self.journal.entry(int(unfit[1]))))
@@ -82,13 +81,20 @@ class Followed:
         """The line of an entry."""
         return next(self.lines(at, at))
 
+    def rows(self, first: int, last: int) -> Iterator[list[str]]:
+        """The lines of these entries by their words: the index, place, process and kind; what else is there."""
+        if first > last:
+            return
+        stream = io.BytesIO(self.trace)
+        stream.seek(self.trace.index(b"\n%d " % first) + 1)
+        for at, line in zip(range(first, last + 1), io.TextIOWrapper(stream, "latin1", newline="\n")):
+            words = line[:-1].split(" ", 5)
+            if words[0] != str(at):
+                raise ToolError(UNFIT, "a line of the trace is not as expected: entry %d" % at)
+            yield words
+
     def lines(self, first: int, last: int) -> Iterator[Traced]:
         """The lines of these entries."""
-        begin = self.trace.index(b"\n%d " % first) + 1
-        for at in range(first, last + 1):
-            end = self.trace.index(b"\n", begin)
-            got = TRACE.fullmatch(self.trace[begin:end].decode("latin1"))
-            if got is None or int(got[1]) != at:
-                raise ToolError(UNFIT, "a line of the trace is not as expected: entry %d" % at)
-            yield Traced((int(got[2]), int(got[3])), got[4], got[5])
-            begin = end + 1
+        for _, place, name, kind, *rest in self.rows(first, last):
+            row, _, column = place.partition(":")
+            yield Traced((int(row), int(column)), Entry(name, kind, rest[0] if rest else ""), "".join(rest[1:]) or None)

@@ -4,14 +4,14 @@ from __future__ import annotations
 import os
 import time
 from concurrent.futures import Future, ThreadPoolExecutor, as_completed
-from typing import NamedTuple, Optional, Sequence
+from typing import NamedTuple, Optional
 
 from .calls import Calls
 from .exercise import Exercise, find_exercise
 from .grade_pages import as_csv, page, table
 from .grading import RESULTS, Grade, graded
 from .program import Caller, take_option
-from .errors import BAD_WORDS, NO_FILE, STATUSES, STOPPED, ToolError, put_out, say, write_file
+from .errors import BAD_WORDS, NO_FILE, STOPPED, ToolError, put_out, say, write_file
 
 HELP = """usage: tools/grade [--program PROGRAM] [--to FOLDER] [--jobs N] EXERCISE HAND-INS
 
@@ -21,7 +21,7 @@ folder of an exercise, as course/06_servers/1_account. The folder of --to, by de
 grades.csv and a page for each hand-in, NAME.md, which says why it is graded so. Ctrl-C keeps what is done.
 
 results:
-"""
+""" + "".join("  %-8s  %s\n" % row for row in RESULTS.items()) + "\n"
 OPTIONS = ("--program", "--to", "--jobs")
 EACH = 2.0
 
@@ -36,13 +36,8 @@ class Asked(NamedTuple):
     program: str
 
 
-def main(given: Sequence[str]) -> int:
+def main(words: list[str]) -> int:
     """Grades a folder; the status is 0 if all of it was graded, however it was."""
-    words = list(given)
-    if words and words[0] in ("--help", "-h", "help"):
-        results = "".join("  %-8s  %s\n" % row for row in RESULTS.items())
-        put_out((HELP + results + "\n" + STATUSES).encode())
-        return 0
     asked = read_words(words)
     paths = hand_ins(asked.hand_ins)
     try:

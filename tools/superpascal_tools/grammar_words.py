@@ -4,17 +4,14 @@ The program is asked which tokens may stand there, and which of them would let i
 """
 from __future__ import annotations
 
-import os
 import re
-import shutil
-import tempfile
 from concurrent.futures import ThreadPoolExecutor
 
 from . import rule_pages
 from .expression_types import RELATIONS
 from .outline import Outline
 from .program import Caller
-from .tokens import Token
+from .tokens import Token, place_of
 
 INSERTED = ("then", "do", "of", "to", ":=", ")", "]", ";", ":", ",", "(", "end", "..")
 STAND_INS = {"a name": "x", "a number": "1", "a text": "'xy'"}
@@ -31,21 +28,13 @@ class Asked:
 
     def fitting(self, candidates: list[str]) -> list[str]:
         """Those of the candidates that may follow what stands before the place."""
-        folder = tempfile.mkdtemp(prefix="superpascal-")
 
-        def fits(number: int) -> bool:
-            copy = os.path.join(folder, str(number))
-            with open(copy, "wb") as file:
-                file.write(self.before + b" " + candidates[number].encode("latin1") + b" ")
-            notes = self.caller(["check", "--", copy]).notes
-            os.unlink(copy)
-            return not re.match(r"refused (G1|L\d|S|U)", notes)
+        def fits(candidate: str) -> bool:
+            text = self.before + b" " + candidate.encode("latin1") + b" "
+            return not re.match(r"refused (G1|L\d|S|U)", self.caller.beside(["check"], text).notes)
 
-        try:
-            with ThreadPoolExecutor(4) as pool:
-                good = list(pool.map(fits, range(len(candidates))))
-        finally:
-            shutil.rmtree(folder, ignore_errors=True)
+        with ThreadPoolExecutor(4) as pool:
+            good = list(pool.map(fits, candidates))
         return [it for it, fit in zip(candidates, good) if fit]
 
     def may_stand(self) -> list[str]:
@@ -60,8 +49,8 @@ def grammar(outline: Outline, text: bytes, at: int, caller: Caller) -> tuple[str
     asked = Asked(text[:at], caller)
     may = asked.may_stand()
     more = ["Here may stand: %s" % ("  ".join(may) if may else "nothing")]
-    line, column = text.count(b"\n", 0, at) + 1, at - text.rfind(b"\n", 0, at)
-    number = next((n for n, it in enumerate(outline.tokens) if it.place >= (line, column)), len(outline.tokens) - 1)
+    place = place_of(text, at)
+    number = next((n for n, it in enumerate(outline.tokens) if it.place >= place), len(outline.tokens) - 1)
     here = Here(outline, number, may)
     words = "" if here.token.kind != "end" else here.too_short()
     words = words or nested(outline, text, at, here) or here.cause() or missing(here, asked) or here.plain()
@@ -88,9 +77,7 @@ def nested(outline: Outline, text: bytes, at: int, here: "Here") -> str:
     start = outline.starts[last[0] - 1] + last[1] - 1 + len(here.before.word)
     for got in re.finditer(rb"\{[^}]*\}|\(\*.*?\*\)", text[start:at], re.S):
         if b"{" in got[0][1:] or b"(*" in got[0][1:]:
-            stop = start + got.end() - 1
-            return "comments do not nest: this one ended at %d:%d" % (
-                text.count(b"\n", 0, stop) + 1, stop - text.rfind(b"\n", 0, stop))
+            return "comments do not nest: this one ended at %d:%d" % place_of(text, start + got.end() - 1)
     return ""
 
 

@@ -5,6 +5,7 @@ import re
 
 from .inspector import Inspector
 from .scopes import INTEGER
+from .tokens import place_of
 
 NUMBER = re.compile(rb"[ \t\f\r\n]*([+-]?)([0-9]*)")
 
@@ -24,5 +25,4 @@ def no_number(inspector: Inspector, data: bytes) -> str:
         at = got.end()
     at = got.end() if got is not None else at
     there = "its end" if at >= len(data) else "'%s'" % chr(data[at]) if 32 <= data[at] <= 126 else "chr(%d)" % data[at]
-    return "no integer begins at line %d, column %d of the input: there is %s" % (
-        data.count(b"\n", 0, at) + 1, at - data.rfind(b"\n", 0, at), there)
+    return "no integer begins at line %d, column %d of the input: there is %s" % (*place_of(data, at), there)

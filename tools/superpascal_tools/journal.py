@@ -44,13 +44,11 @@ def entry_of(line: str) -> Optional[Entry]:
     return Entry(name, kind, parts[1] or parts[3] or parts[5] or "")
 
 
-def read_record(text: str, strict: bool = True) -> Record:
+def read_record(text: str) -> Record:
     """Reads what `--show journal`, `timeline` or `all` wrote; with the lines of the end and the verdict before it."""
     lines = text.split("\n")
     cut = lines.pop()
-    if cut and not strict:
-        lines.append(cut)
-    elif cut:
+    if cut:
         raise ToolError(BAD_JOURNAL, "line %d is cut off: %s" % (len(lines) + 1, cut[:80]))
     head: list[str] = []
     entries: list[Entry] = []
@@ -107,7 +105,7 @@ class Journal:
 
     def first(self, count: int) -> bytes:
         """The text of the journal that has the first entries only."""
-        return HEAD + self.lines[:self.begins(min(count, self.count))]
+        return HEAD + (self.lines if count >= self.count else self.lines[:self.begins(count)])
 
     def last_of(self, name: str) -> int:
         """The index of the last entry of a process, or -1."""
@@ -140,7 +138,8 @@ def journal_in(notes: bytes) -> tuple[list[str], Journal]:
     if not mark:
         head, _, rest = notes.partition(HEAD)
         return head.decode("utf-8", "replace").splitlines(), Journal(rest)
-    rest = re.split(rb"^(?:census|tree|waiting)\n", rest, maxsplit=1, flags=re.M)[0]
+    ends = (rest.find(b"\n%s\n" % other.encode()) for other in OTHERS)
+    rest = rest[:min((end + 1 for end in ends if end >= 0), default=len(rest))]
     return head.decode("utf-8", "replace").splitlines(), Journal(re.sub(rb"^\d+ ", b"", rest, flags=re.M))
 
 

@@ -6,7 +6,7 @@ import signal
 import sys
 import threading
 import weakref
-from typing import Any, Callable, Optional, Sequence
+from typing import Any, Callable, Optional
 
 from . import diagnoses
 from .asides import SECONDS, TRIES, Aside, Found, Room, Watch
@@ -15,14 +15,14 @@ from .messages import (BAD_PARAMS, CANCELLED, CHANGED, FAILED, INTERNAL, INVALID
                        Reader, Writer)
 from .program import take_option
 from .questions import CAPABILITIES, INFO, QUESTIONS, WARNING, Desk
-from .errors import BAD_WORDS, STATUSES, ToolError, put_out
+from .errors import BAD_WORDS, ToolError
 
 HELP = """usage: tools/language_server [--program PROGRAM]
 Speaks the Language Server Protocol over standard input and output: an editor starts it (docs/EDITORS.md). It shows the
 first broken rule while one types, formats, renames, and says what names are and what process statements change and use.
 
 What is refused, formatted and which variables a statement changes is the answer of the program: PROGRAM, else the one
-that SUPERPASCAL names, else ./superpascal of this repository. Nothing is proved about this tool.
+that SUPERPASCAL names, else ./superpascal of this repository.
 
 """
 DELAY = 0.2
@@ -30,13 +30,9 @@ LARGE = 100_000
 ERROR = 1
 
 
-def main(given: Sequence[str]) -> int:
+def main(words: list[str]) -> int:
     """Serves one editor to its end."""
-    words = list(given)
     path = take_option(words, "--program")
-    if words and words[0] in ("--help", "-h", "help"):
-        put_out((HELP + STATUSES).encode())
-        return 0
     if words not in ([], ["--stdio"]):
         raise ToolError(BAD_WORDS, "no word %s is known; --help lists them" % words[0])
     signal.signal(signal.SIGTERM, lambda *_: sys.exit(1))

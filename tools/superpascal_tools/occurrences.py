@@ -72,7 +72,7 @@ def rename(text: Text, position: Any, new: Any) -> tuple[list[dict[str, Any]], T
     outline = text.outline()
     if not isinstance(new, str):
         raise Bad(FAILED, "a new name is wanted")
-    given = tokens_of(new.encode("utf-8", "replace").decode("latin1"), strict=False)
+    given = tokens_of(new.encode("utf-8", "replace").decode("latin1"))
     if [it.kind for it in given] != ["name", "end"] or len(given[0].word) != len(new):
         raise Bad(FAILED, "%s is not a name" % new[:40])
     places = sorted(text.span(outline.tokens[at]) for at in occurrences(outline, declared))

@@ -19,7 +19,7 @@ class Outline(StatementTypes):
     """The outline of a text, whose characters are its bytes."""
 
     def __init__(self, text: str) -> None:
-        super().__init__(text, tokens_of(text, strict=False))
+        super().__init__(text, tokens_of(text))
         self.blocks: list[Scope] = []
         self.main = self.block
         self.whole = False

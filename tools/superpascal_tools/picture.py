@@ -5,18 +5,18 @@ import os
 import shutil
 import subprocess
 import sys
-from typing import Optional, Sequence
+from typing import Optional
 
 from .clash import Clash
 from .columns import Lanes
 from .deadlocks import Deadlock
 from .drawing import Drawing
-from .errors import (BAD_WORDS, NO_FILE, NO_PROGRAM, REFUSED, STATUSES, UNPROVED, ToolError, put_out, read_file,
-                     read_input, say, write_file)
+from .errors import (BAD_WORDS, LONGEST_RECORD, NO_FILE, NO_PROGRAM, ToolError, read_file, read_input, say,
+                     write_file)
 from .followed import Followed
 from .journal import Entry, Journal, Record, journal_text, racing, read_record
 from .layout import View
-from .program import Caller, limits_of, split_words
+from .program import Caller, limits_of, number, split_words, take_anywhere
 from .run_names import RunNames
 from .timing import Timing
 
@@ -48,14 +48,11 @@ PART = 400
 OWN = ("--text", "--input", "--from", "--to", "--process", "--title", "--out", "--png", "--pdf", "--program")
 
 
-def main(given: Sequence[str]) -> int:
+def main(words: list[str]) -> int:
     """Draws a run."""
-    words = list(given)
-    if words and words[0] in ("--help", "-h", "help"):
-        put_out((HELP + UNPROVED + "\n" + STATUSES).encode())
-        return 0
     runs = words[:1] == ["run"]
-    own, rest, in_order = own_options(words[1:] if runs else words)
+    rest = [word for word in (words[1:] if runs else words) if word != "--order"]
+    own = take_anywhere(rest, OWN)
     asked = split_words(["run"] + rest)
     data = b""
     if runs:
@@ -64,10 +61,10 @@ def main(given: Sequence[str]) -> int:
         unknown = [name for name in asked.options if name[2:] not in limits_of({})._fields]
         if unknown or len(asked.plain) > 1:
             raise ToolError(BAD_WORDS, "not understood: %s; --help says more" % " ".join(unknown or asked.plain[1:]))
-        told = read_file(asked.plain[0]) if asked.plain else read_input()
+        told = read_file(asked.plain[0], LONGEST_RECORD) if asked.plain else read_input(LONGEST_RECORD)
         record = read_record(told.decode("utf-8", "replace"))
         data = read_file(own["--input"]) if "--input" in own else b""
-    view = View(Timing(record.entries, in_order), Lanes([]), 0, 0, "", foot_of(record))
+    view = View(Timing(record.entries, "--order" in words), Lanes([]), 0, 0, "", foot_of(record))
     choose(view, record, own)
     if "--text" in own:
         journal = Journal(journal_text(record.entries).partition("\n")[2].encode())
@@ -104,26 +101,6 @@ def converted(picture: bytes, form: str, path: str) -> None:
         raise ToolError(NO_FILE, "%s cannot write %s" % (words[0], path))
 
 
-def own_options(words: list[str]) -> tuple[dict[str, str], list[str], bool]:
-    """The tool's own options, the other words, and whether each entry has a row of its own."""
-    own: dict[str, str] = {}
-    rest: list[str] = []
-    left = list(words)
-    in_order = False
-    while left:
-        word = left.pop(0)
-        name, equals, value = word.partition("=")
-        if word == "--order":
-            in_order = True
-        elif name in OWN:
-            if not equals and not left:
-                raise ToolError(BAD_WORDS, "%s wants a value" % name)
-            own[name] = value if equals else left.pop(0)
-        else:
-            rest.append(word)
-    return own, rest, in_order
-
-
 def ran(own: dict[str, str], rest: list[str]) -> tuple[Record, str, bytes]:
     """The record of a run that is made now, its text and its input."""
     asked = split_words(["run"] + rest)
@@ -131,10 +108,7 @@ def ran(own: dict[str, str], rest: list[str]) -> tuple[Record, str, bytes]:
         raise ToolError(BAD_WORDS, "run wants a FILE, and no --show")
     caller = Caller(own.get("--program"))
     data = read_file(own["--input"]) if "--input" in own else read_input()
-    answer = caller(["run", "--show", "timeline"] + rest, data)
-    if answer.status not in (0, 3, 4):
-        line = answer.notes.split("\n")[0]
-        raise ToolError(REFUSED if answer.status == 1 else BAD_WORDS, "the program says: %s" % line)
+    answer = caller.ran(["run", "--show", "timeline"] + rest, data)
     return read_record(answer.notes), asked.plain[0], data
 
 
@@ -183,8 +157,8 @@ def choose(view: View, record: Record, own: dict[str, str]) -> None:
     entries = record.entries
     view.race = race_of(record)
     count = len(entries)
-    first = whole(own, "--from", None)
-    last = whole(own, "--to", None)
+    first = number(own["--from"], "--from") if "--from" in own else None
+    last = number(own["--to"], "--to") if "--to" in own else None
     if first is None:
         first = 0
         if count > PART and last is None:
@@ -208,12 +182,12 @@ def choose(view: View, record: Record, own: dict[str, str]) -> None:
 def touched(view: View, entries: list[Entry]) -> set[str]:
     """The processes that have a part in the entries that are drawn."""
     names = set()
-    number = {at: fork for (_, fork), (_, at, _) in view.timing.forks.items()}
+    forks = {at: fork for (_, fork), (_, at, _) in view.timing.forks.items()}
     for at in range(view.first, view.last + 1):
         names.add(entries[at].name)
-        if at in number:
+        if at in forks:
             name, _, count = entries[at]
-            names.update("%s/%d.%d" % (name, number[at], child) for child in range(int(count)))
+            names.update("%s/%d.%d" % (name, forks[at], child) for child in range(int(count)))
     names.update(entries[at].name for at in view.timing.waiting.values() if view.last + 1 == len(entries))
     return names
 
@@ -225,12 +199,3 @@ def race_of(record: Record) -> Optional[tuple[int, int]]:
         if parts[0] == "race" and len(parts) == 5:
             return int(parts[3]), int(parts[4])
     return None if record.head else racing(record.entries)
-
-
-def whole(own: dict[str, str], name: str, absent: Optional[int]) -> Optional[int]:
-    """The number of an option."""
-    if name not in own:
-        return absent
-    if not own[name].isdigit():
-        raise ToolError(BAD_WORDS, "%s wants a number" % name)
-    return int(own[name][:18])

@@ -9,7 +9,7 @@ import time
 from typing import Collection, NamedTuple, Optional, Sequence
 
 from .rule_pages import TOP
-from .errors import BAD_WORDS, NO_PROGRAM, ToolError, say
+from .errors import BAD_WORDS, NO_PROGRAM, REFUSED, ToolError, say
 
 BUILT = ("crates/sp_main/out/sp_main", "out/unproved", "out/unproved_checked")
 CHATTER = "superpascal: "
@@ -58,10 +58,15 @@ class Caller:
         """The script ./superpascal builds the program at its first call, and says how far it is."""
         say("the program is not built: ./superpascal builds it now, or SUPERPASCAL names one\n")
         try:
-            subprocess.run([self.path, "check", os.path.join(TOP, "examples/answer.sp")], stdin=subprocess.DEVNULL,
-                           stdout=subprocess.DEVNULL, check=False)
+            # pylint: disable-next=consider-using-with
+            process = subprocess.Popen([self.path, "check", os.path.join(TOP, "examples/answer.sp")],
+                                       stdin=subprocess.DEVNULL, stdout=subprocess.DEVNULL)
         except OSError as error:
             raise ToolError(NO_PROGRAM, "cannot run %s: %s" % (self.path, error.strerror)) from None
+        try:
+            process.wait()
+        finally:
+            end(process)
 
     def run(self, words: Sequence[str], data: bytes) -> tuple[int, bytes, str]:
         """Runs the program once: its status (negative: the signal that ended it), its output and its notes."""
@@ -80,9 +85,7 @@ class Caller:
                     given, patience = None, 5 * PATIENCE
                     progress("`superpascal %s` goes on: %d s" % (words[0], time.monotonic() - begun))
         finally:
-            if process.poll() is None:
-                process.kill()
-                process.communicate()
+            end(process)
 
     def __call__(self, words: Sequence[str], data: bytes = b"") -> Answer:
         try:
@@ -98,13 +101,31 @@ class Caller:
             notes = "".join(line for line in lines if not line.startswith(CHATTER))
         return Answer(status, output, notes)
 
+    def ran(self, words: Sequence[str], data: bytes = b"", file: str = "") -> Answer:
+        """The answer of a call that ran the program of a text; its file is named if that is given."""
+        answer = self(words, data)
+        if answer.status not in (0, 3, 4):
+            said = "the program says%s: %s" % (file and " of " + file, answer.notes.split("\n")[0])
+            raise ToolError(REFUSED if answer.status == 1 else BAD_WORDS, said)
+        return answer
 
-    def along(self, command: str, file: str, journal: bytes, options: Sequence[str], data: bytes) -> Answer:
-        """`trace` or `where` of a text along a journal, with these limits."""
-        with tempfile.NamedTemporaryFile(prefix="superpascal-", suffix=".journal") as kept:
-            kept.write(journal)
-            kept.flush()
-            return self([command, *options, "--", file, kept.name], data)
+    def beside(self, words: Sequence[str], text: bytes, data: bytes = b"") -> Answer:
+        """The same with a file that has this text as the last word."""
+        with tempfile.NamedTemporaryFile(prefix="superpascal-") as file:
+            file.write(text)
+            file.flush()
+            return self([*words, file.name], data)
+
+
+def end(process: subprocess.Popen[bytes]) -> None:
+    """Ends a call that still runs. A script has a moment to end what it has started itself."""
+    if process.poll() is None:
+        process.terminate()
+        try:
+            process.communicate(timeout=PATIENCE)
+        except subprocess.TimeoutExpired:
+            process.kill()
+            process.communicate()
 
 
 def progress(words: str) -> None:
@@ -174,3 +195,26 @@ def take_options(words: list[str], names: Collection[str]) -> dict[str, Optional
         name = words[0].split("=")[0]
         taken[name] = take_option(words, name)
     return taken
+
+
+def take_anywhere(words: list[str], names: Collection[str]) -> dict[str, str]:
+    """Takes the options of these names, with their values, out of the words."""
+    found: dict[str, str] = {}
+    at = 0
+    while at < len(words) and words[at] != "--":
+        name, equals, value = words[at].partition("=")
+        if name not in names:
+            at += 1
+            continue
+        if not equals and at + 1 == len(words):
+            raise ToolError(BAD_WORDS, "%s wants a value" % name)
+        found[name] = value if equals else words[at + 1]
+        del words[at:at + (1 if equals else 2)]
+    return found
+
+
+def number(word: str, name: str) -> int:
+    """The number of an option."""
+    if not word.isdigit():
+        raise ToolError(BAD_WORDS, "%s wants a number" % name)
+    return int(word[:18])

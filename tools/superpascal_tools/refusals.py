@@ -5,6 +5,7 @@ from typing import Callable
 
 from . import rule_pages
 from .byte_words import bytes_words
+from .errors import LONGEST_FILE
 from .grammar_words import grammar
 from .interference import Said, interference
 from .name_words import undeclared
@@ -41,7 +42,8 @@ def cause(text: bytes, rule: str, place: Place, caller: Caller, read: Callable[[
     """The cause, with no words if it is not known; `read` gives the outline of a text."""
     at = place_in(text, place)
     if rule == "L1":
-        return Said("the program has %d bytes, and at most %d are accepted" % (len(text), LARGEST), [])
+        size = "%d" % len(text) if len(text) <= LONGEST_FILE else "more than %d" % LONGEST_FILE
+        return Said("the program has %s bytes, and at most %d are accepted" % (size, LARGEST), [])
     if rule[0] in "SU":
         return Said(*bytes_words(text, at, rule))
     outline = read(text.decode("latin1"))

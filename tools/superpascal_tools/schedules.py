@@ -3,11 +3,12 @@ from __future__ import annotations
 
 import os
 import time
-from typing import NamedTuple, Optional, Sequence
+from typing import NamedTuple, Sequence
 
 from .journal import journal_text, read_record
 from .program import PATIENCE, Answer, Caller, progress, split_words, take_options
-from .errors import BAD_WORDS, REFUSED, STATUSES, UNPROVED, ToolError, put_out, read_file, read_input, say, write_file
+from .values import counted
+from .errors import BAD_WORDS, ToolError, put_out, read_file, read_input, say, write_file
 
 HELP = """usage: tools/schedules [--program PROGRAM] [--journals FOLDER] FILE N [OPTIONS of `superpascal run`] <INPUT
 
@@ -31,12 +32,8 @@ class Kind(NamedTuple):
     output: bytes
 
 
-def main(given: Sequence[str]) -> int:
+def main(words: list[str]) -> int:
     """Prints the table of the runs."""
-    words = list(given)
-    if words and words[0] in ("--help", "-h", "help"):
-        put_out((HELP + UNPROVED + "\n" + STATUSES).encode())
-        return 0
     own = take_options(words, ("--program", "--journals"))
     asked = split_words(["run"] + words)
     if len(asked.plain) != 2 or not asked.plain[1].isdigit() or not 1 <= int(asked.plain[1][:9]) <= MOST:
@@ -65,7 +62,7 @@ def many(caller: Caller, file: str, count: int, options: list[str], workers: Seq
     for number in range(count):
         words = ["run", "--show", "timeline", "--workers", workers[number % len(workers)], *options, "--", file]
         try:
-            answer = caller(words, data)
+            answer = caller.ran(words, data)
         except KeyboardInterrupt:
             if not seen:
                 raise
@@ -74,9 +71,6 @@ def many(caller: Caller, file: str, count: int, options: list[str], workers: Seq
         if time.monotonic() - begun >= PATIENCE:
             progress("%d of %d runs" % (number + 1, count))
             begun = time.monotonic()
-        if answer.status not in (0, 3, 4):
-            line = answer.notes.split("\n")[0]
-            raise ToolError(REFUSED if answer.status == 1 else BAD_WORDS, "the program says: %s" % line)
         kind = kind_of(answer)
         seen[kind] = seen.get(kind, 0) + 1
         if kind not in kept:
@@ -111,7 +105,7 @@ def table(file: str, seen: dict[Kind, int], kept: dict[Kind, str], witness: str,
         rows.append(("-", "%s %s" % (fault, process), "unjudged", "(by witness)", path))
     sizes = [max(len(row[column]) for row in rows) for column in range(4)]
     said = "".join("  ".join(cell.ljust(size) for cell, size in zip(row, sizes + [0])).rstrip() + "\n" for row in rows)
-    return "%d runs of %s: %d kind%s\n%s" % (count, file, len(seen), "" if len(seen) == 1 else "s", said)
+    return "%d runs of %s: %s\n%s" % (count, file, counted(len(seen), "kind"), said)
 
 
 def short(text: str) -> str:

@@ -20,7 +20,8 @@ class Source:
             return indent + "(the end of the text)\n"
         text = self.lines[number - 1].rstrip(b"\r")
         before = shown(text[:column - 1])
-        whole = shown(text)
+        # (a character has at most four bytes, and a line may be very long)
+        whole = shown(text[:column + 4 * WIDE])
         first = max(0, len(before) - BEFORE)
         cut = "…" if first else ""
         more = "…" if len(whole) > first + WIDE else ""

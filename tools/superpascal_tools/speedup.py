@@ -4,13 +4,14 @@ from __future__ import annotations
 import os
 import time
 from functools import partial
-from typing import Callable, NamedTuple, Optional, Sequence
+from typing import Callable, NamedTuple, Optional
 
 from .chain import TICKS, each_pause, longest_chain
 from .journal import Entry, Record, read_record
 from .plot import plotted
 from .program import Answer, Caller, split_words, take_options
-from .errors import BAD_WORDS, REFUSED, STATUSES, UNPROVED, ToolError, put_out, read_file, read_input, write_file
+from .values import counted
+from .errors import BAD_WORDS, ToolError, put_out, read_file, read_input, write_file
 
 HELP = """usage: tools/speedup [OPTIONS] FILE [OPTIONS of `superpascal run`] <INPUT
 
@@ -41,11 +42,11 @@ class Asked(NamedTuple):
     def run(self, workers: int, *more: str) -> Answer:
         """A run that was made."""
         words = ["run", *more, "--workers", str(workers), *self.options, "--", self.file]
-        return good(self.caller(words, self.data))
+        return self.caller.ran(words, self.data)
 
     def check(self) -> Answer:
         """A check of the text alone."""
-        return good(self.caller(["check", "--", self.file]))
+        return self.caller.ran(["check", "--", self.file])
 
 
 class Table(NamedTuple):
@@ -60,12 +61,8 @@ class Table(NamedTuple):
         return self.seconds[1] / max(self.seconds[workers], 1e-6)
 
 
-def main(given: Sequence[str]) -> int:
+def main(words: list[str]) -> int:
     """Prints the table, and draws the plot if one is asked for."""
-    words = list(given)
-    if words and words[0] in ("--help", "-h", "help"):
-        put_out((HELP + UNPROVED + "\n" + STATUSES).encode())
-        return 0
     own = take_options(words, OWN)
     workers, times = numbers_of(own)
     asked = split_words(["run"] + words)
@@ -91,14 +88,6 @@ def numbers_of(own: dict[str, Optional[str]]) -> tuple[list[int], int]:
     if not times.isdigit() or not 1 <= int(times[:9]) <= 100:
         raise ToolError(BAD_WORDS, "--times wants a number from 1 to 100")
     return sorted({int(word) for word in workers}), int(times)
-
-
-def good(answer: Answer) -> Answer:
-    """An answer of a run that was made."""
-    if answer.status not in (0, 3, 4):
-        line = answer.notes.split("\n")[0]
-        raise ToolError(REFUSED if answer.status == 1 else BAD_WORDS, "the program says: %s" % line)
-    return answer
 
 
 def measure(what: Asked, workers: list[int], times: int) -> Table:
@@ -128,8 +117,8 @@ def table_text(table: Table) -> str:
         said += "(too short to tell much: let the program do more)\n"
     runs = "one run each" if table.times == 1 else "the best of %d runs each" % table.times
     processors = os.cpu_count() or 1
-    return said + "%s, with %.3f s to begin and to check the text; this machine has %d processor%s\n" % (
-        runs, table.check, processors, "" if processors == 1 else "s")
+    return said + "%s, with %.3f s to begin and to check the text; this machine has %s\n" % (
+        runs, table.check, counted(processors, "processor"))
 
 
 def chain_words(record: Record) -> tuple[str, float]:
@@ -155,9 +144,3 @@ def chain_words(record: Record) -> tuple[str, float]:
 def processes(entries: list[Entry]) -> int:
     """How many processes there were."""
     return 1 + sum(int(entry.argument) for entry in entries if entry.kind == "fork")
-
-
-def counted(count: int, what: str) -> str:
-    """A number with its word."""
-    more = {"process": "processes", "entry": "entries"}.get(what, what + "s")
-    return "%d %s" % (count, what if count == 1 else more)

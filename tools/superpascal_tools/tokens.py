@@ -4,8 +4,6 @@ from __future__ import annotations
 import re
 from typing import NamedTuple
 
-from .errors import REFUSED, ToolError
-
 MAXINT = 9223372036854775807
 
 WORDS = frozenset("""and array assume begin case const div do downto else end for forall function if mod not of or
@@ -27,18 +25,13 @@ class Token(NamedTuple):
     place: Place
 
 
-def tokens_of(text: str, strict: bool = True) -> list[Token]:
-    """The tokens of a text, whose characters are its bytes; the last one has the kind `end`.
-
-    A byte that begins no token is refused, or has the kind `bad` if the reader is not strict.
-    """
+def tokens_of(text: str) -> list[Token]:
+    """The tokens of a text, whose characters are its bytes; the last one has the kind `end`."""
     found: list[Token] = []
     at, line, begun = 0, 1, 0
     while at < len(text):
         got = TOKEN.match(text, at)
         if got is None:
-            if strict:
-                raise ToolError(REFUSED, "the text breaks a rule at %d:%d" % (line, at - begun + 1))
             found.append(Token("bad", text[at], (line, at - begun + 1)))
             at += 1
             continue
@@ -56,3 +49,7 @@ def tokens_of(text: str, strict: bool = True) -> list[Token]:
     found.append(Token("end", "", (line, at - begun + 1)))
     return found
 
+
+def place_of(text: bytes, at: int) -> Place:
+    """The place of a byte."""
+    return text.count(b"\n", 0, at) + 1, at - text.rfind(b"\n", 0, at)

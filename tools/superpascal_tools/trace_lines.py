@@ -10,11 +10,12 @@ from bisect import bisect_right
 from typing import Iterator, NamedTuple, Optional
 
 from . import rule_pages
-from .errors import BAD_WORDS, ToolError, put_out
-from .followed import Followed, Traced
-from .journal import Entry, entry_of
+from .errors import put_out
+from .followed import Followed
+from .program import number
 
 FILTERS = ("--process", "--channel", "--line", "--from", "--to")
+OTHERS = {"end": "ends", "laid": "is stopped", "pause": "has computed for long, and lets others go on"}
 PART = 2_000
 
 
@@ -27,22 +28,6 @@ class Filters(NamedTuple):
     part: range
 
 
-def taken(words: list[str]) -> dict[str, str]:
-    """Takes the filters out of the words."""
-    found: dict[str, str] = {}
-    at = 0
-    while at < len(words) and words[at] != "--":
-        name, equals, value = words[at].partition("=")
-        if name not in FILTERS:
-            at += 1
-            continue
-        if not equals and at + 1 == len(words):
-            raise ToolError(BAD_WORDS, "%s wants a value" % name)
-        found[name] = value if equals else words[at + 1]
-        del words[at:at + (1 if equals else 2)]
-    return found
-
-
 def filters_of(given: dict[str, str], count: int) -> Filters:
     """The filters that these options ask for."""
     first, _, last = given.get("--line", "").partition("..")
@@ -52,101 +37,102 @@ def filters_of(given: dict[str, str], count: int) -> Filters:
     return Filters(given.get("--process", ""), given.get("--channel", "").replace(" ", "").lower(), lines, part)
 
 
-def number(word: str, name: str) -> int:
-    """The number of an option."""
-    if not word.isdigit():
-        raise ToolError(BAD_WORDS, "%s wants a number" % name)
-    return int(word[:18])
-
-
 class TraceLines:
-    """The lines of a run."""
+    """The lines of a run. A channel has its variable in the last state; else what the statement that opened it has."""
 
     def __init__(self, run: Followed) -> None:
         self.run, self.inspector = run, run.last_inspector
         self.blocks = sorted((it.first, it.last, it) for it in run.outline.blocks)
         self.firsts = [it[0] for it in self.blocks]
+        self.variables: dict[str, str] = {}
         self.channels: dict[str, str] = {}
         self.opens: dict[str, int] = {}
+        self.opens_at: dict[tuple[str, str], int] = {}
         self.forks: dict[str, int] = {}
-        self.pending: dict[str, tuple[int, Entry]] = {}
-        self.last_open: dict[str, tuple[tuple[int, int], int]] = {}
-        self.titles: dict[tuple[str, tuple[int, int]], str] = {}
+        self.pending: dict[str, tuple[str, str]] = {}
+        self.titles: dict[tuple[str, str], str] = {}
 
     def chosen(self, wanted: Filters) -> Iterator[str]:
         """The lines of the entries that are wanted."""
-        names = {wanted.process} if wanted.process else set()
-        for at, traced in enumerate(self.run.lines(0, self.run.journal.count - 1)):
-            entry = entry_of(traced.entry)
-            if entry is None or at >= wanted.part.stop:
-                break
-            channel, words = self.words(at, entry, traced)
-            if at < wanted.part.start or wanted.lines and traced.place[0] not in wanted.lines:
+        chooses = wanted.process or wanted.channel or wanted.lines
+        for index, place, name, kind, *rest in self.run.rows(0, wanted.part.stop - 1):
+            channel, words = rest[0] if rest else "", ""
+            if kind in ("send", "receive"):
+                words = self.offer(index, name, kind, channel, rest[1] if len(rest) > 1 else "")
+            elif kind == "open":
+                channel = self.opened(name, place)
+                words = "opens " + self.channels[channel]
+            elif kind == "fork":
+                words = self.fork(name, int(channel) - 1)
+            elif kind == "fault":
+                words = "meets the fault %s, %s" % (channel, rule_pages.fault_name(channel))
+            else:
+                words = OTHERS[kind]
+            if int(index) < wanted.part.start or chooses and not self.is_wanted(wanted, name, place, channel):
                 continue
-            if names and entry.name not in names and not entry.name.startswith(wanted.process + "/"):
-                continue
-            variable = self.channels.get(channel, "").replace(" ", "").lower()
-            if wanted.channel and wanted.channel not in (channel, variable):
-                continue
-            key = (entry.name, traced.place)
-            if key not in self.titles:
-                self.titles[key] = self.who(entry.name, traced)
-            yield "%7d %8s  %-24s %s\n" % (at, "%d:%d" % traced.place, self.titles[key], words)
+            title = self.titles.get((name, place)) or self.title(name, place)
+            yield f"{index:>7} {title} {words}\n"
 
-    def who(self, name: str, traced: Traced) -> str:
-        """A process, with the block that its statement is in, and its parameters if it is still in that call."""
-        at = self.inspector.token_at.get(traced.place, 0)
+    def is_wanted(self, wanted: Filters, name: str, place: str, channel: str) -> bool:
+        """Whether the filters let an entry pass."""
+        if wanted.lines and int(place.partition(":")[0]) not in wanted.lines:
+            return False
+        if wanted.process and name != wanted.process and not name.startswith(wanted.process + "/"):
+            return False
+        variable = self.variables.get(channel, "").replace(" ", "").lower()
+        return not wanted.channel or wanted.channel in (channel, variable)
+
+    def token(self, place: str) -> int:
+        """The token at a place."""
+        row, _, column = place.partition(":")
+        return self.inspector.token_at.get((int(row), int(column)), 0)
+
+    def title(self, name: str, place: str) -> str:
+        """A place, and a process with the block that its statement is in, with its parameters if it is still in that
+        call."""
+        at = self.token(place)
         rank = bisect_right(self.firsts, at) - 1
         scope = self.blocks[rank][2] if rank >= 0 and at < self.blocks[rank][1] else None
-        if scope is None or scope is self.run.outline.main:
-            return name
-        process = self.inspector.state.get(name)
-        calls = [it for it in self.inspector.stack(process)[0] if it.scope is scope] if process is not None else []
-        return "%s %s" % (name, self.inspector.call_text(calls[0]) if len(calls) == 1 else scope.name)
+        title = name
+        if scope is not None and scope is not self.run.outline.main:
+            process = self.inspector.state.get(name)
+            calls = [it for it in self.inspector.stack(process)[0] if it.scope is scope] if process is not None else []
+            title = "%s %s" % (name, self.inspector.call_text(calls[0]) if len(calls) == 1 else scope.name)
+        return self.titles.setdefault((name, place), "%8s  %-24s" % (place, title))
 
-    def words(self, at: int, entry: Entry, traced: Traced) -> tuple[str, str]:
-        """The channel of an entry, and what the process does there."""
-        name, kind, argument = entry
-        if kind == "open":
-            channel = "%s#%d" % (name, self.opens.setdefault(name, 0))
-            self.opens[name] += 1
-            self.channels[channel] = self.inspector.channel_variable(channel) or self.as_written(name, traced)
-            return channel, "opens %s" % self.named(channel)
-        self.last_open.pop(name, None)
-        if kind == "fork":
-            fork = self.forks.setdefault(name, 0)
-            self.forks[name] += 1
-            last = int(argument) - 1
-            return "", "starts %s/%d.0%s" % (name, fork, " to %s/%d.%d" % (name, fork, last) if last else "")
-        if kind in ("send", "receive"):
-            return argument, self.offer(at, entry, traced)
-        return "", {"end": "ends", "laid": "is stopped", "pause": "has computed for long, and lets others go on"}.get(
-            kind) or "meets the fault %s, %s" % (argument, rule_pages.fault_name(argument))
+    # What an entry does.
+    def opened(self, name: str, place: str) -> str:
+        """A channel that is opened. A statement opens its variables one after the other."""
+        channel = "%s#%d" % (name, self.opens.setdefault(name, 0))
+        self.opens[name] += 1
+        count = self.opens_at[name, place] = self.opens_at.get((name, place), -1) + 1
+        variable = self.inspector.channel_variable(channel)
+        given = self.inspector.arguments(self.token(place))
+        if not variable and given:
+            variable = self.run.outline.spelled(*given[count % len(given)])
+        self.variables[channel] = variable
+        self.channels[channel] = "%s (%s)" % (variable, channel) if variable else channel
+        return channel
 
-    def offer(self, at: int, entry: Entry, traced: Traced) -> str:
+    def fork(self, name: str, last: int) -> str:
+        """A fork, with its first and its last child."""
+        fork = self.forks[name] = self.forks.get(name, -1) + 1
+        return "starts %s/%d.0%s" % (name, fork, " to %s/%d.%d" % (name, fork, last) if last else "")
+
+    def offer(self, index: str, name: str, kind: str, channel: str, value: str) -> str:
         """An offer, which waits or meets the one that waits."""
-        value = self.named(traced.value) if traced.value is not None and "#" in traced.value else traced.value
-        said = "sends %s on %s" % (value, self.named(entry.argument)) if entry.kind == "send" else \
-            "receives %sfrom %s" % (value + " " if value is not None else "", self.named(entry.argument))
-        other = self.pending.pop(entry.argument, None)
+        if "#" in value:
+            value = self.channels.get(value, value)
+        there = self.channels.get(channel, channel)
+        if kind == "send":
+            said = f"sends {value} on {there}"
+        else:
+            said = f"receives {value} from {there}" if value else f"receives from {there}"
+        other = self.pending.pop(channel, None)
         if other is None:
-            self.pending[entry.argument] = (at, entry)
+            self.pending[channel] = (index, name)
             return said + ", and waits"
-        return "%s, %s by %s, which waited since %d" % (
-            said, "received" if entry.kind == "send" else "sent", other[1].name, other[0])
-
-    def as_written(self, name: str, traced: Traced) -> str:
-        """The variable of an open, as the statement writes it; its variables are opened one after the other."""
-        given = self.inspector.arguments(self.inspector.token_at[traced.place])
-        place, count = self.last_open.get(name, (traced.place, -1))
-        count = count + 1 if place == traced.place else 0
-        self.last_open[name] = (traced.place, count)
-        return self.run.outline.spelled(*given[count % len(given)]) if given else ""
-
-    def named(self, channel: str) -> str:
-        """A channel by its variable and its name."""
-        variable = self.channels.get(channel, "")
-        return "%s (%s)" % (variable, channel) if variable else channel
+        return f"{said}, {'received' if kind == 'send' else 'sent'} by {other[1]}, which waited since {other[0]}"
 
 
 def show(lines: Iterator[str]) -> None:

@@ -89,6 +89,12 @@ def named_at(number: int, kind: Optional[Type]) -> str:
     return str(number)
 
 
+def counted(count: int, what: str) -> str:
+    """A number of things, as `1 entry` or `2 entries`."""
+    more = {"process": "processes", "entry": "entries"}.get(what, what + "s")
+    return "%d %s" % (count, what if count == 1 else more)
+
+
 def short(text: Optional[str], most: int) -> str:
     """A value, of a long one the beginning."""
     said = "away" if text is None else text

@@ -11,7 +11,8 @@ let b:match_ignorecase = 1
 let b:match_words = '\<\(begin\|case\|parallel\|record\)\>:\<end\>,\<repeat\>:\<until\>'
 compiler superpascal
 
-let b:undo_ftplugin = "setlocal commentstring< expandtab< shiftwidth< softtabstop< | unlet! b:match_words b:match_ignorecase"
+let b:undo_ftplugin = "setlocal commentstring< expandtab< shiftwidth< softtabstop<"
+      \ . " | unlet! b:match_words b:match_ignorecase"
 
 " Neovim has a client of its own for the language server.
 if has("nvim-0.7") && !empty(superpascal#server())

@@ -1,5 +1,5 @@
-" Names the language server to the plugins vim-lsp and lsp (of yegappan). ALE finds it in ale_linters/, and Neovim starts
-" it by ftplugin/.
+" Names the language server to the plugins vim-lsp and lsp (of yegappan). ALE finds it in ale_linters/, and Neovim
+" starts it by ftplugin/.
 if exists("g:loaded_superpascal")
   finish
 endif

@@ -10,7 +10,9 @@ class Range {
   constructor(start, end) { Object.assign(this, { start, end }); }
   toJSON() { return [this.start, this.end]; }
 }
-const plain = (...names) => class { constructor(...given) { names.forEach((name, at) => { this[name] = given[at]; }); } };
+const plain = (...names) => class {
+  constructor(...given) { names.forEach((name, at) => { this[name] = given[at]; }); }
+};
 const events = {}, providers = {}, shown = [], said = [];
 const on = (name) => (work) => { events[name] = work; return { dispose() {} }; };
 const uri = { toString: () => "file:///text.sp" };
@@ -18,10 +20,13 @@ const text = fs.readFileSync(process.env.TEXT, "utf8");
 const document = { languageId: "superpascal", uri, version: 1, getText: () => text };
 const registering = new Proxy({
   createDiagnosticCollection: () => ({ set: (_, those) => shown.push(those), dispose() {} }),
-}, { get: (target, name) => target[name] || ((_, provider) => { providers[name] = provider; return { dispose() {} }; }) });
+}, {
+  get: (target, name) => target[name] || ((_, provider) => { providers[name] = provider; return { dispose() {} }; }),
+});
 const stand_in = {
   Position, Range, MarkdownString: plain("value"), Hover: plain("contents", "range"), Location: plain("uri", "range"),
-  Diagnostic: plain("range", "message", "severity"), DiagnosticSeverity: { Error: 0 }, CodeLens: plain("range", "command"),
+  Diagnostic: plain("range", "message", "severity"), DiagnosticSeverity: { Error: 0 },
+  CodeLens: plain("range", "command"),
   DiagnosticRelatedInformation: plain("location", "message"), CompletionItem: plain("label", "kind"),
   DocumentSymbol: plain("name", "detail", "kind", "range", "selectionRange"),
   TextEdit: { replace: (range, newText) => ({ range, newText }) },
@@ -66,7 +71,8 @@ async function main() {
   say("renamed", all.renamed.map((it) => [it.range.start.line, it.newText]));
   say("counts", [all.references.length, all.symbols[0].children.length, all.lenses.length, all.completion.length > 20]);
   for (const name of ["begin", "writeln"]) {
-    await providers.registerRenameProvider.provideRenameEdits(document, at, name).catch((error) => say("refused", error.message));
+    await providers.registerRenameProvider.provideRenameEdits(document, at, name)
+      .catch((error) => say("refused", error.message));
   }
   context.subscriptions.forEach((it) => it.dispose && it.dispose());
   say("said", said);
