@@ -74,20 +74,6 @@ name_program() {
     fi
 }
 
-# The last line of help: which program is there.
-tell_program() {
-    find_program || true
-    case $(name_program) in
-    proved) echo "The program here is the proved one. $more_words" ;;
-    not*) echo "The program is not compiled yet: the next call does so. docs/COMMANDS.md: more." ;;
-    unproved)
-        [ "$program" = "$installed" ] || more_words='./prove proves it.'
-        echo "The program here is unproved, and up to three times slower. $more_words"
-        ;;
-    *) echo 'The program here is unproved, and slow as it checks each access to memory.' ;;
-    esac
-}
-
 # The commit of the repository, as far as it can be told, the program and the kit.
 tell_build() {
     if [ -x "$installed" ]; then

@@ -78,18 +78,16 @@ tell_options() {
 # The line of a command: its name, its operands $2, and what it does.
 tell_command() { printf '  %-20s %s\n' "$1 $(echo "$2" | tr , ' ')" "$3"; }
 
-# All commands and options, on one screen.
+# All commands and options, which fit into the 24 lines of a terminal.
 tell_words() {
-    echo 'superpascal: a verified compiler and parallel process runner for SuperPascal'
+    kind_of_program=$(name_program)
+    echo "superpascal, a verified compiler and process runner (program: ${kind_of_program%%,*})"
     while read -r kind name operands groups what; do
         [ "$kind" != command ] || tell_command "$name" "$operands" "$what"
     done <"$table"
-    echo 'Options of run; witness, exec have all but --show, replay, trace, where --ticks'
-    echo 'to --output, gen --workers. N is at least 1.           default       greatest'
+    echo 'Options of run (COMMAND or TOOL --help tells more):    default       greatest'
     tell_options workers,limits,show
-    echo "Tools (TOOL --help): $(list_names tool | tr '\n' , | sed 's/,$//; s/,/, /g')."
-    echo 'COMMAND --help tells its options, --version which superpascal this is.'
-    tell_program
+    echo "Tools: $(list_names tool | tr '\n' , | sed 's/,$//; s/,/, /g'). Also: --version."
 }
 
 # The command $1 with its options.
