@@ -1,0 +1,157 @@
+"""Runs of like clauses: RUN neighbouring clauses or more of one definition or lemma that have the same right side. One
+clause for all other cases, a catch-all, says the same in one line, and a new constructor then needs no clause there.
+
+A right side that names what a constructor of the left side holds is no such case. KEPT are runs that stay: the prover
+checks a catch-all once for each case that the clauses before it leave, so it fails if such a case has to be taken apart
+further. OPEN are runs that a catch-all could say. Each is tried when its crate is proved again for another reason.
+"""
+from __future__ import annotations
+
+import re
+from typing import Iterator
+
+from sources import files, is_answer, lines_of, without_comment
+
+Clause = tuple[int, int, str, str, str]
+
+RUN = 6
+NAME = re.compile(r"\s*([A-Za-z][\w'-]*)(?=\s)")
+IDENTIFIER = re.compile(r"[^\W\d][\w']*")
+HELD = re.compile(r"[({][^(){}]*(?:[({][^(){}]*(?:[({][^(){}]*[)}][^(){}]*)*[)}][^(){}]*)*[)}]")
+
+# the file, and the names
+KEPT = {
+    "sp_areas/proofs/Placing": "ends_by",
+    "sp_facts/proofs/Expressions": "channel_sort",
+    "sp_facts/proofs/Grammatical": "call_split",
+    "sp_facts/proofs/IndexNumbers": "call_numbered",
+    "sp_facts/proofs/Names": "call_is_none",
+    "sp_format/proofs/SameTree": "build_like",
+    "sp_grammar/proofs/Looks": "look_simple look_expression",
+    "sp_history/proofs/Holders": "entered_aims joins_of",
+    "sp_lines/proofs/StopMarks": "selects is_write is_reading",
+    "sp_lines/proofs/Waits": "message_kept",
+    "sp_link/proofs/Histories": "fewer",
+    "sp_link/proofs/StraightCode": "write_straight",
+    "sp_race/proofs/Linking": "twice",
+    "sp_rules/proofs/Along": "received_awaits on",
+    "sp_rules/proofs/KeptRows": "at_fork no_call",
+    "sp_rules/specs/Touched": "stored_by",
+    "sp_words/proofs/Levels": "none_arranged given_arranged",
+}
+OPEN = {
+    "sp_code/proofs/Standing": "right_stands",
+    "sp_code/specs/CodeOfTree": "RightAt",
+    "sp_code/specs/Emitted": "field_instr",
+    "sp_code/specs/Ranks": "ways",
+    "sp_code/specs/Scopes": "field_type",
+    "sp_codefile/proofs/InstrLaws": "operands_small",
+    "sp_codegen/proofs/AssignSteps": "assign_makes",
+    "sp_codegen/proofs/Follows": "push_follows",
+    "sp_codegen/proofs/OperatorValues": "input_gives",
+    "sp_codegen/proofs/PureCode": "right_pure",
+    "sp_codegen/proofs/Turn": "go",
+    "sp_codegen/proofs/TurnsEnd": "Ended",
+    "sp_effects/proofs/Linking": "is_passed",
+    "sp_effects/proofs/Telling": "effect_is",
+    "sp_execute/proofs/Waiting": "to_send to_receive one_more",
+    "sp_facts/proofs/Expressions": "reference_fine",
+    "sp_facts/proofs/InScope": "constant_found",
+    "sp_facts/proofs/NameStatements": "assign_in go",
+    "sp_facts/proofs/Names": "function_in",
+    "sp_facts/proofs/StandardCalls": "reads_fine opens_fine receives_fine",
+    "sp_facts/proofs/TypesThere": "field_in_there",
+    "sp_facts/proofs/UsesFormed": "right_uses",
+    "sp_facts/specs/NonEmptyRecords": "IsNonEmptyKind",
+    "sp_format/proofs/Neat": "row_neat",
+    "sp_generate/proofs/Forms": "form_count",
+    "sp_generate/proofs/Telling": "form_way",
+    "sp_grammar/proofs/Completes": "finish",
+    "sp_held/proofs/Contents": "share_back",
+    "sp_history/proofs/Families": "some_left",
+    "sp_history/proofs/Orders": "orderly_fewer",
+    "sp_history/proofs/Staying": "fewer_out",
+    "sp_journal/proofs/Walk": "event_birth",
+    "sp_journal/specs/Births": "births_after_event",
+    "sp_journal/specs/Texts": "CanHold",
+    "sp_kernel/proofs/Sorting": "with_more",
+    "sp_kernel/specs/Ends": "left_in",
+    "sp_lines/proofs/Standing": "form_stands",
+    "sp_lines/specs/Kinds": "IsOf",
+    "sp_link/proofs/Fronts": "grows_event",
+    "sp_link/proofs/Histories": "to_send to_receive",
+    "sp_link/proofs/Ranks": "field_straight",
+    "sp_link/proofs/Replay": "one_event",
+    "sp_link/proofs/Scoping": "right",
+    "sp_link/proofs/SortedWaiters": "by",
+    "sp_meaning/specs/SuperPascal": "is_pausing",
+    "sp_race/proofs/NotesFrames": "notes_swap",
+    "sp_replay/proofs/Living": "awaits",
+    "sp_report/specs/Census": "is_counted",
+    "sp_rules/proofs/AnswerRow": "ends_there is_straight straight_on",
+    "sp_rules/proofs/Effects": "stored_p",
+    "sp_rules/proofs/Ranked": "way_in",
+    "sp_rules/proofs/Safety": "received_room",
+    "sp_rules/proofs/Turns": "one_fits",
+    "sp_rules/specs/Verdict": "is_stop",
+    "sp_runner/proofs/Waiting": "one_waits",
+    "sp_sets/proofs/OneText": "form_numbers",
+    "sp_shapes/proofs/Repeating": "same_owner",
+    "sp_shapes/specs/Taking": "admits",
+    "sp_witness/proofs/Forwards": "next_on",
+    "sp_witness/proofs/Moved": "by",
+    "sp_witness/specs/Moved": "table_after",
+    "superpascal/proofs/CodeFiles": "numbered_back",
+}
+
+
+def clauses(path: str) -> Iterator[Clause]:
+    """The clauses of a file: each with its line and its depth, its name, and its left and right side."""
+    lines = [without_comment(line, path) for line in lines_of(path)]
+    number = 0
+    while number < len(lines):
+        line, end = lines[number], number + 1
+        depth = len(line) - len(line.lstrip())
+        while line.strip() and end < len(lines) and lines[end].strip() and \
+                len(lines[end]) - len(lines[end].lstrip()) > depth:
+            end += 1
+        text, name = " ".join(part.strip() for part in lines[number:end]), NAME.match(line)
+        left, is_clause, right = text.partition(" = ")
+        if name and is_clause:
+            yield number + 1, depth, name.group(1), left, right
+        else:
+            yield number + 1, depth, "", "", ""
+        number = end if name and is_clause else number + 1
+
+
+def can_be_one(left: str, right: str) -> bool:
+    """Whether the right side names nothing that a constructor of the left side holds."""
+    held = {word for group in HELD.findall(left) for word in IDENTIFIER.findall(group)}
+    return not held & set(IDENTIFIER.findall(right))
+
+
+def runs(path: str) -> Iterator[tuple[int, str, int]]:
+    """The runs of a file: the line of the first clause, the name, and how many clauses there are."""
+    run: list[Clause] = []
+    for clause in [*clauses(path), (0, 0, "", "", "")]:
+        if run and (clause[1], clause[2], clause[4]) != (run[0][1], run[0][2], run[0][4]):
+            if len(run) >= RUN and run[0][2] and all(can_be_one(each[3], each[4]) for each in run):
+                yield run[0][0], run[0][2], len(run)
+            run = []
+        run.append(clause)
+
+
+def findings() -> Iterator[str]:
+    """A line for each run that is in no table, and for each entry of the tables that is no run any more."""
+    listed = {(file, name) for table in (KEPT, OPEN) for file, names in table.items() for name in names.split()}
+    met = set()
+    for path in files():
+        if not path.endswith(".antt") or "/proofs/" in path and is_answer(path):
+            continue
+        for number, name, count in runs(path):
+            key = path.removeprefix("crates/").removesuffix(".antt"), name
+            met.add(key)
+            if key not in listed:
+                yield "%s: %d: %d clauses of %s are alike: can one say it for all?" % (path, number, count, name)
+    for file, name in sorted(listed - met):
+        yield "checks/runs.py: no run any more: %s of %s" % (name, file)
