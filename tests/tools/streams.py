@@ -3,9 +3,9 @@ import os
 import signal
 import subprocess
 import time
-from pathlib import Path
 
 from cases import TOP
+from processes import calls_of
 
 LONG = "program long; var i: integer; begin i := 0; while i >= 0 do i := (i + 1) mod 1000 end."
 READS = "program reads; var x: integer; begin read(x); writeln(x + 1) end."
@@ -73,15 +73,3 @@ def ended(case):
     left = calls_of(path), set(os.listdir(case.folder)) - before
     case.check((process.returncode, left, said) == (143, ([], set()), b""), "SIGTERM: %s, left %s, %s" % (
         process.returncode, left, said))
-
-
-def calls_of(path):
-    """The processes that have a path among their words."""
-    found = []
-    for words in Path("/proc").glob("[0-9]*/cmdline"):
-        try:
-            if path.encode() in words.read_bytes():
-                found.append(words.parent.name)
-        except OSError:
-            pass
-    return found
