@@ -10,9 +10,7 @@ use Rattle.sp_front.specs.Checks.{IsProgramOf}
 use Rattle.sp_journal.specs.declared.entry.Entry.{Entry}
 use Rattle.sp_journal.specs.declared.outcome.End.{End}
 use Rattle.sp_journal.specs.declared.outcome.Verdict.{Verdict}
-use Rattle.sp_journal.specs.Births.{occurrences}
 use Rattle.sp_journal.specs.declared.outcome.Verdict.TheVariants as verdict
-use Rattle.sp_judge.specs.Runs.{IsRunVerdict}
 use Rattle.sp_meaning.specs.LocalWork.{RunInput}
 use Rattle.sp_meaning.specs.Model.{Name}
 use Rattle.sp_meaning.specs.Runs.{IsDisjointRun, Lawful, StateOf, start}
@@ -178,10 +176,4 @@ pub ordered_runs_end_alike : {c : Call} {input out notes : List ℕ}
 ordered_runs_end_alike {input = input} o text held r e v =
     let h = o.promise.headline.meant a_run text (asked o) held input o.input r e in
     let x = h.0.2 in
-    let all = subst (λ y. IsRunVerdict (run_input h.0.0 input default_limits) (occurrences r.closed.journal)
-    x.about.steps x.about.state r.closed.end y) v x.promise in (
-      h.0.0,
-      h.0.1,
-      x.about.steps,
-      λ qs u l. let k = all.1 qs u l in (k.bounded, k.no_fault, k.rest, k.full),
-    )
+    (h.0.0, h.0.1, x.about.steps, λ qs u l. let k = x.alike v qs u l in (k.bounded, k.no_fault, k.rest, k.full))

@@ -2,11 +2,12 @@
 use Rattle.std.proofs.Common.{◌≡◌, ◌≢◌, ℕ, List, [], ◌∷◌, Some, sym, ◌∙◌, ap, subst}
 use Rattle.std.specs.Option.{option_map_or}
 use Rattle.std.specs.Prelude.{codes}
+use Rattle.sp_base.specs.declared.limits.TheConstants.{TURN_TICKS}
 use Rattle.sp_base.specs.declared.name.ChanName.{ChanName}
 use Rattle.sp_execute.specs.declared.execution.Ran.{Ran}
 use Rattle.sp_execute.specs.Follows.{IsMeant}
 use Rattle.sp_execute.specs.Runs.{run_input}
-use Rattle.sp_execute.specs.Witnesses.{Shown, witness_by}
+use Rattle.sp_execute.specs.Witnesses.{witness_of}
 use Rattle.sp_front.specs.Checks.{IsProgramOf}
 use Rattle.sp_journal.specs.declared.entry.Way.{Way}
 use Rattle.sp_journal.specs.declared.outcome.End.TheVariants as end
@@ -15,6 +16,7 @@ use Rattle.sp_journal.specs.declared.outcome.Verdict.TheVariants as verdict
 use Rattle.sp_journal.specs.declared.version.Version.TheVariants as version
 use Rattle.sp_journal.specs.Texts.{journal_text}
 use Rattle.sp_judge.specs.Races.{IsFault}
+use Rattle.sp_meaning.specs.Along.{IsAlong}
 use Rattle.sp_tree.specs.Plain.{Program}
 use Rattle.sp_witness.specs.Contention.{NeverContends}
 use Rattle.sp_witness.specs.Numbered.{witness_journal}
@@ -28,7 +30,7 @@ use Rattle.promise_rows.proofs.Asked.{a_run, a_witness, run_words, witness_words
 use Rattle.promise_rows.proofs.Seen.{whole_output}
 
 abbrev text_by : Ran → Verdict → List ℕ
-text_by r v = option_map_or (journal_text version.Two) (witness_by v r.closed.journal) []
+text_by r v = option_map_or (journal_text version.Two) (witness_of v r.closed.journal) []
 
 not_ordered : (w : Way) (c : ChanName) (i k : ℕ) → verdict.Race w c i k ≡ verdict.Ordered → ⊥
 not_ordered w c i k e = cc e
@@ -52,12 +54,18 @@ module _ {c : Call} {input out notes : List ℕ} where
         × ((p : Program) × IsProgramOf text p
         × IsMeant (run_input p input default_limits) (witness_journal r.closed.journal i k).entries)
     a_race_is_shown text held r w channel i k e v n =
-        let h = o.promise.witnessing.shown a_witness text asked held input o.input r e in (
+        let h = o.promise.witnessing.shown a_witness text asked held input o.input r e in
+        let s = (h.2.witness w channel i k v).2 in (
           output_is r e n ∙ ap (text_by r) v,
           (
             h.0,
             h.1,
-            (subst (λ x. Shown (run_input h.0 input default_limits) r.closed.journal x) v h.2.witness).followed,
+            (
+              s.shows.size,
+              s.shows.state,
+              subst (λ es. IsAlong (run_input h.0 input default_limits) TURN_TICKS es s.shows.size s.shows.state)
+                  (sym s.names) s.shows.along,
+            ),
           ),
         )
 

@@ -1,4 +1,4 @@
--- Some of this belongs to what the program promises (docs/promise.txt).
+-- None of this belongs to what the program promises: it is for contracts between crates.
 -- The code of a tree stands: which instruction stands at which place, and what the rules of names, types and variables
 -- give there. The simulation of generated code starts from it, statement by statement, and sp_facts gives the facts.
 use Rattle.std.specs.Prelude.{◌≡◌, ℕ, ◌+◌, ℤ, pos, List, [], ◌∷◌, Option, Some, None, Bool, true, false}

@@ -1,4 +1,4 @@
--- Some of this belongs to what the program promises (docs/promise.txt).
+-- None of this belongs to what the program promises: it is for contracts between crates.
 -- The control of the kernel, as a function of the notes of a run: who is ready, out, waiting, joining, laid or ended.
 -- The kernel's contracts lead its tables to it, and the laws of histories speak of it alone.
 use Rattle.std.specs.Prelude.{ℕ, ◌+◌, ◌-◌, ◌==◌, List, [], ◌∷◌, ◌++◌, Option, Some, None, Bool, true, false, ◌||◌}

@@ -1,4 +1,4 @@
--- All of this belongs to what the program promises (docs/promise.txt).
+-- None of this belongs to what the program promises: it is for contracts between crates.
 -- What the code of a block may rest on: a function calls nothing that stops. The facts of an accepted tree promise it,
 -- and generated code needs it, since an answer is awaited within one turn.
 use Rattle.std.specs.Prelude.{ℕ}

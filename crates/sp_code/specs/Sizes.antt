@@ -1,4 +1,4 @@
--- All of this belongs to what the program promises (docs/promise.txt).
+-- Some of this belongs to what the program promises (docs/promise.txt).
 -- How large code may be: so many instructions, layouts, fork tables and texts, and frames whose variables have
 -- numbers and small sizes. The invariant of `Code` keeps it, so that the machine's numbers fit.
 use Rattle.std.specs.Prelude.{ℕ, ◌≤◌, All, length}

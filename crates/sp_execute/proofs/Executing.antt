@@ -24,4 +24,4 @@ module _ (code : Parts) (input : List ℕ) (lim : Limits) (p : Program) (moves s
   pub executed : (workers : ℕ) (e : Ran) → IsRun (run_of code input lim) workers e.closed
       → IsVerdict (occurrences e.closed.journal) e.closed.end e.verdict
       → Promises (run_input p input lim) e.closed e.verdict → Executes (run_input p input lim) workers e
-  executed workers e r v h = record { about = h.0; verdict = v; promise = h.1; in_turn = r.in_turn }
+  executed workers e r v h = record { about = h.0; verdict = v; alike = h.1; in_turn = r.in_turn }

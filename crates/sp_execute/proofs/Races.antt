@@ -1,5 +1,5 @@
 -- What a run's verdict gives to its witness, and what the witness shows.
-use Rattle.std.proofs.Common.{◌≡◌, ℕ, ◌<◌, List, length, Option, Some, slice_get, refl, sym, ap, subst}
+use Rattle.std.proofs.Common.{◌≡◌, ℕ, ◌<◌, List, length, Option, Some, slice_get, sym, subst}
 use Rattle.std.specs.Prelude.{IfSome, ◌↔◌}
 use Rattle.sp_base.specs.declared.fault.Fault.TheVariants as fault
 use Rattle.sp_base.specs.declared.limits.TheConstants.{TURN_TICKS}
@@ -28,7 +28,7 @@ use Rattle.sp_witness.specs.Numbered.{witness_journal}
 use Rattle.sp_witness.specs.Witness.{who_at, witness}
 use Rattle.sp_execute.specs.declared.execution.Ran.{Ran}
 use Rattle.sp_execute.specs.Runs.{Executes}
-use Rattle.sp_execute.specs.Witnesses.{IsReadyRun, Shown, ShowsOffers, ShowsRace}
+use Rattle.sp_execute.specs.Witnesses.{IsFollowedToFault, IsReadyRun, ShowsRace}
 
 -- ---- of a run
 
@@ -117,12 +117,8 @@ module _ (g : RunInput) (moves shares : Stmt
       names = is_witness.names;
     }
 
-    pub shows_offers : ContentionLaw → ShowsOffers g r.closed.journal (verdict.Race w c earlier later) earlier later
-    shows_offers contention = record {
-      channel = channel;
-      way = w;
-      is_race = ap (λ d. verdict.Race w d earlier later) named.1.1.1;
-      witness = is_witness;
+    pub followed_to_fault : ContentionLaw → IsFollowedToFault g r.closed.journal earlier later
+    followed_to_fault contention = record {
       followed = (
         is_witness.shows.size,
         is_witness.shows.state,
@@ -135,14 +131,13 @@ module _ (g : RunInput) (moves shares : Stmt
           f.steps f.state f.along s.end f.end;
     }
 
-  shown : ContentionLaw → (v : Verdict) → r.verdict ≡ v → Shown g r.closed.journal v
-  shown law verdict.Ordered h = tt
-  shown law (verdict.Race w c earlier later) h = shows_offers w c earlier later h law
-  shown law verdict.Unjudged h = tt
-
-  pub shows_race : ContentionLaw → OrderedLaw → ShowsRace g r
-  shows_race law ordered = record {
-    witness = shown law r.verdict refl;
+  pub shows_race : OrderedLaw → ShowsRace g r
+  shows_race ordered = record {
+    witness = λ w c earlier later is. (
+      channel w c earlier later is,
+      (named w c earlier later is).1.1.1,
+      is_witness w c earlier later is,
+    );
     ordered = λ no. ordered g TURN_TICKS names x.about.steps x.about.state r.closed.end r.verdict ready.free
         x.about.along x.about.end no x.verdict;
   }

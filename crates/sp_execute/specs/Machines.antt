@@ -1,6 +1,6 @@
--- All of this belongs to what the program promises (docs/promise.txt).
--- What a run of code says without a program that the code is of: the contract of `run_code`. The contract of the top
--- call cites it for code files.
+-- None of this belongs to what the program promises: it is for contracts between crates.
+-- What a run of code says without a program that the code is of: the contract of `run_code`. The top call promises of
+-- it what the machine gives (`EndsWith`), and what the program means where `build` wrote the code.
 use Rattle.std.specs.Prelude.{ℕ, List}
 use Rattle.sp_base.specs.declared.limits.Limits.{Limits}
 use Rattle.sp_tree.specs.Plain.{Program, Stmt}

@@ -6,6 +6,7 @@ use Rattle.sp_base.specs.declared.limits.Limits.{Limits}
 use Rattle.sp_base.specs.declared.limits.TheConstants.{TURN_TICKS}
 use Rattle.sp_tree.specs.Plain.{Program, Stmt}
 use Rattle.sp_journal.specs.declared.outcome.Verdict.{Verdict}
+use Rattle.sp_journal.specs.declared.outcome.Verdict.TheVariants as verdicts
 use Rattle.sp_journal.specs.Births.{IsNameable, occurrences}
 use Rattle.sp_journal.specs.Queue.{IsFirstInFirstOut}
 use Rattle.sp_meaning.specs.LocalWork.{RunInput}
@@ -15,7 +16,7 @@ use Rattle.sp_meaning.specs.Ends.{EndIs}
 use Rattle.sp_code.specs.declared.code.Parts.{Parts}
 use Rattle.sp_code.specs.Emitted.{program_code}
 use Rattle.sp_judge.specs.Races.{IsVerdict}
-use Rattle.sp_judge.specs.Runs.{IsRunVerdict}
+use Rattle.sp_judge.specs.Runs.{AllEndAlike}
 use Rattle.sp_kernel.specs.declared.closed.Closed.{Closed}
 use Rattle.sp_link.specs.Premises.{IsReady, run_by}
 use Rattle.sp_runner.specs.Ends.{EndsWith}
@@ -45,14 +46,15 @@ pub record IsAbout (g : RunInput) (c : Closed) : Type 0 where
   pub output : c.output ≡ output_of g state
   pub end : EndIs g state c.end
 
--- the program's run along the journal has so many steps and that state, and the verdict says of it what it promises of
--- a run
+-- along the journal the program's run has so many steps and that state, and where the verdict is `ordered`, every
+-- lawful schedule ends alike
 abbrev pub Promises : RunInput → Closed → Verdict → Type 0
-Promises g c v = (a : IsAbout g c) × IsRunVerdict g (occurrences c.journal) a.steps a.state c.end v
+Promises g c v = (a : IsAbout g c) × (v ≡ verdicts.Ordered → AllEndAlike g a.steps a.state)
 
--- a run of the program, with its exact verdict and what that promises
+-- a run of the program, with its exact verdict; where that is `ordered`, every lawful schedule ends alike, after as
+-- many steps and in the same state
 pub record Executes (g : RunInput) (workers : ℕ) (e : Ran) : Type 0 where
   pub about : IsAbout g e.closed
   pub verdict : IsVerdict (occurrences e.closed.journal) e.closed.end e.verdict
-  pub promise : IsRunVerdict g (occurrences e.closed.journal) about.steps about.state e.closed.end e.verdict
+  pub alike : e.verdict ≡ verdicts.Ordered → AllEndAlike g about.steps about.state
   pub in_turn : workers ≡ 1 → IsFirstInFirstOut e.closed.journal

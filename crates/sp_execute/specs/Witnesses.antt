@@ -4,6 +4,7 @@
 use Rattle.std.specs.Prelude.{◌≡◌, ◌↔◌, ℕ, List, Option, Some, None}
 use Rattle.sp_base.specs.declared.fault.Fault.TheVariants as fault
 use Rattle.sp_base.specs.declared.limits.TheConstants.{TURN_TICKS}
+use Rattle.sp_base.specs.declared.name.ChanName.{ChanName}
 use Rattle.sp_tree.specs.Plain.{Stmt}
 use Rattle.sp_journal.specs.declared.entry.Journal.{Journal}
 use Rattle.sp_journal.specs.declared.entry.Way.{Way}
@@ -25,39 +26,26 @@ use Rattle.sp_execute.specs.Follows.{IsFollowed, IsMeant}
 use Rattle.sp_execute.specs.Runs.{Executes}
 
 -- the witness of the race that a verdict on a journal names, if it names one
-abbrev pub witness_by : Verdict → Journal → Option Journal
-witness_by verdict.Ordered j = None
-witness_by (verdict.Race w c earlier later) j = Some (witness_journal j earlier later)
-witness_by verdict.Unjudged j = None
-
--- the witness of a run's race, if it has one
-abbrev pub witness_of : Ran → Option Journal
-witness_of r = witness_by r.verdict r.closed.journal
+abbrev pub witness_of : Verdict → Journal → Option Journal
+witness_of (verdict.Race w c earlier later) j = Some (witness_journal j earlier later)
+witness_of _ j = None
 
 -- it is a run of a program that is ready for its code
 abbrev pub IsReadyRun : Ran → Type 0
 IsReadyRun r = (g : RunInput) × (moves : Stmt → List ℕ) × (shares : Stmt → List ℕ) × (workers : ℕ)
     × IsReady g moves shares × Executes g workers r
 
--- the witness of these two offers is a journal of the program, which is followed, to the fault F6 of the later offer as
--- it meets the pending earlier one, of the same way on the same channel
-pub record ShowsOffers (g : RunInput) (j : Journal) (v : Verdict) (earlier later : ℕ) : Type 0 where
-  pub channel : Channel
-  pub way : Way
-  pub is_race : v ≡ verdict.Race way (chan_name channel) earlier later
-  pub witness : IsWitness g TURN_TICKS j way channel earlier later
+-- the witness of these two offers is followed, to the fault F6 of the later offer's process
+pub record IsFollowedToFault (g : RunInput) (j : Journal) (earlier later : ℕ) : Type 0 where
   pub followed : IsMeant g (witness_journal j earlier later).entries
   pub ends : (s : Replayed) → IsFollowed g (witness_journal j earlier later) s
       → s.end ≡ Some (end.Fault (proc_name (who_at (occurrences j) later)) fault.F6)
 
--- the witness of the race that the verdict names shows it
-abbrev pub Shown : RunInput → Journal → Verdict → Type 0
-Shown g j verdict.Ordered = Unit {0}
-Shown g j (verdict.Race w c earlier later) = ShowsOffers g j (verdict.Race w c earlier later) earlier later
-Shown g j verdict.Unjudged = Unit {0}
-
--- What the verdict on a run says of the program: its race is shown by its witness, and a run that ends without a fault
--- is ordered exactly where no lawful schedule of the program, on this input and with these limits, meets contention.
+-- What the verdict on a run says of the program. The witness of the race that it names is a journal of the program, to
+-- the fault F6 of the later offer as it meets the pending earlier one, of the same way on the same channel. And a run
+-- that ends without a fault is ordered exactly where no lawful schedule of the program, on this input and with these
+-- limits, meets contention.
 pub record ShowsRace (g : RunInput) (r : Ran) : Type 0 where
-  pub witness : Shown g r.closed.journal r.verdict
+  pub witness : (w : Way) (c : ChanName) (earlier later : ℕ) → r.verdict ≡ verdict.Race w c earlier later
+      → (d : Channel) × (c ≡ chan_name d) × IsWitness g TURN_TICKS r.closed.journal w d earlier later
   pub ordered : (IsFault r.closed.end → ⊥) → (r.verdict ≡ verdict.Ordered) ↔ NeverContends g

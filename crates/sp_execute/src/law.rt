@@ -9,7 +9,10 @@ ghost use Rattle.sp_code.specs.Shares.{SetsAre};
 ghost use Rattle.sp_code.specs.declared.code.Parts.{Parts};
 ghost use Rattle.sp_code.specs.Sound.{AreLimits, run_of};
 ghost use Rattle.sp_facts.specs.AcceptedTree.{IsAccepted};
+ghost use Rattle.sp_base.specs.declared.name.ChanName.{ChanName as AChanName};
 ghost use Rattle.sp_journal.specs.declared.entry.Entry.{Entry};
+ghost use Rattle.sp_journal.specs.declared.entry.Way.{Way as AWay};
+ghost use Rattle.sp_journal.specs.declared.outcome.Verdict.TheVariants as verdict;
 ghost use Rattle.sp_meaning.specs.LocalWork.{RunInput};
 ghost use Rattle.sp_execute.specs.declared.execution.Ran.{Ran as ARan};
 ghost use Rattle.sp_execute.specs.Follows.{IsMeant, IsUnfitAt};
@@ -17,7 +20,7 @@ ghost use Rattle.sp_execute.specs.Runs.{Executes, IsCodeOf, run_input};
 ghost use Rattle.sp_execute.specs.TextTold.{IsToldInText};
 ghost use Rattle.sp_replay.specs.declared.tracing.Traced.{Traced as ATraced};
 ghost use Rattle.sp_replay.specs.Tracing.{TracedTo};
-ghost use Rattle.sp_execute.specs.Witnesses.{ShowsRace};
+ghost use Rattle.sp_execute.specs.Witnesses.{IsFollowedToFault, ShowsRace};
 ghost use Rattle.sp_link.specs.Premises.{IsReady};
 ghost use Rattle.sp_tree.specs.Plain.{Stmt};
 
@@ -57,11 +60,15 @@ pub fn one_unfit_entry()
 
 /// The race of a run of a program that is ready is shown by its witness: a journal along which the meaning of the same
 /// program, on the same input and with the same limits, is defined, and which ends with the fault F6 of the later offer
-/// as it meets the pending earlier one. A run that ends without a fault is ordered exactly where no lawful schedule
-/// meets contention.
+/// as it meets the pending earlier one. So it is followed, to that fault. A run that ends without a fault is ordered
+/// exactly where no lawful schedule meets contention.
 pub fn races_are_shown()
-    ensures { (g : RunInput) (moves shares : Stmt → List ℕ) (workers : ℕ) (r : ARan)
+    ensures shown { (g : RunInput) (moves shares : Stmt → List ℕ) (workers : ℕ) (r : ARan)
         → IsReady g moves shares → Executes g workers r → ShowsRace g r }
+    ensures followed { (g : RunInput) (moves shares : Stmt → List ℕ) (workers : ℕ) (r : ARan)
+        → IsReady g moves shares → Executes g workers r
+        → (w : AWay) (c : AChanName) (earlier later : ℕ) → r.verdict ≡ verdict.Race w c earlier later
+        → IsFollowedToFault g r.closed.journal earlier later }
 {
     runs_without_a_fault_are_clean();
     witnesses_are_journals();

@@ -18,7 +18,7 @@ use std::alloc::Global;
 /// The error is want of memory alone.
 pub fn witness(alloc: Global, ran: &Ran) -> Result<Option<Journal>, Memory>
     requires { IsReadyRun ran.now }
-    ensures { IfOk result (λ w. (w ≡ witness_of ran.now) × IfSome w IsNameable) }
+    ensures { IfOk result (λ w. (w ≡ witness_of ran.now.verdict ran.now.closed.journal) × IfSome w IsNameable) }
 {
     runs_are_silent();
     runs_without_a_fault_are_clean();

@@ -1,4 +1,4 @@
--- Some of this belongs to what the program promises (docs/promise.txt).
+-- None of this belongs to what the program promises: it is for contracts between crates.
 -- Histories of one worker that hands in what it holds, with each of its asks. The runner's contract shows each
 -- worker's notes to be such, and the law of first in, first out needs it.
 use Rattle.std.specs.Prelude.{◌≡◌, ℕ, List, [], ◌∷◌, length, Option, Some}

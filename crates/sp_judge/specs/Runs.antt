@@ -1,4 +1,4 @@
--- All of this belongs to what the program promises (docs/promise.txt).
+-- Some of this belongs to what the program promises (docs/promise.txt).
 -- What a verdict promises of a run along a journal: the law of this crate, and a part of the contract of `execute`. An
 -- ordered run ends alike in every schedule; the other verdicts promise no more than they say.
 use Rattle.std.specs.Prelude.{ℕ, List}

@@ -1,4 +1,4 @@
--- Some of this belongs to what the program promises (docs/promise.txt).
+-- None of this belongs to what the program promises: it is for contracts between crates.
 -- What is asked of a program, of the sets of its forks and of the limits, so that its code runs as the program means.
 -- The laws of this crate require it, and `sp_execute` shows it of every accepted text.
 use Rattle.std.specs.Prelude.{◌≡◌, ℕ, List, Some, slice_get}

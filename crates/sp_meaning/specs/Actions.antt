@@ -1,6 +1,6 @@
 -- All of this belongs to what the program promises (docs/promise.txt).
 -- Statements in steps: what a process does first, and what is left to do. The language of the model is made of it;
--- generated code is compared with it, and the interpreter promises it.
+-- generated code is compared with it, and rows of `run_tests` compute it.
 use Rattle.std.specs.Prelude.{ℕ, zero, suc, ◌+◌, ◌-◌, ℤ, pos, ◌+ℤ◌, ◌-ℤ◌, nat_abs, int_lt, int_le, List, [], ◌∷◌, ◌++◌}
 use Rattle.std.specs.Prelude.{Option, Some, None, Bool, true, false, if◌then◌else◌, nat_lt, length, take, slice_get}
 use Rattle.std.specs.Fmt.{signed_decimal}

@@ -1,6 +1,6 @@
 -- All of this belongs to what the program promises (docs/promise.txt).
--- How a run ends: done, in a deadlock, or with a fault. The contracts of runs, of the judge and of the interpreter
--- cite it, with the waiting processes in the order of their names.
+-- How a run ends: done, in a deadlock, or with a fault. The contracts of runs and of the judge cite it, with the
+-- waiting processes in the order of their names.
 use Rattle.std.specs.Prelude.{◌≡◌, ◌≢◌, ◌⊎◌, ℕ, Bool, true, false, if◌then◌else◌, nat_lt, List, [], ◌∷◌, map, reverse}
 use Rattle.std.specs.Prelude.{Option, Some, None}
 use Rattle.sp_base.specs.declared.fault.Fault.{Fault}

@@ -1,6 +1,6 @@
 -- All of this belongs to what the program promises (docs/promise.txt).
--- Expressions, variables and arguments, evaluated from left to right. Actions are made of it, and the interpreter
--- promises it; each evaluation is a tree of reads and writes.
+-- Expressions, variables and arguments, evaluated from left to right. Actions are made of it; each evaluation
+-- is a tree of reads and writes.
 use Rattle.std.specs.Prelude.{ℕ, ◌==◌, ℤ, pos, ◌-ℤ◌, nat_abs, int_le, List, [], ◌∷◌, ◌++◌, Option, Some, None, ◌&&◌}
 use Rattle.std.specs.Prelude.{not, if◌then◌else◌, length, drop, slice_get}
 use Rattle.sp_base.specs.declared.fault.Fault.TheVariants as fault

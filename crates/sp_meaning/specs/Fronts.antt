@@ -1,6 +1,6 @@
 -- None of this belongs to what the program promises: it is for contracts between crates.
--- The longest lawful front of a schedule: how far a list of names leads. The interpreter's contract promises it, since
--- any list may be given to it.
+-- The longest lawful front of a schedule: how far a list of names leads, for any list. A law says that it is exact,
+-- and rows of `run_tests` compute it.
 use Rattle.std.specs.Prelude.{◌≡◌, ◌≢◌, ◌⊎◌, ℕ, suc, List, [], ◌∷◌, ◌++◌, length, Option, Some, None}
 use Rattle.sp_base.specs.declared.fault.Fault.{Fault}
 use Rattle.sp_meaning.specs.Model.{Name}

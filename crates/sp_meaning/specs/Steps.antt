@@ -1,6 +1,6 @@
 -- Some of this belongs to what the program promises (docs/promise.txt).
 -- One step of one process in a state: what it does, what it costs against the limits, and the state after it. Runs are
--- made of it, and the interpreter's step promises it; limits are faults of the step that would pass them.
+-- made of it; limits are faults of the step that would pass them.
 use Rattle.std.specs.Prelude.{◌≡◌, ℕ, suc, zero, ◌+◌, ◌<◌, ◌≤◌, Bool, true, false, ◌&&◌, if◌then◌else◌, List, [], ◌∷◌}
 use Rattle.std.specs.Prelude.{length, Option, Some, None, nat_lt, ◌==◌}
 use Rattle.sp_base.specs.declared.fault.Fault.{Fault}

@@ -1,6 +1,6 @@
 -- All of this belongs to what the program promises (docs/promise.txt).
--- Values: trees of ordinals and channel names; the types' first values. The meaning and the interpreter share it; the
--- machine's cells are compared with it.
+-- Values: trees of ordinals and channel names; the types' first values. The meaning has it, and the machine's cells
+-- are compared with it.
 use Rattle.std.specs.Prelude.{ℕ, zero, suc, ℤ, List, [], ◌∷◌, slice_get, replicate, map}
 use Rattle.sp_tree.specs.declared.checked.KindOf.{KindOf}
 use Rattle.sp_tree.specs.declared.checked.KindOf.TheVariants as kind

@@ -1,4 +1,4 @@
--- Some of this belongs to what the program promises (docs/promise.txt).
+-- None of this belongs to what the program promises: it is for contracts between crates.
 -- Histories, and what one thread makes of them. The contracts of the room say by it that what was asked is one
 -- sequence of steps, whatever the schedule was.
 use Rattle.std.specs.Prelude.{◌≡◌, ℕ, List, [], ◌∷◌, ◌++◌, Option, Some, None, Bool, true, false, ◌==◌}

@@ -1,4 +1,4 @@
--- All of this belongs to what the program promises (docs/promise.txt).
+-- Some of this belongs to what the program promises (docs/promise.txt).
 -- What the phases of names and types give of every accepted tree beyond its use of names: its types are built of
 -- earlier ones, its blocks and variables fit together, and what stands in a statement is of the kinds that it should
 -- be. The code of a tree rests on it.

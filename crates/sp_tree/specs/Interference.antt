@@ -1,4 +1,4 @@
--- All of this belongs to what the program promises (docs/promise.txt).
+-- Some of this belongs to what the program promises (docs/promise.txt).
 -- The rules of interference, said of the whole program by paths, variables and sets. The promises of disjoint runs
 -- and of verdicts require them; they stand apart from the walk that finds a breach, which is `Interferes.antt`.
 use Rattle.std.specs.Prelude.{◌≡◌, ◌⊎◌, ℕ, ◌<◌, List, [], ◌∷◌, Some, slice_get}

@@ -86,7 +86,7 @@ module _ (f : Files) (s : Stream) (reports : Reports) (b : Executed) where
     execution_unread x (inr (inr h)) = execution_wanting x h
 
     pub execution_told : (input : List ℕ) → HasInput s input → (run : Closed)
-        → IsExecutionOf bytes input b.workers b.limits run → (r : Result Answer Ending) → TellsExecution run r
+        → IsExecutionOf bytes input b.limits run → (r : Result Answer Ending) → TellsExecution run r
         → AnswersCommand f s reports (command_of_execution b) r
     execution_told input i run is (Ok a) k = (
       by_execution b refl (record {

@@ -169,7 +169,7 @@ module _ (c : Call) (k : IsAnswered c) (l : Laws) where
 
     has_lines : HasLines r.end
     has_lines = subst (λ (x : Closed). HasLines x.end) ends
-        (execution_ends _ _ _ _ has_executed.2.run has_executed.2.is_execution)
+        (execution_ends _ _ _ has_executed.2.run has_executed.2.is_execution)
 
     run_ending : ending c k l ≡ ending_of r.end
     run_ending = ap (λ (z : Answer). z.ending) is_answer
@@ -193,7 +193,7 @@ module _ (c : Call) (k : IsAnswered c) (l : Laws) where
           m.loaded,
           m.read,
           subst
-              (IsExecutionOf m.bytes m.input has_executed.0.workers has_executed.0.limits) ends m.is_execution,
+              (IsExecutionOf m.bytes m.input has_executed.0.limits) ends m.is_execution,
         )
 
     run_written : AreWritten c r.output (end_text r.end)
@@ -214,15 +214,15 @@ module _ (c : Call) (k : IsAnswered c) (l : Laws) where
     -- of the file and the input that are told
     module _ (b : Executed) (bytes input : List ℕ) (v : command_of c.words ≡ Some (command_of_execution b))
         (t : c.files.held b.file ≡ Some bytes) (left : c.source.left ≡ Some input) where
-      run_machine : IsExecutionOf bytes input b.workers b.limits r
+      run_machine : IsExecutionOf bytes input b.limits r
       run_machine =
           let m = ran_here c.files c.source c.reports (command_of c.words) k.answer b v has_executed in
           let same : m.run ≡ r = same_run m.run m.answer in
           let this_file : m.bytes ≡ bytes = told_of (c.files.held b.file) m.bytes bytes t m.loaded in
           let this_input : m.input ≡ input = told_of c.source.left m.input input left m.read in
-          subst (IsExecutionOf bytes input b.workers b.limits) same
-          (subst (λ (y : List ℕ). IsExecutionOf bytes y b.workers b.limits m.run) this_input
-          (subst (λ (y : List ℕ). IsExecutionOf y m.input b.workers b.limits m.run) this_file m.is_execution))
+          subst (IsExecutionOf bytes input b.limits) same
+          (subst (λ (y : List ℕ). IsExecutionOf bytes y b.limits m.run) this_input
+          (subst (λ (y : List ℕ). IsExecutionOf y m.input b.limits m.run) this_file m.is_execution))
 
       run_meant : (text : List ℕ) → IsCodeFile text bytes → IsMeantHere b text input r
       run_meant text h = let m = run_machine.meant text h in
@@ -337,7 +337,7 @@ module _ (c : Call) (k : IsAnswered c) (l : Laws) where
         one = undisplaced c k l 1 (λ p. absurd (omega arith)) n
 
         ended : (h : HasExecuted c.files c.source b k.answer) → status_of (ending c k l) ≡ 1 → ⊥
-        ended h i = go (final h.run.end (execution_ends _ _ _ _ h.run h.is_execution)).0
+        ended h i = go (final h.run.end (execution_ends _ _ _ h.run h.is_execution)).0
             (sym (ap (λ (z : Answer). status_of z.ending) h.answer) ∙ i)
           where
             go : IsFinal (status_of (ending_of h.run.end)) → status_of (ending_of h.run.end) ≡ 1 → ⊥
@@ -370,7 +370,7 @@ module _ (c : Call) (k : IsAnswered c) (l : Laws) where
           go : Came_here → IsFinal is_status ⊎ IsOutside is_status
           go (came_run h) =
               final_or c k l (subst IsFinal (sym (ap (λ (z : Answer). status_of z.ending) h.answer))
-              (final h.run.end (execution_ends _ _ _ _ h.run h.is_execution)).0)
+              (final h.run.end (execution_ends _ _ _ h.run h.is_execution)).0)
           go (came_long h) = absurd (not_long bytes sound (is_long h))
           go (came_bad n h) = absurd (not_bad bytes n sound (is_bad n h))
           go (came_rejected r n h) = absurd (not_rejected l h.code bytes sound (is_text r n h) (rule_of r) n h.rejected)

@@ -49,8 +49,8 @@ module _ (ready : ReadyLaw) (one : TextLaw) (code : Parts) (input : List ℕ) (w
         (sound code file.text.code.sizes file.verified)
 
     pub execution_if : (r : Result Closed Memory) → IfOk r (RunsCode held read lim workers)
-        → IfOk r (λ e. (bytes : List ℕ) → IsFileOf code bytes → IsExecutionOf bytes input workers lim e)
+        → IfOk r (λ e. (bytes : List ℕ) → IsFileOf code bytes → IsExecutionOf bytes input lim e)
     execution_if (Ok e) runs = λ bytes file.
         let here = subst (λ (z : List ℕ × Parts). RunsCode z.1 z.0 lim workers e) (λ k. (i k, h k)) runs in
-        record { code = code; file = file; runs = here; meant = meant_by bytes file e here }
+        record { code = code; file = file; gives = here.machine.gives; meant = meant_by bytes file e here }
     execution_if (Err x) runs = tt

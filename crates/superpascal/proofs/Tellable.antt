@@ -58,7 +58,6 @@ entries_end es s (ends.Deadlock ws) h = tt
 entries_end es s (ends.Fault n y) h = tt
 entries_end es s ends.Memory h = absurd h
 
-pub execution_ends : (bytes input : List ℕ) (workers : ℕ) (limits : Limits) (r : Closed)
-    → IsExecutionOf bytes input workers limits r → HasLines r.end
-execution_ends bytes input workers limits r h = let g = h.runs.machine.gives in
-    entries_end r.journal.entries g.system r.end g.end
+pub execution_ends : (bytes input : List ℕ) (limits : Limits) (r : Closed) → IsExecutionOf bytes input limits r
+    → HasLines r.end
+execution_ends bytes input limits r h = entries_end r.journal.entries h.gives.system r.end h.gives.end

@@ -98,7 +98,7 @@ module _ (f : Files) (s : Stream) (reports : Reports) (w : Option Command) (a : 
   why_due d v (by_size asked p h) = at _ h.answer (asked, v ∙ ap Some p, h)
   why_due d v (by_execution asked p h) =
       at (execution_answer h.run) h.answer
-      (by_end h.run.end (execution_ends _ _ _ _ h.run h.is_execution) (inr (inr (asked, v ∙ ap Some p, h))))
+      (by_end h.run.end (execution_ends _ _ _ h.run h.is_execution) (inr (inr (asked, v ∙ ap Some p, h))))
   why_due d v (by_long_file asked p h) = at _ h.answer (asked, v ∙ ap Some p, h)
   why_due d v (by_code_line asked n p h) = at _ h.answer (asked, v ∙ ap Some p, h)
   why_due d v (by_rejection asked rule i p h) = at _ h.answer (asked, v ∙ ap Some p, h)

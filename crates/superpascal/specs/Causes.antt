@@ -197,7 +197,7 @@ pub record HasExecuted (f : Files) (s : Stream) (asked : Executed) (a : Answer) 
   pub read : IsTold s.left input
   pub fits : length input ≤ 16777216
   pub at_end : IsAtEnd s.left'
-  pub is_execution : IsExecutionOf bytes input asked.workers asked.limits run
+  pub is_execution : IsExecutionOf bytes input asked.limits run
   pub answer : a ≡ execution_answer run
 
 -- the code file is longer than the limit

@@ -38,7 +38,7 @@ abbrev pub IsExecutionOfWords : Call → Closed → Type 0
 IsExecutionOfWords c r =
     (b : Executed) × (command_of c.words ≡ Some (command_of_execution b)) × IsAtEnd c.source.left'
     × (bytes input : List ℕ) × IsTold (c.files.held b.file) bytes × IsTold c.source.left input
-    × IsExecutionOf bytes input b.workers b.limits r
+    × IsExecutionOf bytes input b.limits r
 
 -- the text has this program, which means that end and that output along the journal
 abbrev pub IsMeantHere : Executed → List ℕ → List ℕ → Closed → Type 0
@@ -57,7 +57,7 @@ pub record Executing (c : Call) : Type 0 where
       ⊎ (c.outcome.status ≡ 6)
   -- its end and its output are those of the machine with the code of the file along its journal
   pub machine : OfExecutionInput c (λ b bytes input. (r : Closed) → c.outcome.executed ≡ Some r
-      → IsExecutionOf bytes input b.workers b.limits r)
+      → IsExecutionOf bytes input b.limits r)
   -- where the file holds what `build` writes for a text, they are what the text's program means along that journal
   pub meant : OfExecutionInput c (λ b bytes input. (r : Closed) → c.outcome.executed ≡ Some r → (text : List ℕ)
       → IsCodeFile text bytes → IsMeantHere b text input r)

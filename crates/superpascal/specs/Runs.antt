@@ -68,7 +68,7 @@ run_notes reports s r = if is_journal s then journal_text version.Two r.closed.j
 
 -- the text of the witness of the run's race; where there is no race, nothing
 abbrev pub witness_text : Ran → List ℕ
-witness_text r = option_map_or (journal_text version.Two) (witness_of r) []
+witness_text r = option_map_or (journal_text version.Two) (witness_of r.verdict r.closed.journal) []
 
 -- the output of a run that is told so: its own, or the text of its witness
 abbrev pub told_output : Telling → Ran → List ℕ

@@ -37,7 +37,7 @@ fn run_file<R: Threads + Wait + Sync, G: Gate>(
     requires range { IsInRange workers limits.now }
     requires file { (bytes : List ℕ) × IsFileOf code bytes }
     ensures { IfOk result (λ r. (bytes : List ℕ) → IsFileOf code bytes
-        → IsExecutionOf bytes input workers limits.now r) }
+        → IsExecutionOf bytes input limits.now r) }
 {
     verified_code_is_sound();
     accepted_programs_are_ready();

@@ -61,7 +61,7 @@ pub fn witness(
 /// `sp_execute::witness`.
 pub fn witness_of_run(alloc: Global, ran: &Ran) -> Result<Option<Journal>, Memory>
     requires { IsReadyRun ran.now }
-    ensures { IfOk result (λ w. (w ≡ witness_of ran.now) × IfSome w IsNameable) }
+    ensures { IfOk result (λ w. (w ≡ witness_of ran.now.verdict ran.now.closed.journal) × IfSome w IsNameable) }
 {
     let found = sp_execute::witness(alloc, ran);
     found

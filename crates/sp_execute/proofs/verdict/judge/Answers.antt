@@ -8,7 +8,7 @@ use Rattle.sp_judge.specs.Prefixes.{WaitersAreSilent}
 use Rattle.sp_tree.specs.Interference.{IsFreeOfInterference}
 use Rattle.sp_judge.specs.Races.{IsVerdict}
 use Rattle.sp_execute.specs.Runs.{IsAbout, Promises}
-use Rattle.sp_execute.proofs.Judged.{if_judged}
+use Rattle.sp_execute.proofs.Judged.{alike, if_judged}
 use Rattle.sp_execute.proofs.verdict.judge.Goals as goal
 
 pub verdict_of-requires-clause-silent : goal.verdict_of-requires-clause-silent
@@ -32,8 +32,9 @@ returns-clause-promise c =
     → IsAbout g d → Promises g d v)
     (λ v x g free a. (
       a,
-      c.verdicts_hold_of_runs.ensures g TURN_TICKS
-          (occurrences d.journal) a.steps a.state d.end v free a.along a.end x,
+      alike g (occurrences d.journal) a.steps a.state d.end v
+          (c.verdicts_hold_of_runs.ensures g TURN_TICKS (occurrences d.journal) a.steps a.state d.end v free a.along
+          a.end x),
     ))
     c.verdict_of.result
     (subst (λ (j : Journal). IfOk c.verdict_of.result (λ v. IsVerdict (occurrences j) d.end v)) c.journal.ensures

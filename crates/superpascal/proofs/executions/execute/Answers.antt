@@ -12,7 +12,7 @@ run_file-requires-clause-file g c κs within = (c.in_ok-code.ensures.0, c.in_ok-
 
 pub tell_execution-requires : goal.tell_execution-requires
 tell_execution-requires g c =
-    let h = c.in_ok-code.ensures in execution_ends _ _ _ _ c.in_ok-closed.closed (c.in_ok-closed.ensures h.0 h.2)
+    let h = c.in_ok-code.ensures in execution_ends _ _ _ c.in_ok-closed.closed (c.in_ok-closed.ensures h.0 h.2)
 
 pub returns-in_err-code : goal.returns-in_err-code
 returns-in_err-code g c = λ reports.

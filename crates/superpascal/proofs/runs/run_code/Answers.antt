@@ -20,5 +20,5 @@ returns-clause-run g c =
     is_run_if c.accepted_programs_are_ready.ensures c.args.code c.args.input c.args.workers c.args.limits.now
     c.requires.range
     c.in_ok-code.code.value c.in_ok-input.input.value c.in_ok-code.ensures.ok c.in_ok-input.ensures.ok
-    c.races_are_shown.ensures
+    c.races_are_shown.ensures.shown
     c.execute.result c.execute.ensures.program
